@@ -1,4 +1,4 @@
--- Variables after others, each once, as a list gets them one by one.
+-- Variables added to others, each once, as a list gets them one by one.
 use Rattle.std.proofs.Common.{◌≡◌, Bool, true, false, List, [], ◌∷◌, ◌++◌, refl, ap, ◌∙◌, sym, subst, append_assoc, append-nil}
 use Rattle.std.specs.Prelude.{◌||◌}
 use Rattle.std.proofs.lemmas.Bool.{false≢true}
@@ -22,13 +22,13 @@ added-append vs (u ∷ us) ws = go (has_variable vs u) refl (added-append vs us 
     go true there old new = ap (λ (xs : List Variable). added xs ws) (added-old vs u us there) ∙ old ∙ sym (added-old vs u (us ++ ws) there)
     go false other old new = ap (λ (xs : List Variable). added xs ws) (added-new vs u us other) ∙ new ∙ sym (added-new vs u (us ++ ws) other)
 
--- what is added is there, and nothing else than was there before
+-- after adding, the list has what was added and what was there before, and nothing else
 
 pub among_added : (vs us : List Variable) (v : Variable) → has_variable (added vs us) v ≡ (has_variable vs v || has_variable us v)
 among_added vs [] v = has_append vs [] v
 among_added vs (u ∷ us) v = go (has_variable vs u) refl (among_added vs us v) (among_added (vs ++ u ∷ []) us v)
   where
-    -- u is there already
+    -- u was already there
     old_there : (a b c : Bool) → (b ≡ true → a ≡ true) → (a || c) ≡ (a || (b || c))
     old_there true b c h = refl
     old_there false true c h = absurd (false≢true (h refl))

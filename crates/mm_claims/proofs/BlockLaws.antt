@@ -1,4 +1,4 @@
--- A block after a text that fits, and what holds after it.
+-- A block after a text that fits, and what is true after the block.
 use Rattle.std.proofs.Common.{◌≡◌, ℕ, ◌+◌, ◌<◌, ◌^◌, Bool, true, false, List, [], ◌∷◌, ◌++◌, length, zero, suc, map, refl, ap, ◌∙◌, sym, subst, arith, append_assoc, length-append, ◌⊎◌, inl, inr, Some, None, slice_get}
 use Rattle.std.specs.Prelude.{◌||◌, if◌then◌else◌, codes, bytes_eq}
 use Rattle.std.proofs.lemmas.Slice.Eq.{bytes_eq-Decides}
@@ -58,7 +58,7 @@ block_left declared k c at s more w names claim once numbered =
       blocks = c.blocks;
     } in d) (frame_is declared k c at s more w names claim once numbered)
 
--- its own labels are others than these
+-- its own labels differ from these
 
 object_no_name : (k i : ℕ) (n : NameKind) (rest : Token) → bytes_eq (variable_label k (object_variable i)) (kind_front n ++ rest) ≡ false
 object_no_name k i sort_name rest = refl
@@ -75,7 +75,7 @@ premise_no_name k j sort_name rest = refl
 premise_no_name k j symbol_name rest = refl
 premise_no_name k j value_name rest = refl
 
--- a token that is none of the labels of variables and hypotheses of a block
+-- a token that is not a label of a variable or hypothesis of a block
 record IsNoOwn (k : ℕ) (t : Token) : Type 0 where
   object : (i : ℕ) → bytes_eq (variable_label k (object_variable i)) t ≡ false
   pattern : (i : ℕ) → bytes_eq (variable_label k (pattern_variable i)) t ≡ false
@@ -114,7 +114,7 @@ statement_no_own k l = record { object = λ i. refl; pattern = λ i. refl; premi
 name_label_no_own : (k i : ℕ) → IsNoOwn k (name_label i)
 name_label_no_own k i = record { object = λ n. refl; pattern = λ n. refl; premise = λ j. refl }
 
--- no label of a block is that of its assertion, and no variable's token
+-- no label of a block is that of its assertion, or a token of a variable
 variable_no_statement : (k l : ℕ) (v : Variable) → bytes_eq (variable_label k v) (statement_label l) ≡ false
 variable_no_statement k l (object_variable i) = refl
 variable_no_statement k l (pattern_variable i) = refl
@@ -123,7 +123,7 @@ token_no_statement : (v : Variable) (l : ℕ) → bytes_eq (variable_token v) (s
 token_no_statement (object_variable i) l = refl
 token_no_statement (pattern_variable i) l = refl
 
--- what holds after a block
+-- what is true after a block
 
 three_false : (a b d : Bool) → a ≡ false → b ≡ false → d ≡ false → ((a || b) || d) ≡ false
 three_false a b d h g f = rw (h, g, f) refl
@@ -250,7 +250,7 @@ claim_may_be_stated declared k c at s more w claim numbered =
       clean = symbols.clean;
     }
 
--- a block adds, where its assertion does inside
+-- a block adds something if its assertion adds it inside the block
 pub block_adds : (declared : List Token) (k : ℕ) (c : Context) (at : ℕ) (vs : List Variable) (ps : List Pattern) (statement : List Token) (left : Left) → IsGround declared k c → AreNumbered vs → are_once vs ≡ true → AreOpenOver declared vs ps → length ps < 2 ^ 64
     → AddsAnywhere (inside_block declared k c at vs ps) (statement ∷ ((codes "$}" ∷ []) ∷ [])) left
     → Adds c at (block (head_statements declared k vs ps ++ statement ∷ [])) left.context × (asserted c at (block (head_statements declared k vs ps ++ statement ∷ [])) ≡ left.assertions)

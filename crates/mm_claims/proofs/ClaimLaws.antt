@@ -1,4 +1,4 @@
--- What is over declared names is a claim, with the variables that stand in it.
+-- What is over declared names is a claim, with the variables that occur in it.
 use Rattle.std.proofs.Common.{◌≡◌, Bool, true, List, [], ◌∷◌, refl, ap, ◌∙◌, sym}
 use Rattle.std.specs.Prelude.{◌||◌, flat_map}
 use Rattle.std.specs.List.{list_any, list_all}
@@ -17,7 +17,7 @@ use Rattle.mm_claims.proofs.AddedVariables.{just_others, others_once}
 use Rattle.mm_claims.proofs.BoolLaws.{second_true, either_true, or_false}
 use Rattle.mm_claims.proofs.VariableLaws.{has_append}
 
--- a variable stands in a pattern where it is one of the variables there
+-- a variable occurs in a pattern if and only if it is one of the pattern's variables
 stands-in : (v : Variable) (p : Pattern) → stands_in v p ≡ has_variable (variables_in p) v
 stands-in v bot = refl
 stands-in v top = refl
@@ -46,7 +46,7 @@ all_pass : (test : Variable → Bool) (vs : List Variable) → ((v : Variable) �
 all_pass test [] h = refl
 all_pass test (v ∷ vs) h = both_true (test v) (list_all test vs) (h v (first_there v vs)) (all_pass test vs (λ u there. h u (later_there v vs u there)))
 
--- each variable that stands in a pattern is one of some
+-- each variable that occurs in a pattern is one of some variables
 abbrev StandAmong : Pattern → List Variable → Type 0
 StandAmong p vs = (v : Variable) → stands_in v p ≡ true → has_variable vs v ≡ true
 

@@ -1,4 +1,4 @@
--- No variable stands in a closed pattern.
+-- No variable occurs in a closed pattern.
 use Rattle.std.proofs.Common.{◌≡◌, ℕ, List, [], ◌++◌, map, refl, ap}
 use Rattle.mm_text.specs.Bytes.{Token}
 use Rattle.ml_pat.specs.Patterns.{Pattern, bot, top, imp, not, and, or, equal, member, fun, ex, all, app, at_sort, next, ev, var, meta, constant}
@@ -11,7 +11,7 @@ use Rattle.mm_claims.specs.ClaimVariables.{claim_of}
 use Rattle.mm_claims.specs.OpenVariables.{variables_in, other_variables}
 use Rattle.mm_claims.specs.ClosedLaws.{ClosedHasNoMeta, ClosedIsOver, ClosedClaims}
 
--- No variable stands in a closed pattern.
+-- No variable occurs in a closed pattern.
 
 none_in_both : (us vs : List Variable) → us ≡ [] → vs ≡ [] → us ++ vs ≡ []
 none_in_both us vs h k = rw (h, k) refl

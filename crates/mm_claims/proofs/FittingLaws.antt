@@ -1,4 +1,4 @@
--- What holds after the declarations of names.
+-- What is true after the declarations of names.
 use Rattle.std.proofs.Common.{◌≡◌, ℕ, ◌+◌, ◌<◌, ◌≤◌, ◌^◌, Bool, true, false, List, [], ◌∷◌, ◌++◌, length, take, drop, zero, suc, refl, ap, ◌∙◌, sym, subst, arith, append_assoc, append-nil, length-append, ◌⊎◌, inl, inr, Option, Some, None}
 use Rattle.std.specs.Prelude.{◌||◌, not, bytes_eq, IfSome}
 use Rattle.std.specs.List.{list_all}
@@ -70,7 +70,7 @@ clean_one t h = rw h refl
 pub clean_two : (t u : Token) → has_dollar t ≡ false → has_dollar u ≡ false → list_all (λ v. not (has_dollar v)) (t ∷ (u ∷ [])) ≡ true
 clean_two t u h k = rw (h, k) refl
 
--- a constant that is new may be declared
+-- a new constant may be declared
 constant_is_fine : (c : Context) (t : Token) → c.blocks ≡ [] → c.constants t ≡ false → c.variables t ≡ false → c.labels t ≡ false → has_dollar t ≡ false → IsFine c (plain_tokens [] declares_constants (t ∷ []))
 constant_is_fine c t closed constants variables labels clean =
     let said : form_of (plain_tokens [] declares_constants (t ∷ [])) ≡ Some (plain [] declares_constants (t ∷ []) []) = plain_tokens_say [] declares_constants t [] refl (clean_one t clean) refl in
@@ -115,14 +115,14 @@ name_of-next : (xs : List Token) (t : Token) → name_of (xs ++ t ∷ []) (lengt
 name_of-next [] t = refl
 name_of-next (x ∷ xs) t = name_of-next xs t
 
--- what a new name's statements need
+-- what the statements of a new name need
 pub record IsNew (done : List Token) (t : Token) : Type 0 where
   pub name : IsName t
   pub other : has_token done t ≡ false
   pub names : AreNames done
   pub few : length done < 2 ^ 64
 
--- the label of a name is no constant and no variable
+-- the label of a name is neither a constant nor a variable
 label_no_constant : (done : List Token) (c : Context) (i : ℕ) → Holds done c → AreNames done → header_context.constants (name_label i) ≡ false → c.constants (name_label i) ≡ false
 label_no_constant done c i w names h = w.constants (name_label i) ∙ both_false (header_context.constants (name_label i)) (has_token done (name_label i)) h (no_label_among done i names)
 
@@ -170,7 +170,7 @@ adds_name done c at t sts left w closed new behind =
       ),
     )
 
--- what holds after a declaration
+-- what is true after a declaration
 
 header_no_row : (i : ℕ) → header_context.frames (name_label i) ≡ None
 unfolding header_context header_rows

@@ -1,4 +1,5 @@
--- What is written of a derivation whose citations are found among claims of a text, each at the place of its number.
+-- What is written for a derivation whose citations are found among the claims of a text, each at
+-- the place of its number.
 use Rattle.std.proofs.Common.{◌≡◌, ℕ, List, [], ◌∷◌, ◌++◌, refl, ap, ◌∙◌}
 use Rattle.std.specs.Prelude.{flat_map}
 use Rattle.mm_text.specs.Bytes.{Token}
@@ -21,7 +22,7 @@ use Rattle.mm_claims.proofs.OpenCiting.{claim_is}
 abbrev pub places_of : (List Pattern → Pattern → Stated) → List Pattern → Pattern → ℕ
 places_of find own q = (find own q).number
 
--- the claims of a text, found by their places, are those that are kept
+-- the claims of a text that are found by their places are those that are kept
 pub found_is : (claims : List Claim) (kept : List Stated) (find : List Pattern → Pattern → Stated) (own : List Pattern) (q : Pattern) → AreAmong claims kept → Finds kept find → IsStated kept own q
     → at_places claims (places_of find) own q ≡ find own q
 found_is claims kept find own q among finds there =

@@ -1,4 +1,4 @@
--- The variables and hypotheses of a block: each statement is without fault, and what is active after them.
+-- The variables and hypotheses of a block: no statement has a fault, and what is active after them.
 use Rattle.std.proofs.Common.{◌≡◌, ℕ, ◌<◌, ◌^◌, Bool, true, false, List, [], ◌∷◌, ◌++◌, map, refl, ap, ◌∙◌, sym, subst, append_assoc, append-nil, Some, None}
 use Rattle.std.specs.Prelude.{◌||◌, not, bytes_eq}
 use Rattle.std.specs.List.{list_any, list_all}
@@ -26,7 +26,7 @@ use Rattle.mm_claims.proofs.BoolLaws.{both_false, either_true, second_true, not_
 use Rattle.mm_text.specs.PlainTokens.{is_plain_token}
 use Rattle.mm_database.specs.StatementTexts.{plain_tokens}
 
--- what stands after the text before a block
+-- what is true after the text before a block
 pub record IsGround (declared : List Token) (k : ℕ) (c : Context) : Type 0 where
   pub base : Holds declared c
   pub names : AreNames declared
@@ -34,7 +34,7 @@ pub record IsGround (declared : List Token) (k : ℕ) (c : Context) : Type 0 whe
   pub no_label : (v : Variable) → c.labels (variable_token v) ≡ false
   pub small : k < 2 ^ 64
 
--- what is known of a label of a block
+-- what is known about a label of a block
 pub record IsOwnLabel (l : Token) : Type 0 where
   pub spelt : is_label l ≡ true
   pub no_constant : header_context.constants l ≡ false
@@ -80,7 +80,7 @@ no_name_among (t ∷ ts) l own h = both_false (bytes_eq t l) (has_token ts l) (o
 new_when : (d : Context) (l : Token) → is_label l ≡ true → d.labels l ≡ false → d.constants l ≡ false → d.variables l ≡ false → is_new_label d l ≡ true
 new_when d l h g f e = rw (h, g, f, e) refl
 
--- such a label is new in a block as long as it was not taken there
+-- such a label is new in a block if it was not taken there
 pub new_inside : (declared : List Token) (k : ℕ) (c : Context) (at : ℕ) (vs : List Variable) (hs : List Hypothesis) (ds : List (List Token)) (l : Token) → IsGround declared k c → IsOwnLabel l → c.labels l ≡ false → has_token (map label_of hs) l ≡ false
     → is_new_label (inside c at (variable_tokens vs) hs ds) l ≡ true
 new_inside declared k c at vs hs ds l w own free other =
@@ -119,7 +119,7 @@ pub typed_tokens : (k : ℕ) (us : List Variable) (t : Token) → list_any (type
 typed_tokens k [] t = refl
 typed_tokens k (u ∷ us) t = ap (λ (b : Bool). bytes_eq (variable_token u) t || b) (typed_tokens k us t)
 
--- what a declaration of a variable needs
+-- what the declaration of a variable needs
 
 variable_well : (d : Context) (t : Token) → d.constants t ≡ false → d.scope.variables t ≡ false → d.labels t ≡ false → declaration_fault d (Some (plain [] declares_variables (t ∷ []) [])) ≡ None
 variable_well d t h g f = rw (h, g, f) refl

@@ -1,4 +1,4 @@
--- A block types its variables, and types nothing else.
+-- A block types its variables, and nothing else.
 use Rattle.std.proofs.Common.{◌≡◌, ℕ, ◌+◌, ◌<◌, ◌^◌, true, false, List, [], ◌∷◌, ◌++◌, length, map, refl, ap, ◌∙◌, arith, append-nil, Option, Some, None}
 use Rattle.std.specs.Prelude.{not, codes}
 use Rattle.std.proofs.lemmas.Bool.{false≢true}
@@ -32,7 +32,7 @@ typed-append : (sts more : List (List Token)) → typed (sts ++ more) ≡ typed 
 typed-append [] more = refl
 typed-append (tokens ∷ sts) more = ap (with_typing_first (form_typing (form_of tokens))) (typed-append sts more) ∙ typing-append (form_typing (form_of tokens)) (typed sts) (typed more)
 
--- what a statement without a proof types, in front of others
+-- what a statement without a proof types, before other statements
 plain_typed : (labels : List Token) (k : Keyword) (symbol : Token) (symbols : List Token) (sts : List (List Token)) → has_proof k ≡ false → are_clean labels ≡ true → are_clean (symbol ∷ symbols) ≡ true
     → typed (plain_tokens labels k (symbol ∷ symbols) ∷ sts) ≡ with_typing_first (keyword_typing labels (symbol ∷ symbols) k) (typed sts)
 plain_typed labels k symbol symbols sts no_proof clean_labels clean =
@@ -73,7 +73,7 @@ head_typed declared k vs ps names small numbered once leaves few =
     ∙ premises_typed declared k 0 vs ps names numbered leaves small (omega (arith, few)))
     ∙ append-nil (map (variable_float k) vs)
 
--- and so does the block with a statement that types nothing
+-- the same is true of the block with a statement that types nothing
 pub block_typed : (declared : List Token) (k : ℕ) (vs : List Variable) (ps : List Pattern) (tokens : List Token) → AreNames declared → k < 2 ^ 64 → AreNumbered vs → are_once vs ≡ true → AreOpenOver declared vs ps → length ps < 2 ^ 64 → form_typing (form_of tokens) ≡ None
     → typed (block (head_statements declared k vs ps ++ tokens ∷ [])) ≡ map (variable_float k) vs
 block_typed declared k vs ps tokens names small numbered once leaves few none =

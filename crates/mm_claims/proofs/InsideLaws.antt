@@ -24,7 +24,8 @@ use Rattle.mm_text.specs.PlainTokens.{is_plain_token, is_one_statement, ends_onc
 use Rattle.mm_database.specs.StatementTexts.{written_statements, keyword_token, plain_tokens}
 use Rattle.mm_database.specs.CleanTokens.{are_clean, has_proof}
 
--- the context inside a block that began at a byte, with these variables' tokens, hypotheses and `$d`s
+-- the context inside a block that began at a byte, with the tokens of these variables, these
+-- hypotheses and these `$d`s
 abbrev pub inside : Context → ℕ → List Token → List Hypothesis → List (List Token) → Context
 inside c at ts hs ds = record {
   constants = c.constants;
@@ -110,21 +111,21 @@ behind_separation c at ts hs ds d =
         ∙ ap (λ (x : Bool). c.scope.apart a b || (list_any (λ e. are_different_tokens e a b) ds || x)) (with_false (are_different_tokens d a b))
         ∙ ap (λ (x : Bool). c.scope.apart a b || x) (sym (list_any-append (λ e. are_different_tokens e a b) ds (d ∷ [])))
 
--- the assertions that written statements make from a context and a byte on
+-- the assertions that written statements make, from a context and a byte on
 abbrev pub asserted : Context → ℕ → List (List Token) → List Assertion
 asserted c at [] = []
 asserted c at (tokens ∷ sts) = with_assertion_first (form_assertion c (form_of tokens)) (asserted (context_after c (statement at tokens)) (at + length (written tokens)) sts)
 
--- the context that statements leave, and the assertions that they make
+-- the context after statements, and the assertions that they make
 pub record Left : Type 0 where
   pub context : Context
   pub assertions : List Assertion
 
--- statements that leave these from any byte on
+-- statements that lead to these from any byte on
 abbrev pub AddsAnywhere : Context → List (List Token) → Left → Type 0
 AddsAnywhere c sts left = (at : ℕ) → Adds c at sts left.context × (asserted c at sts ≡ left.assertions)
 
--- clean tokens end no statement
+-- clean tokens do not end a statement
 
 is_other : (t u : Token) → has_dollar t ≡ false → has_dollar u ≡ true → bytes_eq t u ≡ false
 is_other t u clean marked = go (bytes_eq t u) refl
@@ -196,7 +197,7 @@ all_plain labels k symbols h g =
     list_all-append is_plain_token labels (keyword_token k ∷ (symbols ++ codes "$." ∷ [])) h
     (both_true (is_plain_token (keyword_token k)) (list_all is_plain_token (symbols ++ codes "$." ∷ [])) (keyword_plain k) (list_all-append is_plain_token symbols (codes "$." ∷ []) g refl))
 
--- a statement without a proof has no fault but those of its declaration
+-- the only faults of a statement without a proof are those of its declaration
 plain_fine : (c : Context) (labels : List Token) (k : Keyword) (symbol : Token) (symbols : List Token) → has_proof k ≡ false → are_clean labels ≡ true → are_clean (symbol ∷ symbols) ≡ true
     → declaration_fault c (Some (plain labels k (symbol ∷ symbols) [])) ≡ None → IsFine c (plain_tokens labels k (symbol ∷ symbols))
 plain_fine c labels k symbol symbols no_proof clean_labels clean well =
@@ -224,12 +225,12 @@ plain_fine c labels k symbol symbols no_proof clean_labels clean well =
     no_task asserts h = tt
     no_task proves h = absurd (false≢true (sym h))
 
--- tokens that may stand in a statement
+-- tokens that may occur in a statement
 pub record AreSymbols (ts : List Token) : Type 0 where
   pub plain : list_all is_plain_token ts ≡ true
   pub clean : are_clean ts ≡ true
 
--- one statement that makes no assertion, and what follows it
+-- one statement that makes no assertion, and the statements after it
 then_asserted : (c : Context) (at : ℕ) (tokens : List Token) (form : Form) (sts : List (List Token)) (more : List Assertion) → form_of tokens ≡ Some form → form_assertion c (Some form) ≡ None
     → asserted (after_form c at (Some form)) (at + length (written tokens)) sts ≡ more → asserted c at (tokens ∷ sts) ≡ more
 then_asserted c at tokens form sts more said none behind =
@@ -262,7 +263,7 @@ labelled_adds c l k symbol symbols sts left no_proof none label w well behind at
       then_asserted c at (plain_tokens (l ∷ []) k (symbol ∷ symbols)) (plain (l ∷ []) k (symbol ∷ symbols) []) sts left.assertions said none (behind _).1,
     )
 
--- Tokens that assert these symbols under a label, as an axiom or as what is proved, without fault.
+-- Tokens that assert these symbols under a label, as an axiom or as a theorem, and have no fault.
 pub record Asserts (c : Context) (label : Token) (symbols : List Token) (proved : Bool) (tokens : List Token) : Type 0 where
   pub plain_ones : list_all is_plain_token tokens ≡ true
   pub one : is_one_statement tokens ≡ true
@@ -278,7 +279,7 @@ pub record Asserts (c : Context) (label : Token) (symbols : List Token) (proved 
 pub untyped : (c : Context) (label : Token) (symbols : List Token) (proved : Bool) (tokens : List Token) → Asserts c label symbols proved tokens → form_typing (form_of tokens) ≡ None
 untyped c label symbols proved tokens w = ap form_typing w.said ∙ w.types_none
 
--- such an assertion has this frame, and what follows it
+-- such an assertion has this frame, and the statements after it
 pub assertion_adds : (c : Context) (label : Token) (symbols : List Token) (proved : Bool) (tokens : List Token) (f : Frame) (sts : List (List Token)) (left : Context) → Asserts c label symbols proved tokens → frame_of c.scope label symbols ≡ f
     → AddsAnywhere (with_assertion c label symbols) sts (record { context = left; assertions = [] }) → AddsAnywhere c (tokens ∷ sts) (record { context = left; assertions = record { is_proved = proved; frame = f } ∷ [] })
 assertion_adds c label symbols proved tokens f sts left w framed behind at =
@@ -318,7 +319,7 @@ block_closes c b bs running at = (
     well : form_fault c (form_of (codes "$}" ∷ [])) ≡ None
     well = rw running refl
 
--- written statements are read as they are, and so is what they assert
+-- written statements are read as they are written, and so are their assertions
 pub asserted_in : (c : Context) (at : ℕ) (sts : List (List Token)) (left : Context) → Adds c at sts left → assertions_in c (statements_from at (written_statements sts)) ≡ asserted c at sts
 asserted_in c at [] left h = refl
 asserted_in c at (tokens ∷ sts) left (plain_ones, one, fine, rest) =
@@ -330,14 +331,15 @@ abbrev pub typed : List (List Token) → List Hypothesis
 typed [] = []
 typed (tokens ∷ sts) = with_typing_first (form_typing (form_of tokens)) (typed sts)
 
--- they are read as they are, too
+-- the typings are read as they are written, too
 pub typed_in : (c : Context) (at : ℕ) (sts : List (List Token)) (left : Context) → Adds c at sts left → typings_in (statements_from at (written_statements sts)) ≡ typed sts
 typed_in c at [] left h = refl
 typed_in c at (tokens ∷ sts) left (plain_ones, one, fine, rest) =
     ap typings_in (written_statement at tokens (written_statements sts) plain_ones one)
     ∙ ap (λ (more : List Hypothesis). with_typing_first (form_typing (form_of tokens)) more) (typed_in (context_after c (statement at tokens)) (at + length (written tokens)) sts left rest)
 
--- Statements without fault that leave a context, make just this assertion and have just these typings.
+-- Statements without fault that lead to a context, make exactly this assertion and have exactly
+-- these typings.
 pub record AddsJust (c : Context) (at : ℕ) (sts : List (List Token)) (left : Context) (a : Assertion) (hs : List Hypothesis) : Type 0 where
   pub adds : Adds c at sts left
   pub makes : asserted c at sts ≡ a ∷ []

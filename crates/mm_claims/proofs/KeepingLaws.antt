@@ -1,4 +1,4 @@
--- What fits, with what the calls append.
+-- What fits after what the calls append.
 use Rattle.std.proofs.Common.{◌≡◌, ℕ, ◌+◌, ◌<◌, ◌^◌, Bool, true, false, List, [], ◌∷◌, ◌++◌, length, take, drop, zero, suc, slice_get, Some, refl, ap, ◌∙◌, sym, subst, arith, length-append, ◌⊎◌, inl, inr}
 use Rattle.std.specs.Prelude.{IsTrue, if◌then◌else◌, slice_index_or, codes, Contains}
 use Rattle.std.proofs.lemmas.Bool.{false≢true}
@@ -68,7 +68,7 @@ declared_fits names k bytes each distinct few begun within fits = go k.begun beg
           among = fit.among;
         })
 
--- The text of what is over the first names is the same under all names.
+-- The text of what is over the first names is the same with all names.
 
 same_name : (names : List Token) (n i : ℕ) → i < length (take n names) → name_of (take n names) i ≡ name_of names i
 same_name names n i lt = sym (name_of-front (take n names) (drop n names) i lt) ∙ ap (λ (ts : List Token). name_of ts i) (take-drop n names)
@@ -88,7 +88,7 @@ kept_premises names n vs k j (p ∷ ps) h =
     ap (λ (e : List Token). plain_tokens (premise_label k j ∷ []) assumes e ∷ premise_statements (take n names) k (j + 1) ps) (kept_text names n vs p h.0)
     ∙ ap (λ (others : List (List Token)). plain_tokens (premise_label k j ∷ []) assumes (holds_text (own_naming names) p) ∷ others) (kept_premises names n vs k (j + 1) ps h.1)
 
--- a statement alone, or after its variables and hypotheses in its block
+-- only a statement, or a statement after its variables and hypotheses in its block
 abbrev statement_of : Bool → ℕ → List Variable → List (List Token) → List Token → List (List Token)
 statement_of b k vs premises statement = if b then block ((variable_statements k vs ++ (separation_statements (separations vs) ++ premises)) ++ statement ∷ []) else (statement ∷ [])
 
@@ -102,7 +102,7 @@ kept_theorem names n k s more tree claim =
     ap (λ (premises : List (List Token)). statement_of (needs_block (s.variables ++ more) s.hypotheses) k (s.variables ++ more) premises (theorem_statement (take n names) k s.conclusion tree)) (kept_premises names n s.variables k 0 s.hypotheses claim.over.1)
     ∙ ap (λ (e : List Token). statement_of (needs_block (s.variables ++ more) s.hypotheses) k (s.variables ++ more) (premise_statements names k 0 s.hypotheses) (proof_tokens (statement_label k ∷ []) e (postorder tree))) (kept_text names n s.variables s.conclusion claim.over.0)
 
--- what is kept with one claim more: it is the next, and no other is new
+-- what is kept after one more claim: it has the next number, and no other claim is new
 pub record KeepsOneMore (k k' : Kept) (s : Claim) : Type 0 where
   pub begun : k'.begun ≡ k.begun
   pub named : k'.named ≡ k.named
@@ -133,7 +133,7 @@ last_more k s x there = either (Contains-push_cases k.stated (record { number = 
 pub one_last_more : (k : Kept) (s : Claim) → KeepsOneMore k (with_last k s) s
 one_last_more k s = record { begun = refl; named = refl; count = refl; kept = last_more k s }
 
--- what is kept is among the claims of the text with one more
+-- what is kept is among the claims of the text after one more claim
 among_more : (claims : List Claim) (k k' : Kept) (s : Claim) → length claims ≡ k.count → AreAmong claims (all_stated k) → KeepsOneMore k k' s → AreAmong (claims ++ s ∷ []) (all_stated k')
 among_more claims k k' s counted among more x there = go (more.kept x there)
   where
@@ -141,7 +141,8 @@ among_more claims k k' s counted among more x there = go (more.kept x there)
     go (inl h) = there_still claims (s ∷ []) x.number x.claim (among x h)
     go (inr is) = subst (λ (y : Stated). slice_get (claims ++ s ∷ []) y.number ≡ Some y.claim) is (subst (λ (n : ℕ). slice_get (claims ++ s ∷ []) n ≡ Some s) counted (at_end claims s))
 
--- What is appended after claims of a text makes a text with one claim more, and just that is gained.
+-- The bytes that are appended after the claims of a text make a text with one more claim, and
+-- exactly that is gained.
 abbrev AppendsClaim : List Token → List Stated → ℕ → Claim → List ℕ → List Variable → Assertion → Type 0
 AppendsClaim declared kept count s appended vs a =
     (claims : List Claim) (bytes : List ℕ) → length claims ≡ count → AreAmong claims kept → FitsClaims declared claims bytes →
@@ -197,7 +198,7 @@ axiom_gains names k p few numbered may =
     gains names k (with_stated k s) s (claim_variables [] p) (open_assertion false declared k.count s) (written_statements (axiom_statements names k.count s)) may.begun (one_stated_more k s)
     (axiom_appends declared (all_stated k) k.count s (written_statements (axiom_statements names k.count s)) few claim text)
 
--- What was stated can be cited where it is found.
+-- What was stated can be cited at the place where it is found.
 
 over_at : (declared : List Token) (ms : List Pattern) (i : ℕ) (p : Pattern) → AreOverNames declared ms → EachLeaf (over_names declared) p → EachLeaf (over_names declared) (slice_index_or ms i p)
 over_at declared [] i p over h = h
@@ -228,7 +229,8 @@ mutual
   all_citable declared claims kept find no_derivation among finds h = tt
   all_citable declared claims kept find (more_derivations d ds) among finds h = (cited_citable declared claims kept find d among finds h.0, all_citable declared claims kept find ds among finds h.1)
 
--- A theorem by a derivation that cites what is kept. Its text is that by the places in the claims of the text.
+-- A theorem by a derivation that cites what is kept. Its text is the same as the text by the places
+-- in the claims of the text.
 theorem_appends : (names : List Token) (k : Kept) (find : List Pattern → Pattern → Stated) (premise_place : Pattern → ℕ) (t : Theorem) → k.count < 2 ^ 64 → length t.hypotheses < 2 ^ 64
     → AreNumbered (claim_variables t.hypotheses t.conclusion) → AreNumbered (variables_of find t.derivation) → IsKept t → Finds (all_stated k) find → ArePremises t.hypotheses premise_place → MayProve names k t
     → AppendsClaim (take k.named names) (all_stated k) k.count (claim_of t.hypotheses t.conclusion) (written_statements (lemma_statements names k.count find premise_place t)) (claim_variables t.hypotheses t.conclusion ++ more_variables find t)

@@ -19,7 +19,7 @@ use Rattle.mm_claims.specs.Fitting.{name_frame, AreNames}
 use Rattle.mm_claims.specs.Variables.{is_variable_token}
 use Rattle.mm_text.specs.PlainTokens.{is_plain_token}
 
--- what is known of a name's token
+-- what is known about the token of a name
 pub record NameFacts (t : Token) : Type 0 where
   pub plain : is_plain_token t ≡ true
   pub clean : has_dollar t ≡ false
@@ -35,7 +35,7 @@ pub record NameFacts (t : Token) : Type 0 where
   pub no_end_typecode : ends_statement (typecode_of t) ≡ false
   pub frame : (i : ℕ) → frame_of header_context.scope (name_label i) (typecode_of t ∷ (t ∷ [])) ≡ name_frame i t
 
--- a byte of a name is printable and no `$`
+-- a byte of a name is printable and is not `$`
 printing : (b : ℕ) → is_name_byte b ≡ true → is_printable_class (class_of b) ≡ true
 printing b h =
     let both : (is_printable b ≡ true) × ((if b == 36 then false else true) ≡ true) = split_true (is_printable b) (if b == 36 then false else true) h in
@@ -128,7 +128,7 @@ name_facts t w = go w.kind w.is
     go symbol_name is = subst (λ (u : Token). NameFacts u) (sym is) (symbol_facts w.rest w.bytes)
     go value_name is = subst (λ (u : Token). NameFacts u) (sym is) (value_facts w.rest w.bytes)
 
--- what is known of a name's label
+-- what is known about the label of a name
 
 pub digit_of_label : (d : ℕ) → d < 10 → is_label_byte (48 + d) ≡ true
 digit_of_label d h = grind (arith, h)

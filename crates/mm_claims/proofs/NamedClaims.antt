@@ -30,12 +30,12 @@ use Rattle.mm_claims.proofs.StatedLaws.{name_no_active}
 use Rattle.mm_claims.proofs.BoolLaws.{both_false, either_true, second_true}
 use Rattle.mm_database.specs.StatementTexts.{written_statements}
 
--- names, one more
+-- names and one more name
 names_last : (done : List Token) (t : Token) → AreNames done → IsName t → AreNames (done ++ t ∷ [])
 names_last [] t h n = (n, tt)
 names_last (u ∷ done) t h n = (h.0, names_last done t h.1 n)
 
--- more names leave what is over some
+-- what is over some names is over more names
 more_leaves : (done : List Token) (t : Token) (vs : List Variable) (p : Pattern) → EachLeaf (open_over done vs) p → EachLeaf (open_over (done ++ t ∷ []) vs) p
 more_leaves done t vs p h = EachLeaf-implied (open_over done vs) (open_over (done ++ t ∷ []) vs) p (record {
   sort = λ i k. (omega (arith, k.0, length-append done (t ∷ [])), ap typecode_of (name_of-front done (t ∷ []) i k.0) ∙ k.1);
@@ -55,7 +55,7 @@ named_all : (done : List Token) (t : Token) (ss : List Claim) → AreClaims done
 named_all done t [] h = tt
 named_all done t (s ∷ ss) h = (named_claim done t s h.0, named_all done t ss h.1)
 
--- and its text
+-- and its text stays the same
 same_text : (done : List Token) (t : Token) (vs : List Variable) (p : Pattern) → EachLeaf (open_over done vs) p → holds_text (own_naming done) p ≡ holds_text (own_naming (done ++ t ∷ [])) p
 same_text done t vs p h = ap (λ (ts : List Token). codes "|-" ∷ ts) (text-agrees (own_naming done) (own_naming (done ++ t ∷ [])) p (EachLeaf-implied (open_over done vs) (agreeing (own_naming done) (own_naming (done ++ t ∷ []))) p (record {
   sort = λ i k. sym (name_of-front done (t ∷ []) i k.0);
@@ -136,7 +136,7 @@ names_fit_claims declared more claims bytes (c, leaves, w) names distinct few = 
   all_named_claims declared more claims c w names distinct few,
 )
 
--- the same for the names from a number on
+-- the same is true of the names from a number on
 pub declared_fits_claims : (names : List Token) (n : ℕ) → AreNames names → AreDistinct names → length names < 2 ^ 64 → n ≤ length names → (claims : List Claim) (bytes : List ℕ) → FitsClaims (take n names) claims bytes
     → FitsClaims names claims (bytes ++ written_statements (all_name_statements n (drop n names)))
 declared_fits_claims names n all distinct few within claims bytes fits =

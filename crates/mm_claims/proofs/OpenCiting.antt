@@ -1,4 +1,5 @@
--- A claim's label over proofs of what stands for its variables and of its hypotheses proves its conclusion there.
+-- The label of a claim, over proofs of what is substituted for its variables and of its hypotheses,
+-- proves its conclusion there.
 use Rattle.std.proofs.Common.{◌≡◌, ℕ, ◌+◌, Bool, true, false, List, [], ◌∷◌, ◌++◌, map, zero, suc, refl, ap, ◌∙◌, sym, subst, eqb-true}
 use Rattle.std.specs.Prelude.{◌==◌, ◌||◌, ◌&&◌, not, bytes_eq, slice_get, Some}
 use Rattle.std.specs.List.{list_any, list_all}
@@ -37,7 +38,7 @@ use Rattle.mm_claims.proofs.OpenCitingTexts.{case_variable, first_there, later_t
 use Rattle.mm_claims.proofs.BoolLaws.{second_true}
 use Rattle.mm_claims.proofs.VariableLaws.{itself_same}
 
--- what stands for variables is proved to be of their types
+-- what is substituted for variables is proved to have their types
 variable_proves : (c : Context) (l n : Naming) (known : LeafFacts) (new : List ℕ) (ms : List Pattern) (v : Variable) → Serves c l n known → HasInstance known new ms v → Proves c (variable_tree l new ms v) (entry n new ms v)
 variable_proves c l n known new ms (object_variable i) w h = object_proves c l n (by_place new i) (w.object (by_place new i) h)
 variable_proves c l n known new ms (pattern_variable i) w h = syntax_proves c l n (instance ms (meta i)) known w h
@@ -50,7 +51,7 @@ instance_at : (known : LeafFacts) (new : List ℕ) (ms : List Pattern) (vs : Lis
 instance_at known new ms [] v every has = absurd (false≢true has)
 instance_at known new ms (u ∷ us) v every has = case_variable (HasInstance known new ms) u us v has every.0 (λ h. instance_at known new ms us v every.1 h)
 
--- What stands for two variables is apart where the variables have to be.
+-- What is substituted for two variables is apart if the variables have to be apart.
 
 not_needed : (a b : Bool) → a ≡ false → (not a || b) ≡ true
 not_needed a b h = rw h refl
@@ -64,7 +65,7 @@ no_object [] i = refl
 no_object (object_variable x ∷ vs) i = no_object vs i
 no_object (pattern_variable j ∷ vs) i = no_object vs i
 
--- pairs that need not be apart
+-- pairs that do not have to be apart
 one_apart : (vs : List Variable) (t : Token) → are_apart vs t t ≡ false
 one_apart vs t =
     ap (λ b. not b && ((has_token (variable_tokens vs) t && has_token (variable_tokens vs) t) && (has_token (object_tokens vs) t || has_token (object_tokens vs) t)))
@@ -76,7 +77,7 @@ patterns_apart vs i j =
     (and_false (has_token (variable_tokens vs) (meta_token i) && has_token (variable_tokens vs) (meta_token j)) _
     (rw (no_object vs i, no_object vs j) refl))
 
--- the new ones of these variables differ where they do
+-- if these variables differ, the new ones differ
 abbrev StayApart : List ℕ → List Variable → Type 0
 StayApart new vs =
     (x y : ℕ) → has_variable vs (object_variable x) ≡ true → has_variable vs (object_variable y) ≡ true →
@@ -86,7 +87,7 @@ two_objects : (c : Context) (l : Naming) (declared : List Token) (known : LeafFa
     → texts_apart (symbols_apart c) (object_token x ∷ []) (object_token y ∷ []) ≡ true
 two_objects c l declared known x y w hx hy differ = rw (w.objects_apart x y hx hy differ) refl
 
--- what stands for two variables is apart, or they need not be
+-- what is substituted for two variables is apart, or does not have to be
 values_apart : (c : Context) (l : Naming) (declared : List Token) (known : LeafFacts) (new : List ℕ) (ms : List Pattern) (vs : List Variable) (u v : Variable) → Serves c l (own_naming declared) known → HaveNoVariables ms → StayApart new vs → has_variable vs u ≡ true → has_variable vs v ≡ true → HasInstance known new ms u → HasInstance known new ms v
     → (not (are_apart vs (variable_token u) (variable_token v)) || texts_apart (symbols_apart c) (value (own_naming declared) new ms u) (value (own_naming declared) new ms v)) ≡ true
 values_apart c l declared known new ms vs (object_variable x) (object_variable y) w none stay hu hv hx hy = go (x == y) refl
@@ -113,7 +114,7 @@ values_apart c l declared known new ms vs (pattern_variable i) (object_variable 
 values_apart c l declared known new ms vs (pattern_variable i) (pattern_variable j) w none stay hu hv hi hj =
     not_needed (are_apart vs (meta_token i) (meta_token j)) _ (patterns_apart vs i j)
 
--- a test that the token of each variable passes
+-- a test that passes for the token of each variable
 each_passes : (test : Token → Bool) (vs : List Variable) → ((v : Variable) → has_variable vs v ≡ true → test (variable_token v) ≡ true) → list_all test (map variable_token vs) ≡ true
 each_passes test [] h = refl
 each_passes test (v ∷ vs) h =
@@ -168,7 +169,7 @@ all_renamed-none : (ps : List Pattern) → map (renamed (by_place [])) ps ≡ ps
 all_renamed-none [] = refl
 all_renamed-none (p ∷ ps) = rw (renamed-none p, all_renamed-none ps) refl
 
--- and under its own
+-- and under its own object variables
 pub claim_proves : (c : Context) (l : Naming) (declared : List Token) (known : LeafFacts) (i : ℕ) (s : Claim) (ms : List Pattern) (trees : List ProofTree) → AreNames declared → Serves c l (own_naming declared) known → IsClaim declared s → IsAssertion c (statement_label i) (open_frame declared i s) → HaveNoVariables ms → HaveInstances known [] ms s.variables
     → AllProve c (trees_of trees) (map (holds_text (own_naming declared)) (instances ms s.hypotheses))
     → Proves c (cite (statement_label i) (map (variable_tree l [] ms) s.variables ++ trees)) (holds_text (own_naming declared) (instance ms s.conclusion))
@@ -193,7 +194,7 @@ lemma_proves c declared known claims k hypotheses place own q ms trees names w s
     (claim_proves c (own_labels k) declared known (place own q) cited.claim ms trees names w (serves.claimed (place own q) cited.claim cited.there) (serves.frames (place own q) cited.claim cited.there) none cited.instances
     (subst (λ (ps : List Pattern). AllProve c (trees_of trees) (map (holds_text (own_naming declared)) (instances ms ps))) (sym cited.hypotheses) proved)))
 
--- a variable of a claim without hypotheses stands in its conclusion
+-- a variable of a claim without hypotheses occurs in its conclusion
 or_absent : (a b a' b' : Bool) → (a || b) ≡ true → (a ≡ true → a' ≡ false) → (b ≡ true → b' ≡ false) → (a' && b') ≡ false
 or_absent true b false b' h f g = refl
 or_absent true b true b' h f g = absurd (false≢true (sym (f refl)))
@@ -239,7 +240,7 @@ stands_there declared s x is none has =
     first_only true h = refl
     first_only false h = h
 
--- an axiom, under new numbers of its bound variables
+-- an axiom, with new numbers for its bound variables
 fact_proves : (c : Context) (declared : List Token) (known : LeafFacts) (claims : List Claim) (k : ℕ) (hypotheses : List Pattern) (place : List Pattern → Pattern → ℕ) (p q : Pattern) (new : List ℕ) → AreNames declared → Serves c (own_labels k) (own_naming declared) known → ServesClaims c declared claims k hypotheses
     → IsCitable known claims place [] p new [] → Renames (by_place new) p q → Proves c (claim_tree (own_labels k) (at_places claims place [] p) new [] []) (holds_text (own_naming declared) q)
 fact_proves c declared known claims k hypotheses place p q new names w serves cited renames =

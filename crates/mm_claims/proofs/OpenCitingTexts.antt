@@ -1,4 +1,5 @@
--- What the citation of a claim says of its variables, and what that gives the text of patterns.
+-- The substitution that the citation of a claim defines for its variables, and what it makes of the
+-- text of patterns.
 use Rattle.std.proofs.Common.{◌≡◌, ℕ, ◌+◌, ◌<◌, ◌^◌, Bool, true, false, List, [], ◌∷◌, ◌++◌, map, zero, suc, refl, ap, ◌∙◌, sym, subst}
 use Rattle.std.specs.Prelude.{◌||◌, if◌then◌else◌, codes, bytes_eq, slice_index_or}
 use Rattle.std.proofs.lemmas.Bool.{false≢true}
@@ -31,14 +32,14 @@ behind_two [] = []
 behind_two (a ∷ []) = []
 behind_two (a ∷ (b ∷ bs)) = bs
 
--- variables with one token are one
+-- variables with the same token are equal
 one_token : (u v : Variable) → number_of u < 2 ^ 64 → number_of v < 2 ^ 64 → bytes_eq (variable_token u) (variable_token v) ≡ true → u ≡ v
 one_token (object_variable i) (object_variable j) h k is = ap object_variable (decimal-same i j h k (ap behind_two ((bytes_eq-Decides (object_token i) (object_token j)).0 is)))
 one_token (object_variable i) (pattern_variable j) h k is = absurd (false≢true is)
 one_token (pattern_variable i) (object_variable j) h k is = absurd (false≢true is)
 one_token (pattern_variable i) (pattern_variable j) h k is = ap pattern_variable (decimal-same i j h k (ap behind_two ((bytes_eq-Decides (meta_token i) (meta_token j)).0 is)))
 
--- the token of a variable is no other
+-- the token of a variable differs from every token that is not one of a variable
 no_variable : (v : Variable) (t : Token) → is_variable_token t ≡ false → bytes_eq (variable_token v) t ≡ false
 no_variable v t h = go (bytes_eq (variable_token v) t) refl
   where
@@ -69,7 +70,7 @@ later_there u us v h = go (same_variable u v)
     go true = refl
     go false = h
 
--- what stands for a variable, and the entry of it on the stack
+-- what is substituted for a variable, and its entry on the stack
 abbrev pub value : Naming → List ℕ → List Pattern → Variable → Expression
 value n new ms (object_variable i) = n.object (by_place new i) ∷ []
 value n new ms (pattern_variable i) = text_by (letters_of n) (instance ms (meta i))
@@ -77,11 +78,11 @@ value n new ms (pattern_variable i) = text_by (letters_of n) (instance ms (meta 
 abbrev pub entry : Naming → List ℕ → List Pattern → Variable → Expression
 entry n new ms v = variable_type v ∷ value n new ms v
 
--- the substitution that entries say after those of variables
+-- the substitution that the entries of variables and then other entries define
 abbrev pub given_by : Naming → List ℕ → List Pattern → ℕ → List Variable → List Hypothesis → List Expression → Token → Expression
 given_by n new ms k vs hs es = text_of (bindings_of (map (variable_float k) vs ++ hs) (map (entry n new ms) vs ++ es))
 
--- it gives each variable what stands for it
+-- it gives each variable what is substituted for it
 pub given_variable : (n : Naming) (new : List ℕ) (ms : List Pattern) (k : ℕ) (vs : List Variable) (hs : List Hypothesis) (es : List Expression) (v : Variable) → AreNumbered vs → has_variable vs v ≡ true → given_by n new ms k vs hs es (variable_token v) ≡ value n new ms v
 given_variable n new ms k [] hs es v every has = absurd (false≢true has)
 given_variable n new ms k (u ∷ us) hs es v every has = split (bytes_eq (variable_token u) (variable_token v)) refl (λ there. given_variable n new ms k us hs es v every.1 there)
@@ -92,7 +93,7 @@ given_variable n new ms k (u ∷ us) hs es v every has = split (bytes_eq (variab
         behind (case_variable (λ w. bytes_eq (variable_token u) (variable_token w) ≡ false → has_variable us w ≡ true) u us v has
         (λ other. absurd (false≢true (sym other ∙ (bytes_eq-Decides (variable_token u) (variable_token u)).1 refl))) (λ h other. h) is)
 
--- and leaves what is no variable
+-- it does not change what is not a variable
 given_premises : (declared : List Token) (k j : ℕ) (ps : List Pattern) (es : List Expression) (t : Token) → text_of (bindings_of (premise_hypotheses declared k j ps) es) t ≡ t ∷ []
 given_premises declared k j [] es t = refl
 given_premises declared k j (p ∷ ps) [] t = refl
@@ -102,7 +103,7 @@ pub given_other : (n : Naming) (new : List ℕ) (ms : List Pattern) (k : ℕ) (v
 given_other n new ms k [] declared ps es t h = given_premises declared k 0 ps es t
 given_other n new ms k (v ∷ vs) declared ps es t h = rw (no_variable v t h) (given_other n new ms k vs declared ps es t h)
 
--- so it leaves the constants of the header
+-- so it does not change the constants of the header
 pub leaves_others : (sigma : Token → Expression) → ((t : Token) → is_variable_token t ≡ false → sigma t ≡ t ∷ []) → Leaves sigma
 leaves_others sigma h = go punctuation refl
   where
@@ -113,8 +114,9 @@ leaves_others sigma h = go punctuation refl
         let there : map is_variable_token ts ≡ map (λ t. false) ts = cc in
         ap (λ e. e ∷ map sigma ts) (h t here) ∙ ap (λ es. (t ∷ []) ∷ es) (go ts there)
 
--- The text of a pattern under a substitution that gives each object variable its new one, each pattern variable its instance, and
--- leaves other leaves, is the text of its instance after the renaming.
+-- Take a substitution that gives each object variable its new one and each pattern variable its
+-- instance, and does not change other leaves. The text of a pattern under it is the text of the
+-- instance of the pattern after the renaming.
 abbrev pub gives_instances : (Token → Expression) → Naming → List ℕ → List Pattern → LeafFacts
 gives_instances sigma n new ms = record {
   sort = λ i. sigma (n.sort i) ≡ n.sort i ∷ [];
@@ -152,7 +154,8 @@ text-instance sigma n new ms (var x) h = h
 text-instance sigma n new ms (meta i) h = h
 text-instance sigma n new ms (constant c) h = h
 
--- What a substitution gives the variables of a claim over declared names, and all that is no variable.
+-- What a substitution gives the variables of a claim over declared names, and what it gives
+-- everything that is not a variable.
 pub record GivesInstances (sigma : Token → Expression) (declared : List Token) (new : List ℕ) (ms : List Pattern) (vs : List Variable) : Type 0 where
   pub names : AreNames declared
   pub there : (v : Variable) → has_variable vs v ≡ true → sigma (variable_token v) ≡ value (own_naming declared) new ms v
@@ -168,7 +171,8 @@ holds-instance sigma declared new ms vs p w h =
       meta = λ i k. w.there (pattern_variable i) k;
     }) h))
 
--- the hypotheses of a claim's frame ask for its entries and for its own hypotheses at the instances
+-- under the instances, the hypotheses of a claim's frame require the entries of the claim and its
+-- own hypotheses
 pub floats-instance : (sigma : Token → Expression) (n : Naming) (new : List ℕ) (ms : List Pattern) (k : ℕ) (vs : List Variable) → ((v : Variable) → has_variable vs v ≡ true → sigma (variable_token v) ≡ value n new ms v) → map (instance_of sigma) (map (variable_float k) vs) ≡ map (entry n new ms) vs
 floats-instance sigma n new ms k [] h = refl
 floats-instance sigma n new ms k (v ∷ vs) h =
@@ -181,13 +185,13 @@ premises-instance sigma declared new ms vs k j (p ∷ ps) w h =
     ap (λ e. e ∷ map (instance_of sigma) (premise_hypotheses declared k (j + 1) ps)) (holds-instance sigma declared new ms vs p w h.0)
     ∙ ap (λ es. holds_text (own_naming declared) (instance ms (renamed (by_place new) p)) ∷ es) (premises-instance sigma declared new ms vs k (j + 1) ps w h.1)
 
--- instances are patterns without object variables where these are
+-- instances are patterns without object variables if the given patterns are
 pub no_variables_at : (ms : List Pattern) (i : ℕ) (p : Pattern) → HaveNoVariables ms → HasNoVariable p → HasNoVariable (slice_index_or ms i p)
 no_variables_at [] i p h k = k
 no_variables_at (m ∷ ms) zero p h k = h.0
 no_variables_at (m ∷ ms) (suc i) p h k = no_variables_at ms i p h.1 k
 
--- such a pattern has no object variable, so not x
+-- such a pattern has no object variable, so it does not have x
 pub other_than : (f : LeafFacts) (x : ℕ) (p : Pattern) → HasNoVariable p → EachLeaf f p → EachLeaf (other_leaves x f) p
 other_than f x bot n h = tt
 other_than f x top n h = tt
@@ -208,7 +212,7 @@ other_than f x (var y) n h = absurd n
 other_than f x (meta i) n h = h
 other_than f x (constant c) n h = h
 
--- at no patterns a pattern is its own instance
+-- a pattern is its own instance if no patterns are given
 pub instance-none : (p : Pattern) → instance [] p ≡ p
 instance-none bot = refl
 instance-none top = refl

@@ -1,5 +1,5 @@
--- Statements after a text that fits: the header fits, and an axiom and a theorem may follow, each in its block where it needs
--- one.
+-- Statements after a text that fits. The header fits. An axiom and a theorem may follow, each in
+-- its block if it needs one.
 use Rattle.std.proofs.Common.{◌≡◌, ℕ, ◌+◌, ◌<◌, ◌^◌, Bool, true, false, List, [], ◌∷◌, ◌++◌, length, map, refl, ap, ◌∙◌, sym, subst, arith, append-nil, Some, None, slice_get}
 use Rattle.std.specs.Prelude.{◌||◌, codes, bytes_eq}
 use Rattle.std.specs.List.{list_all}
@@ -115,7 +115,7 @@ header_fits_claims = (
   },
 )
 
--- what written statements leave, assert and type is what the text has gained
+-- the context, assertions and typings of written statements are what the text has gained
 
 fits_by : (declared : List Token) (claims : List Claim) (bytes : List ℕ) (c : Context) (s : Claim) (vs : List Variable) (sts : List (List Token)) (a : Assertion) (hs : List Hypothesis) → Leaves bytes c → HoldsClaims declared claims c → length claims < 2 ^ 64 → IsClaim declared s
     → AddsJust c (length bytes) sts (behind_block declared (length claims) c s vs) a hs → FitsClaims declared (claims ++ s ∷ []) (bytes ++ written_statements sts)
@@ -155,7 +155,7 @@ block_adds_claim declared claims c at s more proved tokens w few claim once numb
       types = block_typed declared k vs s.hypotheses tokens w.names few numbered once over claim.few (untyped (inside_block declared (length claims) c at (s.variables ++ more) s.hypotheses) (statement_label k) text proved tokens says);
     }
 
--- a claim of these parts
+-- a claim with these parts
 abbrev claim_of : List Variable → List Pattern → Pattern → Claim
 claim_of vs ps q = record { variables = vs; hypotheses = ps; conclusion = q }
 
@@ -172,7 +172,7 @@ axiom_block_adds declared claims c at s w few claim =
     (axiom_asserts declared (length claims) (inside_block declared (length claims) c at (s.variables ++ []) s.hypotheses) s.conclusion few (open_symbols declared s.variables s.conclusion w.names claim.numbered claim.over.0)
     (claim_may_be_stated declared (length claims) c at s [] (ground declared claims c w few) claim numbered)))
 
--- in its block where it needs one
+-- in its block if it needs one
 axiom_adds : (declared : List Token) (claims : List Claim) (c : Context) (at : ℕ) (vs : List Variable) (ps : List Pattern) (q : Pattern) → HoldsClaims declared claims c → length claims < 2 ^ 64 → IsClaim declared (claim_of vs ps q)
     → AddsJust c at (axiom_statements declared (length claims) (claim_of vs ps q)) (behind_block declared (length claims) c (claim_of vs ps q) vs) (open_assertion false declared (length claims) (claim_of vs ps q)) (map (variable_float (length claims)) vs)
 axiom_adds declared claims c at [] [] q w few claim = plain_axiom_adds declared claims c at q w few claim
@@ -203,7 +203,7 @@ all_both : (test : Hypothesis → Bool) (xs ys : List Hypothesis) → list_all t
 all_both test [] ys h g = g
 all_both test (x ∷ xs) ys h g = both_true (test x) _ (split_true (test x) (list_all test xs) h).0 (all_both test xs ys (split_true (test x) (list_all test xs) h).1 g)
 
--- the labels of what is active inside a block are well spelt
+-- the labels of what is active inside a block are well spelled
 active_spelt : (declared : List Token) (k : ℕ) (c : Context) (at : ℕ) (vs : List Variable) (ps : List Pattern) → Holds declared c → k < 2 ^ 64 → AreNumbered vs → length ps < 2 ^ 64
     → (l : Token) (h : Hypothesis) → hypothesis_of (inside_block declared k c at vs ps).scope.hypotheses l ≡ Some h → is_label l ≡ true
 active_spelt declared k c at vs ps w small numbered few l h is =
@@ -233,7 +233,7 @@ theorem_block_adds declared claims c at s more d place premise_place w few claim
     (claim_may_be_stated declared (length claims) c at s more (ground declared claims c w few) claim provable.numbered)
     (postorder_spelt inner tree (holds_text (own_naming declared) s.conclusion) (active_spelt declared (length claims) c at (s.variables ++ more) s.hypotheses w.base few provable.numbered claim.few) w.spelt proof) proof)
 
--- in its block where it needs one
+-- in its block if it needs one
 theorem_adds : (declared : List Token) (claims : List Claim) (c : Context) (at : ℕ) (vs : List Variable) (ps : List Pattern) (q : Pattern) (more : List Variable) (d : Derivation) (place : List Pattern → Pattern → ℕ) (premise_place : Pattern → ℕ) → HoldsClaims declared claims c → length claims < 2 ^ 64 → IsClaim declared (claim_of vs ps q)
     → IsProvable declared claims (claim_of vs ps q) more d place premise_place
     → AddsJust c at (proved_statements declared (length claims) (at_places claims place) premise_place (claim_of vs ps q) more d) (behind_block declared (length claims) c (claim_of vs ps q) (vs ++ more)) (open_assertion true declared (length claims) (claim_of vs ps q)) (map (variable_float (length claims)) (vs ++ more))

@@ -29,7 +29,7 @@ use Rattle.mm_claims.proofs.Separations.{numbered_behind, new_variable, separati
 use Rattle.mm_claims.proofs.OpenTexts.{open_passes, own_hypotheses}
 use Rattle.mm_claims.proofs.BoolLaws.{both_false, either_true, second_true, not_false, split_false, and_false, and_true}
 
--- a variable that stands in a pattern stands in its text
+-- a variable that occurs in a pattern occurs in its text
 
 here : (t : Token) (ts : List Token) → has_token (t ∷ ts) t ≡ true
 here t ts = either_true (bytes_eq t t) (has_token ts t) (itself t)
@@ -50,7 +50,7 @@ either false b h f g = g h
 same_token : (u v : Variable) (ts : List Token) → same_variable u v ≡ true → has_token (variable_token u ∷ ts) (variable_token v) ≡ true
 same_token u v ts h = ap (λ (x : Variable). has_token (variable_token u ∷ ts) (variable_token x)) (sym (same_is u v h)) ∙ here (variable_token u) ts
 
--- in what is in brackets with a connective before it
+-- inside brackets with a connective before it
 bracketed_has : (k : Token) (ts : List Token) (t : Token) → has_token ts t ≡ true → has_token (codes "(" ∷ (k ∷ ts)) t ≡ true
 bracketed_has k ts t h = behind_one (codes "(") (k ∷ ts) t (behind_one k ts t h)
 
@@ -82,7 +82,7 @@ stands_token declared v (var x) h = same_token (object_variable x) v [] h
 stands_token declared v (meta i) h = same_token (pattern_variable i) v [] h
 stands_token declared v (constant c) h = absurd (false≢true h)
 
--- another variable does not stand in it
+-- another variable does not occur in it
 
 fixed_no_variable : (v : Variable) → PassFixed (λ t. std.not (bytes_eq t (variable_token v)))
 fixed_no_variable (object_variable i) = refl
@@ -123,7 +123,7 @@ any_same : {A : Type 0} (f g : A → Bool) (xs : List A) → ((x : A) → f x �
 any_same f g [] h there = there
 any_same f g (x ∷ xs) h there = either (f x) (list_any f xs) there (λ l. either_true (g x) (list_any g xs) (h x l)) (λ r. second_true (g x) (list_any g xs) (any_same f g xs h r))
 
--- a token stands in one of the patterns
+-- a token occurs in one of the patterns
 abbrev pub in_some : List Token → List Pattern → Token → Bool
 in_some declared ps t = list_any (λ p. has_token (holds_text (own_naming declared) p) t) ps
 
@@ -167,7 +167,7 @@ filter-append test (x ∷ xs) ys = go (test x) (filter-append test xs ys)
     go true h = ap (λ zs. x ∷ zs) h
     go false h = h
 
--- hypotheses that type variables that are not needed
+-- hypotheses that only type variables that are not needed
 abbrev NoneNeeded : (Token → Bool) → List Hypothesis → Type 0
 NoneNeeded need [] = Unit {0}
 NoneNeeded need (floating l s v ∷ hs) = (need v ≡ false) × NoneNeeded need hs
@@ -201,7 +201,7 @@ premises_kept : (s : Scope) (text : List Token) (declared : List Token) (k j : �
 premises_kept s text declared k j [] = refl
 premises_kept s text declared k j (p ∷ ps) = ap (λ (hs : List Hypothesis). premise_hypotheses declared k j (p ∷ []) ++ hs) (premises_kept s text declared k (j + 1) ps)
 
--- which pairs
+-- which pairs have to stay apart
 
 kept_tokens : (need : Token → Bool) (us ms : List Variable) (a : Token) → list_all (λ v. need (variable_token v)) us ≡ true → list_any (λ v. need (variable_token v)) ms ≡ false → (has_token (variable_tokens (us ++ ms)) a && need a) ≡ has_token (variable_tokens us) a
 kept_tokens need [] [] a h g = refl
@@ -278,7 +278,7 @@ all_needed declared s need (v ∷ vs) is h =
     (is (variable_token v) ∙ any_same (stands_in v) (λ p. has_token (holds_text (own_naming declared) p) (variable_token v)) (s.conclusion ∷ s.hypotheses) (λ p there. behind_one (codes "|-") (text_by (letters_of (own_naming declared)) p) (variable_token v) (stands_token declared v p there)) both.0)
     (all_needed declared s need vs is both.1)
 
--- more variables are none of the first
+-- the other variables are not among the first ones
 
 drop_first : (a b : Bool) → std.not (a || b) ≡ true → std.not b ≡ true
 drop_first true b h = absurd (false≢true h)

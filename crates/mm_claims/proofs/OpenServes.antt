@@ -1,4 +1,5 @@
--- Inside the block of a claim its variables are typed and kept apart, and what was declared before is there.
+-- Inside the block of a claim its variables are typed and kept apart, and what was declared before
+-- is still there.
 use Rattle.std.proofs.Common.{◌≡◌, ℕ, ◌+◌, ◌<◌, ◌^◌, Bool, true, false, List, [], ◌∷◌, ◌++◌, length, zero, suc, map, refl, ap, ◌∙◌, sym, subst, arith, Some, None, slice_get}
 use Rattle.std.specs.Prelude.{◌&&◌, ◌||◌, not, if◌then◌else◌, filter, codes, bytes_eq}
 use Rattle.std.specs.List.{list_any}
@@ -96,7 +97,7 @@ premise_found declared k j (q ∷ ps) (suc i) p small few h =
     inside_list (r ∷ ps) zero g = omega arith
     inside_list (r ∷ ps) (suc i) g = omega (arith, inside_list ps i g)
 
--- an assertion that was there is there inside
+-- an assertion that was there before the block is there inside it
 
 free_floats : (k : ℕ) (c : Context) (vs : List Variable) → IsFree c k → AreNumbered vs → list_any c.labels (map label_of (map (variable_float k) vs)) ≡ false
 free_floats k c [] w all = refl
@@ -171,7 +172,7 @@ premise_inside declared k c at vs ps i p w small few h =
     ∙ found_behind (map (variable_float k) vs) (premise_hypotheses declared k 0 ps) (premise_label k i) (floats_no_premise k vs i)
     ∙ subst (λ (n : ℕ). hypothesis_of (premise_hypotheses declared k 0 ps) (premise_label k n) ≡ Some (essential (premise_label k n) (holds_text (own_naming declared) p))) (omega arith) (premise_found declared k 0 ps i p small (omega (arith, few)) h)
 
--- which variables are apart
+-- which variables have to stay apart
 
 filtered_has : (test : Variable → Bool) (vs : List Variable) (v : Variable) → test v ≡ true → has_variable vs v ≡ true → has_variable (filter test vs) v ≡ true
 filtered_has test [] v h there = there

@@ -29,7 +29,7 @@ use Rattle.mm_claims.proofs.HeadLaws.{IsGround, IsOwnLabel, premise_label_own, n
 use Rattle.mm_claims.proofs.BoolLaws.{both_false, either_true, second_true, not_false}
 use Rattle.mm_text.specs.PlainTokens.{is_plain_token}
 
--- each token passes a test that the header's constants, names and the variables pass
+-- each token passes a test if the header's constants, the names and the variables pass it
 pub open_passes : (test : Token → Bool) (declared : List Token) (vs : List Variable) (p : Pattern) → PassFixed test → test (codes "|-") ≡ true → ((i : ℕ) → i < length declared → test (name_of declared i) ≡ true)
     → ((v : Variable) → has_variable vs v ≡ true → test (variable_token v) ≡ true) → EachLeaf (open_over declared vs) p → list_all test (holds_text (own_naming declared) p) ≡ true
 open_passes test declared vs p fixed turnstile named variable leaves =
@@ -74,7 +74,7 @@ typed_constants d (t ∷ ts) h =
     others [] = []
     others (b ∷ bs) = bs
 
--- hypotheses that type these variables, and have no label of a hypothesis from a number on
+-- hypotheses that type these variables; the labels of hypotheses from a number on are still free
 pub record AreReady (k : ℕ) (vs : List Variable) (hs : List Hypothesis) (j : ℕ) : Type 0 where
   pub typed : (v : Variable) → has_variable vs v ≡ true → list_any (types (variable_token v)) hs ≡ true
   pub new : (i : ℕ) → j ≤ i → i < 2 ^ 64 → has_token (map label_of hs) (premise_label k i) ≡ false
@@ -82,7 +82,7 @@ pub record AreReady (k : ℕ) (vs : List Variable) (hs : List Hypothesis) (j : �
 pub turnstile_constant : (declared : List Token) (c : Context) → Holds declared c → c.constants (codes "|-") ≡ true
 turnstile_constant declared c w = w.constants (codes "|-") ∙ either_true (header_context.constants (codes "|-")) (has_token declared (codes "|-")) header_turnstile
 
--- in a block that types its variables its text is typed
+-- inside a block that types its variables, the text of a pattern is typed
 pub open_typed : (declared : List Token) (k : ℕ) (c : Context) (at : ℕ) (vs : List Variable) (hs : List Hypothesis) (ds : List (List Token)) (j : ℕ) (p : Pattern) → IsGround declared k c → AreReady k vs hs j → EachLeaf (open_over declared vs) p
     → list_all (is_typed (inside c at (variable_tokens vs) hs ds)) (holds_text (own_naming declared) p) ≡ true
 open_typed declared k c at vs hs ds j p w ready leaves =
@@ -94,7 +94,7 @@ open_typed declared k c at vs hs ds j p w ready leaves =
     (second_true (c.scope.variables (variable_token v)) (has_token (variable_tokens vs) (variable_token v)) (present_token vs v h))
     (list_any-append (types (variable_token v)) c.scope.hypotheses hs ∙ second_true (list_any (types (variable_token v)) c.scope.hypotheses) (list_any (types (variable_token v)) hs) (ready.typed v h)))) leaves
 
--- one hypothesis more
+-- one more hypothesis
 pub more_ready : (k : ℕ) (vs : List Variable) (hs : List Hypothesis) (j : ℕ) (statement : List Token) → k < 2 ^ 64 → j < 2 ^ 64 → AreReady k vs hs j → AreReady k vs (hs ++ essential (premise_label k j) statement ∷ []) (j + 1)
 more_ready k vs hs j statement small few w = record {
   typed = λ v h. list_any-append (types (variable_token v)) hs (essential (premise_label k j) statement ∷ []) ∙ either_true (list_any (types (variable_token v)) hs) _ (w.typed v h);
@@ -117,7 +117,7 @@ premises_add declared k c at vs hs ds j (p ∷ ps) sts left w numbered ready lea
     (premises_add declared k c at vs (hs ++ essential (premise_label k j) (holds_text (own_naming declared) p) ∷ []) ds (j + 1) ps sts left w numbered (more_ready k vs hs j (holds_text (own_naming declared) p) w.small small ready) leaves.1 (omega (arith, few))
     (subst (λ (gs : List Hypothesis). AddsAnywhere (inside c at (variable_tokens vs) gs ds) sts left) (sym (append_assoc hs (essential (premise_label k j) (holds_text (own_naming declared) p) ∷ []) (premise_hypotheses declared k (j + 1) ps))) behind)))
 
--- the hypotheses that are active after the head of a block, of its own
+-- the block's own hypotheses, which are active after its head
 abbrev pub own_hypotheses : List Token → ℕ → List Variable → List Pattern → List Hypothesis
 own_hypotheses declared k vs ps = map (variable_float k) vs ++ premise_hypotheses declared k 0 ps
 
@@ -132,7 +132,7 @@ floats_ready k vs = record {
   new = λ i le lt. no_premise_among k vs i;
 }
 
--- so they are after all hypotheses
+-- the same is true after all hypotheses
 all_ready : (declared : List Token) (k : ℕ) (vs : List Variable) (hs : List Hypothesis) (j : ℕ) (ps : List Pattern) → k < 2 ^ 64 → j + length ps < 2 ^ 64 → AreReady k vs hs j → AreReady k vs (hs ++ premise_hypotheses declared k j ps) (j + length ps)
 all_ready declared k vs hs j [] small few w = subst (λ (gs : List Hypothesis). AreReady k vs gs (j + 0)) (sym (append-nil hs)) (subst (λ (n : ℕ). AreReady k vs hs n) (omega arith) w)
 all_ready declared k vs hs j (p ∷ ps) small few w =

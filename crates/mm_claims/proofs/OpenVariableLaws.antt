@@ -1,4 +1,5 @@
--- A block that declares the variables that a derivation needs has all that is used and cited there.
+-- A block that declares the variables that a derivation needs has everything that the derivation
+-- uses and cites there.
 use Rattle.std.proofs.Common.{◌≡◌, ℕ, Bool, true, false, List, [], ◌∷◌, ◌++◌, refl, ◌∙◌, sym, subst, append_assoc, append-nil}
 use Rattle.std.specs.Prelude.{if◌then◌else◌, flat_map}
 use Rattle.std.proofs.lemmas.Bool.{false≢true}
@@ -60,7 +61,7 @@ leaves_among declared vs (var x) w h = w (object_variable x) (first_there (objec
 leaves_among declared vs (meta i) w h = w (pattern_variable i) (first_there (pattern_variable i) [])
 leaves_among declared vs (constant c) w h = h
 
--- so are what stands for the variables of a rule, and of a claim
+-- the same is true of what is substituted for the variables of a rule, and of a claim
 instances_among : (declared : List Token) (vs : List Variable) (is : List Instance) → Among (flat_map variables_for is) vs → EachInstance (over_names declared) is → EachInstance (open_over declared vs) is
 instances_among declared vs [] w h = tt
 instances_among declared vs (pattern p ∷ is) w h = (leaves_among declared vs p (among_front (variables_in p) (flat_map variables_for is) vs w) h.0, instances_among declared vs is (among_behind (variables_in p) (flat_map variables_for is) vs w) h.1)
@@ -106,9 +107,9 @@ mutual
   all_cited_among declared vs claims place no_derivation w h = tt
   all_cited_among declared vs claims place (more_derivations d ds) w h = (cited_among declared vs claims place d (among_front (variables_of (at_places claims place) d) (all_variables_of (at_places claims place) ds) vs w) h.0, all_cited_among declared vs claims place ds (among_behind (variables_of (at_places claims place) d) (all_variables_of (at_places claims place) ds) vs w) h.1)
 
--- Others after some variables, each once.
+-- Other variables after some variables, each once.
 
--- variables of a block, with others among them
+-- the variables of a block, with these others among them
 record HasThem (others vs : List Variable) : Type 0 where
   once : are_once vs ≡ true
   numbered : AreNumbered vs

@@ -1,4 +1,4 @@
--- An axiom and a theorem, and how they stand without a block after a text that fits.
+-- An axiom and a theorem without a block, after a text that fits.
 use Rattle.std.proofs.Common.{◌≡◌, ℕ, ◌<◌, ◌^◌, Bool, true, false, List, [], ◌∷◌, length, refl, ap, ◌∙◌, sym, subst, Some, slice_get}
 use Rattle.std.specs.Prelude.{codes}
 use Rattle.std.specs.List.{list_all}
@@ -40,7 +40,7 @@ use Rattle.mm_claims.proofs.BlockLaws.{behind_block, claim_may_be_stated, ground
 use Rattle.mm_claims.proofs.NamedClaims.{claim_at_place}
 use Rattle.mm_claims.proofs.OpenCiting.{citing_is_sound}
 
--- an axiom and a theorem assert what they say
+-- an axiom and a theorem assert what they state
 
 pub axiom_asserts : (declared : List Token) (k : ℕ) (e : Context) (p : Pattern) → k < 2 ^ 64 → AreSymbols (holds_text (own_naming declared) p) → MayBeStated e (statement_label k) (codes "|-") (text_by (letters_of (own_naming declared)) p)
     → Asserts e (statement_label k) (holds_text (own_naming declared) p) false (axiom_statement declared k p)
@@ -75,7 +75,7 @@ theorem_asserts declared k e p tree small symbols may spelt proof_of = record {
 abbrev pub plain_claim : Pattern → Claim
 plain_claim p = record { variables = []; hypotheses = []; conclusion = p }
 
--- it may be stated, and has the same frame, as in a block that declares nothing
+-- it may be stated, and it has the same frame as in a block that declares nothing
 plain_may_be_stated : (declared : List Token) (claims : List Claim) (c : Context) (p : Pattern) → HoldsClaims declared claims c → length claims < 2 ^ 64 → IsClaim declared (plain_claim p)
     → MayBeStated c (statement_label (length claims)) (codes "|-") (text_by (letters_of (own_naming declared)) p)
 plain_may_be_stated declared claims c p w few claim =
@@ -88,7 +88,7 @@ plain_frame : (declared : List Token) (k : ℕ) (c : Context) (p : Pattern) → 
 plain_frame declared k c p w names claim =
     ap (λ (e : Context). frame_of e.scope (statement_label k) (holds_text (own_naming declared) p)) (opened c 0) ∙ frame_is declared k c 0 (plain_claim p) [] w names claim refl tt
 
--- a context with other variables, labels and frame of a statement
+-- a context with other variables and labels, and with the frame of a statement
 abbrev parts : Context → ℕ → (Token → Bool) → (Token → Bool) → Frame → Context
 parts c k vs ls f = record { constants = c.constants; variables = vs; labels = with_token ls (statement_label k); frames = with_frame c.frames (statement_label k) f; scope = c.scope; blocks = c.blocks }
 
@@ -99,7 +99,7 @@ plain_left declared k c p w names claim =
     ∙ ap (λ (ls : Token → Bool). parts c k (behind_block declared k c (plain_claim p) []).variables ls (frame_of c.scope (statement_label k) (holds_text (own_naming declared) p))) (none_more c.labels)
     ∙ ap (parts c k (behind_block declared k c (plain_claim p) []).variables (with_tokens c.labels [])) (plain_frame declared k c p w names claim)
 
--- what is left after the statement
+-- the context after the statement
 plain_adds : (declared : List Token) (k : ℕ) (c : Context) (at : ℕ) (p : Pattern) (proved : Bool) (tokens : List Token) → Holds declared c → AreNames declared → IsClaim declared (plain_claim p) → Asserts c (statement_label k) (holds_text (own_naming declared) p) proved tokens
     → AddsJust c at (tokens ∷ []) (behind_block declared k c (plain_claim p) []) (open_assertion proved declared k (plain_claim p)) []
 plain_adds declared k c at p proved tokens w names claim says =

@@ -164,7 +164,7 @@ each_separated vs once numbered =
         go true is behind = ((h.0, is), behind)
         go false is behind = behind
 
--- and what its tokens are
+-- and what the tokens of the `$d` are
 
 pub separated_once : (ws : List Variable) → are_once ws ≡ true → AreNumbered ws → has_repeated (variable_tokens ws) ≡ false
 separated_once [] h g = refl
@@ -196,7 +196,7 @@ any_same : {A : Type 0} (f g : A → Bool) (xs : List A) → ((x : A) → f x �
 any_same f g [] h = refl
 any_same f g (x ∷ xs) h = ap (λ (b : Bool). b || list_any f xs) (h x) ∙ ap (λ (b : Bool). g x || b) (any_same f g xs h)
 
--- two tokens cannot both be the same one
+-- a token is not equal to two different tokens
 both_same : (t a b : Token) → bytes_eq a b ≡ false → (bytes_eq t a && bytes_eq t b) ≡ false
 both_same t a b h = go (bytes_eq t a) refl (bytes_eq t b) refl
   where
@@ -205,7 +205,7 @@ both_same t a b h = go (bytes_eq t a) refl (bytes_eq t b) refl
     go true is false at = refl
     go true is true at = absurd (false≢true (sym h ∙ (bytes_eq-Decides a b).1 (sym ((bytes_eq-Decides t a).0 is) ∙ (bytes_eq-Decides t b).0 at)))
 
--- some tokens of which there are not two keep none apart
+-- fewer than two variables keep no tokens apart
 few_apart : (ws : List Variable) (a b : Token) → are_several ws ≡ false → are_different_tokens (variable_tokens ws) a b ≡ false
 few_apart [] a b h = and_false (not (bytes_eq a b))
 few_apart (w ∷ []) a b h = go (bytes_eq a b) refl
@@ -228,7 +228,7 @@ any_map : {A B : Type 0} (f : A → B) (test : B → Bool) (xs : List A) → lis
 any_map f test [] = refl
 any_map f test (x ∷ xs) = ap (λ (b : Bool). test (f x) || b) (any_map f test xs)
 
--- a variable's token is that of an object variable or of a pattern variable
+-- the token of a variable is that of an object variable or of a pattern variable
 parted_tokens : (vs : List Variable) (a : Token) → has_token (variable_tokens vs) a ≡ (has_token (object_tokens vs) a || has_token (variable_tokens (filter (λ v. not (is_object v)) vs)) a)
 parted_tokens [] a = refl
 parted_tokens (object_variable i ∷ vs) a =

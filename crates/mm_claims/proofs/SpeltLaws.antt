@@ -1,4 +1,4 @@
--- The labels of a proof are well spelt.
+-- The labels of a proof are well spelled.
 use Rattle.std.proofs.Common.{◌≡◌, ℕ, ◌<◌, ◌^◌, Bool, true, false, List, [], ◌∷◌, refl, ap, ◌∙◌, sym, arith, map}
 use Rattle.std.specs.Prelude.{◌||◌, ◌==◌, not, if◌then◌else◌, codes, bytes_eq, Some, None}
 use Rattle.std.specs.List.{list_all}
@@ -23,7 +23,7 @@ use Rattle.mm_claims.specs.Statements.{is_name_byte}
 use Rattle.mm_claims.proofs.NameLaws.{all_printing, no_dollars, digit_of_label}
 use Rattle.mm_text.specs.PlainTokens.{is_plain_token}
 
--- what is known of a label's tokens
+-- what is known about the tokens of a label
 pub record LabelFacts (t : Token) : Type 0 where
   pub plain : is_plain_token t ≡ true
   pub clean : has_dollar t ≡ false
@@ -62,7 +62,7 @@ label_facts (b ∷ bs) h =
       no_bracket = no_first b 40 bs [] other.1;
     }
 
--- the labels of the header's rows are well spelt
+-- the labels of the header's rows are well spelled
 
 rows_spelt : list_all is_label (map (λ (r : Row). r.label) header_rows) ≡ true
 unfolding header_rows
@@ -83,7 +83,7 @@ header_spelt label f h = go (has_token (map (λ (r : Row). r.label) header_rows)
     go true there = among (map (λ (r : Row). r.label) header_rows) label there rows_spelt
     go false none = absurd (let never : Some f ≡ None = sym h ∙ header_only label none in let z : ⊥ = cc in z)
 
--- the labels of the header's `$f`s are well spelt
+-- the labels of the header's `$f`s are well spelled
 
 pub types_spelt : list_all (λ h. is_label (label_of h)) header_context.scope.hypotheses ≡ true
 unfolding header_context
@@ -103,7 +103,7 @@ leads_spelt : {c : Context} {label : Token} {given : List Expression} {result : 
 leads_spelt {c = c} {label = label} active spelt (by_hypothesis h is) = active label h is
 leads_spelt {c = c} {label = label} active spelt (by_assertion f sigma given result none is applies) = spelt label f is
 
--- so it is with the header's alone
+-- the same is true if only the header is active
 pub header_active_spelt : (c : Context) → c.scope ≡ header_context.scope → (l : Token) (h : Hypothesis) → hypothesis_of c.scope.hypotheses l ≡ Some h → is_label l ≡ true
 header_active_spelt c scope l h is = hypothesis_spelt header_context.scope.hypotheses l h types_spelt (ap (λ s. hypothesis_of s.hypotheses l) (sym scope) ∙ is)
 
@@ -117,7 +117,7 @@ mutual
   all_postorder_spelt c (more_proofs tree trees) es active spelt (first, rest, is, proof, all) =
       list_all-append is_label (postorder tree) (all_postorder trees) (postorder_spelt c tree first active spelt proof) (all_postorder_spelt c trees rest active spelt all)
 
--- well spelt labels are clean tokens
+-- well spelled labels are clean tokens
 
 abbrev pub is_clean_token : Token → Bool
 is_clean_token t = not (has_dollar t)

@@ -1,4 +1,4 @@
--- The tokens of statements, and what the header and the names have to do with them.
+-- The tokens of statements, and how they relate to the header and the names.
 use Rattle.std.proofs.Common.{◌≡◌, ℕ, ◌<◌, Bool, true, false, List, [], ◌∷◌, ◌++◌, length, zero, suc, map, refl, ap, ◌∙◌, sym, subst, arith, append_assoc, Option, Some, None}
 use Rattle.std.specs.Prelude.{◌==◌, ◌&&◌, ◌||◌, not, if◌then◌else◌, codes, bytes_eq}
 use Rattle.std.specs.List.{list_any, list_all}
@@ -63,7 +63,7 @@ name_at [] i names lt = absurd (omega (arith, lt))
 name_at (t ∷ ts) zero names lt = names.0
 name_at (t ∷ ts) (suc i) names lt = name_at ts i names.1 (omega (arith, lt))
 
--- no variable's token is a constant of the header
+-- no token of a variable is a constant of the header
 pub fixed_variables : (declared : List Token) (c : Context) (ts : List Token) → Holds declared c → map is_variable_token ts ≡ map (λ t. false) ts → map c.variables ts ≡ map header_context.variables ts
 fixed_variables declared c [] w h = refl
 fixed_variables declared c (t ∷ ts) w h =
@@ -117,7 +117,7 @@ none_passes test (t ∷ ts) h = go (test t) h (none_passes test ts)
     go true all behind = absurd (false≢true all)
     go false all behind = behind all
 
--- nor is it the label of a statement
+-- no name is the label of a statement
 
 pub name_no_statement : (t : Token) (k : ℕ) → IsName t → bytes_eq t (statement_label k) ≡ false
 name_no_statement t k w = go w.kind w.is
@@ -156,7 +156,7 @@ pub theorem_plain : (l : Token) (symbols proof : List Token) → is_plain_token 
 theorem_plain l symbols proof h g f =
     both_true (is_plain_token l) _ h (list_all-append is_plain_token symbols (codes "$=" ∷ (proof ++ codes "$." ∷ [])) g (list_all-append is_plain_token proof (codes "$." ∷ []) f refl))
 
--- and no row of the header has such a label
+-- no row of the header has such a label
 
 header_no_statement : (k : ℕ) → header_context.frames (statement_label k) ≡ None
 unfolding header_context header_rows

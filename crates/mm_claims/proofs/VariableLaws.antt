@@ -20,7 +20,7 @@ use Rattle.mm_claims.proofs.BoolLaws.{not_false, split_false}
 use Rattle.mm_claims.proofs.NameLaws.{all_printing, no_dollars, digit_of_label, digit_prints}
 use Rattle.mm_text.specs.PlainTokens.{is_plain_token}
 
--- what is known of a variable's token
+-- what is known about the token of a variable
 pub record VariableFacts (v : Variable) : Type 0 where
   pub plain : is_plain_token (variable_token v) ≡ true
   pub clean : has_dollar (variable_token v) ≡ false
@@ -61,7 +61,7 @@ variable_facts (pattern_variable i) h =
       clean_typecode = refl;
     }
 
--- a variable's token is no name
+-- no token of a variable is a name
 pub name_no_variable : (t : Token) (v : Variable) → IsName t → bytes_eq t (variable_token v) ≡ false
 name_no_variable t v w = go w.kind w.is v
   where
@@ -86,7 +86,7 @@ pub token_is_variable : (v : Variable) → is_variable_token (variable_token v) 
 token_is_variable (object_variable i) = refl
 token_is_variable (pattern_variable i) = refl
 
--- a token that is not a variable's is no variable's
+-- a token that does not look like one of a variable is not the token of a variable
 pub other_token : (t : Token) (v : Variable) → is_variable_token t ≡ false → bytes_eq t (variable_token v) ≡ false
 other_token t v h = go (bytes_eq t (variable_token v)) refl
   where
@@ -102,7 +102,7 @@ no_other_among (v ∷ vs) t h = go (bytes_eq (variable_token v) t) refl (no_othe
     go false is behind = behind
     go true is behind = absurd (false≢true (sym h ∙ ap is_variable_token (sym ((bytes_eq-Decides (variable_token v) t).0 is)) ∙ token_is_variable v))
 
--- what is not equal, differs
+-- tokens that are not equal differ
 differs : (s t : Token) → (s ≡ t → ⊥) → bytes_eq s t ≡ false
 differs s t other = go (bytes_eq s t) refl
   where
@@ -187,7 +187,7 @@ label_differs k (object_variable i) (pattern_variable j) small h g other = refl
 label_differs k (pattern_variable i) (object_variable j) small h g other = refl
 label_differs k (pattern_variable i) (pattern_variable j) small h g other = differs (variable_label k (pattern_variable i)) (variable_label k (pattern_variable j)) (λ same. false≢true (sym other ∙ is_equal i j (second_number_same k i j small h g (ap behind_two same))))
 
--- of different blocks
+-- the labels of variables in different blocks
 pub label_elsewhere : (k l : ℕ) (u v : Variable) → k < 2 ^ 64 → l < 2 ^ 64 → (k ≡ l → ⊥) → bytes_eq (variable_label k u) (variable_label l v) ≡ false
 label_elsewhere k l (object_variable i) (object_variable j) hk hl other = differs (variable_label k (object_variable i)) (variable_label l (object_variable j)) (λ same. other (first_number_same k i l j hk hl (ap behind_two same)))
 label_elsewhere k l (object_variable i) (pattern_variable j) hk hl other = refl

@@ -10,7 +10,8 @@ use Rattle.mm_claims.specs.Variables.{object_variable, pattern_variable}
 use Rattle.mm_claims.specs.Blocks.{Claim, IsClaim, axiom_block}
 use Rattle.mm_claims.specs.CitedAt.{claim_tree}
 
--- from m:0 and that m:1 implies it, that there is an element in it
+-- a small claim: from m:0, and from m:1 implies m:0, it concludes that x:2 implies that an element
+-- is equal to m:0
 abbrev pub small_claim : Claim
 small_claim = record {
   variables = object_variable 0 ∷ object_variable 2 ∷ pattern_variable 0 ∷ pattern_variable 1 ∷ [];
@@ -18,7 +19,7 @@ small_claim = record {
   conclusion = imp (var 2) (ex 0 0 (equal (var 0) (meta 0)));
 }
 
--- all tokens of a small block, one after the other
+-- all tokens of a small block, one after another
 abbrev small_tokens : List Token
 small_tokens = flat_map (λ tokens. tokens) (axiom_block (codes "s:S" ∷ []) 7 small_claim)
 

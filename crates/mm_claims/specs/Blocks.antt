@@ -1,5 +1,6 @@
--- Statements, which may have variables and hypotheses. Such a statement stands in a block of its own, which declares
--- its variables: after the block nothing more is active than before it, and the next block may declare them again.
+-- Statements, which may have variables and hypotheses. Such a statement is in a block of its own,
+-- which declares its variables. After the block nothing more is active than before it, so the next
+-- block may declare them again.
 use Rattle.std.specs.Prelude.{◌≡◌, ℕ, ◌+◌, ◌<◌, ◌^◌, Bool, true, false, not, ◌&&◌, ◌||◌, if◌then◌else◌, List, [], ◌∷◌, ◌++◌, map, filter, length, codes, bytes_eq}
 use Rattle.std.specs.List.{list_any, list_all}
 use Rattle.mm_text.specs.Bytes.{Token, has_token}
@@ -16,8 +17,8 @@ use Rattle.mm_claims.specs.OverNames.{AreOpenOver}
 use Rattle.mm_claims.specs.Variables.{Variable, is_object, are_once, AreNumbered, stands_in, variable_token, variable_label, variable_type, variable_tokens, object_tokens, are_several}
 use Rattle.mm_database.specs.StatementTexts.{plain_tokens}
 
--- what an axiom or a lemma claims: its conclusion under its hypotheses, and its variables in the order in which they
--- are typed
+-- what an axiom or a lemma claims: its conclusion under its hypotheses, and its variables in the
+-- order in which they are typed
 pub record Claim : Type 0 where
   pub variables : List Variable
   pub hypotheses : List Pattern
@@ -28,7 +29,7 @@ pub record Stated : Type 0 where
   pub number : ℕ
   pub claim : Claim
 
--- A claim over declared names: its variables are just those that stand in it, each once.
+-- A claim over declared names. Its variables are exactly those that occur in it, each once.
 pub record IsClaim (declared : List Token) (s : Claim) : Type 0 where
   pub once : are_once s.variables ≡ true
   pub numbered : AreNumbered s.variables
@@ -36,14 +37,15 @@ pub record IsClaim (declared : List Token) (s : Claim) : Type 0 where
   pub over : AreOpenOver declared s.variables (s.conclusion ∷ s.hypotheses)
   pub few : length s.hypotheses < 2 ^ 64
 
--- What a block has in it. A variable: `$v x:0 $. x.k.0 $f #Var x:0 $.`
+-- The contents of a block. A variable: `$v x:0 $. x.k.0 $f #Var x:0 $.`
 abbrev pub variable_statements : ℕ → List Variable → List (List Token)
 variable_statements k [] = []
 variable_statements k (v ∷ vs) =
     plain_tokens [] declares_variables (variable_token v ∷ []) ∷
     (plain_tokens (variable_label k v ∷ []) types_variable (variable_type v ∷ (variable_token v ∷ [])) ∷ variable_statements k vs)
 
--- what each `$d` keeps apart: the object variables, and these with each pattern variable, where they are two at least
+-- what each `$d` keeps apart: the object variables, and the object variables with each pattern
+-- variable; a `$d` needs at least two variables
 abbrev pub separated : List Variable → List (List Variable)
 separated vs =
     filter are_several (filter is_object vs ∷ map (λ v. filter is_object vs ++ v ∷ []) (filter (λ v. not (is_object v)) vs))
@@ -69,7 +71,7 @@ head_statements declared k vs ps =
 abbrev pub block : List (List Token) → List (List Token)
 block statements = (codes "${" ∷ []) ∷ (statements ++ (codes "$}" ∷ []) ∷ [])
 
--- an axiom, and a theorem with its proof, in which more variables may stand
+-- an axiom, and a theorem with its proof, in which more variables may occur
 abbrev pub axiom_block : List Token → ℕ → Claim → List (List Token)
 axiom_block declared k s =
     block (head_statements declared k s.variables s.hypotheses ++ axiom_statement declared k s.conclusion ∷ [])
@@ -84,8 +86,8 @@ needs_block [] [] = false
 needs_block [] (p ∷ ps) = true
 needs_block (v ∷ vs) ps = true
 
--- What is written of an axiom, and of a theorem with its proof: the statement alone, or in its block where it needs
--- one.
+-- What is written for an axiom, and for a theorem with its proof: only the statement, or the
+-- statement in its block if it needs one.
 abbrev pub axiom_statements : List Token → ℕ → Claim → List (List Token)
 axiom_statements declared k s =
     if needs_block s.variables s.hypotheses then axiom_block declared k s else (axiom_statement declared k s.conclusion ∷ [])
@@ -102,13 +104,13 @@ abbrev pub premise_hypotheses : List Token → ℕ → ℕ → List Pattern → 
 premise_hypotheses declared k j [] = []
 premise_hypotheses declared k j (p ∷ ps) = essential (premise_label k j) (holds_text (own_naming declared) p) ∷ premise_hypotheses declared k (j + 1) ps
 
--- two different variables, of which one is an object variable
+-- two different variables, at least one of which is an object variable
 abbrev pub are_apart : List Variable → Token → Token → Bool
 are_apart vs a b =
     not (bytes_eq a b) && ((has_token (variable_tokens vs) a && has_token (variable_tokens vs) b) && (has_token (object_tokens vs) a || has_token (object_tokens vs) b))
 
--- The frame of a claim: its variables are typed in their order, then come its hypotheses; each two of its variables
--- have to stay apart of which one is an object variable.
+-- The frame of a claim: its variables are typed in their order, and then come its hypotheses. Two
+-- different variables have to stay apart if at least one of them is an object variable.
 abbrev pub open_frame : List Token → ℕ → Claim → Frame
 open_frame declared k s = record {
   label = statement_label k;

@@ -1,4 +1,4 @@
--- What a derivation may cite of what was claimed before, as the laws say it.
+-- What a derivation may cite of what was claimed before, in the form that the laws use.
 use Rattle.std.specs.Prelude.{ℕ, List, []}
 use Rattle.ml_pat.specs.Patterns.{Pattern}
 use Rattle.ml_pat.specs.Leaves.{LeafFacts}

@@ -15,14 +15,14 @@ use Rattle.mm_claims.specs.CitedAt.{ArePremises, at_places}
 use Rattle.mm_claims.specs.Citable.{citable}
 use Rattle.mm_claims.specs.Provable.{IsProvable}
 
--- over declared names it is a claim, where its variables have numbers of 64 bits
+-- patterns over declared names are a claim if their variables have numbers of 64 bits
 abbrev pub OverNamesIsClaim : Type 0
 OverNamesIsClaim =
     (declared : List Token) (hypotheses : List Pattern) (conclusion : Pattern) → AreOverNames declared (conclusion ∷ hypotheses) →
     AreNumbered (claim_variables hypotheses conclusion) → length hypotheses < 2 ^ 64 → IsClaim declared (claim_of hypotheses conclusion)
 
--- A derivation that uses declared names and cites claims can be written in a block that declares the variables of its
--- claim, and then those others that it needs.
+-- A derivation that uses declared names and cites claims can be written in a block that declares
+-- the variables of its claim, and then the other variables that the derivation needs.
 abbrev pub NeededAreEnough : Type 0
 NeededAreEnough =
     (declared : List Token) (claims : List Claim) (s : Claim) (d : Derivation) (place : List Pattern → Pattern → ℕ) (premise_place : Pattern → ℕ) →

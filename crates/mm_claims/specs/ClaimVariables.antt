@@ -1,5 +1,5 @@
--- The variables of a claim: those that stand in its conclusion and then in its hypotheses, each once, in the order in
--- which they first stand.
+-- The variables of a claim: those that occur in its conclusion and then in its hypotheses, each
+-- once, in the order of first occurrence.
 use Rattle.std.specs.Prelude.{List, [], ◌∷◌, flat_map}
 use Rattle.ml_pat.specs.Patterns.{Pattern}
 use Rattle.mm_claims.specs.Variables.{Variable}

@@ -26,9 +26,9 @@ abbrev pub AreClaims : List Token → List Claim → Type 0
 AreClaims declared [] = Unit {0}
 AreClaims declared (s ∷ ss) = IsClaim declared s × AreClaims declared ss
 
--- The header, these names and these claims are declared, each claim under the label of its place. The labels of later
--- blocks are free; no variable's token is a label. The label of each assertion is well spelt, taken, and that of no
--- active hypothesis.
+-- The header, these names and these claims are declared, each claim under the label of its place.
+-- The labels of later blocks are free. No token of a variable is a label. The label of each
+-- assertion is well spelled and taken, and it is not the label of an active hypothesis.
 pub record HoldsClaims (declared : List Token) (claims : List Claim) (c : Context) : Type 0 where
   pub base : Holds declared c
   pub names : AreNames declared
@@ -44,14 +44,15 @@ pub record HoldsClaims (declared : List Token) (claims : List Claim) (c : Contex
 abbrev pub FitsClaims : List Token → List Claim → List ℕ → Type 0
 FitsClaims declared claims bytes = (c : Context) × Leaves bytes c × HoldsClaims declared claims c
 
--- what is written of a theorem by a derivation, where what it cites is found so
+-- what is written for a theorem with a derivation, whose citations are found by `find` and
+-- `premise_place`
 abbrev pub proved_statements : List Token → ℕ → (List Pattern → Pattern → Stated) → (Pattern → ℕ) → Claim →
     List Variable → Derivation → List (List Token)
 proved_statements declared k find premise_place s more d =
     theorem_statements declared k s more (derivation_tree (own_labels k) (claims_citing k find premise_place) d)
 
--- What a text has gained with a statement after it: just this assertion, and the typings of these variables in its
--- block.
+-- What a text has gained with a statement after it: exactly this assertion, and the typings of
+-- these variables in its block.
 pub record HasJust (bytes appended : List ℕ) (k : ℕ) (vs : List Variable) (a : Assertion) : Type 0 where
   pub assertions : assertions_of (bytes ++ appended) ≡ assertions_of bytes ++ a ∷ []
   pub typings : typings_of (bytes ++ appended) ≡ typings_of bytes ++ map (variable_float k) vs

@@ -11,7 +11,7 @@ use Rattle.mm_claims.specs.ClaimVariables.{claim_variables}
 abbrev pub ClosedHasNoMeta : Type 0
 ClosedHasNoMeta = (names : List Token) (p : Pattern) → EachLeaf (closed_over names) p → HasNoMeta p
 
--- what is closed is over the names, and has no variables as a claim without hypotheses
+-- what is closed is over the names, and as a claim without hypotheses it has no variables
 abbrev pub ClosedIsOver : Type 0
 ClosedIsOver = (names : List Token) (p : Pattern) → EachLeaf (closed_over names) p → EachLeaf (over_names names) p
 

@@ -1,4 +1,4 @@
--- What a text has declared that has declared the header and some names.
+-- What a text has declared if it has declared the header and some names.
 use Rattle.std.specs.Prelude.{◌≡◌, ℕ, ◌<◌, ◌≤◌, ◌^◌, false, ◌||◌, List, [], ◌∷◌, length, Some}
 use Rattle.mm_text.specs.Bytes.{Token, has_token}
 use Rattle.mm_database.specs.Frames.{Frame}
@@ -10,7 +10,7 @@ use Rattle.mm_proof.specs.Tokens.{name_of}
 use Rattle.mm_claims.specs.Statements.{IsName, typecode_of}
 use Rattle.mm_claims.specs.Variables.{is_variable_token}
 
--- each of the tokens is one of a sort, a symbol or a value
+-- each of the tokens is one of a sort, of a symbol or of a value
 abbrev pub AreNames : List Token → Type 0
 AreNames [] = Unit {0}
 AreNames (t ∷ ts) = IsName t × AreNames ts
@@ -19,10 +19,10 @@ AreNames (t ∷ ts) = IsName t × AreNames ts
 abbrev pub name_frame : ℕ → Token → Frame
 name_frame i t = closed_frame (name_label i) (typecode_of t ∷ (t ∷ []))
 
--- What a text has declared where the header was written and these names: the rows of the header are there, and what is active
--- is what is active after the header; variables of statements may have been declared besides. Its constants are those
--- of the header and the names, of which each has its `$a` under its label. The labels of later names are free, and no
--- label is a name's token.
+-- What a text has declared if the header and these names were written. The rows of the header are
+-- there. What is active is what is active after the header. Variables of statements may have been
+-- declared too. The constants are those of the header and the names. Each name has its `$a` under
+-- its label. The labels of later names are free, and no label is the token of a name.
 pub record Holds (declared : List Token) (c : Context) : Type 0 where
   pub rows : (label : Token) (f : Frame) → header_context.frames label ≡ Some f → c.frames label ≡ Some f
   pub scope : c.scope ≡ header_context.scope

@@ -14,16 +14,16 @@ use Rattle.mm_claims.specs.Claiming.{FitsClaims, HasJust}
 abbrev pub AreAmong : List Claim → List Stated → Type 0
 AreAmong claims kept = (s : Stated) → Contains kept s → slice_get claims s.number ≡ Some s.claim
 
--- a text has declared names and so many claims, among them these
+-- a text has declared names and `count` claims, and these claims are among them
 pub record FitsStated (declared : List Token) (count : ℕ) (kept : List Stated) (bytes : List ℕ) : Type 0 where
   pub claims : List Claim
   pub fits : FitsClaims declared claims bytes
   pub counted : length claims ≡ count
   pub among : AreAmong claims kept
 
--- A text fits: it is valid, ends with white space and has no open block; it is empty where nothing is kept, and else it
--- has declared the header, the names that are kept, which are the first of these, and as many claims as were counted,
--- among them those that are kept.
+-- A text fits: it is valid, ends with white space and has no open block. If nothing is kept, it is
+-- empty. Otherwise it has declared the header, the kept names, which are the first of these, and as
+-- many claims as were counted. The kept claims are among them.
 abbrev pub FitsWhen : Bool → List Token → ℕ → List Stated → List ℕ → Type 0
 FitsWhen false declared count kept bytes = bytes ≡ []
 FitsWhen true declared count kept bytes = FitsStated declared count kept bytes
@@ -31,31 +31,31 @@ FitsWhen true declared count kept bytes = FitsStated declared count kept bytes
 abbrev pub Fits : List Token → Kept → List ℕ → Type 0
 Fits names k bytes = FitsWhen k.begun (take k.named names) k.count (all_stated k) bytes
 
--- each text that fits what was kept fits, with what was appended, what is kept now
+-- if a text fits what was kept, then with the appended bytes it fits what is kept now
 abbrev pub AppendsFittingNames : List Token → Kept → Kept → List ℕ → Type 0
 AppendsFittingNames names old new appended = (bytes : List ℕ) → Fits names old bytes → Fits names new (bytes ++ appended)
 
 abbrev pub AppendsFitting : Kept → Kept → List ℕ → Type 0
 AppendsFitting old new appended = (names : List Token) → AppendsFittingNames names old new appended
 
--- and it has gained just this assertion, and the typings of these variables
+-- and it has gained exactly this assertion, and the typings of these variables
 pub record Gains (names : List Token) (old new : Kept) (appended : List ℕ) (vs : List Variable) (a : Assertion) : Type 0 where
   pub fits : AppendsFittingNames names old new appended
   pub just : (bytes : List ℕ) → Fits names old bytes → HasJust bytes appended old.count vs a
 
--- what may be stated: the header was written, and the pattern is over the names that were declared
+-- what may be stated: the header was written, and the pattern is over the declared names
 pub record MayState (names : List Token) (k : Kept) (p : Pattern) : Type 0 where
   pub begun : IsTrue k.begun
   pub over : AreOverNames (take k.named names) (p ∷ [])
 
--- what is kept with one claim more, under the next number
+-- what is kept after one more claim, which has the next number
 abbrev pub with_stated : Kept → Claim → Kept
 with_stated k s = record k { count = k.count + 1; stated = k.stated ++ record { number = k.count; claim = s } ∷ [] }
 
--- .. in the place of the last of a run
+-- the same, but the claim replaces the last of a run
 abbrev pub with_last : Kept → Claim → Kept
 with_last k s = record k { count = k.count + 1; last = record { number = k.count; claim = s } ∷ [] }
 
--- the axiom of a theory with a number
+-- the axiom of a theory with this number
 abbrev pub axiom_at : List Pattern → ℕ → Pattern
 axiom_at theory i = slice_index_or theory i bot

@@ -1,4 +1,4 @@
--- What fits with the header and with names after it.
+-- What fits after the header and after more names.
 use Rattle.std.specs.Prelude.{◌≡◌, ℕ, ◌<◌, ◌≤◌, ◌^◌, true, List, [], ◌++◌, length, drop}
 use Rattle.mm_text.specs.Bytes.{Token}
 use Rattle.mm_header.specs.HeaderText.{header_bytes}
@@ -13,12 +13,13 @@ use Rattle.mm_database.specs.StatementTexts.{written_statements}
 abbrev pub EmptyFits : Type 0
 EmptyFits = (names : List Token) → Fits names nothing_kept []
 
--- the header after a text that fits one, fits
+-- if a text fits a new renderer, then with the header after it, it fits a renderer that has written
+-- only the header
 abbrev pub BegunFits : Type 0
 BegunFits = (names : List Token) (bytes : List ℕ) → Fits names nothing_kept bytes → Fits names header_kept (bytes ++ header_bytes)
 
--- A text that fits still does so with the declarations of more names after it. The names differ, and are fewer than 2
--- ^ 64.
+-- A text that fits still fits if the declarations of more names are appended. The names differ, and
+-- there are fewer than 2 ^ 64.
 abbrev pub DeclaredFits : Type 0
 DeclaredFits =
     (names : List Token) (k : Kept) (bytes : List ℕ) → AreNames names → AreDistinct names → length names < 2 ^ 64 → k.begun ≡ true → k.named ≤ length names → Fits names k bytes →

@@ -2,8 +2,9 @@
 use Rattle.std.specs.Prelude.{ℕ, Bool, true, false, List, [], ◌++◌}
 use Rattle.mm_claims.specs.Blocks.{Stated}
 
--- Whether the header was written, how many names were declared: those with the first numbers, how many claims were
--- stated, those of them that may always be cited, and the last of a run, which may be cited until the next.
+-- Whether the header was written; how many names were declared, which are those with the first
+-- numbers; how many claims were stated; those claims that may always be cited; and the last claim
+-- of a run, which may be cited until the next one is stated.
 pub record Kept : Type 0 where
   pub begun : Bool
   pub named : ℕ
@@ -18,6 +19,6 @@ all_stated k = k.stated ++ k.last
 abbrev pub nothing_kept : Kept
 nothing_kept = record { begun = false; named = 0; count = 0; stated = []; last = [] }
 
--- the header alone is there
+-- only the header was written
 abbrev pub header_kept : Kept
 header_kept = record { begun = true; named = 0; count = 0; stated = []; last = [] }

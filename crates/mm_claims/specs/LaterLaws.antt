@@ -9,11 +9,11 @@ use Rattle.mm_claims.specs.Blocks.{Stated}
 use Rattle.mm_claims.specs.Keeping.{Fits}
 use Rattle.mm_claims.specs.Places.{IsStated}
 
--- a text that fits what is kept of some names still does so when the names gain tokens
+-- a text that fits what is kept of some names still fits it when the names gain tokens
 abbrev pub FitsLater : Type 0
 FitsLater = (names more : List Token) (k : Kept) (bytes : List ℕ) → k.named ≤ length names → Fits names k bytes → Fits (names ++ more) k bytes
 
--- where all names are declared, those that are declared are all
+-- if all names are declared, the declared names are all names
 abbrev pub AllDeclared : Type 0
 AllDeclared = (names : List Token) (k : Kept) → k.named ≡ length names → take k.named names ≡ names
 
@@ -21,7 +21,8 @@ AllDeclared = (names : List Token) (k : Kept) → k.named ≡ length names → t
 abbrev pub ClosedStays : Type 0
 ClosedStays = (names more : List Token) (p : Pattern) → EachLeaf (closed_over names) p → EachLeaf (closed_over (names ++ more)) p
 
--- what was stated last was stated, and what was stated before still is where its claims are among others
+-- a claim that was stated last was stated; a claim that was stated is still stated if its claims
+-- are among others
 abbrev pub LastIsStated : Type 0
 LastIsStated = (stated : List Stated) (s : Stated) → IsStated (stated ++ s ∷ []) s.claim.hypotheses s.claim.conclusion
 

@@ -12,7 +12,8 @@ use Rattle.mm_claims.specs.Blocks.{Claim}
 use Rattle.mm_claims.specs.CitedAt.{at_places, claims_citing}
 use Rattle.mm_claims.specs.OpenVariables.{variables_of, other_variables}
 
--- where x leads to m, each predecessor of x leads to one of m
+-- the hypothesis of a small claim: x implies m; the claim concludes that each predecessor of x is
+-- one of m
 abbrev premise_of_next : Pattern
 premise_of_next = imp (var 0) (meta 0)
 
@@ -22,7 +23,7 @@ next_of_both = imp (next (var 0)) (next (meta 0))
 abbrev next_claim : Claim
 next_claim = record { variables = object_variable 0 ∷ (pattern_variable 0 ∷ []); hypotheses = premise_of_next ∷ []; conclusion = next_of_both }
 
--- its derivation, and one that cites it for a pattern in the place of m
+-- its derivation, and one that cites it with a pattern substituted for m
 abbrev next_derivation : Derivation
 next_derivation = by_rule rule.NextIn (pattern (var 0) ∷ (pattern (meta 0) ∷ [])) (more_derivations (hypothesis premise_of_next) no_derivation)
 

@@ -1,5 +1,5 @@
--- Claims are cited soundly, and so a derivation that cites them is written as a proof of what it concludes, in every database
--- that has them, the hypotheses of the block and its variables.
+-- Claims are cited soundly. So a derivation that cites them is written as a proof of what it
+-- concludes, in every database that has the claims, the hypotheses of the block and its variables.
 use Rattle.std.specs.Prelude.{◌≡◌, ℕ, List, [], ◌++◌, map, slice_get, Some}
 use Rattle.mm_text.specs.Bytes.{Token}
 use Rattle.mm_database.specs.Frames.{essential}
@@ -24,15 +24,15 @@ use Rattle.mm_claims.specs.Blocks.{Claim, IsClaim, open_frame}
 use Rattle.mm_claims.specs.CitedAt.{variable_tree, at_places, claims_citing, HaveInstances, ArePremises}
 use Rattle.mm_claims.specs.Citable.{citable}
 
--- Where a proof stands in the block with a number, the claims can be cited, each under the label of its place, and the hypotheses
--- of the block are active, each under the label of its own.
+-- At the place of a proof in the block with a number, the claims can be cited, each under the label
+-- of its place. The hypotheses of the block are active, each under the label of its own place.
 pub record ServesClaims (c : Context) (declared : List Token) (claims : List Claim) (k : ℕ) (hypotheses : List Pattern) : Type 0 where
   pub claimed : (i : ℕ) (s : Claim) → slice_get claims i ≡ Some s → IsClaim declared s
   pub frames : (i : ℕ) (s : Claim) → slice_get claims i ≡ Some s → IsAssertion c (statement_label i) (open_frame declared i s)
   pub premises : (j : ℕ) (p : Pattern) → slice_get hypotheses j ≡ Some p → active_hypothesis c (premise_label k j) ≡ Some (essential (premise_label k j) (holds_text (own_naming declared) p))
 
--- A claim's label, over the proofs of what stands for its variables and of its hypotheses at these patterns, is a proof of its
--- conclusion at them.
+-- The label of a claim, over the proofs of what is substituted for its variables and of its
+-- hypotheses at these patterns, is a proof of its conclusion at these patterns.
 abbrev pub ClaimsAreCited : Type 0
 ClaimsAreCited =
     (c : Context) (l : Naming) (declared : List Token) (known : Known) (i : ℕ) (s : Claim) (ms : List Pattern) (trees : List ProofTree) →

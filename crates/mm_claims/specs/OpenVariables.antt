@@ -1,5 +1,6 @@
--- The variables that a derivation needs in its block: those that stand in what is written of it. With these it can be
--- written after a text that fits, where it has declared names alone besides.
+-- The variables that a derivation needs in its block: those that occur in what is written for it.
+-- With these variables it can be written after a text that fits, if all that it uses besides them
+-- is declared names.
 use Rattle.std.specs.Prelude.{ℕ, if◌then◌else◌, List, [], ◌∷◌, ◌++◌, flat_map}
 use Rattle.ml_pat.specs.Patterns.{Pattern, bot, top, imp, not, and, or, equal, member, fun, ex, all, app, at_sort, next, ev, var, meta, constant}
 use Rattle.ml_kernel.specs.Lemmas.{instance}
@@ -9,7 +10,7 @@ use Rattle.ml_kernel.specs.Theorems.{Derivation, Derivations, hypothesis, own_ax
 use Rattle.mm_claims.specs.Variables.{Variable, object_variable, pattern_variable, has_variable}
 use Rattle.mm_claims.specs.Blocks.{Stated}
 
--- the variables that stand in a pattern, bound or free, one after the other
+-- the variables that occur in a pattern, bound or free, one after another
 abbrev pub variables_in : Pattern → List Variable
 variables_in bot = []
 variables_in top = []
@@ -30,7 +31,7 @@ variables_in (var x) = object_variable x ∷ []
 variables_in (meta i) = pattern_variable i ∷ []
 variables_in (constant c) = []
 
--- in what stands for a variable of a rule, and for one of a claim
+-- those in what is substituted for a variable of a rule, and for a variable of a claim
 abbrev pub variables_for : Instance → List Variable
 variables_for (pattern p) = variables_in p
 variables_for (variable x) = object_variable x ∷ []
@@ -40,7 +41,8 @@ abbrev pub variables_at : List ℕ → List Pattern → Variable → List Variab
 variables_at new ms (object_variable i) = object_variable (by_place new i) ∷ []
 variables_at new ms (pattern_variable i) = variables_in (instance ms (meta i))
 
--- in what is written of a derivation, where the claims that it cites are found so: one after the other
+-- those in what is written for a derivation, one after another; `find` finds the claims that it
+-- cites
 abbrev mutual
   pub variables_of : (List Pattern → Pattern → Stated) → Derivation → List Variable
   variables_of find (hypothesis p) = []
@@ -53,7 +55,7 @@ abbrev mutual
   all_variables_of find no_derivation = []
   all_variables_of find (more_derivations d ds) = variables_of find d ++ all_variables_of find ds
 
--- those of some variables that are none of others, each once, in the order in which they first stand
+-- those of some variables that are not among others, each once, in the order of first occurrence
 abbrev pub other_variables : List Variable → List Variable → List Variable
 other_variables vs [] = []
 other_variables vs (u ∷ us) = if has_variable vs u then other_variables vs us else (u ∷ other_variables (vs ++ u ∷ []) us)

@@ -1,4 +1,5 @@
--- Patterns over declared names: their sorts are sorts, and their constants are symbols and values.
+-- Patterns over declared names. Each sort of a pattern is a sort by its name, and each constant is
+-- a symbol or a value.
 use Rattle.std.specs.Prelude.{◌≡◌, ◌<◌, true, List, [], ◌∷◌, length, codes}
 use Rattle.mm_text.specs.Bytes.{Token}
 use Rattle.ml_pat.specs.Patterns.{Pattern}
@@ -7,7 +8,7 @@ use Rattle.ml_pat.specs.Leaves.{LeafFacts, EachLeaf}
 use Rattle.mm_claims.specs.Statements.{typecode_of}
 use Rattle.mm_claims.specs.Variables.{Variable, object_variable, pattern_variable, has_variable}
 
--- without variables
+-- patterns without variables
 abbrev pub closed_over : List Token → LeafFacts
 closed_over declared = record {
   sort = λ i. (i < length declared) × (typecode_of (name_of declared i) ≡ codes "#Sort");
@@ -16,7 +17,7 @@ closed_over declared = record {
   meta = λ i. ⊥;
 }
 
--- with some variables
+-- patterns with only these variables
 abbrev pub open_over : List Token → List Variable → LeafFacts
 open_over declared vs = record {
   sort = λ i. (i < length declared) × (typecode_of (name_of declared i) ≡ codes "#Sort");
@@ -29,7 +30,7 @@ abbrev pub AreOpenOver : List Token → List Variable → List Pattern → Type 
 AreOpenOver declared vs [] = Unit {0}
 AreOpenOver declared vs (p ∷ ps) = EachLeaf (open_over declared vs) p × AreOpenOver declared vs ps
 
--- whatever variables they have
+-- patterns with any variables
 abbrev pub over_names : List Token → LeafFacts
 over_names declared = record {
   sort = λ i. (i < length declared) × (typecode_of (name_of declared i) ≡ codes "#Sort");

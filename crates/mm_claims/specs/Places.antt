@@ -1,4 +1,4 @@
--- How a claim is found among those that were stated, and what may be proved by these.
+-- How a claim is found among those that were stated, and what may be proved with these.
 use Rattle.std.specs.Prelude.{◌≡◌, ℕ, true, IsTrue, List, [], ◌∷◌, ◌++◌, take, Contains}
 use Rattle.mm_text.specs.Bytes.{Token}
 use Rattle.ml_pat.specs.Patterns.{Pattern}
@@ -16,7 +16,7 @@ use Rattle.mm_claims.specs.ClaimVariables.{claim_of, claim_variables}
 use Rattle.mm_claims.specs.Keeping.{Gains}
 use Rattle.mm_database.specs.StatementTexts.{written_statements}
 
--- among some claims is this one, of this conclusion under these hypotheses
+-- this claim is among some claims, and it has this conclusion under these hypotheses
 pub record IsFoundAs (claims : List Stated) (hypotheses : List Pattern) (conclusion : Pattern) (s : Stated) : Type 0
   where
     pub there : Contains claims s
@@ -26,15 +26,15 @@ pub record IsFoundAs (claims : List Stated) (hypotheses : List Pattern) (conclus
 abbrev pub IsStated : List Stated → List Pattern → Pattern → Type 0
 IsStated claims hypotheses conclusion = (s : Stated) × IsFoundAs claims hypotheses conclusion s
 
--- What was stated may be cited, lemmas at patterns over declared names.
+-- What was stated may be cited. A lemma may be cited at patterns over declared names.
 abbrev pub stated_cites : List Token → List Stated → MayCite
 stated_cites declared claims = record {
   fact = λ p new. IsStated claims [] p;
   lemma = λ own q ms. IsStated claims own q × AreOverNames declared ms;
 }
 
--- What may be proved after what is kept: a pattern under hypotheses, over the names that were declared, by a
--- derivation that uses only patterns over these and cites only what was stated.
+-- What may be proved after what is kept: a pattern under hypotheses, over the declared names. Its
+-- derivation uses only patterns over these names and cites only what was stated.
 pub record MayProve (names : List Token) (k : Kept) (t : Theorem) : Type 0 where
   pub begun : IsTrue k.begun
   pub over : AreOverNames (take k.named names) (t.conclusion ∷ t.hypotheses)
@@ -47,19 +47,20 @@ Finds claims find =
     (hypotheses : List Pattern) (conclusion : Pattern) → IsStated claims hypotheses conclusion →
     IsFoundAs claims hypotheses conclusion (find hypotheses conclusion)
 
--- The variables that the proof of a lemma has in its block besides those of the lemma.
+-- The variables that the proof of a lemma has in its block, in addition to those of the lemma.
 abbrev pub more_variables : (List Pattern → Pattern → Stated) → Theorem → List Variable
 more_variables find t = other_variables (claim_variables t.hypotheses t.conclusion) (variables_of find t.derivation)
 
--- a lemma as the theorem with a number, where what it cites is found so
+-- a lemma as the theorem with a number, whose citations are found by `find` and `premise_place`
 abbrev pub lemma_statements : List Token → ℕ → (List Pattern → Pattern → Stated) → (Pattern → ℕ) → Theorem →
     List (List Token)
 lemma_statements names k find premise_place t =
     proved_statements names k find premise_place (claim_of t.hypotheses t.conclusion) (more_variables find t)
     t.derivation
 
--- A lemma was stated: its statements were appended, where each citation has the label of the claim, or of the place of
--- the hypothesis; and where it may be proved, just this theorem is gained.
+-- A lemma was stated. Its statements were appended, and each citation in them has the label of the
+-- claim, or of the place of the hypothesis. If the lemma may be proved, exactly this theorem is
+-- gained.
 pub record StatesLemma (names : List Token) (old new : Kept) (t : Theorem) (text text' : List ℕ) : Type 0 where
   pub find : List Pattern → Pattern → Stated
   pub premise_place : Pattern → ℕ

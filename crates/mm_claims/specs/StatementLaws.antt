@@ -1,4 +1,4 @@
--- What follows of statements after a text that fits.
+-- What follows for statements after a text that fits.
 use Rattle.std.specs.Prelude.{ℕ, ◌<◌, ◌^◌, true, false, List, [], ◌∷◌, ◌++◌, length}
 use Rattle.mm_text.specs.Bytes.{Token}
 use Rattle.mm_database.specs.Validity.{IsValid}
@@ -19,25 +19,25 @@ use Rattle.mm_database.specs.StatementTexts.{written_statements}
 abbrev pub ClaimsAreValid : Type 0
 ClaimsAreValid = (declared : List Token) (claims : List Claim) (bytes : List ℕ) → FitsClaims declared claims bytes → IsValid bytes
 
--- the header fits no names and no claims
+-- the header fits if there are no names and no claims
 abbrev pub HeaderFitsClaims : Type 0
 HeaderFitsClaims = FitsClaims [] [] header_bytes
 
--- a text that fits, with the declarations of more names, fits these
+-- a text that fits, with the declarations of more names after it, fits with these names
 abbrev pub NamesFitClaims : Type 0
 NamesFitClaims =
     (declared more : List Token) (claims : List Claim) (bytes : List ℕ) → FitsClaims declared claims bytes →
     AreNames (declared ++ more) → AreDistinct (declared ++ more) → length (declared ++ more) < 2 ^ 64 →
     FitsClaims (declared ++ more) claims (bytes ++ written_statements (all_name_statements (length declared) more))
 
--- a text that fits, with an axiom after it, fits with one claim more
+-- a text that fits, with an axiom after it, fits with one more claim
 abbrev pub AxiomFits : Type 0
 AxiomFits =
     (declared : List Token) (claims : List Claim) (bytes : List ℕ) (s : Claim) → FitsClaims declared claims bytes →
     length claims < 2 ^ 64 → IsClaim declared s →
     FitsClaims declared (claims ++ s ∷ []) (bytes ++ written_statements (axiom_statements declared (length claims) s))
 
--- and so it does with a theorem
+-- the same is true of a theorem
 abbrev pub TheoremFits : Type 0
 TheoremFits =
     (declared : List Token) (claims : List Claim) (bytes : List ℕ) (s : Claim) (more : List Variable) (d : Derivation) (place : List Pattern → Pattern → ℕ) (premise_place : Pattern → ℕ) →

@@ -10,7 +10,7 @@ use Rattle.mm_proof.specs.Labels.{name_label, statement_label}
 use Rattle.mm_proof.specs.Derivations.{holds_text}
 use Rattle.mm_database.specs.StatementTexts.{plain_tokens, proof_tokens}
 
--- What a name's token is that of: `s:S` of a sort, `f:f` of a symbol, `d:S:..` of a value.
+-- The kinds of the tokens of names: `s:S` of a sort, `f:f` of a symbol, `d:S:..` of a value.
 pub data NameKind : Type 0 where
   sort_name : NameKind
   symbol_name : NameKind
@@ -21,29 +21,29 @@ kind_front sort_name = codes "s:"
 kind_front symbol_name = codes "f:"
 kind_front value_name = codes "d:"
 
--- a byte of a name: printable, and no `$`
+-- a byte of a name: printable, and not `$`
 abbrev pub is_name_byte : ℕ → Bool
 is_name_byte b = is_printable b && (if b == 36 then false else true)
 
--- the token is one of a sort, a symbol or a value
+-- the token is one of a sort, of a symbol or of a value
 pub record IsName (token : Token) : Type 0 where
   pub kind : NameKind
   pub rest : Token
   pub is : token ≡ kind_front kind ++ rest
   pub bytes : list_all is_name_byte rest ≡ true
 
--- sorts are `#Sort`, and symbols and values are `#Pattern`
+-- the typecode of sorts is `#Sort`, and that of symbols and values is `#Pattern`
 abbrev pub typecode_of : Token → Token
 typecode_of [] = codes "#Pattern"
 typecode_of (b ∷ bytes) = if b == 115 then codes "#Sort" else codes "#Pattern"
 
--- a name as a constant, and its `$a`
+-- the declaration of a name as a constant, and its `$a`
 abbrev pub name_statements : ℕ → Token → List (List Token)
 name_statements i token =
     plain_tokens [] declares_constants (token ∷ []) ∷
     plain_tokens (name_label i ∷ []) asserts (typecode_of token ∷ (token ∷ [])) ∷ []
 
--- names with the numbers from i on
+-- the statements of names with the numbers from i on
 abbrev pub all_name_statements : ℕ → List Token → List (List Token)
 all_name_statements i [] = []
 all_name_statements i (token ∷ tokens) = name_statements i token ++ all_name_statements (i + 1) tokens

@@ -28,17 +28,17 @@ same_variable (pattern_variable i) (pattern_variable j) = i == j
 abbrev pub has_variable : List Variable → Variable → Bool
 has_variable vs v = list_any (λ u. same_variable u v) vs
 
--- no variable stands twice
+-- no variable occurs twice
 abbrev pub are_once : List Variable → Bool
 are_once [] = true
 are_once (v ∷ vs) = std.not (has_variable vs v) && are_once vs
 
--- each number is one of 64 bits
+-- each number has at most 64 bits
 abbrev pub AreNumbered : List Variable → Type 0
 AreNumbered [] = Unit {0}
 AreNumbered (v ∷ vs) = (number_of v < 2 ^ 64) × AreNumbered vs
 
--- the variable stands in the pattern, bound or free
+-- the variable occurs in the pattern, bound or free
 abbrev pub stands_in : Variable → Pattern → Bool
 stands_in v bot = false
 stands_in v top = false
@@ -59,7 +59,7 @@ stands_in v (var x) = same_variable (object_variable x) v
 stands_in v (meta i) = same_variable (pattern_variable i) v
 stands_in v (constant c) = false
 
--- how a variable is written, by which label it is typed in the block of a statement, and as what
+-- the token of a variable, the label that types it in the block of a statement, and its type
 abbrev pub variable_token : Variable → Token
 variable_token (object_variable i) = object_token i
 variable_token (pattern_variable i) = meta_token i
@@ -72,20 +72,20 @@ abbrev pub variable_type : Variable → Token
 variable_type (object_variable i) = codes "#Var"
 variable_type (pattern_variable i) = codes "#Pattern"
 
--- `x:` or `m:` and more
+-- a token that begins with `x:` or `m:`
 abbrev pub is_variable_token : Token → Bool
 is_variable_token [] = false
 is_variable_token (a ∷ []) = false
 is_variable_token (a ∷ (b ∷ rest)) = (b == 58) && ((a == 120) || (a == 109))
 
--- the tokens of all, and of the object variables among them
+-- the tokens of all variables, and of the object variables among them
 abbrev pub variable_tokens : List Variable → List Token
 variable_tokens vs = map variable_token vs
 
 abbrev pub object_tokens : List Variable → List Token
 object_tokens vs = map variable_token (filter is_object vs)
 
--- they are two at least
+-- there are at least two
 abbrev pub are_several : List Variable → Bool
 are_several [] = false
 are_several (v ∷ []) = false

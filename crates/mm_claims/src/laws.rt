@@ -9,19 +9,20 @@ ghost use Rattle.mm_claims.specs.OpenCiting.{CitingDerivationsAreProved, CitingI
 ghost use Rattle.mm_claims.specs.RenderedCases.{RenderedCases};
 ghost use Rattle.mm_claims.specs.StatementLaws.{AxiomFits, AxiomIsGained, ClaimsAreValid, HeaderFitsClaims, NamesFitClaims, TheoremFits, TheoremIsGained};
 
-/// The definitions of databases say of a small one with claims that it has no fault, the block of a small claim is the
-/// one that it should be, and a small statement is cited as it should be.
+/// By the definitions, a small database with claims has no fault, the block of a small claim is the
+/// expected one, and a small statement is cited as expected.
 pub fn tried()
     ensures rendered { RenderedCases }
     ensures block { BlockTried }
     ensures citations { TriedCitations }
 {}
 
-/// A text that has declared the header, some names and some claims, which may have variables and hypotheses, is valid,
-/// and stays so with more names after it, with an axiom, and with a theorem by a derivation that cites only what was
-/// claimed before, at any patterns without object variables for its pattern variables. It has then declared that claim
-/// besides, and has gained just that assertion, with its variables, hypotheses and pairs that have to stay apart, and
-/// the typings of the variables in its block.
+/// A text that has declared the header, some names and some claims is valid. The claims may have
+/// variables and hypotheses. The text stays valid if more names, an axiom or a theorem are
+/// appended. The derivation of the theorem cites only what was claimed before, at any patterns
+/// without object variables for its pattern variables. The text has then declared that claim too.
+/// It has gained exactly that assertion, with its variables, its hypotheses and the pairs that have
+/// to stay apart, and the typings of the variables in its block.
 pub fn statement_laws()
     ensures valid { ClaimsAreValid }
     ensures header { HeaderFitsClaims }
@@ -32,33 +33,35 @@ pub fn statement_laws()
     ensures proved { TheoremIsGained }
 {}
 
-/// A conclusion and hypotheses over declared names, with the variables that stand in them, are a claim, where these
-/// have numbers of 64 bits and the hypotheses are fewer than 2 to the 64. A block that declares the variables of its
-/// claim, and those that stand in its proof besides, has those that the proof needs.
+/// A conclusion and hypotheses over declared names, with the variables that occur in them, are a
+/// claim if these variables have numbers of 64 bits and there are fewer than 2^64 hypotheses. A
+/// block that declares the variables of its claim, and then those that occur only in its proof, has
+/// all variables that the proof needs.
 pub fn claim_laws()
     ensures claims { OverNamesIsClaim }
     ensures enough { NeededAreEnough }
 {}
 
-/// In the block of a statement the label of a claim, over proofs of what stands for its variables and of its hypotheses
-/// there, proves its conclusion there. So hypotheses, axioms and lemmas are cited soundly, and a derivation that cites
-/// them is written as a proof of what it concludes, in every database that has them and declares what they use.
+/// In the block of a statement, the label of a claim proves the conclusion of the claim there, over
+/// proofs of what is substituted for its variables and of its hypotheses. So hypotheses, axioms and
+/// lemmas are cited soundly. A derivation that cites them is written as a proof of what it
+/// concludes, in every database that has them and declares what they use.
 pub fn citing_laws()
     ensures cited { ClaimsAreCited }
     ensures sound { CitingIsSound }
     ensures derivations { CitingDerivationsAreProved }
 {}
 
-/// The empty text fits where nothing is kept; the header after it fits the header; and a text that fits still does so
-/// with the declarations of more names after it.
+/// The empty text fits if nothing is kept. The header after it fits the header. A text that fits
+/// still fits if the declarations of more names are appended.
 pub fn fitting_laws()
     ensures empty { EmptyFits }
     ensures begun { BegunFits }
     ensures declared { DeclaredFits }
 {}
 
-/// What is true of what fits, of what is closed over names and of what was stated stays so when names and statements
-/// are added.
+/// When names and statements are added, a text that fits still fits, a pattern that is closed over
+/// names is still closed, and a claim that was stated is still stated.
 pub fn later_laws()
     ensures fits { FitsLater }
     ensures all { AllDeclared }
@@ -67,7 +70,8 @@ pub fn later_laws()
     ensures last { LastIsStated }
 {}
 
-/// A pattern that is closed over names has no pattern variables, is over these names, and is a claim without variables.
+/// A pattern that is closed over names has no pattern variables, is over these names, and is a
+/// claim without variables.
 pub fn closed_laws()
     ensures meta { ClosedHasNoMeta }
     ensures over { ClosedIsOver }

@@ -1,4 +1,4 @@
--- A step computed from the entries of a stack is one that leads from them.
+-- A step that is computed from the entries of a stack leads from these entries.
 use Rattle.std.proofs.Common.{◌≡◌, Bool, true, false, List, [], ◌∷◌, refl, ap, ◌∙◌, sym, subst}
 use Rattle.std.proofs.Math.Path.{fun_ext}
 use Rattle.std.specs.Prelude.{◌&&◌, ◌||◌, Option, Some, None, map, if◌then◌else◌, bytes_eq}
@@ -32,7 +32,7 @@ pub applied-complete : (c : Context) (f : Frame) (sigma : Token → Expression) 
 applied-complete c f sigma given result w =
     ap (applied c f) w.hypotheses ∙ applied-instances c f sigma w.others w.apart ∙ ap Some (sym w.conclusion)
 
--- what is not bound stays
+-- a symbol that is not bound stays the same
 text_of-other : (hypotheses : List Hypothesis) (entries : List Expression) (t : Token) → list_any (types t) hypotheses ≡ false → text_of (bindings_of hypotheses entries) t ≡ t ∷ []
 text_of-other [] entries t h = refl
 text_of-other (h ∷ hypotheses) [] t other = refl

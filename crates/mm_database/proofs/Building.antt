@@ -1,4 +1,4 @@
--- Steps that build forests, cut in two and joined; and steps that only cite labels.
+-- Steps that build forests, which are cut in two and joined; and steps that only cite labels.
 use Rattle.std.proofs.Common.{◌≡◌, ℕ, zero, suc, Bool, true, false, List, [], ◌∷◌, ◌++◌, map, refl, ap, ◌∙◌, sym, subst, append_assoc, append-nil}
 use Rattle.std.proofs.lemmas.List.{map-append}
 use Rattle.std.specs.List.{list_all}

@@ -96,7 +96,7 @@ mutual
   all_postorder-citable c (more_proofs tree trees) results (first, rest, is, proof, all) =
       list_all-append (is_citable c) (postorder tree) (all_postorder trees) (postorder-citable c tree first proof) (all_postorder-citable c trees rest all)
 
--- labels that may all be cited are a proof's labels as they stand
+-- labels that may all be cited are the labels of a proof as they are
 proof_steps-plain : (c : Context) (f : Frame) (token : Token) (tokens : List Token) → list_all (is_citable c) (token ∷ tokens) ≡ true → begins_compressed (token ∷ tokens) ≡ false → proof_steps c f (token ∷ tokens) ≡ Some (citing (token ∷ tokens))
 proof_steps-plain c f token tokens citable plain_proof = rw (plain_proof, citable) refl
 

@@ -1,4 +1,4 @@
--- The first fault as computed is the first fault, and a text is valid just where it has none.
+-- The computed first fault is the first fault, and a text is valid if and only if it has none.
 use Rattle.std.proofs.Common.{◌≡◌, ℕ, Bool, true, false, List, [], ◌∷◌, refl, ap, ◌∙◌, sym, subst, ◌⊎◌, inl, inr}
 use Rattle.std.specs.Prelude.{Option, Some, None, IfSome, if◌then◌else◌, option_map}
 use Rattle.mm_text.specs.Bytes.{Token}
@@ -16,7 +16,7 @@ use Rattle.mm_database.proofs.Tests.{same_expressions-Decides}
 use Rattle.mm_database.proofs.Stacks.{stack_after-complete, stack_after-sound}
 use Rattle.mm_database.specs.ComputedFault.{stack_fault, task_fault, statement_fault, fault_or, first_fault_in, first_fault}
 
--- what a stack says of a proof
+-- what a stack says about a proof
 
 HasBadStep-stack : (c : Context) (t : Task) → stack_after c t.steps ≡ None → HasBadStep c t
 HasBadStep-stack c t none results w =
@@ -40,7 +40,7 @@ same_false xs ys differ = go (same_expressions xs ys) refl
     go true is = absurd (differ ((same_expressions-Decides xs ys).0 is))
     go false is = refl
 
--- the stack's fault of a proof is none, where the proof is one
+-- the stack finds no fault in a proof
 stack_fault-proof : (c : Context) (t : Task) → IsProved c t → task_fault c (Some t) ≡ None
 stack_fault-proof c t w =
     ap (stack_fault t.conclusion) (stack_after-complete c t.steps (t.conclusion ∷ []) w)
@@ -54,7 +54,7 @@ stack_fault-conclusion c t bad =
     ap (stack_fault t.conclusion) (stack_after-complete c t.steps bad.results bad.forms)
     ∙ rw (same_false bad.results (t.conclusion ∷ []) bad.differs) refl
 
--- and what each answer of the stack says
+-- what each answer of the stack means
 data StackSays (c : Context) (t : Task) : Option ℕ → Type 0 where
   says_proof : IsProved c t → StackSays c t None
   says_step : HasBadStep c t → StackSays c t (Some bad_step)
@@ -184,7 +184,7 @@ faultless_valid bytes none =
 pub valid_faultless : (bytes : List ℕ) → IsValid bytes → first_fault bytes ≡ None
 valid_faultless bytes w = faultless-AreFine empty_context w.left (statements_of bytes) w.fine w.closed
 
--- each statement of a valid text is fine where it stands
+-- each statement of a valid text has no fault at its place
 IsFine-in_front : (c left : Context) (before : List Statement) (s : Statement) (rest : Statements) → AreFine c (in_front before (next_statement s rest)) left → IsFine (context_behind c before) s.tokens
 IsFine-in_front c left [] s rest fine = fine.0
 IsFine-in_front c left (t ∷ before) s rest fine = IsFine-in_front (context_after c t) left before s rest fine.1

@@ -1,4 +1,5 @@
--- A stack accepts just the steps that build a forest, and leaves what it proves.
+-- A stack accepts exactly the steps that build a forest, and at the end it has what the forest
+-- proves.
 use Rattle.std.proofs.Common.{◌≡◌, ℕ, zero, suc, ◌-◌, ◌≤◌, Bool, true, false, List, [], ◌∷◌, ◌++◌, length, take, drop, refl, ap, ◌∙◌, sym, subst, arith, append_assoc, append-nil, length-append, rules}
 use Rattle.std.proofs.lemmas.List.{length-map}
 use Rattle.std.proofs.Math.Seq.{take-append_seam}
@@ -12,7 +13,7 @@ use Rattle.mm_database.proofs.Applying.{step_result-complete, step_result-sound}
 use Rattle.mm_database.proofs.Building.{built-joined, Cut, built-cut, built-one, one-built}
 use Rattle.mm_database.proofs.Forests.{first_trees, last_trees, with_trees, AllProve-first, AllProve-last, AllProve-joined}
 
--- a label leads from as many expressions as its arity is
+-- a label leads from as many expressions as its arity
 pub arity-Leads : {c : Context} {label : Token} {given : List Expression} {result : Expression} → Leads c label given result → length given ≡ arity c label
 arity-Leads {c = c} {label = label} (by_hypothesis h is) = sym (ap (λ o. label_arity o (c.frames label)) is)
 arity-Leads {c = c} {label = label} (by_assertion f sigma given result none is applies) =
@@ -36,7 +37,7 @@ label-complete c label stack given result leads = go (arity c label) (arity-Lead
         let back : drop (length stack) (stack ++ given) ≡ given = drop-append_seam stack given in
         rw (below, left, front, back, step_result-complete leads) refl
 
--- a label leads to one expression alone from given ones, and so a tree proves one alone
+-- a label leads from given expressions to only one expression, so a tree proves only one
 
 Leads-one : {c : Context} {label : Token} {given : List Expression} {first second : Expression} → Leads c label given first → Leads c label given second → first ≡ second
 Leads-one {c = c} {label = label} {given = given} a b =
@@ -91,7 +92,7 @@ AreSaved-tree c (t ∷ trees) (d ∷ entries) zero e all is =
     (t, refl, subst (λ (x : Expression). Proves c t x) same all.0)
 AreSaved-tree c (t ∷ trees) (d ∷ entries) (suc n) e all is = AreSaved-tree c trees entries n e all.1 is
 
--- what is built is put on any stack
+-- what is built can be put on any stack
 
 slice_get-last : (stack : List Expression) (e : Expression) → slice_get (stack ++ e ∷ []) (length (stack ++ e ∷ []) - 1) ≡ Some e
 slice_get-last stack e = ap (slice_get (stack ++ e ∷ [])) place ∙ at stack
@@ -103,7 +104,7 @@ slice_get-last stack e = ap (slice_get (stack ++ e ∷ [])) place ∙ at stack
     at [] = refl
     at (x ∷ xs) = at xs
 
--- steps put results on a stack, and leave these trees saved
+-- steps put results on a stack, and afterwards these trees are saved
 record Puts (c : Context) (steps : List (Step Token)) (results entries : List Expression) (saved : List ProofTree) : Type 0 where
   left : List Expression
   are_saved : AreSaved c saved left
@@ -175,7 +176,7 @@ record Built (c : Context) (done : List (Step Token)) (w : Saving Expression) : 
   proves : AllProve c forest w.stack
   are_saved : AreSaved c saved w.saved
 
--- a label takes the last trees under a new node
+-- a label puts the last trees below a new node
 Built-label : (c : Context) (done : List (Step Token)) (label : Token) (k : ℕ) (w : Saving Expression) (result : Expression) → Built c done w → step_result c label (drop k w.stack) ≡ Some result → Built c (done ++ cites label ∷ []) (saving (take k w.stack ++ result ∷ []) w.saved)
 Built-label c done label k w result b gives =
     let cut : Cut [] done (first_trees k b.forest) (last_trees k b.forest) b.saved = built-cut k [] done b.forest b.saved b.builds in

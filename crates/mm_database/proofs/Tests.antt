@@ -1,4 +1,4 @@
--- What tests on tokens and expressions say.
+-- What follows from tests on tokens and expressions.
 use Rattle.std.proofs.Common.{◌≡◌, Bool, true, false, List, refl}
 use Rattle.std.specs.Prelude.{Some, None, if◌then◌else◌}
 use Rattle.std.specs.Bool.{Decides}
@@ -12,7 +12,7 @@ same_expression-Decides xs ys = slice_eq-Decides bytes_eq-Decides xs ys (same_ex
 pub same_expressions-Decides : (xs ys : List Expression) → Decides (same_expressions xs ys) (xs ≡ ys)
 same_expressions-Decides xs ys = slice_eq-Decides same_expression-Decides xs ys (same_expressions xs ys) refl
 
--- an option that is there under a test
+-- an option that a test decides, if there is a value
 pub if_some : {A : Type 0} (test : Bool) (x y : A) → (if test then Some x else None) ≡ Some y → (test ≡ true) × (x ≡ y)
 if_some true x y h = (refl, cc)
 if_some false x y h = absurd (cc)

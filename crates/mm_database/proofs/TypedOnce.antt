@@ -1,4 +1,4 @@
--- No two active hypotheses type one variable.
+-- No two active hypotheses type the same variable.
 use Rattle.std.proofs.Common.{◌≡◌, ℕ, Bool, true, false, List, [], ◌∷◌, ◌++◌, refl, sym, subst}
 use Rattle.std.specs.Prelude.{◌||◌, if◌then◌else◌, filter, Option, Some, None, bytes_eq}
 use Rattle.std.specs.List.{list_any}
@@ -70,7 +70,7 @@ TypeOnce-filter keep (essential l t ∷ hypotheses) once = go (keep (essential l
     go true behind = behind
     go false behind = behind
 
--- of tests that find nothing, none does
+-- tests that find nothing, one by one
 
 none_found : (t : Tested) (tests : List Tested) → first_found (t ∷ tests) ≡ None → (t.found ≡ false) × (first_found tests ≡ None)
 none_found t tests h = go t.found refl h

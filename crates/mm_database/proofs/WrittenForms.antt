@@ -1,4 +1,4 @@
--- The tokens of a statement say what was written.
+-- The tokens of a statement have the form that was written.
 use Rattle.std.proofs.Common.{◌≡◌, true, false, List, [], ◌∷◌, ◌++◌, refl, ap, ◌∙◌}
 use Rattle.std.specs.Prelude.{not, Some, option_and_then, codes}
 use Rattle.mm_text.specs.Bytes.{Token}
@@ -22,7 +22,7 @@ from_dollar-clean (t ∷ tokens) rest token clean marked =
     let here : has_dollar t ≡ false = not_true (has_dollar t) both.0 in
     rw here (from_dollar-clean tokens rest token both.1 marked)
 
--- a list with a token in it and one after it has two tokens at least
+-- a list with a token in it and a token after that has at least two tokens
 form_of-labelled : (labels : List Token) (token next : Token) (rest : List Token) → form_of (labels ++ token ∷ (next ∷ rest)) ≡ labelled_form (before_dollar (labels ++ token ∷ (next ∷ rest))) (from_dollar (labels ++ token ∷ (next ∷ rest)))
 form_of-labelled [] token next rest = refl
 form_of-labelled (l ∷ []) token next rest = refl

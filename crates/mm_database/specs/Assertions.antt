@@ -6,7 +6,7 @@ use Rattle.mm_database.specs.Forms.{Keyword, types_variable, asserts, proves, Fo
 use Rattle.mm_database.specs.Frames.{Hypothesis, Frame, frame_of}
 use Rattle.mm_database.specs.Database.{Context, empty_context, context_after, first_label, floating_of}
 
--- a `$a`, or a `$p`, which is proved, and its frame
+-- an assertion: a `$a`, or a `$p`, which is proved; and its frame
 pub record Assertion : Type 0 where
   pub is_proved : Bool
   pub frame : Frame

@@ -1,10 +1,10 @@
--- Small texts with what the definitions say of them: that there is no fault, or the kind and the byte
--- of the first one.
+-- Small texts, with what the definitions say of them: that there is no fault, or the kind and the
+-- byte of the first fault.
 use Rattle.std.specs.Prelude.{◌≡◌, ℕ, List, [], ◌∷◌, ◌++◌, Some, None, codes}
 use Rattle.mm_text.specs.FaultKinds.{fault}
 use Rattle.mm_database.specs.ComputedFault.{first_fault}
 
--- one constant and two variables, of 44 bytes, and an axiom after them, of 15
+-- one constant and two variables, in 44 bytes, and an axiom after them, in 15 bytes
 abbrev pub declared : List ℕ
 declared = codes "$c t $. $v x y $. fx $f t x $. fy $f t y $. "
 

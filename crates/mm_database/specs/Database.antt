@@ -1,18 +1,19 @@
--- What a database has declared before a statement, and what of it is active there (Metamath book,
--- "Scoping Statements"): a function of the statements before it and their blocks.
+-- What a database has declared before a statement, and which of it is active at the statement
+-- (Metamath book, "Scoping Statements"). It is a function of the statements before it and their
+-- blocks.
 use Rattle.std.specs.Prelude.{ℕ, Bool, false, not, ◌&&◌, ◌||◌, if◌then◌else◌, List, [], ◌∷◌, ◌++◌, Option, Some, None, bytes_eq}
 use Rattle.mm_text.specs.Bytes.{Token, has_token}
 use Rattle.mm_text.specs.Statements.{Statement}
 use Rattle.mm_database.specs.Forms.{Keyword, declares_constants, declares_variables, types_variable, assumes, separates, asserts, proves, Form, block_start, block_end, plain, form_of}
 use Rattle.mm_database.specs.Frames.{Hypothesis, floating, essential, Scope, Frame, frame_of}
 
--- an open block: the byte of its `${`, and what was active there
+-- an open block: the byte of its `${`, and what was active at its `${`
 pub record Block : Type 0 where
   pub at : ℕ
   pub outside : Scope
 
 -- the constants, variables and labels that were ever declared, the assertions by their labels, what
--- is active, and the blocks that are open, the inmost first
+-- is active, and the open blocks, the innermost first
 pub record Context : Type 0 where
   pub constants : Token → Bool
   pub variables : Token → Bool
@@ -34,14 +35,14 @@ empty_context = record {
   blocks = [];
 }
 
--- one of the tokens added to a set
+-- a set with tokens added
 abbrev pub with_tokens : (Token → Bool) → List Token → Token → Bool
 with_tokens set tokens = λ t. set t || has_token tokens t
 
 abbrev pub with_token : (Token → Bool) → Token → Token → Bool
 with_token set token = λ t. set t || bytes_eq t token
 
--- two different ones of the tokens
+-- the two tokens differ, and both are in the list
 abbrev pub are_different_tokens : List Token → Token → Token → Bool
 are_different_tokens tokens a b = not (bytes_eq a b) && (has_token tokens a && has_token tokens b)
 
@@ -56,7 +57,7 @@ abbrev pub first_label : List Token → Token
 first_label [] = []
 first_label (label ∷ labels) = label
 
--- the hypothesis of a `$f`, which has two symbols where it is well formed
+-- the hypothesis of a `$f`, which has two symbols if it is well formed
 abbrev pub floating_of : Token → List Token → Hypothesis
 floating_of label [] = essential label []
 floating_of label (typecode ∷ []) = essential label (typecode ∷ [])
@@ -94,7 +95,7 @@ with_declared c labels asserts symbols =
 with_declared c labels proves symbols =
     with_assertion c (first_label labels) symbols
 
--- the end of a block takes back all that became active in it
+-- at the end of a block, what became active in it is no longer active
 abbrev pub with_block_closed : Context → List Block → Context
 with_block_closed c [] = c
 with_block_closed c (block ∷ blocks) = record c { scope = block.outside; blocks = blocks }

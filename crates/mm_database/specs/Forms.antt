@@ -1,6 +1,6 @@
--- What the tokens of a statement say (Metamath book, "The Complete Language Specification"). Its
--- keyword is its first token with a `$`. Labels stand before it, symbols after it, and after the `$=`
--- of a `$p` its proof.
+-- What the tokens of a statement mean (Metamath book, "The Complete Language Specification"). Its
+-- keyword is its first token with a `$`. Labels come before the keyword, and symbols after it. The
+-- proof of a `$p` comes after its `$=`.
 use Rattle.std.specs.Prelude.{Bool, true, false, ◌&&◌, ◌==◌, if◌then◌else◌, List, [], ◌∷◌, Option, Some, None, option_and_then, codes, bytes_eq}
 use Rattle.std.specs.List.{list_any}
 use Rattle.mm_text.specs.Bytes.{Token}
@@ -44,7 +44,7 @@ keyword_of token =
     if bytes_eq token (codes "$a") then Some asserts else
     if bytes_eq token (codes "$p") then Some proves else None
 
--- `$.` is all that is left
+-- only `$.` is left
 abbrev pub is_end : List Token → Bool
 is_end [] = false
 is_end (token ∷ []) = ends_statement token
@@ -57,7 +57,7 @@ is_nil (token ∷ tokens) = false
 abbrev pub form_if : Bool → Form → Option Form
 form_if test form = if test then Some form else None
 
--- `rest` begins with the first token with a `$` after the symbols: a declaration names a symbol
+-- `rest` begins with the first token with a `$` after the symbols; there has to be a symbol
 abbrev pub declaration_form : List Token → Keyword → List Token → List Token → Option Form
 declaration_form labels keyword [] rest = None
 declaration_form labels keyword (symbol ∷ symbols) rest = form_if (is_end rest) (plain labels keyword (symbol ∷ symbols) [])
@@ -76,7 +76,7 @@ keyword_form labels symbols rest separates = form_if (is_end rest) (plain labels
 keyword_form labels symbols rest asserts = form_if (is_end rest) (plain labels asserts symbols [])
 keyword_form labels symbols rest proves = proof_form labels symbols rest
 
--- the form of labels and of the tokens from a keyword on
+-- the form of a statement from its labels and its tokens from the keyword on
 abbrev pub labelled_form : List Token → List Token → Option Form
 labelled_form labels [] = None
 labelled_form labels (token ∷ rest) =

@@ -17,27 +17,28 @@ use Rattle.mm_database.specs.ComputedFault.{statement_fault, first_fault}
 use Rattle.mm_database.specs.StatementTexts.{written_statements, plain_tokens, proof_tokens}
 use Rattle.mm_database.specs.CleanTokens.{are_clean, has_proof}
 
--- steps that only cite labels build just the forest of which these are the postorder
+-- steps that only cite labels build exactly the forests whose postorder is these labels
 abbrev pub LabelsArePostorder : Type 0
 LabelsArePostorder =
     (labels : List Token) (forest : ProofForest) (saved : List ProofTree) →
     AllBuild [] (map (λ label. cites label) labels) forest saved ↔ ((all_postorder forest ≡ labels) × (saved ≡ []))
 
--- a stack accepts just the steps that build a forest, and is left with what it proves
+-- a stack accepts exactly the steps that build a forest, and at the end it has what the forest
+-- proves
 abbrev pub StacksAreForests : Type 0
 StacksAreForests =
     (c : Context) (steps : List (Step Token)) (results : List Expression) →
     (stack_after c steps ≡ Some results) ↔ Forms c steps results
 
--- a text is valid just where no fault is computed
+-- a text is valid if and only if no fault is computed
 abbrev pub ValidIsFaultless : Type 0
 ValidIsFaultless = (bytes : List ℕ) → IsValid bytes ↔ (first_fault bytes ≡ None)
 
--- the fault that is computed is the first one
+-- the computed fault is the first one
 abbrev pub FirstFaultIsComputed : Type 0
 FirstFaultIsComputed = (bytes : List ℕ) (f : MmFault) → IsFirstFault bytes f ↔ (first_fault bytes ≡ Some f)
 
--- a statement of which no fault is computed is without fault
+-- a statement for which no fault is computed has no fault
 abbrev pub FaultlessIsFine : Type 0
 FaultlessIsFine = (c : Context) (tokens : List Token) → statement_fault c tokens ≡ None → IsFine c tokens
 
@@ -46,14 +47,14 @@ abbrev pub in_front : List Statement → Statements → Statements
 in_front [] statements = statements
 in_front (s ∷ before) statements = next_statement s (in_front before statements)
 
--- each statement of a valid text is without fault in what is declared and active at it
+-- each statement of a valid text has no fault in what is declared and active at it
 abbrev pub FineWhereActive : Type 0
 FineWhereActive =
     (bytes : List ℕ) (before : List Statement) (s : Statement) (rest : Statements) → IsValid bytes →
     statements_of bytes ≡ in_front before (next_statement s rest) →
     IsFine (active_at before) s.tokens
 
--- what is appended to a text without fault is judged from the context that the text leaves
+-- what is appended to a text that has no fault is judged in the context after the text
 abbrev pub AppendedIsFine : Type 0
 AppendedIsFine =
     (text more : List ℕ) (left last : Context) → ends_white text ≡ true →
@@ -61,27 +62,27 @@ AppendedIsFine =
     AreFine left (statements_from (length text) more) last →
     AreFine empty_context (statements_of (text ++ more)) last
 
--- written statements without fault, from a context and a place on, and the context that they leave
+-- written statements that have no fault, from a context and a place on; and the context after them
 abbrev pub Adds : Context → ℕ → List (List Token) → Context → Type 0
 Adds c at [] left = left ≡ c
 Adds c at (tokens ∷ statements) left =
     (list_all is_plain_token tokens ≡ true) × (is_one_statement tokens ≡ true) × IsFine c tokens × Adds (context_after c (statement at tokens)) (at + length (written tokens)) statements left
 
--- the text of such statements is read as them
+-- the text of such statements is read as these statements
 abbrev pub WrittenIsFine : Type 0
 WrittenIsFine =
     (c : Context) (at : ℕ) (statements : List (List Token)) (left : Context) →
     Adds c at statements left → AreFine c (statements_from at (written_statements statements)) left
 
--- what is appended to a text adds its assertions, with the frames that they have in the context that
--- the text leaves, and its typings
+-- an appended text adds its assertions, with their frames in the context after the first text, and
+-- its typings
 abbrev pub AppendedStates : Type 0
 AppendedStates =
     (text more : List ℕ) (left : Context) → ends_white text ≡ true →
     AreFine empty_context (statements_of text) left →
     (assertions_of (text ++ more) ≡ assertions_of text ++ assertions_in left (statements_from (length text) more)) × (typings_of (text ++ more) ≡ typings_of text ++ typings_in (statements_from (length text) more))
 
--- such tokens say what was written
+-- such tokens have the form that was written
 abbrev pub PlainTokensSay : Type 0
 PlainTokensSay =
     (labels : List Token) (keyword : Keyword) (symbol : Token) (symbols : List Token) →

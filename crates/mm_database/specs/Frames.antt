@@ -5,7 +5,7 @@ use Rattle.std.specs.List.{list_any}
 use Rattle.mm_text.specs.Bytes.{Token, has_token}
 
 -- A `$f` with its label, typecode and variable, or a `$e` with its label and statement. Symbols are
--- tokens, or the numbers that a verifier gives to them.
+-- tokens, or the numbers that a verifier uses for them.
 pub data HypothesisOver (A : Type 0) : Type 0 where
   floating : Token → A → A → HypothesisOver A
   essential : Token → List A → HypothesisOver A
@@ -21,8 +21,8 @@ abbrev pub statement_of : {A : Type 0} → HypothesisOver A → List A
 statement_of (floating label typecode variable) = typecode ∷ (variable ∷ [])
 statement_of (essential label statement) = statement
 
--- What is active at a place: variables, hypotheses in order of appearance, and the pairs of the `$d`
--- statements.
+-- What is active at a place: variables, hypotheses in order of appearance, and the pairs of the
+-- `$d` statements.
 pub record Scope : Type 0 where
   pub variables : Token → Bool
   pub hypotheses : List Hypothesis
@@ -42,12 +42,12 @@ abbrev pub types : Token → Hypothesis → Bool
 types token (floating label typecode variable) = bytes_eq variable token
 types token (essential label statement) = false
 
--- the token stands in a `$e`
+-- the token occurs in a `$e`
 abbrev pub stands_in : Token → Hypothesis → Bool
 stands_in token (floating label typecode variable) = false
 stands_in token (essential label statement) = has_token statement token
 
--- it stands in the statement or in an active `$e`
+-- the token occurs in the statement or in an active `$e`
 abbrev pub is_needed : Scope → List Token → Token → Bool
 is_needed scope statement token = has_token statement token || list_any (stands_in token) scope.hypotheses
 

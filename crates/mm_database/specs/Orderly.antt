@@ -1,5 +1,5 @@
--- In what a text without fault declares, no two active hypotheses type one variable, and no two of a
--- frame do.
+-- In what a text without a fault declares, no two active hypotheses type the same variable. The
+-- same is true of the hypotheses of a frame.
 use Rattle.std.specs.Prelude.{◌≡◌, false, List, [], ◌∷◌, Some}
 use Rattle.std.specs.List.{list_any}
 use Rattle.mm_text.specs.Bytes.{Token}
@@ -14,7 +14,7 @@ TypeOnce (floating label typecode variable ∷ hypotheses) =
     (list_any (types variable) hypotheses ≡ false) × TypeOnce hypotheses
 TypeOnce (essential label statement ∷ hypotheses) = TypeOnce hypotheses
 
--- each block that is open has such hypotheses outside it
+-- outside each open block, no two hypotheses type the same variable
 abbrev pub BlocksTypeOnce : List Block → Type 0
 BlocksTypeOnce [] = Unit {0}
 BlocksTypeOnce (block ∷ blocks) = TypeOnce block.outside.hypotheses × BlocksTypeOnce blocks
@@ -24,7 +24,7 @@ pub record IsOrderly (c : Context) : Type 0 where
   pub blocks : BlocksTypeOnce c.blocks
   pub frames : (label : Token) (f : Frame) → c.frames label ≡ Some f → TypeOnce f.hypotheses
 
--- a database begins so, and a statement without fault leaves it so
+-- this is true of an empty database, and after a statement that has no fault it is still true
 abbrev pub EmptyIsOrderly : Type 0
 EmptyIsOrderly = IsOrderly empty_context
 

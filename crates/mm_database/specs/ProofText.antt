@@ -1,6 +1,6 @@
--- The steps that the text of a proof says (Metamath book, "The Proof" and "Compressed Proof Format"): a
--- label is a step that cites it, and a number of a compressed proof is a label that may be cited or a
--- saved step.
+-- The steps that the text of a proof means (Metamath book, "The Proof" and "Compressed Proof
+-- Format"). A label is a step that cites it. A number of a compressed proof is a label that may be
+-- cited, or a saved step.
 use Rattle.std.specs.Prelude.{ℕ, zero, suc, ◌+◌, ◌-◌, Bool, not, ◌&&◌, ◌||◌, nat_lt, if◌then◌else◌, List, [], ◌∷◌, ◌++◌, map, flat_map, Option, Some, None, is_some, option_and_then, codes, bytes_eq}
 use Rattle.std.specs.List.{list_any, list_all}
 use Rattle.mm_text.specs.Bytes.{Token, has_token, has_repeated}
@@ -14,14 +14,14 @@ use Rattle.mm_database.specs.Steps.{Step, cites, saves, repeats}
 abbrev pub is_citable : Context → Token → Bool
 is_citable c label = is_some (active_hypothesis c label) || is_some (c.frames label)
 
--- what the number stands for: the numbers from 0 on are those of a table, and then the saved steps, of
--- which there are so many
+-- what a number means: the first numbers, from 0 on, are the entries of a table; the next ones are
+-- the saved steps, and `saved` is how many there are
 abbrev pub meaning : {A : Type 0} → List A → ℕ → ℕ → Option (Step A)
 meaning [] saved n = if nat_lt n saved then Some (repeats n) else None
 meaning (x ∷ table) saved zero = Some (cites x)
 meaning (x ∷ table) saved (suc n) = meaning table saved n
 
--- a step in front of steps, where both are there
+-- a step before steps, if both are there
 abbrev pub with_step : {A : Type 0} → Option A → Option (List A) → Option (List A)
 with_step None steps = None
 with_step (Some step) None = None
@@ -35,7 +35,7 @@ abbrev pub saved_after : ℕ → CompressedStep → ℕ
 saved_after saved (numbered n) = saved
 saved_after saved save = saved + 1
 
--- what steps stand for, where a number names only what is saved before it
+-- what steps mean; a number names only a step that was saved before it
 abbrev pub meanings : {A : Type 0} → List A → ℕ → List CompressedStep → Option (List (Step A))
 meanings table saved [] = Some []
 meanings table saved (step ∷ steps) =
@@ -50,7 +50,8 @@ abbrev pub behind_close : List Token → List Token
 behind_close [] = []
 behind_close (token ∷ tokens) = if bytes_eq token (codes ")") then tokens else behind_close tokens
 
--- a compressed proof lists labels that may be cited, each once, and none of a mandatory hypothesis
+-- a compressed proof lists labels that may be cited, each once; no label is one of a mandatory
+-- hypothesis
 abbrev pub are_listed : Context → List Token → List Token → Bool
 are_listed c mandatory listed =
     list_all (is_citable c) listed && (not (has_repeated listed) && not (list_any (has_token mandatory) listed))
@@ -58,7 +59,7 @@ are_listed c mandatory listed =
 abbrev pub mandatory_labels : Frame → List Token
 mandatory_labels f = map label_of f.hypotheses
 
--- the steps of letters, whose numbers name these
+-- the steps that letters mean; their numbers name the entries of this table
 abbrev pub lettered_steps : {A : Type 0} → List A → List ℕ → Option (List (Step A))
 lettered_steps table letters = option_and_then (meanings table 0) (steps_of letters)
 
@@ -69,7 +70,7 @@ compressed_steps c f tokens =
     then lettered_steps (mandatory_labels f ++ before_close tokens) (flat_map (λ t. t) (behind_close tokens))
     else None
 
--- a proof's steps, if its text says some: a compressed proof begins with `(`
+-- the steps of a proof, if its text means steps; a compressed proof begins with `(`
 abbrev pub proof_steps : Context → Frame → List Token → Option (List (Step Token))
 proof_steps c f [] = None
 proof_steps c f (token ∷ tokens) =

@@ -13,7 +13,7 @@ same_expression = pointwise bytes_eq
 abbrev pub same_expressions : List Expression → List Expression → Bool
 same_expressions = pointwise same_expression
 
--- a variable and the text that stands for it
+-- a variable and the text that is substituted for it
 pub record Binding (A : Type 0) : Type 0 where
   pub variable : A
   pub text : List A
@@ -22,7 +22,7 @@ abbrev pub behind_first : {A : Type 0} → List A → List A
 behind_first [] = []
 behind_first (symbol ∷ symbols) = symbols
 
--- what entries of the stack give the variables of hypotheses
+-- the bindings that entries of the stack give for the variables of hypotheses
 abbrev pub bindings_of : {A : Type 0} → List (HypothesisOver A) → List (List A) → List (Binding A)
 bindings_of [] entries = []
 bindings_of (h ∷ hypotheses) [] = []
@@ -30,7 +30,8 @@ bindings_of (floating label typecode variable ∷ hypotheses) (entry ∷ entries
     record { variable = variable; text = behind_first entry } ∷ bindings_of hypotheses entries
 bindings_of (essential label statement ∷ hypotheses) (entry ∷ entries) = bindings_of hypotheses entries
 
--- the text of a symbol, by a test whether two are one: it is itself where it is not bound
+-- the text of a symbol, by a test whether two symbols are the same; a symbol that is not bound is
+-- its own text
 abbrev pub text_in : {A : Type 0} → (A → A → Bool) → List (Binding A) → A → List A
 text_in same [] symbol = symbol ∷ []
 text_in same (b ∷ bindings) symbol = if same b.variable symbol then b.text else text_in same bindings symbol
@@ -38,7 +39,7 @@ text_in same (b ∷ bindings) symbol = if same b.variable symbol then b.text els
 abbrev pub text_of : List (Binding Token) → Token → Expression
 text_of bindings symbol = text_in bytes_eq bindings symbol
 
--- what an assertion gives from entries under a substitution
+-- the result of an assertion from entries, under a substitution
 abbrev pub applied_under : Context → Frame → (Token → Expression) → List Expression → Option Expression
 applied_under c f sigma entries =
     if same_expressions entries (map (instance_of sigma) f.hypotheses) && keeps_apart (symbols_apart c) f sigma
@@ -52,7 +53,7 @@ abbrev pub assertion_result : Context → Option Frame → List Expression → O
 assertion_result c None entries = None
 assertion_result c (Some f) entries = applied c f entries
 
--- a hypothesis gives its statement from no entries
+-- a hypothesis takes no entries, and its result is its statement
 abbrev pub hypothesis_result : Hypothesis → List Expression → Option Expression
 hypothesis_result h [] = Some (statement_of h)
 hypothesis_result h (entry ∷ entries) = None
@@ -61,7 +62,7 @@ abbrev pub label_result : Context → Option Hypothesis → Option Frame → Lis
 label_result c (Some h) frame entries = hypothesis_result h entries
 label_result c None frame entries = assertion_result c frame entries
 
--- what a label gives from the entries that it takes
+-- the result of a label from the entries that it takes
 abbrev pub step_result : Context → Token → List Expression → Option Expression
 step_result c label entries = label_result c (active_hypothesis c label) (c.frames label) entries
 
@@ -77,7 +78,7 @@ label_arity (Some h) frame = 0
 abbrev pub arity : Context → Token → ℕ
 arity c label = label_arity (active_hypothesis c label) (c.frames label)
 
--- the n last entries give way to what is made of them, where there are so many
+-- the last n entries of a stack are replaced by the result that is made from them, if there are n
 abbrev pub stack_with : {E : Type 0} → (List E → Option E) → ℕ → List E → Option (List E)
 stack_with result n stack =
     if nat_le n (length stack)
@@ -96,8 +97,8 @@ pub record Saving (E : Type 0) : Type 0 where
 abbrev pub saving : {E : Type 0} → List E → List E → Saving E
 saving stack saved = record { stack = stack; saved = saved }
 
--- A step changes the stack by what it cites, saves the last entry, or puts a saved one on the stack
--- again.
+-- A step cites something, which changes the stack. Or it saves the last entry, or puts a saved
+-- entry on the stack again.
 abbrev pub saving_after_step : {A E : Type 0} → (A → List E → Option (List E)) → Step A → Saving E → Option (Saving E)
 saving_after_step cited (cites x) w = option_map (λ s. saving s w.saved) (cited x w.stack)
 saving_after_step cited saves w =
@@ -109,7 +110,7 @@ abbrev pub saving_after : {A E : Type 0} → (A → List E → Option (List E)) 
 saving_after cited [] w = Some w
 saving_after cited (step ∷ steps) w = option_and_then (saving_after cited steps) (saving_after_step cited step w)
 
--- the stack that steps leave, where each fits
+-- the stack after steps, if each step fits
 abbrev pub stack_left : {A E : Type 0} → (A → List E → Option (List E)) → List (Step A) → Option (List E)
 stack_left cited steps = option_map (λ w. w.stack) (saving_after cited steps (saving [] []))
 

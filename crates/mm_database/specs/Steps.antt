@@ -1,19 +1,20 @@
 -- The steps of a proof (Metamath book, "The Proof" and "Compressed Proof Format"). They build proof
--- trees, each tree after those below it. In a compressed proof a step may save the tree that was built
--- last, and a saved step is its whole tree again.
+-- trees, each tree after those below it. In a compressed proof a step may save the tree that was
+-- built last. A saved step is the whole tree again.
 use Rattle.std.specs.Prelude.{◌≡◌, ℕ, List, [], ◌∷◌, ◌++◌, Some, slice_get}
 use Rattle.mm_text.specs.Bytes.{Token}
 use Rattle.mm_database.specs.Database.{Context}
 use Rattle.mm_database.specs.Proofs.{Expression, ProofTree, proof_node, ProofForest, no_proof, more_proofs, AllProve}
 
--- a step that cites something, as a label, saves the tree that was built last, or is a saved tree
--- again, by its number from 0
+-- a step: it cites something, such as a label; it saves the tree that was built last; or it is a
+-- saved tree again, by its number from 0
 pub data Step (A : Type 0) : Type 0 where
   cites : A → Step A
   saves : Step A
   repeats : ℕ → Step A
 
--- Steps build a tree, or a forest, where some trees are saved before them and some after them.
+-- Steps build a tree, or a forest. The two lists are the trees that are saved before the steps and
+-- after them.
 mutual
   pub data Builds : List ProofTree → List (Step Token) → ProofTree → List ProofTree → Type 0 where
     by_label : (before : List ProofTree) (steps : List (Step Token)) (label : Token) (trees : ProofForest) (behind : List ProofTree) → AllBuild before steps trees behind → Builds before (steps ++ cites label ∷ []) (proof_node label trees) behind

@@ -1,6 +1,6 @@
--- The first fault of a Metamath text, and that it is valid where there is none (Metamath book, "The
--- Complete Language Specification"). Faults are reported by statement, and within a statement by
--- kind. A block that is not closed is looked at after all other faults.
+-- The first fault of a Metamath text; a text without one is valid (Metamath book, "The Complete
+-- Language Specification"). Faults are reported by statement, and within a statement by kind. A
+-- block that is not closed is reported only if there is no other fault.
 use Rattle.std.specs.Prelude.{◌≡◌, ℕ, Bool, true, false, not, ◌&&◌, ◌||◌, ◌⊎◌, if◌then◌else◌, List, [], ◌∷◌, Option, Some, None, IfSome, is_none, option_map}
 use Rattle.std.specs.List.{list_any, list_all}
 use Rattle.mm_text.specs.Bytes.{Token, has_repeated}
@@ -42,7 +42,7 @@ declares_again c declares_variables symbols =
     list_any (λ t. c.constants t || (c.scope.variables t || c.labels t)) symbols || has_repeated symbols
 declares_again c keyword symbols = false
 
--- a symbol is not active, or is a variable without a type where it has to have one
+-- a symbol is not active, or is a variable without a type although it needs one
 abbrev pub names_inactive : Context → Keyword → List Token → Bool
 names_inactive c declares_constants symbols = false
 names_inactive c declares_variables symbols = false
@@ -68,7 +68,7 @@ is_mistyped c separates symbols = false
 is_mistyped c types_variable symbols = not (is_typing c symbols)
 is_mistyped c keyword symbols = not (begins_with_constant c symbols)
 
--- the variable of a `$f` has a type
+-- the variable of a `$f` already has a type
 abbrev pub second_has_type : Context → List Token → Bool
 second_has_type c [] = false
 second_has_type c (typecode ∷ []) = false
@@ -87,7 +87,7 @@ abbrev pub is_bad_disjoint : Keyword → List Token → Bool
 is_bad_disjoint separates symbols = not (has_two symbols) || has_repeated symbols
 is_bad_disjoint keyword symbols = false
 
--- no label of an earlier statement, and no symbol
+-- a well-spelled label that is neither the label of an earlier statement nor a symbol
 abbrev pub is_new_label : Context → Token → Bool
 is_new_label c label =
     is_label label && (not (c.labels label) && (not (c.constants label) && not (c.variables label)))
@@ -97,14 +97,14 @@ has_one_label c [] = false
 has_one_label c (label ∷ []) = is_new_label c label
 has_one_label c (label ∷ (other ∷ labels)) = false
 
--- declarations and `$d` have no label, the others one
+-- a declaration or a `$d` has a label, or another statement has not exactly one new label
 abbrev pub is_mislabelled : Context → Keyword → List Token → Bool
 is_mislabelled c declares_constants labels = not (is_nil labels)
 is_mislabelled c declares_variables labels = not (is_nil labels)
 is_mislabelled c separates labels = not (is_nil labels)
 is_mislabelled c keyword labels = not (has_one_label c labels)
 
--- what a `$p` has to prove, and the steps of its proof, if its text says some
+-- what a `$p` has to prove, and the steps of its proof, if its text means steps
 pub record Task : Type 0 where
   pub conclusion : Expression
   pub steps : List (Step Token)
@@ -136,7 +136,7 @@ abbrev pub first_found : List Tested → Option ℕ
 first_found [] = None
 first_found (t ∷ tests) = if t.found then Some t.kind else first_found tests
 
--- the smallest kind of fault of a statement, but for those of its proof
+-- the smallest kind of fault of a statement, without the faults of its proof
 abbrev pub declaration_fault : Context → Option Form → Option ℕ
 declaration_fault c None = Some bad_keyword
 declaration_fault c (Some block_start) = None
@@ -161,7 +161,7 @@ abbrev pub or_else : Option ℕ → Option ℕ → Option ℕ
 or_else None other = other
 or_else (Some kind) other = Some kind
 
--- the smallest kind of fault of a statement, but for those of a proof's steps
+-- the smallest kind of fault of a statement, without the faults of the steps of its proof
 abbrev pub form_fault : Context → Option Form → Option ℕ
 form_fault c form = or_else (declaration_fault c form) (proof_text_fault c form)
 
@@ -173,13 +173,13 @@ IsProved c t = Forms c t.steps (t.conclusion ∷ [])
 abbrev pub HasBadStep : Context → Task → Type 0
 HasBadStep c t = (results : List Expression) → Forms c t.steps results → ⊥
 
--- the steps build a forest that proves something, and not the statement alone
+-- the steps build a forest that proves something, but not exactly the statement
 pub record HasBadConclusion (c : Context) (t : Task) : Type 0 where
   pub results : List Expression
   pub forms : Forms c t.steps results
   pub differs : results ≡ t.conclusion ∷ [] → ⊥
 
--- the first fault of a statement, but for bytes and comments, is of this kind
+-- the first fault of a statement is of this kind; faults in bytes and comments are not counted
 pub data IsFaulty (c : Context) (tokens : List Token) : ℕ → Type 0 where
   by_form : (kind : ℕ) → form_fault c (form_of tokens) ≡ Some kind → IsFaulty c tokens kind
   by_step : (t : Task) → form_fault c (form_of tokens) ≡ None → task c (form_of tokens) ≡ Some t → HasBadStep c t → IsFaulty c tokens bad_step
@@ -190,7 +190,8 @@ pub record IsFine (c : Context) (tokens : List Token) : Type 0 where
   pub form : form_fault c (form_of tokens) ≡ None
   pub proof : IfSome (task c (form_of tokens)) (IsProved c)
 
--- the statements have no fault from one context on, and leave another
+-- the statements have no fault from the first context on, and the second context is the one after
+-- them
 abbrev pub AreFine : Context → Statements → Context → Type 0
 AreFine c no_statement left = left ≡ c
 AreFine c (unended at) left = ⊥
@@ -198,7 +199,7 @@ AreFine c (bad_statement f) left = ⊥
 AreFine c (next_statement s statements) left =
     IsFine c s.tokens × AreFine (context_after c s) statements left
 
--- each statement of the text is without fault, and each block is closed
+-- no statement of the text has a fault, and each block is closed
 pub record IsValid (bytes : List ℕ) : Type 0 where
   pub left : Context
   pub fine : AreFine empty_context (statements_of bytes) left

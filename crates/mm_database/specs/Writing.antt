@@ -1,5 +1,5 @@
--- Laws for a text that is written statement by statement: what it leaves, and which statements may
--- follow.
+-- Laws on a text that is written statement by statement: the context after it, and which statements
+-- may follow.
 use Rattle.std.specs.Prelude.{◌≡◌, ℕ, Bool, true, false, List, [], ◌∷◌, ◌++◌, length, codes, bytes_eq}
 use Rattle.std.specs.List.{list_all}
 use Rattle.mm_text.specs.Bytes.{Token, has_token}
@@ -17,15 +17,15 @@ use Rattle.mm_database.specs.Leaving.{Leaves}
 abbrev pub LeavesIsValid : Type 0
 LeavesIsValid = (bytes : List ℕ) (c : Context) → Leaves bytes c → IsValid bytes
 
--- and so is it with written statements after it that are without fault there
+-- such a text stays one if written statements are appended that have no fault there
 abbrev pub ContinuedLeaves : Type 0
 ContinuedLeaves =
     (bytes : List ℕ) (c left : Context) (statements : List (List Token)) → Leaves bytes c →
     Adds c (length bytes) statements left → left.blocks ≡ [] →
     Leaves (bytes ++ written_statements statements) left
 
--- what the statement of a `$a` or `$p` has to be: it begins with a constant, its symbols are active and
--- its variables typed, and its label is new
+-- what is required of a `$a` or `$p`: it begins with a constant, its symbols are active, its
+-- variables are typed, and its label is new
 pub record MayBeStated (c : Context) (label typecode : Token) (symbols : List Token) : Type 0 where
   pub new : is_new_label c label ≡ true
   pub constant : c.constants typecode ≡ true
@@ -43,7 +43,7 @@ abbrev pub begins_compressed : List Token → Bool
 begins_compressed [] = false
 begins_compressed (token ∷ tokens) = bytes_eq token (codes "(")
 
--- nor has such a `$p` with the labels of a tree that proves it
+-- such a `$p` has no fault either, if its proof is the labels of a tree that proves it
 abbrev pub TheoremIsFine : Type 0
 TheoremIsFine =
     (c : Context) (label typecode : Token) (symbols : List Token) (tree : ProofTree) →
@@ -51,14 +51,14 @@ TheoremIsFine =
     are_clean (postorder tree) ≡ true → begins_compressed (postorder tree) ≡ false →
     IsFine c (proof_tokens (label ∷ []) (typecode ∷ symbols) (postorder tree))
 
--- each of these hypotheses is a `$f` of a variable that does not stand among the symbols
+-- each of these hypotheses is a `$f` of a variable that does not occur among the symbols
 abbrev pub AreUnneeded : List Token → List Hypothesis → Type 0
 AreUnneeded symbols [] = Unit {0}
 AreUnneeded symbols (floating label typecode variable ∷ hypotheses) =
     (has_token symbols variable ≡ false) × AreUnneeded symbols hypotheses
 AreUnneeded symbols (essential label statement ∷ hypotheses) = ⊥
 
--- where all that is active is so, an assertion has no mandatory hypothesis
+-- if all active hypotheses are such `$f`s, an assertion has no mandatory hypothesis
 abbrev pub ClosedHasNone : Type 0
 ClosedHasNone =
     (scope : Scope) (label : Token) (symbols : List Token) → AreUnneeded symbols scope.hypotheses →

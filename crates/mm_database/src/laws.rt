@@ -4,15 +4,15 @@ ghost use Rattle.mm_database.specs.FrameLaws.{AppendedIsFine, AppendedStates, Fa
 ghost use Rattle.mm_database.specs.Orderly.{EmptyIsOrderly, OrderlyAfter};
 ghost use Rattle.mm_database.specs.Writing.{AxiomIsFine, ClosedHasNone, ContinuedLeaves, LeavesIsValid, TheoremIsFine};
 
-/// The definitions say of some small texts what the Metamath book says of them: which are valid, and
-/// the first fault of the others, one or more of each kind.
+/// On some small texts, the definitions agree with the Metamath book: on which texts are valid, and
+/// on the first fault of the others. Each kind of fault occurs at least once.
 pub fn tried()
     ensures cases { TriedCases }
 {}
 
-/// The steps of a normal proof build just the trees of which they are the postorder. A stack accepts just
-/// the steps that build trees, and the first fault can be computed with it. In a database without fault each
-/// variable has one type.
+/// The steps of a normal proof build exactly the trees whose postorder they are. A stack accepts
+/// exactly the steps that build trees, so the first fault can be computed with a stack. In a
+/// database that has no fault, each variable has one type.
 pub fn proof_laws()
     ensures labels { LabelsArePostorder }
     ensures stacks { StacksAreForests }
@@ -24,8 +24,8 @@ pub fn proof_laws()
     ensures first_fault { FirstFaultIsComputed }
 {}
 
-/// A valid text stays valid with statements after it that are without fault in what it declares, and
-/// has gained what they state. Written statements are read as they are.
+/// A valid text stays valid if statements are appended that have no fault in what the text
+/// declares. It then also states what they state. Written statements are read as they are written.
 pub fn database_laws()
     ensures appended { AppendedIsFine }
     ensures states { AppendedStates }

@@ -1,10 +1,11 @@
 //! What a valid Metamath database is, as definitions, and the laws on them.
 //!
-//! The definitions stand in `specs/`: `Forms` says what a statement's tokens say, `Frames` and
-//! `Database` what is active at a statement and what an assertion's frame is, `Proofs` what proves a
-//! statement, `Steps` what the steps of a proof build, `ProofText` which steps a proof's text says, and
-//! `Validity` which fault of a text comes first, and that a text without one is valid. `Stack` and
-//! `ComputedFault` compute the same. The laws are clauses of functions that do nothing.
+//! The definitions are in `specs/`. `Forms` defines what the tokens of a statement mean. `Frames`
+//! and `Database` define what is active at a statement, and what the frame of an assertion is.
+//! `Proofs` defines what proves a statement, `Steps` what the steps of a proof build, and
+//! `ProofText` which steps the text of a proof means. `Validity` defines which fault of a text
+//! comes first; a text without a fault is valid. `Stack` and `ComputedFault` compute the same. The
+//! laws are clauses of functions that do nothing.
 #![tactic(auto)]
 
 mod laws;

@@ -1,4 +1,4 @@
--- Texts that are appended one after the other.
+-- Texts that are appended one after another.
 use Rattle.std.proofs.Common.{◌≡◌, ℕ, List, ◌++◌, ◌∙◌, ap, append_assoc}
 use Rattle.std.specs.Prelude.{Result, Ok, Err, OnOk}
 

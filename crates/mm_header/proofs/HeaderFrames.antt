@@ -11,7 +11,7 @@ use Rattle.mm_header.specs.HeaderContext.{header_context, header_labels, header_
 use Rattle.mm_header.specs.HeaderLaws.{HasRow, HasOnlyRows}
 use Rattle.mm_header.proofs.Pairs.{same_token, token_same, needed_pair}
 
--- what two lists of values agree in, at a place
+-- two lists of values that are equal are equal at each place
 map_same : {X Y : Type 0} (f g : X → Y) (xs : List X) → map f xs ≡ map g xs → (k : ℕ) (d : X) → k < length xs → f (slice_index_or xs k d) ≡ g (slice_index_or xs k d)
 map_same f g xs same k d lt =
     sym (get_or-map f xs k d (f d) lt) ∙ ap (λ ys. slice_index_or ys k (f d)) same ∙ get_or-map g xs k d (f d) lt
@@ -24,7 +24,7 @@ row_hypotheses : map (λ r. (frame_of_row r).hypotheses) header_rows ≡ map (λ
 unfolding header_rows
 row_hypotheses = refl
 
--- no pair, or one of two variables that differ and are needed
+-- no pair, or one pair of two different variables that are needed
 abbrev has_good_pairs : (Token → Bool) → List (List ℕ × List ℕ) → Bool
 has_good_pairs needed [] = true
 has_good_pairs needed ((x, y) ∷ []) = not (bytes_eq x y) && (needed x && needed y)
@@ -66,7 +66,7 @@ neither : (p q : Bool) → (p || q) ≡ false → (p ≡ false) × (q ≡ false)
 neither true q h = absurd (cc)
 neither false q h = (refl, h)
 
--- rows of other labels add no frame under this one
+-- rows with other labels add no frame under this label
 other_rows : (rows : List Row) (table : Token → Option Frame) (label : Token) → has_token (map (λ r. r.label) rows) label ≡ false → fold (λ (frames : Token → Option Frame) (r : Row). with_frame frames r.label (frame_of_row r)) table rows label ≡ table label
 other_rows [] table label none = refl
 other_rows (r ∷ rows) table label none =

@@ -13,7 +13,7 @@ same_token a b h = (bytes_eq-Decides a b).0 h
 pub token_same : (a b : Token) → a ≡ b → bytes_eq a b ≡ true
 token_same a b h = (bytes_eq-Decides a b).1 h
 
--- whether x or y is a, or b, and whether a is b
+-- whether x or y is a, or is b, and whether a is b
 pair_tests : (xa ya xb yb ab : Bool) → (xa ≡ true → xb ≡ true → ab ≡ true) → (ya ≡ true → yb ≡ true → ab ≡ true) → (xa ≡ true → ya ≡ true → ⊥) → (xb ≡ true → yb ≡ true → ⊥) → (xa ≡ true → yb ≡ true → ab ≡ true → ⊥) → (ya ≡ true → xb ≡ true → ab ≡ true → ⊥)
     → (not ab && ((xa || (ya || false)) && (xb || (yb || false)))) ≡ (((xa && yb) || (ya && xb)) || false)
 pair_tests true true xb yb ab xx yy xy xy' d d' = absurd (xy refl refl)

@@ -1,14 +1,15 @@
--- The rows of the header, as data: the syntax of matching logic over one carrier, side conditions on
--- variables, and a Hilbert-style system (Rosu 2017; Chen and Rosu 2019). A pattern stands for a set of
--- elements. `( \app p q )` is the application of one to another, and a symbol is a constant that is
--- applied to its arguments one by one. A quantifier names the sort of its variable, and
--- `( \fun p s )` says that p is one element, of sort s. `( \mem p q )` says that the element p is in
--- q. `( \next p )` are the configurations with a successor in p, and `( \ev p )` those from which p is
--- reached, the least pattern with p and its predecessors.
+-- The rows of the header, as data: the syntax of matching logic over one carrier, side conditions
+-- on variables, and a Hilbert-style system (Rosu 2017; Chen and Rosu 2019). A pattern denotes a set
+-- of elements. `( \app p q )` is the application of p to q. A symbol is a constant that is applied
+-- to its arguments one by one. A quantifier names the sort of its variable. `( \fun p s )` says
+-- that p is one element, of sort s. `( \mem p q )` says that the element p is in q. `( \next p )`
+-- is the set of configurations with a successor in p. `( \ev p )` is the set of configurations from
+-- which p is reached: the least pattern with p and its own predecessors.
 use Rattle.std.specs.Prelude.{ℕ, List, [], ◌∷◌, ◌++◌, map, codes}
 
--- A row: its label, the pairs of variables that have to stay apart, its hypotheses and its statement.
--- Words are parted by one space. What begins with no `#` says of a pattern that it holds.
+-- A row: its label, the pairs of variables that have to stay apart, its hypotheses and its
+-- statement. Words are separated by one space. A text that does not begin with `#` says that a
+-- pattern holds.
 pub record Row : Type 0 where
   pub label : List ℕ
   pub apart : List (List ℕ × List ℕ)
@@ -23,11 +24,11 @@ schema name what = record { label = name; apart = []; hypotheses = []; statement
 abbrev pub rule : List ℕ → List (List ℕ) → List ℕ → Row
 rule name given what = record { label = name; apart = []; hypotheses = given; statement = what }
 
--- two variables have to stay apart
+-- a row with two variables that have to stay apart
 abbrev pub rule_apart : List ℕ → List ℕ → List ℕ → List (List ℕ) → List ℕ → Row
 rule_apart x y name given what = record { label = name; apart = (x, y) ∷ []; hypotheses = given; statement = what }
 
--- connectives on two patterns, on one, on a pattern and a sort, and quantifiers
+-- the connectives on two patterns, on one pattern, and on a pattern and a sort; and the quantifiers
 abbrev pub two_place : List (List ℕ)
 two_place = codes "imp" ∷ codes "and" ∷ codes "or" ∷ codes "eq" ∷ codes "mem" ∷ codes "app" ∷ []
 
@@ -65,7 +66,7 @@ fresh_rows =
     map (λ k. rule (codes "fr." ++ k) (codes "#Fresh x p" ∷ []) (codes "#Fresh x " ++ of k (codes "y s p"))) quantifiers ++
     map (λ k. schema (codes "fr." ++ k ++ codes "b") (codes "#Fresh x " ++ of k (codes "x s p"))) quantifiers
 
--- `#Sub t p u x`: t is p with u for x, without capture
+-- `#Sub t p u x`: t is p with u substituted for x, without capture
 abbrev pub substitution_rows : List Row
 substitution_rows =
     schema (codes "su.v") (codes "#Sub u x u x") ∷
@@ -86,7 +87,7 @@ predicate_rows =
     map (λ k. schema (codes "pr." ++ k) (codes "#Pred " ++ of k (codes "p s"))) (codes "fun" ∷ []) ++
     map (λ k. rule (codes "pr." ++ k) (codes "#Pred p" ∷ []) (codes "#Pred " ++ of k (codes "x s p"))) quantifiers
 
--- implication, and the connectives by it
+-- implication, and the other connectives in terms of it
 abbrev pub propositional_rows : List Row
 propositional_rows =
     schema (codes "p.1") (codes "( \\imp p ( \\imp q p ) )") ∷
@@ -132,7 +133,7 @@ membership_rows =
     schema (codes "apart") (codes "( \\imp ( \\fun p s ) ( \\imp ( \\fun q v ) ( \\imp ( \\not ( \\eq p q ) ) ( \\not ( \\and p q ) ) ) ) )") ∷
     []
 
--- application keeps implications, and gives nothing for nothing
+-- application preserves implications; the application of nothing or to nothing is nothing
 abbrev pub application_rows : List Row
 application_rows =
     rule (codes "app.l") (codes "#Pred r" ∷ codes "( \\imp r ( \\imp p q ) )" ∷ []) (codes "( \\imp r ( \\imp ( \\app p t ) ( \\app q t ) ) )") ∷
@@ -141,7 +142,7 @@ application_rows =
     schema (codes "bot.r") (codes "( \\imp ( \\app p \\bot ) \\bot )") ∷
     []
 
--- the next configurations, and those from which a pattern is reached
+-- the configurations with a successor in a pattern, and those from which a pattern is reached
 abbrev pub reachability_rows : List Row
 reachability_rows =
     rule (codes "next.in") (codes "( \\imp p q )" ∷ []) (codes "( \\imp ( \\next p ) ( \\next q ) )") ∷

@@ -7,12 +7,12 @@ use Rattle.mm_database.specs.Database.{Context, with_tokens, with_token, with_ap
 use Rattle.mm_header.specs.Header.{Row, header_rows}
 use Rattle.mm_header.specs.HeaderText.{constants_text, variables_text, types_texts, expression_text, labelled}
 
--- a byte in front of the first word
+-- a byte before the first word
 abbrev pub in_first : ℕ → List Token → List Token
 in_first b [] = (b ∷ []) ∷ []
 in_first b (word ∷ words) = (b ∷ word) ∷ words
 
--- the words of a text that are parted by single spaces
+-- the words of a text; single spaces separate them
 abbrev pub words_of : List ℕ → List Token
 words_of [] = [] ∷ []
 words_of (b ∷ bytes) = if b == 32 then [] ∷ words_of bytes else in_first b (words_of bytes)
@@ -35,7 +35,7 @@ premise_of r (ending, text) = essential (r.label ++ ending) (expression_of text)
 abbrev pub premises : Row → List Hypothesis
 premises r = map (premise_of r) (labelled r)
 
--- the variable of a `$f` stands in the row's statement or one of its hypotheses
+-- the variable of a `$f` occurs in the statement of the row or in one of its hypotheses
 abbrev pub is_in_row : Row → Hypothesis → Bool
 is_in_row r (floating label typecode variable) = list_any (λ text. has_token (expression_of text) variable) (r.statement ∷ r.hypotheses)
 is_in_row r (essential label statement) = false
@@ -44,8 +44,8 @@ is_in_row r (essential label statement) = false
 abbrev pub is_pair : Token → Token → List ℕ × List ℕ → Bool
 is_pair a b (x, y) = (bytes_eq x a && bytes_eq y b) || (bytes_eq y a && bytes_eq x b)
 
--- a frame is that of a row: the `$f`s of its variables, in the order of the header, then its own
--- hypotheses, just its pairs of variables, and its statement
+-- the frame is one of the row: the `$f`s of its variables in the order of the header, then its own
+-- hypotheses; exactly its pairs of variables; and its statement
 pub record IsFrameOfRow (r : Row) (f : Frame) : Type 0 where
   pub label : f.label ≡ r.label
   pub hypotheses : f.hypotheses ≡ filter (is_in_row r) header_types ++ premises r
@@ -63,7 +63,7 @@ row_scope r = record {
 abbrev pub frame_of_row : Row → Frame
 frame_of_row r = frame_of (row_scope r) r.label (expression_of r.statement)
 
--- the labels of a row, of its hypotheses first
+-- the labels of a row, those of its hypotheses first
 abbrev pub row_labels : Row → List Token
 row_labels r = map label_of (premises r) ++ r.label ∷ []
 

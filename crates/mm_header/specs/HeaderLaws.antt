@@ -12,6 +12,6 @@ pub record HasRow (c : Context) (r : Row) : Type 0 where
   pub kept : c.frames r.label ≡ Some frame
   pub fits : IsFrameOfRow r frame
 
--- no label has a frame but those of the rows
+-- only the labels of the rows have a frame
 abbrev pub HasOnlyRows : Context → List Row → Type 0
 HasOnlyRows c rows = (label : Token) → has_token (map (λ r. r.label) rows) label ≡ false → c.frames label ≡ None

@@ -1,6 +1,6 @@
--- The text of the header: the declarations of its constants and variables, the `$f` of each variable,
--- and row after row a statement `$a`. A row with pairs or hypotheses stands in a block with its `$d`s
--- and its `$e`s, which are labelled `LABEL.1` and `LABEL.2`.
+-- The text of the header: the declarations of its constants and variables, the `$f` of each
+-- variable, and a `$a` for each row, in order. A row with pairs or hypotheses is in a block with
+-- its `$d`s and its `$e`s. The `$e`s have the labels `LABEL.1` and `LABEL.2`.
 use Rattle.std.specs.Prelude.{ℕ, Bool, true, false, ◌&&◌, ◌==◌, if◌then◌else◌, List, [], ◌∷◌, ◌++◌, codes}
 use Rattle.std.specs.List.{flat_map, zip}
 use Rattle.mm_header.specs.Header.{Row, header_rows}
@@ -25,11 +25,11 @@ types_texts =
     (codes "fv", codes "#Sort", codes "v") ∷
     []
 
--- ` $.` and the line's end
+-- ` $.` and the end of the line
 abbrev pub line_end : List ℕ
 line_end = codes " $.\n"
 
--- what stands before a statement: nothing where it begins with `#`, and else `|-` and a space
+-- what comes before a statement: nothing if it begins with `#`, and otherwise `|-` and a space
 abbrev pub turnstile_text : List ℕ → List ℕ
 turnstile_text [] = codes "|- "
 turnstile_text (b ∷ bytes) = if b == 35 then [] else codes "|- "

@@ -12,11 +12,11 @@ pub struct HeaderVariable {
     pub name: &'static str,
 }
 
-/// The constants of the header, parted by spaces.
+/// The constants of the header, separated by spaces.
 pub const CONSTANTS: &str =
     "( ) \\bot \\top \\imp \\not \\and \\or \\eq \\mem \\fun \\ex \\all \\app \\at \\next \\ev #Pattern #Sort #Var #Sub #Fresh #Pred |-";
 
-/// The names of the variables, parted by spaces.
+/// The names of the variables, separated by spaces.
 pub const VARIABLE_NAMES: &str = "p q r t u x y s v";
 
 /// The variables of the header, in the order of their `$f`s.

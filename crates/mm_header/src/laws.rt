@@ -10,10 +10,10 @@ ghost use Rattle.mm_header.specs.HeaderLaws.{HasOnlyRows, HasRow};
 ghost use Rattle.mm_text.specs.Bytes.{has_repeated};
 ghost use Rattle.mm_text.specs.Written.{ends_white};
 
-/// The header is a valid Metamath database, so that each symbol in it is declared before. It leaves
-/// the context that its rows declare: a frame for each row, with its hypotheses, its pairs and its
-/// statement, and no other frame. Its labels differ. It ends with white space, so that statements
-/// may follow.
+/// The header is a valid Metamath database. So each symbol in it is declared before its use. The
+/// context after it is the one that its rows declare: a frame for each row, with its hypotheses,
+/// its pairs and its statement, and no other frame. Its labels differ. It ends with white space, so
+/// that statements may follow.
 pub fn header_laws()
     ensures valid { IsValid header_bytes }
     ensures context { AreFine empty_context (statements_of header_bytes) header_context }

@@ -4,15 +4,15 @@ ghost use Rattle.std.specs.Prelude.{◌≡◌, map};
 ghost use Rattle.mm_header.specs.Header.{header_rows};
 ghost use Rattle.mm_header.specs.HeaderTable.{row_of};
 
-/// A row of the header. What begins with no `#` says of a pattern that it holds. Words are parted by
-/// one space.
+/// A row of the header. A statement or hypothesis that does not begin with `#` says that a pattern
+/// holds. Words are separated by one space.
 #[derive(Clone, Copy)]
 pub struct HeaderRow {
     /// The label of the row's `$a`.
     pub label: &'static str,
-    /// The pairs of variables that have to stay apart: one at most.
+    /// The pairs of variables that have to stay apart: at most one.
     pub apart: &'static [(&'static str, &'static str)],
-    /// The hypotheses, in order: two at most.
+    /// The hypotheses, in order: at most two.
     pub hyps: &'static [&'static str],
     /// What the row says.
     pub statement: &'static str,

@@ -8,8 +8,8 @@ use crate::declarations::{CONSTANTS, HeaderVariable, VARIABLE_NAMES, variables};
 use crate::rows::{HeaderRow, table};
 use std::alloc::{AllocError, Global};
 
-/// Adds the text of the header, 5,968 bytes, to a text. Where memory is wanting, the text stays as it
-/// was.
+/// Adds the text of the header, 5,968 bytes, to a text. AllocError: out of memory; then the text
+/// stays as it was.
 pub fn header_text(to: &mut Vec<u8>) -> Result<(), AllocError>
     ensures text { OnOk result (to.new.items ≡ to.old.items ++ header_bytes) }
     ensures unchanged { OnErr result (to.new.items ≡ to.old.items) }
@@ -103,7 +103,7 @@ fn push_pairs(to: &mut Vec<u8>, pairs: &[(&str, &str)]) -> Result<(), AllocError
     Ok(())
 }
 
-/// Adds the hypotheses of the row with this label, the first two.
+/// Adds the hypotheses of the row with this label, at most the first two.
 fn push_hypotheses(
     to: &mut Vec<u8>,
     label: &'static str,
@@ -121,7 +121,8 @@ fn push_hypotheses(
     Ok(())
 }
 
-/// Adds a hypothesis of the row with this label, whose own label ends as given.
+/// Adds a hypothesis of the row with this label. The label of the hypothesis is this label with the
+/// given ending.
 fn push_hypothesis(
     to: &mut Vec<u8>,
     label: &'static str,
@@ -150,7 +151,7 @@ fn push_statement(to: &mut Vec<u8>, row: &HeaderRow) -> Result<(), AllocError>
     )
 }
 
-/// What stands before a statement: nothing where it begins with `#`, and else `|-` and a space.
+/// What comes before a statement: nothing if it begins with `#`, and otherwise `|-` and a space.
 fn turnstile(statement: &str) -> &'static str
     ensures { result.now ≡ turnstile_text statement.now }
 {

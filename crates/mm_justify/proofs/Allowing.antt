@@ -48,17 +48,17 @@ has_only_more theory bytes appended assertions typings only allowed typed gained
   types = subst AreTypings (sym gained_typings) (AreTypings-append (typings_of bytes) typings only.types typed);
 }
 
--- the variables of a block are typed so
+-- each variable of a block has one of these types
 floats_typed : (k : ℕ) (vs : List Variable) → AreTypings (map (variable_float k) vs)
 floats_typed k [] = tt
 floats_typed k (object_variable i ∷ vs) = (refl, floats_typed k vs)
 floats_typed k (pattern_variable i ∷ vs) = (refl, floats_typed k vs)
 
--- a text that gains just one allowed assertion
+-- a text that gains exactly one allowed assertion
 pub has_only_just : (theory : RewriteTheory) (bytes appended : List ℕ) (k : ℕ) (vs : List Variable) (a : Assertion) → HasOnlyAxiomsOf theory bytes → AreAllowed theory (a ∷ []) → HasJust bytes appended k vs a → HasOnlyAxiomsOf theory (bytes ++ appended)
 has_only_just theory bytes appended k vs a only allowed just = has_only_more theory bytes appended (a ∷ []) (map (variable_float k) vs) only allowed (floats_typed k vs) just.assertions just.typings
 
--- the frame of a claim says no more than that of the same claim with another number
+-- the frame of a claim says no more than the frame of the same claim with another number
 same_types : (k : ℕ) (vs : List Variable) (v : Token) → typecode_in (map (variable_float k) vs) v ≡ typecode_in (map (variable_float 0) vs) v
 same_types k [] v = refl
 same_types k (u ∷ vs) v = ap (λ (o : Option Token). if bytes_eq (variable_token u) v then Some (variable_type u) else o) (same_types k vs v)
@@ -106,7 +106,7 @@ theorem_fits_anywhere names old new t buffer buffer' text appended states is may
     let same : written_statements (lemma_statements names old.count states.find states.premise_place t) ≡ appended = same_appended buffer written appended (sym states.appended ∙ is) in
     subst (λ (bytes : List ℕ). Fits names new (text ++ bytes)) same ((states.gains may).fits text fits)
 
--- what fits is valid
+-- a text that fits is valid
 fits_valid : (names : List Token) (k : Kept) (bytes : List ℕ) → Fits names k bytes → IsValid bytes
 fits_valid names k bytes fits = go k.begun fits
   where

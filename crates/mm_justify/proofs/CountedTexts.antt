@@ -29,7 +29,7 @@ counts_more old new more facts statements gained few many = record {
   more_statements = ap length gained ∙ length-append (assertions_of old) more ∙ ap (λ n. length (assertions_of old) + n) many;
 }
 
--- .. just one
+-- a text that gains exactly one assertion
 pub counts_one : (bytes appended : List ℕ) (k : ℕ) (vs : List Variable) (a : Assertion) → HasJust bytes appended k vs a → AddsCounts (one_if (is_fact a)) 1 bytes (bytes ++ appended)
 counts_one bytes appended k vs a just = counts_more bytes (bytes ++ appended) (a ∷ []) (one_if (is_fact a)) 1 just.assertions (count_first is_fact a [] ∙ add-zero (one_if (is_fact a))) refl
 

@@ -1,4 +1,4 @@
--- What declarations state: that each name is of its type, and nothing else.
+-- What declarations state: that each name has its type, and nothing else.
 use Rattle.std.proofs.Common.{◌≡◌, ℕ, ◌+◌, ◌<◌, ◌^◌, Bool, true, false, List, [], ◌∷◌, ◌++◌, length, take, drop, refl, ap, ◌∙◌, sym, subst, arith, append_assoc, length-append, Option, Some}
 use Rattle.std.specs.Prelude.{◌≤◌, count_by, suc}
 use Rattle.std.proofs.lemmas.Bool.{false≢true}
@@ -34,7 +34,7 @@ use Rattle.mm_justify.proofs.CountedTexts.{count_first, counts_more}
 use Rattle.mm_text.specs.Written.{written}
 use Rattle.mm_database.specs.StatementTexts.{plain_tokens, written_statements}
 
--- the `$a` of a name, and of names with the numbers from one on
+-- the `$a` of a name, and those of names with the numbers from one on
 abbrev name_assertion : ℕ → Token → Assertion
 name_assertion i t = record { is_proved = false; frame = name_frame i t }
 
@@ -42,11 +42,11 @@ abbrev name_assertions : ℕ → List Token → List Assertion
 name_assertions i [] = []
 name_assertions i (t ∷ ts) = name_assertion i t ∷ name_assertions (i + 1) ts
 
--- some statements make these assertions, and no typing
+-- statements make these assertions and no typing
 abbrev StatesJust : Context → Statements → List Assertion → Type 0
 StatesJust c ss assertions = (assertions_in c ss ≡ assertions) × (typings_in ss ≡ [])
 
--- a constant and its `$a` in front of statements
+-- a constant and its `$a`, before other statements
 name_first : (c : Context) (i at : ℕ) (t : Token) (rest : List ℕ) (assertions : List Assertion) → NameFacts t → has_dollar (name_label i) ≡ false
     → (left : Context) → Adds c at (all_name_statements i (t ∷ [])) left → frame_of c.scope (name_label i) (typecode_of t ∷ (t ∷ [])) ≡ name_frame i t → ((next : ℕ) → StatesJust (with_name c i t) (statements_from next rest) assertions)
     → StatesJust c (statements_from at (written (plain_tokens [] declares_constants (t ∷ [])) ++ (written (plain_tokens (name_label i ∷ []) asserts (typecode_of t ∷ (t ∷ []))) ++ rest))) (name_assertion i t ∷ assertions)
@@ -105,7 +105,7 @@ names_allowed theory i (t ∷ ts) own = (λ is. declaration t own.0 (record { st
 abbrev GainsNames : List ℕ → List ℕ → ℕ → List Token → Type 0
 GainsNames old new i ts = (assertions_of new ≡ assertions_of old ++ name_assertions i ts) × (typings_of new ≡ typings_of old ++ [])
 
--- after a text
+-- what a text has gained after the declarations
 gained_behind : (done more : List Token) (claims : List Claim) (bytes : List ℕ) → FitsClaims done claims bytes → AreNames (done ++ more) → AreDistinct (done ++ more) → length (done ++ more) < 2 ^ 64
     → GainsNames bytes (bytes ++ written_statements (all_name_statements (length done) more)) (length done) more
 gained_behind done more claims bytes (c, leaves, w) names distinct few =

@@ -44,7 +44,7 @@ is_nothing : (hs : List Hypothesis) → has_none hs ≡ true → hs ≡ []
 is_nothing [] h = refl
 is_nothing (x ∷ hs) h = absurd (false≢true h)
 
--- hypotheses that type no variable and assume nothing are none
+-- hypotheses that type no variable and assume nothing are an empty list
 none_typed : (hs : List Hypothesis) → premises_in hs ≡ [] → ((v : Token) → typecode_in hs v ≡ None) → hs ≡ []
 none_typed [] none untyped = refl
 none_typed (floating label typecode typed ∷ hs) none untyped = absurd (found (bytes_eq typed typed) ((bytes_eq-Decides typed typed).1 refl) (untyped typed))
@@ -165,7 +165,7 @@ counted a unproved none begins = rw (unproved, none, begins) refl
 parts : (a : Assertion) → is_fact a ≡ true → (has_none a.frame.hypotheses ≡ true) × (begins_as_fact a.frame.statement ≡ true)
 parts a is = let outer = split_true _ _ is in split_true (has_none a.frame.hypotheses) (begins_as_fact a.frame.statement) outer.1
 
--- no row of the header
+-- no row of the header is a fact
 abbrev row_is_fact : Row → Bool
 row_is_fact r = has_none (filter (is_in_row r) header_types ++ premises r) && begins_as_fact (expression_of r.statement)
 

@@ -1,4 +1,4 @@
--- Frames of an axiom with two variables, tried.
+-- Frames of an axiom with two variables, as tests.
 use Rattle.std.proofs.Common.{◌≡◌, ◌+◌, ℕ, Bool, true, false, List, [], ◌∷◌, ◌++◌, Option, Some, None, refl, sym, ap, ◌∙◌, arith}
 use Rattle.std.specs.Prelude.{if◌then◌else◌, codes, bytes_eq, decimal}
 use Rattle.std.proofs.lemmas.Bool.{false≢true}
@@ -29,7 +29,7 @@ differ = ap (λ (ds : List ℕ). bytes_eq (codes "x:" ++ ds) (object_token 1)) z
 differ_back : bytes_eq (object_token 1) (object_token 0) ≡ false
 differ_back = ap (λ (ds : List ℕ). bytes_eq (codes "x:" ++ ds) (object_token 0)) one_digits ∙ ap (λ (ds : List ℕ). bytes_eq (codes "x:" ++ codes "1") (codes "x:" ++ ds)) zero_digits
 
--- the order of two variables of one type does not matter
+-- the order of two variables of the same type does not matter
 either : (p q : Bool) (t : Token) → (if q then Some t else (if p then Some t else None)) ≡ (if p then Some t else (if q then Some t else None))
 either true true t = refl
 either true false t = refl

@@ -1,4 +1,5 @@
--- What the header states: each of its axioms is a row, and each typing one of its variables.
+-- What the header states: each of its axioms is a row, and each typing is that of one of its
+-- variables.
 use Rattle.std.proofs.Common.{◌≡◌, ℕ, ◌<◌, false, List, [], ◌∷◌, map, length, suc, refl, sym, ap, ◌∙◌, subst, arith}
 use Rattle.std.specs.Prelude.{Option, Some, slice_index_or, count_by}
 use Rattle.std.proofs.lemmas.List.{get_or-map}

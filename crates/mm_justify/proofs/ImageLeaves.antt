@@ -22,7 +22,7 @@ use Rattle.mm_claims.specs.Statements.{typecode_of}
 use Rattle.mm_claims.specs.OverNames.{closed_over, over_names}
 use Rattle.mm_justify.specs.ImageLaws.{SentenceIsOver, SentenceHasNoMeta, ImageIsClosed}
 
--- a number that was found is that of the token
+-- a number that was found is the number of the token
 found : (token : Token) (i : ℕ) (names : List Token) (n : ℕ) → position_from (λ (other : Token). bytes_eq token other) i names ≡ Some n → (k : ℕ) × ((n ≡ i + k) × ((k < length names) × (name_of names k ≡ token)))
 found token i [] n h = absurd (none_some n h)
 found token i (t ∷ names) n h = go (bytes_eq token t) refl h (found token (i + 1) names)
@@ -41,7 +41,7 @@ number_found names token n h =
     let same : n ≡ w.0 = omega (arith, w.1.0) in
     (omega (arith, same, w.1.1.0), ap (name_of names) same ∙ w.1.1.1)
 
--- a token that is among the names, and of this type
+-- a token that is among the names and has this typecode
 abbrev IsNumber : List Token → Token → ℕ → Type 0
 IsNumber names typecode n = (n < length names) × (typecode_of (name_of names n) ≡ typecode)
 
@@ -65,7 +65,8 @@ value_leaf sig names s v n h = named names (λ (name : Token). value_token name 
 
 -- ---- facts about leaves that numbers of tokens have
 
--- facts that the numbers of sorts' tokens and of symbols' and values' tokens have, and that each object variable has
+-- facts that are true of the numbers of the tokens of sorts, of the tokens of symbols and values,
+-- and of each object variable
 pub record Known (names : List Token) (f : LeafFacts) : Type 0 where
   pub sorts : (n : ℕ) → IsNumber names (codes "#Sort") n → f.sort n
   pub constants : (n : ℕ) → IsNumber names (codes "#Pattern") n → f.constant n
@@ -80,7 +81,7 @@ constant_leaves : (f : LeafFacts) (o : Option ℕ) → ((n : ℕ) → o ≡ Some
 constant_leaves f None each p h = absurd (none_some p h)
 constant_leaves f (Some n) each p h = subst (EachLeaf f) (some_same (constant n) p h) (each n refl)
 
--- of two patterns, where a connective keeps the facts
+-- an image made of two patterns, if the connective keeps the facts
 pub two_leaves : (f : LeafFacts) (k : Pattern → Pattern → Pattern) → ((x y : Pattern) → EachLeaf f x → EachLeaf f y → EachLeaf f (k x y)) → (a b : Option Pattern) → Each f a → Each f b → Each f (both k a b)
 two_leaves f k keeps None b ka kb p h = absurd (none_some p h)
 two_leaves f k keeps (Some x) None ka kb p h = absurd (none_some p h)
@@ -114,7 +115,7 @@ some_leaves : (sig : Signature) (names : List Token) (f : LeafFacts) → Known n
 some_leaves sig names f known None p h = absurd (none_some p h)
 some_leaves sig names f known (Some g) p h = symbol_leaves sig names f known g p h
 
--- the image of a pattern whose variables have their fact
+-- the image of a pattern, if the fact is true of its variables
 mutual
   pub term_leaves : (sig : Signature) (names : List Token) (f : LeafFacts) → Known names f → (a : RulePattern) → ((x : ℕ) → StandsIn x a → f.object x) → Each f (image_of sig names a)
   term_leaves sig names f known (variable x) objects p h = subst (EachLeaf f) (some_same (logic.var x) p h) (objects x refl)
@@ -129,7 +130,7 @@ mutual
   applied_leaves sig names f known (more_patterns q qs) head objects k p h =
       applied_leaves sig names f known qs (both app head (image_of sig names q)) (λ x s. objects x (inr s)) (two_leaves f app (λ x y hx hy. (hx, hy)) head (image_of sig names q) k (term_leaves sig names f known q (λ x s. objects x (inl s)))) p h
 
--- the image of a sentence, where each object variable has the fact
+-- the image of a sentence, if the fact is true of each object variable
 sentence_leaves : (sig : Signature) (names : List Token) (f : LeafFacts) → Known names f → ((x : ℕ) → f.object x) → (s : Sentence) → Each f (sentence_image sig names s)
 sentence_leaves sig names f known objects (term a) = term_leaves sig names f known a (λ x h. objects x)
 sentence_leaves sig names f known objects (symbol g) = symbol_leaves sig names f known g

@@ -99,7 +99,7 @@ decimal_zero =
     decimal_by_steps (λ m ds. m ≡ 0 → ds ≡ 48 ∷ []) (λ m small none. ap (λ (n : ℕ). (48 + n) ∷ []) none)
     (λ m ds large below none. absurd (omega (arith, large, none))) 0 (omega arith) refl
 
--- what stands after the header, with the digits of 0
+-- the text after the header, with the digits of 0
 abbrev spelt_with : List ℕ → List ℕ
 spelt_with digits =
     written_statements (plain_tokens [] declares_constants (codes "f:a" ∷ []) ∷ plain_tokens ((codes "n." ++ digits) ∷ []) asserts (codes "#Pattern" ∷ codes "f:a" ∷ []) ∷ [])
@@ -174,7 +174,7 @@ begins (b ∷ bytes) = go (b == 115)
 
 -- ---- what the program may assume
 
--- what two things make is there where both are
+-- if something was made of two options, both have a value
 pub both_there : {A B C : Type 0} (f : A → B → C) (a : Option A) (b : Option B) (c : C) → both f a b ≡ Some c → (x : A) × (y : B) × (a ≡ Some x) × (b ≡ Some y) × (c ≡ f x y)
 both_there f None b c is = absurd (none_some c is)
 both_there f (Some x) None c is = absurd (none_some c is)
@@ -184,7 +184,8 @@ pub map_there : {A B : Type 0} (f : A → B) (a : Option A) (b : B) → option_m
 map_there f None b is = absurd (none_some b is)
 map_there f (Some x) b is = (x, refl, some_same b (f x) (sym is))
 
--- the text of the pattern is another than the conclusion: it differs in its connective, or in what is first below that
+-- the text of the pattern differs from the conclusion: in its connective, or in the first token
+-- after it
 abbrev IsOther : List Token → Pattern → Type 0
 IsOther ts p = (bytes_eq (name_of (holds_text (own_naming ts) p) 2) (codes "\\imp") ≡ false) ⊎ (bytes_eq (name_of (holds_text (own_naming ts) p) 3) (codes "f:a") ≡ false)
 
@@ -192,7 +193,7 @@ other_text : (ts : List Token) (p : Pattern) → IsOther ts p → holds_text (ow
 other_text ts p (inl other) same = false≢true (sym other ∙ ap (λ (text : List Token). bytes_eq (name_of text 2) (codes "\\imp")) same)
 other_text ts p (inr other) same = false≢true (sym other ∙ ap (λ (text : List Token). bytes_eq (name_of text 3) (codes "f:a")) same)
 
--- all images of the sentence are other
+-- all images of the sentence differ from the conclusion
 abbrev AreOther : Signature → List Token → Sentence → Type 0
 AreOther sig ts s = (p : Pattern) → sentence_image sig ts s ≡ Some p → IsOther ts p
 

@@ -20,8 +20,9 @@ abbrev pub has_none : List Hypothesis → Bool
 has_none [] = true
 has_none (h ∷ hypotheses) = false
 
--- A `$a` without hypotheses and variables that says that a pattern is one element of a sort, or that two are equal. Of
--- the axioms of a program just the true facts on its built-ins are such (`FactsAreTrue`, `TrueFactsAreFacts`).
+-- A `$a` without hypotheses and variables which says that a pattern is one element of a sort, or
+-- that two patterns are equal. Of the axioms of a program, exactly the true facts on its built-ins
+-- are such statements (`FactsAreTrue`, `TrueFactsAreFacts`).
 abbrev pub is_fact : Assertion → Bool
 is_fact a = not a.is_proved && (has_none a.frame.hypotheses && begins_as_fact a.frame.statement)
 
@@ -32,11 +33,11 @@ facts_in bytes = count_by is_fact (assertions_of bytes)
 abbrev pub statements_in : List ℕ → ℕ
 statements_in bytes = length (assertions_of bytes)
 
--- a count stays at 2^64 - 1 once it is there
+-- a count that has reached 2^64 - 1 stays there
 abbrev pub capped : ℕ → ℕ
 capped n = min n (2 ^ 64 - 1)
 
--- the database has so many facts and statements
+-- these are the counts of facts and statements of the database
 pub record HasCounts (facts statements : ℕ) (bytes : List ℕ) : Type 0 where
   pub facts_are : facts ≡ capped (facts_in bytes)
   pub statements_are : statements ≡ capped (statements_in bytes)

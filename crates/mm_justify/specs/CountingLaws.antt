@@ -1,4 +1,5 @@
--- What is counted as a fact, and how the counts of a text grow that is written statement by statement.
+-- What is counted as a fact, and how the counts grow in a text that is written statement by
+-- statement.
 use Rattle.std.specs.Prelude.{◌≡◌, ℕ, ◌+◌, ◌<◌, ◌≤◌, ◌^◌, Bool, true, false, if◌then◌else◌}
 use Rattle.std.specs.Prelude.{List, [], ◌++◌, length, drop, take, Some}
 use Rattle.mm_text.specs.Bytes.{Token}
@@ -47,7 +48,7 @@ TrueFactsAreFacts =
 
 -- ---- how counts grow
 
--- so many more facts and statements are in a text
+-- a text has gained this many facts and statements
 pub record AddsCounts (facts statements : ℕ) (old new : List ℕ) : Type 0 where
   pub more_facts : facts_in new ≡ facts_in old + facts
   pub more_statements : statements_in new ≡ statements_in old + statements
@@ -56,7 +57,7 @@ pub record AddsCounts (facts statements : ℕ) (old new : List ℕ) : Type 0 whe
 abbrev pub HeaderCounts : Type 0
 HeaderCounts = HasCounts 0 88 header_bytes
 
--- each declaration of a name is a statement
+-- each declaration of a name is one statement
 abbrev pub DeclaredCounts : Type 0
 DeclaredCounts =
     (names : List Token) (k : Kept) (bytes : List ℕ) → AreNames names → AreDistinct names →
@@ -64,7 +65,7 @@ DeclaredCounts =
     AddsCounts 0 (length (drop k.named names)) bytes
     (bytes ++ written_statements (all_name_statements k.named (drop k.named names)))
 
--- the pattern says of one that it is an element of a sort, or of two that they are equal
+-- the pattern says that a pattern is an element of a sort, or that two patterns are equal
 abbrev pub is_fact_form : Pattern → Bool
 is_fact_form bot = false
 is_fact_form top = false
@@ -85,7 +86,7 @@ is_fact_form (var x) = false
 is_fact_form (meta i) = false
 is_fact_form (constant c) = false
 
--- an axiom that the program may assume is a statement, and a fact where its image has that form
+-- an axiom that the program may assume is one statement; it is a fact if its image has that form
 abbrev pub AxiomCounts : Type 0
 AxiomCounts =
     (theory : RewriteTheory) (names : List Token) (old new : Kept) (s : Sentence) (p : Pattern)
@@ -94,7 +95,7 @@ AxiomCounts =
     (open_assertion false (take old.named names) old.count (claim_of [] p)) →
     Fits names old bytes → AddsCounts (if is_fact_form p then 1 else 0) 1 bytes (bytes ++ appended)
 
--- a theorem is a statement and no fact
+-- a theorem is one statement and no fact
 abbrev pub TheoremCounts : Type 0
 TheoremCounts =
     (names : List Token) (old new : Kept) (t : Theorem) (buffer buffer' text appended : List ℕ) →

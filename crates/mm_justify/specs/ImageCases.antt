@@ -25,7 +25,8 @@ one p = more_patterns p no_pattern
 abbrev pub two : Pattern → Pattern → Patterns
 two p q = more_patterns p (more_patterns q no_pattern)
 
--- ---- a rule that moves an injected variable: `k(inj{SortAExp,SortKItem}(X)) => done(inj{SortAExp,SortStmt}(X))`
+-- ---- a rule that moves an injected variable:
+-- `k(inj{SortAExp,SortKItem}(X)) => done(inj{SortAExp,SortStmt}(X))`
 
 pub record DeclaresMoves (sig : Signature) : Type 0 where
   pub lower : name_at sig.sorts 1 ≡ Some (codes "SortAExp")

@@ -11,7 +11,8 @@ use Rattle.ml_image.specs.Images.{image_of}
 use Rattle.ml_image.specs.Sentences.{Sentence, sentence_image}
 use Rattle.mm_claims.specs.OverNames.{closed_over, over_names}
 
--- the sorts and constants of the image of a sentence are among the names, and it has no pattern variables
+-- the sorts and constants of the image of a sentence are among the names, and it has no pattern
+-- variables
 abbrev pub SentenceIsOver : Type 0
 SentenceIsOver =
     (sig : Signature) (names : List Token) (s : Sentence) (p : Pattern) → sentence_image sig names s ≡ Some p →
@@ -22,7 +23,7 @@ SentenceHasNoMeta =
     (sig : Signature) (names : List Token) (s : Sentence) (p : Pattern) → sentence_image sig names s ≡ Some p →
     HasNoMeta p
 
--- the image of a pattern in which no variable stands is closed over the names
+-- the image of a pattern in which no variable occurs is closed over the names
 abbrev pub ImageIsClosed : Type 0
 ImageIsClosed =
     (sig : Signature) (names : List Token) (a : RulePattern) (p : Pattern) → ((x : ℕ) → StandsIn x a → ⊥) →

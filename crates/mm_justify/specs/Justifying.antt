@@ -1,5 +1,6 @@
--- That a database justifies that one pattern reaches another: it is valid, it assumes nothing but matching logic, what
--- the program's definition says and true facts on built-ins, and its last theorem says just that (Chen and Rosu 2019).
+-- A database justifies that one pattern reaches another. It is valid. It assumes only matching
+-- logic, what the program's definition says, and true facts on built-ins. Its last theorem says
+-- exactly that (Chen and Rosu 2019).
 use Rattle.std.specs.Prelude.{◌≡◌, ℕ, true, false, IsTrue, if◌then◌else◌, List, [], ◌∷◌, ◌++◌, ◌⊎◌, Contains, Option}
 use Rattle.std.specs.Prelude.{Some, None, bytes_eq, codes}
 use Rattle.mm_text.specs.Bytes.{Token, has_token}
@@ -40,16 +41,17 @@ premises_in [] = []
 premises_in (floating label typecode variable ∷ hypotheses) = premises_in hypotheses
 premises_in (essential label statement ∷ hypotheses) = statement ∷ premises_in hypotheses
 
--- A frame says no more than another: it has the same statement, the same `$e`s in order, and the same variables of the
--- same types. Labels are free, and more pairs may have to stay apart.
+-- A frame says no more than another. It has the same statement, the same `$e`s in order, and the
+-- same variables of the same types. Its labels may differ, and more pairs may have to stay apart.
 pub record SaysNoMore (f other : Frame) : Type 0 where
   pub statement : f.statement ≡ other.statement
   pub premises : premises_in f.hypotheses ≡ premises_in other.hypotheses
   pub types : (variable : Token) → typecode_in f.hypotheses variable ≡ typecode_in other.hypotheses variable
   pub apart : (x y : Token) → IsTrue (other.apart x y) → IsTrue (f.apart x y)
 
--- The frame of the statement that a pattern holds, with the tokens of names: it has no `$e`, its variables are those of
--- the pattern, `x:i` of `#Var`, and each two of them have to stay apart.
+-- The frame of the statement that a pattern holds, with the tokens of names. It has no `$e`. Its
+-- variables are those of the pattern, `x:i` of the type `#Var`, and any two of them have to stay
+-- apart.
 abbrev pub holds_frame : List Token → Pattern → Frame
 holds_frame names p = open_frame names 0 (claim_of [] p)
 
@@ -59,8 +61,8 @@ holds_frame names p = open_frame names 0 (claim_of [] p)
 abbrev pub IsAssumed : RewriteTheory → Sentence → Type 0
 IsAssumed theory s = IsOwnAxiom theory s ⊎ IsTrueFact theory.sig s
 
--- What an axiom may say: a row of the header; that a token is a sort, a symbol or a domain value of the program; or
--- what the program may assume, with the tokens of names.
+-- What an axiom may say: a row of the header; that a token is a sort, a symbol or a domain value of
+-- the program; or what the program may assume, with the tokens of names.
 pub data IsAxiomOf (theory : RewriteTheory) (f : Frame) : Type 0 where
   header_row : (r : Row) (other : Frame) → Contains header_rows r → IsFrameOfRow r other → SaysNoMore f other →
       IsAxiomOf theory f
@@ -68,7 +70,7 @@ pub data IsAxiomOf (theory : RewriteTheory) (f : Frame) : Type 0 where
   assumption_of : (names : List Token) (s : Sentence) (p : Pattern) → IsAssumed theory s →
       sentence_image theory.sig names s ≡ Some p → SaysNoMore f (holds_frame names p) → IsAxiomOf theory f
 
--- a `$p` may say what it proves, and a `$a` is one of these axioms
+-- a `$p` may say whatever it proves, and a `$a` is one of these axioms
 abbrev pub IsAllowed : RewriteTheory → Assertion → Type 0
 IsAllowed theory a = a.is_proved ≡ false → IsAxiomOf theory a.frame
 
@@ -76,7 +78,7 @@ abbrev pub AreAllowed : RewriteTheory → List Assertion → Type 0
 AreAllowed theory [] = Unit {0}
 AreAllowed theory (a ∷ assertions) = IsAllowed theory a × AreAllowed theory assertions
 
--- a variable is a pattern, a sort or an object variable
+-- the types of variables: a pattern, a sort or an object variable
 abbrev pub typecodes : List Token
 typecodes = codes "#Pattern" ∷ codes "#Sort" ∷ codes "#Var" ∷ []
 
@@ -86,16 +88,18 @@ AreTypings (floating label typecode variable ∷ hypotheses) =
     IsTrue (has_token typecodes typecode) × AreTypings hypotheses
 AreTypings (essential label statement ∷ hypotheses) = ⊥
 
--- each `$a` of the text is an axiom of the program, and each `$f` types its variable so
+-- each `$a` of the text is an axiom of the program, and each `$f` gives its variable one of these
+-- types
 pub record HasOnlyAxiomsOf (theory : RewriteTheory) (bytes : List ℕ) : Type 0 where
   pub axioms : AreAllowed theory (assertions_of bytes)
   pub types : AreTypings (typings_of bytes)
 
 -- ---- databases
 
--- A database justifies that a reaches b: it is valid and has only the program's axioms; and the last thing that it
--- states is a `$p` without hypotheses, `|- ( \imp A ( \ev B ) )`. A and B are the texts of a and b, which have no
--- variables and whose sorts and constants are numbers of names: tokens of sorts, symbols and values, each once.
+-- A database justifies that a reaches b. It is valid and has only the program's axioms. The last
+-- thing that it states is a `$p` without hypotheses, `|- ( \imp A ( \ev B ) )`. A and B are the
+-- texts of a and b, which have no variables. The sorts and constants of a and b are numbers of
+-- names. The names are tokens of sorts, symbols and values, each once.
 pub record Justifies (bytes : List ℕ) (theory : RewriteTheory) (names : List Token) (a b : Pattern) : Type 0 where
   pub valid : IsValid bytes
   pub only : HasOnlyAxiomsOf theory bytes
@@ -108,7 +112,8 @@ pub record Justifies (bytes : List ℕ) (theory : RewriteTheory) (names : List T
   pub closed : EachLeaf (closed_over names) (imp a (ev b))
   pub says : last.statement ≡ holds_text (own_naming names) (imp a (ev b))
 
--- It justifies a run: that the image of its start reaches that of its end.
+-- A database justifies a run: it justifies that the image of the start reaches the image of the
+-- end.
 pub record JustifiesRun (bytes : List ℕ) (theory : RewriteTheory) (start end : RulePattern) : Type 0 where
   pub names : List Token
   pub from : Pattern

@@ -19,7 +19,7 @@ small_text = header_bytes ++ codes "$c f:a $.\nn.0 $a #Pattern f:a $.\nt.0 $p |-
 abbrev pub alone : ℕ → RulePattern
 alone f = application f no_pattern
 
--- in each program with this symbol the text justifies the run that makes no step
+-- in each program with this symbol, the text justifies the run without steps
 abbrev pub SmallJustifies : Type 0
 SmallJustifies =
     (theory : RewriteTheory) (f : ℕ) → token_of_symbol theory.sig f ≡ Some (codes "f:a") →
@@ -29,11 +29,12 @@ SmallJustifies =
 abbrev pub conclusion : List Token
 conclusion = codes "|-" ∷ codes "(" ∷ codes "\\imp" ∷ codes "f:a" ∷ codes "(" ∷ codes "\\ev" ∷ codes "f:b" ∷ codes ")" ∷ codes ")" ∷ []
 
--- that one symbol reaches another is an axiom of no program
+-- no program has an axiom that one symbol reaches another
 abbrev pub ConclusionIsNoAxiom : Type 0
 ConclusionIsNoAxiom = (theory : RewriteTheory) (f : Frame) → f.statement ≡ conclusion → IsAxiomOf theory f → ⊥
 
--- ---- frames of an axiom with two variables: `|- ( \all x:0 s:S ( \all x:1 s:S ( \eq x:0 x:1 ) ) )`
+-- ---- frames of an axiom with two variables:
+-- `|- ( \all x:0 s:S ( \all x:1 s:S ( \eq x:0 x:1 ) ) )`
 
 abbrev pub sorts : List Token
 sorts = codes "s:S" ∷ []
@@ -60,8 +61,9 @@ second_typed = floating (codes "fb") (codes "#Var") (object_token 1)
 abbrev pub IsTaken : Frame → Type 0
 IsTaken f = SaysNoMore f (holds_frame sorts two_variables)
 
--- Such an axiom may have any labels, its `$f`s in any order and more pairs. It may not type a variable as a pattern,
--- leave one untyped, as if it were a constant, leave out a pair, or have a `$e`.
+-- Such an axiom may have any labels, its `$f`s in any order, and more pairs. It may not type a
+-- variable as a pattern, leave one untyped as if it were a constant, leave out a pair, or have a
+-- `$e`.
 pub record TriedFrames : Type 0 where
   pub taken : IsTaken (stated (first_typed ∷ (second_typed ∷ [])) (λ x y. true))
   pub other_order : IsTaken (stated (second_typed ∷ (first_typed ∷ [])) (λ x y. true))

@@ -1,5 +1,5 @@
--- How a text that is written statement by statement comes to justify a run. The laws hold of every text that fits, and
--- of the bytes that are appended to it.
+-- How a text that is written statement by statement comes to justify a run. The laws hold of every
+-- text that fits, and of the bytes that are appended to it.
 use Rattle.std.specs.Prelude.{◌≡◌, ℕ, ◌<◌, ◌≤◌, ◌^◌, true, false, List, [], ◌++◌, length, take, drop, Some}
 use Rattle.mm_text.specs.Bytes.{Token}
 use Rattle.mm_header.specs.HeaderText.{header_bytes}
@@ -23,12 +23,12 @@ use Rattle.mm_claims.specs.Keeping.{Fits, Gains}
 use Rattle.mm_claims.specs.Places.{MayProve, StatesLemma}
 use Rattle.mm_justify.specs.Justifying.{IsAssumed, HasOnlyAxiomsOf, Justifies, JustifiesRun}
 
--- the header has only axioms of each program
+-- the axioms of the header are axioms of every program
 abbrev pub HeaderHasOnly : Type 0
 HeaderHasOnly = (theory : RewriteTheory) → HasOnlyAxiomsOf theory header_bytes
 
--- A text that fits and has only a program's axioms still has only these with the declarations of more names after it,
--- which are the program's own tokens.
+-- A text that fits and has only the axioms of a program still has only these after the declarations
+-- of more names, if these names are the program's own tokens.
 abbrev pub DeclaredHasOnly : Type 0
 DeclaredHasOnly =
     (theory : RewriteTheory) (names : List Token) (k : Kept) (bytes : List ℕ) → AreNames names → AreDistinct names →
@@ -36,7 +36,7 @@ DeclaredHasOnly =
     Fits names k bytes → HasOnlyAxiomsOf theory bytes →
     HasOnlyAxiomsOf theory (bytes ++ written_statements (all_name_statements k.named (drop k.named names)))
 
--- And so it has with an axiom after it that the program may assume, whatever variables it binds.
+-- The same is true after an axiom that the program may assume, whatever variables it binds.
 abbrev pub AxiomHasOnly : Type 0
 AxiomHasOnly =
     (theory : RewriteTheory) (names : List Token) (old new : Kept) (s : Sentence) (p : Pattern)
@@ -45,8 +45,9 @@ AxiomHasOnly =
     (open_assertion false (take old.named names) old.count (claim_of [] p)) →
     Fits names old bytes → HasOnlyAxiomsOf theory bytes → HasOnlyAxiomsOf theory (bytes ++ appended)
 
--- And with a theorem after it. What was appended to the buffer at hand, in which the lemma was stated, does so after
--- every text that fits: so a file is written step by step, and no more of it need be held than the last step.
+-- The same is true after a theorem. What was appended to the buffer in which the lemma was stated
+-- can be appended to every text that fits. So a file is written step by step, and only the last
+-- step has to be held in memory.
 abbrev pub TheoremHasOnly : Type 0
 TheoremHasOnly =
     (theory : RewriteTheory) (names : List Token) (old new : Kept) (t : Theorem)
@@ -54,15 +55,15 @@ TheoremHasOnly =
     buffer' ≡ buffer ++ appended → MayProve names old t → Fits names old text → HasOnlyAxiomsOf theory text →
     HasOnlyAxiomsOf theory (text ++ appended)
 
--- .. and the text fits what is kept then.
+-- The text then fits what is kept.
 abbrev pub TheoremFitsAnywhere : Type 0
 TheoremFitsAnywhere =
     (names : List Token) (old new : Kept) (t : Theorem) (buffer buffer' text appended : List ℕ) →
     StatesLemma names old new t buffer buffer' → buffer' ≡ buffer ++ appended → MayProve names old t →
     Fits names old text → Fits names new (text ++ appended)
 
--- Where the theorem says, without hypotheses and variables, that one pattern reaches another, the text with it
--- justifies that.
+-- If the theorem says, without hypotheses and variables, that one pattern reaches another, the text
+-- with it justifies that.
 abbrev pub TheoremJustifies : Type 0
 TheoremJustifies =
     (theory : RewriteTheory) (names : List Token) (old new : Kept) (t : Theorem)
@@ -72,7 +73,7 @@ TheoremJustifies =
     EachLeaf (closed_over (take old.named names)) (imp a (ev b)) →
     Justifies (text ++ appended) theory (take old.named names) a b
 
--- Where a and b are the images of a start and an end, that justifies the run between them.
+-- If a and b are the images of a start and an end, this justifies the run between them.
 abbrev pub RunIsJustified : Type 0
 RunIsJustified =
     (theory : RewriteTheory) (names : List Token) (bytes : List ℕ) (start end : RulePattern) (a b : Pattern) →

@@ -7,9 +7,9 @@ ghost use Rattle.mm_justify.specs.JustifyingCases.{ConclusionIsNoAxiom, SmallJus
 ghost use Rattle.mm_justify.specs.JustifyingLaws.{AxiomHasOnly, DeclaredHasOnly, HeaderHasOnly, RunIsJustified};
 ghost use Rattle.mm_justify.specs.JustifyingLaws.{TheoremFitsAnywhere, TheoremHasOnly, TheoremJustifies};
 
-/// The definition says of a small text that it justifies a run; of an axiom that says that one symbol reaches another
-/// that no program has it; and of frames of an axiom with two variables which of them are taken.
-/// The images of what four small definitions say have the tokens that they should have.
+/// By the definition, a small text justifies a run, and no program has an axiom that one symbol
+/// reaches another. Frames of an axiom with two variables are accepted or not, as they should be.
+/// The images of what four small definitions say have the expected tokens.
 pub fn tried()
     ensures justifies { SmallJustifies }
     ensures refuses { ConclusionIsNoAxiom }
@@ -17,9 +17,10 @@ pub fn tried()
     ensures images { TriedImages }
 {}
 
-/// A text that fits and whose axioms are the header's rows, declarations and what a program may assume still has only
-/// these after declarations of the program's tokens, images of what it may assume, and theorems. It justifies a run of
-/// the program where its last theorem says that the start reaches the end.
+/// Take a text that fits, whose axioms are rows of the header, declarations and what a program may
+/// assume. It still has only such axioms after declarations of the program's tokens, images of what
+/// the program may assume, and theorems. It justifies a run of the program if its last theorem says
+/// that the start reaches the end.
 pub fn justifying_laws()
     ensures header { HeaderHasOnly }
     ensures declared { DeclaredHasOnly }
@@ -30,17 +31,17 @@ pub fn justifying_laws()
     ensures run { RunIsJustified }
 {}
 
-/// The image of a sentence has its sorts and constants among the names, and no pattern variables; that of a pattern
-/// without variables is closed over the names.
+/// The sorts and constants of the image of a sentence are among the names, and the image has no
+/// pattern variables. The image of a pattern without variables is closed over the names.
 pub fn image_laws()
     ensures over { SentenceIsOver }
     ensures metas { SentenceHasNoMeta }
     ensures closed { ImageIsClosed }
 {}
 
-/// What is counted of a text. A `$a` of a program is counted as a fact just where it has the frame of a true fact on
-/// built-ins. The header has 88 statements; declarations, images of what a program may assume, and theorems are one
-/// statement each.
+/// What is counted in a text. A `$a` of a program is counted as a fact if and only if it has the
+/// frame of a true fact on built-ins. The header has 88 statements. Each declaration, each image of
+/// what a program may assume, and each theorem is one statement.
 pub fn counting_laws()
     ensures facts { FactsAreTrue }
     ensures all_facts { TrueFactsAreFacts }

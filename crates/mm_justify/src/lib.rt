@@ -1,11 +1,13 @@
-//! What justifies that one pattern reaches another, and so a run of a program: a Metamath database that is valid,
-//! assumes nothing but the header's rows, declarations, what the program's definition says and true facts on its
-//! built-ins, and whose last theorem says just that (`specs/Justifying`; Chen and Rosu 2019).
+//! What justifies that one pattern reaches another, and so a run of a program: a valid Metamath
+//! database. It assumes only the rows of the header, declarations, what the definition of the
+//! program says, and true facts on its built-ins. Its last theorem says exactly that the one
+//! pattern reaches the other (`specs/Justifying`; Chen and Rosu 2019).
 //!
-//! It stands on claims and the texts that they fit (crate `mm_claims`), and on the images of what a definition says
-//! (crate `ml_image`), and knows nothing of who writes a text. `justifying_laws` say that a text that fits comes to
-//! justify a run by the statements that it gains; `image_laws`, what images a text has to declare names for. The laws
-//! are clauses of functions that do nothing.
+//! This crate uses claims and the texts that they fit (crate `mm_claims`), and the images of what a
+//! definition says (crate `ml_image`). It does not depend on who writes a text. `justifying_laws`
+//! says how a text that fits comes to justify a run by the statements that it gains. `image_laws`
+//! says which names a text has to declare for an image. The laws are clauses of functions that do
+//! nothing.
 #![tactic(auto)]
 
 mod laws;

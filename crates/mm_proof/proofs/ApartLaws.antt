@@ -1,4 +1,4 @@
--- Texts without a variable in common.
+-- Texts without a common variable.
 use Rattle.std.proofs.Common.{◌≡◌, ℕ, Bool, true, false, List, [], ◌∷◌, refl, ap, ◌∙◌, sym, eq-eqb, eqb-true}
 use Rattle.std.proofs.lemmas.Bool.{false≢true}
 use Rattle.std.specs.Prelude.{◌==◌, ◌&&◌, ◌||◌, not, map, bytes_eq}
@@ -20,7 +20,7 @@ first_constant false b e s h = refl
 constant_first : (a b : Bool) (e s : Bool) → a ≡ false → (not (a && b) || (e && s)) ≡ true
 constant_first a b e s h = rw h refl
 
--- a constant stays apart from all
+-- a constant is apart from every symbol
 pub apart-constant : (c : Context) (x t : Token) → c.variables t ≡ false → symbols_apart c x t ≡ true
 apart-constant c x t h = first_constant (c.variables x) (c.variables t) (not (bytes_eq x t)) (c.scope.apart x t) h
 
@@ -57,7 +57,7 @@ apart_fixed c x (t ∷ ts) h =
     others [] = []
     others (b ∷ bs) = bs
 
--- an object variable stays apart from a pattern in which it does not stand
+-- an object variable is apart from a pattern in which it does not occur
 pub text_apart : (c : Context) (l n : Naming) (known : LeafFacts) (x : ℕ) (p : Pattern) → Serves c l n known → known.object x → EachLeaf (other_leaves x known) p → texts_apart (symbols_apart c) (n.object x ∷ []) (text_by (letters_of n) p) ≡ true
 text_apart c l n known x p w hx h =
     both_true (list_all (symbols_apart c (n.object x)) (text_by (letters_of n) p)) true

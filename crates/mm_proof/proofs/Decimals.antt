@@ -21,6 +21,6 @@ list_all-decimal test digit n h =
     (λ m small. both_true (test (48 + m)) true (digit m small) refl)
     (λ m ds large below. list_all-append test ds ((48 + m % 10) ∷ []) below (both_true (test (48 + m % 10)) true (digit (m % 10) (omega arith)) refl)) n h
 
--- numbers with the same digits are one
+-- numbers with the same digits are equal
 pub decimal-same : (m n : ℕ) → m < 2 ^ 64 → n < 2 ^ 64 → decimal m ≡ decimal n → m ≡ n
 decimal-same m n h k same = sym (decimal_is_IsNumeral m h).1 ∙ ap (digits_value 10) same ∙ (decimal_is_IsNumeral n k).1

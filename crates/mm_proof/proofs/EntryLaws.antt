@@ -26,7 +26,7 @@ how_many-append : (front trees : List ProofTree) → how_many (trees_of (front +
 how_many-append [] trees = omega (arith, how_many-of trees)
 how_many-append (t ∷ front) trees = omega (arith, how_many-append front trees)
 
--- the labels of trees under a label, where some of them stand in front of the others
+-- the labels of trees under a label, where some of the trees come before the others
 pub cite_entries : (label : Token) (n : ℕ) (front trees : List ProofTree) → n ≡ length front + length trees
     → entries_of (cite label (front ++ trees)) ≡ all_entries front ++ (all_entries trees ++ record { label = label; takes = n } ∷ [])
 cite_entries label n front trees count =
@@ -58,7 +58,7 @@ rule_entries k r is trees n count =
     ∙ ap (λ (es : List Entry). instance_entries k is ++ (es ++ last)) (flat_map-append entries_of before (trees ++ behind) ∙ ap (λ (es : List Entry). all_entries before ++ es) (flat_map-append entries_of trees behind))
     ∙ ap (λ (es : List Entry). instance_entries k is ++ es) (append_assoc (all_entries before) (all_entries trees ++ all_entries behind) last ∙ ap (λ (es : List Entry). all_entries before ++ es) (append_assoc (all_entries trees) (all_entries behind) last))
 
--- ---- the labels alone
+-- ---- only the labels
 
 labels_in-append : (xs ys : List Entry) → labels_in (xs ++ ys) ≡ labels_in xs ++ labels_in ys
 labels_in-append [] ys = refl
@@ -74,7 +74,7 @@ mutual
   labels_of_forest (more_proofs tree trees) =
       labels_in-append (entries_of tree) (entries_below trees) ∙ ap (λ (ts : List Token). ts ++ labels_in (entries_below trees)) (labels_of_tree tree) ∙ ap (λ (ts : List Token). postorder tree ++ ts) (labels_of_forest trees)
 
--- after the tokens of a part others
+-- the tokens of a part, and others after them
 behind_part : (xs ys : List Entry) (ts us : List Token) → labels_in xs ≡ ts → labels_in ys ≡ us → labels_in (xs ++ ys) ≡ ts ++ us
 behind_part xs ys ts us h k = labels_in-append xs ys ∙ ap (λ (vs : List Token). vs ++ labels_in ys) h ∙ ap (λ (vs : List Token). ts ++ vs) k
 

@@ -24,7 +24,7 @@ fresh_text n x p = judgement_by (letters_of n) (is_fresh x p)
 pub two_apart : (a b : Bool) → a ≡ true → b ≡ true → ((a && true) && ((b && true) && true)) ≡ true
 two_apart a b h k = rw (h, k) refl
 
--- a variable that does not stand in a pattern is not free in it
+-- a variable that does not occur in a pattern is not free in it
 pub absent_proves : (c : Context) (l n : Naming) (known : LeafFacts) (x : ℕ) (p : Pattern) → Serves c l n known → known.object x → EachLeaf known p → EachLeaf (other_leaves x known) p
     → Proves c (absent_tree l x p) (fresh_text n x p)
 absent_proves c l n known x p w hx hp other =
@@ -56,7 +56,7 @@ fresh_sort c l n name k x p s known w row same hx hp hs below =
     row_proves c name no_pair (fp ∷ fx ∷ fs ∷ []) (is_fresh 0 P ∷ []) (is_fresh 0 (k P 0)) (pattern_text n p ∷ object_text n x ∷ sort_text n s ∷ fresh_text n x p ∷ []) _ (syntax_tree l p ∷ cite (l.object x) [] ∷ cite (l.sort s) [] ∷ fresh_tree l x p ∷ []) w.header row refl refl refl same
     (_, _, refl, syntax_proves c l n p known w hp, (_, _, refl, object_proves c l n x (w.object x hx), (_, _, refl, sort_proves c l n s (w.sort s hs), (_, _, refl, below, refl))))
 
--- under a quantifier of the same variable, and of another
+-- under a quantifier of the same variable, and of another one
 fresh_bound : (c : Context) (l n : Naming) (name : Token) (k : ℕ → ℕ → Pattern → Pattern) (x s : ℕ) (p : Pattern) (known : LeafFacts) → Serves c l n known → IsRow name no_pair (fp ∷ fx ∷ fs ∷ []) ([]) (is_fresh 0 (k 0 0 P))
     → judgement_by (under (sigma_of name (fp ∷ fx ∷ fs ∷ []) ([]) (pattern_text n p ∷ object_text n x ∷ sort_text n s ∷ [])) header_naming) (is_fresh 0 (k 0 0 P)) ≡ fresh_text n x (k x s p)
     → known.object x → EachLeaf known p → known.sort s
@@ -83,12 +83,12 @@ fresh_quantified c l n bound other k x y s p same differ = go (x == y) refl
     go true is = subst (λ (z : ℕ). Proves c (cite bound (syntax_tree l p ∷ cite (l.object x) [] ∷ cite (l.sort s) [] ∷ [])) (fresh_text n x (k z s p))) (eqb-true x y is) same
     go false is = differ is
 
--- of two tests, the second holds where the first does not
+-- the second of two tests is true if the first is not
 pub second_holds : (a b : Bool) → a ≡ false → (a || b) ≡ true → b ≡ true
 second_holds true b h k = absurd (false≢true (sym h))
 second_holds false b h k = k
 
--- what is proved by its form is proved, be it by one row for the whole
+-- what is proved by its form is proved, even if one row proves the whole
 whole_or_form : (c : Context) (l n : Naming) (known : LeafFacts) (x : ℕ) (p : Pattern) → Serves c l n known → known.object x → EachLeaf known p → Proves c (fresh_by_form l x p) (fresh_text n x p) → Proves c (fresh_tree l x p) (fresh_text n x p)
 whole_or_form c l n known x p w hx h below = go (absent x p) refl
   where

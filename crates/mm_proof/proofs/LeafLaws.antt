@@ -26,7 +26,7 @@ tested_leaves test n = record {
   meta = λ i. test (n.meta i) ≡ true;
 }
 
--- each constant of the header passes it
+-- each constant of the header passes the test
 abbrev pub PassFixed : (Token → Bool) → Type 0
 PassFixed test = map test punctuation ≡ map (λ t. true) punctuation
 

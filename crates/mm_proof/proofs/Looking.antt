@@ -38,7 +38,7 @@ two_left x p q old mid new first second =
           omega (arith, e, g)),
     )
 
--- one look more
+-- one more pattern was searched
 pub looked : (x : ℕ) (next : Bor Pattern) (before popped new : List (Bor Pattern)) (going whole : Bool) → before ≡ popped ++ next ∷ [] → all_absent x (patterns_of before) ≡ whole
     → IsLeft x (absent x next.now) (forms_in next.now) popped new going → (going && all_absent x (patterns_of new)) ≡ whole
 looked x next before popped new going whole is invariant left =

@@ -1,4 +1,4 @@
--- The frames of the header's rows of proof, as schemes over patterns.
+-- The frames of the proof rows of the header, as schemes over patterns.
 use Rattle.std.proofs.Common.{refl, [], ◌∷◌}
 use Rattle.std.specs.Prelude.{codes}
 use Rattle.mm_header.specs.Header.{header_rows}

@@ -11,7 +11,7 @@ use Rattle.mm_proof.specs.Serving.{HasHeader}
 use Rattle.mm_proof.proofs.Schemes.{Leaves, under, judgement-under, leads-by}
 use Rattle.mm_proof.proofs.Rows.{header_naming, premises, frame, IsRow}
 
--- the substitution that entries say
+-- the substitution that entries define
 abbrev pub sigma_of : Token → List Hypothesis → List Judgement → List Expression → Token → Expression
 sigma_of name floats js es = text_of (bindings_of (floats ++ premises name 0 js) es)
 
@@ -40,7 +40,7 @@ row_proves c name pairs floats js j es result trees header row same apart leaves
       all,
     )
 
--- proofs in a row
+-- proofs one after another
 pub all_proofs : (c : Context) (xs ys : List ProofTree) (es fs : List Expression) → AllProve c (trees_of xs) es → AllProve c (trees_of ys) fs → AllProve c (trees_of (xs ++ ys)) (es ++ fs)
 all_proofs c [] ys es fs h k = rw h k
 all_proofs c (x ∷ xs) ys es fs (first, rest, is, proof, all) k =

@@ -8,7 +8,8 @@ use Rattle.mm_header.specs.HeaderContext.{header_context, header_labels, frame_o
 use Rattle.ml_pat.specs.Patterns.{Pattern, bot, top, imp, not, and, or, equal, member, fun, ex, all, app, at_sort, next, ev, var, meta}
 use Rattle.mm_proof.specs.Tokens.{Naming, letters_of, Judgement, is_pattern, is_fresh, is_substituted, is_predicate, judgement_by}
 
--- the variables of the header: `p q r t u` are pattern variables, `x y` object variables and `s v` sorts
+-- the variables of the header: `p q r t u` are pattern variables, `x y` object variables and `s v`
+-- sorts
 abbrev pub header_naming : Naming
 header_naming = record {
   sort = λ i. if i == 0 then codes "s" else codes "v";
@@ -75,11 +76,11 @@ frame name pairs floats js j = record { label = name; hypotheses = floats ++ pre
 abbrev pub no_pair : Token → Token → Bool
 no_pair = λ a b. false
 
--- the header has such a row
+-- the header has this row
 abbrev pub IsRow : Token → (Token → Token → Bool) → List Hypothesis → List Judgement → Judgement → Type 0
 IsRow name pairs floats js j = header_context.frames name ≡ Some (frame name pairs floats js j)
 
--- the pairs of a row that parts two variables
+-- the pairs of a row with two variables that have to stay apart
 abbrev pub pair_of : Token → Token → Token → List (List ℕ) → List ℕ → Token → Token → Bool
 pair_of x y name given what = (frame_of_row (rule_apart x y name given what)).apart
 

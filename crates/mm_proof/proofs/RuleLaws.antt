@@ -1,4 +1,4 @@
--- A rule over proofs of what it concludes from proves what it concludes.
+-- A rule over proofs of its premises proves its conclusion.
 use Rattle.std.proofs.Common.{List, [], ◌∷◌, ◌++◌, refl, map, subst, sym, append-nil}
 use Rattle.std.specs.Prelude.{codes}
 use Rattle.mm_database.specs.Database.{Context}
@@ -28,7 +28,7 @@ use Rattle.mm_proof.proofs.ProofRowFrames.{row_p_1, row_p_2, row_p_3, row_mp, ro
 abbrev below : Naming → Rule → List Instance → List ProofTree → List ProofTree
 below l r is trees = map (instance_tree l) is ++ (trees_before l r is ++ (trees ++ trees_behind l r is))
 
--- where no judgement stands after them
+-- if there is no judgement after them
 unbehind : (c : Context) (trees : List ProofTree) (es : List Expression) → AllProve c (trees_of trees) es → AllProve c (trees_of (trees ++ [])) es
 unbehind c trees es h = subst (λ (ts : List ProofTree). AllProve c (trees_of ts) es) (sym (append-nil trees)) h
 

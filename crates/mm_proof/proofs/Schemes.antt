@@ -11,11 +11,11 @@ use Rattle.ml_pat.specs.Patterns.{Pattern, bot, top, imp, not, and, or, equal, m
 use Rattle.mm_proof.specs.Tokens.{Naming, Letters, letters_of, bracket, text_by, Judgement, is_pattern, holds, is_fresh, is_substituted, is_predicate, judgement_by}
 use Rattle.mm_proof.specs.Serving.{IsAssertion, punctuation}
 
--- a substitution leaves the constants of the header
+-- a substitution does not change the constants of the header
 abbrev pub Leaves : (Token → Expression) → Type 0
 Leaves sigma = map sigma punctuation ≡ map (λ t. t ∷ []) punctuation
 
--- what the substitution gives the leaves
+-- the texts that the substitution gives the leaves
 abbrev pub under : (Token → Expression) → Naming → Letters
 under sigma n = record {
   sort = λ i. sigma (n.sort i);
@@ -24,7 +24,7 @@ under sigma n = record {
   meta = λ i. sigma (n.meta i);
 }
 
--- the substitution leaves the constant at a place
+-- the substitution does not change the constant at a place
 left : (sigma : Token → Expression) → Leaves sigma → (i : ℕ) → slice_index_or (map sigma punctuation) i [] ≡ slice_index_or (map (λ t. t ∷ []) punctuation) i []
 left sigma h i = ap (λ (es : List Expression). slice_index_or es i []) h
 
@@ -40,11 +40,11 @@ bracket_law sigma k xs ys h this same =
 closing : (sigma : Token → Expression) → Leaves sigma → substituted sigma bracket ≡ bracket
 closing sigma h = ap (λ e. e ++ []) (left sigma h 1)
 
--- arguments one after the other
+-- arguments one after another
 behind : (sigma : Token → Expression) (xs ys xs' ys' : Expression) → substituted sigma xs ≡ xs' → substituted sigma ys ≡ ys' → substituted sigma (xs ++ ys) ≡ xs' ++ ys'
 behind sigma xs ys xs' ys' h k = substituted-append sigma xs ys ∙ ap (λ e. e ++ substituted sigma ys) h ∙ ap (λ e. xs' ++ e) k
 
--- a leaf, and what is after it
+-- a leaf, and what comes after it
 leaf : (sigma : Token → Expression) (t : Token) (ys ys' : Expression) → substituted sigma ys ≡ ys' → substituted sigma ((t ∷ []) ++ ys) ≡ sigma t ++ ys'
 leaf sigma t ys ys' h = ap (λ e. sigma t ++ e) h
 
@@ -55,7 +55,8 @@ single sigma t = append-nil-of (sigma t)
     append-nil-of [] = refl
     append-nil-of (x ∷ xs) = ap (λ e. x ∷ e) (append-nil-of xs)
 
--- the text of a pattern under a substitution is its text with what the substitution gives its leaves
+-- the text of a pattern under a substitution is its text with its leaves replaced by what the
+-- substitution gives them
 pub text-under : (sigma : Token → Expression) (n : Naming) → Leaves sigma → (p : Pattern) → substituted sigma (text_by (letters_of n) p) ≡ text_by (under sigma n) p
 text-under sigma n h bot = ap (λ e. e ++ []) (left sigma h 2)
 text-under sigma n h top = ap (λ e. e ++ []) (left sigma h 3)
@@ -76,7 +77,7 @@ text-under sigma n h (var x) = single sigma (n.object x)
 text-under sigma n h (meta i) = single sigma (n.meta i)
 text-under sigma n h (constant c) = single sigma (n.constant c)
 
--- and so is the text of a judgement
+-- the same is true of the text of a judgement
 pub judgement-under : (sigma : Token → Expression) (n : Naming) → Leaves sigma → (j : Judgement) → substituted sigma (judgement_by (letters_of n) j) ≡ judgement_by (under sigma n) j
 judgement-under sigma n h (is_pattern p) = ap (λ e. e ++ substituted sigma (text_by (letters_of n) p)) (left sigma h 17) ∙ ap (λ e. codes "#Pattern" ∷ e) (text-under sigma n h p)
 judgement-under sigma n h (holds p) = ap (λ e. e ++ substituted sigma (text_by (letters_of n) p)) (left sigma h 21) ∙ ap (λ e. codes "|-" ∷ e) (text-under sigma n h p)
@@ -86,7 +87,7 @@ judgement-under sigma n h (is_substituted t p u x) =
     ∙ ap (λ e. codes "#Sub" ∷ e) (behind sigma (text_by (letters_of n) t) (text_by (letters_of n) p ++ (text_by (letters_of n) u ++ n.object x ∷ [])) _ _ (text-under sigma n h t) (behind sigma (text_by (letters_of n) p) (text_by (letters_of n) u ++ n.object x ∷ []) _ _ (text-under sigma n h p) (behind sigma (text_by (letters_of n) u) (n.object x ∷ []) _ _ (text-under sigma n h u) (single sigma (n.object x)))))
 judgement-under sigma n h (is_predicate p) = ap (λ e. e ++ substituted sigma (text_by (letters_of n) p)) (left sigma h 20) ∙ ap (λ e. codes "#Pred" ∷ e) (text-under sigma n h p)
 
--- what is not bound stays
+-- a symbol that is not bound stays the same
 pub text_of-other : (hypotheses : List Hypothesis) (entries : List Expression) (t : Token) → list_any (types t) hypotheses ≡ false → text_of (bindings_of hypotheses entries) t ≡ t ∷ []
 text_of-other [] entries t h = refl
 text_of-other (h ∷ hypotheses) [] t other = refl
@@ -97,7 +98,8 @@ text_of-other (floating label typecode variable ∷ hypotheses) (entry ∷ entri
     go false h behind = behind h
 text_of-other (essential label statement ∷ hypotheses) (entry ∷ entries) t other = text_of-other hypotheses entries t other
 
--- an assertion leads from expressions, under the substitution that they say, to its statement
+-- an assertion leads from expressions to its statement, under the substitution that the expressions
+-- define
 pub leads-by : (c : Context) (label : Token) (f : Frame) (given : List Expression) (result : Expression) → IsAssertion c label f
     → given ≡ map (instance_of (text_of (bindings_of f.hypotheses given))) f.hypotheses → keeps_apart (symbols_apart c) f (text_of (bindings_of f.hypotheses given)) ≡ true
     → substituted (text_of (bindings_of f.hypotheses given)) f.statement ≡ result → Leads c label given result

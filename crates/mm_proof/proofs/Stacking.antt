@@ -47,7 +47,7 @@ put_label w n old new is names k = (
   (let e : stack_weight names k new ≡ stack_weight names k old + 1 = ap (stack_weight names k) is ∙ stack_weight-push names k old (work.Taking w n) in omega (arith, e)),
 )
 
--- one more work in front of some
+-- one more work before others
 pub put_more : (f g : List Token → ℕ → List Entry) (w : Work) (old mid new : List Work) → PutsMore f old mid → new ≡ mid ++ w ∷ [] → ((names : List Token) (k : ℕ) → g names k ≡ work_entries names k w ++ f names k) → PutsMore g old new
 put_more f g w old mid new h is same names k = (
   ap (stack_entries names k) is ∙ stack_entries-push names k mid w ∙ ap (λ ts. work_entries names k w ++ ts) (h names k).0 ∙ sym (append_assoc (work_entries names k w) (f names k) (stack_entries names k old)) ∙ ap (λ ts. ts ++ stack_entries names k old) (sym (same names k)),
@@ -56,7 +56,7 @@ put_more f g w old mid new h is same names k = (
       omega (arith, e, n, weight-le names k w, (h names k).1)),
 )
 
--- works in front of others, of which one is a word
+-- works before others, at least one of which is a word
 pub put_front : (f g h : List Token → ℕ → List Entry) (old mid new : List Work) → PutsOn f old mid → PutsMore g mid new → ((names : List Token) (k : ℕ) → h names k ≡ g names k ++ f names k) → PutsOn h old new
 put_front f g h old mid new first rest same names k = (
   (rest names k).0 ∙ ap (λ ts. g names k ++ ts) (first names k).0 ∙ sym (append_assoc (g names k) (f names k) (stack_entries names k old)) ∙ ap (λ ts. ts ++ stack_entries names k old) (sym (same names k)),
@@ -67,7 +67,7 @@ put_front f g h old mid new first rest same names k = (
 pub put_none : (old : List Work) (f : List Token → ℕ → List Entry) → ((names : List Token) (k : ℕ) → f names k ≡ []) → PutsMore f old old
 put_none old f none names k = (ap (λ ts. ts ++ stack_entries names k old) (sym (none names k)), omega arith)
 
--- what is left of a list from one place before
+-- the rest of a list, from one place earlier on
 pub drop_at : {A : Type 0} (ws : List A) (i : ℕ) (w : A) → 0 < i → i ≤ length ws → w ≡ get_or ws (i - 1) w → drop (i - 1) ws ≡ w ∷ drop i ws
 drop_at ws i w some within is =
     let lt : i - 1 < length ws = omega arith in
@@ -82,7 +82,7 @@ pub both_ok : {A E : Type 0} {P Q R : Type 0} (r : Result A E) → (P → Q → 
 both_ok (Ok a) f p q = f p q
 both_ok (Err e) f p q = tt
 
--- a step of listing
+-- one step of listing
 pub listed_next : (names : List Token) (k : ℕ) (w : Work) (before popped new : List Work) (start labels labels' : List Label) (all : List Entry) → before ≡ popped ++ w ∷ [] → IsTaken names k w popped new labels labels'
     → listed names k labels ++ stack_entries names k before ≡ listed names k start ++ all → listed names k labels' ++ stack_entries names k new ≡ listed names k start ++ all
 listed_next names k w before popped new start labels labels' all is taken invariant =

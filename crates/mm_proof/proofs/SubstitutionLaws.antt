@@ -20,7 +20,7 @@ use Rattle.mm_proof.proofs.ApartLaws.{turned}
 use Rattle.mm_proof.proofs.FreshLaws.{fresh_text, fresh_proves, two_apart}
 use Rattle.mm_proof.proofs.Rows.{header_naming, no_pair, pair_of, IsRow, P, Q, R, T, U, fp, fq, fr, ft, fu, fx, fy, fs, su_v, su_f, su_imp, su_and, su_or, su_eq, su_mem, su_app, su_not, su_next, su_ev, su_at, su_fun, su_ex, su_all}
 
--- t is p with u for x
+-- t is p with u substituted for x
 abbrev pub substitution_text : Naming → Pattern → Pattern → Pattern → ℕ → Expression
 substitution_text n t p u x = judgement_by (letters_of n) (is_substituted t p u x)
 
@@ -79,7 +79,7 @@ substituted_all c l n known x y s u p t w hx hy hs hu hp ht differ f below =
     (two_apart (texts_apart (symbols_apart c) (n.object x ∷ []) (n.object y ∷ [])) (texts_apart (symbols_apart c) (n.object y ∷ []) (n.object x ∷ [])) (parted_texts c (n.object x) (n.object y) (w.objects_apart x y hx hy differ)) (parted_texts c (n.object y) (n.object x) (w.objects_apart y x hy hx (turned x y differ))))
     refl refl (_, _, refl, syntax_proves c l n p known w hp, (_, _, refl, syntax_proves c l n t known w ht, (_, _, refl, syntax_proves c l n u known w hu, (_, _, refl, object_proves c l n x (w.object x hx), (_, _, refl, object_proves c l n y (w.object y hy), (_, _, refl, sort_proves c l n s (w.sort s hs), (_, _, refl, fresh_proves c l n known y u w hy hu f, (_, _, refl, below, refl))))))))
 
--- what an option that is there was made of
+-- an option with a value was made from options with values
 
 pub record BothParts (k : Pattern → Pattern → Pattern) (a b : Option Pattern) (r : Pattern) : Type 0 where
   pub first : Pattern
@@ -108,7 +108,7 @@ none_some r h = cc
 some_same : (p r : Pattern) → Some p ≡ Some r → p ≡ r
 some_same p r h = cc
 
--- where x is not free, nothing changes
+-- if x is not free, nothing changes
 
 joined : (k : Pattern → Pattern → Pattern) (p q : Pattern) (a b : Option Pattern) → a ≡ Some p → b ≡ Some q → both_parts k a b ≡ Some (k p q)
 joined k p q a b e g = rw (e, g) refl
@@ -133,11 +133,11 @@ substituted-fresh (ex y s p) x u f = ap (λ (b : Bool). if b then Some (ex y s p
 substituted-fresh (all y s p) x u f = ap (λ (b : Bool). if b then Some (all y s p) else (if fresh y u then option_map (all y s) (substituted p x u) else None)) f
 substituted-fresh (var y) x u f = ap (λ (b : Bool). if b then Some u else Some (var y)) (not_true (x == y) f)
 
--- a pattern with u for x, where it stays as it is
+-- a pattern with u substituted for x, if it stays the same
 unchanged_law : (c : Context) (l n : Naming) (known : LeafFacts) (x : ℕ) (u p r : Pattern) → Serves c l n known → known.object x → EachLeaf known u → EachLeaf known p → fresh x p ≡ true → Some p ≡ Some r → Proves c (unchanged_tree l x u p) (substitution_text n r p u x)
 unchanged_law c l n known x u p r w hx hu hp f same = subst (λ (t : Pattern). Proves c (unchanged_tree l x u p) (substitution_text n t p u x)) (some_same p r same) (unchanged_proves c l n known x u p w hx hu hp f)
 
--- where it changes, it is proved by its form
+-- if it changes, it is proved by its form
 whole_or_form : (c : Context) (l n : Naming) (known : LeafFacts) (x : ℕ) (u p r : Pattern) → Serves c l n known → known.object x → EachLeaf known u → EachLeaf known p → substituted p x u ≡ Some r
     → (fresh x p ≡ false → Proves c (substitution_by_form l x u p r) (substitution_text n r p u x))
     → Proves c (substitution_tree l x u p r) (substitution_text n r p u x)

@@ -15,7 +15,7 @@ use Rattle.mm_proof.proofs.Schemes.{leads-by, under}
 use Rattle.mm_proof.proofs.Rows.{header_naming, no_pair, IsRow, P, Q, fp, fq, fx, fs, w_var, w_bot, w_top, w_imp, w_and, w_or, w_eq, w_mem, w_app, w_not, w_next, w_ev, w_at, w_fun, w_ex, w_all}
 use Rattle.mm_proof.proofs.RowProofs.{sigma_of, row_proves}
 
--- what is written of the parts of a statement
+-- what is written for the parts of a statement
 abbrev pub pattern_text : Naming → Pattern → Expression
 pattern_text n p = judgement_by (letters_of n) (is_pattern p)
 
@@ -25,7 +25,7 @@ sort_text n s = codes "#Sort" ∷ (n.sort s ∷ [])
 abbrev pub object_text : Naming → ℕ → Expression
 object_text n x = codes "#Var" ∷ (n.object x ∷ [])
 
--- a declaration and a `$f` prove what they say
+-- a declaration and a `$f` prove what they state
 pub declared_proves : (c : Context) (typecode label token : Token) → Declares c typecode label token → Proves c (cite label []) (typecode ∷ (token ∷ []))
 declared_proves c typecode label token h = ([], leads-by c label (closed_frame label (typecode ∷ (token ∷ []))) [] (typecode ∷ (token ∷ [])) h.stated refl refl refl, refl)
 
@@ -38,7 +38,7 @@ sort_proves c l n s h = declared_proves c (codes "#Sort") (l.sort s) (n.sort s) 
 pub object_proves : (c : Context) (l n : Naming) (x : ℕ) → Types c (codes "#Var") (l.object x) (n.object x) → Proves c (cite (l.object x) []) (object_text n x)
 object_proves c l n x h = typed_proves c (codes "#Var") (l.object x) (n.object x) h
 
--- connectives on two patterns, on one, on a pattern and a sort, and quantifiers
+-- the connectives on two patterns, on one pattern, and on a pattern and a sort; and the quantifiers
 two_part : (c : Context) (l n : Naming) (name : Token) (k : Pattern → Pattern → Pattern) (p q : Pattern) → HasHeader c → IsRow name no_pair (fp ∷ fq ∷ []) [] (is_pattern (k P Q))
     → judgement_by (under (sigma_of name (fp ∷ fq ∷ []) [] (pattern_text n p ∷ pattern_text n q ∷ [])) header_naming) (is_pattern (k P Q)) ≡ pattern_text n (k p q)
     → Proves c (syntax_tree l p) (pattern_text n p) → Proves c (syntax_tree l q) (pattern_text n q)

@@ -1,4 +1,4 @@
--- Statements that are written one after the other.
+-- Statements that are written one after another.
 use Rattle.std.proofs.Common.{◌≡◌, ℕ, List, [], ◌∷◌, ◌++◌, zero, suc, refl, ap, ◌∙◌, sym, append_assoc, append-nil, slice_get}
 use Rattle.std.specs.Prelude.{unwrap_or, slice_index_or}
 use Rattle.mm_text.specs.Bytes.{Token}

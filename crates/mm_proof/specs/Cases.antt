@@ -1,4 +1,4 @@
--- Small patterns with their tokens and proofs.
+-- Small patterns, with their tokens and proofs.
 use Rattle.std.specs.Prelude.{◌≡◌, ◌==◌, if◌then◌else◌, [], ◌∷◌, codes}
 use Rattle.mm_database.specs.Proofs.{postorder}
 use Rattle.ml_pat.specs.Patterns.{bot, imp, app, all, ex, fun, equal, next, var, constant}

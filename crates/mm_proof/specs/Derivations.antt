@@ -1,5 +1,5 @@
--- What proof a derivation is written as, by recursion. How hypotheses, axioms and lemmas are cited is a matter of the
--- statement in which it stands; a rule is its label over the proofs of what it concludes from.
+-- The proof that is written for a derivation, by recursion. How hypotheses, axioms and lemmas are
+-- cited depends on the statement of the proof. A rule is its label over the proofs of its premises.
 use Rattle.std.specs.Prelude.{ℕ, List, [], ◌∷◌}
 use Rattle.mm_database.specs.Proofs.{Expression, ProofTree}
 use Rattle.ml_pat.specs.Patterns.{Pattern}
@@ -7,11 +7,12 @@ use Rattle.ml_kernel.specs.Theorems.{Derivation, Derivations, hypothesis, own_ax
 use Rattle.mm_proof.specs.Tokens.{Naming, letters_of, holds, judgement_by}
 use Rattle.mm_proof.specs.Trees.{rule_tree}
 
--- what is written of a pattern that holds
+-- what is written to say that a pattern holds
 abbrev pub holds_text : Naming → Pattern → Expression
 holds_text n p = judgement_by (letters_of n) (holds p)
 
--- The proofs that cite a hypothesis, an axiom under new numbers of its bound variables, and a lemma with its hypotheses and conclusion, at patterns for its
+-- The proofs that cite a hypothesis, an axiom and a lemma. An axiom is cited with new numbers for
+-- its bound variables. A lemma is cited by its hypotheses and conclusion, at patterns for its
 -- pattern variables, over proofs of its hypotheses.
 pub record Citing : Type 0 where
   pub premise : Pattern → ProofTree

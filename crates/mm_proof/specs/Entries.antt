@@ -1,5 +1,5 @@
--- The labels of a proof in the order in which they are written, each with the number of proofs that it takes: those of
--- the trees right below it, which stand in front of it.
+-- The labels of a proof in the order in which they are written. Each label has the number of proofs
+-- that it takes: those of the trees directly below it, which come before it.
 use Rattle.std.specs.Prelude.{ℕ, suc, List, [], ◌∷◌, ◌++◌, flat_map, map}
 use Rattle.mm_text.specs.Bytes.{Token}
 use Rattle.mm_database.specs.Proofs.{ProofTree, proof_node, ProofForest, no_proof, more_proofs}
@@ -11,7 +11,7 @@ pub record Entry : Type 0 where
   pub label : Token
   pub takes : ℕ
 
--- how many trees stand below a label
+-- how many trees are directly below a label
 abbrev pub how_many : ProofForest → ℕ
 how_many no_proof = 0
 how_many (more_proofs tree trees) = suc (how_many trees)
@@ -24,13 +24,13 @@ abbrev mutual
   entries_below no_proof = []
   entries_below (more_proofs tree trees) = entries_of tree ++ entries_below trees
 
--- of trees one after the other, and of what stands for the variables of a rule
+-- the labels of trees one after another, and of what is substituted for the variables of a rule
 abbrev pub all_entries : List ProofTree → List Entry
 all_entries trees = flat_map entries_of trees
 
 abbrev pub instance_entries : ℕ → List Instance → List Entry
 instance_entries k is = flat_map (λ i. entries_of (instance_tree (own_labels k) i)) is
 
--- the labels alone
+-- only the labels
 abbrev pub labels_in : List Entry → List Token
 labels_in entries = map (λ e. e.label) entries

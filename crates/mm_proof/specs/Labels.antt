@@ -1,5 +1,6 @@
--- The labels of a renderer's own: a letter, a dot and a number, and what belongs to a statement has that statement's number
--- and one of its own. A math symbol of a proof file has no such form, nor has a label of the header.
+-- The labels that a renderer makes: a letter, a dot and a number. A label that belongs to a
+-- statement has the number of that statement and a number of its own. No math symbol of a proof
+-- file and no label of the header has such a form.
 use Rattle.std.specs.Prelude.{ℕ, ◌∷◌, ◌++◌, codes, decimal}
 use Rattle.mm_text.specs.Bytes.{Token}
 use Rattle.mm_proof.specs.Tokens.{Naming}

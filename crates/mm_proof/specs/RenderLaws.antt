@@ -1,5 +1,5 @@
--- What the written proofs prove: the labels, in postorder, are a proof of the statement in every database that has the
--- header and the declarations that they cite.
+-- What the written proofs prove. The labels, in postorder, are a proof of the statement in every
+-- database that has the header and the declarations that they cite.
 use Rattle.std.specs.Prelude.{◌≡◌, ℕ, true, IsTrue, List, map, Some}
 use Rattle.mm_database.specs.Database.{Context}
 use Rattle.mm_database.specs.Proofs.{ProofTree, AllProve, IsProof, postorder}
@@ -24,7 +24,7 @@ PatternsParse =
     (c : Context) (l n : Naming) (known : Known) (p : Pattern) → Serves c l n (are_known known) → EachLeaf (are_known known) p →
     IsWritten c n (syntax_tree l p) (is_pattern p)
 
--- the judgements on patterns have the proofs that are written for them
+-- the proofs that are written for the judgements on patterns prove them
 abbrev pub FreshnessIsProved : Type 0
 FreshnessIsProved =
     (c : Context) (l n : Naming) (known : Known) (x : ℕ) (p : Pattern) → Serves c l n (are_known known) → IsTrue (known.object x) → EachLeaf (are_known known) p →
@@ -41,7 +41,7 @@ PredicatesAreProved =
     (c : Context) (l n : Naming) (known : Known) (p : Pattern) → Serves c l n (are_known known) → EachLeaf (are_known known) p → predicate p ≡ true →
     IsWritten c n (predicate_tree l p) (is_predicate p)
 
--- a rule over proofs of what it concludes from is a proof of what it concludes
+-- a rule over proofs of its premises is a proof of its conclusion
 abbrev pub RulesAreProved : Type 0
 RulesAreProved =
     (c : Context) (l n : Naming) (known : Known) (r : Rule) (is : List Instance) (ps : List Pattern) (q : Pattern) (trees : List ProofTree) →

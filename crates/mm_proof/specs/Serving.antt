@@ -1,4 +1,4 @@
--- What a database has to have declared where a proof stands.
+-- What a database must have declared at the place of a proof.
 use Rattle.std.specs.Prelude.{◌≡◌, ◌==◌, ℕ, true, false, List, [], ◌∷◌, map, Some, None, codes}
 use Rattle.mm_text.specs.Bytes.{Token}
 use Rattle.mm_database.specs.Frames.{floating, Frame}
@@ -18,7 +18,7 @@ pub record IsAssertion (c : Context) (label : Token) (f : Frame) : Type 0 where
 abbrev pub HasHeader : Context → Type 0
 HasHeader c = (label : Token) (f : Frame) → header_context.frames label ≡ Some f → IsAssertion c label f
 
--- the label declares the constant to be of the type, by an assertion without hypotheses
+-- the label declares that the constant has the type, by an assertion without hypotheses
 pub record Declares (c : Context) (typecode label token : Token) : Type 0 where
   pub stated : IsAssertion c label (closed_frame label (typecode ∷ (token ∷ [])))
   pub constant : c.variables token ≡ false
@@ -27,15 +27,15 @@ pub record Declares (c : Context) (typecode label token : Token) : Type 0 where
 abbrev pub Types : Context → Token → Token → Token → Type 0
 Types c typecode label token = active_hypothesis c label ≡ Some (floating label typecode token)
 
--- the constants of the header that stand in patterns and judgements
+-- the constants of the header that occur in patterns and judgements
 abbrev pub punctuation : List Token
 punctuation =
     codes "(" ∷ codes ")" ∷ codes "\\bot" ∷ codes "\\top" ∷ codes "\\imp" ∷ codes "\\not" ∷ codes "\\and" ∷ codes "\\or" ∷
     codes "\\eq" ∷ codes "\\mem" ∷ codes "\\fun" ∷ codes "\\ex" ∷ codes "\\all" ∷ codes "\\app" ∷ codes "\\at" ∷ codes "\\next" ∷ codes "\\ev" ∷
     codes "#Pattern" ∷ codes "#Fresh" ∷ codes "#Sub" ∷ codes "#Pred" ∷ codes "|-" ∷ []
 
--- Where a proof stands, the header is there, and each leaf that is known is declared by its label. Two different object
--- variables have to stay apart, and so do an object variable and a pattern variable.
+-- At the place of a proof, the header is there, and each known leaf is declared by its label. Two
+-- different object variables have to stay apart. So do an object variable and a pattern variable.
 pub record Serves (c : Context) (labels naming : Naming) (known : LeafFacts) : Type 0 where
   pub header : HasHeader c
   pub fixed : map c.variables punctuation ≡ map (λ t. false) punctuation

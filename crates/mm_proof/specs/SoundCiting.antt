@@ -1,4 +1,4 @@
--- When what is cited of a database proves what a derivation says.
+-- When the citations of a database prove what a derivation says.
 use Rattle.std.specs.Prelude.{ℕ, List, map, Contains}
 use Rattle.mm_database.specs.Database.{Context}
 use Rattle.mm_database.specs.Proofs.{ProofTree, Proves, AllProve}
@@ -10,7 +10,7 @@ use Rattle.mm_proof.specs.Tokens.{Naming}
 use Rattle.mm_proof.specs.Trees.{trees_of}
 use Rattle.mm_proof.specs.Derivations.{Citing, holds_text}
 
--- what may be cited proves what it stands for
+-- each allowed citation proves what is cited
 pub record CitesSoundly (c : Context) (n : Naming) (hypotheses : List Pattern) (k : MayCite) (s : Citing) : Type 0 where
   pub premise : (p : Pattern) → Contains hypotheses p → Proves c (s.premise p) (holds_text n p)
   pub fact : (p q : Pattern) (new : List ℕ) → k.fact p new → Renames (by_place new) p q → Proves c (s.fact p new) (holds_text n q)

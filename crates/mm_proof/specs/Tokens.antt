@@ -1,4 +1,4 @@
--- The tokens of a pattern, as they stand in a proof file: a connective in brackets before its parts.
+-- The tokens of a pattern in a proof file: a connective in brackets before its parts.
 use Rattle.std.specs.Prelude.{ℕ, List, [], ◌∷◌, ◌++◌, codes, decimal, slice_index_or}
 use Rattle.mm_text.specs.Bytes.{Token}
 use Rattle.ml_pat.specs.Patterns.{Pattern, bot, top, imp, not, and, or, equal, member, fun, ex, all, app, at_sort, next, ev, var, meta, constant}
@@ -10,7 +10,7 @@ pub record Naming : Type 0 where
   pub object : ℕ → Token
   pub meta : ℕ → Token
 
--- some tokens for each of them
+-- a list of tokens for each of them
 pub record Letters : Type 0 where
   pub sort : ℕ → List Token
   pub constant : ℕ → List Token
@@ -60,19 +60,20 @@ object_token i = codes "x:" ++ decimal i
 abbrev pub meta_token : ℕ → Token
 meta_token i = codes "m:" ++ decimal i
 
--- the token with a number among some
+-- the token with this number
 abbrev pub name_of : List Token → ℕ → Token
 name_of names i = slice_index_or names i []
 
--- sorts and constants have their tokens among these, by number
+-- the tokens of sorts and constants are these, by number
 abbrev pub own_naming : List Token → Naming
 own_naming names = record { sort = name_of names; constant = name_of names; object = object_token; meta = meta_token }
 
 abbrev pub tokens_of : List Token → Pattern → List Token
 tokens_of names p = text_by (letters_of (own_naming names)) p
 
--- what a statement of the logic says: that a pattern is one, that it holds, that a variable is not free
--- in it, that it is another with a pattern for a variable, or that it is everything or nothing
+-- what a statement of the logic says: a pattern is one; a pattern holds; a variable is not free in
+-- a pattern; a pattern is another one with a pattern substituted for a variable; or a pattern is
+-- everything or nothing
 pub data Judgement : Type 0 where
   is_pattern : Pattern → Judgement
   holds : Pattern → Judgement

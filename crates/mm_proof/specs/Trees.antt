@@ -1,4 +1,4 @@
--- The proofs of what a pattern is and of the judgements on patterns, by the rows of the header.
+-- The proofs that a pattern is one, and of the judgements on patterns, by the rows of the header.
 use Rattle.std.specs.Prelude.{ℕ, ◌==◌, if◌then◌else◌, List, [], ◌∷◌, ◌++◌, map, slice_index_or, codes}
 use Rattle.mm_text.specs.Bytes.{Token}
 use Rattle.mm_database.specs.Proofs.{ProofTree, proof_node, ProofForest, no_proof, more_proofs}
@@ -17,8 +17,9 @@ trees_of (tree ∷ trees) = more_proofs tree (trees_of trees)
 abbrev pub cite : Token → List ProofTree → ProofTree
 cite label trees = proof_node label (trees_of trees)
 
--- The proof that a pattern is one. A naming gives the labels: of the declarations of sorts and constants, and of the
--- `$f`s of variables. The trees below a label stand in the order of the header's variables: `p q r t u x y s v`.
+-- The proof that a pattern is one. A naming gives the labels of the declarations of sorts and
+-- constants, and of the `$f`s of variables. The trees below a label are in the order of the
+-- header's variables: `p q r t u x y s v`.
 abbrev pub syntax_tree : Naming → Pattern → ProofTree
 syntax_tree l bot = cite (codes "w.bot") []
 syntax_tree l top = cite (codes "w.top") []
@@ -39,11 +40,11 @@ syntax_tree l (var x) = cite (codes "w.var") (cite (l.object x) [] ∷ [])
 syntax_tree l (meta i) = cite (l.meta i) []
 syntax_tree l (constant c) = cite (l.constant c) []
 
--- the proof that x is not free in a pattern in which it stands nowhere
+-- the proof that x is not free in a pattern in which it does not occur
 abbrev pub absent_tree : Naming → ℕ → Pattern → ProofTree
 absent_tree l x p = cite (codes "fr.d") (syntax_tree l p ∷ cite (l.object x) [] ∷ [])
 
--- one row for the whole of a pattern in which x stands nowhere, or else the other proof
+-- one row for a whole pattern in which x does not occur, and otherwise the other proof
 abbrev pub absent_or : Naming → ℕ → Pattern → ProofTree → ProofTree
 absent_or l x p other = if absent x p then absent_tree l x p else other
 
@@ -99,11 +100,11 @@ fresh_by_form l x (all y s p) =
     absent_or l x p (fresh_by_form l x p) ∷ [])
 fresh_by_form l x p = absent_tree l x p
 
--- the proof that x is not free in a pattern, where it is not
+-- the proof that x is not free in a pattern, if it is not free in it
 abbrev pub fresh_tree : Naming → ℕ → Pattern → ProofTree
 fresh_tree l x p = absent_or l x p (fresh_by_form l x p)
 
--- the parts of a pattern
+-- the first part and the second part of a pattern
 abbrev pub first_part : Pattern → Pattern
 first_part (imp p q) = p
 first_part (and p q) = p
@@ -129,17 +130,18 @@ second_part (member p q) = q
 second_part (app p q) = q
 second_part p = p
 
--- the proof that a pattern in which x is not free stays as it is with u for x
+-- the proof that a pattern in which x is not free stays the same with u substituted for x
 abbrev pub unchanged_tree : Naming → ℕ → Pattern → Pattern → ProofTree
 unchanged_tree l x u p =
     cite (codes "su.f") (syntax_tree l p ∷ syntax_tree l u ∷ cite (l.object x) [] ∷ fresh_tree l x p ∷ [])
 
--- one row for the whole of a pattern in which x is not free, or else the other proof
+-- one row for a whole pattern in which x is not free, and otherwise the other proof
 abbrev pub unchanged_or : Naming → ℕ → Pattern → Pattern → ProofTree → ProofTree
 unchanged_or l x u p other = if fresh x p then unchanged_tree l x u p else other
 
--- The proof, by its form, that a pattern in which x is free is the other with u for x. Where it is a quantifier of y,
--- x is free in the body, and y is not free in u, which would be captured.
+-- The proof, by the form of a pattern in which x is free, that the pattern with u substituted for x
+-- is the other one. If the pattern is a quantifier of y, then x is free in its body. And y is not
+-- free in u, because otherwise it would be captured.
 abbrev pub substitution_by_form : Naming → ℕ → Pattern → Pattern → Pattern → ProofTree
 substitution_by_form l x u (var y) r = cite (codes "su.v") (syntax_tree l u ∷ cite (l.object x) [] ∷ [])
 substitution_by_form l x u (imp p q) r =
@@ -210,11 +212,11 @@ substitution_by_form l x u (all y s p) r =
     unchanged_or l x u p (substitution_by_form l x u p (first_part r)) ∷ [])
 substitution_by_form l x u p r = unchanged_tree l x u p
 
--- the proof that a pattern with u for x is the other, where it is
+-- the proof that a pattern with u substituted for x is the other one, if it is
 abbrev pub substitution_tree : Naming → ℕ → Pattern → Pattern → Pattern → ProofTree
 substitution_tree l x u p r = unchanged_or l x u p (substitution_by_form l x u p r)
 
--- the proof that a pattern is everything or nothing, where it is built so
+-- the proof that a pattern is everything or nothing, if its form shows this
 abbrev pub predicate_tree : Naming → Pattern → ProofTree
 predicate_tree l bot = cite (codes "pr.bot") []
 predicate_tree l top = cite (codes "pr.top") []
@@ -234,13 +236,13 @@ predicate_tree l (all x s p) =
     cite (codes "pr.all") (syntax_tree l p ∷ cite (l.object x) [] ∷ cite (l.sort s) [] ∷ predicate_tree l p ∷ [])
 predicate_tree l p = syntax_tree l p
 
--- the proof that what stands for a variable of a rule is of its type
+-- the proof that what is substituted for a variable of a rule has its type
 abbrev pub instance_tree : Naming → Instance → ProofTree
 instance_tree l (pattern p) = syntax_tree l p
 instance_tree l (variable x) = cite (l.object x) []
 instance_tree l (sort s) = cite (l.sort s) []
 
--- what stands for the variable of a rule at a place
+-- what is substituted for the variable of a rule at a place
 abbrev pub pattern_of_instance : Instance → Pattern
 pattern_of_instance (pattern p) = p
 pattern_of_instance (variable x) = bot
@@ -257,7 +259,7 @@ pattern_at is i = pattern_of_instance (slice_index_or is i (sort 0))
 abbrev pub variable_at : List Instance → ℕ → ℕ
 variable_at is i = variable_of_instance (slice_index_or is i (sort 0))
 
--- The judgements of a rule, before and after the proofs of what it concludes from.
+-- The judgements of a rule, before and after the proofs of its premises.
 abbrev pub trees_before : Naming → Rule → List Instance → List ProofTree
 trees_before l rule.Inst is =
     substitution_tree l (variable_at is 3) (pattern_at is 1) (pattern_at is 0) (pattern_at is 2) ∷ []
@@ -273,7 +275,7 @@ abbrev pub trees_behind : Naming → Rule → List Instance → List ProofTree
 trees_behind l rule.ExEl is = fresh_tree l (variable_at is 2) (pattern_at is 1) ∷ []
 trees_behind l r is = []
 
--- the proof by a rule, at these instances, over proofs of what it concludes from
+-- the proof by a rule, at these instances, over proofs of its premises
 abbrev pub rule_tree : Naming → Rule → List Instance → List ProofTree → ProofTree
 rule_tree l r is trees =
     cite (label r) (map (instance_tree l) is ++ (trees_before l r is ++ (trees ++ trees_behind l r is)))

@@ -17,7 +17,7 @@ abbrev pub stack_entries : List Token → ℕ → List Work → List Entry
 stack_entries names k [] = []
 stack_entries names k (w ∷ ws) = stack_entries names k ws ++ work_entries names k w
 
--- A work that is taken apart has a weight for its labels and for the parts that it may come to.
+-- The weight of a work. A work that is split has a weight for its labels and for its parts.
 abbrev pub weight : List Token → ℕ → Work → ℕ
 weight names k (work.One w) = 1
 weight names k (work.Taking w n) = 1
@@ -27,19 +27,21 @@ abbrev pub stack_weight : List Token → ℕ → List Work → ℕ
 stack_weight names k [] = 0
 stack_weight names k (w ∷ ws) = stack_weight names k ws + weight names k w
 
--- works that list these labels were put on a stack, and weigh less than twice as many
+-- works that list these labels were put on a stack; their weight is less than twice the number of
+-- labels
 abbrev pub PutsOn : (List Token → ℕ → List Entry) → List Work → List Work → Type 0
 PutsOn entries old new =
     (names : List Token) (k : ℕ) → (stack_entries names k new ≡ entries names k ++ stack_entries names k old)
     × (stack_weight names k new < stack_weight names k old + 2 * length (entries names k))
 
--- the same, where no word has to be among them
+-- the same, but the weight may also be twice the number of labels, because there may be no word
+-- among the works
 abbrev pub PutsMore : (List Token → ℕ → List Entry) → List Work → List Work → Type 0
 PutsMore entries old new =
     (names : List Token) (k : ℕ) → (stack_entries names k new ≡ entries names k ++ stack_entries names k old)
     × (stack_weight names k new ≤ stack_weight names k old + 2 * length (entries names k))
 
--- The labels that are put on the stack for one form of a pattern.
+-- The labels that are put on the stack for each form of a pattern.
 
 abbrev pub quantifier_entries : List Token → Token → ℕ → ℕ → Pattern → List Entry
 quantifier_entries names connective x s p =
@@ -113,7 +115,7 @@ under_steps k x u y s p r label = entries_of (
     (syntax_tree l p ∷ syntax_tree l (first_part r) ∷ syntax_tree l u ∷ cite (l.object x) [] ∷ cite (l.object y) [] ∷
     cite (l.sort s) [] ∷ fresh_tree l y u ∷ substitution_tree l x u p (first_part r) ∷ []))
 
--- a work is taken from a stack: a label of it is listed, or smaller works were put on the stack
+-- a work was taken from a stack: a label of it was listed, or smaller works were put on the stack
 abbrev pub IsTaken : List Token → ℕ → Work → List Work → List Work → List Label → List Label → Type 0
 IsTaken names k w old new labels labels' =
     (listed names k labels' ++ stack_entries names k new ≡ listed names k labels

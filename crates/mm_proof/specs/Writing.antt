@@ -1,4 +1,4 @@
--- What the words, labels and works of a writer stand for.
+-- What the words, labels and works of a writer mean.
 use Rattle.std.specs.Prelude.{◌≡◌, ℕ, List, [], ◌∷◌, ◌++◌, flat_map, map, codes}
 use Rattle.mm_text.specs.Bytes.{Token}
 use Rattle.mm_database.specs.Proofs.{postorder}
@@ -26,14 +26,14 @@ word_token names k (word.MetaLabel i) = meta_label k i
 word_token names k (word.Premise j) = premise_label k j
 word_token names k (word.Stated i) = statement_label i
 
--- what a list of labels stands for
+-- what a list of labels means
 abbrev pub label_entry : List Token → ℕ → Label → Entry
 label_entry names k l = record { label = word_token names k l.word; takes = l.takes }
 
 abbrev pub listed : List Token → ℕ → List Label → List Entry
 listed names k labels = map (label_entry names k) labels
 
--- labels were put after others, whatever the names and the statement
+-- labels were put after others, for all names and all statements
 abbrev pub Lists : (List Token → ℕ → List Entry) → List Label → List Label → Type 0
 Lists entries old new = (names : List Token) (k : ℕ) → listed names k new ≡ listed names k old ++ entries names k
 
@@ -48,11 +48,11 @@ work_tokens names k (work.Unchanged x u p) = postorder (unchanged_tree (own_labe
 work_tokens names k (work.Substituted x u p r) = postorder (substitution_tree (own_labels k) x.0 u.now p.now r.now)
 work_tokens names k (work.Predicate p) = postorder (predicate_tree (own_labels k) p.now)
 
--- works one after the other
+-- works one after another
 abbrev pub all_tokens : List Token → ℕ → List Work → List Token
 all_tokens names k works = flat_map (work_tokens names k) works
 
--- A token that takes no proof, and the tokens of a pattern as such.
+-- A token that takes no proof; and the tokens of a pattern, which take no proof.
 abbrev pub plain : Token → Entry
 plain t = record { label = t; takes = 0 }
 

@@ -1,4 +1,4 @@
-// How the proofs of freshness and of predicates come apart.
+// How the proofs of freshness and of predicates are split into smaller works.
 ghost use Rattle.std.specs.Prelude.{OnOk};
 ghost use Rattle.mm_proof.specs.WorkStacks.{PutsOn, quantified_steps, fresh_two_steps, fresh_one_steps};
 ghost use Rattle.mm_proof.specs.WorkStacks.{fresh_sorted_steps, predicate_two_steps, predicate_under_steps};
@@ -14,7 +14,8 @@ use crate::works::Work;
 use ml_pat::{MForm, MPat, MSort, VarNo};
 use std::alloc::AllocError;
 
-/// The proof that x is not free under the quantifier of y, with the labels for the same variable and for another.
+/// The proof that x is not free under the quantifier of y. There is one label for y equal to x, and
+/// one for another y.
 fn put_quantified<'a>(
     stack: &mut Vec<Work<'a>>,
     x: VarNo,
@@ -118,8 +119,9 @@ fn put_fresh_sorted<'a>(
     )
 }
 
-/// The proof that x is not free in a pattern, in one step where x stands nowhere in it. To look for x takes no longer
-/// than to write the proof, which has the syntax of the whole pattern in either case.
+/// The proof that x is not free in a pattern; one step if x does not occur in the pattern. The
+/// search for x takes no longer than writing the proof, because in both cases the proof has the
+/// syntax of the whole pattern.
 pub(crate) fn expand_fresh<'a>(
     stack: &mut Vec<Work<'a>>,
     x: VarNo,
@@ -134,7 +136,7 @@ pub(crate) fn expand_fresh<'a>(
     expand_fresh_by_form(stack, x, pat)
 }
 
-/// The proof that x is not free in a pattern in which it stands nowhere.
+/// The proof that x is not free in a pattern in which it does not occur.
 fn put_absent<'a>(stack: &mut Vec<Work<'a>>, x: VarNo, pat: &'a MPat) -> Result<(), AllocError>
     ensures { OnOk result (PutsOn (λ names k. entries_of (absent_tree (own_labels k) x.0 pat.now))
         stack.old.items stack.new.items) }
@@ -175,7 +177,7 @@ fn expand_fresh_by_form<'a>(
     }
 }
 
-/// The proof that a pattern in which x is not free stays as it is with u for x.
+/// The proof that a pattern in which x is not free stays the same with u substituted for x.
 pub(crate) fn expand_unchanged<'a>(
     stack: &mut Vec<Work<'a>>,
     x: VarNo,
@@ -197,7 +199,7 @@ pub(crate) fn expand_unchanged<'a>(
     )
 }
 
-/// The proof that a form of two predicates is one, by the rule with this label.
+/// The proof that a form of two predicates is a predicate, by the rule with this label.
 fn put_predicate_two<'a>(
     stack: &mut Vec<Work<'a>>,
     p: &'a MPat,
@@ -219,7 +221,7 @@ fn put_predicate_two<'a>(
     )
 }
 
-/// The proof that a predicate under a quantifier is one, by the rule with this label.
+/// The proof that a quantifier over a predicate is a predicate, by the rule with this label.
 fn put_predicate_under<'a>(
     stack: &mut Vec<Work<'a>>,
     x: VarNo,
@@ -242,7 +244,7 @@ fn put_predicate_under<'a>(
     )
 }
 
-/// The proof that a pattern is everything or nothing, where it is built so.
+/// The proof that a pattern is everything or nothing, if its form shows this.
 pub(crate) fn expand_predicate<'a>(
     stack: &mut Vec<Work<'a>>,
     pat: &'a MPat,

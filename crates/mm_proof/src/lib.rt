@@ -1,18 +1,18 @@
-//! What is written as a proof of a Metamath database that a pattern of matching logic is one, that a judgement on it
-//! holds, and that a rule concludes what it does.
+//! What is written in a Metamath database to prove that a pattern of matching logic is one, that a
+//! judgement on it holds, and that a rule concludes what it does.
 //!
-//! **What is written.** A pattern is a list of tokens (`specs/Tokens`). That it is one, and each judgement on it, has a
-//! proof by the rows of the header, form by form, but one row for a whole part in which the variable of a judgement
-//! does not stand; a rule is its label over the proofs of what it concludes from, and a derivation is written by
-//! recursion (`specs/Trees`, `specs/Derivations`). `proof_laws` says of patterns, judgements and rules that these are
-//! proofs in every database that has the header and the declarations that they cite (`specs/Serving`,
-//! `specs/RenderLaws`).
+//! **What is written.** A pattern is a list of tokens (`specs/Tokens`). The rows of the header
+//! prove, form by form, that it is a pattern, and each judgement on it. A part in which the
+//! variable of a judgement does not occur takes only one row. A rule is its label over the proofs
+//! of its premises. A derivation is written by recursion (`specs/Trees`, `specs/Derivations`).
+//! `proof_laws` says of patterns, judgements and rules that these are proofs in every database that
+//! has the header and the declarations that they cite (`specs/Serving`, `specs/RenderLaws`).
 //!
-//! **How it is written.** A proof is a list of labels, each with the number of proofs that it takes (`specs/Entries`,
-//! `specs/Writing`), and its text is made from the list in one pass (`push_labels`). What is still to be listed lies on
-//! a stack of works, each of which comes apart into smaller ones, so that deep patterns need no recursion. `list_works`
-//! lists patterns and proofs on them, `list_instances` and `list_before` what a rule has in front of the proofs of what
-//! it concludes from.
+//! **How it is written.** A proof is a list of labels, each with the number of proofs that it takes
+//! (`specs/Entries`, `specs/Writing`). The text of the proof is made from the list in one pass
+//! (`push_labels`). What is still to be listed is on a stack of works. Each work is split into
+//! smaller ones, so deep patterns need no recursion. `list_works` lists patterns and proofs on
+//! them. `list_instances` and `list_before` list what a rule has before the proofs of its premises.
 #![tactic(auto)]
 
 mod freshness;

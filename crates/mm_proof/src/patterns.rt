@@ -1,4 +1,4 @@
-// How the tokens of a pattern and the proof of its syntax come apart.
+// How the tokens of a pattern and the proof of its syntax are split into smaller works.
 ghost use Rattle.std.specs.Prelude.{OnOk};
 ghost use Rattle.mm_proof.specs.WorkStacks.{PutsOn, quantifier_entries, quantifier_steps};
 ghost use Rattle.mm_proof.specs.Labels.{own_labels};

@@ -1,4 +1,4 @@
-// Rules: what stands for their variables, and their judgements.
+// Rules: what is substituted for their variables, and their judgements.
 ghost use Rattle.std.specs.Prelude.{◌≡◌, ◌≤◌, ◌+◌, List, [], ◌∷◌, OnOk, length};
 ghost use Rattle.ml_pat.specs.Patterns.{bot};
 ghost use Rattle.ml_kernel.specs.Rules.{Instance};
@@ -15,7 +15,7 @@ use ml_kernel::{Inst, Rule};
 use ml_pat::{MPat, VarNo};
 use std::alloc::AllocError;
 
-/// Lists the labels of what stands for the variables of a rule.
+/// Lists the labels of the proofs of what is substituted for the variables of a rule.
 pub fn list_instances(labels: &mut Vec<Label>, instances: &[Inst]) -> Result<(), AllocError>
     ensures { OnOk result
         (Lists (λ names k. instance_entries k (instances_of instances.now)) labels.old.items labels.new.items) }
@@ -26,7 +26,7 @@ pub fn list_instances(labels: &mut Vec<Label>, instances: &[Inst]) -> Result<(),
     Ok(())
 }
 
-/// Lists the proof of what stands for a variable of a rule.
+/// Lists the proof of what is substituted for a variable of a rule.
 fn list_instance(labels: &mut Vec<Label>, instance: &Inst) -> Result<(), AllocError>
     ensures { OnOk result
         (Lists (λ names k. instance_entries k (instances_of (instance.now ∷ []))) labels.old.items labels.new.items) }
@@ -38,8 +38,8 @@ fn list_instance(labels: &mut Vec<Label>, instance: &Inst) -> Result<(), AllocEr
     }
 }
 
-/// Lists the judgements of a rule that stand before the proofs of what it concludes from. A pattern that is wanting is
-/// taken for nothing.
+/// Lists the judgements of a rule that come before the proofs of its premises. A missing pattern is
+/// taken to be nothing.
 pub fn list_before(
     labels: &mut Vec<Label>,
     rule: Rule,
@@ -77,7 +77,7 @@ pub fn list_before(
     }
 }
 
-/// How many judgements a rule has, before the proofs of what it concludes from and after them.
+/// How many judgements a rule has, before and after the proofs of its premises.
 pub fn judgements(rule: Rule) -> usize
     ensures judged { (l : Naming) (is : List Instance) →
         result ≡ length (trees_before l rule is) + length (trees_behind l rule is) }
@@ -90,7 +90,8 @@ pub fn judgements(rule: Rule) -> usize
     }
 }
 
-/// The pattern that stands for the variable of a rule at a place.
+/// The pattern that is substituted for the variable of a rule at a place, or `nothing` if there is
+/// no pattern at that place.
 pub fn pattern_at<'a>(instances: &'a [Inst], at: usize, nothing: &'a MPat) -> &'a MPat
     requires { nothing.now ≡ bot }
     ensures { result.now ≡ pattern_at (instances_of instances.now) at }
@@ -105,7 +106,7 @@ pub fn pattern_at<'a>(instances: &'a [Inst], at: usize, nothing: &'a MPat) -> &'
     }
 }
 
-/// The object variable that stands for the variable of a rule at a place.
+/// The object variable that is substituted for the variable of a rule at a place.
 pub fn variable_at(instances: &[Inst], at: usize) -> VarNo
     ensures { result.0 ≡ variable_at (instances_of instances.now) at }
 {

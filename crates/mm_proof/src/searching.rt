@@ -1,4 +1,4 @@
-// Whether a variable stands in a pattern.
+// Whether a variable occurs in a pattern.
 ghost use Rattle.std.specs.Prelude.{◌≡◌, ◌&&◌, ◌==◌, ◌+◌, ◌<◌, IfOk, not};
 ghost use Rattle.ml_pat.specs.Judgements.{absent};
 ghost use Rattle.ml_pat.specs.FormsIn.{forms_in};
@@ -7,7 +7,7 @@ ghost use Rattle.mm_proof.specs.Searching.{IsLeft, all_absent, all_forms, patter
 use ml_pat::{MForm, MPat, VarNo};
 use std::alloc::{AllocError, Global};
 
-/// Whether x stands nowhere in a pattern, bound or free. A stack takes the place of recursion.
+/// Whether x occurs nowhere in a pattern, neither bound nor free. A stack replaces recursion.
 pub(crate) fn is_absent(alloc: Global, x: VarNo, pat: &MPat) -> Result<bool, AllocError>
     ensures { IfOk result (λ found. found ≡ absent x.0 pat.now) }
 {
@@ -22,7 +22,7 @@ pub(crate) fn is_absent(alloc: Global, x: VarNo, pat: &MPat) -> Result<bool, All
     Ok(true)
 }
 
-/// Whether x may still stand nowhere, with the parts that are left to be looked at on the stack.
+/// Whether x may still occur nowhere. The parts that are left to be searched are on the stack.
 fn is_absent_at<'a>(stack: &mut Vec<&'a MPat>, x: VarNo, pat: &'a MPat) -> Result<bool, AllocError>
     ensures { IfOk result (λ going. IsLeft x.0 (absent x.0 pat.now) (forms_in pat.now)
         stack.old.items stack.new.items going) }
@@ -73,7 +73,7 @@ fn put_both<'a>(
     Ok(true)
 }
 
-/// Puts the body of a quantifier of y on the stack, where y is not x.
+/// Puts the body of a quantifier of y on the stack, if y is not x.
 fn put_body<'a>(
     stack: &mut Vec<&'a MPat>,
     x: VarNo,

@@ -7,7 +7,8 @@ use crate::words::Word;
 use crate::works::Work;
 use std::alloc::AllocError;
 
-/// Puts works on a stack, the first on top, and a label below them that takes the proofs of each.
+/// Puts works on a stack, the first on top. Below them it puts a label that takes the proof of
+/// each.
 pub(crate) fn put_steps<'a>(
     stack: &mut Vec<Work<'a>>,
     parts: &[Work<'a>],

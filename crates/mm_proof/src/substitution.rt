@@ -1,4 +1,4 @@
-// How the proof of a substitution comes apart.
+// How the proof of a substitution is split into smaller works.
 ghost use Rattle.std.specs.Prelude.{◌≡◌, OnOk};
 ghost use Rattle.mm_proof.specs.WorkStacks.{PutsOn, one_steps, sorted_steps, two_steps, under_steps};
 ghost use Rattle.mm_proof.specs.Labels.{own_labels};
@@ -12,7 +12,7 @@ use crate::works::Work;
 use ml_pat::{MForm, MPat, MSort, VarNo, fresh};
 use std::alloc::AllocError;
 
-/// The first part of a pattern; itself where it has none.
+/// The first part of a pattern, or the pattern itself if it has no parts.
 fn first_part(pat: &MPat) -> &MPat
     ensures { result.now ≡ first_part pat.now }
 {
@@ -34,7 +34,7 @@ fn first_part(pat: &MPat) -> &MPat
     }
 }
 
-/// The second part of a pattern; itself where it has none.
+/// The second part of a pattern, or the pattern itself if it has none.
 fn second_part(pat: &MPat) -> &MPat
     ensures { result.now ≡ second_part pat.now }
 {
@@ -80,7 +80,7 @@ fn put_two<'a>(
     )
 }
 
-/// The proof of the substitution in one part, with the sort that stands beside it.
+/// The proof of the substitution in one part, with the sort next to it.
 fn put_one<'a>(
     stack: &mut Vec<Work<'a>>,
     x: VarNo,
@@ -133,7 +133,7 @@ fn put_sorted<'a>(
     )
 }
 
-/// The proof of the substitution under the quantifier of y, where x is free in the body.
+/// The proof of the substitution under the quantifier of y, if x is free in the body.
 fn put_under<'a>(
     stack: &mut Vec<Work<'a>>,
     x: VarNo,
@@ -164,8 +164,9 @@ fn put_under<'a>(
     )
 }
 
-/// The proof that a pattern with u for x is the one that was made, in one step where x is not free in the pattern. To
-/// look for x takes no longer than to write the proof, which has the syntax of the whole pattern, but where it is x itself.
+/// The proof that a pattern with u substituted for x is the given result; one step if x is not free
+/// in the pattern. The search for x takes no longer than writing the proof, because the proof has
+/// the syntax of the whole pattern. The only exception is the pattern x itself.
 pub(crate) fn expand_substituted<'a>(
     stack: &mut Vec<Work<'a>>,
     x: VarNo,

@@ -33,7 +33,7 @@ pub enum Word {
     Stated(u64),
 }
 
-/// A label of a proof, with the number of proofs that it takes of those in front of it.
+/// A label of a proof, and how many of the proofs before it the label takes.
 #[derive(Clone, Copy)]
 pub struct Label {
     pub word: Word,
@@ -51,7 +51,8 @@ pub fn push_word(to: &mut Vec<u8>, names: &Names, serial: u64, word: Word) -> Re
     Ok(())
 }
 
-/// The white space after a token: a line ends with a statement.
+/// The white space after a token: the end of the line after the end of a statement, and otherwise a
+/// space.
 fn white_behind(token: &[u8]) -> u8
     ensures { result ≡ white_behind token.now }
 {
@@ -90,7 +91,7 @@ pub fn push_labels(
     Ok(())
 }
 
-/// Puts a label that takes so many proofs after others.
+/// Puts a label that takes `takes` proofs after the other labels.
 pub fn list_label(labels: &mut Vec<Label>, word: Word, takes: usize) -> Result<(), AllocError>
     ensures { OnOk result
         (Lists (λ names k. label_entry names k (record { word = word; takes = takes }) ∷ [])
@@ -116,7 +117,7 @@ fn push_token(to: &mut Vec<u8>, names: &Names, serial: u64, word: Word) -> Resul
     }
 }
 
-/// Adds the token with this number; nothing where there is none.
+/// Adds the token with this number, or nothing if there is none.
 fn push_name(to: &mut Vec<u8>, names: &Names, no: u64) -> Result<(), AllocError>
     ensures { OnOk result (to.new.items ≡ to.old.items ++ name_of names.now no) }
 {

@@ -1,5 +1,5 @@
-// What is still to be listed, as works that come apart into smaller ones: a stack of them takes the place of recursion,
-// so that a deep pattern costs no stack of calls.
+// What is still to be listed, as works that are split into smaller ones. A stack of works replaces
+// recursion, so a deep pattern needs no deep stack of calls.
 ghost use Rattle.std.specs.Prelude.{◌≡◌, ◌++◌, OnOk};
 ghost use Rattle.mm_proof.specs.WorkStacks.{TakesWork};
 ghost use Rattle.mm_proof.specs.Writing.{Lists, all_tokens, works_entries};
@@ -18,7 +18,7 @@ use std::alloc::AllocError;
 pub enum Work<'a> {
     /// A token, or a label that takes no proof.
     One(Word),
-    /// A label that takes so many proofs.
+    /// A label that takes this many proofs.
     Taking(Word, usize),
     /// The tokens of a pattern.
     Text(&'a MPat),
@@ -26,16 +26,19 @@ pub enum Work<'a> {
     Syntax(&'a MPat),
     /// The proof that the variable is not free in the pattern.
     Fresh(VarNo, &'a MPat),
-    /// The proof that a pattern stays as it is: the variable, what would stand for it, and the pattern.
+    /// The proof that a pattern stays the same: the variable, what would be substituted for it, and
+    /// the pattern.
     Unchanged(VarNo, &'a MPat, &'a MPat),
-    /// The proof of a substitution: the variable, what stands for it, the pattern and the result.
+    /// The proof of a substitution: the variable, what is substituted for it, the pattern and the
+    /// result.
     Substituted(VarNo, &'a MPat, &'a MPat, &'a MPat),
     /// The proof that the pattern is a predicate.
     Predicate(&'a MPat),
 }
 
-/// Writes works one after the other, in the block of the statement with the number `serial`, in time linear in what is
-/// written. What stood in `labels` is let go; one list for many calls is given room once.
+/// Writes works one after another, in the block of the statement with the number `serial`, in time
+/// linear in what is written. The old labels in `labels` are dropped. If one list is used for many
+/// calls, its memory is allocated once.
 pub fn write_works(
     to: &mut Vec<u8>,
     labels: &mut Vec<Label>,
@@ -50,7 +53,7 @@ pub fn write_works(
     push_labels(to, names, serial, labels)
 }
 
-/// Puts the labels of works after others, in time linear in how many they are.
+/// Puts the labels of works after the other labels, in time linear in the number of labels.
 pub fn list_works(labels: &mut Vec<Label>, works: &[Work<'_>]) -> Result<(), AllocError>
     ensures { OnOk result (Lists (λ names k. works_entries names k works.now) labels.old.items labels.new.items) }
 {
@@ -62,7 +65,7 @@ pub fn list_works(labels: &mut Vec<Label>, works: &[Work<'_>]) -> Result<(), All
     Ok(())
 }
 
-/// Lists a label, or takes a larger work apart.
+/// Lists a label, or splits a larger work.
 fn list_step<'a>(
     labels: &mut Vec<Label>,
     stack: &mut Vec<Work<'a>>,

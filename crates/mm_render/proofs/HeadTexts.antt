@@ -1,4 +1,4 @@
--- The head of a block as it is written, one statement after the other.
+-- The head of a block as it is written, one statement after another.
 use Rattle.std.proofs.Common.{◌≡◌, ℕ, ◌+◌, List, [], ◌∷◌, ◌++◌, length, refl, ap, ◌∙◌, sym, arith, append_assoc}
 use Rattle.std.specs.Prelude.{map, filter, flat_map, not}
 use Rattle.std.proofs.lemmas.Grind.{flat_map-append}
@@ -39,7 +39,7 @@ object_tokens-push [] v = refl
 object_tokens-push (object_variable x ∷ vs) v = ap (λ (ts : List Token). variable_token (object_variable x) ∷ ts) (object_tokens-push vs v)
 object_tokens-push (pattern_variable i ∷ vs) v = object_tokens-push vs v
 
--- the `$d`s, of the object variables and then of each pattern variable
+-- the `$d`s of the object variables, and then of each pattern variable
 
 one_separated : (us : List Variable) (rest : List (List Variable))
     → separation_statements (map variable_tokens (filter are_several (us ∷ rest))) ≡ separation (variable_tokens us) ++ separation_statements (map variable_tokens (filter are_several rest))

@@ -1,4 +1,5 @@
--- The bytes by which statements are looked up: no two patterns have the same, and no two statements.
+-- The bytes by which statements are looked up. No two patterns have the same bytes, and no two
+-- statements.
 use Rattle.std.proofs.Common.{◌≡◌, ℕ, ◌+◌, ◌*◌, ◌<◌, ◌≤◌, ◌/◌, ◌%◌, Bool, true, false, List, [], ◌∷◌, ◌++◌, zero, suc, refl, ap, ◌∙◌, sym, arith, append_assoc, nat_lt}
 use Rattle.std.specs.Prelude.{◌==◌, if◌then◌else◌, ◌-◌, flat_map}
 use Rattle.std.proofs.lemmas.Bool.{false≢true}
@@ -68,7 +69,7 @@ read-numbers (equal p q) rest = ap (push 15 0 0) (read-numbers p (numbers q rest
 read-numbers (member p q) rest = ap (push 16 0 0) (read-numbers p (numbers q rest) ∙ ap (λ (ps : List Pattern). p ∷ ps) (read-numbers q rest))
 read-numbers (app p q) rest = ap (push 17 0 0) (read-numbers p (numbers q rest) ∙ ap (λ (ps : List Pattern). p ∷ ps) (read-numbers q rest))
 
--- what stands after the numbers of a pattern
+-- what comes after the numbers of a pattern
 numbers_in_front : (p : Pattern) (more rest : List ℕ) → numbers p more ++ rest ≡ numbers p (more ++ rest)
 numbers_in_front bot more rest = refl
 numbers_in_front top more rest = refl
@@ -130,7 +131,7 @@ within-more room n large = go (nat_lt n 128) (grind (arith, large))
     go true h = absurd (false≢true (sym h))
     go false h = refl
 
--- room for the number is room enough
+-- a number never needs more room than its own value
 within_same : (room more n : ℕ) → n ≤ room → n ≤ more → bytes_within room n ≡ bytes_within more n
 within_same zero more n h k = within-last zero n (omega (arith, h)) ∙ sym (within-last more n (omega (arith, h)))
 within_same (suc room) zero n h k = within-last (suc room) n (omega (arith, k)) ∙ sym (within-last zero n (omega (arith, k)))
@@ -146,7 +147,7 @@ number_bytes-more : (n : ℕ) → 128 ≤ n → number_bytes n ≡ (n % 128 + 12
 number_bytes-more zero large = absurd (omega (arith, large))
 number_bytes-more (suc m) large = within-more m (suc m) large ∙ ap (λ (bs : List ℕ). (suc m % 128 + 128) ∷ bs) (within_same m (suc m / 128) (suc m / 128) (omega (arith, large)) (omega arith))
 
--- a byte more of a number
+-- one more byte of a number
 pub number_goes_on : (key key' whole : List ℕ) (n : ℕ) → 128 ≤ n → key' ≡ key ++ (n % 128 + 128) ∷ [] → key ++ number_bytes n ≡ whole → key' ++ number_bytes (n / 128) ≡ whole
 number_goes_on key key' whole n large pushed is =
     ap (λ (bs : List ℕ). bs ++ number_bytes (n / 128)) pushed ∙ append_assoc key ((n % 128 + 128) ∷ []) (number_bytes (n / 128)) ∙ ap (λ (bs : List ℕ). key ++ bs) (sym (number_bytes-more n large)) ∙ is
@@ -189,7 +190,7 @@ key_same p q h =
     let both : p ∷ [] ≡ q ∷ [] = keys_same (p ∷ []) (q ∷ []) (ap (λ (bs : List ℕ). bs ++ []) h) in
     cc
 
--- and no two statements
+-- no two statements have the same bytes
 pub hypotheses_same : (own own' : List Pattern) (q q' : Pattern) → statement_key own q ≡ statement_key own' q' → own ≡ own'
 hypotheses_same own own' q q' h =
     let both : q ∷ own ≡ q' ∷ own' = keys_same (q ∷ own) (q' ∷ own') h in
@@ -223,7 +224,7 @@ over_added p a b c old new key key' added pushed =
       weight = omega (arith, heavier);
     }
 
--- a form between two
+-- a form between two patterns
 pub between_added : (p q : Bor Pattern) (a b c : ℕ) (old mid new : List (Bor Pattern)) (key key' : List ℕ) → key' ≡ key ++ all_bytes (a ∷ b ∷ c ∷ []) → mid ≡ old ++ q ∷ [] → new ≡ mid ++ p ∷ []
     → FormIsAdded (λ rest. a ∷ b ∷ c ∷ numbers p.now (numbers q.now rest)) (forms_in p.now + forms_in q.now + 1) old new key key'
 between_added p q a b c old mid new key key' added first second =
@@ -239,7 +240,7 @@ between_added p q a b c old mid new key key' added first second =
       weight = omega (arith, heavy, heavier);
     }
 
--- one form more
+-- one more form
 pub form_added : (p : Bor Pattern) (before popped new : List (Bor Pattern)) (key key' whole : List ℕ) → before ≡ popped ++ p ∷ [] → FormIsAdded (numbers p.now) (forms_in p.now) popped new key key'
     → key ++ all_bytes (all_numbers (patterns_of before) []) ≡ whole → key' ++ all_bytes (all_numbers (patterns_of new) []) ≡ whole
 form_added p before popped new key key' whole is added invariant =

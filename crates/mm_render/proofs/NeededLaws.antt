@@ -1,4 +1,4 @@
--- The variables that a derivation has, as they are found step by step.
+-- The variables of a derivation, as they are found step by step.
 use Rattle.std.proofs.Common.{◌≡◌, ◌+◌, ◌<◌, Bool, true, false, List, [], ◌∷◌, ◌++◌, refl, ap, ◌∙◌, sym, arith, append_assoc, append-nil}
 use Rattle.std.specs.Prelude.{◌||◌}
 use Rattle.std.specs.Borrow.{Bor}
@@ -25,7 +25,7 @@ stack_steps-push : (ds : List (Bor Derivation)) (d : Bor Derivation) → stack_s
 stack_steps-push [] d = omega arith
 stack_steps-push (e ∷ ds) d = omega (arith, stack_steps-push ds d)
 
--- one more in front of those that were put
+-- one more derivation before those that were put on the stack
 pub derivation_put : (d : Bor Derivation) (ds all : Derivations) (old mid new : List (Bor Derivation)) → PutsDerivations ds old mid → new ≡ mid ++ d ∷ [] → all ≡ more_derivations d.now ds → PutsDerivations all old new
 derivation_put d ds all old mid new put pushed whole =
     let heavier : stack_steps new ≡ stack_steps mid + steps_in d.now = ap stack_steps pushed ∙ stack_steps-push mid d in
@@ -38,7 +38,7 @@ derivation_put d ds all old mid new put pushed whole =
       steps = omega (arith, put.steps, heavier, light);
     }
 
--- a step with nothing below it
+-- a step without derivations below it
 pub leaf_needed : (find : List Pattern → Pattern → Stated) (d : Derivation) (us : List Variable) (old : List (Bor Derivation)) (vs vs' : List Variable) → variables_of find d ≡ us → steps_in d ≡ 1 → vs' ≡ added vs us
     → StepIsTaken find d old old vs vs'
 leaf_needed find d us old vs vs' whole light is = record {
@@ -48,7 +48,7 @@ leaf_needed find d us old vs vs' whole light is = record {
   steps = omega (arith, light);
 }
 
--- and one with derivations below it
+-- a step with derivations below it
 pub step_needed : (find : List Pattern → Pattern → Stated) (d : Derivation) (us : List Variable) (ds : Derivations) (old new : List (Bor Derivation)) (vs vs' : List Variable)
     → variables_of find d ≡ us ++ all_variables_of find ds → all_steps ds < steps_in d → vs' ≡ added vs us → PutsDerivations ds old new → StepIsTaken find d old new vs vs'
 step_needed find d us ds old new vs vs' whole light is put = record {
@@ -59,9 +59,9 @@ step_needed find d us ds old new vs vs' whole light is put = record {
   steps = omega (arith, put.steps, light);
 }
 
--- at no patterns each variable stands for itself
+-- if no patterns are given, each variable is its own instance
 
--- one derivation more
+-- one more derivation
 pub step_added : (find : List Pattern → Pattern → Stated) (d : Bor Derivation) (before popped new : List (Bor Derivation)) (vs vs' whole : List Variable) → before ≡ popped ++ d ∷ [] → StepIsTaken find d.now popped new vs vs'
     → added vs (stack_needs find before) ≡ whole → added vs' (stack_needs find new) ≡ whole
 step_added find d before popped new vs vs' whole is taken invariant =
@@ -73,7 +73,8 @@ step_smaller find d before popped new vs vs' is taken =
     let e : stack_steps before ≡ stack_steps popped + steps_in d.now = ap stack_steps is ∙ stack_steps-push popped d in
     omega (arith, e, taken.steps)
 
--- where all that were added to some have numbers of 64 bits, so have those that were added
+-- if all variables have numbers of 64 bits after adding, then those that were added have such
+-- numbers
 pub added_numbered : (vs us all : List Variable) → all ≡ added vs us → HaveNumbers all → AreNumbered us
 added_numbered vs us all is small = are_numbered us (λ v there. small v (ap (λ (xs : List Variable). has_variable xs v) is ∙ among_added vs us v ∙ either (has_variable vs v) (has_variable us v) there))
   where

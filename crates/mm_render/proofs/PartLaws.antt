@@ -35,7 +35,7 @@ pub parts_weight-push : (ps : List Part) (p : Part) → parts_weight (ps ++ p �
 parts_weight-push [] p = omega arith
 parts_weight-push (q ∷ ps) p = omega (arith, parts_weight-push ps p)
 
--- one part more in front of some
+-- one more part before others
 pub part_more : (f g : List Token → ℕ → Citing → List Entry) (m n : ℕ) (p : Part) (old mid new : List Part) → PutsParts f m old mid → new ≡ mid ++ p ∷ []
     → ((names : List Token) (k : ℕ) (s : Citing) → g names k s ≡ part_entries names k s p ++ f names k s) → m + part_weight p ≤ n → PutsParts g n old new
 part_more f g m n p old mid new h is same heavy = record {
@@ -48,7 +48,7 @@ part_more f g m n p old mid new h is same heavy = record {
 pub part_none : (f : List Token → ℕ → Citing → List Entry) (n : ℕ) (old : List Part) → ((names : List Token) (k : ℕ) (s : Citing) → f names k s ≡ []) → PutsParts f n old old
 part_none f n old none = record { entries = λ names k s. ap (λ (ts : List Entry). ts ++ parts_entries names k s old) (sym (none names k s)); weight = omega arith }
 
--- parts in front of others
+-- parts before others
 pub parts_front : (f g h : List Token → ℕ → Citing → List Entry) (a b n : ℕ) (old mid new : List Part) → PutsParts f a old mid → PutsParts g b mid new
     → ((names : List Token) (k : ℕ) (s : Citing) → h names k s ≡ g names k s ++ f names k s) → a + b ≤ n → PutsParts h n old new
 parts_front f g h a b n old mid new first rest same heavy = record {
@@ -69,7 +69,7 @@ put_fresh r is x p old new same variable pattern pushed =
     part_one (λ names k s. all_entries (trees_behind (own_labels k) r is)) 1 (part.Plain (work.Fresh x p)) old new pushed
     (λ names k s. ap (λ (m : Rule). all_entries (trees_behind (own_labels k) m is)) same ∙ ap (λ (y : ℕ). entries_of (fresh_tree (own_labels k) y (pattern_at is 1)) ++ []) (sym variable) ∙ ap (λ (q : Pattern). entries_of (fresh_tree (own_labels k) x.0 q) ++ []) (sym pattern)) (omega arith)
 
--- a step of listing
+-- one step of listing
 pub part_listed : (names : List Token) (k : ℕ) (s : Citing) (p : Part) (before popped new : List Part) (start list list' all : List Entry) → before ≡ popped ++ p ∷ [] → PartIsTaken names k s p popped new list list'
     → list ++ parts_entries names k s before ≡ start ++ all → list' ++ parts_entries names k s new ≡ start ++ all
 part_listed names k s p before popped new start list list' all is taken invariant =
@@ -102,7 +102,7 @@ pub how_many-of : (ds : List Derivation) → how_many_by (derivations ds) ≡ le
 how_many-of [] = refl
 how_many-of (d ∷ ds) = omega (arith, how_many-of ds)
 
--- a rule is taken apart
+-- a rule is split
 pub rule_taken : (names : List Token) (k : ℕ) (s : Citing) (p : Part) (d : Bor Derivation) (r : Rule) (is : List Instance) (ds : Derivations) (old new : List Part) (list list' list'' : List Entry) → p ≡ part.Derived d → d.now ≡ by_rule r is ds
     → list' ≡ list ++ instance_entries k is → list'' ≡ list' ++ all_entries (trees_before (own_labels k) r is) → PutsParts (λ names k s. rest_of_rule k s r is ds) (3 * all_steps ds + 2) old new → PartIsTaken names k s p old new list list''
 rule_taken names k s p d r is ds old new list list' list'' taken whole first second puts =
@@ -120,7 +120,7 @@ rule_taken names k s p d r is ds old new list list' list'' taken whole first sec
       weight = omega (arith, puts.weight, light);
     }
 
--- a citation of a claim is taken apart
+-- a citation of a claim is split
 citation_taken : (names : List Token) (k : ℕ) (s : Citing) (p : Part) (d : Bor Derivation) (e : Derivation) (c : Stated) (xs : List ℕ) (ms : List Pattern) (ds : Derivations) (old new : List Part) (list list' : List Entry) → p ≡ part.Derived d → d.now ≡ e
     → entries_by k s e ≡ entries_of (claim_tree (own_labels k) c xs ms (derivation_trees (own_labels k) s ds)) → 3 * all_steps ds + 1 < 3 * steps_in e
     → list' ≡ list ++ value_entries k xs ms c.claim.variables → PutsParts (λ names k s. rest_of_citation k s c ds) (3 * all_steps ds + 1) old new → PartIsTaken names k s p old new list list'
@@ -155,7 +155,7 @@ lemma_taken names k find premise_place p d e own own' q q' ms ms' ds ds' old new
     ∙ ap (λ (ps : List Pattern). cited own' q' e ps (derivations ds)) (sym patterns) ∙ ap (λ (es : List Derivation). cited own' q' e ms' (derivations es)) (sym parts) in
     citation_taken names k (claims_citing k find premise_place) p d (cited own' q' e ms' (derivations ds')) (find own' q') [] ms' (derivations ds') old new (listed names k labels) (listed names k labels') taken same refl (omega arith) (values names k) puts
 
--- what stands for one variable more
+-- what is substituted for one more variable
 pub value_entries-push : (k : ℕ) (xs : List ℕ) (ms : List Pattern) (vs : List Variable) (v : Variable) → value_entries k xs ms (vs ++ v ∷ []) ≡ value_entries k xs ms vs ++ value_entries k xs ms (v ∷ [])
 value_entries-push k xs ms [] v = refl
 value_entries-push k xs ms (u ∷ vs) v =

@@ -57,12 +57,12 @@ stands_before [] x y k h = absurd (cc)
 stands_before (z ∷ xs) x y zero h = h
 stands_before (z ∷ xs) x y (suc k) h = stands_before xs x y k h
 
--- the place under some bytes, where one more was put into a table under its bytes
+-- the place under some bytes, after one more place was put into a table under its bytes
 place_if : (key other : List ℕ) (n : ℕ) (old new : List ℕ → Option ℕ) → ((bytes : List ℕ) → new bytes ≡ cond (bytes_eq key bytes) (Some n) (old bytes))
     → (b : Bool) → bytes_eq key other ≡ b → unwrap_or (new other) 0 ≡ unwrap_or (cond b (Some n) (old other)) 0
 place_if key other n old new inserted b is = ap (λ (o : Option ℕ). unwrap_or o 0) (inserted other ∙ ap (λ (c : Bool). cond c (Some n) (old other)) is)
 
--- one claim more, under its bytes
+-- one more claim, under its bytes
 pub claim_more : (stated : List Stated) (s : Stated) (key : List ℕ) (old new : List ℕ → Option ℕ) → ArePlaced stated old → key ≡ statement_key s.claim.hypotheses s.claim.conclusion
     → ((bytes : List ℕ) → new bytes ≡ cond (bytes_eq key bytes) (Some (length stated)) (old bytes)) → ArePlaced (stated ++ s ∷ []) new
 claim_more stated s key old new placed is inserted own q =
@@ -130,7 +130,7 @@ all_found stated o found placed own q (s, is) = go (found (statement_key own q))
     go (Some k) at = found_among stated (last_of o) own q k at
     go None not = in_last o s not is
 
--- one hypothesis more
+-- one more hypothesis
 pub premise_more : (ps : List Pattern) (p : Pattern) (key : List ℕ) (old new : List ℕ → Option ℕ) → ArePremises ps (premise_place_by old) → key ≡ pattern_key p
     → ((bytes : List ℕ) → new bytes ≡ cond (bytes_eq key bytes) (Some (length ps)) (old bytes)) → ArePremises (ps ++ p ∷ []) (premise_place_by new)
 premise_more ps p key old new finds is inserted q there = go (bytes_eq key (pattern_key q)) refl

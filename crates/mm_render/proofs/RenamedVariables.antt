@@ -1,4 +1,4 @@
--- Object variables under new numbers.
+-- Object variables with new numbers.
 use Rattle.std.proofs.Common.{◌≡◌, ℕ, List, [], ◌∷◌, zero, suc, slice_get, slice_index_or, Some, None, refl, ap}
 use Rattle.ml_pat.specs.declared.numbers.VarNo.{VarNo}
 use Rattle.ml_kernel.specs.StepView.{numbers_of}

@@ -38,7 +38,7 @@ two_put p q old mid new first second =
       weight = omega (arith, heavy, heavier);
     }
 
--- one form more
+-- one more form
 pub form_taken : (p : Bor Pattern) (before popped new : List (Bor Pattern)) (vs vs' whole : List Variable) → before ≡ popped ++ p ∷ [] → VariablesAreTaken (variables_in p.now) (forms_in p.now) popped new vs vs'
     → added vs (stack_variables (patterns_of before)) ≡ whole → added vs' (stack_variables (patterns_of new)) ≡ whole
 form_taken p before popped new vs vs' whole is taken invariant =
@@ -54,7 +54,7 @@ pub are_numbered : (vs : List Variable) → HaveNumbers vs → AreNumbered vs
 are_numbered [] h = tt
 are_numbered (v ∷ vs) h = (h v (first_there v vs), are_numbered vs (λ u there. h u (later_there v vs u there)))
 
--- the variables of one thing more among others
+-- the variables of one more item, added to the others
 pub item_added : {A : Type 0} (variables : A → List Variable) (xs before : List A) (x : A) (start vs vs' : List Variable) → xs ≡ before ++ x ∷ [] → vs ≡ added start (flat_map variables before) → vs' ≡ added vs (variables x)
     → vs' ≡ added start (flat_map variables xs)
 item_added variables xs before x start vs vs' more old new =

@@ -1,4 +1,4 @@
--- A theorem that was written to a text of its own, which was appended, and which is kept.
+-- A theorem that was written to a text of its own; this text was appended, and the theorem is kept.
 use Rattle.std.proofs.Common.{◌≡◌, ℕ, List, [], ◌++◌, ap, ◌∙◌, sym, subst}
 use Rattle.mm_text.specs.Bytes.{Token}
 use Rattle.mm_database.specs.StatementTexts.{written_statements}

@@ -1,4 +1,5 @@
--- The claim that a claim of the code stands for: cited by the clauses of private functions, and by what a renderer keeps.
+-- The claim that a claim of the code means. Only clauses of private functions and the definition of
+-- what a renderer keeps cite this.
 use Rattle.std.specs.Prelude.{List, [], ◌∷◌, map, Option, Some, None}
 use Rattle.mm_render.specs.declared.claims.Claim as code
 use Rattle.mm_render.specs.declared.claims.Stated as numbered
@@ -15,7 +16,7 @@ plain_stated s = record { number = s.number; claim = plain_claim s.claim }
 abbrev pub plain_stated_all : List numbered.Stated → List Stated
 plain_stated_all ss = map plain_stated ss
 
--- the last of a run, where there is one
+-- the last of a run, if there is one
 abbrev pub last_of : Option numbered.Stated → List Stated
 last_of None = []
 last_of (Some s) = plain_stated s ∷ []

@@ -14,6 +14,6 @@ kept_of r = record {
   last = last_of r.run;
 }
 
--- its table has what may always be cited
+-- its table has the claims that may always be cited
 abbrev pub FindsKept : Inside → Type 0
 FindsKept r = ArePlaced (plain_stated_all r.stated.items) (found_in r.places)

@@ -11,12 +11,12 @@ no_claim = record { number = 0; claim = record { variables = []; hypotheses = []
 abbrev pub stated_at : List Stated → ℕ → Stated
 stated_at stated k = slice_index_or stated k no_claim
 
--- the first
+-- the first claim, or `no_claim` if there is none
 abbrev pub stated_or_none : List Stated → Stated
 stated_or_none [] = no_claim
 stated_or_none (s ∷ ss) = s
 
--- the claim at a place, or where there is none the last of a run
+-- the claim at a place, or the last of a run if there is no place
 abbrev pub placed_or_last : List Stated → List Stated → Option ℕ → Stated
 placed_or_last stated last (Some k) = stated_at stated k
 placed_or_last stated last None = stated_or_none last
@@ -29,7 +29,7 @@ find_by stated last found hypotheses conclusion = placed_or_last stated last
 abbrev pub premise_place_by : (List ℕ → Option ℕ) → Pattern → ℕ
 premise_place_by found p = unwrap_or (found (pattern_key p)) 0
 
--- at the place that is found stands the claim; where none is found it was not stated
+-- at the place that is found is the claim; if none is found, the claim was not stated
 abbrev pub IsPlaced : List Stated → List Pattern → Pattern → Option ℕ → Type 0
 IsPlaced stated own q (Some k) = (s : Stated) × (slice_get stated k ≡ Some s) × IsFoundAs stated own q s
 IsPlaced stated own q None = IsStated stated own q → ⊥

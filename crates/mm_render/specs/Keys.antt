@@ -2,8 +2,8 @@
 use Rattle.std.specs.Prelude.{ℕ, zero, suc, ◌+◌, ◌/◌, ◌%◌, nat_lt, if◌then◌else◌, List, [], ◌∷◌, flat_map}
 use Rattle.ml_pat.specs.Patterns.{Pattern, bot, top, imp, not, and, or, equal, member, fun, ex, all, app, at_sort, next, ev, var, meta, constant}
 
--- The numbers of a pattern in front of others, a form before its parts: for each form its number, and two numbers of what else
--- is in it.
+-- The numbers of a pattern before others, a form before its parts. For each form there is its
+-- number, and two numbers for what else is in it.
 abbrev pub numbers : Pattern → List ℕ → List ℕ
 numbers bot rest = 0 ∷ 0 ∷ 0 ∷ rest
 numbers top rest = 1 ∷ 0 ∷ 0 ∷ rest
@@ -24,8 +24,8 @@ numbers (equal p q) rest = 15 ∷ 0 ∷ 0 ∷ numbers p (numbers q rest)
 numbers (member p q) rest = 16 ∷ 0 ∷ 0 ∷ numbers p (numbers q rest)
 numbers (app p q) rest = 17 ∷ 0 ∷ 0 ∷ numbers p (numbers q rest)
 
--- The bytes of a number: seven of its bits in each, the lowest first, and 128 more in each byte but the last, which there is room
--- for besides so many others.
+-- The bytes of a number. Each byte has seven of its bits, the lowest first. Each byte but the last
+-- has 128 added. `room` is how many bytes there may be before the last one.
 abbrev pub bytes_within : ℕ → ℕ → List ℕ
 bytes_within zero n = n ∷ []
 bytes_within (suc room) n = if nat_lt n 128 then n ∷ [] else (n % 128 + 128) ∷ bytes_within room (n / 128)

@@ -1,4 +1,4 @@
--- The variables that a list has: cited by the clauses of private functions alone.
+-- The variables that a list has. Only clauses of private functions cite this.
 use Rattle.std.specs.Prelude.{List}
 use Rattle.mm_render.specs.declared.variables.VariableList.{VariableList}
 use Rattle.mm_claims.specs.Variables.{Variable}

@@ -1,4 +1,5 @@
--- What of a derivation is still to be looked at for its variables: cited by the clauses of private functions alone.
+-- What of a derivation is still to be searched for variables. Only clauses of private functions
+-- cite this.
 use Rattle.std.specs.Prelude.{◌≡◌, ℕ, ◌+◌, ◌<◌, ◌≤◌, List, [], ◌∷◌, ◌++◌}
 use Rattle.std.specs.Borrow.{Bor}
 use Rattle.ml_pat.specs.Patterns.{Pattern}
@@ -9,7 +10,8 @@ use Rattle.mm_claims.specs.Blocks.{Stated}
 use Rattle.mm_claims.specs.OpenVariables.{variables_of, all_variables_of}
 use Rattle.mm_claims.specs.AddedVariables.{added}
 
--- the variables of the derivations on a stack, the top last, and their steps
+-- the variables of the derivations on a stack, the top last; and how many steps these derivations
+-- have
 abbrev pub stack_needs : (List Pattern → Pattern → Stated) → List (Bor Derivation) → List Variable
 stack_needs find [] = []
 stack_needs find (d ∷ ds) = stack_needs find ds ++ variables_of find d.now
@@ -24,7 +26,8 @@ pub record PutsDerivations (ds : Derivations) (old new : List (Bor Derivation)) 
       ++ stack_needs find old
   pub steps : stack_steps new ≤ stack_steps old + all_steps ds
 
--- A derivation was taken from a stack: the variables of its last step were added, and those below it are on the stack.
+-- A derivation was taken from a stack. The variables of its last step were added, and the
+-- derivations below it were put on the stack.
 pub record StepIsTaken (find : List Pattern → Pattern → Stated) (d : Derivation) (old new : List (Bor Derivation))
     (vs vs' : List Variable) : Type 0 where
   pub needs : added vs' (stack_needs find new) ≡ added vs (variables_of find d ++ stack_needs find old)

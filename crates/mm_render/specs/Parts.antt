@@ -1,4 +1,4 @@
--- What of a derivation is still to be listed: cited by the clauses of private functions alone.
+-- What of a derivation is still to be listed. Only clauses of private functions cite this.
 use Rattle.std.specs.Prelude.{◌≡◌, ℕ, ◌+◌, ◌*◌, ◌<◌, ◌≤◌, List, [], ◌∷◌, ◌++◌, length, map}
 use Rattle.mm_text.specs.Bytes.{Token}
 use Rattle.mm_database.specs.Proofs.{postorder}
@@ -20,7 +20,8 @@ use Rattle.mm_claims.specs.Blocks.{Stated}
 use Rattle.mm_claims.specs.CitedAt.{variable_tree, claims_citing}
 use Rattle.mm_render.specs.PlaceTable.{found_at, premises_at}
 
--- the proof by a derivation in the block of a statement, as labels with what each takes, and those by some
+-- the proof by a derivation in the block of a statement, as labels; as labels with what each takes;
+-- and the proofs by several derivations
 abbrev pub proof_of : ℕ → Citing → Derivation → List Token
 proof_of k s d = postorder (derivation_tree (own_labels k) s d)
 
@@ -45,7 +46,7 @@ abbrev pub parts_entries : List Token → ℕ → Citing → List Part → List 
 parts_entries names k s [] = []
 parts_entries names k s (p ∷ ps) = parts_entries names k s ps ++ part_entries names k s p
 
--- a step of a derivation weighs more than what it comes to
+-- the weight of a part; a step of a derivation weighs more than the parts that it is split into
 abbrev pub part_weight : Part → ℕ
 part_weight (part.Plain w) = 1
 part_weight (part.Derived d) = 3 * steps_in d.now
@@ -60,13 +61,14 @@ pub record PutsParts (put : List Token → ℕ → Citing → List Entry) (more 
       ++ parts_entries names k s old
   pub weight : parts_weight new ≤ parts_weight old + more
 
--- a part was taken from a stack: it is listed, or the parts that are left of it were put on the stack
+-- a part was taken from a stack: it was listed, or the parts that are left of it were put on the
+-- stack
 pub record PartIsTaken (names : List Token) (k : ℕ) (s : Citing) (p : Part) (old new : List Part)
     (list list' : List Entry) : Type 0 where
   pub entries : list' ++ parts_entries names k s new ≡ list ++ (part_entries names k s p ++ parts_entries names k s old)
   pub weight : parts_weight new < parts_weight old + part_weight p
 
--- what is left of a rule: the proofs of what it concludes from, its judgement after them and its label
+-- what is left of a rule: the proofs of its premises, the judgement after them, and its label
 abbrev pub rest_of_rule : ℕ → Citing → Rule → List Instance → Derivations → List Entry
 rest_of_rule k s r is ds =
     all_entries_by k s ds ++ (all_entries (trees_behind (own_labels k) r is) ++
@@ -85,10 +87,10 @@ rest_of_citation k s c ds =
           ds;
     } ∷ []
 
--- the proofs of what stands for variables of a claim
+-- the proofs of what is substituted for variables of a claim
 abbrev pub value_entries : ℕ → List ℕ → List Pattern → List Variable → List Entry
 value_entries k new ms vs = all_entries (map (variable_tree (own_labels k) new ms) vs)
 
--- the citing of the statement that stands there
+-- the citing of the statement that is being written
 abbrev pub citing_at : Standing → Citing
 citing_at at = claims_citing at.serial (found_at at) (premises_at at)

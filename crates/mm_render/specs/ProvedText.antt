@@ -1,4 +1,4 @@
--- A theorem with its proof after a text: cited by the clauses of private functions alone.
+-- A theorem with its proof after a text. Only clauses of private functions cite this.
 use Rattle.std.specs.Prelude.{◌≡◌, ℕ, true, List, ◌++◌, take}
 use Rattle.mm_text.specs.Bytes.{Token}
 use Rattle.mm_database.specs.StatementTexts.{written_statements}
@@ -11,7 +11,7 @@ use Rattle.mm_claims.specs.Keeping.{Gains, with_last, with_stated}
 use Rattle.mm_claims.specs.Kept.{Kept, all_stated}
 use Rattle.mm_claims.specs.Places.{Finds, MayProve, lemma_statements, more_variables}
 
--- just this theorem is gained where it is kept as a lemma, or as the last of a run
+-- exactly this theorem is gained, if it is kept as a lemma or as the last of a run
 abbrev pub GainsTheorem : List Token → Kept → Kept → (List Pattern → Pattern → Stated) → (Pattern → ℕ) → Theorem →
     Type 0
 GainsTheorem names old new find premise_place t =

@@ -1,4 +1,4 @@
--- What is written of a theorem in front of its proof: cited by the clauses of private functions alone.
+-- What is written for a theorem before its proof. Only clauses of private functions cite this.
 use Rattle.std.specs.Prelude.{ℕ, List, [], ◌∷◌, ◌++◌, codes}
 use Rattle.mm_text.specs.Bytes.{Token}
 use Rattle.ml_pat.specs.Patterns.{Pattern}
@@ -14,6 +14,6 @@ use Rattle.mm_database.specs.StatementTexts.{written_statements}
 abbrev pub statement_front : List Token → ℕ → Pattern → List ℕ
 statement_front names k q = written (statement_label k ∷ (codes "$p" ∷ (holds_text (own_naming names) q ++ codes "$=" ∷ [])))
 
--- `${`, the head, and these
+-- `${`, the head, and then the label and the statement
 abbrev pub theorem_front : List Token → ℕ → List Variable → List Pattern → Pattern → List ℕ
 theorem_front names k vs ps q = written_statements ((codes "${" ∷ []) ∷ head_statements names k vs ps) ++ statement_front names k q

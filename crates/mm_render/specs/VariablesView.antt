@@ -1,4 +1,4 @@
--- What the variables of a writer stand for: cited by the clauses of private functions alone.
+-- What the variables of a writer mean. Only clauses of private functions cite this.
 use Rattle.std.specs.Prelude.{◌≡◌, ◌<◌, ◌+◌, ◌^◌, ℕ, true, List, [], ◌∷◌, ◌++◌, map}
 use Rattle.std.specs.Borrow.{Bor}
 use Rattle.std.specs.BTreeSet.{BTreeSet, contains}
@@ -19,12 +19,12 @@ variable_of (variable.Pattern i) = pattern_variable i
 abbrev pub plain_variables : List Variable → List plain.Variable
 plain_variables vs = map variable_of vs
 
--- the object variables among some, and the pattern variables, are those with these numbers
+-- among some variables, the object variables and the pattern variables are those with these numbers
 pub record AreNumbersOf (objects patterns : BTreeSet ℕ) (vs : List plain.Variable) : Type 0 where
   pub object : (n : ℕ) → contains nat_cmp objects n ≡ has_variable vs (object_variable n)
   pub pattern : (n : ℕ) → contains nat_cmp patterns n ≡ has_variable vs (pattern_variable n)
 
--- each has a number of 64 bits
+-- each variable has a number of at most 64 bits
 abbrev pub HaveNumbers : List plain.Variable → Type 0
 HaveNumbers vs = (v : plain.Variable) → has_variable vs v ≡ true → number_of v < 2 ^ 64
 
@@ -33,7 +33,8 @@ abbrev pub stack_variables : List Pattern → List plain.Variable
 stack_variables [] = []
 stack_variables (p ∷ ps) = stack_variables ps ++ variables_in p
 
--- A pattern was taken from a stack: some of its variables were added, and its parts with the others are on the stack.
+-- A pattern was taken from a stack. Some of its variables were added, and its parts with the others
+-- were put on the stack.
 pub record VariablesAreTaken (of_pattern : List plain.Variable) (size : ℕ) (old new : List (Bor Pattern)) (vs vs' : List plain.Variable) : Type 0 where
   pub variables : added vs' (stack_variables (patterns_of new)) ≡ added vs (of_pattern ++ stack_variables (patterns_of old))
   pub weight : all_forms (patterns_of new) < all_forms (patterns_of old) + size

@@ -1,4 +1,4 @@
-// What is stated, with the variables that stand in it.
+// What is stated, with the variables that occur in it.
 ghost use Rattle.std.specs.Prelude.{◌≡◌, IfOk, OnOk};
 ghost use Rattle.mm_claims.specs.Blocks.{needs_block};
 ghost use Rattle.mm_claims.specs.ClaimVariables.{claim_of, claim_variables};
@@ -10,7 +10,7 @@ use crate::variables::{Variable, variables_of_claim};
 use ml_pat::MPat;
 use std::alloc::{AllocError, Global};
 
-/// A conclusion under hypotheses, with the variables that stand in them, each once.
+/// A conclusion under hypotheses, with the variables that occur in them, each once.
 #[derive(Drop)]
 pub(crate) struct Claim {
     pub(crate) variables: Vec<Variable>,
@@ -25,7 +25,8 @@ pub(crate) struct Stated {
     pub(crate) claim: Claim,
 }
 
-/// The claim of a conclusion under hypotheses, whose patterns are shared. The numbers of its variables fit in 64 bits.
+/// The claim of a conclusion under hypotheses. Its patterns are shared. The numbers of its
+/// variables fit in 64 bits.
 pub(crate) fn claim_of(
     alloc: Global,
     hypotheses: &[MPat],

@@ -1,5 +1,5 @@
-// The proof by a derivation, as a list of labels. What of it is still to be listed lies on a stack, so that a deep
-// derivation costs no stack of calls.
+// The proof by a derivation, as a list of labels. What is still to be listed is on a stack, so a
+// deep derivation needs no deep stack of calls.
 ghost use Rattle.std.specs.Prelude.{◌≡◌, ◌+◌, ◌*◌, [], ◌∷◌, ◌++◌, OnOk};
 ghost use Rattle.ml_pat.specs.Patterns.{bot};
 ghost use Rattle.ml_kernel.specs.StepView.{instances_of, numbers_of};
@@ -25,16 +25,16 @@ use mm_proof::{
 };
 use std::alloc::AllocError;
 
-/// What of a derivation is still to be listed.
+/// A part of a derivation that is still to be listed.
 #[derive(Clone, Copy)]
 pub(crate) enum Part<'a> {
-    /// What no derivation stands in.
+    /// A part without a derivation in it.
     Plain(Work<'a>),
     /// The proof by a derivation.
     Derived(&'a Deriv),
 }
 
-/// Writes the proof by a derivation of the statement that stands there. What stood in `labels` is let go.
+/// Writes the proof by a derivation, in the statement `at`. The old labels in `labels` are dropped.
 pub(crate) fn write_derivation(
     to: &mut Vec<u8>,
     labels: &mut Vec<Label>,
@@ -49,7 +49,7 @@ pub(crate) fn write_derivation(
     push_labels(to, at.names, at.serial, labels)
 }
 
-/// Lists the labels of the proof by a derivation of the statement that stands there.
+/// Lists the labels of the proof by a derivation, in the statement `at`.
 fn list_derivation(
     labels: &mut Vec<Label>,
     at: &Standing<'_>,
@@ -68,7 +68,7 @@ fn list_derivation(
     Ok(())
 }
 
-/// Lists a part, or takes a step of a derivation apart.
+/// Lists a part, or splits a step of a derivation.
 fn list_part<'a>(
     labels: &mut Vec<Label>,
     at: &Standing<'_>,
@@ -120,8 +120,9 @@ fn list_premise(
     list_label(labels, Word::Premise(place), 0)
 }
 
-/// Lists what stands for the variables of a claim that is cited, object variables under new numbers, and puts on a
-/// stack what is left of its citation: the proofs of its hypotheses and its label.
+/// Lists what is substituted for the variables of a claim that is cited; object variables get new
+/// numbers. Puts on a stack what is left of the citation: the proofs of its hypotheses and its
+/// label.
 fn list_citation<'a>(
     labels: &mut Vec<Label>,
     at: &Standing<'_>,
@@ -148,7 +149,8 @@ fn list_citation<'a>(
     put_derived(stack, parts)
 }
 
-/// Lists the proof of what stands for a variable of a claim that is cited at some object variables and patterns.
+/// Lists the proof of what is substituted for a variable of a claim that is cited at some object
+/// variables and patterns.
 fn list_value(
     labels: &mut Vec<Label>,
     variable: Variable,
@@ -182,8 +184,8 @@ fn put_derived<'a>(stack: &mut Vec<Part<'a>>, parts: &'a [Deriv]) -> Result<(), 
     Ok(())
 }
 
-/// Puts on a stack what is left of a rule: the proofs of what it concludes from, the judgement after them and its
-/// label.
+/// Puts on a stack what is left of a rule: the proofs of its premises, the judgement after them,
+/// and its label.
 fn put_rule<'a>(
     stack: &mut Vec<Part<'a>>,
     rule: Rule,
@@ -202,7 +204,8 @@ fn put_rule<'a>(
     put_derived(stack, parts)
 }
 
-/// Puts on a stack the judgement of a rule after the proofs of what it concludes from, where it has one.
+/// Puts on a stack the judgement of a rule that comes after the proofs of its premises, if it has
+/// one.
 fn put_behind<'a>(
     stack: &mut Vec<Part<'a>>,
     rule: Rule,

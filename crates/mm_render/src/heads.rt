@@ -1,4 +1,4 @@
-// The head of a block: its variables, which of them stay apart, and its hypotheses.
+// The head of a block: its variables, which of them have to stay apart, and its hypotheses.
 ghost use Rattle.std.specs.Prelude.{◌≡◌, [], ◌∷◌, ◌++◌, IfOk, OnOk, map};
 ghost use Rattle.mm_claims.specs.Blocks.{head_statements, premise_statements, separation_statements, separations, variable_statements};
 ghost use Rattle.mm_render.specs.HeadText.{AddsWordsOf, AreWordsOf, IsWordOf, pattern_separations, separation};
@@ -12,7 +12,8 @@ use ml_pat::{MPat, Names};
 use mm_proof::{Label, Word, Work, push_word, push_words, write_works};
 use std::alloc::{AllocError, Global};
 
-/// Adds the head of the block with the number `serial`: its variables, which of them stay apart, and its hypotheses.
+/// Adds the head of the block with the number `serial`: its variables, which of them have to stay
+/// apart, and its hypotheses.
 pub(crate) fn push_head(
     to: &mut Vec<u8>,
     labels: &mut Vec<Label>,
@@ -43,7 +44,7 @@ fn push_variables(
     Ok(())
 }
 
-/// Adds the declaration of a variable, and what it stands for.
+/// Adds the declaration of a variable, and its type.
 fn push_variable(
     to: &mut Vec<u8>,
     names: &Names,
@@ -94,7 +95,8 @@ fn label_word(variable: Variable) -> Word
     }
 }
 
-/// Adds which variables stay apart: the object variables from each other, and each pattern variable from these.
+/// Adds which variables have to stay apart: the object variables from each other, and each pattern
+/// variable from the object variables.
 fn push_separations(
     to: &mut Vec<u8>,
     names: &Names,
@@ -108,7 +110,8 @@ fn push_separations(
     push_pattern_separations(to, names, serial, &mut words, variables)
 }
 
-/// Adds for each pattern variable that it stays apart from some object variables, whose tokens are `words`.
+/// Adds for each pattern variable that it has to stay apart from some object variables, whose
+/// tokens are `words`.
 fn push_pattern_separations(
     to: &mut Vec<u8>,
     names: &Names,
@@ -124,7 +127,8 @@ fn push_pattern_separations(
     Ok(())
 }
 
-/// Adds that a variable stays apart from the object variables with the tokens `words`, where it is a pattern variable.
+/// Adds that a variable has to stay apart from the object variables with the tokens `words`, if it
+/// is a pattern variable.
 fn push_separations_of(
     to: &mut Vec<u8>,
     names: &Names,
@@ -157,7 +161,7 @@ fn object_words(alloc: Global, variables: &[Variable]) -> Result<Vec<Word>, Allo
     Ok(words)
 }
 
-/// Adds the token of a variable, where it is an object variable.
+/// Adds the token of a variable, if it is an object variable.
 fn push_object(words: &mut Vec<Word>, variable: Variable) -> Result<(), AllocError>
     ensures { OnOk result (AddsWordsOf (object_tokens (variable_of variable ∷ [])) words.old.items words.new.items) }
 {
@@ -170,7 +174,7 @@ fn push_object(words: &mut Vec<Word>, variable: Variable) -> Result<(), AllocErr
     }
 }
 
-/// Adds that variables stay apart, where they are two at least.
+/// Adds that variables have to stay apart, if there are at least two.
 fn push_separation(
     to: &mut Vec<u8>,
     names: &Names,

@@ -1,13 +1,15 @@
-//! Theorems of matching logic written as statements of a Metamath database, after a text that fits (crate
-//! `mm_claims`).
+//! Theorems of matching logic written as statements of a Metamath database, after a text that fits
+//! (crate `mm_claims`).
 //!
-//! **What follows what.** A text fits what a renderer keeps where it is valid and has declared and stated that. `begin`
-//! appends the header, `declare` names, `axiom` an axiom and `lemma` a theorem with its proof; a text that fits, with
-//! these after it, fits, and has gained just that axiom or theorem.
+//! **What may follow what.** A text fits what a renderer keeps if it is valid and has declared and
+//! stated that. `begin` appends the header, `declare` names, `axiom` an axiom, and `lemma` a
+//! theorem with its proof. A text that fits still fits with these after it, and it has gained
+//! exactly that axiom or theorem.
 //!
-//! **How it is written.** What of a derivation is still to be written, or to be looked at for its variables, lies on a
-//! stack, so that deep derivations need no recursion (`specs/Parts`, `specs/NeededView`). What was stated is found by
-//! its bytes in a table (`specs/Keys`, `specs/KeyPlaces`).
+//! **How it is written.** What of a derivation is still to be written, or to be searched for
+//! variables, is on a stack, so deep derivations need no recursion (`specs/Parts`,
+//! `specs/NeededView`). What was stated is found by its bytes in a table (`specs/Keys`,
+//! `specs/KeyPlaces`).
 #![tactic(auto)]
 
 mod claims;

@@ -1,5 +1,5 @@
-// The variables that a proof has: those that stand in what is written of its derivation. What of it is still to be looked at lies
-// on a stack, so that a deep derivation costs no stack of calls.
+// The variables of a proof: those that occur in what is written for its derivation. What is still
+// to be searched is on a stack, so a deep derivation needs no deep stack of calls.
 ghost use Rattle.std.specs.Prelude.{◌≡◌, IfOk, OnOk, flat_map};
 ghost use Rattle.ml_kernel.specs.StepView.{instance_of, instances_of, numbers_of};
 ghost use Rattle.ml_kernel.specs.Theorems.{derivations};
@@ -17,7 +17,8 @@ use ml_kernel::{Deriv, DerivStep, Inst};
 use ml_pat::{MPat, VarNo};
 use std::alloc::{AllocError, Global};
 
-/// Some variables, and after them the others that a derivation has, each once. Their numbers fit in 64 bits.
+/// Some variables, and after them the other variables of a derivation, each once. Their numbers fit
+/// in 64 bits.
 pub(crate) fn needed_variables(
     alloc: Global,
     at: &Standing<'_>,
@@ -66,7 +67,7 @@ fn take_step<'a>(
     }
 }
 
-/// Adds the variables of what stands for the variables of a claim.
+/// Adds the variables of what is substituted for the variables of a claim.
 fn add_values(
     alloc: Global,
     list: &mut VariableList,
@@ -83,7 +84,7 @@ fn add_values(
     Ok(())
 }
 
-/// Adds the variables of what stands for a variable of a claim.
+/// Adds the variables of what is substituted for a variable of a claim.
 fn add_value(
     alloc: Global,
     list: &mut VariableList,
@@ -102,7 +103,7 @@ fn add_value(
     }
 }
 
-/// Adds the variables of what stands for the variables of a rule.
+/// Adds the variables of what is substituted for the variables of a rule.
 fn add_instances(
     alloc: Global,
     list: &mut VariableList,
@@ -116,7 +117,7 @@ fn add_instances(
     Ok(())
 }
 
-/// Adds the variables of what stands for a variable of a rule.
+/// Adds the variables of what is substituted for a variable of a rule.
 fn add_instance(alloc: Global, list: &mut VariableList, instance: &Inst) -> Result<(), AllocError>
     ensures { OnOk result (listed list.new ≡ added (listed list.old) (variables_for (instance_of instance.now))) }
 {

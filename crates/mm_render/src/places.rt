@@ -1,6 +1,7 @@
-// How a claim is found that was stated. A table has the place of each that may always be cited, under the bytes of its
-// numbers, in which no two claims are alike: what a citation costs is linear in the size of what is cited, times the
-// logarithm of how many are kept. What stands under no bytes is the last of a run.
+// How a claim that was stated is found. A table has the place of each claim that may always be
+// cited, under the bytes of its numbers. No two claims have the same bytes. A citation costs time
+// linear in the size of what is cited, times the logarithm of how many claims are kept. A claim
+// that is not in the table is the last of a run.
 ghost use Rattle.std.specs.Prelude.{◌≡◌, ◌+◌, [], ◌∷◌, ◌++◌, IfOk, OnOk};
 ghost use Rattle.ml_pat.specs.FormsIn.{forms_in};
 ghost use Rattle.mm_claims.specs.CitedAt.{ArePremises};
@@ -16,31 +17,32 @@ use ml_pat::{MForm, MPat, Names};
 use std::alloc::{AllocError, Global};
 use std::collections::BTreeMap;
 
-/// Where a statement stands that is being written.
+/// The statement that is being written, and what it may cite.
 #[derive(Clone, Copy)]
 pub(crate) struct Standing<'a> {
     /// The names that its patterns are made of.
     pub(crate) names: &'a Names,
-    /// Its number.
+    /// The number of the statement.
     pub(crate) serial: u64,
     /// The claims that may always be cited.
     pub(crate) stated: &'a [Stated],
     /// Their places, by their bytes.
     pub(crate) places: &'a BTreeMap<Vec<u8>, u64>,
-    /// The last of a run.
+    /// The last claim of a run.
     pub(crate) last: &'a Option<Stated>,
-    /// The places of its hypotheses, by their bytes.
+    /// The places of the hypotheses of the statement, by their bytes.
     pub(crate) premises: &'a BTreeMap<Vec<u8>, u64>,
 }
 
-/// What a citation has of a claim: the number of its label, and its variables.
+/// What a citation needs of a claim: the number of its label, and its variables.
 #[derive(Clone, Copy)]
 pub(crate) struct Citation<'a> {
     pub(crate) number: u64,
     pub(crate) variables: &'a [Variable],
 }
 
-/// The claim that was stated before with these hypotheses and this conclusion; any where none was.
+/// The claim that was stated before with these hypotheses and this conclusion, or any claim if
+/// there is none.
 pub(crate) fn found<'a>(
     alloc: Global,
     at: &Standing<'a>,
@@ -99,7 +101,7 @@ fn cited(stated: &Stated) -> Citation<'_>
     }
 }
 
-/// The place of a hypothesis of the statement; 0 where it is none.
+/// The place of a hypothesis of the statement, or 0 if it is none.
 pub(crate) fn premise_of(
     alloc: Global,
     at: &Standing<'_>,
@@ -147,7 +149,7 @@ pub(crate) fn statement_key(
     Ok(key)
 }
 
-/// Adds the bytes of a pattern. A stack takes the place of recursion.
+/// Adds the bytes of a pattern. A stack replaces recursion.
 fn push_key(key: &mut Vec<u8>, alloc: Global, pattern: &MPat) -> Result<(), AllocError>
     ensures { OnOk result (key.new.items ≡ key.old.items ++ pattern_key pattern.now) }
 {
@@ -189,7 +191,7 @@ fn push_form<'a>(
     }
 }
 
-/// Adds the numbers of a form over one pattern, and puts that on the stack.
+/// Adds the numbers of a form over one pattern, and puts that pattern on the stack.
 fn push_over<'a>(
     key: &mut Vec<u8>,
     stack: &mut Vec<&'a MPat>,
@@ -205,7 +207,7 @@ fn push_over<'a>(
     Ok(())
 }
 
-/// Adds the number of a form between two patterns, and puts these on the stack.
+/// Adds the number of a form between two patterns, and puts these patterns on the stack.
 fn push_between<'a>(
     key: &mut Vec<u8>,
     stack: &mut Vec<&'a MPat>,
@@ -230,7 +232,8 @@ fn push_numbers(key: &mut Vec<u8>, first: u64, second: u64, third: u64) -> Resul
     push_number(key, third)
 }
 
-/// Adds the bytes of a number: seven of its bits in each, the lowest first, and 128 more in each but the last.
+/// Adds the bytes of a number. Each byte has seven of its bits, the lowest first. Each byte but the
+/// last has 128 added.
 fn push_number(key: &mut Vec<u8>, number: u64) -> Result<(), AllocError>
     ensures { OnOk result (key.new.items ≡ key.old.items ++ number_bytes number) }
 {

@@ -26,21 +26,21 @@ use std::alloc::{AllocError, Global};
 use std::collections::BTreeMap;
 use std::marker::Model;
 
-/// What was written of a proof file. Contracts see it as what it keeps. Statements have numbers of 64 bits: a renderer
-/// that has stated so many answers as where memory runs out.
+/// What was written of a proof file. Contracts see it as what it keeps. The numbers of statements
+/// have 64 bits. After 2^64 - 1 statements, another one returns the error for out of memory.
 #[derive(Drop)]
 pub struct Renderer {
     begun: bool,
     named: u64,
     // How many claims were stated.
     written: u64,
-    // Those that may always be cited, and the place of each under its bytes.
+    // The claims that may always be cited, and the place of each under its bytes.
     stated: Vec<Stated>,
     places: BTreeMap<Vec<u8>, u64>,
-    // The last of a run.
+    // The last claim of a run.
     run: Option<Stated>,
-    // The labels of what is written. Each statement empties the list and keeps its room, so that a statement that is no
-    // longer than those before it takes no memory for its labels.
+    // The labels of what is written. Each statement empties the list but keeps its capacity. So a
+    // statement that is no longer than those before it allocates nothing for its labels.
     labels: Vec<Label>,
 }
 
@@ -60,7 +60,7 @@ impl Model for Renderer {
 }
 
 impl Renderer {
-    /// Nothing was written.
+    /// A renderer that has written nothing.
     pub fn new(alloc: Global) -> Renderer
         ensures { result ≡ nothing_kept }
     {
@@ -96,8 +96,8 @@ impl Renderer {
         self.named
     }
 
-    /// Declares each name that is not declared yet: as a constant, and of its type by an axiom. The error: out of
-    /// memory; then nothing changes.
+    /// Declares each name that is not declared yet: as a constant, and with its type by an axiom.
+    /// The error: out of memory; then nothing changes.
     pub fn declare(&mut self, names: &Names, to: &mut Vec<u8>) -> Result<(), AllocError>
         requires { self.old.named ≤ length names.now }
         ensures text { OnOk result (to.new.items ≡ to.old.items ++ written_statements (all_name_statements self.old.named (drop self.old.named names.now))) }
@@ -115,9 +115,9 @@ impl Renderer {
         Ok(())
     }
 
-    /// States an axiom of a theory under the next label, in a block with its variables where it has any. Where it is over the names
-    /// that were declared, each text that fits fits with it appended, and has gained just this axiom. The error: out of
-    /// memory; then nothing changes.
+    /// States an axiom of a theory under the next label, in a block with its variables if it has
+    /// any. If the axiom is over the declared names, each text that fits still fits with it
+    /// appended, and has gained exactly this axiom. The error: out of memory; then nothing changes.
     pub fn axiom(
         &mut self,
         names: &Names,
@@ -145,10 +145,11 @@ impl Renderer {
         self.keep(claim, &text, to)
     }
 
-    /// States a theorem under the next label, with its proof, in a block with its hypotheses and with the variables
-    /// that stand in it or in its proof where there are any. Where it is over the names that were declared, and its
-    /// proof uses only these and cites only what is kept, each text that fits fits with it appended, and has gained
-    /// just this theorem. It is kept. The error: out of memory; then nothing changes.
+    /// States a theorem under the next label, with its proof. It is in a block with its hypotheses
+    /// and with the variables that occur in it or in its proof, if there are any. If the theorem is
+    /// over the declared names, and its proof uses only these and cites only what is kept, each
+    /// text that fits still fits with it appended, and has gained exactly this theorem. The theorem
+    /// is kept. The error: out of memory; then nothing changes.
     pub fn lemma(&mut self, names: &Names, lemma: &Thm, to: &mut Vec<u8>) -> Result<(), AllocError>
         ensures states { OnOk result (StatesLemma names.now self.old self.new lemma.now to.old.items to.new.items) }
         ensures kept { OnOk result (self.new ≡ with_stated self.old (claim_of lemma.now.hypotheses lemma.now.conclusion)) }
@@ -160,8 +161,8 @@ impl Renderer {
         self.keep(claim, &text, to)
     }
 
-    /// States a theorem of a run in the same way. It is kept in the place of the one that was stated so before, which
-    /// can no longer be cited.
+    /// States a theorem of a run in the same way. It replaces the theorem of a run that was stated
+    /// before it, which can no longer be cited.
     pub fn theorem(
         &mut self,
         names: &Names,
@@ -186,7 +187,7 @@ impl Renderer {
         self.written
     }
 
-    // Adds a theorem with its proof to a text; its claim is the answer.
+    // Adds a theorem with its proof to a text, and returns its claim.
     fn write_proof(
         &mut self,
         names: &Names,
@@ -199,7 +200,7 @@ impl Renderer {
         ensures as_before { self.new ≡ self.old }
     {
         let alloc = *to.allocator();
-        // Its contract tells that the theorem's derivation concludes what the theorem does.
+        // Its contract says that the theorem's derivation concludes what the theorem does.
         let hypotheses = theorem.hypotheses();
         let claim = claim_of(alloc, hypotheses, theorem.conclusion())?;
         let premises = premise_places(alloc, hypotheses)?;
@@ -216,7 +217,8 @@ impl Renderer {
         Ok(claim)
     }
 
-    // Adds the text of a statement, and keeps what was stated. At an error nothing changes.
+    // Adds the text of a statement, and keeps what was stated. If there is an error, nothing
+    // changes.
     fn keep(&mut self, claim: Claim, text: &[u8], to: &mut Vec<u8>) -> Result<(), AllocError>
         ensures text { OnOk result (to.new.items ≡ to.old.items ++ text.now) }
         ensures kept { OnOk result (self.new ≡ with_stated self.old (plain_claim claim)) }
@@ -236,7 +238,8 @@ impl Renderer {
         Ok(())
     }
 
-    // Adds the text of a statement, and keeps what was stated as the last of a run. At an error nothing changes.
+    // Adds the text of a statement, and keeps what was stated as the last of a run. If there is an
+    // error, nothing changes.
     fn keep_last(&mut self, claim: Claim, text: &[u8], to: &mut Vec<u8>) -> Result<(), AllocError>
         ensures text { OnOk result (to.new.items ≡ to.old.items ++ text.now) }
         ensures kept { OnOk result (self.new ≡ with_last self.old (plain_claim claim)) }
@@ -252,7 +255,7 @@ impl Renderer {
     }
 }
 
-// The number after this one; the error is that there is none of 64 bits.
+// The number after this one. The error: it does not fit in 64 bits.
 fn next_number(number: u64) -> Result<u64, AllocError>
     ensures { IfOk result (λ next. next ≡ number + 1) }
 {
@@ -295,7 +298,8 @@ fn push_declaration(to: &mut Vec<u8>, names: &Names, no: u64) -> Result<(), Allo
     )
 }
 
-/// What a name is declared to be: a sort begins with `s`, and all else is a pattern.
+/// The typecode that a name is declared with: that of a sort if it begins with `s`, and otherwise
+/// that of a pattern.
 fn typecode_of(token: Option<&str>) -> &'static str
     ensures { result.now ≡ typecode_of (unwrap_or (option_copied token.entry) []) }
 {

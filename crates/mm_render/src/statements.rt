@@ -1,4 +1,4 @@
-// Whole statements, each in a block of its own where it has variables or hypotheses.
+// Whole statements, each in a block of its own if it has variables or hypotheses.
 ghost use Rattle.std.specs.Prelude.{◌≡◌, [], ◌∷◌, ◌++◌, OnOk};
 ghost use Rattle.mm_claims.specs.Blocks.{axiom_statements};
 ghost use Rattle.mm_claims.specs.Claiming.{proved_statements};
@@ -73,8 +73,8 @@ fn push_plain_axiom(
     )
 }
 
-/// Adds a claim as the theorem that stands there, with its proof by a derivation. The numbers of the variables that the proof has
-/// fit in 64 bits.
+/// Adds a claim as the theorem of the statement `at`, with its proof by a derivation. The numbers
+/// of the variables of the proof fit in 64 bits.
 pub(crate) fn push_theorem(
     to: &mut Vec<u8>,
     labels: &mut Vec<Label>,

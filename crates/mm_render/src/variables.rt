@@ -1,4 +1,4 @@
-// The variables that stand in patterns, each once, in the order in which they first stand.
+// The variables that occur in patterns, each once, in the order of first occurrence.
 ghost use Rattle.std.specs.Prelude.{◌≡◌, ◌+◌, [], ◌∷◌, ◌++◌, IfOk, OnOk, flat_map};
 ghost use Rattle.ml_pat.specs.FormsIn.{forms_in};
 ghost use Rattle.ml_kernel.specs.Renamings.{by_place};
@@ -22,7 +22,7 @@ pub(crate) enum Variable {
     Pattern(u32),
 }
 
-/// What an object variable becomes where these are the new ones by place.
+/// What an object variable becomes if `new` has the new variables by place.
 #[tactic(auto, using(crate::proofs::RenamedVariables::renamed_there, crate::proofs::RenamedVariables::renamed_not))]
 pub(crate) fn renamed(new: &[VarNo], x: VarNo) -> VarNo
     ensures { result.0 ≡ by_place (numbers_of new.now) x.0 }
@@ -69,14 +69,14 @@ impl VariableList {
         Ok(list)
     }
 
-    /// They alone.
+    /// The variables of the list.
     pub(crate) fn into_variables(self) -> Vec<Variable>
         ensures { plain_variables result.items ≡ listed self }
     {
         self.all
     }
 
-    /// Adds a variable after the others, where it is none of them.
+    /// Adds a variable after the others, if it is not among them.
     pub(crate) fn add(&mut self, variable: Variable) -> Result<(), AllocError>
         ensures { OnOk result (listed self.new ≡ added (listed self.old) (variable_of variable ∷ [])) }
     {
@@ -109,7 +109,7 @@ impl VariableList {
         }
     }
 
-    /// Adds the variables that stand in a pattern, bound or free. A stack takes the place of recursion.
+    /// Adds the variables that occur in a pattern, bound or free. A stack replaces recursion.
     pub(crate) fn add_all(&mut self, alloc: Global, pattern: &MPat) -> Result<(), AllocError>
         ensures { OnOk result (listed self.new ≡ added (listed self.old) (variables_in pattern.now)) }
     {
@@ -182,8 +182,8 @@ fn put_two<'a>(stack: &mut Vec<&'a MPat>, p: &'a MPat, q: &'a MPat) -> Result<()
     Ok(())
 }
 
-/// The variables that stand in a conclusion and then in its hypotheses, each once, in the order in which they first stand. Their
-/// numbers fit in 64 bits.
+/// The variables that occur in a conclusion and then in its hypotheses, each once, in the order of
+/// first occurrence. Their numbers fit in 64 bits.
 pub(crate) fn variables_of_claim(
     alloc: Global,
     hypotheses: &[MPat],

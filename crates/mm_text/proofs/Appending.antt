@@ -1,4 +1,4 @@
--- What is appended to a text that ends well is read as it is read alone.
+-- A text after a text that ends well is read the same as on its own.
 use Rattle.std.proofs.Common.{◌≡◌, ℕ, ◌+◌, Bool, true, false, List, [], ◌∷◌, ◌++◌, length, refl, ap, ◌∙◌, arith}
 use Rattle.std.specs.Prelude.{Option, Some, None}
 use Rattle.mm_text.specs.Bytes.{Class, printable, white, foreign, class_of, is_printable_class}
@@ -12,7 +12,7 @@ grown-append : (at b : ℕ) (p : Piece) (ps qs : List Piece) → grown at b ((p 
 grown-append at b (run later token) ps qs = refl
 grown-append at b (stray later) ps qs = refl
 
--- a byte in front of one that is followed by pieces
+-- a byte before a byte that has pieces after it
 with_byte-append : (k l : Class) (begins : Bool) (at b later c : ℕ) (ps qs : List Piece) → with_byte k (is_printable_class l) at b (with_byte l begins later c ps ++ qs) ≡ with_byte k (is_printable_class l) at b (with_byte l begins later c ps) ++ qs
 with_byte-append printable printable true at b later c [] qs = refl
 with_byte-append printable printable true at b later c (run place token ∷ ps) qs = refl
@@ -37,7 +37,7 @@ end_outside no_token = true
 end_outside (bad_text f) = false
 end_outside (next_token at token tokens) = end_outside tokens
 
--- tokens, and others in the place of their end
+-- tokens, with others instead of their end
 abbrev pub then_tokens : Tokens → Tokens → Tokens
 then_tokens no_token more = more
 then_tokens (bad_text f) more = bad_text f
@@ -76,7 +76,7 @@ statements_in-then reading (next_token at token s) t h =
     ap (with_ended (ended_by reading at token)) (statements_in-then (reading_after reading at token) s t (end_well-rest (ended_by reading at token) (statements_in (reading_after reading at token) s) h))
     ∙ with_ended-followed (ended_by reading at token) (statements_in (reading_after reading at token) s) (statements_in between t)
 
--- statements that end well are of tokens that end outside comments
+-- the tokens of statements that end well end outside comments
 end_outside-end_well : (reading : Reading) (s : Tokens) → end_well (statements_in reading s) ≡ true → end_outside s ≡ true
 end_outside-end_well reading no_token h = refl
 end_outside-end_well reading (bad_text f) h = absurd (cc)

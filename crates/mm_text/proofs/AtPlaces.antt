@@ -28,7 +28,8 @@ stray_at bytes at h is =
     pieces_at-byte bytes at h
     ∙ ap (λ (k : Class). with_byte k (begins_printable (drop (at + 1) bytes)) at (slice_index bytes at) (pieces_at bytes (at + 1))) is
 
--- the rest begins with a printable byte just where the byte there is one
+-- the bytes from a place on begin with a printable byte if and only if the byte at that place is
+-- printable
 begins_at : (bytes : List ℕ) (at : ℕ) → at < length bytes → begins_printable (drop at bytes) ≡ prints bytes at
 begins_at bytes at h = ap begins_printable (rest_at bytes at h)
 

@@ -6,7 +6,7 @@ use Rattle.mm_text.specs.Compressed.{Letter, last_digit, digit, saves, no_letter
 use Rattle.mm_text.specs.Numbers.{Spells}
 use Rattle.mm_text.specs.DigitsRead.{leading_value, last_value, head_letter, number_left}
 
--- no letters so far are as good as digits of no value
+-- no letters so far have the same effect as digits with the value 0
 begin_letter : (l : Letter) (bs : List ℕ) → joined_steps (steps_of_letter beginning l) (steps_from (before_next beginning l) bs) ≡ joined_steps (steps_of_letter (digits 0) l) (steps_from (before_next (digits 0) l) bs)
 begin_letter (last_digit d) bs = refl
 begin_letter (digit d) bs = refl
@@ -21,11 +21,11 @@ pub joined-nil : (s : Option (List CompressedStep)) → joined_steps (Some []) s
 joined-nil None = refl
 joined-nil (Some rest) = refl
 
--- a digit in front of letters
+-- a digit before letters
 pub steps-digit : (v b d : ℕ) (bs : List ℕ) → letter_of b ≡ digit d → steps_from (digits v) (b ∷ bs) ≡ steps_from (digits (5 * v + d)) bs
 steps-digit v b d bs h = rw h (joined-nil (steps_from (digits (5 * v + d)) bs))
 
--- letters after a number make no number of it
+-- a number with more letters after it is not a single number
 abbrev goes_on : Option (List CompressedStep) → Bool
 goes_on None = true
 goes_on (Some []) = false
@@ -66,7 +66,7 @@ left-one v no_letter h = refl
 pub number-one : (v b : ℕ) → leading_value (letter_of b) ≡ None → number_of_steps (steps_from (digits v) (b ∷ [])) ≡ option_map (λ d. 20 * v + d) (last_value (letter_of b))
 number-one v b h = left-one v (letter_of b) h
 
--- several, of which the first leads not
+-- several letters; the first is not a leading digit
 pub left-more : (v c : ℕ) (cs : List ℕ) (l : Letter) → leading_value l ≡ None → number_of_steps (joined_steps (steps_of_letter (digits v) l) (steps_from (before_next (digits v) l) (c ∷ cs))) ≡ None
 left-more v c cs (last_digit d) h = no_more (20 * v + d) (steps_from a_number (c ∷ cs)) (goes_on-letter a_number (letter_of c) cs (goes_on-digits cs))
 left-more v c cs (digit d) h = absurd (cc)
@@ -81,7 +81,7 @@ number-many v [] h k = refl
 number-many v (b ∷ []) h k = absurd (h (omega arith))
 number-many v (b ∷ (c ∷ cs)) h k = ap within_limit (number-more v b c cs k)
 
--- a number is past the limit where its leading digits are
+-- a number is past the limit if its leading digits are
 too_large : (n : ℕ) → 2 ^ 63 < n → within_limit (Some n) ≡ None
 too_large n h = grind (arith, nat_tests)
 
@@ -108,7 +108,7 @@ digit-pass letters at v d within h =
     ∙ ap (λ s. within_limit (number_of_steps s)) (steps-digit v (get_or letters at 0) d (drop (suc at) letters) (digit_of (letter_of (get_or letters at 0)) d h))
     ∙ ap (λ m. number_left (5 * v + d) (drop m letters)) (sym (add-one at))
 
--- letters that were appended, unless memory was missing
+-- letters that were appended, unless memory ran out
 pub spelled : {E : Type 0} (r : Result (Unit {0}) E) (n : ℕ) (old new letters : List ℕ) → new ≡ (if is_ok r then old ++ letters else old) → number_of letters ≡ Some n → IfOk r (λ x. Spells n old new)
 spelled (Ok x) n old new letters h k = (letters, h, k)
 spelled (Err e) n old new letters h k = tt

@@ -1,4 +1,4 @@
--- A number's letters in front of others.
+-- The letters of a number before other letters.
 use Rattle.std.proofs.Common.{◌≡◌, ℕ, ◌+◌, ◌*◌, List, [], ◌∷◌, ◌++◌, refl, ap, ◌∙◌, sym}
 use Rattle.std.specs.Prelude.{Option, Some, None}
 use Rattle.mm_text.specs.Compressed.{Letter, last_digit, digit, saves, no_letter, letter_of, Before, beginning, digits, a_number, a_save, value_before, before_next, CompressedStep, numbered, save, save_after, steps_of_letter, steps_at_end, joined_steps, steps_from, steps_of, number_of_steps}
@@ -16,7 +16,7 @@ nothing_in_front : (o : Option (List CompressedStep)) → joined_steps (Some [])
 nothing_in_front None = refl
 nothing_in_front (Some steps) = refl
 
--- after digits a number follows
+-- after digits there is a number
 digits_go_on : (v : ℕ) (letters : List ℕ) → steps_from (digits v) letters ≡ Some [] → ⊥
 digits_go_on v [] h = cc
 digits_go_on v (b ∷ letters) h = go (letter_of b) h (λ w. digits_go_on w letters)
@@ -27,7 +27,7 @@ digits_go_on v (b ∷ letters) h = go (letter_of b) h (λ w. digits_go_on w lett
     go saves is behind = cc
     go no_letter is behind = cc
 
--- after a number no letter says nothing
+-- each letter after a number means something
 pub ends_here : (letters : List ℕ) → steps_from a_number letters ≡ Some [] → letters ≡ []
 ends_here [] h = refl
 ends_here (b ∷ letters) h = absurd (go (letter_of b) h)
@@ -38,7 +38,7 @@ ends_here (b ∷ letters) h = absurd (go (letter_of b) h)
     go saves is = not_empty save (steps_from a_save letters) is
     go no_letter is = cc
 
--- a number alone
+-- only a number
 pub record Alone (m : ℕ) (o : Option (List CompressedStep)) (n : ℕ) : Type 0 where
   pub same : m ≡ n
   pub rest : o ≡ Some []
@@ -61,7 +61,7 @@ no_save a_number None n h = cc
 no_save a_number (Some steps) n h = cc
 no_save a_save o n h = cc
 
--- the letters of a number, after any step or the same digits, and in front of any letters
+-- the letters of a number, after any step or the same digits, and before any letters
 in_front : (letters more : List ℕ) (n : ℕ) (before other : Before) → value_before before ≡ value_before other → steps_from before letters ≡ Some (numbered n ∷ []) → steps_from other (letters ++ more) ≡ joined_steps (Some (numbered n ∷ [])) (steps_from a_number more)
 in_front [] more n before other same h = absurd (no_number_at_end before n h)
 in_front (b ∷ letters) more n before other same h = go (letter_of b) h (λ d is. in_front letters more n (digits (5 * value_before before + d)) (digits (5 * value_before other + d)) (ap (λ (v : ℕ). 5 * v + d) same) is)

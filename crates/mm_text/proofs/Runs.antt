@@ -1,4 +1,4 @@
--- What stands at the head of bytes: white space, a run, or a byte that may not stand.
+-- What bytes begin with: white space, a run, or a byte that is not allowed.
 use Rattle.std.proofs.Common.{◌≡◌, ℕ, ◌+◌, ◌<◌, ◌≤◌, Bool, true, false, List, [], ◌∷◌, length, take, drop, refl, ap, sym, ◌∙◌, arith, cond, if◌then◌else◌}
 use Rattle.std.proofs.Math.Numerals.{one-add}
 use Rattle.std.proofs.lemmas.List.{drop-drop, length-drop}
@@ -43,7 +43,7 @@ white_stops : (bs : List ℕ) → begins_white (drop (blanks bs) bs) ≡ false
 white_stops [] = refl
 white_stops (b ∷ bs) = stop_pick b bs (is_white b) refl (white_stops bs)
 
--- skipping the white space from a place on
+-- the white space from a place on is skipped
 pub skip-pieces : (bytes : List ℕ) (from n : ℕ) → n ≡ length (white_bytes (drop from bytes)) → pieces_at bytes (from + n) ≡ pieces_at bytes from
 skip-pieces bytes from n h =
     ap (λ m. pieces_at bytes (from + m)) (h ∙ length-prefix_len is_white (drop from bytes))
@@ -56,7 +56,7 @@ skip-stops bytes from n h =
     ∙ ap begins_white (sym (drop-drop (blanks (drop from bytes)) from bytes))
     ∙ white_stops (drop from bytes)
 
--- a printable byte alone, and in front of a run
+-- a single printable byte, and a printable byte before a run
 alone : (k : Class) (at b : ℕ) (ps : List Piece) → k ≡ printable → with_byte k false at b ps ≡ run at (b ∷ []) ∷ ps
 alone k at b ps e = rw e refl
 
@@ -116,7 +116,7 @@ stray_here at [] some w h = absurd (omega arith)
 stray_here at (b ∷ bs) some w h =
     stray_byte (class_of b) _ at b (pieces_from (at + 1) bs) (foreign_of (is_white b) _ w (counted (in_run b) (letters bs) h))
 
--- what comes at a place without white space
+-- what comes at a place that has no white space
 pub stray-at : (bytes : List ℕ) (from at n : ℕ) → pieces_at bytes at ≡ pieces_at bytes from → at < length bytes → begins_white (drop at bytes) ≡ false → n ≡ length (printed (drop at bytes)) → n ≡ 0 → pieces_at bytes from ≡ stray at ∷ pieces_at bytes (at + 1)
 stray-at bytes from at n same some w h z =
     sym same

@@ -7,7 +7,7 @@ use Rattle.mm_text.specs.Compressed.{Letter, last_digit, digit, saves, no_letter
 use Rattle.mm_text.specs.NumberLaws.{OneSpelling, ReadBack}
 use Rattle.mm_text.proofs.Digits.{begin, joined-nil, left-more}
 
--- the value of leading digits, the last one first
+-- the value of leading digits; the last digit is the first of the list
 abbrev value : List ℕ → ℕ
 value [] = 0
 value (b ∷ bs) = 5 * value bs + (b - 84)
@@ -16,7 +16,7 @@ abbrev AreDigits : List ℕ → Type 0
 AreDigits [] = Unit {0}
 AreDigits (b ∷ bs) = (85 ≤ b) × (b ≤ 89) × AreDigits bs
 
--- letters after those that were read, the last one first
+-- letters after those that were read; the last letter that was read is the first of its list
 abbrev onto : List ℕ → List ℕ → List ℕ
 onto [] bs = bs
 onto (r ∷ rs) bs = onto rs (r ∷ bs)
@@ -48,7 +48,7 @@ last-range b d h =
     let r = in_range 65 b 84 p.0 in
     (r.0, r.1, p.1)
 
--- letters that are a number are leading digits and a last one
+-- letters that spell a number are leading digits and a last digit
 record Parts (xs : List ℕ) (n : ℕ) : Type 0 where
   leading : List ℕ
   final : ℕ

@@ -1,4 +1,4 @@
--- What tests that came out true say.
+-- What follows if a test is true.
 use Rattle.std.proofs.Common.{◌≡◌, ℕ, Bool, true, false, refl}
 use Rattle.std.specs.Prelude.{not, ◌&&◌}
 use Rattle.mm_text.specs.Bytes.{Class, printable, white, foreign, class_of, is_printable_class, is_white}

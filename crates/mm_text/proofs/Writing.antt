@@ -13,7 +13,7 @@ use Rattle.mm_text.specs.PlainTokens.{is_plain_token, ends_once}
 abbrev are_printable : List ℕ → Bool
 are_printable bytes = list_all (λ c. is_printable_class (class_of c)) bytes
 
--- what stands after a token is white space
+-- the byte after a token is white space
 behind_is_white : (token : Token) → class_of (white_behind token) ≡ white
 behind_is_white token = go (is_whole token)
   where
@@ -31,7 +31,7 @@ pieces_from-token at b w (c ∷ bytes) rest blank h =
     ap (with_byte (class_of b) (is_printable_class (class_of c)) at b) (pieces_from-token (at + 1) c w bytes rest blank (both_true (is_printable_class (class_of b)) (are_printable (c ∷ bytes)) h).1)
     ∙ rw (first, second) (ap (λ n. run at (b ∷ (c ∷ bytes)) ∷ pieces_from n rest) (omega arith))
 
--- a plain token is given as it stands
+-- a plain token is given as it is
 given_plain : (at : ℕ) (token : Token) (ps : List Piece) → opens_comment token ≡ false → closes_comment token ≡ false → tokens_in outside (run at token ∷ ps) ≡ next_token at token (tokens_in outside ps)
 given_plain at token ps o c = rw (o, c) refl
 
@@ -51,7 +51,7 @@ tokens_from-written at token tokens more h =
     ap (tokens_from at) (append_assoc (token ++ (white_behind token ∷ [])) (written tokens) more)
     ∙ tokens_from-token at token (written tokens ++ more) h
 
--- reading a token that does not end the statement, and one that does
+-- reading a token that does not end the statement, and a token that does
 statements_in-inner : (begun at : ℕ) (done : List Token) (token : Token) (s : Tokens) → ends_statement token ≡ false → statements_in (within begun done) (next_token at token s) ≡ statements_in (within begun (done ++ token ∷ [])) s
 statements_in-inner begun at done token s h = rw h refl
 

@@ -1,9 +1,10 @@
--- The bytes of a Metamath text (Metamath book, "The Complete Language Specification"): printable
--- ASCII but for the space makes tokens, white space parts them, and no other byte may stand.
+-- The bytes of a Metamath text (Metamath book, "The Complete Language Specification"). Tokens
+-- consist of printable ASCII without the space. White space separates them. No other byte is
+-- allowed.
 use Rattle.std.specs.Prelude.{ℕ, Bool, true, false, ◌&&◌, ◌||◌, ◌==◌, nat_le, if◌then◌else◌, List, [], ◌∷◌, bytes_eq}
 use Rattle.std.specs.List.{list_any}
 
--- a token of a text, by its bytes
+-- a token of a text: its bytes
 abbrev pub Token : Type 0
 Token = List ℕ
 
@@ -33,7 +34,7 @@ is_printable_class foreign = false
 abbrev pub has_token : List Token → Token → Bool
 has_token tokens token = list_any (λ t. bytes_eq t token) tokens
 
--- a token stands twice
+-- a token occurs twice
 abbrev pub has_repeated : List Token → Bool
 has_repeated [] = false
 has_repeated (token ∷ tokens) = has_token tokens token || has_repeated tokens

@@ -1,6 +1,7 @@
 -- The letters of a compressed proof (Metamath book, "Compressed Proof Format"). `A` to `T` are last
--- digits, 1 to 20, and `U` to `Y` are digits before it, 1 to 5 in base 5 without a zero: `A` is 1, `T`
--- 20, `UA` 21, `YT` 120 and `UUA` 121. `Z` saves the step that the number before it made.
+-- digits, 1 to 20. `U` to `Y` are the digits before the last one, 1 to 5, in base 5 without a zero.
+-- So `A` is 1, `T` 20, `UA` 21, `YT` 120 and `UUA` 121. A `Z` saves the step of the number before
+-- it.
 use Rattle.std.specs.Prelude.{ℕ, ◌+◌, ◌-◌, ◌*◌, ◌^◌, ◌&&◌, ◌==◌, nat_le, if◌then◌else◌, List, [], ◌∷◌, ◌++◌, Option, Some, None}
 
 pub data Letter : Type 0 where
@@ -15,7 +16,7 @@ letter_of b =
     if nat_le 85 b && nat_le b 89 then digit (b - 84) else
     if b == 90 then saves else no_letter
 
--- what stands before a letter: nothing, digits with this value, a number's last digit, or a `Z`
+-- what is before a letter: nothing, digits with this value, the last digit of a number, or a `Z`
 pub data Before : Type 0 where
   beginning : Before
   digits : ℕ → Before
@@ -35,33 +36,33 @@ before_next before (digit d) = digits (5 * value_before before + d)
 before_next before saves = a_save
 before_next before no_letter = a_save
 
--- a step of a compressed proof: the one that has this number, or 'save the last one'
+-- a step of a compressed proof: the step with this number, or 'save the last step'
 pub data CompressedStep : Type 0 where
   numbered : ℕ → CompressedStep
   save : CompressedStep
 
--- a `Z` stands right after a number
+-- a `Z` is allowed only right after a number
 abbrev pub save_after : Before → Option (List CompressedStep)
 save_after beginning = None
 save_after (digits n) = None
 save_after a_number = Some (save ∷ [])
 save_after a_save = None
 
--- the steps that a letter completes, where it may stand
+-- the steps that a letter completes, if the letter is allowed there
 abbrev pub steps_of_letter : Before → Letter → Option (List CompressedStep)
 steps_of_letter before (last_digit d) = Some (numbered (20 * value_before before + d) ∷ [])
 steps_of_letter before (digit d) = Some []
 steps_of_letter before saves = save_after before
 steps_of_letter before no_letter = None
 
--- letters end after a number or a `Z`
+-- the letters may end only after a number or a `Z`
 abbrev pub steps_at_end : Before → Option (List CompressedStep)
 steps_at_end beginning = None
 steps_at_end (digits n) = None
 steps_at_end a_number = Some []
 steps_at_end a_save = Some []
 
--- two lists in a row, where both are there
+-- two lists, one after the other, if both are there
 abbrev pub joined_steps : Option (List CompressedStep) → Option (List CompressedStep) → Option (List CompressedStep)
 joined_steps None steps = None
 joined_steps (Some first) None = None
@@ -71,11 +72,11 @@ abbrev pub steps_from : Before → List ℕ → Option (List CompressedStep)
 steps_from before [] = steps_at_end before
 steps_from before (b ∷ bytes) = joined_steps (steps_of_letter before (letter_of b)) (steps_from (before_next before (letter_of b)) bytes)
 
--- the steps that the letters of a compressed proof say, if they say any
+-- the steps that the letters of a compressed proof mean, if they mean any
 abbrev pub steps_of : List ℕ → Option (List CompressedStep)
 steps_of letters = steps_from beginning letters
 
--- the number that these letters are
+-- the number that these letters spell
 abbrev pub number_of_steps : Option (List CompressedStep) → Option ℕ
 number_of_steps None = None
 number_of_steps (Some []) = None

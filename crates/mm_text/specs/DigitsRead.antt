@@ -1,4 +1,4 @@
--- The letters of a number one by one: cited by the clauses of private functions alone.
+-- The letters of a number one by one. Only clauses of private functions cite this.
 use Rattle.std.specs.Prelude.{ℕ, List, [], ◌∷◌, Option, Some, None}
 use Rattle.mm_text.specs.Compressed.{Letter, last_digit, digit, saves, no_letter, letter_of, digits, steps_from, number_of_steps, within_limit}
 
@@ -18,6 +18,6 @@ abbrev pub head_letter : List ℕ → Letter
 head_letter [] = no_letter
 head_letter (b ∷ letters) = letter_of b
 
--- the number whose leading digits have a value, and whose other letters are these
+-- the number whose leading digits have the value `before`, and whose other letters are `letters`
 abbrev pub number_left : ℕ → List ℕ → Option ℕ
 number_left before letters = within_limit (number_of_steps (steps_from (digits before) letters))

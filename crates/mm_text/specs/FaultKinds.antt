@@ -1,5 +1,5 @@
--- The kinds of faults of a Metamath text, in the order in which a statement's faults are reported:
--- its smallest kind is its fault.
+-- The kinds of faults of a Metamath text. If a statement has faults of several kinds, the smallest
+-- kind is reported.
 use Rattle.std.specs.Prelude.{ℕ}
 use Rattle.mm_text.specs.declared.fault.MmFault.{MmFault}
 
@@ -7,7 +7,7 @@ use Rattle.mm_text.specs.declared.fault.MmFault.{MmFault}
 abbrev pub bad_byte : ℕ
 bad_byte = 1
 
--- a comment has no end or has a comment's mark in it, or one is closed that was not opened
+-- a comment has no end or has a comment mark in it, or a comment is closed that was not opened
 abbrev pub bad_comment : ℕ
 bad_comment = 2
 
@@ -19,7 +19,7 @@ bad_keyword = 3
 abbrev pub inner_constant : ℕ
 inner_constant = 4
 
--- a symbol is declared that may not be
+-- a symbol is declared that may not be declared
 abbrev pub redeclared : ℕ
 redeclared = 5
 
@@ -31,11 +31,11 @@ not_active = 6
 abbrev pub bad_typecode : ℕ
 bad_typecode = 7
 
--- a variable is typed that has a type
+-- a variable that has a type is typed again
 abbrev pub second_float : ℕ
 second_float = 8
 
--- a disjointness has fewer than two variables, or one twice
+-- a `$d` has fewer than two variables, or the same variable twice
 abbrev pub bad_disjoint : ℕ
 bad_disjoint = 9
 
@@ -47,7 +47,7 @@ bad_scope = 10
 abbrev pub bad_label : ℕ
 bad_label = 11
 
--- a proof's text does not name steps
+-- the text of a proof does not name steps
 abbrev pub bad_proof_text : ℕ
 bad_proof_text = 12
 

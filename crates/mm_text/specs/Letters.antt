@@ -1,9 +1,10 @@
--- Laws on the letters of compressed proofs: a number's letters in front of others say that number.
+-- Laws on the letters of compressed proofs. The letters of a number before other letters mean that
+-- number.
 use Rattle.std.specs.Prelude.{◌≡◌, ℕ, List, [], ◌∷◌, ◌++◌, Some}
 use Rattle.mm_text.specs.Compressed.{beginning, a_number, a_save, numbered, save, joined_steps, steps_from, number_of}
 
--- the letters of a number, at the beginning or after another step, say the number, and those after
--- them what they say after a number
+-- the letters of a number mean that number, at the beginning and after another step; the letters
+-- after them mean what they mean after a number
 abbrev pub NumberInFront : Type 0
 NumberInFront =
     (letters more : List ℕ) (n : ℕ) → number_of letters ≡ Some n →
@@ -11,7 +12,7 @@ NumberInFront =
     (steps_from a_number (letters ++ more) ≡ joined_steps (Some (numbered n ∷ [])) (steps_from a_number more)) ×
     (steps_from a_save (letters ++ more) ≡ joined_steps (Some (numbered n ∷ [])) (steps_from a_number more))
 
--- and so does a `Z` after a number
+-- a `Z` after a number means a save; the letters after it mean what they mean after a `Z`
 abbrev pub SaveInFront : Type 0
 SaveInFront =
     (more : List ℕ) → steps_from a_number (90 ∷ more) ≡ joined_steps (Some (save ∷ [])) (steps_from a_save more)

@@ -1,4 +1,4 @@
--- The pieces of a text from a place on, as a reader meets them.
+-- The pieces of a text from a place on, as a reader finds them.
 use Rattle.std.specs.Prelude.{◌≡◌, ℕ, ◌+◌, ◌-◌, ◌<◌, ◌≤◌, Bool, true, false, List, [], ◌∷◌, length, take, drop, slice_index}
 use Rattle.mm_text.specs.Bytes.{foreign, class_of, is_printable_class, is_white}
 use Rattle.mm_text.specs.Tokens.{Piece, run, stray, pieces_from}
@@ -10,7 +10,7 @@ pieces_at bytes at = pieces_from at (drop at bytes)
 abbrev pub bytes_between : List ℕ → ℕ → ℕ → List ℕ
 bytes_between bytes i j = take (j - i) (drop i bytes)
 
--- the byte at a place makes tokens
+-- the byte at a place may be in a token
 abbrev pub prints : List ℕ → ℕ → Bool
 prints bytes k = is_printable_class (class_of (slice_index bytes k))
 
@@ -27,7 +27,7 @@ StrayAt =
     (bytes : List ℕ) (at : ℕ) → at < length bytes → class_of (slice_index bytes at) ≡ foreign →
     pieces_at bytes at ≡ stray at ∷ pieces_at bytes (at + 1)
 
--- printable bytes from i to j, with none at j, are one piece
+-- printable bytes from i up to j are one piece, if the byte at j is not printable
 abbrev pub RunAt : Type 0
 RunAt =
     (bytes : List ℕ) (i j : ℕ) → i < j → j ≤ length bytes →

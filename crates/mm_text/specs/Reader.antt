@@ -1,4 +1,4 @@
--- What reading the next statement of a text gives.
+-- What reading the next statement of a text returns.
 use Rattle.std.specs.Prelude.{◌≡◌, ℕ, ◌<◌, List, [], ◌∷◌, map, Result, Ok, Err}
 use Rattle.std.specs.List.{slice_range}
 use Rattle.mm_text.specs.Bytes.{Token}
@@ -11,7 +11,7 @@ use Rattle.mm_text.specs.declared.statements.MmFound.TheVariants.{Statement as F
 use Rattle.mm_text.specs.declared.statements.MmReadEnd.{MmReadEnd}
 use Rattle.mm_text.specs.declared.statements.MmReadEnd.TheVariants.{Fault, Memory}
 
--- the bytes of a token of a text, and of some
+-- the bytes of a token of a text, and of several tokens
 abbrev pub word_of : List ℕ → MmToken → Token
 word_of bytes t = slice_range bytes t.from t.to
 
@@ -27,8 +27,8 @@ statement_of bytes (t ∷ tokens) = statement t.from (words_of bytes (t ∷ toke
 abbrev pub statements_left : MmTokens → Statements
 statements_left reader = statements_in between (left reader)
 
--- The tokens make the first of these statements, and those are the others; or there is none, by the
--- text's end, by a statement without an end, or by a fault.
+-- The tokens make the first statement of `before`, and `behind` has the others. Or there is no
+-- statement: the text ends, a statement has no end, or there is a fault.
 abbrev pub Finds : List ℕ → Statements → Statements → List MmToken → Result MmFound MmReadEnd → Type 0
 Finds bytes before behind tokens (Ok Found) = before ≡ next_statement (statement_of bytes tokens) behind
 Finds bytes before behind tokens (Ok End) = before ≡ no_statement
@@ -36,7 +36,7 @@ Finds bytes before behind tokens (Ok (Unended at)) = before ≡ unended at
 Finds bytes before behind tokens (Err (Fault f)) = before ≡ bad_statement f
 Finds bytes before behind tokens (Err Memory) = Unit {0}
 
--- a statement takes bytes
+-- a statement that is read takes at least one byte
 abbrev pub Passes : ℕ → ℕ → Result MmFound MmReadEnd → Type 0
 Passes old new (Ok Found) = old < new
 Passes old new (Ok End) = Unit {0}

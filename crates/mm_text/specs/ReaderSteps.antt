@@ -1,4 +1,4 @@
--- What the private calls of the reader leave.
+-- What the private functions of the reader return.
 use Rattle.std.specs.Prelude.{ℕ, Bool, true, false, List, [], ◌∷◌}
 use Rattle.mm_text.specs.Bytes.{Token}
 use Rattle.mm_text.specs.Statements.{Reading, between, within, ends_statement, is_whole}
@@ -7,14 +7,14 @@ use Rattle.mm_text.specs.declared.statements.MmFound.{MmFound}
 use Rattle.mm_text.specs.declared.statements.MmFound.TheVariants.{End, Unended}
 use Rattle.mm_text.specs.Reader.{words_of}
 
--- The rest is cited by the clauses of private functions and by proofs alone.
+-- Only clauses of private functions and proofs cite the rest.
 
--- a statement ends with this token, which is its first or another one
+-- a statement ends with this token; the first argument says whether it is the first token
 abbrev pub ends_after : Bool → Token → Bool
 ends_after true word = is_whole word
 ends_after false word = ends_statement word
 
--- a statement that has begun with these tokens
+-- the state of a reader that has read these tokens of a statement
 abbrev pub begun : List ℕ → List MmToken → Reading
 begun bytes [] = between
 begun bytes (t ∷ tokens) = within t.from (words_of bytes (t ∷ tokens))

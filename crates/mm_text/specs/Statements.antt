@@ -1,6 +1,6 @@
--- The statements of a Metamath text (Metamath book, "The Complete Language Specification"). `${` and
--- `$}` are statements by themselves; each other one goes from its first token to the first `$.` at or
--- after it. What stands before a statement belongs to it, a fault too.
+-- The statements of a Metamath text (Metamath book, "The Complete Language Specification"). `${`
+-- and `$}` are statements by themselves. Each other statement goes from its first token to the
+-- first `$.` at or after it. What comes before a statement belongs to it, including a fault.
 use Rattle.std.specs.Prelude.{ℕ, Bool, ◌||◌, if◌then◌else◌, List, [], ◌∷◌, ◌++◌, Option, Some, None, codes, bytes_eq}
 use Rattle.mm_text.specs.Bytes.{Token}
 use Rattle.mm_text.specs.Tokens.{Tokens, no_token, bad_text, next_token, tokens_from}
@@ -11,15 +11,16 @@ pub record Statement : Type 0 where
   pub at : ℕ
   pub tokens : List Token
 
--- The statements of a text, up to its end, to a statement that begins at a byte and has no end, or to
--- a byte or comment that breaks it.
+-- The statements of a text. They end with the text, with a statement that begins at a byte and has
+-- no end, or with a byte or comment that breaks the text.
 pub data Statements : Type 0 where
   no_statement : Statements
   unended : ℕ → Statements
   bad_statement : MmFault → Statements
   next_statement : Statement → Statements → Statements
 
--- between statements, or in one that begins at a byte with these tokens
+-- the state of a reader: between statements, or in a statement that begins at a byte with these
+-- tokens
 pub data Reading : Type 0 where
   between : Reading
   within : ℕ → List Token → Reading
@@ -27,7 +28,7 @@ pub data Reading : Type 0 where
 abbrev pub ends_statement : Token → Bool
 ends_statement token = bytes_eq token (codes "$.")
 
--- the first token of a statement is the whole
+-- the first token of a statement is the whole statement
 abbrev pub is_whole : Token → Bool
 is_whole token = bytes_eq token (codes "${") || (bytes_eq token (codes "$}") || ends_statement token)
 
@@ -56,7 +57,7 @@ statements_in reading no_token = statements_at_end reading
 statements_in reading (bad_text f) = bad_statement f
 statements_in reading (next_token at token tokens) = with_ended (ended_by reading at token) (statements_in (reading_after reading at token) tokens)
 
--- the statements of a text that begins at a byte
+-- the statements of a text whose first byte has this place
 abbrev pub statements_from : ℕ → List ℕ → Statements
 statements_from at bytes = statements_in between (tokens_from at bytes)
 

@@ -1,4 +1,4 @@
--- Laws on Metamath texts: what is appended, and what is written.
+-- Laws on Metamath texts: on appended texts and on written statements.
 use Rattle.std.specs.Prelude.{◌≡◌, ℕ, ◌+◌, Bool, true, false, List, ◌++◌, length}
 use Rattle.std.specs.List.{list_all}
 use Rattle.mm_text.specs.Bytes.{Token}
@@ -13,22 +13,22 @@ end_well (unended at) = false
 end_well (bad_statement f) = false
 end_well (next_statement s statements) = end_well statements
 
--- statements, and others in the place of their end
+-- statements, with others instead of their end
 abbrev pub followed_by : Statements → Statements → Statements
 followed_by no_statement more = more
 followed_by (unended at) more = more
 followed_by (bad_statement f) more = more
 followed_by (next_statement s statements) more = next_statement s (followed_by statements more)
 
--- what is appended to a text that ends between statements, with white space, is read as it is read
--- alone, from its place on
+-- a text after a text that ends with white space between statements is read the same as on its own,
+-- from its place on
 abbrev pub AppendedText : Type 0
 AppendedText =
     (at : ℕ) (text more : List ℕ) → ends_white text ≡ true →
     end_well (statements_from at text) ≡ true →
     statements_from at (text ++ more) ≡ followed_by (statements_from at text) (statements_from (at + length text) more)
 
--- a written statement is read back, and then what follows it
+-- a written statement is read back, and then what comes after it
 abbrev pub WrittenStatement : Type 0
 WrittenStatement =
     (at : ℕ) (tokens : List Token) (more : List ℕ) → list_all is_plain_token tokens ≡ true →

@@ -9,7 +9,8 @@ ends_white [] = true
 ends_white (b ∷ []) = is_white b
 ends_white (b ∷ (c ∷ bytes)) = ends_white (c ∷ bytes)
 
--- The white space after a token: a line ends with a statement, and all else is parted by spaces.
+-- The white space after a token: the end of the line after the end of a statement, and otherwise a
+-- space.
 abbrev pub white_behind : Token → ℕ
 white_behind token = if is_whole token then 10 else 32
 

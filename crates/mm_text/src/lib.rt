@@ -1,10 +1,10 @@
 //! Metamath texts: bytes to tokens, tokens to statements, and the letters of compressed proofs.
 //!
-//! The definitions stand in `specs/`: `Tokens` and `Statements` say what the tokens and the
-//! statements of a text are and where it breaks, `Labels` what a label is spelled with, and
-//! `Compressed` what the letters of a compressed proof say. The laws on them are the contract of
-//! `text_laws` and `number_laws`. `MmTokens` reads the tokens and the statements of a text, and `read_number` and `push_number` read and
-//! write the numbers of compressed proofs.
+//! The definitions are in `specs/`. `Tokens` and `Statements` define the tokens and the statements
+//! of a text, and where the text breaks. `Labels` defines how labels are spelled. `Compressed`
+//! defines what the letters of a compressed proof mean. The laws on them are the contracts of
+//! `text_laws` and `number_laws`. `MmTokens` reads the tokens and the statements of a text.
+//! `read_number` and `push_number` read and write the numbers of compressed proofs.
 #![tactic(auto)]
 
 mod fault;

@@ -11,11 +11,11 @@ use std::alloc::AllocError;
 /// The largest number that is read.
 const MOST: u64 = 1 << 63;
 
-/// The most letters of a number.
+/// The most letters that a number up to 2^63 has.
 const MOST_LETTERS: usize = 27;
 
-/// The number that these letters of a compressed proof are, at most 2^63; none exactly where they
-/// are no number, or a larger one. `A` to `T` are 1 to 20, and `UA` is 21.
+/// The number that these letters of a compressed proof spell. `None` if and only if they spell no
+/// number, or one greater than 2^63. `A` to `T` are 1 to 20, and `UA` is 21.
 pub fn read_number(letters: &[u8]) -> Option<u64>
     ensures { result ≡ within_limit (number_of letters.now) }
 {
@@ -34,7 +34,8 @@ pub fn read_number(letters: &[u8]) -> Option<u64>
     None
 }
 
-/// Appends the one spelling of a number from 1 to 2^63. Without memory nothing is appended.
+/// Appends the only spelling of a number from 1 to 2^63. AllocError: out of memory; then nothing is
+/// appended.
 pub fn push_number(n: u64, to: &mut Vec<u8>) -> Result<(), AllocError>
     requires some { 1 ≤ n }
     requires within { n ≤ 2 ^ 63 }
@@ -53,7 +54,7 @@ pub fn push_number(n: u64, to: &mut Vec<u8>) -> Result<(), AllocError>
     to.extend_from_slice(behind(&letters, at))
 }
 
-/// The number whose leading digits have this value, and whose other letters are these.
+/// The number whose leading digits have the value `before`, and whose other letters are `letters`.
 fn last_number(before: u64, letters: &[u8]) -> Option<u64>
     requires small { 20 * before ≤ 2 ^ 63 }
     requires last { leading_value (head_letter letters.now) ≡ None }

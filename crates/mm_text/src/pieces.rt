@@ -1,4 +1,4 @@
-// The pieces of a text: runs of printable bytes, and bytes that may not stand.
+// The pieces of a text: runs of printable bytes, and bytes that are not allowed.
 
 ghost use Rattle.std.specs.Prelude.{◌≡◌, ◌≤◌, false, length, drop};
 ghost use Rattle.mm_text.specs.Bytes.{is_white};
@@ -7,7 +7,7 @@ ghost use Rattle.mm_text.specs.Ahead.{pieces_at, in_run, white, printed, begins_
 
 use crate::tokens::MmToken;
 
-/// What comes next in a text, white space left out.
+/// What comes next in a text, after white space.
 pub(crate) enum Ahead {
     End,
     Stray(usize),
@@ -21,21 +21,21 @@ fn is_white(byte: u8) -> bool
     byte == b' ' || byte == b'\t' || byte == b'\n' || byte == 0x0c || byte == b'\r'
 }
 
-/// Printable ASCII but for the space.
+/// Printable ASCII without the space.
 fn is_printable(byte: u8) -> bool
     ensures { result ≡ in_run byte }
 {
     b'!' <= byte && byte <= b'~'
 }
 
-/// How many bytes of white space stand at the head of the bytes.
+/// How many bytes of white space the bytes begin with.
 fn white_len(bytes: &[u8]) -> usize
     ensures { result ≡ length (white bytes.now) }
 {
     bytes.iter().take_while(|byte| is_white(**byte)).count()
 }
 
-/// How many printable bytes stand at the head of the bytes.
+/// How many printable bytes the bytes begin with.
 fn run_len(bytes: &[u8]) -> usize
     ensures { result ≡ length (printed bytes.now) }
 {
@@ -50,7 +50,7 @@ pub(crate) fn behind(bytes: &[u8], from: usize) -> &[u8]
     &bytes[from..]
 }
 
-/// The first place from `from` on without white space, at most the length.
+/// The first place at or after `from` that is not white space, or the length if there is none.
 fn skip_white(bytes: &[u8], from: usize) -> usize
     requires { from ≤ length bytes.now }
     ensures after { from ≤ result }
@@ -94,14 +94,14 @@ pub(crate) fn closes_comment(token: &[u8]) -> bool
     token == b"$)".as_slice()
 }
 
-/// Whether a comment's mark, `$(` or `$)`, stands at the head of the bytes.
+/// Whether the bytes begin with a comment mark, `$(` or `$)`.
 fn begins_with_mark(bytes: &[u8]) -> bool
     ensures { result ≡ mark_ahead bytes.now }
 {
     bytes.len() >= 2 && bytes[0] == b'$' && (bytes[1] == b'(' || bytes[1] == b')')
 }
 
-/// Whether a comment's mark stands somewhere in the token.
+/// Whether the token has a comment mark in it.
 pub(crate) fn has_comment_mark(token: &[u8]) -> bool
     ensures { result ≡ has_comment_mark token.now }
 {

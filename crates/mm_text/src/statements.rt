@@ -7,31 +7,32 @@ ghost use Rattle.mm_text.specs.Statements.{ends_statement, is_whole};
 use crate::fault::MmFault;
 use crate::tokens::{MmToken, MmTokens};
 
-/// What was found where a statement may begin.
+/// What was found at a place where a statement may begin.
 #[derive(Clone, Copy, PartialEq, Eq)]
 pub enum MmFound {
     /// A statement.
     Statement,
     /// The end of the text.
     End,
-    /// A statement that has no end, by the byte of its first token.
+    /// A statement that has no end. The number is the place of the first byte of its first token.
     Unended(usize),
 }
 
 /// Why no statement was read.
 #[derive(Clone, Copy, PartialEq, Eq)]
 pub enum MmReadEnd {
-    /// A byte or a comment that breaks the text, of kind 1 or 2.
+    /// A byte or a comment that breaks the text: a fault of kind 1 or 2.
     Fault(MmFault),
-    /// There was not enough memory.
+    /// Out of memory.
     Memory,
 }
 
 impl<'a> MmTokens<'a> {
     ghost use Rattle.mm_text.specs.Reader.{statements_left, Finds, Passes};
 
-    /// Reads the next statement, whose tokens replace those that the list had. Where there is none, it
-    /// answers how the text ends, or its first fault (1 or 2), and the list has the tokens before it.
+    /// Reads the next statement. Its tokens replace those in the list. If there is no statement, it
+    /// returns how the text ends, or the first fault (kind 1 or 2). The list then has the tokens
+    /// before the end or the fault.
     pub fn next_statement(&mut self, tokens: &mut Vec<MmToken>) -> Result<MmFound, MmReadEnd>
         ensures text { self.new.bytes.now ≡ self.old.bytes.now }
         ensures finds { Finds self.old.bytes.now (statements_left self.old) (statements_left self.new) tokens.new.items result }
@@ -56,7 +57,7 @@ impl<'a> MmTokens<'a> {
     }
 }
 
-/// What the end of the text makes of the tokens of a statement.
+/// What is found if the text ends after these tokens of a statement.
 fn found_at_end(tokens: &[MmToken]) -> MmFound
     ensures { result ≡ found_at_end tokens.now }
 {
@@ -66,7 +67,8 @@ fn found_at_end(tokens: &[MmToken]) -> MmFound
     }
 }
 
-/// Whether a statement ends with this token, which is its first one or another one.
+/// Whether a statement ends with this token. `is_first` says whether it is the first token of the
+/// statement.
 fn ends_here(is_first: bool, word: &[u8]) -> bool
     ensures { result ≡ ends_after is_first word.now }
 {
@@ -84,7 +86,7 @@ fn ends_statement(word: &[u8]) -> bool
     word == b"$.".as_slice()
 }
 
-/// Whether the token is a statement where it is the first.
+/// Whether the token is a whole statement if it is the first token of one.
 fn is_whole(word: &[u8]) -> bool
     ensures { result ≡ is_whole word.now }
 {

@@ -6,7 +6,7 @@ ghost use Rattle.mm_text.specs.Ahead.{Closes, closed};
 use crate::fault::MmFault;
 use crate::pieces::{Ahead, closes_comment, has_comment_mark, next_piece, opens_comment};
 
-/// A token by its place: it goes from the byte `from` up to the byte `to`.
+/// A token by its place: the bytes from `from` up to `to`, without the byte at `to`.
 #[derive(Clone, Copy, PartialEq, Eq)]
 pub struct MmToken {
     pub from: usize,
@@ -16,7 +16,7 @@ pub struct MmToken {
 impl MmToken {
     ghost use Rattle.std.specs.List.{slice_range};
 
-    /// The bytes of the token in its text, as far as the text has them.
+    /// The bytes of the token in its text. Bytes after the end of the text are left out.
     pub fn word<'a>(&self, bytes: &'a [u8]) -> &'a [u8]
         ensures { result.now ≡ slice_range bytes.now self.now.from self.now.to }
     {
@@ -54,10 +54,10 @@ impl<'a> MmTokens<'a> {
         self.bytes
     }
 
-    /// The next token, or none exactly at the end; takes no memory. A fault is a byte that may not
-    /// stand (1, at the byte), or a comment without an end or with a comment's mark in it, or one
-    /// that is closed and was not opened (2, at its `$(` or `$)`). At the end and at a fault nothing
-    /// is taken, so that the same answer comes again.
+    /// Reads the next token. `None` if and only if the text ends. Allocates nothing. These are
+    /// faults: a byte that is not allowed (kind 1, at that byte); a comment that has no end or has
+    /// a comment mark in it, or a comment that is closed but was not opened (kind 2, at its `$(` or
+    /// `$)`). At the end and at a fault nothing is read, so the next call returns the same.
     pub fn next(&mut self) -> Result<Option<MmToken>, MmFault>
         ensures text { self.new.bytes.now ≡ self.old.bytes.now }
         ensures gives { Gives self.old.bytes.now (left self.old) (left self.new) result }
@@ -122,7 +122,7 @@ fn comment_end(bytes: &[u8], opened: usize, from: usize) -> Result<usize, MmFaul
     }
 }
 
-/// The place after a comment, but the fault where a byte in it may not stand.
+/// The place after a comment, or a fault if a byte in the comment is not allowed.
 fn closed(end: usize, bad: Option<usize>) -> Result<usize, MmFault>
     ensures { result ≡ closed end bad }
 {

@@ -33,11 +33,11 @@ stated c =
     c.in_ok-claim.ensures.claim ∙ ap (λ (hs : List Pattern). claim_of hs c.conclusion.result.now) c.hypotheses-hypotheses.ensures.value
     ∙ ap (claim_of c.args.theorem.now.hypotheses) c.conclusion.ensures
 
--- what is written of a claim, under a number, by a derivation
+-- what is written for a claim with a number and a derivation
 abbrev text_of : goal.After-drop-premises-2 → ℕ → (List Pattern → Pattern → Stated) → Claim → Derivation → List ℕ
 text_of c k find s d = written_statements (proved_statements c.args.names.now k find (premises_of c) s (other_variables s.variables (variables_of find d)) d)
 
--- how claims are found from the statement
+-- how the statement finds claims
 abbrev found : goal.After-drop-premises-2 → List code.Stated → List Pattern → Pattern → Stated
 found c ss = find_by (plain_stated_all ss) (last_of c.self.inside.run) (found_in c.self.inside.places)
 
