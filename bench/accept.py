@@ -4,9 +4,9 @@ time grows.
 
     bench/accept.py [--program FILE] [--only NAME] [--size N]
 
-Each line has the bytes of the greatest definition, the seconds of processor time and the megabytes at each size, and the
-growth of the seconds a byte from one size to the next: about 1 is linear, about 10 is quadratic. The term is none, so that
-nothing is run. Not part of the gate."""
+Each line has the bytes of the largest definition, the seconds of processor time and the megabytes at each size, and the
+growth of the seconds per byte from one size to the next: about 1 is linear, about 10 is quadratic. The term is not a term,
+so that nothing is run. Not part of the gate."""
 import argparse
 import os
 import pathlib
@@ -68,7 +68,7 @@ def functions(n):
 
 
 def said_ac(n):
-    """n symbols that axioms say to be associative."""
+    """n symbols that axioms declare to be associative."""
     symbols = [f"symbol c{i}{{}}(T{{}},T{{}}) : T{{}} [constructor{{}}()]" for i in range(n)]
     lines = [f"axiom{{R}} \\equals{{T{{}},R}}(c{i}{{}}(X:T{{}},Y:T{{}}),c{i}{{}}(Y:T{{}},X:T{{}})) [comm{{}}()]" for i in range(n)]
     return definition(*symbols, *lines)
@@ -114,7 +114,7 @@ def sorts(n):
 
 
 def chain(n):
-    """n // 10 sorts, each right below the next one: what is kept of them grows with the square of their number."""
+    """n // 10 sorts, each right below the next one. What is kept of them grows with the square of their number."""
     count = n // 10
     declared = [f"sort S{i}{{}} []" for i in range(count + 1)]
     return definition(*declared, *(f"axiom{{}} \\top{{T{{}}}}() [subsort{{S{i}{{}},S{i + 1}{{}}}}()]" for i in range(count)))

@@ -1,7 +1,7 @@
 #!/usr/bin/env bash
-# Runs each term of examples/ with its proof by the program itself, also those whose proof is too long for the gate, and
-# prints the size of the proof, the seconds of the run, and what `verify` finds and in which time. Where the machine has the
-# program `metamath`, that reads the proof too. No part of the gate.
+# Runs each term of examples/ with its proof, by the program itself. That includes those whose proof is too long for the gate.
+# Prints the size of the proof, the seconds of the run, what `verify` prints, and the seconds that it takes. If the machine has
+# the program `metamath`, that reads the proof too. Not part of the gate.
 set -u
 top=$(cd "$(dirname "$0")/.." && pwd)
 work=$(mktemp -d)
@@ -14,7 +14,7 @@ for words in "$top"/examples/*/*.words; do
     term=${term%.words}
     name=${folder##*/}/$term
     options=$(sed 's/--proof.*//' "$words")
-    # The options are words, which the shell has to part.
+    # The options are words, which the shell has to split.
     # shellcheck disable=SC2086
     run=$(seconds "$top/kore_prove" run "$folder/definition.kore" "$folder/$term.kore" $options --proof "$work/proof.mm")
     cmp -s "$work/said" "$folder/$term.out" || { echo "$name prints other lines"; status=1; }

@@ -4,8 +4,8 @@
     bench/hostile.py [--program FILE] [--only NAME] [--scale F] [--limit MEGABYTES] [--keep FOLDER]
 
 Each line has the bytes of the smallest database, the seconds and megabytes at each size, and the growth of the seconds
-from one size to the next: about 2 is linear, about 4 is quadratic. Each database is valid, but `doubling` is to end as
-out of memory. Not part of the gate."""
+from one size to the next: about 2 is linear, about 4 is quadratic. Each database is valid, except that `doubling` has to
+end as out of memory. Not part of the gate."""
 import argparse
 import os
 import resource
@@ -51,12 +51,12 @@ def many_premises(n):
 
 
 def premises_between(n):
-    """n active `$e`, each with an axiom behind it."""
+    """n active `$e`, each with an axiom after it."""
     return HEAD + "${\n" + "".join(f"e{i} $e t u $. a{i} $a t u $.\n" for i in range(n)) + "$}\n"
 
 
 def premises_between_with_variables(n):
-    """n active `$e`, each of a variable of its own, with an axiom behind each."""
+    """n active `$e`, each of a variable of its own, with an axiom after each."""
     names, declared = variables(n)
     return HEAD + declared + "${\n" + "".join(f"e{i} $e t {v} $. a{i} $a t u $.\n" for i, v in enumerate(names)) + "$}\n"
 
@@ -98,7 +98,7 @@ def repeated_groups(n):
 
 
 def repeated_groups_between(n):
-    """The same `$d` n times, between those of other variables, and n axioms."""
+    """The same `$d` n times, between `$d` of other variables, and n axioms."""
     names, declared = variables(n)
     groups = "".join(f"$d x y $. $d x {v} $. $d y {v} $.\n" for v in names)
     return HEAD + declared + groups + "".join(f"a{i} $a t x y $.\n" for i in range(n))
@@ -110,7 +110,7 @@ def doubling(n):
 
 
 def many_pairs(n):
-    """Two variables in n groups of two each, the pair of both last, and n citations that ask for it."""
+    """Two variables in n groups of two each, the pair of both last, and n citations that require it."""
     names, declared = variables(n)
     pairs = "".join(f"$d x {v} $. $d y {v} $.\n" for v in names) + "$d x y $.\n"
     rules = "${ $d x y $. ax $a u x y $. $}\n${ $d x y $. e $e u x y $. go $a u x y $. $}\n"
@@ -118,7 +118,7 @@ def many_pairs(n):
 
 
 def one_group(n):
-    """A group of many variables, and citations that ask for all its pairs."""
+    """A group of many variables, and citations that require all its pairs."""
     many = max(int(n**0.5), 2)
     names, declared = variables(many)
     text = " ".join(names)
@@ -128,7 +128,7 @@ def one_group(n):
 
 
 def wide_group(n):
-    """One group of n variables, one axiom that asks for it, and one citation."""
+    """One group of n variables, one axiom that requires it, and one citation."""
     names, declared = variables(n)
     text = " ".join(names)
     given = " ".join("f" + v for v in names)
@@ -136,7 +136,7 @@ def wide_group(n):
 
 
 def groups_at_long_text(n):
-    """An axiom with n / 8 groups of two variables, all with one variable in common, which gets a text of n symbols."""
+    """An axiom with n / 8 groups of two variables. All have one variable in common, which is replaced by a text of n symbols."""
     steps = n.bit_length() - 1
     many = max(n // 8, 2)
     names, declared = variables(many)
@@ -149,7 +149,7 @@ def groups_at_long_text(n):
 
 
 def letters_alone(n):
-    """Proofs without listed labels, of hypotheses and saved steps alone."""
+    """Proofs without listed labels, made only of hypotheses and saved steps."""
     return HEAD + "".join(f"p{i} $p t x $= ( ) A $.\n" for i in range(n))
 
 
@@ -166,7 +166,7 @@ def listed_labels(n):
 
 
 def open_blocks(n):
-    """n blocks, one in the other, with a variable each."""
+    """n nested blocks, with a variable each."""
     return "$c t $.\n" + "".join(f"${{ $v v{i} $. f{i} $f t v{i} $. a{i} $a t v{i} $.\n" for i in range(n)) + "$} " * n + "\n"
 
 

@@ -1,5 +1,5 @@
 #!/usr/bin/env bash
-# How long a run takes with its proof, how large the proof is, and how long `verify` takes for it. No part of the gate.
+# Prints how long a run takes with its proof, how large the proof is, and how long `verify` takes for it. Not part of the gate.
 set -eu
 top=$(cd "$(dirname "$0")/.." && pwd)
 work=$(mktemp -d)
@@ -40,8 +40,8 @@ cat > "$work/count.kore" << 'END'
 endmodule []
 END
 echo 't{}(\dv{SortInt{}}("0"))' > "$work/count.term"
-# Rules under which two injections meet in either side, on a configuration with a list of numbers, which stays: at once
-# below the root, and below five symbols. The third definition is the same without meeting injections.
+# Rules under which two injections meet in either side, on a configuration with a list of numbers that stays the same. They
+# meet right below the root, and below five symbols. The third definition is the same without meeting injections.
 subsort() {
     echo "  axiom{R} \\exists{R}(V:$2{},\\equals{$2{},R}(V:$2{},inj{$1{},$2{}}(W:$1{}))) [subsort{$1{},$2{}}()]"
 }
@@ -77,7 +77,7 @@ lists 'e{}(inj{Exp{},Item{}}(X:Exp{}),L:List{})' > "$work/meeting.kore"
 lists "$(below 'e{}(inj{Exp{},Item{}}(X:Exp{}),L:List{})')" > "$work/below.kore"
 lists 'e{}(K:Item{},L:List{})' > "$work/plain.kore"
 seconds() { local TIMEFORMAT=%U; { time "$@" > /dev/null || true; } 2>&1; }
-# The time of so many steps by a definition from the term of the same name, with their proof; its size is in `bytes`.
+# Runs n steps by a definition from the term of the same name, with their proof. The time is in `run`, the size in `bytes`.
 proved() {
     run=$(seconds "$top/kore_prove" run "$work/$1.kore" "$work/$1.term" --limit "$2" --proof "$work/proof.mm")
     bytes=$(wc -c < "$work/proof.mm")

@@ -1,8 +1,8 @@
 #!/usr/bin/env python3
-"""How long runs and readings take, beside Maude where the machine has it. No part of the gate.
+"""Prints how long runs and readings take, and how long Maude takes if the machine has it. Not part of the gate.
 
-Prints a line for each measurement: seconds of processor time and the peak of memory, the best of three runs; for a run
-the steps or calls a second, for a reading the megabytes a second; and the ratio to Maude's time for the same rules."""
+Each measurement has a line: seconds of processor time and the peak of memory, the best of three runs; for a run the steps
+or calls per second, for a reading the megabytes per second; and the ratio to Maude's time for the same rules."""
 import os
 import pathlib
 import resource
@@ -81,7 +81,7 @@ def fibonacci(n):
 
 
 def many(count):
-    """So many constructors and rules."""
+    """As many rules, each from one constructor to the next."""
     symbols = [f"symbol c{i}{{}}() : T{{}} [constructor{{}}()]" for i in range(count + 1)]
     rules = [rule(f"c{i}{{}}()", f"c{i + 1}{{}}()") for i in range(count)]
     return module("sort T{} []", *symbols, *rules), "c0{}()"

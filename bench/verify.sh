@@ -1,8 +1,8 @@
 #!/usr/bin/env bash
-# Verifies databases with the program `metamath` and with this program, and prints the seconds and megabytes that each took, and
-# the ratio of the seconds. Each line says whether the two agree that the database is valid and on its numbers of `$a` and `$p`
-# statements. The databases are the arguments; without any, those of Debian's package metamath-databases. Each program runs RUNS
-# times, in turn with the other, once where RUNS is not set; the seconds are those of the best run. Not part of the gate.
+# Verifies databases with the program `metamath` and with this program. Prints the seconds and megabytes that each took, and
+# the ratio of the seconds. Each line says whether the two agree that the database is valid, and on its numbers of `$a` and `$p`
+# statements. The databases are the arguments. Without arguments, they are those of Debian's package metamath-databases. The
+# programs run in turn, each RUNS times, or once if RUNS is not set. The seconds are those of the best run. Not part of the gate.
 set -u
 top=$(cd "$(dirname "$0")/.." && pwd)
 kore_prove=$top/crates/kore_prove/out/kore_prove
@@ -20,13 +20,13 @@ if [ ! -e "$1" ]; then
     echo "bench/verify.sh: skipped, since this machine has no $1"
     exit 0
 fi
-"$top/kore_prove" > /dev/null 2>&1    # proves and builds the program, where that is to be done
+"$top/kore_prove" > /dev/null 2>&1    # proves and builds the program if needed
 
 said=$(mktemp)
 taken=$(mktemp)
 trap 'rm -f "$said" "$taken"' EXIT
 
-# What `metamath` says, as the line that this program is to print.
+# Turns what `metamath` said into the line that this program has to print.
 expected_line() {
     if grep -q '^All proofs in the database were verified' "$said" && ! grep -qE '^\?|\?Error' "$said"; then
         tr '\n' ' ' < "$said" | sed -nE 's/.* statements; ([0-9]+) are \$a and ([0-9]+) are \$p.*/valid \1 \2/p'
@@ -35,7 +35,7 @@ expected_line() {
     fi
 }
 
-# The lesser of two numbers, of which the first may be missing.
+# The smaller of two numbers. The first may be missing.
 lesser() {
     awk -v a="$1" -v b="$2" 'BEGIN { print (a == "" || b < a) ? b : a }'
 }

@@ -27,7 +27,8 @@ no-fourth true true false d e h = refl
 no-fourth true false c d e h = refl
 no-fourth false b c d e h = refl
 
-pub all-five : (a b c d e : Bool) → a ≡ true → b ≡ true → c ≡ true → d ≡ true → e ≡ true → a && ((b && c) && (d && e)) ≡ true
+pub all-five : (a b c d e : Bool) → a ≡ true → b ≡ true → c ≡ true → d ≡ true → e ≡ true
+    → a && ((b && c) && (d && e)) ≡ true
 all-five true true true true true g h i j k = refl
 all-five false b c d e g h i j k = g
 all-five true false c d e g h i j k = h

@@ -1,6 +1,7 @@
 -- The words of the command line: the name of a command, then what clap's definition of that command
 -- takes. The first word is where clap expects the name of a program.
-use Rattle.std.specs.Prelude.{ℕ, Bool, true, false, not, ◌&&◌, List, [], ◌∷◌, length, Option, Some, is_some}
+use Rattle.std.specs.Prelude.{ℕ, Bool, true, false, not, ◌&&◌, List, [], ◌∷◌, length, Option, Some}
+use Rattle.std.specs.Prelude.{is_some}
 use Rattle.std.specs.Prelude.{if◌then◌else◌, codes, nat_le}
 use Rattle.std.specs.Option.{option_map_or}
 use Rattle.std.specs.Str.{bytes_eq, all_ascii_digits}
@@ -16,7 +17,8 @@ positional_rule id = record (new_rule id) { action = Some Set; required = true }
 
 -- `--NAME VALUE`
 abbrev pub option_rule : Text → Bool → Rule
-option_rule id is_required = record (new_rule id) { long = Some id; action = Some Set; required = is_required }
+option_rule id is_required =
+    record (new_rule id) { long = Some id; action = Some Set; required = is_required }
 
 -- a command without arguments and without help
 abbrev pub bare_app : Text → App
@@ -26,7 +28,8 @@ bare_app name = on_top (λ s. record s { disable_help_flag = true }) (new_app na
 abbrev pub run_app : App
 run_app =
     with_rule (with_rule (with_rule (with_rule (with_rule (bare_app (codes "run"))
-    (positional_rule (codes "def"))) (positional_rule (codes "term"))) (option_rule (codes "limit") true))
+    (positional_rule (codes "def"))) (positional_rule (codes "term"))) (option_rule (codes
+    "limit") true))
     (option_rule (codes "calls") false)) (option_rule (codes "proof") false)
 
 -- `verify FILE`
@@ -36,7 +39,8 @@ verify_app = with_rule (bare_app (codes "verify")) (positional_rule (codes "file
 -- `drill N FILE`
 abbrev pub drill_app : App
 drill_app =
-    with_rule (with_rule (bare_app (codes "drill")) (positional_rule (codes "n"))) (positional_rule (codes "file"))
+    with_rule (with_rule (bare_app (codes "drill")) (positional_rule (codes "n")))
+    (positional_rule (codes "file"))
 
 -- the value that the words give to an argument, if they give it one
 abbrev pub value_of : App → List Text → Text → Option Text
@@ -77,7 +81,8 @@ is_named name (word ∷ words) = bytes_eq word name
 -- the words name the two files, and the numbers are good
 abbrev pub is_run : List Text → Bool
 is_run words = takes run_app words
-    && ((is_some (value_of run_app words (codes "def")) && is_some (value_of run_app words (codes "term")))
+    && ((is_some (value_of run_app words (codes "def"))
+    && is_some (value_of run_app words (codes "term")))
     && (option_map_or (is_number_to most_steps) (value_of run_app words (codes "limit")) false
     && option_map_or (is_number_to most_calls) (value_of run_app words (codes "calls")) true))
 

@@ -7,7 +7,8 @@ use Rattle.command_words.specs.declared.commands.RunWords.{RunWords}
 use Rattle.command_words.specs.declared.commands.DrillWords.{DrillWords}
 use Rattle.command_words.specs.declared.commands.Command.{Command}
 use Rattle.command_words.specs.declared.commands.Command.TheVariants as command
-use Rattle.command_words.specs.CommandLine.{run_app, verify_app, drill_app, value_of, usual_calls, most_drilled}
+use Rattle.command_words.specs.CommandLine.{run_app, verify_app, drill_app, value_of, usual_calls}
+use Rattle.command_words.specs.CommandLine.{most_drilled}
 use Rattle.command_words.specs.CommandLine.{is_named}
 
 -- to run a term: the values of the arguments, and the usual number of calls if the words state none
@@ -16,7 +17,8 @@ pub record GivesRun (words : List Text) (r : RunWords) : Type 0 where
   pub definition : value_of run_app words (codes "def") ≡ Some r.definition.now
   pub term : value_of run_app words (codes "term") ≡ Some r.term.now
   pub limit : option_map (digits_value 10) (value_of run_app words (codes "limit")) ≡ Some r.limit
-  pub calls : r.calls ≡ option_map_or (digits_value 10) (value_of run_app words (codes "calls")) usual_calls
+  pub calls : r.calls
+      ≡ option_map_or (digits_value 10) (value_of run_app words (codes "calls")) usual_calls
   pub proof : option_copied r.proof ≡ value_of run_app words (codes "proof")
 
 -- to verify the database in this file

@@ -198,10 +198,13 @@ fn drill_words<'a>(alloc: Global, words: &'a [String]) -> Result<DrillWords<'a>,
 
 // The number of steps of a drill that the word states. `None` if there is no word or a bad one.
 fn steps_in(word: Option<&str>) -> Option<u32>
-    ensures number { IfSome result (λ n. option_map (digits_value 10) (option_copied word.entry) ≡ Some n) }
+    ensures number { IfSome result
+        (λ n. option_map (digits_value 10) (option_copied word.entry) ≡ Some n) }
     ensures bounds { IfSome result (λ n. (1 ≤ n) × (n ≤ most_drilled)) }
-    ensures good { IfSome result (λ n. option_map_or is_drill_number (option_copied word.entry) false ≡ true) }
-    ensures bad { IfNone result (option_map_or is_drill_number (option_copied word.entry) false ≡ false) }
+    ensures good { IfSome result
+        (λ n. option_map_or is_drill_number (option_copied word.entry) false ≡ true) }
+    ensures bad { IfNone result
+        (option_map_or is_drill_number (option_copied word.entry) false ≡ false) }
 {
     match number_in(MAX_DRILLED, word) {
         Some(0) => None,
@@ -211,9 +214,12 @@ fn steps_in(word: Option<&str>) -> Option<u32>
 
 // The number that the word states, at most `most`. `None` if there is no word or a bad one.
 fn number_in(most: u32, word: Option<&str>) -> Option<u32>
-    ensures number { IfSome result (λ n. option_map (digits_value 10) (option_copied word.entry) ≡ Some n) }
-    ensures good { IfSome result (λ n. option_map_or (is_number_to most) (option_copied word.entry) false ≡ true) }
-    ensures bad { IfNone result (option_map_or (is_number_to most) (option_copied word.entry) false ≡ false) }
+    ensures number { IfSome result
+        (λ n. option_map (digits_value 10) (option_copied word.entry) ≡ Some n) }
+    ensures good { IfSome result
+        (λ n. option_map_or (is_number_to most) (option_copied word.entry) false ≡ true) }
+    ensures bad { IfNone result
+        (option_map_or (is_number_to most) (option_copied word.entry) false ≡ false) }
 {
     match word {
         Some(word) => number_to(most, word),
@@ -224,9 +230,12 @@ fn number_in(most: u32, word: Option<&str>) -> Option<u32>
 // The number that the word states, at most `most`, or `usual` if there is no word. `None` if the
 // word is bad.
 fn number_or(most: u32, word: Option<&str>, usual: u32) -> Option<u32>
-    ensures number { IfSome result (λ n. n ≡ option_map_or (digits_value 10) (option_copied word.entry) usual) }
-    ensures good { IfSome result (λ n. option_map_or (is_number_to most) (option_copied word.entry) true ≡ true) }
-    ensures bad { IfNone result (option_map_or (is_number_to most) (option_copied word.entry) true ≡ false) }
+    ensures number { IfSome result
+        (λ n. n ≡ option_map_or (digits_value 10) (option_copied word.entry) usual) }
+    ensures good { IfSome result
+        (λ n. option_map_or (is_number_to most) (option_copied word.entry) true ≡ true) }
+    ensures bad { IfNone result
+        (option_map_or (is_number_to most) (option_copied word.entry) true ≡ false) }
 {
     match word {
         Some(word) => number_to(most, word),
@@ -241,7 +250,8 @@ fn matches_for<'a>(
     words: &'a [String],
 ) -> Result<ArgMatches<'a>, WordsEnd>
     requires { is_plain (app_of command) ≡ true }
-    ensures read { IfOk result (IsReadBy (app_of command.entry) (map string_bytes words.entry.now)) }
+    ensures read { IfOk result
+        (IsReadBy (app_of command.entry) (map string_bytes words.entry.now)) }
     ensures bad { result ≡ Err WordsEnd.Bad →
         takes (app_of command.entry) (map string_bytes words.entry.now) ≡ false }
 {

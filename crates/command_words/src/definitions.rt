@@ -2,7 +2,8 @@
 ghost use Rattle.std.specs.Prelude.{◌≡◌, IfOk, codes, false};
 ghost use Rattle.clap.specs.Walk.{rule_of};
 ghost use Rattle.clap.specs.Simple.{app_of, with_rule};
-ghost use Rattle.command_words.specs.CommandLine.{positional_rule, option_rule, bare_app, run_app, verify_app};
+ghost use Rattle.command_words.specs.CommandLine.{positional_rule, option_rule, bare_app, run_app};
+ghost use Rattle.command_words.specs.CommandLine.{verify_app};
 ghost use Rattle.command_words.specs.CommandLine.{drill_app};
 
 use clap::{Arg, ArgAction, Command};

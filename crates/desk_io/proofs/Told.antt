@@ -1,8 +1,10 @@
 -- Calls of a desk one after the other.
-use Rattle.std.proofs.Common.{◌≡◌, ℕ, ◌+◌, ◌-◌, true, List, [], ◌++◌, length, take, drop, Option, Some, None, refl, sym, ◌∙◌, ap, append_assoc}
+use Rattle.std.proofs.Common.{◌≡◌, ℕ, ◌+◌, ◌-◌, true, List, [], ◌++◌, length, take, drop, Option}
+use Rattle.std.proofs.Common.{Some, None, refl, sym, ◌∙◌, ap, append_assoc}
 use Rattle.std.proofs.lemmas.List.{append-nil, take-append-drop, take_rest}
 use Rattle.std.proofs.Math.Seq.{take-add}
-use Rattle.desk_io.specs.Told.{Told, file_of, Same, KeepsFiles, Passed, TellsCreated, PutsFile, Writes, WritesFront}
+use Rattle.desk_io.specs.Told.{Told, file_of, Same, KeepsFiles, Passed, TellsCreated, PutsFile}
+use Rattle.desk_io.specs.Told.{Writes, WritesFront}
 
 pub Same-keeps : (a b : Option Told) → Same a b → KeepsFiles a b
 Same-keeps None b h = tt
@@ -20,14 +22,24 @@ Passed-nil (Some old) = (old.unread, refl, refl)
 -- a write of nothing
 pub Writes-nil : (a : Option Told) → TellsCreated true a → Writes a a []
 Writes-nil None h = tt
-Writes-nil (Some old) h = (h.0, h.1, old.files, h.2, h.3, (h.3 ∙ ap (λ xs. Some xs) (sym (append-nil h.1)), λ other differ. refl), refl)
+Writes-nil (Some old) h = (
+  h.0,
+  h.1,
+  old.files,
+  h.2,
+  h.3,
+  (h.3 ∙ ap (λ xs. Some xs) (sym (append-nil h.1)), λ other differ. refl),
+  refl,
+)
 
 -- the same file is put twice
-PutsFile-then : (a b c : List (List ℕ × List ℕ)) (name xs ys : List ℕ) → PutsFile a b name xs → PutsFile b c name ys → PutsFile a c name ys
+PutsFile-then : (a b c : List (List ℕ × List ℕ)) (name xs ys : List ℕ) → PutsFile a b name xs
+    → PutsFile b c name ys → PutsFile a c name ys
 PutsFile-then a b c name xs ys p q = (q.0, λ other differ. q.1 other differ ∙ p.1 other differ)
 
 -- two writes
-pub Writes-then : (a b c : Option Told) (xs ys : List ℕ) → Writes a b xs → Writes b c ys → Writes a c (xs ++ ys)
+pub Writes-then : (a b c : Option Told) (xs ys : List ℕ) → Writes a b xs → Writes b c ys
+    → Writes a c (xs ++ ys)
 Writes-then None b c xs ys p q = tt
 Writes-then (Some old) b c xs ys p q =
     let r : Writes (Some (record old { files = p.2 })) c ys = rw p.6 at q in
@@ -35,19 +47,34 @@ Writes-then (Some old) b c xs ys p q =
     let named : PutsFile p.2 r.2 p.0 (r.1 ++ ys) = rw name at r.5 in
     let found : file_of p.2 p.0 ≡ Some r.1 = rw name at r.4 in
     let content : r.1 ≡ p.1 ++ xs = cc (p.5.0, found) in
-    let whole : r.1 ++ ys ≡ p.1 ++ (xs ++ ys) = ap (λ zs. zs ++ ys) content ∙ append_assoc p.1 xs ys in
-    let put : PutsFile p.2 r.2 p.0 (p.1 ++ (xs ++ ys)) = rw whole at named in
-    (p.0, p.1, r.2, p.3, p.4, PutsFile-then old.files p.2 r.2 p.0 (p.1 ++ xs) (p.1 ++ (xs ++ ys)) p.5 put, r.6)
+    let whole : r.1 ++ ys ≡ p.1 ++ (xs ++ ys) =
+    ap (λ zs. zs ++ ys) content ∙ append_assoc p.1 xs ys in
+    let put : PutsFile p.2 r.2 p.0 (p.1 ++ (xs ++ ys)) = rw whole at named in (
+      p.0,
+      p.1,
+      r.2,
+      p.3,
+      p.4,
+      PutsFile-then old.files p.2 r.2 p.0 (p.1 ++ xs) (p.1 ++ (xs ++ ys)) p.5 put,
+      r.6,
+    )
 
 -- a write of the bytes from `at`, of which n were taken
-pub Writes-more : (a b c : Option Told) (bytes : List ℕ) (at n : ℕ) → Writes a b (take at bytes) → Writes b c (take n (take (length bytes - at) (drop at bytes))) → Writes a c (take (at + n) bytes)
+pub Writes-more : (a b c : Option Told) (bytes : List ℕ) (at n : ℕ) → Writes a b (take at bytes)
+    → Writes b c (take n (take (length bytes - at) (drop at bytes)))
+    → Writes a c (take (at + n) bytes)
 Writes-more a b c bytes at n p q =
     let r : Writes b c (take n (drop at bytes)) = rw (take_rest bytes at) at q in
     rw (take-add at n bytes) (Writes-then a b c (take at bytes) (take n (drop at bytes)) p r)
 
 -- bytes are written up to a fault
-pub Writes-fault : (a b c : Option Told) (bytes : List ℕ) (at : ℕ) → Writes a b (take at bytes) → Same b c → WritesFront a c bytes
+pub Writes-fault : (a b c : Option Told) (bytes : List ℕ) (at : ℕ) → Writes a b (take at bytes)
+    → Same b c → WritesFront a c bytes
 Writes-fault None b c bytes at p q = tt
 Writes-fault (Some old) b c bytes at p q =
-    let r : Same (Some (record old { files = p.2 })) c = rw p.6 at q in
-    (take at bytes, drop at bytes, sym (take-append-drop at bytes), (p.0, p.1, p.2, p.3, p.4, p.5, r))
+    let r : Same (Some (record old { files = p.2 })) c = rw p.6 at q in (
+      take at bytes,
+      drop at bytes,
+      sym (take-append-drop at bytes),
+      (p.0, p.1, p.2, p.3, p.4, p.5, r),
+    )

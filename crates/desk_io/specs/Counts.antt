@@ -2,5 +2,5 @@
 use Rattle.std.specs.Prelude.{◌≡◌, ℕ, ◌-◌, ◌^◌, ◌<◌, ◌⊎◌}
 
 -- a count rose from old to new, or is at its last value
-abbrev pub Rose : ℕ → ℕ → Type 0
-Rose old new = (old < new) ⊎ (new ≡ 2 ^ 64 - 1)
+abbrev pub CountRose : ℕ → ℕ → Type 0
+CountRose old new = (old < new) ⊎ (new ≡ 2 ^ 64 - 1)

@@ -17,4 +17,5 @@ abbrev pub created_of : MemDesk → Option (List ℕ)
 created_of desk = created_name desk.created (files_of desk)
 
 abbrev pub told_of : MemDesk → Option Told
-told_of desk = Some (record { files = files_of desk; unread = unread_of desk; created = created_of desk })
+told_of desk =
+    Some (record { files = files_of desk; unread = unread_of desk; created = created_of desk })

@@ -1,6 +1,7 @@
 -- Files in memory: how far one of them is read, and which one is created. The created file is the
 -- first.
-use Rattle.std.specs.Prelude.{ℕ, ◌-◌, Bool, true, false, List, [], ◌∷◌, take, drop, map, slice_index_or, Option, Some, None, String, string_bytes}
+use Rattle.std.specs.Prelude.{ℕ, ◌-◌, Bool, true, false, List, [], ◌∷◌, take, drop, map}
+use Rattle.std.specs.Prelude.{slice_index_or, Option, Some, None, String, string_bytes}
 use Rattle.std.specs.Global.{Vec, Global}
 use Rattle.desk_io.specs.declared.mem_desk.Place.{Place}
 
@@ -25,7 +26,8 @@ end_of (Some place) = place.end
 
 -- the unread bytes of the opened file
 abbrev pub unread_part : List (List ℕ × List ℕ) → Option Place → List ℕ
-unread_part files reading = take (end_of reading - passed_of reading) (drop (passed_of reading) (content_of files reading))
+unread_part files reading =
+    take (end_of reading - passed_of reading) (drop (passed_of reading) (content_of files reading))
 
 -- the name of the created file, if one is created
 abbrev pub created_name : Bool → List (List ℕ × List ℕ) → Option (List ℕ)

@@ -1,5 +1,6 @@
 -- Files in memory: how many of them a place needs, and how they change.
-use Rattle.std.specs.Prelude.{ℕ, ◌+◌, if◌then◌else◌, List, [], ◌∷◌, ◌++◌, nat_eq, Option, Some, None}
+use Rattle.std.specs.Prelude.{ℕ, ◌+◌, if◌then◌else◌, List, [], ◌∷◌, ◌++◌, nat_eq, Option, Some}
+use Rattle.std.specs.Prelude.{None}
 use Rattle.std.specs.Cmp.Lexicographic.{pointwise}
 use Rattle.desk_io.specs.declared.mem_desk.Place.{Place}
 
@@ -11,7 +12,8 @@ files_needed (Some place) = place.file + 1
 -- the files without the first one of that name
 abbrev pub without : List (List ℕ × List ℕ) → List ℕ → List (List ℕ × List ℕ)
 without [] name = []
-without (file ∷ files) name = if pointwise nat_eq file.0 name then files else file ∷ without files name
+without (file ∷ files) name =
+    if pointwise nat_eq file.0 name then files else file ∷ without files name
 
 -- the files, with these bytes appended to the first one
 abbrev pub grown : List (List ℕ × List ℕ) → List ℕ → List (List ℕ × List ℕ)

@@ -10,8 +10,10 @@ Drains (Some old) new bytes = (old.unread ≡ bytes) × (new ≡ Some (record ol
 -- the first n unread bytes have been read
 abbrev pub PassedMany : Option Told → Option Told → ℕ → Type 0
 PassedMany None new n = Unit {0}
-PassedMany (Some old) new n = (n ≤ length old.unread) × (new ≡ Some (record old { unread = drop n old.unread }))
+PassedMany (Some old) new n =
+    (n ≤ length old.unread) × (new ≡ Some (record old { unread = drop n old.unread }))
 
 -- a list grew by bytes that were the first unread ones and have now been read
 abbrev pub PassedTo : Option Told → Option Told → List ℕ → List ℕ → Type 0
-PassedTo told told' list list' = (bytes : List ℕ) × (list' ≡ list ++ bytes) × Passed told told' bytes
+PassedTo told told' list list' =
+    (bytes : List ℕ) × (list' ≡ list ++ bytes) × Passed told told' bytes

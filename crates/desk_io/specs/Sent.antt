@@ -15,4 +15,5 @@ Appends (Some old) new bytes = new ≡ Some (old ++ bytes)
 -- what it tells grew by some of these bytes, taken from their front
 abbrev pub AppendsFront : Option (List ℕ) → Option (List ℕ) → List ℕ → Type 0
 AppendsFront None new bytes = Unit {0}
-AppendsFront (Some old) new bytes = (front : List ℕ) × (rest : List ℕ) × (bytes ≡ front ++ rest) × (new ≡ Some (old ++ front))
+AppendsFront (Some old) new bytes =
+    (front : List ℕ) × (rest : List ℕ) × (bytes ≡ front ++ rest) × (new ≡ Some (old ++ front))

@@ -1,7 +1,9 @@
 // Where files come from and go to.
-ghost use Rattle.std.specs.Prelude.{◌≡◌, ℕ, Bool, true, false, ◌<◌, ◌≤◌, Option, length, take, is_ok, IsTrue, IsFalse, IfOk, OnOk, OnErr, IsErrOf};
-ghost use Rattle.desk_io.specs.Told.{Told, Opens, Passed, AtEnd, Same, TellsCreated, Creates, Writes, Closes};
-ghost use Rattle.desk_io.specs.Counts.{Rose};
+ghost use Rattle.std.specs.Prelude.{◌≡◌, ℕ, Bool, true, false, ◌<◌, ◌≤◌, Option, length, take};
+ghost use Rattle.std.specs.Prelude.{is_ok, IsTrue, IsFalse, IfOk, OnOk, OnErr, IsErrOf};
+ghost use Rattle.desk_io.specs.Told.{Told, Opens, Passed, AtEnd, Same, TellsCreated, Creates};
+ghost use Rattle.desk_io.specs.Told.{Writes, Closes};
+ghost use Rattle.desk_io.specs.Counts.{CountRose};
 ghost use Rattle.desk_io.specs.declared.desk.DeskFault.TheVariants.{Memory};
 
 use std::alloc::AllocError;
@@ -44,7 +46,8 @@ pub trait Desk {
     /// `false` or a fault no file is open. The created file may be opened too.
     fn open_file(&mut self, name: &str) -> Result<bool, DeskFault>
         ensures opens { Opens (told self.old) (told self.new) name.now result }
-        ensures failed { IsErrOf result DeskFault.Failed → Rose (read_faults self.old) (read_faults self.new) }
+        ensures failed { IsErrOf result DeskFault.Failed
+            → CountRose (read_faults self.old) (read_faults self.new) }
         ensures counts { read_faults self.old ≤ read_faults self.new }
         ensures writes { write_faults self.new ≡ write_faults self.old }
         ensures created { created self.new ≡ created self.old };
@@ -55,10 +58,12 @@ pub trait Desk {
     fn read(&mut self, buf: &mut [u8]) -> Result<usize, DeskFault>
         requires { 0 < length buf.old }
         ensures within { IfOk result (λ n. n ≤ length buf.new) }
-        ensures passed { IfOk result (λ n. Passed (told self.old) (told self.new) (take n buf.new)) }
+        ensures passed { IfOk result
+            (λ n. Passed (told self.old) (told self.new) (take n buf.new)) }
         ensures end { IfOk result (λ n. n ≡ 0 → AtEnd (told self.old)) }
         ensures fault { OnErr result (Same (told self.old) (told self.new)) }
-        ensures failed { IsErrOf result DeskFault.Failed → Rose (read_faults self.old) (read_faults self.new) }
+        ensures failed { IsErrOf result DeskFault.Failed
+            → CountRose (read_faults self.old) (read_faults self.new) }
         ensures counts { read_faults self.old ≤ read_faults self.new }
         ensures writes { write_faults self.new ≡ write_faults self.old }
         ensures created { created self.new ≡ created self.old };
@@ -70,7 +75,8 @@ pub trait Desk {
         ensures creates { OnOk result (Creates (told self.old) (told self.new) name.now) }
         ensures fault { OnErr result (Same (told self.old) (told self.new)) }
         ensures created { created self.new ≡ is_ok result }
-        ensures failed { IsErrOf result DeskFault.Failed → Rose (write_faults self.old) (write_faults self.new) }
+        ensures failed { IsErrOf result DeskFault.Failed
+            → CountRose (write_faults self.old) (write_faults self.new) }
         ensures counts { write_faults self.old ≤ write_faults self.new }
         ensures reads { read_faults self.new ≡ read_faults self.old };
 
@@ -80,10 +86,12 @@ pub trait Desk {
         requires { IsTrue (created self.old) }
         ensures within { IfOk result (λ n. n ≤ length piece.now) }
         ensures some { IfOk result (λ n. 0 < length piece.now → 0 < n) }
-        ensures writes { IfOk result (λ n. Writes (told self.old) (told self.new) (take n piece.now)) }
+        ensures writes { IfOk result
+            (λ n. Writes (told self.old) (told self.new) (take n piece.now)) }
         ensures fault { OnErr result (Same (told self.old) (told self.new)) }
         ensures created { IsTrue (created self.new) }
-        ensures failed { IsErrOf result DeskFault.Failed → Rose (write_faults self.old) (write_faults self.new) }
+        ensures failed { IsErrOf result DeskFault.Failed
+            → CountRose (write_faults self.old) (write_faults self.new) }
         ensures counts { write_faults self.old ≤ write_faults self.new }
         ensures reads { read_faults self.new ≡ read_faults self.old };
 
@@ -93,7 +101,8 @@ pub trait Desk {
         requires { IsTrue (created self.old) }
         ensures closes { Closes (told self.old) (told self.new) }
         ensures created { IsFalse (created self.new) }
-        ensures failed { IsErrOf result DeskFault.Failed → Rose (write_faults self.old) (write_faults self.new) }
+        ensures failed { IsErrOf result DeskFault.Failed
+            → CountRose (write_faults self.old) (write_faults self.new) }
         ensures counts { write_faults self.old ≤ write_faults self.new }
         ensures reads { read_faults self.new ≡ read_faults self.old };
 

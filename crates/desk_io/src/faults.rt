@@ -1,14 +1,14 @@
 // Counts of faults, and faults that a test asks for.
 ghost use Rattle.std.specs.Prelude.{◌≡◌, ◌+◌, ◌-◌, ◌^◌, ◌≤◌, ◌↔◌, min, IsTrue, nat_eq};
 ghost use Rattle.std.specs.List.{list_any};
-ghost use Rattle.desk_io.specs.Counts.{Rose};
+ghost use Rattle.desk_io.specs.Counts.{CountRose};
 
 use crate::desk::DeskFault;
 use std::io::{self, ErrorKind};
 
 /// One more than `count`. At the last value, `count` itself.
 pub fn raised(count: u64) -> u64
-    ensures rose { Rose count result }
+    ensures rose { CountRose count result }
     ensures counts { count ≤ result }
 {
     count.saturating_add(1)
@@ -16,7 +16,7 @@ pub fn raised(count: u64) -> u64
 
 /// The fault for an error of the system. It is counted, except if memory ran out.
 pub fn counted(error: &io::Error, faults: &mut u64) -> DeskFault
-    ensures failed { result ≡ DeskFault.Failed → Rose faults.old faults.new }
+    ensures failed { result ≡ DeskFault.Failed → CountRose faults.old faults.new }
     ensures counts { faults.old ≤ faults.new }
 {
     if error.kind() == ErrorKind::OutOfMemory {
@@ -43,7 +43,8 @@ impl FaultPlan {
 
     /// Counts a call, and returns whether it is to fail.
     pub fn is_to_fail(&mut self) -> bool
-        ensures fails { result ≡ list_any (λ call. nat_eq call self.old.calls) self.old.fail_at.items }
+        ensures fails { result
+            ≡ list_any (λ call. nat_eq call self.old.calls) self.old.fail_at.items }
         ensures calls { self.new.calls ≡ min (self.old.calls + 1) (2 ^ 64 - 1) }
         ensures plan { self.new.fail_at ≡ self.old.fail_at }
     {

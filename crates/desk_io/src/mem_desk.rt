@@ -1,5 +1,7 @@
 // A desk in memory.
-ghost use Rattle.std.specs.Prelude.{◌≡◌, ◌∷◌, ◌<◌, ◌≤◌, [], false, length, take, min, vec_len, string_bytes, option_copied, nat_eq, IsTrue, IsFalse, OnOk, OnErr};
+ghost use Rattle.std.specs.Prelude.{◌≡◌, ◌∷◌, ◌<◌, ◌≤◌, [], false, length, take, min, vec_len};
+ghost use Rattle.std.specs.Prelude.{string_bytes, option_copied, nat_eq, IsTrue, IsFalse, OnOk};
+ghost use Rattle.std.specs.Prelude.{OnErr};
 ghost use Rattle.std.specs.List.{position};
 ghost use Rattle.std.specs.Cmp.Lexicographic.{pointwise};
 ghost use Rattle.desk_io.specs.Told.{file_of, NamesDiffer};
@@ -183,7 +185,8 @@ fn pass(from: &[u8], to: &mut [u8], most: usize) -> usize
 
 /// Puts an empty file of that name before the others. It replaces the file that has the name.
 fn put_empty(files: &mut Vec<(String, Vec<u8>)>, name: &str) -> Result<(), AllocError>
-    ensures put { OnOk result (named_bytes files.new.items ≡ (name.now, []) ∷ without (named_bytes files.old.items) name.now) }
+    ensures put { OnOk result (named_bytes files.new.items
+        ≡ (name.now, []) ∷ without (named_bytes files.old.items) name.now) }
     ensures fault { OnErr result (files.new.items ≡ files.old.items) }
 {
     let alloc = *files.allocator();
@@ -199,7 +202,8 @@ fn put_empty(files: &mut Vec<(String, Vec<u8>)>, name: &str) -> Result<(), Alloc
 /// Appends the bytes to the first file.
 fn append_to_first(files: &mut Vec<(String, Vec<u8>)>, piece: &[u8]) -> Result<(), AllocError>
     requires { 0 < vec_len files.old }
-    ensures grown { OnOk result (named_bytes files.new.items ≡ grown (named_bytes files.old.items) piece.now) }
+    ensures grown { OnOk result
+        (named_bytes files.new.items ≡ grown (named_bytes files.old.items) piece.now) }
     ensures fault { OnErr result (named_bytes files.new.items ≡ named_bytes files.old.items) }
     ensures count { vec_len files.new ≡ vec_len files.old }
 {

@@ -2,7 +2,7 @@
 ghost use Rattle.std.specs.Prelude.{◌≡◌, ◌<◌, ◌≤◌, ◌+◌, ◌⊎◌, length, IfOk, IsOk, IsErrOf, vec_len};
 ghost use Rattle.desk_io.specs.Told.{KeepsFiles, Holds, Lacks, HoldsMore, Leaves, AtEnd};
 ghost use Rattle.desk_io.specs.ReadingOn.{Drains, PassedMany, PassedTo};
-ghost use Rattle.desk_io.specs.Counts.{Rose};
+ghost use Rattle.desk_io.specs.Counts.{CountRose};
 ghost use Rattle.desk_io.specs.End.{end_by};
 ghost use Rattle.desk_io.specs.declared.read.ReadEnd.TheVariants.{Memory};
 
@@ -59,12 +59,16 @@ pub fn read_file<D: Desk>(
     ensures found { IfOk result (λ v. Holds (D.told desk.old) name.now v.items) }
     ensures within { IfOk result (λ v. vec_len v ≤ limit) }
     ensures no_file { IsErrOf result ReadEnd.NoFile → Lacks (D.told desk.old) name.now }
-    ensures too_large { IsErrOf result ReadEnd.TooLarge → HoldsMore (D.told desk.old) name.now limit }
-    ensures failed { IsErrOf result ReadEnd.Failed → Rose (D.read_faults desk.old) (D.read_faults desk.new) }
+    ensures too_large { IsErrOf result ReadEnd.TooLarge
+        → HoldsMore (D.told desk.old) name.now limit }
+    ensures failed { IsErrOf result ReadEnd.Failed
+        → CountRose (D.read_faults desk.old) (D.read_faults desk.new) }
 
     // What the call did to the desk.
-    ensures taken { IfOk result (λ v. Leaves (D.told desk.old) (D.told desk.new) name.now (vec_len v)) }
-    ensures taken_more { IsErrOf result ReadEnd.TooLarge → Leaves (D.told desk.old) (D.told desk.new) name.now (limit + 1) }
+    ensures taken { IfOk result
+        (λ v. Leaves (D.told desk.old) (D.told desk.new) name.now (vec_len v)) }
+    ensures taken_more { IsErrOf result ReadEnd.TooLarge
+        → Leaves (D.told desk.old) (D.told desk.new) name.now (limit + 1) }
     ensures files { KeepsFiles (D.told desk.old) (D.told desk.new) }
     ensures counts { D.read_faults desk.old ≤ D.read_faults desk.new }
     ensures writes { D.write_faults desk.new ≡ D.write_faults desk.old }
@@ -82,9 +86,11 @@ fn read_rest<D: Desk>(alloc: Global, desk: &mut D, limit: usize) -> Result<Vec<u
     requires { limit ≤ 268435456 }
     ensures drained { IfOk result (λ v. Drains (D.told desk.old) (D.told desk.new) v.items) }
     ensures within { IfOk result (λ v. vec_len v ≤ limit) }
-    ensures too_large { IsErrOf result ReadEnd.TooLarge → PassedMany (D.told desk.old) (D.told desk.new) (limit + 1) }
+    ensures too_large { IsErrOf result ReadEnd.TooLarge
+        → PassedMany (D.told desk.old) (D.told desk.new) (limit + 1) }
     ensures some_file { ¬ (IsErrOf result ReadEnd.NoFile) }
-    ensures failed { IsErrOf result ReadEnd.Failed → Rose (D.read_faults desk.old) (D.read_faults desk.new) }
+    ensures failed { IsErrOf result ReadEnd.Failed
+        → CountRose (D.read_faults desk.old) (D.read_faults desk.new) }
     ensures files { KeepsFiles (D.told desk.old) (D.told desk.new) }
     ensures counts { D.read_faults desk.old ≤ D.read_faults desk.new }
     ensures writes { D.write_faults desk.new ≡ D.write_faults desk.old }
@@ -112,10 +118,13 @@ fn read_more<D: Desk>(
     requires { 0 < length buffer.old }
     ensures within { IfOk result (λ n. n ≤ length buffer.old) }
     ensures length { IfOk result (λ n. vec_len bytes.new ≡ vec_len bytes.old + n) }
-    ensures passed { IfOk result (λ n. PassedTo (D.told desk.old) (D.told desk.new) bytes.old.items bytes.new.items) }
+    ensures passed { IfOk result
+        (λ n. PassedTo (D.told desk.old) (D.told desk.new) bytes.old.items bytes.new.items) }
     ensures end { IfOk result (λ n. n ≡ 0 → AtEnd (D.told desk.old)) }
-    ensures fault { (IsErrOf result ReadEnd.Failed) ⊎ (IsErrOf result ReadEnd.Memory) ⊎ IsOk result }
-    ensures failed { IsErrOf result ReadEnd.Failed → Rose (D.read_faults desk.old) (D.read_faults desk.new) }
+    ensures fault { (IsErrOf result ReadEnd.Failed) ⊎ (IsErrOf result ReadEnd.Memory)
+        ⊎ IsOk result }
+    ensures failed { IsErrOf result ReadEnd.Failed
+        → CountRose (D.read_faults desk.old) (D.read_faults desk.new) }
     ensures files { KeepsFiles (D.told desk.old) (D.told desk.new) }
     ensures counts { D.read_faults desk.old ≤ D.read_faults desk.new }
     ensures writes { D.write_faults desk.new ≡ D.write_faults desk.old }

@@ -1,7 +1,8 @@
 // The desk of the system: the edge for files.
-ghost use Rattle.std.specs.Prelude.{◌≡◌, ◌<◌, ◌≤◌, None, length, is_some, option_and_then, IsFalse, IsTrue, IfOk, IsErrOf};
+ghost use Rattle.std.specs.Prelude.{◌≡◌, ◌<◌, ◌≤◌, None, length, is_some, option_and_then, IsFalse};
+ghost use Rattle.std.specs.Prelude.{IsTrue, IfOk, IsErrOf};
 ghost use Rattle.std.specs.Io.KnownBytes.{ReadConsumes, WriteAppends};
-ghost use Rattle.desk_io.specs.Counts.{Rose};
+ghost use Rattle.desk_io.specs.Counts.{CountRose};
 
 use crate::desk::{Desk, DeskFault};
 use crate::faults::counted;
@@ -69,7 +70,8 @@ impl<R: Files> Desk for RealDesk<R> {
         ensures bytes { ReadConsumes
             (option_and_then R.File.remaining self.old.reading)
             (option_and_then R.File.remaining self.new.reading) result buf.new }
-        ensures failed { IsErrOf result DeskFault.Failed → Rose self.old.read_faults self.new.read_faults }
+        ensures failed { IsErrOf result DeskFault.Failed
+            → CountRose self.old.read_faults self.new.read_faults }
         ensures counts { self.old.read_faults ≤ self.new.read_faults }
         ensures writes { self.new.write_faults ≡ self.old.write_faults }
         ensures created { self.new.created ≡ self.old.created }
@@ -99,7 +101,8 @@ impl<R: Files> Desk for RealDesk<R> {
             (option_and_then R.File.contents self.old.created)
             (option_and_then R.File.contents self.new.created) result piece.now }
         ensures created { IsTrue (is_some self.new.created) }
-        ensures failed { IsErrOf result DeskFault.Failed → Rose self.old.write_faults self.new.write_faults }
+        ensures failed { IsErrOf result DeskFault.Failed
+            → CountRose self.old.write_faults self.new.write_faults }
         ensures counts { self.old.write_faults ≤ self.new.write_faults }
         ensures reads { self.new.read_faults ≡ self.old.read_faults }
     {

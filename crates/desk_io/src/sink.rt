@@ -1,7 +1,8 @@
 // Where text goes.
-ghost use Rattle.std.specs.Prelude.{◌≡◌, ℕ, List, ◌<◌, ◌≤◌, Option, length, take, IfOk, OnOk, OnErr, IsErrOf};
+ghost use Rattle.std.specs.Prelude.{◌≡◌, ℕ, List, ◌<◌, ◌≤◌, Option, length, take, IfOk, OnOk};
+ghost use Rattle.std.specs.Prelude.{OnErr, IsErrOf};
 ghost use Rattle.desk_io.specs.Sent.{Appends, AppendsFront, SameBytes};
-ghost use Rattle.desk_io.specs.Counts.{Rose};
+ghost use Rattle.desk_io.specs.Counts.{CountRose};
 
 use crate::desk::DeskFault;
 
@@ -18,9 +19,11 @@ pub trait Sink {
     fn write(&mut self, piece: &[u8]) -> Result<usize, DeskFault>
         ensures within { IfOk result (λ n. n ≤ length piece.now) }
         ensures some { IfOk result (λ n. 0 < length piece.now → 0 < n) }
-        ensures appends { IfOk result (λ n. Appends (bytes self.old) (bytes self.new) (take n piece.now)) }
+        ensures appends { IfOk result
+            (λ n. Appends (bytes self.old) (bytes self.new) (take n piece.now)) }
         ensures fault { OnErr result (SameBytes (bytes self.old) (bytes self.new)) }
-        ensures failed { IsErrOf result DeskFault.Failed → Rose (faults self.old) (faults self.new) }
+        ensures failed { IsErrOf result DeskFault.Failed
+            → CountRose (faults self.old) (faults self.new) }
         ensures counts { faults self.old ≤ faults self.new };
 }
 
@@ -29,7 +32,8 @@ pub trait Sink {
 pub fn send_whole<S: Sink>(sink: &mut S, bytes: &[u8]) -> Result<(), DeskFault>
     ensures sent { OnOk result (Appends (S.bytes sink.old) (S.bytes sink.new) bytes.now) }
     ensures prefix { OnErr result (AppendsFront (S.bytes sink.old) (S.bytes sink.new) bytes.now) }
-    ensures failed { IsErrOf result DeskFault.Failed → Rose (S.faults sink.old) (S.faults sink.new) }
+    ensures failed { IsErrOf result DeskFault.Failed
+        → CountRose (S.faults sink.old) (S.faults sink.new) }
     ensures counts { S.faults sink.old ≤ S.faults sink.new }
 {
     let mut at = 0;

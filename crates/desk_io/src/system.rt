@@ -1,7 +1,7 @@
 // One read and one write of the system. The contracts of std say which bytes they read or wrote.
 ghost use Rattle.std.specs.Prelude.{◌≡◌, ◌<◌, ◌≤◌, length, IfOk, IsErrOf};
 ghost use Rattle.std.specs.Io.KnownBytes.{ReadConsumes, WriteAppends};
-ghost use Rattle.desk_io.specs.Counts.{Rose};
+ghost use Rattle.desk_io.specs.Counts.{CountRose};
 
 use crate::desk::DeskFault;
 use crate::faults::{counted, raised};
@@ -16,7 +16,7 @@ pub fn read_some<F: Read>(
 ) -> Result<usize, DeskFault>
     ensures within { IfOk result (λ n. n ≤ length buf.new) }
     ensures bytes { ReadConsumes (F.remaining file.old) (F.remaining file.new) result buf.new }
-    ensures failed { IsErrOf result DeskFault.Failed → Rose faults.old faults.new }
+    ensures failed { IsErrOf result DeskFault.Failed → CountRose faults.old faults.new }
     ensures counts { faults.old ≤ faults.new }
 {
     match file.read(buf) {
@@ -36,7 +36,7 @@ pub fn write_some<W: Write>(
     ensures within { IfOk result (λ n. n ≤ length piece.now) }
     ensures some { IfOk result (λ n. 0 < length piece.now → 0 < n) }
     ensures bytes { WriteAppends (W.contents writer.old) (W.contents writer.new) result piece.now }
-    ensures failed { IsErrOf result DeskFault.Failed → Rose faults.old faults.new }
+    ensures failed { IsErrOf result DeskFault.Failed → CountRose faults.old faults.new }
     ensures counts { faults.old ≤ faults.new }
 {
     match writer.write(piece) {

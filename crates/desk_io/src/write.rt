@@ -1,7 +1,7 @@
 // Writing all bytes to the created file.
 ghost use Rattle.std.specs.Prelude.{◌≡◌, ◌≤◌, IsTrue, OnOk, OnErr, IsErrOf};
 ghost use Rattle.desk_io.specs.Told.{Writes, WritesFront};
-ghost use Rattle.desk_io.specs.Counts.{Rose};
+ghost use Rattle.desk_io.specs.Counts.{CountRose};
 
 use crate::desk::{Desk, DeskFault};
 
@@ -13,7 +13,8 @@ pub fn write_whole<D: Desk>(desk: &mut D, bytes: &[u8]) -> Result<(), DeskFault>
     ensures written { OnOk result (Writes (D.told desk.old) (D.told desk.new) bytes.now) }
     ensures prefix { OnErr result (WritesFront (D.told desk.old) (D.told desk.new) bytes.now) }
     ensures created { IsTrue (D.created desk.new) }
-    ensures failed { IsErrOf result DeskFault.Failed → Rose (D.write_faults desk.old) (D.write_faults desk.new) }
+    ensures failed { IsErrOf result DeskFault.Failed
+        → CountRose (D.write_faults desk.old) (D.write_faults desk.new) }
     ensures counts { D.write_faults desk.old ≤ D.write_faults desk.new }
     ensures reads { D.read_faults desk.new ≡ D.read_faults desk.old }
 {

@@ -22,7 +22,8 @@ first_lines =
     ∷ codes "hooked-sort SortInt{} [hook{}(\"INT.Int\")]"
     ∷ codes "hooked-sort SortBool{} [hook{}(\"BOOL.Bool\")]"
     ∷ codes "sort SortC{} []" ∷ codes "sort SortS{} []"
-    ∷ codes "hooked-symbol add{}(SortInt{},SortInt{}) : SortInt{} [function{}(),hook{}(\"INT.add\")]"
+    ∷ codes
+    "hooked-symbol add{}(SortInt{},SortInt{}) : SortInt{} [function{}(),hook{}(\"INT.add\")]"
     ∷ codes "hooked-symbol ge{}(SortInt{},SortInt{}) : SortBool{} [function{}(),hook{}(\"INT.ge\")]"
     ∷ codes "symbol st{}(SortC{},SortInt{}) : SortS{} [constructor{}()]" ∷ [])
 
@@ -34,7 +35,8 @@ symbol_line i = line (codes "symbol c" ∷ decimal i ∷ codes "{}() : SortC{} [
 abbrev pub rule_line : ℕ → List ℕ
 rule_line i =
     line (codes "axiom{} \\rewrites{SortS{}}(\\and{SortS{}}(st{}(c" ∷ decimal i
-    ∷ codes "{}(),X:SortInt{}),\\equals{SortBool{},SortS{}}(ge{}(X:SortInt{},\\dv{SortInt{}}(\"0\")),"
+    ∷ codes
+    "{}(),X:SortInt{}),\\equals{SortBool{},SortS{}}(ge{}(X:SortInt{},\\dv{SortInt{}}(\"0\")),"
     ∷ codes "\\dv{SortBool{}}(\"true\"))),\\and{SortS{}}(st{}(c"
     ∷ decimal (i + 1) ∷ codes "{}(),add{}(X:SortInt{},\\dv{SortInt{}}(\"" ∷ decimal i
     ∷ codes "\"))),\\top{SortS{}}())) []" ∷ [])

@@ -83,7 +83,8 @@ fn push_rule_line(text: &mut Vec<u8>, i: u32) -> Result<(), AllocError>
         &[
             "axiom{} \\rewrites{SortS{}}(\\and{SortS{}}(st{}(c",
             number,
-            "{}(),X:SortInt{}),\\equals{SortBool{},SortS{}}(ge{}(X:SortInt{},\\dv{SortInt{}}(\"0\")),",
+            "{}(),X:SortInt{}),\\equals{SortBool{},SortS{}}(ge{}(X:SortInt{},\
+                \\dv{SortInt{}}(\"0\")),",
             "\\dv{SortBool{}}(\"true\"))),\\and{SortS{}}(st{}(c",
             next,
             "{}(),add{}(X:SortInt{},\\dv{SortInt{}}(\"",

@@ -1,5 +1,6 @@
 -- What the private functions that try equations return.
-use Rattle.std.specs.Prelude.{◌≡◌, ◌⊎◌, ◌<◌, ℕ, List, [], Option, Some, None, slice_get, MatchOption, Result}
+use Rattle.std.specs.Prelude.{◌≡◌, ◌⊎◌, ◌<◌, ℕ, List, [], Option, Some, None, slice_get}
+use Rattle.std.specs.Prelude.{MatchOption, Result}
 use Rattle.term_core.specs.Terms.{Tree, Forest, forest}
 use Rattle.term_core.specs.Patterns.{Pattern}
 use Rattle.rule_core.specs.Rules.{Equation}
@@ -7,7 +8,8 @@ use Rattle.rule_core.specs.Theories.{RewriteTheory, equations_of}
 use Rattle.rule_core.specs.Matching.{MatchAll}
 use Rattle.rule_core.specs.Sorting.{IsSymbol}
 use Rattle.rule_core.specs.WellSorted.{IsEquationOf}
-use Rattle.rule_core.specs.Evaluation.{Evaluated, value, blocked, no_equation, holds, fails, untested, IsUnmatchedBy}
+use Rattle.rule_core.specs.Evaluation.{Evaluated, value, blocked, no_equation, holds, fails}
+use Rattle.rule_core.specs.Evaluation.{untested, IsUnmatchedBy}
 use Rattle.rule_core.specs.Evaluation.{Equates, Tests, EvaluatesIn}
 use Rattle.rule_core.specs.Records.{IsUnused, Record, RecordList, OptionalRecord, RecordsCondition}
 use Rattle.rule_core.specs.declared.signature.SymInfo.{SymInfo}
@@ -34,35 +36,39 @@ Matches theory e ts found =
     MatchOption found (IsUnmatchedBy theory e ts) (MatchAll theory.sig e.variables e.arguments ts)
 
 -- the call of a function by its equations
-abbrev pub CallsByEquations : {R : Type 0} → (R → Record → Type 0) → (List R → RecordList → Type 0) → RewriteTheory → ℕ
-    → ℕ → Answers R → ℕ → Result (Answer R × ℕ) EvalEnd → Type 0
+abbrev pub CallsByEquations : {R : Type 0} → (R → Record → Type 0) → (List R → RecordList → Type 0)
+    → RewriteTheory → ℕ → ℕ → Answers R → ℕ → Result (Answer R × ℕ) EvalEnd → Type 0
 CallsByEquations {R} tells all_tell theory n f args c answer =
     Comes
-    (λ (a : Answer R) (left : ℕ). Equates theory n f (equations_of theory f) (forest args.terms.items) c
+    (λ (a : Answer R) (left : ℕ).
+    Equates theory n f (equations_of theory f) (forest args.terms.items) c
     (value a.term left)
     × IsRecordedCall tells all_tell theory f args a)
-    (λ cause. Equates theory n f (equations_of theory f) (forest args.terms.items) c (blocked cause))
+    (λ cause.
+    Equates theory n f (equations_of theory f) (forest args.terms.items) c (blocked cause))
     answer
 
 -- what is recorded of a condition that holds
-abbrev pub IsRecordedCondition : {R : Type 0} → (R → Record → Type 0) → RewriteTheory → List (Option Tree)
-    → Option Pattern → Option R → Type 0
+abbrev pub IsRecordedCondition : {R : Type 0} → (R → Record → Type 0) → RewriteTheory
+    → List (Option Tree) → Option Pattern → Option R → Type 0
 IsRecordedCondition tells theory theta p kept =
     (o : OptionalRecord) × TellsOption tells kept o × RecordsCondition theory theta p o
 
 -- an equation is not used, or it matches and its condition holds
-abbrev pub TrialSays : {R : Type 0} → (R → Record → Type 0) → RewriteTheory → ℕ → ℕ → Equation → Forest → ℕ → Trial R
-    → ℕ → Type 0
+abbrev pub TrialSays : {R : Type 0} → (R → Record → Type 0) → RewriteTheory → ℕ → ℕ → Equation
+    → Forest → ℕ → Trial R → ℕ → Type 0
 TrialSays tells theory n f e ts c Unused left =
     (IsUnmatchedBy theory e ts × (left ≡ c)) ⊎ ((theta : List (Option Tree))
-    × MatchAll theory.sig e.variables e.arguments ts theta × Tests theory n f theta e.condition c (fails left))
+    × MatchAll theory.sig e.variables e.arguments ts theta
+    × Tests theory n f theta e.condition c (fails left))
 TrialSays tells theory n f e ts c (Used theta kept) left =
-    MatchAll theory.sig e.variables e.arguments ts theta × Tests theory n f theta e.condition c (holds left)
+    MatchAll theory.sig e.variables e.arguments ts theta
+    × Tests theory n f theta e.condition c (holds left)
     × IsRecordedCondition tells theory theta e.condition kept
 
 -- the same, or the equation's condition is blocked
-abbrev pub Tries : {R : Type 0} → (R → Record → Type 0) → RewriteTheory → ℕ → ℕ → Equation → Forest → ℕ
-    → Result (Trial R × ℕ) EvalEnd → Type 0
+abbrev pub Tries : {R : Type 0} → (R → Record → Type 0) → RewriteTheory → ℕ → ℕ → Equation → Forest
+    → ℕ → Result (Trial R × ℕ) EvalEnd → Type 0
 Tries tells theory n f e ts c answer =
     Comes
     (TrialSays tells theory n f e ts c)
@@ -72,19 +78,21 @@ Tries tells theory n f e ts c answer =
 
 -- trying the equations of the function at the terms ends at this equation, with this substitution;
 -- the value of the function is the value of the equation's right side
-pub record IsChosen (theory : RewriteTheory) (n f : ℕ) (ts : Forest) (c number : ℕ) (theta : List (Option Tree))
+pub record IsChosen (theory : RewriteTheory) (n f : ℕ) (ts : Forest) (c number : ℕ)
+    (theta : List (Option Tree))
     (left : ℕ) : Type 0 where
   pub equation : Equation
   pub there : slice_get (equations_of theory f) number ≡ Some equation
   pub matches : MatchAll theory.sig equation.variables equation.arguments ts theta
-  pub earlier : (j : ℕ) (other : Equation) → j < number → slice_get (equations_of theory f) j ≡ Some other →
-      IsUnused theory f other ts
+  pub earlier : (j : ℕ) (other : Equation) → j < number
+      → slice_get (equations_of theory f) j ≡ Some other → IsUnused theory f other ts
   pub gives : (r : Evaluated) → EvaluatesIn theory n f theta equation.right left r →
       Equates theory n f (equations_of theory f) ts c r
 
-abbrev pub ChoiceSays : {R : Type 0} → (R → Record → Type 0) → RewriteTheory → ℕ → ℕ → Forest → ℕ → Option (Choice R)
-    → ℕ → Type 0
-ChoiceSays tells theory n f ts c None left = Equates theory n f (equations_of theory f) ts c (blocked (no_equation f))
+abbrev pub ChoiceSays : {R : Type 0} → (R → Record → Type 0) → RewriteTheory → ℕ → ℕ → Forest → ℕ
+    → Option (Choice R) → ℕ → Type 0
+ChoiceSays tells theory n f ts c None left =
+    Equates theory n f (equations_of theory f) ts c (blocked (no_equation f))
 ChoiceSays tells theory n f ts c (Some chosen) left =
     (is : IsChosen theory n f ts c chosen.number chosen.subst left)
     × IsRecordedCondition tells theory chosen.subst is.equation.condition chosen.cond
@@ -101,4 +109,5 @@ Chooses tells theory n f ts c answer =
 -- an equation of a function, and terms of its arguments' sorts
 abbrev pub IsTriable : RewriteTheory → Equation → Forest → Type 0
 IsTriable theory e ts =
-    (info : SymInfo) × IsEquationOf theory.sig info e × AreGoodTrees theory.sig [] ts info.args.items
+    (info : SymInfo) × IsEquationOf theory.sig info e
+    × AreGoodTrees theory.sig [] ts info.args.items

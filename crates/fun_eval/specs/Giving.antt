@@ -1,6 +1,7 @@
 -- What the private functions of evaluation return.
 use Rattle.std.specs.Prelude.{◌≡◌, ◌<◌, ◌≤◌, ℕ, List, length, Option, Some, IsSome, Result, Ok, Err}
-use Rattle.term_core.specs.Terms.{DomainValue, Tree, leaf, node, Forest, forest, height, heights, injected, AreNormal}
+use Rattle.term_core.specs.Terms.{DomainValue, Tree, leaf, node, Forest, forest, height, heights}
+use Rattle.term_core.specs.Terms.{injected, AreNormal}
 use Rattle.term_core.specs.Patterns.{Pattern, Patterns, call, binding}
 use Rattle.term_core.specs.HookValues.{hook_value}
 use Rattle.rule_core.specs.Theories.{RewriteTheory}
@@ -8,10 +9,12 @@ use Rattle.rule_core.specs.HookCalls.{AreValues}
 use Rattle.term_core.specs.declared.values.NoValue.{NoValue}
 use Rattle.rule_core.specs.Sorting.{HaveSorts, IsSymbol, IsFunction, sort_at}
 use Rattle.rule_core.specs.MatchLaws.{AreTermsOf}
-use Rattle.rule_core.specs.Matching.{StandsInSome, RespectsSorts}
-use Rattle.rule_core.specs.Evaluation.{Cause, value, blocked, values, stopped, no_value, too_high, most_height}
+use Rattle.rule_core.specs.Matching.{OccursInSome, RespectsSorts}
+use Rattle.rule_core.specs.Evaluation.{Cause, value, blocked, values, stopped, no_value, too_high}
+use Rattle.rule_core.specs.Evaluation.{most_height}
 use Rattle.rule_core.specs.Evaluation.{Evaluates, EvaluateAll, Applies, EvaluatesIn}
-use Rattle.rule_core.specs.Records.{Record, RecordList, no_record, more_records, made, by_hook, Records, RecordAll}
+use Rattle.rule_core.specs.Records.{Record, RecordList, no_record, more_records, made, by_hook}
+use Rattle.rule_core.specs.Records.{Records, RecordAll}
 use Rattle.rule_core.specs.Records.{results_of, result_of}
 use Rattle.rule_core.specs.RunView.{cause_of}
 use Rattle.rule_core.specs.declared.signature.Signature.{Signature}
@@ -25,14 +28,15 @@ use Rattle.fun_eval.specs.declared.answer.EvalEnd.TheVariants.{Blocked, Memory}
 use Rattle.fun_eval.specs.declared.answer.Answers.{Answers}
 
 -- by cases on the result: a value and how many calls are left, or a cause
-abbrev pub Comes : {A : Type 0} → (A → ℕ → Type 0) → (Cause → Type 0) → Result (A × ℕ) EvalEnd → Type 0
+abbrev pub Comes : {A : Type 0} → (A → ℕ → Type 0) → (Cause → Type 0) → Result (A × ℕ) EvalEnd
+    → Type 0
 Comes good bad (Ok found) = good found.0 found.1
 Comes good bad (Err (Blocked why)) = bad (cause_of why)
 Comes good bad (Err Memory) = Unit {0}
 
 -- the evaluation of a pattern
-abbrev pub Gives : {R : Type 0} → (R → Record → Type 0) → RewriteTheory → ℕ → List (Option Tree) → Pattern → ℕ
-    → Result (Answer R × ℕ) EvalEnd → Type 0
+abbrev pub Gives : {R : Type 0} → (R → Record → Type 0) → RewriteTheory → ℕ → List (Option Tree)
+    → Pattern → ℕ → Result (Answer R × ℕ) EvalEnd → Type 0
 Gives {R} tells theory n theta p c answer =
     Comes
     (λ (a : Answer R) (left : ℕ). Evaluates theory n theta p c (value a.term left)
@@ -41,8 +45,8 @@ Gives {R} tells theory n theta p c answer =
     answer
 
 -- the same for an equation of this function, whose evaluation uses one level of nesting
-abbrev pub GivesWithin : {R : Type 0} → (R → Record → Type 0) → RewriteTheory → ℕ → ℕ → List (Option Tree) → Pattern → ℕ
-    → Result (Answer R × ℕ) EvalEnd → Type 0
+abbrev pub GivesWithin : {R : Type 0} → (R → Record → Type 0) → RewriteTheory → ℕ → ℕ
+    → List (Option Tree) → Pattern → ℕ → Result (Answer R × ℕ) EvalEnd → Type 0
 GivesWithin {R} tells theory n f theta p c answer =
     Comes
     (λ (a : Answer R) (left : ℕ). EvaluatesIn theory n f theta p c (value a.term left)
@@ -51,36 +55,41 @@ GivesWithin {R} tells theory n f theta p c answer =
     answer
 
 -- what the recordings of the values of patterns tell
-abbrev pub AreRecorded : (RecordList → Type 0) → RewriteTheory → List (Option Tree) → Patterns → Forest → Type 0
+abbrev pub AreRecorded : (RecordList → Type 0) → RewriteTheory → List (Option Tree) → Patterns
+    → Forest → Type 0
 AreRecorded tell theory theta ps ts =
     (rs : RecordList) × tell rs × RecordAll theory theta ps rs × (results_of rs ≡ ts)
 
 -- the evaluation of patterns
-abbrev pub AllGive : {R : Type 0} → (List R → RecordList → Type 0) → RewriteTheory → ℕ → List (Option Tree) → Patterns
-    → ℕ → Result (Answers R × ℕ) EvalEnd → Type 0
+abbrev pub AllGive : {R : Type 0} → (List R → RecordList → Type 0) → RewriteTheory → ℕ
+    → List (Option Tree) → Patterns → ℕ → Result (Answers R × ℕ) EvalEnd → Type 0
 AllGive {R} all_tell theory n theta ps c answer =
     Comes
-    (λ (a : Answers R) (left : ℕ). EvaluateAll theory n theta ps c (values (forest a.terms.items) left)
+    (λ (a : Answers R) (left : ℕ).
+    EvaluateAll theory n theta ps c (values (forest a.terms.items) left)
     × AreRecorded (all_tell a.records.items) theory theta ps (forest a.terms.items))
     (λ cause. EvaluateAll theory n theta ps c (stopped cause))
     answer
 
 -- the substitution gives each variable of the patterns, and perhaps others, a normal term of its
 -- sort, of at most the greatest height
-pub record ServesAll (sig : Signature) (variables : List ℕ) (theta : List (Option Tree)) (ps : Patterns) : Type 0 where
-  pub bound : (x : ℕ) → StandsInSome x ps → IsSome (binding theta x)
+pub record ServesAll (sig : Signature) (variables : List ℕ) (theta : List (Option Tree))
+    (ps : Patterns) : Type 0 where
+  pub bound : (x : ℕ) → OccursInSome x ps → IsSome (binding theta x)
   pub sorted : RespectsSorts sig variables theta
   pub low : (x : ℕ) (t : Tree) → binding theta x ≡ Some t → height t ≤ most_height
 
 -- the patterns have the sorts of arguments, and the substitution serves them
 abbrev pub AreEvaluable : RewriteTheory → List (Option Tree) → Patterns → Type 0
 AreEvaluable theory theta ps =
-    (variables : List ℕ) × (sorts : List ℕ) × (refs : List SortRef) × HaveSorts theory.sig variables sorts ps refs
+    (variables : List ℕ) × (sorts : List ℕ) × (refs : List SortRef)
+    × HaveSorts theory.sig variables sorts ps refs
     × ServesAll theory.sig variables theta ps
 
 -- the terms are normal, of these sorts, and of at most the greatest height
 abbrev pub AreGoodTrees : Signature → List ℕ → Forest → List SortRef → Type 0
-AreGoodTrees sig sorts ts refs = AreTermsOf sig sorts ts refs × AreNormal ts × (heights ts ≤ most_height)
+AreGoodTrees sig sorts ts refs =
+    AreTermsOf sig sorts ts refs × AreNormal ts × (heights ts ≤ most_height)
 
 -- a symbol has this number
 abbrev pub IsDeclared : Signature → ℕ → Type 0
@@ -123,15 +132,15 @@ IsCallRecord theory f rs r =
     Records theory theta (call f sorts ps) r
 
 -- what is recorded of a call
-abbrev pub IsRecordedCall : {R : Type 0} → (R → Record → Type 0) → (List R → RecordList → Type 0) → RewriteTheory → ℕ
-    → Answers R → Answer R → Type 0
+abbrev pub IsRecordedCall : {R : Type 0} → (R → Record → Type 0) → (List R → RecordList → Type 0)
+    → RewriteTheory → ℕ → Answers R → Answer R → Type 0
 IsRecordedCall tells all_tell theory f args a =
     (rs : RecordList) → all_tell args.records.items rs → results_of rs ≡ forest args.terms.items →
     (r : Record) × tells a.recorded r × IsCallRecord theory f rs r × (result_of r ≡ a.term)
 
 -- the call of a function
-abbrev pub Calls : {R : Type 0} → (R → Record → Type 0) → (List R → RecordList → Type 0) → RewriteTheory → ℕ → ℕ
-    → Answers R → ℕ → Result (Answer R × ℕ) EvalEnd → Type 0
+abbrev pub Calls : {R : Type 0} → (R → Record → Type 0) → (List R → RecordList → Type 0)
+    → RewriteTheory → ℕ → ℕ → Answers R → ℕ → Result (Answer R × ℕ) EvalEnd → Type 0
 Calls {R} tells all_tell theory n f args c answer =
     Comes
     (λ (a : Answer R) (left : ℕ). Applies theory n f (forest args.terms.items) c (value a.term left)
@@ -140,31 +149,37 @@ Calls {R} tells all_tell theory n f args c answer =
     answer
 
 -- a constructor applied to the values of its arguments
-abbrev pub Constructs : {R : Type 0} → (R → Record → Type 0) → (List R → RecordList → Type 0) → ℕ → Answers R → ℕ
-    → Result (Answer R × ℕ) EvalEnd → Type 0
+abbrev pub Constructs : {R : Type 0} → (R → Record → Type 0) → (List R → RecordList → Type 0) → ℕ
+    → Answers R → ℕ → Result (Answer R × ℕ) EvalEnd → Type 0
 Constructs {R} tells all_tell f args c answer =
     Comes
-    (λ (a : Answer R) (left : ℕ). (a.term ≡ node f (forest args.terms.items)) × (height a.term ≤ most_height)
-    × (left ≡ c) × ((rs : RecordList) → all_tell args.records.items rs → tells a.recorded (made rs a.term)))
+    (λ (a : Answer R) (left : ℕ).
+    (a.term ≡ node f (forest args.terms.items)) × (height a.term ≤ most_height)
+    × (left ≡ c)
+    × ((rs : RecordList) → all_tell args.records.items rs → tells a.recorded (made rs a.term)))
     (λ cause. (cause ≡ too_high f) × (most_height < height (node f (forest args.terms.items))))
     answer
 
 -- an injection applied to the value of its argument
-abbrev pub InjectsTo : {R : Type 0} → (R → Record → Type 0) → ℕ → ℕ → ℕ → Answer R → ℕ → Result (Answer R × ℕ) EvalEnd
-    → Type 0
+abbrev pub InjectsTo : {R : Type 0} → (R → Record → Type 0) → ℕ → ℕ → ℕ → Answer R → ℕ
+    → Result (Answer R × ℕ) EvalEnd → Type 0
 InjectsTo {R} tells f from to below c answer =
     Comes
-    (λ (a : Answer R) (left : ℕ). (a.term ≡ injected from to below.term) × (height a.term ≤ most_height)
-    × (left ≡ c) × ((r : Record) → tells below.recorded r → tells a.recorded (made (more_records r no_record) a.term)))
+    (λ (a : Answer R) (left : ℕ).
+    (a.term ≡ injected from to below.term) × (height a.term ≤ most_height)
+    × (left ≡ c)
+    × ((r : Record) → tells below.recorded r
+    → tells a.recorded (made (more_records r no_record) a.term)))
     (λ cause. (cause ≡ too_high f) × (most_height < height (injected from to below.term)))
     answer
 
 -- the value of a hook at terms
-abbrev pub HookGives : {R : Type 0} → (R → Record → Type 0) → (List R → RecordList → Type 0) → ℕ → ℕ → Answers R → ℕ
-    → Result (Answer R × ℕ) EvalEnd → Type 0
+abbrev pub HookGives : {R : Type 0} → (R → Record → Type 0) → (List R → RecordList → Type 0) → ℕ → ℕ
+    → Answers R → ℕ → Result (Answer R × ℕ) EvalEnd → Type 0
 HookGives {R} tells all_tell row sort args c answer =
     Comes
-    (λ (a : Answer R) (left : ℕ). ((vs : List DomainValue) × (v : DomainValue) × AreValues (forest args.terms.items) vs
+    (λ (a : Answer R) (left : ℕ).
+    ((vs : List DomainValue) × (v : DomainValue) × AreValues (forest args.terms.items) vs
     × (hook_value row vs ≡ Some (Ok v)) × (a.term ≡ leaf sort v)) × (left ≡ c)
     × ((rs : RecordList) → all_tell args.records.items rs → tells a.recorded (by_hook rs a.term)))
     (λ cause. (vs : List DomainValue) × (why : NoValue) × AreValues (forest args.terms.items) vs

@@ -1,6 +1,7 @@
 -- How lists of records are built.
 use Rattle.std.specs.Prelude.{◌≡◌, Option, Some, None}
-use Rattle.rule_core.specs.Records.{Record, RecordList, no_record, more_records, OptionalRecord, unconditional}
+use Rattle.rule_core.specs.Records.{Record, RecordList, no_record, more_records, OptionalRecord}
+use Rattle.rule_core.specs.Records.{unconditional}
 use Rattle.rule_core.specs.Records.{conditional}
 
 -- one more record, after the others

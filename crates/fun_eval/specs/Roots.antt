@@ -20,7 +20,8 @@ CannotMatch p t = (theta : List (Option Tree)) → instance_of theta p ≡ Some 
 -- the terms are arguments of the hook with this number, of the right kinds
 abbrev pub AreHookArguments : ℕ → Forest → Type 0
 AreHookArguments row ts =
-    (ss : List Scalar) × AreValues ts (map scalar_value ss) × (hook_arguments row ≡ Some (map kind_of ss))
+    (ss : List Scalar) × AreValues ts (map scalar_value ss)
+    × (hook_arguments row ≡ Some (map kind_of ss))
 
 -- if the result is false, the pattern cannot become the term
 abbrev pub MayMatch : Pattern → Tree → Bool → Type 0

@@ -7,4 +7,5 @@ use Rattle.rule_core.specs.declared.signature.SortKind.TheVariants as kind
 -- sort 0 is the sort of whole numbers
 abbrev pub HasIntegers : Signature → Type 0
 HasIntegers sig =
-    (name : List ℕ) × (info : SortInfo) × (slice_get sig.sorts 0 ≡ Some (name, info)) × (info.kind ≡ kind.Int)
+    (name : List ℕ) × (info : SortInfo) × (slice_get sig.sorts 0 ≡ Some (name, info))
+    × (info.kind ≡ kind.Int)

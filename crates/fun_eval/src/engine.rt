@@ -104,12 +104,14 @@ impl<'p> Engine<'p> {
         requires fits { IsEvaluable (theory_of self.now) subst.now (plain_pattern pat.now) }
         requires nest { nest ≤ most_nesting }
         ensures value { IfOk result
-            (λ r. Evaluates (theory_of self.now) nest subst.now (plain_pattern pat.now) budget.old.calls
+            (λ r. Evaluates (theory_of self.now) nest subst.now (plain_pattern pat.now)
+            budget.old.calls
             (value (result_of (plain_record r)) budget.new.calls)) }
         ensures recorded { IfOk result
             (λ r. Records (theory_of self.now) subst.now (plain_pattern pat.now) (plain_record r)) }
         ensures blocked { IfErr result
-            (EndsBy (Evaluates (theory_of self.now) nest subst.now (plain_pattern pat.now) budget.old.calls)) }
+            (EndsBy (Evaluates (theory_of self.now) nest subst.now (plain_pattern pat.now)
+            budget.old.calls)) }
         ensures budget { OnErr result (budget.new ≡ budget.old) }
     {
         match self.eval_as::<EvalRecord>(alloc, pat, subst, budget, nest) {
@@ -130,12 +132,15 @@ impl<'p> Engine<'p> {
         requires fits { IsEvaluable (theory_of self.now) subst.now (plain_pattern pat.now) }
         requires nest { nest ≤ most_nesting }
         ensures value { IfOk result
-            (λ a. Evaluates (theory_of self.now) nest subst.now (plain_pattern pat.now) budget.old.calls
+            (λ a. Evaluates (theory_of self.now) nest subst.now (plain_pattern pat.now)
+            budget.old.calls
             (value a.term budget.new.calls)) }
         ensures recorded { IfOk result
-            (λ a. IsRecorded (R.tells a.recorded) (theory_of self.now) subst.now (plain_pattern pat.now) a.term) }
+            (λ a. IsRecorded (R.tells a.recorded) (theory_of self.now) subst.now
+            (plain_pattern pat.now) a.term) }
         ensures blocked { IfErr result
-            (EndsBy (Evaluates (theory_of self.now) nest subst.now (plain_pattern pat.now) budget.old.calls)) }
+            (EndsBy (Evaluates (theory_of self.now) nest subst.now (plain_pattern pat.now)
+            budget.old.calls)) }
         ensures budget { OnErr result (budget.new ≡ budget.old) }
     {
         match evaluate(alloc, self, pat, subst, budget.calls, nest) {

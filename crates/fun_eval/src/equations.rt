@@ -46,8 +46,10 @@ pub(crate) fn match_equation(
     terms: &[Term],
 ) -> Result<Option<Subst>, AllocError>
     requires sorted { IsWellSorted (theory_of program.now) }
-    requires fits { IsTriable (theory_of program.now) (function_equation equation.now) (forest terms.now) }
-    ensures { IfOk result (Matches (theory_of program.now) (function_equation equation.now) (forest terms.now)) }
+    requires fits { IsTriable (theory_of program.now) (function_equation equation.now)
+        (forest terms.now) }
+    ensures { IfOk result
+        (Matches (theory_of program.now) (function_equation equation.now) (forest terms.now)) }
 {
     match_terms(
         alloc,

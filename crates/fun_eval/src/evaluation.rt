@@ -13,7 +13,8 @@ ghost use Rattle.term_core.specs.PatternLists.{plain_patterns};
 ghost use Rattle.rule_core.specs.FirstRule.{most_nesting};
 ghost use Rattle.rule_core.specs.ProgramView.{theory_of, function_equation};
 ghost use Rattle.fun_eval.specs.Evaluable.{IsEvaluable};
-ghost use Rattle.fun_eval.specs.Giving.{Gives, GivesWithin, AllGive, AreEvaluable, AreArguments, IsBound};
+ghost use Rattle.fun_eval.specs.Giving.{Gives, GivesWithin, AllGive, AreEvaluable, AreArguments};
+ghost use Rattle.fun_eval.specs.Giving.{IsBound};
 ghost use Rattle.fun_eval.specs.Giving.{IsCallEvaluable, Calls};
 ghost use Rattle.fun_eval.specs.Equations.{CallsByEquations, Chooses, IsDefined, IsTriable, Tries};
 
@@ -39,7 +40,8 @@ pub(crate) fn evaluate<R: Recording>(
 ) -> Result<(Answer<R>, u32), EvalEnd>
     requires fits { IsEvaluable (theory_of engine.now) subst.now (plain_pattern pat.now) }
     requires nest { nest ≤ most_nesting }
-    ensures { Gives R.tells (theory_of engine.now) nest subst.now (plain_pattern pat.now) calls result }
+    ensures { Gives R.tells (theory_of engine.now) nest subst.now (plain_pattern pat.now) calls
+        result }
 {
     match pat {
         RulePat::Var(var) => bound(*var, subst, calls),
@@ -93,7 +95,8 @@ fn evaluate_ctor<R: Recording>(
 ) -> Result<(Answer<R>, u32), EvalEnd>
     requires fits { AreEvaluable (theory_of engine.now) subst.now (plain_patterns args.now) }
     requires nest { nest ≤ most_nesting }
-    ensures { Gives R.tells (theory_of engine.now) nest subst.now (application sym.0 (plain_patterns args.now)) calls
+    ensures { Gives R.tells (theory_of engine.now) nest subst.now
+        (application sym.0 (plain_patterns args.now)) calls
         result }
 {
     if nest == 0 {
@@ -120,7 +123,8 @@ fn evaluate_inj<R: Recording>(
     requires symbol { HasInjection (theory_of engine.now).sig }
     requires fits { IsEvaluable (theory_of engine.now) subst.now (plain_pattern below.now) }
     requires nest { nest ≤ most_nesting }
-    ensures { Gives R.tells (theory_of engine.now) nest subst.now (injection from.0 to.0 (plain_pattern below.now))
+    ensures { Gives R.tells (theory_of engine.now) nest subst.now
+        (injection from.0 to.0 (plain_pattern below.now))
         calls result }
 {
     let Some(sym) = engine.injection() else {
@@ -146,10 +150,12 @@ fn evaluate_call<R: Recording>(
     calls: u32,
     nest: u32,
 ) -> Result<(Answer<R>, u32), EvalEnd>
-    requires fits { IsCallEvaluable (theory_of engine.now) subst.now sym.0 (plain_patterns args.now) }
+    requires fits { IsCallEvaluable (theory_of engine.now) subst.now sym.0
+        (plain_patterns args.now) }
     requires nest { nest ≤ most_nesting }
     ensures { (sorts : List ℕ)
-        → Gives R.tells (theory_of engine.now) nest subst.now (call sym.0 sorts (plain_patterns args.now))
+        → Gives R.tells (theory_of engine.now) nest subst.now
+        (call sym.0 sorts (plain_patterns args.now))
         calls result }
 {
     if nest == 0 {
@@ -173,7 +179,8 @@ fn evaluate_all<R: Recording>(
 ) -> Result<(Answers<R>, u32), EvalEnd>
     requires fits { AreEvaluable (theory_of engine.now) subst.now (plain_patterns pats.now) }
     requires nest { nest ≤ most_nesting }
-    ensures { AllGive R.all_tell (theory_of engine.now) nest subst.now (plain_patterns pats.now) calls result }
+    ensures { AllGive R.all_tell (theory_of engine.now) nest subst.now (plain_patterns pats.now)
+        calls result }
 {
     let mut terms = Vec::with_capacity(alloc, pats.len())?;
     let mut records = R::none(alloc);
@@ -234,7 +241,8 @@ fn apply_equations<R: Recording>(
 ) -> Result<(Answer<R>, u32), EvalEnd>
     requires fits { IsDefined (theory_of engine.now) sym.0 (forest args.terms.items) }
     requires nest { nest ≤ most_nesting }
-    ensures { CallsByEquations R.tells R.all_tell (theory_of engine.now) nest sym.0 args calls result }
+    ensures { CallsByEquations R.tells R.all_tell (theory_of engine.now) nest sym.0 args calls
+        result }
 {
     let Answers { terms, records } = args;
     let (chosen, left) = match choose_equation(alloc, engine, sym, &terms, calls, nest) {
@@ -309,9 +317,11 @@ fn try_equation<R: Recording>(
     calls: u32,
     nest: u32,
 ) -> Result<(Trial<R>, u32), EvalEnd>
-    requires fits { IsTriable (theory_of engine.now) (function_equation equation.now) (forest terms.now) }
+    requires fits { IsTriable (theory_of engine.now) (function_equation equation.now)
+        (forest terms.now) }
     requires nest { nest ≤ most_nesting }
-    ensures { Tries R.tells (theory_of engine.now) nest sym.0 (function_equation equation.now) (forest terms.now) calls
+    ensures { Tries R.tells (theory_of engine.now) nest sym.0 (function_equation equation.now)
+        (forest terms.now) calls
         result }
 {
     let Some(subst) = match_equation(alloc, engine.program(), equation, terms)? else {
@@ -345,7 +355,8 @@ fn evaluate_in<R: Recording>(
 ) -> Result<(Answer<R>, u32), EvalEnd>
     requires fits { IsEvaluable (theory_of engine.now) subst.now (plain_pattern pat.now) }
     requires nest { nest ≤ most_nesting }
-    ensures { GivesWithin R.tells (theory_of engine.now) nest sym.0 subst.now (plain_pattern pat.now) calls result }
+    ensures { GivesWithin R.tells (theory_of engine.now) nest sym.0 subst.now
+        (plain_pattern pat.now) calls result }
 {
     if nest == 0 {
         return Err(EvalEnd::Blocked(Blocked::Nest(sym)));

@@ -1,7 +1,9 @@
 // What is kept of an evaluation besides its value.
 ghost use Rattle.std.specs.Prelude.{◌≡◌, List, IfOk, OnOk, map, option_map};
-ghost use Rattle.rule_core.specs.Records.{Record, RecordList, OptionalRecord, no_record, more_records};
-ghost use Rattle.rule_core.specs.Records.{bound as bound_record, itself, made, by_hook as hook_record};
+ghost use Rattle.rule_core.specs.Records.{Record, RecordList, OptionalRecord, no_record};
+ghost use Rattle.rule_core.specs.Records.{more_records};
+ghost use Rattle.rule_core.specs.Records.{bound as bound_record, itself, made};
+ghost use Rattle.rule_core.specs.Records.{by_hook as hook_record};
 ghost use Rattle.rule_core.specs.Records.{by_equation as equation_record};
 ghost use Rattle.rule_core.specs.RecordView.{optional, plain_record, records};
 ghost use Rattle.rule_core.specs.declared.records.EvalRecord.{EvalRecord};
@@ -28,7 +30,8 @@ pub trait Recording: Drop {
 
     /// One more record, after the others.
     fn push(others: &mut Vec<Self>, one: Self) -> Result<(), AllocError>
-        ensures { OnOk result ((rs : RecordList) (r : Record) → all_tell others.old.items rs → tells one r
+        ensures { OnOk result
+            ((rs : RecordList) (r : Record) → all_tell others.old.items rs → tells one r
             → all_tell others.new.items (at_end rs r)) };
 
     /// The variable with this number stands for the term.
@@ -70,8 +73,10 @@ pub trait Recording: Drop {
         cond: Option<Self>,
         body: Self,
     ) -> Result<Self, AllocError>
-        ensures { IfOk result (λ made_now. (rs : RecordList) (o : OptionalRecord) (r : Record) → all_tell args.items rs
-            → TellsOption tells cond o → tells body r → tells made_now (equation_record rs equation subst o r)) };
+        ensures { IfOk result (λ made_now.
+            (rs : RecordList) (o : OptionalRecord) (r : Record) → all_tell args.items rs
+            → TellsOption tells cond o → tells body r
+            → tells made_now (equation_record rs equation subst o r)) };
 }
 
 /// A recording that keeps nothing and takes no memory.
@@ -162,7 +167,8 @@ impl Recording for EvalRecord {
     }
 
     fn ctor(sym: SymId, args: Vec<EvalRecord>, term: &Term) -> Result<EvalRecord, AllocError>
-        ensures { IfOk result (λ made_now. (rs : RecordList) → records (map plain_record args.items) ≡ rs
+        ensures { IfOk result
+            (λ made_now. (rs : RecordList) → records (map plain_record args.items) ≡ rs
             → plain_record made_now ≡ made rs term.now) }
     {
         Ok(EvalRecord::Ctor(sym, args, term.share()?))
@@ -179,7 +185,8 @@ impl Recording for EvalRecord {
     }
 
     fn by_hook(sym: SymId, args: Vec<EvalRecord>, term: &Term) -> Result<EvalRecord, AllocError>
-        ensures { IfOk result (λ made_now. (rs : RecordList) → records (map plain_record args.items) ≡ rs
+        ensures { IfOk result
+            (λ made_now. (rs : RecordList) → records (map plain_record args.items) ≡ rs
             → plain_record made_now ≡ hook_record rs term.now) }
     {
         Ok(EvalRecord::ByHook(sym, args, term.share()?))
@@ -195,8 +202,10 @@ impl Recording for EvalRecord {
         body: EvalRecord,
     ) -> Result<EvalRecord, AllocError>
         ensures { IfOk result (λ made_now. (rs : RecordList) (o : OptionalRecord) (r : Record)
-            → records (map plain_record args.items) ≡ rs → TellsOption (λ one k. plain_record one ≡ k) cond o
-            → plain_record body ≡ r → plain_record made_now ≡ equation_record rs equation subst o r) }
+            → records (map plain_record args.items) ≡ rs
+            → TellsOption (λ one k. plain_record one ≡ k) cond o
+            → plain_record body ≡ r
+            → plain_record made_now ≡ equation_record rs equation subst o r) }
     {
         let cond = boxed(alloc, cond)?;
         let body = Box::new(alloc, body)?;
@@ -213,7 +222,8 @@ impl Recording for EvalRecord {
 
 // The record of a condition in a box, if there is a condition.
 fn boxed(alloc: Global, cond: Option<EvalRecord>) -> Result<Option<Box<EvalRecord>>, AllocError>
-    ensures { IfOk result (λ kept. (o : OptionalRecord) → TellsOption (λ one r. plain_record one ≡ r) cond o
+    ensures { IfOk result
+        (λ kept. (o : OptionalRecord) → TellsOption (λ one r. plain_record one ≡ r) cond o
         → optional (option_map (λ (b : Box EvalRecord). plain_record b.value) kept) ≡ o) }
 {
     match cond {

@@ -127,7 +127,8 @@ pub(crate) fn match_terms(
 ) -> Result<Option<Subst>, AllocError>
     requires scoped { UseFirst vars (plain_patterns pats.now) }
     requires count { length pats.now ≡ length terms.now }
-    ensures { IfOk result (FindsMatch subsorts.now vars (plain_patterns pats.now) (forest terms.now)) }
+    ensures { IfOk result
+        (FindsMatch subsorts.now vars (plain_patterns pats.now) (forest terms.now)) }
 {
     for i in 0..pats.len() {
         if !may_match(&pats[i], &terms[i]) {
@@ -150,7 +151,8 @@ fn counted_match_all<L: Ledger>(
     requires name { blank.name ≡ L.name }
     requires parts { blank.parts ≡ L.parts }
     requires some { 0 < L.parts }
-    ensures { IfOk result (FindsMatch subsorts.now vars (plain_patterns pats.now) (forest terms.now)) }
+    ensures { IfOk result
+        (FindsMatch subsorts.now vars (plain_patterns pats.now) (forest terms.now)) }
 {
     let mut steps = Steps::<L>::new(blank);
     find_match_all(alloc, pats, vars, subsorts, terms, &mut steps)

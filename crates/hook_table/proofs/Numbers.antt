@@ -1,15 +1,18 @@
 -- The numbers of the hooks.
-use Rattle.std.proofs.Common.{◌≡◌, ℕ, zero, suc, ◌+◌, ◌<◌, ◌≤◌, List, [], ◌∷◌, map, length, Option, Some, None, refl, sym, ◌∙◌, ap, arith}
+use Rattle.std.proofs.Common.{◌≡◌, ℕ, zero, suc, ◌+◌, ◌<◌, ◌≤◌, List, [], ◌∷◌, map, length, Option}
+use Rattle.std.proofs.Common.{Some, None, refl, sym, ◌∙◌, ap, arith}
 use Rattle.std.specs.Prelude.{slice_get, option_map, cond, nat_lt, not}
 use Rattle.std.specs.List.{position, position_or_len}
 use Rattle.std.specs.Str.{bytes_eq}
 use Rattle.std.proofs.lemmas.Option.{slice_get_within}
-use Rattle.term_core.specs.HookValues.{Kind, Hook, hooks, argument_kinds, hook_arguments, Signature, signature}
+use Rattle.term_core.specs.HookValues.{Kind, Hook, hooks, argument_kinds, hook_arguments, Signature}
+use Rattle.term_core.specs.HookValues.{signature}
 use Rattle.hook_table.specs.Names.{hook_number}
 use Rattle.hook_table.specs.Rows.{plain_kind, plain_row}
 use Rattle.hook_table.specs.declared.table.HookRow.{HookRow}
 
-mapped : {A B : Type 0} (f : A → B) (o : Option A) (b : B) → option_map f o ≡ Some b → (a : A) × (o ≡ Some a)
+mapped : {A B : Type 0} (f : A → B) (o : Option A) (b : B) → option_map f o ≡ Some b
+    → (a : A) × (o ≡ Some a)
 mapped f None b e = let no : ⊥ = cc in absurd no
 mapped f (Some a) b e = (a, refl)
 
@@ -32,7 +35,10 @@ same_some xs ys e = cc
 pub none-some : (xs : List Kind) → None ≡ Some xs → ⊥
 none-some xs e = cc
 
-same_arguments : (rows : List HookRow) (hs : List Hook) (n : ℕ) → map plain_row rows ≡ map signature hs → option_map (λ (r : HookRow). map plain_kind r.args.now) (slice_get rows n) ≡ option_map (λ (h : Hook). argument_kinds h.operation) (slice_get hs n)
+same_arguments : (rows : List HookRow) (hs : List Hook) (n : ℕ)
+    → map plain_row rows ≡ map signature hs
+    → option_map (λ (r : HookRow). map plain_kind r.args.now) (slice_get rows n)
+    ≡ option_map (λ (h : Hook). argument_kinds h.operation) (slice_get hs n)
 same_arguments [] [] n e = refl
 same_arguments [] (h ∷ hs) n e = let no : ⊥ = cc in absurd no
 same_arguments (r ∷ rows) [] n e = let no : ⊥ = cc in absurd no
@@ -42,18 +48,26 @@ same_arguments (r ∷ rows) (h ∷ hs) (suc n) e =
     let rest : map plain_row rows ≡ map signature hs = cc in same_arguments rows hs n rest
 
 -- the kinds of a row are the kinds of its hook
-pub arguments-of-row : (rows : List HookRow) (n : ℕ) (row : HookRow) → map plain_row rows ≡ map signature hooks → slice_get rows n ≡ Some row → hook_arguments n ≡ Some (map plain_kind row.args.now)
+pub arguments-of-row : (rows : List HookRow) (n : ℕ) (row : HookRow)
+    → map plain_row rows ≡ map signature hooks → slice_get rows n ≡ Some row
+    → hook_arguments n ≡ Some (map plain_kind row.args.now)
 arguments-of-row rows n row e is =
-    sym (same_arguments rows hooks n e) ∙ ap (option_map (λ (r : HookRow). map plain_kind r.args.now)) is
+    sym (same_arguments rows hooks n e)
+    ∙ ap (option_map (λ (r : HookRow). map plain_kind r.args.now)) is
 
-pub no-row : (rows : List HookRow) (n : ℕ) → map plain_row rows ≡ map signature hooks → slice_get rows n ≡ None → hook_arguments n ≡ None
+pub no-row : (rows : List HookRow) (n : ℕ) → map plain_row rows ≡ map signature hooks
+    → slice_get rows n ≡ None → hook_arguments n ≡ None
 no-row rows n e is =
-    sym (same_arguments rows hooks n e) ∙ ap (option_map (λ (r : HookRow). map plain_kind r.args.now)) is
+    sym (same_arguments rows hooks n e)
+    ∙ ap (option_map (λ (r : HookRow). map plain_kind r.args.now)) is
 
 -- ---- names
 
 -- a name has the same index in the rows as among the hooks
-same_place : (name : List ℕ) (rows : List HookRow) (hs : List Hook) → map plain_row rows ≡ map signature hs → (position_or_len (λ (r : HookRow). bytes_eq r.name.now name) rows ≡ position_or_len (λ (h : Hook). bytes_eq h.name name) hs) × (length rows ≡ length hs)
+same_place : (name : List ℕ) (rows : List HookRow) (hs : List Hook)
+    → map plain_row rows ≡ map signature hs
+    → (position_or_len (λ (r : HookRow). bytes_eq r.name.now name) rows
+    ≡ position_or_len (λ (h : Hook). bytes_eq h.name name) hs) × (length rows ≡ length hs)
 same_place name [] [] e = (refl, refl)
 same_place name [] (h ∷ hs) e = let no : ⊥ = cc in absurd no
 same_place name (r ∷ rows) [] e = let no : ⊥ = cc in absurd no
@@ -64,7 +78,9 @@ same_place name (r ∷ rows) (h ∷ hs) e =
     let both = same_place name rows hs rest in
     (λ i. cond (not (bytes_eq (named i) name)) (1 + both.0 i) 0, ap suc both.1)
 
-pub position-of-rows : (name : List ℕ) (rows : List HookRow) → map plain_row rows ≡ map signature hooks → position (λ (r : HookRow). bytes_eq r.name.now name) rows ≡ hook_number name
+pub position-of-rows : (name : List ℕ) (rows : List HookRow)
+    → map plain_row rows ≡ map signature hooks
+    → position (λ (r : HookRow). bytes_eq r.name.now name) rows ≡ hook_number name
 position-of-rows name rows e =
     let both = same_place name rows hooks e in
     λ i. cond (nat_lt (both.0 i) (both.1 i)) (Some (both.0 i)) None

@@ -1,9 +1,12 @@
 -- Numbers inside and outside the range.
-use Rattle.std.proofs.Common.{◌≡◌, ℕ, zero, suc, ◌+◌, ◌-◌, ◌*◌, ◌/◌, ◌%◌, ◌^◌, ◌<◌, ◌≤◌, ◌≢◌, refl, sym, subst, ◌∙◌, ap, arith, ℤ, pos, negsuc, neg_ℤ, ◌*ℤ◌, FitsSigned, Some, None, Option, to_z, of_z}
+use Rattle.std.proofs.Common.{◌≡◌, ℕ, zero, suc, ◌+◌, ◌-◌, ◌*◌, ◌/◌, ◌%◌, ◌^◌, ◌<◌, ◌≤◌, ◌≢◌, refl}
+use Rattle.std.proofs.Common.{sym, subst, ◌∙◌, ap, arith, ℤ, pos, negsuc, neg_ℤ, ◌*ℤ◌, FitsSigned}
+use Rattle.std.proofs.Common.{Some, None, Option, to_z, of_z}
 use Rattle.std.specs.Prelude.{unsigned_abs}
 use Rattle.std.specs.Int.{w128, int_div_euclid}
 use Rattle.std.specs.Option.{SomeIff}
-use Rattle.std.proofs.Math.Nat.{div-eq_of_lt, mod-eq_of_lt, mul-le-mul_left, mul-one, mul_assoc, suc-mul}
+use Rattle.std.proofs.Math.Nat.{div-eq_of_lt, mod-eq_of_lt, mul-le-mul_left, mul-one, mul_assoc}
+use Rattle.std.proofs.Math.Nat.{suc-mul}
 use Rattle.std.proofs.lemmas.Nat.{pow-add}
 use Rattle.std.proofs.lemmas.Int.{to_z-of_z, to_z_pos}
 use lib.Signed.{mag, mag_shr, shr_z}
@@ -23,11 +26,16 @@ grows a p q some =
     let one : p * 1 ≡ p = mul-one p in
     mul-le-mul_left a (omega arith)
 
-pub fits-factor : (x : ℤ) (p q : ℕ) → 0 < q → FitsSigned w128 (x *ℤ pos (p * q)) → FitsSigned w128 (x *ℤ pos p)
-fits-factor (pos a) p q some f = let s = f.sfits in let g = grows a p q some in record { sfits = omega arith }
+pub fits-factor : (x : ℤ) (p q : ℕ) → 0 < q → FitsSigned w128 (x *ℤ pos (p * q))
+    → FitsSigned w128 (x *ℤ pos p)
+fits-factor (pos a) p q some f =
+    let s = f.sfits in let g = grows a p q some in record { sfits = omega arith }
 fits-factor (negsuc a) p q some f =
     let s = f.sfits in
-    record { sfits = omega (arith, grows (suc a) p q some, mag-neg (suc a * p), mag-neg (suc a * (p * q))) }
+    record {
+      sfits =
+          omega (arith, grows (suc a) p q some, mag-neg (suc a * p), mag-neg (suc a * (p * q)));
+    }
 
 -- the product with a power of two greater than 2^127 is outside the range, except for 0
 pub too-far : (x : ℤ) (n : ℕ) → x ≢ pos 0 → 127 < n → FitsSigned w128 (x *ℤ pos (2 ^ n)) → ⊥
@@ -48,7 +56,8 @@ low-quotient a n x far =
     let y : a < 2 ^ n = omega arith in
     div-eq_of_lt {n = a} {m = 2 ^ n} y ∙ sym (div-eq_of_lt {n = a} {m = 2 ^ 127} x)
 
-far-quotient : (x : ℤ) (n : ℕ) → FitsSigned w128 x → 127 ≤ n → shr_z x (2 ^ 127) ≡ int_div_euclid x (pos (2 ^ n))
+far-quotient : (x : ℤ) (n : ℕ) → FitsSigned w128 x → 127 ≤ n
+    → shr_z x (2 ^ 127) ≡ int_div_euclid x (pos (2 ^ n))
 far-quotient (pos a) n f far = ap pos (sym (low-quotient a n f.sfits far))
 far-quotient (negsuc a) n f far = ap negsuc (sym (low-quotient a n f.sfits far))
 
@@ -59,14 +68,19 @@ floor-quotient : (x : ℤ) (m : ℕ) → shr_z x m ≡ int_div_euclid x (pos m)
 floor-quotient (pos a) m = refl
 floor-quotient (negsuc a) m = refl
 
-abs-fits : (v : Option ℤ) (x : ℤ) → FitsSigned w128 x → SomeIff v (FitsSigned w128 (neg_ℤ x)) (pos (unsigned_abs x)) → SomeIff v (FitsSigned w128 (pos (unsigned_abs x))) (pos (unsigned_abs x))
+abs-fits : (v : Option ℤ) (x : ℤ) → FitsSigned w128 x
+    → SomeIff v (FitsSigned w128 (neg_ℤ x)) (pos (unsigned_abs x))
+    → SomeIff v (FitsSigned w128 (pos (unsigned_abs x))) (pos (unsigned_abs x))
 abs-fits None (pos a) f h = λ g. let x = f.sfits in h (record { sfits = omega (arith, mag-neg a) })
 abs-fits None (negsuc a) f h = h
 abs-fits (Some v) (pos a) f h = (record { sfits = f.sfits }, h.1)
 abs-fits (Some v) (negsuc a) f h = h
 
 -- `checked_abs` returns the absolute value if it fits
-pub checked_abs-is : (v : Option ℤ) (x : ℤ) → FitsSigned w128 x → SomeIff v (FitsSigned w128 (neg_ℤ (to_z w128 (of_z w128 x)))) (pos (unsigned_abs (to_z w128 (of_z w128 x)))) → SomeIff v (FitsSigned w128 (pos (unsigned_abs x))) (pos (unsigned_abs x))
+pub checked_abs-is : (v : Option ℤ) (x : ℤ) → FitsSigned w128 x
+    → SomeIff v (FitsSigned w128 (neg_ℤ (to_z w128 (of_z w128 x))))
+    (pos (unsigned_abs (to_z w128 (of_z w128 x))))
+    → SomeIff v (FitsSigned w128 (pos (unsigned_abs x))) (pos (unsigned_abs x))
 checked_abs-is v x f h =
     let Given : ℤ → Type 0 = λ z. SomeIff v (FitsSigned w128 (neg_ℤ z)) (pos (unsigned_abs z)) in
     abs-fits v x f (subst Given (to_z-of_z w128 x f) h)
@@ -84,26 +98,35 @@ times-times (negsuc a) p q =
 pub two-parts : (x : ℤ) (n m : ℕ) → m ≤ n → x *ℤ pos (2 ^ m) *ℤ pos (2 ^ (n - m)) ≡ x *ℤ pos (2 ^ n)
 two-parts x n m low =
     let whole : m + (n - m) ≡ n = omega arith in
-    times-times x (2 ^ m) (2 ^ (n - m)) ∙ ap (λ (k : ℕ). x *ℤ pos k) (sym (pow-add 2 m (n - m)) ∙ ap (λ (k : ℕ). 2 ^ k) whole)
+    times-times x (2 ^ m) (2 ^ (n - m))
+    ∙ ap (λ (k : ℕ). x *ℤ pos k) (sym (pow-add 2 m (n - m)) ∙ ap (λ (k : ℕ). 2 ^ k) whole)
 
 -- if one factor takes it out of the range, the product with both is outside the range
-pub lacks-part : (x : ℤ) (n m : ℕ) → m ≤ n → (FitsSigned w128 (x *ℤ pos (2 ^ m)) → ⊥) → FitsSigned w128 (x *ℤ pos (2 ^ n)) → ⊥
+pub lacks-part : (x : ℤ) (n m : ℕ) → m ≤ n → (FitsSigned w128 (x *ℤ pos (2 ^ m)) → ⊥)
+    → FitsSigned w128 (x *ℤ pos (2 ^ n)) → ⊥
 lacks-part x n m low out f =
     let whole : m + (n - m) ≡ n = omega arith in
-    let both : 2 ^ n ≡ 2 ^ m * 2 ^ (n - m) = ap (λ (k : ℕ). 2 ^ k) (sym whole) ∙ pow-add 2 m (n - m) in
+    let both : 2 ^ n ≡ 2 ^ m * 2 ^ (n - m) =
+    ap (λ (k : ℕ). 2 ^ k) (sym whole) ∙ pow-add 2 m (n - m) in
     let Fits : ℕ → Type 0 = λ k. FitsSigned w128 (x *ℤ pos k) in
     out (fits-factor x (2 ^ m) (2 ^ (n - m)) (pow_pos (n - m)) (subst Fits both f))
 
 -- what the code computes by a shift to the right
-pub far-shift : (x : ℤ) (n : ℕ) → FitsSigned w128 x → 127 < n → to_z w128 (of_z w128 (shr_z (to_z w128 (of_z w128 x)) (2 ^ 127))) ≡ int_div_euclid x (pos (2 ^ n))
+pub far-shift : (x : ℤ) (n : ℕ) → FitsSigned w128 x → 127 < n
+    → to_z w128 (of_z w128 (shr_z (to_z w128 (of_z w128 x)) (2 ^ 127)))
+    ≡ int_div_euclid x (pos (2 ^ n))
 far-shift x n f far =
     let q : FitsSigned w128 (shr_z x (2 ^ 127)) = shr-fits x (2 ^ 127) f in
-    ap (λ (z : ℤ). to_z w128 (of_z w128 (shr_z z (2 ^ 127)))) (to_z-of_z w128 x f) ∙ (to_z-of_z w128 (shr_z x (2 ^ 127)) q ∙ far-quotient x n f (omega arith))
+    ap (λ (z : ℤ). to_z w128 (of_z w128 (shr_z z (2 ^ 127)))) (to_z-of_z w128 x f)
+    ∙ (to_z-of_z w128 (shr_z x (2 ^ 127)) q ∙ far-quotient x n f (omega arith))
 
-pub near-shift : (x : ℤ) (n : ℕ) → FitsSigned w128 x → to_z w128 (of_z w128 (shr_z (to_z w128 (of_z w128 x)) (2 ^ n))) ≡ int_div_euclid x (pos (2 ^ n))
+pub near-shift : (x : ℤ) (n : ℕ) → FitsSigned w128 x
+    → to_z w128 (of_z w128 (shr_z (to_z w128 (of_z w128 x)) (2 ^ n)))
+    ≡ int_div_euclid x (pos (2 ^ n))
 near-shift x n f =
     let q : FitsSigned w128 (shr_z x (2 ^ n)) = shr-fits x (2 ^ n) f in
-    ap (λ (z : ℤ). to_z w128 (of_z w128 (shr_z z (2 ^ n)))) (to_z-of_z w128 x f) ∙ (to_z-of_z w128 (shr_z x (2 ^ n)) q ∙ floor-quotient x (2 ^ n))
+    ap (λ (z : ℤ). to_z w128 (of_z w128 (shr_z z (2 ^ n)))) (to_z-of_z w128 x f)
+    ∙ (to_z-of_z w128 (shr_z x (2 ^ n)) q ∙ floor-quotient x (2 ^ n))
 
 -- what the code computes by a shift of 1 to the left
 pub one-shift : (n : ℕ) → n < 127 → to_z w128 (1 * 2 ^ n % 2 ^ 128) ≡ pos (2 ^ n)
@@ -112,4 +135,5 @@ one-shift n low =
     let small : 1 * 2 ^ n < 2 ^ 128 = omega arith in
     let one : 1 * 2 ^ n ≡ 2 ^ n = omega arith in
     let fits : 2 ^ n < 2 ^ 127 = omega arith in
-    ap (to_z w128) (mod-eq_of_lt {n = 1 * 2 ^ n} {m = 2 ^ 128} small ∙ one) ∙ to_z_pos w128 (2 ^ n) fits
+    ap (to_z w128) (mod-eq_of_lt {n = 1 * 2 ^ n} {m = 2 ^ 128} small ∙ one)
+    ∙ to_z_pos w128 (2 ^ n) fits

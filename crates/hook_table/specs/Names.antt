@@ -10,4 +10,5 @@ hook_number name = position (λ (h : Hook). bytes_eq h.name name) hooks
 
 -- The number of each hook's name is the hook's own index, so no two hooks have the same name.
 abbrev pub NamesDiffer : Type 0
-NamesDiffer = map (λ (h : Hook). hook_number h.name) hooks ≡ map (λ (n : ℕ). Some n) (range_with_len 0 (length hooks))
+NamesDiffer = map (λ (h : Hook). hook_number h.name) hooks
+    ≡ map (λ (n : ℕ). Some n) (range_with_len 0 (length hooks))

@@ -11,4 +11,8 @@ plain_kind Bool = truths
 
 -- the contents of a row
 abbrev pub plain_row : HookRow → Signature
-plain_row row = record { name = row.name.now; arguments = map plain_kind row.args.now; result = plain_kind row.result }
+plain_row row = record {
+  name = row.name.now;
+  arguments = map plain_kind row.args.now;
+  result = plain_kind row.result;
+}

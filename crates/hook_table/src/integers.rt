@@ -1,9 +1,12 @@
 // Hooks on whole numbers. No computation of a value wraps.
-ghost use Rattle.std.specs.Prelude.{◌≡◌, ◌<◌, ◌^◌, ℤ, pos, ◌+ℤ◌, ◌-ℤ◌, ◌*ℤ◌, FitsSigned, Ok, int_div, int_rem, int_lt, int_le, unsigned_abs, not as negation};
+ghost use Rattle.std.specs.Prelude.{◌≡◌, ◌<◌, ◌^◌, ℤ, pos, ◌+ℤ◌, ◌-ℤ◌, ◌*ℤ◌, FitsSigned, Ok};
+ghost use Rattle.std.specs.Prelude.{int_div, int_rem, int_lt, int_le, unsigned_abs};
+ghost use Rattle.std.specs.Prelude.{not as negation};
 ghost use Rattle.std.specs.Int.{w128, int_div_euclid, int_rem_euclid, int_min, int_max};
 ghost use Rattle.std.specs.Option.{SomeIff};
 ghost use Rattle.std.specs.Ordering.{int_eq};
-ghost use Rattle.term_core.specs.HookValues.{in_range, unless_zero, unless_negative, complement, bitwise_and, bitwise_or, bitwise_xor};
+ghost use Rattle.term_core.specs.HookValues.{in_range, unless_zero, unless_negative, complement};
+ghost use Rattle.term_core.specs.HookValues.{bitwise_and, bitwise_or, bitwise_xor};
 
 use term_core::NoValue;
 

@@ -4,7 +4,8 @@ use Rattle.std.proofs.lemmas.Str.{IsUtf8-from_ascii, is_utf8-from_IsUtf8}
 use Rattle.std.proofs.lemmas.Str.Ascii.{IsAscii-nil, IsAscii-cons}
 use Rattle.std.specs.Str.{IsAscii, is_utf8, chars}
 use Rattle.std.proofs.lemmas.Bool.Decides.{nat_tests}
-use Rattle.kore_lex.specs.declared.lexer.TokenKind.TheVariants.{Ident, SetIdent, Builtin, Text, Punct, Assign, End}
+use Rattle.kore_lex.specs.declared.lexer.TokenKind.TheVariants.{Ident, SetIdent, Builtin, Text}
+use Rattle.kore_lex.specs.declared.lexer.TokenKind.TheVariants.{Punct, Assign, End}
 use Rattle.kore_lex.specs.Pieces.{is_letter, is_word, piece, quote_len}
 use Rattle.kore_lex.specs.Escapes.{bad_at}
 use Rattle.kore_lex.specs.Tokens.{IsToken, IsName, AllWord}
@@ -12,7 +13,7 @@ use Rattle.kore_lex.specs.Value.{IsString}
 use Rattle.kore_text.specs.declared.tokens.Next.{Next}
 use Rattle.kore_text.specs.declared.tokens.Next.TheVariants as next
 use Rattle.kore_text.specs.TokenStream.{Stream}
-use Rattle.kore_text.specs.Left.{Comes}
+use Rattle.kore_text.specs.Remaining.{Comes}
 use Rattle.kore_ast.specs.Known.{name_bytes, set_name_bytes, string_bytes_of, first}
 
 pub comes_first : (n : Next) (s r : Stream) → Comes n s r → first n r ≡ s

@@ -1,35 +1,40 @@
 -- Taking one token.
-use Rattle.std.proofs.Common.{◌≡◌, ◌≤◌, ◌-◌, ℕ, Bool, true, false, List, [], ◌∷◌, Some, refl, ap, sym, ◌∙◌, subst, arith, IsTrue, Bor, not, if◌then◌else◌}
+use Rattle.std.proofs.Common.{◌≡◌, ◌≤◌, ◌-◌, ℕ, Bool, true, false, List, [], ◌∷◌, Some, refl, ap}
+use Rattle.std.proofs.Common.{sym, ◌∙◌, subst, arith, IsTrue, Bor, not, if◌then◌else◌}
 use Rattle.kore_text.specs.TokenStream.{Token, Stream, end, fault, token, token_of}
-use Rattle.kore_text.specs.Left.{size as count}
-use Rattle.kore_text.specs.Grammar.{Want, placed, any, given, Takes}
+use Rattle.kore_text.specs.Remaining.{size as count}
+use Rattle.kore_text.specs.Grammar.{Requirement, placed, any, given, TakesTokens}
 use Rattle.kore_lex.specs.declared.lexer.TokenKind.{TokenKind}
 use Rattle.kore_text.specs.declared.tokens.Next.{Next}
 use Rattle.kore_text.specs.declared.tokens.Next.TheVariants as next
 use Rattle.kore_ast.specs.Known.{first}
-use Rattle.kore_ast.specs.Streams.{after, place, seen, is_done, has_mark, is_over, head_of, keyword_of, is_declared}
+use Rattle.kore_ast.specs.Streams.{after, byte_of_next, seen, is_done, has_mark, is_over, head_of}
+use Rattle.kore_ast.specs.Streams.{keyword_of, is_declared}
 use Rattle.kore_ast.specs.Reading.{Has, behind_comma}
 use Rattle.kore_ast.specs.declared.reader.Head.{Head}
 use Rattle.kore_ast.specs.declared.reader.Head.TheVariants as head
 
-pub has : (k : List Want) (s e : Stream) → Takes k s e → Has k s e
+pub has : (k : List Requirement) (s e : Stream) → TakesTokens k s e → Has k s e
 has k s e h = record { takes = h }
 
 -- a token at any place
-pub any-step : (t : Token) (k : List Want) (s e : Stream) → Has (any t ∷ k) s e → (seen s ≡ Some t) × Has k (after s) e
+pub any-step : (t : Token) (k : List Requirement) (s e : Stream) → Has (any t ∷ k) s e
+    → (seen s ≡ Some t) × Has k (after s) e
 any-step t k (end x) e h = absurd h.takes
 any-step t k (fault x) e h = absurd h.takes
 any-step t k (token u p s) e h = (ap (λ v. Some v) h.takes.0, record { takes = h.takes.1 })
 
 -- a token at its place
-pub placed-step : (p : ℕ) (t : Token) (k : List Want) (s e : Stream) → Has (placed p t ∷ k) s e
-    → (seen s ≡ Some t) × (p ≡ place s) × Has k (after s) e
+pub placed-step : (p : ℕ) (t : Token) (k : List Requirement) (s e : Stream)
+    → Has (placed p t ∷ k) s e → (seen s ≡ Some t) × (p ≡ byte_of_next s) × Has k (after s) e
 placed-step p t k (end x) e h = absurd h.takes
 placed-step p t k (fault x) e h = absurd h.takes
-placed-step p t k (token u q s) e h = (ap (λ v. Some v) h.takes.0, sym h.takes.1, record { takes = h.takes.2 })
+placed-step p t k (token u q s) e h =
+    (ap (λ v. Some v) h.takes.0, sym h.takes.1, record { takes = h.takes.2 })
 
 -- a condition
-pub given-step : (b : Bool) (k : List Want) (s e : Stream) → Has (given b ∷ k) s e → IsTrue b × Has k s e
+pub given-step : (b : Bool) (k : List Requirement) (s e : Stream) → Has (given b ∷ k) s e
+    → IsTrue b × Has k s e
 given-step b k s e h = (h.takes.0, record { takes = h.takes.1 })
 
 -- the end
@@ -76,8 +81,10 @@ headed (end e) h e' n = absurd (n e')
 headed (fault e) h e' n = absurd (n e')
 headed (token t p s) h e' n = some_left (token t p s) refl
 
-pub first-some : (n : Next) (s : Stream) (k : TokenKind) (at : ℕ) (bytes : Bor (List ℕ)) → n ≡ next.Token k at bytes → 1 ≤ count (first n s)
-first-some n s k at bytes e = subst (λ m. 1 ≤ count (first m s)) (sym e) (some_left (token (token_of k bytes.now) at s) refl)
+pub first-some : (n : Next) (s : Stream) (k : TokenKind) (at : ℕ) (bytes : Bor (List ℕ))
+    → n ≡ next.Token k at bytes → 1 ≤ count (first n s)
+first-some n s k at bytes e =
+    subst (λ m. 1 ≤ count (first m s)) (sym e) (some_left (token (token_of k bytes.now) at s) refl)
 
 pub not-true : (b c : Bool) → c ≡ not b → c ≡ true → b ≡ false
 not-true false c e h = refl

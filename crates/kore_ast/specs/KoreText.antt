@@ -4,7 +4,7 @@
 use Rattle.std.specs.Prelude.{ℕ, List, [], false, Result, Ok, Err, Some}
 use Rattle.kore_text.specs.TokenStream.{end, tokens_of, Stream}
 use Rattle.kore_text.specs.Trees.{PatternTree, DefinitionTree}
-use Rattle.kore_text.specs.Grammar.{Takes, spell_pattern, spell_definition}
+use Rattle.kore_text.specs.Grammar.{TakesTokens, spell_pattern, spell_definition}
 use Rattle.kore_text.specs.Faults.{IsShallow, IsFirstFault, IsPattern, IsDefinition}
 use Rattle.kore_text.specs.declared.faults.TextFault.TheVariants as text_fault
 use Rattle.kore_ast.specs.declared.tree.ReadFault.{ReadFault}
@@ -12,17 +12,21 @@ use Rattle.kore_ast.specs.declared.tree.ReadFault.TheVariants as read_fault
 
 -- the bytes spell this pattern
 abbrev pub ReadsPattern : List ℕ → PatternTree → Type 0
-ReadsPattern bytes p = IsShallow 0 (tokens_of bytes) × ((e : ℕ) × Takes (spell_pattern false p []) (tokens_of bytes) (end e))
+ReadsPattern bytes p = IsShallow 0 (tokens_of bytes)
+    × ((e : ℕ) × TakesTokens (spell_pattern false p []) (tokens_of bytes) (end e))
 
 -- the bytes spell this definition
 abbrev pub ReadsDefinition : List ℕ → DefinitionTree → Type 0
-ReadsDefinition bytes d = IsShallow 0 (tokens_of bytes) × ((e : ℕ) × Takes (spell_definition d []) (tokens_of bytes) (end e))
+ReadsDefinition bytes d = IsShallow 0 (tokens_of bytes)
+    × ((e : ℕ) × TakesTokens (spell_definition d []) (tokens_of bytes) (end e))
 
 -- the reported fault is the first fault of the text; nothing is claimed if memory ran out
 abbrev pub IsFault : (Stream → Type 0) → List ℕ → ReadFault → Type 0
 IsFault L bytes (read_fault.Lex at) = IsFirstFault L 0 (tokens_of bytes) (Some (text_fault.Lex at))
-IsFault L bytes (read_fault.Syntax at) = IsFirstFault L 0 (tokens_of bytes) (Some (text_fault.Syntax at))
-IsFault L bytes (read_fault.Deep at) = IsFirstFault L 0 (tokens_of bytes) (Some (text_fault.Deep at))
+IsFault L bytes (read_fault.Syntax at) =
+    IsFirstFault L 0 (tokens_of bytes) (Some (text_fault.Syntax at))
+IsFault L bytes (read_fault.Deep at) =
+    IsFirstFault L 0 (tokens_of bytes) (Some (text_fault.Deep at))
 IsFault L bytes read_fault.Memory = Unit {0}
 
 abbrev pub PatternFault : {X : Type 0} → List ℕ → Result X ReadFault → Type 0

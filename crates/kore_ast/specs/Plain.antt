@@ -1,6 +1,12 @@
 -- The tree of a value of the program's types. It says nothing of memory.
 use Rattle.std.specs.Prelude.{ℕ, map}
-use Rattle.kore_text.specs.Trees.{SortTree, sort_parameter, sort_applied, sort_trees, PatternTree, element_variable, set_variable, string, symbol_applied, connected, binding, domain_value, folded, pattern_trees, ImportDeclaration, SortDeclaration, SymbolDeclaration, AliasDeclaration, AxiomDeclaration, Declaration, import_declaration, sort_declaration, symbol_declaration, alias_declaration, axiom_declaration, claim_declaration, ModuleTree, DefinitionTree}
+use Rattle.kore_text.specs.Trees.{SortTree, sort_parameter, sort_applied, sort_trees, PatternTree}
+use Rattle.kore_text.specs.Trees.{element_variable, set_variable, string, symbol_applied, connected}
+use Rattle.kore_text.specs.Trees.{binding, domain_value, folded, pattern_trees, ImportDeclaration}
+use Rattle.kore_text.specs.Trees.{SortDeclaration, SymbolDeclaration, AliasDeclaration}
+use Rattle.kore_text.specs.Trees.{AxiomDeclaration, Declaration, import_declaration}
+use Rattle.kore_text.specs.Trees.{sort_declaration, symbol_declaration, alias_declaration}
+use Rattle.kore_text.specs.Trees.{axiom_declaration, claim_declaration, ModuleTree, DefinitionTree}
 use Rattle.kore_ast.specs.declared.tree.Sort.{Sort}
 use Rattle.kore_ast.specs.declared.tree.SortForm.TheOpen.{SortForm-F, Sort-F}
 use Rattle.kore_ast.specs.declared.tree.SortForm.TheOpen as sort_layer
@@ -35,9 +41,12 @@ abbrev pub pattern_form_step : PatForm-F (ℕ → PatternTree) PatternTree → �
 pattern_form_step (pattern_layer.Elem n s) at = element_variable at n (plain_sort s)
 pattern_form_step (pattern_layer.SetVar n s) at = set_variable at n (plain_sort s)
 pattern_form_step (pattern_layer.Text t) at = string at t
-pattern_form_step (pattern_layer.App n ss ps) at = symbol_applied at n (sort_trees (map plain_sort ss.items)) (pattern_trees ps.items)
-pattern_form_step (pattern_layer.Built op ss ps) at = connected at op (sort_trees (map plain_sort ss.items)) (pattern_trees ps.items)
-pattern_form_step (pattern_layer.Bound b ss x p) at = binding at b (sort_trees (map plain_sort ss.items)) x.value p.value
+pattern_form_step (pattern_layer.App n ss ps) at =
+    symbol_applied at n (sort_trees (map plain_sort ss.items)) (pattern_trees ps.items)
+pattern_form_step (pattern_layer.Built op ss ps) at =
+    connected at op (sort_trees (map plain_sort ss.items)) (pattern_trees ps.items)
+pattern_form_step (pattern_layer.Bound b ss x p) at =
+    binding at b (sort_trees (map plain_sort ss.items)) x.value p.value
 pattern_form_step (pattern_layer.Value s t place) at = domain_value at (plain_sort s) t place
 pattern_form_step (pattern_layer.Fold left p) at = folded at left p.value
 
@@ -45,11 +54,11 @@ abbrev pub pattern_step : Pat-F (ℕ → PatternTree) PatternTree → PatternTre
 pattern_step p = p.form p.at
 
 -- the tree of a pattern
-abbrev pub plain_pattern : Pat → PatternTree
-plain_pattern = fold-Pat (ℕ → PatternTree) PatternTree pattern_form_step pattern_step
+abbrev pub pattern_tree : Pat → PatternTree
+pattern_tree = fold-Pat (ℕ → PatternTree) PatternTree pattern_form_step pattern_step
 
 abbrev pub plain_import : ImportDecl → ImportDeclaration
-plain_import d = record { at = d.at; name = d.name; attributes = map plain_pattern d.attrs.items }
+plain_import d = record { at = d.at; name = d.name; attributes = map pattern_tree d.attrs.items }
 
 abbrev pub plain_sort_decl : SortDecl → SortDeclaration
 plain_sort_decl d = record {
@@ -57,7 +66,7 @@ plain_sort_decl d = record {
   hooked = d.hooked;
   name = d.name;
   params = d.params.items;
-  attributes = map plain_pattern d.attrs.items;
+  attributes = map pattern_tree d.attrs.items;
 }
 
 abbrev pub plain_symbol_decl : SymbolDecl → SymbolDeclaration
@@ -68,7 +77,7 @@ plain_symbol_decl d = record {
   params = d.params.items;
   args = map plain_sort d.args.items;
   result = plain_sort d.result;
-  attributes = map plain_pattern d.attrs.items;
+  attributes = map pattern_tree d.attrs.items;
 }
 
 abbrev pub plain_alias_decl : AliasDecl → AliasDeclaration
@@ -81,17 +90,17 @@ plain_alias_decl d = record {
   result = plain_sort d.result;
   left_name = d.left_name;
   left_sorts = map plain_sort d.left_sorts.items;
-  vars = map plain_pattern d.vars.items;
-  body = plain_pattern d.body;
-  attributes = map plain_pattern d.attrs.items;
+  vars = map pattern_tree d.vars.items;
+  body = pattern_tree d.body;
+  attributes = map pattern_tree d.attrs.items;
 }
 
 abbrev pub plain_axiom_decl : AxiomDecl → AxiomDeclaration
 plain_axiom_decl d = record {
   at = d.at;
   params = d.params.items;
-  pattern = plain_pattern d.pat;
-  attributes = map plain_pattern d.attrs.items;
+  pattern = pattern_tree d.pat;
+  attributes = map pattern_tree d.attrs.items;
 }
 
 -- the tree of a declaration
@@ -109,12 +118,12 @@ plain_module m = record {
   at = m.at;
   name = m.name;
   declarations = map plain_declaration m.decls.items;
-  attributes = map plain_pattern m.attrs.items;
+  attributes = map pattern_tree m.attrs.items;
 }
 
 -- the tree of a definition
 abbrev pub plain_definition : Definition → DefinitionTree
 plain_definition d = record {
-  attributes = map plain_pattern d.attrs.items;
+  attributes = map pattern_tree d.attrs.items;
   modules = map plain_module d.modules.items;
 }

@@ -3,9 +3,10 @@ use Rattle.std.specs.Prelude.{◌≡◌, ℕ, Bool, List, ◌∷◌, map, if◌t
 use Rattle.kore_ast.specs.declared.reader.Reader.{Reader}
 use Rattle.kore_ast.specs.Known.{first}
 use Rattle.kore_text.specs.TokenStream.{identifier, Stream}
-use Rattle.kore_text.specs.Left.{left as behind, size as count}
+use Rattle.kore_text.specs.Remaining.{left as behind, size as count}
 use Rattle.kore_text.specs.Trees.{SortTree, AxiomDeclaration, Declaration}
-use Rattle.kore_text.specs.Grammar.{Want, any, Spelling, listed, in_order, Takes, keyword, spell_signature, spell_statement, spell_declaration}
+use Rattle.kore_text.specs.Grammar.{Requirement, any, Spelling, listed, in_order, TakesTokens}
+use Rattle.kore_text.specs.Grammar.{keyword, spell_signature, spell_statement, spell_declaration}
 use Rattle.kore_text.specs.Apart.{Apart}
 use Rattle.kore_ast.specs.Streams.{after, seen, is_over}
 
@@ -17,13 +18,14 @@ abbrev pub size : Reader → ℕ
 size r = count (left r)
 
 -- the tokens from the stream `s` up to the stream `e` meet the requirements `k`
-pub record Has (k : List Want) (s e : Stream) : Type 0 where
-  pub takes : Takes k s e
+pub record Has (k : List Requirement) (s e : Stream) : Type 0 where
+  pub takes : TakesTokens k s e
 
 -- if the stream `s` begins with the spelling of a thing `t` and no opening brace follows it, then
 -- `t` is `x`, and what follows `t` is the stream `r`
 pub record Reads {T : Type 0} (spell : T → Spelling) (x : T) (s r : Stream) : Type 0 where
-  pub exact : (t : T) (k : List Want) (e : Stream) → Apart k e → Has (spell t k) s e → (t ≡ x) × Has k r e
+  pub exact : (t : T) (k : List Requirement) (e : Stream) → Apart k e → Has (spell t k) s e
+      → (t ≡ x) × Has k r e
 
 -- a list, from the token after its opening bracket
 abbrev pub spell_list : {T : Type 0} → (T → Spelling) → ℕ → List T → Spelling
@@ -32,7 +34,8 @@ spell_list spell close xs k = listed (map spell xs) close k
 -- what is left after the test for another item of a list: a closing mark is passed, and so is the
 -- comma before each item but the first
 abbrev pub behind_comma : Bool → ℕ → Stream → Stream
-behind_comma first close s = if is_over close (seen s) then after s else (if first then s else after s)
+behind_comma first close s =
+    if is_over close (seen s) then after s else (if first then s else after s)
 
 -- the byte is a closing mark: `}`, `)` or `]`
 abbrev pub is_closing : ℕ → Bool

@@ -1,7 +1,8 @@
 -- The first of the tokens that are left. Only the clauses of private functions cite this.
 use Rattle.std.specs.Prelude.{ℕ, Bool, true, false, ◌||◌, Option, Some, None, List, []}
 use Rattle.kore_text.specs.declared.names.Built.{Built}
-use Rattle.kore_text.specs.TokenStream.{Token, identifier, set_identifier, builtin, string_token, Stream, end, fault, token}
+use Rattle.kore_text.specs.TokenStream.{Token, identifier, set_identifier, builtin, string_token}
+use Rattle.kore_text.specs.TokenStream.{Stream, end, fault, token}
 use Rattle.kore_text.specs.Apart.{is_mark}
 use Rattle.kore_ast.specs.declared.reader.Keyword.{Keyword}
 use Rattle.kore_ast.specs.declared.reader.Keyword.TheVariants as keyword
@@ -16,10 +17,10 @@ after (fault e) = fault e
 after (token t p s) = s
 
 -- the byte at which the first token begins, or the byte of the end or of the fault
-abbrev pub place : Stream → ℕ
-place (end e) = e
-place (fault e) = e
-place (token t p s) = p
+abbrev pub byte_of_next : Stream → ℕ
+byte_of_next (end e) = e
+byte_of_next (fault e) = e
+byte_of_next (token t p s) = p
 
 -- the first token, if there is one
 abbrev pub seen : Stream → Option Token

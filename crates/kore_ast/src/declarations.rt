@@ -1,13 +1,18 @@
 // Reading declarations, modules and definitions.
 
 ghost use Rattle.std.specs.Prelude.{◌≡◌, ◌≤◌, ◌-◌, ℕ, [], List, map, IfOk, OnOk, IsTrue};
-ghost use Rattle.kore_ast.specs.Plain.{plain_sort, plain_pattern, plain_import, plain_sort_decl, plain_symbol_decl, plain_alias_decl, plain_axiom_decl, plain_declaration, plain_module, plain_definition};
-ghost use Rattle.kore_text.specs.Grammar.{spell_names, spell_attributes, spell_declaration, spell_module, spell_definition};
-ghost use Rattle.kore_text.specs.Trees.{DefinitionTree, import_declaration, sort_declaration, symbol_declaration, alias_declaration};
+ghost use Rattle.kore_ast.specs.Plain.{plain_sort, pattern_tree, plain_import, plain_sort_decl};
+ghost use Rattle.kore_ast.specs.Plain.{plain_symbol_decl, plain_alias_decl, plain_axiom_decl};
+ghost use Rattle.kore_ast.specs.Plain.{plain_declaration, plain_module, plain_definition};
+ghost use Rattle.kore_text.specs.Grammar.{spell_names, spell_attributes, spell_declaration};
+ghost use Rattle.kore_text.specs.Grammar.{spell_module, spell_definition};
+ghost use Rattle.kore_text.specs.Trees.{DefinitionTree, import_declaration, sort_declaration};
+ghost use Rattle.kore_text.specs.Trees.{symbol_declaration, alias_declaration};
 ghost use Rattle.kore_text.specs.TokenStream.{end};
 ghost use Rattle.kore_ast.specs.declared.reader.Keyword.TheVariants as keywords;
 ghost use Rattle.kore_ast.specs.Streams.{seen, keyword_of, is_declared};
-ghost use Rattle.kore_ast.specs.Reading.{left, size, Has, Reads, spell_signature_pair, spell_stated, spell_body};
+ghost use Rattle.kore_ast.specs.Reading.{left, size, Has, Reads, spell_signature_pair};
+ghost use Rattle.kore_ast.specs.Reading.{spell_stated, spell_body};
 
 use crate::reader::{Keyword, Reader};
 use crate::text::Text;
@@ -19,7 +24,8 @@ use std::alloc::AllocError;
 impl<'a> Reader<'a> {
     /// Names in braces.
     fn params(&mut self) -> Result<Vec<Text>, AllocError>
-        ensures exact { IfOk result (λ x. Reads spell_names x.items (left self.old) (left self.new)) }
+        ensures exact { IfOk result
+            (λ x. Reads spell_names x.items (left self.old) (left self.new)) }
         ensures shorter { OnOk result (size self.new ≤ size self.old - 1) }
     {
         self.pass();
@@ -34,7 +40,8 @@ impl<'a> Reader<'a> {
     /// Attributes in brackets.
     #[tactic(auto, using(crate::proofs::Declared::attributes_read))]
     fn attributes(&mut self) -> Result<Vec<Pat>, AllocError>
-        ensures exact { IfOk result (λ x. Reads spell_attributes (map plain_pattern x.items) (left self.old) (left self.new)) }
+        ensures exact { IfOk result (λ x.
+            Reads spell_attributes (map pattern_tree x.items) (left self.old) (left self.new)) }
         ensures shorter { OnOk result (size self.new ≤ size self.old - 1) }
     {
         self.pass();
@@ -43,7 +50,8 @@ impl<'a> Reader<'a> {
 
     /// Sorts in parentheses, a colon and a sort.
     fn signature(&mut self) -> Result<(Vec<Sort>, Sort), AllocError>
-        ensures exact { IfOk result (λ x. Reads spell_signature_pair (map plain_sort x.0.items, plain_sort x.1) (left self.old) (left self.new)) }
+        ensures exact { IfOk result (λ x. Reads spell_signature_pair
+            (map plain_sort x.0.items, plain_sort x.1) (left self.old) (left self.new)) }
         ensures shorter { OnOk result (size self.new ≤ size self.old - 1) }
     {
         self.pass();
@@ -56,7 +64,8 @@ impl<'a> Reader<'a> {
     /// The import of a module.
     fn import_decl(&mut self) -> Result<ImportDecl, AllocError>
         requires { keyword_of (seen (left self.old)) ≡ keywords.Import }
-        ensures exact { IfOk result (λ x. Reads spell_declaration (import_declaration (plain_import x)) (left self.old) (left self.new)) }
+        ensures exact { IfOk result (λ x. Reads spell_declaration
+            (import_declaration (plain_import x)) (left self.old) (left self.new)) }
         ensures shorter { OnOk result (size self.new ≤ size self.old - 1) }
     {
         let at = self.pass();
@@ -68,7 +77,8 @@ impl<'a> Reader<'a> {
     /// The declaration of a sort.
     fn sort_decl(&mut self, hooked: bool) -> Result<SortDecl, AllocError>
         requires { keyword_of (seen (left self.old)) ≡ keywords.Sort hooked }
-        ensures exact { IfOk result (λ x. Reads spell_declaration (sort_declaration (plain_sort_decl x)) (left self.old) (left self.new)) }
+        ensures exact { IfOk result (λ x. Reads spell_declaration
+            (sort_declaration (plain_sort_decl x)) (left self.old) (left self.new)) }
         ensures shorter { OnOk result (size self.new ≤ size self.old - 1) }
     {
         let at = self.pass();
@@ -87,7 +97,8 @@ impl<'a> Reader<'a> {
     /// The declaration of a symbol.
     fn symbol_decl(&mut self, hooked: bool) -> Result<SymbolDecl, AllocError>
         requires { keyword_of (seen (left self.old)) ≡ keywords.Symbol hooked }
-        ensures exact { IfOk result (λ x. Reads spell_declaration (symbol_declaration (plain_symbol_decl x)) (left self.old) (left self.new)) }
+        ensures exact { IfOk result (λ x. Reads spell_declaration
+            (symbol_declaration (plain_symbol_decl x)) (left self.old) (left self.new)) }
         ensures shorter { OnOk result (size self.new ≤ size self.old - 1) }
     {
         let at = self.pass();
@@ -109,7 +120,8 @@ impl<'a> Reader<'a> {
     /// The declaration of an alias.
     fn alias_decl(&mut self) -> Result<AliasDecl, AllocError>
         requires { keyword_of (seen (left self.old)) ≡ keywords.Alias }
-        ensures exact { IfOk result (λ x. Reads spell_declaration (alias_declaration (plain_alias_decl x)) (left self.old) (left self.new)) }
+        ensures exact { IfOk result (λ x. Reads spell_declaration
+            (alias_declaration (plain_alias_decl x)) (left self.old) (left self.new)) }
         ensures shorter { OnOk result (size self.new ≤ size self.old - 1) }
     {
         let at = self.pass();
@@ -142,7 +154,8 @@ impl<'a> Reader<'a> {
 
     /// An axiom or a claim.
     fn axiom_decl(&mut self) -> Result<AxiomDecl, AllocError>
-        ensures exact { IfOk result (λ x. (word : List ℕ) → Reads (spell_stated word) (plain_axiom_decl x) (left self.old) (left self.new)) }
+        ensures exact { IfOk result (λ x. (word : List ℕ)
+            → Reads (spell_stated word) (plain_axiom_decl x) (left self.old) (left self.new)) }
         ensures shorter { OnOk result (size self.new ≤ size self.old - 1) }
     {
         let at = self.pass();
@@ -160,7 +173,8 @@ impl<'a> Reader<'a> {
     /// A declaration.
     #[tactic(auto, using(crate::proofs::Declared::axiom_read, crate::proofs::Declared::claim_read))]
     fn declaration(&mut self) -> Result<Decl, AllocError>
-        ensures exact { IfOk result (λ x. Reads spell_declaration (plain_declaration x) (left self.old) (left self.new)) }
+        ensures exact { IfOk result
+            (λ x. Reads spell_declaration (plain_declaration x) (left self.old) (left self.new)) }
         ensures shorter { OnOk result (size self.new ≤ size self.old - 1) }
     {
         match self.keyword() {
@@ -187,7 +201,8 @@ impl<'a> Reader<'a> {
 
     /// Declarations, up to and including the word that ends their module.
     fn body(&mut self) -> Result<Vec<Decl>, AllocError>
-        ensures exact { IfOk result (λ x. Reads spell_body (map plain_declaration x.items) (left self.old) (left self.new)) }
+        ensures exact { IfOk result (λ x.
+            Reads spell_body (map plain_declaration x.items) (left self.old) (left self.new)) }
         ensures shorter { OnOk result (size self.new ≤ size self.old - 1) }
     {
         let mut decls = Vec::new(self.alloc);
@@ -201,7 +216,8 @@ impl<'a> Reader<'a> {
 
     /// A module.
     fn module(&mut self) -> Result<Module, AllocError>
-        ensures exact { IfOk result (λ x. Reads spell_module (plain_module x) (left self.old) (left self.new)) }
+        ensures exact { IfOk result
+            (λ x. Reads spell_module (plain_module x) (left self.old) (left self.new)) }
         ensures shorter { OnOk result (size self.new ≤ size self.old - 1) }
     {
         let at = self.pass();
@@ -218,7 +234,8 @@ impl<'a> Reader<'a> {
 
     /// A definition, up to the end of the text.
     pub(crate) fn definition(&mut self) -> Result<Definition, AllocError>
-        ensures exact { IfOk result (λ x. (t : DefinitionTree) (e : ℕ) → Has (spell_definition t []) (left self.old) (end e) → t ≡ plain_definition x) }
+        ensures exact { IfOk result (λ x. (t : DefinitionTree) (e : ℕ)
+            → Has (spell_definition t []) (left self.old) (end e) → t ≡ plain_definition x) }
     {
         let attrs = self.attributes()?;
         let mut modules = Vec::new(self.alloc);

@@ -2,8 +2,9 @@
 
 ghost use Rattle.std.specs.Prelude.{◌≡◌, ◌<◌, ◌^◌, length, IfOk};
 ghost use Rattle.kore_text.specs.Trees.{PatternTree, DefinitionTree};
-ghost use Rattle.kore_ast.specs.Plain.{plain_pattern, plain_definition};
-ghost use Rattle.kore_ast.specs.KoreText.{ReadsPattern, ReadsDefinition, PatternFault, DefinitionFault};
+ghost use Rattle.kore_ast.specs.Plain.{pattern_tree, plain_definition};
+ghost use Rattle.kore_ast.specs.KoreText.{ReadsPattern, ReadsDefinition, PatternFault};
+ghost use Rattle.kore_ast.specs.KoreText.{DefinitionFault};
 
 use crate::reader::Reader;
 use crate::tree::{Definition, Pat, ReadFault};
@@ -18,7 +19,8 @@ use std::alloc::Global;
 pub fn read_definition(alloc: Global, bytes: &[u8]) -> Result<Definition, ReadFault>
     requires { length bytes.now < 2 ^ 32 }
     ensures found { IfOk result (λ d. ReadsDefinition bytes.now (plain_definition d)) }
-    ensures only { IfOk result (λ d. (t : DefinitionTree) → ReadsDefinition bytes.now t → t ≡ plain_definition d) }
+    ensures only { IfOk result
+        (λ d. (t : DefinitionTree) → ReadsDefinition bytes.now t → t ≡ plain_definition d) }
     ensures fault { DefinitionFault bytes.now result }
 {
     match definition_fault(alloc, bytes)? {
@@ -34,8 +36,9 @@ pub fn read_definition(alloc: Global, bytes: &[u8]) -> Result<Definition, ReadFa
 /// nested: at most 500 are open at once.
 pub fn read_pattern(alloc: Global, bytes: &[u8]) -> Result<Pat, ReadFault>
     requires { length bytes.now < 2 ^ 32 }
-    ensures found { IfOk result (λ p. ReadsPattern bytes.now (plain_pattern p)) }
-    ensures only { IfOk result (λ p. (t : PatternTree) → ReadsPattern bytes.now t → t ≡ plain_pattern p) }
+    ensures found { IfOk result (λ p. ReadsPattern bytes.now (pattern_tree p)) }
+    ensures only { IfOk result
+        (λ p. (t : PatternTree) → ReadsPattern bytes.now t → t ≡ pattern_tree p) }
     ensures fault { PatternFault bytes.now result }
 {
     match pattern_fault(alloc, bytes)? {

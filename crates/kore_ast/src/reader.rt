@@ -1,7 +1,8 @@
 // The reader of tokens: what is left of a text. It reads only texts that are known to have no
 // fault. So it looks at a token only if more than one token is possible there.
 
-ghost use Rattle.std.specs.Prelude.{◌≡◌, true, false, ◌<◌, ◌≤◌, ◌-◌, IsTrue, ◌^◌, length, not, IfOk, OnOk, drop};
+ghost use Rattle.std.specs.Prelude.{◌≡◌, true, false, ◌<◌, ◌≤◌, ◌-◌, IsTrue, ◌^◌, length, not};
+ghost use Rattle.std.specs.Prelude.{IfOk, OnOk, drop};
 ghost use Rattle.std.specs.Str.{is_utf8};
 ghost use Rattle.kore_lex.specs.Value.{IsString};
 ghost use Rattle.kore_ast.specs.Known.{name_bytes, set_name_bytes, string_bytes_of};
@@ -50,7 +51,8 @@ pub(crate) enum Keyword {
 
 impl<'a> Reader<'a> {
     ghost use Rattle.kore_ast.specs.Reading.{left, size, behind_comma};
-    ghost use Rattle.kore_ast.specs.Streams.{after, place, seen, has_mark, is_done, is_over, name_of, set_name_of, text_of, head_of, keyword_of};
+    ghost use Rattle.kore_ast.specs.Streams.{after, byte_of_next, seen, has_mark, is_done, is_over};
+    ghost use Rattle.kore_ast.specs.Streams.{name_of, set_name_of, text_of, head_of, keyword_of};
 
     /// A reader of the whole text.
     #[tactic(auto, using(crate::proofs::Heads::comes_first, crate::proofs::Heads::comes_name, crate::proofs::Heads::comes_set_name, crate::proofs::Heads::comes_string))]
@@ -117,8 +119,8 @@ impl<'a> Reader<'a> {
     }
 
     /// The byte at which the next token begins, or the byte of the end.
-    fn place(&self) -> u32
-        ensures { result ≡ place (left self.now) }
+    fn byte_of_next(&self) -> u32
+        ensures { result ≡ byte_of_next (left self.now) }
     {
         match self.next {
             Next::Token(_, at, _) => at,
@@ -139,11 +141,11 @@ impl<'a> Reader<'a> {
     /// Takes the next token and returns its place.
     #[tactic(auto, using(crate::proofs::Steps::after_done, crate::proofs::Steps::count_after))]
     pub(crate) fn pass(&mut self) -> u32
-        ensures at { result ≡ place (left self.old) }
+        ensures at { result ≡ byte_of_next (left self.old) }
         ensures rest { left self.new ≡ after (left self.old) }
         ensures shorter { size self.new ≡ size self.old - 1 }
     {
-        let at = self.place();
+        let at = self.byte_of_next();
         if self.is_done() {
             return at;
         }
@@ -187,7 +189,8 @@ impl<'a> Reader<'a> {
 
     /// Takes an identifier and returns its place and its name.
     pub(crate) fn name(&mut self) -> Result<(u32, Text), AllocError>
-        ensures read { IfOk result (λ x. (x.0 ≡ place (left self.old)) × (x.1 ≡ name_of (seen (left self.old)))) }
+        ensures read { IfOk result
+            (λ x. (x.0 ≡ byte_of_next (left self.old)) × (x.1 ≡ name_of (seen (left self.old)))) }
         ensures rest { OnOk result (left self.new ≡ after (left self.old)) }
         ensures shorter { OnOk result (size self.new ≡ size self.old - 1) }
     {
@@ -197,7 +200,8 @@ impl<'a> Reader<'a> {
 
     /// Takes the identifier of a set variable and returns its place and its name after `@`.
     pub(crate) fn set_name(&mut self) -> Result<(u32, Text), AllocError>
-        ensures read { IfOk result (λ x. (x.0 ≡ place (left self.old)) × (x.1 ≡ set_name_of (seen (left self.old)))) }
+        ensures read { IfOk result (λ x.
+            (x.0 ≡ byte_of_next (left self.old)) × (x.1 ≡ set_name_of (seen (left self.old)))) }
         ensures rest { OnOk result (left self.new ≡ after (left self.old)) }
         ensures shorter { OnOk result (size self.new ≡ size self.old - 1) }
     {
@@ -207,7 +211,8 @@ impl<'a> Reader<'a> {
 
     /// Takes a string and returns its place and its text.
     pub(crate) fn string(&mut self) -> Result<(u32, Text), AllocError>
-        ensures read { IfOk result (λ x. (x.0 ≡ place (left self.old)) × (x.1 ≡ text_of (seen (left self.old)))) }
+        ensures read { IfOk result
+            (λ x. (x.0 ≡ byte_of_next (left self.old)) × (x.1 ≡ text_of (seen (left self.old)))) }
         ensures rest { OnOk result (left self.new ≡ after (left self.old)) }
         ensures shorter { OnOk result (size self.new ≡ size self.old - 1) }
     {

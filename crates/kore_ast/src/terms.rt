@@ -2,7 +2,7 @@
 // inside a bracket that was counted.
 
 ghost use Rattle.std.specs.Prelude.{◌≡◌, ◌≤◌, ◌<◌, ◌-◌, Bool, true, map, IfOk, OnOk, Some};
-ghost use Rattle.kore_ast.specs.Plain.{plain_sort, plain_pattern};
+ghost use Rattle.kore_ast.specs.Plain.{plain_sort, pattern_tree};
 ghost use Rattle.kore_text.specs.Grammar.{spell_sort, spell_pattern};
 ghost use Rattle.kore_ast.specs.Streams.{seen, head_of, is_textual};
 ghost use Rattle.kore_ast.specs.Reading.{left, size, Reads, spell_list, is_closing};
@@ -18,7 +18,8 @@ impl<'a> Reader<'a> {
     /// A sort: a parameter, or a name with sorts in braces.
     #[cycle(sorts)]
     pub(crate) fn sort(&mut self) -> Result<Sort, AllocError>
-        ensures exact { IfOk result (λ x. Reads spell_sort (plain_sort x) (left self.old) (left self.new)) }
+        ensures exact { IfOk result
+            (λ x. Reads spell_sort (plain_sort x) (left self.old) (left self.new)) }
         ensures shorter { OnOk result (size self.new ≤ size self.old - 1) }
     {
         let (at, name) = self.name()?;
@@ -40,7 +41,8 @@ impl<'a> Reader<'a> {
     #[cycle(sorts)]
     pub(crate) fn sorts(&mut self, close: u8) -> Result<Vec<Sort>, AllocError>
         requires { is_closing close ≡ true }
-        ensures exact { IfOk result (λ x. Reads (spell_list spell_sort close) (map plain_sort x.items) (left self.old) (left self.new)) }
+        ensures exact { IfOk result (λ x. Reads (spell_list spell_sort close)
+            (map plain_sort x.items) (left self.old) (left self.new)) }
         ensures shorter { OnOk result (size self.new ≤ size self.old - 1) }
     {
         let mut sorts = Vec::new(self.alloc);
@@ -54,7 +56,8 @@ impl<'a> Reader<'a> {
     /// A pattern.
     #[cycle(patterns)]
     pub(crate) fn pattern(&mut self) -> Result<Pat, AllocError>
-        ensures exact { IfOk result (λ x. (b : Bool) → Reads (spell_pattern b) (plain_pattern x) (left self.old) (left self.new)) }
+        ensures exact { IfOk result (λ x.
+            (b : Bool) → Reads (spell_pattern b) (pattern_tree x) (left self.old) (left self.new)) }
         ensures shorter { OnOk result (size self.new ≤ size self.old - 1) }
     {
         match self.head() {
@@ -72,7 +75,8 @@ impl<'a> Reader<'a> {
     #[cycle(patterns)]
     fn named(&mut self) -> Result<Pat, AllocError>
         requires { head_of (seen (left self.old)) ≡ heads.Name }
-        ensures exact { IfOk result (λ x. (b : Bool) → Reads (spell_pattern b) (plain_pattern x) (left self.old) (left self.new)) }
+        ensures exact { IfOk result (λ x.
+            (b : Bool) → Reads (spell_pattern b) (pattern_tree x) (left self.old) (left self.new)) }
         ensures shorter { OnOk result (size self.new ≤ size self.old - 1) }
     {
         let (at, name) = self.name()?;
@@ -97,7 +101,8 @@ impl<'a> Reader<'a> {
     /// A set variable.
     fn set_variable(&mut self) -> Result<Pat, AllocError>
         requires { head_of (seen (left self.old)) ≡ heads.SetName }
-        ensures exact { IfOk result (λ x. (b : Bool) → Reads (spell_pattern b) (plain_pattern x) (left self.old) (left self.new)) }
+        ensures exact { IfOk result (λ x.
+            (b : Bool) → Reads (spell_pattern b) (pattern_tree x) (left self.old) (left self.new)) }
         ensures shorter { OnOk result (size self.new ≤ size self.old - 1) }
     {
         let (at, name) = self.set_name()?;
@@ -112,7 +117,8 @@ impl<'a> Reader<'a> {
     /// A string.
     fn text(&mut self) -> Result<Pat, AllocError>
         requires { is_textual (head_of (seen (left self.old))) ≡ true }
-        ensures exact { IfOk result (λ x. (b : Bool) → Reads (spell_pattern b) (plain_pattern x) (left self.old) (left self.new)) }
+        ensures exact { IfOk result (λ x.
+            (b : Bool) → Reads (spell_pattern b) (pattern_tree x) (left self.old) (left self.new)) }
         ensures shorter { OnOk result (size self.new ≤ size self.old - 1) }
     {
         let (at, text) = self.string()?;
@@ -126,7 +132,8 @@ impl<'a> Reader<'a> {
     #[cycle(patterns)]
     fn connected(&mut self, op: Op) -> Result<Pat, AllocError>
         requires { head_of (seen (left self.old)) ≡ heads.Builtin (built.Connective op) }
-        ensures exact { IfOk result (λ x. (b : Bool) → Reads (spell_pattern b) (plain_pattern x) (left self.old) (left self.new)) }
+        ensures exact { IfOk result (λ x.
+            (b : Bool) → Reads (spell_pattern b) (pattern_tree x) (left self.old) (left self.new)) }
         ensures shorter { OnOk result (size self.new ≤ size self.old - 1) }
     {
         let at = self.pass();
@@ -144,7 +151,8 @@ impl<'a> Reader<'a> {
     #[cycle(patterns)]
     fn binding(&mut self, binder: Binder) -> Result<Pat, AllocError>
         requires { head_of (seen (left self.old)) ≡ heads.Builtin (built.Binding binder) }
-        ensures exact { IfOk result (λ x. (b : Bool) → Reads (spell_pattern b) (plain_pattern x) (left self.old) (left self.new)) }
+        ensures exact { IfOk result (λ x.
+            (b : Bool) → Reads (spell_pattern b) (pattern_tree x) (left self.old) (left self.new)) }
         ensures shorter { OnOk result (size self.new ≤ size self.old - 1) }
     {
         let at = self.pass();
@@ -166,7 +174,8 @@ impl<'a> Reader<'a> {
     /// A domain value.
     fn domain_value(&mut self) -> Result<Pat, AllocError>
         requires { head_of (seen (left self.old)) ≡ heads.Builtin built.Value }
-        ensures exact { IfOk result (λ x. (b : Bool) → Reads (spell_pattern b) (plain_pattern x) (left self.old) (left self.new)) }
+        ensures exact { IfOk result (λ x.
+            (b : Bool) → Reads (spell_pattern b) (pattern_tree x) (left self.old) (left self.new)) }
         ensures shorter { OnOk result (size self.new ≤ size self.old - 1) }
     {
         let at = self.pass();
@@ -186,7 +195,8 @@ impl<'a> Reader<'a> {
     #[cycle(patterns)]
     fn fold(&mut self, from_left: bool) -> Result<Pat, AllocError>
         requires { head_of (seen (left self.old)) ≡ heads.Builtin (built.Fold from_left) }
-        ensures exact { IfOk result (λ x. (b : Bool) → Reads (spell_pattern b) (plain_pattern x) (left self.old) (left self.new)) }
+        ensures exact { IfOk result (λ x.
+            (b : Bool) → Reads (spell_pattern b) (pattern_tree x) (left self.old) (left self.new)) }
         ensures shorter { OnOk result (size self.new ≤ size self.old - 1) }
     {
         let at = self.pass();
@@ -206,7 +216,9 @@ impl<'a> Reader<'a> {
     #[cycle(patterns)]
     pub(crate) fn patterns(&mut self, close: u8) -> Result<Vec<Pat>, AllocError>
         requires { is_closing close ≡ true }
-        ensures exact { IfOk result (λ x. (b : Bool) → Reads (spell_list (spell_pattern b) close) (map plain_pattern x.items) (left self.old) (left self.new)) }
+        ensures exact { IfOk result (λ x. (b : Bool)
+            → Reads (spell_list (spell_pattern b) close) (map pattern_tree x.items) (left self.old)
+            (left self.new)) }
         ensures shorter { OnOk result (size self.new ≤ size self.old - 1) }
     {
         let mut patterns = Vec::new(self.alloc);

@@ -3,9 +3,16 @@
 use Rattle.std.proofs.Common.{◌≡◌, ℕ, Bool, true, false, ◌||◌, ◌&&◌, List, refl, sym}
 use Rattle.std.specs.Prelude.{not}
 use Rattle.std.proofs.lemmas.Bool.{false≢true}
-use Rattle.kore_text.specs.Trees.{SortTree, PatternTree, element_variable, set_variable, string, symbol_applied, connected, binding, domain_value, folded, PatternTrees, no_patterns, pattern_then, listed_patterns}
-use Rattle.kore_check.specs.Folds.{Unfolded, Unfoldeds, no_more, and_more, named_variable, written_value, applied_symbol, other_form, standing_at, applied_to_two, folded_left, folded_right, fold_of, only_of, unfolded, inner_fold, all_unfolded, IsApplicative, AreApplicative}
-use Rattle.kore_shapes.specs.Forms.{conjunctions, others, all_forms, covers, has_form, have_form, fold_has_form, is_one, is_none, has_binder, have_binder}
+use Rattle.kore_text.specs.Trees.{SortTree, PatternTree, element_variable, set_variable, string}
+use Rattle.kore_text.specs.Trees.{symbol_applied, connected, binding, domain_value, folded}
+use Rattle.kore_text.specs.Trees.{PatternTrees, no_patterns, pattern_then, listed_patterns}
+use Rattle.kore_check.specs.Folds.{Unfolded, Unfoldeds, no_more, and_more, named_variable}
+use Rattle.kore_check.specs.Folds.{written_value, applied_symbol, other_form, standing_at}
+use Rattle.kore_check.specs.Folds.{applied_to_two, folded_left, folded_right, fold_of, only_of}
+use Rattle.kore_check.specs.Folds.{unfolded, inner_fold, all_unfolded, IsApplicative}
+use Rattle.kore_check.specs.Folds.{AreApplicative}
+use Rattle.kore_shapes.specs.Forms.{conjunctions, others, all_forms, covers, has_form, have_form}
+use Rattle.kore_shapes.specs.Forms.{fold_has_form, is_one, is_none, has_binder, have_binder}
 
 pub neither : (a b : Bool) → (a || b) ≡ false → (a ≡ false) × (b ≡ false)
 neither true b h = absurd (false≢true (sym h))
@@ -17,44 +24,55 @@ standing at (written_value a s t b) is = is
 standing at (applied_symbol a b n ss ps) is = is
 standing at (other_form a) is = is
 
-left_is : (byte : ℕ) (name : List ℕ) (ss : List SortTree) (p : Unfolded) (ps : Unfoldeds) → IsApplicative p → AreApplicative ps → IsApplicative (folded_left byte name ss p ps)
+left_is : (byte : ℕ) (name : List ℕ) (ss : List SortTree) (p : Unfolded) (ps : Unfoldeds)
+    → IsApplicative p → AreApplicative ps → IsApplicative (folded_left byte name ss p ps)
 left_is byte name ss p no_more is are = is
 left_is byte name ss p (and_more q qs) is are =
     left_is byte name ss (applied_to_two byte name ss p q) qs (is, (are.0, tt)) are.1
 
-right_is : (byte : ℕ) (name : List ℕ) (ss : List SortTree) (p : Unfolded) (ps : Unfoldeds) → IsApplicative p → AreApplicative ps → IsApplicative (folded_right byte name ss p ps)
+right_is : (byte : ℕ) (name : List ℕ) (ss : List SortTree) (p : Unfolded) (ps : Unfoldeds)
+    → IsApplicative p → AreApplicative ps → IsApplicative (folded_right byte name ss p ps)
 right_is byte name ss p no_more is are = is
 right_is byte name ss p (and_more q qs) is are = (is, (right_is byte name ss q qs are.0 are.1, tt))
 
-fold_is : (left : Bool) (byte : ℕ) (name : List ℕ) (ss : List SortTree) (ps : PatternTrees) → (is_none (listed_patterns ps) && true) ≡ false → AreApplicative (all_unfolded ps) → IsApplicative (fold_of left byte name ss (all_unfolded ps))
+fold_is : (left : Bool) (byte : ℕ) (name : List ℕ) (ss : List SortTree) (ps : PatternTrees)
+    → (is_none (listed_patterns ps) && true) ≡ false → AreApplicative (all_unfolded ps)
+    → IsApplicative (fold_of left byte name ss (all_unfolded ps))
 fold_is left byte name ss no_patterns some are = absurd (false≢true (sym some))
-fold_is true byte name ss (pattern_then p ps) some are = left_is byte name ss (unfolded p) (all_unfolded ps) are.0 are.1
-fold_is false byte name ss (pattern_then p ps) some are = right_is byte name ss (unfolded p) (all_unfolded ps) are.0 are.1
+fold_is true byte name ss (pattern_then p ps) some are =
+    left_is byte name ss (unfolded p) (all_unfolded ps) are.0 are.1
+fold_is false byte name ss (pattern_then p ps) some are =
+    right_is byte name ss (unfolded p) (all_unfolded ps) are.0 are.1
 
-only_is : (at : ℕ) (ps : PatternTrees) → (not (is_one (listed_patterns ps)) && true) ≡ false → AreApplicative (all_unfolded ps) → IsApplicative (only_of at (all_unfolded ps))
+only_is : (at : ℕ) (ps : PatternTrees) → (not (is_one (listed_patterns ps)) && true) ≡ false
+    → AreApplicative (all_unfolded ps) → IsApplicative (only_of at (all_unfolded ps))
 only_is at no_patterns one are = absurd (false≢true (sym one))
 only_is at (pattern_then p no_patterns) one are = are.0
 only_is at (pattern_then p (pattern_then q ps)) one are = absurd (false≢true (sym one))
 
 mutual
-  pub applicative : (p : PatternTree) → has_form all_forms p ≡ false → has_binder p ≡ false → IsApplicative (unfolded p)
+  pub applicative : (p : PatternTree) → has_form all_forms p ≡ false → has_binder p ≡ false
+      → IsApplicative (unfolded p)
   applicative (element_variable at n s) h b = tt
   applicative (set_variable at n s) h b = absurd (false≢true (sym b))
   applicative (string at text) h b = absurd (false≢true (sym h))
   applicative (symbol_applied at n ss ps) h b = all_applicative ps h b
-  applicative (connected at op ss ps) h b = absurd (false≢true (sym (neither true (have_form all_forms ps) h).0))
+  applicative (connected at op ss ps) h b =
+      absurd (false≢true (sym (neither true (have_form all_forms ps) h).0))
   applicative (binding at c ss x p) h b = absurd (false≢true (sym b))
   applicative (domain_value at s text byte) h b = tt
   applicative (folded at left p) h b = standing at (inner_fold left p) (fold_applicative left p h b)
 
-  pub all_applicative : (ps : PatternTrees) → have_form all_forms ps ≡ false → have_binder ps ≡ false → AreApplicative (all_unfolded ps)
+  pub all_applicative : (ps : PatternTrees) → have_form all_forms ps ≡ false
+      → have_binder ps ≡ false → AreApplicative (all_unfolded ps)
   all_applicative no_patterns h b = tt
   all_applicative (pattern_then p ps) h b =
       let forms = neither _ _ h in
       let binders = neither _ _ b in
       (applicative p forms.0 binders.0, all_applicative ps forms.1 binders.1)
 
-  fold_applicative : (left : Bool) (p : PatternTree) → fold_has_form all_forms p ≡ false → has_binder p ≡ false → IsApplicative (inner_fold left p)
+  fold_applicative : (left : Bool) (p : PatternTree) → fold_has_form all_forms p ≡ false
+      → has_binder p ≡ false → IsApplicative (inner_fold left p)
   fold_applicative left (element_variable at n s) h b = absurd (false≢true (sym h))
   fold_applicative left (set_variable at n s) h b = absurd (false≢true (sym h))
   fold_applicative left (string at text) h b = absurd (false≢true (sym h))
@@ -82,24 +100,28 @@ never_both true h k = false≢true (sym k)
 never_both false h k = false≢true (sym h)
 
 mutual
-  pub two_forms : (p : PatternTree) → has_form others p ≡ false → has_form conjunctions p ≡ false → has_form all_forms p ≡ false
+  pub two_forms : (p : PatternTree) → has_form others p ≡ false → has_form conjunctions p ≡ false
+      → has_form all_forms p ≡ false
   two_forms (element_variable at n s) h k = refl
   two_forms (set_variable at n s) h k = refl
   two_forms (string at text) h k = h
   two_forms (symbol_applied at n ss ps) h k = all_two_forms ps h k
-  two_forms (connected at op ss ps) h k = absurd (never_both (covers conjunctions op) (neither _ _ h).0 (neither _ _ k).0)
+  two_forms (connected at op ss ps) h k =
+      absurd (never_both (covers conjunctions op) (neither _ _ h).0 (neither _ _ k).0)
   two_forms (binding at c ss x p) h k = two_forms p h k
   two_forms (domain_value at s text byte) h k = refl
   two_forms (folded at left p) h k = fold_two_forms p h k
 
-  all_two_forms : (ps : PatternTrees) → have_form others ps ≡ false → have_form conjunctions ps ≡ false → have_form all_forms ps ≡ false
+  all_two_forms : (ps : PatternTrees) → have_form others ps ≡ false
+      → have_form conjunctions ps ≡ false → have_form all_forms ps ≡ false
   all_two_forms no_patterns h k = refl
   all_two_forms (pattern_then p ps) h k =
       let first = neither _ _ h in
       let second = neither _ _ k in
       either_false _ _ (two_forms p first.0 second.0) (all_two_forms ps first.1 second.1)
 
-  fold_two_forms : (p : PatternTree) → fold_has_form others p ≡ false → fold_has_form conjunctions p ≡ false → fold_has_form all_forms p ≡ false
+  fold_two_forms : (p : PatternTree) → fold_has_form others p ≡ false
+      → fold_has_form conjunctions p ≡ false → fold_has_form all_forms p ≡ false
   fold_two_forms (element_variable at n s) h k = h
   fold_two_forms (set_variable at n s) h k = h
   fold_two_forms (string at text) h k = h
@@ -110,7 +132,9 @@ mutual
   fold_two_forms (connected at op ss ps) h k =
       let first = neither _ _ h in
       let second = neither _ _ k in
-      either_false _ _ (exhausted (not (is_one (listed_patterns ps))) (covers conjunctions op) first.0 second.0) (all_two_forms ps first.1 second.1)
+      either_false _ _
+      (exhausted (not (is_one (listed_patterns ps))) (covers conjunctions op) first.0 second.0)
+      (all_two_forms ps first.1 second.1)
   fold_two_forms (binding at c ss x p) h k = h
   fold_two_forms (domain_value at s text byte) h k = h
   fold_two_forms (folded at left p) h k = h

@@ -6,8 +6,11 @@ use Rattle.kore_sig.specs.Noted.{first_by_number}
 use Rattle.kore_sig.proofs.FirstLaws.{contains_here, first_of_list, by_number}
 use Rattle.kore_check.specs.FaultNumbers.{IsFirstOf}
 
-pub by_number_first : (fs : List Fault) (r : Option Fault) → r ≡ first_by_number fs → IsFirstBy ByNumber (Contains fs) r
-by_number_first fs r e = subst (λ (o : Option Fault). IsFirstBy ByNumber (Contains fs) o) (sym e) (first_of_list by_number fs)
+pub by_number_first : (fs : List Fault) (r : Option Fault) → r ≡ first_by_number fs
+    → IsFirstBy ByNumber (Contains fs) r
+by_number_first fs r e =
+    subst (λ (o : Option Fault). IsFirstBy ByNumber (Contains fs) o) (sym e)
+    (first_of_list by_number fs)
 
 -- a list without a first fault is empty
 empty : (fs : List Fault) → ((f : Fault) → Contains fs f → ⊥) → fs ≡ []

@@ -1,13 +1,15 @@
 -- What an axiom is read as: the first class that fits. The axiom is in a module that counts: the
 -- main module, or a module that it reaches by imports.
-use Rattle.std.specs.Prelude.{ℕ, List, Bool, true, false, not, ◌||◌, ◌&&◌, Option, Some, None, is_none, is_some}
+use Rattle.std.specs.Prelude.{ℕ, List, Bool, true, false, not, ◌||◌, ◌&&◌, Option, Some, None}
+use Rattle.std.specs.Prelude.{is_none, is_some}
 use Rattle.std.specs.Prelude.{if◌then◌else◌, codes}
 use Rattle.std.specs.List.{list_any}
 use Rattle.kore_text.specs.Trees.{PatternTree, AxiomDeclaration}
 use Rattle.rule_core.specs.declared.signature.Signature.{Signature}
 use Rattle.rule_core.specs.declared.signature.SymInfo.{SymInfo}
 use Rattle.rule_core.specs.declared.signature.SymKind.{SymKind}
-use Rattle.rule_core.specs.declared.signature.SymKind.TheVariants.{Injection, Ctor, Equations, Hooked, Closed, NoKind}
+use Rattle.rule_core.specs.declared.signature.SymKind.TheVariants.{Injection, Ctor, Equations}
+use Rattle.rule_core.specs.declared.signature.SymKind.TheVariants.{Hooked, Closed, NoKind}
 use Rattle.kore_sig.specs.Attributes.{has_attribute, is_said_ac, subsort_sorts}
 use Rattle.kore_check.specs.PatternSorts.{symbol_named}
 use Rattle.kore_shapes.specs.Shapes.{Rewriting, rewriting}
@@ -38,13 +40,15 @@ takes_equations (Some info) = is_defined_kind info.kind && is_none info.hook
 
 -- an axiom with one of these attributes is no equation
 abbrev pub is_no_equation : List PatternTree → Bool
-is_no_equation attributes = has_attribute (codes "simplification") attributes || is_said_ac attributes
+is_no_equation attributes =
+    has_attribute (codes "simplification") attributes || is_said_ac attributes
 
 -- an equation of the function, if the function takes equations; any other axiom is passed over
 abbrev pub class_of_statement : Signature → List PatternTree → Option Statement → AxiomClass
 class_of_statement sig attributes None = passed_over
 class_of_statement sig attributes (Some e) =
-    if not (is_no_equation attributes) && takes_equations (symbol_named sig e.function) then equates e else passed_over
+    if not (is_no_equation attributes) && takes_equations (symbol_named sig e.function)
+    then equates e else passed_over
 
 abbrev pub class_of_pattern : Signature → AxiomDeclaration → Option Rewriting → AxiomClass
 class_of_pattern sig a None = class_of_statement sig a.attributes (statement a.pattern)

@@ -13,7 +13,8 @@ use Rattle.kore_axioms.specs.RuleParts.{rule_parts, left_of, right_of}
 use Rattle.kore_axioms.specs.Priorities.{priority_of}
 
 -- the variables, and then the new variables of the pattern, if there is one
-abbrev pub with_some_variables : Signature → List (List ℕ × ℕ) → Option PatternTree → List (List ℕ × ℕ)
+abbrev pub with_some_variables : Signature → List (List ℕ × ℕ) → Option PatternTree
+    → List (List ℕ × ℕ)
 with_some_variables sig vars None = vars
 with_some_variables sig vars (Some p) = with_variables sig vars (unfolded p)
 
@@ -36,7 +37,8 @@ pub record IsRuleOf (sig : Signature) (a : AxiomDeclaration) (rule : RewriteRule
   pub variables : List (List ℕ × ℕ)
   pub numbered : variables ≡ with_variables sig [] (unfolded left)
   pub means_left : Means sig variables (unfolded left) rule.left
-  pub means_condition : MeansTest sig variables (tested (rule_parts sig shape).condition) rule.condition
+  pub means_condition : MeansTest sig variables (tested (rule_parts sig shape).condition)
+      rule.condition
   pub means_right : Means sig variables (unfolded right) rule.right
   pub sorts : rule.variables ≡ map (λ (v : List ℕ × ℕ). v.1) variables
   pub priority : rule.priority ≡ priority_of a.attributes

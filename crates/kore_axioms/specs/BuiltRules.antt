@@ -15,9 +15,12 @@ use Rattle.kore_axioms.specs.RuleFaults.{sorted_faults, listed, is_bound}
 use Rattle.kore_axioms.specs.declared.rules.RulePatterns.{RulePatterns}
 
 -- the first fault of the form, or, if the form has none, the first fault of the sorts
-abbrev pub FirstOfShape : Signature → AxiomDeclaration → SortTree → RuleParts → Option Fault → Type 0
+abbrev pub FirstOfShape : Signature → AxiomDeclaration → SortTree → RuleParts → Option Fault
+    → Type 0
 FirstOfShape sig a s w r
-    = Then (IsFirstBy ByNumber (Contains (form_faults a w))) (IsFirstBy ByByte (Contains (sorted_faults sig s w))) r
+    =
+    Then (IsFirstBy ByNumber (Contains (form_faults a w)))
+    (IsFirstBy ByByte (Contains (sorted_faults sig s w))) r
 
 -- the rule has both sides, and its patterns have no fault and only the forms that rule patterns may
 -- have
@@ -31,7 +34,8 @@ pub record IsFine (sig : Signature) (w : RuleParts) : Type 0 where
   pub right_form : IsApplicative (unfolded right)
   pub right_clear : pattern_faults sig (unfolded right) ≡ []
   pub test_form : (p : PatternTree) → tested w.condition ≡ Some p → IsApplicative (unfolded p)
-  pub test_clear : (p : PatternTree) → tested w.condition ≡ Some p → pattern_faults sig (unfolded p) ≡ []
+  pub test_clear : (p : PatternTree) → tested w.condition ≡ Some p
+      → pattern_faults sig (unfolded p) ≡ []
 
 -- The patterns are built of the two sides and of the tested pattern of the condition. If all
 -- variables are bound, the built patterns mean these, with the variables of the left side.
@@ -41,10 +45,14 @@ pub record IsBuiltOf (sig : Signature) (w : RuleParts) (made : RulePatterns) : T
   pub right : PatternTree
   pub is_right : right_of w ≡ Some right
   pub bound : made.bound
-      ≡ (is_bound (listed (left_of w)) (tested w.condition) && is_bound (listed (left_of w)) (right_of w))
-  pub numbered : made.bound ≡ true → named_sorts made.vars.items ≡ with_variables sig [] (unfolded left)
-  pub means_left : made.bound ≡ true → Means sig (named_sorts made.vars.items) (unfolded left) (plain_pattern made.left)
+      ≡ (is_bound (listed (left_of w)) (tested w.condition)
+      && is_bound (listed (left_of w)) (right_of w))
+  pub numbered : made.bound ≡ true
+      → named_sorts made.vars.items ≡ with_variables sig [] (unfolded left)
+  pub means_left : made.bound ≡ true
+      → Means sig (named_sorts made.vars.items) (unfolded left) (plain_pattern made.left)
   pub means_condition : made.bound ≡ true
-      → MeansTest sig (named_sorts made.vars.items) (tested w.condition) (option_map plain_pattern made.cond)
+      → MeansTest sig (named_sorts made.vars.items) (tested w.condition)
+      (option_map plain_pattern made.cond)
   pub means_right : made.bound ≡ true
       → Means sig (named_sorts made.vars.items) (unfolded right) (plain_pattern made.right)

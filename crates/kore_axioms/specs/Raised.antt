@@ -3,6 +3,6 @@ use Rattle.std.specs.Prelude.{ℕ, Bool, List, [], ◌∷◌, ◌++◌}
 use Rattle.kore_sig.specs.FirstFault.{Fault, when}
 
 -- the faults at this byte whose tests hold, each by its number
-abbrev pub raised : ℕ → List (Bool × ℕ) → List Fault
-raised at [] = []
-raised at (t ∷ tests) = when t.0 t.1 at ++ raised at tests
+abbrev pub faults_of_tests : ℕ → List (Bool × ℕ) → List Fault
+faults_of_tests at [] = []
+faults_of_tests at (t ∷ tests) = when t.0 t.1 at ++ faults_of_tests at tests

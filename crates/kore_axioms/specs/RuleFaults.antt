@@ -1,12 +1,15 @@
 -- The first fault of a rewrite rule. The form is tested first, then the sorts, then how its sides
 -- use symbols and variables.
-use Rattle.std.specs.Prelude.{ℕ, List, [], ◌∷◌, ◌++◌, Bool, false, true, not, ◌&&◌, Option, Some, None, Contains}
-use Rattle.kore_text.specs.Trees.{SortTree, listed_sorts, PatternTree, element_variable, set_variable, string}
-use Rattle.kore_text.specs.Trees.{symbol_applied, connected, binding, domain_value, folded, AxiomDeclaration}
+use Rattle.std.specs.Prelude.{ℕ, List, [], ◌∷◌, ◌++◌, Bool, false, true, not, ◌&&◌, Option, Some}
+use Rattle.std.specs.Prelude.{None, Contains}
+use Rattle.kore_text.specs.Trees.{SortTree, listed_sorts, PatternTree, element_variable}
+use Rattle.kore_text.specs.Trees.{set_variable, string}
+use Rattle.kore_text.specs.Trees.{symbol_applied, connected, binding, domain_value, folded}
+use Rattle.kore_text.specs.Trees.{AxiomDeclaration}
 use Rattle.rule_core.specs.declared.signature.Signature.{Signature}
 use Rattle.kore_sig.specs.FirstFault.{Fault, ByByte, ByNumber, IsFirstBy, Then}
 use Rattle.kore_sig.specs.SortReferences.{sort_number}
-use Rattle.kore_check.specs.Folds.{Unfolded, Unfoldeds, no_more, and_more, place, unfolded}
+use Rattle.kore_check.specs.Folds.{Unfolded, Unfoldeds, no_more, and_more, unfolded_byte, unfolded}
 use Rattle.kore_check.specs.PatternSorts.{sort_of}
 use Rattle.kore_check.specs.PatternFaults.{sort_faults, clash_faults, all_faults}
 use Rattle.kore_shapes.specs.SameSorts.{same_sort}
@@ -15,7 +18,7 @@ use Rattle.kore_axioms.specs.Conditions.{tested}
 use Rattle.kore_axioms.specs.RuleParts.{RuleParts, rule_parts, left_of, right_of}
 use Rattle.kore_axioms.specs.RuleForms.{holds_of, form_faults}
 use Rattle.kore_axioms.specs.Uses.{has_symbol, is_bound_by, is_plain_function, is_ac_symbol}
-use Rattle.kore_axioms.specs.Raised.{raised}
+use Rattle.kore_axioms.specs.Raised.{faults_of_tests}
 
 -- there is no fault
 abbrev pub is_empty : List Fault → Bool
@@ -26,7 +29,8 @@ is_empty (f ∷ fs) = false
 
 -- the faults of a pattern that should have this sort
 abbrev pub faults_at_sort : Signature → Option ℕ → Unfolded → List Fault
-faults_at_sort sig wanted p = all_faults sig p ++ clash_faults (place p) (sort_of sig p) wanted
+faults_at_sort sig wanted p =
+    all_faults sig p ++ clash_faults (unfolded_byte p) (sort_of sig p) wanted
 
 -- the faults of a side that should have this sort; none if there is no pattern
 abbrev pub side_faults : Signature → Option ℕ → Option PatternTree → List Fault
@@ -43,7 +47,8 @@ condition_faults sig ill = []
 -- the faults of the only sort of a connective at this byte; it should be the sort of the rule
 abbrev pub only_sort_faults : Signature → Option ℕ → ℕ → List SortTree → List Fault
 only_sort_faults sig wanted at [] = []
-only_sort_faults sig wanted at (t ∷ []) = sort_faults sig t ++ clash_faults at (sort_number sig.sorts t) wanted
+only_sort_faults sig wanted at (t ∷ []) =
+    sort_faults sig t ++ clash_faults at (sort_number sig.sorts t) wanted
 only_sort_faults sig wanted at (t ∷ (u ∷ ts)) = []
 
 -- the faults of the sort of the `\top{T}()` next to a right side
@@ -94,23 +99,31 @@ differs_from (Some first) s = not (same_sort first s)
 -- 18: a variable of the condition or of the right side does not occur in the left side.
 -- 19: the sort is not that of the first rule.
 abbrev pub use_tests : Signature → Option SortTree → SortTree → RuleParts → List (Bool × ℕ)
-use_tests sig first s w =
-    (holds_of (λ (p : PatternTree). has_symbol (is_plain_function sig) (unfolded p)) (left_of w), 12)
+use_tests sig first s w = (
+  holds_of (λ (p : PatternTree). has_symbol (is_plain_function sig) (unfolded p)) (left_of w),
+  12,
+)
     ∷ ((holds_of (λ (p : PatternTree). has_symbol (is_ac_symbol sig) (unfolded p)) (left_of w), 14)
-    ∷ ((not (is_bound (listed (left_of w)) (tested w.condition) && is_bound (listed (left_of w)) (right_of w)), 18)
+    ∷ ((
+      not (is_bound (listed
+          (left_of w)) (tested w.condition) && is_bound (listed (left_of w)) (right_of w)),
+      18,
+    )
     ∷ ((differs_from first s, 19) ∷ [])))
 
 abbrev pub use_faults : Signature → Option SortTree → ℕ → SortTree → RuleParts → List Fault
-use_faults sig first at s w = raised at (use_tests sig first s w)
+use_faults sig first at s w = faults_of_tests at (use_tests sig first s w)
 
 -- ---- the first
 
 -- the first fault of a rule; `first` is the sort of the first rule, if there is one before this
-abbrev pub FirstOfParts : Signature → Option SortTree → AxiomDeclaration → SortTree → RuleParts → Option Fault → Type 0
+abbrev pub FirstOfParts : Signature → Option SortTree → AxiomDeclaration → SortTree → RuleParts
+    → Option Fault → Type 0
 FirstOfParts sig first a s w r =
     Then (IsFirstBy ByNumber (Contains (form_faults a w)))
     (Then (IsFirstBy ByByte (Contains (sorted_faults sig s w)))
     (IsFirstBy ByNumber (Contains (use_faults sig first a.at s w)))) r
 
-abbrev pub FirstOfRule : Signature → Option SortTree → AxiomDeclaration → Rewriting → Option Fault → Type 0
+abbrev pub FirstOfRule : Signature → Option SortTree → AxiomDeclaration → Rewriting → Option Fault
+    → Type 0
 FirstOfRule sig first a w r = FirstOfParts sig first a w.sort (rule_parts sig w) r

@@ -7,7 +7,7 @@ use Rattle.kore_shapes.specs.Shapes.{Side, alone, beside, without, misshapen}
 use Rattle.kore_axioms.specs.Conditions.{tested, is_ill}
 use Rattle.kore_axioms.specs.RuleParts.{RuleParts, left_of, right_of}
 use Rattle.kore_axioms.specs.Priorities.{has_bad_priority}
-use Rattle.kore_axioms.specs.Raised.{raised}
+use Rattle.kore_axioms.specs.Raised.{faults_of_tests}
 
 -- there is a pattern, and the test holds of it
 abbrev pub holds_of : (PatternTree → Bool) → Option PatternTree → Bool
@@ -32,7 +32,8 @@ abbrev pub has_bad_form : RuleParts → Bool
 has_bad_form w =
     (is_misshapen w.before || is_misshapen w.after)
     || (holds_of (has_form others) (left_of w)
-    || (holds_of (has_form all_forms) (tested w.condition) || holds_of (has_form all_forms) (right_of w)))
+    || (holds_of (has_form all_forms) (tested w.condition)
+    || holds_of (has_form all_forms) (right_of w)))
 
 -- The faults of the form, all at the axiom.
 -- 13: a side or the tested pattern has a bad form.
@@ -51,4 +52,4 @@ form_tests a w =
     ∷ ((has_bad_priority a.attributes, 23) ∷ [])))))
 
 abbrev pub form_faults : AxiomDeclaration → RuleParts → List Fault
-form_faults a w = raised a.at (form_tests a w)
+form_faults a w = faults_of_tests a.at (form_tests a w)

@@ -5,8 +5,10 @@ use Rattle.kore_text.specs.Trees.{SortTree}
 use Rattle.rule_core.specs.declared.signature.Signature.{Signature}
 use Rattle.rule_core.specs.declared.signature.SymInfo.{SymInfo}
 use Rattle.rule_core.specs.declared.signature.SymKind.{SymKind}
-use Rattle.rule_core.specs.declared.signature.SymKind.TheVariants.{Injection, Ctor, Equations, Hooked, Closed, NoKind}
-use Rattle.kore_check.specs.Folds.{Unfolded, named_variable, written_value, applied_symbol, other_form, Unfoldeds}
+use Rattle.rule_core.specs.declared.signature.SymKind.TheVariants.{Injection, Ctor, Equations}
+use Rattle.rule_core.specs.declared.signature.SymKind.TheVariants.{Hooked, Closed, NoKind}
+use Rattle.kore_check.specs.Folds.{Unfolded, named_variable, written_value, applied_symbol}
+use Rattle.kore_check.specs.Folds.{other_form, Unfoldeds}
 use Rattle.kore_check.specs.Folds.{no_more, and_more}
 use Rattle.kore_check.specs.PatternSorts.{symbol_named}
 use Rattle.kore_shapes.specs.SameSorts.{same_sort}
@@ -26,15 +28,15 @@ abbrev mutual
 -- a variable of this name and sort occurs in the pattern, or (`stands_in_some`) in one of the
 -- patterns
 abbrev mutual
-  pub stands_in : List ℕ → SortTree → Unfolded → Bool
-  stands_in name s (named_variable at n t) = bytes_eq name n && same_sort s t
-  stands_in name s (written_value at t text byte) = false
-  stands_in name s (applied_symbol at byte f ss ps) = stands_in_some name s ps
-  stands_in name s (other_form at) = false
+  pub occurs_in : List ℕ → SortTree → Unfolded → Bool
+  occurs_in name s (named_variable at n t) = bytes_eq name n && same_sort s t
+  occurs_in name s (written_value at t text byte) = false
+  occurs_in name s (applied_symbol at byte f ss ps) = stands_in_some name s ps
+  occurs_in name s (other_form at) = false
 
   pub stands_in_some : List ℕ → SortTree → Unfoldeds → Bool
   stands_in_some name s no_more = false
-  stands_in_some name s (and_more p ps) = stands_in name s p || stands_in_some name s ps
+  stands_in_some name s (and_more p ps) = occurs_in name s p || stands_in_some name s ps
 
 -- each variable of the pattern, or (`are_bound_by`) of the patterns, occurs in one of the patterns
 -- `qs`

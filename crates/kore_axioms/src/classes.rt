@@ -1,15 +1,17 @@
 // What an axiom is read as.
 ghost use Rattle.std.specs.Prelude.{◌≡◌, map, option_map, option_copied, is_some};
-ghost use Rattle.kore_ast.specs.Plain.{plain_sort, plain_pattern, plain_axiom_decl};
+ghost use Rattle.kore_ast.specs.Plain.{plain_sort, pattern_tree, plain_axiom_decl};
 ghost use Rattle.kore_sig.specs.Attributes.{is_said_ac as is_ac, subsort_sorts, stated_pair};
 ghost use Rattle.kore_check.specs.PatternSorts.{symbol_named};
 ghost use Rattle.kore_shapes.specs.Shapes.{rewriting as the_rewriting};
 ghost use Rattle.kore_shapes.specs.StatementViews.{plain_statement};
-ghost use Rattle.kore_axioms.specs.AxiomClasses.{is_defined_kind as is_defined, takes_equations as does_take_equations};
+ghost use Rattle.kore_axioms.specs.AxiomClasses.{is_defined_kind as is_defined};
+ghost use Rattle.kore_axioms.specs.AxiomClasses.{takes_equations as does_take_equations};
 ghost use Rattle.kore_axioms.specs.AxiomClasses.{is_no_equation as is_surely_none};
 ghost use Rattle.kore_axioms.specs.AxiomClasses.{class_of_statement as the_class_of_statement};
 ghost use Rattle.kore_axioms.specs.AxiomClasses.{class_of_pattern as the_class_of_pattern};
-ghost use Rattle.kore_axioms.specs.AxiomClasses.{states_pairs as do_state_pairs, class_of as the_class};
+ghost use Rattle.kore_axioms.specs.AxiomClasses.{states_pairs as do_state_pairs};
+ghost use Rattle.kore_axioms.specs.AxiomClasses.{class_of as the_class};
 ghost use Rattle.kore_axioms.specs.ClassViews.{plain_class};
 
 use crate::faults::AxiomFault;
@@ -52,7 +54,8 @@ pub fn class_of<'a>(sig: &Signature, decl: &'a AxiomDecl) -> AxiomClass<'a>
 
 fn class_of_pattern<'a>(sig: &Signature, decl: &'a AxiomDecl) -> AxiomClass<'a>
     ensures { plain_class result
-        ≡ the_class_of_pattern sig.now (plain_axiom_decl decl.now) (the_rewriting (plain_pattern decl.now.pat)) }
+        ≡ the_class_of_pattern sig.now (plain_axiom_decl decl.now)
+        (the_rewriting (pattern_tree decl.now.pat)) }
 {
     match rewriting_at(&decl.pat) {
         Some(rewriting) => AxiomClass::Rewrites(rewriting),
@@ -68,7 +71,8 @@ fn class_of_statement<'a>(
     stated: Option<Statement<'a>>,
 ) -> AxiomClass<'a>
     ensures { plain_class result
-        ≡ the_class_of_statement sig.now (map plain_pattern attrs.now) (option_map plain_statement stated.entry) }
+        ≡ the_class_of_statement sig.now (map pattern_tree attrs.now)
+        (option_map plain_statement stated.entry) }
 {
     match stated {
         Some(stated)
@@ -81,13 +85,13 @@ fn class_of_statement<'a>(
 
 /// Whether the attributes say that an axiom is no equation.
 fn is_no_equation(attrs: &[Pat]) -> bool
-    ensures { result ≡ is_surely_none (map plain_pattern attrs.now) }
+    ensures { result ≡ is_surely_none (map pattern_tree attrs.now) }
 {
     has_attribute(attrs, "simplification") || is_said_ac(attrs)
 }
 
 fn is_said_ac(attrs: &[Pat]) -> bool
-    ensures { result ≡ is_ac (map plain_pattern attrs.now) }
+    ensures { result ≡ is_ac (map pattern_tree attrs.now) }
 {
     has_attribute(attrs, "assoc")
         || has_attribute(attrs, "comm")
@@ -115,7 +119,7 @@ fn takes_equations(symbol: Option<&SymInfo>) -> bool
 
 /// Whether an attribute states that a sort is below another.
 fn states_pairs(attrs: &[Pat]) -> bool
-    ensures { result ≡ do_state_pairs (map plain_pattern attrs.now) }
+    ensures { result ≡ do_state_pairs (map pattern_tree attrs.now) }
 {
     for attr in attrs {
         if states_pair(attr) {
@@ -126,7 +130,7 @@ fn states_pairs(attrs: &[Pat]) -> bool
 }
 
 fn states_pair(attr: &Pat) -> bool
-    ensures { result ≡ is_some (subsort_sorts (plain_pattern attr.now)) }
+    ensures { result ≡ is_some (subsort_sorts (pattern_tree attr.now)) }
 {
     match &attr.form {
         PatForm::App(name, sorts, args) => is_pair(name, sorts, args),
@@ -135,7 +139,8 @@ fn states_pair(attr: &Pat) -> bool
 }
 
 fn is_pair(name: &Text, sorts: &[Sort], args: &[Pat]) -> bool
-    ensures { result ≡ is_some (stated_pair name.now (map plain_sort sorts.now) (map plain_pattern args.now)) }
+    ensures { result
+        ≡ is_some (stated_pair name.now (map plain_sort sorts.now) (map pattern_tree args.now)) }
 {
     match (sorts, args) {
         ([_, _], []) => name.as_str() == "subsort",

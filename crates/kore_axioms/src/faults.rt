@@ -2,7 +2,7 @@
 ghost use Rattle.std.specs.Prelude.{◌≡◌, ℕ, map, option_map};
 ghost use Rattle.kore_sig.specs.FirstFault.{when};
 ghost use Rattle.kore_sig.specs.Noted.{noted, leads_by_number, first_by_number};
-ghost use Rattle.kore_axioms.specs.Raised.{raised};
+ghost use Rattle.kore_axioms.specs.Raised.{faults_of_tests};
 ghost use Rattle.kore_axioms.specs.Views.{fault_number as the_number, fault_at, plain_test};
 
 /// What is wrong with an axiom as a whole. Its place is the keyword of the axiom. The value of each
@@ -48,8 +48,10 @@ impl AxiomFault {
 }
 
 /// The fault with the smallest number among those whose tests hold. Returns none if no test holds.
-pub(crate) fn first_raised(tests: &[(bool, AxiomFault)]) -> Option<AxiomFault>
-    ensures { (at : ℕ) → option_map (fault_at at) result ≡ first_by_number (raised at (map plain_test tests.now)) }
+pub(crate) fn first_of_tests(tests: &[(bool, AxiomFault)]) -> Option<AxiomFault>
+    ensures { (at : ℕ)
+        → option_map (fault_at at) result
+        ≡ first_by_number (faults_of_tests at (map plain_test tests.now)) }
 {
     let mut first = None;
     for test in tests {
@@ -60,7 +62,8 @@ pub(crate) fn first_raised(tests: &[(bool, AxiomFault)]) -> Option<AxiomFault>
 
 fn smaller(first: Option<AxiomFault>, test: &(bool, AxiomFault)) -> Option<AxiomFault>
     ensures { (at : ℕ) → option_map (fault_at at) result
-        ≡ noted leads_by_number (option_map (fault_at at) first) (when test.now.0 (the_number test.now.1) at) }
+        ≡ noted leads_by_number (option_map (fault_at at) first)
+        (when test.now.0 (the_number test.now.1) at) }
 {
     let (holds, fault) = *test;
     match first {

@@ -1,18 +1,20 @@
 // The parts of a rewrite rule, and the faults of its form.
 ghost use Rattle.std.specs.Prelude.{◌≡◌, ℕ, map, option_map};
-ghost use Rattle.kore_ast.specs.Plain.{plain_sort, plain_pattern, plain_axiom_decl};
+ghost use Rattle.kore_ast.specs.Plain.{plain_sort, pattern_tree, plain_axiom_decl};
 ghost use Rattle.kore_sig.specs.Noted.{first_by_number};
 ghost use Rattle.kore_shapes.specs.Forms.{has_form as has_one};
 ghost use Rattle.kore_shapes.specs.SoughtForms.{sought as sought_forms};
 ghost use Rattle.kore_shapes.specs.Views.{pattern_at, plain_side, plain_condition, plain_rewriting};
-ghost use Rattle.kore_axioms.specs.Conditions.{is_bool as is_a_bool, over_bool as the_over_bool, tested as the_tested};
+ghost use Rattle.kore_axioms.specs.Conditions.{is_bool as is_a_bool, over_bool as the_over_bool};
+ghost use Rattle.kore_axioms.specs.Conditions.{tested as the_tested};
 ghost use Rattle.kore_axioms.specs.Conditions.{is_ill as is_an_ill};
 ghost use Rattle.kore_axioms.specs.RuleParts.{rule_parts as the_parts, left_of, right_of};
-ghost use Rattle.kore_axioms.specs.RuleForms.{holds_of, is_misshapen as is_a_misshapen, is_without as is_one_without};
+ghost use Rattle.kore_axioms.specs.RuleForms.{holds_of, is_misshapen as is_a_misshapen};
+ghost use Rattle.kore_axioms.specs.RuleForms.{is_without as is_one_without};
 ghost use Rattle.kore_axioms.specs.RuleForms.{has_bad_form as has_a_bad_form, form_faults};
 ghost use Rattle.kore_axioms.specs.Views.{plain_rule_parts, fault_at};
 
-use crate::faults::{AxiomFault, first_raised};
+use crate::faults::{AxiomFault, first_of_tests};
 use crate::priorities::has_bad_priority;
 use kore_ast::{AxiomDecl, Pat, Sort};
 use kore_shapes::{
@@ -53,7 +55,7 @@ pub fn over_bool<'a>(sig: &Signature, condition: Condition<'a>) -> Condition<'a>
     ensures { plain_condition result ≡ the_over_bool sig.now (plain_condition condition.entry) }
 {
     match condition {
-        Condition::Tests(sort, _) if !is_bool(sig, sort) => Condition::Ill,
+        Condition::Tests(sort, _) if !is_bool(sig, sort) => Condition::Malformed,
         _ => condition,
     }
 }
@@ -77,7 +79,7 @@ pub fn tested(condition: Condition<'_>) -> Option<&Pat>
 {
     match condition {
         Condition::Tests(_, pat) => Some(pat),
-        Condition::Always | Condition::Ill => None,
+        Condition::Always | Condition::Malformed => None,
     }
 }
 
@@ -85,7 +87,7 @@ pub fn tested(condition: Condition<'_>) -> Option<&Pat>
 pub fn is_ill(condition: Condition<'_>) -> bool
     ensures { result ≡ is_an_ill (plain_condition condition.entry) }
 {
-    matches!(condition, Condition::Ill)
+    matches!(condition, Condition::Malformed)
 }
 
 /// The first fault of the form of a rewrite rule, by number. Returns none if the form has no fault.
@@ -94,7 +96,7 @@ pub(crate) fn form_fault(decl: &AxiomDecl, parts: RuleParts<'_>) -> Option<Axiom
         ≡ first_by_number (form_faults (plain_axiom_decl decl.now) (plain_rule_parts parts.entry)) }
 {
     let ill = is_without(parts.before) || is_ill(parts.condition);
-    first_raised(&[
+    first_of_tests(&[
         (has_bad_form(parts), AxiomFault::Form),
         (has_binder(&decl.pat), AxiomFault::Binder),
         (is_without(parts.after), AxiomFault::Ensures),
@@ -138,5 +140,5 @@ fn is_misshapen(side: Side<'_>) -> bool
 fn is_without(side: Side<'_>) -> bool
     ensures { result ≡ is_one_without (plain_side side.entry) }
 {
-    matches!(side, Side::Without)
+    matches!(side, Side::NoCompanion)
 }

@@ -1,10 +1,12 @@
 // The priority of a rule or an equation.
 ghost use Rattle.std.specs.Prelude.{◌≡◌, map, option_map, option_copied, Some};
 ghost use Rattle.std.specs.Str.{all_ascii_digits};
-ghost use Rattle.kore_ast.specs.Plain.{plain_pattern};
+ghost use Rattle.kore_ast.specs.Plain.{pattern_tree};
 ghost use Rattle.kore_check.specs.ValueTexts.{number_of_digits as the_number};
-ghost use Rattle.kore_axioms.specs.Priorities.{short_number as the_short_number, stated_number as the_stated_number};
-ghost use Rattle.kore_axioms.specs.Priorities.{stated_priority as the_stated_priority, has_bad_priority as is_bad};
+ghost use Rattle.kore_axioms.specs.Priorities.{short_number as the_short_number};
+ghost use Rattle.kore_axioms.specs.Priorities.{stated_number as the_stated_number};
+ghost use Rattle.kore_axioms.specs.Priorities.{stated_priority as the_stated_priority};
+ghost use Rattle.kore_axioms.specs.Priorities.{has_bad_priority as is_bad};
 ghost use Rattle.kore_axioms.specs.Priorities.{priority_of as the_priority};
 
 use kore_ast::{Pat, Text};
@@ -13,7 +15,7 @@ use kore_sig::{first_of_name, has_attribute, text_of};
 /// Whether the attributes state a priority, but not by one text of one to nine digits. If several
 /// attributes have that name, the first one counts.
 pub fn has_bad_priority(attrs: &[Pat]) -> bool
-    ensures { result ≡ is_bad (map plain_pattern attrs.now) }
+    ensures { result ≡ is_bad (map pattern_tree attrs.now) }
 {
     match first_of_name(attrs, "priority") {
         Some(attr) => stated_number(attr).is_none(),
@@ -24,7 +26,7 @@ pub fn has_bad_priority(attrs: &[Pat]) -> bool
 /// The priority. If none is stated, it is 200 with the attribute `owise` and 50 without it. A rule
 /// with a smaller number is tried first.
 pub fn priority_of(attrs: &[Pat]) -> u32
-    ensures { result ≡ the_priority (map plain_pattern attrs.now) }
+    ensures { result ≡ the_priority (map pattern_tree attrs.now) }
 {
     if let Some(attr) = first_of_name(attrs, "priority")
         && let Some(number) = stated_number(attr)
@@ -41,7 +43,7 @@ pub fn priority_of(attrs: &[Pat]) -> u32
 /// The number of an attribute whose only argument is a text of one to nine digits. Returns none for
 /// any other attribute.
 fn stated_number(attr: &Pat) -> Option<u32>
-    ensures { result ≡ the_stated_number (Some (plain_pattern attr.now)) }
+    ensures { result ≡ the_stated_number (Some (pattern_tree attr.now)) }
 {
     let text = text_of(attr)?;
     short_number(text)

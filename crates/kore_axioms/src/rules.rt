@@ -1,5 +1,6 @@
 // Rewrite rules: what a rule means, or its first fault.
-ghost use Rattle.std.specs.Prelude.{◌≡◌, ◌&&◌, [], ℕ, None, map, option_map, IfOk, OnOk, IfErr, IfSome};
+ghost use Rattle.std.specs.Prelude.{◌≡◌, ◌&&◌, [], ℕ, None, map, option_map, IfOk, OnOk, IfErr};
+ghost use Rattle.std.specs.Prelude.{IfSome};
 ghost use Rattle.kore_ast.specs.Plain.{plain_sort, plain_axiom_decl};
 ghost use Rattle.term_core.specs.RulePatterns.{plain_pattern};
 ghost use Rattle.rule_core.specs.ProgramView.{rewrite_rule};
@@ -14,16 +15,17 @@ ghost use Rattle.kore_axioms.specs.AxiomMeanings.{with_some_variables, MeansTest
 ghost use Rattle.kore_axioms.specs.BuiltRules.{IsFine, IsBuiltOf, FirstOfShape};
 ghost use Rattle.kore_axioms.specs.Refusals.{Refuses};
 ghost use Rattle.kore_axioms.specs.Conditions.{tested as the_tested};
-ghost use Rattle.kore_axioms.specs.Raised.{raised};
+ghost use Rattle.kore_axioms.specs.Raised.{faults_of_tests};
 ghost use Rattle.kore_axioms.specs.RuleForms.{holds_of, form_faults};
-ghost use Rattle.kore_axioms.specs.RuleFaults.{listed, is_bound, differs_from as does_differ, use_tests, sorted_faults};
+ghost use Rattle.kore_axioms.specs.RuleFaults.{listed, is_bound, differs_from as does_differ};
+ghost use Rattle.kore_axioms.specs.RuleFaults.{use_tests, sorted_faults};
 ghost use Rattle.kore_axioms.specs.RuleFaults.{FirstOfRule};
 ghost use Rattle.kore_axioms.specs.RuleParts.{left_of, right_of};
 ghost use Rattle.kore_axioms.specs.UsedSymbols.{is_used};
 ghost use Rattle.kore_axioms.specs.Uses.{has_symbol as has_one};
 ghost use Rattle.kore_axioms.specs.Views.{plain_rule_parts, fault_at};
 
-use crate::faults::{AxiomFault, first_raised};
+use crate::faults::{AxiomFault, first_of_tests};
 use crate::parts::{RuleParts, form_fault, rule_parts, tested};
 use crate::priorities::priority_of;
 use crate::refusals::Refusal;
@@ -48,14 +50,15 @@ fn use_fault(
 ) -> Option<AxiomFault>
     requires { bound ≡ (is_bound (listed (left_of (plain_rule_parts parts)))
         (the_tested (plain_rule_parts parts).condition)
-        && is_bound (listed (left_of (plain_rule_parts parts))) (right_of (plain_rule_parts parts))) }
+        && is_bound (listed (left_of (plain_rule_parts parts)))
+        (right_of (plain_rule_parts parts))) }
     ensures { (at : ℕ) → option_map (fault_at at) result
-        ≡ first_by_number (raised at
+        ≡ first_by_number (faults_of_tests at
         (use_tests sig.now (option_map (λ s. plain_sort s.now) first.entry) (plain_sort sort.now)
         (plain_rule_parts parts.entry))) }
 {
     let left = parts.before.main();
-    first_raised(&[
+    first_of_tests(&[
         (
             uses(sig, left, Symbols::PlainFunctions),
             AxiomFault::LeftFunction,
@@ -68,7 +71,9 @@ fn use_fault(
 
 /// Whether there is a pattern and one of these symbols occurs in it.
 fn uses(sig: &Signature, pat: Option<&Pat>, which: Symbols) -> bool
-    ensures { result ≡ holds_of (λ p. has_one (is_used which sig.now) (unfolded p)) (option_map pattern_at pat.entry) }
+    ensures { result
+        ≡ holds_of (λ p. has_one (is_used which sig.now) (unfolded p))
+        (option_map pattern_at pat.entry) }
 {
     match pat {
         Some(pat) => has_symbol(pat, sig, which),
@@ -78,7 +83,8 @@ fn uses(sig: &Signature, pat: Option<&Pat>, which: Symbols) -> bool
 
 /// Whether there is a first rule and its sort is written differently.
 fn differs_from(first: Option<&Sort>, sort: &Sort) -> bool
-    ensures { result ≡ does_differ (option_map (λ s. plain_sort s.now) first.entry) (plain_sort sort.now) }
+    ensures { result
+        ≡ does_differ (option_map (λ s. plain_sort s.now) first.entry) (plain_sort sort.now) }
 {
     match first {
         Some(first) => !same_sort(first, sort),
@@ -113,13 +119,17 @@ pub fn checked_rule(
 ) -> Result<Rule, Refusal>
     requires numbered { IsNumbered sig.now }
     requires signature { IsSignature sig.now }
-    requires class { class_of sig.now (plain_axiom_decl decl.now) ≡ rewrites (plain_rewriting rewriting) }
+    requires class { class_of sig.now (plain_axiom_decl decl.now)
+        ≡ rewrites (plain_rewriting rewriting) }
     ensures clear { OnOk result
-        (FirstOfRule sig.now (option_map (λ s. plain_sort s.now) first.entry) (plain_axiom_decl decl.now)
+        (FirstOfRule sig.now (option_map (λ s. plain_sort s.now) first.entry)
+        (plain_axiom_decl decl.now)
         (plain_rewriting rewriting.entry) None) }
-    ensures means { IfOk result (λ rule. IsRuleOf sig.now (plain_axiom_decl decl.now) (rewrite_rule rule)) }
+    ensures means { IfOk result
+        (λ rule. IsRuleOf sig.now (plain_axiom_decl decl.now) (rewrite_rule rule)) }
     ensures refused { IfErr result
-        (Refuses (FirstOfRule sig.now (option_map (λ s. plain_sort s.now) first.entry) (plain_axiom_decl decl.now)
+        (Refuses (FirstOfRule sig.now (option_map (λ s. plain_sort s.now) first.entry)
+        (plain_axiom_decl decl.now)
         (plain_rewriting rewriting.entry))) }
 {
     let parts = rule_parts(sig, rewriting);
@@ -150,8 +160,10 @@ fn check_shape(
     parts: RuleParts<'_>,
 ) -> Result<(), Refusal>
     requires { IsNumbered sig.now }
-    ensures form { OnOk result (form_faults (plain_axiom_decl decl.now) (plain_rule_parts parts.entry) ≡ []) }
-    ensures sorts { OnOk result (sorted_faults sig.now (plain_sort sort.now) (plain_rule_parts parts.entry) ≡ []) }
+    ensures form { OnOk result
+        (form_faults (plain_axiom_decl decl.now) (plain_rule_parts parts.entry) ≡ []) }
+    ensures sorts { OnOk result
+        (sorted_faults sig.now (plain_sort sort.now) (plain_rule_parts parts.entry) ≡ []) }
     ensures refused { IfErr result
         (Refuses (FirstOfShape sig.now (plain_axiom_decl decl.now) (plain_sort sort.now)
         (plain_rule_parts parts.entry))) }
@@ -205,10 +217,13 @@ pub fn built_condition(
     requires numbered { IsNumbered sig.now }
     requires signature { IsSignature sig.now }
     requires form { IfSome (option_map pattern_at pat) (λ p. IsApplicative (unfolded p)) }
-    requires faultless { IfSome (option_map pattern_at pat) (λ p. pattern_faults sig.now (unfolded p) ≡ []) }
-    ensures vars { OnOk result (vars.new ≡ with_some_variables sig.now vars.old (option_map pattern_at pat.entry)) }
+    requires faultless { IfSome (option_map pattern_at pat)
+        (λ p. pattern_faults sig.now (unfolded p) ≡ []) }
+    ensures vars { OnOk result
+        (vars.new ≡ with_some_variables sig.now vars.old (option_map pattern_at pat.entry)) }
     ensures means { IfOk result
-        (λ p. MeansTest sig.now vars.new (option_map pattern_at pat.entry) (option_map plain_pattern p)) }
+        (λ p. MeansTest sig.now vars.new (option_map pattern_at pat.entry)
+        (option_map plain_pattern p)) }
 {
     match pat {
         Some(pat) => Ok(Some(build_pattern(alloc, sig, pat, vars)?)),

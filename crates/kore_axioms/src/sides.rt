@@ -1,7 +1,7 @@
 // The faults of the sorts of a rewrite rule: of its sides, of its condition, and of the sort that
 // it names.
 ghost use Rattle.std.specs.Prelude.{◌≡◌, ◌++◌, List, map, option_map};
-ghost use Rattle.kore_ast.specs.Plain.{plain_sort, plain_pattern};
+ghost use Rattle.kore_ast.specs.Plain.{plain_sort, pattern_tree};
 ghost use Rattle.kore_sig.specs.FirstFault.{Fault};
 ghost use Rattle.kore_sig.specs.SortReferences.{sort_number as the_number};
 ghost use Rattle.kore_sig.specs.Signatures.{IsNumbered};
@@ -9,8 +9,10 @@ ghost use Rattle.kore_check.specs.Folds.{unfolded};
 ghost use Rattle.kore_check.specs.PatternFaults.{sort_faults, clash_faults};
 ghost use Rattle.kore_check.specs.FaultNumbers.{IsFirstOf};
 ghost use Rattle.kore_shapes.specs.Views.{pattern_at, plain_condition};
-ghost use Rattle.kore_axioms.specs.RuleFaults.{faults_at_sort, side_faults, condition_faults, only_sort_faults};
-ghost use Rattle.kore_axioms.specs.RuleFaults.{is_empty, top_faults, found_top_faults, sorted_faults};
+ghost use Rattle.kore_axioms.specs.RuleFaults.{faults_at_sort, side_faults, condition_faults};
+ghost use Rattle.kore_axioms.specs.RuleFaults.{only_sort_faults};
+ghost use Rattle.kore_axioms.specs.RuleFaults.{is_empty, top_faults, found_top_faults};
+ghost use Rattle.kore_axioms.specs.RuleFaults.{sorted_faults};
 ghost use Rattle.kore_axioms.specs.Views.{plain_rule_parts};
 ghost use Rattle.kore_axioms.specs.Noting.{kept_fault, after, sort_of_id};
 
@@ -27,7 +29,8 @@ use term_core::SortId;
 /// once.
 pub(crate) fn sort_fault(sig: &Signature, sort: &Sort, parts: RuleParts<'_>) -> Option<PatternFault>
     requires { IsNumbered sig.now }
-    ensures { IsFirstOf (sorted_faults sig.now (plain_sort sort.now) (plain_rule_parts parts.entry)) result }
+    ensures { IsFirstOf (sorted_faults sig.now (plain_sort sort.now) (plain_rule_parts parts.entry))
+        result }
 {
     let mut first = None;
     let wanted = noted_sort(sig, sort, &mut first);
@@ -47,7 +50,8 @@ fn note_at_sort(
 )
     requires { IsNumbered sig.now }
     ensures { kept_fault first.new
-        ≡ after first.old (faults_at_sort sig.now (option_map sort_of_id wanted) (unfolded (plain_pattern pat.now))) }
+        ≡ after first.old (faults_at_sort sig.now (option_map sort_of_id wanted)
+        (unfolded (pattern_tree pat.now))) }
 {
     let own = note_pattern(sig, pat, first);
     note_clash(pat.at, own, wanted, first);
@@ -58,7 +62,8 @@ fn note_at_sort(
 pub fn is_faultless(sig: &Signature, pat: &Pat, wanted: Option<SortId>) -> bool
     requires { IsNumbered sig.now }
     ensures { result
-        ≡ is_empty (faults_at_sort sig.now (option_map (λ s. s.0) wanted) (unfolded (plain_pattern pat.now))) }
+        ≡ is_empty (faults_at_sort sig.now (option_map (λ s. s.0) wanted)
+        (unfolded (pattern_tree pat.now))) }
 {
     let mut first = None;
     note_at_sort(sig, pat, wanted, &mut first);
@@ -84,7 +89,8 @@ fn note_side(
 )
     requires { IsNumbered sig.now }
     ensures { kept_fault first.new
-        ≡ after first.old (side_faults sig.now (option_map sort_of_id wanted) (option_map pattern_at pat.entry)) }
+        ≡ after first.old
+        (side_faults sig.now (option_map sort_of_id wanted) (option_map pattern_at pat.entry)) }
 {
     match pat {
         Some(pat) => note_at_sort(sig, pat, wanted, first),
@@ -95,11 +101,12 @@ fn note_side(
 /// Notes the faults of the pattern that a condition tests.
 fn note_condition(sig: &Signature, condition: Condition<'_>, first: &mut Option<PatternFault>)
     requires { IsNumbered sig.now }
-    ensures { kept_fault first.new ≡ after first.old (condition_faults sig.now (plain_condition condition.entry)) }
+    ensures { kept_fault first.new
+        ≡ after first.old (condition_faults sig.now (plain_condition condition.entry)) }
 {
     match condition {
         Condition::Tests(sort, pat) => note_at_sort(sig, pat, sort_id(sig, sort), first),
-        Condition::Always | Condition::Ill => {}
+        Condition::Always | Condition::Malformed => {}
     }
 }
 
@@ -121,7 +128,8 @@ fn note_found_top(
 )
     requires { IsNumbered sig.now }
     ensures { kept_fault first.new
-        ≡ after first.old (found_top_faults sig.now (option_map sort_of_id wanted) (option_map pattern_at top.entry)) }
+        ≡ after first.old (found_top_faults sig.now (option_map sort_of_id wanted)
+        (option_map pattern_at top.entry)) }
 {
     match top {
         Some(top) => note_top(sig, top, wanted, first),
@@ -132,7 +140,7 @@ fn note_found_top(
 fn note_top(sig: &Signature, top: &Pat, wanted: Option<SortId>, first: &mut Option<PatternFault>)
     requires { IsNumbered sig.now }
     ensures { kept_fault first.new
-        ≡ after first.old (top_faults sig.now (option_map sort_of_id wanted) (plain_pattern top.now)) }
+        ≡ after first.old (top_faults sig.now (option_map sort_of_id wanted) (pattern_tree top.now)) }
 {
     match &top.form {
         PatForm::Built(_, sorts, _) => note_only_sort(sig, sorts, top.at, wanted, first),
@@ -149,7 +157,8 @@ fn note_only_sort(
 )
     requires { IsNumbered sig.now }
     ensures { kept_fault first.new
-        ≡ after first.old (only_sort_faults sig.now (option_map sort_of_id wanted) at (map plain_sort sorts.now)) }
+        ≡ after first.old
+        (only_sort_faults sig.now (option_map sort_of_id wanted) at (map plain_sort sorts.now)) }
 {
     match sorts {
         [sort] => note_sort_at(sig, sort, at, wanted, first),
@@ -168,7 +177,8 @@ fn note_sort_at(
     requires { IsNumbered sig.now }
     ensures { kept_fault first.new ≡ after first.old
         (sort_faults sig.now (plain_sort sort.now)
-        ++ clash_faults at (the_number sig.now.sorts (plain_sort sort.now)) (option_map sort_of_id wanted)) }
+        ++ clash_faults at (the_number sig.now.sorts (plain_sort sort.now))
+        (option_map sort_of_id wanted)) }
 {
     let own = noted_sort(sig, sort, first);
     note_clash(at, own, wanted, first);
@@ -178,7 +188,8 @@ fn note_sort_at(
 fn noted_sort(sig: &Signature, sort: &Sort, first: &mut Option<PatternFault>) -> Option<SortId>
     requires { IsNumbered sig.now }
     ensures sort { option_map sort_of_id result ≡ the_number sig.now.sorts (plain_sort sort.now) }
-    ensures first { kept_fault first.new ≡ after first.old (sort_faults sig.now (plain_sort sort.now)) }
+    ensures first { kept_fault first.new
+        ≡ after first.old (sort_faults sig.now (plain_sort sort.now)) }
 {
     note_sort(sig, sort, first)
 }

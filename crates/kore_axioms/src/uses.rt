@@ -1,11 +1,13 @@
 // Which symbols a pattern uses.
 ghost use Rattle.std.specs.Prelude.{◌≡◌, ◌&&◌, Bool, map, option_copied};
 ghost use Rattle.kore_text.specs.Trees.{pattern_trees};
-ghost use Rattle.kore_ast.specs.Plain.{plain_pattern};
+ghost use Rattle.kore_ast.specs.Plain.{pattern_tree};
 ghost use Rattle.kore_check.specs.Folds.{unfolded, all_unfolded, inner_fold};
 ghost use Rattle.kore_shapes.specs.Forms.{is_one as there_is_one};
-ghost use Rattle.kore_axioms.specs.Uses.{has_symbol as has_one, have_symbol as have_one, is_function_kind};
-ghost use Rattle.kore_axioms.specs.Uses.{is_plain_function_with as is_the_plain_function, is_ac_with as is_the_ac};
+ghost use Rattle.kore_axioms.specs.Uses.{has_symbol as has_one, have_symbol as have_one};
+ghost use Rattle.kore_axioms.specs.Uses.{is_function_kind};
+ghost use Rattle.kore_axioms.specs.Uses.{is_plain_function_with as is_the_plain_function};
+ghost use Rattle.kore_axioms.specs.Uses.{is_ac_with as is_the_ac};
 ghost use Rattle.kore_axioms.specs.UsedSymbols.{is_used};
 ghost use Rattle.kore_axioms.specs.FoldUses.{are_two as there_are_two};
 
@@ -26,7 +28,7 @@ pub enum Symbols {
 /// one argument is ignored. It goes through the pattern once, with a look-up for each symbol.
 #[cycle(symbol)]
 pub fn has_symbol(pat: &Pat, sig: &Signature, which: Symbols) -> bool
-    ensures { result ≡ has_one (is_used which sig.now) (unfolded (plain_pattern pat.now)) }
+    ensures { result ≡ has_one (is_used which sig.now) (unfolded (pattern_tree pat.now)) }
 {
     match &pat.form {
         PatForm::App(name, _, args) => {
@@ -40,7 +42,9 @@ pub fn has_symbol(pat: &Pat, sig: &Signature, which: Symbols) -> bool
 
 #[cycle(symbol)]
 fn have_symbol(pats: &[Pat], sig: &Signature, which: Symbols) -> bool
-    ensures { result ≡ have_one (is_used which sig.now) (all_unfolded (pattern_trees (map plain_pattern pats.now))) }
+    ensures { result
+        ≡ have_one (is_used which sig.now)
+        (all_unfolded (pattern_trees (map pattern_tree pats.now))) }
 {
     for pat in pats {
         if has_symbol(pat, sig, which) {
@@ -53,7 +57,8 @@ fn have_symbol(pats: &[Pat], sig: &Signature, which: Symbols) -> bool
 /// Whether one of these symbols occurs in the fold of this pattern.
 #[cycle(symbol)]
 fn fold_has_symbol(pat: &Pat, sig: &Signature, which: Symbols) -> bool
-    ensures { (left : Bool) → result ≡ has_one (is_used which sig.now) (inner_fold left (plain_pattern pat.now)) }
+    ensures { (left : Bool)
+        → result ≡ has_one (is_used which sig.now) (inner_fold left (pattern_tree pat.now)) }
 {
     match &pat.form {
         PatForm::App(name, _, args) => {
@@ -68,20 +73,21 @@ fn fold_has_symbol(pat: &Pat, sig: &Signature, which: Symbols) -> bool
 /// Whether the symbol of a fold of these patterns is one of these symbols and occurs in what the
 /// fold stands for.
 fn is_among_folded(sig: &Signature, name: &Text, args: &[Pat], which: Symbols) -> bool
-    ensures { result ≡ (there_are_two (map plain_pattern args.now) && is_used which sig.now name.now) }
+    ensures { result
+        ≡ (there_are_two (map pattern_tree args.now) && is_used which sig.now name.now) }
 {
     are_two(args) && is_among(sig, name, which)
 }
 
 fn is_one(pats: &[Pat]) -> bool
-    ensures { result ≡ there_is_one (map plain_pattern pats.now) }
+    ensures { result ≡ there_is_one (map pattern_tree pats.now) }
 {
     matches!(pats, [_])
 }
 
 /// Whether there are two patterns or more.
 fn are_two(pats: &[Pat]) -> bool
-    ensures { result ≡ there_are_two (map plain_pattern pats.now) }
+    ensures { result ≡ there_are_two (map pattern_tree pats.now) }
 {
     matches!(pats, [_, _, ..])
 }

@@ -1,5 +1,6 @@
 -- What the check of a pattern returns.
-use Rattle.std.proofs.Common.{◌≡◌, ℕ, true, List, [], ◌∷◌, ◌++◌, length, Option, Some, None, Contains, eq-eqb, refl, sym, ◌∙◌, ap, subst, arith}
+use Rattle.std.proofs.Common.{◌≡◌, ℕ, true, List, [], ◌∷◌, ◌++◌, length, Option, Some, None}
+use Rattle.std.proofs.Common.{Contains, eq-eqb, refl, sym, ◌∙◌, ap, subst, arith}
 use Rattle.std.specs.Prelude.{◌==◌}
 use Rattle.std.specs.Option.{option_and_then}
 use Rattle.rule_core.specs.WellSorted.{IsSignature, IsDeclaration, IsReference}
@@ -14,23 +15,32 @@ use Rattle.kore_sig.specs.FirstFault.{Fault, ByByte, IsFirstBy}
 use Rattle.kore_check.specs.declared.faults.PatternFault.{PatternFault}
 use Rattle.kore_check.specs.declared.faults.FaultKind.{FaultKind}
 use Rattle.kore_check.specs.declared.faults.FaultKind.TheVariants as kind
-use Rattle.kore_check.specs.FaultNumbers.{IsFirstOf, IsRefusal, as_refusal, refusal_of, fault_number}
-use Rattle.kore_check.specs.Folds.{Unfolded, named_variable, written_value, applied_symbol, other_form, IsApplicative}
-use Rattle.kore_check.specs.PatternSorts.{sort_of, symbol_named, symbol_info, sort_numbers, result_sort}
+use Rattle.kore_check.specs.FaultNumbers.{IsFirstOf, IsRefusal, as_refusal, refusal_of}
+use Rattle.kore_check.specs.FaultNumbers.{fault_number}
+use Rattle.kore_check.specs.Folds.{Unfolded, named_variable, written_value, applied_symbol}
+use Rattle.kore_check.specs.Folds.{other_form, IsApplicative}
+use Rattle.kore_check.specs.PatternSorts.{sort_of, symbol_named, symbol_info, sort_numbers}
+use Rattle.kore_check.specs.PatternSorts.{result_sort}
 use Rattle.kore_check.specs.PatternFaults.{pattern_faults}
 use Rattle.kore_check.proofs.NotedLaws.{contains_here}
 use Rattle.kore_check.proofs.SortLaws.{sort_numbers-length}
-use Rattle.kore_check.proofs.BuildLaws.{IsSound, application_faultless, variable_known, value_sort_known, some_there}
+use Rattle.kore_check.proofs.BuildLaws.{IsSound, application_faultless, variable_known}
+use Rattle.kore_check.proofs.BuildLaws.{value_sort_known, some_there}
 
 none_kept : (fs : List Fault) → ((f : Fault) → Contains fs f → ⊥) → fs ≡ []
 none_kept [] none = refl
 none_kept (f ∷ fs) none = absurd (none f (contains_here fs f))
 
-pub nothing_noted : (faults : List Fault) (first : Option PatternFault) → ((before : List Fault) → IsFirstOf before None → IsFirstOf (before ++ faults) first) → first ≡ None → faults ≡ []
+pub nothing_noted : (faults : List Fault) (first : Option PatternFault)
+    → ((before : List Fault) → IsFirstOf before None → IsFirstOf (before ++ faults) first)
+    → first ≡ None → faults ≡ []
 nothing_noted faults first noted is =
-    none_kept faults (subst (λ (o : Option PatternFault). IsFirstOf faults o) is (noted [] (λ f known. omega (arith, known.1))))
+    none_kept faults (subst (λ (o : Option PatternFault). IsFirstOf faults o) is
+    (noted [] (λ f known. omega (arith, known.1))))
 
-by_kind : (faults : List Fault) (k : FaultKind) (at : ℕ) → IsFirstBy ByByte (Contains faults) (Some (record { number = fault_number k; byte = at })) → IsRefusal faults (refusal_of k at)
+by_kind : (faults : List Fault) (k : FaultKind) (at : ℕ)
+    → IsFirstBy ByByte (Contains faults) (Some (record { number = fault_number k; byte = at }))
+    → IsRefusal faults (refusal_of k at)
 by_kind faults kind.Deep at is = is
 by_kind faults kind.UnknownSort at is = is
 by_kind faults kind.UnknownSymbol at is = is
@@ -39,36 +49,51 @@ by_kind faults kind.SortClash at is = is
 by_kind faults kind.BadValue at is = is
 by_kind faults kind.NoKind at is = is
 
-pub something_noted : (faults : List Fault) (first : Option PatternFault) (fault : PatternFault) → ((before : List Fault) → IsFirstOf before None → IsFirstOf (before ++ faults) first) → first ≡ Some fault → IsRefusal faults (as_refusal fault)
+pub something_noted : (faults : List Fault) (first : Option PatternFault) (fault : PatternFault)
+    → ((before : List Fault) → IsFirstOf before None → IsFirstOf (before ++ faults) first)
+    → first ≡ Some fault → IsRefusal faults (as_refusal fault)
 something_noted faults first fault noted is =
-    by_kind faults fault.kind fault.at (subst (λ (o : Option PatternFault). IsFirstOf faults o) is (noted [] (λ f known. omega (arith, known.1))))
+    by_kind faults fault.kind fault.at (subst (λ (o : Option PatternFault). IsFirstOf faults o) is
+    (noted [] (λ f known. omega (arith, known.1))))
 
 pub some_or_none : {X : Type 0} (o : Option X) → (o ≡ None → ⊥) → (x : X) × (o ≡ Some x)
 some_or_none None some = absurd (some refl)
 some_or_none (Some x) some = (x, refl)
 
-pub result_there : (sig : Signature) (info : SymInfo) (ns : List ℕ) (of : SortRef) → IsReference sig info.params of → length ns ≡ info.params → sort_at ns of ≡ None → ⊥
-result_there sig info ns (Param i) there count none = some_there ns i (omega (arith, there, count)) none
+pub result_there : (sig : Signature) (info : SymInfo) (ns : List ℕ) (of : SortRef)
+    → IsReference sig info.params of → length ns ≡ info.params → sort_at ns of ≡ None → ⊥
+result_there sig info ns (Param i) there count none =
+    some_there ns i (omega (arith, there, count)) none
 result_there sig info ns (Sort s) there count none = let no_sort : ⊥ = cc in no_sort
 
-symbol_of_name : (sig : Signature) (name : List ℕ) (info : SymInfo) → symbol_named sig name ≡ Some info → (f : ℕ) × IsSymbol sig f info
+symbol_of_name : (sig : Signature) (name : List ℕ) (info : SymInfo)
+    → symbol_named sig name ≡ Some info → (f : ℕ) × IsSymbol sig f info
 symbol_of_name sig name info is = by_number (number_of sig.symbols name) is where
-  by_number : (o : Option ℕ) → option_and_then (symbol_info sig) o ≡ Some info → (f : ℕ) × IsSymbol sig f info
+  by_number : (o : Option ℕ) → option_and_then (symbol_info sig) o ≡ Some info
+      → (f : ℕ) × IsSymbol sig f info
   by_number None e = absurd (let no_symbol : ⊥ = cc in no_symbol)
   by_number (Some f) e = (f, symbol_found sig f info (sym e))
 
 -- a pattern without faults has a sort
-pub faultless_sorted : (sig : Signature) (u : Unfolded) → IsSignature sig → IsApplicative u → pattern_faults sig u ≡ [] → sort_of sig u ≡ None → ⊥
-faultless_sorted sig (named_variable at name s) good form e none = variable_known sig at name s (e, form) none
-faultless_sorted sig (written_value at s text byte) good form e none = value_sort_known sig at byte s text (e, form) none
+pub faultless_sorted : (sig : Signature) (u : Unfolded) → IsSignature sig → IsApplicative u
+    → pattern_faults sig u ≡ [] → sort_of sig u ≡ None → ⊥
+faultless_sorted sig (named_variable at name s) good form e none =
+    variable_known sig at name s (e, form) none
+faultless_sorted sig (written_value at s text byte) good form e none =
+    value_sort_known sig at byte s text (e, form) none
 faultless_sorted sig (other_form at) good form e none = form
 faultless_sorted sig (applied_symbol at byte name ss us) good form e none =
-    let sound : IsSound sig name ss _ = (application_faultless sig at byte name ss us (e, form)).0 in
-    let numbers : (ns : List ℕ) × (sort_numbers sig ss ≡ Some ns) = some_or_none (sort_numbers sig ss) sound.sorts in
-    let symbol : (f : ℕ) × IsSymbol sig f sound.info = symbol_of_name sig name sound.info sound.named in
+    let sound : IsSound sig name ss _ =
+    (application_faultless sig at byte name ss us (e, form)).0 in
+    let numbers : (ns : List ℕ) × (sort_numbers sig ss ≡ Some ns) =
+    some_or_none (sort_numbers sig ss) sound.sorts in
+    let symbol : (f : ℕ) × IsSymbol sig f sound.info =
+    symbol_of_name sig name sound.info sound.named in
     let declared : IsDeclaration sig sound.info = good.declared symbol.0 sound.info symbol.1 in
     let count : (length ss == sound.info.params) ≡ true = eq-eqb _ _ sound.parameters in
     let whole : result_sort (Some sound.info) ss (Some numbers.0) ≡ None =
-    ap (λ o. result_sort o ss (Some numbers.0)) (sym sound.named) ∙ ap (λ o. result_sort (symbol_named sig name) ss o) (sym numbers.1) ∙ none in
+    ap (λ o. result_sort o ss (Some numbers.0)) (sym sound.named)
+    ∙ ap (λ o. result_sort (symbol_named sig name) ss o) (sym numbers.1) ∙ none in
     let at_result : sort_at numbers.0 sound.info.result ≡ None = rw count at whole in
-    result_there sig sound.info numbers.0 sound.info.result declared.result (sort_numbers-length sig ss numbers.0 numbers.1 ∙ sound.parameters) at_result
+    result_there sig sound.info numbers.0 sound.info.result declared.result
+    (sort_numbers-length sig ss numbers.0 numbers.1 ∙ sound.parameters) at_result

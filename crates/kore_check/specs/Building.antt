@@ -6,7 +6,8 @@ use Rattle.rule_core.specs.declared.signature.Signature.{Signature}
 use Rattle.rule_core.specs.declared.signature.SymKind.{SymKind}
 use Rattle.kore_check.specs.Folds.{Unfolded, Unfoldeds, no_more, and_more, IsApplicative}
 use Rattle.kore_check.specs.PatternFaults.{pattern_faults}
-use Rattle.kore_check.specs.PatternMeanings.{Means, AllMean, applied_pattern, with_variables, with_all_variables}
+use Rattle.kore_check.specs.PatternMeanings.{Means, AllMean, applied_pattern, with_variables}
+use Rattle.kore_check.specs.PatternMeanings.{with_all_variables}
 use Rattle.kore_check.specs.PatternMeanings.{IsNamed}
 use Rattle.kore_check.specs.PatternSorts.{symbol_named, sort_numbers}
 use Rattle.kore_check.specs.declared.build.Head.{Head}
@@ -38,31 +39,36 @@ AreFaultless sig (and_more u us) = IsFaultless sig u × AreFaultless sig us
 
 -- a symbol applied to two patterns
 abbrev pub pair_pattern : SymKind → ℕ → List ℕ → Pattern → Pattern → Option Pattern
-pair_pattern kind f ns p q = applied_pattern kind f ns (more_patterns p (more_patterns q no_pattern))
+pair_pattern kind f ns p q =
+    applied_pattern kind f ns (more_patterns p (more_patterns q no_pattern))
 
 -- a symbol folded over patterns from the left
-abbrev pub left_behind : SymKind → ℕ → List ℕ → Pattern → List Pattern → Option Pattern
-left_behind kind f ns p [] = Some p
-left_behind kind f ns p (q ∷ qs) = option_and_then (λ r. left_behind kind f ns r qs) (pair_pattern kind f ns p q)
+abbrev pub fold_left_from : SymKind → ℕ → List ℕ → Pattern → List Pattern → Option Pattern
+fold_left_from kind f ns p [] = Some p
+fold_left_from kind f ns p (q ∷ qs) =
+    option_and_then (λ r. fold_left_from kind f ns r qs) (pair_pattern kind f ns p q)
 
 abbrev pub left_pattern : SymKind → ℕ → List ℕ → List Pattern → Option Pattern
 left_pattern kind f ns [] = None
-left_pattern kind f ns (p ∷ ps) = left_behind kind f ns p ps
+left_pattern kind f ns (p ∷ ps) = fold_left_from kind f ns p ps
 
 -- a symbol folded over patterns from the right
 abbrev pub right_pattern : SymKind → ℕ → List ℕ → List Pattern → Option Pattern
 right_pattern kind f ns [] = None
 right_pattern kind f ns (p ∷ []) = Some p
-right_pattern kind f ns (p ∷ (q ∷ qs)) = option_and_then (pair_pattern kind f ns p) (right_pattern kind f ns (q ∷ qs))
+right_pattern kind f ns (p ∷ (q ∷ qs)) =
+    option_and_then (pair_pattern kind f ns p) (right_pattern kind f ns (q ∷ qs))
 
 -- What is built from a pattern. It is None only if the pattern has a fault or another form.
 -- Otherwise it is what the pattern means, and the pattern's new variables come after the old ones.
-abbrev pub Built : Signature → List (List ℕ × ℕ) → List (List ℕ × ℕ) → Unfolded → Option RulePat → Type 0
-Built sig old new u None = IsFaultless sig u → ⊥
-Built sig old new u (Some p) = (new ≡ with_variables sig old u) × MeansFrom sig new u (plain_pattern p)
-
-abbrev pub AllBuilt : Signature → List (List ℕ × ℕ) → List (List ℕ × ℕ) → Unfoldeds → Option (Vec RulePat Global)
+abbrev pub Built : Signature → List (List ℕ × ℕ) → List (List ℕ × ℕ) → Unfolded → Option RulePat
     → Type 0
+Built sig old new u None = IsFaultless sig u → ⊥
+Built sig old new u (Some p) =
+    (new ≡ with_variables sig old u) × MeansFrom sig new u (plain_pattern p)
+
+abbrev pub AllBuilt : Signature → List (List ℕ × ℕ) → List (List ℕ × ℕ) → Unfoldeds
+    → Option (Vec RulePat Global) → Type 0
 AllBuilt sig old new us None = AreFaultless sig us → ⊥
 AllBuilt sig old new us (Some ps) = (new ≡ with_all_variables sig old us)
     × AllMeanFrom sig new us (plain_patterns ps.items)

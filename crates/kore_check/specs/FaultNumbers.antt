@@ -40,12 +40,18 @@ as_refusal f = refusal_of f.kind f.at
 
 -- the error is the first of these faults, or that memory ran out
 abbrev pub IsRefusal : List Fault → CheckFault → Type 0
-IsRefusal faults (answer.Deep at) = IsFirstBy ByByte (Contains faults) (Some (record { number = 3; byte = at }))
-IsRefusal faults (answer.UnknownSort at) = IsFirstBy ByByte (Contains faults) (Some (record { number = 6; byte = at }))
+IsRefusal faults (answer.Deep at) =
+    IsFirstBy ByByte (Contains faults) (Some (record { number = 3; byte = at }))
+IsRefusal faults (answer.UnknownSort at) =
+    IsFirstBy ByByte (Contains faults) (Some (record { number = 6; byte = at }))
 IsRefusal faults (answer.UnknownSymbol at)
     = IsFirstBy ByByte (Contains faults) (Some (record { number = 7; byte = at }))
-IsRefusal faults (answer.Arity at) = IsFirstBy ByByte (Contains faults) (Some (record { number = 8; byte = at }))
-IsRefusal faults (answer.SortClash at) = IsFirstBy ByByte (Contains faults) (Some (record { number = 9; byte = at }))
-IsRefusal faults (answer.BadValue at) = IsFirstBy ByByte (Contains faults) (Some (record { number = 11; byte = at }))
-IsRefusal faults (answer.NoKind at) = IsFirstBy ByByte (Contains faults) (Some (record { number = 25; byte = at }))
+IsRefusal faults (answer.Arity at) =
+    IsFirstBy ByByte (Contains faults) (Some (record { number = 8; byte = at }))
+IsRefusal faults (answer.SortClash at) =
+    IsFirstBy ByByte (Contains faults) (Some (record { number = 9; byte = at }))
+IsRefusal faults (answer.BadValue at) =
+    IsFirstBy ByByte (Contains faults) (Some (record { number = 11; byte = at }))
+IsRefusal faults (answer.NoKind at) =
+    IsFirstBy ByByte (Contains faults) (Some (record { number = 25; byte = at }))
 IsRefusal faults answer.Memory = Unit {0}

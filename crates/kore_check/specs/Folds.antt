@@ -2,8 +2,10 @@
 -- `f{}(f{}(a,b),c)`, and `\right-assoc{}(f{}(a,b,c))` is `f{}(a,f{}(b,c))`. A fold of one argument
 -- is that argument.
 use Rattle.std.specs.Prelude.{◌+◌, ℕ, Bool, true, false, List, max}
-use Rattle.kore_text.specs.Trees.{SortTree, PatternTree, element_variable, set_variable, string, symbol_applied}
-use Rattle.kore_text.specs.Trees.{connected, binding, domain_value, folded, PatternTrees, no_patterns, pattern_then}
+use Rattle.kore_text.specs.Trees.{SortTree, PatternTree, element_variable, set_variable, string}
+use Rattle.kore_text.specs.Trees.{symbol_applied}
+use Rattle.kore_text.specs.Trees.{connected, binding, domain_value, folded, PatternTrees}
+use Rattle.kore_text.specs.Trees.{no_patterns, pattern_then}
 use Rattle.kore_text.specs.Trees.{listed_sorts}
 
 mutual
@@ -23,11 +25,11 @@ mutual
     and_more : Unfolded → Unfoldeds → Unfoldeds
 
 -- the byte of a pattern
-abbrev pub place : Unfolded → ℕ
-place (named_variable at name s) = at
-place (written_value at s text byte) = at
-place (applied_symbol at byte name ss ps) = at
-place (other_form at) = at
+abbrev pub unfolded_byte : Unfolded → ℕ
+unfolded_byte (named_variable at name s) = at
+unfolded_byte (written_value at s text byte) = at
+unfolded_byte (applied_symbol at byte name ss ps) = at
+unfolded_byte (other_form at) = at
 
 -- the pattern, with this byte
 abbrev pub standing_at : ℕ → Unfolded → Unfolded
@@ -43,12 +45,14 @@ applied_to_two byte name ss p q = applied_symbol byte byte name ss (and_more p (
 -- f applied to the first pattern and the next, f applied to that and the one after it, and so on
 abbrev pub folded_left : ℕ → List ℕ → List SortTree → Unfolded → Unfoldeds → Unfolded
 folded_left byte name ss p no_more = p
-folded_left byte name ss p (and_more q qs) = folded_left byte name ss (applied_to_two byte name ss p q) qs
+folded_left byte name ss p (and_more q qs) =
+    folded_left byte name ss (applied_to_two byte name ss p q) qs
 
 -- f applied to the first pattern and to the fold of the others from the right
 abbrev pub folded_right : ℕ → List ℕ → List SortTree → Unfolded → Unfoldeds → Unfolded
 folded_right byte name ss p no_more = p
-folded_right byte name ss p (and_more q qs) = applied_to_two byte name ss p (folded_right byte name ss q qs)
+folded_right byte name ss p (and_more q qs) =
+    applied_to_two byte name ss p (folded_right byte name ss q qs)
 
 -- the fold of a symbol over patterns, from the left or from the right
 abbrev pub fold_of : Bool → ℕ → List ℕ → List SortTree → Unfoldeds → Unfolded
@@ -68,7 +72,8 @@ abbrev mutual
   unfolded (element_variable at name s) = named_variable at name s
   unfolded (set_variable at name s) = other_form at
   unfolded (string at text) = other_form at
-  unfolded (symbol_applied at name ss ps) = applied_symbol at at name (listed_sorts ss) (all_unfolded ps)
+  unfolded (symbol_applied at name ss ps) =
+      applied_symbol at at name (listed_sorts ss) (all_unfolded ps)
   unfolded (connected at op ss ps) = other_form at
   unfolded (binding at binder ss x p) = other_form at
   unfolded (domain_value at s text byte) = written_value at s text byte
@@ -79,7 +84,8 @@ abbrev mutual
   inner_fold left (element_variable at name s) = other_form at
   inner_fold left (set_variable at name s) = other_form at
   inner_fold left (string at text) = other_form at
-  inner_fold left (symbol_applied at name ss ps) = fold_of left at name (listed_sorts ss) (all_unfolded ps)
+  inner_fold left (symbol_applied at name ss ps) =
+      fold_of left at name (listed_sorts ss) (all_unfolded ps)
   inner_fold left (connected at op ss ps) = only_of at (all_unfolded ps)
   inner_fold left (binding at binder ss x p) = other_form at
   inner_fold left (domain_value at s text byte) = other_form at

@@ -1,5 +1,6 @@
 -- All the faults of a pattern. `IsFirstOf` says which of them is the first.
-use Rattle.std.specs.Prelude.{◌==◌, ◌&&◌, not, ℕ, Bool, true, false, List, [], ◌∷◌, ◌++◌, length, drop, Option, Some}
+use Rattle.std.specs.Prelude.{◌==◌, ◌&&◌, not, ℕ, Bool, true, false, List, [], ◌∷◌, ◌++◌, length}
+use Rattle.std.specs.Prelude.{drop, Option, Some}
 use Rattle.std.specs.Prelude.{None, is_some, flat_map, nat_lt}
 use Rattle.std.specs.Option.{option_and_then}
 use Rattle.kore_text.specs.Trees.{SortTree}
@@ -8,14 +9,17 @@ use Rattle.rule_core.specs.declared.signature.Signature.{Signature}
 use Rattle.rule_core.specs.declared.signature.SortKind.{SortKind}
 use Rattle.rule_core.specs.declared.signature.SymInfo.{SymInfo}
 use Rattle.rule_core.specs.declared.signature.SymKind.{SymKind}
-use Rattle.rule_core.specs.declared.signature.SymKind.TheVariants.{Injection, Ctor, Equations, Hooked, Closed, NoKind}
+use Rattle.rule_core.specs.declared.signature.SymKind.TheVariants.{Injection, Ctor, Equations}
+use Rattle.rule_core.specs.declared.signature.SymKind.TheVariants.{Hooked, Closed, NoKind}
 use Rattle.rule_core.specs.declared.signature.SortRef.{SortRef}
 use Rattle.kore_sig.specs.FirstFault.{Fault, when, unless}
 use Rattle.kore_sig.specs.SortReferences.{sort_number, sort_place}
-use Rattle.kore_check.specs.Folds.{Unfolded, named_variable, written_value, applied_symbol, other_form, Unfoldeds}
-use Rattle.kore_check.specs.Folds.{no_more, and_more, place, count, height}
+use Rattle.kore_check.specs.Folds.{Unfolded, named_variable, written_value, applied_symbol}
+use Rattle.kore_check.specs.Folds.{other_form, Unfoldeds}
+use Rattle.kore_check.specs.Folds.{no_more, and_more, unfolded_byte, count, height}
 use Rattle.kore_check.specs.ValueTexts.{value_of_text}
-use Rattle.kore_check.specs.PatternSorts.{sort_kind, symbol_named, sort_numbers, sort_of, wanted_sort, places_of}
+use Rattle.kore_check.specs.PatternSorts.{sort_kind, symbol_named, sort_numbers, sort_of}
+use Rattle.kore_check.specs.PatternSorts.{wanted_sort, places_of}
 
 -- 6 at the sort's name: the sort is not declared, has arguments, or is a sort parameter
 abbrev pub sort_faults : Signature → SortTree → List Fault
@@ -51,9 +55,9 @@ is_injection Closed = false
 is_injection NoKind = false
 
 -- the first sort of an injection is not below the second
-abbrev pub goes_astray : Signature → Option (List ℕ) → Bool
-goes_astray sig (Some (a ∷ (b ∷ []))) = not (is_below sig.subsorts a b)
-goes_astray sig ns = false
+abbrev pub is_bad_injection : Signature → Option (List ℕ) → Bool
+is_bad_injection sig (Some (a ∷ (b ∷ []))) = not (is_below sig.subsorts a b)
+is_bad_injection sig ns = false
 
 -- The faults of a symbol. 7: it is not declared. 8: it has a wrong number of sort arguments or of
 -- arguments. 9: it is an injection whose first sort is not below the second. 25: it has no kind.
@@ -61,7 +65,7 @@ abbrev pub symbol_faults : Signature → ℕ → Option SymInfo → List SortTre
 symbol_faults sig byte None ss args = record { number = 7; byte = byte } ∷ []
 symbol_faults sig byte (Some info) ss args =
     unless ((length ss == info.params) && (args == length info.args.items)) 8 byte
-    ++ when (is_injection info.kind && goes_astray sig (sort_numbers sig ss)) 9 byte
+    ++ when (is_injection info.kind && is_bad_injection sig (sort_numbers sig ss)) 9 byte
     ++ when (has_no_kind info.kind) 25 byte
 
 -- the sort that the first of these places wants
@@ -74,7 +78,8 @@ abbrev mutual
   pub pattern_faults : Signature → Unfolded → List Fault
   pattern_faults sig (named_variable at name s) = sort_faults sig s
   pattern_faults sig (written_value at s text byte) =
-      sort_faults sig s ++ text_faults (option_and_then (sort_kind sig) (sort_number sig.sorts s)) text byte
+      sort_faults sig s
+      ++ text_faults (option_and_then (sort_kind sig) (sort_number sig.sorts s)) text byte
   pattern_faults sig (applied_symbol at byte name ss ps) =
       flat_map (sort_faults sig) ss
       ++ (symbol_faults sig byte (symbol_named sig name) ss (count ps)
@@ -87,7 +92,7 @@ abbrev mutual
   argument_faults sig ss refs no_more = []
   argument_faults sig ss refs (and_more p ps) =
       pattern_faults sig p
-      ++ (clash_faults (place p) (sort_of sig p) (first_wanted sig ss refs)
+      ++ (clash_faults (unfolded_byte p) (sort_of sig p) (first_wanted sig ss refs)
       ++ argument_faults sig ss (drop 1 refs) ps)
 
 -- the greatest height that is allowed for a pattern of a rule and for an initial term
@@ -96,4 +101,4 @@ most_height = 500
 
 -- all faults of a pattern: those above, and 3 at the pattern if it is too high
 abbrev pub all_faults : Signature → Unfolded → List Fault
-all_faults sig p = when (nat_lt most_height (height p)) 3 (place p) ++ pattern_faults sig p
+all_faults sig p = when (nat_lt most_height (height p)) 3 (unfolded_byte p) ++ pattern_faults sig p

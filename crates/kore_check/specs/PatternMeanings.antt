@@ -1,22 +1,26 @@
 -- The rule pattern that a Kore pattern means, and the pattern's variables. Variables are numbered
 -- by name and sort, in the order of their first occurrence.
-use Rattle.std.specs.Prelude.{◌≡◌, ◌==◌, ◌&&◌, ◌++◌, ℕ, List, [], ◌∷◌, Option, Some, None, is_some, map, if◌then◌else◌}
+use Rattle.std.specs.Prelude.{◌≡◌, ◌==◌, ◌&&◌, ◌++◌, ℕ, List, [], ◌∷◌, Option, Some, None, is_some}
+use Rattle.std.specs.Prelude.{map, if◌then◌else◌}
 use Rattle.std.specs.Prelude.{string_bytes}
 use Rattle.std.specs.List.{position_from}
 use Rattle.std.specs.Str.{bytes_eq}
 use Rattle.std.specs.Option.{option_and_then}
 use Rattle.kore_text.specs.Trees.{SortTree}
-use Rattle.term_core.specs.Patterns.{Pattern, Patterns, variable, domain_value, application, injection, call}
+use Rattle.term_core.specs.Patterns.{Pattern, Patterns, variable, domain_value, application}
+use Rattle.term_core.specs.Patterns.{injection, call}
 use Rattle.term_core.specs.Patterns.{no_pattern, more_patterns}
 use Rattle.rule_core.specs.Named.{number_of}
 use Rattle.rule_core.specs.declared.rules.VarInfo.{VarInfo}
 use Rattle.rule_core.specs.declared.signature.Signature.{Signature}
 use Rattle.rule_core.specs.declared.signature.SymInfo.{SymInfo}
 use Rattle.rule_core.specs.declared.signature.SymKind.{SymKind}
-use Rattle.rule_core.specs.declared.signature.SymKind.TheVariants.{Injection, Ctor, Equations, Hooked, Closed, NoKind}
+use Rattle.rule_core.specs.declared.signature.SymKind.TheVariants.{Injection, Ctor, Equations}
+use Rattle.rule_core.specs.declared.signature.SymKind.TheVariants.{Hooked, Closed, NoKind}
 use Rattle.term_core.specs.Terms.{DomainValue}
 use Rattle.kore_sig.specs.SortReferences.{sort_number}
-use Rattle.kore_check.specs.Folds.{Unfolded, named_variable, written_value, applied_symbol, other_form, Unfoldeds}
+use Rattle.kore_check.specs.Folds.{Unfolded, named_variable, written_value, applied_symbol}
+use Rattle.kore_check.specs.Folds.{other_form, Unfoldeds}
 use Rattle.kore_check.specs.Folds.{no_more, and_more}
 use Rattle.kore_check.specs.ValueTexts.{value_of_text}
 use Rattle.kore_check.specs.PatternSorts.{sort_kind, symbol_info, sort_numbers}
@@ -27,24 +31,28 @@ named_sorts vars = map (λ (v : VarInfo). (string_bytes v.name, v.sort.0)) vars
 
 -- the number of the variable with this name and this sort, if there is one
 abbrev pub variable_number : List (List ℕ × ℕ) → List ℕ → ℕ → Option ℕ
-variable_number vars name s = position_from (λ (v : List ℕ × ℕ). bytes_eq name v.0 && (s == v.1)) 0 vars
+variable_number vars name s =
+    position_from (λ (v : List ℕ × ℕ). bytes_eq name v.0 && (s == v.1)) 0 vars
 
 -- the variables, with this one at the end if it is new and its sort is declared
 abbrev pub with_variable : List (List ℕ × ℕ) → List ℕ → Option ℕ → List (List ℕ × ℕ)
 with_variable vars name None = vars
-with_variable vars name (Some s) = if is_some (variable_number vars name s) then vars else vars ++ (name, s) ∷ []
+with_variable vars name (Some s) =
+    if is_some (variable_number vars name s) then vars else vars ++ (name, s) ∷ []
 
 -- the variables, with the new ones of the pattern at the end
 abbrev mutual
   pub with_variables : Signature → List (List ℕ × ℕ) → Unfolded → List (List ℕ × ℕ)
-  with_variables sig vars (named_variable at name s) = with_variable vars name (sort_number sig.sorts s)
+  with_variables sig vars (named_variable at name s) =
+      with_variable vars name (sort_number sig.sorts s)
   with_variables sig vars (written_value at s text byte) = vars
   with_variables sig vars (applied_symbol at byte name ss ps) = with_all_variables sig vars ps
   with_variables sig vars (other_form at) = vars
 
   pub with_all_variables : Signature → List (List ℕ × ℕ) → Unfoldeds → List (List ℕ × ℕ)
   with_all_variables sig vars no_more = vars
-  with_all_variables sig vars (and_more p ps) = with_all_variables sig (with_variables sig vars p) ps
+  with_all_variables sig vars (and_more p ps) =
+      with_all_variables sig (with_variables sig vars p) ps
 
 -- the symbol with this name is declared, and has this number and this declaration
 abbrev pub IsNamed : Signature → List ℕ → ℕ → SymInfo → Type 0
@@ -70,19 +78,23 @@ mutual
   -- means the variable with its number. A domain value means the value of its text in its sort. An
   -- application means its symbol applied to the meanings of its arguments.
   pub data Means (sig : Signature) (vars : List (List ℕ × ℕ)) : Unfolded → Pattern → Type 0 where
-    by_variable : {at x s : ℕ} {name : List ℕ} {tree : SortTree} → sort_number sig.sorts tree ≡ Some s →
-        variable_number vars name s ≡ Some x → Means sig vars (named_variable at name tree) (variable x)
+    by_variable : {at x s : ℕ} {name : List ℕ} {tree : SortTree}
+        → sort_number sig.sorts tree ≡ Some s → variable_number vars name s ≡ Some x
+        → Means sig vars (named_variable at name tree) (variable x)
     by_value : {at s byte : ℕ} {text : List ℕ} {tree : SortTree} {v : DomainValue} →
         sort_number sig.sorts tree ≡ Some s →
         option_and_then (λ kind. value_of_text kind text) (sort_kind sig s) ≡ Some v →
         Means sig vars (written_value at tree text byte) (domain_value s v)
-    by_symbol : {at byte f : ℕ} {name : List ℕ} {ss : List SortTree} {us : Unfoldeds} {ns : List ℕ} {ps : Patterns}
+    by_symbol : {at byte f : ℕ} {name : List ℕ} {ss : List SortTree} {us : Unfoldeds} {ns : List ℕ}
+        {ps : Patterns}
         {p : Pattern} {info : SymInfo} →
         IsNamed sig name f info → sort_numbers sig ss ≡ Some ns → AllMean sig vars us ps →
-        applied_pattern info.kind f ns ps ≡ Some p → Means sig vars (applied_symbol at byte name ss us) p
+        applied_pattern info.kind f ns ps ≡ Some p
+        → Means sig vars (applied_symbol at byte name ss us) p
 
   -- the same for patterns in order
-  pub data AllMean (sig : Signature) (vars : List (List ℕ × ℕ)) : Unfoldeds → Patterns → Type 0 where
+  pub data AllMean (sig : Signature) (vars : List (List ℕ × ℕ)) : Unfoldeds → Patterns
+      → Type 0 where
     none_mean : AllMean sig vars no_more no_pattern
     more_mean : {u : Unfolded} {us : Unfoldeds} {p : Pattern} {ps : Patterns} → Means sig vars u p →
         AllMean sig vars us ps → AllMean sig vars (and_more u us) (more_patterns p ps)

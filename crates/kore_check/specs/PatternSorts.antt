@@ -1,6 +1,7 @@
 -- The sorts of patterns (Kore language document, "Well-formed patterns"). Only the head of a
 -- pattern decides its sort.
-use Rattle.std.specs.Prelude.{◌==◌, ℕ, List, [], ◌∷◌, length, slice_get, Option, Some, None, option_map, if◌then◌else◌}
+use Rattle.std.specs.Prelude.{◌==◌, ℕ, List, [], ◌∷◌, length, slice_get, Option, Some, None}
+use Rattle.std.specs.Prelude.{option_map, if◌then◌else◌}
 use Rattle.std.specs.Option.{option_and_then}
 use Rattle.kore_text.specs.Trees.{SortTree}
 use Rattle.rule_core.specs.Named.{number_of}
@@ -12,7 +13,8 @@ use Rattle.rule_core.specs.declared.signature.SymInfo.{SymInfo}
 use Rattle.rule_core.specs.declared.signature.SortRef.{SortRef}
 use Rattle.rule_core.specs.declared.signature.SortRef.TheVariants.{Param, Sort}
 use Rattle.kore_sig.specs.SortReferences.{sort_number}
-use Rattle.kore_check.specs.Folds.{Unfolded, named_variable, written_value, applied_symbol, other_form}
+use Rattle.kore_check.specs.Folds.{Unfolded, named_variable, written_value, applied_symbol}
+use Rattle.kore_check.specs.Folds.{other_form}
 
 -- the kind of the declared sort with this number
 abbrev pub sort_kind : Signature → ℕ → Option SortKind
@@ -42,12 +44,14 @@ sort_numbers sig (s ∷ ss) = number_then (sort_number sig.sorts s) (sort_number
 abbrev pub result_sort : Option SymInfo → List SortTree → Option (List ℕ) → Option ℕ
 result_sort None ss ns = None
 result_sort (Some info) ss None = None
-result_sort (Some info) ss (Some ns) = if length ss == info.params then sort_at ns info.result else None
+result_sort (Some info) ss (Some ns) =
+    if length ss == info.params then sort_at ns info.result else None
 
 abbrev pub sort_of : Signature → Unfolded → Option ℕ
 sort_of sig (named_variable at name s) = sort_number sig.sorts s
 sort_of sig (written_value at s text byte) = sort_number sig.sorts s
-sort_of sig (applied_symbol at byte name ss ps) = result_sort (symbol_named sig name) ss (sort_numbers sig ss)
+sort_of sig (applied_symbol at byte name ss ps) =
+    result_sort (symbol_named sig name) ss (sort_numbers sig ss)
 sort_of sig (other_form at) = None
 
 -- the sort that an argument must have; a parameter of the symbol is the sort argument with its

@@ -15,5 +15,7 @@ variable_sorts vars = map (λ (v : List ℕ × ℕ). v.1) vars
 
 abbrev pub MeaningsAreSorted : Type 0
 MeaningsAreSorted =
-    (sig : Signature) (vars : List (List ℕ × ℕ)) (u : Unfolded) (p : Pattern) (s : ℕ) → IsSignature sig →
-    pattern_faults sig u ≡ [] → Means sig vars u p → sort_of sig u ≡ Some s → HasSort sig (variable_sorts vars) p s
+    (sig : Signature) (vars : List (List ℕ × ℕ)) (u : Unfolded) (p : Pattern) (s : ℕ)
+    → IsSignature sig →
+    pattern_faults sig u ≡ [] → Means sig vars u p → sort_of sig u ≡ Some s
+    → HasSort sig (variable_sorts vars) p s

@@ -2,22 +2,24 @@
 -- `BOOL.Bool`). The text of an integer of 128 bits is an optional sign and digits. The text of a
 -- truth value is its name. A sort of another kind takes any text. So `007` and `+7` are 7, and `-0`
 -- is 0.
-use Rattle.std.specs.Prelude.{◌==◌, ◌&&◌, ◌+◌, ◌*◌, ◌-◌, ◌^◌, ℕ, ℤ, pos, neg_ℤ, Bool, true, false, List, [], ◌∷◌}
-use Rattle.std.specs.Prelude.{length, Option, Some, None, option_map, if◌then◌else◌, codes, nat_lt, nat_le}
+use Rattle.std.specs.Prelude.{◌==◌, ◌&&◌, ◌+◌, ◌*◌, ◌-◌, ◌^◌, ℕ, ℤ, pos, neg_ℤ, Bool, true, false}
+use Rattle.std.specs.Prelude.{List, [], ◌∷◌}
+use Rattle.std.specs.Prelude.{length, Option, Some, None, option_map, if◌then◌else◌, codes, nat_lt}
+use Rattle.std.specs.Prelude.{nat_le}
 use Rattle.std.specs.Str.{is_utf8, bytes_eq, all_ascii_digits}
 use Rattle.term_core.specs.Terms.{DomainValue, integer, truth, text}
 use Rattle.rule_core.specs.declared.signature.SortKind.{SortKind}
 use Rattle.rule_core.specs.declared.signature.SortKind.TheVariants as kind
 
 -- the number whose digits are those of n and then these
-abbrev pub digits_behind : ℕ → List ℕ → ℕ
-digits_behind n [] = n
-digits_behind n (b ∷ bytes) = digits_behind (n * 10 + (b - 48)) bytes
+abbrev pub append_digits : ℕ → List ℕ → ℕ
+append_digits n [] = n
+append_digits n (b ∷ bytes) = append_digits (n * 10 + (b - 48)) bytes
 
 -- the number that one or more digits stand for; None for another text
 abbrev pub number_of_digits : List ℕ → Option ℕ
 number_of_digits bytes =
-    if all_ascii_digits bytes && nat_lt 0 (length bytes) then Some (digits_behind 0 bytes) else None
+    if all_ascii_digits bytes && nat_lt 0 (length bytes) then Some (append_digits 0 bytes) else None
 
 -- the number as an integer, if it is less than 2^127
 abbrev pub not_negative : Option ℕ → Option ℤ

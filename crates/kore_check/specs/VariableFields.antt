@@ -15,9 +15,11 @@ number_under m name s = get_by (λ k. key_cmp (name, s) (key_of k)) m
 
 -- no two variables have the same name and the same sort
 abbrev pub AreNumbered : List (List ℕ × ℕ) → Type 0
-AreNumbered vars = (i : ℕ) (v : List ℕ × ℕ) → slice_get vars i ≡ Some v → variable_number vars v.0 v.1 ≡ Some i
+AreNumbered vars =
+    (i : ℕ) (v : List ℕ × ℕ) → slice_get vars i ≡ Some v → variable_number vars v.0 v.1 ≡ Some i
 
 -- the variables are distinct, and the map has exactly the number of each of them
 pub record IsIndexed (v : Inside) : Type 0 where
   pub distinct : AreNumbered (variables_of v)
-  pub numbered : (name : List ℕ) (s : ℕ) → number_under v.numbers name s ≡ variable_number (variables_of v) name s
+  pub numbered : (name : List ℕ) (s : ℕ)
+      → number_under v.numbers name s ≡ variable_number (variables_of v) name s

@@ -21,7 +21,8 @@ key_cmp_total = then_total (on_total (λ (k : List ℕ × ℕ). k.0) nat_list_cm
     (on_total (λ (k : List ℕ × ℕ). k.1) nat_cmp_total)
 
 -- a key that is not greater than y is less than each key that is greater than y
-pub key_cmp-below : (x y z : List ℕ × ℕ) → IsTrue (is_le (key_cmp x y)) → key_cmp y z ≡ Less → key_cmp x z ≡ Less
+pub key_cmp-below : (x y z : List ℕ × ℕ) → IsTrue (is_le (key_cmp x y)) → key_cmp y z ≡ Less
+    → key_cmp x z ≡ Less
 key_cmp-below x y z le lt = by_case (key_cmp x y) refl where
   by_case : (r : Ordering) → key_cmp x y ≡ r → key_cmp x z ≡ Less
   by_case Less e = key_cmp_total.trans x y z e lt

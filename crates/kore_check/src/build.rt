@@ -1,15 +1,17 @@
 // The rule pattern that a pattern means.
 ghost use Rattle.std.specs.Prelude.{◌≡◌, ℕ, List, map, IfOk, option_map};
 ghost use Rattle.kore_text.specs.Trees.{pattern_trees};
-ghost use Rattle.kore_ast.specs.Plain.{plain_sort, plain_pattern as plain_tree};
+ghost use Rattle.kore_ast.specs.Plain.{plain_sort, pattern_tree as plain_tree};
 ghost use Rattle.term_core.specs.RulePatterns.{plain_pattern, sort_numbers as numbers_of};
 ghost use Rattle.term_core.specs.PatternLists.{plain_patterns};
 ghost use Rattle.rule_core.specs.WellSorted.{IsSignature};
-ghost use Rattle.kore_check.specs.Folds.{named_variable, written_value, unfolded, all_unfolded, inner_fold, only_of};
+ghost use Rattle.kore_check.specs.Folds.{named_variable, written_value, unfolded, all_unfolded};
+ghost use Rattle.kore_check.specs.Folds.{inner_fold, only_of};
 ghost use Rattle.kore_check.specs.PatternSorts.{sort_numbers};
 ghost use Rattle.kore_check.specs.PatternMeanings.{applied_pattern, injected_only};
 ghost use Rattle.kore_sig.specs.Signatures.{IsNumbered};
-ghost use Rattle.kore_check.specs.Building.{Built, AllBuilt, Extends, IsHead, left_pattern, right_pattern};
+ghost use Rattle.kore_check.specs.Building.{Built, AllBuilt, Extends, IsHead, left_pattern};
+ghost use Rattle.kore_check.specs.Building.{right_pattern};
 
 use crate::Variables;
 use crate::sorts::declared_sort;
@@ -78,7 +80,8 @@ fn all_declared(
 // exactly two sort arguments and one pattern.
 fn applied(alloc: Global, head: &Head, args: Vec<RulePat>) -> Result<Option<RulePat>, AllocError>
     ensures { IfOk result (λ found. option_map plain_pattern found
-        ≡ applied_pattern head.now.kind head.now.sym.0 (numbers_of head.now.sorts.items) (plain_patterns args.items)) }
+        ≡ applied_pattern head.now.kind head.now.sym.0 (numbers_of head.now.sorts.items)
+        (plain_patterns args.items)) }
 {
     match head.kind {
         SymKind::Injection => injected(alloc, head, args),
@@ -118,7 +121,8 @@ fn build_variable(
 ) -> Result<Option<RulePat>, AllocError>
     requires { IsNumbered sig.now }
     ensures built { IfOk result (λ found. (at : ℕ)
-        → Built sig.now vars.old vars.new (named_variable at name.now (plain_sort sort.now)) found) }
+        → Built sig.now vars.old vars.new (named_variable at name.now (plain_sort sort.now))
+        found) }
     ensures grows { Extends vars.old vars.new }
 {
     let Some(sort) = declared_sort(sig, sort) else {
@@ -194,7 +198,8 @@ fn build_all(
     requires numbered { IsNumbered sig.now }
     requires signature { IsSignature sig.now }
     ensures built { IfOk result
-        (AllBuilt sig.now vars.old vars.new (all_unfolded (pattern_trees (map plain_tree args.now)))) }
+        (AllBuilt sig.now vars.old vars.new
+        (all_unfolded (pattern_trees (map plain_tree args.now)))) }
     ensures grows { Extends vars.old vars.new }
 {
     let mut pats = Vec::with_capacity(alloc, args.len())?;
@@ -219,7 +224,8 @@ fn build_fold(
 ) -> Result<Option<RulePat>, AllocError>
     requires numbered { IsNumbered sig.now }
     requires signature { IsSignature sig.now }
-    ensures built { IfOk result (Built sig.now vars.old vars.new (inner_fold left (plain_tree inner.now))) }
+    ensures built { IfOk result
+        (Built sig.now vars.old vars.new (inner_fold left (plain_tree inner.now))) }
     ensures grows { Extends vars.old vars.new }
 {
     match &inner.form {
@@ -256,7 +262,8 @@ fn build_only(
     requires numbered { IsNumbered sig.now }
     requires signature { IsSignature sig.now }
     ensures built { IfOk result (λ found. (at : ℕ)
-        → Built sig.now vars.old vars.new (only_of at (all_unfolded (pattern_trees (map plain_tree args.now)))) found) }
+        → Built sig.now vars.old vars.new
+        (only_of at (all_unfolded (pattern_trees (map plain_tree args.now)))) found) }
     ensures grows { Extends vars.old vars.new }
 {
     if args.len() != 1 {
@@ -272,7 +279,8 @@ fn folded_left(
     args: Vec<RulePat>,
 ) -> Result<Option<RulePat>, AllocError>
     ensures { IfOk result (λ found. option_map plain_pattern found
-        ≡ left_pattern head.now.kind head.now.sym.0 (numbers_of head.now.sorts.items) (map plain_pattern args.items)) }
+        ≡ left_pattern head.now.kind head.now.sym.0 (numbers_of head.now.sorts.items)
+        (map plain_pattern args.items)) }
 {
     let mut rest = args;
     rest.reverse();
@@ -295,7 +303,8 @@ fn folded_right(
     args: Vec<RulePat>,
 ) -> Result<Option<RulePat>, AllocError>
     ensures { IfOk result (λ found. option_map plain_pattern found
-        ≡ right_pattern head.now.kind head.now.sym.0 (numbers_of head.now.sorts.items) (map plain_pattern args.items)) }
+        ≡ right_pattern head.now.kind head.now.sym.0 (numbers_of head.now.sorts.items)
+        (map plain_pattern args.items)) }
 {
     let mut rest = args;
     let Some(mut made) = rest.pop() else {

@@ -1,7 +1,7 @@
 // The faults of a pattern, in one pass over it.
 ghost use Rattle.std.specs.Prelude.{◌≡◌, ◌≤◌, ℕ, length, map, drop, option_map, option_copied};
 ghost use Rattle.kore_text.specs.Trees.{pattern_trees};
-ghost use Rattle.kore_ast.specs.Plain.{plain_sort, plain_pattern};
+ghost use Rattle.kore_ast.specs.Plain.{plain_sort, pattern_tree};
 ghost use Rattle.kore_check.specs.Folds.{unfolded, inner_fold, only_of, all_unfolded};
 ghost use Rattle.kore_check.specs.PatternSorts.{sort_of, places_of};
 ghost use Rattle.kore_check.specs.PatternFaults.{pattern_faults, argument_faults, first_wanted};
@@ -31,8 +31,9 @@ pub(crate) struct FoldSorts {
 #[cycle(check)]
 pub(crate) fn check(sig: &Signature, pat: &Pat, first: &mut Option<PatternFault>) -> Option<SortId>
     requires { IsNumbered sig.now }
-    ensures sort { option_map sort_no result ≡ sort_of sig.now (unfolded (plain_pattern pat.now)) }
-    ensures first { kept_fault first.new ≡ after first.old (pattern_faults sig.now (unfolded (plain_pattern pat.now))) }
+    ensures sort { option_map sort_no result ≡ sort_of sig.now (unfolded (pattern_tree pat.now)) }
+    ensures first { kept_fault first.new
+        ≡ after first.old (pattern_faults sig.now (unfolded (pattern_tree pat.now))) }
 {
     match &pat.form {
         PatForm::Elem(_, sort) => check_sort(sig, sort, first),
@@ -70,7 +71,7 @@ fn check_arguments(
     requires { IsNumbered sig.now }
     ensures { kept_fault first.new ≡ after first.old
         (argument_faults sig.now (map plain_sort sorts.now) places.now
-        (all_unfolded (pattern_trees (map plain_pattern args.now)))) }
+        (all_unfolded (pattern_trees (map pattern_tree args.now)))) }
 {
     for i in 0..args.len() {
         let arg = &args[i];
@@ -90,9 +91,10 @@ fn check_fold(
     first: &mut Option<PatternFault>,
 ) -> Option<SortId>
     requires { IsNumbered sig.now }
-    ensures sort { option_map sort_no result ≡ sort_of sig.now (inner_fold left (plain_pattern inner.now)) }
+    ensures sort { option_map sort_no result
+        ≡ sort_of sig.now (inner_fold left (pattern_tree inner.now)) }
     ensures first { kept_fault first.new
-        ≡ after first.old (pattern_faults sig.now (inner_fold left (plain_pattern inner.now))) }
+        ≡ after first.old (pattern_faults sig.now (inner_fold left (pattern_tree inner.now))) }
 {
     match &inner.form {
         PatForm::App(name, sorts, args) => {
@@ -130,10 +132,10 @@ fn check_fold(
 fn check_only(args: &[Pat], sig: &Signature, first: &mut Option<PatternFault>) -> Option<SortId>
     requires { IsNumbered sig.now }
     ensures sort { (at : ℕ) → option_map sort_no result
-        ≡ sort_of sig.now (only_of at (all_unfolded (pattern_trees (map plain_pattern args.now)))) }
+        ≡ sort_of sig.now (only_of at (all_unfolded (pattern_trees (map pattern_tree args.now)))) }
     ensures first { (at : ℕ) → kept_fault first.new
         ≡ after first.old (pattern_faults sig.now
-        (only_of at (all_unfolded (pattern_trees (map plain_pattern args.now))))) }
+        (only_of at (all_unfolded (pattern_trees (map pattern_tree args.now))))) }
 {
     if args.len() != 1 {
         return None;
@@ -154,7 +156,7 @@ fn check_folded(
     requires some { 2 ≤ length args.now }
     ensures { kept_fault first.new
         ≡ after first.old (folded_faults sig.now left sorts
-        (all_unfolded (pattern_trees (map plain_pattern args.now)))) }
+        (all_unfolded (pattern_trees (map pattern_tree args.now)))) }
 {
     let arg = &args[0];
     let own = check(sig, arg, first);
@@ -178,7 +180,8 @@ fn check_next(
     sorts: FoldSorts,
     first: &mut Option<PatternFault>,
 )
-    ensures { kept_fault first.new ≡ after first.old (next_faults is_last left at (option_map sort_no own) sorts) }
+    ensures { kept_fault first.new
+        ≡ after first.old (next_faults is_last left at (option_map sort_no own) sorts) }
 {
     if is_last {
         check_clash(at, own, sorts.upper, first);
@@ -194,7 +197,8 @@ fn check_next(
 // The sort that the place with this number wants.
 fn wanted_at(sig: &Signature, sorts: &[Sort], places: &[SortRef], number: usize) -> Option<SortId>
     requires { IsNumbered sig.now }
-    ensures { option_map sort_no result ≡ first_wanted sig.now (map plain_sort sorts.now) (drop number places.now) }
+    ensures { option_map sort_no result
+        ≡ first_wanted sig.now (map plain_sort sorts.now) (drop number places.now) }
 {
     let of = places.get(number)?;
     wanted(sig, sorts, *of)

@@ -1,6 +1,6 @@
 // The sort of a pattern and the rule pattern that it means, or its first fault.
 ghost use Rattle.std.specs.Prelude.{◌≡◌, List, [], ℕ, IfOk, OnOk, IfErr, OnErr, Some};
-ghost use Rattle.kore_ast.specs.Plain.{plain_pattern as plain_tree};
+ghost use Rattle.kore_ast.specs.Plain.{pattern_tree as plain_tree};
 ghost use Rattle.kore_sig.specs.Signatures.{IsNumbered};
 ghost use Rattle.term_core.specs.RulePatterns.{plain_pattern};
 ghost use Rattle.rule_core.specs.Sorting.{HasSort};
@@ -38,10 +38,14 @@ pub fn check_pattern(
     requires form { IsApplicative (unfolded (plain_tree pat.now)) }
     ensures faultless { OnOk result (all_faults sig.now (unfolded (plain_tree pat.now)) ≡ []) }
     ensures sort { IfOk result (λ r. sort_of sig.now (unfolded (plain_tree pat.now)) ≡ Some r.1.0) }
-    ensures vars { OnOk result (vars.new ≡ with_variables sig.now vars.old (unfolded (plain_tree pat.now))) }
-    ensures means { IfOk result (λ r. Means sig.now vars.new (unfolded (plain_tree pat.now)) (plain_pattern r.0)) }
-    ensures sorted { IfOk result (λ r. HasSort sig.now (variable_sorts vars.new) (plain_pattern r.0) r.1.0) }
-    ensures refused { IfErr result (IsRefusal (all_faults sig.now (unfolded (plain_tree pat.now)))) }
+    ensures vars { OnOk result
+        (vars.new ≡ with_variables sig.now vars.old (unfolded (plain_tree pat.now))) }
+    ensures means { IfOk result
+        (λ r. Means sig.now vars.new (unfolded (plain_tree pat.now)) (plain_pattern r.0)) }
+    ensures sorted { IfOk result
+        (λ r. HasSort sig.now (variable_sorts vars.new) (plain_pattern r.0) r.1.0) }
+    ensures refused { IfErr result
+        (IsRefusal (all_faults sig.now (unfolded (plain_tree pat.now)))) }
     ensures err { OnErr result (vars.new ≡ vars.old) }
 {
     let mut first = None;
@@ -67,8 +71,10 @@ pub fn build_pattern(
     requires signature { IsSignature sig.now }
     requires form { IsApplicative (unfolded (plain_tree pat.now)) }
     requires faultless { pattern_faults sig.now (unfolded (plain_tree pat.now)) ≡ [] }
-    ensures vars { OnOk result (vars.new ≡ with_variables sig.now vars.old (unfolded (plain_tree pat.now))) }
-    ensures means { IfOk result (λ p. Means sig.now vars.new (unfolded (plain_tree pat.now)) (plain_pattern p)) }
+    ensures vars { OnOk result
+        (vars.new ≡ with_variables sig.now vars.old (unfolded (plain_tree pat.now))) }
+    ensures means { IfOk result
+        (λ p. Means sig.now vars.new (unfolded (plain_tree pat.now)) (plain_pattern p)) }
     ensures err { OnErr result (vars.new ≡ vars.old) }
 {
     let before = vars.len();

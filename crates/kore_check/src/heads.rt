@@ -1,9 +1,11 @@
 // The head of an application: its symbol and its sort arguments.
-ghost use Rattle.std.specs.Prelude.{◌≡◌, ◌==◌, ◌&&◌, ◌++◌, map, flat_map, length, option_map, option_copied};
+ghost use Rattle.std.specs.Prelude.{◌≡◌, ◌==◌, ◌&&◌, ◌++◌, map, flat_map, length, option_map};
+ghost use Rattle.std.specs.Prelude.{option_copied};
 ghost use Rattle.kore_ast.specs.Plain.{plain_sort};
 ghost use Rattle.kore_sig.specs.FirstFault.{when, unless};
 ghost use Rattle.kore_check.specs.PatternSorts.{sort_numbers, result_sort, symbol_named};
-ghost use Rattle.kore_check.specs.PatternFaults.{sort_faults, symbol_faults, goes_astray, is_injection, has_no_kind};
+ghost use Rattle.kore_check.specs.PatternFaults.{sort_faults, symbol_faults, is_bad_injection};
+ghost use Rattle.kore_check.specs.PatternFaults.{is_injection, has_no_kind};
 ghost use Rattle.kore_check.specs.Notes.{kept_fault, after, sort_no};
 ghost use Rattle.kore_sig.specs.Signatures.{IsNumbered};
 
@@ -23,9 +25,9 @@ pub(crate) fn symbol<'a>(sig: &'a Signature, name: &Text) -> Option<&'a SymInfo>
 }
 
 // Whether these are the two declared sorts of an injection, and the first is not below the second.
-fn is_astray(sig: &Signature, sorts: &[Sort]) -> bool
+fn has_bad_injection(sig: &Signature, sorts: &[Sort]) -> bool
     requires { IsNumbered sig.now }
-    ensures { result ≡ goes_astray sig.now (sort_numbers sig.now (map plain_sort sorts.now)) }
+    ensures { result ≡ is_bad_injection sig.now (sort_numbers sig.now (map plain_sort sorts.now)) }
 {
     if sorts.len() != 2 {
         return false;
@@ -72,7 +74,8 @@ fn check_symbol(
 )
     requires { IsNumbered sig.now }
     ensures { kept_fault first.new
-        ≡ after first.old (symbol_faults sig.now at (option_copied symbol.entry) (map plain_sort sorts.now) args) }
+        ≡ after first.old
+        (symbol_faults sig.now at (option_copied symbol.entry) (map plain_sort sorts.now) args) }
 {
     match symbol {
         None => note(first, FaultKind::UnknownSymbol, at),
@@ -93,7 +96,8 @@ fn check_arity(
     first: &mut Option<PatternFault>,
 )
     ensures { kept_fault first.new ≡ after first.old
-        (unless ((length (map plain_sort sorts.now) == symbol.now.params) && (args == length symbol.now.args.items)) 8
+        (unless ((length (map plain_sort sorts.now) == symbol.now.params)
+        && (args == length symbol.now.args.items)) 8
         at) }
 {
     let fits = sorts.len() == symbol.params as usize && args == symbol.args.len();
@@ -112,10 +116,11 @@ fn check_injection(
 )
     requires { IsNumbered sig.now }
     ensures { kept_fault first.new ≡ after first.old
-        (when (is_injection symbol.now.kind && goes_astray sig.now (sort_numbers sig.now (map plain_sort sorts.now))) 9
+        (when (is_injection symbol.now.kind
+        && is_bad_injection sig.now (sort_numbers sig.now (map plain_sort sorts.now))) 9
         at) }
 {
-    if is_injection(symbol.kind) && is_astray(sig, sorts) {
+    if is_injection(symbol.kind) && has_bad_injection(sig, sorts) {
         note(first, FaultKind::SortClash, at);
     }
 }

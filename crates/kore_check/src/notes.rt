@@ -9,7 +9,8 @@ use crate::{FaultKind, PatternFault};
 // Notes a fault. The first of it and of the fault that was kept before is kept.
 pub(crate) fn note(first: &mut Option<PatternFault>, kind: FaultKind, at: u32)
     ensures { kept_fault first.new
-        ≡ kept leads_by_byte (kept_fault first.old) (record { number = fault_number kind; byte = at }) }
+        ≡ kept leads_by_byte (kept_fault first.old)
+        (record { number = fault_number kind; byte = at }) }
 {
     let fault = PatternFault { kind, at };
     match first {

@@ -1,12 +1,13 @@
 // The faults of the patterns of one rule, one equation or one term. Only the first one is kept.
 ghost use Rattle.std.specs.Prelude.{◌≡◌, ◌++◌, List, option_map, nat_lt};
-ghost use Rattle.kore_ast.specs.Plain.{plain_sort, plain_pattern};
+ghost use Rattle.kore_ast.specs.Plain.{plain_sort, pattern_tree};
 ghost use Rattle.kore_sig.specs.FirstFault.{Fault, when};
 ghost use Rattle.kore_sig.specs.Signatures.{IsNumbered};
 ghost use Rattle.kore_sig.specs.SortReferences.{sort_number};
-ghost use Rattle.kore_check.specs.Folds.{unfolded, height, place};
+ghost use Rattle.kore_check.specs.Folds.{unfolded, height, unfolded_byte};
 ghost use Rattle.kore_check.specs.PatternSorts.{sort_of};
-ghost use Rattle.kore_check.specs.PatternFaults.{all_faults, sort_faults, clash_faults, most_height};
+ghost use Rattle.kore_check.specs.PatternFaults.{all_faults, sort_faults, clash_faults};
+ghost use Rattle.kore_check.specs.PatternFaults.{most_height};
 ghost use Rattle.kore_check.specs.FaultNumbers.{IsFirstOf};
 ghost use Rattle.kore_check.specs.Notes.{kept_fault, after};
 
@@ -27,9 +28,10 @@ use term_core::{MAX_HEIGHT, SortId};
 /// of a fold.
 pub fn note_pattern(sig: &Signature, pat: &Pat, first: &mut Option<PatternFault>) -> Option<SortId>
     requires { IsNumbered sig.now }
-    ensures sort { option_map (λ s. s.0) result ≡ sort_of sig.now (unfolded (plain_pattern pat.now)) }
+    ensures sort { option_map (λ s. s.0) result
+        ≡ sort_of sig.now (unfolded (pattern_tree pat.now)) }
     ensures first { (before : List Fault) → IsFirstOf before first.old →
-        IsFirstOf (before ++ all_faults sig.now (unfolded (plain_pattern pat.now))) first.new }
+        IsFirstOf (before ++ all_faults sig.now (unfolded (pattern_tree pat.now))) first.new }
 {
     check_height(pat, first);
     check(sig, pat, first)
@@ -38,8 +40,8 @@ pub fn note_pattern(sig: &Signature, pat: &Pat, first: &mut Option<PatternFault>
 // Notes a pattern that is too high.
 fn check_height(pat: &Pat, first: &mut Option<PatternFault>)
     ensures { kept_fault first.new
-        ≡ after first.old (when (nat_lt most_height (height (unfolded (plain_pattern pat.now)))) 3
-        (place (unfolded (plain_pattern pat.now)))) }
+        ≡ after first.old (when (nat_lt most_height (height (unfolded (pattern_tree pat.now)))) 3
+        (unfolded_byte (unfolded (pattern_tree pat.now)))) }
 {
     if height_of(pat) > MAX_HEIGHT {
         note(first, FaultKind::Deep, pat.at);
@@ -65,7 +67,9 @@ pub fn note_clash(
     first: &mut Option<PatternFault>,
 )
     ensures { (before : List Fault) → IsFirstOf before first.old →
-        IsFirstOf (before ++ clash_faults at (option_map (λ s. s.0) own) (option_map (λ s. s.0) wanted)) first.new }
+        IsFirstOf
+        (before ++ clash_faults at (option_map (λ s. s.0) own) (option_map (λ s. s.0) wanted))
+        first.new }
 {
     check_clash(at, own, wanted, first);
 }

@@ -1,5 +1,6 @@
 // The declared sorts that the sorts in patterns name.
-ghost use Rattle.std.specs.Prelude.{◌≡◌, IsTrue, map, flat_map, is_some, length, slice_get, option_map, option_copied};
+ghost use Rattle.std.specs.Prelude.{◌≡◌, IsTrue, map, flat_map, is_some, length, slice_get};
+ghost use Rattle.std.specs.Prelude.{option_map, option_copied};
 ghost use Rattle.std.specs.Prelude.{Some, None};
 ghost use Rattle.std.specs.Option.{option_and_then};
 ghost use Rattle.kore_ast.specs.Plain.{plain_sort};
@@ -33,7 +34,8 @@ pub(crate) fn check_sort(
 ) -> Option<SortId>
     requires { IsNumbered sig.now }
     ensures sort { option_map sort_no result ≡ number_of_sort sig.now.sorts (plain_sort sort.now) }
-    ensures first { kept_fault first.new ≡ after first.old (sort_faults sig.now (plain_sort sort.now)) }
+    ensures first { kept_fault first.new
+        ≡ after first.old (sort_faults sig.now (plain_sort sort.now)) }
 {
     let found = declared_sort(sig, sort);
     if found.is_none() {
@@ -46,7 +48,8 @@ pub(crate) fn check_sort(
 pub(crate) fn check_sorts(sig: &Signature, sorts: &[Sort], first: &mut Option<PatternFault>) -> bool
     requires { IsNumbered sig.now }
     ensures all { result ≡ is_some (sort_numbers sig.now (map plain_sort sorts.now)) }
-    ensures first { kept_fault first.new ≡ after first.old (flat_map (sort_faults sig.now) (map plain_sort sorts.now)) }
+    ensures first { kept_fault first.new
+        ≡ after first.old (flat_map (sort_faults sig.now) (map plain_sort sorts.now)) }
 {
     let mut all_declared = true;
     for i in 0..sorts.len() {

@@ -4,7 +4,8 @@ ghost use Rattle.std.specs.Option.{option_and_then};
 ghost use Rattle.term_core.specs.Values.{value_of};
 ghost use Rattle.kore_ast.specs.Plain.{plain_sort};
 ghost use Rattle.kore_sig.specs.SortReferences.{sort_number};
-ghost use Rattle.kore_check.specs.ValueTexts.{integer_of_text, truth_of_text, value_of_words, value_of_text};
+ghost use Rattle.kore_check.specs.ValueTexts.{integer_of_text, truth_of_text, value_of_words};
+ghost use Rattle.kore_check.specs.ValueTexts.{value_of_text};
 ghost use Rattle.kore_check.specs.PatternSorts.{sort_kind};
 ghost use Rattle.kore_check.specs.PatternFaults.{sort_faults, text_faults};
 ghost use Rattle.kore_check.specs.Notes.{kept_fault, after, sort_no};
@@ -99,7 +100,9 @@ pub(crate) fn check_value(
     ensures sort { option_map sort_no result ≡ sort_number sig.now.sorts (plain_sort sort.now) }
     ensures first { kept_fault first.new ≡ after first.old
         (sort_faults sig.now (plain_sort sort.now)
-        ++ text_faults (option_and_then (sort_kind sig.now) (sort_number sig.now.sorts (plain_sort sort.now))) text.now
+        ++ text_faults
+        (option_and_then (sort_kind sig.now) (sort_number sig.now.sorts (plain_sort sort.now)))
+        text.now
         at) }
 {
     let found = check_sort(sig, sort, first)?;

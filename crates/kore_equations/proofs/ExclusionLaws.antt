@@ -13,4 +13,5 @@ readings_exclude sig f a e is not =
     let infos : Some is.info ≡ Some not.info = sym is.declared ∙ not.declared in
     let info : is.info ≡ not.info = cc in
     not.unreadable is.parts
-    (subst (λ (i : SymInfo). IsReadable sig a i not.stated is.parts) info (subst (λ (s : Statement). IsReadable sig a is.info s is.parts) stated is.readable))
+    (subst (λ (i : SymInfo). IsReadable sig a i not.stated is.parts) info
+    (subst (λ (s : Statement). IsReadable sig a is.info s is.parts) stated is.readable))

@@ -1,5 +1,6 @@
 -- Laws on the patterns of an equation that is clear, and on what is built of them.
-use Rattle.std.proofs.Common.{◌≡◌, ℕ, Bool, true, false, List, [], ◌∷◌, map, Option, Some, refl, ap, sym, ◌∙◌, subst}
+use Rattle.std.proofs.Common.{◌≡◌, ℕ, Bool, true, false, List, [], ◌∷◌, map, Option, Some, refl, ap}
+use Rattle.std.proofs.Common.{sym, ◌∙◌, subst}
 use Rattle.std.specs.Prelude.{not, drop, length, option_map}
 use Rattle.std.specs.List.{list_any}
 use Rattle.kore_text.specs.Trees.{PatternTree, AxiomDeclaration}
@@ -38,24 +39,32 @@ use Rattle.kore_equations.proofs.ClassLaws.{class_equates}
 use Rattle.kore_equations.proofs.ClearLaws.{empty_is, clear_is, is_readable}
 
 -- a pattern that has no fault at its sort
-fine_at : (sig : Signature) (wanted : Option ℕ) (p : PatternTree) → is_empty (faults_at_sort sig wanted (unfolded p)) ≡ true → has_form all_forms p ≡ false → has_binder p ≡ false → IsFine sig (unfolded p)
+fine_at : (sig : Signature) (wanted : Option ℕ) (p : PatternTree)
+    → is_empty (faults_at_sort sig wanted (unfolded p)) ≡ true → has_form all_forms p ≡ false
+    → has_binder p ≡ false → IsFine sig (unfolded p)
 fine_at sig wanted p clear form binder = record {
   form = applicative p form binder;
   clear = (no_faults _ _ (no_faults _ _ (empty_is _ clear)).0).1;
 }
 
-fine_patterns : (sig : Signature) (refs : List SortRef) (ps : List PatternTree) → each_faultless sig refs (all_read ps) ≡ true → list_any (has_form all_forms) ps ≡ false → AllBindNone ps → AreFine sig (all_read ps)
+fine_patterns : (sig : Signature) (refs : List SortRef) (ps : List PatternTree)
+    → each_faultless sig refs (all_read ps) ≡ true → list_any (has_form all_forms) ps ≡ false
+    → AllBindNone ps → AreFine sig (all_read ps)
 fine_patterns sig refs [] clear forms binders = tt
 fine_patterns sig refs (p ∷ ps) clear forms binders =
     let both = both_true _ _ clear in
-    let form = neither _ _ forms in
-    (fine_at sig (first_wanted sig [] refs) p both.0 form.0 binders.0, fine_patterns sig (drop 1 refs) ps both.1 form.1 binders.1)
+    let form = neither _ _ forms in (
+      fine_at sig (first_wanted sig [] refs) p both.0 form.0 binders.0,
+      fine_patterns sig (drop 1 refs) ps both.1 form.1 binders.1,
+    )
 
 not_true : (b : Bool) → not b ≡ true → b ≡ false
 not_true false h = refl
 not_true true h = sym h
 
-pub fine_equation : (sig : Signature) (a : AxiomDeclaration) (info : SymInfo) (e : Statement) (q : EquationParts) → class_of sig a ≡ equates e → clear_parts sig a info e ≡ Some q → IsFineEquation sig (condition_of_equation sig e q) q
+pub fine_equation : (sig : Signature) (a : AxiomDeclaration) (info : SymInfo) (e : Statement)
+    (q : EquationParts) → class_of sig a ≡ equates e → clear_parts sig a info e ≡ Some q
+    → IsFineEquation sig (condition_of_equation sig e q) q
 fine_equation sig a info e q class h =
     let c = clear_is sig a info e q h in
     let good = both_true _ _ c.good_form in
@@ -72,20 +81,37 @@ fine_equation sig a info e q class h =
     record {
       patterns = fine_patterns sig info.args.items q.patterns patterns.0 forms.0 binds.patterns;
       test = λ p is. record {
-        form = applicative p (held (has_form all_forms) (tested (condition_of_equation sig e q)) p is others.0) (test_binds_none sig e.over q.condition binds.condition p is);
-        clear = clear_test sig (condition_of_equation sig e q) p is (empty_is (condition_faults sig (condition_of_equation sig e q)) sides.0);
+        form =
+            applicative p
+            (held (has_form all_forms) (tested (condition_of_equation sig e q)) p is others.0)
+            (test_binds_none sig e.over q.condition binds.condition p is);
+        clear =
+            clear_test sig (condition_of_equation sig e q) p is
+            (empty_is (condition_faults sig (condition_of_equation sig e q)) sides.0);
       };
       right = fine_at sig (sort_at [] info.result) q.right sides.1 others.1 binds.right;
     }
 
-sorts_named : (vars : List VarInfo) → sorts_of vars ≡ map (λ (v : List ℕ × ℕ). v.1) (named_sorts vars)
+sorts_named : (vars : List VarInfo)
+    → sorts_of vars ≡ map (λ (v : List ℕ × ℕ). v.1) (named_sorts vars)
 sorts_named [] = refl
 sorts_named (v ∷ vars) = ap (λ (ss : List ℕ). v.sort.0 ∷ ss) (sorts_named vars)
 
 -- the patterns that are built of bound parts are the equation that the axiom means
-pub equation_meant : (sig : Signature) (a : AxiomDeclaration) (info : SymInfo) (e : Statement) (q : EquationParts) (made : EquationPatterns) (n : ℕ) → class_of sig a ≡ equates e → symbol_named sig e.function ≡ Some info → clear_parts sig a info e ≡ Some q
-    → IsBuiltOf sig (condition_of_equation sig e q) q made → made.bound ≡ true → n ≡ length q.parameters
-    → IsEquationOf sig e.function a (record { parameters = n; arguments = plain_patterns made.args.items; condition = option_map plain_pattern made.cond; right = plain_pattern made.right; variables = sorts_of made.vars.items; priority = priority_of a.attributes; place = a.at })
+pub equation_meant : (sig : Signature) (a : AxiomDeclaration) (info : SymInfo) (e : Statement)
+    (q : EquationParts) (made : EquationPatterns) (n : ℕ) → class_of sig a ≡ equates e
+    → symbol_named sig e.function ≡ Some info → clear_parts sig a info e ≡ Some q
+    → IsBuiltOf sig (condition_of_equation sig e q) q made → made.bound ≡ true
+    → n ≡ length q.parameters
+    → IsEquationOf sig e.function a (record {
+      parameters = n;
+      arguments = plain_patterns made.args.items;
+      condition = option_map plain_pattern made.cond;
+      right = plain_pattern made.right;
+      variables = sorts_of made.vars.items;
+      priority = priority_of a.attributes;
+      place = a.at;
+    })
 equation_meant sig a info e q made n class declared clear b bound count =
     let numbered = b.numbered bound in
     record {
@@ -99,9 +125,18 @@ equation_meant sig a info e q made n class declared clear b bound count =
       variables = with_all_variables sig [] (all_read q.patterns);
       numbered = refl;
       parameters = count;
-      means_arguments = subst (λ (vs : List (List ℕ × ℕ)). AllMean sig vs (all_read q.patterns) (plain_patterns made.args.items)) numbered (b.means_arguments bound);
-      means_condition = subst (λ (vs : List (List ℕ × ℕ)). MeansTest sig vs (tested (condition_of_equation sig e q)) (option_map plain_pattern made.cond)) numbered (b.means_condition bound);
-      means_right = subst (λ (vs : List (List ℕ × ℕ)). Means sig vs (unfolded q.right) (plain_pattern made.right)) numbered (b.means_right bound);
+      means_arguments =
+          subst (λ (vs : List (List ℕ × ℕ)).
+          AllMean sig vs (all_read q.patterns) (plain_patterns made.args.items)) numbered
+          (b.means_arguments bound);
+      means_condition =
+          subst (λ (vs : List (List ℕ × ℕ)). MeansTest sig vs
+          (tested (condition_of_equation sig e q)) (option_map plain_pattern made.cond))
+          numbered (b.means_condition bound);
+      means_right =
+          subst (λ (vs : List (List ℕ × ℕ)).
+          Means sig vs (unfolded q.right) (plain_pattern made.right)) numbered
+          (b.means_right bound);
       sorts = sorts_named made.vars.items ∙ ap (map (λ (v : List ℕ × ℕ). v.1)) numbered;
       priority = refl;
       place = refl;

@@ -33,12 +33,15 @@ pub record IsFineEquation (sig : Signature) (c : Condition) (q : EquationParts) 
 
 -- The patterns are built of the parts, under this condition. If all variables are bound, the built
 -- patterns mean these parts, with the variables of the patterns that the arguments match.
-pub record IsBuiltOf (sig : Signature) (c : Condition) (q : EquationParts) (made : EquationPatterns) : Type 0 where
+pub record IsBuiltOf (sig : Signature) (c : Condition) (q : EquationParts)
+    (made : EquationPatterns) : Type 0 where
   pub bound : made.bound
       ≡ (is_bound (all_read q.patterns) (tested c) && is_bound (all_read q.patterns) (Some q.right))
-  pub numbered : made.bound ≡ true → named_sorts made.vars.items ≡ with_all_variables sig [] (all_read q.patterns)
+  pub numbered : made.bound ≡ true
+      → named_sorts made.vars.items ≡ with_all_variables sig [] (all_read q.patterns)
   pub means_arguments : made.bound ≡ true
-      → AllMean sig (named_sorts made.vars.items) (all_read q.patterns) (plain_patterns made.args.items)
+      → AllMean sig (named_sorts made.vars.items) (all_read q.patterns)
+      (plain_patterns made.args.items)
   pub means_condition : made.bound ≡ true
       → MeansTest sig (named_sorts made.vars.items) (tested c) (option_map plain_pattern made.cond)
   pub means_right : made.bound ≡ true

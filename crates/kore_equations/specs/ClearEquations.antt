@@ -1,5 +1,6 @@
 -- What makes an equation readable, except that its variables are bound.
-use Rattle.std.specs.Prelude.{◌+◌, List, [], Bool, true, not, ◌&&◌, drop, Option, Some, None, codes, nat_le}
+use Rattle.std.specs.Prelude.{◌+◌, List, [], Bool, true, not, ◌&&◌, drop, Option, Some, None, codes}
+use Rattle.std.specs.Prelude.{nat_le}
 use Rattle.std.specs.Prelude.{if◌then◌else◌}
 use Rattle.kore_text.specs.Trees.{AxiomDeclaration}
 use Rattle.rule_core.specs.Sorting.{sort_at}
@@ -15,14 +16,16 @@ use Rattle.kore_shapes.specs.EquationForms.{EquationParts, equation_parts}
 use Rattle.kore_axioms.specs.Conditions.{tested}
 use Rattle.kore_axioms.specs.RuleFaults.{is_empty, faults_at_sort, condition_faults, is_bound}
 use Rattle.kore_axioms.specs.Uses.{have_symbol, is_plain_function, is_ac_symbol}
-use Rattle.kore_equations.specs.ReadableEquations.{all_read, condition_of_equation, fits_function, has_good_form}
+use Rattle.kore_equations.specs.ReadableEquations.{all_read, condition_of_equation, fits_function}
+use Rattle.kore_equations.specs.ReadableEquations.{has_good_form}
 
 -- each pattern has no fault and is not too high, and has the sort of its place; the places are
 -- those of a symbol without sort parameters
 abbrev pub each_faultless : Signature → List SortRef → Unfoldeds → Bool
 each_faultless sig refs no_more = true
 each_faultless sig refs (and_more p ps) =
-    is_empty (faults_at_sort sig (first_wanted sig [] refs) p) && each_faultless sig (drop 1 refs) ps
+    is_empty (faults_at_sort sig (first_wanted sig [] refs) p)
+    && each_faultless sig (drop 1 refs) ps
 
 abbrev pub are_parts_sorted : Signature → SymInfo → Condition → EquationParts → Bool
 are_parts_sorted sig info c q =
@@ -44,13 +47,16 @@ is_clear sig a info e q =
     && (are_parts_sorted sig info (condition_of_equation sig e q) q && has_good_symbols sig info q))
 
 -- the parts, if they are clear
-abbrev pub clear_of : Signature → AxiomDeclaration → SymInfo → Statement → Option EquationParts → Option EquationParts
+abbrev pub clear_of : Signature → AxiomDeclaration → SymInfo → Statement → Option EquationParts
+    → Option EquationParts
 clear_of sig a info e None = None
 clear_of sig a info e (Some q) = if is_clear sig a info e q then Some q else None
 
 abbrev pub clear_parts : Signature → AxiomDeclaration → SymInfo → Statement → Option EquationParts
 clear_parts sig a info e
-    = if has_attribute (codes "owise") a.attributes then None else clear_of sig a info e (equation_parts e)
+    =
+    if has_attribute (codes "owise") a.attributes then None
+    else clear_of sig a info e (equation_parts e)
 
 -- all variables of the condition and of the right side are bound
 abbrev pub are_bound : Signature → Statement → EquationParts → Bool

@@ -17,7 +17,8 @@ use Rattle.kore_equations.specs.ReadableEquations.{IsReadable, condition_of_equa
 
 -- The axiom is this equation of the function of this name. Its variables are those of the patterns
 -- that the arguments match, in the order of their first occurrence.
-pub record IsEquationOf (sig : Signature) (f : List ℕ) (a : AxiomDeclaration) (e : Equation) : Type 0 where
+pub record IsEquationOf (sig : Signature) (f : List ℕ) (a : AxiomDeclaration) (e : Equation) :
+    Type 0 where
   pub stated : Statement
   pub class : class_of sig a ≡ equates stated
   pub function : stated.function ≡ f
@@ -29,7 +30,8 @@ pub record IsEquationOf (sig : Signature) (f : List ℕ) (a : AxiomDeclaration) 
   pub numbered : variables ≡ with_all_variables sig [] (all_read parts.patterns)
   pub parameters : e.parameters ≡ length parts.parameters
   pub means_arguments : AllMean sig variables (all_read parts.patterns) e.arguments
-  pub means_condition : MeansTest sig variables (tested (condition_of_equation sig stated parts)) e.condition
+  pub means_condition : MeansTest sig variables (tested (condition_of_equation sig stated parts))
+      e.condition
   pub means_right : Means sig variables (unfolded parts.right) e.right
   pub sorts : e.variables ≡ map (λ (v : List ℕ × ℕ). v.1) variables
   pub priority : e.priority ≡ priority_of a.attributes

@@ -11,6 +11,8 @@ use Rattle.kore_equations.specs.ReadableEquations.{IsReadable}
 use Rattle.kore_equations.specs.EquationMeanings.{IsEquationOf}
 
 -- the equation of the function of this name, number and declaration; none if it is not readable
-abbrev pub IsMeant : Signature → List ℕ → ℕ → SymInfo → AxiomDeclaration → Statement → Option Equation → Type 0
+abbrev pub IsMeant : Signature → List ℕ → ℕ → SymInfo → AxiomDeclaration → Statement
+    → Option Equation → Type 0
 IsMeant sig f n info a e None = (q : EquationParts) → IsReadable sig a info e q → ⊥
-IsMeant sig f n info a e (Some made) = (made.fun.0 ≡ n) × IsEquationOf sig f a (function_equation made)
+IsMeant sig f n info a e (Some made) =
+    (made.fun.0 ≡ n) × IsEquationOf sig f a (function_equation made)

@@ -1,11 +1,13 @@
 -- Which equations are readable. An equation that is not readable closes its function. This is no
 -- fault of the definition, so it only matters whether the equation has a fault, not which fault is
 -- the first.
-use Rattle.std.specs.Prelude.{◌≡◌, ◌==◌, ◌+◌, ℕ, List, [], ◌++◌, Bool, true, false, not, ◌||◌, ◌&&◌, Option, Some}
+use Rattle.std.specs.Prelude.{◌≡◌, ◌==◌, ◌+◌, ℕ, List, [], ◌++◌, Bool, true, false, not, ◌||◌, ◌&&◌}
+use Rattle.std.specs.Prelude.{Option, Some}
 use Rattle.std.specs.Prelude.{None, is_some, length, codes, nat_le}
 use Rattle.std.specs.List.{list_any}
 use Rattle.std.specs.Str.{bytes_eq}
-use Rattle.kore_text.specs.Trees.{SortTree, sort_parameter, sort_applied, PatternTree, pattern_trees, AxiomDeclaration}
+use Rattle.kore_text.specs.Trees.{SortTree, sort_parameter, sort_applied, PatternTree}
+use Rattle.kore_text.specs.Trees.{pattern_trees, AxiomDeclaration}
 use Rattle.rule_core.specs.Sorting.{sort_at}
 use Rattle.rule_core.specs.declared.signature.Signature.{Signature}
 use Rattle.rule_core.specs.declared.signature.SymInfo.{SymInfo}
@@ -36,7 +38,8 @@ condition_of_equation sig e q = over_bool sig (given_condition e.over q.conditio
 -- an equation may be over this sort: a sort parameter of the axiom, or a declared sort
 abbrev pub is_sort_over : Signature → List (List ℕ) → SortTree → Bool
 is_sort_over sig params (sort_parameter at name) = list_any (bytes_eq name) params
-is_sort_over sig params (sort_applied at name ss) = is_some (sort_number sig.sorts (sort_applied at name ss))
+is_sort_over sig params (sort_applied at name ss) =
+    is_some (sort_number sig.sorts (sort_applied at name ss))
 
 -- both sorts are declared, and they are the same
 abbrev pub is_one_sort : Option ℕ → Option ℕ → Bool
@@ -58,7 +61,8 @@ fits_function sig a info e q =
 abbrev pub has_other_form : Signature → Statement → EquationParts → Bool
 has_other_form sig e q =
     list_any (has_form all_forms) q.patterns
-    || (holds_of (has_form all_forms) (tested (condition_of_equation sig e q)) || has_form all_forms q.right)
+    || (holds_of (has_form all_forms) (tested (condition_of_equation sig e q))
+    || has_form all_forms q.right)
 
 -- the equation has no such form and no binder, its condition has the form of a condition, and its
 -- priority is not bad
@@ -82,7 +86,8 @@ equation_faults sig info e q =
 -- the sorts have no fault, and the function applied to the patterns is not too high
 abbrev pub is_sorted : Signature → SymInfo → Statement → EquationParts → Bool
 is_sorted sig info e q =
-    is_empty (equation_faults sig info e q) && nat_le (heights (all_read q.patterns) + 1) most_height
+    is_empty (equation_faults sig info e q)
+    && nat_le (heights (all_read q.patterns) + 1) most_height
 
 -- ---- its uses
 
@@ -99,7 +104,8 @@ has_good_uses sig info e q =
 
 -- The equation of the function with this declaration has one of the two forms, with these parts.
 -- The parts have no fault, and the equation is no last resort (`owise`).
-pub record IsReadable (sig : Signature) (a : AxiomDeclaration) (info : SymInfo) (e : Statement) (q : EquationParts) :
+pub record IsReadable (sig : Signature) (a : AxiomDeclaration) (info : SymInfo) (e : Statement)
+    (q : EquationParts) :
     Type 0 where
   pub no_last_resort : has_attribute (codes "owise") a.attributes ≡ false
   pub form : equation_parts e ≡ Some q

@@ -38,7 +38,8 @@ pub(crate) fn equation_patterns(
     requires numbered { IsNumbered sig.now }
     requires signature { IsSignature sig.now }
     requires fine { IsFineEquation sig.now (plain_condition condition) (plain_parts parts.now) }
-    ensures { IfOk result (IsBuiltOf sig.now (plain_condition condition.entry) (plain_parts parts.now)) }
+    ensures { IfOk result
+        (IsBuiltOf sig.now (plain_condition condition.entry) (plain_parts parts.now)) }
 {
     let mut vars = Variables::new(alloc);
     let args = built_patterns(alloc, sig, &parts.patterns, &mut vars)?;
@@ -68,7 +69,8 @@ fn built_patterns(
     ensures vars { OnOk result
         (vars.new ≡ with_all_variables sig.now vars.old (all_read (map pattern_at pats.now))) }
     ensures means { IfOk result
-        (λ made. AllMean sig.now vars.new (all_read (map pattern_at pats.now)) (plain_patterns made.items)) }
+        (λ made. AllMean sig.now vars.new (all_read (map pattern_at pats.now))
+        (plain_patterns made.items)) }
 {
     let mut made = Vec::with_capacity(alloc, pats.len())?;
     for i in 0..pats.len() {

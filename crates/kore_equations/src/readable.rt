@@ -16,9 +16,12 @@ ghost use Rattle.kore_axioms.specs.UsedSymbols.{is_used};
 ghost use Rattle.kore_axioms.specs.Conditions.{tested as the_tested};
 ghost use Rattle.kore_axioms.specs.RuleForms.{holds_of};
 ghost use Rattle.kore_equations.specs.ReadableEquations.{condition_of_equation as the_condition};
-ghost use Rattle.kore_equations.specs.ReadableEquations.{is_sort_over as is_a_sort_over, is_one_sort as are_one_sort};
-ghost use Rattle.kore_equations.specs.ReadableEquations.{fits_function as does_fit, has_good_form as is_of_good_form};
-ghost use Rattle.kore_equations.specs.ClearEquations.{has_good_symbols as are_good, clear_parts as the_clear_parts};
+ghost use Rattle.kore_equations.specs.ReadableEquations.{is_sort_over as is_a_sort_over};
+ghost use Rattle.kore_equations.specs.ReadableEquations.{is_one_sort as are_one_sort};
+ghost use Rattle.kore_equations.specs.ReadableEquations.{fits_function as does_fit};
+ghost use Rattle.kore_equations.specs.ReadableEquations.{has_good_form as is_of_good_form};
+ghost use Rattle.kore_equations.specs.ClearEquations.{has_good_symbols as are_good};
+ghost use Rattle.kore_equations.specs.ClearEquations.{clear_parts as the_clear_parts};
 ghost use Rattle.kore_equations.specs.ClearEquations.{is_clear as are_clear};
 
 use crate::sorts::{is_sorted, result_sort};
@@ -43,7 +46,8 @@ pub(crate) fn clear_parts<'a>(
 ) -> Result<Option<EquationParts<'a>>, AllocError>
     requires { IsNumbered sig.now }
     ensures { IfOk result (λ parts. option_map plain_parts parts
-        ≡ the_clear_parts sig.now (plain_axiom_decl decl.now) symbol.now (plain_statement stated.now)) }
+        ≡ the_clear_parts sig.now (plain_axiom_decl decl.now) symbol.now
+        (plain_statement stated.now)) }
 {
     if has_attribute(&decl.attrs, "owise") {
         return Ok(None);
@@ -68,7 +72,8 @@ fn is_clear<'a>(
     parts: &EquationParts<'a>,
 ) -> bool
     requires { IsNumbered sig.now }
-    ensures { result ≡ are_clear sig.now (plain_axiom_decl decl.now) symbol.now (plain_statement stated.now)
+    ensures { result
+        ≡ are_clear sig.now (plain_axiom_decl decl.now) symbol.now (plain_statement stated.now)
         (plain_parts parts.now) }
 {
     fits_function(sig, decl, symbol, stated, parts)
@@ -83,7 +88,8 @@ pub(crate) fn condition_of<'a>(
     stated: &Statement<'a>,
     parts: &EquationParts<'a>,
 ) -> Condition<'a>
-    ensures { plain_condition result ≡ the_condition sig.now (plain_statement stated.now) (plain_parts parts.now) }
+    ensures { plain_condition result
+        ≡ the_condition sig.now (plain_statement stated.now) (plain_parts parts.now) }
 {
     over_bool(sig, given_condition(parts.condition, stated.over))
 }
@@ -97,7 +103,8 @@ fn fits_function(
     stated: &Statement<'_>,
     parts: &EquationParts<'_>,
 ) -> bool
-    ensures { result ≡ does_fit sig.now (plain_axiom_decl decl.now) symbol.now (plain_statement stated.now)
+    ensures { result
+        ≡ does_fit sig.now (plain_axiom_decl decl.now) symbol.now (plain_statement stated.now)
         (plain_parts parts.now) }
 {
     is_sort_over(sig, &decl.params, stated.over)
@@ -153,7 +160,8 @@ fn has_good_form(
     stated: &Statement<'_>,
     parts: &EquationParts<'_>,
 ) -> bool
-    ensures { result ≡ is_of_good_form sig.now (plain_axiom_decl decl.now) (plain_statement stated.now)
+    ensures { result
+        ≡ is_of_good_form sig.now (plain_axiom_decl decl.now) (plain_statement stated.now)
         (plain_parts parts.now) }
 {
     let condition = condition_of(sig, stated, parts);
@@ -205,7 +213,9 @@ fn has_good_symbols(sig: &Signature, symbol: &SymInfo, parts: &EquationParts<'_>
 
 /// Whether one of these symbols occurs in one of the patterns.
 fn have_symbol(pats: &[&Pat], sig: &Signature, which: Symbols) -> bool
-    ensures { result ≡ have_one (is_used which sig.now) (all_unfolded (pattern_trees (map pattern_at pats.now))) }
+    ensures { result
+        ≡ have_one (is_used which sig.now)
+        (all_unfolded (pattern_trees (map pattern_at pats.now))) }
 {
     for pat in pats {
         if has_symbol(pat, sig, which) {

@@ -45,10 +45,12 @@ pub fn read_equation(
 ) -> Result<Reading, AllocError>
     requires numbered { IsNumbered sig.now }
     requires signature { IsSignature sig.now }
-    requires class { class_of sig.now (plain_axiom_decl decl.now) ≡ equates (plain_statement stated.now) }
+    requires class { class_of sig.now (plain_axiom_decl decl.now)
+        ≡ equates (plain_statement stated.now) }
     ensures function { IfOk result
         (λ reading. number_of sig.now.symbols stated.now.function.now ≡ Some (function_of reading)) }
-    ensures means { IfOk result (IsReadAs sig.now stated.now.function.now (plain_axiom_decl decl.now)) }
+    ensures means { IfOk result
+        (IsReadAs sig.now stated.now.function.now (plain_axiom_decl decl.now)) }
 {
     let Some(number) = sig.symbols.number(stated.function.as_str()) else {
         unreachable!()
@@ -74,7 +76,8 @@ fn meant_equation(
 ) -> Result<Option<Equation>, AllocError>
     requires numbered { IsNumbered sig.now }
     requires signature { IsSignature sig.now }
-    requires class { class_of sig.now (plain_axiom_decl decl.now) ≡ equates (plain_statement stated.now) }
+    requires class { class_of sig.now (plain_axiom_decl decl.now)
+        ≡ equates (plain_statement stated.now) }
     requires declared { symbol_named sig.now stated.now.function.now ≡ Some symbol.now }
     ensures { IfOk result
         (IsMeant sig.now stated.now.function.now function.0 symbol.now (plain_axiom_decl decl.now)

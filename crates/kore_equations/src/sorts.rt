@@ -1,6 +1,6 @@
 // The faults of the sorts of an equation.
 ghost use Rattle.std.specs.Prelude.{◌≡◌, ◌+◌, [], drop, map, option_map, nat_le};
-ghost use Rattle.kore_ast.specs.Plain.{plain_pattern};
+ghost use Rattle.kore_ast.specs.Plain.{pattern_tree};
 ghost use Rattle.rule_core.specs.Sorting.{sort_at as the_sort_at};
 ghost use Rattle.kore_sig.specs.Signatures.{IsNumbered};
 ghost use Rattle.kore_check.specs.Folds.{heights};
@@ -27,9 +27,11 @@ pub(crate) fn is_sorted(
     parts: &EquationParts<'_>,
 ) -> bool
     requires { IsNumbered sig.now }
-    ensures { result ≡ are_parts_sorted sig.now symbol.now (plain_condition condition.entry) (plain_parts parts.now) }
+    ensures { result
+        ≡ are_parts_sorted sig.now symbol.now (plain_condition condition.entry)
+        (plain_parts parts.now) }
 {
-    is_low(&parts.patterns)
+    fits_height(&parts.patterns)
         && are_parameters(sig, parts.parameters, &symbol.args)
         && are_arguments(sig, &parts.patterns, &symbol.args)
         && is_faultless_condition(sig, condition)
@@ -37,7 +39,7 @@ pub(crate) fn is_sorted(
 }
 
 /// Whether a symbol applied to these patterns is not too high.
-fn is_low(pats: &[&Pat]) -> bool
+fn fits_height(pats: &[&Pat]) -> bool
     ensures { result ≡ nat_le (heights (all_read (map pattern_at pats.now)) + 1) most_height }
 {
     highest(pats) < MAX_HEIGHT
@@ -57,7 +59,7 @@ fn highest(pats: &[&Pat]) -> u32
 /// Whether variables have no fault as the arguments of a symbol with these places.
 fn are_parameters(sig: &Signature, pats: &[Pat], places: &[SortRef]) -> bool
     requires { IsNumbered sig.now }
-    ensures { result ≡ each_faultless sig.now places.now (all_read (map plain_pattern pats.now)) }
+    ensures { result ≡ each_faultless sig.now places.now (all_read (map pattern_tree pats.now)) }
 {
     for i in 0..pats.len() {
         if !is_faultless(sig, &pats[i], wanted(places, i)) {
@@ -83,7 +85,8 @@ fn are_arguments(sig: &Signature, pats: &[&Pat], places: &[SortRef]) -> bool
 /// The sort that a place of a symbol without sort parameters wants. Returns none if there is no
 /// such place.
 fn wanted(places: &[SortRef], i: usize) -> Option<SortId>
-    ensures { (sig : Signature) → option_map (λ s. s.0) result ≡ first_wanted sig [] (drop i places.now) }
+    ensures { (sig : Signature)
+        → option_map (λ s. s.0) result ≡ first_wanted sig [] (drop i places.now) }
 {
     match places.get(i) {
         Some(SortRef::Sort(sort)) => Some(*sort),

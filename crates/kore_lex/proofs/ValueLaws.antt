@@ -1,5 +1,8 @@
 -- The bytes between the quotes of a string: what escapes and runs of other bytes stand for.
-use Rattle.std.proofs.Common.{◌≡◌, ◌≤◌, ◌<◌, ◌+◌, ◌*◌, ℕ, zero, suc, Bool, true, false, List, [], ◌∷◌, ◌++◌, length, take, drop, get_or, refl, ap, sym, ◌∙◌, subst, arith, append_assoc, ◌==◌, if◌then◌else◌, not, Option, Some, None, cond}
+use Rattle.std.proofs.Common.{◌≡◌, ◌≤◌, ◌<◌, ◌+◌, ◌*◌, ℕ, zero, suc, Bool, true, false, List, []}
+use Rattle.std.proofs.Common.{◌∷◌, ◌++◌, length, take, drop, get_or, refl, ap, sym, ◌∙◌, subst}
+use Rattle.std.proofs.Common.{arith, append_assoc, ◌==◌, if◌then◌else◌, not, Option, Some, None}
+use Rattle.std.proofs.Common.{cond}
 use Rattle.std.proofs.lemmas.List.{append-nil}
 use Rattle.std.proofs.lemmas.List.Sums.{take_while-cons}
 use Rattle.std.proofs.lemmas.Bool.Decides.{nat_tests}
@@ -10,7 +13,8 @@ use Rattle.std.specs.List.{take_while}
 use Rattle.std.specs.Option.{IfSome}
 use lib.Utf8.{scalar}
 use Rattle.kore_lex.specs.declared.escape.Escape.{Escape}
-use Rattle.kore_lex.specs.Escapes.{hex_digit, bind, hex_number, by_number, escape, further, bad_at, IsInner}
+use Rattle.kore_lex.specs.Escapes.{hex_digit, bind, hex_number, by_number, escape, further, bad_at}
+use Rattle.kore_lex.specs.Escapes.{IsInner}
 use Rattle.kore_lex.specs.Value.{plain}
 use Rattle.kore_lex.specs.Steps.{run_len, Took, unit_len}
 use Rattle.kore_lex.proofs.Runs.{drop-past}
@@ -31,7 +35,8 @@ ascii-utf8 : (n : ℕ) (bs : List ℕ) → Ascii n bs → IsUtf8 bs → IsUtf8 (
 ascii-utf8 zero bs h u = u
 ascii-utf8 (suc n) [] h u = absurd h
 ascii-utf8 (suc n) (c ∷ cs) h u =
-    ascii-utf8 n cs h.1 (IsUtf8-drop (c ∷ cs) 1 u (IsCharBoundary-after_ascii (c ∷ cs) 0 u (omega arith) h.0))
+    ascii-utf8 n cs h.1
+    (IsUtf8-drop (c ∷ cs) 1 u (IsCharBoundary-after_ascii (c ∷ cs) 0 u (omega arith) h.0))
 
 -- an escape is ASCII
 
@@ -46,8 +51,8 @@ some-any : (b : Bool) (n : ℕ) → IfSome (if b then Some n else None) (λ m. U
 some-any true n = tt
 some-any false n = tt
 
-digit-ascii : (c k : ℕ) (cs : List ℕ) (o : Option ℕ) (f : ℕ → Option ℕ) → hex_digit c ≡ o → ((d : ℕ) → IfSome (f d) (λ n. Ascii k cs))
-    → IfSome (bind o f) (λ n. (c < 128) × Ascii k cs)
+digit-ascii : (c k : ℕ) (cs : List ℕ) (o : Option ℕ) (f : ℕ → Option ℕ) → hex_digit c ≡ o
+    → ((d : ℕ) → IfSome (f d) (λ n. Ascii k cs)) → IfSome (bind o f) (λ n. (c < 128) × Ascii k cs)
 digit-ascii c k cs None f e h = tt
 digit-ascii c k cs (Some d) f e h = some-and (f d) (c < 128) (Ascii k cs) (hex-ascii c d e) (h d)
 
@@ -56,14 +61,17 @@ unfolding hex_number
 number-ascii zero n cs = some-any (scalar n) n
 number-ascii (suc k) n [] = tt
 number-ascii (suc k) n (c ∷ cs) =
-    digit-ascii c k cs (hex_digit c) (λ d. hex_number k (16 * n + d) cs) refl (λ d. number-ascii k (16 * n + d) cs)
+    digit-ascii c k cs (hex_digit c) (λ d. hex_number k (16 * n + d) cs) refl
+    (λ d. number-ascii k (16 * n + d) cs)
 
 numbered-ascii : (c k : ℕ) (cs : List ℕ) (x : Option ℕ) → c < 128 → IfSome x (λ m. Ascii k cs)
     → IfSome (by_number k x) (λ e. Ascii e.len (c ∷ cs))
 numbered-ascii c k cs None l h = tt
-numbered-ascii c k cs (Some m) l h = subst (λ n. Ascii n (c ∷ cs)) (let q : suc k ≡ k + 1 = omega arith in q) (l, h)
+numbered-ascii c k cs (Some m) l h =
+    subst (λ n. Ascii n (c ∷ cs)) (let q : suc k ≡ k + 1 = omega arith in q) (l, h)
 
-escape-when : (b : Bool) (x y : Option Escape) (P : Escape → Type 0) → (b ≡ true → IfSome x P) → IfSome y P → IfSome (if b then x else y) P
+escape-when : (b : Bool) (x y : Option Escape) (P : Escape → Type 0) → (b ≡ true → IfSome x P)
+    → IfSome y P → IfSome (if b then x else y) P
 escape-when true x y P h k = h refl
 escape-when false x y P h k = k
 
@@ -81,9 +89,12 @@ escape-ascii (c ∷ cs) =
     (escape-when (c == 102) _ _ P (λ h. (same-ascii c 102 h (omega arith), tt))
     (escape-when (c == 34) _ _ P (λ h. (same-ascii c 34 h (omega arith), tt))
     (escape-when (c == 92) _ _ P (λ h. (same-ascii c 92 h (omega arith), tt))
-    (escape-when (c == 120) _ _ P (λ h. numbered-ascii c 2 cs (hex_number 2 0 cs) (same-ascii c 120 h (omega arith)) (number-ascii 2 0 cs))
-    (escape-when (c == 117) _ _ P (λ h. numbered-ascii c 4 cs (hex_number 4 0 cs) (same-ascii c 117 h (omega arith)) (number-ascii 4 0 cs))
-    (escape-when (c == 85) _ None P (λ h. numbered-ascii c 8 cs (hex_number 8 0 cs) (same-ascii c 85 h (omega arith)) (number-ascii 8 0 cs))
+    (escape-when (c == 120) _ _ P (λ h. numbered-ascii c 2 cs (hex_number 2 0 cs)
+    (same-ascii c 120 h (omega arith)) (number-ascii 2 0 cs))
+    (escape-when (c == 117) _ _ P (λ h. numbered-ascii c 4 cs (hex_number 4 0 cs)
+    (same-ascii c 117 h (omega arith)) (number-ascii 4 0 cs))
+    (escape-when (c == 85) _ None P (λ h. numbered-ascii c 8 cs (hex_number 8 0 cs)
+    (same-ascii c 85 h (omega arith)) (number-ascii 8 0 cs))
     tt))))))))
 
 this-ascii : (cs : List ℕ) (e : Escape) → Some e ≡ escape cs → Ascii e.len cs
@@ -101,15 +112,18 @@ further-no : (n : ℕ) (x : Option ℕ) → further n x ≡ None → x ≡ None
 further-no n None h = refl
 further-no n (Some m) h = absurd (let z : ⊥ = cc in z)
 
-unit-escape : (c : ℕ) (cs : List ℕ) (e : Escape) → c ≡ 92 → Some e ≡ escape cs → Some (e.len + 1) ≡ unit_len (c ∷ cs)
+unit-escape : (c : ℕ) (cs : List ℕ) (e : Escape) → c ≡ 92 → Some e ≡ escape cs
+    → Some (e.len + 1) ≡ unit_len (c ∷ cs)
 unit-escape c cs e h g = rw (h, sym g) refl
 
-plain-escape : (c : ℕ) (cs : List ℕ) (e : Escape) → c ≡ 92 → Some e ≡ escape cs → plain 0 (c ∷ cs) ≡ encode_utf8 e.character ++ plain e.len cs
+plain-escape : (c : ℕ) (cs : List ℕ) (e : Escape) → c ≡ 92 → Some e ≡ escape cs
+    → plain 0 (c ∷ cs) ≡ encode_utf8 e.character ++ plain e.len cs
 unfolding plain
 plain-escape c cs e h g = rw (h, sym g) refl
 
-pub escape-took : (bs old new : List ℕ) (e : Escape) → 0 < length bs → get_or bs 0 0 ≡ 92 → IsInner bs → Some e ≡ escape (drop 1 bs)
-    → new ≡ old ++ encode_utf8 e.character → Took bs old new (e.len + 1)
+pub escape-took : (bs old new : List ℕ) (e : Escape) → 0 < length bs → get_or bs 0 0 ≡ 92
+    → IsInner bs → Some e ≡ escape (drop 1 bs) → new ≡ old ++ encode_utf8 e.character
+    → Took bs old new (e.len + 1)
 escape-took [] old new e l b h g n = absurd (omega arith)
 escape-took (c ∷ cs) old new e l b h g n =
     let a : Ascii e.len cs = this-ascii cs e g in
@@ -120,18 +134,25 @@ escape-took (c ∷ cs) old new e l b h g n =
       within = omega (arith, ascii-length e.len cs a);
       inner = record {
         utf8 = subst IsUtf8 d (ascii-utf8 (suc e.len) (c ∷ cs) (omega (arith, b), a) h.utf8);
-        escapes = further-no (e.len + 1) _ (sym (unit-bad (c ∷ cs) (e.len + 1) (omega arith) l (unit-escape c cs e b g)) ∙ h.escapes);
+        escapes =
+            further-no (e.len + 1) _ (sym (unit-bad (c
+            ∷ cs) (e.len + 1) (omega arith) l (unit-escape c cs e b g)) ∙ h.escapes);
       };
-      grown = ap (λ t. t ++ plain 0 (drop (e.len + 1) (c ∷ cs))) n ∙ append_assoc old (encode_utf8 e.character) _
-          ∙ ap (λ t. old ++ t) (ap (λ t. encode_utf8 e.character ++ plain 0 t) (sym d) ∙ ap (λ t. encode_utf8 e.character ++ t) (sym (plain-skip e.len cs)) ∙ sym (plain-escape c cs e b g));
+      grown = ap (λ t. t ++ plain 0 (drop (e.len + 1) (c ∷ cs))) n
+          ∙ append_assoc old (encode_utf8 e.character) _
+          ∙ ap (λ t. old ++ t) (ap (λ t. encode_utf8 e.character ++ plain 0 t) (sym d)
+          ∙ ap (λ t. encode_utf8 e.character ++ t) (sym (plain-skip e.len cs))
+          ∙ sym (plain-escape c cs e b g));
     }
 
 unit-no : (c : ℕ) (cs : List ℕ) → c ≡ 92 → None ≡ escape cs → None ≡ unit_len (c ∷ cs)
 unit-no c cs h g = rw (h, sym g) refl
 
-pub escape-there : (bs : List ℕ) → 0 < length bs → get_or bs 0 0 ≡ 92 → IsInner bs → None ≡ escape (drop 1 bs) → ⊥
+pub escape-there : (bs : List ℕ) → 0 < length bs → get_or bs 0 0 ≡ 92 → IsInner bs
+    → None ≡ escape (drop 1 bs) → ⊥
 escape-there [] l b h g = omega arith
-escape-there (c ∷ cs) l b h g = let e = none-bad (c ∷ cs) l (unit-no c cs b g) in let f = h.escapes in cc
+escape-there (c ∷ cs) l b h g =
+    let e = none-bad (c ∷ cs) l (unit-no c cs b g) in let f = h.escapes in cc
 
 -- a run of bytes without a backslash at the head
 
@@ -166,7 +187,11 @@ pub record Run (n : ℕ) (bs : List ℕ) : Type 0 where
 
 run-if : (c : ℕ) (cs : List ℕ) (b : Bool) → (c == 92) ≡ b → Run (length (take_while is_plain cs)) cs
     → Run (length (cond (not b) (c ∷ take_while is_plain cs) [])) (c ∷ cs)
-run-if c cs true e r = record { plain = tt; within = omega arith; stops = λ l. grind (arith, nat_tests) }
+run-if c cs true e r = record {
+  plain = tt;
+  within = omega arith;
+  stops = λ l. grind (arith, nat_tests);
+}
 run-if c cs false e r = record {
   plain = (e, r.plain);
   within = omega (arith, r.within);
@@ -175,16 +200,21 @@ run-if c cs false e r = record {
 
 run-of : (bs : List ℕ) → Run (length (take_while is_plain bs)) bs
 run-of [] = record { plain = tt; within = omega arith; stops = λ l. absurd (omega arith) }
-run-of (c ∷ cs) = subst (λ l. Run (length l) (c ∷ cs)) (sym (take_while-cons is_plain c cs)) (run-if c cs (c == 92) refl (run-of cs))
+run-of (c ∷ cs) =
+    subst (λ l. Run (length l) (c ∷ cs)) (sym (take_while-cons is_plain c cs))
+    (run-if c cs (c == 92) refl (run-of cs))
 
 pub run-at : (bs : List ℕ) → Run (run_len bs) bs
 run-at bs = run-of bs
 
-boundary-if : (bs : List ℕ) (n : ℕ) → n ≤ length bs → (n < length bs → get_or bs n 0 ≡ 92) → IsCharBoundary bs n
+boundary-if : (bs : List ℕ) (n : ℕ) → n ≤ length bs → (n < length bs → get_or bs n 0 ≡ 92)
+    → IsCharBoundary bs n
 boundary-if bs n l h = (l, λ m g. absurd (let e : get_or bs n 0 ≡ 92 = h m in omega arith))
 
 pub run-utf8 : (bs : List ℕ) → IsInner bs → IsUtf8 (take (run_len bs) bs)
-run-utf8 bs h = let r = run-at bs in IsUtf8-take bs (run_len bs) h.utf8 (boundary-if bs (run_len bs) r.within r.stops)
+run-utf8 bs h =
+    let r = run-at bs in
+    IsUtf8-take bs (run_len bs) h.utf8 (boundary-if bs (run_len bs) r.within r.stops)
 
 run-some : (n : ℕ) (bs : List ℕ) → Run n bs → 0 < length bs → (get_or bs 0 0 ≡ 92 → ⊥) → 1 ≤ n
 run-some zero bs r l h = absurd (h (r.stops l))
@@ -202,10 +232,12 @@ run-took bs old new l b h n =
         utf8 = IsUtf8-drop bs m h.utf8 (boundary-if bs m r.within r.stops);
         escapes = bad-run m bs r.plain h.escapes;
       };
-      grown = ap (λ t. t ++ plain 0 (drop m bs)) n ∙ append_assoc old (take m bs) _ ∙ ap (λ t. old ++ t) (sym (plain-run m bs r.plain));
+      grown = ap (λ t. t ++ plain 0 (drop m bs)) n ∙ append_assoc old (take m bs) _
+          ∙ ap (λ t. old ++ t) (sym (plain-run m bs r.plain));
     }
 
 -- at the end of the bytes nothing is left to append
-pub plain-past : (t : List ℕ) (at : ℕ) (bs : List ℕ) → length bs ≤ at → t ≡ t ++ plain 0 (drop at bs)
+pub plain-past : (t : List ℕ) (at : ℕ) (bs : List ℕ) → length bs ≤ at
+    → t ≡ t ++ plain 0 (drop at bs)
 unfolding plain
 plain-past t at bs h = sym (ap (λ l. t ++ plain 0 l) (drop-past at bs h) ∙ append-nil t)

@@ -1,11 +1,13 @@
 -- What is at the head of the bytes of a Kore text: white space, a comment, a token, or something
 -- that begins none of these (Kore language document, lexical structure). Each token is the longest
 -- at its place.
-use Rattle.std.specs.Prelude.{ℕ, zero, suc, ◌+◌, ◌-◌, Bool, not, ◌||◌, ◌&&◌, List, [], ◌∷◌, length, take, take_while, nat_le, ◌==◌, if◌then◌else◌, Option, Some, None}
+use Rattle.std.specs.Prelude.{ℕ, zero, suc, ◌+◌, ◌-◌, Bool, not, ◌||◌, ◌&&◌, List, [], ◌∷◌, length}
+use Rattle.std.specs.Prelude.{take, take_while, nat_le, ◌==◌, if◌then◌else◌, Option, Some, None}
 use Rattle.std.specs.Str.{is_utf8}
 use Rattle.kore_lex.specs.Escapes.{further, bad_at}
 use Rattle.kore_lex.specs.declared.lexer.TokenKind.{TokenKind}
-use Rattle.kore_lex.specs.declared.lexer.TokenKind.TheVariants.{Ident, SetIdent, Builtin, Text, Punct, Assign}
+use Rattle.kore_lex.specs.declared.lexer.TokenKind.TheVariants.{Ident, SetIdent, Builtin, Text}
+use Rattle.kore_lex.specs.declared.lexer.TokenKind.TheVariants.{Punct, Assign}
 use Rattle.kore_lex.specs.declared.piece.Piece.{Piece}
 use Rattle.kore_lex.specs.declared.piece.Piece.TheVariants.{Nothing, Gap, Whole, Bad}
 
@@ -24,7 +26,8 @@ is_word c = is_letter c || (nat_le 48 c && nat_le c 57) || (c == 39) || (c == 45
 -- one of { } ( ) [ ] , :
 abbrev pub is_mark : ℕ → Bool
 is_mark c =
-    (c == 123) || (c == 125) || (c == 40) || (c == 41) || (c == 91) || (c == 93) || (c == 44) || (c == 58)
+    (c == 123) || (c == 125) || (c == 40) || (c == 41) || (c == 91) || (c == 93) || (c == 44)
+    || (c == 58)
 
 -- how many bytes of a name there are at the head, after its first letter
 abbrev pub word_len : List ℕ → ℕ

@@ -1,5 +1,6 @@
 -- Laws on the tokens of a text.
-use Rattle.std.specs.Prelude.{◌≡◌, ◌≢◌, ℕ, ◌+◌, ◌-◌, ◌≤◌, true, List, [], ◌∷◌, length, take, drop, ◌⊎◌, Option, Some, None}
+use Rattle.std.specs.Prelude.{◌≡◌, ◌≢◌, ℕ, ◌+◌, ◌-◌, ◌≤◌, true, List, [], ◌∷◌, length, take, drop}
+use Rattle.std.specs.Prelude.{◌⊎◌, Option, Some, None}
 use Rattle.std.specs.Str.{IsUtf8}
 use Rattle.kore_lex.specs.declared.lexer.TokenKind.{TokenKind}
 use Rattle.kore_lex.specs.Escapes.{bad_at}
@@ -11,7 +12,8 @@ use Rattle.kore_lex.specs.Tokens.{IsToken, IsLongest}
 abbrev pub AreTokens : List ℕ → Stream → Type 0
 AreTokens text (end n) = Unit {0}
 AreTokens text (fault n) = Unit {0}
-AreTokens text (token k from to s) = IsToken k (take (to - from) (drop from text)) × AreTokens text s
+AreTokens text (token k from to s) =
+    IsToken k (take (to - from) (drop from text)) × AreTokens text s
 
 abbrev pub token_count : Stream → ℕ
 token_count (end n) = 0
@@ -45,8 +47,8 @@ NoToken bs = (k : TokenKind) (n : ℕ) → n ≤ length bs → IsToken k (take n
 -- a string begins at the head. It has an end and is UTF-8. Its first backslash that begins no
 -- escape comes after the given count of bytes.
 pub data HasBadEscape : ℕ → List ℕ → Type 0 where
-  bad_escape : (i m : ℕ) (cs : List ℕ) → quote_len 0 cs ≡ Some (m + 1) → IsUtf8 (take m cs) → bad_at 0 (take m cs) ≡ Some i
-      → HasBadEscape (i + 1) (34 ∷ cs)
+  bad_escape : (i m : ℕ) (cs : List ℕ) → quote_len 0 cs ≡ Some (m + 1) → IsUtf8 (take m cs)
+      → bad_at 0 (take m cs) ≡ Some i → HasBadEscape (i + 1) (34 ∷ cs)
 
 -- a fault that is reported `n` bytes after the head. The head begins no token, no white space and
 -- no comment. If it begins a string as in `HasBadEscape`, the fault is at the backslash of the bad
@@ -63,7 +65,8 @@ abbrev pub Covers : ℕ → List ℕ → Stream → Type 0
 Covers at bs (end e) = IsGap (length bs) bs × (e ≡ at + length bs)
 Covers at bs (fault e) = (m n : ℕ) × IsGap m bs × IsFault n (drop m bs) × (e ≡ at + m + n)
 Covers at bs (token k from to s) =
-    (m n : ℕ) × IsGap m bs × (from ≡ at + m) × (to ≡ from + n) × (n ≤ length (drop m bs)) × IsLongest k n (drop m bs)
+    (m n : ℕ) × IsGap m bs × (from ≡ at + m) × (to ≡ from + n) × (n ≤ length (drop m bs))
+    × IsLongest k n (drop m bs)
     × Covers to (drop n (drop m bs)) s
 
 -- the tokens of a text cover it
@@ -79,4 +82,5 @@ fault_of (token k from to s) = fault_of s
 -- no token starts at a fault. The byte that the fault names is that place, or a byte inside the
 -- string that begins there.
 abbrev pub NoTokenAtFault : Type 0
-NoTokenAtFault = (text : List ℕ) (e : ℕ) → fault_of (lexed 0 text) ≡ Some e → (at n : ℕ) × IsFault n (drop at text) × (e ≡ at + n)
+NoTokenAtFault = (text : List ℕ) (e : ℕ) → fault_of (lexed 0 text) ≡ Some e
+    → (at n : ℕ) × IsFault n (drop at text) × (e ≡ at + n)

@@ -2,7 +2,8 @@
 -- language document, lexical structure).
 use Rattle.std.specs.Prelude.{◌≡◌, ◌≤◌, ◌-◌, ℕ, true, List, [], ◌∷◌, length, take, Some}
 use Rattle.kore_lex.specs.declared.lexer.TokenKind.{TokenKind}
-use Rattle.kore_lex.specs.declared.lexer.TokenKind.TheVariants.{Ident, SetIdent, Builtin, Text, Punct, Assign, End}
+use Rattle.kore_lex.specs.declared.lexer.TokenKind.TheVariants.{Ident, SetIdent, Builtin, Text}
+use Rattle.kore_lex.specs.declared.lexer.TokenKind.TheVariants.{Punct, Assign, End}
 use Rattle.kore_lex.specs.Pieces.{is_letter, is_word, is_mark, quote_len}
 use Rattle.kore_lex.specs.Escapes.{IsInner}
 
@@ -22,11 +23,13 @@ IsToken k [] = ⊥
 IsToken Ident (c ∷ cs) = IsName (c ∷ cs)
 IsToken SetIdent (c ∷ cs) = (c ≡ 64) × IsName cs
 IsToken Builtin (c ∷ cs) = (c ≡ 92) × IsName cs
-IsToken Text (c ∷ cs) = (c ≡ 34) × (quote_len 0 cs ≡ Some (length cs)) × IsInner (take (length cs - 1) cs)
+IsToken Text (c ∷ cs) =
+    (c ≡ 34) × (quote_len 0 cs ≡ Some (length cs)) × IsInner (take (length cs - 1) cs)
 IsToken (Punct d) (c ∷ cs) = (c ≡ d) × (is_mark c ≡ true) × (cs ≡ [])
 IsToken Assign (c ∷ cs) = (c ≡ 58) × (cs ≡ 61 ∷ [])
 IsToken End (c ∷ cs) = ⊥
 
 -- the first `n` bytes are a token of the kind `k`, and no longer prefix is a token of any kind
 abbrev pub IsLongest : TokenKind → ℕ → List ℕ → Type 0
-IsLongest k n bs = IsToken k (take n bs) × ((j : TokenKind) (m : ℕ) → m ≤ length bs → IsToken j (take m bs) → m ≤ n)
+IsLongest k n bs = IsToken k (take n bs)
+    × ((j : TokenKind) (m : ℕ) → m ≤ length bs → IsToken j (take m bs) → m ≤ n)

@@ -96,8 +96,10 @@ impl<'a> Lexer<'a> {
         ensures rest { left self.new ≡ tail (left self.old) }
         ensures text { self.new.text ≡ self.old.text }
         ensures within { IfOk result (λ t. (t.from ≤ t.to) × (t.to ≤ length self.old.text)) }
-        ensures longest { IfOk result (λ t. t.kind ≢ End → IsLongest t.kind (t.to - t.from) (drop t.from self.old.text)) }
-        ensures string { IfOk result (λ t. t.kind ≡ Text → IsString (take (t.to - t.from) (drop t.from self.old.text))) }
+        ensures longest { IfOk result
+            (λ t. t.kind ≢ End → IsLongest t.kind (t.to - t.from) (drop t.from self.old.text)) }
+        ensures string { IfOk result
+            (λ t. t.kind ≡ Text → IsString (take (t.to - t.from) (drop t.from self.old.text))) }
     {
         loop {
             match piece_at(behind(self.text, self.at)) {

@@ -2,7 +2,8 @@
 // these.
 
 ghost use Rattle.std.specs.Prelude.{◌≡◌, ◌<◌, ◌^◌, ◌+◌, ◌≤◌, length, IfSome};
-ghost use Rattle.kore_lex.specs.Pieces.{ends_block, block_len, passed, quote_len, body_piece, comment, string, named, colon, piece};
+ghost use Rattle.kore_lex.specs.Pieces.{ends_block, block_len, passed, quote_len, body_piece};
+ghost use Rattle.kore_lex.specs.Pieces.{comment, string, named, colon, piece};
 
 use crate::bytes::{behind, first, is_letter, is_mark, is_space, line_len, word_len};
 use crate::escape::bad_at;

@@ -1,6 +1,7 @@
 // The text that a string token stands for.
 
-ghost use Rattle.std.specs.Prelude.{◌≡◌, ◌≢◌, ◌<◌, ◌-◌, length, take, drop, slice_index, IfOk, string_bytes};
+ghost use Rattle.std.specs.Prelude.{◌≡◌, ◌≢◌, ◌<◌, ◌-◌, length, take, drop, slice_index, IfOk};
+ghost use Rattle.std.specs.Prelude.{string_bytes};
 ghost use Rattle.kore_lex.specs.Value.{IsString, value};
 ghost use Rattle.kore_lex.specs.Steps.{Took, run_len};
 ghost use Rattle.kore_lex.specs.Escapes.{IsInner};

@@ -1,8 +1,10 @@
 -- The text of a string is one token of Kore text, and the value of this token is the string.
-use Rattle.std.proofs.Common.{◌≡◌, ◌+◌, ◌-◌, ℕ, true, List, [], ◌∷◌, ◌++◌, length, take, refl, ap, sym, ◌∙◌, arith, append_assoc, None, chars, encode_utf8_all}
+use Rattle.std.proofs.Common.{◌≡◌, ◌+◌, ◌-◌, ℕ, true, List, [], ◌∷◌, ◌++◌, length, take, refl, ap}
+use Rattle.std.proofs.Common.{sym, ◌∙◌, arith, append_assoc, None, chars, encode_utf8_all}
 use Rattle.std.proofs.lemmas.List.{length-append}
 use Rattle.std.proofs.Math.Seq.{take-append_seam}
-use Rattle.std.proofs.lemmas.Str.{IsUtf8-from_ascii, is_utf8-from_IsUtf8, IsAscii-append, encodes-chars, scalars-chars}
+use Rattle.std.proofs.lemmas.Str.{IsUtf8-from_ascii, is_utf8-from_IsUtf8, IsAscii-append}
+use Rattle.std.proofs.lemmas.Str.{encodes-chars, scalars-chars}
 use Rattle.std.proofs.lemmas.Str.Ascii.{IsAscii-nil}
 use Rattle.std.specs.Str.{IsAscii, IsUtf8, is_utf8}
 use Rattle.std.specs.Char.{encode_utf8}
@@ -17,16 +19,20 @@ use Rattle.kore_text.proofs.Accepting.{both}
 use Rattle.kore_print.specs.TokenText.{character_text, characters_text, string_text}
 use Rattle.kore_print.proofs.CharacterLaws.{Stands, stands}
 
-all-quoted : (cs r : List ℕ) → scalars cs ≡ true → quote_len 0 (characters_text cs ++ r) ≡ further (length (characters_text cs)) (quote_len 0 r)
+all-quoted : (cs r : List ℕ) → scalars cs ≡ true
+    → quote_len 0 (characters_text cs ++ r) ≡ further (length (characters_text cs)) (quote_len 0 r)
 all-quoted [] r s = sym (further-none (quote_len 0 r))
 all-quoted (c ∷ cs) r s =
     let p = both (scalar c) (scalars cs) s in
     let u : Stands c (character_text c) = stands c p.0 in
-    let n : length (character_text c) + length (characters_text cs) ≡ length (character_text c ++ characters_text cs) = sym (length-append (character_text c) (characters_text cs)) in
+    let n : length (character_text c) + length (characters_text cs) ≡ length
+    (character_text c ++ characters_text cs) =
+    sym (length-append (character_text c) (characters_text cs)) in
     ap (quote_len 0) (append_assoc (character_text c) (characters_text cs) r)
     ∙ u.quoted (characters_text cs ++ r)
     ∙ ap (further (length (character_text c))) (all-quoted cs r p.1)
-    ∙ further-sum (length (character_text c)) (length (characters_text cs)) (length (character_text c ++ characters_text cs)) (quote_len 0 r) n
+    ∙ further-sum (length (character_text c)) (length (characters_text cs))
+    (length (character_text c ++ characters_text cs)) (quote_len 0 r) n
 
 all-good : (cs : List ℕ) → scalars cs ≡ true → bad_at 0 (characters_text cs) ≡ None
 unfolding bad_at
@@ -52,7 +58,8 @@ all-ascii (c ∷ cs) s =
     IsAscii-append (character_text c) (characters_text cs) u.ascii (all-ascii cs p.1)
 
 -- a quote, the texts of characters, and a quote, before anything
-closed-piece : (cs r : List ℕ) → scalars cs ≡ true → piece (34 ∷ (characters_text cs ++ (34 ∷ r))) ≡ whole Text (length (characters_text cs) + 2)
+closed-piece : (cs r : List ℕ) → scalars cs ≡ true
+    → piece (34 ∷ (characters_text cs ++ (34 ∷ r))) ≡ whole Text (length (characters_text cs) + 2)
 unfolding quote_len
 closed-piece cs r s =
     let w : List ℕ = characters_text cs in
@@ -60,10 +67,12 @@ closed-piece cs r s =
     string-piece w r (all-quoted cs (34 ∷ r) s) u (all-good cs s)
 
 length-quoted : (w : List ℕ) → length (34 ∷ (w ++ (34 ∷ []))) ≡ length w + 2
-length-quoted w = let e : length (w ++ (34 ∷ [])) ≡ length w + 1 = length-append w (34 ∷ []) in omega (arith, e)
+length-quoted w =
+    let e : length (w ++ (34 ∷ [])) ≡ length w + 1 = length-append w (34 ∷ []) in omega (arith, e)
 
 -- the text of a string is cut off as one piece
-pub text-piece : (t r : List ℕ) → IsUtf8 t → piece (string_text t ++ r) ≡ whole Text (length (string_text t))
+pub text-piece : (t r : List ℕ) → IsUtf8 t
+    → piece (string_text t ++ r) ≡ whole Text (length (string_text t))
 text-piece t r u =
     let cs : List ℕ = chars t in
     let w : List ℕ = characters_text cs in

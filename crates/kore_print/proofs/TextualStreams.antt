@@ -3,7 +3,8 @@ use Rattle.std.proofs.Common.{◌≡◌, ◌≢◌, ◌-◌, ℕ, true, List, []
 use Rattle.kore_lex.specs.declared.lexer.TokenKind.{TokenKind}
 use Rattle.kore_lex.specs.declared.lexer.TokenKind.TheVariants as kind
 use Rattle.kore_lex.specs.Pieces.{is_mark}
-use Rattle.kore_lex.specs.Lexed.{lexed, Stream as Cut, end as cut_end, fault as cut_fault, token as cut_token}
+use Rattle.kore_lex.specs.Lexed.{lexed, Stream as Cut, end as cut_end, fault as cut_fault}
+use Rattle.kore_lex.specs.Lexed.{token as cut_token}
 use Rattle.kore_lex.specs.Tokens.{IsToken}
 use Rattle.kore_lex.specs.Value.{IsString}
 use Rattle.kore_lex.proofs.AllTokens.{AllRead, all-read, string-utf8}
@@ -17,7 +18,8 @@ AllTextual (end e) = Unit {0}
 AllTextual (fault e) = Unit {0}
 AllTextual (token t p s) = IsTextual t × AllTextual s
 
-token-textual : (k : TokenKind) (bs : List ℕ) → IsToken k bs → (k ≡ kind.Text → IsString bs) → IsTextual (token_of k bs)
+token-textual : (k : TokenKind) (bs : List ℕ) → IsToken k bs → (k ≡ kind.Text → IsString bs)
+    → IsTextual (token_of k bs)
 token-textual k [] h s = absurd h
 token-textual kind.Ident (c ∷ cs) h s = h
 token-textual kind.SetIdent (c ∷ cs) h s = h.1
@@ -37,7 +39,8 @@ named-textual text (cut_fault e) h = tt
 named-textual text (cut_token k from to s) h =
     let bs : List ℕ = take (to - from) (drop from text) in
     let no : k ≢ kind.End = λ z. no-end bs (subst (λ (j : TokenKind). IsToken j bs) z h.0.0) in
-    subst AllTextual (sym (named-token text k from to s no)) (token-textual k bs h.0.0 h.0.1, named-textual text s h.1)
+    subst AllTextual (sym (named-token text k from to s no))
+    (token-textual k bs h.0.0 h.0.1, named-textual text s h.1)
 
 pub tokens-textual : (bytes : List ℕ) → AllTextual (tokens_of bytes)
 unfolding tokens_of

@@ -1,5 +1,7 @@
 -- The canonical text of a token is cut off as that token if what follows may follow it.
-use Rattle.std.proofs.Common.{◌≡◌, ◌≢◌, ◌+◌, ◌-◌, ℕ, Bool, true, false, List, [], ◌∷◌, ◌++◌, length, take, drop, refl, ap, sym, ◌∙◌, arith, ◌==◌, ◌&&◌, if◌then◌else◌, Some, None}
+use Rattle.std.proofs.Common.{◌≡◌, ◌≢◌, ◌+◌, ◌-◌, ℕ, Bool, true, false, List, [], ◌∷◌, ◌++◌, length}
+use Rattle.std.proofs.Common.{take, drop, refl, ap, sym, ◌∙◌, arith, ◌==◌, ◌&&◌, if◌then◌else◌}
+use Rattle.std.proofs.Common.{Some, None}
 use Rattle.std.proofs.lemmas.List.{drop-drop}
 use Rattle.std.proofs.Math.Seq.{take-append_seam, drop-append_seam}
 use Rattle.kore_lex.specs.declared.lexer.TokenKind.{TokenKind}
@@ -7,12 +9,15 @@ use Rattle.kore_lex.specs.declared.lexer.TokenKind.TheVariants as kind
 use Rattle.kore_lex.specs.Pieces.{is_letter, is_word, piece}
 use Rattle.kore_lex.specs.Lexed.{lexed, Stream as Cut, token as cut_token}
 use Rattle.kore_lex.specs.Tokens.{IsName, AllWord}
-use Rattle.kore_lex.proofs.WholePieces.{whole, lexed-whole, begins_word, begins_equals, name-piece, set-piece, builtin-piece, mark-piece, assign-piece}
+use Rattle.kore_lex.proofs.WholePieces.{whole, lexed-whole, begins_word, begins_equals, name-piece}
+use Rattle.kore_lex.proofs.WholePieces.{set-piece, builtin-piece, mark-piece, assign-piece}
 use Rattle.kore_text.specs.declared.names.Op.TheVariants as op
 use Rattle.kore_text.specs.declared.names.Binder.TheVariants as binder
 use Rattle.kore_text.specs.declared.names.Built.{Built}
 use Rattle.kore_text.specs.declared.names.Built.TheVariants.{Connective, Binding, Value, Fold}
-use Rattle.kore_text.specs.TokenStream.{Token, identifier, set_identifier, builtin, string_token, mark, assign, token, token_of, built_of, named as named_stream}
+use Rattle.kore_text.specs.TokenStream.{Token, identifier, set_identifier, builtin, string_token}
+use Rattle.kore_text.specs.TokenStream.{mark, assign, token, token_of, built_of}
+use Rattle.kore_text.specs.TokenStream.{named as named_stream}
 use Rattle.kore_print.specs.TokenText.{built_name, token_text}
 use Rattle.kore_print.specs.PrintLaws.{IsTextual}
 use Rattle.kore_print.proofs.StringTexts.{text-piece, text-value}
@@ -104,17 +109,20 @@ kind_of (mark c) = kind.Punct c
 kind_of assign = kind.Assign
 
 -- the text of a token is cut off as one piece
-token-piece : (t : Token) (r : List ℕ) → IsTextual t → IsApart t r → piece (token_text t ++ r) ≡ whole (kind_of t) (length (token_text t))
+token-piece : (t : Token) (r : List ℕ) → IsTextual t → IsApart t r
+    → piece (token_text t ++ r) ≡ whole (kind_of t) (length (token_text t))
 token-piece (identifier n) r h a = name-piece n r h a
 token-piece (set_identifier n) r h a = set-piece n r h a
-token-piece (builtin (Some b)) r h a = builtin-piece (built_name b) r (name-is (built_name b) (built-is-name b)) a
+token-piece (builtin (Some b)) r h a =
+    builtin-piece (built_name b) r (name-is (built_name b) (built-is-name b)) a
 token-piece (builtin None) r h a = absurd a
 token-piece (string_token t) r h a = text-piece t r h
 token-piece (mark c) r h a = mark-piece c r h a
 token-piece assign r h a = assign-piece r
 
 -- the text of a token is read as that token
-token-back : (t : Token) (r : List ℕ) → IsTextual t → IsApart t r → token_of (kind_of t) (token_text t) ≡ t
+token-back : (t : Token) (r : List ℕ) → IsTextual t → IsApart t r
+    → token_of (kind_of t) (token_text t) ≡ t
 token-back (identifier n) r h a = refl
 token-back (set_identifier n) r h a = refl
 token-back (builtin (Some b)) r h a = ap builtin (built-back b)
@@ -124,7 +132,8 @@ token-back (mark c) r h a = refl
 token-back assign r h a = refl
 
 pub named-token : (whole : List ℕ) (k : TokenKind) (from to : ℕ) (s : Cut) → k ≢ kind.End
-    → named_stream whole (cut_token k from to s) ≡ token (token_of k (take (to - from) (drop from whole))) from (named_stream whole s)
+    → named_stream whole (cut_token k from to s)
+    ≡ token (token_of k (take (to - from) (drop from whole))) from (named_stream whole s)
 named-token whole kind.End from to s h = absurd (h refl)
 named-token whole kind.Ident from to s h = refl
 named-token whole kind.SetIdent from to s h = refl
@@ -142,20 +151,28 @@ kind-no-end (mark c) = λ e. cc
 kind-no-end assign = λ e. cc
 
 -- if the text of a token is at a place of a text, that token is there, followed by the rest
-pub token-cut : (t : Token) (r whole : List ℕ) (at : ℕ) → IsTextual t → IsApart t r → drop at whole ≡ token_text t ++ r
-    → named_stream whole (lexed at (token_text t ++ r)) ≡ token t at (named_stream whole (lexed (at + length (token_text t)) r))
+pub token-cut : (t : Token) (r whole : List ℕ) (at : ℕ) → IsTextual t → IsApart t r
+    → drop at whole ≡ token_text t ++ r
+    → named_stream whole (lexed at (token_text t ++ r))
+    ≡ token t at (named_stream whole (lexed (at + length (token_text t)) r))
 token-cut t r whole at h a d =
     let w : List ℕ = token_text t in
     let n : ℕ = length w in
     let l : lexed at (w ++ r) ≡ cut_token (kind_of t) at (at + n) (lexed (at + n) r) =
-    lexed-whole (kind_of t) n at (w ++ r) (token-piece t r h a) ∙ ap (λ (bs : List ℕ). cut_token (kind_of t) at (at + n) (lexed (at + n) bs)) (drop-append_seam w r) in
+    lexed-whole (kind_of t) n at (w ++ r) (token-piece t r h a)
+    ∙ ap (λ (bs : List ℕ). cut_token (kind_of t) at (at + n) (lexed (at + n) bs))
+    (drop-append_seam w r) in
     let m : at + n - at ≡ n = omega arith in
-    let b : take (at + n - at) (drop at whole) ≡ w = ap (λ (i : ℕ). take i (drop at whole)) m ∙ ap (take n) d ∙ take-append_seam w r in
+    let b : take (at + n - at) (drop at whole) ≡ w =
+    ap (λ (i : ℕ). take i (drop at whole)) m ∙ ap (take n) d ∙ take-append_seam w r in
     ap (named_stream whole) l
     ∙ named-token whole (kind_of t) at (at + n) (lexed (at + n) r) (kind-no-end t)
-    ∙ ap (λ (u : Token). token u at (named_stream whole (lexed (at + n) r))) (ap (token_of (kind_of t)) b ∙ token-back t r h a)
+    ∙ ap (λ (u : Token). token u at (named_stream whole (lexed (at + n) r)))
+    (ap (token_of (kind_of t)) b ∙ token-back t r h a)
 
 -- the rest is after the token
-pub behind-token : (t : Token) (r whole : List ℕ) (at : ℕ) → drop at whole ≡ token_text t ++ r → drop (at + length (token_text t)) whole ≡ r
+pub behind-token : (t : Token) (r whole : List ℕ) (at : ℕ) → drop at whole ≡ token_text t ++ r
+    → drop (at + length (token_text t)) whole ≡ r
 behind-token t r whole at d =
-    sym (drop-drop (length (token_text t)) at whole) ∙ ap (drop (length (token_text t))) d ∙ drop-append_seam (token_text t) r
+    sym (drop-drop (length (token_text t)) at whole) ∙ ap (drop (length (token_text t))) d
+    ∙ drop-append_seam (token_text t) r

@@ -1,6 +1,9 @@
 -- What does not depend on the places of a tree.
 use Rattle.std.proofs.Common.{◌≡◌, suc, Bool, true, false, ◌&&◌, refl, ap, sym, ◌∙◌}
-use Rattle.kore_text.specs.Trees.{SortTrees, no_sorts, sort_then, sort_count, PatternTree, element_variable, set_variable, string, symbol_applied, connected, binding, domain_value, folded, PatternTrees, no_patterns, pattern_then, pattern_count}
+use Rattle.kore_text.specs.Trees.{SortTrees, no_sorts, sort_then, sort_count, PatternTree}
+use Rattle.kore_text.specs.Trees.{element_variable, set_variable, string, symbol_applied, connected}
+use Rattle.kore_text.specs.Trees.{binding, domain_value, folded, PatternTrees, no_patterns}
+use Rattle.kore_text.specs.Trees.{pattern_then, pattern_count}
 use Rattle.kore_text.specs.Grammar.{is_variable, is_foldable, is_associative, is_some}
 use Rattle.kore_print.specs.Reading.{unplaced_sorts, unplaced, unplaced_patterns}
 
@@ -46,13 +49,16 @@ foldable-kept (folded at left p) = refl
 
 -- Two trees that differ only in places have the same properties.
 
-pub sort-counts : (a b : SortTrees) → unplaced_sorts a ≡ unplaced_sorts b → sort_count a ≡ sort_count b
+pub sort-counts : (a b : SortTrees) → unplaced_sorts a ≡ unplaced_sorts b
+    → sort_count a ≡ sort_count b
 sort-counts a b h = sym (sorts-counted a) ∙ ap sort_count h ∙ sorts-counted b
 
-pub pattern-counts : (a b : PatternTrees) → unplaced_patterns a ≡ unplaced_patterns b → pattern_count a ≡ pattern_count b
+pub pattern-counts : (a b : PatternTrees) → unplaced_patterns a ≡ unplaced_patterns b
+    → pattern_count a ≡ pattern_count b
 pattern-counts a b h = sym (patterns-counted a) ∙ ap pattern_count h ∙ patterns-counted b
 
-pub variables : (c : Bool) (p q : PatternTree) → unplaced p ≡ unplaced q → is_variable c p ≡ is_variable c q
+pub variables : (c : Bool) (p q : PatternTree) → unplaced p ≡ unplaced q
+    → is_variable c p ≡ is_variable c q
 variables c p q h = sym (variable-kept c p) ∙ ap (is_variable c) h ∙ variable-kept c q
 
 pub foldables : (p q : PatternTree) → unplaced p ≡ unplaced q → is_foldable p ≡ is_foldable q

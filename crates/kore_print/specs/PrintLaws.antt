@@ -4,9 +4,10 @@ use Rattle.std.specs.Prelude.{◌≡◌, ◌≤◌, ℕ, true, false, IsTrue, Li
 use Rattle.std.specs.Str.{IsUtf8}
 use Rattle.kore_lex.specs.Pieces.{is_mark}
 use Rattle.kore_lex.specs.Tokens.{IsName}
-use Rattle.kore_text.specs.TokenStream.{Token, identifier, set_identifier, builtin, string_token, mark, assign}
+use Rattle.kore_text.specs.TokenStream.{Token, identifier, set_identifier, builtin, string_token}
+use Rattle.kore_text.specs.TokenStream.{mark, assign}
 use Rattle.kore_text.specs.Trees.{PatternTree}
-use Rattle.kore_text.specs.Grammar.{Want, placed, any, given, spell_pattern}
+use Rattle.kore_text.specs.Grammar.{Requirement, placed, any, given, spell_pattern}
 use Rattle.kore_text.specs.Faults.{opened}
 use Rattle.kore_print.specs.CanonicalText.{canonical_text}
 use Rattle.kore_print.specs.Reading.{ReadsAs}
@@ -22,7 +23,7 @@ IsTextual assign = Unit {0}
 
 -- the conditions hold, the tokens can occur in a text, and at most 500 brackets are open anywhere,
 -- with n open at the start
-abbrev pub CanStand : ℕ → List Want → Type 0
+abbrev pub CanStand : ℕ → List Requirement → Type 0
 CanStand n [] = Unit {0}
 CanStand n (given b ∷ ws) = IsTrue b × CanStand n ws
 CanStand n (placed at t ∷ ws) = IsTextual t × (opened t n ≤ 500) × CanStand (opened t n) ws

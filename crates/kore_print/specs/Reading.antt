@@ -1,6 +1,9 @@
 -- Which texts read as a pattern, except for places.
 use Rattle.std.specs.Prelude.{◌≡◌, ℕ, List}
-use Rattle.kore_text.specs.Trees.{SortTree, sort_parameter, sort_applied, SortTrees, no_sorts, sort_then, PatternTree, element_variable, set_variable, string, symbol_applied, connected, binding, domain_value, folded, PatternTrees, no_patterns, pattern_then}
+use Rattle.kore_text.specs.Trees.{SortTree, sort_parameter, sort_applied, SortTrees, no_sorts}
+use Rattle.kore_text.specs.Trees.{sort_then, PatternTree, element_variable, set_variable, string}
+use Rattle.kore_text.specs.Trees.{symbol_applied, connected, binding, domain_value, folded}
+use Rattle.kore_text.specs.Trees.{PatternTrees, no_patterns, pattern_then}
 use Rattle.kore_ast.specs.KoreText.{ReadsPattern}
 
 -- the same tree with 0 for each place
@@ -18,7 +21,8 @@ abbrev mutual
   unplaced (element_variable at n s) = element_variable 0 n (unplaced_sort s)
   unplaced (set_variable at n s) = set_variable 0 n (unplaced_sort s)
   unplaced (string at t) = string 0 t
-  unplaced (symbol_applied at n ss ps) = symbol_applied 0 n (unplaced_sorts ss) (unplaced_patterns ps)
+  unplaced (symbol_applied at n ss ps) =
+      symbol_applied 0 n (unplaced_sorts ss) (unplaced_patterns ps)
   unplaced (connected at o ss ps) = connected 0 o (unplaced_sorts ss) (unplaced_patterns ps)
   unplaced (binding at o ss x p) = binding 0 o (unplaced_sorts ss) (unplaced x) (unplaced p)
   unplaced (domain_value at s t place) = domain_value 0 (unplaced_sort s) t 0

@@ -1,5 +1,6 @@
 -- The canonical text of a token.
-use Rattle.std.specs.Prelude.{ℕ, zero, suc, ◌/◌, ◌%◌, ◌==◌, ◌&&◌, nat_le, nat_lt, true, false, List, [], ◌∷◌, ◌++◌, Some, None, if◌then◌else◌, codes}
+use Rattle.std.specs.Prelude.{ℕ, zero, suc, ◌/◌, ◌%◌, ◌==◌, ◌&&◌, nat_le, nat_lt, true, false, List}
+use Rattle.std.specs.Prelude.{[], ◌∷◌, ◌++◌, Some, None, if◌then◌else◌, codes}
 use Rattle.std.specs.Char.{digit_char}
 use Rattle.std.specs.Str.{chars}
 use Rattle.kore_text.specs.declared.names.Op.{Op}
@@ -8,7 +9,8 @@ use Rattle.kore_text.specs.declared.names.Binder.{Binder}
 use Rattle.kore_text.specs.declared.names.Binder.TheVariants as binder
 use Rattle.kore_text.specs.declared.names.Built.{Built}
 use Rattle.kore_text.specs.declared.names.Built.TheVariants.{Connective, Binding, Value, Fold}
-use Rattle.kore_text.specs.TokenStream.{Token, identifier, set_identifier, builtin, string_token, mark, assign}
+use Rattle.kore_text.specs.TokenStream.{Token, identifier, set_identifier, builtin, string_token}
+use Rattle.kore_text.specs.TokenStream.{mark, assign}
 
 -- the last hexadecimal digits of a number, in lower case; the first argument is how many
 abbrev pub hexadecimal : ℕ → ℕ → List ℕ

@@ -2,12 +2,13 @@
 use Rattle.std.specs.Prelude.{◌≡◌, ℕ, zero, suc, false, List, [], ◌∷◌, ◌++◌, map}
 use Rattle.kore_text.specs.TokenStream.{Token, mark}
 use Rattle.kore_text.specs.Trees.{SortTree, PatternTree}
-use Rattle.kore_text.specs.Grammar.{Want, any, Spelling, listed, more_listed, spell_sort, spell_pattern}
+use Rattle.kore_text.specs.Grammar.{Requirement, any, Spelling, listed, more_listed, spell_sort}
+use Rattle.kore_text.specs.Grammar.{spell_pattern}
 use Rattle.kore_print.specs.CanonicalText.{text_of}
 
 -- what `spell` spells was added, whatever follows it
 abbrev pub Writes : Spelling → List ℕ → List ℕ → Type 0
-Writes spell old new = (k : List Want) → new ++ text_of k ≡ old ++ text_of (spell k)
+Writes spell old new = (k : List Requirement) → new ++ text_of k ≡ old ++ text_of (spell k)
 
 -- what is before an item that comes after n others
 abbrev pub comma_after : ℕ → List ℕ

@@ -4,10 +4,11 @@ ghost use Rattle.std.specs.Prelude.{◌≡◌, ℕ, false, ◌∷◌, Some, ◌+
 ghost use Rattle.kore_text.specs.TokenStream.{identifier, set_identifier, builtin};
 ghost use Rattle.kore_text.specs.Trees.{domain_value};
 ghost use Rattle.kore_text.specs.Grammar.{spell_sort, spell_variable, spell_pattern};
-ghost use Rattle.kore_ast.specs.Plain.{plain_sort, plain_pattern};
+ghost use Rattle.kore_ast.specs.Plain.{plain_sort, pattern_tree};
 ghost use Rattle.kore_print.specs.TokenText.{built_name, op_name};
 ghost use Rattle.kore_print.specs.CanonicalText.{canonical_text};
-ghost use Rattle.kore_print.specs.Writing.{Writes, comma_after, spell_in_braces, spell_in_parentheses, spell_head};
+ghost use Rattle.kore_print.specs.Writing.{Writes, comma_after, spell_in_braces};
+ghost use Rattle.kore_print.specs.Writing.{spell_in_parentheses, spell_head};
 
 use crate::strings::push_string;
 use kore_ast::{Binder, Op, Pat, PatForm, Sort, SortForm, Text};
@@ -18,7 +19,7 @@ use std::alloc::{AllocError, Global};
 /// of the text. The recursion is only as deep as the nesting of the pattern and of its sorts, which
 /// is at most 500 in a pattern that can be read. Lists are written by loops.
 pub fn print_pattern(alloc: Global, pat: &Pat) -> Result<String, AllocError>
-    ensures { IfOk result (λ text. string_bytes text ≡ canonical_text (plain_pattern pat.now)) }
+    ensures { IfOk result (λ text. string_bytes text ≡ canonical_text (pattern_tree pat.now)) }
 {
     let mut text = String::new(alloc);
     push_pattern(&mut text, pat)?;
@@ -28,7 +29,8 @@ pub fn print_pattern(alloc: Global, pat: &Pat) -> Result<String, AllocError>
 /// Adds a pattern.
 #[cycle(patterns)]
 fn push_pattern(text: &mut String, pat: &Pat) -> Result<(), AllocError>
-    ensures { OnOk result (Writes (spell_pattern false (plain_pattern pat.now)) (string_bytes text.old) (string_bytes text.new)) }
+    ensures { OnOk result (Writes (spell_pattern false (pattern_tree pat.now))
+        (string_bytes text.old) (string_bytes text.new)) }
 {
     match &pat.form {
         PatForm::Elem(name, sort) => push_variable(text, name, sort),
@@ -63,7 +65,8 @@ fn push_pattern(text: &mut String, pat: &Pat) -> Result<(), AllocError>
 /// Adds patterns in parentheses.
 #[cycle(patterns)]
 fn push_patterns(text: &mut String, patterns: &[Pat]) -> Result<(), AllocError>
-    ensures { OnOk result (Writes (spell_in_parentheses (map plain_pattern patterns.now)) (string_bytes text.old) (string_bytes text.new)) }
+    ensures { OnOk result (Writes (spell_in_parentheses (map pattern_tree patterns.now))
+        (string_bytes text.old) (string_bytes text.new)) }
 {
     text.push_str("(")?;
     for i in 0..patterns.len() {
@@ -75,7 +78,8 @@ fn push_patterns(text: &mut String, patterns: &[Pat]) -> Result<(), AllocError>
 
 /// Adds an element variable of a sort.
 fn push_variable(text: &mut String, name: &Text, sort: &Sort) -> Result<(), AllocError>
-    ensures { OnOk result (Writes (spell_variable 0 (identifier name.now) (plain_sort sort.now)) (string_bytes text.old) (string_bytes text.new)) }
+    ensures { OnOk result (Writes (spell_variable 0 (identifier name.now) (plain_sort sort.now))
+        (string_bytes text.old) (string_bytes text.new)) }
 {
     text.push_str(name.as_str())?;
     text.push_str(":")?;
@@ -84,7 +88,8 @@ fn push_variable(text: &mut String, name: &Text, sort: &Sort) -> Result<(), Allo
 
 /// Adds a set variable of a sort.
 fn push_set_variable(text: &mut String, name: &Text, sort: &Sort) -> Result<(), AllocError>
-    ensures { OnOk result (Writes (spell_variable 0 (set_identifier name.now) (plain_sort sort.now)) (string_bytes text.old) (string_bytes text.new)) }
+    ensures { OnOk result (Writes (spell_variable 0 (set_identifier name.now) (plain_sort sort.now))
+        (string_bytes text.old) (string_bytes text.new)) }
 {
     text.push_str("@")?;
     push_variable(text, name, sort)
@@ -92,7 +97,8 @@ fn push_set_variable(text: &mut String, name: &Text, sort: &Sort) -> Result<(), 
 
 /// Adds a symbol with its sorts.
 fn push_symbol(text: &mut String, name: &Text, sorts: &[Sort]) -> Result<(), AllocError>
-    ensures { OnOk result (Writes (spell_head (identifier name.now) (map plain_sort sorts.now)) (string_bytes text.old) (string_bytes text.new)) }
+    ensures { OnOk result (Writes (spell_head (identifier name.now) (map plain_sort sorts.now))
+        (string_bytes text.old) (string_bytes text.new)) }
 {
     text.push_str(name.as_str())?;
     push_sorts(text, sorts)
@@ -100,7 +106,8 @@ fn push_symbol(text: &mut String, name: &Text, sorts: &[Sort]) -> Result<(), All
 
 /// Adds a built-in name with its sorts.
 fn push_built(text: &mut String, built: Built, sorts: &[Sort]) -> Result<(), AllocError>
-    ensures { OnOk result (Writes (spell_head (builtin (Some built)) (map plain_sort sorts.now)) (string_bytes text.old) (string_bytes text.new)) }
+    ensures { OnOk result (Writes (spell_head (builtin (Some built)) (map plain_sort sorts.now))
+        (string_bytes text.old) (string_bytes text.new)) }
 {
     push_name(text, built)?;
     push_sorts(text, sorts)
@@ -108,7 +115,9 @@ fn push_built(text: &mut String, built: Built, sorts: &[Sort]) -> Result<(), All
 
 /// Adds a domain value.
 fn push_value(text: &mut String, sort: &Sort, content: &Text) -> Result<(), AllocError>
-    ensures { OnOk result ((place : ℕ) → Writes (spell_pattern false (domain_value 0 (plain_sort sort.now) content.now place)) (string_bytes text.old) (string_bytes text.new)) }
+    ensures { OnOk result ((place : ℕ)
+        → Writes (spell_pattern false (domain_value 0 (plain_sort sort.now) content.now place))
+        (string_bytes text.old) (string_bytes text.new)) }
 {
     push_name(text, Built::Value)?;
     text.push_str("{")?;
@@ -121,7 +130,8 @@ fn push_value(text: &mut String, sort: &Sort, content: &Text) -> Result<(), Allo
 /// Adds a sort.
 #[cycle(sorts)]
 fn push_sort(text: &mut String, sort: &Sort) -> Result<(), AllocError>
-    ensures { OnOk result (Writes (spell_sort (plain_sort sort.now)) (string_bytes text.old) (string_bytes text.new)) }
+    ensures { OnOk result (Writes (spell_sort (plain_sort sort.now)) (string_bytes text.old)
+        (string_bytes text.new)) }
 {
     match &sort.form {
         SortForm::Param(name) => text.push_str(name.as_str()),
@@ -135,7 +145,8 @@ fn push_sort(text: &mut String, sort: &Sort) -> Result<(), AllocError>
 /// Adds sorts in braces.
 #[cycle(sorts)]
 fn push_sorts(text: &mut String, sorts: &[Sort]) -> Result<(), AllocError>
-    ensures { OnOk result (Writes (spell_in_braces (map plain_sort sorts.now)) (string_bytes text.old) (string_bytes text.new)) }
+    ensures { OnOk result (Writes (spell_in_braces (map plain_sort sorts.now))
+        (string_bytes text.old) (string_bytes text.new)) }
 {
     text.push_str("{")?;
     for i in 0..sorts.len() {
@@ -157,7 +168,8 @@ fn push_comma(text: &mut String, others: usize) -> Result<(), AllocError>
 
 /// Adds a built-in name with its backslash.
 fn push_name(text: &mut String, built: Built) -> Result<(), AllocError>
-    ensures { OnOk result (string_bytes text.new ≡ string_bytes text.old ++ (92 ∷ built_name built)) }
+    ensures { OnOk result
+        (string_bytes text.new ≡ string_bytes text.old ++ (92 ∷ built_name built)) }
 {
     text.push_str("\\")?;
     text.push_str(name_of(built))

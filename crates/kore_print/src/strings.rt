@@ -2,13 +2,15 @@
 
 ghost use Rattle.std.specs.Prelude.{◌≡◌, ◌<◌, ◌&&◌, nat_le, ◌++◌, OnOk, string_bytes};
 ghost use Rattle.std.specs.Char.{digit_char};
-ghost use Rattle.kore_print.specs.TokenText.{hexadecimal, numbered_text, character_text, string_text};
+ghost use Rattle.kore_print.specs.TokenText.{hexadecimal, numbered_text, character_text};
+ghost use Rattle.kore_print.specs.TokenText.{string_text};
 
 use std::alloc::AllocError;
 
 /// Adds the string with this content, in its quotes.
 pub(crate) fn push_string(text: &mut String, content: &str) -> Result<(), AllocError>
-    ensures { OnOk result (string_bytes text.new ≡ string_bytes text.old ++ string_text content.now) }
+    ensures { OnOk result
+        (string_bytes text.new ≡ string_bytes text.old ++ string_text content.now) }
 {
     text.push_str("\"")?;
     for character in content.chars() {
@@ -27,7 +29,8 @@ fn is_printable(character: char) -> bool
 /// Adds a character as it is written inside a string.
 #[tactic(auto, unfolding(crate::specs::TokenText::character_text))]
 fn push_character(text: &mut String, character: char) -> Result<(), AllocError>
-    ensures { OnOk result (string_bytes text.new ≡ string_bytes text.old ++ character_text character) }
+    ensures { OnOk result
+        (string_bytes text.new ≡ string_bytes text.old ++ character_text character) }
 {
     match character {
         '"' => text.push_str("\\\""),
@@ -59,7 +62,8 @@ fn push_numbered(text: &mut String, number: u32) -> Result<(), AllocError>
 
 /// Adds the last `digits` hexadecimal digits of a number.
 fn push_hexadecimal(text: &mut String, digits: usize, number: u32) -> Result<(), AllocError>
-    ensures { OnOk result (string_bytes text.new ≡ string_bytes text.old ++ hexadecimal digits number) }
+    ensures { OnOk result
+        (string_bytes text.new ≡ string_bytes text.old ++ hexadecimal digits number) }
 {
     if digits == 0 {
         return Ok(());

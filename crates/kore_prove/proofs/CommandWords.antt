@@ -1,10 +1,12 @@
 -- Words ask for only one thing.
-use Rattle.std.proofs.Common.{◌≡◌, ℕ, List, [], ◌∷◌, length, Bool, true, false, Option, Some, refl, sym, ◌∙◌, ap, arith}
+use Rattle.std.proofs.Common.{◌≡◌, ℕ, List, [], ◌∷◌, length, Bool, true, false, Option, Some, refl}
+use Rattle.std.proofs.Common.{sym, ◌∙◌, ap, arith}
 use Rattle.std.proofs.lemmas.Slice.Eq.{bytes_eq-Decides}
 use Rattle.std.specs.Prelude.{codes}
 use Rattle.std.specs.Str.{bytes_eq}
 use Rattle.command_words.specs.CommandLine.{is_named}
-use Rattle.kore_prove.specs.Words.{RunRequest, DrillRequest, AreBad, IsRun, IsVerify, IsDrill, IsNoDrill}
+use Rattle.kore_prove.specs.Words.{RunRequest, DrillRequest, AreBad, IsRun, IsVerify, IsDrill}
+use Rattle.kore_prove.specs.Words.{IsNoDrill}
 
 some_same : {A : Type 0} (o : Option A) (a b : A) → o ≡ Some a → o ≡ Some b → a ≡ b
 some_same o a b h k = cc
@@ -20,7 +22,8 @@ one_request words a b h k =
     let calls : a.calls ≡ b.calls = h.calls ∙ sym k.calls in
     let proof : a.proof ≡ b.proof = h.proof ∙ sym k.proof in
     ap (λ (d : List ℕ). record a { definition = d }) definition
-    ∙ ap (λ (t : List ℕ). record b { term = t; limit = a.limit; calls = a.calls; proof = a.proof }) term
+    ∙ ap (λ (t : List ℕ). record b { term = t; limit = a.limit; calls = a.calls; proof = a.proof })
+    term
     ∙ ap (λ (n : ℕ). record b { limit = n; calls = a.calls; proof = a.proof }) limit
     ∙ ap (λ (n : ℕ). record b { calls = n; proof = a.proof }) calls
     ∙ ap (λ (p : Option (List ℕ)). record b { proof = p }) proof
@@ -28,7 +31,8 @@ one_request words a b h k =
 pub one_file : (words : List (List ℕ)) (a b : List ℕ) → IsVerify words a → IsVerify words b → a ≡ b
 one_file words a b h k = some_same _ _ _ h.file_is k.file_is
 
-pub one_drill : (words : List (List ℕ)) (a b : DrillRequest) → IsDrill words a → IsDrill words b → a ≡ b
+pub one_drill : (words : List (List ℕ)) (a b : DrillRequest) → IsDrill words a → IsDrill words b
+    → a ≡ b
 one_drill words a b h k =
     let steps : a.steps ≡ b.steps = some_same _ _ _ h.steps_are k.steps_are in
     let file : a.file ≡ b.file = some_same _ _ _ h.file_is k.file_is in
@@ -40,32 +44,41 @@ run_good words asked h bad = never _ h.good bad.bad
 pub verify_good : (words : List (List ℕ)) (file : List ℕ) → IsVerify words file → AreBad words → ⊥
 verify_good words file h bad = never _ h.good bad.bad
 
-pub drill_good : (words : List (List ℕ)) (asked : DrillRequest) → IsDrill words asked → AreBad words → ⊥
+pub drill_good : (words : List (List ℕ)) (asked : DrillRequest) → IsDrill words asked → AreBad words
+    → ⊥
 drill_good words asked h bad = never _ h.good bad.bad
 
 -- names of different lengths are different
-both_names : (a b word : List ℕ) → (length a ≡ length b → ⊥) → bytes_eq word a ≡ true → bytes_eq word b ≡ true → ⊥
+both_names : (a b word : List ℕ) → (length a ≡ length b → ⊥) → bytes_eq word a ≡ true
+    → bytes_eq word b ≡ true → ⊥
 both_names a b word differ h k =
     let one : word ≡ a = (bytes_eq-Decides word a).0 h in
     let other : word ≡ b = (bytes_eq-Decides word b).0 k in
     differ (ap length (sym one ∙ other))
 
-named_both : (a b : List ℕ) (words : List (List ℕ)) → (length a ≡ length b → ⊥) → is_named a words ≡ true → is_named b words ≡ true → ⊥
+named_both : (a b : List ℕ) (words : List (List ℕ)) → (length a ≡ length b → ⊥)
+    → is_named a words ≡ true → is_named b words ≡ true → ⊥
 named_both a b [] differ h k = never false refl h
 named_both a b (word ∷ words) differ h k = both_names a b word differ h k
 
-pub not_both : (words : List (List ℕ)) (asked : RunRequest) (file : List ℕ) → IsRun words asked → IsVerify words file → ⊥
+pub not_both : (words : List (List ℕ)) (asked : RunRequest) (file : List ℕ) → IsRun words asked
+    → IsVerify words file → ⊥
 not_both words asked file h k =
-    named_both (codes "run") (codes "verify") words (λ same. (let lengths : 3 ≡ 6 = same in omega (arith, lengths))) h.named k.named
+    named_both (codes "run") (codes "verify") words
+    (λ same. (let lengths : 3 ≡ 6 = same in omega (arith, lengths))) h.named k.named
 
 -- words that ask for a run or a verification, or that are bad, do not ask for a drill
-pub run_no_drill : (words : List (List ℕ)) (asked : RunRequest) → IsRun words asked → IsNoDrill words
+pub run_no_drill : (words : List (List ℕ)) (asked : RunRequest) → IsRun words asked
+    → IsNoDrill words
 run_no_drill words asked h = λ drill k.
-    named_both (codes "run") (codes "drill") words (λ same. (let lengths : 3 ≡ 5 = same in omega (arith, lengths))) h.named k.named
+    named_both (codes "run") (codes "drill") words
+    (λ same. (let lengths : 3 ≡ 5 = same in omega (arith, lengths))) h.named k.named
 
-pub verify_no_drill : (words : List (List ℕ)) (file : List ℕ) → IsVerify words file → IsNoDrill words
+pub verify_no_drill : (words : List (List ℕ)) (file : List ℕ) → IsVerify words file
+    → IsNoDrill words
 verify_no_drill words file h = λ drill k.
-    named_both (codes "verify") (codes "drill") words (λ same. (let lengths : 6 ≡ 5 = same in omega (arith, lengths))) h.named k.named
+    named_both (codes "verify") (codes "drill") words
+    (λ same. (let lengths : 6 ≡ 5 = same in omega (arith, lengths))) h.named k.named
 
 pub bad_no_drill : (words : List (List ℕ)) → AreBad words → IsNoDrill words
 bad_no_drill words bad = λ drill k. drill_good words drill k bad

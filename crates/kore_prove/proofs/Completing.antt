@@ -2,15 +2,18 @@
 -- ran out.
 use Rattle.std.proofs.Common.{◌≡◌, ℕ, inl, inr, List, Option, None, Some, refl, subst}
 use Rattle.desk_io.specs.Told.{Told, Holds, Lacks, HoldsMore}
-use Rattle.desk_io.specs.Counts.{Rose}
+use Rattle.desk_io.specs.Counts.{CountRose}
 use Rattle.rule_core.specs.Theories.{RewriteTheory}
 use Rattle.kore_rules.specs.Acceptance.{IsAccepted, IsRefused, IsRefusedTerm}
 use Rattle.kore_prove.specs.Words.{RunRequest, DrillRequest, IsRun, IsVerify, IsDrill}
 use Rattle.kore_prove.specs.Limits.{HoldsWithin, definition_limit, term_limit, database_limit}
 use Rattle.kore_prove.specs.Files.{HoldsProgram}
-use Rattle.kore_prove.specs.Reports.{Ending, out_of_memory, bad_words, read_fault, write_fault, no_such_file, definition_refused, term_refused, too_large, end_code}
-use Rattle.kore_prove.specs.Causes.{Course, ReadCause, RunCause, VerifyCause, DrillCause}
-use Rattle.kore_prove.specs.Readiness.{CanRun, CanVerify, CanDrill, IsReady, IsReadyToVerify, IsFaultless, IsFaultlessTerm, IsUnhindered}
+use Rattle.kore_prove.specs.Reports.{Ending, out_of_memory, bad_words, read_fault, write_fault}
+use Rattle.kore_prove.specs.Reports.{no_such_file, definition_refused, term_refused, too_large}
+use Rattle.kore_prove.specs.Reports.{end_code}
+use Rattle.kore_prove.specs.Causes.{IoState, ReadCause, RunCause, VerifyCause, DrillCause}
+use Rattle.kore_prove.specs.Readiness.{CanRun, CanVerify, CanDrill, IsReady, IsReadyToVerify}
+use Rattle.kore_prove.specs.Readiness.{IsFaultless, IsFaultlessTerm, IsUnhindered}
 use Rattle.kore_prove.proofs.CommandWords.{one_request, one_file, one_drill}
 use Rattle.kore_prove.proofs.Ending.{one_content, not_lacking, not_more}
 
@@ -21,9 +24,11 @@ record StandsFor (told : Told) (asked : RunRequest) : Type 0 where
   faultless : IsFaultless definition
   term : List ℕ
   term_held : HoldsWithin (Some told) asked.term term_limit term
-  faultless_term : (theory : RewriteTheory) (top : Option ℕ) → IsAccepted definition theory top → IsFaultlessTerm theory top term
+  faultless_term : (theory : RewriteTheory) (top : Option ℕ) → IsAccepted definition theory top
+      → IsFaultlessTerm theory top term
 
-stands : (words : List (List ℕ)) (told : Told) (r : CanRun words told) (asked : RunRequest) → IsRun words asked → StandsFor told asked
+stands : (words : List (List ℕ)) (told : Told) (r : CanRun words told) (asked : RunRequest)
+    → IsRun words asked → StandsFor told asked
 stands words told r asked command =
     let own : StandsFor told r.asked = record {
       definition = r.definition;
@@ -36,69 +41,115 @@ stands words told r asked command =
     subst (StandsFor told) (one_request words r.asked asked r.command command) own
 
 -- a definition that was read from the file is this one
-held_accepted : (told : Told) (asked : RunRequest) (s : StandsFor told asked) (theory : RewriteTheory) (top : Option ℕ) → HoldsProgram (Some told) asked.definition theory top → IsAccepted s.definition theory top
+held_accepted : (told : Told) (asked : RunRequest) (s : StandsFor told asked)
+    (theory : RewriteTheory) (top : Option ℕ)
+    → HoldsProgram (Some told) asked.definition theory top → IsAccepted s.definition theory top
 held_accepted told asked s theory top h =
-    subst (λ (bytes : List ℕ). IsAccepted bytes theory top) (one_content told asked.definition h.bytes s.definition h.held.0 s.definition_held.0) h.accepted
+    subst (λ (bytes : List ℕ). IsAccepted bytes theory top)
+    (one_content told asked.definition h.bytes s.definition h.held.0 s.definition_held.0)
+    h.accepted
 
-no_read_cause : (told : Told) (asked : RunRequest) (s : StandsFor told asked) (reads reads' : ℕ) (e : Ending) → (Rose reads reads' → ⊥) → ReadCause asked (Some told) reads reads' e → end_code e ≡ 1
+no_read_cause : (told : Told) (asked : RunRequest) (s : StandsFor told asked) (reads reads' : ℕ)
+    (e : Ending) → (CountRose reads reads' → ⊥) → ReadCause asked (Some told) reads reads' e
+    → end_code e ≡ 1
 no_read_cause told asked s reads reads' out_of_memory free h = refl
 no_read_cause told asked s reads reads' bad_words free h = absurd h
 no_read_cause told asked s reads reads' read_fault free h = absurd (free h)
 no_read_cause told asked s reads reads' write_fault free h = absurd h
-no_read_cause told asked s reads reads' (no_such_file name) free (inl h) = absurd (not_lacking told asked.definition name s.definition h.0 s.definition_held.0 h.1)
-no_read_cause told asked s reads reads' (no_such_file name) free (inr h) = absurd (not_lacking told asked.term name s.term h.0 s.term_held.0 h.2)
+no_read_cause told asked s reads reads' (no_such_file name) free (inl h) =
+    absurd (not_lacking told asked.definition name s.definition h.0 s.definition_held.0 h.1)
+no_read_cause told asked s reads reads' (no_such_file name) free (inr h) =
+    absurd (not_lacking told asked.term name s.term h.0 s.term_held.0 h.2)
 no_read_cause told asked s reads reads' (definition_refused number byte) free h =
-    absurd (s.faultless _ (subst (λ (bytes : List ℕ). IsRefused bytes _) (one_content told asked.definition h.bytes s.definition h.held.0 s.definition_held.0) h.refused))
+    absurd (s.faultless _ (subst (λ (bytes : List ℕ). IsRefused bytes _)
+    (one_content told asked.definition h.bytes s.definition h.held.0 s.definition_held.0)
+    h.refused))
 no_read_cause told asked s reads reads' (term_refused number byte) free h =
-    absurd (s.faultless_term h.theory h.top (held_accepted told asked s h.theory h.top h.definition) _ (subst (λ (bytes : List ℕ). IsRefusedTerm h.theory.sig h.top bytes _) (one_content told asked.term h.bytes s.term h.held.0 s.term_held.0) h.refused))
-no_read_cause told asked s reads reads' (too_large name) free (inl h) = absurd (not_more told asked.definition name s.definition definition_limit h.0 s.definition_held.0 s.definition_held.1 h.1)
-no_read_cause told asked s reads reads' (too_large name) free (inr h) = absurd (not_more told asked.term name s.term term_limit h.0 s.term_held.0 s.term_held.1 h.2)
+    absurd (s.faultless_term h.theory h.top (held_accepted told asked s h.theory h.top h.definition)
+    _ (subst (λ (bytes : List ℕ). IsRefusedTerm h.theory.sig h.top bytes _)
+    (one_content told asked.term h.bytes s.term h.held.0 s.term_held.0) h.refused))
+no_read_cause told asked s reads reads' (too_large name) free (inl h) =
+    absurd (not_more told asked.definition name s.definition definition_limit h.0
+    s.definition_held.0 s.definition_held.1 h.1)
+no_read_cause told asked s reads reads' (too_large name) free (inr h) =
+    absurd (not_more told asked.term name s.term term_limit h.0 s.term_held.0 s.term_held.1 h.2)
 
 -- such a call can end only because memory ran out
-no_cause : (words : List (List ℕ)) (told : Told) (r : CanRun words told) (asked : RunRequest) (c : Course) (e : Ending) → c.told ≡ Some told → IsRun words asked → IsUnhindered c → RunCause asked c e → end_code e ≡ 1
+no_cause : (words : List (List ℕ)) (told : Told) (r : CanRun words told) (asked : RunRequest)
+    (c : IoState) (e : Ending) → c.told ≡ Some told → IsRun words asked → IsUnhindered c
+    → RunCause asked c e → end_code e ≡ 1
 no_cause words told r asked c e is command free (inl h) =
-    no_read_cause told asked (stands words told r asked command) c.reads c.reads' e free.reads (subst (λ (o : Option Told). ReadCause asked o c.reads c.reads' e) is h)
-no_cause words told r asked c e is command free (inr h) = absurd (elim h.1.rose [ inl out ↦ free.writes out | inr desk ↦ free.files desk ])
+    no_read_cause told asked (stands words told r asked command) c.reads c.reads' e free.reads
+    (subst (λ (o : Option Told). ReadCause asked o c.reads c.reads' e) is h)
+no_cause words told r asked c e is command free (inr h) =
+    absurd (elim h.1.rose [ inl out ↦ free.writes out | inr desk ↦ free.files desk ])
 
-pub run_ends_without_memory : (words : List (List ℕ)) (told : Option Told) (asked : RunRequest) (c : Course) (e : Ending) → c.told ≡ told → IsReady words told → IsRun words asked → IsUnhindered c → RunCause asked c e → end_code e ≡ 1
+pub run_ends_without_memory : (words : List (List ℕ)) (told : Option Told) (asked : RunRequest)
+    (c : IoState) (e : Ending) → c.told ≡ told → IsReady words told → IsRun words asked
+    → IsUnhindered c → RunCause asked c e → end_code e ≡ 1
 run_ends_without_memory words None asked c e is ready command free cause = absurd ready
-run_ends_without_memory words (Some told) asked c e is ready command free cause = no_cause words told ready asked c e is command free cause
+run_ends_without_memory words (Some told) asked c e is ready command free cause =
+    no_cause words told ready asked c e is command free cause
 
-no_verify_cause : (words : List (List ℕ)) (told : Told) (r : CanVerify words told) (file : List ℕ) (c : Course) (e : Ending) → c.told ≡ Some told → IsVerify words file → (Rose c.reads c.reads' → ⊥) → (Rose c.writes c.writes' → ⊥) → VerifyCause file c e → end_code e ≡ 1
+no_verify_cause : (words : List (List ℕ)) (told : Told) (r : CanVerify words told) (file : List ℕ)
+    (c : IoState) (e : Ending) → c.told ≡ Some told → IsVerify words file
+    → (CountRose c.reads c.reads' → ⊥) → (CountRose c.writes c.writes' → ⊥) → VerifyCause file c e
+    → end_code e ≡ 1
 no_verify_cause words told r file c out_of_memory is command reads writes h = refl
 no_verify_cause words told r file c bad_words is command reads writes h = absurd h
 no_verify_cause words told r file c read_fault is command reads writes h = absurd (reads h)
 no_verify_cause words told r file c write_fault is command reads writes h = absurd (writes h.0)
 no_verify_cause words told r file c (no_such_file name) is command reads writes h =
-    absurd (not_lacking told file name r.bytes h.0 (subst (λ (n : List ℕ). Holds (Some told) n r.bytes) (one_file words r.file file r.command command) r.held.0) (subst (λ (o : Option Told). Lacks o name) is h.1))
-no_verify_cause words told r file c (definition_refused number byte) is command reads writes h = absurd h
+    absurd (not_lacking told file name r.bytes h.0 (subst
+    (λ (n : List ℕ). Holds (Some told) n r.bytes)
+    (one_file words r.file file r.command command) r.held.0)
+    (subst (λ (o : Option Told). Lacks o name) is h.1))
+no_verify_cause words told r file c (definition_refused number byte) is command reads writes h =
+    absurd h
 no_verify_cause words told r file c (term_refused number byte) is command reads writes h = absurd h
 no_verify_cause words told r file c (too_large name) is command reads writes h =
-    absurd (not_more told file name r.bytes database_limit h.0 (subst (λ (n : List ℕ). Holds (Some told) n r.bytes) (one_file words r.file file r.command command) r.held.0) r.held.1 (subst (λ (o : Option Told). HoldsMore o name database_limit) is h.1))
+    absurd (not_more told file name r.bytes database_limit h.0 (subst
+    (λ (n : List ℕ). Holds (Some told) n r.bytes)
+    (one_file words r.file file r.command command) r.held.0) r.held.1
+    (subst (λ (o : Option Told). HoldsMore o name database_limit) is h.1))
 
-pub verify_ends_without_memory : (words : List (List ℕ)) (told : Option Told) (file : List ℕ) (c : Course) (e : Ending) → c.told ≡ told → IsReadyToVerify words told → IsVerify words file → (Rose c.reads c.reads' → ⊥) → (Rose c.writes c.writes' → ⊥) → VerifyCause file c e → end_code e ≡ 1
+pub verify_ends_without_memory : (words : List (List ℕ)) (told : Option Told) (file : List ℕ)
+    (c : IoState) (e : Ending) → c.told ≡ told → IsReadyToVerify words told
+    → IsVerify words file → (CountRose c.reads c.reads' → ⊥) → (CountRose c.writes c.writes' → ⊥)
+    → VerifyCause file c e → end_code e ≡ 1
 verify_ends_without_memory words None file c e is ready command reads writes cause = absurd ready
-verify_ends_without_memory words (Some told) file c e is ready command reads writes cause = no_verify_cause words told ready file c e is command reads writes cause
+verify_ends_without_memory words (Some told) file c e is ready command reads writes cause =
+    no_verify_cause words told ready file c e is command reads writes cause
 
-no_drill_cause : (words : List (List ℕ)) (r : CanDrill words) (c : Course) (e : Ending) → (Rose c.files c.files' → ⊥) → (Rose c.writes c.writes' → ⊥) → DrillCause r.asked.steps c e → end_code e ≡ 1
+no_drill_cause : (words : List (List ℕ)) (r : CanDrill words) (c : IoState) (e : Ending)
+    → (CountRose c.files c.files' → ⊥) → (CountRose c.writes c.writes' → ⊥)
+    → DrillCause r.asked.steps c e → end_code e ≡ 1
 no_drill_cause words r c out_of_memory files writes h = refl
 no_drill_cause words r c bad_words files writes h = absurd h
 no_drill_cause words r c read_fault files writes h = absurd h
-no_drill_cause words r c write_fault files writes h = absurd (elim h.0 [ inl out ↦ writes out | inr desk ↦ files desk ])
+no_drill_cause words r c write_fault files writes h =
+    absurd (elim h.0 [ inl out ↦ writes out | inr desk ↦ files desk ])
 no_drill_cause words r c (no_such_file name) files writes h = absurd h
 no_drill_cause words r c (definition_refused number byte) files writes h = absurd (r.faultless _ h)
-no_drill_cause words r c (term_refused number byte) files writes h = absurd (r.faultless_term h.theory h.top h.definition _ h.refused)
+no_drill_cause words r c (term_refused number byte) files writes h =
+    absurd (r.faultless_term h.theory h.top h.definition _ h.refused)
 no_drill_cause words r c (too_large name) files writes h = absurd h
 
-pub drill_ends_without_memory : (words : List (List ℕ)) (asked : DrillRequest) (c : Course) (e : Ending) → CanDrill words → IsDrill words asked → (Rose c.files c.files' → ⊥) → (Rose c.writes c.writes' → ⊥) → DrillCause asked.steps c e → end_code e ≡ 1
+pub drill_ends_without_memory : (words : List (List ℕ)) (asked : DrillRequest) (c : IoState)
+    (e : Ending) → CanDrill words → IsDrill words asked → (CountRose c.files c.files' → ⊥)
+    → (CountRose c.writes c.writes' → ⊥) → DrillCause asked.steps c e → end_code e ≡ 1
 drill_ends_without_memory words asked c e ready command files writes cause =
-    no_drill_cause words ready c e files writes (subst (λ (d : DrillRequest). DrillCause d.steps c e) (one_drill words asked ready.asked command ready.command) cause)
+    no_drill_cause words ready c e files writes (subst
+    (λ (d : DrillRequest). DrillCause d.steps c e)
+    (one_drill words asked ready.asked command ready.command) cause)
 
 -- words that can run or verify ask for that
-pub ready_run : (words : List (List ℕ)) (told : Option Told) → IsReady words told → (asked : RunRequest) × IsRun words asked
+pub ready_run : (words : List (List ℕ)) (told : Option Told) → IsReady words told
+    → (asked : RunRequest) × IsRun words asked
 ready_run words None ready = absurd ready
 ready_run words (Some told) ready = (ready.asked, ready.command)
 
-pub ready_verify : (words : List (List ℕ)) (told : Option Told) → IsReadyToVerify words told → (file : List ℕ) × IsVerify words file
+pub ready_verify : (words : List (List ℕ)) (told : Option Told) → IsReadyToVerify words told
+    → (file : List ℕ) × IsVerify words file
 ready_verify words None ready = absurd ready
 ready_verify words (Some told) ready = (ready.file, ready.command)

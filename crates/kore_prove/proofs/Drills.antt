@@ -1,7 +1,8 @@
 -- From the parts of a drill to its result.
-use Rattle.std.proofs.Common.{◌≡◌, ℕ, ◌+◌, ◌≤◌, ◌<◌, ◌^◌, arith, ◌⊎◌, inl, inr, List, ◌++◌, Option, refl, sym, ◌∙◌, ap, subst}
+use Rattle.std.proofs.Common.{◌≡◌, ℕ, ◌+◌, ◌≤◌, ◌<◌, ◌^◌, arith, ◌⊎◌, inl, inr, List, ◌++◌, Option}
+use Rattle.std.proofs.Common.{refl, sym, ◌∙◌, ap, subst}
 use Rattle.desk_io.specs.Told.{Told, KeepsFiles}
-use Rattle.desk_io.specs.Counts.{Rose}
+use Rattle.desk_io.specs.Counts.{CountRose}
 use Rattle.desk_io.specs.Sent.{Appends}
 use Rattle.desk_io.specs.declared.desk.DeskFault.{DeskFault}
 use Rattle.desk_io.specs.declared.desk.DeskFault.TheVariants as fault
@@ -10,17 +11,18 @@ use Rattle.rule_core.specs.Theories.{RewriteTheory}
 use Rattle.rule_core.specs.Runs.{Run, kept_by}
 use Rattle.drill_gen.specs.Drill.{drill_definition, drill_term}
 use Rattle.kore_rules.specs.Acceptance.{IsAccepted, IsAcceptedTerm}
-use Rattle.mm_justify.specs.Counting.{facts_in, statements_in, capped}
+use Rattle.mm_justify.specs.Counting.{fact_count, statement_count, capped}
 use Rattle.run_proof.specs.WrittenProofs.{IsSummaryOf}
 use Rattle.run_proof.specs.declared.summaries.Summary.{Summary}
 use Rattle.kore_prove.specs.Words.{DrillRequest}
 use Rattle.kore_prove.specs.ProvedRun.{KeepsOthers}
 use Rattle.kore_prove.specs.ProofFiles.{HoldsCounted, MayHoldFront}
 use Rattle.kore_prove.specs.DrillProgram.{IsDrillProgram}
-use Rattle.kore_prove.specs.DrilledRun.{IsDrilled, LeavesDrill, counts_line, counts_line_of, drill_calls}
+use Rattle.kore_prove.specs.DrilledRun.{IsDrilled, LeavesDrill, counts_line, counts_line_of}
+use Rattle.kore_prove.specs.DrilledRun.{drill_calls}
 use Rattle.kore_prove.specs.Reports.{Ending}
 use Rattle.kore_prove.specs.PlainEnds.{fault_end}
-use Rattle.kore_prove.specs.Causes.{Course, DrillCause, HasDrill, Grows, KeepsOutput}
+use Rattle.kore_prove.specs.Causes.{IoState, DrillCause, HasDrill, Grows, KeepsOutput}
 use Rattle.kore_prove.specs.Requests.{IsDrillFile}
 use Rattle.kore_prove.specs.RunsDone.{HasLines, IsDrillDone, IsDrillEnded}
 use Rattle.kore_prove.proofs.Ending.{same_files, kept_output, files_at}
@@ -32,25 +34,35 @@ pub few_bytes : (n : ℕ) → n ≤ 2 ^ 20 → n < 2 ^ 32
 few_bytes n h = omega (arith, h)
 
 -- the texts of a drill were accepted
-pub texts_accepted : (steps : ℕ) (definition term : List ℕ) (theory : RewriteTheory) (top : Option ℕ) (start : Pattern) → definition ≡ drill_definition steps → term ≡ drill_term → IsAccepted definition theory top
-    → IsAcceptedTerm theory.sig top term start → IsDrillProgram steps theory start
+pub texts_accepted : (steps : ℕ) (definition term : List ℕ) (theory : RewriteTheory)
+    (top : Option ℕ) (start : Pattern) → definition ≡ drill_definition steps → term ≡ drill_term
+    → IsAccepted definition theory top → IsAcceptedTerm theory.sig top term start
+    → IsDrillProgram steps theory start
 texts_accepted steps definition term theory top start is is_term accepted accepted_term = record {
   top = top;
   definition = subst (λ (bytes : List ℕ). IsAccepted bytes theory top) is accepted;
-  term = subst (λ (bytes : List ℕ). IsAcceptedTerm theory.sig top bytes start) is_term accepted_term;
+  term =
+      subst (λ (bytes : List ℕ). IsAcceptedTerm theory.sig top bytes start) is_term accepted_term;
 }
 
 -- the line of the counts is the one of the database
-counts_are : (database : List ℕ) (s : Summary) → IsSummaryOf database s → counts_line s.facts s.statements s.bytes ≡ counts_line_of database
+counts_are : (database : List ℕ) (s : Summary) → IsSummaryOf database s
+    → counts_line s.facts s.statements s.bytes ≡ counts_line_of database
 counts_are database s h =
     ap (λ (n : ℕ). counts_line n s.statements s.bytes) h.counts.facts_are
-    ∙ ap (λ (n : ℕ). counts_line (capped (facts_in database)) n s.bytes) h.counts.statements_are
-    ∙ ap (λ (n : ℕ). counts_line (capped (facts_in database)) (capped (statements_in database)) n) h.bytes_are
+    ∙ ap (λ (n : ℕ). counts_line (capped (fact_count database)) n s.bytes) h.counts.statements_are
+    ∙ ap (λ (n : ℕ).
+    counts_line (capped (fact_count database)) (capped (statement_count database)) n)
+    h.bytes_are
 
 -- the drill was made and printed
-pub drill_made : (asked : DrillRequest) (c : Course) (theory : RewriteTheory) (start : Pattern) (run : Run) (lines : List ℕ) (s : Summary) → IsDrillProgram asked.steps theory start
-    → HasLines (record { limit = asked.steps + 1; calls = drill_calls }) theory start run lines → HoldsCounted c.told c.told' asked.file theory start run s → KeepsOthers (IsDrillFile asked) c.told c.told'
-    → Appends c.output c.output' (lines ++ counts_line s.facts s.statements s.bytes) → IsDrillDone asked c
+pub drill_made : (asked : DrillRequest) (c : IoState) (theory : RewriteTheory) (start : Pattern)
+    (run : Run) (lines : List ℕ) (s : Summary) → IsDrillProgram asked.steps theory start
+    → HasLines (record { limit = asked.steps + 1; calls = drill_calls }) theory start run lines
+    → HoldsCounted c.told c.told' asked.file theory start run s
+    → KeepsOthers (IsDrillFile asked) c.told c.told'
+    → Appends c.output c.output' (lines ++ counts_line s.facts s.statements s.bytes)
+    → IsDrillDone asked c
 drill_made asked c theory start run lines s program h held others grew = record {
   drilled = record {
     theory = theory;
@@ -61,33 +73,49 @@ drill_made asked c theory start run lines s program h held others grew = record 
     proof = held.proof;
     lines = lines;
     lines_are = h.lines_are;
-    grew = subst (λ (line : List ℕ). Appends c.output c.output' (lines ++ line)) (counts_are held.proof.bytes s held.counted) grew;
+    grew =
+        subst (λ (line : List ℕ). Appends c.output c.output' (lines ++ line))
+        (counts_are held.proof.bytes s held.counted) grew;
   };
   others = others;
 }
 
 -- the texts of a drill were not accepted
-pub texts_ended : (asked : DrillRequest) (c : Course) (e : Ending) → c.output' ≡ c.output → c.told' ≡ c.told → DrillCause asked.steps c e → IsDrillEnded asked c e
+pub texts_ended : (asked : DrillRequest) (c : IoState) (e : Ending) → c.output' ≡ c.output
+    → c.told' ≡ c.told → DrillCause asked.steps c e → IsDrillEnded asked c e
 texts_ended asked c e output told cause =
-    let kept : KeepsFiles c.told c.told' = subst (λ (o : Option Told). KeepsFiles c.told o) (sym told) (same_files c.told) in record {
+    let kept : KeepsFiles c.told c.told' =
+    subst (λ (o : Option Told). KeepsFiles c.told o) (sym told) (same_files c.told) in
+    record {
       cause = cause;
-      output = subst (λ (o : Option (List ℕ)). KeepsOutput e c.output o) (sym output) (kept_output e c.output);
+      output =
+          subst (λ (o : Option (List ℕ)). KeepsOutput e c.output o) (sym output)
+          (kept_output e c.output);
       front = inl (kept_file c.told c.told' asked.file kept);
       others = kept_others (IsDrillFile asked) c.told c.told' kept;
       files = files_at e c.told c.told' kept;
     }
 
 -- the drill was not written
-unwritten_cause : (steps : ℕ) (c : Course) (f : DeskFault) → HasDrill steps → (f ≡ fault.Failed → Rose c.writes c.writes' ⊎ Rose c.files c.files') → DrillCause steps c (fault_end f)
+unwritten_cause : (steps : ℕ) (c : IoState) (f : DeskFault) → HasDrill steps
+    → (f ≡ fault.Failed → CountRose c.writes c.writes' ⊎ CountRose c.files c.files')
+    → DrillCause steps c (fault_end f)
 unwritten_cause steps c fault.Failed drill rose = (rose refl, drill)
 unwritten_cause steps c fault.Memory drill rose = tt
 
-left_drill : (asked : DrillRequest) (told told' : Option Told) (theory : RewriteTheory) (start : Pattern) → IsDrillProgram asked.steps theory start → MayHoldFront told told' asked.file theory start → LeavesDrill asked told told'
+left_drill : (asked : DrillRequest) (told told' : Option Told) (theory : RewriteTheory)
+    (start : Pattern) → IsDrillProgram asked.steps theory start
+    → MayHoldFront told told' asked.file theory start → LeavesDrill asked told told'
 left_drill asked told told' theory start program (inl same) = inl same
-left_drill asked told told' theory start program (inr made) = inr (record { theory = theory; start = start; program = program; holds = made })
+left_drill asked told told' theory start program (inr made) =
+    inr (record { theory = theory; start = start; program = program; holds = made })
 
-pub drill_unwritten : (asked : DrillRequest) (c : Course) (e : Ending) (f : DeskFault) (theory : RewriteTheory) (start : Pattern) → e ≡ fault_end f → IsDrillProgram asked.steps theory start → MayHoldFront c.told c.told' asked.file theory start
-    → KeepsOthers (IsDrillFile asked) c.told c.told' → (f ≡ fault.Failed → Rose c.writes c.writes' ⊎ Rose c.files c.files') → Grows c.output c.output' → IsDrillEnded asked c e
+pub drill_unwritten : (asked : DrillRequest) (c : IoState) (e : Ending) (f : DeskFault)
+    (theory : RewriteTheory) (start : Pattern) → e ≡ fault_end f
+    → IsDrillProgram asked.steps theory start → MayHoldFront c.told c.told' asked.file theory start
+    → KeepsOthers (IsDrillFile asked) c.told c.told'
+    → (f ≡ fault.Failed → CountRose c.writes c.writes' ⊎ CountRose c.files c.files')
+    → Grows c.output c.output' → IsDrillEnded asked c e
 drill_unwritten asked c e f theory start is program front others rose grows =
     subst (λ (end : Ending). IsDrillEnded asked c end) (sym is) (record {
       cause = unwritten_cause asked.steps c f (theory, start, program) rose;
@@ -98,7 +126,9 @@ drill_unwritten asked c e f theory start is program front others rose grows =
     })
 
 -- after a drill its file holds the front of a proof
-pub drilled_front : (asked : DrillRequest) (told told' : Option Told) (before after : Option (List ℕ)) → IsDrilled asked told told' before after → LeavesDrill asked told told'
+pub drilled_front : (asked : DrillRequest) (told told' : Option Told)
+    (before after : Option (List ℕ)) → IsDrilled asked told told' before after
+    → LeavesDrill asked told told'
 drilled_front asked told told' before after d = inr (record {
   theory = d.theory;
   start = d.start;
@@ -106,6 +136,7 @@ drilled_front asked told told' before after d = inr (record {
   holds = record {
     bytes = d.proof.bytes;
     held = d.proof.held;
-    front = inr (proof_front d.theory d.start (kept_by d.start d.run) d.proof.bytes d.proof.justifies);
+    front =
+        inr (proof_front d.theory d.start (kept_by d.start d.run) d.proof.bytes d.proof.justifies);
   };
 })

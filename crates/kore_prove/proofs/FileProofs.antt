@@ -1,8 +1,10 @@
 -- The file of a proof, and how the other files change.
-use Rattle.std.proofs.Common.{◌≡◌, ◌≢◌, ℕ, inl, inr, List, [], ◌++◌, Option, Some, None, Result, Ok, Err, true, refl, sym, ◌∙◌, ap, subst}
+use Rattle.std.proofs.Common.{◌≡◌, ◌≢◌, ℕ, inl, inr, List, [], ◌++◌, Option, Some, None, Result, Ok}
+use Rattle.std.proofs.Common.{Err, true, refl, sym, ◌∙◌, ap, subst}
 use Rattle.std.specs.Prelude.{OnErr}
 use Rattle.std.proofs.lemmas.List.{append-nil}
-use Rattle.desk_io.specs.Told.{Told, KeepsFiles, Same, TellsCreated, Creates, Writes, Closes, PutsFile, file_of}
+use Rattle.desk_io.specs.Told.{Told, KeepsFiles, Same, TellsCreated, Creates, Writes, Closes}
+use Rattle.desk_io.specs.Told.{PutsFile, file_of}
 use Rattle.term_core.specs.Patterns.{Pattern}
 use Rattle.rule_core.specs.Theories.{RewriteTheory}
 use Rattle.rule_core.specs.Runs.{Run, kept_by}
@@ -10,7 +12,8 @@ use Rattle.mm_justify.specs.Justifying.{JustifiesRun}
 use Rattle.run_proof.specs.WrittenProofs.{WritesProof, WritesFrontOfProof, IsFrontOfProof}
 use Rattle.run_proof.specs.declared.summaries.Summary.{Summary}
 use Rattle.kore_prove.specs.ProvedRun.{Tells, TellsNow, KeepsFile, KeepsOthers}
-use Rattle.kore_prove.specs.ProofFiles.{PutsCreated, PutsProof, PutsFront, HoldsCounted, MayHoldFront, KeepsOthersNow}
+use Rattle.kore_prove.specs.ProofFiles.{PutsCreated, PutsProof, PutsFront, HoldsCounted}
+use Rattle.kore_prove.specs.ProofFiles.{MayHoldFront, KeepsOthersNow}
 
 -- what holds after an error
 pub on_err_more : {T E : Type 0} (r : Result T E) (P Q : Type 0) → (P → Q) → OnErr r P → OnErr r Q
@@ -21,15 +24,18 @@ pub some_same : {A : Type 0} (a b : A) → Some a ≡ Some b → a ≡ b
 some_same a b h = cc
 
 -- if all files are kept, the others are kept; if fewer files are written, more files are kept
-pub kept_others : (W : List ℕ → Type 0) (old new : Option Told) → KeepsFiles old new → KeepsOthers W old new
+pub kept_others : (W : List ℕ → Type 0) (old new : Option Told) → KeepsFiles old new
+    → KeepsOthers W old new
 kept_others W None new h = tt
 kept_others W (Some old) new h = (record old { unread = h.0 }, h.1, λ name other. refl)
 
-pub fewer_others : (V W : List ℕ → Type 0) (old new : Option Told) → ((name : List ℕ) → V name → W name) → KeepsOthers V old new → KeepsOthers W old new
+pub fewer_others : (V W : List ℕ → Type 0) (old new : Option Told)
+    → ((name : List ℕ) → V name → W name) → KeepsOthers V old new → KeepsOthers W old new
 fewer_others V W None new f h = tt
 fewer_others V W (Some old) new f h = (h.0, h.1, λ name other. h.2 name (λ v. other (f name v)))
 
-pub then_others : (W : List ℕ → Type 0) (old between new : Option Told) → KeepsFiles old between → KeepsOthers W between new → KeepsOthers W old new
+pub then_others : (W : List ℕ → Type 0) (old between new : Option Told) → KeepsFiles old between
+    → KeepsOthers W between new → KeepsOthers W old new
 then_others W None between new kept h = tt
 then_others W (Some old) between new kept h =
     let P : Option Told → Type 0 = λ o. KeepsOthers W o new in
@@ -37,11 +43,13 @@ then_others W (Some old) between new kept h =
     (q.0, q.1, q.2)
 
 -- if all files are kept, each file is kept
-pub kept_file : (old new : Option Told) (file : List ℕ) → KeepsFiles old new → KeepsFile old new file
+pub kept_file : (old new : Option Told) (file : List ℕ) → KeepsFiles old new
+    → KeepsFile old new file
 kept_file None new file h = tt
 kept_file (Some old) new file h = (record old { unread = h.0 }, h.1, refl)
 
-pub then_file : (old between new : Option Told) (file : List ℕ) → KeepsFiles old between → KeepsFile between new file → KeepsFile old new file
+pub then_file : (old between new : Option Told) (file : List ℕ) → KeepsFiles old between
+    → KeepsFile between new file → KeepsFile old new file
 then_file None between new file kept h = tt
 then_file (Some old) between new file kept h =
     let P : Option Told → Type 0 = λ o. KeepsFile o new file in
@@ -55,20 +63,26 @@ same_file (Some old) new file h = (old, h, refl)
 -- The created file of a desk, from its creation to its end.
 
 -- a file that was created, written and closed holds what was written
-pub created_tells : (old made new : Option Told) (name bytes : List ℕ) → Creates old made name → PutsCreated made new bytes → TellsNow old new name bytes
+pub created_tells : (old made new : Option Told) (name bytes : List ℕ) → Creates old made name
+    → PutsCreated made new bytes → TellsNow old new name bytes
 created_tells None made new name bytes h k = tt
 created_tells (Some old) made new name bytes h k =
     let P : Option Told → Type 0 = λ o. PutsCreated o new bytes in
-    let puts : PutsCreated (Some (record { files = h.0; unread = []; created = Some name })) new bytes = subst P h.2 k in
+    let puts : PutsCreated (Some (record { files = h.0; unread = []; created = Some name })) new
+    bytes =
+    subst P h.2 k in
     let Q : Option Told → Type 0 = λ o. Tells o name bytes in
     subst Q (sym puts.1) (puts.2 name [] refl h.1.0).0
 
 -- and each other file is as before
-pub created_others : (old made new : Option Told) (name : List ℕ) → Creates old made name → KeepsOthersNow made new → KeepsOthers (λ file. Some name ≡ Some file) old new
+pub created_others : (old made new : Option Told) (name : List ℕ) → Creates old made name
+    → KeepsOthersNow made new → KeepsOthers (λ file. Some name ≡ Some file) old new
 created_others None made new name h k = tt
 created_others (Some old) made new name h k =
     let P : Option Told → Type 0 = λ o. KeepsOthersNow o new in
-    let kept : KeepsOthersNow (Some (record { files = h.0; unread = []; created = Some name })) new = subst P h.2 k in (
+    let kept : KeepsOthersNow (Some (record { files = h.0; unread = []; created = Some name }))
+    new =
+    subst P h.2 k in (
       kept.0,
       kept.1,
       λ other unwanted. (
@@ -76,7 +90,8 @@ created_others (Some old) made new name h k =
           kept.2 name other refl differs ∙ h.1.1 other differs),
     )
 
-pub same_others : (W : List ℕ → Type 0) (old new : Option Told) → Same old new → KeepsOthers W old new
+pub same_others : (W : List ℕ → Type 0) (old new : Option Told) → Same old new
+    → KeepsOthers W old new
 same_others W None new h = tt
 same_others W (Some old) new h = (old, h, λ name other. refl)
 
@@ -85,7 +100,8 @@ closed_others None new h = tt
 closed_others (Some made) new h = (record made { created = None }, h, λ name other is differs. refl)
 
 -- the bytes that were written before the file was closed
-pub written_closed : (made mid new : Option Told) (bytes : List ℕ) → Writes made mid bytes → Closes mid new → PutsCreated made new bytes
+pub written_closed : (made mid new : Option Told) (bytes : List ℕ) → Writes made mid bytes
+    → Closes mid new → PutsCreated made new bytes
 written_closed None mid new bytes h k = tt
 written_closed (Some made) mid new bytes h k =
     let P : Option Told → Type 0 = λ o. Closes o new in
@@ -94,57 +110,90 @@ written_closed (Some made) mid new bytes h k =
       closed,
       λ name content is held. (
           let same : h.0 ≡ name = some_same h.0 name (sym h.3 ∙ is) in
-          let one : h.1 ≡ content = some_same h.1 content (sym h.4 ∙ ap (file_of made.files) same ∙ held) in
-          subst (λ (c : List ℕ). PutsFile made.files h.2 name (c ++ bytes)) one (subst (λ (n : List ℕ). PutsFile made.files h.2 n (h.1 ++ bytes)) same h.5)),
+          let one : h.1 ≡ content =
+          some_same h.1 content (sym h.4 ∙ ap (file_of made.files) same ∙ held) in
+          subst (λ (c : List ℕ). PutsFile made.files h.2 name (c ++ bytes)) one
+          (subst (λ (n : List ℕ). PutsFile made.files h.2 n (h.1 ++ bytes)) same h.5)),
     )
 
-pub puts_others : (made new : Option Told) (name bytes : List ℕ) (told : TellsCreated true made) → PutsCreated made new bytes → KeepsOthersNow made new
+pub puts_others : (made new : Option Told) (name bytes : List ℕ) (told : TellsCreated true made)
+    → PutsCreated made new bytes → KeepsOthersNow made new
 puts_others None new name bytes told h = tt
 puts_others (Some made) new name bytes told h = (
   h.0,
   h.1,
   λ created other is differs. (
       let same : told.0 ≡ created = some_same told.0 created (sym told.2 ∙ is) in
-      let held : file_of made.files created ≡ Some told.1 = ap (file_of made.files) (sym same) ∙ told.3 in
+      let held : file_of made.files created ≡ Some told.1 =
+      ap (file_of made.files) (sym same) ∙ told.3 in
       (h.2 created told.1 is held).1 other differs),
 )
 
 -- the front of a proof was written, and the file was closed
-pub front_closed : (made mid new : Option Told) (theory : RewriteTheory) (start : Pattern) → WritesFrontOfProof made mid theory start → Closes mid new → PutsFront made new theory start
+pub front_closed : (made mid new : Option Told) (theory : RewriteTheory) (start : Pattern)
+    → WritesFrontOfProof made mid theory start → Closes mid new → PutsFront made new theory start
 front_closed made mid new theory start h k = (h.0, written_closed made mid new h.0 h.1 k, h.2)
 
-pub front_others : (made mid new : Option Told) (theory : RewriteTheory) (start : Pattern) → WritesFrontOfProof made mid theory start → Closes mid new → TellsCreated true made → KeepsOthersNow made new
+pub front_others : (made mid new : Option Told) (theory : RewriteTheory) (start : Pattern)
+    → WritesFrontOfProof made mid theory start → Closes mid new → TellsCreated true made
+    → KeepsOthersNow made new
 front_others None mid new theory start h k told = tt
-front_others (Some made) mid new theory start h k told = puts_others (Some made) new told.0 h.0 told (written_closed (Some made) mid new h.0 h.1 k)
+front_others (Some made) mid new theory start h k told =
+    puts_others (Some made) new told.0 h.0 told (written_closed (Some made) mid new h.0 h.1 k)
 
 -- a whole proof is a front of itself
-pub proof_front : (theory : RewriteTheory) (start end : Pattern) (bytes : List ℕ) → JustifiesRun bytes theory start end → IsFrontOfProof theory start bytes
-proof_front theory start end bytes h = (end, ([], subst (λ (text : List ℕ). JustifiesRun text theory start end) (sym (append-nil bytes)) h))
+pub proof_front : (theory : RewriteTheory) (start end : Pattern) (bytes : List ℕ)
+    → JustifiesRun bytes theory start end → IsFrontOfProof theory start bytes
+proof_front theory start end bytes h = (
+  end,
+  (
+    [],
+    subst (λ (text : List ℕ). JustifiesRun text theory start end) (sym (append-nil bytes)) h,
+  ),
+)
 
-pub proof_written : (old new : Option Told) (theory : RewriteTheory) (start : Pattern) (run : Run) (s : Summary) → WritesProof old new theory start run s → WritesFrontOfProof old new theory start
-proof_written old new theory start run s h = (h.0, h.1, inr (proof_front theory start (kept_by start run) h.0 h.2))
+pub proof_written : (old new : Option Told) (theory : RewriteTheory) (start : Pattern) (run : Run)
+    (s : Summary) → WritesProof old new theory start run s
+    → WritesFrontOfProof old new theory start
+proof_written old new theory start run s h =
+    (h.0, h.1, inr (proof_front theory start (kept_by start run) h.0 h.2))
 
 -- a proof was written, and the file was closed
-pub proof_closed : (made mid new : Option Told) (theory : RewriteTheory) (start : Pattern) (run : Run) (s : Summary) → WritesProof made mid theory start run s → Closes mid new → PutsProof made new theory start run s
-proof_closed made mid new theory start run s h k = (h.0, written_closed made mid new h.0 h.1 k, h.2, h.3)
+pub proof_closed : (made mid new : Option Told) (theory : RewriteTheory) (start : Pattern)
+    (run : Run) (s : Summary) → WritesProof made mid theory start run s → Closes mid new
+    → PutsProof made new theory start run s
+proof_closed made mid new theory start run s h k =
+    (h.0, written_closed made mid new h.0 h.1 k, h.2, h.3)
 
 -- the created file holds the proof
-pub created_proof : (old made new : Option Told) (file : List ℕ) (theory : RewriteTheory) (start : Pattern) (run : Run) (s : Summary) → Creates old made file → PutsProof made new theory start run s →
-    HoldsCounted old new file theory start run s
+pub created_proof : (old made new : Option Told) (file : List ℕ) (theory : RewriteTheory)
+    (start : Pattern) (run : Run) (s : Summary) → Creates old made file
+    → PutsProof made new theory start run s → HoldsCounted old new file theory start run s
 created_proof old made new file theory start run s h k = record {
   proof = record { bytes = k.0; held = created_tells old made new file k.0 h k.1; justifies = k.2 };
   counted = k.3;
 }
 
 -- a file that holds a proof holds the front of one
-pub counted_front : (told told' : Option Told) (file : List ℕ) (theory : RewriteTheory) (start : Pattern) (run : Run) (s : Summary) → HoldsCounted told told' file theory start run s → MayHoldFront told told' file theory start
+pub counted_front : (told told' : Option Told) (file : List ℕ) (theory : RewriteTheory)
+    (start : Pattern) (run : Run) (s : Summary)
+    → HoldsCounted told told' file theory start run s → MayHoldFront told told' file theory start
 counted_front told told' file theory start run s h =
-    inr (record { bytes = h.proof.bytes; held = h.proof.held; front = inr (proof_front theory start (kept_by start run) h.proof.bytes h.proof.justifies) })
+    inr (record {
+      bytes = h.proof.bytes;
+      held = h.proof.held;
+      front =
+          inr (proof_front theory start (kept_by start run) h.proof.bytes h.proof.justifies);
+    })
 
 -- the created file holds the front of a proof
-pub created_front : (old made new : Option Told) (file : List ℕ) (theory : RewriteTheory) (start : Pattern) → Creates old made file → PutsFront made new theory start → MayHoldFront old new file theory start
-created_front old made new file theory start h k = inr (record { bytes = k.0; held = created_tells old made new file k.0 h k.1; front = k.2 })
+pub created_front : (old made new : Option Told) (file : List ℕ) (theory : RewriteTheory)
+    (start : Pattern) → Creates old made file → PutsFront made new theory start
+    → MayHoldFront old new file theory start
+created_front old made new file theory start h k =
+    inr (record { bytes = k.0; held = created_tells old made new file k.0 h k.1; front = k.2 })
 
 -- if no file was created, the file is as before
-pub not_created : (old new : Option Told) (file : List ℕ) (theory : RewriteTheory) (start : Pattern) → Same old new → MayHoldFront old new file theory start
+pub not_created : (old new : Option Told) (file : List ℕ) (theory : RewriteTheory) (start : Pattern)
+    → Same old new → MayHoldFront old new file theory start
 not_created old new file theory start h = inl (same_file old new file h)

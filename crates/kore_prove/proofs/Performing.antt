@@ -1,7 +1,8 @@
 -- From the parts of a run command to its result.
-use Rattle.std.proofs.Common.{◌≡◌, ℕ, ◌⊎◌, inl, inr, List, Option, Some, None, IsSome, refl, sym, subst}
+use Rattle.std.proofs.Common.{◌≡◌, ℕ, ◌⊎◌, inl, inr, List, Option, Some, None, IsSome, refl, sym}
+use Rattle.std.proofs.Common.{subst}
 use Rattle.desk_io.specs.Told.{Told, KeepsFiles, Holds}
-use Rattle.desk_io.specs.Counts.{Rose}
+use Rattle.desk_io.specs.Counts.{CountRose}
 use Rattle.desk_io.specs.Sent.{Appends, AppendsFront}
 use Rattle.desk_io.specs.declared.desk.DeskFault.{DeskFault}
 use Rattle.desk_io.specs.declared.desk.DeskFault.TheVariants as fault
@@ -17,65 +18,103 @@ use Rattle.kore_prove.specs.Words.{RunRequest}
 use Rattle.kore_prove.specs.Files.{HoldsStart, HoldsRun}
 use Rattle.kore_prove.specs.ProvedRun.{TellsNow, HasWantedProof, LeavesFront, KeepsOthers}
 use Rattle.kore_prove.specs.ProofFiles.{HasWantedFront}
-use Rattle.kore_prove.specs.Causes.{Course, HasRun, RunCause, ReadCause, Grows, KeepsOutput}
+use Rattle.kore_prove.specs.Causes.{IoState, HasRun, RunCause, ReadCause, Grows, KeepsOutput}
 use Rattle.kore_prove.specs.FileCauses.{KeepsFilesAt}
 use Rattle.kore_prove.specs.PlainEnds.{fault_end}
 use Rattle.kore_prove.specs.Reports.{Ending}
 use Rattle.kore_prove.specs.Requests.{bounds_of, IsWanted}
 use Rattle.kore_prove.specs.RunsDone.{HasLines, IsRunDone, IsRunEnded}
 use Rattle.kore_prove.proofs.Ending.{kept_output, files_at}
-use Rattle.kore_prove.proofs.FileProofs.{kept_others, then_others, kept_file, then_file, proof_front}
+use Rattle.kore_prove.proofs.FileProofs.{kept_others, then_others, kept_file, then_file}
+use Rattle.kore_prove.proofs.FileProofs.{proof_front}
 
 -- the initial term meets the requirement of the rewriter
-pub start_of : (theory : RewriteTheory) (start : Pattern) → IsStart theory start → IsStartOf theory start
+pub start_of : (theory : RewriteTheory) (start : Pattern) → IsStart theory start
+    → IsStartOf theory start
 start_of theory start h = (h.0, h.2, h.1)
 
 -- what the run keeps has a Kore pattern
-pub kept_shown : SortedIsShown → (theory : RewriteTheory) (start : Pattern) (run : Run) → IsSignature theory.sig → IsStart theory start → IsSortedEnd theory run → IsSome (kept_pattern theory.sig start run)
+pub kept_shown : SortedIsShown → (theory : RewriteTheory) (start : Pattern) (run : Run)
+    → IsSignature theory.sig → IsStart theory start → IsSortedEnd theory run
+    → IsSome (kept_pattern theory.sig start run)
 kept_shown law theory start (stuck n t) sig is h = law theory.sig (ground_pattern t) h.0 sig h.2
 kept_shown law theory start (limited n t) sig is h = law theory.sig (ground_pattern t) h.0 sig h.2
-kept_shown law theory start (stopped n cause t) sig is h = law theory.sig (ground_pattern t) h.0 sig h.2
+kept_shown law theory start (stopped n cause t) sig is h =
+    law theory.sig (ground_pattern t) h.0 sig h.2
 kept_shown law theory start (unstarted cause) sig is h = law theory.sig start is.0 sig is.1
 
 -- the term in the second file, as the first desk tells it
-pub start_kept : (told read : Option Told) (name : List ℕ) (theory : RewriteTheory) (top : Option ℕ) (start : Pattern) → KeepsFiles told read → HoldsStart read name theory top start → HoldsStart told name theory top start
-start_kept None read name theory top start kept s = record { bytes = s.bytes; held = (tt, s.held.1); accepted = s.accepted }
+pub start_kept : (told read : Option Told) (name : List ℕ) (theory : RewriteTheory) (top : Option ℕ)
+    (start : Pattern) → KeepsFiles told read → HoldsStart read name theory top start
+    → HoldsStart told name theory top start
+start_kept None read name theory top start kept s = record {
+  bytes = s.bytes;
+  held = (tt, s.held.1);
+  accepted = s.accepted;
+}
 start_kept (Some told) read name theory top start kept s =
     let P : Option Told → Type 0 = λ o. Holds o name s.bytes in
     record { bytes = s.bytes; held = (subst P kept.1 s.held.0, s.held.1); accepted = s.accepted }
 
 -- a proof that is told after the files were read
-told_now : (told read told' : Option Told) (file bytes : List ℕ) → KeepsFiles told read → TellsNow read told' file bytes → TellsNow told told' file bytes
+told_now : (told read told' : Option Told) (file bytes : List ℕ) → KeepsFiles told read
+    → TellsNow read told' file bytes → TellsNow told told' file bytes
 told_now None read told' file bytes kept h = tt
-told_now (Some told) read told' file bytes kept h = subst (λ (o : Option Told). TellsNow o told' file bytes) kept.1 h
+told_now (Some told) read told' file bytes kept h =
+    subst (λ (o : Option Told). TellsNow o told' file bytes) kept.1 h
 
-proof_kept : (proof : Option (List ℕ)) (told read told' : Option Told) (theory : RewriteTheory) (start : Pattern) (run : Run) → KeepsFiles told read → HasWantedProof proof read told' theory start run → HasWantedProof proof told told' theory start run
+proof_kept : (proof : Option (List ℕ)) (told read told' : Option Told) (theory : RewriteTheory)
+    (start : Pattern) (run : Run) → KeepsFiles told read
+    → HasWantedProof proof read told' theory start run
+    → HasWantedProof proof told told' theory start run
 proof_kept None told read told' theory start run kept h = tt
 proof_kept (Some file) told read told' theory start run kept h =
-    record { bytes = h.bytes; held = told_now told read told' file h.bytes kept h.held; justifies = h.justifies }
+    record {
+      bytes = h.bytes;
+      held = told_now told read told' file h.bytes kept h.held;
+      justifies = h.justifies;
+    }
 
 -- the front of a proof, for the desk before the files were read
-pub left_front : (asked : RunRequest) (told read told' : Option Told) (theory : RewriteTheory) (start : Pattern) → HoldsRun asked told theory start → KeepsFiles told read → HasWantedFront asked.proof read told' theory start → LeavesFront asked told told'
+pub left_front : (asked : RunRequest) (told read told' : Option Told) (theory : RewriteTheory)
+    (start : Pattern) → HoldsRun asked told theory start → KeepsFiles told read
+    → HasWantedFront asked.proof read told' theory start → LeavesFront asked told told'
 left_front asked told read told' theory start held kept h = λ file wanted. (
-    let front : HasWantedFront (Some file) read told' theory start = subst (λ (p : Option (List ℕ)). HasWantedFront p read told' theory start) wanted h in
+    let front : HasWantedFront (Some file) read told' theory start =
+    subst (λ (p : Option (List ℕ)). HasWantedFront p read told' theory start) wanted h in
     elim front [
       | inl same ↦ inl (then_file told read told' file kept same)
       | inr made ↦ inr (record {
         theory = theory;
         start = start;
         of_files = held;
-        holds = record { bytes = made.bytes; held = told_now told read told' file made.bytes kept made.held; front = made.front };
+        holds = record {
+          bytes = made.bytes;
+          held = told_now told read told' file made.bytes kept made.held;
+          front = made.front;
+        };
       })
     ])
 
 -- a whole proof is a front of itself
-pub proof_is_front : (proof : Option (List ℕ)) (told told' : Option Told) (theory : RewriteTheory) (start : Pattern) (run : Run) → HasWantedProof proof told told' theory start run → HasWantedFront proof told told' theory start
+pub proof_is_front : (proof : Option (List ℕ)) (told told' : Option Told) (theory : RewriteTheory)
+    (start : Pattern) (run : Run) → HasWantedProof proof told told' theory start run
+    → HasWantedFront proof told told' theory start
 proof_is_front None told told' theory start run h = tt
-proof_is_front (Some file) told told' theory start run h = inr (record { bytes = h.bytes; held = h.held; front = inr (proof_front theory start (kept_by start run) h.bytes h.justifies) })
+proof_is_front (Some file) told told' theory start run h =
+    inr (record {
+      bytes = h.bytes;
+      held = h.held;
+      front = inr (proof_front theory start (kept_by start run) h.bytes h.justifies);
+    })
 
 -- the run was printed
-pub run_done : (asked : RunRequest) (c : Course) (read : Option Told) (theory : RewriteTheory) (start : Pattern) (run : Run) (lines : List ℕ) → HoldsRun asked c.told theory start → KeepsFiles c.told read → HasLines (bounds_of asked) theory start run lines → HasWantedProof asked.proof read c.told' theory start run
-    → KeepsOthers (IsWanted asked) read c.told' → Appends c.output c.output' lines → IsRunDone asked c run
+pub run_done : (asked : RunRequest) (c : IoState) (read : Option Told) (theory : RewriteTheory)
+    (start : Pattern) (run : Run) (lines : List ℕ) → HoldsRun asked c.told theory start
+    → KeepsFiles c.told read → HasLines (bounds_of asked) theory start run lines
+    → HasWantedProof asked.proof read c.told' theory start run
+    → KeepsOthers (IsWanted asked) read c.told' → Appends c.output c.output' lines
+    → IsRunDone asked c run
 run_done asked c read theory start run lines held kept h proof others grew = record {
   theory = theory;
   start = start;
@@ -90,21 +129,28 @@ run_done asked c read theory start run lines held kept h proof others grew = rec
 }
 
 -- the files do not give a run
-pub read_ended : (asked : RunRequest) (c : Course) (e : Ending) (bytes : Option (List ℕ)) → c.output ≡ bytes → c.output' ≡ bytes → ReadCause asked c.told c.reads c.reads' e → KeepsFiles c.told c.told' → IsRunEnded asked c e
+pub read_ended : (asked : RunRequest) (c : IoState) (e : Ending) (bytes : Option (List ℕ))
+    → c.output ≡ bytes → c.output' ≡ bytes → ReadCause asked c.told c.reads c.reads' e
+    → KeepsFiles c.told c.told' → IsRunEnded asked c e
 read_ended asked c e bytes before after cause kept = record {
   cause = inl cause;
-  output = subst (λ (o : Option (List ℕ)). KeepsOutput e o c.output') (sym before) (subst (λ (o : Option (List ℕ)). KeepsOutput e bytes o) (sym after) (kept_output e bytes));
+  output =
+      subst (λ (o : Option (List ℕ)). KeepsOutput e o c.output') (sym before) (subst
+      (λ (o : Option (List ℕ)). KeepsOutput e bytes o) (sym after) (kept_output e bytes));
   front = λ file wanted. inl (kept_file c.told c.told' file kept);
   others = kept_others (IsWanted asked) c.told c.told' kept;
   files = files_at e c.told c.told' kept;
 }
 
 -- the run was not written
-fault_cause : (asked : RunRequest) (c : Course) (f : DeskFault) → HasRun asked c.told → (f ≡ fault.Failed → Rose c.writes c.writes' ⊎ Rose c.files c.files') → RunCause asked c (fault_end f)
+fault_cause : (asked : RunRequest) (c : IoState) (f : DeskFault) → HasRun asked c.told
+    → (f ≡ fault.Failed → CountRose c.writes c.writes' ⊎ CountRose c.files c.files')
+    → RunCause asked c (fault_end f)
 fault_cause asked c fault.Failed run h = inr (refl, record { rose = h refl; accepted = run })
 fault_cause asked c fault.Memory run h = inl tt
 
-pub fault_output : (f : DeskFault) (before after : Option (List ℕ)) → Grows before after → KeepsOutput (fault_end f) before after
+pub fault_output : (f : DeskFault) (before after : Option (List ℕ)) → Grows before after
+    → KeepsOutput (fault_end f) before after
 fault_output fault.Failed before after h = h
 fault_output fault.Memory before after h = h
 
@@ -112,8 +158,13 @@ pub fault_files : (f : DeskFault) (old new : Option Told) → KeepsFilesAt (faul
 fault_files fault.Failed old new = tt
 fault_files fault.Memory old new = tt
 
-pub write_ended : (asked : RunRequest) (c : Course) (e : Ending) (f : DeskFault) (read : Option Told) (theory : RewriteTheory) (start : Pattern) → e ≡ fault_end f → HoldsRun asked c.told theory start → KeepsFiles c.told read → HasWantedFront asked.proof read c.told' theory start → KeepsOthers (IsWanted asked) read c.told'
-    → (f ≡ fault.Failed → Rose c.writes c.writes' ⊎ Rose c.files c.files') → Grows c.output c.output' → IsRunEnded asked c e
+pub write_ended : (asked : RunRequest) (c : IoState) (e : Ending) (f : DeskFault)
+    (read : Option Told) (theory : RewriteTheory) (start : Pattern) → e ≡ fault_end f
+    → HoldsRun asked c.told theory start → KeepsFiles c.told read
+    → HasWantedFront asked.proof read c.told' theory start
+    → KeepsOthers (IsWanted asked) read c.told'
+    → (f ≡ fault.Failed → CountRose c.writes c.writes' ⊎ CountRose c.files c.files')
+    → Grows c.output c.output' → IsRunEnded asked c e
 write_ended asked c e f read theory start is held kept front others rose grows =
     subst (λ (end : Ending). IsRunEnded asked c end) (sym is) (record {
       cause = fault_cause asked c f (theory, start, held) rose;
@@ -124,10 +175,11 @@ write_ended asked c e f read theory start is held kept front others rose grows =
     })
 
 -- a count of faults in writing, compared with the count before the files were read
-pub rose_files : (a b c : ℕ) → b ≡ a → Rose b c → Rose a c
-rose_files a b c same rose = subst (λ (n : ℕ). Rose n c) same rose
+pub rose_files : (a b c : ℕ) → b ≡ a → CountRose b c → CountRose a c
+rose_files a b c same rose = subst (λ (n : ℕ). CountRose n c) same rose
 
 -- an output that got the front of some bytes grew
-pub part_grows : (before after : Option (List ℕ)) (bytes : List ℕ) → AppendsFront before after bytes → Grows before after
+pub part_grows : (before after : Option (List ℕ)) (bytes : List ℕ) → AppendsFront before after bytes
+    → Grows before after
 part_grows None after bytes h = tt
 part_grows (Some before) after bytes h = (h.0, h.3)

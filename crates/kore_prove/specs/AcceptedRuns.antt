@@ -9,7 +9,8 @@ use Rattle.kore_prove.specs.Files.{HoldsRun}
 
 -- The files of the request mean this program and this initial term. This is the run of the program
 -- from that term, up to the limit of steps and the limit of calls.
-pub record IsRunOfFiles (told : Option Told) (asked : RunRequest) (theory : RewriteTheory) (start : Pattern) (run : Run)
+pub record IsRunOfFiles (told : Option Told) (asked : RunRequest) (theory : RewriteTheory)
+    (start : Pattern) (run : Run)
     : Type 0 where
   pub files : HoldsRun asked told theory start
   pub is_run : IsRunOf theory asked.limit asked.calls start run

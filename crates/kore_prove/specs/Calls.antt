@@ -12,7 +12,8 @@ use Rattle.kore_prove.specs.Readiness.{Completes, CompletesVerdict, CompletesDri
 -- a call with this exit code does what the clauses of `kore_main` with the same names say
 pub record IsAnswered (c : Call) (code : ℕ) : Type 0 where
   pub printed_run : PrintsRun c.words c.course.told c.course.output c.course.output' code
-  pub proved_run : ProvesRun c.words c.course.told c.course.told' c.course.output c.course.output' code
+  pub proved_run : ProvesRun c.words c.course.told c.course.told' c.course.output c.course.output'
+      code
   pub proof_front : LeavesFrontOfRun c.words c.course.told c.course.told'
   pub verdict : PrintsVerdict c.words c.course.told c.course.output c.course.output' code
   pub drilled : Drills c.words c.course.told c.course.told' c.course.output c.course.output' code

@@ -3,7 +3,7 @@
 use Rattle.std.specs.Prelude.{◌≡◌, ◌≢◌, ℕ, ◌⊎◌, List, ◌++◌, Option, None, Some}
 use Rattle.desk_io.specs.Told.{Told, Lacks, HoldsMore}
 use Rattle.desk_io.specs.Sent.{SameBytes}
-use Rattle.desk_io.specs.Counts.{Rose}
+use Rattle.desk_io.specs.Counts.{CountRose}
 use Rattle.term_core.specs.Patterns.{Pattern}
 use Rattle.rule_core.specs.Theories.{RewriteTheory}
 use Rattle.kore_sig.specs.FirstFault.{Fault}
@@ -13,12 +13,14 @@ use Rattle.kore_prove.specs.Words.{RunRequest, DrillRequest, AreBad, IsRun, IsVe
 use Rattle.kore_prove.specs.Limits.{HoldsWithin, definition_limit, term_limit, database_limit}
 use Rattle.kore_prove.specs.Files.{HoldsProgram, HoldsRun}
 use Rattle.kore_prove.specs.DrillProgram.{IsDrillProgram}
-use Rattle.kore_prove.specs.Reports.{Ending, out_of_memory, bad_words, read_fault, write_fault, no_such_file}
+use Rattle.kore_prove.specs.Reports.{Ending, out_of_memory, bad_words, read_fault, write_fault}
+use Rattle.kore_prove.specs.Reports.{no_such_file}
 use Rattle.kore_prove.specs.Reports.{definition_refused, term_refused, too_large, Reports}
 
 -- the definition was read and accepted
 abbrev pub HasProgram : RunRequest → Option Told → Type 0
-HasProgram asked told = (theory : RewriteTheory) × (top : Option ℕ) × HoldsProgram told asked.definition theory top
+HasProgram asked told =
+    (theory : RewriteTheory) × (top : Option ℕ) × HoldsProgram told asked.definition theory top
 
 -- both files were read and accepted
 abbrev pub HasRun : RunRequest → Option Told → Type 0
@@ -44,10 +46,11 @@ pub record HoldsRefusedTerm (asked : RunRequest) (told : Option Told) (f : Fault
 abbrev pub ReadCause : RunRequest → Option Told → ℕ → ℕ → Ending → Type 0
 ReadCause asked told reads reads' out_of_memory = Unit {0}
 ReadCause asked told reads reads' bad_words = ⊥
-ReadCause asked told reads reads' read_fault = Rose reads reads'
+ReadCause asked told reads reads' read_fault = CountRose reads reads'
 ReadCause asked told reads reads' write_fault = ⊥
 ReadCause asked told reads reads' (no_such_file name) =
-    ((name ≡ asked.definition) × Lacks told name) ⊎ ((name ≡ asked.term) × HasProgram asked told × Lacks told name)
+    ((name ≡ asked.definition) × Lacks told name)
+    ⊎ ((name ≡ asked.term) × HasProgram asked told × Lacks told name)
 ReadCause asked told reads reads' (definition_refused number byte) =
     HoldsRefused asked told (record { number = number; byte = byte })
 ReadCause asked told reads reads' (term_refused number byte) =
@@ -58,7 +61,7 @@ ReadCause asked told reads reads' (too_large name) =
 
 -- What is known of a desk and an output: what they told before and after, and their counts of
 -- faults before and after: in reading, in writing files and in writing the output.
-pub record Course : Type 0 where
+pub record IoState : Type 0 where
   pub told : Option Told
   pub told' : Option Told
   pub reads : ℕ
@@ -71,21 +74,22 @@ pub record Course : Type 0 where
   pub output' : Option (List ℕ)
 
 -- a write failed because a count of faults rose, and both files were accepted
-pub record WriteCause (asked : RunRequest) (c : Course) : Type 0 where
-  pub rose : Rose c.writes c.writes' ⊎ Rose c.files c.files'
+pub record WriteCause (asked : RunRequest) (c : IoState) : Type 0 where
+  pub rose : CountRose c.writes c.writes' ⊎ CountRose c.files c.files'
   pub accepted : HasRun asked c.told
 
 -- each end of a run command has its cause
-abbrev pub RunCause : RunRequest → Course → Ending → Type 0
-RunCause asked c e = ReadCause asked c.told c.reads c.reads' e ⊎ ((e ≡ write_fault) × WriteCause asked c)
+abbrev pub RunCause : RunRequest → IoState → Ending → Type 0
+RunCause asked c e =
+    ReadCause asked c.told c.reads c.reads' e ⊎ ((e ≡ write_fault) × WriteCause asked c)
 
 -- each end of a verify command has its cause
-abbrev pub VerifyCause : List ℕ → Course → Ending → Type 0
+abbrev pub VerifyCause : List ℕ → IoState → Ending → Type 0
 VerifyCause file c out_of_memory = Unit {0}
 VerifyCause file c bad_words = ⊥
-VerifyCause file c read_fault = Rose c.reads c.reads'
+VerifyCause file c read_fault = CountRose c.reads c.reads'
 VerifyCause file c write_fault =
-    Rose c.writes c.writes' × ((bytes : List ℕ) × HoldsWithin c.told file database_limit bytes)
+    CountRose c.writes c.writes' × ((bytes : List ℕ) × HoldsWithin c.told file database_limit bytes)
 VerifyCause file c (no_such_file name) = (name ≡ file) × Lacks c.told name
 VerifyCause file c (definition_refused number byte) = ⊥
 VerifyCause file c (term_refused number byte) = ⊥
@@ -103,11 +107,12 @@ pub record IsDrillTermRefused (steps : ℕ) (f : Fault) : Type 0 where
   pub refused : IsRefusedTerm theory.sig top drill_term f
 
 -- each end of a drill command has its cause
-abbrev pub DrillCause : ℕ → Course → Ending → Type 0
+abbrev pub DrillCause : ℕ → IoState → Ending → Type 0
 DrillCause steps c out_of_memory = Unit {0}
 DrillCause steps c bad_words = ⊥
 DrillCause steps c read_fault = ⊥
-DrillCause steps c write_fault = (Rose c.writes c.writes' ⊎ Rose c.files c.files') × HasDrill steps
+DrillCause steps c write_fault =
+    (CountRose c.writes c.writes' ⊎ CountRose c.files c.files') × HasDrill steps
 DrillCause steps c (no_such_file name) = ⊥
 DrillCause steps c (definition_refused number byte) =
     IsRefused (drill_definition steps) (record { number = number; byte = byte })
@@ -139,7 +144,7 @@ IsUnwritten code = (code ≢ 0) × (code ≢ 1) × (code ≢ 4) × (code ≢ 10)
 -- stream told and counted.
 pub record Call : Type 0 where
   pub words : List (List ℕ)
-  pub course : Course
+  pub course : IoState
   pub complaints : ℕ
   pub complaints' : ℕ
   pub errors : Option (List ℕ)
@@ -149,14 +154,17 @@ pub record Call : Type 0 where
 pub data HasCause (c : Call) : Ending → Type 0 where
   without_memory : HasCause c out_of_memory
   with_bad_words : AreBad c.words → HasCause c bad_words
-  of_run : {asked : RunRequest} {e : Ending} → IsRun c.words asked → RunCause asked c.course e → HasCause c e
-  of_verify : {file : List ℕ} {e : Ending} → IsVerify c.words file → VerifyCause file c.course e → HasCause c e
-  of_drill : {asked : DrillRequest} {e : Ending} → IsDrill c.words asked → DrillCause asked.steps c.course e →
-      HasCause c e
+  of_run : {asked : RunRequest} {e : Ending} → IsRun c.words asked → RunCause asked c.course e
+      → HasCause c e
+  of_verify : {file : List ℕ} {e : Ending} → IsVerify c.words file → VerifyCause file c.course e
+      → HasCause c e
+  of_drill : {asked : DrillRequest} {e : Ending} → IsDrill c.words asked
+      → DrillCause asked.steps c.course e → HasCause c e
 
 -- the words are a command, and the code says that the call printed its lines
 pub data IsDone (words : List (List ℕ)) (code : ℕ) : Type 0 where
-  run_done : {asked : RunRequest} → IsRun words asked → (code ≡ 0) ⊎ (code ≡ 10) ⊎ (code ≡ 11) → IsDone words code
+  run_done : {asked : RunRequest} → IsRun words asked → (code ≡ 0) ⊎ (code ≡ 10) ⊎ (code ≡ 11)
+      → IsDone words code
   verify_done : {file : List ℕ} → IsVerify words file → (code ≡ 0) ⊎ (code ≡ 12) → IsDone words code
   drill_done : {asked : DrillRequest} → IsDrill words asked → code ≡ 0 → IsDone words code
 

@@ -31,10 +31,14 @@ verdict_code (verdict.Invalid fault) = 12
 
 -- the verdict is the one on the file of that name
 abbrev pub HoldsDatabase : Option Told → List ℕ → Verdict → Type 0
-HoldsDatabase told name v = (bytes : List ℕ) × HoldsWithin told name database_limit bytes × IsVerdictOn bytes v
+HoldsDatabase told name v =
+    (bytes : List ℕ) × HoldsWithin told name database_limit bytes × IsVerdictOn bytes v
 
 -- the output grew by the line of this verdict on the file
-abbrev pub PrintsVerdictOn : List ℕ → Option Told → Option (List ℕ) → Option (List ℕ) → Verdict → Type 0
+abbrev pub PrintsVerdictOn : List ℕ → Option Told → Option (List ℕ) → Option (List ℕ) → Verdict
+    → Type 0
 PrintsVerdictOn file None before after v = Unit {0}
-PrintsVerdictOn file (Some told) before after (verdict.Valid report) = SaysValid told file before after
-PrintsVerdictOn file (Some told) before after (verdict.Invalid fault) = SaysInvalid told file before after
+PrintsVerdictOn file (Some told) before after (verdict.Valid report) =
+    SaysValid told file before after
+PrintsVerdictOn file (Some told) before after (verdict.Invalid fault) =
+    SaysInvalid told file before after

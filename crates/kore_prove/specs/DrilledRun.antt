@@ -1,13 +1,14 @@
 -- What a drill prints and writes: the run of its own definition, and the proof of that run in its
 -- file.
-use Rattle.std.specs.Prelude.{◌≡◌, ℕ, ◌+◌, ◌⊎◌, List, [], ◌∷◌, ◌++◌, length, Option, Some, codes, decimal}
+use Rattle.std.specs.Prelude.{◌≡◌, ℕ, ◌+◌, ◌⊎◌, List, [], ◌∷◌, ◌++◌, length, Option, Some, codes}
+use Rattle.std.specs.Prelude.{decimal}
 use Rattle.desk_io.specs.Told.{Told}
 use Rattle.desk_io.specs.Sent.{Appends}
 use Rattle.term_core.specs.Patterns.{Pattern}
 use Rattle.rule_core.specs.Theories.{RewriteTheory}
 use Rattle.rule_core.specs.Runs.{Run, IsRunOf}
 use Rattle.run_lines.specs.Lines.{lines_of}
-use Rattle.mm_justify.specs.Counting.{facts_in, statements_in, capped}
+use Rattle.mm_justify.specs.Counting.{fact_count, statement_count, capped}
 use Rattle.kore_prove.specs.Words.{DrillRequest, IsDrill}
 use Rattle.kore_prove.specs.DrillProgram.{IsDrillProgram}
 use Rattle.kore_prove.specs.ProvedRun.{HoldsProof, HoldsFront, KeepsFile}
@@ -25,12 +26,14 @@ counts_line facts statements bytes =
 -- the same line, with the counts of a database
 abbrev pub counts_line_of : List ℕ → List ℕ
 counts_line_of database =
-    counts_line (capped (facts_in database)) (capped (statements_in database)) (capped (length database))
+    counts_line (capped (fact_count database)) (capped (statement_count database))
+    (capped (length database))
 
 -- The file holds a database that justifies the run of the drill's program. The limit of this run is
 -- one more than the drill's steps. The output grew by the two lines of the run and the line of the
 -- counts of the database.
-pub record IsDrilled (asked : DrillRequest) (told told' : Option Told) (before after : Option (List ℕ)) :
+pub record IsDrilled (asked : DrillRequest) (told told' : Option Told)
+    (before after : Option (List ℕ)) :
     Type 0 where
   pub theory : RewriteTheory
   pub start : Pattern
@@ -43,9 +46,11 @@ pub record IsDrilled (asked : DrillRequest) (told told' : Option Told) (before a
   pub grew : Appends before after (lines ++ counts_line_of proof.bytes)
 
 -- if the words ask for a drill, the exit code 0 says that it was made
-abbrev pub Drills : List (List ℕ) → Option Told → Option Told → Option (List ℕ) → Option (List ℕ) → ℕ → Type 0
+abbrev pub Drills : List (List ℕ) → Option Told → Option Told → Option (List ℕ) → Option (List ℕ)
+    → ℕ → Type 0
 Drills words told told' before after code =
-    code ≡ 0 → (asked : DrillRequest) → IsDrill words asked → IsDrilled asked told told' before after
+    code ≡ 0 → (asked : DrillRequest) → IsDrill words asked
+    → IsDrilled asked told told' before after
 
 -- the file of a drill is empty, or holds the front of a database that justifies a run of the
 -- drill's program
@@ -61,4 +66,5 @@ LeavesDrill asked told told' = KeepsFile told told' asked.file ⊎ HoldsFrontOfD
 
 -- the same if the words ask for a drill, for every exit code
 abbrev pub LeavesFrontOfDrill : List (List ℕ) → Option Told → Option Told → Type 0
-LeavesFrontOfDrill words told told' = (asked : DrillRequest) → IsDrill words asked → LeavesDrill asked told told'
+LeavesFrontOfDrill words told told' =
+    (asked : DrillRequest) → IsDrill words asked → LeavesDrill asked told told'

@@ -17,7 +17,8 @@ code_of (stopped n cause t) = 11
 code_of (unstarted cause) = 11
 
 -- the output grew by the two lines of the run for the files
-pub record PrintsLines (told : Option Told) (asked : RunRequest) (before after : Option (List ℕ)) (theory : RewriteTheory)
+pub record PrintsLines (told : Option Told) (asked : RunRequest) (before after : Option (List ℕ))
+    (theory : RewriteTheory)
     (start : Pattern) (run : Run) : Type 0 where
   pub of_files : IsRunOfFiles told asked theory start run
   pub lines : List ℕ
@@ -25,7 +26,8 @@ pub record PrintsLines (told : Option Told) (asked : RunRequest) (before after :
   pub grew : Appends before after lines
 
 -- the words ask for a run, its lines were printed, and the code is the one of its end
-pub record IsPrinted (words : List (List ℕ)) (told : Option Told) (before after : Option (List ℕ)) (code : ℕ) : Type 0
+pub record IsPrinted (words : List (List ℕ)) (told : Option Told) (before after : Option (List ℕ))
+    (code : ℕ) : Type 0
   where
     pub asked : RunRequest
     pub command : IsRun words asked
@@ -37,9 +39,11 @@ pub record IsPrinted (words : List (List ℕ)) (told : Option Told) (before afte
 
 -- the exit code is one of a run; 0 is also the code of a valid database and of a drill
 abbrev pub IsCodeOfRun : List (List ℕ) → ℕ → Type 0
-IsCodeOfRun words code = (code ≡ 10) ⊎ (code ≡ 11) ⊎ ((code ≡ 0) × IsNoVerify words × IsNoDrill words)
+IsCodeOfRun words code =
+    (code ≡ 10) ⊎ (code ≡ 11) ⊎ ((code ≡ 0) × IsNoVerify words × IsNoDrill words)
 
 -- With the exit code of a run, a run was printed. If the output tells nothing, nothing is said of
 -- the lines. If the desk tells nothing, nothing is said of the contents of its files.
 abbrev pub PrintsRun : List (List ℕ) → Option Told → Option (List ℕ) → Option (List ℕ) → ℕ → Type 0
-PrintsRun words told before after code = IsCodeOfRun words code → IsPrinted words told before after code
+PrintsRun words told before after code =
+    IsCodeOfRun words code → IsPrinted words told before after code

@@ -33,7 +33,8 @@ PutsProof old new theory start run summary =
     × IsSummaryOf text summary
 
 -- the file holds a database that justifies the run and has these counts
-pub record HoldsCounted (told told' : Option Told) (file : List ℕ) (theory : RewriteTheory) (start : Pattern)
+pub record HoldsCounted (told told' : Option Told) (file : List ℕ) (theory : RewriteTheory)
+    (start : Pattern)
     (run : Run) (summary : Summary) : Type 0 where
   pub proof : HoldsProof told told' file theory start run
   pub counted : IsSummaryOf proof.bytes summary
@@ -41,13 +42,16 @@ pub record HoldsCounted (told told' : Option Told) (file : List ℕ) (theory : R
 -- the created file grew by the front of such a database, or by nothing, and is no longer created
 abbrev pub PutsFront : Option Told → Option Told → RewriteTheory → Pattern → Type 0
 PutsFront old new theory start =
-    (bytes : List ℕ) × PutsCreated old new bytes × ((bytes ≡ []) ⊎ IsFrontOfProof theory start bytes)
+    (bytes : List ℕ) × PutsCreated old new bytes
+    × ((bytes ≡ []) ⊎ IsFrontOfProof theory start bytes)
 
 -- the file is as before, or it was created and holds the front of a proof
 abbrev pub MayHoldFront : Option Told → Option Told → List ℕ → RewriteTheory → Pattern → Type 0
-MayHoldFront told told' file theory start = KeepsFile told told' file ⊎ HoldsFront told told' file theory start
+MayHoldFront told told' file theory start =
+    KeepsFile told told' file ⊎ HoldsFront told told' file theory start
 
 -- the same, if a proof is wanted
-abbrev pub HasWantedFront : Option (List ℕ) → Option Told → Option Told → RewriteTheory → Pattern → Type 0
+abbrev pub HasWantedFront : Option (List ℕ) → Option Told → Option Told → RewriteTheory → Pattern
+    → Type 0
 HasWantedFront None told told' theory start = Unit {0}
 HasWantedFront (Some file) told told' theory start = MayHoldFront told told' file theory start

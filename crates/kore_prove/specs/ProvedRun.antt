@@ -21,39 +21,46 @@ TellsNow None told' file bytes = Unit {0}
 TellsNow (Some told) told' file bytes = Tells told' file bytes
 
 -- the file holds a database that justifies the run, from the initial term to what the run keeps
-pub record HoldsProof (told told' : Option Told) (file : List ℕ) (theory : RewriteTheory) (start : Pattern) (run : Run) :
+pub record HoldsProof (told told' : Option Told) (file : List ℕ) (theory : RewriteTheory)
+    (start : Pattern) (run : Run) :
     Type 0 where
   pub bytes : List ℕ
   pub held : TellsNow told told' file bytes
   pub justifies : JustifiesRun bytes theory start (kept_by start run)
 
 -- if a proof is wanted, its file holds one
-abbrev pub HasWantedProof : Option (List ℕ) → Option Told → Option Told → RewriteTheory → Pattern → Run → Type 0
+abbrev pub HasWantedProof : Option (List ℕ) → Option Told → Option Told → RewriteTheory → Pattern
+    → Run → Type 0
 HasWantedProof None told told' theory start run = Unit {0}
 HasWantedProof (Some file) told told' theory start run = HoldsProof told told' file theory start run
 
 -- the printed run is proved in this file, which the words name
-pub record IsProved (words : List (List ℕ)) (told told' : Option Told) (before after : Option (List ℕ)) (code : ℕ)
+pub record IsProved (words : List (List ℕ)) (told told' : Option Told)
+    (before after : Option (List ℕ)) (code : ℕ)
     (file : List ℕ) : Type 0 where
   pub printed : IsPrinted words told before after code
   pub wanted : printed.asked.proof ≡ Some file
   pub proof : HoldsProof told told' file printed.theory printed.start printed.run
 
 -- if the exit code is one of a run and the words name a file for its proof, the run is proved there
-abbrev pub ProvesRun : List (List ℕ) → Option Told → Option Told → Option (List ℕ) → Option (List ℕ) → ℕ → Type 0
+abbrev pub ProvesRun : List (List ℕ) → Option Told → Option Told → Option (List ℕ) → Option (List ℕ)
+    → ℕ → Type 0
 ProvesRun words told told' before after code =
-    IsCodeOfRun words code → (file : List ℕ) → IsProofRun words file → IsProved words told told' before after code file
+    IsCodeOfRun words code → (file : List ℕ) → IsProofRun words file
+    → IsProved words told told' before after code file
 
 -- the file is empty, or holds the front of a database that justifies a run from the initial term to
 -- some configuration
-pub record HoldsFront (told told' : Option Told) (file : List ℕ) (theory : RewriteTheory) (start : Pattern) :
+pub record HoldsFront (told told' : Option Told) (file : List ℕ) (theory : RewriteTheory)
+    (start : Pattern) :
     Type 0 where
   pub bytes : List ℕ
   pub held : TellsNow told told' file bytes
   pub front : (bytes ≡ []) ⊎ IsFrontOfProof theory start bytes
 
 -- the same, for the program and the initial term of the files
-pub record HoldsFrontOfRun (asked : RunRequest) (told told' : Option Told) (file : List ℕ) : Type 0 where
+pub record HoldsFrontOfRun (asked : RunRequest) (told told' : Option Told) (file : List ℕ) :
+    Type 0 where
   pub theory : RewriteTheory
   pub start : Pattern
   pub of_files : HoldsRun asked told theory start
@@ -68,11 +75,13 @@ KeepsFile (Some old) new file =
 -- if a proof is wanted, its file is as before, or it was created and holds the front of one
 abbrev pub LeavesFront : RunRequest → Option Told → Option Told → Type 0
 LeavesFront asked told told' =
-    (file : List ℕ) → asked.proof ≡ Some file → KeepsFile told told' file ⊎ HoldsFrontOfRun asked told told' file
+    (file : List ℕ) → asked.proof ≡ Some file
+    → KeepsFile told told' file ⊎ HoldsFrontOfRun asked told told' file
 
 -- the same if the words ask for a run, for every exit code
 abbrev pub LeavesFrontOfRun : List (List ℕ) → Option Told → Option Told → Type 0
-LeavesFrontOfRun words told told' = (asked : RunRequest) → IsRun words asked → LeavesFront asked told told'
+LeavesFrontOfRun words told told' =
+    (asked : RunRequest) → IsRun words asked → LeavesFront asked told told'
 
 -- each file that is not written is as before
 abbrev pub KeepsOthers : (List ℕ → Type 0) → Option Told → Option Told → Type 0

@@ -1,14 +1,14 @@
 -- Which calls print a run, a verdict or a drill, unless a fault is counted or memory runs out.
 use Rattle.std.specs.Prelude.{◌≡◌, ◌⊎◌, ℕ, List, Option, Some, None}
 use Rattle.desk_io.specs.Told.{Told}
-use Rattle.desk_io.specs.Counts.{Rose}
+use Rattle.desk_io.specs.Counts.{CountRose}
 use Rattle.rule_core.specs.Theories.{RewriteTheory}
 use Rattle.kore_sig.specs.FirstFault.{Fault}
 use Rattle.kore_rules.specs.Acceptance.{IsAccepted, IsRefused, IsRefusedTerm}
 use Rattle.kore_prove.specs.Limits.{HoldsWithin, definition_limit, term_limit, database_limit}
 use Rattle.drill_gen.specs.Drill.{drill_definition, drill_term}
 use Rattle.kore_prove.specs.Words.{RunRequest, DrillRequest, IsRun, IsVerify, IsDrill}
-use Rattle.kore_prove.specs.Causes.{Course}
+use Rattle.kore_prove.specs.Causes.{IoState}
 
 -- the bytes have no first fault of a definition
 abbrev pub IsFaultless : List ℕ → Type 0
@@ -29,8 +29,8 @@ pub record CanRun (words : List (List ℕ)) (told : Told) : Type 0 where
   pub faultless : IsFaultless definition
   pub term : List ℕ
   pub term_held : HoldsWithin (Some told) asked.term term_limit term
-  pub faultless_term : (theory : RewriteTheory) (top : Option ℕ) → IsAccepted definition theory top →
-      IsFaultlessTerm theory top term
+  pub faultless_term : (theory : RewriteTheory) (top : Option ℕ) → IsAccepted definition theory top
+      → IsFaultlessTerm theory top term
 
 -- the desk tells its files, and the words can run on them
 abbrev pub IsReady : List (List ℕ) → Option Told → Type 0
@@ -58,23 +58,25 @@ pub record CanDrill (words : List (List ℕ)) : Type 0 where
       IsAccepted (drill_definition asked.steps) theory top → IsFaultlessTerm theory top drill_term
 
 -- no count of faults rose
-pub record IsUnhindered (c : Course) : Type 0 where
-  pub reads : Rose c.reads c.reads' → ⊥
-  pub files : Rose c.files c.files' → ⊥
-  pub writes : Rose c.writes c.writes' → ⊥
+pub record IsUnhindered (c : IoState) : Type 0 where
+  pub reads : CountRose c.reads c.reads' → ⊥
+  pub files : CountRose c.files c.files' → ⊥
+  pub writes : CountRose c.writes c.writes' → ⊥
 
 -- if the words can run and no fault is counted, the call prints a run or memory ran out
-abbrev pub Completes : List (List ℕ) → Course → ℕ → Type 0
+abbrev pub Completes : List (List ℕ) → IoState → ℕ → Type 0
 Completes words c code =
     IsReady words c.told → IsUnhindered c → (code ≡ 0) ⊎ (code ≡ 10) ⊎ (code ≡ 11) ⊎ (code ≡ 1)
 
 -- the same for a verdict, if no fault in reading or in writing the output is counted
-abbrev pub CompletesVerdict : List (List ℕ) → Course → ℕ → Type 0
+abbrev pub CompletesVerdict : List (List ℕ) → IoState → ℕ → Type 0
 CompletesVerdict words c code =
-    IsReadyToVerify words c.told → (Rose c.reads c.reads' → ⊥) → (Rose c.writes c.writes' → ⊥) →
+    IsReadyToVerify words c.told → (CountRose c.reads c.reads' → ⊥)
+    → (CountRose c.writes c.writes' → ⊥) →
     (code ≡ 0) ⊎ (code ≡ 12) ⊎ (code ≡ 1)
 
 -- the same for a drill, if no fault in writing the file or the output is counted
-abbrev pub CompletesDrill : List (List ℕ) → Course → ℕ → Type 0
+abbrev pub CompletesDrill : List (List ℕ) → IoState → ℕ → Type 0
 CompletesDrill words c code =
-    CanDrill words → (Rose c.files c.files' → ⊥) → (Rose c.writes c.writes' → ⊥) → (code ≡ 0) ⊎ (code ≡ 1)
+    CanDrill words → (CountRose c.files c.files' → ⊥) → (CountRose c.writes c.writes' → ⊥)
+    → (code ≡ 0) ⊎ (code ≡ 1)

@@ -2,7 +2,7 @@
 -- the reason.
 use Rattle.std.specs.Prelude.{◌≡◌, ℕ, ◌⊎◌, List, [], ◌∷◌, ◌++◌, Option, codes, decimal}
 use Rattle.desk_io.specs.Sent.{Appends, AppendsFront}
-use Rattle.desk_io.specs.Counts.{Rose}
+use Rattle.desk_io.specs.Counts.{CountRose}
 
 -- why a call ended; the names are names of files; the numbers are the number of a refusal and the
 -- byte at which it is
@@ -48,10 +48,12 @@ report_line e = codes "kore_prove: " ++ (reason e ++ 10 ∷ [])
 
 -- the stream got the whole line, or a part from its front and its count of faults rose
 abbrev pub SaysLine : Ending → Option (List ℕ) → Option (List ℕ) → ℕ → ℕ → Type 0
-SaysLine e before after old new = Appends before after (report_line e) ⊎ (AppendsFront before after (report_line e) × Rose old new)
+SaysLine e before after old new = Appends before after (report_line e)
+    ⊎ (AppendsFront before after (report_line e) × CountRose old new)
 
 -- The code is the one of the end and the stream got its line. Or memory ran out in writing it: then
 -- the code is 1, out of memory, and the stream got a part of the line from its front.
 abbrev pub Reports : Ending → Option (List ℕ) → Option (List ℕ) → ℕ → ℕ → ℕ → Type 0
 Reports e before after old new code =
-    ((code ≡ end_code e) × SaysLine e before after old new) ⊎ ((code ≡ 1) × AppendsFront before after (report_line e))
+    ((code ≡ end_code e) × SaysLine e before after old new)
+    ⊎ ((code ≡ 1) × AppendsFront before after (report_line e))

@@ -5,7 +5,7 @@ use Rattle.rule_core.specs.Theories.{RewriteTheory}
 use Rattle.rule_core.specs.Runs.{Run, IsRunOf}
 use Rattle.run_lines.specs.Lines.{lines_of}
 use Rattle.kore_prove.specs.Words.{RunRequest, DrillRequest}
-use Rattle.kore_prove.specs.Causes.{Course, RunCause, DrillCause, KeepsOutput}
+use Rattle.kore_prove.specs.Causes.{IoState, RunCause, DrillCause, KeepsOutput}
 use Rattle.kore_prove.specs.FileCauses.{KeepsFilesAt}
 use Rattle.kore_prove.specs.PrintedRun.{PrintsLines}
 use Rattle.kore_prove.specs.ProvedRun.{HasWantedProof, LeavesFront, KeepsOthers}
@@ -15,13 +15,14 @@ use Rattle.kore_prove.specs.declared.running.Bounds.{Bounds}
 use Rattle.kore_prove.specs.Requests.{IsWanted, IsDrillFile}
 
 -- the lines are the lines of the run within these bounds
-pub record HasLines (bounds : Bounds) (theory : RewriteTheory) (start : Pattern) (run : Run) (lines : List ℕ) :
+pub record HasLines (bounds : Bounds) (theory : RewriteTheory) (start : Pattern) (run : Run)
+    (lines : List ℕ) :
     Type 0 where
   pub is_run : IsRunOf theory bounds.limit bounds.calls start run
   pub lines_are : lines_of theory.sig start run ≡ Some lines
 
 -- the run was printed, and proved if that is wanted
-pub record IsRunDone (asked : RunRequest) (c : Course) (run : Run) : Type 0 where
+pub record IsRunDone (asked : RunRequest) (c : IoState) (run : Run) : Type 0 where
   pub theory : RewriteTheory
   pub start : Pattern
   pub printed : PrintsLines c.told asked c.output c.output' theory start run
@@ -29,7 +30,7 @@ pub record IsRunDone (asked : RunRequest) (c : Course) (run : Run) : Type 0 wher
   pub others : KeepsOthers (IsWanted asked) c.told c.told'
 
 -- no run was printed
-pub record IsRunEnded (asked : RunRequest) (c : Course) (e : Ending) : Type 0 where
+pub record IsRunEnded (asked : RunRequest) (c : IoState) (e : Ending) : Type 0 where
   pub cause : RunCause asked c e
   pub output : KeepsOutput e c.output c.output'
   pub front : LeavesFront asked c.told c.told'
@@ -37,12 +38,12 @@ pub record IsRunEnded (asked : RunRequest) (c : Course) (e : Ending) : Type 0 wh
   pub files : KeepsFilesAt e c.told c.told'
 
 -- the drill was made and printed
-pub record IsDrillDone (asked : DrillRequest) (c : Course) : Type 0 where
+pub record IsDrillDone (asked : DrillRequest) (c : IoState) : Type 0 where
   pub drilled : IsDrilled asked c.told c.told' c.output c.output'
   pub others : KeepsOthers (IsDrillFile asked) c.told c.told'
 
 -- the drill was not made
-pub record IsDrillEnded (asked : DrillRequest) (c : Course) (e : Ending) : Type 0 where
+pub record IsDrillEnded (asked : DrillRequest) (c : IoState) (e : Ending) : Type 0 where
   pub cause : DrillCause asked.steps c e
   pub output : KeepsOutput e c.output c.output'
   pub front : LeavesDrill asked c.told c.told'

@@ -1,5 +1,6 @@
 -- The verdict on a database, its line, and what a call printed of it.
-use Rattle.std.specs.Prelude.{◌≡◌, ℕ, ◌≤◌, List, [], ◌∷◌, ◌++◌, length, Option, Some, None, codes, decimal}
+use Rattle.std.specs.Prelude.{◌≡◌, ℕ, ◌≤◌, List, [], ◌∷◌, ◌++◌, length, Option, Some, None, codes}
+use Rattle.std.specs.Prelude.{decimal}
 use Rattle.mm_text.specs.declared.fault.MmFault.{MmFault}
 use Rattle.mm_database.specs.Validity.{IsValid, IsFirstFault}
 use Rattle.mm_database.specs.Assertions.{axiom_count, theorem_count}
@@ -10,11 +11,13 @@ use Rattle.kore_prove.specs.Words.{IsVerify}
 
 -- `valid A P`, followed by a newline
 abbrev pub valid_line : ℕ → ℕ → List ℕ
-valid_line axioms theorems = codes "valid " ++ (decimal axioms ++ (codes " " ++ (decimal theorems ++ 10 ∷ [])))
+valid_line axioms theorems =
+    codes "valid " ++ (decimal axioms ++ (codes " " ++ (decimal theorems ++ 10 ∷ [])))
 
 -- `invalid K at B`, followed by a newline
 abbrev pub invalid_line : ℕ → ℕ → List ℕ
-invalid_line kind byte = codes "invalid " ++ (decimal kind ++ (codes " at " ++ (decimal byte ++ 10 ∷ [])))
+invalid_line kind byte =
+    codes "invalid " ++ (decimal kind ++ (codes " at " ++ (decimal byte ++ 10 ∷ [])))
 
 -- the file is a valid database within the limit, and the output grew by the line with its numbers
 -- of `$a` and of `$p` statements
@@ -38,7 +41,10 @@ pub record SaysInvalid (told : Told) (file : List ℕ) (before after : Option (L
 
 -- If the words ask to verify a database, the exit code 0 says that it is valid, and 12 that it is
 -- not. In both cases the output has its line. If the desk tells nothing, nothing is said.
-abbrev pub PrintsVerdict : List (List ℕ) → Option Told → Option (List ℕ) → Option (List ℕ) → ℕ → Type 0
+abbrev pub PrintsVerdict : List (List ℕ) → Option Told → Option (List ℕ) → Option (List ℕ) → ℕ
+    → Type 0
 PrintsVerdict words None before after code = Unit {0}
 PrintsVerdict words (Some told) before after code =
-    (file : List ℕ) → IsVerify words file → (code ≡ 0 → SaysValid told file before after) × (code ≡ 12 → SaysInvalid told file before after)
+    (file : List ℕ) → IsVerify words file
+    → (code ≡ 0 → SaysValid told file before after)
+    × (code ≡ 12 → SaysInvalid told file before after)

@@ -2,7 +2,8 @@
 use Rattle.std.specs.Prelude.{◌≡◌, ℕ, ◌⊎◌, List, true, false, Option, Some, option_map, codes}
 use Rattle.std.specs.Option.{option_map_or}
 use Rattle.std.specs.Str.Parse.{digits_value}
-use Rattle.command_words.specs.CommandLine.{run_app, verify_app, drill_app, value_of, usual_calls, is_named, are_bad}
+use Rattle.command_words.specs.CommandLine.{run_app, verify_app, drill_app, value_of, usual_calls}
+use Rattle.command_words.specs.CommandLine.{is_named, are_bad}
 
 -- a request for a run: the names of the files with the definition and the term, the greatest
 -- numbers of steps and of calls of functions, and the name of the file for the proof, if one is
@@ -24,8 +25,10 @@ pub record IsRun (words : List (List ℕ)) (asked : RunRequest) : Type 0 where
   pub named : is_named (codes "run") words ≡ true
   pub definition : value_of run_app words (codes "def") ≡ Some asked.definition
   pub term : value_of run_app words (codes "term") ≡ Some asked.term
-  pub limit : option_map (digits_value 10) (value_of run_app words (codes "limit")) ≡ Some asked.limit
-  pub calls : asked.calls ≡ option_map_or (digits_value 10) (value_of run_app words (codes "calls")) usual_calls
+  pub limit : option_map (digits_value 10) (value_of run_app words (codes "limit"))
+      ≡ Some asked.limit
+  pub calls : asked.calls
+      ≡ option_map_or (digits_value 10) (value_of run_app words (codes "calls")) usual_calls
   pub proof : asked.proof ≡ value_of run_app words (codes "proof")
 
 -- the words are good, and ask for a run whose proof goes to this file
@@ -51,7 +54,8 @@ pub record DrillRequest : Type 0 where
 pub record IsDrill (words : List (List ℕ)) (asked : DrillRequest) : Type 0 where
   pub good : are_bad words ≡ false
   pub named : is_named (codes "drill") words ≡ true
-  pub steps_are : option_map (digits_value 10) (value_of drill_app words (codes "n")) ≡ Some asked.steps
+  pub steps_are : option_map (digits_value 10) (value_of drill_app words (codes "n"))
+      ≡ Some asked.steps
   pub file_is : value_of drill_app words (codes "file") ≡ Some asked.file
 
 -- the words do not ask for a drill

@@ -50,17 +50,23 @@ pub fn kore_main<D: Desk, O: Sink, E: Sink>(
 ) -> Status
     requires none_created { IsFalse (D.created desk.old) }
     ensures printed_run { PrintsRun
-        (map string_bytes words.now) (D.told desk.old) (O.bytes out.old) (O.bytes out.new) result.code }
+        (map string_bytes words.now) (D.told desk.old) (O.bytes out.old) (O.bytes out.new)
+        result.code }
     ensures proved_run { ProvesRun
-        (map string_bytes words.now) (D.told desk.old) (D.told desk.new) (O.bytes out.old) (O.bytes out.new)
+        (map string_bytes words.now) (D.told desk.old) (D.told desk.new) (O.bytes out.old)
+        (O.bytes out.new)
         result.code }
-    ensures proof_front { LeavesFrontOfRun (map string_bytes words.now) (D.told desk.old) (D.told desk.new) }
+    ensures proof_front { LeavesFrontOfRun (map string_bytes words.now) (D.told desk.old)
+        (D.told desk.new) }
     ensures verdict { PrintsVerdict
-        (map string_bytes words.now) (D.told desk.old) (O.bytes out.old) (O.bytes out.new) result.code }
-    ensures drilled { Drills
-        (map string_bytes words.now) (D.told desk.old) (D.told desk.new) (O.bytes out.old) (O.bytes out.new)
+        (map string_bytes words.now) (D.told desk.old) (O.bytes out.old) (O.bytes out.new)
         result.code }
-    ensures drill_front { LeavesFrontOfDrill (map string_bytes words.now) (D.told desk.old) (D.told desk.new) }
+    ensures drilled { Drills
+        (map string_bytes words.now) (D.told desk.old) (D.told desk.new) (O.bytes out.old)
+        (O.bytes out.new)
+        result.code }
+    ensures drill_front { LeavesFrontOfDrill (map string_bytes words.now) (D.told desk.old)
+        (D.told desk.new) }
     ensures ends { Ends (record {
       words = map string_bytes words.now;
       course = record {
@@ -116,8 +122,10 @@ pub fn kore_main<D: Desk, O: Sink, E: Sink>(
       output = O.bytes out.old;
       output' = O.bytes out.new;
     }) result.code }
-    ensures bad_words { AreBad (map string_bytes words.now) → (result.code ≡ 2) ⊎ (result.code ≡ 1) }
-    ensures others { KeepsOthers (IsProofFile (map string_bytes words.now)) (D.told desk.old) (D.told desk.new) }
+    ensures bad_words { AreBad (map string_bytes words.now)
+        → (result.code ≡ 2) ⊎ (result.code ≡ 1) }
+    ensures others { KeepsOthers (IsProofFile (map string_bytes words.now)) (D.told desk.old)
+        (D.told desk.new) }
     ensures files { IsUnwritten result.code → KeepsFiles (D.told desk.old) (D.told desk.new) }
     ensures created { D.created desk.new ≡ D.created desk.old }
 {

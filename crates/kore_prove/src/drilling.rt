@@ -1,16 +1,17 @@
 // The drill: a definition and a term that the program makes itself, their run, its proof and the
 // counts of the proof.
-ghost use Rattle.std.specs.Prelude.{◌≡◌, ◌≤◌, ◌++◌, ℕ, Option, IsFalse, IfOk, IfErr, OnOk, OnErr, IsErrOf};
+ghost use Rattle.std.specs.Prelude.{◌≡◌, ◌≤◌, ◌++◌, ℕ, Option, IsFalse, IfOk, IfErr, OnOk, OnErr};
+ghost use Rattle.std.specs.Prelude.{IsErrOf};
 ghost use Rattle.command_words.specs.CommandLine.{most_drilled};
 ghost use Rattle.desk_io.specs.Sent.{Appends, AppendsFront};
-ghost use Rattle.desk_io.specs.Counts.{Rose};
+ghost use Rattle.desk_io.specs.Counts.{CountRose};
 ghost use Rattle.drill_gen.specs.Drill.{drill_definition, drill_term};
 ghost use Rattle.kore_rules.specs.Acceptance.{IsAccepted, IsRefused, IsRefusedTerm};
 ghost use Rattle.kore_rules.specs.RefusedTexts.{RefusesFor};
 ghost use Rattle.rule_core.specs.ProgramView.{theory_of};
 ghost use Rattle.rule_core.specs.Theories.{RewriteTheory};
 ghost use Rattle.term_core.specs.RulePatterns.{plain_pattern};
-ghost use Rattle.kore_prove.specs.Causes.{Course, DrillCause};
+ghost use Rattle.kore_prove.specs.Causes.{IoState, DrillCause};
 ghost use Rattle.kore_prove.specs.DrillProgram.{IsDrillProgram};
 ghost use Rattle.kore_prove.specs.DrilledRun.{counts_line};
 ghost use Rattle.kore_prove.specs.PlainEnds.{plain_end};
@@ -91,9 +92,10 @@ pub fn drill_command<'a, D: Desk, O: Sink>(
 // The program and the initial term of the drill.
 fn accepted_drill<'a>(alloc: Global, steps: u32) -> Result<Accepted, End<'a>>
     requires { steps ≤ most_drilled }
-    ensures program { IfOk result (λ a. IsDrillProgram steps (theory_of a.program) (plain_pattern a.start)) }
+    ensures program { IfOk result
+        (λ a. IsDrillProgram steps (theory_of a.program) (plain_pattern a.start)) }
     ensures runnable { IfOk result IsRunnable }
-    ensures cause { IfErr result (λ end. (c : Course) → DrillCause steps c (plain_end end)) }
+    ensures cause { IfErr result (λ end. (c : IoState) → DrillCause steps c (plain_end end)) }
 {
     drill_laws();
     let texts = match drill(alloc, steps) {
@@ -112,7 +114,7 @@ fn accepted_drill<'a>(alloc: Global, steps: u32) -> Result<Accepted, End<'a>>
 
 // The end of a drill whose definition is not accepted.
 fn refused_definition<'a>(refusal: Refusal) -> End<'a>
-    ensures { (steps : ℕ) (c : Course) → RefusesFor (IsRefused (drill_definition steps)) refusal
+    ensures { (steps : ℕ) (c : IoState) → RefusesFor (IsRefused (drill_definition steps)) refusal
         → DrillCause steps c (plain_end result) }
 {
     match refusal {
@@ -123,9 +125,10 @@ fn refused_definition<'a>(refusal: Refusal) -> End<'a>
 
 // The end of a drill whose term is not accepted.
 fn refused_term<'a>(refusal: Refusal) -> End<'a>
-    ensures { (steps : ℕ) (c : Course) (theory : RewriteTheory) (top : Option ℕ)
+    ensures { (steps : ℕ) (c : IoState) (theory : RewriteTheory) (top : Option ℕ)
         → IsAccepted (drill_definition steps) theory top
-        → RefusesFor (IsRefusedTerm theory.sig top drill_term) refusal → DrillCause steps c (plain_end result) }
+        → RefusesFor (IsRefusedTerm theory.sig top drill_term) refusal
+        → DrillCause steps c (plain_end result) }
 {
     match refusal {
         Refusal::Refused(number, byte) => End::TermRefused(number, byte),
@@ -140,7 +143,8 @@ fn send_lines<O: Sink>(out: &mut O, lines: &[u8], summary: Summary) -> Result<()
         (lines.now ++ counts_line summary.facts summary.statements summary.bytes)) }
     ensures prefix { OnErr result (AppendsFront (O.bytes out.old) (O.bytes out.new)
         (lines.now ++ counts_line summary.facts summary.statements summary.bytes)) }
-    ensures failed { IsErrOf result DeskFault.Failed → Rose (O.faults out.old) (O.faults out.new) }
+    ensures failed { IsErrOf result DeskFault.Failed
+        → CountRose (O.faults out.old) (O.faults out.new) }
 {
     match send_whole(out, lines) {
         Ok(()) => send_counts(out, summary),
@@ -151,10 +155,13 @@ fn send_lines<O: Sink>(out: &mut O, lines: &[u8], summary: Summary) -> Result<()
 // Sends the line of the counts, with the same errors.
 fn send_counts<O: Sink>(out: &mut O, summary: Summary) -> Result<(), DeskFault>
     ensures sent { OnOk result (Appends
-        (O.bytes out.old) (O.bytes out.new) (counts_line summary.facts summary.statements summary.bytes)) }
+        (O.bytes out.old) (O.bytes out.new)
+        (counts_line summary.facts summary.statements summary.bytes)) }
     ensures prefix { OnErr result (AppendsFront
-        (O.bytes out.old) (O.bytes out.new) (counts_line summary.facts summary.statements summary.bytes)) }
-    ensures failed { IsErrOf result DeskFault.Failed → Rose (O.faults out.old) (O.faults out.new) }
+        (O.bytes out.old) (O.bytes out.new)
+        (counts_line summary.facts summary.statements summary.bytes)) }
+    ensures failed { IsErrOf result DeskFault.Failed
+        → CountRose (O.faults out.old) (O.faults out.new) }
 {
     let mut facts = Buffer::new();
     let mut statements = Buffer::new();

@@ -40,10 +40,12 @@ pub struct Accepted {
 
 /// The program in the file of that name.
 pub fn read_program<D: Desk>(alloc: Global, desk: &mut D, name: &str) -> Result<Program, FileEnd>
-    ensures found { IfOk result (λ p. HoldsProgram (D.told desk.old) name.now (theory_of p) (top_of p)) }
+    ensures found { IfOk result
+        (λ p. HoldsProgram (D.told desk.old) name.now (theory_of p) (top_of p)) }
     ensures program { IfOk result IsProgram }
     ensures cause { IfErr result (FileCause IsRefused
-        (D.told desk.old) name.now DEFINITION_LIMIT (D.read_faults desk.old) (D.read_faults desk.new)) }
+        (D.told desk.old) name.now DEFINITION_LIMIT (D.read_faults desk.old)
+        (D.read_faults desk.new)) }
     ensures counts { D.read_faults desk.old ≤ D.read_faults desk.new }
     ensures writes { D.write_faults desk.new ≡ D.write_faults desk.old }
     ensures files { KeepsFiles (D.told desk.old) (D.told desk.new) }
@@ -67,7 +69,8 @@ pub fn read_start<D: Desk>(
 ) -> Result<RulePat, FileEnd>
     requires { IsProgram program.now }
     ensures found { IfOk result (λ start. HoldsStart
-        (D.told desk.old) name.now (theory_of program.now) (top_of program.now) (plain_pattern start)) }
+        (D.told desk.old) name.now (theory_of program.now) (top_of program.now)
+        (plain_pattern start)) }
     ensures start { IfOk result (λ start. IsStart (theory_of program.now) (plain_pattern start)) }
     ensures cause { IfErr result (FileCause (IsRefusedTerm program.now.sig (top_of program.now))
         (D.told desk.old) name.now TERM_LIMIT (D.read_faults desk.old) (D.read_faults desk.new)) }

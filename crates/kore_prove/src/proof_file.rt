@@ -2,9 +2,10 @@
 ghost use Rattle.std.specs.Prelude.{◌≡◌, ◌≤◌, Some, IsTrue, IsFalse, IfOk, OnErr, IsErrOf};
 ghost use Rattle.term_core.specs.RulePatterns.{plain_pattern};
 ghost use Rattle.rule_core.specs.ProgramView.{theory_of};
-ghost use Rattle.desk_io.specs.Counts.{Rose};
+ghost use Rattle.desk_io.specs.Counts.{CountRose};
 ghost use Rattle.run_loop.specs.RunEnds.{plain_run};
-ghost use Rattle.kore_prove.specs.ProofFiles.{PutsProof, PutsFront, HoldsCounted, MayHoldFront, HasWantedFront};
+ghost use Rattle.kore_prove.specs.ProofFiles.{PutsProof, PutsFront, HoldsCounted, MayHoldFront};
+ghost use Rattle.kore_prove.specs.ProofFiles.{HasWantedFront};
 ghost use Rattle.kore_prove.specs.ProofFiles.{KeepsOthersNow};
 ghost use Rattle.kore_prove.specs.ProvedRun.{HasWantedProof, KeepsOthers};
 ghost use Rattle.kore_prove.specs.Requests.{request, bounds_of, IsWanted};
@@ -32,12 +33,16 @@ pub fn made_lines<D: Desk>(
     requires none_created { IsFalse (D.created desk.old) }
     requires runnable { IsRunnable accepted.now }
     ensures run { IfOk result (λ r. HasLines (bounds_of (request asked.now))
-        (theory_of accepted.now.program) (plain_pattern accepted.now.start) (plain_run r.0) r.1.items) }
-    ensures proof { IfOk result (λ r. HasWantedProof (request asked.now).proof (D.told desk.old) (D.told desk.new)
+        (theory_of accepted.now.program) (plain_pattern accepted.now.start) (plain_run r.0)
+        r.1.items) }
+    ensures proof { IfOk result
+        (λ r. HasWantedProof (request asked.now).proof (D.told desk.old) (D.told desk.new)
         (theory_of accepted.now.program) (plain_pattern accepted.now.start) (plain_run r.0)) }
-    ensures front { OnErr result (HasWantedFront (request asked.now).proof (D.told desk.old) (D.told desk.new)
+    ensures front { OnErr result
+        (HasWantedFront (request asked.now).proof (D.told desk.old) (D.told desk.new)
         (theory_of accepted.now.program) (plain_pattern accepted.now.start)) }
-    ensures failed { IsErrOf result DeskFault.Failed → Rose (D.write_faults desk.old) (D.write_faults desk.new) }
+    ensures failed { IsErrOf result DeskFault.Failed
+        → CountRose (D.write_faults desk.old) (D.write_faults desk.new) }
     ensures files { KeepsOthers (IsWanted (request asked.now)) (D.told desk.old) (D.told desk.new) }
     ensures created { D.created desk.new ≡ D.created desk.old }
     ensures reads { D.read_faults desk.new ≡ D.read_faults desk.old }
@@ -70,13 +75,17 @@ pub fn proved_lines<D: Desk>(
     requires none_created { IsFalse (D.created desk.old) }
     requires runnable { IsRunnable accepted.now }
     ensures run { IfOk result (λ r. HasLines bounds
-        (theory_of accepted.now.program) (plain_pattern accepted.now.start) (plain_run r.end) r.lines.items) }
+        (theory_of accepted.now.program) (plain_pattern accepted.now.start) (plain_run r.end)
+        r.lines.items) }
     ensures proof { IfOk result (λ r. HoldsCounted (D.told desk.old) (D.told desk.new) file.now
-        (theory_of accepted.now.program) (plain_pattern accepted.now.start) (plain_run r.end) r.summary) }
+        (theory_of accepted.now.program) (plain_pattern accepted.now.start) (plain_run r.end)
+        r.summary) }
     ensures front { OnErr result (MayHoldFront (D.told desk.old) (D.told desk.new) file.now
         (theory_of accepted.now.program) (plain_pattern accepted.now.start)) }
-    ensures failed { IsErrOf result DeskFault.Failed → Rose (D.write_faults desk.old) (D.write_faults desk.new) }
-    ensures files { KeepsOthers (λ other. Some file.now ≡ Some other) (D.told desk.old) (D.told desk.new) }
+    ensures failed { IsErrOf result DeskFault.Failed
+        → CountRose (D.write_faults desk.old) (D.write_faults desk.new) }
+    ensures files { KeepsOthers (λ other. Some file.now ≡ Some other) (D.told desk.old)
+        (D.told desk.new) }
     ensures created { D.created desk.new ≡ D.created desk.old }
     ensures reads { D.read_faults desk.new ≡ D.read_faults desk.old }
 {
@@ -96,13 +105,16 @@ fn proved_and_closed<D: Desk>(
     requires file { IsTrue (D.created desk.old) }
     requires runnable { IsRunnable accepted.now }
     ensures run { IfOk result (λ r. HasLines bounds
-        (theory_of accepted.now.program) (plain_pattern accepted.now.start) (plain_run r.end) r.lines.items) }
+        (theory_of accepted.now.program) (plain_pattern accepted.now.start) (plain_run r.end)
+        r.lines.items) }
     ensures proof { IfOk result (λ r. PutsProof (D.told desk.old) (D.told desk.new)
-        (theory_of accepted.now.program) (plain_pattern accepted.now.start) (plain_run r.end) r.summary) }
+        (theory_of accepted.now.program) (plain_pattern accepted.now.start) (plain_run r.end)
+        r.summary) }
     ensures front { OnErr result (PutsFront (D.told desk.old) (D.told desk.new)
         (theory_of accepted.now.program) (plain_pattern accepted.now.start)) }
     ensures files { KeepsOthersNow (D.told desk.old) (D.told desk.new) }
-    ensures failed { IsErrOf result DeskFault.Failed → Rose (D.write_faults desk.old) (D.write_faults desk.new) }
+    ensures failed { IsErrOf result DeskFault.Failed
+        → CountRose (D.write_faults desk.old) (D.write_faults desk.new) }
     ensures counts { D.write_faults desk.old ≤ D.write_faults desk.new }
     ensures created { IsFalse (D.created desk.new) }
     ensures reads { D.read_faults desk.new ≡ D.read_faults desk.old }

@@ -43,8 +43,10 @@ const CONSTRUCTED: [(Case<'static>, &str); 7] = [
             out: "stuck 3\ndone{}(cons{}(q{}(),cons{}(p{}(),nil{}())))\n",
             ..PROVES
         },
-        "p |- ( \\imp ( \\app ( \\app f:both ( \\app ( \\app f:cons f:p ) ( \\app ( \\app f:cons f:q ) f:nil ) ) ) \
-         f:nil ) ( \\ev ( \\app f:done ( \\app ( \\app f:cons f:q ) ( \\app ( \\app f:cons f:p ) f:nil ) ) ) ) ) ",
+        "p |- ( \\imp ( \\app ( \\app f:both ( \\app ( \\app f:cons f:p ) ( \\app ( \\app f:cons \
+            f:q ) f:nil ) ) ) \
+         f:nil ) ( \\ev ( \\app f:done ( \\app ( \\app f:cons f:q ) ( \\app ( \\app f:cons f:p ) \
+         f:nil ) ) ) ) ) ",
     ),
     (
         Case {
@@ -53,7 +55,8 @@ const CONSTRUCTED: [(Case<'static>, &str); 7] = [
             out: "stuck 1\ndone{}(inj{SortInt{},SortStmt{}}(\\dv{SortInt{}}(\"5\")))\n",
             ..PROVES
         },
-        "p |- ( \\imp ( \\app f:k ( \\app ( \\at ( \\at f:inj s:SortInt ) s:SortKItem ) d:SortInt:35 ) ) ( \\ev ( \
+        "p |- ( \\imp ( \\app f:k ( \\app ( \\at ( \\at f:inj s:SortInt ) s:SortKItem ) \
+            d:SortInt:35 ) ) ( \\ev ( \
          \\app f:done ( \\app ( \\at ( \\at f:inj s:SortInt ) s:SortStmt ) d:SortInt:35 ) ) ) ) ",
     ),
     (
@@ -63,9 +66,12 @@ const CONSTRUCTED: [(Case<'static>, &str); 7] = [
             out: "stuck 2\nout{}(inj{A{},D{}}(a{}()),inj{A{},D{}}(a{}()))\n",
             ..PROVES
         },
-        "p |- ( \\imp ( \\app ( \\app f:pair ( \\app ( \\at ( \\at f:inj s:B ) s:C ) ( \\app ( \\at ( \\at f:inj s:A ) \
-         s:B ) f:a ) ) ) ( \\app ( \\at ( \\at f:inj s:A ) s:B ) f:a ) ) ( \\ev ( \\app ( \\app f:out ( \\app ( \
-         \\at ( \\at f:inj s:A ) s:D ) f:a ) ) ( \\app ( \\at ( \\at f:inj s:A ) s:D ) f:a ) ) ) ) ",
+        "p |- ( \\imp ( \\app ( \\app f:pair ( \\app ( \\at ( \\at f:inj s:B ) s:C ) ( \\app ( \
+            \\at ( \\at f:inj s:A ) \
+         s:B ) f:a ) ) ) ( \\app ( \\at ( \\at f:inj s:A ) s:B ) f:a ) ) ( \\ev ( \\app ( \\app \
+         f:out ( \\app ( \
+         \\at ( \\at f:inj s:A ) s:D ) f:a ) ) ( \\app ( \\at ( \\at f:inj s:A ) s:D ) f:a ) ) ) \
+         ) ",
     ),
 ];
 
@@ -78,7 +84,8 @@ const COMPUTED: [(Case<'static>, &str); 9] = [
             out: "stuck 0\nn{}(\\dv{SortInt{}}(\"3\"))\n",
             ..PROVES
         },
-        "p |- ( \\imp ( \\app f:n ( \\app ( \\app f:tdiv d:SortInt:37 ) d:SortInt:32 ) ) ( \\ev ( \\app f:n \
+        "p |- ( \\imp ( \\app f:n ( \\app ( \\app f:tdiv d:SortInt:37 ) d:SortInt:32 ) ) ( \\ev ( \
+            \\app f:n \
          d:SortInt:33 ) ) ) ",
     ),
     (
@@ -86,10 +93,12 @@ const COMPUTED: [(Case<'static>, &str); 9] = [
             definition: INTEGER_FUNCTIONS,
             term: r#"n{}(tdiv{}(\dv{SortInt{}}("7"),\dv{SortInt{}}("0")))"#,
             code: 11,
-            out: "blocked 0 NoValue INT.tdiv\nn{}(tdiv{}(\\dv{SortInt{}}(\"7\"),\\dv{SortInt{}}(\"0\")))\n",
+            out: "blocked 0 NoValue INT.tdiv\nn{}(tdiv{}(\\dv{SortInt{}}(\"7\"),\
+                \\dv{SortInt{}}(\"0\")))\n",
             ..PROVES
         },
-        "p |- ( \\imp ( \\app f:n ( \\app ( \\app f:tdiv d:SortInt:37 ) d:SortInt:30 ) ) ( \\ev ( \\app f:n ( \
+        "p |- ( \\imp ( \\app f:n ( \\app ( \\app f:tdiv d:SortInt:37 ) d:SortInt:30 ) ) ( \\ev ( \
+            \\app f:n ( \
          \\app ( \\app f:tdiv d:SortInt:37 ) d:SortInt:30 ) ) ) ) ",
     ),
     (
@@ -137,8 +146,10 @@ const COMPUTED: [(Case<'static>, &str); 9] = [
             out: "stuck 0\nk{}(kseq{}(p{}(),kseq{}(p{}(),kseq{}(q{}(),dotk{}()))))\n",
             ..PROVES
         },
-        "p |- ( \\imp ( \\app f:k ( \\app ( \\app f:append ( \\app ( \\app f:kseq f:p ) ( \\app ( \\app f:kseq f:p ) ( \
-         \\app ( \\app f:kseq f:q ) f:dotk ) ) ) ) f:dotk ) ) ( \\ev ( \\app f:k ( \\app ( \\app f:kseq f:p ) ( \
+        "p |- ( \\imp ( \\app f:k ( \\app ( \\app f:append ( \\app ( \\app f:kseq f:p ) ( \\app ( \
+            \\app f:kseq f:p ) ( \
+         \\app ( \\app f:kseq f:q ) f:dotk ) ) ) ) f:dotk ) ) ( \\ev ( \\app f:k ( \\app ( \\app \
+         f:kseq f:p ) ( \
          \\app ( \\app f:kseq f:p ) ( \\app ( \\app f:kseq f:q ) f:dotk ) ) ) ) ) ) ",
     ),
     (
@@ -148,21 +159,30 @@ const COMPUTED: [(Case<'static>, &str); 9] = [
             out: "stuck 1\ndone{}(cons{}(p{}(),cons{}(q{}(),nil{}())))\n",
             ..PROVES
         },
-        "p |- ( \\imp ( \\app ( \\app f:both ( \\app ( \\app f:cons f:p ) f:nil ) ) ( \\app ( \\app f:cons f:q ) \
-         f:nil ) ) ( \\ev ( \\app f:done ( \\app ( \\app f:cons f:p ) ( \\app ( \\app f:cons f:q ) f:nil ) ) ) ) ) ",
+        "p |- ( \\imp ( \\app ( \\app f:both ( \\app ( \\app f:cons f:p ) f:nil ) ) ( \\app ( \
+            \\app f:cons f:q ) \
+         f:nil ) ) ( \\ev ( \\app f:done ( \\app ( \\app f:cons f:p ) ( \\app ( \\app f:cons f:q ) \
+         f:nil ) ) ) ) ) ",
     ),
     (
         Case {
             definition: ADDITION,
-            term: "Lbl'-LT-'k'-GT-'{}(kseq{}(inj{SortExp{},SortKItem{}}(Lbl'UndsPlusUnds'{}(inj{SortInt{},\
-                SortExp{}}(\\dv{SortInt{}}(\"2\")),inj{SortInt{},SortExp{}}(\\dv{SortInt{}}(\"3\")))),dotk{}()))",
-            out: "stuck 1\nLbl'-LT-'k'-GT-'{}(kseq{}(inj{SortInt{},SortKItem{}}(\\dv{SortInt{}}(\"5\")),dotk{}()))\n",
+            term: "Lbl'-LT-'k'-GT-'{}(kseq{}(inj{SortExp{},\
+                SortKItem{}}(Lbl'UndsPlusUnds'{}(inj{SortInt{},\
+                SortExp{}}(\\dv{SortInt{}}(\"2\")),inj{SortInt{},\
+                SortExp{}}(\\dv{SortInt{}}(\"3\")))),dotk{}()))",
+            out: "stuck 1\nLbl'-LT-'k'-GT-'{}(kseq{}(inj{SortInt{},\
+                SortKItem{}}(\\dv{SortInt{}}(\"5\")),dotk{}()))\n",
             ..PROVES
         },
-        "p |- ( \\imp ( \\app f:Lbl'-LT-'k'-GT-' ( \\app ( \\app f:kseq ( \\app ( \\at ( \\at f:inj s:SortExp ) \
-         s:SortKItem ) ( \\app ( \\app f:Lbl'UndsPlusUnds' ( \\app ( \\at ( \\at f:inj s:SortInt ) s:SortExp ) \
-         d:SortInt:32 ) ) ( \\app ( \\at ( \\at f:inj s:SortInt ) s:SortExp ) d:SortInt:33 ) ) ) ) f:dotk ) ) ( \
-         \\ev ( \\app f:Lbl'-LT-'k'-GT-' ( \\app ( \\app f:kseq ( \\app ( \\at ( \\at f:inj s:SortInt ) \
+        "p |- ( \\imp ( \\app f:Lbl'-LT-'k'-GT-' ( \\app ( \\app f:kseq ( \\app ( \\at ( \\at \
+            f:inj s:SortExp ) \
+         s:SortKItem ) ( \\app ( \\app f:Lbl'UndsPlusUnds' ( \\app ( \\at ( \\at f:inj s:SortInt ) \
+         s:SortExp ) \
+         d:SortInt:32 ) ) ( \\app ( \\at ( \\at f:inj s:SortInt ) s:SortExp ) d:SortInt:33 ) ) ) ) \
+         f:dotk ) ) ( \
+         \\ev ( \\app f:Lbl'-LT-'k'-GT-' ( \\app ( \\app f:kseq ( \\app ( \\at ( \\at f:inj \
+         s:SortInt ) \
          s:SortKItem ) d:SortInt:35 ) ) f:dotk ) ) ) ) ",
     ),
 ];

@@ -49,7 +49,8 @@ pub fn read_run<'a, D: Desk>(
 
 // The end of a call whose definition was not read or not accepted.
 fn definition_end(end: FileEnd, name: &str) -> End<'_>
-    ensures { (asked : RunRequest) (told : Option Told) (reads reads' : ℕ) → asked.definition ≡ name.now
+    ensures { (asked : RunRequest) (told : Option Told) (reads reads' : ℕ)
+        → asked.definition ≡ name.now
         → FileCause IsRefused told asked.definition definition_limit reads reads' end
         → ReadCause asked told reads reads' (plain_end result) }
 {
@@ -69,7 +70,8 @@ fn definition_end(end: FileEnd, name: &str) -> End<'_>
 
 // The end of a call whose term was not read or not accepted.
 fn term_end(end: FileEnd, name: &str) -> End<'_>
-    ensures { (asked : RunRequest) (told : Option Told) (reads reads' : ℕ) (theory : RewriteTheory) (top : Option ℕ)
+    ensures { (asked : RunRequest) (told : Option Told) (reads reads' : ℕ) (theory : RewriteTheory)
+        (top : Option ℕ)
         → asked.term ≡ name.now → HoldsProgram told asked.definition theory top
         → FileCause (IsRefusedTerm theory.sig top) told asked.term term_limit reads reads' end
         → ReadCause asked told reads reads' (plain_end result) }

@@ -3,7 +3,7 @@ ghost use Rattle.std.specs.Prelude.{◌≡◌, ◌≤◌, ◌++◌, [], ◌∷�
 ghost use Rattle.std.specs.List.{flat_map};
 ghost use Rattle.std.specs.Borrow.{Bor};
 ghost use Rattle.desk_io.specs.Sent.{Appends, AppendsFront};
-ghost use Rattle.desk_io.specs.Counts.{Rose};
+ghost use Rattle.desk_io.specs.Counts.{CountRose};
 ghost use Rattle.kore_prove.specs.Reports.{end_code, refusal, report_line};
 ghost use Rattle.kore_prove.specs.PlainEnds.{fault_end, plain_end};
 
@@ -62,10 +62,12 @@ pub fn write_end<'a>(fault: DeskFault) -> End<'a>
 /// Sends the line that states why a call ended. After an error some bytes from its front, perhaps
 /// none, are sent. It fails with `Failed` only if the sink counted a fault.
 pub fn send_report<E: Sink>(err: &mut E, end: &End<'_>) -> Result<(), DeskFault>
-    ensures sent { OnOk result (Appends (E.bytes err.old) (E.bytes err.new) (report_line (plain_end end.now))) }
+    ensures sent { OnOk result
+        (Appends (E.bytes err.old) (E.bytes err.new) (report_line (plain_end end.now))) }
     ensures prefix { OnErr result
         (AppendsFront (E.bytes err.old) (E.bytes err.new) (report_line (plain_end end.now))) }
-    ensures failed { IsErrOf result DeskFault.Failed → Rose (E.faults err.old) (E.faults err.new) }
+    ensures failed { IsErrOf result DeskFault.Failed
+        → CountRose (E.faults err.old) (E.faults err.new) }
     ensures counts { E.faults err.old ≤ E.faults err.new }
 {
     match end {
@@ -88,7 +90,8 @@ fn send_refusal<E: Sink>(err: &mut E, what: &str, number: u8, byte: u32) -> Resu
         (Appends (E.bytes err.old) (E.bytes err.new) (what.now ++ refusal number byte ++ 10 ∷ [])) }
     ensures prefix { OnErr result (AppendsFront
         (E.bytes err.old) (E.bytes err.new) (what.now ++ refusal number byte ++ 10 ∷ [])) }
-    ensures failed { IsErrOf result DeskFault.Failed → Rose (E.faults err.old) (E.faults err.new) }
+    ensures failed { IsErrOf result DeskFault.Failed
+        → CountRose (E.faults err.old) (E.faults err.new) }
     ensures counts { E.faults err.old ≤ E.faults err.new }
 {
     let mut numbers = Buffer::new();
@@ -111,7 +114,8 @@ pub fn send_pieces<E: Sink>(err: &mut E, pieces: &[&str]) -> Result<(), DeskFaul
         (E.bytes err.old) (E.bytes err.new) (flat_map (λ (p : Bor (List ℕ)). p.now) pieces.now)) }
     ensures prefix { OnErr result (AppendsFront
         (E.bytes err.old) (E.bytes err.new) (flat_map (λ (p : Bor (List ℕ)). p.now) pieces.now)) }
-    ensures failed { IsErrOf result DeskFault.Failed → Rose (E.faults err.old) (E.faults err.new) }
+    ensures failed { IsErrOf result DeskFault.Failed
+        → CountRose (E.faults err.old) (E.faults err.new) }
     ensures counts { E.faults err.old ≤ E.faults err.new }
 {
     for piece in pieces {

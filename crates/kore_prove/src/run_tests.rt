@@ -53,7 +53,8 @@ const CONSTRUCTED: [Case<'static>; 8] = [
         definition: INTEGER_FUNCTIONS,
         term: r#"n{}(add{}(\dv{SortInt{}}("170141183460469231731687303715884105727"),\dv{SortInt{}}("1")))"#,
         code: 11,
-        out: "blocked 0 NoValue INT.add\nn{}(add{}(\\dv{SortInt{}}(\"170141183460469231731687303715884105727\"\
+        out: "blocked 0 NoValue INT.add\n\
+            n{}(add{}(\\dv{SortInt{}}(\"170141183460469231731687303715884105727\"\
             ),\\dv{SortInt{}}(\"1\")))\n",
         ..BASE
     },
@@ -90,22 +91,26 @@ const COMPUTED: [Case<'static>; 7] = [
     },
     Case {
         definition: INTEGER_FUNCTIONS,
-        term: "n{}(tdiv{}(\\dv{SortInt{}}(\"-170141183460469231731687303715884105728\"),\\dv{SortInt{}}(\"-1\")))",
+        term: "n{}(tdiv{}(\\dv{SortInt{}}(\"-170141183460469231731687303715884105728\"),\
+            \\dv{SortInt{}}(\"-1\")))",
         code: 11,
-        out: "blocked 0 NoValue INT.tdiv\nn{}(tdiv{}(\\dv{SortInt{}}(\"-17014118346046923173168730371588410572\
+        out: "blocked 0 NoValue INT.tdiv\n\
+            n{}(tdiv{}(\\dv{SortInt{}}(\"-17014118346046923173168730371588410572\
             8\"),\\dv{SortInt{}}(\"-1\")))\n",
         ..BASE
     },
     Case {
         definition: INTEGER_FUNCTIONS,
-        term: "n{}(tmod{}(\\dv{SortInt{}}(\"-170141183460469231731687303715884105728\"),\\dv{SortInt{}}(\"-1\")))",
+        term: "n{}(tmod{}(\\dv{SortInt{}}(\"-170141183460469231731687303715884105728\"),\
+            \\dv{SortInt{}}(\"-1\")))",
         code: 0,
         out: "stuck 0\nn{}(\\dv{SortInt{}}(\"0\"))\n",
         ..BASE
     },
     Case {
         definition: INTEGER_FUNCTIONS,
-        term: "n{}(emod{}(\\dv{SortInt{}}(\"-170141183460469231731687303715884105728\"),\\dv{SortInt{}}(\"-1\")))",
+        term: "n{}(emod{}(\\dv{SortInt{}}(\"-170141183460469231731687303715884105728\"),\
+            \\dv{SortInt{}}(\"-1\")))",
         code: 0,
         out: "stuck 0\nn{}(\\dv{SortInt{}}(\"0\"))\n",
         ..BASE
@@ -139,7 +144,8 @@ const CONDITIONAL: [Case<'static>; 7] = [
         definition: APPEND_LIST,
         term: "k{}(append{}(kseq{}(p{}(),kseq{}(p{}(),kseq{}(q{}(),dotk{}()))),dotk{}()))",
         code: 11,
-        out: "blocked 0 Calls append\nk{}(append{}(kseq{}(p{}(),kseq{}(p{}(),kseq{}(q{}(),dotk{}()))),dotk{}()))\n",
+        out: "blocked 0 Calls append\nk{}(append{}(kseq{}(p{}(),kseq{}(p{}(),kseq{}(q{}(),\
+            dotk{}()))),dotk{}()))\n",
         ..BASE
     },
     Case {
@@ -170,10 +176,13 @@ const BLOCKED: [Case<'static>; 6] = [
     Case {
         words: &["run", "d.kore", "t.kore", "--limit", "100"],
         definition: ADDITION,
-        term: "Lbl'-LT-'k'-GT-'{}(kseq{}(inj{SortExp{},SortKItem{}}(Lbl'UndsPlusUnds'{}(inj{SortInt{},SortExp{}\
-            }(\\dv{SortInt{}}(\"2\")),inj{SortInt{},SortExp{}}(\\dv{SortInt{}}(\"3\")))),dotk{}()))",
+        term: "Lbl'-LT-'k'-GT-'{}(kseq{}(inj{SortExp{},\
+            SortKItem{}}(Lbl'UndsPlusUnds'{}(inj{SortInt{},SortExp{}\
+            }(\\dv{SortInt{}}(\"2\")),inj{SortInt{},SortExp{}}(\\dv{SortInt{}}(\"3\")))),\
+            dotk{}()))",
         code: 0,
-        out: "stuck 1\nLbl'-LT-'k'-GT-'{}(kseq{}(inj{SortInt{},SortKItem{}}(\\dv{SortInt{}}(\"5\")),dotk{}()))\n",
+        out: "stuck 1\nLbl'-LT-'k'-GT-'{}(kseq{}(inj{SortInt{},\
+            SortKItem{}}(\\dv{SortInt{}}(\"5\")),dotk{}()))\n",
         ..BASE
     },
     Case {
@@ -187,7 +196,8 @@ const BLOCKED: [Case<'static>; 6] = [
         definition: OTHERWISE,
         term: r#"n{}(isInt{}(kseq{}(inj{SortInt{},SortKItem{}}(\dv{SortInt{}}("5")),dotk{}())))"#,
         code: 11,
-        out: "blocked 0 Closed isInt\nn{}(isInt{}(kseq{}(inj{SortInt{},SortKItem{}}(\\dv{SortInt{}}(\"5\")),do\
+        out: "blocked 0 Closed isInt\nn{}(isInt{}(kseq{}(inj{SortInt{},\
+            SortKItem{}}(\\dv{SortInt{}}(\"5\")),do\
             tk{}())))\n",
         ..BASE
     },

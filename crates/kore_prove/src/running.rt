@@ -2,7 +2,7 @@
 ghost use Rattle.std.specs.Prelude.{◌≡◌, ◌≤◌, IsTrue, IfOk, OnErr, IsErrOf};
 ghost use Rattle.term_core.specs.RulePatterns.{plain_pattern};
 ghost use Rattle.rule_core.specs.ProgramView.{theory_of};
-ghost use Rattle.desk_io.specs.Counts.{Rose};
+ghost use Rattle.desk_io.specs.Counts.{CountRose};
 ghost use Rattle.run_loop.specs.RunEnds.{plain_run};
 ghost use Rattle.run_proof.specs.WrittenProofs.{WritesProof, WritesFrontOfProof};
 ghost use Rattle.kore_prove.specs.Runnable.{IsRunnable};
@@ -45,7 +45,8 @@ pub fn lines_of_run(
 ) -> Result<(RunEnd, Vec<u8>), AllocError>
     requires { IsRunnable accepted.now }
     ensures { IfOk result (λ r. HasLines bounds
-        (theory_of accepted.now.program) (plain_pattern accepted.now.start) (plain_run r.0) r.1.items) }
+        (theory_of accepted.now.program) (plain_pattern accepted.now.start) (plain_run r.0)
+        r.1.items) }
 {
     shown_laws();
     let engine = Engine::new(&accepted.program);
@@ -67,13 +68,16 @@ pub fn proved_lines_of_run<D: Desk>(
     requires file { IsTrue (D.created desk.old) }
     requires runnable { IsRunnable accepted.now }
     ensures run { IfOk result (λ r. HasLines bounds
-        (theory_of accepted.now.program) (plain_pattern accepted.now.start) (plain_run r.end) r.lines.items) }
+        (theory_of accepted.now.program) (plain_pattern accepted.now.start) (plain_run r.end)
+        r.lines.items) }
     ensures justified { IfOk result (λ r. WritesProof (D.told desk.old) (D.told desk.new)
-        (theory_of accepted.now.program) (plain_pattern accepted.now.start) (plain_run r.end) r.summary) }
+        (theory_of accepted.now.program) (plain_pattern accepted.now.start) (plain_run r.end)
+        r.summary) }
     ensures front { OnErr result (WritesFrontOfProof (D.told desk.old) (D.told desk.new)
         (theory_of accepted.now.program) (plain_pattern accepted.now.start)) }
     ensures created { IsTrue (D.created desk.new) }
-    ensures failed { IsErrOf result DeskFault.Failed → Rose (D.write_faults desk.old) (D.write_faults desk.new) }
+    ensures failed { IsErrOf result DeskFault.Failed
+        → CountRose (D.write_faults desk.old) (D.write_faults desk.new) }
     ensures counts { D.write_faults desk.old ≤ D.write_faults desk.new }
     ensures reads { D.read_faults desk.new ≡ D.read_faults desk.old }
 {

@@ -2,9 +2,9 @@
 ghost use Rattle.std.specs.Prelude.{◌≡◌, ◌≤◌, List, ℕ, Option, IfOk, IfErr, OnOk, OnErr, IsErrOf};
 ghost use Rattle.desk_io.specs.Told.{KeepsFiles};
 ghost use Rattle.desk_io.specs.Sent.{Appends, AppendsFront};
-ghost use Rattle.desk_io.specs.Counts.{Rose};
+ghost use Rattle.desk_io.specs.Counts.{CountRose};
 ghost use Rattle.kore_prove.specs.FileCauses.{UnreadCause};
-ghost use Rattle.kore_prove.specs.Causes.{Course, VerifyCause, KeepsOutput};
+ghost use Rattle.kore_prove.specs.Causes.{IoState, VerifyCause, KeepsOutput};
 ghost use Rattle.kore_prove.specs.Limits.{database_limit};
 ghost use Rattle.kore_prove.specs.PlainEnds.{plain_end};
 ghost use Rattle.kore_prove.specs.DatabaseVerdicts.{IsVerdictOn, HoldsDatabase, PrintsVerdictOn};
@@ -83,7 +83,8 @@ pub fn verify_command<'a, D: Desk, O: Sink>(
 fn read_verdict<D: Desk>(alloc: Global, desk: &mut D, name: &str) -> Result<Verdict, ReadEnd>
     ensures found { IfOk result (HoldsDatabase (D.told desk.old) name.now) }
     ensures cause { IfErr result (UnreadCause
-        (D.told desk.old) name.now DATABASE_LIMIT (D.read_faults desk.old) (D.read_faults desk.new)) }
+        (D.told desk.old) name.now DATABASE_LIMIT (D.read_faults desk.old)
+        (D.read_faults desk.new)) }
     ensures files { KeepsFiles (D.told desk.old) (D.told desk.new) }
     ensures created { D.created desk.new ≡ D.created desk.old }
 {
@@ -111,7 +112,7 @@ fn verdict_on(alloc: Global, bytes: &[u8]) -> Result<Verdict, AllocError>
 
 /// The end of a call whose file was not read as a whole.
 fn unread_end(end: ReadEnd, name: &str) -> End<'_>
-    ensures cause { (c : Course) → UnreadCause c.told name.now database_limit c.reads c.reads' end
+    ensures cause { (c : IoState) → UnreadCause c.told name.now database_limit c.reads c.reads' end
         → VerifyCause name.now c (plain_end result) }
     ensures output { (output : Option (List ℕ)) → KeepsOutput (plain_end result) output output }
 {
@@ -126,10 +127,12 @@ fn unread_end(end: ReadEnd, name: &str) -> End<'_>
 /// Sends the line of a verdict. After an error some bytes from its front, perhaps none, are sent.
 /// It fails with `Failed` only if the sink counted a fault.
 fn send_verdict<O: Sink>(out: &mut O, verdict: &Verdict) -> Result<(), DeskFault>
-    ensures sent { OnOk result (Appends (O.bytes out.old) (O.bytes out.new) (verdict_line verdict.now)) }
+    ensures sent { OnOk result
+        (Appends (O.bytes out.old) (O.bytes out.new) (verdict_line verdict.now)) }
     ensures prefix { OnErr result
         (AppendsFront (O.bytes out.old) (O.bytes out.new) (verdict_line verdict.now)) }
-    ensures failed { IsErrOf result DeskFault.Failed → Rose (O.faults out.old) (O.faults out.new) }
+    ensures failed { IsErrOf result DeskFault.Failed
+        → CountRose (O.faults out.old) (O.faults out.new) }
 {
     match verdict {
         Verdict::Valid(report) => send_valid(out, report.axioms, report.theorems),
@@ -139,10 +142,12 @@ fn send_verdict<O: Sink>(out: &mut O, verdict: &Verdict) -> Result<(), DeskFault
 
 /// Sends the line of a valid database.
 fn send_valid<O: Sink>(out: &mut O, axioms: u64, theorems: u64) -> Result<(), DeskFault>
-    ensures sent { OnOk result (Appends (O.bytes out.old) (O.bytes out.new) (valid_line axioms theorems)) }
+    ensures sent { OnOk result
+        (Appends (O.bytes out.old) (O.bytes out.new) (valid_line axioms theorems)) }
     ensures prefix { OnErr result
         (AppendsFront (O.bytes out.old) (O.bytes out.new) (valid_line axioms theorems)) }
-    ensures failed { IsErrOf result DeskFault.Failed → Rose (O.faults out.old) (O.faults out.new) }
+    ensures failed { IsErrOf result DeskFault.Failed
+        → CountRose (O.faults out.old) (O.faults out.new) }
 {
     let mut first = Buffer::new();
     let mut second = Buffer::new();
@@ -158,10 +163,12 @@ fn send_valid<O: Sink>(out: &mut O, axioms: u64, theorems: u64) -> Result<(), De
 
 /// Sends the line of a database with this first fault.
 fn send_invalid<O: Sink>(out: &mut O, kind: u8, byte: usize) -> Result<(), DeskFault>
-    ensures sent { OnOk result (Appends (O.bytes out.old) (O.bytes out.new) (invalid_line kind byte)) }
+    ensures sent { OnOk result
+        (Appends (O.bytes out.old) (O.bytes out.new) (invalid_line kind byte)) }
     ensures prefix { OnErr result
         (AppendsFront (O.bytes out.old) (O.bytes out.new) (invalid_line kind byte)) }
-    ensures failed { IsErrOf result DeskFault.Failed → Rose (O.faults out.old) (O.faults out.new) }
+    ensures failed { IsErrOf result DeskFault.Failed
+        → CountRose (O.faults out.old) (O.faults out.new) }
 {
     let mut first = Buffer::new();
     let mut second = Buffer::new();

@@ -31,23 +31,38 @@ one_sort : (o : Option ℕ) (s t : ℕ) → o ≡ Some s → is_one_sort o (Some
 one_sort None s t e h = absurd (false≢true h)
 one_sort (Some n) s t e h = let same : n ≡ s = cc in sym (eqb-true n t h) ∙ same
 
-of_top : (sig : Signature) (top : Option ℕ) (u : _) (s : ℕ) → sort_of sig u ≡ Some s → start_faults sig top u ≡ [] → IsOfTop top s
+of_top : (sig : Signature) (top : Option ℕ) (u : _) (s : ℕ) → sort_of sig u ≡ Some s
+    → start_faults sig top u ≡ [] → IsOfTop top s
 of_top sig None u s e h = tt
-of_top sig (Some t) u s e h = one_sort (sort_of sig u) s t e (unless_empty (is_one_sort (sort_of sig u) (Some t)) 19 0 h)
+of_top sig (Some t) u s e h =
+    one_sort (sort_of sig u) s t e (unless_empty (is_one_sort (sort_of sig u) (Some t)) 19 0 h)
 
-pub accepted_start : (sig : Signature) (top : Option ℕ) (bytes : List ℕ) (start : Pattern) → IsSignature sig → IsAcceptedTerm sig top bytes start → (s : ℕ) × HasSort sig [] start s × IsOfTop top s
+pub accepted_start : (sig : Signature) (top : Option ℕ) (bytes : List ℕ) (start : Pattern)
+    → IsSignature sig → IsAcceptedTerm sig top bytes start
+    → (s : ℕ) × HasSort sig [] start s × IsOfTop top s
 accepted_start sig top bytes start good is =
     let u = unfolded is.term in
-    let clear : pattern_faults sig u ≡ [] = (no_faults _ _ (none_by_byte (all_faults sig u) is.no_fault.1.0)).1 in
-    let own : (w : ℕ) × (sort_of sig u ≡ Some w) = some_or_none (sort_of sig u) (faultless_sorted sig u good (means_form sig [] is.means) clear) in
-    (own.0, meanings_are_sorted sig [] u start own.0 good clear is.means own.1, of_top sig top u own.0 own.1 (none_by_byte (start_faults sig top u) is.no_fault.1.1))
+    let clear : pattern_faults sig u ≡ [] =
+    (no_faults _ _ (none_by_byte (all_faults sig u) is.no_fault.1.0)).1 in
+    let own : (w : ℕ) × (sort_of sig u ≡ Some w) =
+    some_or_none (sort_of sig u)
+    (faultless_sorted sig u good (means_form sig [] is.means) clear) in (
+      own.0,
+      meanings_are_sorted sig [] u start own.0 good clear is.means own.1,
+      of_top sig top u own.0 own.1 (none_by_byte (start_faults sig top u) is.no_fault.1.1),
+    )
 
-rules_of_top : (theory : RewriteTheory) (top : Option ℕ) (s : ℕ) → IsSortOfRules theory top → IsOfTop top s → All (IsRuleOf theory.sig s) theory.rules
-rules_of_top theory None s none of = subst (All (IsRuleOf theory.sig s)) (sym none) (All-nil (IsRuleOf theory.sig s))
-rules_of_top theory (Some t) s all of = subst (λ (n : ℕ). All (IsRuleOf theory.sig n) theory.rules) of all
+rules_of_top : (theory : RewriteTheory) (top : Option ℕ) (s : ℕ) → IsSortOfRules theory top
+    → IsOfTop top s → All (IsRuleOf theory.sig s) theory.rules
+rules_of_top theory None s none of =
+    subst (All (IsRuleOf theory.sig s)) (sym none) (All-nil (IsRuleOf theory.sig s))
+rules_of_top theory (Some t) s all of =
+    subst (λ (n : ℕ). All (IsRuleOf theory.sig n) theory.rules) of all
 
 -- an accepted term is a start of the program
-pub accepted_is_start : (theory : RewriteTheory) (top : Option ℕ) (bytes : List ℕ) (start : Pattern) → IsSignature theory.sig → IsSortOfRules theory top → IsAcceptedTerm theory.sig top bytes start → IsStart theory start
+pub accepted_is_start : (theory : RewriteTheory) (top : Option ℕ) (bytes : List ℕ) (start : Pattern)
+    → IsSignature theory.sig → IsSortOfRules theory top → IsAcceptedTerm theory.sig top bytes start
+    → IsStart theory start
 accepted_is_start theory top bytes start good rules is =
     let found = accepted_start theory.sig top bytes start good is in
     (found.0, found.1, rules_of_top theory top found.0 rules found.2)

@@ -1,7 +1,9 @@
 -- Two signatures of the same declarations give the axioms the same faults. They differ at most in
 -- where their names and lists are stored.
-use Rattle.std.proofs.Common.{◌≡◌, ℕ, ◌+◌, Bool, cond, List, [], ◌∷◌, ◌++◌, drop, length, zero, suc, Option, Some, None, refl, sym, ap, ◌∙◌, subst, inl, inr}
-use Rattle.std.specs.Prelude.{◌==◌, ◌&&◌, not, Contains, slice_get, option_map, string_bytes, is_none, flat_map, if◌then◌else◌, ◌||◌, codes, nat_lt}
+use Rattle.std.proofs.Common.{◌≡◌, ℕ, ◌+◌, Bool, cond, List, [], ◌∷◌, ◌++◌, drop, length, zero, suc}
+use Rattle.std.proofs.Common.{Option, Some, None, refl, sym, ap, ◌∙◌, subst, inl, inr}
+use Rattle.std.specs.Prelude.{◌==◌, ◌&&◌, not, Contains, slice_get, option_map, string_bytes}
+use Rattle.std.specs.Prelude.{is_none, flat_map, if◌then◌else◌, ◌||◌, codes, nat_lt}
 use Rattle.std.specs.List.{AllZip, position_from}
 use Rattle.std.specs.Option.{option_and_then}
 use Rattle.std.specs.Str.{bytes_eq}
@@ -13,21 +15,34 @@ use Rattle.rule_core.specs.declared.signature.SymInfo.{SymInfo}
 use Rattle.rule_core.specs.declared.signature.SymKind.{SymKind}
 use Rattle.rule_core.specs.declared.signature.SortRef.{SortRef}
 use Rattle.kore_sig.specs.Attributes.{has_attribute}
-use Rattle.kore_sig.specs.FirstFault.{Fault, ByByte, ByNumber, IsFirstBy, Then, InOrder, when, unless}
+use Rattle.kore_sig.specs.FirstFault.{Fault, ByByte, ByNumber, IsFirstBy, Then, IsFirstOfSequence}
+use Rattle.kore_sig.specs.FirstFault.{when, unless}
 use Rattle.kore_sig.specs.SignatureLaws.{IsSameSymbol, AreSameSignature}
 use Rattle.kore_sig.specs.SortReferences.{sort_number}
-use Rattle.kore_check.specs.Folds.{Unfolded, named_variable, written_value, applied_symbol, other_form, Unfoldeds, no_more, and_more, place, count, height, unfolded}
-use Rattle.kore_check.specs.PatternSorts.{symbol_named, sort_numbers, number_then, result_sort, sort_of, places_of}
-use Rattle.kore_check.specs.PatternFaults.{sort_faults, clash_faults, symbol_faults, first_wanted, pattern_faults, argument_faults, most_height, all_faults, is_injection, goes_astray, has_no_kind}
-use Rattle.kore_shapes.specs.Shapes.{Rewriting, rewriting, Condition, always, tests, ill, found_part}
+use Rattle.kore_check.specs.Folds.{Unfolded, named_variable, written_value, applied_symbol}
+use Rattle.kore_check.specs.Folds.{other_form, Unfoldeds, no_more, and_more, unfolded_byte, count}
+use Rattle.kore_check.specs.Folds.{height, unfolded}
+use Rattle.kore_check.specs.PatternSorts.{symbol_named, sort_numbers, number_then, result_sort}
+use Rattle.kore_check.specs.PatternSorts.{sort_of, places_of}
+use Rattle.kore_check.specs.PatternFaults.{sort_faults, clash_faults, symbol_faults, first_wanted}
+use Rattle.kore_check.specs.PatternFaults.{pattern_faults, argument_faults, most_height, all_faults}
+use Rattle.kore_check.specs.PatternFaults.{is_injection, is_bad_injection, has_no_kind}
+use Rattle.kore_shapes.specs.Shapes.{Rewriting, rewriting, Condition, always, tests, ill}
+use Rattle.kore_shapes.specs.Shapes.{found_part}
 use Rattle.kore_shapes.specs.Statements.{Statement, statement}
-use Rattle.kore_axioms.specs.AxiomClasses.{AxiomClass, refused, orders_sorts, rewrites, equates, passed_over, class_of, is_defined_kind, takes_equations, is_no_equation, class_of_statement, class_of_pattern, states_pairs}
+use Rattle.kore_axioms.specs.AxiomClasses.{AxiomClass, refused, orders_sorts, rewrites, equates}
+use Rattle.kore_axioms.specs.AxiomClasses.{passed_over, class_of, is_defined_kind, takes_equations}
+use Rattle.kore_axioms.specs.AxiomClasses.{is_no_equation, class_of_statement, class_of_pattern}
+use Rattle.kore_axioms.specs.AxiomClasses.{states_pairs}
 use Rattle.kore_axioms.specs.Conditions.{tested}
-use Rattle.kore_axioms.specs.Raised.{raised}
-use Rattle.kore_axioms.specs.RuleFaults.{FirstOfRule, faults_at_sort, side_faults, condition_faults, found_top_faults, sorted_faults, listed, is_bound, differs_from, use_faults}
+use Rattle.kore_axioms.specs.Raised.{faults_of_tests}
+use Rattle.kore_axioms.specs.RuleFaults.{FirstOfRule, faults_at_sort, side_faults, condition_faults}
+use Rattle.kore_axioms.specs.RuleFaults.{found_top_faults, sorted_faults, listed, is_bound}
+use Rattle.kore_axioms.specs.RuleFaults.{differs_from, use_faults}
 use Rattle.kore_axioms.specs.RuleForms.{form_faults, holds_of}
 use Rattle.kore_axioms.specs.RuleParts.{RuleParts, rule_parts, left_of, right_of}
-use Rattle.kore_axioms.specs.Uses.{has_symbol, is_function_kind, is_plain_function, is_plain_function_with, is_ac_symbol, is_ac_with}
+use Rattle.kore_axioms.specs.Uses.{has_symbol, is_function_kind, is_plain_function}
+use Rattle.kore_axioms.specs.Uses.{is_plain_function_with, is_ac_symbol, is_ac_with}
 use Rattle.kore_rules.specs.FirstRefusal.{FirstOfClass, FirstOfAxioms, first_sort}
 
 -- ---- symbols
@@ -49,35 +64,48 @@ AreAlike (Some a) None = ⊥
 AreAlike (Some a) (Some b) = IsAlike a b
 
 alike : (e f : List ℕ × SymInfo) → IsSameSymbol e f → IsAlike e.1 f.1
-alike e f h = record { kind = h.kind; params = h.params; args = h.args; result = h.result; hook = h.hook; ac = h.ac }
+alike e f h = record {
+  kind = h.kind;
+  params = h.params;
+  args = h.args;
+  result = h.result;
+  hook = h.hook;
+  ac = h.ac;
+}
 
 abbrev Symbols : Type 0
 Symbols = List (List ℕ × SymInfo)
 
 position_alike : (name : List ℕ) (i : ℕ) (xs ys : Symbols) → AllZip IsSameSymbol xs ys
-    → position_from (λ (e : List ℕ × SymInfo). bytes_eq name e.0) i xs ≡ position_from (λ (e : List ℕ × SymInfo). bytes_eq name e.0) i ys
+    → position_from (λ (e : List ℕ × SymInfo). bytes_eq name e.0) i xs
+    ≡ position_from (λ (e : List ℕ × SymInfo). bytes_eq name e.0) i ys
 position_alike name i [] [] same = refl
 position_alike name i [] (y ∷ ys) same = absurd same
 position_alike name i (x ∷ xs) [] same = absurd same
 position_alike name i (x ∷ xs) (y ∷ ys) same =
-    ap (λ (n : List ℕ). cond (bytes_eq name n) (Some i) (position_from (λ (e : List ℕ × SymInfo). bytes_eq name e.0) (i + 1) xs)) same.0.name
-    ∙ ap (λ (o : Option ℕ). cond (bytes_eq name y.0) (Some i) o) (position_alike name (i + 1) xs ys same.1)
+    ap (λ (n : List ℕ). cond (bytes_eq name n) (Some i)
+    (position_from (λ (e : List ℕ × SymInfo). bytes_eq name e.0) (i + 1) xs)) same.0.name
+    ∙ ap (λ (o : Option ℕ). cond (bytes_eq name y.0) (Some i) o)
+    (position_alike name (i + 1) xs ys same.1)
 
 abbrev info_at : Symbols → ℕ → Option SymInfo
 info_at xs n = option_map (λ (e : List ℕ × SymInfo). e.1) (slice_get xs n)
 
-info_alike : (xs ys : Symbols) (n : ℕ) → AllZip IsSameSymbol xs ys → AreAlike (info_at xs n) (info_at ys n)
+info_alike : (xs ys : Symbols) (n : ℕ) → AllZip IsSameSymbol xs ys
+    → AreAlike (info_at xs n) (info_at ys n)
 info_alike [] [] n same = tt
 info_alike [] (y ∷ ys) n same = absurd same
 info_alike (x ∷ xs) [] n same = absurd same
 info_alike (x ∷ xs) (y ∷ ys) zero same = alike x y same.0
 info_alike (x ∷ xs) (y ∷ ys) (suc n) same = info_alike xs ys n same.1
 
-numbered_alike : (xs ys : Symbols) (o : Option ℕ) → AllZip IsSameSymbol xs ys → AreAlike (option_and_then (info_at xs) o) (option_and_then (info_at ys) o)
+numbered_alike : (xs ys : Symbols) (o : Option ℕ) → AllZip IsSameSymbol xs ys
+    → AreAlike (option_and_then (info_at xs) o) (option_and_then (info_at ys) o)
 numbered_alike xs ys None same = tt
 numbered_alike xs ys (Some n) same = info_alike xs ys n same
 
-result_alike : (a b : Option SymInfo) (ss : List SortTree) (ns : Option (List ℕ)) → AreAlike a b → result_sort a ss ns ≡ result_sort b ss ns
+result_alike : (a b : Option SymInfo) (ss : List SortTree) (ns : Option (List ℕ)) → AreAlike a b
+    → result_sort a ss ns ≡ result_sort b ss ns
 result_alike None None ss ns h = refl
 result_alike None (Some b) ss ns h = absurd h
 result_alike (Some a) None ss ns h = absurd h
@@ -92,12 +120,14 @@ places_alike None (Some b) h = absurd h
 places_alike (Some a) None h = absurd h
 places_alike (Some a) (Some b) h = h.args
 
-plain_function_alike : (a b : Option SymInfo) → AreAlike a b → is_plain_function_with a ≡ is_plain_function_with b
+plain_function_alike : (a b : Option SymInfo) → AreAlike a b
+    → is_plain_function_with a ≡ is_plain_function_with b
 plain_function_alike None None h = refl
 plain_function_alike None (Some b) h = absurd h
 plain_function_alike (Some a) None h = absurd h
 plain_function_alike (Some a) (Some b) h =
-    ap (λ (k : SymKind). is_function_kind k && not a.ac) h.kind ∙ ap (λ (ac : Bool). is_function_kind b.kind && not ac) h.ac
+    ap (λ (k : SymKind). is_function_kind k && not a.ac) h.kind
+    ∙ ap (λ (ac : Bool). is_function_kind b.kind && not ac) h.ac
 
 ac_alike : (a b : Option SymInfo) → AreAlike a b → is_ac_with a ≡ is_ac_with b
 ac_alike None None h = refl
@@ -115,42 +145,56 @@ takes_alike None (Some b) h = absurd h
 takes_alike (Some a) None h = absurd h
 takes_alike (Some a) (Some b) h =
     ap (λ (k : SymKind). is_defined_kind k && is_none a.hook) h.kind
-    ∙ ap (λ (none : Bool). is_defined_kind b.kind && none) (sym (is_none_map string_bytes a.hook) ∙ ap (λ (name : Option (List ℕ)). is_none name) h.hook ∙ is_none_map string_bytes b.hook)
+    ∙ ap (λ (none : Bool). is_defined_kind b.kind && none) (sym (is_none_map string_bytes a.hook)
+    ∙ ap (λ (name : Option (List ℕ)). is_none name) h.hook ∙ is_none_map string_bytes b.hook)
 
 -- ---- stages and things in order
 
-then_alike : (P Q R S : Option Fault → Type 0) → ((r : Option Fault) → P r → R r) → ((r : Option Fault) → Q r → S r) → (r : Option Fault) → Then P Q r → Then R S r
+then_alike : (P Q R S : Option Fault → Type 0) → ((r : Option Fault) → P r → R r)
+    → ((r : Option Fault) → Q r → S r) → (r : Option Fault) → Then P Q r → Then R S r
 then_alike P Q R S one two None h = (one None h.0, two None h.1)
 then_alike P Q R S one two (Some f) (inl h) = inl (one (Some f) h)
 then_alike P Q R S one two (Some f) (inr h) = inr (one None h.0, two (Some f) h.1)
 
-in_order_alike : {S A : Type 0} (P Q : S → A → Option Fault → Type 0) (next onward : S → A → S) → ((s : S) (x : A) (r : Option Fault) → P s x r → Q s x r)
-    → ((s : S) (x : A) → next s x ≡ onward s x) → (s : S) (xs : List A) (r : Option Fault) → InOrder P next s xs r → InOrder Q onward s xs r
+in_order_alike : {S A : Type 0} (P Q : S → A → Option Fault → Type 0) (next onward : S → A → S)
+    → ((s : S) (x : A) (r : Option Fault) → P s x r → Q s x r)
+    → ((s : S) (x : A) → next s x ≡ onward s x) → (s : S) (xs : List A) (r : Option Fault)
+    → IsFirstOfSequence P next s xs r → IsFirstOfSequence Q onward s xs r
 in_order_alike P Q next onward each same s [] r h = h
 in_order_alike {S} P Q next onward each same s (x ∷ xs) r h =
-    then_alike (P s x) (InOrder P next (next s x) xs) (Q s x) (InOrder Q onward (onward s x) xs) (each s x)
-    (λ q k. subst (λ (behind : S). InOrder Q onward behind xs q) (same s x) (in_order_alike P Q next onward each same (next s x) xs q k)) r h
+    then_alike (P s x) (IsFirstOfSequence P next (next s x) xs) (Q s x)
+    (IsFirstOfSequence Q onward (onward s x) xs) (each s x)
+    (λ q k. subst (λ (behind : S). IsFirstOfSequence Q onward behind xs q) (same s x)
+    (in_order_alike P Q next onward each same (next s x) xs q k)) r h
 
 -- ---- faults, by what they depend on
 
 abbrev height_faults : Unfolded → List Fault
-height_faults p = when (nat_lt most_height (height p)) 3 (place p)
+height_faults p = when (nat_lt most_height (height p)) 3 (unfolded_byte p)
 
-abbrev faults_by : (List ℕ → Bool) → (List ℕ → Bool) → Option SortTree → ℕ → SortTree → RuleParts → List Fault
+abbrev faults_by : (List ℕ → Bool) → (List ℕ → Bool) → Option SortTree → ℕ → SortTree → RuleParts
+    → List Fault
 faults_by plain ac first at x w =
-    raised at ((holds_of (λ (p : PatternTree). has_symbol plain (unfolded p)) (left_of w), 12)
+    faults_of_tests at
+    ((holds_of (λ (p : PatternTree). has_symbol plain (unfolded p)) (left_of w), 12)
     ∷ ((holds_of (λ (p : PatternTree). has_symbol ac (unfolded p)) (left_of w), 14)
-    ∷ ((not (is_bound (listed (left_of w)) (tested w.condition) && is_bound (listed (left_of w)) (right_of w)), 18)
+    ∷ ((
+      not (is_bound (listed
+          (left_of w)) (tested w.condition) && is_bound (listed (left_of w)) (right_of w)),
+      18,
+    )
     ∷ ((differs_from first x, 19) ∷ []))))
 
 abbrev FirstBy : List Fault → List Fault → List Fault → Option Fault → Type 0
 FirstBy form sorted uses r =
-    Then (IsFirstBy ByNumber (Contains form)) (Then (IsFirstBy ByByte (Contains sorted)) (IsFirstBy ByNumber (Contains uses))) r
+    Then (IsFirstBy ByNumber (Contains form))
+    (Then (IsFirstBy ByByte (Contains sorted)) (IsFirstBy ByNumber (Contains uses))) r
 
 abbrev class_or : List PatternTree → AxiomClass → AxiomClass
 class_or attributes k =
     if has_attribute (codes "anywhere") attributes then refused 20
-    else if has_attribute (codes "overload") attributes || has_attribute (codes "symbol-overload") attributes then refused 21
+    else if has_attribute (codes
+    "overload") attributes || has_attribute (codes "symbol-overload") attributes then refused 21
     else if states_pairs attributes then orders_sorts
     else k
 
@@ -165,7 +209,8 @@ module _ (s : Signature) (xs : Symbols) (same : AllZip IsSameSymbol s.symbols xs
 
   symbol_alike : (name : List ℕ) → AreAlike (symbol_named s name) (symbol_named t name)
   symbol_alike name =
-      subst (λ (o : Option ℕ). AreAlike (symbol_named s name) (option_and_then (info_at xs) o)) (position_alike name 0 s.symbols xs same)
+      subst (λ (o : Option ℕ). AreAlike (symbol_named s name) (option_and_then (info_at xs) o))
+      (position_alike name 0 s.symbols xs same)
       (numbered_alike s.symbols xs (number_of s.symbols name) same)
 
   numbers_alike : (ss : List SortTree) → sort_numbers s ss ≡ sort_numbers t ss
@@ -176,17 +221,21 @@ module _ (s : Signature) (xs : Symbols) (same : AllZip IsSameSymbol s.symbols xs
   sort_alike (named_variable at name x) = refl
   sort_alike (written_value at x text byte) = refl
   sort_alike (applied_symbol at byte name ss ps) =
-      result_alike (symbol_named s name) (symbol_named t name) ss (sort_numbers s ss) (symbol_alike name) ∙ ap (result_sort (symbol_named t name) ss) (numbers_alike ss)
+      result_alike (symbol_named s name) (symbol_named t name) ss (sort_numbers s ss)
+      (symbol_alike name) ∙ ap (result_sort (symbol_named t name) ss) (numbers_alike ss)
   sort_alike (other_form at) = refl
 
-  head_alike : (byte : ℕ) (a b : Option SymInfo) (ss : List SortTree) (n : ℕ) → AreAlike a b → symbol_faults s byte a ss n ≡ symbol_faults t byte b ss n
+  head_alike : (byte : ℕ) (a b : Option SymInfo) (ss : List SortTree) (n : ℕ) → AreAlike a b
+      → symbol_faults s byte a ss n ≡ symbol_faults t byte b ss n
   head_alike byte None None ss n h = refl
   head_alike byte None (Some b) ss n h = absurd h
   head_alike byte (Some a) None ss n h = absurd h
   head_alike byte (Some a) (Some b) ss n h =
       let all : ℕ → List SortRef → SymKind → Option (List ℕ) → List Fault =
       λ (m : ℕ) (refs : List SortRef) (k : SymKind) (ns : Option (List ℕ)).
-      unless ((length ss == m) && (n == length refs)) 8 byte ++ when (is_injection k && goes_astray s ns) 9 byte ++ when (has_no_kind k) 25 byte in
+      unless ((length ss == m) && (n == length refs)) 8 byte
+      ++ when (is_injection k && is_bad_injection s ns) 9 byte
+      ++ when (has_no_kind k) 25 byte in
       ap (λ (m : ℕ). all m a.args.items a.kind (sort_numbers s ss)) h.params
       ∙ ap (λ (refs : List SortRef). all b.params refs a.kind (sort_numbers s ss)) h.args
       ∙ ap (λ (k : SymKind). all b.params b.args.items k (sort_numbers s ss)) h.kind
@@ -198,26 +247,46 @@ module _ (s : Signature) (xs : Symbols) (same : AllZip IsSameSymbol s.symbols xs
     faults_alike (written_value at x text byte) = refl
     faults_alike (applied_symbol at byte name ss ps) =
         let front : List Fault = flat_map (sort_faults s) ss in
-        ap (λ (fs : List Fault). front ++ (fs ++ argument_faults s ss (places_of (symbol_named s name)) ps)) (head_alike byte (symbol_named s name) (symbol_named t name) ss (count ps) (symbol_alike name))
-        ∙ ap (λ (refs : List SortRef). front ++ (symbol_faults t byte (symbol_named t name) ss (count ps) ++ argument_faults s ss refs ps)) (places_alike (symbol_named s name) (symbol_named t name) (symbol_alike name))
-        ∙ ap (λ (fs : List Fault). front ++ (symbol_faults t byte (symbol_named t name) ss (count ps) ++ fs)) (arguments_alike ss (places_of (symbol_named t name)) ps)
+        ap (λ (fs : List Fault).
+        front ++ (fs ++ argument_faults s ss (places_of (symbol_named s name)) ps))
+        (head_alike byte (symbol_named s name) (symbol_named t name) ss (count ps)
+        (symbol_alike name))
+        ∙ ap (λ (refs : List SortRef). front
+        ++ (symbol_faults t byte (symbol_named t name) ss (count ps)
+        ++ argument_faults s ss refs ps))
+        (places_alike (symbol_named s name) (symbol_named t name) (symbol_alike name))
+        ∙ ap (λ (fs : List Fault).
+        front ++ (symbol_faults t byte (symbol_named t name) ss (count ps) ++ fs))
+        (arguments_alike ss (places_of (symbol_named t name)) ps)
     faults_alike (other_form at) = refl
 
-    arguments_alike : (ss : List SortTree) (refs : List SortRef) (ps : Unfoldeds) → argument_faults s ss refs ps ≡ argument_faults t ss refs ps
+    arguments_alike : (ss : List SortTree) (refs : List SortRef) (ps : Unfoldeds)
+        → argument_faults s ss refs ps ≡ argument_faults t ss refs ps
     arguments_alike ss refs no_more = refl
     arguments_alike ss refs (and_more p ps) =
-        ap (λ (fs : List Fault). fs ++ (clash_faults (place p) (sort_of s p) (first_wanted s ss refs) ++ argument_faults s ss (drop 1 refs) ps)) (faults_alike p)
-        ∙ ap (λ (o : Option ℕ). pattern_faults t p ++ (clash_faults (place p) o (first_wanted s ss refs) ++ argument_faults s ss (drop 1 refs) ps)) (sort_alike p)
-        ∙ ap (λ (fs : List Fault). pattern_faults t p ++ (clash_faults (place p) (sort_of t p) (first_wanted s ss refs) ++ fs)) (arguments_alike ss (drop 1 refs) ps)
+        ap (λ (fs : List Fault). fs
+        ++ (clash_faults (unfolded_byte p) (sort_of s p) (first_wanted s ss refs)
+        ++ argument_faults s ss (drop 1 refs) ps)) (faults_alike p)
+        ∙ ap (λ (o : Option ℕ). pattern_faults t p
+        ++ (clash_faults (unfolded_byte p) o (first_wanted s ss refs)
+        ++ argument_faults s ss (drop 1 refs) ps)) (sort_alike p)
+        ∙ ap (λ (fs : List Fault). pattern_faults t p
+        ++ (clash_faults (unfolded_byte p) (sort_of t p) (first_wanted s ss refs) ++ fs))
+        (arguments_alike ss (drop 1 refs) ps)
 
   -- ---- rules
 
-  at_sort_alike : (wanted : Option ℕ) (p : Unfolded) → faults_at_sort s wanted p ≡ faults_at_sort t wanted p
+  at_sort_alike : (wanted : Option ℕ) (p : Unfolded)
+      → faults_at_sort s wanted p ≡ faults_at_sort t wanted p
   at_sort_alike wanted p =
-      ap (λ (fs : List Fault). (height_faults p ++ fs) ++ clash_faults (place p) (sort_of s p) wanted) (faults_alike p)
-      ∙ ap (λ (o : Option ℕ). all_faults t p ++ clash_faults (place p) o wanted) (sort_alike p)
+      ap (λ (fs : List Fault).
+      (height_faults p ++ fs) ++ clash_faults (unfolded_byte p) (sort_of s p) wanted)
+      (faults_alike p)
+      ∙ ap (λ (o : Option ℕ). all_faults t p ++ clash_faults (unfolded_byte p) o wanted)
+      (sort_alike p)
 
-  side_alike : (wanted : Option ℕ) (p : Option PatternTree) → side_faults s wanted p ≡ side_faults t wanted p
+  side_alike : (wanted : Option ℕ) (p : Option PatternTree)
+      → side_faults s wanted p ≡ side_faults t wanted p
   side_alike wanted None = refl
   side_alike wanted (Some p) = at_sort_alike wanted (unfolded p)
 
@@ -231,59 +300,96 @@ module _ (s : Signature) (xs : Symbols) (same : AllZip IsSameSymbol s.symbols xs
       let front : List Fault = sort_faults s x in
       let wanted : Option ℕ = sort_number s.sorts x in
       let top : List Fault = found_top_faults s wanted (found_part w.after) in
-      ap (λ (fs : List Fault). front ++ (fs ++ (condition_faults s w.condition ++ (side_faults s wanted (right_of w) ++ top)))) (side_alike wanted (left_of w))
-      ∙ ap (λ (fs : List Fault). front ++ (side_faults t wanted (left_of w) ++ (fs ++ (side_faults s wanted (right_of w) ++ top)))) (condition_alike w.condition)
-      ∙ ap (λ (fs : List Fault). front ++ (side_faults t wanted (left_of w) ++ (condition_faults t w.condition ++ (fs ++ top)))) (side_alike wanted (right_of w))
+      ap (λ (fs : List Fault). front
+      ++ (fs
+      ++ (condition_faults s w.condition
+      ++ (side_faults s wanted (right_of w) ++ top))))
+      (side_alike wanted (left_of w))
+      ∙ ap (λ (fs : List Fault). front
+      ++ (side_faults t wanted (left_of w)
+      ++ (fs ++ (side_faults s wanted (right_of w) ++ top))))
+      (condition_alike w.condition)
+      ∙ ap (λ (fs : List Fault). front
+      ++ (side_faults t wanted (left_of w)
+      ++ (condition_faults t w.condition ++ (fs ++ top))))
+      (side_alike wanted (right_of w))
 
   plain_functions_alike : is_plain_function s ≡ is_plain_function t
-  plain_functions_alike = λ i name. plain_function_alike (symbol_named s name) (symbol_named t name) (symbol_alike name) i
+  plain_functions_alike =
+      λ i name.
+      plain_function_alike (symbol_named s name) (symbol_named t name) (symbol_alike name) i
 
   ac_symbols_alike : is_ac_symbol s ≡ is_ac_symbol t
-  ac_symbols_alike = λ i name. ac_alike (symbol_named s name) (symbol_named t name) (symbol_alike name) i
+  ac_symbols_alike =
+      λ i name. ac_alike (symbol_named s name) (symbol_named t name) (symbol_alike name) i
 
-  uses_alike : (first : Option SortTree) (at : ℕ) (x : SortTree) (w : RuleParts) → use_faults s first at x w ≡ use_faults t first at x w
+  uses_alike : (first : Option SortTree) (at : ℕ) (x : SortTree) (w : RuleParts)
+      → use_faults s first at x w ≡ use_faults t first at x w
   uses_alike first at x w =
-      ap (λ (test : List ℕ → Bool). faults_by test (is_ac_symbol s) first at x w) plain_functions_alike
-      ∙ ap (λ (test : List ℕ → Bool). faults_by (is_plain_function t) test first at x w) ac_symbols_alike
+      ap (λ (test : List ℕ → Bool). faults_by test (is_ac_symbol s) first at x w)
+      plain_functions_alike
+      ∙ ap (λ (test : List ℕ → Bool). faults_by (is_plain_function t) test first at x w)
+      ac_symbols_alike
 
-  rule_alike : (first : Option SortTree) (a : AxiomDeclaration) (w : Rewriting) (r : Option Fault) → FirstOfRule s first a w r → FirstOfRule t first a w r
+  rule_alike : (first : Option SortTree) (a : AxiomDeclaration) (w : Rewriting) (r : Option Fault)
+      → FirstOfRule s first a w r → FirstOfRule t first a w r
   rule_alike first a w r h =
       let parts : RuleParts = rule_parts s w in
-      subst (λ (fs : List Fault). FirstBy (form_faults a parts) (sorted_faults t w.sort parts) fs r) (uses_alike first a.at w.sort parts)
-      (subst (λ (fs : List Fault). FirstBy (form_faults a parts) fs (use_faults s first a.at w.sort parts) r) (sorted_alike w.sort parts) h)
+      subst (λ (fs : List Fault). FirstBy (form_faults a parts) (sorted_faults t w.sort parts) fs r)
+      (uses_alike first a.at w.sort parts)
+      (subst (λ (fs : List Fault).
+      FirstBy (form_faults a parts) fs (use_faults s first a.at w.sort parts) r)
+      (sorted_alike w.sort parts) h)
 
   -- ---- axioms
 
-  statement_alike : (attributes : List PatternTree) (e : Option Statement) → class_of_statement s attributes e ≡ class_of_statement t attributes e
+  statement_alike : (attributes : List PatternTree) (e : Option Statement)
+      → class_of_statement s attributes e ≡ class_of_statement t attributes e
   statement_alike attributes None = refl
   statement_alike attributes (Some e) =
       ap (λ (yes : Bool). if not (is_no_equation attributes) && yes then equates e else passed_over)
-      (takes_alike (symbol_named s e.function) (symbol_named t e.function) (symbol_alike e.function))
+      (takes_alike (symbol_named s e.function) (symbol_named t e.function)
+      (symbol_alike e.function))
 
-  pattern_alike : (a : AxiomDeclaration) (w : Option Rewriting) → class_of_pattern s a w ≡ class_of_pattern t a w
+  pattern_alike : (a : AxiomDeclaration) (w : Option Rewriting)
+      → class_of_pattern s a w ≡ class_of_pattern t a w
   pattern_alike a None = statement_alike a.attributes (statement a.pattern)
   pattern_alike a (Some w) = refl
 
   class_alike : (a : AxiomDeclaration) → class_of s a ≡ class_of t a
-  class_alike a = ap (λ (k : AxiomClass). class_or a.attributes k) (pattern_alike a (rewriting a.pattern))
+  class_alike a =
+      ap (λ (k : AxiomClass). class_or a.attributes k) (pattern_alike a (rewriting a.pattern))
 
-  first_alike : (first : Option SortTree) (a : AxiomDeclaration) (k : AxiomClass) (r : Option Fault) → FirstOfClass s first a k r → FirstOfClass t first a k r
+  first_alike : (first : Option SortTree) (a : AxiomDeclaration) (k : AxiomClass) (r : Option Fault)
+      → FirstOfClass s first a k r → FirstOfClass t first a k r
   first_alike first a (refused n) r h = h
   first_alike first a orders_sorts r h = h
   first_alike first a (rewrites w) r h = rule_alike first a w r h
   first_alike first a (equates e) r h = h
   first_alike first a passed_over r h = h
 
-  axiom_alike : (first : Option SortTree) (a : AxiomDeclaration) (r : Option Fault) → FirstOfClass s first a (class_of s a) r → FirstOfClass t first a (class_of t a) r
-  axiom_alike first a r h = subst (λ (k : AxiomClass). FirstOfClass t first a k r) (class_alike a) (first_alike first a (class_of s a) r h)
+  axiom_alike : (first : Option SortTree) (a : AxiomDeclaration) (r : Option Fault)
+      → FirstOfClass s first a (class_of s a) r → FirstOfClass t first a (class_of t a) r
+  axiom_alike first a r h =
+      subst (λ (k : AxiomClass). FirstOfClass t first a k r) (class_alike a)
+      (first_alike first a (class_of s a) r h)
 
-  in_order : (axioms : List AxiomDeclaration) (r : Option Fault) → FirstOfAxioms s axioms r → FirstOfAxioms t axioms r
+  in_order : (axioms : List AxiomDeclaration) (r : Option Fault) → FirstOfAxioms s axioms r
+      → FirstOfAxioms t axioms r
   in_order axioms r h =
-      in_order_alike (λ (first : Option SortTree) (a : AxiomDeclaration). FirstOfClass s first a (class_of s a)) (λ (first : Option SortTree) (a : AxiomDeclaration). FirstOfClass t first a (class_of t a))
-      (λ (first : Option SortTree) (a : AxiomDeclaration). first_sort first (class_of s a)) (λ (first : Option SortTree) (a : AxiomDeclaration). first_sort first (class_of t a))
+      in_order_alike (λ (first : Option SortTree) (a : AxiomDeclaration).
+      FirstOfClass s first a (class_of s a)) (λ (first : Option SortTree)
+      (a : AxiomDeclaration).
+      FirstOfClass t first a (class_of t a))
+      (λ (first : Option SortTree) (a : AxiomDeclaration). first_sort first (class_of s a))
+      (λ (first : Option SortTree) (a : AxiomDeclaration). first_sort first (class_of t a))
       axiom_alike (λ first a. ap (first_sort first) (class_alike a)) None axioms r h
 
-pub axioms_alike : (s t : Signature) → AreSameSignature s t → (axioms : List AxiomDeclaration) (r : Option Fault) → FirstOfAxioms s axioms r → FirstOfAxioms t axioms r
+pub axioms_alike : (s t : Signature) → AreSameSignature s t
+    → (axioms : List AxiomDeclaration) (r : Option Fault) → FirstOfAxioms s axioms r
+    → FirstOfAxioms t axioms r
 axioms_alike s t same axioms r h =
-    let moved : with_symbols s t.symbols ≡ t = λ i. record { sorts = same.sorts i; symbols = t.symbols; subsorts = same.subsorts i } in
-    subst (λ (sig : Signature). FirstOfAxioms sig axioms r) moved (in_order s t.symbols same.symbols axioms r h)
+    let moved : with_symbols s t.symbols ≡ t =
+    λ i. record { sorts = same.sorts i; symbols = t.symbols; subsorts = same.subsorts i } in
+    subst (λ (sig : Signature). FirstOfAxioms sig axioms r) moved
+    (in_order s t.symbols same.symbols axioms r h)

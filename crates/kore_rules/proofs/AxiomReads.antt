@@ -1,5 +1,7 @@
 -- What is kept of some axioms and of one more, by what the new one is.
-use Rattle.std.proofs.Common.{◌≡◌, ℕ, ◌+◌, Bool, true, false, List, [], ◌∷◌, ◌++◌, map, length, Contains, Option, Some, None, refl, sym, ap, ◌∙◌, subst, ◌⊎◌, inl, inr, eq-eqb}
+use Rattle.std.proofs.Common.{◌≡◌, ℕ, ◌+◌, Bool, true, false, List, [], ◌∷◌, ◌++◌, map, length}
+use Rattle.std.proofs.Common.{Contains, Option, Some, None, refl, sym, ap, ◌∙◌, subst, ◌⊎◌, inl}
+use Rattle.std.proofs.Common.{inr, eq-eqb}
 use Rattle.std.specs.Prelude.{◌||◌, ◌==◌, ◌↔◌, IsTrue}
 use Rattle.std.proofs.lemmas.Bool.{eqb-true}
 use Rattle.std.proofs.lemmas.List.{map-append}
@@ -16,10 +18,12 @@ use Rattle.kore_shapes.specs.Statements.{Statement}
 use Rattle.kore_axioms.specs.AxiomClasses.{AxiomClass, rewrites, equates, class_of}
 use Rattle.kore_axioms.specs.AxiomMeanings.{IsRuleOf}
 use Rattle.kore_equations.specs.EquationMeanings.{IsEquationOf, IsUnreadable}
-use Rattle.kore_rules.specs.AxiomsRead.{AreRead, HaveRead, HasUnreadable, IsNumberedEquation, numbered_equation, is_marked}
+use Rattle.kore_rules.specs.AxiomsRead.{AreRead, HaveRead, HasUnreadable, IsNumberedEquation}
+use Rattle.kore_rules.specs.AxiomsRead.{numbered_equation, is_marked}
 use Rattle.kore_rules.specs.declared.axioms.Readings.{Readings}
 use Rattle.kore_rules.proofs.AxiomSteps.{some_more, some_last, some_cases, read_more, read_same}
-use Rattle.kore_rules.proofs.MeaningsAreOne.{rule_one, equation_one, readable_or_not, rule_not_equation, rule_not_unreadable, equates_one}
+use Rattle.kore_rules.proofs.MeaningsAreOne.{rule_one, equation_one, readable_or_not}
+use Rattle.kore_rules.proofs.MeaningsAreOne.{rule_not_equation, rule_not_unreadable, equates_one}
 
 some_same : {A : Type 0} (x y : A) → Some x ≡ Some y → x ≡ y
 some_same x y e = cc
@@ -31,26 +35,41 @@ pair_same : (a b : ℕ) (x y : plain.Equation) → a ≡ b → x ≡ y → pair_
 pair_same a b x y e f = ap (λ (n : ℕ). pair_of n x) e ∙ ap (pair_of b) f
 
 -- an axiom is an equation of at most one function
-function_one : (sig : Signature) (f g : List ℕ) (a : AxiomDeclaration) (x y : plain.Equation) → IsEquationOf sig f a x → IsEquationOf sig g a y → f ≡ g
-function_one sig f g a x y r s = sym r.function ∙ ap (λ (e : Statement). e.function) (equates_one r.stated s.stated (sym r.class ∙ s.class)) ∙ s.function
+function_one : (sig : Signature) (f g : List ℕ) (a : AxiomDeclaration) (x y : plain.Equation)
+    → IsEquationOf sig f a x → IsEquationOf sig g a y → f ≡ g
+function_one sig f g a x y r s = sym r.function
+    ∙ ap (λ (e : Statement). e.function) (equates_one r.stated s.stated (sym r.class ∙ s.class))
+    ∙ s.function
 
-numbered_one : (sig : Signature) (f : List ℕ) (a : AxiomDeclaration) (n : ℕ) (x : plain.Equation) → number_of sig.symbols f ≡ Some n → IsEquationOf sig f a x → (y : ℕ × plain.Equation) → IsNumberedEquation sig a y → pair_of n x ≡ y
+numbered_one : (sig : Signature) (f : List ℕ) (a : AxiomDeclaration) (n : ℕ) (x : plain.Equation)
+    → number_of sig.symbols f ≡ Some n → IsEquationOf sig f a x → (y : ℕ × plain.Equation)
+    → IsNumberedEquation sig a y → pair_of n x ≡ y
 numbered_one sig f a n x number is y (g, its, same) =
     let functions : f ≡ g = function_one sig f g a x y.1 is same in
-    pair_same n y.0 x y.1 (some_same n y.0 (sym number ∙ ap (number_of sig.symbols) functions ∙ its))
-    (equation_one sig f a x y.1 is (subst (λ (h : List ℕ). IsEquationOf sig h a y.1) (sym functions) same))
+    pair_same n y.0 x y.1
+    (some_same n y.0 (sym number ∙ ap (number_of sig.symbols) functions ∙ its))
+    (equation_one sig f a x y.1 is
+    (subst (λ (h : List ℕ). IsEquationOf sig h a y.1) (sym functions) same))
 
-equation_not_unreadable : (sig : Signature) (f g : List ℕ) (a : AxiomDeclaration) (x : plain.Equation) → IsEquationOf sig f a x → IsUnreadable sig g a → ⊥
+equation_not_unreadable : (sig : Signature) (f g : List ℕ) (a : AxiomDeclaration)
+    (x : plain.Equation) → IsEquationOf sig f a x → IsUnreadable sig g a → ⊥
 equation_not_unreadable sig f g a x r s =
-    let functions : g ≡ f = sym s.function ∙ ap (λ (e : Statement). e.function) (equates_one s.stated r.stated (sym s.class ∙ r.class)) ∙ r.function in
+    let functions : g ≡ f =
+    sym s.function
+    ∙ ap (λ (e : Statement). e.function)
+    (equates_one s.stated r.stated (sym s.class ∙ r.class)) ∙ r.function in
     readable_or_not sig f a x r (subst (λ (h : List ℕ). IsUnreadable sig h a) functions s)
 
 -- an axiom that is not an unreadable equation changes no mark
-same_marks : (sig : Signature) (axioms : List AxiomDeclaration) (a : AxiomDeclaration) (old new : List Bool) → new ≡ old → ((f : List ℕ) → IsUnreadable sig f a → ⊥)
-    → ((n : ℕ) → IsTrue (is_marked old n) ↔ HasUnreadable sig axioms n) → (n : ℕ) → IsTrue (is_marked new n) ↔ HasUnreadable sig (axioms ++ a ∷ []) n
+same_marks : (sig : Signature) (axioms : List AxiomDeclaration) (a : AxiomDeclaration)
+    (old new : List Bool) → new ≡ old → ((f : List ℕ) → IsUnreadable sig f a → ⊥)
+    → ((n : ℕ) → IsTrue (is_marked old n) ↔ HasUnreadable sig axioms n) → (n : ℕ)
+    → IsTrue (is_marked new n) ↔ HasUnreadable sig (axioms ++ a ∷ []) n
 same_marks sig axioms a old new same none before n =
-    let P : AxiomDeclaration → Type 0 = λ b. (f : List ℕ) × (number_of sig.symbols f ≡ Some n) × IsUnreadable sig f b in (
-      λ set. some_more P axioms a ((before n).0 (ap (λ (ms : List Bool). is_marked ms n) (sym same) ∙ set)),
+    let P : AxiomDeclaration → Type 0 =
+    λ b. (f : List ℕ) × (number_of sig.symbols f ≡ Some n) × IsUnreadable sig f b in (
+      λ set. some_more P axioms a
+          ((before n).0 (ap (λ (ms : List Bool). is_marked ms n) (sym same) ∙ set)),
       λ some. ap (λ (ms : List Bool). is_marked ms n) same ∙ elim (some_cases P axioms a some) [
         | inl b ↦ (before n).1 b
         | inr (f, number, is) ↦ absurd (none f is)
@@ -70,11 +89,14 @@ right_true true b e = refl
 right_true false b e = e
 
 -- an unreadable equation sets the mark of its function
-one_mark : (sig : Signature) (axioms : List AxiomDeclaration) (a : AxiomDeclaration) (f : List ℕ) (k : ℕ) (old new : List Bool) → number_of sig.symbols f ≡ Some k → IsUnreadable sig f a
+one_mark : (sig : Signature) (axioms : List AxiomDeclaration) (a : AxiomDeclaration) (f : List ℕ)
+    (k : ℕ) (old new : List Bool) → number_of sig.symbols f ≡ Some k → IsUnreadable sig f a
     → ((n : ℕ) → is_marked new n ≡ (is_marked old n || (n == k)))
-    → ((n : ℕ) → IsTrue (is_marked old n) ↔ HasUnreadable sig axioms n) → (n : ℕ) → IsTrue (is_marked new n) ↔ HasUnreadable sig (axioms ++ a ∷ []) n
+    → ((n : ℕ) → IsTrue (is_marked old n) ↔ HasUnreadable sig axioms n) → (n : ℕ)
+    → IsTrue (is_marked new n) ↔ HasUnreadable sig (axioms ++ a ∷ []) n
 one_mark sig axioms a f k old new number is set before n =
-    let P : AxiomDeclaration → Type 0 = λ b. (g : List ℕ) × (number_of sig.symbols g ≡ Some n) × IsUnreadable sig g b in (
+    let P : AxiomDeclaration → Type 0 =
+    λ b. (g : List ℕ) × (number_of sig.symbols g ≡ Some n) × IsUnreadable sig g b in (
       λ marked. elim (or_cases (is_marked old n) (n == k) (sym (set n) ∙ marked)) [
         | inl b ↦ some_more P axioms a ((before n).0 b)
         | inr e ↦ some_last P axioms a (f, number ∙ ap Some (sym (eqb-true n k e)), is)
@@ -82,8 +104,13 @@ one_mark sig axioms a f k old new number is set before n =
       λ some. set n ∙ elim (some_cases P axioms a some) [
         | inl b ↦ left_true (is_marked old n) (n == k) ((before n).1 b)
         | inr (g, its, same) ↦
-            let functions : g ≡ f = sym same.function ∙ ap (λ (e : Statement). e.function) (equates_one same.stated is.stated (sym same.class ∙ is.class)) ∙ is.function in
-            let numbers : n ≡ k = some_same n k (sym its ∙ ap (number_of sig.symbols) functions ∙ number) in
+            let functions : g ≡ f =
+            sym same.function
+            ∙ ap (λ (e : Statement). e.function)
+            (equates_one same.stated is.stated (sym same.class ∙ is.class))
+            ∙ is.function in
+            let numbers : n ≡ k =
+            some_same n k (sym its ∙ ap (number_of sig.symbols) functions ∙ number) in
             right_true (is_marked old n) (n == k) (eq-eqb n k numbers)
       ],
     )
@@ -98,48 +125,94 @@ abbrev numbered_place : ℕ × plain.Equation → ℕ
 numbered_place e = e.1.place
 
 -- the new axiom is a rewrite rule
-pub read_rule : (sig : Signature) (axioms : List AxiomDeclaration) (a : AxiomDeclaration) (old new : Readings) (rule : Rule) → new.rules.items ≡ old.rules.items ++ rule ∷ []
-    → new.equations.items ≡ old.equations.items → new.unreadable.items ≡ old.unreadable.items → IsRuleOf sig a (rewrite_rule rule) → HaveRead sig axioms old → HaveRead sig (axioms ++ a ∷ []) new
+pub read_rule : (sig : Signature) (axioms : List AxiomDeclaration) (a : AxiomDeclaration)
+    (old new : Readings) (rule : Rule) → new.rules.items ≡ old.rules.items ++ rule ∷ []
+    → new.equations.items ≡ old.equations.items → new.unreadable.items ≡ old.unreadable.items
+    → IsRuleOf sig a (rewrite_rule rule) → HaveRead sig axioms old
+    → HaveRead sig (axioms ++ a ∷ []) new
 read_rule sig axioms a old new rule grown equations marks is before = record {
-  rules = subst (AreRead (IsRuleOf sig) place_of (axioms ++ a ∷ [])) (sym (ap (map rewrite_rule) grown ∙ map-append rewrite_rule old.rules.items (rule ∷ [])))
-      (read_more (IsRuleOf sig) place_of axioms (map rewrite_rule old.rules.items) a (rewrite_rule rule) is (λ y s. rule_one sig a (rewrite_rule rule) y is s) is.place before.rules);
-  equations = subst (AreRead (IsNumberedEquation sig) numbered_place (axioms ++ a ∷ [])) (ap (map numbered_equation) (sym equations))
-      (read_same (IsNumberedEquation sig) numbered_place axioms (map numbered_equation old.equations.items) a (λ y h. rule_not_equation sig h.0 a (rewrite_rule rule) y.1 is h.2) before.equations);
+  rules =
+      subst (AreRead (IsRuleOf sig) place_of (axioms ++ a ∷ []))
+      (sym (ap (map rewrite_rule) grown ∙ map-append rewrite_rule old.rules.items (rule ∷ [])))
+      (read_more (IsRuleOf sig) place_of axioms (map rewrite_rule old.rules.items) a
+      (rewrite_rule rule) is (λ y s. rule_one sig a (rewrite_rule rule) y is s) is.place
+      before.rules);
+  equations =
+      subst (AreRead (IsNumberedEquation sig) numbered_place (axioms ++ a ∷ []))
+      (ap (map numbered_equation) (sym equations))
+      (read_same (IsNumberedEquation sig) numbered_place axioms
+      (map numbered_equation old.equations.items) a
+      (λ y h. rule_not_equation sig h.0 a (rewrite_rule rule) y.1 is h.2) before.equations);
   marked = ap length marks ∙ before.marked;
-  unreadable = same_marks sig axioms a old.unreadable.items new.unreadable.items marks (λ f h. rule_not_unreadable sig f a (rewrite_rule rule) is h) before.unreadable;
+  unreadable =
+      same_marks sig axioms a old.unreadable.items new.unreadable.items marks
+      (λ f h. rule_not_unreadable sig f a (rewrite_rule rule) is h) before.unreadable;
 }
 
 -- the new axiom is an equation
-pub read_equation : (sig : Signature) (axioms : List AxiomDeclaration) (a : AxiomDeclaration) (f : List ℕ) (old new : Readings) (e : Equation) → new.equations.items ≡ old.equations.items ++ e ∷ []
-    → new.rules.items ≡ old.rules.items → new.unreadable.items ≡ old.unreadable.items → number_of sig.symbols f ≡ Some e.fun.0 → IsEquationOf sig f a (function_equation e) → HaveRead sig axioms old → HaveRead sig (axioms ++ a ∷ []) new
+pub read_equation : (sig : Signature) (axioms : List AxiomDeclaration) (a : AxiomDeclaration)
+    (f : List ℕ) (old new : Readings) (e : Equation)
+    → new.equations.items ≡ old.equations.items ++ e ∷ [] → new.rules.items ≡ old.rules.items
+    → new.unreadable.items ≡ old.unreadable.items → number_of sig.symbols f ≡ Some e.fun.0
+    → IsEquationOf sig f a (function_equation e) → HaveRead sig axioms old
+    → HaveRead sig (axioms ++ a ∷ []) new
 read_equation sig axioms a f old new e grown rules marks number is before = record {
-  rules = subst (AreRead (IsRuleOf sig) place_of (axioms ++ a ∷ [])) (ap (map rewrite_rule) (sym rules))
-      (read_same (IsRuleOf sig) place_of axioms (map rewrite_rule old.rules.items) a (λ y h. rule_not_equation sig f a y (function_equation e) h is) before.rules);
-  equations = subst (AreRead (IsNumberedEquation sig) numbered_place (axioms ++ a ∷ [])) (sym (ap (map numbered_equation) grown ∙ map-append numbered_equation old.equations.items (e ∷ [])))
-      (read_more (IsNumberedEquation sig) numbered_place axioms (map numbered_equation old.equations.items) a (numbered_equation e) (f, number, is) (numbered_one sig f a e.fun.0 (function_equation e) number is) is.place before.equations);
+  rules =
+      subst (AreRead (IsRuleOf sig) place_of (axioms ++ a ∷ [])) (ap (map rewrite_rule) (sym rules))
+      (read_same (IsRuleOf sig) place_of axioms (map rewrite_rule old.rules.items) a
+      (λ y h. rule_not_equation sig f a y (function_equation e) h is) before.rules);
+  equations =
+      subst (AreRead (IsNumberedEquation sig) numbered_place (axioms ++ a ∷ [])) (sym (ap (map
+      numbered_equation) grown ∙ map-append numbered_equation old.equations.items (e ∷ [])))
+      (read_more (IsNumberedEquation sig) numbered_place axioms
+      (map numbered_equation old.equations.items) a (numbered_equation e) (f, number, is)
+      (numbered_one sig f a e.fun.0 (function_equation e) number is) is.place before.equations);
   marked = ap length marks ∙ before.marked;
-  unreadable = same_marks sig axioms a old.unreadable.items new.unreadable.items marks (λ g h. equation_not_unreadable sig f g a (function_equation e) is h) before.unreadable;
+  unreadable =
+      same_marks sig axioms a old.unreadable.items new.unreadable.items marks
+      (λ g h. equation_not_unreadable sig f g a (function_equation e) is h) before.unreadable;
 }
 
 -- the new axiom is an equation that is not readable
-pub read_unreadable : (sig : Signature) (axioms : List AxiomDeclaration) (a : AxiomDeclaration) (f : List ℕ) (k : ℕ) (old new : Readings) → new.rules.items ≡ old.rules.items → new.equations.items ≡ old.equations.items
-    → length new.unreadable.items ≡ length old.unreadable.items → ((n : ℕ) → is_marked new.unreadable.items n ≡ (is_marked old.unreadable.items n || (n == k)))
-    → number_of sig.symbols f ≡ Some k → IsUnreadable sig f a → HaveRead sig axioms old → HaveRead sig (axioms ++ a ∷ []) new
+pub read_unreadable : (sig : Signature) (axioms : List AxiomDeclaration) (a : AxiomDeclaration)
+    (f : List ℕ) (k : ℕ) (old new : Readings) → new.rules.items ≡ old.rules.items
+    → new.equations.items ≡ old.equations.items
+    → length new.unreadable.items ≡ length old.unreadable.items
+    → ((n : ℕ) → is_marked new.unreadable.items n ≡ (is_marked old.unreadable.items n || (n == k)))
+    → number_of sig.symbols f ≡ Some k → IsUnreadable sig f a → HaveRead sig axioms old
+    → HaveRead sig (axioms ++ a ∷ []) new
 read_unreadable sig axioms a f k old new rules equations len set number is before = record {
-  rules = subst (AreRead (IsRuleOf sig) place_of (axioms ++ a ∷ [])) (ap (map rewrite_rule) (sym rules))
-      (read_same (IsRuleOf sig) place_of axioms (map rewrite_rule old.rules.items) a (λ y h. rule_not_unreadable sig f a y h is) before.rules);
-  equations = subst (AreRead (IsNumberedEquation sig) numbered_place (axioms ++ a ∷ [])) (ap (map numbered_equation) (sym equations))
-      (read_same (IsNumberedEquation sig) numbered_place axioms (map numbered_equation old.equations.items) a (λ y h. equation_not_unreadable sig h.0 f a y.1 h.2 is) before.equations);
+  rules =
+      subst (AreRead (IsRuleOf sig) place_of (axioms ++ a ∷ [])) (ap (map rewrite_rule) (sym rules))
+      (read_same (IsRuleOf sig) place_of axioms (map rewrite_rule old.rules.items) a
+      (λ y h. rule_not_unreadable sig f a y h is) before.rules);
+  equations =
+      subst (AreRead (IsNumberedEquation sig) numbered_place (axioms ++ a ∷ []))
+      (ap (map numbered_equation) (sym equations))
+      (read_same (IsNumberedEquation sig) numbered_place axioms
+      (map numbered_equation old.equations.items) a
+      (λ y h. equation_not_unreadable sig h.0 f a y.1 h.2 is) before.equations);
   marked = len ∙ before.marked;
-  unreadable = one_mark sig axioms a f k old.unreadable.items new.unreadable.items number is set before.unreadable;
+  unreadable =
+      one_mark sig axioms a f k old.unreadable.items new.unreadable.items number is set
+      before.unreadable;
 }
 
 -- the new axiom is neither a rule nor an equation
-pub read_nothing : (sig : Signature) (axioms : List AxiomDeclaration) (a : AxiomDeclaration) (old : Readings) → ((w : Rewriting) → class_of sig a ≡ rewrites w → ⊥) → ((e : Statement) → class_of sig a ≡ equates e → ⊥)
-    → HaveRead sig axioms old → HaveRead sig (axioms ++ a ∷ []) old
+pub read_nothing : (sig : Signature) (axioms : List AxiomDeclaration) (a : AxiomDeclaration)
+    (old : Readings) → ((w : Rewriting) → class_of sig a ≡ rewrites w → ⊥)
+    → ((e : Statement) → class_of sig a ≡ equates e → ⊥) → HaveRead sig axioms old
+    → HaveRead sig (axioms ++ a ∷ []) old
 read_nothing sig axioms a old no_rule no_equation before = record {
-  rules = read_same (IsRuleOf sig) place_of axioms (map rewrite_rule old.rules.items) a (λ y h. no_rule h.shape h.class) before.rules;
-  equations = read_same (IsNumberedEquation sig) numbered_place axioms (map numbered_equation old.equations.items) a (λ y h. let is = h.2 in no_equation is.stated is.class) before.equations;
+  rules =
+      read_same (IsRuleOf sig) place_of axioms (map rewrite_rule old.rules.items) a
+      (λ y h. no_rule h.shape h.class) before.rules;
+  equations =
+      read_same (IsNumberedEquation sig) numbered_place axioms
+      (map numbered_equation old.equations.items) a
+      (λ y h. let is = h.2 in no_equation is.stated is.class) before.equations;
   marked = before.marked;
-  unreadable = same_marks sig axioms a old.unreadable.items old.unreadable.items refl (λ f h. no_equation h.stated h.class) before.unreadable;
+  unreadable =
+      same_marks sig axioms a old.unreadable.items old.unreadable.items refl
+      (λ f h. no_equation h.stated h.class) before.unreadable;
 }

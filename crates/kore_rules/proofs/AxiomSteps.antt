@@ -1,7 +1,10 @@
 -- What is read of some axioms and of one more.
-use Rattle.std.proofs.Common.{◌≡◌, ◌≤◌, ℕ, suc, ◌+◌, Bool, true, false, cond, List, [], ◌∷◌, ◌++◌, length, Contains, refl, sym, ap, ◌∙◌, subst, arith, ◌⊎◌, inl, inr, length-append}
+use Rattle.std.proofs.Common.{◌≡◌, ◌≤◌, ℕ, suc, ◌+◌, Bool, true, false, cond, List, [], ◌∷◌, ◌++◌}
+use Rattle.std.proofs.Common.{length, Contains, refl, sym, ap, ◌∙◌, subst, arith, ◌⊎◌, inl, inr}
+use Rattle.std.proofs.Common.{length-append}
 use Rattle.std.specs.Prelude.{count_by, ◌==◌, ◌↔◌}
-use Rattle.std.proofs.lemmas.List.Elements.{Contains-append_left, Contains-push, Contains-push_cases}
+use Rattle.std.proofs.lemmas.List.Elements.{Contains-append_left, Contains-push}
+use Rattle.std.proofs.lemmas.List.Elements.{Contains-push_cases}
 use Rattle.std.proofs.lemmas.List.Sums.{sum_by_push}
 use Rattle.kore_text.specs.Trees.{AxiomDeclaration}
 use Rattle.kore_rules.specs.AxiomsRead.{AreRead}
@@ -10,13 +13,16 @@ use Rattle.kore_rules.specs.AxiomsRead.{AreRead}
 abbrev pub Some_is : (AxiomDeclaration → Type 0) → List AxiomDeclaration → Type 0
 Some_is P axioms = (a : AxiomDeclaration) × Contains axioms a × P a
 
-pub some_more : (P : AxiomDeclaration → Type 0) (axioms : List AxiomDeclaration) (a : AxiomDeclaration) → Some_is P axioms → Some_is P (axioms ++ a ∷ [])
+pub some_more : (P : AxiomDeclaration → Type 0) (axioms : List AxiomDeclaration)
+    (a : AxiomDeclaration) → Some_is P axioms → Some_is P (axioms ++ a ∷ [])
 some_more P axioms a (b, there, is) = (b, Contains-append_left axioms (a ∷ []) b there, is)
 
-pub some_last : (P : AxiomDeclaration → Type 0) (axioms : List AxiomDeclaration) (a : AxiomDeclaration) → P a → Some_is P (axioms ++ a ∷ [])
+pub some_last : (P : AxiomDeclaration → Type 0) (axioms : List AxiomDeclaration)
+    (a : AxiomDeclaration) → P a → Some_is P (axioms ++ a ∷ [])
 some_last P axioms a is = (a, Contains-push axioms a, is)
 
-pub some_cases : (P : AxiomDeclaration → Type 0) (axioms : List AxiomDeclaration) (a : AxiomDeclaration) → Some_is P (axioms ++ a ∷ []) → Some_is P axioms ⊎ P a
+pub some_cases : (P : AxiomDeclaration → Type 0) (axioms : List AxiomDeclaration)
+    (a : AxiomDeclaration) → Some_is P (axioms ++ a ∷ []) → Some_is P axioms ⊎ P a
 some_cases P axioms a (b, there, is) = elim (Contains-push_cases axioms a b there) [
   | inl before ↦ inl (b, before, is)
   | inr same ↦ inr (subst P (sym same) is)
@@ -25,12 +31,15 @@ some_cases P axioms a (b, there, is) = elim (Contains-push_cases axioms a b ther
 abbrev one_if : Bool → ℕ
 one_if b = cond b 1 0
 
-count_push : {X : Type 0} (test : X → Bool) (xs : List X) (x : X) → count_by test (xs ++ x ∷ []) ≡ count_by test xs + one_if (test x)
+count_push : {X : Type 0} (test : X → Bool) (xs : List X) (x : X)
+    → count_by test (xs ++ x ∷ []) ≡ count_by test xs + one_if (test x)
 count_push test xs x = sum_by_push (λ y. one_if (test y)) xs x
 
 -- the new axiom is one more of the things
-pub read_more : {X : Type 0} (Is : AxiomDeclaration → X → Type 0) (place : X → ℕ) (axioms : List AxiomDeclaration) (xs : List X) (a : AxiomDeclaration) (x : X)
-    → Is a x → ((y : X) → Is a y → x ≡ y) → place x ≡ a.at → AreRead Is place axioms xs → AreRead Is place (axioms ++ a ∷ []) (xs ++ x ∷ [])
+pub read_more : {X : Type 0} (Is : AxiomDeclaration → X → Type 0) (place : X → ℕ)
+    (axioms : List AxiomDeclaration) (xs : List X) (a : AxiomDeclaration) (x : X) → Is a x
+    → ((y : X) → Is a y → x ≡ y) → place x ≡ a.at → AreRead Is place axioms xs
+    → AreRead Is place (axioms ++ a ∷ []) (xs ++ x ∷ [])
 read_more {X} Is place axioms xs a x is one there before = record {
   just = λ y. (
     λ has. elim (Contains-push_cases xs x y has) [
@@ -42,7 +51,10 @@ read_more {X} Is place axioms xs a x is one there before = record {
       | inr new ↦ subst (Contains (xs ++ x ∷ [])) (one y new) (Contains-push xs x)
     ],
   );
-  short = let le = before.short in let l = length-append xs (x ∷ []) in let m = length-append axioms (a ∷ []) in omega (arith, le, l, m);
+  short =
+      let le = before.short in
+      let l = length-append xs (x ∷ []) in
+      let m = length-append axioms (a ∷ []) in omega (arith, le, l, m);
   few = λ p.
       let le = before.few p in
       let l = count_push (λ y. place y == p) xs x in
@@ -52,7 +64,8 @@ read_more {X} Is place axioms xs a x is one there before = record {
 }
 
 -- the new axiom is none of the things
-pub read_same : {X : Type 0} (Is : AxiomDeclaration → X → Type 0) (place : X → ℕ) (axioms : List AxiomDeclaration) (xs : List X) (a : AxiomDeclaration)
+pub read_same : {X : Type 0} (Is : AxiomDeclaration → X → Type 0) (place : X → ℕ)
+    (axioms : List AxiomDeclaration) (xs : List X) (a : AxiomDeclaration)
     → ((y : X) → Is a y → ⊥) → AreRead Is place axioms xs → AreRead Is place (axioms ++ a ∷ []) xs
 read_same {X} Is place axioms xs a none before = record {
   just = λ y. (

@@ -1,5 +1,7 @@
 -- The variables of a program's rules and equations are bound if its axioms have few variables.
-use Rattle.std.proofs.Common.{◌≡◌, ◌<◌, ◌≤◌, ℕ, ◌+◌, ◌*◌, ◌^◌, List, [], ◌∷◌, map, length, slice_get, Contains, Option, Some, None, ◌⊎◌, ⊎_elim, inl, inr, refl, sym, ap, ◌∙◌, subst, arith}
+use Rattle.std.proofs.Common.{◌≡◌, ◌<◌, ◌≤◌, ℕ, ◌+◌, ◌*◌, ◌^◌, List, [], ◌∷◌, map, length}
+use Rattle.std.proofs.Common.{slice_get, Contains, Option, Some, None, ◌⊎◌, ⊎_elim, inl, inr, refl}
+use Rattle.std.proofs.Common.{sym, ap, ◌∙◌, subst, arith}
 use Rattle.std.specs.Prelude.{Vec}
 use Rattle.std.specs.Global.{Global}
 use Rattle.std.proofs.lemmas.Option.{slice_get_within}
@@ -19,7 +21,8 @@ use Rattle.rule_core.specs.declared.rules.VarInfo.{VarInfo}
 use Rattle.rule_core.specs.declared.signature.Signature.{Signature}
 use Rattle.rule_core.specs.declared.signature.SymInfo.{SymInfo}
 use Rattle.kore_check.specs.Folds.{Unfoldeds, unfolded, count}
-use Rattle.kore_check.specs.PatternMeanings.{with_variables, with_all_variables, AllMean, none_mean, more_mean}
+use Rattle.kore_check.specs.PatternMeanings.{with_variables, with_all_variables, AllMean, none_mean}
+use Rattle.kore_check.specs.PatternMeanings.{more_mean}
 use Rattle.kore_check.proofs.BuildLaws.{some_there}
 use Rattle.kore_shapes.specs.Shapes.{side, heads_condition}
 use Rattle.kore_axioms.specs.AxiomMeanings.{IsRuleOf}
@@ -31,8 +34,11 @@ use Rattle.kore_rules.specs.MadePrograms.{ListsOwnEquations}
 use Rattle.kore_rules.specs.Programs.{IsProgramUnder}
 use Rattle.kore_rules.proofs.EquationSorts.{count_read}
 use Rattle.kore_rules.proofs.MeaningSorts.{each_stands, each_stands_in_some}
-use Rattle.kore_rules.proofs.ProgramLaws.{length_mapped, contains_map, contains_at, listed_view, listed_there}
-use Rattle.kore_rules.proofs.VariableCounts.{variable_count, few_variables, all_few_variables, before_count, side_count, main_count, statement_count, parts_count}
+use Rattle.kore_rules.proofs.ProgramLaws.{length_mapped, contains_map, contains_at, listed_view}
+use Rattle.kore_rules.proofs.ProgramLaws.{listed_there}
+use Rattle.kore_rules.proofs.VariableCounts.{variable_count, few_variables, all_few_variables}
+use Rattle.kore_rules.proofs.VariableCounts.{before_count, side_count, main_count, statement_count}
+use Rattle.kore_rules.proofs.VariableCounts.{parts_count}
 
 -- an axiom has fewer variables than half of 2^32
 abbrev HasFewVariables : AxiomDeclaration → Type 0
@@ -40,22 +46,31 @@ HasFewVariables a = variable_count a.pattern * 2 < 4294967296
 
 -- ---- rules
 
-left_count : (sig : Signature) (a : AxiomDeclaration) (rule : plain.RewriteRule) → (is : IsRuleOf sig a rule) → variable_count is.left ≤ variable_count a.pattern
+left_count : (sig : Signature) (a : AxiomDeclaration) (rule : plain.RewriteRule)
+    → (is : IsRuleOf sig a rule) → variable_count is.left ≤ variable_count a.pattern
 left_count sig a rule is =
     let before = before_count a.pattern is.shape (class_rewrites sig a is.shape is.class) in
-    let left = main_count (variable_count is.shape.before) (side heads_condition is.shape.sort is.shape.before) is.left (side_count heads_condition is.shape.sort is.shape.before) is.is_left in
+    let left =
+    main_count (variable_count is.shape.before)
+    (side heads_condition is.shape.sort is.shape.before) is.left
+    (side_count heads_condition is.shape.sort is.shape.before) is.is_left in
     omega (arith, before, left)
 
-bound_rule : (sig : Signature) (a : AxiomDeclaration) (r : Rule) → IsRuleOf sig a (rewrite_rule r) → HasFewVariables a → IsBoundRule r
+bound_rule : (sig : Signature) (a : AxiomDeclaration) (r : Rule) → IsRuleOf sig a (rewrite_rule r)
+    → HasFewVariables a → IsBoundRule r
 bound_rule sig a r is most =
     let long : length r.vars.items ≡ length is.variables =
-    sym (length_mapped (λ (v : VarInfo). v.sort.0) r.vars.items) ∙ ap length is.sorts ∙ length_mapped (λ (v : List ℕ × ℕ). v.1) is.variables in
+    sym (length_mapped (λ (v : VarInfo). v.sort.0) r.vars.items) ∙ ap length is.sorts
+    ∙ length_mapped (λ (v : List ℕ × ℕ). v.1) is.variables in
     let left = left_count sig a (rewrite_rule r) is in
     let counted = few_variables sig is.left in
-    let numbered : length is.variables ≡ length (with_variables sig [] (unfolded is.left)) = ap length is.numbered in
+    let numbered : length is.variables ≡ length (with_variables sig [] (unfolded is.left)) =
+    ap length is.numbered in
     record {
       few = omega (arith, long, left, counted, numbered, most);
-      each = λ x lt. each_stands sig is.variables (unfolded is.left) (plain_pattern r.left) is.numbered is.means_left x (omega (arith, lt, long));
+      each =
+          λ x lt. each_stands sig is.variables (unfolded is.left) (plain_pattern r.left) is.numbered
+          is.means_left x (omega (arith, lt, long));
     }
 
 -- ---- equations
@@ -64,7 +79,8 @@ abbrev pattern_number : Patterns → ℕ
 pattern_number no_pattern = 0
 pattern_number (more_patterns p ps) = pattern_number ps + 1
 
-as_many : (sig : Signature) (vars : List (List ℕ × ℕ)) {us : Unfoldeds} {ps : Patterns} → AllMean sig vars us ps → count us ≡ pattern_number ps
+as_many : (sig : Signature) (vars : List (List ℕ × ℕ)) {us : Unfoldeds} {ps : Patterns}
+    → AllMean sig vars us ps → count us ≡ pattern_number ps
 as_many sig vars none_mean = refl
 as_many sig vars (more_mean first rest) = ap (λ (n : ℕ). n + 1) (as_many sig vars rest)
 
@@ -72,44 +88,73 @@ plain_number : (ps : List RulePat) → pattern_number (plain_patterns ps) ≡ le
 plain_number [] = refl
 plain_number (p ∷ ps) = ap (λ (n : ℕ). n + 1) (plain_number ps) ∙ omega arith
 
-bound_equation : (sig : Signature) (f : List ℕ) (a : AxiomDeclaration) (n : ℕ) (e : Equation) → e.fun.0 ≡ n → IsEquationOf sig f a (function_equation e) → HasFewVariables a → IsBoundEquation n e
+bound_equation : (sig : Signature) (f : List ℕ) (a : AxiomDeclaration) (n : ℕ) (e : Equation)
+    → e.fun.0 ≡ n → IsEquationOf sig f a (function_equation e) → HasFewVariables a
+    → IsBoundEquation n e
 bound_equation sig f a n e own is most =
     let patterns = is.parts.patterns in
-    let parts = parts_count (variable_count a.pattern) is.stated is.parts is.readable.form (statement_count a.pattern is.stated (class_equates sig a is.stated is.class).stated) in
+    let parts =
+    parts_count (variable_count a.pattern) is.stated is.parts is.readable.form
+    (statement_count a.pattern is.stated (class_equates sig a is.stated is.class).stated) in
     let long : length e.vars.items ≡ length is.variables =
-    sym (length_mapped (λ (v : VarInfo). v.sort.0) e.vars.items) ∙ ap length is.sorts ∙ length_mapped (λ (v : List ℕ × ℕ). v.1) is.variables in
-    let many : length patterns ≡ length e.args.items = sym (count_read patterns) ∙ as_many sig is.variables is.means_arguments ∙ plain_number e.args.items in
+    sym (length_mapped (λ (v : VarInfo). v.sort.0) e.vars.items) ∙ ap length is.sorts
+    ∙ length_mapped (λ (v : List ℕ × ℕ). v.1) is.variables in
+    let many : length patterns ≡ length e.args.items =
+    sym (count_read patterns) ∙ as_many sig is.variables is.means_arguments
+    ∙ plain_number e.args.items in
     let counted = all_few_variables sig patterns in
-    let numbered : length is.variables ≡ length (with_all_variables sig [] (all_read patterns)) = ap length is.numbered in
+    let numbered : length is.variables ≡ length (with_all_variables sig [] (all_read patterns)) =
+    ap length is.numbered in
     let least = parts.patterns in
     let given = parts.parameters in
     let parameters = is.parameters in
     record {
       own = own;
-      parameters = ⊎_elim (λ none. inl (is.parameters ∙ none)) (λ one. inr (is.parameters ∙ one ∙ many)) parts.form;
+      parameters =
+          ⊎_elim (λ none. inl (is.parameters ∙ none)) (λ one. inr (is.parameters ∙ one ∙ many))
+          parts.form;
       few = omega (arith, long, counted, numbered, least, given, parameters, most);
-      each = λ x lt. each_stands_in_some sig is.variables (all_read patterns) (plain_patterns e.args.items) is.numbered is.means_arguments x (omega (arith, lt, long));
+      each =
+          λ x lt. each_stands_in_some sig is.variables (all_read patterns)
+          (plain_patterns e.args.items) is.numbered is.means_arguments x
+          (omega (arith, lt, long));
     }
 
 -- ---- the program
 
-symbol_there : (symbols : List (List ℕ × SymInfo)) (f : ℕ) (o : Option (List ℕ × SymInfo)) → slice_get symbols f ≡ o → f < length symbols → (s : List ℕ × SymInfo) × (slice_get symbols f ≡ Some s)
+symbol_there : (symbols : List (List ℕ × SymInfo)) (f : ℕ) (o : Option (List ℕ × SymInfo))
+    → slice_get symbols f ≡ o → f < length symbols
+    → (s : List ℕ × SymInfo) × (slice_get symbols f ≡ Some s)
 symbol_there symbols f None is lt = absurd (some_there symbols f lt is)
 symbol_there symbols f (Some s) is lt = (s, is)
 
-pub bound_program : (declared : Signature) (axioms : List AxiomDeclaration) (p : Program) → IsProgramUnder declared axioms (theory_of p) → ListsOwnEquations p → ((a : AxiomDeclaration) → Contains axioms a → HasFewVariables a) → HasBoundVariables p
+pub bound_program : (declared : Signature) (axioms : List AxiomDeclaration) (p : Program)
+    → IsProgramUnder declared axioms (theory_of p) → ListsOwnEquations p
+    → ((a : AxiomDeclaration) → Contains axioms a → HasFewVariables a) → HasBoundVariables p
 bound_program declared axioms p program own few = record {
   rules = λ i r at.
-      let of = (program.rules.just (rewrite_rule r)).0 (contains_map rewrite_rule p.rules.items r (contains_at p.rules.items i r at)) in
+      let of =
+      (program.rules.just (rewrite_rule r)).0
+      (contains_map rewrite_rule p.rules.items r (contains_at p.rules.items i r at)) in
       bound_rule declared of.0 r of.2 (few of.0 of.1);
   equations = λ f i e at.
       let es = at.0 in
       let within = slice_get_within p.equations.items f es at.1 in
-      let lists = length_mapped (λ (v : Vec Equation Global). map function_equation v.items) p.equations.items in
+      let lists =
+      length_mapped (λ (v : Vec Equation Global). map function_equation v.items)
+      p.equations.items in
       let listed = program.listed in
-      let symbol = symbol_there p.sig.symbols f (slice_get p.sig.symbols f) refl (omega (arith, within, lists, listed)) in
-      let view : equations_of (theory_of p) f ≡ map function_equation es.items = listed_view p.equations.items f ∙ ap (map function_equation) (listed_there p.equations.items f es at.1) in
-      let inside = subst (λ (xs : List plain.Equation). Contains xs (function_equation e)) (sym view) (contains_map function_equation es.items e (contains_at es.items i e at.2)) in
-      let is = ((program.equations f symbol.0.0 symbol.0.1 symbol.1).just (function_equation e)).0 inside in
+      let symbol =
+      symbol_there p.sig.symbols f (slice_get p.sig.symbols f) refl
+      (omega (arith, within, lists, listed)) in
+      let view : equations_of (theory_of p) f ≡ map function_equation es.items =
+      listed_view p.equations.items f
+      ∙ ap (map function_equation) (listed_there p.equations.items f es at.1) in
+      let inside =
+      subst (λ (xs : List plain.Equation). Contains xs (function_equation e)) (sym view)
+      (contains_map function_equation es.items e (contains_at es.items i e at.2)) in
+      let is =
+      ((program.equations f symbol.0.0 symbol.0.1 symbol.1).just (function_equation e)).0
+      inside in
       bound_equation declared symbol.0.0 is.1.0 f e (own f i e at) is.1.2 (few is.1.0 is.1.1);
 }

@@ -1,5 +1,6 @@
 -- A readable equation is well-sorted.
-use Rattle.std.proofs.Common.{◌≡◌, ◌<◌, ℕ, ◌+◌, Bool, true, false, List, [], ◌∷◌, length, Option, Some, None, refl, ap, sym, ◌∙◌, subst, arith}
+use Rattle.std.proofs.Common.{◌≡◌, ◌<◌, ℕ, ◌+◌, Bool, true, false, List, [], ◌∷◌, length, Option}
+use Rattle.std.proofs.Common.{Some, None, refl, ap, sym, ◌∙◌, subst, arith}
 use Rattle.std.specs.Prelude.{All, IfSome, not}
 use Rattle.std.proofs.lemmas.Bool.{false≢true, eqb-true}
 use Rattle.std.proofs.lemmas.List.Elements.{All-nil, All-head, All-tail}
@@ -8,7 +9,8 @@ use Rattle.term_core.specs.Patterns.{Patterns}
 use Rattle.rule_core.proofs.Belows.{both_true}
 use Rattle.rule_core.specs.Rules.{Equation}
 use Rattle.rule_core.specs.Sorting.{HasSort, HaveSorts, sort_at}
-use Rattle.rule_core.specs.WellSorted.{IsSignature, IsReference, IsCondition, IsEquationOf as IsSortedEquation}
+use Rattle.rule_core.specs.WellSorted.{IsSignature, IsReference, IsCondition}
+use Rattle.rule_core.specs.WellSorted.{IsEquationOf as IsSortedEquation}
 use Rattle.rule_core.specs.declared.signature.Signature.{Signature}
 use Rattle.rule_core.specs.declared.signature.SortInfo.{SortInfo}
 use Rattle.rule_core.specs.declared.signature.SortRef.{SortRef}
@@ -25,11 +27,13 @@ use Rattle.kore_axioms.specs.RuleFaults.{is_empty, is_bound}
 use Rattle.kore_axioms.specs.Uses.{have_symbol, is_plain_function}
 use Rattle.kore_axioms.proofs.ApplicativeLaws.{neither}
 use Rattle.kore_axioms.proofs.BoundLaws.{no_faults}
-use Rattle.kore_equations.specs.ReadableEquations.{all_read, condition_of_equation, equation_faults, is_one_sort, is_sort_over}
+use Rattle.kore_equations.specs.ReadableEquations.{all_read, condition_of_equation, equation_faults}
+use Rattle.kore_equations.specs.ReadableEquations.{is_one_sort, is_sort_over}
 use Rattle.kore_equations.specs.EquationMeanings.{IsEquationOf}
 use Rattle.kore_equations.proofs.ClearLaws.{empty_is}
 use Rattle.kore_rules.proofs.KeptSorts.{IsKept, sort_kept, all_sorts_kept}
-use Rattle.kore_rules.proofs.MeaningSorts.{sorted_at, sorted_side, all_no_call, uses_only, AreDeclared, all_variables_declared}
+use Rattle.kore_rules.proofs.MeaningSorts.{sorted_at, sorted_side, all_no_call, uses_only}
+use Rattle.kore_rules.proofs.MeaningSorts.{AreDeclared, all_variables_declared}
 use Rattle.kore_rules.proofs.RuleSorts.{sorted_condition}
 
 pub count_read : (ps : List PatternTree) → count (all_read ps) ≡ length ps
@@ -37,19 +41,25 @@ count_read [] = refl
 count_read (p ∷ ps) = ap (λ (n : ℕ). n + 1) (count_read ps) ∙ omega arith
 
 -- patterns without faults at the places of a symbol without sort parameters
-sorted_arguments : (sig : Signature) (vars : List (List ℕ × ℕ)) (refs : List SortRef) {us : Unfoldeds} {ps : Patterns} → IsSignature sig → All (IsReference sig 0) refs → argument_faults sig [] refs us ≡ [] → count us ≡ length refs → AllMean sig vars us ps → HaveSorts sig (variable_sorts vars) [] ps refs
+sorted_arguments : (sig : Signature) (vars : List (List ℕ × ℕ)) (refs : List SortRef)
+    {us : Unfoldeds} {ps : Patterns} → IsSignature sig → All (IsReference sig 0) refs
+    → argument_faults sig [] refs us ≡ [] → count us ≡ length refs → AllMean sig vars us ps
+    → HaveSorts sig (variable_sorts vars) [] ps refs
 sorted_arguments sig vars [] good all clear many none_mean = tt
 sorted_arguments sig vars (of ∷ refs) good all clear many none_mean = absurd (omega (arith, many))
-sorted_arguments sig vars [] good all clear many (more_mean first rest) = absurd (omega (arith, many))
+sorted_arguments sig vars [] good all clear many (more_mean first rest) =
+    absurd (omega (arith, many))
 sorted_arguments sig vars (Param i ∷ refs) good all clear many (more_mean first rest) =
-    absurd (let never : i < 0 = All-head (IsReference sig 0) (Param i) refs all in omega (arith, never))
+    absurd (let never : i < 0 = All-head (IsReference sig 0) (Param i) refs all in
+    omega (arith, never))
 sorted_arguments sig vars (Sort s ∷ refs) good all clear many (more_mean first rest) =
     let here = no_faults _ _ clear in
     let later = no_faults _ _ here.1 in (
       s.0,
       refl,
       sorted_at sig vars (Some s.0) s.0 good here.0 later.0 refl first,
-      sorted_arguments sig vars refs good (All-tail (IsReference sig 0) (Sort s) refs all) later.1 (omega (arith, many)) rest,
+      sorted_arguments sig vars refs good (All-tail (IsReference sig 0) (Sort s) refs all) later.1
+          (omega (arith, many)) rest,
     )
 
 one_sort : (o p : Option ℕ) → is_one_sort o p ≡ true → (n : ℕ) × (p ≡ Some n)
@@ -61,38 +71,62 @@ not_true : (b : Bool) → not b ≡ true → b ≡ false
 not_true false h = refl
 not_true true h = sym h
 
-pub sorted_equation : (declared final : Signature) (axioms : List AxiomDeclaration) (f : List ℕ) (a : AxiomDeclaration) (e : Equation) (info : SymInfo) → IsKept declared final axioms → IsSignature declared → (r : IsEquationOf declared f a e)
-    → r.info.params ≡ 0 → All (IsReference declared r.info.params) r.info.args.items → info.args.items ≡ r.info.args.items → info.result ≡ r.info.result → IsSortedEquation final info e
+pub sorted_equation : (declared final : Signature) (axioms : List AxiomDeclaration) (f : List ℕ)
+    (a : AxiomDeclaration) (e : Equation) (info : SymInfo) → IsKept declared final axioms
+    → IsSignature declared → (r : IsEquationOf declared f a e) → r.info.params ≡ 0
+    → All (IsReference declared r.info.params) r.info.args.items
+    → info.args.items ≡ r.info.args.items → info.result ≡ r.info.result
+    → IsSortedEquation final info e
 sorted_equation declared final axioms f a e info kept good r params refs same_args same_result =
     let q = r.parts in
     let over = condition_of_equation declared r.stated q in
     let fits = both_true (is_sort_over declared a.params r.stated.over) _ r.readable.function in
-    let sorts = both_true (is_one_sort (sort_number declared.sorts r.stated.sort) (sort_at [] r.info.result)) _ fits.1 in
+    let sorts =
+    both_true
+    (is_one_sort (sort_number declared.sorts r.stated.sort) (sort_at [] r.info.result)) _
+    fits.1 in
     let result = one_sort _ _ sorts.0 in
     let many : length q.patterns ≡ length r.info.args.items = eqb-true _ _ sorts.1 in
-    let sorted = both_true (is_empty (equation_faults declared r.info r.stated q)) _ r.readable.sorted in
+    let sorted =
+    both_true (is_empty (equation_faults declared r.info r.stated q)) _ r.readable.sorted in
     let faults = no_faults _ _ (empty_is (equation_faults declared r.info r.stated q) sorted.0) in
     let patterns = no_faults _ _ faults.1 in
     let sides = no_faults _ _ patterns.1 in
-    let uses = both_true (not (have_symbol (is_plain_function declared) (all_read q.patterns))) _ r.readable.good_uses in
+    let uses =
+    both_true (not (have_symbol (is_plain_function declared) (all_read q.patterns))) _
+    r.readable.good_uses in
     let ac = both_true _ _ uses.1 in
     let bound = both_true (is_bound (all_read q.patterns) (tested over)) _ ac.1 in
     let vars : List (List ℕ × ℕ) = r.variables in
     let V : List ℕ = variable_sorts vars in
     let same : V ≡ e.variables = sym r.sorts in
-    let numbers : AreDeclared declared vars = subst (AreDeclared declared) (sym r.numbered) (all_variables_declared declared [] (all_read q.patterns) (All-nil (λ (n : ℕ). n < length declared.sorts))) in
-    let plain_refs : All (IsReference declared 0) r.info.args.items = subst (λ (n : ℕ). All (IsReference declared n) r.info.args.items) params refs in
-    let arguments : HaveSorts declared V [] e.arguments r.info.args.items = sorted_arguments declared vars r.info.args.items good plain_refs patterns.0 (count_read q.patterns ∙ many) r.means_arguments in
+    let numbers : AreDeclared declared vars =
+    subst (AreDeclared declared) (sym r.numbered) (all_variables_declared declared []
+    (all_read q.patterns) (All-nil (λ (n : ℕ). n < length declared.sorts))) in
+    let plain_refs : All (IsReference declared 0) r.info.args.items =
+    subst (λ (n : ℕ). All (IsReference declared n) r.info.args.items) params refs in
+    let arguments : HaveSorts declared V [] e.arguments r.info.args.items =
+    sorted_arguments declared vars r.info.args.items good plain_refs patterns.0
+    (count_read q.patterns ∙ many) r.means_arguments in
     record {
-      variables = subst (λ (ss : List ℕ). All (λ (n : ℕ). n < length final.sorts) ss) same (subst (λ (es : List (List ℕ × SortInfo)). All (λ (n : ℕ). n < length es) V) (sym kept.sorts) numbers);
+      variables =
+          subst (λ (ss : List ℕ). All (λ (n : ℕ). n < length final.sorts) ss) same (subst
+          (λ (es : List (List ℕ × SortInfo)). All (λ (n : ℕ). n < length es) V) (sym kept.sorts)
+          numbers);
       arguments = subst (λ (ss : List ℕ). HaveSorts final ss [] e.arguments info.args.items) same
-          (subst (HaveSorts final V [] e.arguments) (sym same_args) (all_sorts_kept declared final axioms V [] e.arguments r.info.args.items kept arguments));
-      no_call = all_no_call declared vars (not_true _ uses.0) (neither _ _ (not_true _ ac.0)).1 r.means_arguments;
-      condition = subst (λ (ss : List ℕ). IfSome e.condition (IsCondition final ss e.arguments)) same
-          (sorted_condition declared final axioms vars (given_condition r.stated.over q.condition) over e.condition kept good r.means_arguments refl sides.0 bound.0 r.means_condition);
+          (subst (HaveSorts final V [] e.arguments) (sym same_args) (all_sorts_kept declared final
+          axioms V [] e.arguments r.info.args.items kept arguments));
+      no_call =
+          all_no_call declared vars (not_true _ uses.0) (neither _ _ (not_true _ ac.0)).1
+          r.means_arguments;
+      condition =
+          subst (λ (ss : List ℕ). IfSome e.condition (IsCondition final ss e.arguments)) same
+          (sorted_condition declared final axioms vars (given_condition r.stated.over q.condition)
+          over e.condition kept good r.means_arguments refl sides.0 bound.0 r.means_condition);
       sort = result.0;
       result = ap (sort_at []) same_result ∙ result.1;
       right = subst (λ (ss : List ℕ). HasSort final ss e.right result.0) same
-          (sort_kept declared final axioms V e.right result.0 kept (sorted_side declared vars (sort_at [] r.info.result) result.0 good sides.1 result.1 r.means_right));
+          (sort_kept declared final axioms V e.right result.0 kept (sorted_side declared vars
+          (sort_at [] r.info.result) result.0 good sides.1 result.1 r.means_right));
       bound = uses_only declared vars r.means_arguments bound.1 r.means_right;
     }

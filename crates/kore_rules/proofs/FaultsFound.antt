@@ -1,5 +1,6 @@
 -- Texts, declarations, axioms and terms each have a first fault or none.
-use Rattle.std.proofs.Common.{◌≡◌, ℕ, Bool, true, false, List, [], ◌∷◌, ◌++◌, Option, Some, None, refl, sym, ◌∙◌, subst, ◌⊎◌, inl, inr}
+use Rattle.std.proofs.Common.{◌≡◌, ℕ, Bool, true, false, List, [], ◌∷◌, ◌++◌, Option, Some, None}
+use Rattle.std.proofs.Common.{refl, sym, ◌∙◌, subst, ◌⊎◌, inl, inr}
 use Rattle.std.specs.Prelude.{Contains}
 use Rattle.std.proofs.lemmas.Bool.{false≢true}
 use Rattle.kore_text.specs.Trees.{SortTree, PatternTree, AxiomDeclaration, DefinitionTree}
@@ -14,37 +15,54 @@ use Rattle.rule_core.specs.declared.signature.Signature.{Signature}
 use Rattle.rule_core.specs.declared.signature.SortInfo.{SortInfo}
 use Rattle.rule_core.proofs.Belows.{is_below-true, true-is_below}
 use Rattle.kore_sig.specs.Declarations.{SubsortPair, pairs_of}
-use Rattle.kore_sig.specs.FirstFault.{Fault, ByByte, ByNumber, IsFirstBy, Then, InOrder}
+use Rattle.kore_sig.specs.FirstFault.{Fault, ByByte, ByNumber, IsFirstBy, Then, IsFirstOfSequence}
 use Rattle.kore_sig.specs.Noted.{noted, leads_by_byte, leads_by_number}
 use Rattle.kore_sig.specs.Declaring.{placed_faults, placed_behind}
-use Rattle.kore_sig.specs.SignatureFaults.{FirstOfModules, FirstOfDeclarations, FirstOfPairs, FirstOfSignature, HasPairFault, unknown_sort, cycle, number_faults, pair_behind, placed, module_faults, name_behind, nothing_declared}
+use Rattle.kore_sig.specs.SignatureFaults.{FirstOfModules, FirstOfDeclarations, FirstOfPairs}
+use Rattle.kore_sig.specs.SignatureFaults.{FirstOfSignature, HasPairFault, unknown_sort, cycle}
+use Rattle.kore_sig.specs.SignatureFaults.{number_faults, pairs_after, placed, module_faults}
+use Rattle.kore_sig.specs.SignatureFaults.{names_after, nothing_declared}
 use Rattle.kore_sig.specs.SortReferences.{sort_number, sort_entries}
-use Rattle.kore_sig.proofs.FirstLaws.{contains_cases, contains_none, first_of_list, by_byte, by_number}
+use Rattle.kore_sig.proofs.FirstLaws.{contains_cases, contains_none, first_of_list, by_byte}
+use Rattle.kore_sig.proofs.FirstLaws.{by_number}
 use Rattle.kore_sig.proofs.PairLaws.{first_cycle, passes_pair, then_next}
 use Rattle.kore_check.specs.Folds.{unfolded}
 use Rattle.kore_check.specs.PatternFaults.{all_faults}
 use Rattle.kore_shapes.specs.Shapes.{Rewriting}
-use Rattle.kore_axioms.specs.AxiomClasses.{AxiomClass, refused, orders_sorts, rewrites, equates, passed_over, class_of}
+use Rattle.kore_axioms.specs.AxiomClasses.{AxiomClass, refused, orders_sorts, rewrites, equates}
+use Rattle.kore_axioms.specs.AxiomClasses.{passed_over, class_of}
 use Rattle.kore_axioms.specs.RuleFaults.{FirstOfRule, sorted_faults, use_faults}
 use Rattle.kore_axioms.specs.RuleForms.{form_faults}
 use Rattle.kore_axioms.specs.RuleParts.{rule_parts}
 use Rattle.kore_rules.specs.Acceptance.{HasTextFault, fault_of_text}
-use Rattle.kore_rules.specs.FirstRefusal.{FirstOfClass, FirstOfAxioms, FirstOfTerm, first_sort, start_faults}
+use Rattle.kore_rules.specs.FirstRefusal.{FirstOfClass, FirstOfAxioms, FirstOfTerm, first_sort}
+use Rattle.kore_rules.specs.FirstRefusal.{start_faults}
 use Rattle.kore_rules.specs.GroundTerms.{ground_faults}
 
 -- ---- texts
 
-pub definition_is_found : (bytes : List ℕ) → ((d : DefinitionTree) × ReadsDefinition bytes d) ⊎ ((f : Fault) × HasTextFault IsDefinition bytes f)
-definition_is_found bytes = by_case (run (tokens_of bytes) (Some 0) definition_symbols) (definition_fault (tokens_of bytes)) where
-  by_case : (r : Option TextFault) → IsFirstFault IsDefinition 0 (tokens_of bytes) r → ((d : DefinitionTree) × ReadsDefinition bytes d) ⊎ ((f : Fault) × HasTextFault IsDefinition bytes f)
-  by_case None h = inl (h.0.0, (h.1, (h.0.1, h.0.2)))
-  by_case (Some f) h = inr (fault_of_text f, (f, h, refl))
+pub definition_is_found : (bytes : List ℕ)
+    → ((d : DefinitionTree) × ReadsDefinition bytes d)
+    ⊎ ((f : Fault) × HasTextFault IsDefinition bytes f)
+definition_is_found bytes =
+    by_case (run (tokens_of bytes) (Some 0) definition_symbols) (definition_fault (tokens_of bytes))
+  where
+    by_case : (r : Option TextFault) → IsFirstFault IsDefinition 0 (tokens_of bytes) r
+        → ((d : DefinitionTree) × ReadsDefinition bytes d)
+        ⊎ ((f : Fault) × HasTextFault IsDefinition bytes f)
+    by_case None h = inl (h.0.0, (h.1, (h.0.1, h.0.2)))
+    by_case (Some f) h = inr (fault_of_text f, (f, h, refl))
 
-pub pattern_is_found : (bytes : List ℕ) → ((p : PatternTree) × ReadsPattern bytes p) ⊎ ((f : Fault) × HasTextFault IsPattern bytes f)
-pattern_is_found bytes = by_case (run (tokens_of bytes) (Some 0) pattern_symbols) (pattern_fault (tokens_of bytes)) where
-  by_case : (r : Option TextFault) → IsFirstFault IsPattern 0 (tokens_of bytes) r → ((p : PatternTree) × ReadsPattern bytes p) ⊎ ((f : Fault) × HasTextFault IsPattern bytes f)
-  by_case None h = inl (h.0.0, (h.1, (h.0.1, h.0.2)))
-  by_case (Some f) h = inr (fault_of_text f, (f, h, refl))
+pub pattern_is_found : (bytes : List ℕ)
+    → ((p : PatternTree) × ReadsPattern bytes p) ⊎ ((f : Fault) × HasTextFault IsPattern bytes f)
+pattern_is_found bytes =
+    by_case (run (tokens_of bytes) (Some 0) pattern_symbols) (pattern_fault (tokens_of bytes))
+  where
+    by_case : (r : Option TextFault) → IsFirstFault IsPattern 0 (tokens_of bytes) r
+        → ((p : PatternTree) × ReadsPattern bytes p)
+        ⊎ ((f : Fault) × HasTextFault IsPattern bytes f)
+    by_case None h = inl (h.0.0, (h.1, (h.0.1, h.0.2)))
+    by_case (Some f) h = inr (fault_of_text f, (f, h, refl))
 
 -- ---- lists, stages and things in order
 
@@ -62,9 +80,13 @@ then_found : (P Q : Option Fault → Type 0) → Found P → Found Q → Found (
 then_found P Q (None, p) (r, q) = (r, then_next P Q r p q)
 then_found P Q (Some f, p) other = (Some f, inl p)
 
-in_order_found : {S A : Type 0} (R : S → A → Option Fault → Type 0) (next : S → A → S) → ((s : S) (x : A) → Found (R s x)) → (s : S) (xs : List A) → Found (InOrder R next s xs)
+in_order_found : {S A : Type 0} (R : S → A → Option Fault → Type 0) (next : S → A → S)
+    → ((s : S) (x : A) → Found (R s x)) → (s : S) (xs : List A)
+    → Found (IsFirstOfSequence R next s xs)
 in_order_found R next each s [] = (None, refl)
-in_order_found R next each s (x ∷ xs) = then_found (R s x) (InOrder R next (next s x) xs) (each s x) (in_order_found R next each (next s x) xs)
+in_order_found R next each s (x ∷ xs) =
+    then_found (R s x) (IsFirstOfSequence R next (next s x) xs) (each s x)
+    (in_order_found R next each (next s x) xs)
 
 -- ---- pairs of sorts
 
@@ -72,7 +94,8 @@ in_order_found R next each s (x ∷ xs) = then_found (R s x) (InOrder R next (ne
 abbrev NoneLoops : List (ℕ × ℕ) → List (ℕ × ℕ) → Type 0
 NoneLoops pairs some = (p : ℕ × ℕ) → Contains some p → is_below pairs p.0 p.0 ≡ false
 
-loops : (pairs some : List (ℕ × ℕ)) → NoneLoops pairs some ⊎ ((p : ℕ × ℕ) × (is_below pairs p.0 p.0 ≡ true))
+loops : (pairs some : List (ℕ × ℕ))
+    → NoneLoops pairs some ⊎ ((p : ℕ × ℕ) × (is_below pairs p.0 p.0 ≡ true))
 loops pairs [] = inl (λ p has. absurd (contains_none p has))
 loops pairs (q ∷ some) = by_case (is_below pairs q.0 q.0) refl (loops pairs some) where
   with_first : is_below pairs q.0 q.0 ≡ false → NoneLoops pairs some → NoneLoops pairs (q ∷ some)
@@ -81,7 +104,9 @@ loops pairs (q ∷ some) = by_case (is_below pairs q.0 q.0) refl (loops pairs so
     | inr later ↦ none p later
   ]
 
-  by_case : (b : Bool) → is_below pairs q.0 q.0 ≡ b → NoneLoops pairs some ⊎ ((p : ℕ × ℕ) × (is_below pairs p.0 p.0 ≡ true)) → NoneLoops pairs (q ∷ some) ⊎ ((p : ℕ × ℕ) × (is_below pairs p.0 p.0 ≡ true))
+  by_case : (b : Bool) → is_below pairs q.0 q.0 ≡ b
+      → NoneLoops pairs some ⊎ ((p : ℕ × ℕ) × (is_below pairs p.0 p.0 ≡ true))
+      → NoneLoops pairs (q ∷ some) ⊎ ((p : ℕ × ℕ) × (is_below pairs p.0 p.0 ≡ true))
   by_case true e rest = inr (q, e)
   by_case false e (inl none) = inl (with_first e none)
   by_case false e (inr found) = inr found
@@ -101,66 +126,105 @@ cycles pairs = elim (loops pairs pairs) [
   | inr found ↦ inr (λ fine. fine found.0.0 (is_below-true pairs found.0.0 found.0.0 found.1))
 ]
 
-unknown_found : (sorts : List (List ℕ × SortInfo)) (before : List (ℕ × ℕ)) (p : SubsortPair) → ((a b : ℕ) → sort_number sorts p.lower ≡ Some a → sort_number sorts p.upper ≡ Some b → ⊥) → Found (IsFirstBy ByNumber (HasPairFault sorts before p))
+unknown_found : (sorts : List (List ℕ × SortInfo)) (before : List (ℕ × ℕ)) (p : SubsortPair)
+    → ((a b : ℕ) → sort_number sorts p.lower ≡ Some a → sort_number sorts p.upper ≡ Some b → ⊥)
+    → Found (IsFirstBy ByNumber (HasPairFault sorts before p))
 unknown_found sorts before p never = by_case first.0 first.1 where
-  first : Found (IsFirstBy ByNumber (Contains (number_faults sorts p.lower ++ number_faults sorts p.upper)))
+  first : Found
+      (IsFirstBy ByNumber (Contains (number_faults sorts p.lower ++ number_faults sorts p.upper)))
   first = by_number_found (number_faults sorts p.lower ++ number_faults sorts p.upper)
 
-  no_other : (Q : Fault → Type 0) → ((f : Fault) → Contains (number_faults sorts p.lower ++ number_faults sorts p.upper) f → Q f) → (f : Fault) → HasPairFault sorts before p f → Q f
+  no_other : (Q : Fault → Type 0)
+      → ((f : Fault) → Contains (number_faults sorts p.lower ++ number_faults sorts p.upper) f
+      → Q f) → (f : Fault) → HasPairFault sorts before p f → Q f
   no_other Q law f (unknown_sort has) = law f has
   no_other Q law _ (cycle lower upper bad) = absurd (never _ _ lower upper)
 
-  by_case : (r : Option Fault) → IsFirstBy ByNumber (Contains (number_faults sorts p.lower ++ number_faults sorts p.upper)) r → Found (IsFirstBy ByNumber (HasPairFault sorts before p))
+  by_case : (r : Option Fault)
+      → IsFirstBy ByNumber (Contains (number_faults sorts p.lower ++ number_faults sorts p.upper)) r
+      → Found (IsFirstBy ByNumber (HasPairFault sorts before p))
   by_case None h = (None, no_other (λ f. ⊥) h)
   by_case (Some f) h = (Some f, (unknown_sort h.0, no_other (ByNumber f) h.1))
 
-pair_found : (sorts : List (List ℕ × SortInfo)) (before : List (ℕ × ℕ)) (p : SubsortPair) → Found (IsFirstBy ByNumber (HasPairFault sorts before p))
-pair_found sorts before p = by_case (sort_number sorts p.lower) (sort_number sorts p.upper) refl refl where
-  known : (a b : ℕ) → sort_number sorts p.lower ≡ Some a → sort_number sorts p.upper ≡ Some b → HasNoCycle (before ++ (a, b) ∷ []) ⊎ (HasNoCycle (before ++ (a, b) ∷ []) → ⊥) → Found (IsFirstBy ByNumber (HasPairFault sorts before p))
-  known a b lower upper (inl fine) = (None, ((passes_pair sorts before (before ++ (a, b) ∷ []) p a b lower upper fine refl).first [] None refl).0)
-  known a b lower upper (inr bad) = (Some (record { number = 24; byte = p.at }), first_cycle sorts before p a b lower upper bad)
+pair_found : (sorts : List (List ℕ × SortInfo)) (before : List (ℕ × ℕ)) (p : SubsortPair)
+    → Found (IsFirstBy ByNumber (HasPairFault sorts before p))
+pair_found sorts before p =
+    by_case (sort_number sorts p.lower) (sort_number sorts p.upper) refl refl
+  where
+    known : (a b : ℕ) → sort_number sorts p.lower ≡ Some a → sort_number sorts p.upper ≡ Some b
+        → HasNoCycle (before ++ (a, b) ∷ []) ⊎ (HasNoCycle (before ++ (a, b) ∷ []) → ⊥)
+        → Found (IsFirstBy ByNumber (HasPairFault sorts before p))
+    known a b lower upper (inl fine) = (
+      None,
+      ((passes_pair sorts before (before ++ (a, b) ∷ []) p a b lower upper fine refl).first
+          [] None refl).0,
+    )
+    known a b lower upper (inr bad) =
+        (Some (record { number = 24; byte = p.at }), first_cycle sorts before p a b lower upper bad)
 
-  by_case : (o q : Option ℕ) → sort_number sorts p.lower ≡ o → sort_number sorts p.upper ≡ q → Found (IsFirstBy ByNumber (HasPairFault sorts before p))
-  by_case None q lower upper = unknown_found sorts before p (λ a b e f. let both : None ≡ Some a = sym lower ∙ e in let never : ⊥ = cc in never)
-  by_case (Some a) None lower upper = unknown_found sorts before p (λ c b e f. let both : None ≡ Some b = sym upper ∙ f in let never : ⊥ = cc in never)
-  by_case (Some a) (Some b) lower upper = known a b lower upper (cycles (before ++ (a, b) ∷ []))
+    by_case : (o q : Option ℕ) → sort_number sorts p.lower ≡ o → sort_number sorts p.upper ≡ q
+        → Found (IsFirstBy ByNumber (HasPairFault sorts before p))
+    by_case None q lower upper =
+        unknown_found sorts before p
+        (λ a b e f. let both : None ≡ Some a = sym lower ∙ e in let never : ⊥ = cc in never)
+    by_case (Some a) None lower upper =
+        unknown_found sorts before p
+        (λ c b e f. let both : None ≡ Some b = sym upper ∙ f in let never : ⊥ = cc in never)
+    by_case (Some a) (Some b) lower upper = known a b lower upper (cycles (before ++ (a, b) ∷ []))
 
 -- ---- declarations
 
 pub declaration_fault_is_found : (d : DefinitionTree) → Found (FirstOfSignature d)
 declaration_fault_is_found d =
     let sorts = sort_entries d in
-    then_found (FirstOfModules d.modules) (Then (FirstOfDeclarations sorts (placed [] d.modules)) (FirstOfPairs sorts (pairs_of d)))
-    (in_order_found (λ names m. IsFirstBy ByNumber (Contains (module_faults names m))) name_behind (λ names m. by_number_found (module_faults names m)) [] d.modules)
+    then_found (FirstOfModules d.modules)
+    (Then (FirstOfDeclarations sorts (placed [] d.modules)) (FirstOfPairs sorts (pairs_of d)))
+    (in_order_found (λ names m. IsFirstBy ByNumber (Contains (module_faults names m))) names_after
+    (λ names m. by_number_found (module_faults names m)) [] d.modules)
     (then_found (FirstOfDeclarations sorts (placed [] d.modules)) (FirstOfPairs sorts (pairs_of d))
-    (in_order_found (λ before p. IsFirstBy ByNumber (Contains (placed_faults sorts before p))) placed_behind (λ before p. by_number_found (placed_faults sorts before p)) nothing_declared (placed [] d.modules))
-    (in_order_found (λ before p. IsFirstBy ByNumber (HasPairFault sorts before p)) (pair_behind sorts) (pair_found sorts) [] (pairs_of d)))
+    (in_order_found (λ before p. IsFirstBy ByNumber (Contains (placed_faults sorts before p)))
+    placed_behind (λ before p. by_number_found (placed_faults sorts before p)) nothing_declared
+    (placed [] d.modules))
+    (in_order_found (λ before p. IsFirstBy ByNumber (HasPairFault sorts before p))
+    (pairs_after sorts) (pair_found sorts) [] (pairs_of d)))
 
 -- ---- axioms and terms
 
-rule_found : (sig : Signature) (first : Option SortTree) (a : AxiomDeclaration) (w : Rewriting) → Found (FirstOfRule sig first a w)
+rule_found : (sig : Signature) (first : Option SortTree) (a : AxiomDeclaration) (w : Rewriting)
+    → Found (FirstOfRule sig first a w)
 rule_found sig first a w =
     let form = form_faults a (rule_parts sig w) in
     let sorts = sorted_faults sig w.sort (rule_parts sig w) in
     let uses = use_faults sig first a.at w.sort (rule_parts sig w) in
-    then_found (IsFirstBy ByNumber (Contains form)) (Then (IsFirstBy ByByte (Contains sorts)) (IsFirstBy ByNumber (Contains uses))) (by_number_found form)
-    (then_found (IsFirstBy ByByte (Contains sorts)) (IsFirstBy ByNumber (Contains uses)) (by_byte_found sorts) (by_number_found uses))
+    then_found (IsFirstBy ByNumber (Contains form))
+    (Then (IsFirstBy ByByte (Contains sorts)) (IsFirstBy ByNumber (Contains uses)))
+    (by_number_found form)
+    (then_found (IsFirstBy ByByte (Contains sorts)) (IsFirstBy ByNumber (Contains uses))
+    (by_byte_found sorts) (by_number_found uses))
 
-class_found : (sig : Signature) (first : Option SortTree) (a : AxiomDeclaration) (k : AxiomClass) → Found (FirstOfClass sig first a k)
+class_found : (sig : Signature) (first : Option SortTree) (a : AxiomDeclaration) (k : AxiomClass)
+    → Found (FirstOfClass sig first a k)
 class_found sig first a (refused n) = (Some (record { number = n; byte = a.at }), refl)
 class_found sig first a orders_sorts = (None, refl)
 class_found sig first a (rewrites w) = rule_found sig first a w
 class_found sig first a (equates e) = (None, refl)
 class_found sig first a passed_over = (None, refl)
 
-pub axiom_fault_is_found : (sig : Signature) (axioms : List AxiomDeclaration) → Found (FirstOfAxioms sig axioms)
+pub axiom_fault_is_found : (sig : Signature) (axioms : List AxiomDeclaration)
+    → Found (FirstOfAxioms sig axioms)
 axiom_fault_is_found sig axioms =
-    in_order_found (λ (first : Option SortTree) a. FirstOfClass sig first a (class_of sig a)) (λ (first : Option SortTree) a. first_sort first (class_of sig a)) (λ first a. class_found sig first a (class_of sig a)) None axioms
+    in_order_found (λ (first : Option SortTree) a. FirstOfClass sig first a (class_of sig a))
+    (λ (first : Option SortTree) a. first_sort first (class_of sig a))
+    (λ first a. class_found sig first a (class_of sig a)) None axioms
 
-pub term_fault_is_found : (sig : Signature) (top : Option ℕ) (p : PatternTree) → Found (FirstOfTerm sig top p)
+pub term_fault_is_found : (sig : Signature) (top : Option ℕ) (p : PatternTree)
+    → Found (FirstOfTerm sig top p)
 term_fault_is_found sig top p =
     let ground = ground_faults p in
     let sorts = all_faults sig (unfolded p) in
     let start = start_faults sig top (unfolded p) in
-    then_found (IsFirstBy ByByte (Contains ground)) (Then (IsFirstBy ByByte (Contains sorts)) (IsFirstBy ByNumber (Contains start))) (by_byte_found ground)
-    (then_found (IsFirstBy ByByte (Contains sorts)) (IsFirstBy ByNumber (Contains start)) (by_byte_found sorts) (by_number_found start))
+    then_found (IsFirstBy ByByte (Contains ground))
+    (Then (IsFirstBy ByByte (Contains sorts)) (IsFirstBy ByNumber (Contains start)))
+    (by_byte_found ground)
+    (then_found (IsFirstBy ByByte (Contains sorts)) (IsFirstBy ByNumber (Contains start))
+    (by_byte_found sorts) (by_number_found start))

@@ -28,6 +28,7 @@ pub mod WellSortedPrograms
 pub mod AcceptedTerms
 pub mod ProgramNames
 pub mod OneFault
+pub mod OnePattern
 pub mod OneReading
 pub mod AlikeSignatures
 pub mod Exclusion

@@ -1,13 +1,17 @@
 -- The program that is made from what was read.
-use Rattle.std.proofs.Common.{◌≡◌, ◌<◌, ◌≤◌, ℕ, zero, suc, ◌+◌, Bool, true, false, cond, List, [], ◌∷◌, ◌++◌, map, length, Contains, Option, Some, None, refl, sym, ap, ◌∙◌, subst, arith, ◌⊎◌, inl, inr, All, eq-eqb}
-use Rattle.std.specs.Prelude.{◌↔◌, ◌&&◌, ◌==◌, IsTrue, Vec, slice_get, slice_index_or, filter, count_by}
+use Rattle.std.proofs.Common.{◌≡◌, ◌<◌, ◌≤◌, ℕ, zero, suc, ◌+◌, Bool, true, false, cond, List, []}
+use Rattle.std.proofs.Common.{◌∷◌, ◌++◌, map, length, Contains, Option, Some, None, refl, sym, ap}
+use Rattle.std.proofs.Common.{◌∙◌, subst, arith, ◌⊎◌, inl, inr, All, eq-eqb}
+use Rattle.std.specs.Prelude.{◌↔◌, ◌&&◌, ◌==◌, IsTrue, Vec, slice_get, slice_index_or, filter}
+use Rattle.std.specs.Prelude.{count_by}
 use Rattle.std.specs.Global.{Global}
 use Rattle.std.specs.List.{AllZip}
 use Rattle.std.specs.List.Sorted.{IsPermutation}
 use Rattle.std.proofs.lemmas.Bool.{eqb-true, false≢true}
 use Rattle.std.proofs.lemmas.List.Elements.{All-nil, All-cons, All-head, All-tail}
 use Rattle.std.proofs.lemmas.List.Sums.{sum_by-cons, length-filter, count_by-le-length}
-use Rattle.std.proofs.lemmas.List.Sorted.{IsPermutation-sym, Contains-permutation, length_permutation}
+use Rattle.std.proofs.lemmas.List.Sorted.{IsPermutation-sym, Contains-permutation}
+use Rattle.std.proofs.lemmas.List.Sorted.{length_permutation}
 use Rattle.kore_text.specs.Trees.{AxiomDeclaration}
 use Rattle.rule_core.specs.Named.{number_of, names_of, AreDistinct}
 use Rattle.rule_core.specs.ProgramView.{rewrite_rule, function_equation, function_equations}
@@ -27,10 +31,12 @@ use Rattle.kore_check.specs.PatternSorts.{symbol_named}
 use Rattle.kore_axioms.specs.AxiomClasses.{is_defined_kind}
 use Rattle.kore_axioms.specs.AxiomMeanings.{IsRuleOf}
 use Rattle.kore_equations.specs.EquationMeanings.{IsEquationOf, IsUnreadable}
-use Rattle.kore_rules.specs.AxiomsRead.{AreRead, AreApart, AreFew, HasUnreadable, IsNumberedEquation, numbered_equation, is_marked}
+use Rattle.kore_rules.specs.AxiomsRead.{AreRead, AreApart, AreFew, HasUnreadable}
+use Rattle.kore_rules.specs.AxiomsRead.{IsNumberedEquation, numbered_equation, is_marked}
 use Rattle.kore_rules.specs.Programs.{HasKind, IsSymbolOf, AreRulesOf, AreEquationsOf}
 use Rattle.kore_rules.specs.ScalarSorts.{MarksTerms, IsFinal, final_kind, is_marked_at}
-use Rattle.kore_rules.specs.TrialOrder.{rule_key, equation_key, belongs_to, has_equations, is_by_equations, listed_at}
+use Rattle.kore_rules.specs.TrialOrder.{rule_key, equation_key, belongs_to, has_equations}
+use Rattle.kore_rules.specs.TrialOrder.{is_by_equations, listed_at}
 use Rattle.kore_rules.proofs.FinalLaws.{own_number}
 use Rattle.kore_rules.proofs.HookLaws.{final_is, Unreadables, defined}
 use Rattle.kore_rules.proofs.KindLaws.{HasPairs}
@@ -44,58 +50,75 @@ length_mapped f (x ∷ xs) = ap suc (length_mapped f xs)
 
 -- ---- items of lists
 
-pub contains_map : {X Y : Type 0} (f : X → Y) (xs : List X) (x : X) → Contains xs x → Contains (map f xs) (f x)
+pub contains_map : {X Y : Type 0} (f : X → Y) (xs : List X) (x : X) → Contains xs x
+    → Contains (map f xs) (f x)
 contains_map f [] x has = absurd (contains_none x has)
 contains_map f (y ∷ ys) x has = elim (contains_cases y x ys has) [
   | inl same ↦ subst (λ z. Contains (map f (y ∷ ys)) (f z)) same (contains_here (f y) (map f ys))
   | inr later ↦ contains_there (f y) (f x) (map f ys) (contains_map f ys x later)
 ]
 
-pub contains_at : {X : Type 0} (xs : List X) (i : ℕ) (x : X) → slice_get xs i ≡ Some x → Contains xs x
+pub contains_at : {X : Type 0} (xs : List X) (i : ℕ) (x : X) → slice_get xs i ≡ Some x
+    → Contains xs x
 contains_at [] i x at = absurd (let never : ⊥ = cc in never)
 contains_at (y ∷ ys) zero x at = subst (Contains (y ∷ ys)) (some_same y x at) (contains_here y ys)
 contains_at (y ∷ ys) (suc i) x at = contains_there y x ys (contains_at ys i x at)
 
-contains_mapped : {X Y : Type 0} (f : X → Y) (xs : List X) (y : Y) → Contains (map f xs) y → (x : X) × Contains xs x × (f x ≡ y)
+contains_mapped : {X Y : Type 0} (f : X → Y) (xs : List X) (y : Y) → Contains (map f xs) y
+    → (x : X) × Contains xs x × (f x ≡ y)
 contains_mapped f [] y has = absurd (contains_none y has)
 contains_mapped f (x ∷ xs) y has = elim (contains_cases (f x) y (map f xs) has) [
   | inl same ↦ (x, contains_here x xs, same)
-  | inr later ↦ let found = contains_mapped f xs y later in (found.0, contains_there x found.0 xs found.1, found.2)
+  | inr later ↦ let found =
+      contains_mapped f xs y later in (found.0, contains_there x found.0 xs found.1, found.2)
 ]
 
-kept_there : {X : Type 0} (test : X → Bool) (t : Bool) (x y : X) (xs : List X) → Contains (filter test xs) y → Contains (cond t (x ∷ filter test xs) (filter test xs)) y
+kept_there : {X : Type 0} (test : X → Bool) (t : Bool) (x y : X) (xs : List X)
+    → Contains (filter test xs) y → Contains (cond t (x ∷ filter test xs) (filter test xs)) y
 kept_there test true x y xs has = contains_there x y (filter test xs) has
 kept_there test false x y xs has = has
 
-contains_filter : {X : Type 0} (test : X → Bool) (xs : List X) (x : X) → Contains xs x → test x ≡ true → Contains (filter test xs) x
+contains_filter : {X : Type 0} (test : X → Bool) (xs : List X) (x : X) → Contains xs x
+    → test x ≡ true → Contains (filter test xs) x
 contains_filter test [] x has e = absurd (contains_none x has)
 contains_filter test (y ∷ ys) x has e = elim (contains_cases y x ys has) [
-  | inl same ↦ subst (λ z. Contains (filter test (y ∷ ys)) z) same (rw (ap test same ∙ e) (contains_here y (filter test ys)))
+  | inl same ↦ subst (λ z. Contains (filter test (y ∷ ys)) z) same
+      (rw (ap test same ∙ e) (contains_here y (filter test ys)))
   | inr later ↦ kept_there test (test y) y x ys (contains_filter test ys x later e)
 ]
 
-filtered_by : {X : Type 0} (test : X → Bool) (t : Bool) (x y : X) (xs : List X) → test x ≡ t → (Contains (filter test xs) y → Contains xs y × (test y ≡ true)) → Contains (cond t (x ∷ filter test xs) (filter test xs)) y → Contains (x ∷ xs) y × (test y ≡ true)
+filtered_by : {X : Type 0} (test : X → Bool) (t : Bool) (x y : X) (xs : List X) → test x ≡ t
+    → (Contains (filter test xs) y → Contains xs y × (test y ≡ true))
+    → Contains (cond t (x ∷ filter test xs) (filter test xs)) y
+    → Contains (x ∷ xs) y × (test y ≡ true)
 filtered_by test true x y xs e rest has = elim (contains_cases x y (filter test xs) has) [
   | inl same ↦ (subst (Contains (x ∷ xs)) same (contains_here x xs), ap test (sym same) ∙ e)
   | inr later ↦ let found = rest later in (contains_there x y xs found.0, found.1)
 ]
-filtered_by test false x y xs e rest has = let found = rest has in (contains_there x y xs found.0, found.1)
+filtered_by test false x y xs e rest has =
+    let found = rest has in (contains_there x y xs found.0, found.1)
 
-contains_filtered : {X : Type 0} (test : X → Bool) (xs : List X) (y : X) → Contains (filter test xs) y → Contains xs y × (test y ≡ true)
+contains_filtered : {X : Type 0} (test : X → Bool) (xs : List X) (y : X)
+    → Contains (filter test xs) y → Contains xs y × (test y ≡ true)
 contains_filtered test [] y has = absurd (contains_none y has)
-contains_filtered test (x ∷ xs) y has = filtered_by test (test x) x y xs refl (λ h. contains_filtered test xs y h) has
+contains_filtered test (x ∷ xs) y has =
+    filtered_by test (test x) x y xs refl (λ h. contains_filtered test xs y h) has
 
 -- ---- the order of trial
 
 abbrev one_if : Bool → ℕ
 one_if b = cond b 1 0
 
-count_map : {X Y : Type 0} (f : X → Y) (test : Y → Bool) (xs : List X) → count_by test (map f xs) ≡ count_by (λ x. test (f x)) xs
+count_map : {X Y : Type 0} (f : X → Y) (test : Y → Bool) (xs : List X)
+    → count_by test (map f xs) ≡ count_by (λ x. test (f x)) xs
 count_map f test [] = refl
 count_map f test (x ∷ xs) =
-    sum_by-cons (λ y. one_if (test y)) (f x) (map f xs) ∙ ap (λ (n : ℕ). one_if (test (f x)) + n) (count_map f test xs) ∙ sym (sum_by-cons (λ y. one_if (test (f y))) x xs)
+    sum_by-cons (λ y. one_if (test y)) (f x) (map f xs)
+    ∙ ap (λ (n : ℕ). one_if (test (f x)) + n) (count_map f test xs)
+    ∙ sym (sum_by-cons (λ y. one_if (test (f y))) x xs)
 
-same_count : {X : Type 0} (f g : X → ℕ) → ((x : X) → f x ≡ g x) → (at : ℕ) (xs : List X) → count_by (λ x. f x == at) xs ≡ count_by (λ x. g x == at) xs
+same_count : {X : Type 0} (f g : X → ℕ) → ((x : X) → f x ≡ g x) → (at : ℕ) (xs : List X)
+    → count_by (λ x. f x == at) xs ≡ count_by (λ x. g x == at) xs
 same_count f g same at [] = refl
 same_count f g same at (x ∷ xs) =
     sum_by-cons (λ y. one_if (f y == at)) x xs
@@ -104,8 +127,10 @@ same_count f g same at (x ∷ xs) =
     ∙ sym (sum_by-cons (λ y. one_if (g y == at)) x xs)
 
 -- things that are read are at different places
-pub read_apart : {X K : Type 0} (Is : AxiomDeclaration → K → Type 0) (place : K → ℕ) (view : X → K) (key : X → ℕ × ℕ) (axioms : List AxiomDeclaration) (xs : List X)
-    → ((x : X) → place (view x) ≡ (key x).1) → AreFew axioms → AreRead Is place axioms (map view xs) → AreApart (map key xs)
+pub read_apart : {X K : Type 0} (Is : AxiomDeclaration → K → Type 0) (place : K → ℕ) (view : X → K)
+    (key : X → ℕ × ℕ) (axioms : List AxiomDeclaration) (xs : List X)
+    → ((x : X) → place (view x) ≡ (key x).1) → AreFew axioms → AreRead Is place axioms (map view xs)
+    → AreApart (map key xs)
 read_apart Is place view key axioms xs same few read at =
     let a = read.few at in
     let b = few.apart at in
@@ -114,21 +139,29 @@ read_apart Is place view key axioms xs same few read at =
     let e = same_count (λ x. place (view x)) (λ x. (key x).1) same at xs in
     omega (arith, a, b, c, d, e)
 
-filter_all : {X : Type 0} (P : ℕ × ℕ → Type 0) (key : X → ℕ × ℕ) (test : X → Bool) (xs : List X) → All P (map key xs) → All P (map key (filter test xs))
+filter_all : {X : Type 0} (P : ℕ × ℕ → Type 0) (key : X → ℕ × ℕ) (test : X → Bool) (xs : List X)
+    → All P (map key xs) → All P (map key (filter test xs))
 filter_all P key test [] all = all
 filter_all P key test (x ∷ xs) all =
-    by (test x) (All-head P (key x) (map key xs) all) (filter_all P key test xs (All-tail P (key x) (map key xs) all)) where
-      by : (t : Bool) → P (key x) → All P (map key (filter test xs)) → All P (map key (cond t (x ∷ filter test xs) (filter test xs)))
+    by (test x) (All-head P (key x) (map key xs) all)
+    (filter_all P key test xs (All-tail P (key x) (map key xs) all)) where
+      by : (t : Bool) → P (key x) → All P (map key (filter test xs))
+          → All P (map key (cond t (x ∷ filter test xs) (filter test xs)))
       by true one rest = All-cons P (key x) (map key (filter test xs)) one rest
       by false one rest = rest
 
 -- if things are in order, so are some of them
-pub filter_in_order : {X : Type 0} (key : X → ℕ × ℕ) (test : X → Bool) (xs : List X) → AreInOrder (map key xs) → AreInOrder (map key (filter test xs))
+pub filter_in_order : {X : Type 0} (key : X → ℕ × ℕ) (test : X → Bool) (xs : List X)
+    → AreInOrder (map key xs) → AreInOrder (map key (filter test xs))
 filter_in_order key test [] h = tt
-filter_in_order key test (x ∷ xs) h = by (test x) (filter_all (ComesBefore (key x)) key test xs h.0) (filter_in_order key test xs h.1) where
-  by : (t : Bool) → All (ComesBefore (key x)) (map key (filter test xs)) → AreInOrder (map key (filter test xs)) → AreInOrder (map key (cond t (x ∷ filter test xs) (filter test xs)))
-  by true one rest = (one, rest)
-  by false one rest = rest
+filter_in_order key test (x ∷ xs) h =
+    by (test x) (filter_all (ComesBefore (key x)) key test xs h.0) (filter_in_order key test xs h.1)
+  where
+    by : (t : Bool) → All (ComesBefore (key x)) (map key (filter test xs))
+        → AreInOrder (map key (filter test xs))
+        → AreInOrder (map key (cond t (x ∷ filter test xs) (filter test xs)))
+    by true one rest = (one, rest)
+    by false one rest = rest
 
 abbrev plain_rule_key : RewriteRule → ℕ × ℕ
 plain_rule_key r = (r.priority, r.place)
@@ -140,38 +173,54 @@ rule_keys : (rules : List Rule) → map plain_rule_key (map rewrite_rule rules) 
 rule_keys [] = refl
 rule_keys (r ∷ rules) = ap (λ (ks : List (ℕ × ℕ)). rule_key r ∷ ks) (rule_keys rules)
 
-equation_keys : (es : List Equation) → map plain_equation_key (map function_equation es) ≡ map equation_key es
+equation_keys : (es : List Equation)
+    → map plain_equation_key (map function_equation es) ≡ map equation_key es
 equation_keys [] = refl
 equation_keys (e ∷ es) = ap (λ (ks : List (ℕ × ℕ)). equation_key e ∷ ks) (equation_keys es)
 
 -- ---- rules
 
-pub rules_are : (sig : Signature) (axioms : List AxiomDeclaration) (old new : List Rule) → AreRead (IsRuleOf sig) (λ (r : RewriteRule). r.place) axioms (map rewrite_rule old) → IsPermutation old new → AreInOrder (map rule_key new) → AreRulesOf sig axioms (map rewrite_rule new)
+pub rules_are : (sig : Signature) (axioms : List AxiomDeclaration) (old new : List Rule)
+    → AreRead (IsRuleOf sig) (λ (r : RewriteRule). r.place) axioms (map rewrite_rule old)
+    → IsPermutation old new → AreInOrder (map rule_key new)
+    → AreRulesOf sig axioms (map rewrite_rule new)
 rules_are sig axioms old new read moved in_order = record {
   just = λ r. (
     λ has. let found = contains_mapped rewrite_rule new r has in
-        (read.just r).0 (subst (Contains (map rewrite_rule old)) found.2 (contains_map rewrite_rule old found.0 (Contains-permutation new old found.0 (IsPermutation-sym old new moved) found.1))),
+        (read.just r).0 (subst (Contains (map rewrite_rule old)) found.2
+        (contains_map rewrite_rule old found.0
+        (Contains-permutation new old found.0 (IsPermutation-sym old new moved) found.1))),
     λ some. let found = contains_mapped rewrite_rule old r ((read.just r).1 some) in
-        subst (Contains (map rewrite_rule new)) found.2 (contains_map rewrite_rule new found.0 (Contains-permutation old new found.0 moved found.1)),
+        subst (Contains (map rewrite_rule new)) found.2 (contains_map rewrite_rule new found.0
+        (Contains-permutation old new found.0 moved found.1)),
   );
   in_order = subst AreInOrder (sym (rule_keys new)) in_order;
 }
 
 -- ---- symbols
 
-name_at : (es : List (List ℕ × SymInfo)) (f g : List ℕ) (n : ℕ) → number_of es f ≡ Some n → number_of es g ≡ Some n → f ≡ g
+name_at : (es : List (List ℕ × SymInfo)) (f g : List ℕ) (n : ℕ) → number_of es f ≡ Some n
+    → number_of es g ≡ Some n → f ≡ g
 name_at es f g n a b =
     let x = number_of-entry es f n a in
     let y = number_of-entry es g n b in
     ap (λ (e : List ℕ × SymInfo). e.0) (some_same (f, x.0) (g, y.0) (sym x.1 ∙ y.1))
 
-unnamed : (sig : Signature) (f : List ℕ) (a : AxiomDeclaration) → number_of sig.symbols f ≡ None → IsUnreadable sig f a → ⊥
-unnamed sig f a none bad = let both : Some bad.info ≡ None = sym bad.declared ∙ no_symbol none in let never : ⊥ = cc in never where
-  no_symbol : number_of sig.symbols f ≡ None → symbol_named sig f ≡ None
-  no_symbol e = rw e refl
+unnamed : (sig : Signature) (f : List ℕ) (a : AxiomDeclaration) → number_of sig.symbols f ≡ None
+    → IsUnreadable sig f a → ⊥
+unnamed sig f a none bad =
+    let both : Some bad.info ≡ None = sym bad.declared ∙ no_symbol none in
+    let never : ⊥ = cc in never
+  where
+    no_symbol : number_of sig.symbols f ≡ None → symbol_named sig f ≡ None
+    no_symbol e = rw e refl
 
-unreadable_same : (sig : Signature) (axioms : List AxiomDeclaration) (marks : List Bool) → ((n : ℕ) → IsTrue (is_marked marks n) ↔ HasUnreadable sig axioms n) → (f : List ℕ) (o : Option ℕ) → number_of sig.symbols f ≡ o → IsTrue (is_marked_at marks o) ↔ Unreadables sig axioms f
-unreadable_same sig axioms marks is f None e = (λ h. absurd (false≢true h), λ h. absurd (unnamed sig f h.0 e h.2))
+unreadable_same : (sig : Signature) (axioms : List AxiomDeclaration) (marks : List Bool)
+    → ((n : ℕ) → IsTrue (is_marked marks n) ↔ HasUnreadable sig axioms n)
+    → (f : List ℕ) (o : Option ℕ) → number_of sig.symbols f ≡ o → IsTrue (is_marked_at marks o)
+    ↔ Unreadables sig axioms f
+unreadable_same sig axioms marks is f None e =
+    (λ h. absurd (false≢true h), λ h. absurd (unnamed sig f h.0 e h.2))
 unreadable_same sig axioms marks is f (Some n) e = (
   λ h. let found = (is n).0 h in
       let named = found.2 in
@@ -180,19 +229,26 @@ unreadable_same sig axioms marks is f (Some n) e = (
   λ h. (is n).1 (h.0, h.1, (f, e, h.2)),
 )
 
-zip_into : {X Y : Type 0} (R S : X → Y → Type 0) (xs : List X) (ys : List Y) → ((x : X) (y : Y) → R x y → S x y) → AllZip R xs ys → AllZip S xs ys
+zip_into : {X Y : Type 0} (R S : X → Y → Type 0) (xs : List X) (ys : List Y)
+    → ((x : X) (y : Y) → R x y → S x y) → AllZip R xs ys → AllZip S xs ys
 zip_into R S [] [] into z = tt
 zip_into R S [] (y ∷ ys) into z = absurd z
 zip_into R S (x ∷ xs) [] into z = absurd z
 zip_into R S (x ∷ xs) (y ∷ ys) into z = (into x y z.0, zip_into R S xs ys into z.1)
 
-pub symbols_are : (sig : Signature) (axioms : List AxiomDeclaration) (marks unreadable : List Bool) (made : List (List ℕ × SymInfo)) → HasPairs sig axioms → MarksTerms sig axioms marks
-    → ((n : ℕ) → IsTrue (is_marked unreadable n) ↔ HasUnreadable sig axioms n) → AllZip (IsFinal sig marks unreadable) sig.symbols made → AllZip (IsSymbolOf sig axioms) sig.symbols made
+pub symbols_are : (sig : Signature) (axioms : List AxiomDeclaration) (marks unreadable : List Bool)
+    (made : List (List ℕ × SymInfo)) → HasPairs sig axioms → MarksTerms sig axioms marks
+    → ((n : ℕ) → IsTrue (is_marked unreadable n) ↔ HasUnreadable sig axioms n)
+    → AllZip (IsFinal sig marks unreadable) sig.symbols made
+    → AllZip (IsSymbolOf sig axioms) sig.symbols made
 symbols_are sig axioms marks unreadable made zip terms is final =
-    zip_into (IsFinal sig marks unreadable) (IsSymbolOf sig axioms) sig.symbols made (λ d m f. record {
+    zip_into (IsFinal sig marks unreadable) (IsSymbolOf sig axioms) sig.symbols made
+    (λ d m f. record {
       name = f.name;
       kind = subst (HasKind sig axioms d.0 d.1) (sym f.kind)
-          (final_is sig axioms marks zip terms d.0 d.1 (is_marked_at unreadable (number_of sig.symbols d.0)) (unreadable_same sig axioms unreadable is d.0 (number_of sig.symbols d.0) refl));
+          (final_is sig axioms marks zip terms d.0 d.1
+          (is_marked_at unreadable (number_of sig.symbols d.0))
+          (unreadable_same sig axioms unreadable is d.0 (number_of sig.symbols d.0) refl));
       params = f.params;
       args = f.args;
       result = f.result;
@@ -202,14 +258,17 @@ symbols_are sig axioms marks unreadable made zip terms is final =
 
 -- ---- equations
 
-pub listed_view : (lists : List (Vec Equation Global)) (n : ℕ) → slice_index_or (function_equations lists) n [] ≡ map function_equation (listed_at lists n)
+pub listed_view : (lists : List (Vec Equation Global)) (n : ℕ)
+    → slice_index_or (function_equations lists) n [] ≡ map function_equation (listed_at lists n)
 listed_view [] n = refl
 listed_view (first ∷ lists) zero = refl
 listed_view (first ∷ lists) (suc n) = listed_view lists n
 
-pub listed_there : (lists : List (Vec Equation Global)) (n : ℕ) (es : Vec Equation Global) → slice_get lists n ≡ Some es → listed_at lists n ≡ es.items
+pub listed_there : (lists : List (Vec Equation Global)) (n : ℕ) (es : Vec Equation Global)
+    → slice_get lists n ≡ Some es → listed_at lists n ≡ es.items
 listed_there [] n es at = absurd (let never : ⊥ = cc in never)
-listed_there (first ∷ lists) zero es at = ap (λ (v : Vec Equation Global). v.items) (some_same first es at)
+listed_there (first ∷ lists) zero es at =
+    ap (λ (v : Vec Equation Global). v.items) (some_same first es at)
 listed_there (first ∷ lists) (suc n) es at = listed_there lists n es at
 
 both_true : (a b : Bool) → (a && b) ≡ true → (a ≡ true) × (b ≡ true)
@@ -220,7 +279,9 @@ both_from : (a b : Bool) → a ≡ true → b ≡ true → (a && b) ≡ true
 both_from true b e f = f
 both_from false b e f = absurd (let never : ⊥ = cc in never)
 
-declared_at : (R : List ℕ × SymInfo → List ℕ × SymInfo → Type 0) (ds ms : List (List ℕ × SymInfo)) (n : ℕ) (m : List ℕ × SymInfo) → AllZip R ds ms → slice_get ms n ≡ Some m → (d : List ℕ × SymInfo) × (slice_get ds n ≡ Some d) × R d m
+declared_at : (R : List ℕ × SymInfo → List ℕ × SymInfo → Type 0) (ds ms : List (List ℕ × SymInfo))
+    (n : ℕ) (m : List ℕ × SymInfo) → AllZip R ds ms → slice_get ms n ≡ Some m
+    → (d : List ℕ × SymInfo) × (slice_get ds n ≡ Some d) × R d m
 declared_at R [] [] n m z e = absurd (let never : ⊥ = cc in never)
 declared_at R [] (y ∷ ms) n m z e = absurd z
 declared_at R (d ∷ ds) [] n m z e = absurd z
@@ -230,30 +291,48 @@ declared_at R (d ∷ ds) (y ∷ ms) (suc n) m z e = declared_at R ds ms n m z.1 
 abbrev numbered : ℕ → plain.Equation → ℕ × plain.Equation
 numbered n e = (n, e)
 
-pub equations_are : (sig : Signature) (axioms : List AxiomDeclaration) (made : List (List ℕ × SymInfo)) (old new : List Equation) (lists : List (Vec Equation Global)) (n : ℕ) (f : List ℕ) (info : SymInfo)
-    → AreDistinct (names_of sig.symbols) → AllZip (IsSymbolOf sig axioms) sig.symbols made → AreRead (IsNumberedEquation sig) (λ (e : ℕ × plain.Equation). e.1.place) axioms (map numbered_equation old) → IsPermutation old new
-    → AreInOrder (map equation_key new) → listed_at lists n ≡ filter (belongs_to made n) new → slice_get made n ≡ Some (f, info) → AreEquationsOf sig axioms f info.kind (slice_index_or (function_equations lists) n [])
-equations_are sig axioms made old new lists n f info distinct symbols read moved in_order listed there =
+pub equations_are : (sig : Signature) (axioms : List AxiomDeclaration)
+    (made : List (List ℕ × SymInfo)) (old new : List Equation)
+    (lists : List (Vec Equation Global)) (n : ℕ) (f : List ℕ) (info : SymInfo)
+    → AreDistinct (names_of sig.symbols) → AllZip (IsSymbolOf sig axioms) sig.symbols made
+    → AreRead (IsNumberedEquation sig) (λ (e : ℕ × plain.Equation). e.1.place) axioms
+    (map numbered_equation old) → IsPermutation old new → AreInOrder (map equation_key new)
+    → listed_at lists n ≡ filter (belongs_to made n) new → slice_get made n ≡ Some (f, info)
+    → AreEquationsOf sig axioms f info.kind (slice_index_or (function_equations lists) n [])
+equations_are sig axioms made old new lists n f info distinct symbols read moved in_order listed
+    there =
     let test : Equation → Bool = belongs_to made n in
     let all = filter test new in
-    let view : slice_index_or (function_equations lists) n [] ≡ map function_equation all = listed_view lists n ∙ ap (map function_equation) listed in
+    let view : slice_index_or (function_equations lists) n [] ≡ map function_equation all =
+    listed_view lists n ∙ ap (map function_equation) listed in
     let d = declared_at (IsSymbolOf sig axioms) sig.symbols made n (f, info) symbols there in
-    let number : number_of sig.symbols f ≡ Some n = ap (number_of sig.symbols) d.2.name ∙ own_number sig.symbols n d.0 distinct d.1 in
+    let number : number_of sig.symbols f ≡ Some n =
+    ap (number_of sig.symbols) d.2.name ∙ own_number sig.symbols n d.0 distinct d.1 in
     let has : has_equations made n ≡ is_defined_kind info.kind = ap is_by_equations there in
     record {
       just = λ e. (
         λ inside.
-            let found = contains_mapped function_equation all e (subst (λ (es : List plain.Equation). Contains es e) view inside) in
+            let found =
+            contains_mapped function_equation all e
+            (subst (λ (es : List plain.Equation). Contains es e) view inside) in
             let x = found.0 in
             let kept = contains_filtered test new x found.1 in
             let parts = both_true (x.fun.0 == n) (has_equations made x.fun.0) kept.1 in
             let here : x.fun.0 ≡ n = eqb-true x.fun.0 n parts.0 in
-            let some = (read.just (numbered_equation x)).0 (contains_map numbered_equation old x (Contains-permutation new old x (IsPermutation-sym old new moved) kept.0)) in
+            let some =
+            (read.just (numbered_equation x)).0 (contains_map numbered_equation old x
+            (Contains-permutation new old x (IsPermutation-sym old new moved) kept.0)) in
             let named = some.2 in
             let g = named.0 in
             let same : g ≡ f = name_at sig.symbols g f n (named.1 ∙ ap Some here) number in (
               defined info.kind (sym has ∙ ap (has_equations made) (sym here) ∙ parts.1),
-              (some.0, some.1, subst (λ (y : plain.Equation). IsEquationOf sig f some.0 y) found.2 (subst (λ (h : List ℕ). IsEquationOf sig h some.0 (function_equation x)) same named.2)),
+              (
+                some.0,
+                some.1,
+                subst (λ (y : plain.Equation). IsEquationOf sig f some.0 y) found.2 (subst
+                    (λ (h : List ℕ). IsEquationOf sig h some.0 (function_equation x)) same
+                    named.2),
+              ),
             ),
         λ (kind, (a, inside, is)).
             let given = (read.just (numbered n e)).1 (a, inside, (f, number, is)) in
@@ -261,39 +340,60 @@ equations_are sig axioms made old new lists n f info distinct symbols read moved
             let x = found.0 in
             let here : x.fun.0 ≡ n = ap (λ (y : ℕ × plain.Equation). y.0) found.2 in
             let same : function_equation x ≡ e = ap (λ (y : ℕ × plain.Equation). y.1) found.2 in
-            let passes : test x ≡ true = both_from (x.fun.0 == n) (has_equations made x.fun.0) (eq-eqb x.fun.0 n here) (ap (has_equations made) here ∙ has ∙ ap is_defined_kind kind) in
+            let passes : test x ≡ true =
+            both_from (x.fun.0 == n) (has_equations made x.fun.0) (eq-eqb x.fun.0 n here)
+            (ap (has_equations made) here ∙ has ∙ ap is_defined_kind kind) in
             subst (λ (es : List plain.Equation). Contains es e) (sym view)
-            (subst (Contains (map function_equation all)) same (contains_map function_equation all x (contains_filter test new x (Contains-permutation old new x moved found.1) passes))),
+            (subst (Contains (map function_equation all)) same (contains_map function_equation all x
+            (contains_filter test new x (Contains-permutation old new x moved found.1)
+            passes))),
       );
-      in_order = subst (λ (es : List plain.Equation). AreInOrder (map plain_equation_key es)) (sym view) (subst AreInOrder (sym (equation_keys all)) (filter_in_order equation_key test new in_order));
+      in_order =
+          subst (λ (es : List plain.Equation). AreInOrder (map plain_equation_key es)) (sym view)
+          (subst AreInOrder (sym (equation_keys all))
+          (filter_in_order equation_key test new in_order));
     }
 
 -- an equation is listed for its own function
-pub listed_own : (made : List (List ℕ × SymInfo)) (new : List Equation) (lists : List (Vec Equation Global)) (f i : ℕ) (es : Vec Equation Global) (e : Equation)
-    → listed_at lists f ≡ filter (belongs_to made f) new → slice_get lists f ≡ Some es → slice_get es.items i ≡ Some e → e.fun.0 ≡ f
+pub listed_own : (made : List (List ℕ × SymInfo)) (new : List Equation)
+    (lists : List (Vec Equation Global)) (f i : ℕ) (es : Vec Equation Global) (e : Equation)
+    → listed_at lists f ≡ filter (belongs_to made f) new → slice_get lists f ≡ Some es
+    → slice_get es.items i ≡ Some e → e.fun.0 ≡ f
 listed_own made new lists f i es e listed there at =
     let test : Equation → Bool = belongs_to made f in
     let same : es.items ≡ filter test new = sym (listed_there lists f es there) ∙ listed in
-    let kept = contains_filtered test new e (subst (λ (xs : List Equation). Contains xs e) same (contains_at es.items i e at)) in
+    let kept =
+    contains_filtered test new e
+    (subst (λ (xs : List Equation). Contains xs e) same (contains_at es.items i e at)) in
     eqb-true e.fun.0 f (both_true (e.fun.0 == f) (has_equations made e.fun.0) kept.1).0
 
 -- ---- how many rules and equations
 
-pub few_rules : (sig : Signature) (axioms : List AxiomDeclaration) (old new : List Rule) → AreFew axioms → AreRead (IsRuleOf sig) (λ (r : RewriteRule). r.place) axioms (map rewrite_rule old) → IsPermutation old new → length new ≤ 4294967296
+pub few_rules : (sig : Signature) (axioms : List AxiomDeclaration) (old new : List Rule)
+    → AreFew axioms
+    → AreRead (IsRuleOf sig) (λ (r : RewriteRule). r.place) axioms (map rewrite_rule old)
+    → IsPermutation old new → length new ≤ 4294967296
 few_rules sig axioms old new few read moved =
     let a = few.short in
     let b = read.short in
     let c = length_mapped rewrite_rule old in
     let d = length_permutation old new moved in omega (arith, a, b, c, d)
 
-pub few_equations : (sig : Signature) (axioms : List AxiomDeclaration) (made : List (List ℕ × SymInfo)) (old new : List Equation) (lists : List (Vec Equation Global)) (n : ℕ) → AreFew axioms → AreRead (IsNumberedEquation sig) (λ (e : ℕ × plain.Equation). e.1.place) axioms (map numbered_equation old)
-    → IsPermutation old new → listed_at lists n ≡ filter (belongs_to made n) new → length (slice_index_or (function_equations lists) n []) ≤ 4294967296
+pub few_equations : (sig : Signature) (axioms : List AxiomDeclaration)
+    (made : List (List ℕ × SymInfo)) (old new : List Equation)
+    (lists : List (Vec Equation Global)) (n : ℕ) → AreFew axioms
+    → AreRead (IsNumberedEquation sig) (λ (e : ℕ × plain.Equation). e.1.place) axioms
+    (map numbered_equation old) → IsPermutation old new
+    → listed_at lists n ≡ filter (belongs_to made n) new
+    → length (slice_index_or (function_equations lists) n []) ≤ 4294967296
 few_equations sig axioms made old new lists n few read moved listed =
     let a = few.short in
     let b = read.short in
     let c = length_mapped numbered_equation old in
     let d = length_permutation old new moved in
-    let e : length (slice_index_or (function_equations lists) n []) ≡ length (map function_equation (filter (belongs_to made n) new)) = ap length (listed_view lists n ∙ ap (map function_equation) listed) in
+    let e : length (slice_index_or (function_equations lists) n []) ≡ length
+    (map function_equation (filter (belongs_to made n) new)) =
+    ap length (listed_view lists n ∙ ap (map function_equation) listed) in
     let f = length_mapped function_equation (filter (belongs_to made n) new) in
     let g = length-filter (belongs_to made n) new in
     let h = count_by-le-length (belongs_to made n) new in
@@ -301,13 +401,21 @@ few_equations sig axioms made old new lists n few read moved listed =
 
 all_from : {X : Type 0} (P : X → Type 0) (xs : List X) → ((x : X) → Contains xs x → P x) → All P xs
 all_from P [] each = All-nil P
-all_from P (x ∷ xs) each = All-cons P x xs (each x (contains_here x xs)) (all_from P xs (λ y has. each y (contains_there x y xs has)))
+all_from P (x ∷ xs) each =
+    All-cons P x xs (each x (contains_here x xs))
+    (all_from P xs (λ y has. each y (contains_there x y xs has)))
 
 -- the function of each equation is a symbol
-pub functions_there : (sig : Signature) (axioms : List AxiomDeclaration) (made : List (List ℕ × SymInfo)) (old new : List Equation) → length made ≡ length sig.symbols
-    → AreRead (IsNumberedEquation sig) (λ (e : ℕ × plain.Equation). e.1.place) axioms (map numbered_equation old) → IsPermutation old new → All (λ (e : Equation). e.fun.0 < length made) new
+pub functions_there : (sig : Signature) (axioms : List AxiomDeclaration)
+    (made : List (List ℕ × SymInfo)) (old new : List Equation)
+    → length made ≡ length sig.symbols
+    → AreRead (IsNumberedEquation sig) (λ (e : ℕ × plain.Equation). e.1.place) axioms
+    (map numbered_equation old) → IsPermutation old new
+    → All (λ (e : Equation). e.fun.0 < length made) new
 functions_there sig axioms made old new same read moved =
     all_from (λ (e : Equation). e.fun.0 < length made) new (λ e has.
-    let some = (read.just (numbered_equation e)).0 (contains_map numbered_equation old e (Contains-permutation new old e (IsPermutation-sym old new moved) has)) in
+    let some =
+    (read.just (numbered_equation e)).0 (contains_map numbered_equation old e
+    (Contains-permutation new old e (IsPermutation-sym old new moved) has)) in
     let named = some.2 in
     let within = number_within sig.symbols named.0 e.fun.0 named.1 in omega (arith, within, same))

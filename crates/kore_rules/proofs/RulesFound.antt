@@ -1,6 +1,7 @@
 -- What an axiom is read as: a rule if it is one and has no fault, or an equation of its function,
 -- or an equation that is not readable.
-use Rattle.std.proofs.Common.{◌≡◌, ℕ, Bool, true, false, List, [], map, length, nat_eq, Option, Some, None, refl, sym, ap, ◌∙◌, subst, inl, inr}
+use Rattle.std.proofs.Common.{◌≡◌, ℕ, Bool, true, false, List, [], map, length, nat_eq, Option}
+use Rattle.std.proofs.Common.{Some, None, refl, sym, ap, ◌∙◌, subst, inl, inr}
 use Rattle.std.specs.Prelude.{◌⊎◌, ◌&&◌}
 use Rattle.std.specs.Str.{bytes_eq}
 use Rattle.std.proofs.lemmas.Bool.{false≢true}
@@ -20,7 +21,8 @@ use Rattle.kore_check.proofs.BuildLaws.{extends-refl}
 use Rattle.kore_shapes.specs.Shapes.{Rewriting}
 use Rattle.kore_shapes.specs.Statements.{Statement}
 use Rattle.kore_shapes.specs.EquationForms.{EquationParts}
-use Rattle.kore_axioms.specs.AxiomClasses.{AxiomClass, refused, orders_sorts, rewrites, equates, passed_over, class_of}
+use Rattle.kore_axioms.specs.AxiomClasses.{AxiomClass, refused, orders_sorts, rewrites, equates}
+use Rattle.kore_axioms.specs.AxiomClasses.{passed_over, class_of}
 use Rattle.kore_axioms.specs.AxiomMeanings.{with_some_variables, MeansTest, IsRuleOf}
 use Rattle.kore_axioms.specs.BuiltRules.{IsFine}
 use Rattle.kore_axioms.specs.Conditions.{tested}
@@ -45,27 +47,36 @@ use Rattle.kore_rules.proofs.MeaningsFound.{Variables, HasMeaning, meaning, all_
 -- ---- conditions and right sides
 
 -- what a condition means, if there is one
-test_meaning : (sig : Signature) → IsSignature sig → (old : Variables) (b : Option PatternTree) → ((p : PatternTree) → b ≡ Some p → IsFaultless sig (unfolded p))
-    → (o : Option Pattern) × ((more : Variables) → Extends (with_some_variables sig old b) more → MeansTest sig more b o)
+test_meaning : (sig : Signature) → IsSignature sig → (old : Variables) (b : Option PatternTree)
+    → ((p : PatternTree) → b ≡ Some p → IsFaultless sig (unfolded p))
+    → (o : Option Pattern)
+    × ((more : Variables) → Extends (with_some_variables sig old b) more
+    → MeansTest sig more b o)
 test_meaning sig sorted old None good = (None, λ more ext. tt)
-test_meaning sig sorted old (Some p) good = let m = meaning sig sorted (unfolded p) old (good p refl) in (Some m.0, m.1)
+test_meaning sig sorted old (Some p) good =
+    let m = meaning sig sorted (unfolded p) old (good p refl) in (Some m.0, m.1)
 
 extends_same : (vars more : Variables) → vars ≡ more → Extends vars more
 extends_same vars more same = subst (λ (vs : Variables). Extends vars vs) same (extends-refl vars)
 
 -- the condition and the right side mean something with these variables, if they have no others
-record AreMeant (sig : Signature) (vars : Variables) (test : Option PatternTree) (right : PatternTree) : Type 0 where
+record AreMeant (sig : Signature) (vars : Variables) (test : Option PatternTree)
+    (right : PatternTree) : Type 0 where
   pub condition : Option Pattern
   pub means_condition : MeansTest sig vars test condition
   pub right_pattern : HasMeaning sig vars (unfolded right)
 
-are_meant : (sig : Signature) → IsSignature sig → (qs : Unfoldeds) (test : Option PatternTree) (right : PatternTree) → ((p : PatternTree) → test ≡ Some p → IsFaultless sig (unfolded p)) → IsFaultless sig (unfolded right)
-    → (is_bound qs test && is_bound qs (Some right)) ≡ true → AreMeant sig (with_all_variables sig [] qs) test right
+are_meant : (sig : Signature) → IsSignature sig
+    → (qs : Unfoldeds) (test : Option PatternTree) (right : PatternTree)
+    → ((p : PatternTree) → test ≡ Some p → IsFaultless sig (unfolded p))
+    → IsFaultless sig (unfolded right) → (is_bound qs test && is_bound qs (Some right)) ≡ true
+    → AreMeant sig (with_all_variables sig [] qs) test right
 are_meant sig sorted qs test right good fine bound =
     let vars : Variables = with_all_variables sig [] qs in
     let mid : Variables = with_some_variables sig vars test in
     let all : Variables = with_variables sig mid (unfolded right) in
-    let counted : nat_eq (length all) (length vars) ≡ true = bound_counted sig qs test right (λ p e. (good p e).0) fine.0 ∙ bound in
+    let counted : nat_eq (length all) (length vars) ≡ true =
+    bound_counted sig qs test right (λ p e. (good p e).0) fine.0 ∙ bound in
     let same = bound_all sig qs test right (λ p e. (good p e).0) fine.0 counted in
     let condition = test_meaning sig sorted vars test good in
     let meant = meaning sig sorted (unfolded right) mid fine in record {
@@ -76,19 +87,31 @@ are_meant sig sorted qs test right good fine bound =
 
 -- ---- rules
 
-pub rule_found : (sig : Signature) (first : Option SortTree) (a : AxiomDeclaration) (w : Rewriting) → IsSignature sig → class_of sig a ≡ rewrites w → FirstOfRule sig first a w None → (rule : RewriteRule) × IsRuleOf sig a rule
+pub rule_found : (sig : Signature) (first : Option SortTree) (a : AxiomDeclaration) (w : Rewriting)
+    → IsSignature sig → class_of sig a ≡ rewrites w → FirstOfRule sig first a w None
+    → (rule : RewriteRule) × IsRuleOf sig a rule
 rule_found sig first a w sorted class clear =
     let parts : RuleParts = rule_parts sig w in
-    let f : IsFine sig parts = fine_rule sig a w class (none_by_byte (form_faults a parts) clear.0) (none_by_byte (sorted_faults sig w.sort parts) clear.1.0) in
-    let none : use_faults sig first a.at w.sort parts ≡ [] = none_by_byte (use_faults sig first a.at w.sort parts) clear.1.1 in
-    let bound : (is_bound (listed (left_of parts)) (tested parts.condition) && is_bound (listed (left_of parts)) (right_of parts)) ≡ true = all_bound sig first a.at w.sort parts (ap first_by_number none) in
-    let bound_parts : (is_bound (listed (Some f.left)) (tested parts.condition) && is_bound (listed (Some f.left)) (Some f.right)) ≡ true =
-    ap (λ (o : Option PatternTree). is_bound (listed (Some f.left)) (tested parts.condition) && is_bound (listed (Some f.left)) o) (sym f.is_right)
-    ∙ ap (λ (o : Option PatternTree). is_bound (listed o) (tested parts.condition) && is_bound (listed o) (right_of parts)) (sym f.is_left) ∙ bound in
+    let f : IsFine sig parts =
+    fine_rule sig a w class (none_by_byte (form_faults a parts) clear.0)
+    (none_by_byte (sorted_faults sig w.sort parts) clear.1.0) in
+    let none : use_faults sig first a.at w.sort parts ≡ [] =
+    none_by_byte (use_faults sig first a.at w.sort parts) clear.1.1 in
+    let bound : (is_bound (listed (left_of parts)) (tested parts.condition)
+    && is_bound (listed (left_of parts)) (right_of parts)) ≡ true =
+    all_bound sig first a.at w.sort parts (ap first_by_number none) in
+    let bound_parts : (is_bound (listed (Some f.left)) (tested parts.condition)
+    && is_bound (listed (Some f.left)) (Some f.right)) ≡ true =
+    ap (λ (o : Option PatternTree). is_bound (listed (Some f.left)) (tested parts.condition)
+    && is_bound (listed (Some f.left)) o) (sym f.is_right)
+    ∙ ap (λ (o : Option PatternTree). is_bound (listed o) (tested parts.condition)
+    && is_bound (listed o) (right_of parts)) (sym f.is_left) ∙ bound in
     let vars : Variables = with_variables sig [] (unfolded f.left) in
-    let left : HasMeaning sig vars (unfolded f.left) = meaning sig sorted (unfolded f.left) [] (f.left_clear, f.left_form) in
+    let left : HasMeaning sig vars (unfolded f.left) =
+    meaning sig sorted (unfolded f.left) [] (f.left_clear, f.left_form) in
     let meant : AreMeant sig vars (tested parts.condition) f.right =
-    are_meant sig sorted (listed (Some f.left)) (tested parts.condition) f.right (λ p e. (f.test_clear p e, f.test_form p e)) (f.right_clear, f.right_form) bound_parts in (
+    are_meant sig sorted (listed (Some f.left)) (tested parts.condition) f.right
+    (λ p e. (f.test_clear p e, f.test_form p e)) (f.right_clear, f.right_form) bound_parts in (
       record {
         left = left.0;
         condition = meant.condition;
@@ -125,8 +148,10 @@ are_faultless sig (and_more u us) h = ((h.0.clear, h.0.form), are_faultless sig 
 abbrev IsRead : Signature → AxiomDeclaration → List ℕ → Type 0
 IsRead sig a f = ((e : Equation) × IsEquationOf sig f a e) ⊎ IsUnreadable sig f a
 
-equation_of_parts : (sig : Signature) (a : AxiomDeclaration) (e : Statement) (info : SymInfo) (q : EquationParts) → IsSignature sig → class_of sig a ≡ equates e → symbol_named sig e.function ≡ Some info
-    → clear_parts sig a info e ≡ Some q → are_bound sig e q ≡ true → (x : Equation) × IsEquationOf sig e.function a x
+equation_of_parts : (sig : Signature) (a : AxiomDeclaration) (e : Statement) (info : SymInfo)
+    (q : EquationParts) → IsSignature sig → class_of sig a ≡ equates e
+    → symbol_named sig e.function ≡ Some info → clear_parts sig a info e ≡ Some q
+    → are_bound sig e q ≡ true → (x : Equation) × IsEquationOf sig e.function a x
 equation_of_parts sig a e info q sorted class declared clear bound =
     let c = condition_of_equation sig e q in
     let qs : Unfoldeds = all_read q.patterns in
@@ -134,7 +159,8 @@ equation_of_parts sig a e info q sorted class declared clear bound =
     let vars : Variables = with_all_variables sig [] qs in
     let arguments = all_meanings sig sorted qs [] (are_faultless sig qs f.patterns) in
     let meant : AreMeant sig vars (tested c) q.right =
-    are_meant sig sorted qs (tested c) q.right (λ p is. ((f.test p is).clear, (f.test p is).form)) (f.right.clear, f.right.form) bound in (
+    are_meant sig sorted qs (tested c) q.right (λ p is. ((f.test p is).clear, (f.test p is).form))
+    (f.right.clear, f.right.form) bound in (
       record {
         parameters = length q.parameters;
         arguments = arguments.0;
@@ -164,19 +190,32 @@ equation_of_parts sig a e info q sorted class declared clear bound =
       },
     )
 
-equation_read : (sig : Signature) (a : AxiomDeclaration) (e : Statement) → IsSignature sig → class_of sig a ≡ equates e → IsRead sig a e.function
+equation_read : (sig : Signature) (a : AxiomDeclaration) (e : Statement) → IsSignature sig
+    → class_of sig a ≡ equates e → IsRead sig a e.function
 equation_read sig a e sorted class = by_parts (clear_parts sig a declared.0 e) refl where
   declared : (info : SymInfo) × (symbol_named sig e.function ≡ Some info)
   declared = function_declared sig a e class
 
-  unreadable : ((q : EquationParts) → IsReadable sig a declared.0 e q → ⊥) → IsUnreadable sig e.function a
-  unreadable never = record { stated = e; class = class; function = refl; info = declared.0; declared = declared.1; unreadable = never }
+  unreadable : ((q : EquationParts) → IsReadable sig a declared.0 e q → ⊥)
+      → IsUnreadable sig e.function a
+  unreadable never = record {
+    stated = e;
+    class = class;
+    function = refl;
+    info = declared.0;
+    declared = declared.1;
+    unreadable = never;
+  }
 
-  by_bound : (q : EquationParts) → clear_parts sig a declared.0 e ≡ Some q → (b : Bool) → are_bound sig e q ≡ b → IsRead sig a e.function
-  by_bound q clear true bound = inl (equation_of_parts sig a e declared.0 q sorted class declared.1 clear bound)
-  by_bound q clear false bound = inr (unreadable (unbound_unreadable sig a declared.0 e q clear bound))
+  by_bound : (q : EquationParts) → clear_parts sig a declared.0 e ≡ Some q → (b : Bool)
+      → are_bound sig e q ≡ b → IsRead sig a e.function
+  by_bound q clear true bound =
+      inl (equation_of_parts sig a e declared.0 q sorted class declared.1 clear bound)
+  by_bound q clear false bound =
+      inr (unreadable (unbound_unreadable sig a declared.0 e q clear bound))
 
-  by_parts : (o : Option EquationParts) → clear_parts sig a declared.0 e ≡ o → IsRead sig a e.function
+  by_parts : (o : Option EquationParts) → clear_parts sig a declared.0 e ≡ o
+      → IsRead sig a e.function
   by_parts None clear = inr (unreadable (none_unreadable sig a declared.0 e clear))
   by_parts (Some q) clear = by_bound q clear (are_bound sig e q) refl
 
@@ -190,36 +229,53 @@ Decided {X} P = ((x : X) × P x) ⊎ ((x : X) → P x → ⊥)
 abbrev IsNoOf : Signature → List ℕ → AxiomDeclaration → Type 0
 IsNoOf sig f a = ((e : Equation) → IsEquationOf sig f a e → ⊥) × (IsUnreadable sig f a → ⊥)
 
-other_class : (sig : Signature) (f : List ℕ) (a : AxiomDeclaration) (k : AxiomClass) → class_of sig a ≡ k → ((e : Statement) → k ≡ equates e → ⊥) → IsNoOf sig f a
-other_class sig f a k class other = (λ e is. other is.stated (sym class ∙ is.class), λ is. other is.stated (sym class ∙ is.class))
+other_class : (sig : Signature) (f : List ℕ) (a : AxiomDeclaration) (k : AxiomClass)
+    → class_of sig a ≡ k → ((e : Statement) → k ≡ equates e → ⊥) → IsNoOf sig f a
+other_class sig f a k class other =
+    (λ e is. other is.stated (sym class ∙ is.class), λ is. other is.stated (sym class ∙ is.class))
 
-other_function : (sig : Signature) (f : List ℕ) (a : AxiomDeclaration) (e : Statement) → class_of sig a ≡ equates e → (e.function ≡ f → ⊥) → IsNoOf sig f a
+other_function : (sig : Signature) (f : List ℕ) (a : AxiomDeclaration) (e : Statement)
+    → class_of sig a ≡ equates e → (e.function ≡ f → ⊥) → IsNoOf sig f a
 other_function sig f a e class other = (
-  λ x is. other (ap (λ (s : Statement). s.function) (equates_one e is.stated (sym class ∙ is.class)) ∙ is.function),
-  λ is. other (ap (λ (s : Statement). s.function) (equates_one e is.stated (sym class ∙ is.class)) ∙ is.function),
+  λ x is. other (ap (λ (s : Statement). s.function) (equates_one e is.stated (sym class ∙ is.class))
+      ∙ is.function),
+  λ is. other (ap (λ (s : Statement). s.function) (equates_one e is.stated (sym class ∙ is.class))
+      ∙ is.function),
 )
 
-pub read_or_not : (sig : Signature) (f : List ℕ) (a : AxiomDeclaration) → IsSignature sig → IsRead sig a f ⊎ IsNoOf sig f a
+pub read_or_not : (sig : Signature) (f : List ℕ) (a : AxiomDeclaration) → IsSignature sig
+    → IsRead sig a f ⊎ IsNoOf sig f a
 read_or_not sig f a sorted = by_class (class_of sig a) refl where
-  by_function : (e : Statement) → class_of sig a ≡ equates e → (b : Bool) → bytes_eq e.function f ≡ b → IsRead sig a f ⊎ IsNoOf sig f a
-  by_function e class true same = inl (subst (IsRead sig a) ((bytes_eq-Decides e.function f).0 same) (equation_read sig a e sorted class))
-  by_function e class false other = inr (other_function sig f a e class (λ same. false≢true (sym other ∙ (bytes_eq-Decides e.function f).1 same)))
+  by_function : (e : Statement) → class_of sig a ≡ equates e → (b : Bool)
+      → bytes_eq e.function f ≡ b → IsRead sig a f ⊎ IsNoOf sig f a
+  by_function e class true same =
+      inl (subst (IsRead sig a) ((bytes_eq-Decides e.function f).0 same)
+      (equation_read sig a e sorted class))
+  by_function e class false other =
+      inr (other_function sig f a e class
+      (λ same. false≢true (sym other ∙ (bytes_eq-Decides e.function f).1 same)))
 
   by_class : (k : AxiomClass) → class_of sig a ≡ k → IsRead sig a f ⊎ IsNoOf sig f a
-  by_class (refused n) class = inr (other_class sig f a (refused n) class (λ e h. let never : ⊥ = cc in never))
-  by_class orders_sorts class = inr (other_class sig f a orders_sorts class (λ e h. let never : ⊥ = cc in never))
-  by_class (rewrites w) class = inr (other_class sig f a (rewrites w) class (λ e h. let never : ⊥ = cc in never))
+  by_class (refused n) class =
+      inr (other_class sig f a (refused n) class (λ e h. let never : ⊥ = cc in never))
+  by_class orders_sorts class =
+      inr (other_class sig f a orders_sorts class (λ e h. let never : ⊥ = cc in never))
+  by_class (rewrites w) class =
+      inr (other_class sig f a (rewrites w) class (λ e h. let never : ⊥ = cc in never))
   by_class (equates e) class = by_function e class (bytes_eq e.function f) refl
-  by_class passed_over class = inr (other_class sig f a passed_over class (λ e h. let never : ⊥ = cc in never))
+  by_class passed_over class =
+      inr (other_class sig f a passed_over class (λ e h. let never : ⊥ = cc in never))
 
-pub equation_decided : (sig : Signature) (f : List ℕ) (a : AxiomDeclaration) → IsSignature sig → Decided (IsEquationOf sig f a)
+pub equation_decided : (sig : Signature) (f : List ℕ) (a : AxiomDeclaration) → IsSignature sig
+    → Decided (IsEquationOf sig f a)
 equation_decided sig f a sorted = by_reading (read_or_not sig f a sorted) where
   by_reading : IsRead sig a f ⊎ IsNoOf sig f a → Decided (IsEquationOf sig f a)
   by_reading (inl (inl found)) = inl found
   by_reading (inl (inr bad)) = inr (λ e is. readable_or_not sig f a e is bad)
   by_reading (inr none) = inr none.0
 
-pub unreadable_decided : (sig : Signature) (f : List ℕ) (a : AxiomDeclaration) → IsSignature sig → IsUnreadable sig f a ⊎ (IsUnreadable sig f a → ⊥)
+pub unreadable_decided : (sig : Signature) (f : List ℕ) (a : AxiomDeclaration) → IsSignature sig
+    → IsUnreadable sig f a ⊎ (IsUnreadable sig f a → ⊥)
 unreadable_decided sig f a sorted = by_reading (read_or_not sig f a sorted) where
   by_reading : IsRead sig a f ⊎ IsNoOf sig f a → IsUnreadable sig f a ⊎ (IsUnreadable sig f a → ⊥)
   by_reading (inl (inl found)) = inr (λ bad. readable_or_not sig f a found.0 found.1 bad)
@@ -227,14 +283,18 @@ unreadable_decided sig f a sorted = by_reading (read_or_not sig f a sorted) wher
   by_reading (inr none) = inr none.1
 
 -- an axiom without faults is decided to be a rule or not
-pub rule_decided : (sig : Signature) (a : AxiomDeclaration) → IsSignature sig → ((w : Rewriting) → class_of sig a ≡ rewrites w → (first : Option SortTree) × FirstOfRule sig first a w None) → Decided (IsRuleOf sig a)
+pub rule_decided : (sig : Signature) (a : AxiomDeclaration) → IsSignature sig
+    → ((w : Rewriting) → class_of sig a ≡ rewrites w
+    → (first : Option SortTree) × FirstOfRule sig first a w None) → Decided (IsRuleOf sig a)
 rule_decided sig a sorted clear = by_class (class_of sig a) refl where
-  none : (k : AxiomClass) → class_of sig a ≡ k → ((w : Rewriting) → k ≡ rewrites w → ⊥) → Decided (IsRuleOf sig a)
+  none : (k : AxiomClass) → class_of sig a ≡ k → ((w : Rewriting) → k ≡ rewrites w → ⊥)
+      → Decided (IsRuleOf sig a)
   none k class other = inr (λ rule is. other is.shape (sym class ∙ is.class))
 
   by_class : (k : AxiomClass) → class_of sig a ≡ k → Decided (IsRuleOf sig a)
   by_class (refused n) class = none (refused n) class (λ w h. let never : ⊥ = cc in never)
   by_class orders_sorts class = none orders_sorts class (λ w h. let never : ⊥ = cc in never)
-  by_class (rewrites w) class = let found = clear w class in inl (rule_found sig found.0 a w sorted class found.1)
+  by_class (rewrites w) class =
+      let found = clear w class in inl (rule_found sig found.0 a w sorted class found.1)
   by_class (equates e) class = none (equates e) class (λ w h. let never : ⊥ = cc in never)
   by_class passed_over class = none passed_over class (λ w h. let never : ⊥ = cc in never)

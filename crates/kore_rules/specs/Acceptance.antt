@@ -48,7 +48,8 @@ IsRefused bytes f =
     ⊎ ((d : DefinitionTree) × ReadsDefinition bytes d × FirstOfDefinition d (Some f))
 
 -- The bytes are accepted as a term of the program and mean this pattern.
-pub record IsAcceptedTerm (sig : Signature) (top : Option ℕ) (bytes : List ℕ) (start : Pattern) : Type 0 where
+pub record IsAcceptedTerm (sig : Signature) (top : Option ℕ) (bytes : List ℕ) (start : Pattern) :
+    Type 0 where
   pub term : PatternTree
   pub spelled : ReadsPattern bytes term
   pub no_fault : FirstOfTerm sig top term None

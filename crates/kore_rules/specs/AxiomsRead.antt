@@ -1,5 +1,6 @@
 -- What has been read of the axioms so far.
-use Rattle.std.specs.Prelude.{◌≡◌, ◌↔◌, ◌≤◌, ◌==◌, ◌^◌, ℕ, Bool, List, [], ◌∷◌, map, length, Option, Some, None, option_map}
+use Rattle.std.specs.Prelude.{◌≡◌, ◌↔◌, ◌≤◌, ◌==◌, ◌^◌, ℕ, Bool, List, [], ◌∷◌, map, length, Option}
+use Rattle.std.specs.Prelude.{Some, None, option_map}
 use Rattle.std.specs.Prelude.{Contains, slice_index_or, count_by, IsTrue, false}
 use Rattle.std.specs.Borrow.{Bor}
 use Rattle.kore_text.specs.Trees.{SortTree, AxiomDeclaration}
@@ -28,11 +29,13 @@ sort_at first = option_map (λ (s : Bor Sort). plain_sort s.now) first
 
 -- The list has exactly the things that these axioms are. Each place occurs in it at most as often
 -- as it occurs among the axioms.
-pub record AreRead {X : Type 0} (Is : AxiomDeclaration → X → Type 0) (place : X → ℕ) (axioms : List AxiomDeclaration)
+pub record AreRead {X : Type 0} (Is : AxiomDeclaration → X → Type 0) (place : X → ℕ)
+    (axioms : List AxiomDeclaration)
     (xs : List X) : Type 0 where
   pub just : (x : X) → Contains xs x ↔ ((a : AxiomDeclaration) × Contains axioms a × Is a x)
   pub short : length xs ≤ length axioms
-  pub few : (at : ℕ) → count_by (λ x. place x == at) xs ≤ count_by (λ (a : AxiomDeclaration). a.at == at) axioms
+  pub few : (at : ℕ)
+      → count_by (λ x. place x == at) xs ≤ count_by (λ (a : AxiomDeclaration). a.at == at) axioms
 
 -- the axiom is this equation of the function with this number
 abbrev pub IsNumberedEquation : Signature → AxiomDeclaration → ℕ × plain.Equation → Type 0
@@ -62,8 +65,10 @@ IsFirstSort sig axioms (Some s) =
     × ((n : ℕ) × (sort_number sig.sorts s ≡ Some n))
 
 -- what is read of these axioms
-pub record HaveRead (sig : Signature) (axioms : List AxiomDeclaration) (read : Readings) : Type 0 where
-  pub rules : AreRead (IsRuleOf sig) (λ (r : RewriteRule). r.place) axioms (map rewrite_rule read.rules.items)
+pub record HaveRead (sig : Signature) (axioms : List AxiomDeclaration) (read : Readings) :
+    Type 0 where
+  pub rules : AreRead (IsRuleOf sig) (λ (r : RewriteRule). r.place) axioms
+      (map rewrite_rule read.rules.items)
   pub equations : AreRead (IsNumberedEquation sig) (λ (e : ℕ × plain.Equation). e.1.place) axioms
       (map numbered_equation read.equations.items)
   pub marked : length read.unreadable.items ≡ length sig.symbols

@@ -2,20 +2,23 @@
 use Rattle.std.specs.Prelude.{◌≡◌, ℕ, List, [], Option, Some, None, Contains}
 use Rattle.kore_text.specs.Trees.{SortTree, PatternTree, AxiomDeclaration, DefinitionTree}
 use Rattle.rule_core.specs.declared.signature.Signature.{Signature}
-use Rattle.kore_sig.specs.FirstFault.{Fault, ByByte, ByNumber, IsFirstBy, Then, InOrder, unless}
+use Rattle.kore_sig.specs.FirstFault.{Fault, ByByte, ByNumber, IsFirstBy, Then, IsFirstOfSequence}
+use Rattle.kore_sig.specs.FirstFault.{unless}
 use Rattle.kore_sig.specs.Declarations.{axioms_of}
 use Rattle.kore_sig.specs.Signatures.{IsSignatureOf}
 use Rattle.kore_sig.specs.SignatureFaults.{FirstOfSignature}
 use Rattle.kore_check.specs.Folds.{Unfolded, unfolded}
 use Rattle.kore_check.specs.PatternSorts.{sort_of}
 use Rattle.kore_check.specs.PatternFaults.{all_faults}
-use Rattle.kore_axioms.specs.AxiomClasses.{AxiomClass, refused, orders_sorts, rewrites, equates, passed_over, class_of}
+use Rattle.kore_axioms.specs.AxiomClasses.{AxiomClass, refused, orders_sorts, rewrites, equates}
+use Rattle.kore_axioms.specs.AxiomClasses.{passed_over, class_of}
 use Rattle.kore_axioms.specs.RuleFaults.{FirstOfRule}
 use Rattle.kore_rules.specs.GroundTerms.{ground_faults}
 use Rattle.kore_equations.specs.ReadableEquations.{is_one_sort}
 
 -- the first fault of an axiom of this class, if the first rule before it has this sort
-abbrev pub FirstOfClass : Signature → Option SortTree → AxiomDeclaration → AxiomClass → Option Fault → Type 0
+abbrev pub FirstOfClass : Signature → Option SortTree → AxiomDeclaration → AxiomClass → Option Fault
+    → Type 0
 FirstOfClass sig first a (refused number) r = r ≡ Some (record { number = number; byte = a.at })
 FirstOfClass sig first a orders_sorts r = r ≡ None
 FirstOfClass sig first a (rewrites w) r = FirstOfRule sig first a w r
@@ -34,7 +37,8 @@ first_sort None passed_over = None
 -- the first fault of the axioms, in their order
 abbrev pub FirstOfAxioms : Signature → List AxiomDeclaration → Option Fault → Type 0
 FirstOfAxioms sig axioms r =
-    InOrder (λ first a. FirstOfClass sig first a (class_of sig a)) (λ first a. first_sort first (class_of sig a)) None
+    IsFirstOfSequence (λ first a. FirstOfClass sig first a (class_of sig a))
+    (λ first a. first_sort first (class_of sig a)) None
     axioms r
 
 -- The first fault of a definition: that of its declarations, or else that of its axioms.

@@ -1,6 +1,7 @@
 -- The sorts of integers and of truth values, by marks, and the kinds of symbols that follow from
 -- them.
-use Rattle.std.specs.Prelude.{◌≡◌, ◌==◌, ◌&&◌, ◌||◌, not, ℕ, Bool, true, false, List, [], ◌∷◌, map, Option, Some, None}
+use Rattle.std.specs.Prelude.{◌≡◌, ◌==◌, ◌&&◌, ◌||◌, not, ℕ, Bool, true, false, List, [], ◌∷◌, map}
+use Rattle.std.specs.Prelude.{Option, Some, None}
 use Rattle.std.specs.Prelude.{option_map, slice_get, string_bytes, if◌then◌else◌, IsTrue, is_some}
 use Rattle.std.specs.List.{list_any}
 use Rattle.std.specs.Option.{option_and_then}
@@ -20,7 +21,8 @@ use Rattle.rule_core.specs.declared.signature.SortRef.{SortRef}
 use Rattle.rule_core.specs.declared.signature.SortRef.TheVariants.{Param, Sort}
 use Rattle.rule_core.specs.declared.signature.SymInfo.{SymInfo}
 use Rattle.rule_core.specs.declared.signature.SymKind.{SymKind}
-use Rattle.rule_core.specs.declared.signature.SymKind.TheVariants.{Injection, Ctor, Equations, Hooked, Closed, NoKind}
+use Rattle.rule_core.specs.declared.signature.SymKind.TheVariants.{Injection, Ctor, Equations}
+use Rattle.rule_core.specs.declared.signature.SymKind.TheVariants.{Hooked, Closed, NoKind}
 use Rattle.kore_sig.specs.Attributes.{subsort_sorts}
 use Rattle.kore_sig.specs.SortReferences.{sort_number}
 use Rattle.kore_check.specs.PatternSorts.{sort_kind}
@@ -69,7 +71,8 @@ states_upper sorts n a = list_any (puts_below sorts n) a.attributes
 
 -- a constructor makes terms of this sort, or an axiom puts a sort below it
 abbrev pub has_terms : Signature → List AxiomDeclaration → ℕ → Bool
-has_terms sig axioms n = list_any (entry_makes n) sig.symbols || list_any (states_upper sig.sorts n) axioms
+has_terms sig axioms n =
+    list_any (entry_makes n) sig.symbols || list_any (states_upper sig.sorts n) axioms
 
 -- exactly the sorts with terms are marked
 abbrev pub MarksTerms : Signature → List AxiomDeclaration → List Bool → Type 0
@@ -102,12 +105,15 @@ refer_to sig marks (k ∷ ks) (of ∷ refs) = refers_to sig marks k of && refer_
 -- the declaration has no sort parameters, and has the sorts of the row
 abbrev pub fits_row : Signature → List Bool → hook.Signature → SymInfo → Bool
 fits_row sig marks row info =
-    (info.params == 0) && (refer_to sig marks row.arguments info.args.items && refers_to sig marks row.result info.result)
+    (info.params == 0)
+    && (refer_to sig marks row.arguments info.args.items
+    && refers_to sig marks row.result info.result)
 
 -- the kind of a function by the row with this number
 abbrev pub kind_in_row : Signature → List Bool → SymInfo → ℕ → Option hook.Signature → SymKind
 kind_in_row sig marks info n None = Closed
-kind_in_row sig marks info n (Some row) = if fits_row sig marks row info then Hooked (record { 0 = n }) else Closed
+kind_in_row sig marks info n (Some row) =
+    if fits_row sig marks row info then Hooked (record { 0 = n }) else Closed
 
 abbrev pub row_at : Bor HookRow → hook.Signature
 row_at row = plain_row row.now
@@ -132,7 +138,8 @@ kind_of_function sig marks info unreadable (Some name) = kind_by_hook sig marks 
 
 abbrev pub final_kind : Signature → List Bool → SymInfo → Bool → SymKind
 final_kind sig marks info unreadable =
-    if is_defined_kind info.kind then kind_of_function sig marks info unreadable (option_map string_bytes info.hook)
+    if is_defined_kind info.kind
+    then kind_of_function sig marks info unreadable (option_map string_bytes info.hook)
     else info.kind
 
 -- the mark with this number is set; false if there is no number
@@ -141,7 +148,8 @@ is_marked_at marks None = false
 is_marked_at marks (Some n) = is_marked marks n
 
 -- the symbol's entry is the declared one, except that it has its final kind
-pub record IsFinal (sig : Signature) (marks unreadable : List Bool) (declared made : List ℕ × SymInfo) : Type 0 where
+pub record IsFinal (sig : Signature) (marks unreadable : List Bool)
+    (declared made : List ℕ × SymInfo) : Type 0 where
   pub name : made.0 ≡ declared.0
   pub kind : made.1.kind
       ≡ final_kind sig marks declared.1 (is_marked_at unreadable (number_of sig.symbols declared.0))

@@ -1,5 +1,6 @@
 // Definitions and terms are accepted, or their first refusal is returned.
-ghost use Rattle.std.specs.Prelude.{◌≡◌, ◌<◌, ◌≤◌, ◌^◌, ℕ, length, option_map, flat_map, map, None, Some, IfOk, OnOk};
+ghost use Rattle.std.specs.Prelude.{◌≡◌, ◌<◌, ◌≤◌, ◌^◌, ℕ, length, option_map, flat_map, map, None};
+ghost use Rattle.std.specs.Prelude.{Some, IfOk, OnOk};
 ghost use Rattle.std.specs.Prelude.{IfErr};
 ghost use Rattle.std.specs.List.{AllZip};
 ghost use Rattle.std.specs.Prelude.{List};
@@ -53,7 +54,8 @@ pub fn accept(alloc: Global, bytes: &[u8]) -> Result<Program, Refusal>
     ensures top { IfOk result (λ p. IsSortOfRules (theory_of p) (top_of p)) }
     ensures numbered { IfOk result (λ p. IsNumbered p.sig) }
     ensures rules { IfOk result (λ p. length p.rules.items ≤ 2 ^ 32) }
-    ensures equations { IfOk result (λ p. (f : ℕ) → length (equations_of (theory_of p) f) ≤ 2 ^ 32) }
+    ensures equations { IfOk result
+        (λ p. (f : ℕ) → length (equations_of (theory_of p) f) ≤ 2 ^ 32) }
     ensures bound { IfOk result HasBoundVariables }
     ensures names { IfOk result (λ p. HasIdentifierNames p.sig) }
     ensures refused { IfErr result (RefusesFor (IsRefused bytes.now)) }
@@ -70,12 +72,15 @@ pub fn accept(alloc: Global, bytes: &[u8]) -> Result<Program, Refusal>
 /// of its axioms.
 fn program_of(alloc: Global, definition: &Definition) -> Result<Program, Refusal>
     requires { AreFew (the_axioms (plain_definition definition.now)) }
-    ensures made { IfOk result (λ p. IsMadeOf (plain_definition definition.now) (theory_of p) (top_of p)) }
+    ensures made { IfOk result
+        (λ p. IsMadeOf (plain_definition definition.now) (theory_of p) (top_of p)) }
     ensures numbered { IfOk result (λ p. IsNumbered p.sig) }
     ensures rules { IfOk result (λ p. length p.rules.items ≤ 2 ^ 32) }
-    ensures equations { IfOk result (λ p. (f : ℕ) → length (equations_of (theory_of p) f) ≤ 2 ^ 32) }
+    ensures equations { IfOk result
+        (λ p. (f : ℕ) → length (equations_of (theory_of p) f) ≤ 2 ^ 32) }
     ensures own { IfOk result ListsOwnEquations }
-    ensures refused { IfErr result (RefusesFor (λ f. FirstOfDefinition (plain_definition definition.now) (Some f))) }
+    ensures refused { IfErr result
+        (RefusesFor (λ f. FirstOfDefinition (plain_definition definition.now) (Some f))) }
 {
     let sig = match signature_of(alloc, definition) {
         Ok(sig) => sig,
@@ -113,14 +118,16 @@ fn program_under(
     requires signature { IsSignature sig }
     requires distinct { AreDistinct (names_of sig.symbols) }
     requires numbered { IsNumbered sig }
-    requires pairs { AllZip (IsPairOf sig.sorts) (flat_map pairs_of_axiom (map tree_at axioms.now)) sig.subsorts }
+    requires pairs { AllZip (IsPairOf sig.sorts) (flat_map pairs_of_axiom (map tree_at axioms.now))
+        sig.subsorts }
     requires few { AreFew (map tree_at axioms.now) }
     requires read { HaveRead sig (map tree_at axioms.now) readings }
     ensures means { IfOk result (λ p. IsProgramUnder sig (map tree_at axioms.now) (theory_of p)) }
     ensures top { IfOk result (λ p. top_of p ≡ sort_of top) }
     ensures numbered { IfOk result (λ p. IsNumbered p.sig) }
     ensures rules { IfOk result (λ p. length p.rules.items ≤ 2 ^ 32) }
-    ensures equations { IfOk result (λ p. (f : ℕ) → length (equations_of (theory_of p) f) ≤ 2 ^ 32) }
+    ensures equations { IfOk result
+        (λ p. (f : ℕ) → length (equations_of (theory_of p) f) ≤ 2 ^ 32) }
     ensures own { IfOk result ListsOwnEquations }
 {
     let with_terms = sorts_with_terms(alloc, &sig, axioms)?;
@@ -157,9 +164,11 @@ pub fn accept_term(alloc: Global, program: &Program, bytes: &[u8]) -> Result<Rul
     requires numbered { IsNumbered program.now.sig }
     requires top { IsSortOfRules (theory_of program.now) (top_of program.now) }
     ensures accepted { IfOk result
-        (λ start. IsAcceptedTerm program.now.sig (top_of program.now) bytes.now (plain_pattern start)) }
+        (λ start.
+        IsAcceptedTerm program.now.sig (top_of program.now) bytes.now (plain_pattern start)) }
     ensures start { IfOk result (λ start. IsStart (theory_of program.now) (plain_pattern start)) }
-    ensures refused { IfErr result (RefusesFor (IsRefusedTerm program.now.sig (top_of program.now) bytes.now)) }
+    ensures refused { IfErr result
+        (RefusesFor (IsRefusedTerm program.now.sig (top_of program.now) bytes.now)) }
 {
     match pattern_in(alloc, bytes) {
         Ok(term) => start_of(alloc, &program.sig, program.top, &term),

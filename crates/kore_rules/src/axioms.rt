@@ -1,6 +1,7 @@
 // Reads the axioms of a definition in order: its rewrite rules and the equations of its functions,
 // or their first fault.
-ghost use Rattle.std.specs.Prelude.{◌≡◌, ◌++◌, ◌∷◌, ◌==◌, ◌||◌, ◌<◌, [], ℕ, List, false, length, map, None, Some};
+ghost use Rattle.std.specs.Prelude.{◌≡◌, ◌++◌, ◌∷◌, ◌==◌, ◌||◌, ◌<◌, [], ℕ, List, false, length};
+ghost use Rattle.std.specs.Prelude.{map, None, Some};
 ghost use Rattle.std.specs.Prelude.{IfOk, OnOk, IfErr};
 ghost use Rattle.kore_text.specs.Trees.{AxiomDeclaration};
 ghost use Rattle.kore_ast.specs.Plain.{plain_axiom_decl};
@@ -12,7 +13,8 @@ ghost use Rattle.kore_axioms.specs.AxiomClasses.{rewrites, equates, class_of as 
 ghost use Rattle.kore_axioms.specs.ClassViews.{plain_class};
 ghost use Rattle.kore_axioms.specs.RuleFaults.{FirstOfRule};
 ghost use Rattle.kore_rules.specs.AxiomsRead.{HaveRead, IsFirstSort, is_marked, tree_at, sort_at};
-ghost use Rattle.kore_rules.specs.FirstRefusal.{FirstOfClass, FirstOfAxioms, first_sort as the_first_sort};
+ghost use Rattle.kore_rules.specs.FirstRefusal.{FirstOfClass, FirstOfAxioms};
+ghost use Rattle.kore_rules.specs.FirstRefusal.{first_sort as the_first_sort};
 ghost use Rattle.kore_rules.specs.RefusedTexts.{RefusesFor};
 
 use kore_ast::{AxiomDecl, Sort};
@@ -45,7 +47,8 @@ pub(crate) fn read_axioms<'a>(
     ensures clear { OnOk result (FirstOfAxioms sig.now (map tree_at axioms.now) None) }
     ensures read { IfOk result (λ r. HaveRead sig.now (map tree_at axioms.now) r.0) }
     ensures first { IfOk result (λ r. IsFirstSort sig.now (map tree_at axioms.now) (sort_at r.1)) }
-    ensures refused { IfErr result (RefusesFor (λ f. FirstOfAxioms sig.now (map tree_at axioms.now) (Some f))) }
+    ensures refused { IfErr result
+        (RefusesFor (λ f. FirstOfAxioms sig.now (map tree_at axioms.now) (Some f))) }
 {
     let mut readings = no_readings(alloc, sig)?;
     let mut first = None;
@@ -106,11 +109,14 @@ fn read_axiom(
     requires class { plain_class class ≡ the_class sig.now (plain_axiom_decl decl.now) }
     requires marked { length readings.old.unreadable.items ≡ length sig.now.symbols }
     ensures clear { OnOk result
-        (FirstOfClass sig.now (sort_at first.entry) (plain_axiom_decl decl.now) (plain_class class.entry) None) }
-    ensures read { OnOk result ((axioms : List AxiomDeclaration) → HaveRead sig.now axioms readings.old →
+        (FirstOfClass sig.now (sort_at first.entry) (plain_axiom_decl decl.now)
+        (plain_class class.entry) None) }
+    ensures read { OnOk result
+        ((axioms : List AxiomDeclaration) → HaveRead sig.now axioms readings.old →
         HaveRead sig.now (axioms ++ plain_axiom_decl decl.now ∷ []) readings.new) }
     ensures refused { IfErr result (RefusesFor
-        (λ f. FirstOfClass sig.now (sort_at first.entry) (plain_axiom_decl decl.now) (plain_class class.entry)
+        (λ f. FirstOfClass sig.now (sort_at first.entry) (plain_axiom_decl decl.now)
+        (plain_class class.entry)
         (Some f))) }
 {
     match class {
@@ -132,11 +138,14 @@ fn add_rule(
 ) -> Result<(), Refusal>
     requires numbered { IsNumbered sig.now }
     requires signature { IsSignature sig.now }
-    requires class { the_class sig.now (plain_axiom_decl decl.now) ≡ rewrites (plain_rewriting rewriting) }
+    requires class { the_class sig.now (plain_axiom_decl decl.now)
+        ≡ rewrites (plain_rewriting rewriting) }
     ensures clear { OnOk result
-        (FirstOfRule sig.now (sort_at first.entry) (plain_axiom_decl decl.now) (plain_rewriting rewriting.entry)
+        (FirstOfRule sig.now (sort_at first.entry) (plain_axiom_decl decl.now)
+        (plain_rewriting rewriting.entry)
         None) }
-    ensures read { OnOk result ((axioms : List AxiomDeclaration) → HaveRead sig.now axioms readings.old →
+    ensures read { OnOk result
+        ((axioms : List AxiomDeclaration) → HaveRead sig.now axioms readings.old →
         HaveRead sig.now (axioms ++ plain_axiom_decl decl.now ∷ []) readings.new) }
     ensures refused { IfErr result (RefusesFor
         (λ f. FirstOfRule sig.now (sort_at first.entry) (plain_axiom_decl decl.now)
@@ -161,7 +170,8 @@ fn add_equation(
 ) -> Result<(), AllocError>
     requires numbered { IsNumbered sig.now }
     requires signature { IsSignature sig.now }
-    requires class { the_class sig.now (plain_axiom_decl decl.now) ≡ equates (plain_statement stated.now) }
+    requires class { the_class sig.now (plain_axiom_decl decl.now)
+        ≡ equates (plain_statement stated.now) }
     requires marked { length readings.old.unreadable.items ≡ length sig.now.symbols }
     ensures { OnOk result ((axioms : List AxiomDeclaration) → HaveRead sig.now axioms readings.old →
         HaveRead sig.now (axioms ++ plain_axiom_decl decl.now ∷ []) readings.new) }
@@ -181,7 +191,8 @@ fn add_equation(
 pub(crate) fn mark(marks: &mut Vec<bool>, number: usize)
     requires { number < length marks.old.items }
     ensures len { length marks.new.items ≡ length marks.old.items }
-    ensures marked { (n : ℕ) → is_marked marks.new.items n ≡ (is_marked marks.old.items n || (n == number)) }
+    ensures marked { (n : ℕ)
+        → is_marked marks.new.items n ≡ (is_marked marks.old.items n || (n == number)) }
 {
     marks[number] = true;
 }

@@ -34,7 +34,8 @@ pub(crate) fn signature_of(alloc: Global, definition: &Definition) -> Result<Sig
 
 /// The refusal for a fault: its number and its byte.
 fn refusal_of(fault: SigFault) -> Refusal
-    ensures { (d : DefinitionTree) → IsRefusal d fault → RefusesFor (λ f. FirstOfSignature d (Some f)) result }
+    ensures { (d : DefinitionTree) → IsRefusal d fault
+        → RefusesFor (λ f. FirstOfSignature d (Some f)) result }
 {
     match fault {
         SigFault::Import(at) => Refusal::Refused(4, at),
@@ -52,7 +53,8 @@ pub(crate) fn axioms_of(
     alloc: Global,
     definition: &Definition,
 ) -> Result<Vec<&AxiomDecl>, AllocError>
-    ensures { IfOk result (λ decls. map tree_at decls.items ≡ the_axioms (plain_definition definition.now)) }
+    ensures { IfOk result
+        (λ decls. map tree_at decls.items ≡ the_axioms (plain_definition definition.now)) }
 {
     let decls = counted_declarations(alloc, definition)?;
     let mut axioms = Vec::new(alloc);
@@ -65,7 +67,8 @@ pub(crate) fn axioms_of(
 /// Adds a declaration if it is an axiom.
 fn add_axiom<'a>(decl: &'a Decl, axioms: &mut Vec<&'a AxiomDecl>) -> Result<(), AllocError>
     ensures { OnOk result (map tree_at axioms.new.items
-        ≡ map tree_at axioms.old.items ++ cons_option (axiom_declared (plain_declaration decl.now)) []) }
+        ≡ map tree_at axioms.old.items
+        ++ cons_option (axiom_declared (plain_declaration decl.now)) []) }
 {
     match decl {
         Decl::Axiom(axiom) => {

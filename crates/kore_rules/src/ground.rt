@@ -1,9 +1,10 @@
 // Terms: patterns that have only applications, domain values and folds.
 ghost use Rattle.std.specs.Prelude.{◌≡◌, map, None};
 ghost use Rattle.kore_text.specs.Trees.{pattern_trees};
-ghost use Rattle.kore_ast.specs.Plain.{plain_pattern};
+ghost use Rattle.kore_ast.specs.Plain.{pattern_tree};
 ghost use Rattle.kore_shapes.specs.Forms.{is_one as there_is_one, is_none as there_is_none};
-ghost use Rattle.kore_rules.specs.GroundTerms.{ground_faults, all_ground_faults, folded_ground_faults, not_ground};
+ghost use Rattle.kore_rules.specs.GroundTerms.{ground_faults, all_ground_faults};
+ghost use Rattle.kore_rules.specs.GroundTerms.{folded_ground_faults, not_ground};
 ghost use Rattle.kore_rules.specs.GroundNotes.{not_ground_at, behind};
 
 use kore_ast::{Pat, PatForm};
@@ -11,7 +12,7 @@ use kore_ast::{Pat, PatForm};
 /// The first byte in a term of a pattern that is not an application, a domain value or a fold with
 /// an argument. None if there is no such pattern.
 pub(crate) fn first_not_ground(pat: &Pat) -> Option<u32>
-    ensures { not_ground_at result ≡ behind None (ground_faults (plain_pattern pat.now)) }
+    ensures { not_ground_at result ≡ behind None (ground_faults (pattern_tree pat.now)) }
 {
     let mut first = None;
     note_not_ground(pat, &mut first);
@@ -20,7 +21,7 @@ pub(crate) fn first_not_ground(pat: &Pat) -> Option<u32>
 
 #[cycle(ground)]
 fn note_not_ground(pat: &Pat, first: &mut Option<u32>)
-    ensures { not_ground_at first.new ≡ behind first.old (ground_faults (plain_pattern pat.now)) }
+    ensures { not_ground_at first.new ≡ behind first.old (ground_faults (pattern_tree pat.now)) }
 {
     match &pat.form {
         PatForm::App(_, _, args) => note_all(args, first),
@@ -34,7 +35,7 @@ fn note_not_ground(pat: &Pat, first: &mut Option<u32>)
 #[cycle(ground)]
 fn note_all(pats: &[Pat], first: &mut Option<u32>)
     ensures { not_ground_at first.new
-        ≡ behind first.old (all_ground_faults (pattern_trees (map plain_pattern pats.now))) }
+        ≡ behind first.old (all_ground_faults (pattern_trees (map pattern_tree pats.now))) }
 {
     for pat in pats {
         note_not_ground(pat, first);
@@ -44,7 +45,8 @@ fn note_all(pats: &[Pat], first: &mut Option<u32>)
 /// Notes the bytes that the pattern inside a fold must not have.
 #[cycle(ground)]
 fn note_folded(pat: &Pat, first: &mut Option<u32>)
-    ensures { not_ground_at first.new ≡ behind first.old (folded_ground_faults (plain_pattern pat.now)) }
+    ensures { not_ground_at first.new
+        ≡ behind first.old (folded_ground_faults (pattern_tree pat.now)) }
 {
     match &pat.form {
         PatForm::App(_, _, args) if !is_none(args) => note_all(args, first),
@@ -61,13 +63,13 @@ fn note_folded(pat: &Pat, first: &mut Option<u32>)
 }
 
 fn is_none(pats: &[Pat]) -> bool
-    ensures { result ≡ there_is_none (map plain_pattern pats.now) }
+    ensures { result ≡ there_is_none (map pattern_tree pats.now) }
 {
     matches!(pats, [])
 }
 
 fn is_one(pats: &[Pat]) -> bool
-    ensures { result ≡ there_is_one (map plain_pattern pats.now) }
+    ensures { result ≡ there_is_one (map pattern_tree pats.now) }
 {
     matches!(pats, [_])
 }

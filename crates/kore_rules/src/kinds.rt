@@ -1,13 +1,18 @@
 // What the symbols of a definition are used for, after its axioms are read.
-ghost use Rattle.std.specs.Prelude.{◌≡◌, map, option_map, option_copied, slice_get, string_bytes, Some, IfOk};
+ghost use Rattle.std.specs.Prelude.{◌≡◌, map, option_map, option_copied, slice_get, string_bytes};
+ghost use Rattle.std.specs.Prelude.{Some, IfOk};
 ghost use Rattle.std.specs.List.{AllZip};
 ghost use Rattle.hook_table.specs.Rows.{plain_kind, plain_row};
 ghost use Rattle.kore_check.specs.PatternSorts.{sort_kind};
 ghost use Rattle.kore_rules.specs.AxiomsRead.{is_marked as is_set};
-ghost use Rattle.kore_rules.specs.ScalarSorts.{is_of_kind as is_one_of_kind, refers_to as does_refer, fits_row as does_fit};
-ghost use Rattle.kore_rules.specs.ScalarSorts.{refer_to as do_refer, kind_in_row as the_kind_in_row};
-ghost use Rattle.kore_rules.specs.ScalarSorts.{kind_of_number as the_kind_of_number, hook_row, row_at};
-ghost use Rattle.kore_rules.specs.ScalarSorts.{kind_by_hook as the_kind_by_hook, final_kind as the_final_kind};
+ghost use Rattle.kore_rules.specs.ScalarSorts.{is_of_kind as is_one_of_kind};
+ghost use Rattle.kore_rules.specs.ScalarSorts.{refers_to as does_refer, fits_row as does_fit};
+ghost use Rattle.kore_rules.specs.ScalarSorts.{refer_to as do_refer};
+ghost use Rattle.kore_rules.specs.ScalarSorts.{kind_in_row as the_kind_in_row};
+ghost use Rattle.kore_rules.specs.ScalarSorts.{kind_of_number as the_kind_of_number, hook_row};
+ghost use Rattle.kore_rules.specs.ScalarSorts.{row_at};
+ghost use Rattle.kore_rules.specs.ScalarSorts.{kind_by_hook as the_kind_by_hook};
+ghost use Rattle.kore_rules.specs.ScalarSorts.{final_kind as the_final_kind};
 ghost use Rattle.kore_rules.specs.ScalarSorts.{kind_of_function as the_kind_of_function, IsFinal};
 
 use hook_table::{HookRow, ScalarKind, find, hook_rows};
@@ -46,7 +51,8 @@ fn with_kind(alloc: Global, symbol: &SymInfo, kind: SymKind) -> Result<SymInfo, 
     ensures params { IfOk result (λ made. made.params ≡ symbol.now.params) }
     ensures args { IfOk result (λ made. made.args.items ≡ symbol.now.args.items) }
     ensures value { IfOk result (λ made. made.result ≡ symbol.now.result) }
-    ensures hook { IfOk result (λ made. option_map string_bytes made.hook ≡ option_map string_bytes symbol.now.hook) }
+    ensures hook { IfOk result
+        (λ made. option_map string_bytes made.hook ≡ option_map string_bytes symbol.now.hook) }
     ensures ac { IfOk result (λ made. made.ac ≡ symbol.now.ac) }
 {
     Ok(SymInfo {
@@ -60,7 +66,8 @@ fn with_kind(alloc: Global, symbol: &SymInfo, kind: SymKind) -> Result<SymInfo, 
 }
 
 fn copy_of(text: &Option<String>) -> Result<Option<String>, AllocError>
-    ensures { IfOk result (λ copy. option_map string_bytes copy ≡ option_map string_bytes text.now) }
+    ensures { IfOk result
+        (λ copy. option_map string_bytes copy ≡ option_map string_bytes text.now) }
 {
     match text {
         Some(text) => Ok(Some(text.clone()?)),
@@ -149,7 +156,8 @@ fn kind_in_row(
     number: HookNo,
     row: &HookRow,
 ) -> SymKind
-    ensures { result ≡ the_kind_in_row sig.now with_terms.now symbol.now number.0 (Some (plain_row row.now)) }
+    ensures { result
+        ≡ the_kind_in_row sig.now with_terms.now symbol.now number.0 (Some (plain_row row.now)) }
 {
     if fits_row(sig, with_terms, row, symbol) {
         SymKind::Hooked(number)

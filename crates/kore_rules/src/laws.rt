@@ -1,9 +1,14 @@
 // The laws of acceptance.
-ghost use Rattle.kore_rules.specs.AcceptanceLaws.{AcceptedIsNotRefused, RefusalIsOne, EachTextIsDecided};
-ghost use Rattle.kore_rules.specs.AcceptanceLaws.{AcceptedTermIsNotRefused, TermRefusalIsOne, EachTermIsDecided};
-ghost use Rattle.kore_rules.specs.AcceptanceLaws.{DefinitionIsOne, PatternIsOne, DefinitionFaultIsOne, TermFaultIsOne};
-ghost use Rattle.kore_rules.specs.AcceptanceLaws.{AxiomFaultIsOne, TextFaultIsOne, TermTextFaultIsOne};
-ghost use Rattle.kore_rules.specs.AcceptanceLaws.{SpelledDefinitionIsFaultless, SpelledPatternIsFaultless};
+ghost use Rattle.kore_rules.specs.AcceptanceLaws.{AcceptedIsNotRefused, RefusalIsOne};
+ghost use Rattle.kore_rules.specs.AcceptanceLaws.{EachTextIsDecided};
+ghost use Rattle.kore_rules.specs.AcceptanceLaws.{AcceptedTermIsNotRefused, TermRefusalIsOne};
+ghost use Rattle.kore_rules.specs.AcceptanceLaws.{EachTermIsDecided};
+ghost use Rattle.kore_rules.specs.AcceptanceLaws.{DefinitionIsOne, PatternIsOne};
+ghost use Rattle.kore_rules.specs.AcceptanceLaws.{DefinitionFaultIsOne, TermFaultIsOne};
+ghost use Rattle.kore_rules.specs.AcceptanceLaws.{AxiomFaultIsOne, TextFaultIsOne};
+ghost use Rattle.kore_rules.specs.AcceptanceLaws.{TermTextFaultIsOne};
+ghost use Rattle.kore_rules.specs.AcceptanceLaws.{SpelledDefinitionIsFaultless};
+ghost use Rattle.kore_rules.specs.AcceptanceLaws.{SpelledPatternIsFaultless};
 
 use kore_lex::token_laws;
 use kore_sig::signature_laws;

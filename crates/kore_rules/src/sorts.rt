@@ -1,11 +1,12 @@
 // Which sorts have terms other than values.
 ghost use Rattle.std.specs.Prelude.{◌≡◌, ◌<◌, ◌||◌, ℕ, true, length, map, IfOk};
 ghost use Rattle.std.specs.List.{list_any};
-ghost use Rattle.kore_ast.specs.Plain.{plain_sort, plain_pattern};
+ghost use Rattle.kore_ast.specs.Plain.{plain_sort, pattern_tree};
 ghost use Rattle.rule_core.specs.WellSorted.{IsSignature, IsReference};
 ghost use Rattle.kore_sig.specs.Attributes.{subsort_sorts, stated_pair};
 ghost use Rattle.kore_rules.specs.AxiomsRead.{is_marked, sort_at, tree_at};
-ghost use Rattle.kore_rules.specs.ScalarSorts.{MarksTerms, makes, entry_makes, puts_below, states_upper};
+ghost use Rattle.kore_rules.specs.ScalarSorts.{MarksTerms, makes, entry_makes, puts_below};
+ghost use Rattle.kore_rules.specs.ScalarSorts.{states_upper};
 ghost use Rattle.kore_rules.specs.ScalarSorts.{is_numbered_so, upper_one};
 
 use crate::axioms::{mark, no_marks};
@@ -51,7 +52,8 @@ fn mark_results(sig: &Signature, marks: &mut Vec<bool>)
 fn mark_result(symbol: &SymInfo, marks: &mut Vec<bool>)
     requires { (n : ℕ) → makes n symbol.now ≡ true → n < length marks.old.items }
     ensures len { length marks.new.items ≡ length marks.old.items }
-    ensures marked { (n : ℕ) → is_marked marks.new.items n ≡ (is_marked marks.old.items n || makes n symbol.now) }
+    ensures marked { (n : ℕ)
+        → is_marked marks.new.items n ≡ (is_marked marks.old.items n || makes n symbol.now) }
 {
     match (symbol.kind, symbol.result) {
         (SymKind::Ctor, SortRef::Sort(sort)) => mark(marks, sort.0 as usize),
@@ -63,7 +65,8 @@ fn mark_result(symbol: &SymInfo, marks: &mut Vec<bool>)
 fn mark_uppers(sorts: &Table<SortInfo>, axioms: &[&AxiomDecl], marks: &mut Vec<bool>)
     requires { length marks.old.items ≡ length sorts.now }
     ensures { (n : ℕ) → is_marked marks.new.items n
-        ≡ (is_marked marks.old.items n || list_any (states_upper sorts.now n) (map tree_at axioms.now)) }
+        ≡ (is_marked marks.old.items n
+        || list_any (states_upper sorts.now n) (map tree_at axioms.now)) }
 {
     for decl in axioms {
         mark_stated(sorts, &decl.attrs, marks);
@@ -75,7 +78,8 @@ fn mark_stated(sorts: &Table<SortInfo>, attrs: &[Pat], marks: &mut Vec<bool>)
     requires { length marks.old.items ≡ length sorts.now }
     ensures len { length marks.new.items ≡ length marks.old.items }
     ensures marked { (n : ℕ) → is_marked marks.new.items n
-        ≡ (is_marked marks.old.items n || list_any (puts_below sorts.now n) (map plain_pattern attrs.now)) }
+        ≡ (is_marked marks.old.items n
+        || list_any (puts_below sorts.now n) (map pattern_tree attrs.now)) }
 {
     for attr in attrs {
         mark_numbered(sorts, upper_sort(attr), marks);
@@ -98,7 +102,7 @@ fn mark_numbered(sorts: &Table<SortInfo>, sort: Option<&Sort>, marks: &mut Vec<b
 
 /// The upper sort of an attribute that puts a sort below another.
 fn upper_sort(attr: &Pat) -> Option<&Sort>
-    ensures { sort_at result ≡ upper_one (subsort_sorts (plain_pattern attr.now)) }
+    ensures { sort_at result ≡ upper_one (subsort_sorts (pattern_tree attr.now)) }
 {
     match &attr.form {
         PatForm::App(name, sorts, args) => stated_upper(name, sorts, args),
@@ -108,7 +112,7 @@ fn upper_sort(attr: &Pat) -> Option<&Sort>
 
 fn stated_upper<'a>(name: &Text, sorts: &'a [Sort], args: &[Pat]) -> Option<&'a Sort>
     ensures { sort_at result
-        ≡ upper_one (stated_pair name.now (map plain_sort sorts.now) (map plain_pattern args.now)) }
+        ≡ upper_one (stated_pair name.now (map plain_sort sorts.now) (map pattern_tree args.now)) }
 {
     match (sorts, args) {
         ([_, upper], []) if name.as_str() == "subsort" => Some(upper),

@@ -1,6 +1,6 @@
 // The initial term of a run.
 ghost use Rattle.std.specs.Prelude.{◌≡◌, [], List, None, Some, Contains, IfOk, OnOk, IfErr};
-ghost use Rattle.kore_ast.specs.Plain.{plain_pattern as plain_tree};
+ghost use Rattle.kore_ast.specs.Plain.{pattern_tree as plain_tree};
 ghost use Rattle.term_core.specs.RulePatterns.{plain_pattern};
 ghost use Rattle.rule_core.specs.Sorting.{HasSort};
 ghost use Rattle.rule_core.specs.WellSorted.{IsSignature};
@@ -34,7 +34,8 @@ pub(crate) fn start_of(
     requires numbered { IsNumbered sig.now }
     requires signature { IsSignature sig.now }
     ensures faultless { OnOk result (FirstOfTerm sig.now (sort_of top) (plain_tree term.now) None) }
-    ensures means { IfOk result (λ p. Means sig.now [] (unfolded (plain_tree term.now)) (plain_pattern p)) }
+    ensures means { IfOk result
+        (λ p. Means sig.now [] (unfolded (plain_tree term.now)) (plain_pattern p)) }
     ensures sort { IfOk result (λ p. HasStartSort sig.now (sort_of top) (plain_pattern p)) }
     ensures refused { IfErr result
         (RefusesFor (λ f. FirstOfTerm sig.now (sort_of top) (plain_tree term.now) (Some f))) }
@@ -55,11 +56,14 @@ fn ground_pattern(alloc: Global, sig: &Signature, term: &Pat) -> Result<(RulePat
     requires signature { IsSignature sig.now }
     requires ground { ground_faults (plain_tree term.now) ≡ [] }
     ensures faultless { OnOk result (all_faults sig.now (unfolded (plain_tree term.now)) ≡ []) }
-    ensures own_sort { IfOk result (λ r. the_sort sig.now (unfolded (plain_tree term.now)) ≡ Some r.1.0) }
-    ensures means { IfOk result (λ r. Means sig.now [] (unfolded (plain_tree term.now)) (plain_pattern r.0)) }
+    ensures own_sort { IfOk result
+        (λ r. the_sort sig.now (unfolded (plain_tree term.now)) ≡ Some r.1.0) }
+    ensures means { IfOk result
+        (λ r. Means sig.now [] (unfolded (plain_tree term.now)) (plain_pattern r.0)) }
     ensures sorted { IfOk result (λ r. HasSort sig.now [] (plain_pattern r.0) r.1.0) }
     ensures refused { IfErr result (RefusesFor
-        (λ f. IsFirstBy ByByte (Contains (all_faults sig.now (unfolded (plain_tree term.now)))) (Some f))) }
+        (λ f. IsFirstBy ByByte (Contains (all_faults sig.now (unfolded (plain_tree term.now))))
+        (Some f))) }
 {
     let mut vars = Variables::new(alloc);
     match check_pattern(alloc, sig, term, &mut vars) {

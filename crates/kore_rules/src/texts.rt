@@ -2,7 +2,7 @@
 ghost use Rattle.std.specs.Prelude.{◌≡◌, ◌<◌, ◌^◌, ℕ, List, length, IfOk, IfErr};
 ghost use Rattle.kore_text.specs.Faults.{IsPattern, IsDefinition};
 ghost use Rattle.kore_ast.specs.KoreText.{ReadsPattern, ReadsDefinition, IsFault};
-ghost use Rattle.kore_ast.specs.Plain.{plain_pattern, plain_definition};
+ghost use Rattle.kore_ast.specs.Plain.{pattern_tree, plain_definition};
 ghost use Rattle.kore_rules.specs.Acceptance.{HasTextFault};
 ghost use Rattle.kore_rules.specs.RefusedTexts.{RefusesFor};
 
@@ -25,7 +25,7 @@ pub(crate) fn definition_in(alloc: Global, bytes: &[u8]) -> Result<Definition, R
 /// The pattern that the bytes spell. The error is the first fault of the text.
 pub(crate) fn pattern_in(alloc: Global, bytes: &[u8]) -> Result<Pat, Refusal>
     requires { length bytes.now < 2 ^ 32 }
-    ensures spelled { IfOk result (λ p. ReadsPattern bytes.now (plain_pattern p)) }
+    ensures spelled { IfOk result (λ p. ReadsPattern bytes.now (pattern_tree p)) }
     ensures refused { IfErr result (RefusesFor (HasTextFault IsPattern bytes.now)) }
 {
     match read_pattern(alloc, bytes) {

@@ -1,12 +1,15 @@
 -- The two forms of equations. In kompile's form the left side is the function at variables X0, X1,
 -- .., and the guard says that each of them is a member of a pattern. In the direct form the left
 -- side is the function at the patterns.
-use Rattle.std.specs.Prelude.{ℕ, List, [], ◌∷◌, Bool, true, false, ◌&&◌, ◌||◌, not, if◌then◌else◌, Option, Some, None}
+use Rattle.std.specs.Prelude.{ℕ, List, [], ◌∷◌, Bool, true, false, ◌&&◌, ◌||◌, not, if◌then◌else◌}
+use Rattle.std.specs.Prelude.{Option, Some, None}
 use Rattle.std.specs.Prelude.{option_map}
 use Rattle.std.specs.List.{list_any}
 use Rattle.std.specs.Option.{option_and_then}
-use Rattle.kore_text.specs.Trees.{SortTree, listed_sorts, PatternTree, element_variable, set_variable, string}
-use Rattle.kore_text.specs.Trees.{symbol_applied, connected, binding, domain_value, folded, PatternTrees, no_patterns}
+use Rattle.kore_text.specs.Trees.{SortTree, listed_sorts, PatternTree, element_variable}
+use Rattle.kore_text.specs.Trees.{set_variable, string}
+use Rattle.kore_text.specs.Trees.{symbol_applied, connected, binding, domain_value, folded}
+use Rattle.kore_text.specs.Trees.{PatternTrees, no_patterns}
 use Rattle.kore_text.specs.Trees.{pattern_then, listed_patterns}
 use Rattle.kore_text.specs.declared.names.Op.{Op}
 use Rattle.kore_text.specs.declared.names.Op.TheVariants.{Top, And, Member}
@@ -23,7 +26,8 @@ is_top_of s (connected at op ts ps) = top_with s op (listed_sorts ts) (listed_pa
 is_top_of s p = false
 
 -- the two patterns of `\and{S}(p,q)`; none of any other pattern
-abbrev pub conjuncts_with : SortTree → Op → List SortTree → List PatternTree → Option (PatternTree × PatternTree)
+abbrev pub conjuncts_with : SortTree → Op → List SortTree → List PatternTree
+    → Option (PatternTree × PatternTree)
 conjuncts_with s And (t ∷ []) (p ∷ (q ∷ [])) = if same_sort s t then Some (p, q) else None
 conjuncts_with s op ts ps = None
 
@@ -49,8 +53,10 @@ is_member s (element_variable at n t) q = same_sort s t && is_variable n t q
 is_member s p q = false
 
 -- the pattern p of `\in{S,R}(X,p)`, for this variable X; none of any other pattern
-abbrev pub member_with : SortTree → PatternTree → Op → List SortTree → List PatternTree → Option PatternTree
-member_with r x Member (s ∷ (t ∷ [])) (y ∷ (p ∷ [])) = if same_sort r t && is_member s x y then Some p else None
+abbrev pub member_with : SortTree → PatternTree → Op → List SortTree → List PatternTree
+    → Option PatternTree
+member_with r x Member (s ∷ (t ∷ [])) (y ∷ (p ∷ [])) =
+    if same_sort r t && is_member s x y then Some p else None
 member_with r x op ss ps = None
 
 abbrev pub member : SortTree → PatternTree → PatternTree → Option PatternTree
@@ -61,7 +67,8 @@ member r x p = None
 -- other pattern
 abbrev pub entry : SortTree → PatternTree → PatternTree → Option (PatternTree × PatternTree)
 entry r x g =
-    option_and_then (λ (both : PatternTree × PatternTree). option_map (λ (p : PatternTree). (p, both.1))
+    option_and_then
+    (λ (both : PatternTree × PatternTree). option_map (λ (p : PatternTree). (p, both.1))
     (member r x both.0)) (conjuncts r g)
 
 -- The patterns p0, p1, .. of `\and{R}(\in{S0,R}(X0,p0),\and{R}(\in{S1,R}(X1,p1),..\top{R}()))`, for
@@ -69,7 +76,8 @@ entry r x g =
 abbrev pub members : SortTree → List PatternTree → PatternTree → Option (List PatternTree)
 members r [] g = if is_top_of r g then Some [] else None
 members r (x ∷ xs) g =
-    option_and_then (λ (e : PatternTree × PatternTree). option_map (λ (ps : List PatternTree). e.0 ∷ ps)
+    option_and_then
+    (λ (e : PatternTree × PatternTree). option_map (λ (ps : List PatternTree). e.0 ∷ ps)
     (members r xs e.1)) (entry r x g)
 
 -- an element variable of this name and sort occurs in the pattern, or (`have_variable`) in one of
@@ -96,9 +104,10 @@ stands_alone p others = false
 
 -- the first patterns are element variables; each of them occurs neither in those after it nor in
 -- the others
-abbrev pub stand_apart : List PatternTree → List PatternTree → Bool
-stand_apart [] others = true
-stand_apart (x ∷ xs) others = (stands_alone x xs && stands_alone x others) && stand_apart xs others
+abbrev pub occur_nowhere_else : List PatternTree → List PatternTree → Bool
+occur_nowhere_else [] others = true
+occur_nowhere_else (x ∷ xs) others =
+    (stands_alone x xs && stands_alone x others) && occur_nowhere_else xs others
 
 -- ---- the parts
 
@@ -112,13 +121,18 @@ pub record EquationParts : Type 0 where
 
 -- the direct form: the guard, if there is one, is the condition
 abbrev pub direct : Statement → Option PatternTree → EquationParts
-direct e c = record { parameters = []; patterns = e.arguments; condition = c; right = right_side e.sort e.value }
+direct e c = record {
+  parameters = [];
+  patterns = e.arguments;
+  condition = c;
+  right = right_side e.sort e.value;
+}
 
 -- kompile's form with the condition `c` and these patterns; none if a variable of its left side
 -- occurs anywhere else
 abbrev pub kompiled : Statement → PatternTree → List PatternTree → Option EquationParts
 kompiled e c ps =
-    if stand_apart e.arguments (c ∷ (e.value ∷ ps))
+    if occur_nowhere_else e.arguments (c ∷ (e.value ∷ ps))
     then Some (record {
       parameters = e.arguments;
       patterns = ps;
@@ -131,9 +145,11 @@ kompiled e c ps =
 -- The parts of an equation under this guard. Under `\and{R}(c,G)` the equation can only have
 -- kompile's form, with the condition c. If the function has no arguments, G has to be `\top{R}()`.
 -- Any guard that is no `\and{R}` of two patterns is itself the condition.
-abbrev pub parts_under : Statement → PatternTree → Option (PatternTree × PatternTree) → Option EquationParts
+abbrev pub parts_under : Statement → PatternTree → Option (PatternTree × PatternTree)
+    → Option EquationParts
 parts_under e g None = Some (direct e (Some g))
-parts_under e g (Some both) = option_and_then (kompiled e both.0) (members e.over e.arguments both.1)
+parts_under e g (Some both) =
+    option_and_then (kompiled e both.0) (members e.over e.arguments both.1)
 
 -- the parts of an equation; none if it has neither form
 abbrev pub parts_with : Statement → Option PatternTree → Option EquationParts

@@ -1,11 +1,14 @@
 -- Which forms occur in a pattern after its folds are read. A fold of one argument is that argument,
 -- and its head is ignored.
 use Rattle.std.specs.Prelude.{ℕ, List, [], ◌∷◌, Bool, true, false, not, ◌||◌, ◌&&◌}
-use Rattle.kore_text.specs.Trees.{PatternTree, element_variable, set_variable, string, symbol_applied, connected}
-use Rattle.kore_text.specs.Trees.{binding, domain_value, folded, PatternTrees, no_patterns, pattern_then}
+use Rattle.kore_text.specs.Trees.{PatternTree, element_variable, set_variable, string}
+use Rattle.kore_text.specs.Trees.{symbol_applied, connected}
+use Rattle.kore_text.specs.Trees.{binding, domain_value, folded, PatternTrees, no_patterns}
+use Rattle.kore_text.specs.Trees.{pattern_then}
 use Rattle.kore_text.specs.Trees.{listed_patterns}
 use Rattle.kore_text.specs.declared.names.Op.{Op}
-use Rattle.kore_text.specs.declared.names.Op.TheVariants.{Top, Bottom, Not, Next, And, Or, Implies, Iff, Rewrites, Ceil}
+use Rattle.kore_text.specs.declared.names.Op.TheVariants.{Top, Bottom, Not, Next, And, Or, Implies}
+use Rattle.kore_text.specs.declared.names.Op.TheVariants.{Iff, Rewrites, Ceil}
 use Rattle.kore_text.specs.declared.names.Op.TheVariants.{Floor, Equals, Member}
 
 abbrev pub is_and : Op → Bool
@@ -64,9 +67,11 @@ abbrev mutual
   fold_has_form sought (element_variable at n s) = covers_others sought
   fold_has_form sought (set_variable at n s) = covers_others sought
   fold_has_form sought (string at text) = covers_others sought
-  fold_has_form sought (symbol_applied at n ss ps) = (is_none (listed_patterns ps) && covers_others sought)
+  fold_has_form sought (symbol_applied at n ss ps) =
+      (is_none (listed_patterns ps) && covers_others sought)
       || have_form sought ps
-  fold_has_form sought (connected at op ss ps) = (not (is_one (listed_patterns ps)) && covers sought op)
+  fold_has_form sought (connected at op ss ps) =
+      (not (is_one (listed_patterns ps)) && covers sought op)
       || have_form sought ps
   fold_has_form sought (binding at b ss x p) = covers_others sought
   fold_has_form sought (domain_value at s text place) = covers_others sought

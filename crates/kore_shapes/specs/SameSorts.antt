@@ -1,8 +1,10 @@
 -- Sorts and variables that are written the same. Places in the text are ignored.
 use Rattle.std.specs.Prelude.{ℕ, List, Bool, true, false, ◌&&◌}
 use Rattle.std.specs.Str.{bytes_eq}
-use Rattle.kore_text.specs.Trees.{SortTree, sort_parameter, sort_applied, SortTrees, no_sorts, sort_then, PatternTree}
-use Rattle.kore_text.specs.Trees.{element_variable, set_variable, string, symbol_applied, connected, binding}
+use Rattle.kore_text.specs.Trees.{SortTree, sort_parameter, sort_applied, SortTrees, no_sorts}
+use Rattle.kore_text.specs.Trees.{sort_then, PatternTree}
+use Rattle.kore_text.specs.Trees.{element_variable, set_variable, string, symbol_applied, connected}
+use Rattle.kore_text.specs.Trees.{binding}
 use Rattle.kore_text.specs.Trees.{domain_value, folded}
 
 abbrev mutual

@@ -1,9 +1,11 @@
 -- The shape of rewrite rules as kompile writes them: `\rewrites{S}(A,B)`. A is the left side, alone
 -- or with a condition in an `\and{S}`. B is the right side, alone or with a `\top{S}()` in an
 -- `\and{S}`. A fold has none of these shapes.
-use Rattle.std.specs.Prelude.{List, [], ◌∷◌, Bool, true, false, ◌&&◌, if◌then◌else◌, Option, Some, None, codes}
+use Rattle.std.specs.Prelude.{List, [], ◌∷◌, Bool, true, false, ◌&&◌, if◌then◌else◌, Option, Some}
+use Rattle.std.specs.Prelude.{None, codes}
 use Rattle.std.specs.Str.{bytes_eq}
-use Rattle.kore_text.specs.Trees.{SortTree, listed_sorts, PatternTree, connected, domain_value, listed_patterns}
+use Rattle.kore_text.specs.Trees.{SortTree, listed_sorts, PatternTree, connected, domain_value}
+use Rattle.kore_text.specs.Trees.{listed_patterns}
 use Rattle.kore_text.specs.declared.names.Op.{Op}
 use Rattle.kore_text.specs.declared.names.Op.TheVariants.{Top, And, Rewrites, Equals}
 use Rattle.kore_shapes.specs.SameSorts.{same_sort}
@@ -92,7 +94,8 @@ is_true_of t p = false
 -- it is in
 abbrev pub condition_with : SortTree → Op → List SortTree → List PatternTree → Condition
 condition_with s Top (t ∷ []) [] = if same_sort s t then always else ill
-condition_with s Equals (t ∷ (u ∷ [])) (b ∷ (v ∷ [])) = if same_sort s u && is_true_of t v then tests t b else ill
+condition_with s Equals (t ∷ (u ∷ [])) (b ∷ (v ∷ [])) =
+    if same_sort s u && is_true_of t v then tests t b else ill
 condition_with s op ts ps = ill
 
 abbrev pub condition_of : SortTree → PatternTree → Condition

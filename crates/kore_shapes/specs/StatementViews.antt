@@ -3,13 +3,13 @@ use Rattle.std.specs.Prelude.{ℕ, List, map, option_map}
 use Rattle.std.specs.Borrow.{Bor}
 use Rattle.kore_text.specs.Trees.{PatternTree}
 use Rattle.kore_ast.specs.declared.tree.Pat.{Pat}
-use Rattle.kore_ast.specs.Plain.{plain_sort, plain_pattern}
+use Rattle.kore_ast.specs.Plain.{plain_sort, pattern_tree}
 use Rattle.kore_shapes.specs.declared.statements.Statement.{Statement}
 use Rattle.kore_shapes.specs.Statements.{Statement as StatementTree}
 use Rattle.kore_shapes.specs.Views.{pattern_at}
 
 abbrev pub plain_call : Bor (List ℕ) × Bor (List Pat) → List ℕ × List PatternTree
-plain_call call = (call.0.now, map plain_pattern call.1.now)
+plain_call call = (call.0.now, map pattern_tree call.1.now)
 
 abbrev pub plain_statement : Statement → StatementTree
 plain_statement e = record {
@@ -17,6 +17,6 @@ plain_statement e = record {
   sort = plain_sort e.sort.now;
   over = plain_sort e.over.now;
   function = e.function.now;
-  arguments = map plain_pattern e.arguments.now;
-  value = plain_pattern e.value.now;
+  arguments = map pattern_tree e.arguments.now;
+  value = pattern_tree e.value.now;
 }

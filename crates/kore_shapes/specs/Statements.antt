@@ -2,7 +2,8 @@
 -- in `\implies{R}(g,..)`.
 use Rattle.std.specs.Prelude.{ℕ, List, [], ◌∷◌, if◌then◌else◌, Option, Some, None, option_map}
 use Rattle.std.specs.Option.{option_and_then}
-use Rattle.kore_text.specs.Trees.{SortTree, listed_sorts, PatternTree, symbol_applied, connected, listed_patterns}
+use Rattle.kore_text.specs.Trees.{SortTree, listed_sorts, PatternTree, symbol_applied, connected}
+use Rattle.kore_text.specs.Trees.{listed_patterns}
 use Rattle.kore_text.specs.declared.names.Op.{Op}
 use Rattle.kore_text.specs.declared.names.Op.TheVariants.{Implies, Equals}
 use Rattle.kore_shapes.specs.SameSorts.{same_sort}
@@ -26,7 +27,8 @@ called (symbol_applied at f ss ps) = call_of f (listed_sorts ss) (listed_pattern
 called p = None
 
 -- the equality of a call and this value
-abbrev pub equality_of_call : SortTree → SortTree → PatternTree → List ℕ × List PatternTree → Statement
+abbrev pub equality_of_call : SortTree → SortTree → PatternTree → List ℕ × List PatternTree
+    → Statement
 equality_of_call s r d call =
     record { guard = None; sort = s; over = r; function = call.0; arguments = call.1; value = d }
 

@@ -2,15 +2,23 @@
 ghost use Rattle.std.specs.Prelude.{◌≡◌, ◌∷◌, ◌&&◌, map, option_map, IfOk};
 ghost use Rattle.std.specs.List.{list_any};
 ghost use Rattle.kore_text.specs.Trees.{pattern_trees};
-ghost use Rattle.kore_ast.specs.Plain.{plain_sort, plain_pattern};
-ghost use Rattle.kore_shapes.specs.EquationForms.{top_with as the_top_with, is_top_of as is_the_top};
-ghost use Rattle.kore_shapes.specs.EquationForms.{conjuncts as the_conjuncts, conjuncts_with as the_conjuncts_with};
-ghost use Rattle.kore_shapes.specs.EquationForms.{right_side as the_right_side, is_member as is_the_member};
-ghost use Rattle.kore_shapes.specs.EquationForms.{member as the_member, member_with as the_member_with};
-ghost use Rattle.kore_shapes.specs.EquationForms.{entry as the_entry, members as the_members, has_variable as has_one};
-ghost use Rattle.kore_shapes.specs.EquationForms.{have_variable as have_one, stands_alone as does_stand_alone};
-ghost use Rattle.kore_shapes.specs.EquationForms.{stand_apart as do_stand_apart, direct as the_direct};
-ghost use Rattle.kore_shapes.specs.EquationForms.{kompiled as the_kompiled, equation_parts as the_parts};
+ghost use Rattle.kore_ast.specs.Plain.{plain_sort, pattern_tree};
+ghost use Rattle.kore_shapes.specs.EquationForms.{top_with as the_top_with};
+ghost use Rattle.kore_shapes.specs.EquationForms.{is_top_of as is_the_top};
+ghost use Rattle.kore_shapes.specs.EquationForms.{conjuncts as the_conjuncts};
+ghost use Rattle.kore_shapes.specs.EquationForms.{conjuncts_with as the_conjuncts_with};
+ghost use Rattle.kore_shapes.specs.EquationForms.{right_side as the_right_side};
+ghost use Rattle.kore_shapes.specs.EquationForms.{is_member as is_the_member};
+ghost use Rattle.kore_shapes.specs.EquationForms.{member as the_member};
+ghost use Rattle.kore_shapes.specs.EquationForms.{member_with as the_member_with};
+ghost use Rattle.kore_shapes.specs.EquationForms.{entry as the_entry, members as the_members};
+ghost use Rattle.kore_shapes.specs.EquationForms.{has_variable as has_one};
+ghost use Rattle.kore_shapes.specs.EquationForms.{have_variable as have_one};
+ghost use Rattle.kore_shapes.specs.EquationForms.{stands_alone as does_stand_alone};
+ghost use Rattle.kore_shapes.specs.EquationForms.{occur_nowhere_else as do_stand_apart};
+ghost use Rattle.kore_shapes.specs.EquationForms.{direct as the_direct};
+ghost use Rattle.kore_shapes.specs.EquationForms.{kompiled as the_kompiled};
+ghost use Rattle.kore_shapes.specs.EquationForms.{equation_parts as the_parts};
 ghost use Rattle.kore_shapes.specs.Views.{pattern_at};
 ghost use Rattle.kore_shapes.specs.EquationViews.{plain_pair, patterns_at};
 ghost use Rattle.kore_shapes.specs.StatementViews.{plain_statement};
@@ -23,7 +31,7 @@ use std::alloc::{AllocError, Global};
 
 /// Whether the pattern is `\top{S}()` of this sort S.
 fn is_top_of(pat: &Pat, sort: &Sort) -> bool
-    ensures { result ≡ is_the_top (plain_sort sort.now) (plain_pattern pat.now) }
+    ensures { result ≡ is_the_top (plain_sort sort.now) (pattern_tree pat.now) }
 {
     match &pat.form {
         PatForm::Built(op, sorts, args) => top_with(*op, sorts, args, sort),
@@ -32,7 +40,9 @@ fn is_top_of(pat: &Pat, sort: &Sort) -> bool
 }
 
 fn top_with(op: Op, sorts: &[Sort], args: &[Pat], sort: &Sort) -> bool
-    ensures { result ≡ the_top_with (plain_sort sort.now) op (map plain_sort sorts.now) (map plain_pattern args.now) }
+    ensures { result
+        ≡ the_top_with (plain_sort sort.now) op (map plain_sort sorts.now)
+        (map pattern_tree args.now) }
 {
     match (op, sorts, args) {
         (Op::Top, [own], []) => same_sort(sort, own),
@@ -42,7 +52,8 @@ fn top_with(op: Op, sorts: &[Sort], args: &[Pat], sort: &Sort) -> bool
 
 /// The two patterns of `\and{S}(p,q)` of this sort S. Returns none for any other pattern.
 fn conjuncts<'a>(pat: &'a Pat, sort: &Sort) -> Option<(&'a Pat, &'a Pat)>
-    ensures { option_map plain_pair result ≡ the_conjuncts (plain_sort sort.now) (plain_pattern pat.now) }
+    ensures { option_map plain_pair result
+        ≡ the_conjuncts (plain_sort sort.now) (pattern_tree pat.now) }
 {
     match &pat.form {
         PatForm::Built(op, sorts, args) => conjuncts_with(*op, sorts, args, sort),
@@ -57,7 +68,8 @@ fn conjuncts_with<'a>(
     sort: &Sort,
 ) -> Option<(&'a Pat, &'a Pat)>
     ensures { option_map plain_pair result
-        ≡ the_conjuncts_with (plain_sort sort.now) op (map plain_sort sorts.now) (map plain_pattern args.now) }
+        ≡ the_conjuncts_with (plain_sort sort.now) op (map plain_sort sorts.now)
+        (map pattern_tree args.now) }
 {
     match (op, sorts, args) {
         (Op::And, [own], [first, second]) if same_sort(sort, own) => Some((first, second)),
@@ -67,7 +79,8 @@ fn conjuncts_with<'a>(
 
 /// The right side: r for `\and{S}(r,\top{S}())`, and any other pattern itself.
 fn right_side<'a>(value: &'a Pat, sort: &Sort) -> &'a Pat
-    ensures { plain_pattern result.now ≡ the_right_side (plain_sort sort.now) (plain_pattern value.now) }
+    ensures { pattern_tree result.now
+        ≡ the_right_side (plain_sort sort.now) (pattern_tree value.now) }
 {
     match conjuncts(value, sort) {
         Some((right, top)) if is_top_of(top, sort) => right,
@@ -77,7 +90,8 @@ fn right_side<'a>(value: &'a Pat, sort: &Sort) -> &'a Pat
 
 /// Whether both patterns are the same element variable and it has this sort.
 fn is_member(sort: &Sort, variable: &Pat, pat: &Pat) -> bool
-    ensures { result ≡ is_the_member (plain_sort sort.now) (plain_pattern variable.now) (plain_pattern pat.now) }
+    ensures { result
+        ≡ is_the_member (plain_sort sort.now) (pattern_tree variable.now) (pattern_tree pat.now) }
 {
     match &variable.form {
         PatForm::Elem(name, own) => same_sort(sort, own) && is_variable(pat, name.as_str(), own),
@@ -89,7 +103,7 @@ fn is_member(sort: &Sort, variable: &Pat, pat: &Pat) -> bool
 /// other pattern.
 fn member<'a>(pat: &'a Pat, over: &Sort, variable: &Pat) -> Option<&'a Pat>
     ensures { option_map pattern_at result
-        ≡ the_member (plain_sort over.now) (plain_pattern variable.now) (plain_pattern pat.now) }
+        ≡ the_member (plain_sort over.now) (pattern_tree variable.now) (pattern_tree pat.now) }
 {
     match &pat.form {
         PatForm::Built(op, sorts, args) => member_with(*op, sorts, args, over, variable),
@@ -105,8 +119,9 @@ fn member_with<'a>(
     variable: &Pat,
 ) -> Option<&'a Pat>
     ensures { option_map pattern_at result
-        ≡ the_member_with (plain_sort over.now) (plain_pattern variable.now) op (map plain_sort sorts.now)
-        (map plain_pattern args.now) }
+        ≡ the_member_with (plain_sort over.now) (pattern_tree variable.now) op
+        (map plain_sort sorts.now)
+        (map pattern_tree args.now) }
 {
     match (op, sorts, args) {
         (Op::Member, [sort, own], [of, pattern])
@@ -119,7 +134,7 @@ fn member_with<'a>(
 /// X. Returns none for any other pattern.
 fn entry<'a>(guard: &'a Pat, over: &Sort, variable: &Pat) -> Option<(&'a Pat, &'a Pat)>
     ensures { option_map plain_pair result
-        ≡ the_entry (plain_sort over.now) (plain_pattern variable.now) (plain_pattern guard.now) }
+        ≡ the_entry (plain_sort over.now) (pattern_tree variable.now) (pattern_tree guard.now) }
 {
     let (first, rest) = conjuncts(guard, over)?;
     let pattern = member(first, over, variable)?;
@@ -136,7 +151,8 @@ fn members<'a>(
     variables: &[Pat],
 ) -> Result<Option<Vec<&'a Pat>>, AllocError>
     ensures { IfOk result (λ found. option_map patterns_at found
-        ≡ the_members (plain_sort over.now) (map plain_pattern variables.now) (plain_pattern guard.now)) }
+        ≡ the_members (plain_sort over.now) (map pattern_tree variables.now)
+        (pattern_tree guard.now)) }
 {
     let mut patterns = Vec::new(alloc);
     let mut rest = guard;
@@ -157,7 +173,7 @@ fn members<'a>(
 /// Whether an element variable of this name and sort occurs in the pattern.
 #[cycle(variable)]
 fn has_variable(pat: &Pat, name: &str, sort: &Sort) -> bool
-    ensures { result ≡ has_one name.now (plain_sort sort.now) (plain_pattern pat.now) }
+    ensures { result ≡ has_one name.now (plain_sort sort.now) (pattern_tree pat.now) }
 {
     match &pat.form {
         PatForm::Elem(..) => is_variable(pat, name, sort),
@@ -172,7 +188,8 @@ fn has_variable(pat: &Pat, name: &str, sort: &Sort) -> bool
 
 #[cycle(variable)]
 fn have_variable(pats: &[Pat], name: &str, sort: &Sort) -> bool
-    ensures { result ≡ have_one name.now (plain_sort sort.now) (pattern_trees (map plain_pattern pats.now)) }
+    ensures { result
+        ≡ have_one name.now (plain_sort sort.now) (pattern_trees (map pattern_tree pats.now)) }
 {
     for pat in pats {
         if has_variable(pat, name, sort) {
@@ -184,7 +201,8 @@ fn have_variable(pats: &[Pat], name: &str, sort: &Sort) -> bool
 
 /// Whether the variable occurs in one of the patterns.
 fn is_in(name: &str, sort: &Sort, pats: &[Pat]) -> bool
-    ensures { result ≡ list_any (has_one name.now (plain_sort sort.now)) (map plain_pattern pats.now) }
+    ensures { result
+        ≡ list_any (has_one name.now (plain_sort sort.now)) (map pattern_tree pats.now) }
 {
     for pat in pats {
         if has_variable(pat, name, sort) {
@@ -208,16 +226,16 @@ fn is_beside(name: &str, sort: &Sort, pats: &[&Pat]) -> bool
 
 /// Whether the pattern is an element variable that occurs in none of the others: those after it,
 /// the condition, the value, and the patterns of the guard.
-fn stands_apart(
+fn occurs_nowhere_else(
     variable: &Pat,
     later: &[Pat],
     condition: &Pat,
     value: &Pat,
     patterns: &[&Pat],
 ) -> bool
-    ensures { result ≡ (does_stand_alone (plain_pattern variable.now) (map plain_pattern later.now)
-        && does_stand_alone (plain_pattern variable.now) (plain_pattern condition.now
-        ∷ (plain_pattern value.now ∷ map pattern_at patterns.now))) }
+    ensures { result ≡ (does_stand_alone (pattern_tree variable.now) (map pattern_tree later.now)
+        && does_stand_alone (pattern_tree variable.now) (pattern_tree condition.now
+        ∷ (pattern_tree value.now ∷ map pattern_at patterns.now))) }
 {
     match &variable.form {
         PatForm::Elem(name, sort) => {
@@ -234,12 +252,12 @@ fn stands_apart(
 /// Whether the variables are element variables, and each of them occurs neither in those after it
 /// nor in the other patterns. It goes through all patterns once for each variable. A function has
 /// at most 64 arguments.
-fn stand_apart(variables: &[Pat], condition: &Pat, value: &Pat, patterns: &[&Pat]) -> bool
-    ensures { result ≡ do_stand_apart (map plain_pattern variables.now) (plain_pattern condition.now
-        ∷ (plain_pattern value.now ∷ map pattern_at patterns.now)) }
+fn occur_nowhere_else(variables: &[Pat], condition: &Pat, value: &Pat, patterns: &[&Pat]) -> bool
+    ensures { result ≡ do_stand_apart (map pattern_tree variables.now) (pattern_tree condition.now
+        ∷ (pattern_tree value.now ∷ map pattern_at patterns.now)) }
 {
     for i in 0..variables.len() {
-        if !stands_apart(
+        if !occurs_nowhere_else(
             &variables[i],
             &variables[i + 1..],
             condition,
@@ -284,7 +302,7 @@ fn direct<'a>(
 
 /// The patterns, borrowed one by one.
 fn borrowed<'a>(alloc: Global, pats: &'a [Pat]) -> Result<Vec<&'a Pat>, AllocError>
-    ensures { IfOk result (λ all. patterns_at all ≡ map plain_pattern pats.now) }
+    ensures { IfOk result (λ all. patterns_at all ≡ map pattern_tree pats.now) }
 {
     let mut all = Vec::with_capacity(alloc, pats.len())?;
     for pat in pats {
@@ -301,9 +319,10 @@ fn kompiled<'a>(
     patterns: Vec<&'a Pat>,
 ) -> Option<EquationParts<'a>>
     ensures { option_map plain_parts result
-        ≡ the_kompiled (plain_statement stated.now) (plain_pattern condition.now) (patterns_at patterns.entry) }
+        ≡ the_kompiled (plain_statement stated.now) (pattern_tree condition.now)
+        (patterns_at patterns.entry) }
 {
-    if !stand_apart(stated.arguments, condition, stated.value, &patterns) {
+    if !occur_nowhere_else(stated.arguments, condition, stated.value, &patterns) {
         return None;
     }
     Some(EquationParts {
@@ -320,7 +339,8 @@ pub fn equation_parts<'a>(
     alloc: Global,
     stated: &Statement<'a>,
 ) -> Result<Option<EquationParts<'a>>, AllocError>
-    ensures { IfOk result (λ parts. option_map plain_parts parts ≡ the_parts (plain_statement stated.now)) }
+    ensures { IfOk result
+        (λ parts. option_map plain_parts parts ≡ the_parts (plain_statement stated.now)) }
 {
     let Some(guard) = stated.guard else {
         return Ok(Some(direct(alloc, stated, None)?));

@@ -1,10 +1,13 @@
 // Which forms occur in a pattern.
 ghost use Rattle.std.specs.Prelude.{◌≡◌, ◌&&◌, not, map};
 ghost use Rattle.kore_text.specs.Trees.{pattern_trees};
-ghost use Rattle.kore_ast.specs.Plain.{plain_pattern};
-ghost use Rattle.kore_shapes.specs.Forms.{has_form as has_one, have_form as have_one, fold_has_form as fold_has_one};
-ghost use Rattle.kore_shapes.specs.Forms.{is_one as there_is_one, is_none as there_is_none, covers as does_cover};
-ghost use Rattle.kore_shapes.specs.Forms.{covers_others as does_cover_others, has_binder as has_one_binder};
+ghost use Rattle.kore_ast.specs.Plain.{pattern_tree};
+ghost use Rattle.kore_shapes.specs.Forms.{has_form as has_one, have_form as have_one};
+ghost use Rattle.kore_shapes.specs.Forms.{fold_has_form as fold_has_one};
+ghost use Rattle.kore_shapes.specs.Forms.{is_one as there_is_one, is_none as there_is_none};
+ghost use Rattle.kore_shapes.specs.Forms.{covers as does_cover};
+ghost use Rattle.kore_shapes.specs.Forms.{covers_others as does_cover_others};
+ghost use Rattle.kore_shapes.specs.Forms.{has_binder as has_one_binder};
 ghost use Rattle.kore_shapes.specs.Forms.{have_binder as have_one_binder};
 ghost use Rattle.kore_shapes.specs.SoughtForms.{sought as sought_forms};
 
@@ -45,7 +48,7 @@ fn covers_others(sought: SoughtForms) -> bool
 /// fold of one argument is ignored. It goes through the pattern once.
 #[cycle(forms)]
 pub fn has_form(pat: &Pat, sought: SoughtForms) -> bool
-    ensures { result ≡ has_one (sought_forms sought) (plain_pattern pat.now) }
+    ensures { result ≡ has_one (sought_forms sought) (pattern_tree pat.now) }
 {
     match &pat.form {
         PatForm::App(_, _, args) => have_form(args, sought),
@@ -59,7 +62,7 @@ pub fn has_form(pat: &Pat, sought: SoughtForms) -> bool
 
 #[cycle(forms)]
 fn have_form(pats: &[Pat], sought: SoughtForms) -> bool
-    ensures { result ≡ have_one (sought_forms sought) (pattern_trees (map plain_pattern pats.now)) }
+    ensures { result ≡ have_one (sought_forms sought) (pattern_trees (map pattern_tree pats.now)) }
 {
     for pat in pats {
         if has_form(pat, sought) {
@@ -73,7 +76,7 @@ fn have_form(pats: &[Pat], sought: SoughtForms) -> bool
 /// or of a connective, with an argument.
 #[cycle(forms)]
 fn fold_has_form(pat: &Pat, sought: SoughtForms) -> bool
-    ensures { result ≡ fold_has_one (sought_forms sought) (plain_pattern pat.now) }
+    ensures { result ≡ fold_has_one (sought_forms sought) (pattern_tree pat.now) }
 {
     match &pat.form {
         PatForm::App(_, _, args) => is_empty_fold(args, sought) || have_form(args, sought),
@@ -85,7 +88,8 @@ fn fold_has_form(pat: &Pat, sought: SoughtForms) -> bool
 
 /// Whether there are no patterns, and a fold without arguments is among the sought forms.
 fn is_empty_fold(pats: &[Pat], sought: SoughtForms) -> bool
-    ensures { result ≡ (there_is_none (map plain_pattern pats.now) && does_cover_others (sought_forms sought)) }
+    ensures { result
+        ≡ (there_is_none (map pattern_tree pats.now) && does_cover_others (sought_forms sought)) }
 {
     matches!(pats, []) && covers_others(sought)
 }
@@ -93,7 +97,8 @@ fn is_empty_fold(pats: &[Pat], sought: SoughtForms) -> bool
 /// Whether the connective of a fold of these patterns counts, and is among the sought forms. It
 /// does not count in a fold of one pattern.
 fn is_head(pats: &[Pat], sought: SoughtForms, op: Op) -> bool
-    ensures { result ≡ (not (there_is_one (map plain_pattern pats.now)) && does_cover (sought_forms sought) op) }
+    ensures { result
+        ≡ (not (there_is_one (map pattern_tree pats.now)) && does_cover (sought_forms sought) op) }
 {
     !matches!(pats, [_]) && covers(sought, op)
 }
@@ -102,7 +107,7 @@ fn is_head(pats: &[Pat], sought: SoughtForms, op: Op) -> bool
 /// pattern once.
 #[cycle(binder)]
 pub fn has_binder(pat: &Pat) -> bool
-    ensures { result ≡ has_one_binder (plain_pattern pat.now) }
+    ensures { result ≡ has_one_binder (pattern_tree pat.now) }
 {
     match &pat.form {
         PatForm::SetVar(..) | PatForm::Bound(..) => true,
@@ -114,7 +119,7 @@ pub fn has_binder(pat: &Pat) -> bool
 
 #[cycle(binder)]
 fn have_binder(pats: &[Pat]) -> bool
-    ensures { result ≡ have_one_binder (pattern_trees (map plain_pattern pats.now)) }
+    ensures { result ≡ have_one_binder (pattern_trees (map pattern_tree pats.now)) }
 {
     for pat in pats {
         if has_binder(pat) {

@@ -1,7 +1,7 @@
 // Sorts and variables that are written the same.
 ghost use Rattle.std.specs.Prelude.{◌≡◌, map};
 ghost use Rattle.kore_text.specs.Trees.{sort_trees};
-ghost use Rattle.kore_ast.specs.Plain.{plain_sort, plain_pattern};
+ghost use Rattle.kore_ast.specs.Plain.{plain_sort, pattern_tree};
 ghost use Rattle.kore_shapes.specs.SameSorts.{same_sort as are_same, same_sorts as all_same};
 ghost use Rattle.kore_shapes.specs.SameSorts.{is_variable as is_the_variable};
 
@@ -23,7 +23,9 @@ pub fn same_sort(sort: &Sort, other: &Sort) -> bool
 
 #[cycle(same)]
 fn same_sorts(sorts: &[Sort], others: &[Sort]) -> bool
-    ensures { result ≡ all_same (sort_trees (map plain_sort sorts.now)) (sort_trees (map plain_sort others.now)) }
+    ensures { result
+        ≡ all_same (sort_trees (map plain_sort sorts.now))
+        (sort_trees (map plain_sort others.now)) }
 {
     if sorts.len() != others.len() {
         return false;
@@ -38,7 +40,7 @@ fn same_sorts(sorts: &[Sort], others: &[Sort]) -> bool
 
 /// Whether the pattern is the element variable of this name and sort.
 pub fn is_variable(pat: &Pat, name: &str, sort: &Sort) -> bool
-    ensures { result ≡ is_the_variable name.now (plain_sort sort.now) (plain_pattern pat.now) }
+    ensures { result ≡ is_the_variable name.now (plain_sort sort.now) (pattern_tree pat.now) }
 {
     match &pat.form {
         PatForm::Elem(own, of) => name == own.as_str() && same_sort(sort, of),

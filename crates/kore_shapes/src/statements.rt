@@ -1,10 +1,13 @@
 // How equations of functions are written.
 ghost use Rattle.std.specs.Prelude.{◌≡◌, map, option_map};
 ghost use Rattle.std.specs.Option.{option_and_then};
-ghost use Rattle.kore_ast.specs.Plain.{plain_sort, plain_pattern};
-ghost use Rattle.kore_shapes.specs.Statements.{called as the_called, call_of as the_call_of, equality as the_equality};
-ghost use Rattle.kore_shapes.specs.Statements.{equality_with as the_equality_with, guarded as the_guarded};
-ghost use Rattle.kore_shapes.specs.Statements.{statement as the_statement, statement_with as the_statement_with};
+ghost use Rattle.kore_ast.specs.Plain.{plain_sort, pattern_tree};
+ghost use Rattle.kore_shapes.specs.Statements.{called as the_called, call_of as the_call_of};
+ghost use Rattle.kore_shapes.specs.Statements.{equality as the_equality};
+ghost use Rattle.kore_shapes.specs.Statements.{equality_with as the_equality_with};
+ghost use Rattle.kore_shapes.specs.Statements.{guarded as the_guarded};
+ghost use Rattle.kore_shapes.specs.Statements.{statement as the_statement};
+ghost use Rattle.kore_shapes.specs.Statements.{statement_with as the_statement_with};
 ghost use Rattle.kore_shapes.specs.StatementViews.{plain_statement, plain_call};
 
 use crate::sorts::same_sort;
@@ -30,7 +33,7 @@ pub struct Statement<'a> {
 /// The parts of a pattern `\equals{S,R}(f{}(..),d)` or `\implies{R}(g,\equals{S,R}(f{}(..),d))`.
 /// Returns none for any other pattern.
 pub fn statement_at(pat: &Pat) -> Option<Statement<'_>>
-    ensures { option_map plain_statement result ≡ the_statement (plain_pattern pat.now) }
+    ensures { option_map plain_statement result ≡ the_statement (pattern_tree pat.now) }
 {
     match &pat.form {
         PatForm::Built(op, sorts, args) => statement_with(*op, sorts, args),
@@ -40,7 +43,7 @@ pub fn statement_at(pat: &Pat) -> Option<Statement<'_>>
 
 fn statement_with<'a>(op: Op, sorts: &'a [Sort], args: &'a [Pat]) -> Option<Statement<'a>>
     ensures { option_map plain_statement result
-        ≡ the_statement_with op (map plain_sort sorts.now) (map plain_pattern args.now) }
+        ≡ the_statement_with op (map plain_sort sorts.now) (map pattern_tree args.now) }
 {
     match (op, sorts, args) {
         (Op::Implies, [over], [guard, stated]) => guarded(over, guard, stated),
@@ -52,8 +55,8 @@ fn statement_with<'a>(op: Op, sorts: &'a [Sort], args: &'a [Pat]) -> Option<Stat
 /// one than the guard's.
 fn guarded<'a>(over: &Sort, guard: &'a Pat, stated: &'a Pat) -> Option<Statement<'a>>
     ensures { option_map plain_statement result
-        ≡ option_and_then (the_guarded (plain_sort over.now) (plain_pattern guard.now))
-        (the_equality (plain_pattern stated.now)) }
+        ≡ option_and_then (the_guarded (plain_sort over.now) (pattern_tree guard.now))
+        (the_equality (pattern_tree stated.now)) }
 {
     let equality = equality(stated)?;
     if !same_sort(over, equality.over) {
@@ -66,7 +69,7 @@ fn guarded<'a>(over: &Sort, guard: &'a Pat, stated: &'a Pat) -> Option<Statement
 }
 
 fn equality(pat: &Pat) -> Option<Statement<'_>>
-    ensures { option_map plain_statement result ≡ the_equality (plain_pattern pat.now) }
+    ensures { option_map plain_statement result ≡ the_equality (pattern_tree pat.now) }
 {
     match &pat.form {
         PatForm::Built(op, sorts, args) => equality_with(*op, sorts, args),
@@ -76,7 +79,7 @@ fn equality(pat: &Pat) -> Option<Statement<'_>>
 
 fn equality_with<'a>(op: Op, sorts: &'a [Sort], args: &'a [Pat]) -> Option<Statement<'a>>
     ensures { option_map plain_statement result
-        ≡ the_equality_with op (map plain_sort sorts.now) (map plain_pattern args.now) }
+        ≡ the_equality_with op (map plain_sort sorts.now) (map pattern_tree args.now) }
 {
     match (op, sorts, args) {
         (Op::Equals, [sort, over], [left, value]) => {
@@ -96,7 +99,7 @@ fn equality_with<'a>(op: Op, sorts: &'a [Sort], args: &'a [Pat]) -> Option<State
 
 /// The symbol and the arguments of `f{}(..)`. Returns none for any other pattern.
 fn called(pat: &Pat) -> Option<(&Text, &[Pat])>
-    ensures { option_map plain_call result ≡ the_called (plain_pattern pat.now) }
+    ensures { option_map plain_call result ≡ the_called (pattern_tree pat.now) }
 {
     match &pat.form {
         PatForm::App(name, sorts, args) => call_of(name, sorts, args),
@@ -106,7 +109,7 @@ fn called(pat: &Pat) -> Option<(&Text, &[Pat])>
 
 fn call_of<'a>(name: &'a Text, sorts: &[Sort], args: &'a [Pat]) -> Option<(&'a Text, &'a [Pat])>
     ensures { option_map plain_call result
-        ≡ the_call_of name.now (map plain_sort sorts.now) (map plain_pattern args.now) }
+        ≡ the_call_of name.now (map plain_sort sorts.now) (map pattern_tree args.now) }
 {
     match sorts {
         [] => Some((name, args)),

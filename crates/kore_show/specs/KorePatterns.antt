@@ -1,16 +1,20 @@
 -- The Kore pattern of a pattern of a rule, with the names that its signature declares (Kore
 -- language document, "Patterns"). It does not come from a text, so each place is 0.
-use Rattle.std.specs.Prelude.{ℕ, List, [], ◌∷◌, Bool, true, false, Option, Some, None, option_map, slice_get, codes}
+use Rattle.std.specs.Prelude.{ℕ, List, [], ◌∷◌, Bool, true, false, Option, Some, None, option_map}
+use Rattle.std.specs.Prelude.{slice_get, codes}
 use Rattle.std.specs.Prelude.{if◌then◌else◌}
 use Rattle.std.specs.Fmt.{signed_decimal}
 use Rattle.term_core.specs.Terms.{DomainValue, integer, truth, text}
-use Rattle.term_core.specs.Patterns.{Pattern, Patterns, variable, domain_value, application, injection, call}
+use Rattle.term_core.specs.Patterns.{Pattern, Patterns, variable, domain_value, application}
+use Rattle.term_core.specs.Patterns.{injection, call}
 use Rattle.term_core.specs.Patterns.{no_pattern, more_patterns}
 use Rattle.rule_core.specs.declared.signature.Signature.{Signature}
 use Rattle.rule_core.specs.declared.signature.SymInfo.{SymInfo}
 use Rattle.rule_core.specs.declared.signature.SymKind.{SymKind}
-use Rattle.rule_core.specs.declared.signature.SymKind.TheVariants.{Injection, Ctor, Equations, Hooked, Closed, NoKind}
-use Rattle.kore_text.specs.Trees.{SortTree, sort_applied, no_sorts, sort_trees, PatternTree, PatternTrees}
+use Rattle.rule_core.specs.declared.signature.SymKind.TheVariants.{Injection, Ctor, Equations}
+use Rattle.rule_core.specs.declared.signature.SymKind.TheVariants.{Hooked, Closed, NoKind}
+use Rattle.kore_text.specs.Trees.{SortTree, sort_applied, no_sorts, sort_trees, PatternTree}
+use Rattle.kore_text.specs.Trees.{PatternTrees}
 use Rattle.kore_text.specs.Trees.{symbol_applied, no_patterns, pattern_then}
 use Rattle.kore_text.specs.Trees as tree
 
@@ -41,7 +45,8 @@ injection_name (e ∷ es) = if injects e.1.kind then Some e.0 else injection_nam
 
 -- a declared sort
 abbrev pub kore_sort : Signature → ℕ → Option SortTree
-kore_sort sig s = option_map (λ (name : List ℕ). sort_applied 0 name no_sorts) (declared_name sig.sorts s)
+kore_sort sig s =
+    option_map (λ (name : List ℕ). sort_applied 0 name no_sorts) (declared_name sig.sorts s)
 
 -- a sort and more sorts
 abbrev pub with_sort : Option SortTree → Option (List SortTree) → Option (List SortTree)
@@ -59,7 +64,8 @@ kore_value None v = None
 kore_value (Some s) v = Some (tree.domain_value 0 s (value_text v) 0)
 
 -- a symbol of this name, at these sorts, applied to these arguments
-abbrev pub applied : Option (List ℕ) → Option (List SortTree) → Option PatternTrees → Option PatternTree
+abbrev pub applied : Option (List ℕ) → Option (List SortTree) → Option PatternTrees
+    → Option PatternTree
 applied None sorts args = None
 applied (Some name) None args = None
 applied (Some name) (Some sorts) None = None

@@ -1,9 +1,11 @@
 // The names of sorts and symbols, and the texts of values.
-ghost use Rattle.std.specs.Prelude.{◌≡◌, ℕ, List, IsSome, IfOk, IfSome, IfNone, None, Some, map, slice_get};
+ghost use Rattle.std.specs.Prelude.{◌≡◌, ℕ, List, IsSome, IfOk, IfSome, IfNone, None, Some, map};
+ghost use Rattle.std.specs.Prelude.{slice_get};
 ghost use Rattle.kore_ast.specs.Plain.{plain_sort};
 ghost use Rattle.term_core.specs.Values.{value_of};
 ghost use Rattle.term_core.specs.RulePatterns.{sort_numbers};
-ghost use Rattle.kore_show.specs.KorePatterns.{declared_name, injection_name, value_text, injects, kore_sort};
+ghost use Rattle.kore_show.specs.KorePatterns.{declared_name, injection_name, value_text, injects};
+ghost use Rattle.kore_show.specs.KorePatterns.{kore_sort};
 ghost use Rattle.kore_show.specs.KorePatterns.{kore_sorts};
 ghost use Rattle.rule_core.specs.declared.signature.SymInfo.{SymInfo};
 
@@ -28,7 +30,8 @@ pub(crate) fn injection_symbol(symbols: &Table<SymInfo>) -> Option<usize>
 
 // Whether the symbol with this number is an injection symbol.
 fn injects(symbols: &Table<SymInfo>, n: usize) -> bool
-    ensures { (name : List ℕ) (info : SymInfo) → slice_get symbols.now n ≡ Some (name, info) → result
+    ensures { (name : List ℕ) (info : SymInfo) → slice_get symbols.now n ≡ Some (name, info)
+        → result
         ≡ injects info.kind }
 {
     match symbols.value(n) {
@@ -71,7 +74,8 @@ pub(crate) fn sorts_of(
     sorts: &[SortId],
 ) -> Result<Vec<Sort>, AllocError>
     requires { IsSome (kore_sorts sig.now (sort_numbers sorts.now)) }
-    ensures { IfOk result (λ ss. kore_sorts sig.now (sort_numbers sorts.now) ≡ Some (map plain_sort ss.items)) }
+    ensures { IfOk result
+        (λ ss. kore_sorts sig.now (sort_numbers sorts.now) ≡ Some (map plain_sort ss.items)) }
 {
     let mut named = Vec::with_capacity(alloc, sorts.len())?;
     for i in 0..sorts.len() {

@@ -1,10 +1,11 @@
 // The Kore pattern of a pattern of a rule.
 ghost use Rattle.std.specs.Prelude.{◌≡◌, IsSome, IfOk, Some, map, Option, IfSome, IfNone, None, ℕ};
-ghost use Rattle.kore_ast.specs.Plain.{plain_pattern as kore_tree};
+ghost use Rattle.kore_ast.specs.Plain.{pattern_tree as kore_tree};
 ghost use Rattle.kore_text.specs.Trees.{pattern_trees};
 ghost use Rattle.term_core.specs.RulePatterns.{plain_pattern};
 ghost use Rattle.term_core.specs.PatternLists.{plain_patterns};
-ghost use Rattle.kore_show.specs.KorePatterns.{declared_name, injection_name, kore_pattern, kore_patterns};
+ghost use Rattle.kore_show.specs.KorePatterns.{declared_name, injection_name, kore_pattern};
+ghost use Rattle.kore_show.specs.KorePatterns.{kore_patterns};
 
 use crate::names::{injection_symbol, name_of, sort_of, sorts_of, text_of};
 use kore_ast::{Pat, PatForm};
@@ -36,7 +37,8 @@ fn shown_at(
     pat: &RulePat,
 ) -> Result<Pat, AllocError>
     requires shown { IsSome (kore_pattern sig.now (plain_pattern pat.now)) }
-    requires found { IfSome injection (λ n. declared_name sig.now.symbols n ≡ injection_name sig.now.symbols) }
+    requires found { IfSome injection
+        (λ n. declared_name sig.now.symbols n ≡ injection_name sig.now.symbols) }
     requires none { IfNone injection (injection_name sig.now.symbols ≡ None) }
     ensures { IfOk result (λ p. kore_pattern sig.now (plain_pattern pat.now) ≡ Some (kore_tree p)) }
 {
@@ -81,7 +83,8 @@ fn all_shown(
     pats: &[RulePat],
 ) -> Result<Vec<Pat>, AllocError>
     requires shown { IsSome (kore_patterns sig.now (plain_patterns pats.now)) }
-    requires found { IfSome injection (λ n. declared_name sig.now.symbols n ≡ injection_name sig.now.symbols) }
+    requires found { IfSome injection
+        (λ n. declared_name sig.now.symbols n ≡ injection_name sig.now.symbols) }
     requires none { IfNone injection (injection_name sig.now.symbols ≡ None) }
     ensures { IfOk result (λ ps. kore_patterns sig.now (plain_patterns pats.now)
         ≡ Some (pattern_trees (map kore_tree ps.items))) }

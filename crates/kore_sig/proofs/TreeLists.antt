@@ -1,6 +1,7 @@
 -- The children of a tree that is made from a list.
 use Rattle.std.proofs.Common.{◌≡◌, List, [], ◌∷◌, refl, ap}
-use Rattle.kore_text.specs.Trees.{SortTree, sort_trees, listed_sorts, PatternTree, pattern_trees, listed_patterns}
+use Rattle.kore_text.specs.Trees.{SortTree, sort_trees, listed_sorts, PatternTree, pattern_trees}
+use Rattle.kore_text.specs.Trees.{listed_patterns}
 
 pub listed_sort_trees : (ss : List SortTree) → listed_sorts (sort_trees ss) ≡ ss
 listed_sort_trees [] = refl

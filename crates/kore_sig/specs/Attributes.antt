@@ -1,11 +1,13 @@
 -- Attributes (Kore language document, "Attributes"; K framework, the attributes that its compiler
 -- writes). Only the name of an attribute counts, whatever its sorts and arguments, except where its
 -- text or its sorts are needed.
-use Rattle.std.specs.Prelude.{ℕ, Bool, false, ◌||◌, List, [], ◌∷◌, Option, Some, None, option_map, unwrap_or, find}
+use Rattle.std.specs.Prelude.{ℕ, Bool, false, ◌||◌, List, [], ◌∷◌, Option, Some, None, option_map}
+use Rattle.std.specs.Prelude.{unwrap_or, find}
 use Rattle.std.specs.Prelude.{filter_map, if◌then◌else◌, codes}
 use Rattle.std.specs.List.{list_any}
 use Rattle.std.specs.Str.{bytes_eq}
-use Rattle.kore_text.specs.Trees.{SortTree, listed_sorts, PatternTree, string, symbol_applied, listed_patterns}
+use Rattle.kore_text.specs.Trees.{SortTree, listed_sorts, PatternTree, string, symbol_applied}
+use Rattle.kore_text.specs.Trees.{listed_patterns}
 
 -- the pattern is an attribute with this name
 abbrev pub is_named : List ℕ → PatternTree → Bool
@@ -39,7 +41,8 @@ text_of p = None
 -- the name of the hook; the empty text, which names no hook, if the attribute has no text
 abbrev pub hook_of : List PatternTree → Option (List ℕ)
 hook_of attributes =
-    option_map (λ (a : PatternTree). unwrap_or (text_of a) []) (first_of_name (codes "hook") attributes)
+    option_map (λ (a : PatternTree). unwrap_or (text_of a) [])
+    (first_of_name (codes "hook") attributes)
 
 -- some attribute says that the symbol is associative, commutative or idempotent, or has a unit
 abbrev pub is_said_ac : List PatternTree → Bool
@@ -49,11 +52,13 @@ is_said_ac attributes =
 
 -- the two sorts of `subsort{A,B}()`: the lower one and the upper one
 abbrev pub stated_pair : List ℕ → List SortTree → List PatternTree → Option (SortTree × SortTree)
-stated_pair name (lower ∷ (upper ∷ [])) [] = if bytes_eq name (codes "subsort") then Some (lower, upper) else None
+stated_pair name (lower ∷ (upper ∷ [])) [] =
+    if bytes_eq name (codes "subsort") then Some (lower, upper) else None
 stated_pair name sorts arguments = None
 
 abbrev pub subsort_sorts : PatternTree → Option (SortTree × SortTree)
-subsort_sorts (symbol_applied at n sorts arguments) = stated_pair n (listed_sorts sorts) (listed_patterns arguments)
+subsort_sorts (symbol_applied at n sorts arguments) =
+    stated_pair n (listed_sorts sorts) (listed_patterns arguments)
 subsort_sorts p = None
 
 -- the pairs of sorts that the attributes of an axiom state, in order

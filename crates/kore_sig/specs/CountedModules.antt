@@ -1,7 +1,8 @@
 -- Which modules count (Kore language document, "Modules and declarations"). These are the main
 -- module, which is the last one of the definition, and the modules that it reaches by imports. An
 -- import names an earlier module.
-use Rattle.std.specs.Prelude.{ℕ, Bool, true, List, [], ◌∷◌, Option, Some, None, flat_map, filter_map, if◌then◌else◌}
+use Rattle.std.specs.Prelude.{ℕ, Bool, true, List, [], ◌∷◌, Option, Some, None, flat_map}
+use Rattle.std.specs.Prelude.{filter_map, if◌then◌else◌}
 use Rattle.kore_text.specs.Trees.{Declaration, import_declaration, ModuleTree, DefinitionTree}
 use Rattle.kore_sig.specs.Names.{is_among}
 
@@ -26,4 +27,5 @@ counted (m ∷ later) = if counts m later (counted later) then m ∷ counted lat
 
 -- the declarations of the modules that count, in the order of the file
 abbrev pub counted_declarations : DefinitionTree → List Declaration
-counted_declarations definition = flat_map (λ (m : ModuleTree). m.declarations) (counted definition.modules)
+counted_declarations definition =
+    flat_map (λ (m : ModuleTree). m.declarations) (counted definition.modules)

@@ -1,6 +1,7 @@
 -- The first of a set of faults in an order, and the first fault of things that come one after
 -- another.
-use Rattle.std.specs.Prelude.{◌≡◌, ◌<◌, ◌≤◌, ℕ, Bool, List, [], ◌∷◌, ◌⊎◌, Option, Some, None, if◌then◌else◌}
+use Rattle.std.specs.Prelude.{◌≡◌, ◌<◌, ◌≤◌, ℕ, Bool, List, [], ◌∷◌, ◌⊎◌, Option, Some, None}
+use Rattle.std.specs.Prelude.{if◌then◌else◌}
 
 -- a fault: the number of the refusal, and the byte of the text where the fault is
 pub record Fault : Type 0 where
@@ -35,7 +36,7 @@ Then P Q (Some f) = P (Some f) ⊎ (P None × Q (Some f))
 
 -- The first fault of the first thing that has any. R relates the state before a thing, the thing,
 -- and its first fault. `next` gives the state after the thing.
-abbrev pub InOrder : {S A : Type 0} → (S → A → Option Fault → Type 0) → (S → A → S) → S → List A → Option Fault →
-    Type 0
-InOrder R next s [] r = r ≡ None
-InOrder R next s (x ∷ xs) r = Then (R s x) (InOrder R next (next s x) xs) r
+abbrev pub IsFirstOfSequence : {S A : Type 0} → (S → A → Option Fault → Type 0) → (S → A → S) → S
+    → List A → Option Fault → Type 0
+IsFirstOfSequence R next s [] r = r ≡ None
+IsFirstOfSequence R next s (x ∷ xs) r = Then (R s x) (IsFirstOfSequence R next (next s x) xs) r

@@ -7,7 +7,7 @@ use Rattle.kore_sig.specs.Declarations.{sort_declared, symbol_declared, axiom_de
 use Rattle.kore_sig.specs.SortReferences.{sort_entry}
 use Rattle.kore_sig.specs.SymbolKinds.{injection_of, said_ac}
 use Rattle.kore_sig.specs.Sets.{Knows}
-use Rattle.kore_sig.specs.declared.known.Known.{Known}
+use Rattle.kore_sig.specs.declared.declared_facts.DeclaredFacts.{DeclaredFacts}
 
 abbrev pub entries_in : List Declaration → List (List ℕ × SortInfo)
 entries_in ds = map sort_entry (filter_map sort_declared ds)
@@ -24,7 +24,7 @@ pub record IsSortTable (ds : List Declaration) (sorts : List (List ℕ × SortIn
   pub known : Knows sorts (names_of (entries_in ds))
   pub same : AreDistinct (names_of (entries_in ds)) → sorts ≡ entries_in ds
 
-pub record IsKnown (ds : List Declaration) (known : Known) : Type 0 where
+pub record IsKnown (ds : List Declaration) (known : DeclaredFacts) : Type 0 where
   pub sorts : IsSortTable ds known.sorts
   pub injection : option_copied known.injection ≡ injection_of (symbols_in ds)
   pub ac : Knows known.ac (ac_in ds)

@@ -1,5 +1,6 @@
 -- What is kept of faults that are noted one by one: the first of them.
-use Rattle.std.specs.Prelude.{Bool, ◌&&◌, ◌||◌, ◌==◌, List, [], ◌∷◌, Option, Some, None, if◌then◌else◌, nat_lt, nat_le}
+use Rattle.std.specs.Prelude.{Bool, ◌&&◌, ◌||◌, ◌==◌, List, [], ◌∷◌, Option, Some, None}
+use Rattle.std.specs.Prelude.{if◌then◌else◌, nat_lt, nat_le}
 use Rattle.std.specs.Option.{option_or}
 use Rattle.kore_sig.specs.FirstFault.{Fault}
 
@@ -25,6 +26,7 @@ abbrev pub first_by_number : List Fault → Option Fault
 first_by_number fs = noted leads_by_number None fs
 
 -- the first fault of the first thing that has any, if F gives the faults of a thing
-abbrev pub first_in : {S A : Type 0} → (S → A → List Fault) → (S → A → S) → S → List A → Option Fault
+abbrev pub first_in : {S A : Type 0} → (S → A → List Fault) → (S → A → S) → S → List A
+    → Option Fault
 first_in F next s [] = None
 first_in F next s (x ∷ xs) = option_or (first_by_number (F s x)) (first_in F next (next s x) xs)

@@ -17,4 +17,7 @@ names_of_modules modules = map (λ (m : Module). m.name) modules
 
 -- a declaration with the names of the modules before its own
 abbrev pub plain_placed : List (List ℕ) → Placed → PlacedTree
-plain_placed names p = record { earlier = take p.module_index names; declaration = plain_declaration p.decl.now }
+plain_placed names p = record {
+  earlier = take p.module_index names;
+  declaration = plain_declaration p.decl.now;
+}

@@ -4,7 +4,8 @@ use Rattle.kore_text.specs.Trees.{DefinitionTree}
 use Rattle.kore_sig.specs.FirstFault.{Fault}
 use Rattle.kore_sig.specs.SignatureFaults.{FirstOfSignature}
 use Rattle.kore_sig.specs.declared.faults.SigFault.{SigFault}
-use Rattle.kore_sig.specs.declared.faults.SigFault.TheVariants.{Import, Duplicate, UnknownSort, Arity, SortParameter}
+use Rattle.kore_sig.specs.declared.faults.SigFault.TheVariants.{Import, Duplicate, UnknownSort}
+use Rattle.kore_sig.specs.declared.faults.SigFault.TheVariants.{Arity, SortParameter}
 use Rattle.kore_sig.specs.declared.faults.SigFault.TheVariants.{SubsortCycle, Memory}
 
 abbrev pub fault_at : ℕ → ℕ → Option Fault

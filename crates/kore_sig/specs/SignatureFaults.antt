@@ -2,13 +2,17 @@
 -- come first, then the declarations of the modules that count, then the pairs of sorts. Each of
 -- these is in the order of the file. At one declaration the smallest number comes first, and for
 -- the same number the first byte.
-use Rattle.std.specs.Prelude.{◌≡◌, ◌==◌, ℕ, List, [], ◌∷◌, ◌++◌, length, map, flat_map, Contains, Option, Some, None}
+use Rattle.std.specs.Prelude.{◌≡◌, ◌==◌, ℕ, List, [], ◌∷◌, ◌++◌, length, map, flat_map, Contains}
+use Rattle.std.specs.Prelude.{Option, Some, None}
 use Rattle.std.specs.Prelude.{is_some, if◌then◌else◌, nat_lt}
-use Rattle.kore_text.specs.Trees.{SortTree, ImportDeclaration, SortDeclaration, SymbolDeclaration, Declaration}
-use Rattle.kore_text.specs.Trees.{import_declaration, sort_declaration, symbol_declaration, ModuleTree, DefinitionTree}
+use Rattle.kore_text.specs.Trees.{SortTree, ImportDeclaration, SortDeclaration, SymbolDeclaration}
+use Rattle.kore_text.specs.Trees.{Declaration}
+use Rattle.kore_text.specs.Trees.{import_declaration, sort_declaration, symbol_declaration}
+use Rattle.kore_text.specs.Trees.{ModuleTree, DefinitionTree}
 use Rattle.rule_core.specs.Subsorts.{HasNoCycle}
 use Rattle.rule_core.specs.declared.signature.SortInfo.{SortInfo}
-use Rattle.kore_sig.specs.FirstFault.{Fault, when, unless, ByNumber, IsFirstBy, Then, InOrder}
+use Rattle.kore_sig.specs.FirstFault.{Fault, when, unless, ByNumber, IsFirstBy, Then}
+use Rattle.kore_sig.specs.FirstFault.{IsFirstOfSequence}
 use Rattle.kore_sig.specs.Names.{is_among}
 use Rattle.kore_sig.specs.CountedModules.{counts, counted}
 use Rattle.kore_sig.specs.Declarations.{SubsortPair, pairs_of}
@@ -20,12 +24,13 @@ use Rattle.kore_sig.specs.SortReferences.{sort_entries, sort_reference, sort_num
 abbrev pub module_faults : List (List ℕ) → ModuleTree → List Fault
 module_faults names m = when (is_among names m.name) 5 m.at
 
-abbrev pub name_behind : List (List ℕ) → ModuleTree → List (List ℕ)
-name_behind names m = names ++ m.name ∷ []
+abbrev pub names_after : List (List ℕ) → ModuleTree → List (List ℕ)
+names_after names m = names ++ m.name ∷ []
 
 abbrev pub FirstOfModules : List ModuleTree → Option Fault → Type 0
 FirstOfModules modules r =
-    InOrder (λ names m. IsFirstBy ByNumber (Contains (module_faults names m))) name_behind [] modules r
+    IsFirstOfSequence (λ names m. IsFirstBy ByNumber (Contains (module_faults names m))) names_after
+    [] modules r
 
 -- ---- the declarations
 
@@ -42,7 +47,7 @@ abbrev pub placed : List (List ℕ) → List ModuleTree → List Placed
 placed names [] = []
 placed names (m ∷ later) =
     (if counts m later (counted later) then map (placed_at names) m.declarations else [])
-    ++ placed (name_behind names m) later
+    ++ placed (names_after names m) later
 
 -- the names that are declared before a declaration
 pub record Before : Type 0 where
@@ -74,25 +79,29 @@ symbol_faults sorts names d =
     ++ when (nat_lt most_arguments (length d.args)) 8 d.at
 
 -- the faults of a declaration, if these names are declared before it
-abbrev pub declaration_faults : List (List ℕ × SortInfo) → Before → List (List ℕ) → Declaration → List Fault
+abbrev pub declaration_faults : List (List ℕ × SortInfo) → Before → List (List ℕ) → Declaration
+    → List Fault
 declaration_faults sorts before earlier (import_declaration d) = import_faults earlier d
 declaration_faults sorts before earlier (sort_declaration d) = sort_faults before.sorts d
-declaration_faults sorts before earlier (symbol_declaration d) = symbol_faults sorts before.symbols d
+declaration_faults sorts before earlier (symbol_declaration d) =
+    symbol_faults sorts before.symbols d
 declaration_faults sorts before earlier d = []
 
 -- the names that are declared before the next declaration
-abbrev pub declared_behind : Before → Declaration → Before
-declared_behind before (sort_declaration d) = record before { sorts = before.sorts ++ d.name ∷ [] }
-declared_behind before (symbol_declaration d) = record before { symbols = before.symbols ++ d.name ∷ [] }
-declared_behind before d = before
+abbrev pub declared_after : Before → Declaration → Before
+declared_after before (sort_declaration d) = record before { sorts = before.sorts ++ d.name ∷ [] }
+declared_after before (symbol_declaration d) =
+    record before { symbols = before.symbols ++ d.name ∷ [] }
+declared_after before d = before
 
 abbrev pub nothing_declared : Before
 nothing_declared = record { sorts = []; symbols = [] }
 
 abbrev pub FirstOfDeclarations : List (List ℕ × SortInfo) → List Placed → Option Fault → Type 0
 FirstOfDeclarations sorts declarations r =
-    InOrder (λ before p. IsFirstBy ByNumber (Contains (declaration_faults sorts before p.earlier p.declaration)))
-    (λ before p. declared_behind before p.declaration) nothing_declared declarations r
+    IsFirstOfSequence (λ before p.
+    IsFirstBy ByNumber (Contains (declaration_faults sorts before p.earlier p.declaration)))
+    (λ before p. declared_after before p.declaration) nothing_declared declarations r
 
 -- ---- the pairs of sorts
 
@@ -105,10 +114,12 @@ number_faults sorts s = unless (is_some (sort_number sorts s)) 6 (sort_place s)
 -- a sort below itself.
 pub data HasPairFault (sorts : List (List ℕ × SortInfo)) (before : List (ℕ × ℕ)) (p : SubsortPair) :
     Fault → Type 0 where
-  unknown_sort : {f : Fault} → Contains (number_faults sorts p.lower ++ number_faults sorts p.upper) f →
-      HasPairFault sorts before p f
+  unknown_sort : {f : Fault}
+      → Contains (number_faults sorts p.lower ++ number_faults sorts p.upper) f
+      → HasPairFault sorts before p f
   cycle : {a b : ℕ} → sort_number sorts p.lower ≡ Some a → sort_number sorts p.upper ≡ Some b →
-      (HasNoCycle (before ++ (a, b) ∷ []) → ⊥) → HasPairFault sorts before p (record { number = 24; byte = p.at })
+      (HasNoCycle (before ++ (a, b) ∷ []) → ⊥)
+      → HasPairFault sorts before p (record { number = 24; byte = p.at })
 
 -- the numbers of the pairs before, and then those of this pair if both of its sorts are declared
 abbrev pub with_numbers : List (ℕ × ℕ) → Option ℕ → Option ℕ → List (ℕ × ℕ)
@@ -116,12 +127,14 @@ with_numbers before None b = before
 with_numbers before (Some a) None = before
 with_numbers before (Some a) (Some b) = before ++ (a, b) ∷ []
 
-abbrev pub pair_behind : List (List ℕ × SortInfo) → List (ℕ × ℕ) → SubsortPair → List (ℕ × ℕ)
-pair_behind sorts before p = with_numbers before (sort_number sorts p.lower) (sort_number sorts p.upper)
+abbrev pub pairs_after : List (List ℕ × SortInfo) → List (ℕ × ℕ) → SubsortPair → List (ℕ × ℕ)
+pairs_after sorts before p =
+    with_numbers before (sort_number sorts p.lower) (sort_number sorts p.upper)
 
 abbrev pub FirstOfPairs : List (List ℕ × SortInfo) → List SubsortPair → Option Fault → Type 0
 FirstOfPairs sorts pairs r =
-    InOrder (λ before p. IsFirstBy ByNumber (HasPairFault sorts before p)) (pair_behind sorts) [] pairs r
+    IsFirstOfSequence (λ before p. IsFirstBy ByNumber (HasPairFault sorts before p))
+    (pairs_after sorts) [] pairs r
 
 -- ---- the definition
 

@@ -11,7 +11,8 @@ use Rattle.kore_sig.specs.Signatures.{IsSignatureOf}
 
 abbrev pub FirstIsOne : Type 0
 FirstIsOne =
-    (definition : DefinitionTree) (q r : Option Fault) → FirstOfSignature definition q → FirstOfSignature definition r →
+    (definition : DefinitionTree) (q r : Option Fault) → FirstOfSignature definition q
+    → FirstOfSignature definition r →
     q ≡ r
 
 -- two entries are the same symbol
@@ -31,5 +32,6 @@ pub record AreSameSignature (s t : Signature) : Type 0 where
 
 abbrev pub SignatureIsOne : Type 0
 SignatureIsOne =
-    (definition : DefinitionTree) (s t : Signature) → IsSignatureOf definition s → IsSignatureOf definition t →
+    (definition : DefinitionTree) (s t : Signature) → IsSignatureOf definition s
+    → IsSignatureOf definition t →
     AreSameSignature s t

@@ -1,6 +1,7 @@
 -- The signature that the declarations of a definition mean (Kore language document, "Modules and
 -- declarations").
-use Rattle.std.specs.Prelude.{◌≡◌, ◌<◌, ◌^◌, ℕ, List, length, map, Option, Some, option_map, string_bytes}
+use Rattle.std.specs.Prelude.{◌≡◌, ◌<◌, ◌^◌, ℕ, List, length, map, Option, Some, option_map}
+use Rattle.std.specs.Prelude.{string_bytes}
 use Rattle.std.specs.List.{AllZip}
 use Rattle.kore_text.specs.Trees.{SymbolDeclaration, DefinitionTree}
 use Rattle.rule_core.specs.declared.signature.Signature.{Signature}
@@ -13,7 +14,8 @@ use Rattle.kore_sig.specs.SymbolKinds.{injection_of, kind_of, ac_names, is_ac}
 
 -- The entry of a declared symbol, from these sorts, this injection, and the symbols that axioms say
 -- to be associative or the like.
-pub record IsSymbolEntry (sorts : List (List ℕ × SortInfo)) (injection : Option (List ℕ)) (by_axiom : List (List ℕ))
+pub record IsSymbolEntry (sorts : List (List ℕ × SortInfo)) (injection : Option (List ℕ))
+    (by_axiom : List (List ℕ))
     (d : SymbolDeclaration) (entry : List ℕ × SymInfo) : Type 0 where
   pub name : entry.0 ≡ d.name
   pub kind : entry.1.kind ≡ kind_of injection d
@@ -24,12 +26,14 @@ pub record IsSymbolEntry (sorts : List (List ℕ × SortInfo)) (injection : Opti
   pub ac : entry.1.ac ≡ is_ac by_axiom d
 
 -- the entry of a symbol of a definition with these sorts
-abbrev pub IsEntryOf : DefinitionTree → List (List ℕ × SortInfo) → SymbolDeclaration → List ℕ × SymInfo → Type 0
+abbrev pub IsEntryOf : DefinitionTree → List (List ℕ × SortInfo) → SymbolDeclaration
+    → List ℕ × SymInfo → Type 0
 IsEntryOf definition sorts d entry =
     IsSymbolEntry sorts (injection_of (symbols_of definition)) (ac_names definition) d entry
 
 -- the numbers of the two sorts of a pair
-pub record IsPairOf (sorts : List (List ℕ × SortInfo)) (pair : SubsortPair) (numbers : ℕ × ℕ) : Type 0 where
+pub record IsPairOf (sorts : List (List ℕ × SortInfo)) (pair : SubsortPair) (numbers : ℕ × ℕ) :
+    Type 0 where
   pub lower : sort_number sorts pair.lower ≡ Some numbers.0
   pub upper : sort_number sorts pair.upper ≡ Some numbers.1
 

@@ -1,9 +1,11 @@
 -- Declared sorts: what their hooks say, and which declared sort a sort in the text names (Kore
 -- language document, "Sorts").
-use Rattle.std.specs.Prelude.{ℕ, List, [], ◌∷◌, Option, Some, None, option_map, map, if◌then◌else◌, codes}
+use Rattle.std.specs.Prelude.{ℕ, List, [], ◌∷◌, Option, Some, None, option_map, map, if◌then◌else◌}
+use Rattle.std.specs.Prelude.{codes}
 use Rattle.std.specs.List.{position_from}
 use Rattle.std.specs.Str.{bytes_eq}
-use Rattle.kore_text.specs.Trees.{SortTree, sort_parameter, sort_applied, listed_sorts, SortDeclaration, DefinitionTree}
+use Rattle.kore_text.specs.Trees.{SortTree, sort_parameter, sort_applied, listed_sorts}
+use Rattle.kore_text.specs.Trees.{SortDeclaration, DefinitionTree}
 use Rattle.rule_core.specs.Named.{number_of}
 use Rattle.rule_core.specs.declared.signature.SortInfo.{SortInfo}
 use Rattle.rule_core.specs.declared.signature.SortKind.{SortKind}
@@ -42,7 +44,8 @@ declared_number sorts name (s ∷ args) = None
 -- What a sort means with these declared sorts and these sort parameters: one of the parameters, or
 -- a declared sort without arguments.
 abbrev pub sort_reference : List (List ℕ × SortInfo) → List (List ℕ) → SortTree → Option SortRef
-sort_reference sorts params (sort_parameter at name) = option_map Param (parameter_place params name)
+sort_reference sorts params (sort_parameter at name) =
+    option_map Param (parameter_place params name)
 sort_reference sorts params (sort_applied at name args) =
     option_map (λ (n : ℕ). Sort (record { 0 = n })) (declared_number sorts name (listed_sorts args))
 

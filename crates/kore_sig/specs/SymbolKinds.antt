@@ -1,15 +1,19 @@
 -- What a symbol is used for, and whether it is said to be associative, commutative or the like (K
 -- framework, attributes `sortInjection`, `function`, `constructor`, `assoc`, `comm`, `unit` and
 -- `idem`).
-use Rattle.std.specs.Prelude.{ℕ, Bool, false, not, ◌&&◌, ◌||◌, ◌==◌, List, [], ◌∷◌, length, Option, Some, None}
+use Rattle.std.specs.Prelude.{ℕ, Bool, false, not, ◌&&◌, ◌||◌, ◌==◌, List, [], ◌∷◌, length, Option}
+use Rattle.std.specs.Prelude.{Some, None}
 use Rattle.std.specs.Prelude.{option_map, find, filter_map, if◌then◌else◌, codes}
 use Rattle.std.specs.Str.{bytes_eq}
-use Rattle.kore_text.specs.Trees.{SortTree, sort_parameter, sort_applied, listed_sorts, PatternTree, symbol_applied}
-use Rattle.kore_text.specs.Trees.{connected, listed_patterns, SymbolDeclaration, AxiomDeclaration, DefinitionTree}
+use Rattle.kore_text.specs.Trees.{SortTree, sort_parameter, sort_applied, listed_sorts, PatternTree}
+use Rattle.kore_text.specs.Trees.{symbol_applied}
+use Rattle.kore_text.specs.Trees.{connected, listed_patterns, SymbolDeclaration, AxiomDeclaration}
+use Rattle.kore_text.specs.Trees.{DefinitionTree}
 use Rattle.kore_text.specs.declared.names.Op.{Op}
 use Rattle.kore_text.specs.declared.names.Op.TheVariants.{Equals}
 use Rattle.rule_core.specs.declared.signature.SymKind.{SymKind}
-use Rattle.rule_core.specs.declared.signature.SymKind.TheVariants.{Injection, Ctor, Equations, Closed, NoKind}
+use Rattle.rule_core.specs.declared.signature.SymKind.TheVariants.{Injection, Ctor, Equations}
+use Rattle.rule_core.specs.declared.signature.SymKind.TheVariants.{Closed, NoKind}
 use Rattle.kore_sig.specs.Names.{is_among}
 use Rattle.kore_sig.specs.Attributes.{has_attribute, is_said_ac}
 use Rattle.kore_sig.specs.Declarations.{axioms_of}
@@ -31,7 +35,8 @@ has_injection_form d =
 
 -- the name of the injection symbol, which is the first symbol of that form
 abbrev pub injection_of : List SymbolDeclaration → Option (List ℕ)
-injection_of symbols = option_map (λ (d : SymbolDeclaration). d.name) (find has_injection_form symbols)
+injection_of symbols =
+    option_map (λ (d : SymbolDeclaration). d.name) (find has_injection_form symbols)
 
 -- the name is there and is the same
 abbrev pub is_named_so : Option (List ℕ) → List ℕ → Bool

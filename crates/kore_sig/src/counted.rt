@@ -46,7 +46,8 @@ pub(crate) fn placed_declarations(
 ) -> Result<Vec<Placed<'_>>, AllocError>
     ensures counted { IfOk result (λ ps. map (λ p. plain_declaration p.decl.now) ps.items
         ≡ the_counted (plain_definition definition.now)) }
-    ensures placed { IfOk result (λ ps. map (plain_placed (names_of_modules definition.now.modules.items)) ps.items
+    ensures placed { IfOk result
+        (λ ps. map (plain_placed (names_of_modules definition.now.modules.items)) ps.items
         ≡ the_placed [] (plain_definition definition.now).modules) }
 {
     let modules = &definition.modules;

@@ -1,11 +1,13 @@
 // The first fault of a declaration, from the declarations before it.
 ghost use Rattle.std.specs.Prelude.{◌≡◌, ◌<◌, ◌^◌, length, take};
-ghost use Rattle.kore_ast.specs.Plain.{plain_declaration, plain_import, plain_sort_decl, plain_symbol_decl};
+ghost use Rattle.kore_ast.specs.Plain.{plain_declaration, plain_import, plain_sort_decl};
+ghost use Rattle.kore_ast.specs.Plain.{plain_symbol_decl};
 ghost use Rattle.rule_core.specs.Named.{names_of};
 ghost use Rattle.kore_sig.specs.Names.{is_among};
-ghost use Rattle.kore_sig.specs.Declaring.{Answers, before_of};
+ghost use Rattle.kore_sig.specs.Declaring.{IsFoundFault, before_of};
 ghost use Rattle.kore_sig.specs.Noted.{first_by_number};
-ghost use Rattle.kore_sig.specs.SignatureFaults.{import_faults, sort_faults, symbol_faults, declaration_faults};
+ghost use Rattle.kore_sig.specs.SignatureFaults.{import_faults, sort_faults, symbol_faults};
+ghost use Rattle.kore_sig.specs.SignatureFaults.{declaration_faults};
 
 use crate::counted::Placed;
 use crate::faults::SigFault;
@@ -27,9 +29,10 @@ pub(crate) fn declaration_fault(
     placed: &Placed<'_>,
 ) -> Option<SigFault>
     requires { length sorts.now < 2 ^ 32 }
-    ensures { Answers (first_by_number
+    ensures { IsFoundFault (first_by_number
         (declaration_faults sorts.now (before_of seen.now symbols.now)
-        (take placed.now.module_index (names_of modules.now)) (plain_declaration placed.now.decl.now))) result }
+        (take placed.now.module_index (names_of modules.now))
+        (plain_declaration placed.now.decl.now))) result }
 {
     match placed.decl {
         Decl::Import(decl) => import_fault(modules, placed.module_index, decl),
@@ -41,7 +44,7 @@ pub(crate) fn declaration_fault(
 
 /// The fault of an import: no earlier module has the name.
 fn import_fault(modules: &Table<()>, own: usize, decl: &ImportDecl) -> Option<SigFault>
-    ensures { Answers (first_by_number
+    ensures { IsFoundFault (first_by_number
         (import_faults (take own (names_of modules.now)) (plain_import decl.now))) result }
 {
     if is_earlier(modules, own, &decl.name) {
@@ -63,7 +66,8 @@ fn is_earlier(modules: &Table<()>, own: usize, name: &Text) -> bool
 
 /// The first fault of a sort: its name is taken, or it has parameters.
 fn sort_fault(seen: &Table<()>, decl: &SortDecl) -> Option<SigFault>
-    ensures { Answers (first_by_number (sort_faults (names_of seen.now) (plain_sort_decl decl.now))) result }
+    ensures { IsFoundFault
+        (first_by_number (sort_faults (names_of seen.now) (plain_sort_decl decl.now))) result }
 {
     if has_name(seen, &decl.name) {
         Some(SigFault::Duplicate(decl.at))
@@ -82,7 +86,8 @@ fn symbol_fault(
     decl: &SymbolDecl,
 ) -> Option<SigFault>
     requires { length sorts.now < 2 ^ 32 }
-    ensures { Answers (first_by_number (symbol_faults sorts.now (names_of symbols.now) (plain_symbol_decl decl.now)))
+    ensures { IsFoundFault (first_by_number
+        (symbol_faults sorts.now (names_of symbols.now) (plain_symbol_decl decl.now)))
         result }
 {
     if has_name(symbols, &decl.name) {

@@ -1,12 +1,17 @@
 // What symbols are used for, and what hooks say of sorts.
 ghost use Rattle.std.specs.Prelude.{◌≡◌, map, option_map, option_copied, Option, ℕ, List};
-ghost use Rattle.kore_ast.specs.Plain.{plain_sort, plain_pattern, plain_symbol_decl, plain_axiom_decl};
+ghost use Rattle.kore_ast.specs.Plain.{plain_sort, pattern_tree, plain_symbol_decl};
+ghost use Rattle.kore_ast.specs.Plain.{plain_axiom_decl};
 ghost use Rattle.kore_sig.specs.SortReferences.{kind_of_hook as the_kind_of_hook};
-ghost use Rattle.kore_sig.specs.SymbolKinds.{is_parameter as the_parameter, goes_from_to as the_going};
-ghost use Rattle.kore_sig.specs.SymbolKinds.{has_injection_form as the_form, is_named_so as the_named};
-ghost use Rattle.kore_sig.specs.SymbolKinds.{function_kind as the_function_kind, kind_of as the_kind};
+ghost use Rattle.kore_sig.specs.SymbolKinds.{is_parameter as the_parameter};
+ghost use Rattle.kore_sig.specs.SymbolKinds.{goes_from_to as the_going};
+ghost use Rattle.kore_sig.specs.SymbolKinds.{has_injection_form as the_form};
+ghost use Rattle.kore_sig.specs.SymbolKinds.{is_named_so as the_named};
+ghost use Rattle.kore_sig.specs.SymbolKinds.{function_kind as the_function_kind};
+ghost use Rattle.kore_sig.specs.SymbolKinds.{kind_of as the_kind};
 ghost use Rattle.kore_sig.specs.SymbolKinds.{head_of as the_head, applied_symbol as the_applied};
-ghost use Rattle.kore_sig.specs.SymbolKinds.{first_symbol as the_first, equated_by as the_equated_by};
+ghost use Rattle.kore_sig.specs.SymbolKinds.{first_symbol as the_first};
+ghost use Rattle.kore_sig.specs.SymbolKinds.{equated_by as the_equated_by};
 ghost use Rattle.kore_sig.specs.SymbolKinds.{equated_symbol as the_equated, said_ac as the_said_ac};
 
 use crate::attributes::{has_attribute, is_said_ac};
@@ -114,7 +119,7 @@ pub(crate) fn said_ac(decl: &AxiomDecl) -> Option<&Text>
 
 /// The symbol f of `\equals{S,R}(f{}(..),..)`.
 fn equated_symbol(pat: &Pat) -> Option<&Text>
-    ensures { option_copied result ≡ the_equated (plain_pattern pat.now) }
+    ensures { option_copied result ≡ the_equated (pattern_tree pat.now) }
 {
     match &pat.form {
         PatForm::Built(op, _, args) => equated_by(*op, args),
@@ -123,7 +128,7 @@ fn equated_symbol(pat: &Pat) -> Option<&Text>
 }
 
 fn equated_by(op: Op, args: &[Pat]) -> Option<&Text>
-    ensures { option_copied result ≡ the_equated_by op (map plain_pattern args.now) }
+    ensures { option_copied result ≡ the_equated_by op (map pattern_tree args.now) }
 {
     match op {
         Op::Equals => first_symbol(args),
@@ -132,7 +137,7 @@ fn equated_by(op: Op, args: &[Pat]) -> Option<&Text>
 }
 
 fn first_symbol(args: &[Pat]) -> Option<&Text>
-    ensures { option_copied result ≡ the_first (map plain_pattern args.now) }
+    ensures { option_copied result ≡ the_first (map pattern_tree args.now) }
 {
     match args {
         [] => None,
@@ -141,7 +146,7 @@ fn first_symbol(args: &[Pat]) -> Option<&Text>
 }
 
 fn applied_symbol(pat: &Pat) -> Option<&Text>
-    ensures { option_copied result ≡ the_applied (plain_pattern pat.now) }
+    ensures { option_copied result ≡ the_applied (pattern_tree pat.now) }
 {
     match &pat.form {
         PatForm::App(name, sorts, _) => head_of(name, sorts),

@@ -13,10 +13,10 @@
 
 mod attributes;
 mod counted;
+mod declared_facts;
 mod declaring;
 mod faults;
 mod kinds;
-mod known;
 mod laws;
 mod meaning;
 mod names;

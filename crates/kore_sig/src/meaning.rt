@@ -10,8 +10,8 @@ ghost use Rattle.kore_sig.specs.SignatureFaults.{FirstOfSignature};
 ghost use Rattle.kore_sig.specs.Signatures.{IsSignatureOf, IsNumbered};
 
 use crate::counted::placed_declarations;
+use crate::declared_facts::learn;
 use crate::faults::SigFault;
-use crate::known::learn;
 use crate::names::add_name;
 use crate::pairs::stated_order;
 use crate::symbols::declared_symbols;
@@ -59,7 +59,8 @@ pub fn signature(alloc: Global, definition: &Definition) -> Result<Signature, Si
 /// The names of the modules, in the order of the file. The error is the first name that occurs
 /// twice.
 fn module_names(alloc: Global, modules: &[Module]) -> Result<Table<()>, SigFault>
-    ensures refused { IfErr result (Refuses (λ r. first_module [] (map plain_module modules.now) ≡ r)) }
+    ensures refused { IfErr result
+        (Refuses (λ r. first_module [] (map plain_module modules.now) ≡ r)) }
     ensures clear { OnOk result (first_module [] (map plain_module modules.now) ≡ None) }
     ensures names { IfOk result (λ names. names_of names ≡ names_of_modules modules.now) }
 {

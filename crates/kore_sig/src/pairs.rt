@@ -1,8 +1,10 @@
 // The order of sorts that the axioms state.
-ghost use Rattle.std.specs.Prelude.{◌≡◌, ◌<◌, ◌^◌, ◌++◌, ◌∷◌, [], ℕ, List, None, map, flat_map, length, IfOk, IfErr};
+ghost use Rattle.std.specs.Prelude.{◌≡◌, ◌<◌, ◌^◌, ◌++◌, ◌∷◌, [], ℕ, List, None, map, flat_map};
+ghost use Rattle.std.specs.Prelude.{length, IfOk, IfErr};
 ghost use Rattle.std.specs.Prelude.{OnOk, OnErr, filter_map};
 ghost use Rattle.std.specs.List.{AllZip};
-ghost use Rattle.kore_ast.specs.Plain.{plain_declaration, plain_sort, plain_axiom_decl, plain_pattern};
+ghost use Rattle.kore_ast.specs.Plain.{plain_declaration, plain_sort, plain_axiom_decl};
+ghost use Rattle.kore_ast.specs.Plain.{pattern_tree};
 ghost use Rattle.rule_core.specs.Subsorts.{HasNoCycle};
 ghost use Rattle.kore_sig.specs.Declarations.{SubsortPair, pairs_of_axiom};
 ghost use Rattle.kore_sig.specs.FirstFault.{IsFirstBy, ByNumber};
@@ -28,7 +30,8 @@ pub(crate) fn stated_order(
 ) -> Result<Subsorts, SigFault>
     requires { length sorts.now < 2 ^ 32 }
     ensures refused { IfErr result
-        (Refuses (FirstFrom sorts.now [] (pairs_in (map (λ p. plain_declaration p.decl.now) decls.now)))) }
+        (Refuses (FirstFrom sorts.now []
+        (pairs_in (map (λ p. plain_declaration p.decl.now) decls.now)))) }
     ensures clear { OnOk result
         (FirstFrom sorts.now [] (pairs_in (map (λ p. plain_declaration p.decl.now) decls.now)) None) }
     ensures pairs { IfOk result
@@ -54,7 +57,8 @@ fn add_pairs(
     requires { length sorts.now < 2 ^ 32 }
     ensures refused { IfErr result
         (Refuses (λ r. (rest : List SubsortPair)
-        → FirstFrom sorts.now subsorts.old (pairs_of_axiom (plain_axiom_decl decl.now) ++ rest) r)) }
+        → FirstFrom sorts.now subsorts.old (pairs_of_axiom (plain_axiom_decl decl.now) ++ rest)
+        r)) }
     ensures passes { OnOk result
         (Passes sorts.now subsorts.old subsorts.new (pairs_of_axiom (plain_axiom_decl decl.now))) }
 {
@@ -79,7 +83,8 @@ fn add_pair(
     ensures refused { IfErr result
         (Refuses (λ r. (rest : List SubsortPair)
         → FirstFrom sorts.now subsorts.old
-        (record { at = at; lower = plain_sort lower.now; upper = plain_sort upper.now } ∷ rest) r)) }
+        (record { at = at; lower = plain_sort lower.now; upper = plain_sort upper.now } ∷ rest)
+        r)) }
     ensures passes { OnOk result
         (Passes sorts.now subsorts.old subsorts.new
         (record { at = at; lower = plain_sort lower.now; upper = plain_sort upper.now } ∷ [])) }

@@ -1,8 +1,11 @@
 // The sorts that a definition names.
-ghost use Rattle.std.specs.Prelude.{◌≡◌, ◌<◌, ◌^◌, ◌++◌, ◌∷◌, [], length, map, flat_map, option_map, None, Option, ℕ};
+ghost use Rattle.std.specs.Prelude.{◌≡◌, ◌<◌, ◌^◌, ◌++◌, ◌∷◌, [], length, map, flat_map};
+ghost use Rattle.std.specs.Prelude.{option_map, None, Option, ℕ};
 ghost use Rattle.kore_ast.specs.Plain.{plain_sort};
-ghost use Rattle.kore_sig.specs.SortReferences.{declared_number as the_declared, sort_number as the_number};
-ghost use Rattle.kore_sig.specs.SortReferences.{parameter_place as the_place, sort_reference as the_reference};
+ghost use Rattle.kore_sig.specs.SortReferences.{declared_number as the_declared};
+ghost use Rattle.kore_sig.specs.SortReferences.{sort_number as the_number};
+ghost use Rattle.kore_sig.specs.SortReferences.{parameter_place as the_place};
+ghost use Rattle.kore_sig.specs.SortReferences.{sort_reference as the_reference};
 ghost use Rattle.kore_sig.specs.SortReferences.{sort_place as the_sort_place};
 ghost use Rattle.kore_sig.specs.SignatureFaults.{reference_faults};
 ghost use Rattle.kore_sig.specs.Noted.{noted, leads_by_number, first_by_number};

@@ -1,7 +1,9 @@
 // The symbols of declarations that have no fault.
-ghost use Rattle.std.specs.Prelude.{◌≡◌, ◌<◌, ◌^◌, ◌++◌, ◌∷◌, [], ℕ, List, None, Some, map, flat_map, length, take};
+ghost use Rattle.std.specs.Prelude.{◌≡◌, ◌<◌, ◌^◌, ◌++◌, ◌∷◌, [], ℕ, List, None, Some, map};
+ghost use Rattle.std.specs.Prelude.{flat_map, length, take};
 ghost use Rattle.std.specs.Prelude.{IfOk, IfErr, OnOk, option_map, option_copied, string_bytes};
-ghost use Rattle.kore_ast.specs.Plain.{plain_declaration, plain_sort, plain_symbol_decl, plain_pattern};
+ghost use Rattle.kore_ast.specs.Plain.{plain_declaration, plain_sort, plain_symbol_decl};
+ghost use Rattle.kore_ast.specs.Plain.{pattern_tree};
 ghost use Rattle.rule_core.specs.Named.{names_of, AreDistinct};
 ghost use Rattle.kore_sig.specs.Attributes.{hook_of as the_hook};
 ghost use Rattle.kore_sig.specs.Declaring.{AreSymbols, Grows, before_of, first_declared};
@@ -9,16 +11,17 @@ ghost use Rattle.kore_sig.specs.Knowing.{entries_in};
 ghost use Rattle.kore_sig.specs.Noted.{first_by_number};
 ghost use Rattle.kore_sig.specs.Placing.{plain_placed};
 ghost use Rattle.kore_sig.specs.Refusals.{Refuses};
-ghost use Rattle.kore_sig.specs.SignatureFaults.{reference_faults, declaration_faults, nothing_declared};
+ghost use Rattle.kore_sig.specs.SignatureFaults.{reference_faults, declaration_faults};
+ghost use Rattle.kore_sig.specs.SignatureFaults.{nothing_declared};
 ghost use Rattle.kore_sig.specs.Signatures.{IsSymbolEntry};
 ghost use Rattle.kore_sig.specs.SortReferences.{sort_reference as the_reference};
 
 use crate::attributes::{hook_of, is_said_ac};
 use crate::counted::Placed;
+use crate::declared_facts::DeclaredFacts;
 use crate::declaring::declaration_fault;
 use crate::faults::SigFault;
 use crate::kinds::kind_of;
-use crate::known::Known;
 use crate::names::{add_name, has_name};
 use crate::references::sort_reference;
 use kore_ast::{Decl, Pat, Sort, SymbolDecl, Text};
@@ -30,7 +33,7 @@ use std::alloc::{AllocError, Global};
 pub(crate) fn declared_symbols(
     alloc: Global,
     modules: &Table<()>,
-    known: &Known<'_>,
+    known: &DeclaredFacts<'_>,
     decls: &[Placed<'_>],
 ) -> Result<Table<SymInfo>, SigFault>
     requires { length known.now.sorts < 2 ^ 32 }
@@ -38,10 +41,12 @@ pub(crate) fn declared_symbols(
         (Refuses (λ r. first_declared known.now.sorts nothing_declared
         (map (plain_placed (names_of modules.now)) decls.now) ≡ r)) }
     ensures clear { OnOk result
-        (first_declared known.now.sorts nothing_declared (map (plain_placed (names_of modules.now)) decls.now) ≡ None) }
+        (first_declared known.now.sorts nothing_declared
+        (map (plain_placed (names_of modules.now)) decls.now) ≡ None) }
     ensures distinct { OnOk result
         (AreDistinct (names_of (entries_in (map (λ p. plain_declaration p.decl.now) decls.now)))) }
-    ensures symbols { IfOk result (AreSymbols known.now (map (λ p. plain_declaration p.decl.now) decls.now)) }
+    ensures symbols { IfOk result
+        (AreSymbols known.now (map (λ p. plain_declaration p.decl.now) decls.now)) }
 {
     let mut seen = Table::new(alloc);
     let mut symbols = Table::new(alloc);
@@ -58,14 +63,15 @@ pub(crate) fn declared_symbols(
 /// Adds what a declaration that has no fault declares.
 fn declare(
     alloc: Global,
-    known: &Known<'_>,
+    known: &DeclaredFacts<'_>,
     seen: &mut Table<()>,
     symbols: &mut Table<SymInfo>,
     decl: &Decl,
 ) -> Result<(), SigFault>
     requires sorts { length known.now.sorts < 2 ^ 32 }
     requires faultless { (earlier : List (List ℕ))
-        × (first_by_number (declaration_faults known.now.sorts (before_of seen.old symbols.old) earlier
+        × (first_by_number
+        (declaration_faults known.now.sorts (before_of seen.old symbols.old) earlier
         (plain_declaration decl.now)) ≡ None) }
     ensures refused { IfErr result (Refuses (λ r. ⊥)) }
     ensures grown { OnOk result
@@ -85,14 +91,20 @@ fn declare(
 }
 
 /// The entry of a symbol whose sorts are all known.
-fn symbol_info(alloc: Global, known: &Known<'_>, decl: &SymbolDecl) -> Result<SymInfo, SigFault>
+fn symbol_info(
+    alloc: Global,
+    known: &DeclaredFacts<'_>,
+    decl: &SymbolDecl,
+) -> Result<SymInfo, SigFault>
     requires sorts { length known.now.sorts < 2 ^ 32 }
     requires args { flat_map (reference_faults known.now.sorts decl.now.params.items)
         (map plain_sort decl.now.args.items) ≡ [] }
-    requires value { reference_faults known.now.sorts decl.now.params.items (plain_sort decl.now.result) ≡ [] }
+    requires value { reference_faults known.now.sorts decl.now.params.items
+        (plain_sort decl.now.result) ≡ [] }
     ensures refused { IfErr result (Refuses (λ r. ⊥)) }
     ensures info { IfOk result
-        (λ info. IsSymbolEntry known.now.sorts (option_copied known.now.injection) (names_of known.now.ac)
+        (λ info. IsSymbolEntry known.now.sorts (option_copied known.now.injection)
+        (names_of known.now.ac)
         (plain_symbol_decl decl.now) (decl.now.name, info)) }
 {
     let Ok(params) = u32::try_from(decl.params.len()) else {
@@ -121,7 +133,8 @@ fn references(
 ) -> Result<Vec<SortRef>, AllocError>
     requires sorts { length sorts.now < 2 ^ 32 }
     requires params { length params.now < 2 ^ 32 }
-    requires known { flat_map (reference_faults sorts.now params.now) (map plain_sort args.now) ≡ [] }
+    requires known { flat_map (reference_faults sorts.now params.now) (map plain_sort args.now)
+        ≡ [] }
     ensures { IfOk result (λ refs. map Some refs.items
         ≡ map (the_reference sorts.now params.now) (map plain_sort args.now)) }
 {
@@ -137,7 +150,8 @@ fn references(
 
 /// The name of the hook, if the attributes have one.
 fn hook_name(alloc: Global, attrs: &[Pat]) -> Result<Option<String>, AllocError>
-    ensures { IfOk result (λ hook. option_map string_bytes hook ≡ the_hook (map plain_pattern attrs.now)) }
+    ensures { IfOk result
+        (λ hook. option_map string_bytes hook ≡ the_hook (map pattern_tree attrs.now)) }
 {
     match hook_of(attrs) {
         Some(name) => Ok(Some(String::from_str(alloc, name)?)),

@@ -10,34 +10,46 @@ const LONGEST: usize = 10_000;
 /// The declarations before the axioms.
 const DECLARED: &str =
     "[] module M sort S{} [] sort T{} [] hooked-sort B{} [hook{}(\"BOOL.Bool\")] hooked-sort I{} \
-    [hook{}(\"INT.Int\")] symbol a{}() : S{} [constructor{}()] symbol b{}() : S{} [constructor{}()] symbol \
-    f{}(S{}) : S{} [function{}()] symbol c{}(S{},S{}) : S{} [constructor{}(),assoc{}()] symbol n{}() : S{} \
+    [hook{}(\"INT.Int\")] symbol a{}() : S{} [constructor{}()] symbol b{}() : S{} \
+    [constructor{}()] symbol \
+    f{}(S{}) : S{} [function{}()] symbol c{}(S{},S{}) : S{} [constructor{}(),assoc{}()] symbol \
+    n{}() : S{} \
     [] symbol t{}() : T{} [constructor{}()] symbol i{}(I{}) : S{} [constructor{}()] ";
 
 /// A definition as kompile writes it, shortened: the addition of two numbers.
 const ADDITION: &str =
-    "[topCellInitializer{}(Lblinit{}())] module BASIC-K sort SortK{} [] sort SortKItem{} [] endmodule [] \
+    "[topCellInitializer{}(Lblinit{}())] module BASIC-K sort SortK{} [] sort SortKItem{} [] \
+        endmodule [] \
     module KSEQ import BASIC-K [] symbol kseq{}(SortKItem{}, SortK{}) : SortK{} [constructor{}(), \
     functional{}(), injective{}()] symbol dotk{}() : SortK{} [constructor{}(), functional{}(), \
-    injective{}()] symbol append{}(SortK{}, SortK{}) : SortK{} [function{}(), functional{}()] axiom{R} \
+    injective{}()] symbol append{}(SortK{}, SortK{}) : SortK{} [function{}(), functional{}()] \
+    axiom{R} \
     \\implies{R}(\\and{R}(\\top{R}(), \\and{R}(\\in{SortK{}, R}(X0:SortK{}, dotk{}()), \
     \\and{R}(\\in{SortK{}, R}(X1:SortK{}, TAIL:SortK{}), \\top{R}()))), \\equals{SortK{}, \
-    R}(append{}(X0:SortK{}, X1:SortK{}), \\and{SortK{}}(TAIL:SortK{}, \\top{SortK{}}()))) [] axiom{R} \
+    R}(append{}(X0:SortK{}, X1:SortK{}), \\and{SortK{}}(TAIL:SortK{}, \\top{SortK{}}()))) [] \
+    axiom{R} \
     \\implies{R}(\\and{R}(\\top{R}(), \\and{R}(\\in{SortK{}, R}(X0:SortK{}, kseq{}(K:SortKItem{}, \
-    KS:SortK{})), \\and{R}(\\in{SortK{}, R}(X1:SortK{}, TAIL:SortK{}), \\top{R}()))), \\equals{SortK{}, \
+    KS:SortK{})), \\and{R}(\\in{SortK{}, R}(X1:SortK{}, TAIL:SortK{}), \\top{R}()))), \
+    \\equals{SortK{}, \
     R}(append{}(X0:SortK{}, X1:SortK{}), \\and{SortK{}}(kseq{}(K:SortKItem{}, append{}(KS:SortK{}, \
     TAIL:SortK{})), \\top{SortK{}}()))) [] endmodule [] module INJ symbol inj{From, To}(From) : To \
-    [sortInjection{}()] axiom{S1, S2, S3, R} \\equals{S3, R}(inj{S2, S3}(inj{S1, S2}(T:S1)), inj{S1, \
+    [sortInjection{}()] axiom{S1, S2, S3, R} \\equals{S3, R}(inj{S2, S3}(inj{S1, S2}(T:S1)), \
+    inj{S1, \
     S3}(T:S1)) [simplification{}()] endmodule [] module K import KSEQ [] import INJ [] alias \
-    weakExistsFinally{A}(A) : A where weakExistsFinally{A}(@X:A) := @X:A [] endmodule [] module SUM import \
+    weakExistsFinally{A}(A) : A where weakExistsFinally{A}(@X:A) := @X:A [] endmodule [] module \
+    SUM import \
     K [] hooked-sort SortInt{} [hasDomainValues{}(), hook{}(\"INT.Int\")] hooked-sort SortMap{} \
     [hook{}(\"MAP.Map\")] sort SortExp{} [] sort SortKCell{} [] hooked-symbol \
     Lbl'UndsPlus'Int'Unds'{}(SortInt{}, SortInt{}) : SortInt{} [function{}(), hook{}(\"INT.add\"), \
-    total{}()] hooked-symbol Lbl'Unds'Map'Unds'{}(SortMap{}, SortMap{}) : SortMap{} [assoc{}(), comm{}(), \
-    function{}(), hook{}(\"MAP.concat\")] symbol Lbl'UndsPlusUnds'{}(SortExp{}, SortExp{}) : SortExp{} \
-    [constructor{}(), functional{}(), injective{}()] symbol Lbl'-LT-'k'-GT-'{}(SortK{}) : SortKCell{} \
+    total{}()] hooked-symbol Lbl'Unds'Map'Unds'{}(SortMap{}, SortMap{}) : SortMap{} [assoc{}(), \
+    comm{}(), \
+    function{}(), hook{}(\"MAP.concat\")] symbol Lbl'UndsPlusUnds'{}(SortExp{}, SortExp{}) : \
+    SortExp{} \
+    [constructor{}(), functional{}(), injective{}()] symbol Lbl'-LT-'k'-GT-'{}(SortK{}) : \
+    SortKCell{} \
     [cell{}(), constructor{}(), functional{}(), injective{}()] axiom{R} \\exists{R}(Val:SortExp{}, \
-    \\equals{SortExp{}, R}(Val:SortExp{}, inj{SortInt{}, SortExp{}}(From:SortInt{}))) [subsort{SortInt{}, \
+    \\equals{SortExp{}, R}(Val:SortExp{}, inj{SortInt{}, SortExp{}}(From:SortInt{}))) \
+    [subsort{SortInt{}, \
     SortExp{}}()] axiom{R} \\exists{R}(Val:SortKItem{}, \\equals{SortKItem{}, R}(Val:SortKItem{}, \
     inj{SortExp{}, SortKItem{}}(From:SortExp{}))) [subsort{SortExp{}, SortKItem{}}()] axiom{R} \
     \\equals{SortMap{}, R}(Lbl'Unds'Map'Unds'{}(K1:SortMap{}, K2:SortMap{}), \
@@ -343,7 +355,8 @@ fn equations_of(program: &Program, name: &str) -> usize {
 #[test]
 fn addition(rt: HostRuntime) -> Result<(), Fail> {
     let term = "Lbl'-LT-'k'-GT-'{}(kseq{}(inj{SortExp{},SortKItem{}}(Lbl'UndsPlusUnds'{}(inj\
-        {SortInt{},SortExp{}}(\\dv{SortInt{}}(\"2\")),inj{SortInt{},SortExp{}}(\\dv{SortInt{}}(\"3\")))),dotk{}()))";
+        {SortInt{},SortExp{}}(\\dv{SortInt{}}(\"2\")),inj{SortInt{},\
+        SortExp{}}(\\dv{SortInt{}}(\"3\")))),dotk{}()))";
     assert!(rt; ADDITION.len() < LONGEST, "long");
     let Ok(program) = accept(rt.alloc(), ADDITION.as_bytes()) else {
         return Err(Fail::from("refused"));
@@ -405,9 +418,10 @@ fn order_of_trial(rt: HostRuntime) -> Result<(), Fail> {
 /// No proper prefix of a definition is accepted.
 #[test]
 fn prefixes(rt: HostRuntime) -> Result<(), Fail> {
-    let text =
-        "[] module A sort S{} [] symbol a{}() : S{} [constructor{}()] symbol b{}() : S{} [constructor{}()] \
-        axiom{} \\rewrites{S{}}(\\and{S{}}(a{}(),\\top{S{}}()),\\and{S{}}(b{}(),\\top{S{}}())) [] endmodule []";
+    let text = "[] module A sort S{} [] symbol a{}() : S{} [constructor{}()] symbol b{}() : S{} \
+            [constructor{}()] \
+        axiom{} \\rewrites{S{}}(\\and{S{}}(a{}(),\\top{S{}}()),\\and{S{}}(b{}(),\\top{S{}}())) [] \
+        endmodule []";
     let bytes = text.as_bytes();
     if bytes.len() > LONGEST {
         return Err(Fail::from("long"));

@@ -15,9 +15,11 @@ const LONGEST: usize = 10_000;
 /// The declarations before the axioms.
 const DECLARED: &str =
     "[] module M sort S{} [] sort T{} [] hooked-sort B{} [hook{}(\"BOOL.Bool\")] \
-    hooked-sort I{} [hook{}(\"INT.Int\")] symbol a{}() : S{} [constructor{}()] symbol b{}() : S{} [constructor{}()] \
+    hooked-sort I{} [hook{}(\"INT.Int\")] symbol a{}() : S{} [constructor{}()] symbol b{}() : S{} \
+    [constructor{}()] \
     symbol f{}(S{}) : S{} [function{}()] symbol c{}(S{},S{}) : S{} [constructor{}(),assoc{}()] \
-    symbol m{}(S{},S{}) : S{} [function{}(),comm{}()] symbol n{}() : S{} [] symbol t{}() : T{} [constructor{}()] \
+    symbol m{}(S{},S{}) : S{} [function{}(),comm{}()] symbol n{}() : S{} [] symbol t{}() : T{} \
+    [constructor{}()] \
     symbol is{}(S{}) : B{} [function{}()] symbol i{}(I{}) : S{} [constructor{}()] ";
 
 /// The first fault of the axioms: its number, and its byte after the declarations.
@@ -79,7 +81,8 @@ fn first_faults(rt: HostRuntime) -> Result<(), Fail> {
     let cases = [
         ("axiom{} \\rewrites{S{}}(a{}(),b{}()) []", None),
         (
-            "axiom{} \\rewrites{S{}}(\\and{S{}}(a{}(),\\top{S{}}()),\\and{S{}}(b{}(),\\top{S{}}())) [assoc{}()]",
+            "axiom{} \\rewrites{S{}}(\\and{S{}}(a{}(),\\top{S{}}()),\\and{S{}}(b{}(),\
+                \\top{S{}}())) [assoc{}()]",
             None,
         ),
         (
@@ -112,7 +115,8 @@ fn first_faults(rt: HostRuntime) -> Result<(), Fail> {
             Some((17, 0)),
         ),
         (
-            "axiom{} \\rewrites{S{}}(\\and{S{}}(a{}(),\\equals{T{},S{}}(t{}(),\\dv{T{}}(\"true\"))),b{}()) []",
+            "axiom{} \\rewrites{S{}}(\\and{S{}}(a{}(),\\equals{T{},S{}}(t{}(),\
+                \\dv{T{}}(\"true\"))),b{}()) []",
             Some((17, 0)),
         ),
         (
@@ -164,11 +168,13 @@ fn first_faults(rt: HostRuntime) -> Result<(), Fail> {
         ),
         ("axiom{} \\rewrites{S{}}(a{}(),X:S{}) []", Some((18, 0))),
         (
-            "axiom{} \\rewrites{S{}}(\\and{S{}}(a{}(),\\equals{B{},S{}}(is{}(X:S{}),\\dv{B{}}(\"true\"))),b{}()) []",
+            "axiom{} \\rewrites{S{}}(\\and{S{}}(a{}(),\\equals{B{},S{}}(is{}(X:S{}),\
+                \\dv{B{}}(\"true\"))),b{}()) []",
             Some((18, 0)),
         ),
         (
-            "axiom{} \\rewrites{S{}}(\\and{S{}}(i{}(X:I{}),\\equals{B{},S{}}(is{}(i{}(X:I{})),\\dv{B{}}(\"true\"))),\
+            "axiom{} \\rewrites{S{}}(\\and{S{}}(i{}(X:I{}),\\equals{B{},S{}}(is{}(i{}(X:I{})),\
+                \\dv{B{}}(\"true\"))),\
                 i{}(X:I{})) []",
             None,
         ),

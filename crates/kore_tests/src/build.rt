@@ -1,7 +1,7 @@
 // The rule pattern and the variables of a pattern, with ample memory.
 ghost use Rattle.std.specs.Prelude.{IfOk, map};
 ghost use Rattle.kore_text.specs.Trees.{pattern_trees};
-ghost use Rattle.kore_ast.specs.Plain.{plain_pattern};
+ghost use Rattle.kore_ast.specs.Plain.{pattern_tree};
 ghost use Rattle.kore_check.specs.Folds.{unfolded, all_unfolded, IsApplicative, AreApplicative};
 
 use crate::check::small_signature;
@@ -28,7 +28,7 @@ fn sort(alloc: Global, name: &str) -> Result<Sort, AllocError> {
 
 // The variable X of the sort `of`.
 fn variable(alloc: Global, of: &str) -> Result<Pat, AllocError>
-    ensures { IfOk result (λ p. IsApplicative (unfolded (plain_pattern p))) }
+    ensures { IfOk result (λ p. IsApplicative (unfolded (pattern_tree p))) }
 {
     let name = Text::new(String::from_str(alloc, "X")?);
     Ok(Pat {
@@ -43,8 +43,8 @@ fn application(
     sorts: Vec<Sort>,
     args: Vec<Pat>,
 ) -> Result<Pat, AllocError>
-    requires { AreApplicative (all_unfolded (pattern_trees (map plain_pattern args.items))) }
-    ensures { IfOk result (λ p. IsApplicative (unfolded (plain_pattern p))) }
+    requires { AreApplicative (all_unfolded (pattern_trees (map pattern_tree args.items))) }
+    ensures { IfOk result (λ p. IsApplicative (unfolded (pattern_tree p))) }
 {
     let name = Text::new(String::from_str(alloc, name)?);
     Ok(Pat {
@@ -55,7 +55,7 @@ fn application(
 
 // pair{}(X:Exp{}, pair{}(inj{Int{},Exp{}}(X:Int{}), X:Exp{}))
 fn sample(alloc: Global) -> Result<Pat, AllocError>
-    ensures { IfOk result (λ p. IsApplicative (unfolded (plain_pattern p))) }
+    ensures { IfOk result (λ p. IsApplicative (unfolded (pattern_tree p))) }
 {
     let sorts = vec![in alloc; sort(alloc, "Int")?, sort(alloc, "Exp")?]?;
     let args = vec![in alloc; variable(alloc, "Int")?]?;

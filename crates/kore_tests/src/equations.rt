@@ -16,9 +16,11 @@ const LONGEST: usize = 10_000;
 /// The declarations before the axiom.
 const DECLARED: &str =
     "[] module M sort S{} [] sort T{} [] hooked-sort B{} [hook{}(\"BOOL.Bool\")] \
-    hooked-sort I{} [hook{}(\"INT.Int\")] symbol a{}() : S{} [constructor{}()] symbol t{}() : T{} [constructor{}()] \
+    hooked-sort I{} [hook{}(\"INT.Int\")] symbol a{}() : S{} [constructor{}()] symbol t{}() : T{} \
+    [constructor{}()] \
     symbol p{}(S{}) : S{} [constructor{}()] symbol c{}(S{},S{}) : S{} [constructor{}(),assoc{}()] \
-    symbol i{}(I{}) : S{} [constructor{}()] symbol n{}() : S{} [] symbol f{}(S{}) : S{} [function{}()] \
+    symbol i{}(I{}) : S{} [constructor{}()] symbol n{}() : S{} [] symbol f{}(S{}) : S{} \
+    [function{}()] \
     symbol g{}() : S{} [function{}()] symbol h{}(S{},S{}) : S{} [function{}()] \
     symbol m{}(S{}) : S{} [function{}(),comm{}()] symbol is{}(S{}) : B{} [function{}()] ";
 
@@ -76,7 +78,8 @@ fn readable_equations(rt: HostRuntime) -> Result<(), Fail> {
             (0, 1, 0, false),
         ),
         (
-            "\\equals{S{},R}(f{}(p{}(X:S{})),\\and{S{}}(f{}(X:S{}),\\top{S{}}())) [priority{}(\"9\")]",
+            "\\equals{S{},R}(f{}(p{}(X:S{})),\\and{S{}}(f{}(X:S{}),\\top{S{}}())) \
+                [priority{}(\"9\")]",
             (0, 1, 1, false),
         ),
         (
@@ -84,18 +87,22 @@ fn readable_equations(rt: HostRuntime) -> Result<(), Fail> {
             (0, 2, 2, false),
         ),
         (
-            "\\implies{R}(\\equals{B{},R}(is{}(X:S{}),\\dv{B{}}(\"true\")),\\equals{S{},R}(f{}(X:S{}),X:S{})) []",
+            "\\implies{R}(\\equals{B{},R}(is{}(X:S{}),\\dv{B{}}(\"true\")),\\equals{S{},\
+                R}(f{}(X:S{}),X:S{})) []",
             (0, 1, 1, true),
         ),
         (
-            "\\implies{R}(\\and{R}(\\top{R}(),\\and{R}(\\in{S{},R}(X0:S{},p{}(Y:S{})),\\top{R}())), \
+            "\\implies{R}(\\and{R}(\\top{R}(),\\and{R}(\\in{S{},R}(X0:S{},p{}(Y:S{})),\
+                \\top{R}())), \
             \\equals{S{},R}(f{}(X0:S{}),\\and{S{}}(Y:S{},\\top{S{}}()))) []",
             (1, 1, 1, false),
         ),
         (
-            "\\implies{R}(\\and{R}(\\equals{B{},R}(is{}(X:S{}),\\dv{B{}}(\"true\")),\\and{R}(\\in{S{},R}(X0:S{},\
+            "\\implies{R}(\\and{R}(\\equals{B{},R}(is{}(X:S{}),\\dv{B{}}(\"true\")),\
+                \\and{R}(\\in{S{},R}(X0:S{},\
             X:S{}), \
-            \\and{R}(\\in{S{},R}(X1:S{},p{}(X:S{})),\\top{R}()))),\\equals{S{},R}(h{}(X0:S{},X1:S{}),a{}())) []",
+            \\and{R}(\\in{S{},R}(X1:S{},p{}(X:S{})),\\top{R}()))),\\equals{S{},R}(h{}(X0:S{},\
+            X1:S{}),a{}())) []",
             (2, 2, 1, true),
         ),
         ("\\equals{S{},R}(g{}(),a{}()) []", (0, 0, 0, false)),
@@ -137,14 +144,18 @@ fn unreadable_equations(rt: HostRuntime) -> Result<(), Fail> {
         "\\equals{S{},R}(f{}(X:S{}),\\and{S{}}(X:S{},a{}())) []",
         "\\equals{S{},R}(f{}(X:S{}),\\and{S{}}(\\top{S{}}(),X:S{})) []",
         "\\equals{S{},R}(f{}(a{}()),X:S{}) []",
-        "\\implies{R}(\\equals{S{},R}(a{}(),\\dv{S{}}(\"true\")),\\equals{S{},R}(f{}(a{}()),a{}())) []",
-        "\\implies{R}(\\equals{B{},R}(is{}(Y:S{}),\\dv{B{}}(\"true\")),\\equals{S{},R}(f{}(X:S{}),X:S{})) []",
+        "\\implies{R}(\\equals{S{},R}(a{}(),\\dv{S{}}(\"true\")),\\equals{S{},R}(f{}(a{}()),\
+            a{}())) []",
+        "\\implies{R}(\\equals{B{},R}(is{}(Y:S{}),\\dv{B{}}(\"true\")),\\equals{S{},R}(f{}(X:S{}),\
+            X:S{})) []",
         "\\implies{R}(\\and{R}(\\top{R}(),\\top{R}()),\\equals{S{},R}(f{}(a{}()),a{}())) []",
         "\\implies{R}(\\and{R}(\\top{R}(),\\and{R}(\\in{S{},R}(X:S{},Y:S{}),Y:S{})),\\equals{S{},\
           R}(f{}(X:S{}),Y:S{})) []",
-        "\\implies{R}(\\and{R}(\\top{R}(),\\and{R}(\\in{S{},R}(Z:S{},Y:S{}),\\top{R}())),\\equals{S{},\
+        "\\implies{R}(\\and{R}(\\top{R}(),\\and{R}(\\in{S{},R}(Z:S{},Y:S{}),\\top{R}())),\
+            \\equals{S{},\
           R}(f{}(X:S{}),Y:S{})) []",
-        "\\implies{R}(\\and{R}(\\top{R}(),\\and{R}(\\in{S{},R}(X:S{},Y:S{}),\\top{R}())),\\equals{S{},\
+        "\\implies{R}(\\and{R}(\\top{R}(),\\and{R}(\\in{S{},R}(X:S{},Y:S{}),\\top{R}())),\
+            \\equals{S{},\
           R}(f{}(X:S{}),X:S{})) []",
     ];
     for axiom in cases {

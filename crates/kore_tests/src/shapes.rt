@@ -24,7 +24,7 @@ fn side_word(side: Side<'_>) -> &'static str {
     match side {
         Side::Alone(_) => "alone",
         Side::Beside(..) => "beside",
-        Side::Without => "without",
+        Side::NoCompanion => "without",
         Side::Misshapen => "misshapen",
     }
 }
@@ -33,7 +33,7 @@ fn condition_word(condition: Condition<'_>) -> &'static str {
     match condition {
         Condition::Always => "always",
         Condition::Tests(..) => "tests",
-        Condition::Ill => "ill",
+        Condition::Malformed => "ill",
     }
 }
 
@@ -112,7 +112,8 @@ fn rules(rt: HostRuntime) -> Result<(), Fail> {
             "ill",
         ),
         (
-            "\\rewrites{S{}}(\\and{S{}}(\\equals{B{},S{}}(b{}(),\\dv{B{}}(\"false\")),a{}()),b{}())",
+            "\\rewrites{S{}}(\\and{S{}}(\\equals{B{},S{}}(b{}(),\\dv{B{}}(\"false\")),a{}()),\
+                b{}())",
             "beside",
             "alone",
             "ill",
@@ -234,27 +235,32 @@ fn equations(rt: HostRuntime) -> Result<(), Fail> {
             Some(None),
         ),
         (
-            "\\implies{R}(\\and{R}(\\top{R}(),\\and{R}(\\in{S{},R}(X:S{},a{}()),\\top{R}())),\\equals{S{},\
+            "\\implies{R}(\\and{R}(\\top{R}(),\\and{R}(\\in{S{},R}(X:S{},a{}()),\\top{R}())),\
+                \\equals{S{},\
                 R}(f{}(X:S{}),b{}()))",
             Some(Some((1, 1, true, 100))),
         ),
         (
-            "\\implies{R}(\\and{R}(\\top{R}(),\\and{R}(\\in{S{},R}(X:S{},a{}()),\\top{R}())),\\equals{S{},\
+            "\\implies{R}(\\and{R}(\\top{R}(),\\and{R}(\\in{S{},R}(X:S{},a{}()),\\top{R}())),\
+                \\equals{S{},\
                 R}(f{}(X:S{}),X:S{}))",
             Some(None),
         ),
         (
-            "\\implies{R}(\\and{R}(\\top{R}(),\\and{R}(\\in{S{},R}(X:S{},X:S{}),\\top{R}())),\\equals{S{},\
+            "\\implies{R}(\\and{R}(\\top{R}(),\\and{R}(\\in{S{},R}(X:S{},X:S{}),\\top{R}())),\
+                \\equals{S{},\
                 R}(f{}(X:S{}),b{}()))",
             Some(None),
         ),
         (
-            "\\implies{R}(\\and{R}(\\top{R}(),\\and{R}(\\in{S{},R}(X:S{},X:T{}),\\top{R}())),\\equals{S{},\
+            "\\implies{R}(\\and{R}(\\top{R}(),\\and{R}(\\in{S{},R}(X:S{},X:T{}),\\top{R}())),\
+                \\equals{S{},\
                 R}(f{}(X:S{}),b{}()))",
             Some(Some((1, 1, true, 100))),
         ),
         (
-            "\\implies{R}(\\and{R}(\\top{R}(),\\and{R}(\\in{T{},R}(X:S{},a{}()),\\top{R}())),\\equals{S{},\
+            "\\implies{R}(\\and{R}(\\top{R}(),\\and{R}(\\in{T{},R}(X:S{},a{}()),\\top{R}())),\
+                \\equals{S{},\
                 R}(f{}(X:S{}),b{}()))",
             Some(None),
         ),

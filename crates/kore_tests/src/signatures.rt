@@ -17,16 +17,20 @@ const NESTED_INJECTIONS: &str =
     "[] module C hooked-sort SortInt{} [hook{}(\"INT.Int\")] sort SortAExp{} [] \
     sort SortStmt{} [] sort SortKItem{} [] sort T{} [] \
     symbol inj{From,To}(From) : To [sortInjection{}()] \
-    axiom{R} \\top{R}() [subsort{SortInt{},SortAExp{}}()] axiom{R} \\top{R}() [subsort{SortAExp{},SortStmt{}}()] \
+    axiom{R} \\top{R}() [subsort{SortInt{},SortAExp{}}()] axiom{R} \\top{R}() [subsort{SortAExp{},\
+    SortStmt{}}()] \
     axiom{R} \\top{R}() [subsort{SortAExp{},SortKItem{}}()] \
-    symbol k{}(SortKItem{}) : T{} [constructor{}()] symbol done{}(SortStmt{}) : T{} [constructor{}()] endmodule []";
+    symbol k{}(SortKItem{}) : T{} [constructor{}()] symbol done{}(SortStmt{}) : T{} \
+    [constructor{}()] endmodule []";
 
 /// Functions with hooks. Not all of the hooks are of integers.
 const INTEGER_FUNCTIONS: &str = "[] module D hooked-sort SortInt{} [hook{}(\"INT.Int\")] \
-    hooked-sort SortBool{} [hook{}(\"BOOL.Bool\")] hooked-sort SortString{} [hook{}(\"STRING.String\")] \
+    hooked-sort SortBool{} [hook{}(\"BOOL.Bool\")] hooked-sort SortString{} \
+    [hook{}(\"STRING.String\")] \
     symbol n{}(SortInt{}) : SortBool{} [constructor{}()] \
     hooked-symbol add{}(SortInt{},SortInt{}) : SortInt{} [function{}(),hook{}(\"INT.add\")] \
-    hooked-symbol len{}(SortString{}) : SortInt{} [function{}(),hook{}(\"STRING.length\")] endmodule []";
+    hooked-symbol len{}(SortString{}) : SortInt{} [function{}(),hook{}(\"STRING.length\")] \
+    endmodule []";
 
 /// Two modules that are reached and one that is not. Each declaration may use the sorts of the
 /// others.
@@ -42,14 +46,17 @@ const APPEND_LIST: &str = "[] module BASIC-K sort SortK{} [] sort SortKItem{} []
 /// injection is in another module.
 const ADDITION: &str = "[topCellInitializer{}(Lblinit{}())] \
     module INJ symbol inj{From, To}(From) : To [sortInjection{}()] \
-    axiom{S1, S2, S3, R} \\equals{S3, R}(inj{S2, S3}(inj{S1, S2}(T:S1)), inj{S1, S3}(T:S1)) [simplification{}()] \
+    axiom{S1, S2, S3, R} \\equals{S3, R}(inj{S2, S3}(inj{S1, S2}(T:S1)), inj{S1, S3}(T:S1)) \
+    [simplification{}()] \
     endmodule [] module K import INJ [] \
     alias weakExistsFinally{A}(A) : A where weakExistsFinally{A}(@X:A) := @X:A [] endmodule [] \
     module SUM import K [] hooked-sort SortInt{} [hasDomainValues{}(), hook{}(\"INT.Int\")] \
     hooked-sort SortMap{} [hook{}(\"MAP.Map\")] sort SortExp{} [] \
-    hooked-symbol Lbl'Unds'Map'Unds'{}(SortMap{}, SortMap{}) : SortMap{} [function{}(), hook{}(\"MAP.concat\")] \
+    hooked-symbol Lbl'Unds'Map'Unds'{}(SortMap{}, SortMap{}) : SortMap{} [function{}(), \
+    hook{}(\"MAP.concat\")] \
     symbol Lbl'UndsPlusUnds'{}(SortExp{}, SortExp{}) : SortExp{} [constructor{}(), functional{}()] \
-    axiom{R} \\exists{R}(V:SortExp{}, \\equals{SortExp{}, R}(V:SortExp{}, inj{SortInt{}, SortExp{}}(F:SortInt{}))) \
+    axiom{R} \\exists{R}(V:SortExp{}, \\equals{SortExp{}, R}(V:SortExp{}, inj{SortInt{}, \
+    SortExp{}}(F:SortInt{}))) \
     [subsort{SortInt{}, SortExp{}}()] // subsort\n\
     axiom{R} \\equals{SortMap{}, R}(Lbl'Unds'Map'Unds'{}(K1:SortMap{}, K2:SortMap{}), \
     Lbl'Unds'Map'Unds'{}(K2:SortMap{}, K1:SortMap{})) [comm{}()] \
@@ -58,11 +65,14 @@ const ADDITION: &str = "[topCellInitializer{}(Lblinit{}())] \
 
 /// A symbol of each kind, and edge cases of the kinds.
 const KINDS: &str = "[] module M sort S{} [hook{}()] symbol same{A,A}(A) : A [sortInjection{}()] \
-    symbol inj{A,B}(A) : B [function{}(),sortInjection{}()] symbol again{A,B}(A) : B [sortInjection{}()] \
+    symbol inj{A,B}(A) : B [function{}(),sortInjection{}()] symbol again{A,B}(A) : B \
+    [sortInjection{}()] \
     symbol f{}() : S{} [constructor{}(),function{}(),hook{}(),assoc{S{}}(a{}())] \
-    symbol g{A}() : A [function{}()] symbol h{A}() : A [constructor{}()] symbol i{}() : S{} [\\top{S{}}()] \
+    symbol g{A}() : A [function{}()] symbol h{A}() : A [constructor{}()] symbol i{}() : S{} \
+    [\\top{S{}}()] \
     symbol u{}() : S{} [] symbol v{}() : S{} [hook{}(\"x\"),hook{}(\"y\")] \
-    axiom{} \\equals{S{},S{}}(u{}(),u{}()) [unit{}()] claim{} \\equals{S{},S{}}(v{}(),v{}()) [unit{}()] \
+    axiom{} \\equals{S{},S{}}(u{}(),u{}()) [unit{}()] claim{} \\equals{S{},S{}}(v{}(),v{}()) \
+    [unit{}()] \
     axiom{} \\equals{S{},S{}}(g{S{}}(),v{}()) [idem{}()] endmodule []";
 
 /// A sort in a declaration: its name, or `#` and its place if it is a parameter.
@@ -151,7 +161,8 @@ fn signatures(rt: HostRuntime) -> Result<(), Fail> {
         (
             APPEND_LIST,
             "SortK: Other\nSortKItem: Other\nT: Other\nkseq: Ctor 0 (SortKItem,SortK,) SortK\n\
-             append: Equations 0 (SortK,SortK,) SortK\np: Ctor 0 () SortKItem\nk: Ctor 0 (SortK,) T\n",
+             append: Equations 0 (SortK,SortK,) SortK\np: Ctor 0 () SortKItem\nk: Ctor 0 (SortK,) \
+             T\n",
         ),
         (
             ADDITION,
@@ -161,7 +172,8 @@ fn signatures(rt: HostRuntime) -> Result<(), Fail> {
         ),
         (
             KINDS,
-            "S: Other\nsame: NoKind 2 (#0,) #0\ninj: Injection 2 (#0,) #1\nagain: NoKind 2 (#0,) #1\n\
+            "S: Other\nsame: NoKind 2 (#0,) #0\ninj: Injection 2 (#0,) #1\nagain: NoKind 2 (#0,) \
+                #1\n\
              f: Equations 0 () S hook  ac\ng: Closed 1 () #0\nh: NoKind 1 () #0\ni: NoKind 0 () S\n\
              u: NoKind 0 () S ac\nv: NoKind 0 () S hook x\n",
         ),

@@ -5,6 +5,7 @@ pub mod AcceptedPatterns
 pub mod AcceptedDefinitions
 pub mod Saying
 pub mod Returning
+pub mod ReturningFolds
 pub mod Completing
 pub mod Explaining
 pub mod Cutting

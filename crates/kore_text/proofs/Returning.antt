@@ -1,5 +1,6 @@
 -- What a token and the tokens after it say, by the move that the token makes.
-use Rattle.std.proofs.Common.{◌≡◌, ℕ, Bool, true, false, ◌==◌, ◌&&◌, List, [], ◌∷◌, length, map, Option, Some, None, refl, ap, sym, ◌∙◌, subst, codes, inl, inr, if◌then◌else◌}
+use Rattle.std.proofs.Common.{◌≡◌, ℕ, Bool, true, false, List, [], ◌∷◌, map, Option, Some, None}
+use Rattle.std.proofs.Common.{refl, ap, sym, subst, codes, if◌then◌else◌}
 use Rattle.std.specs.Str.{bytes_eq}
 use Rattle.kore_text.specs.declared.names.Op.{Op}
 use Rattle.kore_text.specs.declared.names.Op.TheVariants as op
@@ -11,327 +12,31 @@ use Rattle.kore_text.specs.declared.symbols.Item.{Item}
 use Rattle.kore_text.specs.declared.symbols.Item.TheVariants as item
 use Rattle.kore_text.specs.declared.symbols.Symbol.{Symbol}
 use Rattle.kore_text.specs.declared.symbols.Symbol.TheVariants as symbol
-use Rattle.kore_text.specs.TokenStream.{Token, identifier, set_identifier, builtin, string_token, mark, assign, Stream, token}
-use Rattle.kore_text.specs.Trees.{SortTree, sort_parameter, sort_applied, no_sorts, sort_then, sort_count, PatternTree, element_variable, set_variable, string, symbol_applied, connected, binding, domain_value, folded, pattern_then, pattern_count, sort_trees, pattern_trees, ModuleTree, import_declaration, sort_declaration, symbol_declaration, alias_declaration, axiom_declaration, claim_declaration}
-use Rattle.kore_text.specs.Grammar.{Want, placed, any, listed, more_listed, in_order, Takes, sorts_of, arguments_of, takes, is_count, binder_sorts, binds_sets, is_variable, is_associative, spell_names, spell_sort, spell_sorts, spell_pattern, spell_patterns, spell_variable, sort_word, symbol_word, spell_attributes, spell_signature, spell_body, spell_module}
-use Rattle.kore_text.specs.Table.{byte_of, symbol_of, turn, no_arguments, folded_arguments, exactly, argument_symbols, built_symbols, when, name_move, item_move, sort_move, pattern_move, built_move, folded_move, folded_built_move, word_move, keyword_move, rest_of, assign_move, text_move, pattern_tail_move, variable_move, declarations_move}
+use Rattle.kore_text.specs.TokenStream.{Token, identifier, set_identifier, builtin, string_token}
+use Rattle.kore_text.specs.TokenStream.{mark, assign, Stream, token}
+use Rattle.kore_text.specs.Trees.{SortTree, no_sorts, sort_then, folded, sort_trees, ModuleTree}
+use Rattle.kore_text.specs.Trees.{import_declaration, sort_declaration, symbol_declaration}
+use Rattle.kore_text.specs.Trees.{alias_declaration, axiom_declaration, claim_declaration}
+use Rattle.kore_text.specs.Grammar.{Requirement, any, listed, more_listed, in_order, is_associative}
+use Rattle.kore_text.specs.Grammar.{spell_names, spell_sort, spell_sorts, spell_pattern, sort_word}
+use Rattle.kore_text.specs.Grammar.{symbol_word, spell_attributes, spell_signature, spell_body}
+use Rattle.kore_text.specs.Grammar.{spell_module}
+use Rattle.kore_text.specs.Table.{byte_of, symbol_of, turn, no_arguments, folded_arguments, exactly}
+use Rattle.kore_text.specs.Table.{when, item_move, folded_move, folded_built_move, word_move}
+use Rattle.kore_text.specs.Table.{keyword_move, rest_of, declarations_move}
 use Rattle.kore_text.specs.Apart.{is_mark}
 use Rattle.std.proofs.lemmas.Slice.Eq.{bytes_eq-Decides}
-use Rattle.kore_text.specs.declared.names.Binder.{Binder}
 use Rattle.kore_text.specs.Faults.{of_symbol, of_connective}
-use Rattle.kore_text.proofs.Accepting.{number-is, single}
-use Rattle.kore_text.proofs.Saying.{To, ItemTree, spell_item, variable_token, Says, Pieces, along, spell_sorts-trees, spell_patterns-trees, sort_count-trees, pattern_count-trees, same-count, said, exactly-back}
-
--- what the symbols of the move say is here
-abbrev pub Moved : Option (List Symbol) → Stream → Stream → Type 0
-Moved None s r = ⊥
-Moved (Some b) s r = Pieces b s r
-
-when-back : (x : Bool) (b : List Symbol) (s r : Stream) → Moved (when x b) s r → (x ≡ true) × Pieces b s r
-when-back true b s r m = (refl, m)
-when-back false b s r m = absurd m
-
-and-true : (a b : Bool) → a ≡ true → b ≡ true → (a && b) ≡ true
-and-true a b h i = rw (h, i) refl
-
-pub mark-is : (c : ℕ) (t : Token) → is_mark c t ≡ true → t ≡ mark c
-mark-is c (identifier n) h = let z : ⊥ = cc in absurd z
-mark-is c (set_identifier n) h = let z : ⊥ = cc in absurd z
-mark-is c (builtin x) h = let z : ⊥ = cc in absurd z
-mark-is c (string_token n) h = let z : ⊥ = cc in absurd z
-mark-is c (mark d) h = ap mark (number-is d c h)
-mark-is c assign h = let z : ⊥ = cc in absurd z
-
--- lists of sorts and of patterns in a tree
-as-sorts : (xs : List SortTree) (s r : Stream) → To (listed (map spell_sort xs) 125) s r → To (listed (spell_sorts (sort_trees xs)) 125) s r
-as-sorts xs s r m w e h = subst (λ fs. Takes (listed fs 125 w) s e) (sym (spell_sorts-trees xs)) (m w e h)
-
-as-patterns : (b : Bool) (ps : List PatternTree) (s r : Stream) → To (listed (map (spell_pattern b) ps) 41) s r → To (listed (spell_patterns b (pattern_trees ps)) 41) s r
-as-patterns b ps s r m w e h = subst (λ fs. Takes (listed fs 41 w) s e) (sym (spell_patterns-trees b ps)) (m w e h)
-
-as-more-patterns : (b : Bool) (ps : List PatternTree) (s r : Stream) → To (more_listed (map (spell_pattern b) ps) 41) s r → To (more_listed (spell_patterns b (pattern_trees ps)) 41) s r
-as-more-patterns b ps s r m w e h = subst (λ fs. Takes (more_listed fs 41 w) s e) (sym (spell_patterns-trees b ps)) (m w e h)
-
-pub name-back : (t : Token) (p : ℕ) (s r : Stream) → Moved (name_move t) s r → Says symbol.Name (token t p s) r
-name-back (identifier n) p s r m = (n, λ w e h. (refl, along s r m w e h))
-name-back (set_identifier n) p s r m = absurd m
-name-back (builtin x) p s r m = absurd m
-name-back (string_token n) p s r m = absurd m
-name-back (mark d) p s r m = absurd m
-name-back assign p s r m = absurd m
-
-pub text-back : (t : Token) (p : ℕ) (s r : Stream) → Moved (text_move t) s r → Says symbol.Text (token t p s) r
-text-back (identifier n) p s r m = absurd m
-text-back (set_identifier n) p s r m = absurd m
-text-back (builtin x) p s r m = absurd m
-text-back (string_token n) p s r m = (n, p, λ w e h. (refl, refl, along s r m w e h))
-text-back (mark d) p s r m = absurd m
-text-back assign p s r m = absurd m
-
-pub assign-back : (t : Token) (p : ℕ) (s r : Stream) → Moved (assign_move t) s r → Says symbol.Assign (token t p s) r
-assign-back (identifier n) p s r m = absurd m
-assign-back (set_identifier n) p s r m = absurd m
-assign-back (builtin x) p s r m = absurd m
-assign-back (string_token n) p s r m = absurd m
-assign-back (mark d) p s r m = absurd m
-assign-back assign p s r m = λ w e h. (refl, along s r m w e h)
-
-pub sort-back : (t : Token) (p : ℕ) (s r : Stream) → Moved (sort_move t) s r → Says symbol.Sort (token t p s) r
-sort-back (identifier n) p s r m = elim m.1 [
-  | inl g ↦ (sort_parameter p n, λ w e h. (refl, refl, g w e (along m.0 r m.2 w e h)))
-  | inr g ↦ (sort_applied p n g.0, λ w e h. (refl, refl, g.1 w e (along m.0 r m.2 w e h)))
-]
-sort-back (set_identifier n) p s r m = absurd m
-sort-back (builtin x) p s r m = absurd m
-sort-back (string_token n) p s r m = absurd m
-sort-back (mark d) p s r m = absurd m
-sort-back assign p s r m = absurd m
-
-sort-tail-back : (t : Token) (p : ℕ) (s r : Stream) → Moved (when (is_mark 123 t) (symbol.First item.Sort close.Brace ∷ [])) s r → Says symbol.SortTail (token t p s) r
-sort-tail-back t p s r m =
-    let x = when-back (is_mark 123 t) (symbol.First item.Sort close.Brace ∷ []) s r m in
-    inr (sort_trees x.1.1.0, λ w e h. (mark-is 123 t x.0, as-sorts x.1.1.0 s x.1.0 x.1.1.1 w e (along x.1.0 r x.1.2 w e h)))
-
-variable-back : (c : Bool) (t : Token) (p : ℕ) (s r : Stream) → Moved (variable_move c t) s r → Says (symbol.Variable c) (token t p s) r
-variable-back true (identifier n) p s r m = absurd m
-variable-back true (set_identifier n) p s r m = (p, n, m.2.1.0, λ w e h. (refl, refl, m.1 (spell_sort m.2.1.0 w) e (m.2.1.1 w e (along m.2.0 r m.2.2 w e h))))
-variable-back true (builtin x) p s r m = absurd m
-variable-back true (string_token n) p s r m = absurd m
-variable-back true (mark d) p s r m = absurd m
-variable-back true assign p s r m = absurd m
-variable-back false (identifier n) p s r m = (p, n, m.2.1.0, λ w e h. (refl, refl, m.1 (spell_sort m.2.1.0 w) e (m.2.1.1 w e (along m.2.0 r m.2.2 w e h))))
-variable-back false (set_identifier n) p s r m = absurd m
-variable-back false (builtin x) p s r m = absurd m
-variable-back false (string_token n) p s r m = absurd m
-variable-back false (mark d) p s r m = absurd m
-variable-back false assign p s r m = absurd m
-
-arguments-back : (b : Bool) (x : Option ℕ) (s r : Stream) → Pieces (argument_symbols b x) s r
-    → (ys : List PatternTree) × ((is_count x (length ys) ≡ true) × To (listed (map (spell_pattern b) ys) 41) s r)
-arguments-back b None s r m = (m.1.0, (refl, λ w e h. m.1.1 w e (along m.0 r m.2 w e h)))
-arguments-back b (Some n) s r m =
-    let x = exactly-back (item.Pattern b) close.Paren n [] s r m in
-    (x.0, (subst (λ k. (k == n) ≡ true) (sym x.1.0) (same-count n), λ w e h. x.1.1.1.0 w e (along x.1.1.0 r x.1.1.1.1 w e h)))
-
-connected-back : (b : Bool) (o : Op) (p : ℕ) (s r : Stream) → Pieces (built_symbols b (Connective o)) s r → Says (symbol.Pattern b) (token (builtin (Some (Connective o))) p s) r
-connected-back b o p s r m =
-    let x = exactly-back item.Sort close.Brace (sorts_of o) (symbol.Mark 40 ∷ argument_symbols b (arguments_of o)) m.0 r m.2 in
-    let xs : List SortTree = x.0 in
-    let q2 : Stream = x.1.1.0 in
-    let g : Pieces (symbol.Mark 40 ∷ argument_symbols b (arguments_of o)) q2 r = x.1.1.1.1 in
-    let y = arguments-back b (arguments_of o) g.0 r g.2 in
-    let ys : List PatternTree = y.0 in
-    let v : List Want → List Want = λ w. listed (spell_patterns b (pattern_trees ys)) 41 w in
-    let fit : takes o (sort_count (sort_trees xs)) (pattern_count (pattern_trees ys)) ≡ true =
-    and-true (sort_count (sort_trees xs) == sorts_of o) (is_count (arguments_of o) (pattern_count (pattern_trees ys)))
-    (subst (λ k. (k == sorts_of o) ≡ true) (sym (sort_count-trees xs ∙ x.1.0)) (same-count (sorts_of o)))
-    (subst (λ k. is_count (arguments_of o) k ≡ true) (sym (pattern_count-trees ys)) y.1.0) in (
-      connected p o (sort_trees xs) (pattern_trees ys),
-      λ w e h. (
-        fit,
-        (
-          refl,
-          refl,
-          m.1 (listed (spell_sorts (sort_trees xs)) 125 (any (mark 40) ∷ v w)) e
-              (as-sorts xs m.0 q2 x.1.1.1.0 (any (mark 40) ∷ v w) e (g.1 (v w) e (as-patterns b ys g.0 r y.1.1 w e h))),
-        ),
-      ),
-    )
-
-abbrev variable_tree : Bool → ℕ → List ℕ → SortTree → PatternTree
-variable_tree true p n t = set_variable p n t
-variable_tree false p n t = element_variable p n t
-
-is-variable : (c : Bool) (p : ℕ) (n : List ℕ) (t : SortTree) → is_variable c (variable_tree c p n t) ≡ true
-is-variable true p n t = refl
-is-variable false p n t = refl
-
-variable-spelled : (b c : Bool) (p : ℕ) (n : List ℕ) (t : SortTree) (w : List Want) → spell_pattern b (variable_tree c p n t) w ≡ spell_variable p (variable_token c n) t w
-variable-spelled b true p n t w = refl
-variable-spelled b false p n t w = refl
-
-binding-back : (b : Bool) (o : Binder) (p : ℕ) (s r : Stream) → Pieces (built_symbols b (Binding o)) s r → Says (symbol.Pattern b) (token (builtin (Some (Binding o))) p s) r
-binding-back b o p s r m =
-    let c : Bool = binds_sets o in
-    let x = exactly-back item.Sort close.Brace (binder_sorts o) (symbol.Mark 40 ∷ symbol.Variable c ∷ symbol.Mark 44 ∷ symbol.Pattern b ∷ symbol.Mark 41 ∷ []) m.0 r m.2 in
-    let xs : List SortTree = x.0 in
-    let q2 : Stream = x.1.1.0 in
-    let g : Pieces (symbol.Mark 40 ∷ symbol.Variable c ∷ symbol.Mark 44 ∷ symbol.Pattern b ∷ symbol.Mark 41 ∷ []) q2 r = x.1.1.1.1 in
-    let v = g.2.1 in
-    let tree : PatternTree = variable_tree c v.0 v.1 v.2 in
-    let k : Pieces (symbol.Mark 44 ∷ symbol.Pattern b ∷ symbol.Mark 41 ∷ []) g.2.0 r = g.2.2 in
-    let body : PatternTree = k.2.1.0 in
-    let fit : ((sort_count (sort_trees xs) == binder_sorts o) && is_variable c tree) ≡ true =
-    and-true (sort_count (sort_trees xs) == binder_sorts o) (is_variable c tree)
-    (subst (λ j. (j == binder_sorts o) ≡ true) (sym (sort_count-trees xs ∙ x.1.0)) (same-count (binder_sorts o))) (is-variable c v.0 v.1 v.2) in (
-      binding p o (sort_trees xs) tree body,
-      λ w e h. (
-        fit,
-        (
-          refl,
-          refl,
-          m.1 (listed (spell_sorts (sort_trees xs)) 125 (any (mark 40) ∷ spell_pattern b tree (any (mark 44) ∷ spell_pattern b body (any (mark 41) ∷ w)))) e
-              (as-sorts xs m.0 q2 x.1.1.1.0 (any (mark 40) ∷ spell_pattern b tree (any (mark 44) ∷ spell_pattern b body (any (mark 41) ∷ w))) e
-              (g.1 (spell_pattern b tree (any (mark 44) ∷ spell_pattern b body (any (mark 41) ∷ w))) e
-              (subst (λ u. Takes u g.0 e) (sym (variable-spelled b c v.0 v.1 v.2 (any (mark 44) ∷ spell_pattern b body (any (mark 41) ∷ w))))
-              (v.3 (any (mark 44) ∷ spell_pattern b body (any (mark 41) ∷ w)) e
-              (k.1 (spell_pattern b body (any (mark 41) ∷ w)) e
-              (k.2.1.1 (any (mark 41) ∷ w) e (k.2.2.1 w e (along k.2.2.0 r k.2.2.2 w e h)))))))),
-        ),
-      ),
-    )
-
-value-back : (b : Bool) (p : ℕ) (s r : Stream) → Pieces (built_symbols b Value) s r → Says (symbol.Pattern b) (token (builtin (Some Value)) p s) r
-value-back b p s r m =
-    let t : SortTree = m.2.1.0 in
-    let k : Pieces (symbol.Mark 125 ∷ symbol.Mark 40 ∷ symbol.Text ∷ symbol.Mark 41 ∷ []) m.2.0 r = m.2.2 in
-    let g : Pieces (symbol.Text ∷ symbol.Mark 41 ∷ []) k.2.0 r = k.2.2 in
-    let x : List ℕ = g.1.0 in
-    let place : ℕ = g.1.1 in (
-      domain_value p t x place,
-      λ w e h. (
-        refl,
-        refl,
-        m.1 (spell_sort t (any (mark 125) ∷ any (mark 40) ∷ placed place (string_token x) ∷ any (mark 41) ∷ w)) e
-            (m.2.1.1 (any (mark 125) ∷ any (mark 40) ∷ placed place (string_token x) ∷ any (mark 41) ∷ w) e
-            (k.1 (any (mark 40) ∷ placed place (string_token x) ∷ any (mark 41) ∷ w) e
-            (k.2.1 (placed place (string_token x) ∷ any (mark 41) ∷ w) e
-            (g.1.2 (any (mark 41) ∷ w) e (g.2.1 w e (along g.2.0 r g.2.2 w e h)))))),
-      ),
-    )
-
-fold-back : (b left : Bool) (p : ℕ) (s r : Stream) → Pieces (built_symbols b (Fold left)) s r → Says (symbol.Pattern b) (token (builtin (Some (Fold left))) p s) r
-fold-back b left p s r m =
-    let k : Pieces (symbol.Mark 40 ∷ symbol.Folded b ∷ symbol.Mark 41 ∷ []) m.2.0 r = m.2.2 in
-    let q : PatternTree = k.2.1.0 in
-    let g : Pieces (symbol.Mark 41 ∷ []) k.2.0 r = k.2.2 in (
-      folded p left q,
-      λ w e h. (
-        k.2.1.1,
-        (
-          refl,
-          refl,
-          m.1 (any (mark 125) ∷ any (mark 40) ∷ spell_pattern b q (any (mark 41) ∷ w)) e
-              (m.2.1 (any (mark 40) ∷ spell_pattern b q (any (mark 41) ∷ w)) e
-              (k.1 (spell_pattern b q (any (mark 41) ∷ w)) e
-              (k.2.1.2 (any (mark 41) ∷ w) e (g.1 w e (along g.0 r g.2 w e h))))),
-        ),
-      ),
-    )
-
-built-back : (b : Bool) (x : Option Built) (p : ℕ) (s r : Stream) → Moved (built_move b x) s r → Says (symbol.Pattern b) (token (builtin x) p s) r
-built-back b None p s r m = absurd m
-built-back b (Some (Connective o)) p s r m = connected-back b o p s r m
-built-back b (Some (Binding o)) p s r m = binding-back b o p s r m
-built-back b (Some Value) p s r m = value-back b p s r m
-built-back b (Some (Fold left)) p s r m = fold-back b left p s r m
-
-pub pattern-back : (b : Bool) (t : Token) (p : ℕ) (s r : Stream) → Moved (pattern_move b t) s r → Says (symbol.Pattern b) (token t p s) r
-pattern-back b (identifier n) p s r m = elim m.1 [
-  | inl g ↦ (element_variable p n g.0, λ w e h. (refl, refl, g.1 w e (along m.0 r m.2 w e h)))
-  | inr g ↦ (symbol_applied p n g.0 g.1, λ w e h. (refl, refl, g.2 w e (along m.0 r m.2 w e h)))
-]
-pattern-back b (set_identifier n) p s r m =
-    (set_variable p n m.2.1.0, λ w e h. (refl, refl, m.1 (spell_sort m.2.1.0 w) e (m.2.1.1 w e (along m.2.0 r m.2.2 w e h))))
-pattern-back b (builtin x) p s r m = built-back b x p s r m
-pattern-back true (string_token n) p s r m = (string p n, λ w e h. (refl, (refl, refl, along s r m w e h)))
-pattern-back false (string_token n) p s r m = absurd m
-pattern-back b (mark d) p s r m = absurd m
-pattern-back b assign p s r m = absurd m
-
-tail-choice : (b x y : Bool) (d p : ℕ) (s r : Stream) → x ≡ (d == 58) → y ≡ (d == 123)
-    → Moved (if x then Some (symbol.Sort ∷ []) else when y (symbol.First item.Sort close.Brace ∷ symbol.Mark 40 ∷ symbol.First (item.Pattern b) close.Paren ∷ [])) s r
-    → Says (symbol.PatternTail b) (token (mark d) p s) r
-tail-choice b true y d p s r i j m =
-    inl (m.1.0, λ w e h. (mark-is 58 (mark d) (sym i), m.1.1 w e (along m.0 r m.2 w e h)))
-tail-choice b false true d p s r i j m =
-    let k : Pieces (symbol.Mark 40 ∷ symbol.First (item.Pattern b) close.Paren ∷ []) m.0 r = m.2 in
-    inr (
-      sort_trees m.1.0,
-      pattern_trees k.2.1.0,
-      λ w e h. (
-        mark-is 123 (mark d) (sym j),
-        as-sorts m.1.0 s m.0 m.1.1 (any (mark 40) ∷ listed (spell_patterns b (pattern_trees k.2.1.0)) 41 w) e
-            (k.1 (listed (spell_patterns b (pattern_trees k.2.1.0)) 41 w) e
-            (as-patterns b k.2.1.0 k.0 k.2.0 k.2.1.1 w e (along k.2.0 r k.2.2 w e h))),
-      ),
-    )
-tail-choice b false false d p s r i j m = absurd m
-
-pattern-tail-back : (b : Bool) (t : Token) (p : ℕ) (s r : Stream) → Moved (pattern_tail_move b t) s r → Says (symbol.PatternTail b) (token t p s) r
-pattern-tail-back b (mark d) p s r m = tail-choice b (d == 58) (d == 123) d p s r refl refl m
-pattern-tail-back b (identifier n) p s r m = absurd m
-pattern-tail-back b (set_identifier n) p s r m = absurd m
-pattern-tail-back b (builtin x) p s r m = absurd m
-pattern-tail-back b (string_token n) p s r m = absurd m
-pattern-tail-back b assign p s r m = absurd m
-
-any-count : (o : Op) (n : ℕ) → is_associative o ≡ true → is_count (arguments_of o) n ≡ true
-any-count op.Top n h = let z : ⊥ = cc in absurd z
-any-count op.Bottom n h = let z : ⊥ = cc in absurd z
-any-count op.Not n h = let z : ⊥ = cc in absurd z
-any-count op.Next n h = let z : ⊥ = cc in absurd z
-any-count op.And n h = refl
-any-count op.Or n h = refl
-any-count op.Implies n h = let z : ⊥ = cc in absurd z
-any-count op.Iff n h = let z : ⊥ = cc in absurd z
-any-count op.Rewrites n h = let z : ⊥ = cc in absurd z
-any-count op.Ceil n h = let z : ⊥ = cc in absurd z
-any-count op.Floor n h = let z : ⊥ = cc in absurd z
-any-count op.Equals n h = let z : ⊥ = cc in absurd z
-any-count op.Member n h = let z : ⊥ = cc in absurd z
-
-folded-connective-back : (b : Bool) (o : Op) (p : ℕ) (s r : Stream) → is_associative o ≡ true
-    → Pieces (symbol.Mark 123 ∷ exactly symbol.Sort close.Brace 1 (folded_arguments b)) s r → Says (symbol.Folded b) (token (builtin (Some (Connective o))) p s) r
-folded-connective-back b o p s r a m =
-    let t : SortTree = m.2.1.0 in
-    let k : Pieces (symbol.Mark 125 ∷ folded_arguments b) m.2.0 r = m.2.2 in
-    let g : Pieces (symbol.Pattern b ∷ symbol.More (item.Pattern b) close.Paren ∷ []) k.2.0 r = k.2.2 in
-    let q : PatternTree = g.1.0 in
-    let ps : List PatternTree = g.2.1.0 in
-    let fit : takes o 1 (pattern_count (pattern_then q (pattern_trees ps))) ≡ true =
-    and-true (1 == sorts_of o) (is_count (arguments_of o) (pattern_count (pattern_then q (pattern_trees ps))))
-    (subst (λ n. (1 == n) ≡ true) (sym (single o a)) refl) (any-count o (pattern_count (pattern_then q (pattern_trees ps))) a) in (
-      connected p o (sort_then t no_sorts) (pattern_then q (pattern_trees ps)),
-      and-true (is_associative o) true a refl,
-      λ w e h. (
-        fit,
-        (
-          refl,
-          refl,
-          m.1 (spell_sort t (any (mark 125) ∷ any (mark 40) ∷ spell_pattern b q (more_listed (spell_patterns b (pattern_trees ps)) 41 w))) e
-              (m.2.1.1 (any (mark 125) ∷ any (mark 40) ∷ spell_pattern b q (more_listed (spell_patterns b (pattern_trees ps)) 41 w)) e
-              (k.1 (any (mark 40) ∷ spell_pattern b q (more_listed (spell_patterns b (pattern_trees ps)) 41 w)) e
-              (k.2.1 (spell_pattern b q (more_listed (spell_patterns b (pattern_trees ps)) 41 w)) e
-              (g.1.1 (more_listed (spell_patterns b (pattern_trees ps)) 41 w) e
-              (as-more-patterns b ps g.0 g.2.0 g.2.1.1 w e (along g.2.0 r g.2.2 w e h)))))),
-        ),
-      ),
-    )
-
-folded-symbol-back : (b : Bool) (n : List ℕ) (p : ℕ) (s r : Stream)
-    → Pieces (symbol.Mark 123 ∷ symbol.First item.Sort close.Brace ∷ folded_arguments b) s r → Says (symbol.Folded b) (token (identifier n) p s) r
-folded-symbol-back b n p s r m =
-    let xs : List SortTree = m.2.1.0 in
-    let k : Pieces (folded_arguments b) m.2.0 r = m.2.2 in
-    let g : Pieces (symbol.Pattern b ∷ symbol.More (item.Pattern b) close.Paren ∷ []) k.0 r = k.2 in
-    let q : PatternTree = g.1.0 in
-    let ps : List PatternTree = g.2.1.0 in (
-      symbol_applied p n (sort_trees xs) (pattern_then q (pattern_trees ps)),
-      refl,
-      λ w e h. (
-        refl,
-        refl,
-        m.1 (listed (spell_sorts (sort_trees xs)) 125 (any (mark 40) ∷ spell_pattern b q (more_listed (spell_patterns b (pattern_trees ps)) 41 w))) e
-            (as-sorts xs m.0 m.2.0 m.2.1.1 (any (mark 40) ∷ spell_pattern b q (more_listed (spell_patterns b (pattern_trees ps)) 41 w)) e
-            (k.1 (spell_pattern b q (more_listed (spell_patterns b (pattern_trees ps)) 41 w)) e
-            (g.1.1 (more_listed (spell_patterns b (pattern_trees ps)) 41 w) e
-            (as-more-patterns b ps g.0 g.2.0 g.2.1.1 w e (along g.2.0 r g.2.2 w e h))))),
-      ),
-    )
+use Rattle.kore_text.proofs.Saying.{ItemTree, spell_item, Says, Pieces, along, said}
+use Rattle.kore_text.proofs.ReturningFolds.{Moved, when-back, mark-is, as-sorts, name-back}
+use Rattle.kore_text.proofs.ReturningFolds.{text-back, assign-back, sort-back, sort-tail-back}
+use Rattle.kore_text.proofs.ReturningFolds.{variable-back, built-back, pattern-back}
+use Rattle.kore_text.proofs.ReturningFolds.{pattern-tail-back, folded-connective-back}
+use Rattle.kore_text.proofs.ReturningFolds.{folded-symbol-back}
 
 empty-connective-back : (o : Op) (p : ℕ) (s r : Stream) → is_associative o ≡ true
-    → Pieces (symbol.Mark 123 ∷ exactly symbol.Sort close.Brace 1 no_arguments) s r → Says symbol.EmptyFolded (token (builtin (Some (Connective o))) p s) r
+    → Pieces (symbol.Mark 123 ∷ exactly symbol.Sort close.Brace 1 no_arguments) s r
+    → Says symbol.EmptyFolded (token (builtin (Some (Connective o))) p s) r
 empty-connective-back o p s r a m =
     let t : SortTree = m.2.1.0 in
     let k : Pieces (symbol.Mark 125 ∷ no_arguments) m.2.0 r = m.2.2 in
@@ -345,14 +50,16 @@ empty-connective-back o p s r a m =
             refl,
             m.1 (spell_sort t (any (mark 125) ∷ any (mark 40) ∷ any (mark 41) ∷ w)) e
                 (m.2.1.1 (any (mark 125) ∷ any (mark 40) ∷ any (mark 41) ∷ w) e
-                (k.1 (any (mark 40) ∷ any (mark 41) ∷ w) e (k.2.1 (any (mark 41) ∷ w) e (g.1 w e (along g.0 r g.2 w e h))))),
+                (k.1 (any (mark 40) ∷ any (mark 41) ∷ w) e
+                (k.2.1 (any (mark 41) ∷ w) e (g.1 w e (along g.0 r g.2 w e h))))),
           ),
         ),
       ),
     )
 
 empty-symbol-back : (n : List ℕ) (p : ℕ) (s r : Stream)
-    → Pieces (symbol.Mark 123 ∷ symbol.First item.Sort close.Brace ∷ no_arguments) s r → Says symbol.EmptyFolded (token (identifier n) p s) r
+    → Pieces (symbol.Mark 123 ∷ symbol.First item.Sort close.Brace ∷ no_arguments) s r
+    → Says symbol.EmptyFolded (token (identifier n) p s) r
 empty-symbol-back n p s r m =
     let xs : List SortTree = m.2.1.0 in
     let k : Pieces no_arguments m.2.0 r = m.2.2 in
@@ -366,15 +73,21 @@ empty-symbol-back n p s r m =
       ),
     )
 
-folded-built-back : (b : Bool) (x : Option Built) (p : ℕ) (s r : Stream) → Moved (folded_built_move (folded_arguments b) x) s r → Says (symbol.Folded b) (token (builtin x) p s) r
+folded-built-back : (b : Bool) (x : Option Built) (p : ℕ) (s r : Stream)
+    → Moved (folded_built_move (folded_arguments b) x) s r
+    → Says (symbol.Folded b) (token (builtin x) p s) r
 folded-built-back b None p s r m = absurd m
 folded-built-back b (Some (Connective o)) p s r m =
-    let x = when-back (is_associative o) (symbol.Mark 123 ∷ exactly symbol.Sort close.Brace 1 (folded_arguments b)) s r m in folded-connective-back b o p s r x.0 x.1
+    let x =
+    when-back (is_associative o)
+    (symbol.Mark 123 ∷ exactly symbol.Sort close.Brace 1 (folded_arguments b)) s r m in
+    folded-connective-back b o p s r x.0 x.1
 folded-built-back b (Some (Binding o)) p s r m = absurd m
 folded-built-back b (Some Value) p s r m = absurd m
 folded-built-back b (Some (Fold left)) p s r m = absurd m
 
-folded-back : (b : Bool) (t : Token) (p : ℕ) (s r : Stream) → Moved (folded_move (folded_arguments b) t) s r → Says (symbol.Folded b) (token t p s) r
+folded-back : (b : Bool) (t : Token) (p : ℕ) (s r : Stream)
+    → Moved (folded_move (folded_arguments b) t) s r → Says (symbol.Folded b) (token t p s) r
 folded-back b (identifier n) p s r m = folded-symbol-back b n p s r m
 folded-back b (builtin x) p s r m = folded-built-back b x p s r m
 folded-back b (set_identifier n) p s r m = absurd m
@@ -382,15 +95,21 @@ folded-back b (string_token n) p s r m = absurd m
 folded-back b (mark d) p s r m = absurd m
 folded-back b assign p s r m = absurd m
 
-empty-built-back : (x : Option Built) (p : ℕ) (s r : Stream) → Moved (folded_built_move no_arguments x) s r → Says symbol.EmptyFolded (token (builtin x) p s) r
+empty-built-back : (x : Option Built) (p : ℕ) (s r : Stream)
+    → Moved (folded_built_move no_arguments x) s r
+    → Says symbol.EmptyFolded (token (builtin x) p s) r
 empty-built-back None p s r m = absurd m
 empty-built-back (Some (Connective o)) p s r m =
-    let x = when-back (is_associative o) (symbol.Mark 123 ∷ exactly symbol.Sort close.Brace 1 no_arguments) s r m in empty-connective-back o p s r x.0 x.1
+    let x =
+    when-back (is_associative o)
+    (symbol.Mark 123 ∷ exactly symbol.Sort close.Brace 1 no_arguments) s r m in
+    empty-connective-back o p s r x.0 x.1
 empty-built-back (Some (Binding o)) p s r m = absurd m
 empty-built-back (Some Value) p s r m = absurd m
 empty-built-back (Some (Fold left)) p s r m = absurd m
 
-empty-back : (t : Token) (p : ℕ) (s r : Stream) → Moved (folded_move no_arguments t) s r → Says symbol.EmptyFolded (token t p s) r
+empty-back : (t : Token) (p : ℕ) (s r : Stream) → Moved (folded_move no_arguments t) s r
+    → Says symbol.EmptyFolded (token t p s) r
 empty-back (identifier n) p s r m = empty-symbol-back n p s r m
 empty-back (builtin x) p s r m = empty-built-back x p s r m
 empty-back (set_identifier n) p s r m = absurd m
@@ -398,43 +117,64 @@ empty-back (string_token n) p s r m = absurd m
 empty-back (mark d) p s r m = absurd m
 empty-back assign p s r m = absurd m
 
-item-back : (i : Item) (t : Token) (p : ℕ) (s r : Stream) → Moved (item_move i t) s r → Says (symbol_of i) (token t p s) r
+item-back : (i : Item) (t : Token) (p : ℕ) (s r : Stream) → Moved (item_move i t) s r
+    → Says (symbol_of i) (token t p s) r
 item-back item.Name t p s r m = name-back t p s r m
 item-back item.Sort t p s r m = sort-back t p s r m
 item-back (item.Pattern b) t p s r m = pattern-back b t p s r m
 
-pub first-back : (i : Item) (c : Close) (t : Token) (p : ℕ) (s q r : Stream) → Moved (item_move i t) s q → Says (symbol.More i c) q r
+pub first-back : (i : Item) (c : Close) (t : Token) (p : ℕ) (s q r : Stream)
+    → Moved (item_move i t) s q → Says (symbol.More i c) q r
     → Says (symbol.First i c) (token t p s) r
 first-back i c t p s q r m n =
     let x = said i (token t p s) q (item-back i t p s q m) in
     (x.0 ∷ n.0, λ w e h. x.1 (more_listed (map (spell_item i) n.0) (byte_of c) w) e (n.1 w e h))
 
-pub close-back : (i : Item) (c : Close) (t : Token) (p : ℕ) (s : Stream) → is_mark (byte_of c) t ≡ true → Says (symbol.First i c) (token t p s) s
+pub close-back : (i : Item) (c : Close) (t : Token) (p : ℕ) (s : Stream)
+    → is_mark (byte_of c) t ≡ true → Says (symbol.First i c) (token t p s) s
 close-back i c t p s a = ([], λ w e h. (mark-is (byte_of c) t a, h))
 
-more-choice : (i : Item) (c : Close) (t : Token) (p : ℕ) (x y : Bool) (s r : Stream) → x ≡ is_mark (byte_of c) t → y ≡ is_mark 44 t
-    → Moved (if x then Some [] else when y (symbol_of i ∷ symbol.More i c ∷ [])) s r → Says (symbol.More i c) (token t p s) r
-more-choice i c t p true y s r a b m = ([], λ w e h. (mark-is (byte_of c) t (sym a), along s r m w e h))
+more-choice : (i : Item) (c : Close) (t : Token) (p : ℕ) (x y : Bool) (s r : Stream)
+    → x ≡ is_mark (byte_of c) t → y ≡ is_mark 44 t
+    → Moved (if x then Some [] else when y (symbol_of i ∷ symbol.More i c ∷ [])) s r
+    → Says (symbol.More i c) (token t p s) r
+more-choice i c t p true y s r a b m =
+    ([], λ w e h. (mark-is (byte_of c) t (sym a), along s r m w e h))
 more-choice i c t p false true s r a b m =
     let x = said i s m.0 m.1 in
-    let ys : List (ItemTree i) = m.2.1.0 in
-    (x.0 ∷ ys, λ w e h. (mark-is 44 t (sym b), x.1 (more_listed (map (spell_item i) ys) (byte_of c) w) e (m.2.1.1 w e (along m.2.0 r m.2.2 w e h))))
+    let ys : List (ItemTree i) = m.2.1.0 in (
+      x.0
+          ∷ ys,
+      λ w e h. (
+        mark-is 44 t (sym b),
+        x.1 (more_listed (map (spell_item i) ys) (byte_of c) w) e
+            (m.2.1.1 w e (along m.2.0 r m.2.2 w e h)),
+      ),
+    )
 more-choice i c t p false false s r a b m = absurd m
 
-attributes-back : (t : Token) (p : ℕ) (s r : Stream) → Moved (when (is_mark 91 t) (symbol.First (item.Pattern true) close.Bracket ∷ [])) s r → Says symbol.Attributes (token t p s) r
+attributes-back : (t : Token) (p : ℕ) (s r : Stream)
+    → Moved (when (is_mark 91 t) (symbol.First (item.Pattern true) close.Bracket ∷ [])) s r
+    → Says symbol.Attributes (token t p s) r
 attributes-back t p s r m =
     let x = when-back (is_mark 91 t) (symbol.First (item.Pattern true) close.Bracket ∷ []) s r m in
     (x.1.1.0, λ w e h. (mark-is 91 t x.0, x.1.1.1 w e (along x.1.0 r x.1.2 w e h)))
 
-names-back : (t : Token) (p : ℕ) (s r : Stream) → Moved (when (is_mark 123 t) (symbol.First item.Name close.Brace ∷ [])) s r → Says symbol.Names (token t p s) r
+names-back : (t : Token) (p : ℕ) (s r : Stream)
+    → Moved (when (is_mark 123 t) (symbol.First item.Name close.Brace ∷ [])) s r
+    → Says symbol.Names (token t p s) r
 names-back t p s r m =
     let x = when-back (is_mark 123 t) (symbol.First item.Name close.Brace ∷ []) s r m in
     (x.1.1.0, λ w e h. (mark-is 123 t x.0, x.1.1.1 w e (along x.1.0 r x.1.2 w e h)))
 
-signature-back : (t : Token) (p : ℕ) (s r : Stream) → Moved (when (is_mark 40 t) (symbol.First item.Sort close.Paren ∷ symbol.Mark 58 ∷ symbol.Sort ∷ [])) s r
+signature-back : (t : Token) (p : ℕ) (s r : Stream)
+    → Moved (when (is_mark 40 t)
+    (symbol.First item.Sort close.Paren ∷ symbol.Mark 58 ∷ symbol.Sort ∷ [])) s r
     → Says symbol.Signature (token t p s) r
 signature-back t p s r m =
-    let x = when-back (is_mark 40 t) (symbol.First item.Sort close.Paren ∷ symbol.Mark 58 ∷ symbol.Sort ∷ []) s r m in
+    let x =
+    when-back (is_mark 40 t)
+    (symbol.First item.Sort close.Paren ∷ symbol.Mark 58 ∷ symbol.Sort ∷ []) s r m in
     let k : Pieces (symbol.Mark 58 ∷ symbol.Sort ∷ []) x.1.0 r = x.1.2 in
     let u : SortTree = k.2.1.0 in (
       x.1.1.0,
@@ -449,10 +189,12 @@ signature-back t p s r m =
 word-is : (n w : List ℕ) → bytes_eq n w ≡ true → n ≡ w
 word-is n w h = (bytes_eq-Decides n w).0 h
 
-keyword-choice : (n w : List ℕ) (b : List Symbol) (s r : Stream) → Moved (when (bytes_eq n w) b) s r → (n ≡ w) × Pieces b s r
+keyword-choice : (n w : List ℕ) (b : List Symbol) (s r : Stream) → Moved (when (bytes_eq n w) b) s r
+    → (n ≡ w) × Pieces b s r
 keyword-choice n w b s r m = let x = when-back (bytes_eq n w) b s r m in (word-is n w x.0, x.1)
 
-where-back : (t : Token) (p : ℕ) (s r : Stream) → Moved (keyword_move (codes "where") [] t) s r → Says symbol.Where (token t p s) r
+where-back : (t : Token) (p : ℕ) (s r : Stream) → Moved (keyword_move (codes "where") [] t) s r
+    → Says symbol.Where (token t p s) r
 where-back (identifier n) p s r m =
     let x = keyword-choice n (codes "where") [] s r m in
     (λ w e h. (ap identifier x.0, along s r x.1 w e h))
@@ -462,7 +204,9 @@ where-back (string_token n) p s r m = absurd m
 where-back (mark d) p s r m = absurd m
 where-back assign p s r m = absurd m
 
-module-back : (t : Token) (p : ℕ) (s r : Stream) → Moved (keyword_move (codes "module") (symbol.Name ∷ symbol.Declarations ∷ []) t) s r → Says symbol.Module (token t p s) r
+module-back : (t : Token) (p : ℕ) (s r : Stream)
+    → Moved (keyword_move (codes "module") (symbol.Name ∷ symbol.Declarations ∷ []) t) s r
+    → Says symbol.Module (token t p s) r
 module-back (identifier n) p s r m =
     let x = keyword-choice n (codes "module") (symbol.Name ∷ symbol.Declarations ∷ []) s r m in
     let k : Pieces (symbol.Declarations ∷ []) x.1.0 r = x.1.2 in (
@@ -479,16 +223,22 @@ module-back (string_token n) p s r m = absurd m
 module-back (mark d) p s r m = absurd m
 module-back assign p s r m = absurd m
 
-modules-back : (t : Token) (p : ℕ) (s r : Stream) → Moved (keyword_move (codes "module") (symbol.Name ∷ symbol.Declarations ∷ symbol.Modules ∷ []) t) s r → Says symbol.Modules (token t p s) r
+modules-back : (t : Token) (p : ℕ) (s r : Stream)
+    → Moved
+    (keyword_move (codes "module") (symbol.Name ∷ symbol.Declarations ∷ symbol.Modules ∷ []) t)
+    s r → Says symbol.Modules (token t p s) r
 modules-back (identifier n) p s r m =
-    let x = keyword-choice n (codes "module") (symbol.Name ∷ symbol.Declarations ∷ symbol.Modules ∷ []) s r m in
+    let x =
+    keyword-choice n (codes "module") (symbol.Name ∷ symbol.Declarations ∷ symbol.Modules ∷ [])
+    s r m in
     let k : Pieces (symbol.Declarations ∷ symbol.Modules ∷ []) x.1.0 r = x.1.2 in
     let ms : List ModuleTree = k.2.1.0 in (
       record { at = p; name = x.1.1.0; declarations = k.1.0; attributes = k.1.1 } ∷ ms,
       λ w e h. (
         ap identifier x.0,
         refl,
-        x.1.1.1 (spell_body k.1.0 k.1.1 (in_order (map spell_module ms) w)) e (k.1.2 (in_order (map spell_module ms) w) e
+        x.1.1.1 (spell_body k.1.0 k.1.1 (in_order (map spell_module ms) w)) e
+            (k.1.2 (in_order (map spell_module ms) w) e
             (k.2.1.1 w e (along k.2.0 r k.2.2 w e h))),
       ),
     )
@@ -498,15 +248,19 @@ modules-back (string_token n) p s r m = absurd m
 modules-back (mark d) p s r m = absurd m
 modules-back assign p s r m = absurd m
 
-choose : (x : Bool) (A B : Option (List Symbol)) (s r : Stream) (Z : Type 0) → Moved (if x then A else B) s r
-    → ((x ≡ true) → Moved A s r → Z) → (Moved B s r → Z) → Z
+choose : (x : Bool) (A B : Option (List Symbol)) (s r : Stream) (Z : Type 0)
+    → Moved (if x then A else B) s r → ((x ≡ true) → Moved A s r → Z) → (Moved B s r → Z) → Z
 choose true A B s r Z m f g = f refl m
 choose false A B s r Z m f g = g m
 
-endmodule-back : (n : List ℕ) (p : ℕ) (s r : Stream) → n ≡ codes "endmodule" → Pieces (symbol.Attributes ∷ []) s r → Says symbol.Declarations (token (identifier n) p s) r
-endmodule-back n p s r i m = ([], m.1.0, λ w e h. (ap identifier i, m.1.1 w e (along m.0 r m.2 w e h)))
+endmodule-back : (n : List ℕ) (p : ℕ) (s r : Stream) → n ≡ codes "endmodule"
+    → Pieces (symbol.Attributes ∷ []) s r → Says symbol.Declarations (token (identifier n) p s) r
+endmodule-back n p s r i m =
+    ([], m.1.0, λ w e h. (ap identifier i, m.1.1 w e (along m.0 r m.2 w e h)))
 
-import-back : (n : List ℕ) (p : ℕ) (s r : Stream) → n ≡ codes "import" → Pieces (symbol.Name ∷ symbol.Attributes ∷ symbol.Declarations ∷ []) s r → Says symbol.Declarations (token (identifier n) p s) r
+import-back : (n : List ℕ) (p : ℕ) (s r : Stream) → n ≡ codes "import"
+    → Pieces (symbol.Name ∷ symbol.Attributes ∷ symbol.Declarations ∷ []) s r
+    → Says symbol.Declarations (token (identifier n) p s) r
 import-back n p s r i m =
     let k : Pieces (symbol.Attributes ∷ symbol.Declarations ∷ []) m.0 r = m.2 in
     let g : Pieces (symbol.Declarations ∷ []) k.0 r = k.2 in (
@@ -515,17 +269,21 @@ import-back n p s r i m =
       λ w e h. (
         ap identifier i,
         refl,
-        m.1.1 (spell_attributes k.1.0 (spell_body g.1.0 g.1.1 w)) e (k.1.1 (spell_body g.1.0 g.1.1 w) e (g.1.2 w e (along g.0 r g.2 w e h))),
+        m.1.1 (spell_attributes k.1.0 (spell_body g.1.0 g.1.1 w)) e
+            (k.1.1 (spell_body g.1.0 g.1.1 w) e (g.1.2 w e (along g.0 r g.2 w e h))),
       ),
     )
 
-sort-declaration-back : (n : List ℕ) (b : Bool) (p : ℕ) (s r : Stream) → n ≡ sort_word b → Pieces (symbol.Name ∷ symbol.Names ∷ symbol.Attributes ∷ symbol.Declarations ∷ []) s r
+sort-declaration-back : (n : List ℕ) (b : Bool) (p : ℕ) (s r : Stream) → n ≡ sort_word b
+    → Pieces (symbol.Name ∷ symbol.Names ∷ symbol.Attributes ∷ symbol.Declarations ∷ []) s r
     → Says symbol.Declarations (token (identifier n) p s) r
 sort-declaration-back n b p s r i m =
     let l : Pieces (symbol.Names ∷ symbol.Attributes ∷ symbol.Declarations ∷ []) m.0 r = m.2 in
     let k : Pieces (symbol.Attributes ∷ symbol.Declarations ∷ []) l.0 r = l.2 in
     let g : Pieces (symbol.Declarations ∷ []) k.0 r = k.2 in (
-      sort_declaration (record { at = p; hooked = b; name = m.1.0; params = l.1.0; attributes = k.1.0 }) ∷ g.1.0,
+      sort_declaration
+          (record { at = p; hooked = b; name = m.1.0; params = l.1.0; attributes = k.1.0 })
+          ∷ g.1.0,
       g.1.1,
       λ w e h. (
         ap identifier i,
@@ -537,53 +295,93 @@ sort-declaration-back n b p s r i m =
     )
 
 symbol-declaration-back : (n : List ℕ) (b : Bool) (p : ℕ) (s r : Stream) → n ≡ symbol_word b
-    → Pieces (symbol.Name ∷ symbol.Names ∷ symbol.Signature ∷ symbol.Attributes ∷ symbol.Declarations ∷ []) s r → Says symbol.Declarations (token (identifier n) p s) r
+    → Pieces (symbol.Name ∷ symbol.Names ∷ symbol.Signature ∷ symbol.Attributes
+    ∷ symbol.Declarations ∷ []) s r
+    → Says symbol.Declarations (token (identifier n) p s) r
 symbol-declaration-back n b p s r i m =
-    let l : Pieces (symbol.Names ∷ symbol.Signature ∷ symbol.Attributes ∷ symbol.Declarations ∷ []) m.0 r = m.2 in
+    let l : Pieces (symbol.Names ∷ symbol.Signature ∷ symbol.Attributes ∷ symbol.Declarations ∷ [])
+    m.0 r =
+    m.2 in
     let j : Pieces (symbol.Signature ∷ symbol.Attributes ∷ symbol.Declarations ∷ []) l.0 r = l.2 in
     let k : Pieces (symbol.Attributes ∷ symbol.Declarations ∷ []) j.0 r = j.2 in
     let g : Pieces (symbol.Declarations ∷ []) k.0 r = k.2 in (
-      symbol_declaration (record { at = p; hooked = b; name = m.1.0; params = l.1.0; args = j.1.0; result = j.1.1; attributes = k.1.0 }) ∷ g.1.0,
+      symbol_declaration (record {
+        at = p;
+        hooked = b;
+        name = m.1.0;
+        params = l.1.0;
+        args = j.1.0;
+        result = j.1.1;
+        attributes = k.1.0;
+      }) ∷ g.1.0,
       g.1.1,
       λ w e h. (
         ap identifier i,
         refl,
-        m.1.1 (spell_names l.1.0 (spell_signature j.1.0 j.1.1 (spell_attributes k.1.0 (spell_body g.1.0 g.1.1 w)))) e
-            (l.1.1 (spell_signature j.1.0 j.1.1 (spell_attributes k.1.0 (spell_body g.1.0 g.1.1 w))) e
+        m.1.1 (spell_names l.1.0
+            (spell_signature j.1.0 j.1.1 (spell_attributes k.1.0 (spell_body g.1.0 g.1.1 w)))) e
+            (l.1.1 (spell_signature j.1.0 j.1.1 (spell_attributes k.1.0 (spell_body g.1.0 g.1.1 w)))
+            e
             (j.1.2 (spell_attributes k.1.0 (spell_body g.1.0 g.1.1 w)) e
             (k.1.1 (spell_body g.1.0 g.1.1 w) e (g.1.2 w e (along g.0 r g.2 w e h))))),
       ),
     )
 
 alias-back : (n : List ℕ) (p : ℕ) (s r : Stream) → n ≡ codes "alias"
-    → Pieces (symbol.Name ∷ symbol.Names ∷ symbol.Signature ∷ symbol.Where ∷ symbol.Name ∷ symbol.Mark 123 ∷ symbol.First item.Sort close.Brace ∷ symbol.Mark 40
-    ∷ symbol.First (item.Pattern false) close.Paren ∷ symbol.Assign ∷ symbol.Pattern false ∷ symbol.Attributes ∷ symbol.Declarations ∷ []) s r
+    → Pieces (symbol.Name ∷ symbol.Names ∷ symbol.Signature ∷ symbol.Where ∷ symbol.Name
+    ∷ symbol.Mark 123 ∷ symbol.First item.Sort close.Brace ∷ symbol.Mark 40
+    ∷ symbol.First (item.Pattern false) close.Paren ∷ symbol.Assign ∷ symbol.Pattern false
+    ∷ symbol.Attributes ∷ symbol.Declarations ∷ []) s r
     → Says symbol.Declarations (token (identifier n) p s) r
 alias-back n p s r i m =
-    let m1 : Pieces (symbol.Names ∷ symbol.Signature ∷ symbol.Where ∷ symbol.Name ∷ symbol.Mark 123 ∷ symbol.First item.Sort close.Brace ∷ symbol.Mark 40
-    ∷ symbol.First (item.Pattern false) close.Paren ∷ symbol.Assign ∷ symbol.Pattern false ∷ symbol.Attributes ∷ symbol.Declarations ∷ []) m.0 r = m.2 in
-    let m2 : Pieces (symbol.Signature ∷ symbol.Where ∷ symbol.Name ∷ symbol.Mark 123 ∷ symbol.First item.Sort close.Brace ∷ symbol.Mark 40
-    ∷ symbol.First (item.Pattern false) close.Paren ∷ symbol.Assign ∷ symbol.Pattern false ∷ symbol.Attributes ∷ symbol.Declarations ∷ []) m1.0 r = m1.2 in
-    let m3 : Pieces (symbol.Where ∷ symbol.Name ∷ symbol.Mark 123 ∷ symbol.First item.Sort close.Brace ∷ symbol.Mark 40
-    ∷ symbol.First (item.Pattern false) close.Paren ∷ symbol.Assign ∷ symbol.Pattern false ∷ symbol.Attributes ∷ symbol.Declarations ∷ []) m2.0 r = m2.2 in
-    let m4 : Pieces (symbol.Name ∷ symbol.Mark 123 ∷ symbol.First item.Sort close.Brace ∷ symbol.Mark 40
-    ∷ symbol.First (item.Pattern false) close.Paren ∷ symbol.Assign ∷ symbol.Pattern false ∷ symbol.Attributes ∷ symbol.Declarations ∷ []) m3.0 r = m3.2 in
+    let m1 : Pieces (symbol.Names ∷ symbol.Signature ∷ symbol.Where ∷ symbol.Name ∷ symbol.Mark 123
+    ∷ symbol.First item.Sort close.Brace ∷ symbol.Mark 40
+    ∷ symbol.First (item.Pattern false) close.Paren ∷ symbol.Assign ∷ symbol.Pattern false
+    ∷ symbol.Attributes ∷ symbol.Declarations ∷ []) m.0 r = m.2 in
+    let m2 : Pieces (symbol.Signature ∷ symbol.Where ∷ symbol.Name ∷ symbol.Mark 123
+    ∷ symbol.First item.Sort close.Brace ∷ symbol.Mark 40
+    ∷ symbol.First (item.Pattern false) close.Paren ∷ symbol.Assign ∷ symbol.Pattern false
+    ∷ symbol.Attributes ∷ symbol.Declarations ∷ []) m1.0 r = m1.2 in
+    let m3 : Pieces (symbol.Where ∷ symbol.Name ∷ symbol.Mark 123
+    ∷ symbol.First item.Sort close.Brace ∷ symbol.Mark 40
+    ∷ symbol.First (item.Pattern false) close.Paren ∷ symbol.Assign ∷ symbol.Pattern false
+    ∷ symbol.Attributes ∷ symbol.Declarations ∷ []) m2.0 r = m2.2 in
+    let m4 : Pieces
+    (symbol.Name ∷ symbol.Mark 123 ∷ symbol.First item.Sort close.Brace ∷ symbol.Mark 40
+    ∷ symbol.First (item.Pattern false) close.Paren ∷ symbol.Assign ∷ symbol.Pattern false
+    ∷ symbol.Attributes ∷ symbol.Declarations ∷ []) m3.0 r = m3.2 in
     let m5 : Pieces (symbol.Mark 123 ∷ symbol.First item.Sort close.Brace ∷ symbol.Mark 40
-    ∷ symbol.First (item.Pattern false) close.Paren ∷ symbol.Assign ∷ symbol.Pattern false ∷ symbol.Attributes ∷ symbol.Declarations ∷ []) m4.0 r = m4.2 in
-    let m6 : Pieces (symbol.First item.Sort close.Brace ∷ symbol.Mark 40 ∷ symbol.First (item.Pattern false) close.Paren ∷ symbol.Assign ∷ symbol.Pattern false ∷ symbol.Attributes ∷ symbol.Declarations ∷ []) m5.0 r = m5.2 in
-    let m7 : Pieces (symbol.Mark 40 ∷ symbol.First (item.Pattern false) close.Paren ∷ symbol.Assign ∷ symbol.Pattern false ∷ symbol.Attributes ∷ symbol.Declarations ∷ []) m6.0 r = m6.2 in
-    let m8 : Pieces (symbol.First (item.Pattern false) close.Paren ∷ symbol.Assign ∷ symbol.Pattern false ∷ symbol.Attributes ∷ symbol.Declarations ∷ []) m7.0 r = m7.2 in
-    let m9 : Pieces (symbol.Assign ∷ symbol.Pattern false ∷ symbol.Attributes ∷ symbol.Declarations ∷ []) m8.0 r = m8.2 in
-    let n1 : Pieces (symbol.Pattern false ∷ symbol.Attributes ∷ symbol.Declarations ∷ []) m9.0 r = m9.2 in
+    ∷ symbol.First (item.Pattern false) close.Paren ∷ symbol.Assign ∷ symbol.Pattern false
+    ∷ symbol.Attributes ∷ symbol.Declarations ∷ []) m4.0 r = m4.2 in
+    let m6 : Pieces (symbol.First item.Sort close.Brace ∷ symbol.Mark 40
+    ∷ symbol.First (item.Pattern false) close.Paren ∷ symbol.Assign
+    ∷ symbol.Pattern false ∷ symbol.Attributes ∷ symbol.Declarations ∷ []) m5.0 r =
+    m5.2 in
+    let m7 : Pieces (symbol.Mark 40 ∷ symbol.First (item.Pattern false) close.Paren ∷ symbol.Assign
+    ∷ symbol.Pattern false ∷ symbol.Attributes ∷ symbol.Declarations ∷ []) m6.0 r =
+    m6.2 in
+    let m8 : Pieces (symbol.First (item.Pattern false) close.Paren ∷ symbol.Assign
+    ∷ symbol.Pattern false ∷ symbol.Attributes ∷ symbol.Declarations ∷ []) m7.0 r =
+    m7.2 in
+    let m9 : Pieces
+    (symbol.Assign ∷ symbol.Pattern false ∷ symbol.Attributes ∷ symbol.Declarations ∷ [])
+    m8.0 r =
+    m8.2 in
+    let n1 : Pieces (symbol.Pattern false ∷ symbol.Attributes ∷ symbol.Declarations ∷ []) m9.0 r =
+    m9.2 in
     let n2 : Pieces (symbol.Attributes ∷ symbol.Declarations ∷ []) n1.0 r = n1.2 in
     let n3 : Pieces (symbol.Declarations ∷ []) n2.0 r = n2.2 in
-    let v8 : List Want → List Want = λ w. spell_body n3.1.0 n3.1.1 w in
-    let v7 : List Want → List Want = λ w. spell_attributes n2.1.0 (v8 w) in
-    let v6 : List Want → List Want = λ w. spell_pattern false n1.1.0 (v7 w) in
-    let v5 : List Want → List Want = λ w. listed (map (spell_pattern false) m8.1.0) 41 (any assign ∷ v6 w) in
-    let v4 : List Want → List Want = λ w. listed (map spell_sort m6.1.0) 125 (any (mark 40) ∷ v5 w) in
-    let v3 : List Want → List Want = λ w. any (identifier m4.1.0) ∷ any (mark 123) ∷ v4 w in
-    let v2 : List Want → List Want = λ w. spell_signature m2.1.0 m2.1.1 (any (identifier (codes "where")) ∷ v3 w) in (
+    let v8 : List Requirement → List Requirement = λ w. spell_body n3.1.0 n3.1.1 w in
+    let v7 : List Requirement → List Requirement = λ w. spell_attributes n2.1.0 (v8 w) in
+    let v6 : List Requirement → List Requirement = λ w. spell_pattern false n1.1.0 (v7 w) in
+    let v5 : List Requirement → List Requirement =
+    λ w. listed (map (spell_pattern false) m8.1.0) 41 (any assign ∷ v6 w) in
+    let v4 : List Requirement → List Requirement =
+    λ w. listed (map spell_sort m6.1.0) 125 (any (mark 40) ∷ v5 w) in
+    let v3 : List Requirement → List Requirement =
+    λ w. any (identifier m4.1.0) ∷ any (mark 123) ∷ v4 w in
+    let v2 : List Requirement → List Requirement =
+    λ w. spell_signature m2.1.0 m2.1.1 (any (identifier (codes "where")) ∷ v3 w) in (
       alias_declaration (record {
         at = p;
         hooked = false;
@@ -603,20 +401,26 @@ alias-back n p s r i m =
         (
           ap identifier i,
           refl,
-          m.1.1 (spell_names m1.1.0 (v2 w)) e (m1.1.1 (v2 w) e (m2.1.2 (any (identifier (codes "where")) ∷ v3 w) e (m3.1 (v3 w) e (m4.1.1 (any (mark 123) ∷ v4 w) e
-              (m5.1 (v4 w) e (m6.1.1 (any (mark 40) ∷ v5 w) e (m7.1 (v5 w) e (m8.1.1 (any assign ∷ v6 w) e (m9.1 (v6 w) e (n1.1.1 (v7 w) e (n2.1.1 (v8 w) e
+          m.1.1 (spell_names m1.1.0 (v2 w)) e (m1.1.1 (v2 w) e (m2.1.2
+              (any (identifier (codes "where")) ∷ v3 w) e
+              (m3.1 (v3 w) e (m4.1.1 (any (mark 123) ∷ v4 w) e
+              (m5.1 (v4 w) e (m6.1.1 (any (mark 40) ∷ v5 w) e (m7.1 (v5 w) e
+              (m8.1.1 (any assign ∷ v6 w) e (m9.1 (v6 w) e (n1.1.1 (v7 w) e (n2.1.1 (v8 w) e
               (n3.1.2 w e (along n3.0 r n3.2 w e h))))))))))))),
         ),
       ),
     )
 
-axiom-back : (n : List ℕ) (p : ℕ) (s r : Stream) → n ≡ codes "axiom" → Pieces (symbol.Names ∷ symbol.Pattern false ∷ symbol.Attributes ∷ symbol.Declarations ∷ []) s r
-    → Says symbol.Declarations (token (identifier n) p s) r
+axiom-back : (n : List ℕ) (p : ℕ) (s r : Stream) → n ≡ codes "axiom"
+    → Pieces (symbol.Names ∷ symbol.Pattern false ∷ symbol.Attributes ∷ symbol.Declarations ∷ []) s
+    r → Says symbol.Declarations (token (identifier n) p s) r
 axiom-back n p s r i m =
-    let l : Pieces (symbol.Pattern false ∷ symbol.Attributes ∷ symbol.Declarations ∷ []) m.0 r = m.2 in
+    let l : Pieces (symbol.Pattern false ∷ symbol.Attributes ∷ symbol.Declarations ∷ []) m.0 r =
+    m.2 in
     let k : Pieces (symbol.Attributes ∷ symbol.Declarations ∷ []) l.0 r = l.2 in
     let g : Pieces (symbol.Declarations ∷ []) k.0 r = k.2 in (
-      axiom_declaration (record { at = p; params = m.1.0; pattern = l.1.0; attributes = k.1.0 }) ∷ g.1.0,
+      axiom_declaration (record { at = p; params = m.1.0; pattern = l.1.0; attributes = k.1.0 })
+          ∷ g.1.0,
       g.1.1,
       λ w e h. (
         ap identifier i,
@@ -627,13 +431,16 @@ axiom-back n p s r i m =
       ),
     )
 
-claim-back : (n : List ℕ) (p : ℕ) (s r : Stream) → n ≡ codes "claim" → Pieces (symbol.Names ∷ symbol.Pattern false ∷ symbol.Attributes ∷ symbol.Declarations ∷ []) s r
-    → Says symbol.Declarations (token (identifier n) p s) r
+claim-back : (n : List ℕ) (p : ℕ) (s r : Stream) → n ≡ codes "claim"
+    → Pieces (symbol.Names ∷ symbol.Pattern false ∷ symbol.Attributes ∷ symbol.Declarations ∷ []) s
+    r → Says symbol.Declarations (token (identifier n) p s) r
 claim-back n p s r i m =
-    let l : Pieces (symbol.Pattern false ∷ symbol.Attributes ∷ symbol.Declarations ∷ []) m.0 r = m.2 in
+    let l : Pieces (symbol.Pattern false ∷ symbol.Attributes ∷ symbol.Declarations ∷ []) m.0 r =
+    m.2 in
     let k : Pieces (symbol.Attributes ∷ symbol.Declarations ∷ []) l.0 r = l.2 in
     let g : Pieces (symbol.Declarations ∷ []) k.0 r = k.2 in (
-      claim_declaration (record { at = p; params = m.1.0; pattern = l.1.0; attributes = k.1.0 }) ∷ g.1.0,
+      claim_declaration (record { at = p; params = m.1.0; pattern = l.1.0; attributes = k.1.0 })
+          ∷ g.1.0,
       g.1.1,
       λ w e h. (
         ap identifier i,
@@ -644,21 +451,32 @@ claim-back n p s r i m =
       ),
     )
 
-word-back : (n : List ℕ) (p : ℕ) (s r : Stream) → Moved (word_move n) s r → Says symbol.Declarations (token (identifier n) p s) r
+word-back : (n : List ℕ) (p : ℕ) (s r : Stream) → Moved (word_move n) s r
+    → Says symbol.Declarations (token (identifier n) p s) r
 word-back n p s r m =
     let Z : Type 0 = Says symbol.Declarations (token (identifier n) p s) r in
-    choose (bytes_eq n (codes "endmodule")) _ _ s r Z m (λ i y. endmodule-back n p s r (word-is n (codes "endmodule") i) y) (λ x.
-    choose (bytes_eq n (codes "import")) _ _ s r Z x (λ i y. import-back n p s r (word-is n (codes "import") i) y) (λ x.
-    choose (bytes_eq n (codes "sort")) _ _ s r Z x (λ i y. sort-declaration-back n false p s r (word-is n (codes "sort") i) y) (λ x.
-    choose (bytes_eq n (codes "hooked-sort")) _ _ s r Z x (λ i y. sort-declaration-back n true p s r (word-is n (codes "hooked-sort") i) y) (λ x.
-    choose (bytes_eq n (codes "symbol")) _ _ s r Z x (λ i y. symbol-declaration-back n false p s r (word-is n (codes "symbol") i) y) (λ x.
-    choose (bytes_eq n (codes "hooked-symbol")) _ _ s r Z x (λ i y. symbol-declaration-back n true p s r (word-is n (codes "hooked-symbol") i) y) (λ x.
-    choose (bytes_eq n (codes "alias")) _ _ s r Z x (λ i y. alias-back n p s r (word-is n (codes "alias") i) y) (λ x.
-    choose (bytes_eq n (codes "axiom")) _ _ s r Z x (λ i y. axiom-back n p s r (word-is n (codes "axiom") i) y) (λ x.
-    choose (bytes_eq n (codes "claim")) _ _ s r Z x (λ i y. claim-back n p s r (word-is n (codes "claim") i) y) (λ x.
+    choose (bytes_eq n (codes "endmodule")) _ _ s r Z m
+    (λ i y. endmodule-back n p s r (word-is n (codes "endmodule") i) y) (λ x.
+    choose (bytes_eq n (codes "import")) _ _ s r Z x
+    (λ i y. import-back n p s r (word-is n (codes "import") i) y) (λ x.
+    choose (bytes_eq n (codes "sort")) _ _ s r Z x
+    (λ i y. sort-declaration-back n false p s r (word-is n (codes "sort") i) y) (λ x.
+    choose (bytes_eq n (codes "hooked-sort")) _ _ s r Z x
+    (λ i y. sort-declaration-back n true p s r (word-is n (codes "hooked-sort") i) y) (λ x.
+    choose (bytes_eq n (codes "symbol")) _ _ s r Z x
+    (λ i y. symbol-declaration-back n false p s r (word-is n (codes "symbol") i) y) (λ x.
+    choose (bytes_eq n (codes "hooked-symbol")) _ _ s r Z x
+    (λ i y. symbol-declaration-back n true p s r (word-is n (codes "hooked-symbol") i) y) (λ x.
+    choose (bytes_eq n (codes "alias")) _ _ s r Z x
+    (λ i y. alias-back n p s r (word-is n (codes "alias") i) y) (λ x.
+    choose (bytes_eq n (codes "axiom")) _ _ s r Z x
+    (λ i y. axiom-back n p s r (word-is n (codes "axiom") i) y) (λ x.
+    choose (bytes_eq n (codes "claim")) _ _ s r Z x
+    (λ i y. claim-back n p s r (word-is n (codes "claim") i) y) (λ x.
     absurd x)))))))))
 
-declarations-back : (t : Token) (p : ℕ) (s r : Stream) → Moved (declarations_move t) s r → Says symbol.Declarations (token t p s) r
+declarations-back : (t : Token) (p : ℕ) (s r : Stream) → Moved (declarations_move t) s r
+    → Says symbol.Declarations (token t p s) r
 declarations-back (identifier n) p s r m = word-back n p s r m
 declarations-back (set_identifier n) p s r m = absurd m
 declarations-back (builtin x) p s r m = absurd m
@@ -667,15 +485,19 @@ declarations-back (mark d) p s r m = absurd m
 declarations-back assign p s r m = absurd m
 
 -- a list that is closed at once
-first-choice : (i : Item) (c : Close) (t : Token) (p : ℕ) (x : Bool) (s r : Stream) → x ≡ is_mark (byte_of c) t
-    → Moved (if x then Some [] else item_move i t) s r → (if x then [] else (symbol.More i c ∷ [])) ≡ [] → Says (symbol.First i c) (token t p s) r
-first-choice i c t p true s r a m n = subst (Says (symbol.First i c) (token t p s)) m (close-back i c t p s (sym a))
+first-choice : (i : Item) (c : Close) (t : Token) (p : ℕ) (x : Bool) (s r : Stream)
+    → x ≡ is_mark (byte_of c) t → Moved (if x then Some [] else item_move i t) s r
+    → (if x then [] else (symbol.More i c ∷ [])) ≡ [] → Says (symbol.First i c) (token t p s) r
+first-choice i c t p true s r a m n =
+    subst (Says (symbol.First i c) (token t p s)) m (close-back i c t p s (sym a))
 first-choice i c t p false s r a m n = let z : ⊥ = cc in absurd z
 
 -- a symbol that begins no list, by the move of its first token
-pub move-back : (f : Symbol) (t : Token) (p : ℕ) (s r : Stream) → Moved (turn f t) s r → rest_of f t [] ≡ [] → Says f (token t p s) r
+pub move-back : (f : Symbol) (t : Token) (p : ℕ) (s r : Stream) → Moved (turn f t) s r
+    → rest_of f t [] ≡ [] → Says f (token t p s) r
 unfolding turn
-move-back (symbol.Mark c) t p s r m i = let x = when-back (is_mark c t) [] s r m in λ w e h. (mark-is c t x.0, along s r x.1 w e h)
+move-back (symbol.Mark c) t p s r m i =
+    let x = when-back (is_mark c t) [] s r m in λ w e h. (mark-is c t x.0, along s r x.1 w e h)
 move-back symbol.Name t p s r m i = name-back t p s r m
 move-back symbol.Where t p s r m i = where-back t p s r m
 move-back symbol.Assign t p s r m i = assign-back t p s r m
@@ -688,7 +510,8 @@ move-back (symbol.Variable c) t p s r m i = variable-back c t p s r m
 move-back (symbol.Folded b) t p s r m i = folded-back b t p s r m
 move-back symbol.EmptyFolded t p s r m i = empty-back t p s r m
 move-back (symbol.First j c) t p s r m i = first-choice j c t p (is_mark (byte_of c) t) s r refl m i
-move-back (symbol.More j c) t p s r m i = more-choice j c t p (is_mark (byte_of c) t) (is_mark 44 t) s r refl refl m
+move-back (symbol.More j c) t p s r m i =
+    more-choice j c t p (is_mark (byte_of c) t) (is_mark 44 t) s r refl refl m
 move-back symbol.Attributes t p s r m i = attributes-back t p s r m
 move-back symbol.Names t p s r m i = names-back t p s r m
 move-back symbol.Signature t p s r m i = signature-back t p s r m

@@ -1,14 +1,16 @@
 -- The first fault of a text. The tokens before it are good: they begin a text of the language, at
 -- most 500 brackets are open among them, and none of them begins a fold without an argument. The
 -- fault is what comes after the good tokens.
-use Rattle.std.specs.Prelude.{◌≡◌, ◌≤◌, ◌<◌, ℕ, zero, suc, ◌+◌, ◌-◌, Bool, false, ◌==◌, ◌||◌, List, [], ◌∷◌, ◌⊎◌, if◌then◌else◌, Option, Some, None}
+use Rattle.std.specs.Prelude.{◌≡◌, ◌≤◌, ◌<◌, ℕ, zero, suc, ◌+◌, ◌-◌, Bool, false, ◌==◌, ◌||◌, List}
+use Rattle.std.specs.Prelude.{[], ◌∷◌, ◌⊎◌, if◌then◌else◌, Option, Some, None}
 use Rattle.kore_text.specs.declared.names.Op.{Op}
 use Rattle.kore_text.specs.declared.names.Built.TheVariants.{Connective, Fold}
 use Rattle.kore_text.specs.declared.faults.TextFault.{TextFault}
 use Rattle.kore_text.specs.declared.faults.TextFault.TheVariants.{Lex, Syntax, Deep}
 use Rattle.kore_text.specs.TokenStream.{Token, identifier, builtin, mark, Stream, end, fault, token}
 use Rattle.kore_text.specs.Trees.{PatternTree, SortTrees, sort_count, DefinitionTree}
-use Rattle.kore_text.specs.Grammar.{Want, any, given, Takes, listed, spell_sorts, spell_pattern, spell_definition, is_associative}
+use Rattle.kore_text.specs.Grammar.{Requirement, any, given, TakesTokens, listed, spell_sorts}
+use Rattle.kore_text.specs.Grammar.{spell_pattern, spell_definition, is_associative}
 
 -- how many brackets `(` and `{` are open after a token, if `n` are open before it
 abbrev pub opened : Token → ℕ → ℕ
@@ -32,9 +34,10 @@ pub data FoldHead : Type 0 where
   of_connective : Op → SortTrees → FoldHead
 
 -- the application of the head to no argument, up to and including the closing parenthesis
-abbrev pub spell_unfilled : FoldHead → List Want → List Want
+abbrev pub spell_unfilled : FoldHead → List Requirement → List Requirement
 spell_unfilled (of_symbol n ss) k =
-    any (identifier n) ∷ any (mark 123) ∷ listed (spell_sorts ss) 125 (any (mark 40) ∷ any (mark 41) ∷ k)
+    any (identifier n) ∷ any (mark 123)
+    ∷ listed (spell_sorts ss) 125 (any (mark 40) ∷ any (mark 41) ∷ k)
 spell_unfilled (of_connective o ss) k =
     given (is_associative o) ∷ given (is_single ss) ∷ any (builtin (Some (Connective o)))
     ∷ any (mark 123) ∷ listed (spell_sorts ss) 125 (any (mark 40) ∷ any (mark 41) ∷ k)
@@ -44,7 +47,8 @@ spell_unfilled (of_connective o ss) k =
 abbrev pub IsEmptyFold : Token → Stream → Type 0
 IsEmptyFold t s =
     (left : Bool) × (t ≡ builtin (Some (Fold left)))
-    × (h : FoldHead) × (r : Stream) × Takes (any (mark 123) ∷ any (mark 125) ∷ any (mark 40) ∷ spell_unfilled h []) s r
+    × (h : FoldHead) × (r : Stream)
+    × TakesTokens (any (mark 123) ∷ any (mark 125) ∷ any (mark 40) ∷ spell_unfilled h []) s r
 
 -- the first `m` tokens of the two streams are the same, with their places
 abbrev pub Same : ℕ → Stream → Stream → Type 0
@@ -111,8 +115,8 @@ IsFirstFault L n s (Some (Deep at)) = (m : ℕ) × IsGood L m n s × GoesDeep L 
 
 -- the tokens spell a pattern
 abbrev pub IsPattern : Stream → Type 0
-IsPattern s = (p : PatternTree) × (e : ℕ) × Takes (spell_pattern false p []) s (end e)
+IsPattern s = (p : PatternTree) × (e : ℕ) × TakesTokens (spell_pattern false p []) s (end e)
 
 -- the tokens spell a definition
 abbrev pub IsDefinition : Stream → Type 0
-IsDefinition s = (d : DefinitionTree) × (e : ℕ) × Takes (spell_definition d []) s (end e)
+IsDefinition s = (d : DefinitionTree) × (e : ℕ) × TakesTokens (spell_definition d []) s (end e)

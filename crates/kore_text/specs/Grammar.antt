@@ -1,20 +1,30 @@
 -- The grammar of Kore text (Kore language document, syntax), as the spelling of each tree. A
 -- spelling is a list of requirements. It is put in front of the requirements for what follows the
 -- tree.
-use Rattle.std.specs.Prelude.{◌≡◌, ℕ, ◌==◌, Bool, true, false, not, ◌&&◌, IsTrue, Option, Some, None, List, [], ◌∷◌, map, codes}
+use Rattle.std.specs.Prelude.{◌≡◌, ℕ, ◌==◌, Bool, true, false, not, ◌&&◌, IsTrue, Option, Some}
+use Rattle.std.specs.Prelude.{None, List, [], ◌∷◌, map, codes}
 use Rattle.kore_text.specs.declared.names.Op.{Op}
 use Rattle.kore_text.specs.declared.names.Op.TheVariants as op
 use Rattle.kore_text.specs.declared.names.Binder.{Binder}
 use Rattle.kore_text.specs.declared.names.Binder.TheVariants as binder
 use Rattle.kore_text.specs.declared.names.Built.TheVariants.{Connective, Binding, Value, Fold}
-use Rattle.kore_text.specs.TokenStream.{Token, identifier, set_identifier, builtin, string_token, mark, assign, Stream, end, fault, token}
-use Rattle.kore_text.specs.Trees.{SortTree, sort_parameter, sort_applied, SortTrees, no_sorts, sort_then, sort_count, PatternTree, element_variable, set_variable, string, symbol_applied, connected, binding, domain_value, folded, PatternTrees, no_patterns, pattern_then, pattern_count, ImportDeclaration, SortDeclaration, SymbolDeclaration, AliasDeclaration, AxiomDeclaration, ModuleTree, DefinitionTree, Declaration, import_declaration, sort_declaration, symbol_declaration, alias_declaration, axiom_declaration, claim_declaration}
+use Rattle.kore_text.specs.TokenStream.{Token, identifier, set_identifier, builtin, string_token}
+use Rattle.kore_text.specs.TokenStream.{mark, assign, Stream, end, fault, token}
+use Rattle.kore_text.specs.Trees.{SortTree, sort_parameter, sort_applied, SortTrees, no_sorts}
+use Rattle.kore_text.specs.Trees.{sort_then, sort_count, PatternTree, element_variable}
+use Rattle.kore_text.specs.Trees.{set_variable, string, symbol_applied, connected, binding}
+use Rattle.kore_text.specs.Trees.{domain_value, folded, PatternTrees, no_patterns, pattern_then}
+use Rattle.kore_text.specs.Trees.{pattern_count, ImportDeclaration, SortDeclaration}
+use Rattle.kore_text.specs.Trees.{SymbolDeclaration, AliasDeclaration, AxiomDeclaration, ModuleTree}
+use Rattle.kore_text.specs.Trees.{DefinitionTree, Declaration, import_declaration, sort_declaration}
+use Rattle.kore_text.specs.Trees.{symbol_declaration, alias_declaration, axiom_declaration}
+use Rattle.kore_text.specs.Trees.{claim_declaration}
 
 -- a requirement: a token at this place, a token at any place, or a condition, which needs no token
-pub data Want : Type 0 where
-  placed : ℕ → Token → Want
-  any : Token → Want
-  given : Bool → Want
+pub data Requirement : Type 0 where
+  placed : ℕ → Token → Requirement
+  any : Token → Requirement
+  given : Bool → Requirement
 
 -- how many sorts a connective takes
 abbrev pub sorts_of : Op → ℕ
@@ -88,7 +98,7 @@ is_foldable _ = false
 -- how a thing is spelled: from the requirements for what follows it to those for the thing and what
 -- follows it
 abbrev pub Spelling : Type 0
-Spelling = List Want → List Want
+Spelling = List Requirement → List Requirement
 
 -- a list with commas, from the token after its opening bracket up to and including the closing mark
 abbrev mutual
@@ -118,7 +128,8 @@ abbrev mutual
   -- a sort: a parameter's name, or a name and sorts in braces
   pub spell_sort : SortTree → Spelling
   spell_sort (sort_parameter at n) = λ k. placed at (identifier n) ∷ k
-  spell_sort (sort_applied at n ss) = λ k. placed at (identifier n) ∷ any (mark 123) ∷ listed (spell_sorts ss) 125 k
+  spell_sort (sort_applied at n ss) =
+      λ k. placed at (identifier n) ∷ any (mark 123) ∷ listed (spell_sorts ss) 125 k
 
   pub spell_sorts : SortTrees → List Spelling
   spell_sorts no_sorts = []
@@ -139,19 +150,22 @@ abbrev mutual
   spell_pattern b (element_variable at n s) = λ k. spell_variable at (identifier n) s k
   spell_pattern b (set_variable at n s) = λ k. spell_variable at (set_identifier n) s k
   spell_pattern b (string at t) = λ k. given b ∷ placed at (string_token t) ∷ k
-  spell_pattern b (symbol_applied at n ss ps) = λ k. spell_applied at (identifier n) ss (spell_patterns b ps) k
+  spell_pattern b (symbol_applied at n ss ps) =
+      λ k. spell_applied at (identifier n) ss (spell_patterns b ps) k
   spell_pattern b (connected at o ss ps) = λ k.
       given (takes o (sort_count ss) (pattern_count ps))
       ∷ spell_applied at (builtin (Some (Connective o))) ss (spell_patterns b ps) k
   spell_pattern b (binding at o ss x p) = λ k.
       given ((sort_count ss == binder_sorts o) && is_variable (binds_sets o) x)
-      ∷ placed at (builtin (Some (Binding o))) ∷ any (mark 123) ∷ listed (spell_sorts ss) 125 (any (mark 40)
+      ∷ placed at (builtin (Some (Binding o))) ∷ any (mark 123)
+      ∷ listed (spell_sorts ss) 125 (any (mark 40)
       ∷ spell_pattern b x (any (mark 44) ∷ spell_pattern b p (any (mark 41) ∷ k)))
   spell_pattern b (domain_value at s t place) = λ k.
       placed at (builtin (Some Value)) ∷ any (mark 123) ∷ spell_sort s (any (mark 125)
       ∷ any (mark 40) ∷ placed place (string_token t) ∷ any (mark 41) ∷ k)
   spell_pattern b (folded at left p) = λ k.
-      given (is_foldable p) ∷ placed at (builtin (Some (Fold left))) ∷ any (mark 123) ∷ any (mark 125)
+      given (is_foldable p) ∷ placed at (builtin (Some (Fold left))) ∷ any (mark 123)
+      ∷ any (mark 125)
       ∷ any (mark 40) ∷ spell_pattern b p (any (mark 41) ∷ k)
 
   pub spell_patterns : Bool → PatternTrees → List Spelling
@@ -164,10 +178,11 @@ spell_attributes ps k = any (mark 91) ∷ listed (map (spell_pattern true) ps) 9
 
 -- sorts in parentheses, a colon and a sort
 abbrev pub spell_signature : List SortTree → SortTree → Spelling
-spell_signature args result k = any (mark 40) ∷ listed (map spell_sort args) 41 (any (mark 58) ∷ spell_sort result k)
+spell_signature args result k =
+    any (mark 40) ∷ listed (map spell_sort args) 41 (any (mark 58) ∷ spell_sort result k)
 
 -- a keyword at its place
-abbrev pub keyword : ℕ → List ℕ → Want
+abbrev pub keyword : ℕ → List ℕ → Requirement
 keyword at word = placed at (identifier word)
 
 abbrev pub sort_word : Bool → List ℕ
@@ -179,11 +194,13 @@ symbol_word true = codes "hooked-symbol"
 symbol_word false = codes "symbol"
 
 abbrev pub spell_import : ImportDeclaration → Spelling
-spell_import d k = keyword d.at (codes "import") ∷ any (identifier d.name) ∷ spell_attributes d.attributes k
+spell_import d k =
+    keyword d.at (codes "import") ∷ any (identifier d.name) ∷ spell_attributes d.attributes k
 
 abbrev pub spell_sort_declaration : SortDeclaration → Spelling
 spell_sort_declaration d k =
-    keyword d.at (sort_word d.hooked) ∷ any (identifier d.name) ∷ spell_names d.params (spell_attributes d.attributes k)
+    keyword d.at (sort_word d.hooked) ∷ any (identifier d.name)
+    ∷ spell_names d.params (spell_attributes d.attributes k)
 
 abbrev pub spell_symbol_declaration : SymbolDeclaration → Spelling
 spell_symbol_declaration d k =
@@ -194,13 +211,17 @@ spell_symbol_declaration d k =
 abbrev pub spell_alias : AliasDeclaration → Spelling
 spell_alias d k =
     given (not d.hooked) ∷ keyword d.at (codes "alias") ∷ any (identifier d.name)
-    ∷ spell_names d.params (spell_signature d.args d.result (any (identifier (codes "where")) ∷ any (identifier d.left_name)
-    ∷ any (mark 123) ∷ listed (map spell_sort d.left_sorts) 125 (any (mark 40) ∷ listed (map (spell_pattern false) d.vars) 41
+    ∷ spell_names d.params (spell_signature d.args d.result
+    (any (identifier (codes "where")) ∷ any (identifier d.left_name)
+    ∷ any (mark 123)
+    ∷ listed (map spell_sort d.left_sorts) 125
+    (any (mark 40) ∷ listed (map (spell_pattern false) d.vars) 41
     (any assign ∷ spell_pattern false d.body (spell_attributes d.attributes k)))))
 
 -- an axiom or a claim, after its keyword
 abbrev pub spell_statement : AxiomDeclaration → Spelling
-spell_statement d k = spell_names d.params (spell_pattern false d.pattern (spell_attributes d.attributes k))
+spell_statement d k =
+    spell_names d.params (spell_pattern false d.pattern (spell_attributes d.attributes k))
 
 abbrev pub spell_declaration : Declaration → Spelling
 spell_declaration (import_declaration d) k = spell_import d k
@@ -212,12 +233,15 @@ spell_declaration (claim_declaration d) k = keyword d.at (codes "claim") ∷ spe
 
 -- declarations, up to and including the word `endmodule` and the attributes that end their module
 abbrev pub spell_body : List Declaration → List PatternTree → Spelling
-spell_body ds ps k = in_order (map spell_declaration ds) (any (identifier (codes "endmodule")) ∷ spell_attributes ps k)
+spell_body ds ps k =
+    in_order (map spell_declaration ds)
+    (any (identifier (codes "endmodule")) ∷ spell_attributes ps k)
 
 -- a module: `module`, its name, its declarations, `endmodule` and its attributes
 abbrev pub spell_module : ModuleTree → Spelling
 spell_module m k =
-    keyword m.at (codes "module") ∷ any (identifier m.name) ∷ spell_body m.declarations m.attributes k
+    keyword m.at (codes "module") ∷ any (identifier m.name)
+    ∷ spell_body m.declarations m.attributes k
 
 abbrev pub is_some_module : List ModuleTree → Bool
 is_some_module [] = false
@@ -226,16 +250,17 @@ is_some_module (m ∷ ms) = true
 -- a definition: attributes, and one module or more
 abbrev pub spell_definition : DefinitionTree → Spelling
 spell_definition d k =
-    given (is_some_module d.modules) ∷ spell_attributes d.attributes (in_order (map spell_module d.modules) k)
+    given (is_some_module d.modules)
+    ∷ spell_attributes d.attributes (in_order (map spell_module d.modules) k)
 
 -- the tokens from the first stream up to the second meet the requirements, in order, and the
 -- conditions hold
-abbrev pub Takes : List Want → Stream → Stream → Type 0
-Takes [] s e = s ≡ e
-Takes (given b ∷ ws) s e = IsTrue b × Takes ws s e
-Takes (placed p u ∷ ws) (end n) e = ⊥
-Takes (placed p u ∷ ws) (fault n) e = ⊥
-Takes (placed p u ∷ ws) (token t q s) e = (t ≡ u) × (q ≡ p) × Takes ws s e
-Takes (any u ∷ ws) (end n) e = ⊥
-Takes (any u ∷ ws) (fault n) e = ⊥
-Takes (any u ∷ ws) (token t q s) e = (t ≡ u) × Takes ws s e
+abbrev pub TakesTokens : List Requirement → Stream → Stream → Type 0
+TakesTokens [] s e = s ≡ e
+TakesTokens (given b ∷ ws) s e = IsTrue b × TakesTokens ws s e
+TakesTokens (placed p u ∷ ws) (end n) e = ⊥
+TakesTokens (placed p u ∷ ws) (fault n) e = ⊥
+TakesTokens (placed p u ∷ ws) (token t q s) e = (t ≡ u) × (q ≡ p) × TakesTokens ws s e
+TakesTokens (any u ∷ ws) (end n) e = ⊥
+TakesTokens (any u ∷ ws) (fault n) e = ⊥
+TakesTokens (any u ∷ ws) (token t q s) e = (t ≡ u) × TakesTokens ws s e

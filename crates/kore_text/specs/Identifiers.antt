@@ -2,8 +2,15 @@
 use Rattle.std.specs.Prelude.{ℕ, false, List, [], All}
 use Rattle.kore_lex.specs.Tokens.{IsName}
 use Rattle.kore_text.specs.TokenStream.{tokens_of, end}
-use Rattle.kore_text.specs.Trees.{SortTree, sort_parameter, sort_applied, SortTrees, no_sorts, sort_then, PatternTree, element_variable, set_variable, string, symbol_applied, connected, binding, domain_value, folded, PatternTrees, no_patterns, pattern_then, ImportDeclaration, SortDeclaration, SymbolDeclaration, AliasDeclaration, AxiomDeclaration, ModuleTree, DefinitionTree, Declaration, import_declaration, sort_declaration, symbol_declaration, alias_declaration, axiom_declaration, claim_declaration}
-use Rattle.kore_text.specs.Grammar.{Takes, spell_pattern, spell_definition}
+use Rattle.kore_text.specs.Trees.{SortTree, sort_parameter, sort_applied, SortTrees, no_sorts}
+use Rattle.kore_text.specs.Trees.{sort_then, PatternTree, element_variable, set_variable, string}
+use Rattle.kore_text.specs.Trees.{symbol_applied, connected, binding, domain_value, folded}
+use Rattle.kore_text.specs.Trees.{PatternTrees, no_patterns, pattern_then, ImportDeclaration}
+use Rattle.kore_text.specs.Trees.{SortDeclaration, SymbolDeclaration, AliasDeclaration}
+use Rattle.kore_text.specs.Trees.{AxiomDeclaration, ModuleTree, DefinitionTree, Declaration}
+use Rattle.kore_text.specs.Trees.{import_declaration, sort_declaration, symbol_declaration}
+use Rattle.kore_text.specs.Trees.{alias_declaration, axiom_declaration, claim_declaration}
+use Rattle.kore_text.specs.Grammar.{TakesTokens, spell_pattern, spell_definition}
 
 abbrev mutual
   pub IsNamedSort : SortTree → Type 0
@@ -84,9 +91,11 @@ pub record HasIdentifiers (d : DefinitionTree) : Type 0 where
 -- the names of a definition that bytes spell are identifiers
 abbrev pub NamesAreIdentifiers : Type 0
 NamesAreIdentifiers =
-    (bytes : List ℕ) (d : DefinitionTree) (e : ℕ) → Takes (spell_definition d []) (tokens_of bytes) (end e) → HasIdentifiers d
+    (bytes : List ℕ) (d : DefinitionTree) (e : ℕ)
+    → TakesTokens (spell_definition d []) (tokens_of bytes) (end e) → HasIdentifiers d
 
 -- the names of a pattern that bytes spell are identifiers
 abbrev pub PatternNamesAreIdentifiers : Type 0
 PatternNamesAreIdentifiers =
-    (bytes : List ℕ) (p : PatternTree) (e : ℕ) → Takes (spell_pattern false p []) (tokens_of bytes) (end e) → IsNamedPattern p
+    (bytes : List ℕ) (p : PatternTree) (e : ℕ)
+    → TakesTokens (spell_pattern false p []) (tokens_of bytes) (end e) → IsNamedPattern p

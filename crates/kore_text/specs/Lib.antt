@@ -3,7 +3,7 @@ pub mod TokenStream
 pub mod Trees
 pub mod Grammar
 pub mod Faults
-pub mod Left
+pub mod Remaining
 pub mod TextLaws
 pub mod Identifiers
 -- Private: what clauses of private functions cite, and how private fields are seen.

@@ -1,5 +1,6 @@
 -- What the private functions say of the symbols that may come next.
-use Rattle.std.specs.Prelude.{◌≡◌, Bool, true, false, ◌&&◌, List, [], ◌∷◌, ◌++◌, reverse, Option, Some, None}
+use Rattle.std.specs.Prelude.{◌≡◌, Bool, true, false, ◌&&◌, List, [], ◌∷◌, ◌++◌, reverse, Option}
+use Rattle.std.specs.Prelude.{Some, None}
 use Rattle.kore_text.specs.declared.expected.Expected.{Expected}
 use Rattle.kore_text.specs.declared.symbols.Symbol.{Symbol}
 use Rattle.kore_text.specs.TokenStream.{Token}

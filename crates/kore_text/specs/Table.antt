@@ -1,7 +1,8 @@
 -- The table of moves. A stack of symbols says what may come next, the next symbol first. A token
 -- turns the stack into another one or does not fit it. A reader need not believe this table: the
 -- contracts state the faults by the grammar only.
-use Rattle.std.specs.Prelude.{ℕ, zero, suc, Bool, true, false, ◌==◌, ◌&&◌, List, [], ◌∷◌, ◌++◌, nat_lt, if◌then◌else◌, Option, Some, None, codes}
+use Rattle.std.specs.Prelude.{ℕ, zero, suc, Bool, true, false, ◌==◌, ◌&&◌, List, [], ◌∷◌, ◌++◌}
+use Rattle.std.specs.Prelude.{nat_lt, if◌then◌else◌, Option, Some, None, codes}
 use Rattle.std.specs.Str.{bytes_eq}
 use Rattle.kore_text.specs.declared.names.Built.{Built}
 use Rattle.kore_text.specs.declared.names.Built.TheVariants.{Connective, Binding, Value, Fold}
@@ -13,8 +14,10 @@ use Rattle.kore_text.specs.declared.symbols.Symbol.{Symbol}
 use Rattle.kore_text.specs.declared.symbols.Symbol.TheVariants as symbol
 use Rattle.kore_text.specs.declared.faults.TextFault.{TextFault}
 use Rattle.kore_text.specs.declared.faults.TextFault.TheVariants.{Lex, Syntax, Deep}
-use Rattle.kore_text.specs.TokenStream.{Token, identifier, set_identifier, builtin, string_token, mark, assign, Stream, end, fault, token}
-use Rattle.kore_text.specs.Grammar.{sorts_of, arguments_of, binder_sorts, binds_sets, is_associative}
+use Rattle.kore_text.specs.TokenStream.{Token, identifier, set_identifier, builtin, string_token}
+use Rattle.kore_text.specs.TokenStream.{mark, assign, Stream, end, fault, token}
+use Rattle.kore_text.specs.Grammar.{sorts_of, arguments_of, binder_sorts, binds_sets}
+use Rattle.kore_text.specs.Grammar.{is_associative}
 use Rattle.kore_text.specs.Faults.{opened}
 use Rattle.kore_text.specs.Apart.{is_mark}
 
@@ -71,12 +74,15 @@ argument_symbols b (Some n) = exactly (symbol.Pattern b) close.Paren n []
 -- what comes after a built-in name
 abbrev pub built_symbols : Bool → Built → List Symbol
 built_symbols b (Connective o) =
-    symbol.Mark 123 ∷ exactly symbol.Sort close.Brace (sorts_of o) (symbol.Mark 40 ∷ argument_symbols b (arguments_of o))
+    symbol.Mark 123
+    ∷ exactly symbol.Sort close.Brace (sorts_of o)
+    (symbol.Mark 40 ∷ argument_symbols b (arguments_of o))
 built_symbols b (Binding o) =
     symbol.Mark 123 ∷ exactly symbol.Sort close.Brace (binder_sorts o) (symbol.Mark 40
     ∷ symbol.Variable (binds_sets o) ∷ symbol.Mark 44 ∷ symbol.Pattern b ∷ symbol.Mark 41 ∷ [])
 built_symbols b Value =
-    symbol.Mark 123 ∷ symbol.Sort ∷ symbol.Mark 125 ∷ symbol.Mark 40 ∷ symbol.Text ∷ symbol.Mark 41 ∷ []
+    symbol.Mark 123 ∷ symbol.Sort ∷ symbol.Mark 125 ∷ symbol.Mark 40 ∷ symbol.Text ∷ symbol.Mark 41
+    ∷ []
 built_symbols b (Fold left) =
     symbol.Mark 123 ∷ symbol.Mark 125 ∷ symbol.Mark 40 ∷ symbol.Folded b ∷ symbol.Mark 41 ∷ []
 
@@ -114,11 +120,13 @@ pattern_move b _ = None
 abbrev pub pattern_tail_move : Bool → Token → Option (List Symbol)
 pattern_tail_move b (mark c) =
     if c == 58 then Some (symbol.Sort ∷ [])
-    else when (c == 123) (symbol.First item.Sort close.Brace ∷ symbol.Mark 40 ∷ symbol.First (item.Pattern b) close.Paren ∷ [])
+    else when (c == 123) (symbol.First item.Sort close.Brace ∷ symbol.Mark 40
+    ∷ symbol.First (item.Pattern b) close.Paren ∷ [])
 pattern_tail_move b _ = None
 
 abbrev pub variable_move : Bool → Token → Option (List Symbol)
-variable_move c t = when (if c then is_set_name t else is_name t) (symbol.Mark 58 ∷ symbol.Sort ∷ [])
+variable_move c t =
+    when (if c then is_set_name t else is_name t) (symbol.Mark 58 ∷ symbol.Sort ∷ [])
 
 -- what comes after the name of a folded connective, with these symbols for its arguments
 abbrev pub folded_built_move : List Symbol → Option Built → Option (List Symbol)
@@ -140,17 +148,30 @@ item_move (item.Pattern b) t = pattern_move b t
 abbrev pub word_move : List ℕ → Option (List Symbol)
 word_move n =
     if bytes_eq n (codes "endmodule") then Some (symbol.Attributes ∷ [])
-    else (if bytes_eq n (codes "import") then Some (symbol.Name ∷ symbol.Attributes ∷ symbol.Declarations ∷ [])
-    else (if bytes_eq n (codes "sort") then Some (symbol.Name ∷ symbol.Names ∷ symbol.Attributes ∷ symbol.Declarations ∷ [])
-    else (if bytes_eq n (codes "hooked-sort") then Some (symbol.Name ∷ symbol.Names ∷ symbol.Attributes ∷ symbol.Declarations ∷ [])
-    else (if bytes_eq n (codes "symbol") then Some (symbol.Name ∷ symbol.Names ∷ symbol.Signature ∷ symbol.Attributes ∷ symbol.Declarations ∷ [])
-    else (if bytes_eq n (codes "hooked-symbol") then Some (symbol.Name ∷ symbol.Names ∷ symbol.Signature ∷ symbol.Attributes ∷ symbol.Declarations ∷ [])
+    else (if bytes_eq n (codes
+    "import") then Some (symbol.Name ∷ symbol.Attributes ∷ symbol.Declarations ∷ [])
+    else (if bytes_eq n (codes
+    "sort") then Some (symbol.Name ∷ symbol.Names ∷ symbol.Attributes ∷ symbol.Declarations ∷ [])
+    else (if bytes_eq n (codes
+    "hooked-sort") then Some (symbol.Name ∷ symbol.Names ∷ symbol.Attributes ∷ symbol.Declarations
+    ∷ [])
+    else (if bytes_eq n (codes
+    "symbol") then Some (symbol.Name ∷ symbol.Names ∷ symbol.Signature ∷ symbol.Attributes
+    ∷ symbol.Declarations ∷ [])
+    else (if bytes_eq n (codes
+    "hooked-symbol") then Some (symbol.Name ∷ symbol.Names ∷ symbol.Signature ∷ symbol.Attributes
+    ∷ symbol.Declarations ∷ [])
     else (if bytes_eq n (codes "alias") then
     Some (symbol.Name ∷ symbol.Names ∷ symbol.Signature ∷ symbol.Where ∷ symbol.Name
-    ∷ symbol.Mark 123 ∷ symbol.First item.Sort close.Brace ∷ symbol.Mark 40 ∷ symbol.First (item.Pattern false) close.Paren
+    ∷ symbol.Mark 123 ∷ symbol.First item.Sort close.Brace ∷ symbol.Mark 40
+    ∷ symbol.First (item.Pattern false) close.Paren
     ∷ symbol.Assign ∷ symbol.Pattern false ∷ symbol.Attributes ∷ symbol.Declarations ∷ [])
-    else (if bytes_eq n (codes "axiom") then Some (symbol.Names ∷ symbol.Pattern false ∷ symbol.Attributes ∷ symbol.Declarations ∷ [])
-    else (if bytes_eq n (codes "claim") then Some (symbol.Names ∷ symbol.Pattern false ∷ symbol.Attributes ∷ symbol.Declarations ∷ [])
+    else (if bytes_eq n (codes
+    "axiom") then Some (symbol.Names ∷ symbol.Pattern false ∷ symbol.Attributes
+    ∷ symbol.Declarations ∷ [])
+    else (if bytes_eq n (codes
+    "claim") then Some (symbol.Names ∷ symbol.Pattern false ∷ symbol.Attributes
+    ∷ symbol.Declarations ∷ [])
     else None))))))))
 
 abbrev pub declarations_move : Token → Option (List Symbol)
@@ -177,14 +198,16 @@ turn (symbol.Folded b) t = folded_move (folded_arguments b) t
 turn symbol.EmptyFolded t = folded_move no_arguments t
 turn (symbol.First i c) t = if is_mark (byte_of c) t then Some [] else item_move i t
 turn (symbol.More i c) t =
-    if is_mark (byte_of c) t then Some [] else when (is_mark 44 t) (symbol_of i ∷ symbol.More i c ∷ [])
+    if is_mark (byte_of c) t then Some []
+    else when (is_mark 44 t) (symbol_of i ∷ symbol.More i c ∷ [])
 turn symbol.Attributes t = when (is_mark 91 t) (symbol.First (item.Pattern true) close.Bracket ∷ [])
 turn symbol.Names t = when (is_mark 123 t) (symbol.First item.Name close.Brace ∷ [])
 turn symbol.Signature t =
     when (is_mark 40 t) (symbol.First item.Sort close.Paren ∷ symbol.Mark 58 ∷ symbol.Sort ∷ [])
 turn symbol.Declarations t = declarations_move t
 turn symbol.Module t = keyword_move (codes "module") (symbol.Name ∷ symbol.Declarations ∷ []) t
-turn symbol.Modules t = keyword_move (codes "module") (symbol.Name ∷ symbol.Declarations ∷ symbol.Modules ∷ []) t
+turn symbol.Modules t =
+    keyword_move (codes "module") (symbol.Name ∷ symbol.Declarations ∷ symbol.Modules ∷ []) t
 
 -- what is still to come after the first token of a symbol: if the symbol begins a list, the rest of
 -- the list comes before `k`
@@ -239,7 +262,8 @@ abbrev pub is_deep : Option ℕ → Bool
 is_deep None = false
 is_deep (Some n) = nat_lt 500 n
 
-abbrev pub onward : (Option ℕ → List Symbol → Option TextFault) → ℕ → Option ℕ → Option (List Symbol) → Option TextFault
+abbrev pub onward : (Option ℕ → List Symbol → Option TextFault) → ℕ → Option ℕ
+    → Option (List Symbol) → Option TextFault
 onward go at n None = Some (Syntax at)
 onward go at n (Some k) = if is_deep n then Some (Deep at) else go n k
 
@@ -249,7 +273,8 @@ unfoldable pub run : Stream → Option ℕ → List Symbol → Option TextFault
 run (end e) n k = if can_end k then None else Some (Syntax e)
 run (fault e) n k = Some (Lex e)
 run (token t p s) n k =
-    if is_fold t && passes s empty_fold then Some (Syntax p) else onward (run s) p (counted t n) (step k t)
+    if is_fold t && passes s empty_fold then Some (Syntax p)
+    else onward (run s) p (counted t n) (step k t)
 
 -- what is to come at the head of a pattern, and of a definition
 abbrev pub pattern_symbols : List Symbol

@@ -1,10 +1,12 @@
 -- The tokens of a Kore text, each with the byte at which it begins (Kore language document, lexical
 -- structure).
-use Rattle.std.specs.Prelude.{ℕ, ◌-◌, List, take, drop, Option, Some, None, if◌then◌else◌, codes, true, false}
+use Rattle.std.specs.Prelude.{ℕ, ◌-◌, List, take, drop, Option, Some, None, if◌then◌else◌, codes}
+use Rattle.std.specs.Prelude.{true, false}
 use Rattle.std.specs.Str.{bytes_eq}
 use Rattle.kore_lex.specs.declared.lexer.TokenKind.{TokenKind}
 use Rattle.kore_lex.specs.declared.lexer.TokenKind.TheVariants as kind
-use Rattle.kore_lex.specs.Lexed.{lexed, Stream as Cut, end as cut_end, fault as cut_fault, token as cut_token}
+use Rattle.kore_lex.specs.Lexed.{lexed, Stream as Cut, end as cut_end, fault as cut_fault}
+use Rattle.kore_lex.specs.Lexed.{token as cut_token}
 use Rattle.kore_lex.specs.Value.{value}
 use Rattle.kore_text.specs.declared.names.Op.TheVariants as op
 use Rattle.kore_text.specs.declared.names.Binder.TheVariants as binder
@@ -67,12 +69,18 @@ pub data Stream : Type 0 where
 -- `End` is the end
 abbrev pub joined : List ℕ → TokenKind → ℕ → ℕ → Stream → Stream
 joined text kind.End from to s = end from
-joined text kind.Ident from to s = token (token_of kind.Ident (take (to - from) (drop from text))) from s
-joined text kind.SetIdent from to s = token (token_of kind.SetIdent (take (to - from) (drop from text))) from s
-joined text kind.Builtin from to s = token (token_of kind.Builtin (take (to - from) (drop from text))) from s
-joined text kind.Text from to s = token (token_of kind.Text (take (to - from) (drop from text))) from s
-joined text (kind.Punct c) from to s = token (token_of (kind.Punct c) (take (to - from) (drop from text))) from s
-joined text kind.Assign from to s = token (token_of kind.Assign (take (to - from) (drop from text))) from s
+joined text kind.Ident from to s =
+    token (token_of kind.Ident (take (to - from) (drop from text))) from s
+joined text kind.SetIdent from to s =
+    token (token_of kind.SetIdent (take (to - from) (drop from text))) from s
+joined text kind.Builtin from to s =
+    token (token_of kind.Builtin (take (to - from) (drop from text))) from s
+joined text kind.Text from to s =
+    token (token_of kind.Text (take (to - from) (drop from text))) from s
+joined text (kind.Punct c) from to s =
+    token (token_of (kind.Punct c) (take (to - from) (drop from text))) from s
+joined text kind.Assign from to s =
+    token (token_of kind.Assign (take (to - from) (drop from text))) from s
 
 -- the tokens of a text that was cut into pieces
 abbrev pub named : List ℕ → Cut → Stream

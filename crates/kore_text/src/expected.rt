@@ -1,16 +1,22 @@
 // What may come next in a text: a stack of symbols, which changes by the table of the grammar.
 
-ghost use Rattle.std.specs.Prelude.{◌≡◌, ◌≢◌, ◌≤◌, ℕ, Bool, List, [], ◌∷◌, ◌++◌, true, false, Some, if◌then◌else◌, OnOk, IfOk};
+ghost use Rattle.std.specs.Prelude.{◌≡◌, ◌≢◌, ◌≤◌, ℕ, Bool, List, [], ◌∷◌, ◌++◌, true, false, Some};
+ghost use Rattle.std.specs.Prelude.{if◌then◌else◌, OnOk, IfOk};
 ghost use Rattle.kore_lex.specs.declared.lexer.TokenKind.TheVariants.{End};
 ghost use Rattle.kore_text.specs.declared.names.Built.TheVariants.{Connective, Binding};
 ghost use Rattle.kore_text.specs.declared.symbols.Symbol.TheVariants.{First, More};
-ghost use Rattle.kore_text.specs.TokenStream.{token_of, identifier, set_identifier, builtin, string_token};
-ghost use Rattle.kore_text.specs.Table.{turn, rest_of, step, can_end, is_empty, when, exactly, argument_symbols, built_symbols, pattern_move, pattern_tail_move, folded_move, item_move, word_move, declarations_move, folded_arguments, variable_move, byte_of, symbol_of};
+ghost use Rattle.kore_text.specs.TokenStream.{token_of, identifier, set_identifier, builtin};
+ghost use Rattle.kore_text.specs.TokenStream.{string_token};
+ghost use Rattle.kore_text.specs.Table.{turn, rest_of, step, can_end, is_empty, when, exactly};
+ghost use Rattle.kore_text.specs.Table.{argument_symbols, built_symbols, pattern_move};
+ghost use Rattle.kore_text.specs.Table.{pattern_tail_move, folded_move, item_move, word_move};
+ghost use Rattle.kore_text.specs.Table.{declarations_move, folded_arguments, variable_move};
+ghost use Rattle.kore_text.specs.Table.{byte_of, symbol_of};
 ghost use Rattle.kore_text.specs.Apart.{is_mark};
 
 use crate::names::{Binder, Built, Op};
 use crate::symbols::{Close, Item, Symbol};
-use crate::words::Word;
+use crate::words::LexedToken;
 use kore_lex::TokenKind;
 use std::alloc::{AllocError, Global};
 
@@ -127,9 +133,10 @@ impl Expected {
 
     /// Takes a token and returns whether it fits. If it does not fit, the stack is left in an
     /// unspecified state.
-    pub(crate) fn take(&mut self, word: &Word<'_>) -> Result<bool, AllocError>
+    pub(crate) fn take(&mut self, word: &LexedToken<'_>) -> Result<bool, AllocError>
         requires { word.now.kind ≢ End }
-        ensures { IfOk result (λ yes. Steps yes (step (stack self.old) (token_of word.now.kind word.now.bytes.now)) (stack self.new)) }
+        ensures { IfOk result (λ yes. Steps yes
+            (step (stack self.old) (token_of word.now.kind word.now.bytes.now)) (stack self.new)) }
     {
         while let Some(symbol) = self.symbols.pop() {
             if !symbol.is_left_out(word) {
@@ -153,7 +160,8 @@ impl Expected {
 
     /// Puts these symbols in front of the stack if the token fits. Returns whether it fits.
     fn put_where(&mut self, fits: bool, symbols: &[Symbol]) -> Result<bool, AllocError>
-        ensures { IfOk result (λ yes. Expands yes (when fits symbols.now) (stack self.old) (stack self.new)) }
+        ensures { IfOk result
+            (λ yes. Expands yes (when fits symbols.now) (stack self.old) (stack self.new)) }
     {
         if fits {
             self.put(symbols)?;
@@ -164,10 +172,12 @@ impl Expected {
     /// Puts in front of the stack what comes after this token of the symbol, if the token fits the
     /// symbol. Returns whether it fits.
     #[tactic(auto, unfolding(crate::specs::Table::turn))]
-    fn expand(&mut self, symbol: Symbol, word: &Word<'_>) -> Result<bool, AllocError>
+    fn expand(&mut self, symbol: Symbol, word: &LexedToken<'_>) -> Result<bool, AllocError>
         requires { word.now.kind ≢ End }
-        ensures { IfOk result (λ yes. Expands yes (turn symbol (token_of word.now.kind word.now.bytes.now))
-            (rest_of symbol (token_of word.now.kind word.now.bytes.now) (stack self.old)) (stack self.new)) }
+        ensures { IfOk result
+            (λ yes. Expands yes (turn symbol (token_of word.now.kind word.now.bytes.now))
+            (rest_of symbol (token_of word.now.kind word.now.bytes.now) (stack self.old))
+            (stack self.new)) }
     {
         match symbol {
             Symbol::Mark(byte) => self.put_where(word.is_mark(byte), &[]),
@@ -194,8 +204,10 @@ impl Expected {
     }
 
     /// Takes the first token of a pattern.
-    fn pattern(&mut self, strings: bool, word: &Word<'_>) -> Result<bool, AllocError>
-        ensures { IfOk result (λ yes. Expands yes (pattern_move strings (token_of word.now.kind word.now.bytes.now)) (stack self.old) (stack self.new)) }
+    fn pattern(&mut self, strings: bool, word: &LexedToken<'_>) -> Result<bool, AllocError>
+        ensures { IfOk result (λ yes. Expands yes
+            (pattern_move strings (token_of word.now.kind word.now.bytes.now)) (stack self.old)
+            (stack self.new)) }
     {
         match word.kind {
             TokenKind::Ident => self.put_where(true, &[Symbol::PatternTail(strings)]),
@@ -240,7 +252,8 @@ impl Expected {
     /// Puts what comes after the name of a connective.
     #[tactic(auto, using(crate::proofs::StackLaws::exactly_append))]
     fn connective(&mut self, strings: bool, op: Op) -> Result<(), AllocError>
-        ensures { OnOk result (stack self.new ≡ built_symbols strings (Connective op) ++ stack self.old) }
+        ensures { OnOk result
+            (stack self.new ≡ built_symbols strings (Connective op) ++ stack self.old) }
     {
         match op.arguments() {
             None => self.put(&[Symbol::First(Item::Pattern(strings), Close::Paren)])?,
@@ -254,7 +267,8 @@ impl Expected {
     /// Puts what comes after the name of a binder.
     #[tactic(auto, using(crate::proofs::StackLaws::exactly_append))]
     fn binding(&mut self, strings: bool, binder: Binder) -> Result<(), AllocError>
-        ensures { OnOk result (stack self.new ≡ built_symbols strings (Binding binder) ++ stack self.old) }
+        ensures { OnOk result
+            (stack self.new ≡ built_symbols strings (Binding binder) ++ stack self.old) }
     {
         self.put(&[
             Symbol::Mark(b'('),
@@ -283,8 +297,10 @@ impl Expected {
     }
 
     /// Takes the token after a name that begins a pattern.
-    fn pattern_tail(&mut self, strings: bool, word: &Word<'_>) -> Result<bool, AllocError>
-        ensures { IfOk result (λ yes. Expands yes (pattern_tail_move strings (token_of word.now.kind word.now.bytes.now)) (stack self.old) (stack self.new)) }
+    fn pattern_tail(&mut self, strings: bool, word: &LexedToken<'_>) -> Result<bool, AllocError>
+        ensures { IfOk result (λ yes. Expands yes
+            (pattern_tail_move strings (token_of word.now.kind word.now.bytes.now)) (stack self.old)
+            (stack self.new)) }
     {
         match word.kind {
             TokenKind::Punct(b':') => self.put_where(true, &[Symbol::Sort]),
@@ -301,8 +317,10 @@ impl Expected {
     }
 
     /// Takes the name of a variable.
-    fn variable(&mut self, set: bool, word: &Word<'_>) -> Result<bool, AllocError>
-        ensures { IfOk result (λ yes. Expands yes (variable_move set (token_of word.now.kind word.now.bytes.now)) (stack self.old) (stack self.new)) }
+    fn variable(&mut self, set: bool, word: &LexedToken<'_>) -> Result<bool, AllocError>
+        ensures { IfOk result (λ yes. Expands yes
+            (variable_move set (token_of word.now.kind word.now.bytes.now)) (stack self.old)
+            (stack self.new)) }
     {
         let fits = if set {
             word.is_set_name()
@@ -313,8 +331,10 @@ impl Expected {
     }
 
     /// Takes the head of a folded application that has at least one argument.
-    fn folded_some(&mut self, strings: bool, word: &Word<'_>) -> Result<bool, AllocError>
-        ensures { IfOk result (λ yes. Expands yes (folded_move (folded_arguments strings) (token_of word.now.kind word.now.bytes.now)) (stack self.old) (stack self.new)) }
+    fn folded_some(&mut self, strings: bool, word: &LexedToken<'_>) -> Result<bool, AllocError>
+        ensures { IfOk result (λ yes. Expands yes
+            (folded_move (folded_arguments strings) (token_of word.now.kind word.now.bytes.now))
+            (stack self.old) (stack self.new)) }
     {
         self.folded(
             word,
@@ -327,8 +347,10 @@ impl Expected {
     }
 
     /// Takes the head of a folded application. These symbols come for its arguments.
-    fn folded(&mut self, word: &Word<'_>, arguments: &[Symbol]) -> Result<bool, AllocError>
-        ensures { IfOk result (λ yes. Expands yes (folded_move arguments.now (token_of word.now.kind word.now.bytes.now)) (stack self.old) (stack self.new)) }
+    fn folded(&mut self, word: &LexedToken<'_>, arguments: &[Symbol]) -> Result<bool, AllocError>
+        ensures { IfOk result (λ yes. Expands yes
+            (folded_move arguments.now (token_of word.now.kind word.now.bytes.now)) (stack self.old)
+            (stack self.new)) }
     {
         match word.kind {
             TokenKind::Ident => {
@@ -349,9 +371,12 @@ impl Expected {
     }
 
     /// Takes the token after the opening bracket of a list.
-    fn first(&mut self, item: Item, close: Close, word: &Word<'_>) -> Result<bool, AllocError>
-        ensures { IfOk result (λ yes. Expands yes (if is_mark (byte_of close) (token_of word.now.kind word.now.bytes.now) then Some [] else item_move item (token_of word.now.kind word.now.bytes.now))
-            (rest_of (First item close) (token_of word.now.kind word.now.bytes.now) (stack self.old)) (stack self.new)) }
+    fn first(&mut self, item: Item, close: Close, word: &LexedToken<'_>) -> Result<bool, AllocError>
+        ensures { IfOk result (λ yes. Expands yes (if is_mark (byte_of close)
+            (token_of word.now.kind word.now.bytes.now) then Some []
+            else item_move item (token_of word.now.kind word.now.bytes.now))
+            (rest_of (First item close) (token_of word.now.kind word.now.bytes.now)
+            (stack self.old)) (stack self.new)) }
     {
         if word.is_mark(close.byte()) {
             return Ok(true);
@@ -365,9 +390,11 @@ impl Expected {
     }
 
     /// Takes the token after an item of a list.
-    fn more(&mut self, item: Item, close: Close, word: &Word<'_>) -> Result<bool, AllocError>
-        ensures { IfOk result (λ yes. Expands yes (if is_mark (byte_of close) (token_of word.now.kind word.now.bytes.now) then Some []
-            else when (is_mark 44 (token_of word.now.kind word.now.bytes.now)) (symbol_of item ∷ More item close ∷ [])) (stack self.old) (stack self.new)) }
+    fn more(&mut self, item: Item, close: Close, word: &LexedToken<'_>) -> Result<bool, AllocError>
+        ensures { IfOk result (λ yes. Expands yes
+            (if is_mark (byte_of close) (token_of word.now.kind word.now.bytes.now) then Some []
+            else when (is_mark 44 (token_of word.now.kind word.now.bytes.now))
+            (symbol_of item ∷ More item close ∷ [])) (stack self.old) (stack self.new)) }
     {
         if word.is_mark(close.byte()) {
             return Ok(true);
@@ -379,8 +406,10 @@ impl Expected {
     }
 
     /// Takes the keyword of a declaration, or `endmodule`.
-    fn declaration(&mut self, word: &Word<'_>) -> Result<bool, AllocError>
-        ensures { IfOk result (λ yes. Expands yes (declarations_move (token_of word.now.kind word.now.bytes.now)) (stack self.old) (stack self.new)) }
+    fn declaration(&mut self, word: &LexedToken<'_>) -> Result<bool, AllocError>
+        ensures { IfOk result (λ yes. Expands yes
+            (declarations_move (token_of word.now.kind word.now.bytes.now)) (stack self.old)
+            (stack self.new)) }
     {
         match word.kind {
             TokenKind::Ident => self.declared(word.bytes),
@@ -391,7 +420,8 @@ impl Expected {
     /// Puts what comes after the keyword of a declaration, or after `endmodule`. Returns false if
     /// the name is no such keyword.
     fn declared(&mut self, name: &[u8]) -> Result<bool, AllocError>
-        ensures { IfOk result (λ yes. Expands yes (word_move name.now) (stack self.old) (stack self.new)) }
+        ensures { IfOk result
+            (λ yes. Expands yes (word_move name.now) (stack self.old) (stack self.new)) }
     {
         if name == b"endmodule".as_slice() {
             self.put_where(true, &END)

@@ -2,15 +2,16 @@
 
 ghost use Rattle.std.specs.Prelude.{◌≡◌, ◌≤◌, ◌&&◌, ℕ, List, ◌<◌, ◌^◌, length, Some, IfOk};
 ghost use Rattle.kore_text.specs.TokenStream.{tokens_of, token_of};
-ghost use Rattle.kore_text.specs.Left.{left, size};
-ghost use Rattle.kore_text.specs.Table.{run, is_fold, passes, empty_fold, pattern_symbols, definition_symbols};
+ghost use Rattle.kore_text.specs.Remaining.{left, size};
+ghost use Rattle.kore_text.specs.Table.{run, is_fold, passes, empty_fold, pattern_symbols};
+ghost use Rattle.kore_text.specs.Table.{definition_symbols};
 ghost use Rattle.kore_text.specs.Faults.{IsFirstFault, IsPattern, IsDefinition, opened};
 
 use crate::expected::Expected;
 use crate::faults::TextFault;
 use crate::symbols::Symbol;
 use crate::tokens::{Next, Tokens};
-use crate::words::Word;
+use crate::words::LexedToken;
 use kore_lex::TokenKind;
 use std::alloc::{AllocError, Global};
 
@@ -108,7 +109,7 @@ impl<'a> Finder<'a> {
             Next::End(at) => Ok(self.end(at)),
             Next::Fault(at) => Ok(Look::Fault(TextFault::Lex(at))),
             Next::Token(kind, at, bytes) => {
-                let word = Word { kind, bytes };
+                let word = LexedToken { kind, bytes };
                 if begins_empty_fold(self.alloc, &word, &self.tokens)? {
                     return Ok(Look::Fault(TextFault::Syntax(at)));
                 }
@@ -141,10 +142,12 @@ impl<'a> Finder<'a> {
 /// Whether this token and the tokens after it begin a fold without an argument.
 fn begins_empty_fold(
     alloc: Global,
-    word: &Word<'_>,
+    word: &LexedToken<'_>,
     tokens: &Tokens<'_>,
 ) -> Result<bool, AllocError>
-    ensures { IfOk result (λ yes. yes ≡ (is_fold (token_of word.now.kind word.now.bytes.now) && passes (left tokens.now) empty_fold)) }
+    ensures { IfOk result (λ yes. yes
+        ≡ (is_fold (token_of word.now.kind word.now.bytes.now)
+        && passes (left tokens.now) empty_fold)) }
 {
     if !word.is_fold() {
         return Ok(false);
@@ -161,7 +164,7 @@ fn is_empty_fold(alloc: Global, mut tokens: Tokens<'_>) -> Result<bool, AllocErr
     while !expected.is_done() {
         match tokens.next() {
             Next::Token(kind, _, bytes) => {
-                if !expected.take(&Word { kind, bytes })? {
+                if !expected.take(&LexedToken { kind, bytes })? {
                     return Ok(false);
                 }
             }

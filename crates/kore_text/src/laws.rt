@@ -1,5 +1,7 @@
 // Laws on the definitions of `specs/`.
-ghost use Rattle.kore_text.specs.TextLaws.{DefinitionFaultIsUnique, DefinitionHasNoFault, NoMoreTokensThanBytes, PatternFaultIsUnique, PatternHasNoFault};
+ghost use Rattle.kore_text.specs.TextLaws.{DefinitionFaultIsUnique, DefinitionHasNoFault};
+ghost use Rattle.kore_text.specs.TextLaws.{NoMoreTokensThanBytes, PatternFaultIsUnique};
+ghost use Rattle.kore_text.specs.TextLaws.{PatternHasNoFault};
 ghost use Rattle.kore_text.specs.Identifiers.{NamesAreIdentifiers, PatternNamesAreIdentifiers};
 
 /// A text that spells a definition or a pattern, with at most 500 brackets open, has no fault. The

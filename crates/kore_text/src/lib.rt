@@ -4,9 +4,9 @@
 // grammar of the Kore language document. If they do not, they return the first fault and its place.
 // The definitions are in `specs/`. `TokenStream` has the tokens of a text, `Trees` has the trees
 // without memory, and `Grammar` spells a tree. `Faults` says what the first fault of a text is, and
-// `Left` says what is left of a text while its tokens are taken. `TextLaws` and `Identifiers` have
-// laws on these; they are the contracts of `text_laws` and `name_laws`. `Table` is the table by
-// which the tokens are looked at, one at a time. Only private functions cite it and the other
+// `Remaining` says what is left of a text while its tokens are taken. `TextLaws` and `Identifiers`
+// have laws on these; they are the contracts of `text_laws` and `name_laws`. `Table` is the table
+// by which the tokens are looked at, one at a time. Only private functions cite it and the other
 // modules.
 #![tactic(auto)]
 

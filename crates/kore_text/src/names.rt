@@ -2,7 +2,8 @@
 
 ghost use Rattle.std.specs.Prelude.{◌≡◌};
 ghost use Rattle.kore_text.specs.TokenStream.{built_of};
-ghost use Rattle.kore_text.specs.Grammar.{sorts_of, arguments_of, is_associative, binder_sorts, binds_sets};
+ghost use Rattle.kore_text.specs.Grammar.{sorts_of, arguments_of, is_associative, binder_sorts};
+ghost use Rattle.kore_text.specs.Grammar.{binds_sets};
 
 /// The connectives whose arguments are patterns. `Member` is `\in`.
 #[derive(Clone, Copy, PartialEq, Eq, Debug)]

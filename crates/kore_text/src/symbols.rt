@@ -4,7 +4,7 @@ ghost use Rattle.std.specs.Prelude.{◌≡◌};
 ghost use Rattle.kore_text.specs.TokenStream.{token_of};
 ghost use Rattle.kore_text.specs.Table.{byte_of, symbol_of, is_empty};
 
-use crate::words::Word;
+use crate::words::LexedToken;
 
 /// The mark that ends a list.
 #[derive(Clone, Copy)]
@@ -108,7 +108,7 @@ impl Symbol {
 
     /// Whether the symbol may be left out and this token does not fit it.
     #[tactic(auto, unfolding(crate::specs::Table::turn))]
-    pub(crate) fn is_left_out(self, word: &Word<'_>) -> bool
+    pub(crate) fn is_left_out(self, word: &LexedToken<'_>) -> bool
         ensures { result ≡ is_left_out self (token_of word.now.kind word.now.bytes.now) }
     {
         match self {

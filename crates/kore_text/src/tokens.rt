@@ -37,7 +37,7 @@ impl<'a> Model for Tokens<'a> {
 }
 
 impl<'a> Tokens<'a> {
-    ghost use Rattle.kore_text.specs.Left.{left, Comes};
+    ghost use Rattle.kore_text.specs.Remaining.{left, Comes};
 
     /// The tokens of the whole text, which has fewer than 2^32 bytes.
     pub fn new(text: &'a [u8]) -> Tokens<'a>

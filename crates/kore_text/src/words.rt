@@ -11,12 +11,12 @@ use kore_lex::TokenKind;
 
 /// A token: its kind and its bytes.
 #[derive(Clone, Copy)]
-pub(crate) struct Word<'a> {
+pub(crate) struct LexedToken<'a> {
     pub(crate) kind: TokenKind,
     pub(crate) bytes: &'a [u8],
 }
 
-impl<'a> Word<'a> {
+impl<'a> LexedToken<'a> {
     /// Whether it is this mark.
     pub(crate) fn is_mark(&self, byte: u8) -> bool
         ensures { result ≡ is_mark byte (token_of self.now.kind self.now.bytes.now) }

@@ -13,7 +13,8 @@ hole = 0
 abbrev pub CanCarry : Pattern → Pattern → ℕ → Pattern → Type 0
 CanCarry e context x given =
     (p : Pattern) × ((q : Pattern) × ((made : Pattern) ×
-    ((e ≡ equal p q) × ((substituted context x p ≡ Some given) × (substituted context x q ≡ Some made)))))
+    ((e ≡ equal p q)
+    × ((substituted context x p ≡ Some given) × (substituted context x q ≡ Some made)))))
 
 -- the context with the other side of the equality for x
 abbrev pub IsCarried : Pattern → Pattern → ℕ → Pattern → Type 0
@@ -31,21 +32,26 @@ IsFlip e flipped = (p q : Pattern) → e ≡ equal p q → flipped ≡ equal q p
 -- side of the first has no object variable
 abbrev pub AreJoinable : Pattern → Pattern → Type 0
 AreJoinable first second =
-    (p : Pattern) × ((q : Pattern) × ((r : Pattern) × ((first ≡ equal p q) × ((second ≡ equal q r) × HasNoVariable p))))
+    (p : Pattern)
+    × ((q : Pattern)
+    × ((r : Pattern) × ((first ≡ equal p q) × ((second ≡ equal q r) × HasNoVariable p))))
 
 -- the equality between the first side of the first and the second side of the second
 abbrev pub IsJoin : Pattern → Pattern → Pattern → Type 0
-IsJoin first second joined = (p q r : Pattern) → first ≡ equal p q → second ≡ equal q r → joined ≡ equal p r
+IsJoin first second joined =
+    (p q r : Pattern) → first ≡ equal p q → second ≡ equal q r → joined ≡ equal p r
 
 -- two equalities in which only the second sides may have object variables
 abbrev pub AreApplicable : Pattern → Pattern → Type 0
 AreApplicable f a =
     (p : Pattern) × ((q : Pattern) × ((r : Pattern) × ((t : Pattern) ×
-    ((f ≡ equal p q) × ((a ≡ equal r t) × (HasNoVariable p × (HasNoVariable q × HasNoVariable r)))))))
+    ((f ≡ equal p q)
+    × ((a ≡ equal r t) × (HasNoVariable p × (HasNoVariable q × HasNoVariable r)))))))
 
 -- the equality between the first sides, applied, and the second sides, applied
 abbrev pub IsApplied : Pattern → Pattern → Pattern → Type 0
-IsApplied f a applied = (p q r t : Pattern) → f ≡ equal p q → a ≡ equal r t → applied ≡ equal (app p r) (app q t)
+IsApplied f a applied =
+    (p q r t : Pattern) → f ≡ equal p q → a ≡ equal r t → applied ≡ equal (app p r) (app q t)
 
 -- the equality with each side applied to r
 abbrev pub IsAppliedTo : Pattern → Pattern → Pattern → Type 0

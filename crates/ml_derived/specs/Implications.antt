@@ -4,19 +4,23 @@ use Rattle.ml_pat.specs.Patterns.{Pattern, top, imp, and, next, ev}
 
 -- two implications such that the second side of the first is the first side of the second
 abbrev pub AreLinked : Pattern → Pattern → Type 0
-AreLinked first second = (p : Pattern) × ((q : Pattern) × ((r : Pattern) × ((first ≡ imp p q) × (second ≡ imp q r))))
+AreLinked first second =
+    (p : Pattern) × ((q : Pattern) × ((r : Pattern) × ((first ≡ imp p q) × (second ≡ imp q r))))
 
 -- the implication from the first side of the first to the second side of the second
 abbrev pub IsChain : Pattern → Pattern → Pattern → Type 0
-IsChain first second whole = (p q r : Pattern) → first ≡ imp p q → second ≡ imp q r → whole ≡ imp p r
+IsChain first second whole =
+    (p q r : Pattern) → first ≡ imp p q → second ≡ imp q r → whole ≡ imp p r
 
 -- `a -> ev b` and `b -> next c`
 abbrev pub IsOneStepOn : Pattern → Pattern → Type 0
-IsOneStepOn sofar step = (a : Pattern) × ((b : Pattern) × ((c : Pattern) × ((sofar ≡ imp a (ev b)) × (step ≡ imp b (next c)))))
+IsOneStepOn sofar step = (a : Pattern)
+    × ((b : Pattern) × ((c : Pattern) × ((sofar ≡ imp a (ev b)) × (step ≡ imp b (next c)))))
 
 -- `a -> ev c`, from `a -> ev b` and `b -> next c`
 abbrev pub ReachesOneFurther : Pattern → Pattern → Pattern → Type 0
-ReachesOneFurther sofar step whole = (a b c : Pattern) → sofar ≡ imp a (ev b) → step ≡ imp b (next c) → whole ≡ imp a (ev c)
+ReachesOneFurther sofar step whole =
+    (a b c : Pattern) → sofar ≡ imp a (ev b) → step ≡ imp b (next c) → whole ≡ imp a (ev c)
 
 -- `p & c -> q`
 abbrev pub HasCondition : Pattern → Pattern → Type 0

@@ -31,7 +31,8 @@ abbrev pub IsInstance : Pattern → List Pattern → Pattern → Type 0
 IsInstance p [] r = r ≡ p
 IsInstance p (fact ∷ facts) r =
     (x : ℕ) × ((s : ℕ) × ((q : Pattern) × ((body : Pattern) ×
-    ((p ≡ all x s body) × ((fact ≡ fun q s) × (HasNoVariable q × IsInstance (put x q body) facts r))))))
+    ((p ≡ all x s body)
+    × ((fact ≡ fun q s) × (HasNoVariable q × IsInstance (put x q body) facts r))))))
 
 -- p binds a variable of the right sort for each of the facts
 abbrev pub HasInstance : Pattern → List Pattern → Type 0

@@ -26,14 +26,15 @@ IsElementOf p t = (s : ℕ) × (t ≡ fun p s)
 
 -- the sentence binds a variable, and the fact says that a closed pattern is one element of the
 -- variable's sort
-abbrev pub Takes : Pattern → Pattern → Type 0
-Takes sentence fact =
+abbrev pub FitsBinder : Pattern → Pattern → Type 0
+FitsBinder sentence fact =
     (x : ℕ) × ((s : ℕ) × ((q : Pattern) × ((body : Pattern) ×
     ((sentence ≡ all x s body) × ((fact ≡ fun q s) × HasNoVariable q)))))
 
 -- the sentence with the pattern of the fact substituted for its variable
 abbrev pub IsPutIn : Pattern → Pattern → Pattern → Type 0
-IsPutIn sentence fact r = (x s : ℕ) (q body : Pattern) → sentence ≡ all x s body → fact ≡ fun q s → r ≡ put x q body
+IsPutIn sentence fact r =
+    (x s : ℕ) (q body : Pattern) → sentence ≡ all x s body → fact ≡ fun q s → r ≡ put x q body
 
 abbrev pub IsEquality : Pattern → Type 0
 IsEquality t = (p : Pattern) × ((q : Pattern) × (t ≡ equal p q))

@@ -4,7 +4,8 @@ ghost use Rattle.std.specs.Prelude.{◌≡◌, [], ◌∷◌, IfOk, Some};
 ghost use Rattle.ml_pat.specs.Patterns.{equal, app, var};
 ghost use Rattle.ml_pat.specs.Judgements.{substituted};
 ghost use Rattle.ml_kernel.specs.Lemmas.{HasNoVariable};
-ghost use Rattle.ml_derived.specs.Equalities.{hole, CanCarry, IsCarried, IsFromClosed, IsFlip, AreJoinable, IsJoin};
+ghost use Rattle.ml_derived.specs.Equalities.{hole, CanCarry, IsCarried, IsFromClosed, IsFlip};
+ghost use Rattle.ml_derived.specs.Equalities.{AreJoinable, IsJoin};
 ghost use Rattle.ml_derived.specs.Equalities.{AreApplicable, IsApplied, IsAppliedTo, IsArgument};
 ghost use Rattle.ml_derived.specs.Parts.{IsEquality, CanReplace};
 ghost use Rattle.ml_scope.specs.Scopes.{StaysWithin};
@@ -45,7 +46,8 @@ pub fn flip(alloc: Global, ab: &Thm) -> Result<Thm, AllocError>
 /// `p = r`, from `p = q` and `q = r`. An error: out of memory.
 pub fn join(alloc: Global, ab: &Thm, bc: &Thm) -> Result<Thm, AllocError>
     requires { AreJoinable ab.now.conclusion bc.now.conclusion }
-    ensures conclusion { IfOk result (λ t. IsJoin ab.now.conclusion bc.now.conclusion t.conclusion) }
+    ensures conclusion { IfOk result
+        (λ t. IsJoin ab.now.conclusion bc.now.conclusion t.conclusion) }
     ensures stays { IfOk result (StaysWithin (var hole ∷ []) (ab.now ∷ bc.now ∷ [])) }
 {
     let (p, _) = sides(ab.conclusion());
@@ -58,7 +60,8 @@ pub fn join(alloc: Global, ab: &Thm, bc: &Thm) -> Result<Thm, AllocError>
 /// `p r = q t`, from `p = q` and `r = t`. An error: out of memory.
 pub fn cong_app(alloc: Global, f: &Thm, a: &Thm) -> Result<Thm, AllocError>
     requires { AreApplicable f.now.conclusion a.now.conclusion }
-    ensures conclusion { IfOk result (λ t. IsApplied f.now.conclusion a.now.conclusion t.conclusion) }
+    ensures conclusion { IfOk result
+        (λ t. IsApplied f.now.conclusion a.now.conclusion t.conclusion) }
     ensures stays { IfOk result (StaysWithin (var hole ∷ []) (f.now ∷ a.now ∷ [])) }
 {
     let (p, q) = sides(f.conclusion());

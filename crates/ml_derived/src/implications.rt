@@ -14,7 +14,8 @@ use std::alloc::{AllocError, Global};
 /// `p -> r`, from `p -> q` and `q -> r`. An error: out of memory.
 pub fn chain(alloc: Global, ab: &Thm, bc: &Thm) -> Result<Thm, AllocError>
     requires { AreLinked ab.now.conclusion bc.now.conclusion }
-    ensures conclusion { IfOk result (λ t. IsChain ab.now.conclusion bc.now.conclusion t.conclusion) }
+    ensures conclusion { IfOk result
+        (λ t. IsChain ab.now.conclusion bc.now.conclusion t.conclusion) }
     ensures stays { IfOk result (StaysWithin [] (ab.now ∷ bc.now ∷ [])) }
 {
     let (p, q) = sides(ab.conclusion());

@@ -4,7 +4,7 @@ ghost use Rattle.ml_pat.specs.Patterns.{all};
 ghost use Rattle.ml_kernel.specs.Lemmas.{HasNoVariable};
 ghost use Rattle.ml_kernel.specs.Theorems.{conclusions};
 ghost use Rattle.ml_derived.specs.Instances.{put, HasInstance, IsInstance};
-ghost use Rattle.ml_derived.specs.Parts.{IsElementOf, IsForAll, IsFunctional, IsPutIn, Takes};
+ghost use Rattle.ml_derived.specs.Parts.{IsElementOf, IsForAll, IsFunctional, IsPutIn, FitsBinder};
 ghost use Rattle.ml_scope.specs.Scopes.{StaysWithin};
 
 use ml_kernel::Thm;
@@ -17,7 +17,8 @@ use std::alloc::{AllocError, Global};
 /// result is the sentence. An error: out of memory.
 pub fn instance(alloc: Global, mut sentence: Thm, facts: &[Thm]) -> Result<Thm, AllocError>
     requires { HasInstance sentence.conclusion (conclusions facts.now) }
-    ensures conclusion { IfOk result (λ t. IsInstance sentence.conclusion (conclusions facts.now) t.conclusion) }
+    ensures conclusion { IfOk result
+        (λ t. IsInstance sentence.conclusion (conclusions facts.now) t.conclusion) }
     ensures stays { IfOk result (StaysWithin [] (sentence ∷ facts.now)) }
 {
     for fact in facts {
@@ -28,8 +29,9 @@ pub fn instance(alloc: Global, mut sentence: Thm, facts: &[Thm]) -> Result<Thm, 
 
 // The instance at the pattern of one fact.
 fn instance_at(alloc: Global, sentence: &Thm, fact: &Thm) -> Result<Thm, AllocError>
-    requires { Takes sentence.now.conclusion fact.now.conclusion }
-    ensures conclusion { IfOk result (λ t. IsPutIn sentence.now.conclusion fact.now.conclusion t.conclusion) }
+    requires { FitsBinder sentence.now.conclusion fact.now.conclusion }
+    ensures conclusion { IfOk result
+        (λ t. IsPutIn sentence.now.conclusion fact.now.conclusion t.conclusion) }
     ensures stays { IfOk result (StaysWithin [] (sentence.now ∷ fact.now ∷ [])) }
 {
     let (x, s, body) = bound(sentence.conclusion());

@@ -22,7 +22,8 @@ pub fn reach_here(alloc: Global, a: &MPat) -> Result<Thm, AllocError>
 /// `a -> ev c`, from `a -> ev b` and `b -> next c`. An error: out of memory.
 pub fn reach_step(alloc: Global, sofar: &Thm, step: &Thm) -> Result<Thm, AllocError>
     requires { IsOneStepOn sofar.now.conclusion step.now.conclusion }
-    ensures conclusion { IfOk result (λ t. ReachesOneFurther sofar.now.conclusion step.now.conclusion t.conclusion) }
+    ensures conclusion { IfOk result
+        (λ t. ReachesOneFurther sofar.now.conclusion step.now.conclusion t.conclusion) }
     ensures stays { IfOk result (StaysWithin [] (sofar.now ∷ step.now ∷ [])) }
 {
     let (a, reached) = sides(sofar.conclusion());

@@ -1,9 +1,13 @@
 -- The images of sentences, composed of the images of their parts, which were made under names that
 -- gained tokens later.
-use Rattle.std.proofs.Common.{◌≡◌, ◌≢◌, ℕ, ◌+◌, ◌<◌, ◌⊎◌, inl, inr, zero, suc, List, [], ◌∷◌, ◌++◌, Option, Some, None, option_map, Result, IfOk, refl, sym, ◌∙◌, ap, subst, length, slice_get, map, false, Contains, arith}
+use Rattle.std.proofs.Common.{◌≡◌, ◌≢◌, ℕ, ◌+◌, ◌<◌, ◌⊎◌, inl, inr, zero, suc, List, [], ◌∷◌, ◌++◌}
+use Rattle.std.proofs.Common.{Option, Some, None, option_map, Result, IfOk, refl, sym, ◌∙◌, ap}
+use Rattle.std.proofs.Common.{subst, length, slice_get, map, false, Contains, arith}
 use Rattle.ml_pat.specs.Patterns.{Pattern}
 use Rattle.ml_pat.specs.Patterns as logic
-use Rattle.term_core.specs.Patterns.{Pattern as RulePattern, Patterns as RulePatterns, variable, domain_value, application, injection, call, no_pattern, more_patterns}
+use Rattle.term_core.specs.Patterns.{Pattern as RulePattern, Patterns as RulePatterns, variable}
+use Rattle.term_core.specs.Patterns.{domain_value, application, injection, call, no_pattern}
+use Rattle.term_core.specs.Patterns.{more_patterns}
 use Rattle.rule_core.specs.Rules.{RewriteRule, Equation}
 use Rattle.rule_core.specs.declared.signature.Signature.{Signature}
 use Rattle.rule_core.specs.declared.signature.SortRef.{SortRef}
@@ -11,9 +15,16 @@ use Rattle.rule_core.specs.declared.signature.SortRef.TheVariants.{Param, Sort}
 use Rattle.rule_core.specs.declared.signature.SymInfo.{SymInfo}
 use Rattle.rule_core.specs.Subsorts.{IsBelow}
 use Rattle.rule_core.specs.Sorting.{IsSymbol}
-use Rattle.ml_image.specs.Images.{both, image_of, applied, symbol_image, sort_image, injection_image, shifted, all_shifted}
-use Rattle.ml_image.specs.Sentences.{Sentence, term, symbol, apply, top, not, and, implies, equals, is_in, functional, exists, forall, next, sentence_image, for_all, variables, apply_all, conjunctions, IsImageOf}
-use Rattle.ml_image.specs.OwnAxioms.{sort_of, is_true, condition_of, rule_sentence, SaysRule, direct_sentence, behind_parameters, meets, kompile_sentence, named, Declares, SaysEquation, direct, kompile, IsConstructor, of_variables, SaysTotal, SaysApart, SaysFree, SaysSubsort, SaysCollapse}
+use Rattle.ml_image.specs.Images.{both, image_of, applied, symbol_image, sort_image}
+use Rattle.ml_image.specs.Images.{injection_image, shifted, all_shifted}
+use Rattle.ml_image.specs.Sentences.{Sentence, term, symbol, apply, top, not, and, implies, equals}
+use Rattle.ml_image.specs.Sentences.{is_in, functional, exists, forall, next, sentence_image}
+use Rattle.ml_image.specs.Sentences.{for_all, variables, apply_all, conjunctions, IsImageOf}
+use Rattle.ml_image.specs.OwnAxioms.{sort_of, is_true, condition_of, rule_sentence, SaysRule}
+use Rattle.ml_image.specs.OwnAxioms.{direct_sentence, behind_parameters, meets, kompile_sentence}
+use Rattle.ml_image.specs.OwnAxioms.{named, Declares, SaysEquation, direct, kompile, IsConstructor}
+use Rattle.ml_image.specs.OwnAxioms.{of_variables, SaysTotal, SaysApart, SaysFree, SaysSubsort}
+use Rattle.ml_image.specs.OwnAxioms.{SaysCollapse}
 use Rattle.term_core.specs.Terms.{DomainValue}
 use Rattle.ml_image.specs.Tokens.{token_of_value, numbered}
 use Rattle.ml_image.specs.TrueFacts.{SaysHook, value_patterns}
@@ -34,28 +45,37 @@ mutual
 
   pub all_shifted-zero : (ps : RulePatterns) → all_shifted 0 ps ≡ ps
   all_shifted-zero no_pattern = refl
-  all_shifted-zero (more_patterns p ps) = ap (λ (q : RulePattern). more_patterns q (all_shifted 0 ps)) (shifted-zero p) ∙ ap (more_patterns p) (all_shifted-zero ps)
+  all_shifted-zero (more_patterns p ps) =
+      ap (λ (q : RulePattern). more_patterns q (all_shifted 0 ps)) (shifted-zero p)
+      ∙ ap (more_patterns p) (all_shifted-zero ps)
 
-behind : (sorts vars : List ℕ) (x : ℕ) → slice_get (sorts ++ vars) (length sorts + x) ≡ slice_get vars x
+behind : (sorts vars : List ℕ) (x : ℕ)
+    → slice_get (sorts ++ vars) (length sorts + x) ≡ slice_get vars x
 behind [] vars x = ap (slice_get vars) (omega arith)
 behind (s ∷ sorts) vars x =
     let further : length (s ∷ sorts) + x ≡ suc (length sorts + x) = omega arith in
     ap (slice_get (s ∷ (sorts ++ vars))) further ∙ behind sorts vars x
 
-sort_of-behind : (sig : Signature) (sorts vars : List ℕ) (p : RulePattern) → sort_of sig (sorts ++ vars) (shifted (length sorts) p) ≡ sort_of sig vars p
+sort_of-behind : (sig : Signature) (sorts vars : List ℕ) (p : RulePattern)
+    → sort_of sig (sorts ++ vars) (shifted (length sorts) p) ≡ sort_of sig vars p
 sort_of-behind sig sorts vars (variable x) = behind sorts vars x
 sort_of-behind sig sorts vars (domain_value s v) = refl
 sort_of-behind sig sorts vars (application f ps) = refl
 sort_of-behind sig sorts vars (injection a b p) = refl
 sort_of-behind sig sorts vars (call f ss ps) = refl
 
-condition_at-zero : (sig : Signature) (vars : List ℕ) (p : Option RulePattern) → condition_at sig vars 0 p ≡ condition_of sig vars p
+condition_at-zero : (sig : Signature) (vars : List ℕ) (p : Option RulePattern)
+    → condition_at sig vars 0 p ≡ condition_of sig vars p
 condition_at-zero sig vars None = refl
-condition_at-zero sig vars (Some p) = ap (λ (q : RulePattern). option_map (is_true q) (sort_of sig vars p)) (shifted-zero p)
+condition_at-zero sig vars (Some p) =
+    ap (λ (q : RulePattern). option_map (is_true q) (sort_of sig vars p)) (shifted-zero p)
 
-condition_at-behind : (sig : Signature) (sorts vars : List ℕ) (p : Option RulePattern) → condition_of sig (sorts ++ vars) (option_map (shifted (length sorts)) p) ≡ condition_at sig vars (length sorts) p
+condition_at-behind : (sig : Signature) (sorts vars : List ℕ) (p : Option RulePattern)
+    → condition_of sig (sorts ++ vars) (option_map (shifted (length sorts)) p)
+    ≡ condition_at sig vars (length sorts) p
 condition_at-behind sig sorts vars None = refl
-condition_at-behind sig sorts vars (Some p) = ap (option_map (is_true (shifted (length sorts) p))) (sort_of-behind sig sorts vars p)
+condition_at-behind sig sorts vars (Some p) =
+    ap (option_map (is_true (shifted (length sorts) p))) (sort_of-behind sig sorts vars p)
 
 -- ---- declarations
 
@@ -72,142 +92,328 @@ numbers-named (s ∷ sorts) = ap (λ (ns : List ℕ). s ∷ ns) (numbers-named s
 pub named_same : (xs ys : List ℕ) → map named xs ≡ map named ys → xs ≡ ys
 named_same xs ys is = sym (numbers-named xs) ∙ ap numbers is ∙ numbers-named ys
 
-pub one_symbol : (sig : Signature) (f : ℕ) (a b : SymInfo) → IsSymbol sig f a → IsSymbol sig f b → a ≡ b
-one_symbol sig f a b ha hb = ap (λ (e : List ℕ × SymInfo). e.1) (some_same (ha.0, a) (hb.0, b) (sym ha.1 ∙ hb.1))
+pub one_symbol : (sig : Signature) (f : ℕ) (a b : SymInfo) → IsSymbol sig f a → IsSymbol sig f b
+    → a ≡ b
+one_symbol sig f a b ha hb =
+    ap (λ (e : List ℕ × SymInfo). e.1) (some_same (ha.0, a) (hb.0, b) (sym ha.1 ∙ hb.1))
 
 -- ---- closed sentences
 
 -- the result of `close`: the image of each sentence with this body, quantified over all variables
 -- of the sorts
 abbrev pub Closes : Signature → List (List ℕ) → List (List ℕ) → List ℕ → Pattern → Pattern → Type 0
-Closes sig old new sorts body p = (s : Sentence) → sentence_image sig old s ≡ Some body → sentence_image sig new (for_all 0 sorts s) ≡ Some p
+Closes sig old new sorts body p = (s : Sentence) → sentence_image sig old s ≡ Some body
+    → sentence_image sig new (for_all 0 sorts s) ≡ Some p
 
 -- so a sentence with a property has its image
-pub closed_image : {E : Type 0} (sig : Signature) (old new : List (List ℕ)) (sorts : List ℕ) (body : Pattern) (P : Sentence → Type 0) (s : Sentence) (result : Result Pattern E)
-    → P (for_all 0 sorts s) → sentence_image sig old s ≡ Some body → IfOk result (Closes sig old new sorts body) → IfOk result (IsImageOf sig new P)
-closed_image sig old new sorts body P s result says is closes = if_ok (Closes sig old new sorts body) (IsImageOf sig new P) result (λ p close. (for_all 0 sorts s, says, close s is)) closes
+pub closed_image : {E : Type 0} (sig : Signature) (old new : List (List ℕ)) (sorts : List ℕ)
+    (body : Pattern) (P : Sentence → Type 0) (s : Sentence) (result : Result Pattern E)
+    → P (for_all 0 sorts s) → sentence_image sig old s ≡ Some body
+    → IfOk result (Closes sig old new sorts body) → IfOk result (IsImageOf sig new P)
+closed_image sig old new sorts body P s result says is closes =
+    if_ok (Closes sig old new sorts body) (IsImageOf sig new P) result
+    (λ p close. (for_all 0 sorts s, says, close s is)) closes
 
-pub rule_closes : {E : Type 0} (sig : Signature) (n1 n2 n3 n4 : List (List ℕ)) (r : RewriteRule) (l c u body : Pattern) (sorts : List ℕ) (result : Result Pattern E) → HasGained sig n1 n2 → HasGained sig n2 n3
-    → image_of sig n1 r.left ≡ Some l → IsConditionImage sig n2 r.variables 0 r.condition c → image_of sig n3 r.right ≡ Some u → body ≡ logic.imp (logic.and l c) (logic.next u) → sorts ≡ r.variables
+pub rule_closes : {E : Type 0} (sig : Signature) (n1 n2 n3 n4 : List (List ℕ)) (r : RewriteRule)
+    (l c u body : Pattern) (sorts : List ℕ) (result : Result Pattern E) → HasGained sig n1 n2
+    → HasGained sig n2 n3 → image_of sig n1 r.left ≡ Some l
+    → IsConditionImage sig n2 r.variables 0 r.condition c → image_of sig n3 r.right ≡ Some u
+    → body ≡ logic.imp (logic.and l c) (logic.next u) → sorts ≡ r.variables
     → IfOk result (Closes sig n3 n4 sorts body) → IfOk result (IsImageOf sig n4 (SaysRule sig r))
-rule_closes sig n1 n2 n3 n4 r l c u body sorts result g2 g3 left (cs, says, condition) right is same closes =
-    let left' : sentence_image sig n3 (term r.left) ≡ Some l = gained-sentence sig n1 n3 (term r.left) (gained_twice sig n1 n2 n3 g2 g3) l left in
-    let condition' : sentence_image sig n3 cs ≡ Some c = gained-sentence sig n2 n3 cs g3 c condition in
-    let whole : sentence_image sig n3 (implies (and (term r.left) cs) (next (term r.right))) ≡ Some (logic.imp (logic.and l c) (logic.next u)) = rw (left', condition', right) refl in
-    closed_image sig n3 n4 sorts body (SaysRule sig r) (implies (and (term r.left) cs) (next (term r.right))) result
-    (record { condition = cs; conditional = sym (condition_at-zero sig r.variables r.condition) ∙ says; says = ap (λ (ss : List ℕ). for_all 0 ss (implies (and (term r.left) cs) (next (term r.right)))) same })
+rule_closes sig n1 n2 n3 n4 r l c u body sorts result g2 g3 left (cs, says, condition) right is same
+    closes =
+    let left' : sentence_image sig n3 (term r.left) ≡ Some l =
+    gained-sentence sig n1 n3 (term r.left) (gained_twice sig n1 n2 n3 g2 g3) l left in
+    let condition' : sentence_image sig n3 cs ≡ Some c =
+    gained-sentence sig n2 n3 cs g3 c condition in
+    let whole : sentence_image sig n3 (implies (and (term r.left) cs) (next (term r.right))) ≡ Some
+    (logic.imp (logic.and l c) (logic.next u)) =
+    rw (left', condition', right) refl in
+    closed_image sig n3 n4 sorts body (SaysRule sig r)
+    (implies (and (term r.left) cs) (next (term r.right))) result
+    (record {
+      condition = cs;
+      conditional = sym (condition_at-zero sig r.variables r.condition) ∙ says;
+      says =
+          ap (λ (ss : List ℕ).
+          for_all 0 ss (implies (and (term r.left) cs) (next (term r.right)))) same;
+    })
     (whole ∙ ap (λ (p : Pattern). Some p) (sym is)) closes
 
-pub direct_closes : {E : Type 0} (sig : Signature) (n1 n2 n3 n4 : List (List ℕ)) (f : ℕ) (e : Equation) (c l u body : Pattern) (sorts : List ℕ) (result : Result Pattern E) → HasGained sig n1 n2 → HasGained sig n2 n3
-    → e.parameters ≡ 0 → IsConditionImage sig n1 e.variables 0 e.condition c → image_of sig n2 (call f [] e.arguments) ≡ Some l → image_of sig n3 e.right ≡ Some u → body ≡ logic.imp c (logic.equal l u) → sorts ≡ e.variables
-    → IfOk result (Closes sig n3 n4 sorts body) → IfOk result (IsImageOf sig n4 (SaysEquation sig f e))
-direct_closes sig n1 n2 n3 n4 f e c l u body sorts result g2 g3 none (cs, says, condition) left right is same closes =
-    let condition' : sentence_image sig n3 cs ≡ Some c = gained-sentence sig n1 n3 cs (gained_twice sig n1 n2 n3 g2 g3) c condition in
-    let left' : sentence_image sig n3 (term (call f [] e.arguments)) ≡ Some l = gained-sentence sig n2 n3 (term (call f [] e.arguments)) g3 l left in
+pub direct_closes : {E : Type 0} (sig : Signature) (n1 n2 n3 n4 : List (List ℕ)) (f : ℕ)
+    (e : Equation) (c l u body : Pattern) (sorts : List ℕ) (result : Result Pattern E)
+    → HasGained sig n1 n2 → HasGained sig n2 n3 → e.parameters ≡ 0
+    → IsConditionImage sig n1 e.variables 0 e.condition c
+    → image_of sig n2 (call f [] e.arguments) ≡ Some l → image_of sig n3 e.right ≡ Some u
+    → body ≡ logic.imp c (logic.equal l u) → sorts ≡ e.variables
+    → IfOk result (Closes sig n3 n4 sorts body)
+    → IfOk result (IsImageOf sig n4 (SaysEquation sig f e))
+direct_closes sig n1 n2 n3 n4 f e c l u body sorts result g2 g3 none (cs, says, condition) left
+    right is same closes =
+    let condition' : sentence_image sig n3 cs ≡ Some c =
+    gained-sentence sig n1 n3 cs (gained_twice sig n1 n2 n3 g2 g3) c condition in
+    let left' : sentence_image sig n3 (term (call f [] e.arguments)) ≡ Some l =
+    gained-sentence sig n2 n3 (term (call f [] e.arguments)) g3 l left in
     let s : Sentence = implies cs (equals (term (call f [] e.arguments)) (term e.right)) in
-    let whole : sentence_image sig n3 (implies cs (equals (term (call f [] e.arguments)) (term e.right))) ≡ Some (logic.imp c (logic.equal l u)) =
-    ap (λ (o : Option Pattern). both logic.imp o (both logic.equal (sentence_image sig n3 (term (call f [] e.arguments))) (sentence_image sig n3 (term e.right)))) condition'
-    ∙ ap (λ (o : Option Pattern). both logic.imp (Some c) (both logic.equal o (sentence_image sig n3 (term e.right)))) left' ∙ ap (λ (o : Option Pattern). both logic.imp (Some c) (both logic.equal (Some l) o)) right in
+    let whole : sentence_image sig n3
+    (implies cs (equals (term (call f [] e.arguments)) (term e.right))) ≡ Some
+    (logic.imp c (logic.equal l u)) =
+    ap (λ (o : Option Pattern). both logic.imp o (both logic.equal
+    (sentence_image sig n3 (term (call f [] e.arguments)))
+    (sentence_image sig n3 (term e.right)))) condition'
+    ∙ ap (λ (o : Option Pattern).
+    both logic.imp (Some c) (both logic.equal o (sentence_image sig n3 (term e.right))))
+    left'
+    ∙ ap (λ (o : Option Pattern). both logic.imp (Some c) (both logic.equal (Some l) o))
+    right in
     closed_image sig n3 n4 sorts body (SaysEquation sig f e) s result
-    (direct cs none (sym (condition_at-zero sig e.variables e.condition) ∙ says) (ap (λ (ss : List ℕ). for_all 0 ss s) same)) (whole ∙ ap (λ (p : Pattern). Some p) (sym is)) closes
+    (direct cs none (sym (condition_at-zero sig e.variables e.condition) ∙ says)
+    (ap (λ (ss : List ℕ). for_all 0 ss s) same))
+    (whole ∙ ap (λ (p : Pattern). Some p) (sym is)) closes
 
-pub kompile_closes : {E : Type 0} (sig : Signature) (n1 n2 n3 n4 n5 : List (List ℕ)) (f : ℕ) (info : SymInfo) (params : List ℕ) (sort : ℕ) (e : Equation) (c m h u body : Pattern) (sorts : List ℕ) (result : Result Pattern E) → HasGained sig n1 n2 → HasGained sig n2 n3 → HasGained sig n3 n4
-    → e.parameters ≢ 0 → e.parameters ≡ length params → Declares sig f info params sort
-    → IsConditionImage sig n1 e.variables (length params) e.condition c → sentence_image sig n2 (meets 0 (all_shifted (length params) e.arguments)) ≡ Some m → sentence_image sig n3 (of_variables f 0 (length params)) ≡ Some h → image_of sig n4 (shifted (length params) e.right) ≡ Some u
+pub kompile_closes : {E : Type 0} (sig : Signature) (n1 n2 n3 n4 n5 : List (List ℕ)) (f : ℕ)
+    (info : SymInfo) (params : List ℕ) (sort : ℕ) (e : Equation) (c m h u body : Pattern)
+    (sorts : List ℕ) (result : Result Pattern E) → HasGained sig n1 n2 → HasGained sig n2 n3
+    → HasGained sig n3 n4 → e.parameters ≢ 0 → e.parameters ≡ length params
+    → Declares sig f info params sort
+    → IsConditionImage sig n1 e.variables (length params) e.condition c
+    → sentence_image sig n2 (meets 0 (all_shifted (length params) e.arguments)) ≡ Some m
+    → sentence_image sig n3 (of_variables f 0 (length params)) ≡ Some h
+    → image_of sig n4 (shifted (length params) e.right) ≡ Some u
     → body ≡ logic.imp (logic.and c m) (logic.equal h u) → sorts ≡ params ++ e.variables
-    → IfOk result (Closes sig n4 n5 sorts body) → IfOk result (IsImageOf sig n5 (SaysEquation sig f e))
-kompile_closes sig n1 n2 n3 n4 n5 f info params sort e c m h u body sorts result g2 g3 g4 some many declared (cs, says, condition) met function right is same closes =
+    → IfOk result (Closes sig n4 n5 sorts body)
+    → IfOk result (IsImageOf sig n5 (SaysEquation sig f e))
+kompile_closes sig n1 n2 n3 n4 n5 f info params sort e c m h u body sorts result g2 g3 g4 some many
+    declared (cs, says, condition) met function right is same closes =
     let ms : Sentence = meets 0 (all_shifted (length params) e.arguments) in
     let fs : Sentence = of_variables f 0 (length params) in
     let us : Sentence = term (shifted (length params) e.right) in
     let s : Sentence = implies (and cs ms) (equals fs us) in
     let g24 : HasGained sig n2 n4 = gained_twice sig n2 n3 n4 g3 g4 in
-    let condition' : sentence_image sig n4 cs ≡ Some c = gained-sentence sig n1 n4 cs (gained_twice sig n1 n2 n4 g2 g24) c condition in
-    let met' : sentence_image sig n4 (meets 0 (all_shifted (length params) e.arguments)) ≡ Some m = gained-sentence sig n2 n4 ms g24 m met in
-    let function' : sentence_image sig n4 (of_variables f 0 (length params)) ≡ Some h = gained-sentence sig n3 n4 fs g4 h function in
-    let whole : both logic.imp (both logic.and (sentence_image sig n4 cs) (sentence_image sig n4 (meets 0 (all_shifted (length params) e.arguments)))) (both logic.equal (sentence_image sig n4 (of_variables f 0 (length params))) (image_of sig n4 (shifted (length params) e.right))) ≡ Some (logic.imp (logic.and c m) (logic.equal h u)) =
-    ap (λ (o : Option Pattern). both logic.imp (both logic.and o (sentence_image sig n4 (meets 0 (all_shifted (length params) e.arguments)))) (both logic.equal (sentence_image sig n4 (of_variables f 0 (length params))) (image_of sig n4 (shifted (length params) e.right)))) condition'
-    ∙ ap (λ (o : Option Pattern). both logic.imp (both logic.and (Some c) o) (both logic.equal (sentence_image sig n4 (of_variables f 0 (length params))) (image_of sig n4 (shifted (length params) e.right)))) met'
-    ∙ ap (λ (o : Option Pattern). both logic.imp (both logic.and (Some c) (Some m)) (both logic.equal o (image_of sig n4 (shifted (length params) e.right)))) function'
-    ∙ ap (λ (o : Option Pattern). both logic.imp (both logic.and (Some c) (Some m)) (both logic.equal (Some h) o)) right in
+    let condition' : sentence_image sig n4 cs ≡ Some c =
+    gained-sentence sig n1 n4 cs (gained_twice sig n1 n2 n4 g2 g24) c condition in
+    let met' : sentence_image sig n4 (meets 0 (all_shifted (length params) e.arguments)) ≡ Some m =
+    gained-sentence sig n2 n4 ms g24 m met in
+    let function' : sentence_image sig n4 (of_variables f 0 (length params)) ≡ Some h =
+    gained-sentence sig n3 n4 fs g4 h function in
+    let whole : both logic.imp (both logic.and (sentence_image sig n4 cs)
+    (sentence_image sig n4 (meets 0 (all_shifted (length params) e.arguments))))
+    (both logic.equal (sentence_image sig n4 (of_variables f 0 (length params)))
+    (image_of sig n4 (shifted (length params) e.right))) ≡ Some
+    (logic.imp (logic.and c m) (logic.equal h u)) =
+    ap (λ (o : Option Pattern). both logic.imp (both logic.and o
+    (sentence_image sig n4 (meets 0 (all_shifted (length params) e.arguments))))
+    (both logic.equal (sentence_image sig n4 (of_variables f 0 (length params)))
+    (image_of sig n4 (shifted (length params) e.right)))) condition'
+    ∙ ap (λ (o : Option Pattern). both logic.imp (both logic.and (Some c) o)
+    (both logic.equal (sentence_image sig n4 (of_variables f 0 (length params)))
+    (image_of sig n4 (shifted (length params) e.right)))) met'
+    ∙ ap (λ (o : Option Pattern). both logic.imp (both logic.and (Some c) (Some m))
+    (both logic.equal o (image_of sig n4 (shifted (length params) e.right)))) function'
+    ∙ ap (λ (o : Option Pattern).
+    both logic.imp (both logic.and (Some c) (Some m)) (both logic.equal (Some h) o))
+    right in
     closed_image sig n4 n5 sorts body (SaysEquation sig f e) s result
-    (kompile cs info params sort some many declared (condition_at-behind sig params e.variables e.condition ∙ says) (ap (λ (ss : List ℕ). for_all 0 ss s) same)) (whole ∙ ap (λ (p : Pattern). Some p) (sym is)) closes
+    (kompile cs info params sort some many declared
+    (condition_at-behind sig params e.variables e.condition ∙ says)
+    (ap (λ (ss : List ℕ). for_all 0 ss s) same))
+    (whole ∙ ap (λ (p : Pattern). Some p) (sym is)) closes
 
-pub total_closes : {E : Type 0} (sig : Signature) (n1 n2 n3 : List (List ℕ)) (f : ℕ) (info : SymInfo) (sorts : List ℕ) (sort s : ℕ) (m body : Pattern) (result : Result Pattern E) → HasGained sig n1 n2 → IsConstructor sig f info sorts sort
-    → sentence_image sig n1 (of_variables f 0 (length sorts)) ≡ Some m → sort_image sig n2 sort ≡ Some s → body ≡ logic.ex (length sorts) s (logic.equal (logic.var (length sorts)) m)
+pub total_closes : {E : Type 0} (sig : Signature) (n1 n2 n3 : List (List ℕ)) (f : ℕ)
+    (info : SymInfo) (sorts : List ℕ) (sort s : ℕ) (m body : Pattern)
+    (result : Result Pattern E) → HasGained sig n1 n2 → IsConstructor sig f info sorts sort
+    → sentence_image sig n1 (of_variables f 0 (length sorts)) ≡ Some m
+    → sort_image sig n2 sort ≡ Some s
+    → body ≡ logic.ex (length sorts) s (logic.equal (logic.var (length sorts)) m)
     → IfOk result (Closes sig n2 n3 sorts body) → IfOk result (IsImageOf sig n3 (SaysTotal sig f))
 total_closes sig n1 n2 n3 f info sorts sort s m body result g2 constructs made at is closes =
     let n : ℕ = length sorts in
-    let made' : sentence_image sig n2 (of_variables f 0 (length sorts)) ≡ Some m = gained-sentence sig n1 n2 (of_variables f 0 (length sorts)) g2 m made in
-    let whole : both (logic.ex (length sorts)) (sort_image sig n2 sort) (both logic.equal (Some (logic.var (length sorts))) (sentence_image sig n2 (of_variables f 0 (length sorts)))) ≡ Some (logic.ex (length sorts) s (logic.equal (logic.var (length sorts)) m)) =
-    ap (λ (o : Option ℕ). both (logic.ex (length sorts)) o (both logic.equal (Some (logic.var (length sorts))) (sentence_image sig n2 (of_variables f 0 (length sorts))))) at
-    ∙ ap (λ (o : Option Pattern). both (logic.ex (length sorts)) (Some s) (both logic.equal (Some (logic.var (length sorts))) o)) made' in
-    closed_image sig n2 n3 sorts body (SaysTotal sig f) (exists (length sorts) sort (equals (term (variable (length sorts))) (of_variables f 0 (length sorts)))) result
-    (record { info = info; sorts = sorts; sort = sort; constructs = constructs; says = refl }) (whole ∙ ap (λ (p : Pattern). Some p) (sym is)) closes
+    let made' : sentence_image sig n2 (of_variables f 0 (length sorts)) ≡ Some m =
+    gained-sentence sig n1 n2 (of_variables f 0 (length sorts)) g2 m made in
+    let whole : both (logic.ex (length sorts)) (sort_image sig n2 sort) (both logic.equal
+    (Some (logic.var (length sorts)))
+    (sentence_image sig n2 (of_variables f 0 (length sorts)))) ≡ Some
+    (logic.ex (length sorts) s (logic.equal (logic.var (length sorts)) m)) =
+    ap (λ (o : Option ℕ). both (logic.ex (length sorts)) o (both logic.equal
+    (Some (logic.var (length sorts)))
+    (sentence_image sig n2 (of_variables f 0 (length sorts))))) at
+    ∙ ap (λ (o : Option Pattern). both (logic.ex (length sorts)) (Some s)
+    (both logic.equal (Some (logic.var (length sorts))) o)) made' in
+    closed_image sig n2 n3 sorts body (SaysTotal sig f) (exists (length sorts) sort
+    (equals (term (variable (length sorts))) (of_variables f 0 (length sorts)))) result
+    (record { info = info; sorts = sorts; sort = sort; constructs = constructs; says = refl })
+    (whole ∙ ap (λ (p : Pattern). Some p) (sym is)) closes
 
-pub apart_closes : {E : Type 0} (sig : Signature) (n1 n2 n3 : List (List ℕ)) (f g : ℕ) (info other : SymInfo) (sorts others : List ℕ) (sort : ℕ) (l u body : Pattern) (result : Result Pattern E) → HasGained sig n1 n2
-    → f ≢ g → IsConstructor sig f info sorts sort → IsConstructor sig g other others sort → (info.ac ≡ false) × (other.ac ≡ false)
-    → sentence_image sig n1 (of_variables f 0 (length sorts)) ≡ Some l → sentence_image sig n2 (of_variables g (length sorts) (length others)) ≡ Some u → body ≡ logic.not (logic.and l u)
-    → IfOk result (Closes sig n2 n3 (sorts ++ others) body) → IfOk result (IsImageOf sig n3 (SaysApart sig f g))
-apart_closes sig n1 n2 n3 f g info other sorts others sort l u body result g2 differ first second no_ac left right is closes =
-    let left' : sentence_image sig n2 (of_variables f 0 (length sorts)) ≡ Some l = gained-sentence sig n1 n2 (of_variables f 0 (length sorts)) g2 l left in
-    let whole : option_map logic.not (both logic.and (sentence_image sig n2 (of_variables f 0 (length sorts))) (sentence_image sig n2 (of_variables g (length sorts) (length others)))) ≡ Some (logic.not (logic.and l u)) =
-    ap (λ (o : Option Pattern). option_map logic.not (both logic.and o (sentence_image sig n2 (of_variables g (length sorts) (length others))))) left'
+pub apart_closes : {E : Type 0} (sig : Signature) (n1 n2 n3 : List (List ℕ)) (f g : ℕ)
+    (info other : SymInfo) (sorts others : List ℕ) (sort : ℕ) (l u body : Pattern)
+    (result : Result Pattern E) → HasGained sig n1 n2 → f ≢ g
+    → IsConstructor sig f info sorts sort → IsConstructor sig g other others sort
+    → (info.ac ≡ false) × (other.ac ≡ false)
+    → sentence_image sig n1 (of_variables f 0 (length sorts)) ≡ Some l
+    → sentence_image sig n2 (of_variables g (length sorts) (length others)) ≡ Some u
+    → body ≡ logic.not (logic.and l u) → IfOk result (Closes sig n2 n3 (sorts ++ others) body)
+    → IfOk result (IsImageOf sig n3 (SaysApart sig f g))
+apart_closes sig n1 n2 n3 f g info other sorts others sort l u body result g2 differ first second
+    no_ac left right is closes =
+    let left' : sentence_image sig n2 (of_variables f 0 (length sorts)) ≡ Some l =
+    gained-sentence sig n1 n2 (of_variables f 0 (length sorts)) g2 l left in
+    let whole : option_map logic.not (both logic.and
+    (sentence_image sig n2 (of_variables f 0 (length sorts)))
+    (sentence_image sig n2 (of_variables g (length sorts) (length others)))) ≡ Some
+    (logic.not (logic.and l u)) =
+    ap (λ (o : Option Pattern). option_map logic.not (both logic.and o
+    (sentence_image sig n2 (of_variables g (length sorts) (length others))))) left'
     ∙ ap (λ (o : Option Pattern). option_map logic.not (both logic.and (Some l) o)) right in
-    closed_image sig n2 n3 (sorts ++ others) body (SaysApart sig f g) (not (and (of_variables f 0 (length sorts)) (of_variables g (length sorts) (length others)))) result
-    (record { differ = differ; info = info; other = other; sorts = sorts; others = others; sort = sort; first = first; second = second; no_ac = no_ac; says = refl }) (whole ∙ ap (λ (p : Pattern). Some p) (sym is)) closes
+    closed_image sig n2 n3 (sorts ++ others) body (SaysApart sig f g) (not (and (of_variables f 0
+    (length sorts)) (of_variables g (length sorts) (length others)))) result
+    (record {
+      differ = differ;
+      info = info;
+      other = other;
+      sorts = sorts;
+      others = others;
+      sort = sort;
+      first = first;
+      second = second;
+      no_ac = no_ac;
+      says = refl;
+    })
+    (whole ∙ ap (λ (p : Pattern). Some p) (sym is)) closes
 
-pub free_closes : {E : Type 0} (sig : Signature) (n1 n2 n3 n4 : List (List ℕ)) (f : ℕ) (info : SymInfo) (sorts : List ℕ) (sort : ℕ) (l u h body : Pattern) (result : Result Pattern E) → HasGained sig n1 n2 → HasGained sig n2 n3
+pub free_closes : {E : Type 0} (sig : Signature) (n1 n2 n3 n4 : List (List ℕ)) (f : ℕ)
+    (info : SymInfo) (sorts : List ℕ) (sort : ℕ) (l u h body : Pattern)
+    (result : Result Pattern E) → HasGained sig n1 n2 → HasGained sig n2 n3
     → IsConstructor sig f info sorts sort → info.ac ≡ false → 0 < length sorts
-    → sentence_image sig n1 (of_variables f 0 (length sorts)) ≡ Some l → sentence_image sig n2 (of_variables f (length sorts) (length sorts)) ≡ Some u
-    → sentence_image sig n3 (apply_all (symbol f) (conjunctions (variables 0 (length sorts)) (variables (length sorts) (length sorts)))) ≡ Some h → body ≡ logic.imp (logic.and l u) h
-    → IfOk result (Closes sig n3 n4 (sorts ++ sorts) body) → IfOk result (IsImageOf sig n4 (SaysFree sig f))
-free_closes sig n1 n2 n3 n4 f info sorts sort l u h body result g2 g3 constructs no_ac some left right joined is closes =
+    → sentence_image sig n1 (of_variables f 0 (length sorts)) ≡ Some l
+    → sentence_image sig n2 (of_variables f (length sorts) (length sorts)) ≡ Some u
+    → sentence_image sig n3 (apply_all (symbol f)
+    (conjunctions (variables 0 (length sorts)) (variables (length sorts) (length sorts))))
+    ≡ Some h → body ≡ logic.imp (logic.and l u) h
+    → IfOk result (Closes sig n3 n4 (sorts ++ sorts) body)
+    → IfOk result (IsImageOf sig n4 (SaysFree sig f))
+free_closes sig n1 n2 n3 n4 f info sorts sort l u h body result g2 g3 constructs no_ac some left
+    right joined is closes =
     let n : ℕ = length sorts in
-    let js : Sentence = apply_all (symbol f) (conjunctions (variables 0 (length sorts)) (variables (length sorts) (length sorts))) in
-    let left' : sentence_image sig n3 (of_variables f 0 (length sorts)) ≡ Some l = gained-sentence sig n1 n3 (of_variables f 0 (length sorts)) (gained_twice sig n1 n2 n3 g2 g3) l left in
-    let right' : sentence_image sig n3 (of_variables f (length sorts) (length sorts)) ≡ Some u = gained-sentence sig n2 n3 (of_variables f (length sorts) (length sorts)) g3 u right in
-    let whole : both logic.imp (both logic.and (sentence_image sig n3 (of_variables f 0 (length sorts))) (sentence_image sig n3 (of_variables f (length sorts) (length sorts)))) (sentence_image sig n3 (apply_all (symbol f) (conjunctions (variables 0 (length sorts)) (variables (length sorts) (length sorts))))) ≡ Some (logic.imp (logic.and l u) h) =
-    ap (λ (o : Option Pattern). both logic.imp (both logic.and o (sentence_image sig n3 (of_variables f (length sorts) (length sorts)))) (sentence_image sig n3 (apply_all (symbol f) (conjunctions (variables 0 (length sorts)) (variables (length sorts) (length sorts)))))) left'
-    ∙ ap (λ (o : Option Pattern). both logic.imp (both logic.and (Some l) o) (sentence_image sig n3 (apply_all (symbol f) (conjunctions (variables 0 (length sorts)) (variables (length sorts) (length sorts)))))) right'
+    let js : Sentence =
+    apply_all (symbol f)
+    (conjunctions (variables 0 (length sorts)) (variables (length sorts) (length sorts))) in
+    let left' : sentence_image sig n3 (of_variables f 0 (length sorts)) ≡ Some l =
+    gained-sentence sig n1 n3 (of_variables f 0 (length sorts))
+    (gained_twice sig n1 n2 n3 g2 g3) l left in
+    let right' : sentence_image sig n3 (of_variables f (length sorts) (length sorts)) ≡ Some u =
+    gained-sentence sig n2 n3 (of_variables f (length sorts) (length sorts)) g3 u right in
+    let whole : both logic.imp (both logic.and
+    (sentence_image sig n3 (of_variables f 0 (length sorts)))
+    (sentence_image sig n3 (of_variables f (length sorts) (length sorts))))
+    (sentence_image sig n3 (apply_all (symbol f)
+    (conjunctions (variables 0 (length sorts)) (variables (length sorts) (length sorts)))))
+    ≡ Some (logic.imp (logic.and l u) h) =
+    ap (λ (o : Option Pattern). both logic.imp (both logic.and o
+    (sentence_image sig n3 (of_variables f (length sorts) (length sorts))))
+    (sentence_image sig n3 (apply_all (symbol f) (conjunctions (variables 0 (length sorts))
+    (variables (length sorts) (length sorts)))))) left'
+    ∙ ap (λ (o : Option Pattern). both logic.imp (both logic.and (Some l) o) (sentence_image sig n3
+    (apply_all (symbol f) (conjunctions (variables 0 (length sorts))
+    (variables (length sorts) (length sorts)))))) right'
     ∙ ap (λ (o : Option Pattern). both logic.imp (both logic.and (Some l) (Some u)) o) joined in
-    closed_image sig n3 n4 (sorts ++ sorts) body (SaysFree sig f) (implies (and (of_variables f 0 (length sorts)) (of_variables f (length sorts) (length sorts))) js) result
-    (record { info = info; sorts = sorts; sort = sort; constructs = constructs; no_ac = no_ac; some = some; says = refl }) (whole ∙ ap (λ (p : Pattern). Some p) (sym is)) closes
+    closed_image sig n3 n4 (sorts ++ sorts) body (SaysFree sig f) (implies
+    (and (of_variables f 0 (length sorts)) (of_variables f (length sorts) (length sorts)))
+    js) result
+    (record {
+      info = info;
+      sorts = sorts;
+      sort = sort;
+      constructs = constructs;
+      no_ac = no_ac;
+      some = some;
+      says = refl;
+    }) (whole ∙ ap (λ (p : Pattern). Some p) (sym is)) closes
 
-pub subsort_closes : {E : Type 0} (sig : Signature) (n1 n2 n3 : List (List ℕ)) (a b t : ℕ) (j body : Pattern) (result : Result Pattern E) → HasGained sig n1 n2 → Contains sig.subsorts (a, b)
-    → image_of sig n1 (injection a b (variable 0)) ≡ Some j → sort_image sig n2 b ≡ Some t → body ≡ logic.ex 1 t (logic.equal (logic.var 1) j)
-    → IfOk result (Closes sig n2 n3 (a ∷ []) body) → IfOk result (IsImageOf sig n3 (SaysSubsort sig a b))
+pub subsort_closes : {E : Type 0} (sig : Signature) (n1 n2 n3 : List (List ℕ)) (a b t : ℕ)
+    (j body : Pattern) (result : Result Pattern E) → HasGained sig n1 n2
+    → Contains sig.subsorts (a, b) → image_of sig n1 (injection a b (variable 0)) ≡ Some j
+    → sort_image sig n2 b ≡ Some t → body ≡ logic.ex 1 t (logic.equal (logic.var 1) j)
+    → IfOk result (Closes sig n2 n3 (a ∷ []) body)
+    → IfOk result (IsImageOf sig n3 (SaysSubsort sig a b))
 subsort_closes sig n1 n2 n3 a b t j body result g2 pair injected sort is closes =
-    let injected' : image_of sig n2 (injection a b (variable 0)) ≡ Some j = gained-sentence sig n1 n2 (term (injection a b (variable 0))) g2 j injected in
-    let whole : both (logic.ex 1) (sort_image sig n2 b) (both logic.equal (Some (logic.var 1)) (image_of sig n2 (injection a b (variable 0)))) ≡ Some (logic.ex 1 t (logic.equal (logic.var 1) j)) =
-    ap (λ (o : Option ℕ). both (logic.ex 1) o (both logic.equal (Some (logic.var 1)) (image_of sig n2 (injection a b (variable 0))))) sort
-    ∙ ap (λ (o : Option Pattern). both (logic.ex 1) (Some t) (both logic.equal (Some (logic.var 1)) o)) injected' in
-    closed_image sig n2 n3 (a ∷ []) body (SaysSubsort sig a b) (exists 1 b (equals (term (variable 1)) (term (injection a b (variable 0))))) result
+    let injected' : image_of sig n2 (injection a b (variable 0)) ≡ Some j =
+    gained-sentence sig n1 n2 (term (injection a b (variable 0))) g2 j injected in
+    let whole : both (logic.ex 1) (sort_image sig n2 b)
+    (both logic.equal (Some (logic.var 1)) (image_of sig n2 (injection a b (variable 0)))) ≡
+    Some (logic.ex 1 t (logic.equal (logic.var 1) j)) =
+    ap (λ (o : Option ℕ). both (logic.ex 1) o
+    (both logic.equal (Some (logic.var 1)) (image_of sig n2 (injection a b (variable 0)))))
+    sort
+    ∙ ap (λ (o : Option Pattern).
+    both (logic.ex 1) (Some t) (both logic.equal (Some (logic.var 1)) o)) injected' in
+    closed_image sig n2 n3 (a ∷ []) body (SaysSubsort sig a b)
+    (exists 1 b (equals (term (variable 1)) (term (injection a b (variable 0))))) result
     (record { pair = pair; says = refl }) (whole ∙ ap (λ (p : Pattern). Some p) (sym is)) closes
 
-pub collapse_closes : {E : Type 0} (sig : Signature) (n1 n2 n3 n4 : List (List ℕ)) (a b c : ℕ) (l u o' twice body : Pattern) (result : Result Pattern E) → HasGained sig n1 n2 → HasGained sig n2 n3 → IsBelow sig.subsorts a b → IsBelow sig.subsorts b c
-    → image_of sig n1 (injection a b (variable 0)) ≡ Some l → injection_image sig n2 b c ≡ Some u → twice ≡ logic.app u l → image_of sig n3 (injection a c (variable 0)) ≡ Some o' → body ≡ logic.equal twice o'
-    → IfOk result (Closes sig n3 n4 (a ∷ []) body) → IfOk result (IsImageOf sig n4 (SaysCollapse sig a b c))
-collapse_closes sig n1 n2 n3 n4 a b c l u o' twice body result g2 g3 lower upper first second joined once is closes =
-    let first' : image_of sig n3 (injection a b (variable 0)) ≡ Some l = gained-sentence sig n1 n3 (term (injection a b (variable 0))) (gained_twice sig n1 n2 n3 g2 g3) l first in
-    let second' : injection_image sig n3 b c ≡ Some u = gained-injection sig n2 n3 b c g3 u second in
-    let whole : both logic.equal (both logic.app (injection_image sig n3 b c) (image_of sig n3 (injection a b (variable 0)))) (image_of sig n3 (injection a c (variable 0))) ≡ Some (logic.equal (logic.app u l) o') =
-    ap (λ (o : Option Pattern). both logic.equal (both logic.app o (image_of sig n3 (injection a b (variable 0)))) (image_of sig n3 (injection a c (variable 0)))) second'
-    ∙ ap (λ (o : Option Pattern). both logic.equal (both logic.app (Some u) o) (image_of sig n3 (injection a c (variable 0)))) first'
+pub collapse_closes : {E : Type 0} (sig : Signature) (n1 n2 n3 n4 : List (List ℕ)) (a b c : ℕ)
+    (l u o' twice body : Pattern) (result : Result Pattern E) → HasGained sig n1 n2
+    → HasGained sig n2 n3 → IsBelow sig.subsorts a b → IsBelow sig.subsorts b c
+    → image_of sig n1 (injection a b (variable 0)) ≡ Some l → injection_image sig n2 b c ≡ Some u
+    → twice ≡ logic.app u l → image_of sig n3 (injection a c (variable 0)) ≡ Some o'
+    → body ≡ logic.equal twice o' → IfOk result (Closes sig n3 n4 (a ∷ []) body)
+    → IfOk result (IsImageOf sig n4 (SaysCollapse sig a b c))
+collapse_closes sig n1 n2 n3 n4 a b c l u o' twice body result g2 g3 lower upper first second joined
+    once is closes =
+    let first' : image_of sig n3 (injection a b (variable 0)) ≡ Some l =
+    gained-sentence sig n1 n3 (term (injection a b (variable 0)))
+    (gained_twice sig n1 n2 n3 g2 g3) l first in
+    let second' : injection_image sig n3 b c ≡ Some u =
+    gained-injection sig n2 n3 b c g3 u second in
+    let whole : both logic.equal
+    (both logic.app (injection_image sig n3 b c) (image_of sig n3 (injection a b (variable 0))))
+    (image_of sig n3 (injection a c (variable 0))) ≡ Some (logic.equal (logic.app u l) o') =
+    ap (λ (o : Option Pattern). both logic.equal
+    (both logic.app o (image_of sig n3 (injection a b (variable 0))))
+    (image_of sig n3 (injection a c (variable 0)))) second'
+    ∙ ap (λ (o : Option Pattern). both logic.equal (both logic.app (Some u) o)
+    (image_of sig n3 (injection a c (variable 0)))) first'
     ∙ ap (λ (o : Option Pattern). both logic.equal (Some (logic.app u l)) o) once in
-    closed_image sig n3 n4 (a ∷ []) body (SaysCollapse sig a b c) (equals (term (injection b c (injection a b (variable 0)))) (term (injection a c (variable 0)))) result
-    (record { lower = lower; upper = upper; says = refl }) (whole ∙ ap (λ (t : Pattern). Some (logic.equal t o')) (sym joined) ∙ ap (λ (p : Pattern). Some p) (sym is)) closes
+    closed_image sig n3 n4 (a ∷ []) body (SaysCollapse sig a b c) (equals
+    (term (injection b c (injection a b (variable 0)))) (term (injection a c (variable 0))))
+    result
+    (record { lower = lower; upper = upper; says = refl }) (whole
+    ∙ ap (λ (t : Pattern). Some (logic.equal t o')) (sym joined)
+    ∙ ap (λ (p : Pattern). Some p) (sym is)) closes
 
-pub hook_said : {E : Type 0} (sig : Signature) (n1 n2 : List (List ℕ)) (f : ℕ) (vs : List DomainValue) (s : Sentence) (says : SaysHook sig f vs s) (head called value : Pattern) (t : ℕ) (result : Result Pattern E) → HasGained sig n1 n2
-    → symbol_image sig n1 f ≡ Some head → applied sig n1 (Some head) (value_patterns says.sorts vs) ≡ Some called → numbered n2 (token_of_value sig says.sort says.value) ≡ Some t → value ≡ logic.constant t → IfOk result (λ p. p ≡ logic.equal called value)
+pub hook_said : {E : Type 0} (sig : Signature) (n1 n2 : List (List ℕ)) (f : ℕ)
+    (vs : List DomainValue) (s : Sentence) (says : SaysHook sig f vs s)
+    (head called value : Pattern) (t : ℕ) (result : Result Pattern E) → HasGained sig n1 n2
+    → symbol_image sig n1 f ≡ Some head
+    → applied sig n1 (Some head) (value_patterns says.sorts vs) ≡ Some called
+    → numbered n2 (token_of_value sig says.sort says.value) ≡ Some t → value ≡ logic.constant t
+    → IfOk result (λ p. p ≡ logic.equal called value)
     → IfOk result (IsImageOf sig n2 (SaysHook sig f vs))
 hook_said sig n1 n2 f vs s says head called value t result gained symbol_is call_is number is made =
-    let first : image_of sig n1 (call f [] (value_patterns says.sorts vs)) ≡ Some called = ap (λ (o : Option Pattern). applied sig n1 o (value_patterns says.sorts vs)) symbol_is ∙ call_is in
-    let left : sentence_image sig n2 (term (call f [] (value_patterns says.sorts vs))) ≡ Some called = gained-sentence sig n1 n2 (term (call f [] (value_patterns says.sorts vs))) gained called first in
-    let whole : both logic.equal (sentence_image sig n2 (term (call f [] (value_patterns says.sorts vs)))) (option_map logic.constant (numbered n2 (token_of_value sig says.sort says.value))) ≡ Some (logic.equal called (logic.constant t)) =
-    ap (λ (o : Option Pattern). both logic.equal o (option_map logic.constant (numbered n2 (token_of_value sig says.sort says.value)))) left ∙ ap (λ (o : Option ℕ). both logic.equal (Some called) (option_map logic.constant o)) number in
-    if_ok (λ (p : Pattern). p ≡ logic.equal called value) (IsImageOf sig n2 (SaysHook sig f vs)) result
-    (λ p e. (s, says, ap (sentence_image sig n2) says.says ∙ whole ∙ ap (λ (q : Pattern). Some (logic.equal called q)) (sym is) ∙ ap (λ (q : Pattern). Some q) (sym e))) made
+    let first : image_of sig n1 (call f [] (value_patterns says.sorts vs)) ≡ Some called =
+    ap (λ (o : Option Pattern). applied sig n1 o (value_patterns says.sorts vs)) symbol_is
+    ∙ call_is in
+    let left : sentence_image sig n2 (term (call f [] (value_patterns says.sorts vs))) ≡ Some
+    called =
+    gained-sentence sig n1 n2 (term (call f [] (value_patterns says.sorts vs))) gained called
+    first in
+    let whole : both logic.equal
+    (sentence_image sig n2 (term (call f [] (value_patterns says.sorts vs))))
+    (option_map logic.constant (numbered n2 (token_of_value sig says.sort says.value))) ≡ Some
+    (logic.equal called (logic.constant t)) =
+    ap (λ (o : Option Pattern). both logic.equal o
+    (option_map logic.constant (numbered n2 (token_of_value sig says.sort says.value))))
+    left
+    ∙ ap (λ (o : Option ℕ). both logic.equal (Some called) (option_map logic.constant o))
+    number in
+    if_ok (λ (p : Pattern). p ≡ logic.equal called value) (IsImageOf sig n2 (SaysHook sig f vs))
+    result
+    (λ p e. (
+      s,
+      says,
+      ap (sentence_image sig n2) says.says ∙ whole
+          ∙ ap (λ (q : Pattern). Some (logic.equal called q)) (sym is)
+          ∙ ap (λ (q : Pattern). Some q) (sym e),
+    )) made
 
 -- the parameters of an equation that has parameters
 pub has_parameters : {P : Type 0} (n : ℕ) → (n ≡ 0) ⊎ P → n ≢ 0 → P

@@ -9,12 +9,14 @@ use Rattle.rule_core.specs.WellSorted.{IsSignature, IsWellSorted}
 use Rattle.rule_core.specs.declared.signature.Signature.{Signature}
 use Rattle.rule_core.specs.declared.signature.SymInfo.{SymInfo}
 use Rattle.rule_core.specs.declared.signature.SymKind.TheVariants.{Ctor, Equations}
-use Rattle.ml_image.specs.HasImages.{HasImage, HasRuleImage, HasEquationImage, HasTotality, count_of}
+use Rattle.ml_image.specs.HasImages.{HasImage, HasRuleImage, HasEquationImage, HasTotality}
+use Rattle.ml_image.specs.HasImages.{count_of}
 
 -- a well-sorted pattern has an image
 abbrev pub SortedHasImage : Type 0
 SortedHasImage =
-    (sig : Signature) (variables : List ℕ) (p : Pattern) (sort : ℕ) → IsSignature sig → HasSort sig variables p sort →
+    (sig : Signature) (variables : List ℕ) (p : Pattern) (sort : ℕ) → IsSignature sig
+    → HasSort sig variables p sort →
     HasImage sig (length variables) p
 
 -- a rule has an image
@@ -28,11 +30,13 @@ abbrev pub EquationHasImage : Type 0
 EquationHasImage =
     (theory : RewriteTheory) (f : ℕ) (info : SymInfo) (e : Equation) → IsWellSorted theory
     → IsSymbol theory.sig f info →
-    info.kind ≡ Equations → Contains (equations_of theory f) e → e.parameters + length e.variables ≤ 2 ^ 32 →
+    info.kind ≡ Equations → Contains (equations_of theory f) e
+    → e.parameters + length e.variables ≤ 2 ^ 32 →
     (e.parameters ≡ 0) ⊎ (e.parameters ≡ count_of e.arguments) → HasEquationImage theory.sig f e
 
 -- the totality of a constructor has an image
 abbrev pub ConstructorHasTotality : Type 0
 ConstructorHasTotality =
-    (sig : Signature) (f : ℕ) (info : SymInfo) → IsSignature sig → IsSymbol sig f info → info.kind ≡ Ctor →
+    (sig : Signature) (f : ℕ) (info : SymInfo) → IsSignature sig → IsSymbol sig f info
+    → info.kind ≡ Ctor →
     length info.args.items < 2 ^ 31 → HasTotality sig f

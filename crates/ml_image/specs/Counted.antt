@@ -25,6 +25,7 @@ condition_at sig sorts k None = Some top
 condition_at sig sorts k (Some p) = option_map (is_true (shifted k p)) (sort_of sig sorts p)
 
 -- the pattern is the image of the condition's sentence
-abbrev pub IsConditionImage : Signature → List (List ℕ) → List ℕ → ℕ → Option RulePattern → Pattern → Type 0
+abbrev pub IsConditionImage : Signature → List (List ℕ) → List ℕ → ℕ → Option RulePattern → Pattern
+    → Type 0
 IsConditionImage sig names sorts k condition p
     = IsImageOf sig names (λ c. condition_at sig sorts k condition ≡ Some c) p

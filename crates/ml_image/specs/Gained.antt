@@ -9,7 +9,8 @@ use Rattle.ml_image.specs.Tokens.{token_of_sort, token_of_symbol, token_of_value
 pub data IsOwnToken (sig : Signature) (token : List ℕ) : Type 0 where
   of_sort : (s : ℕ) → token_of_sort sig s ≡ Some token → IsOwnToken sig token
   of_symbol : (f : ℕ) → token_of_symbol sig f ≡ Some token → IsOwnToken sig token
-  of_value : (s : ℕ) (v : DomainValue) → HasValue sig s v → token_of_value sig s v ≡ Some token → IsOwnToken sig token
+  of_value : (s : ℕ) (v : DomainValue) → HasValue sig s v → token_of_value sig s v ≡ Some token
+      → IsOwnToken sig token
 
 abbrev pub AreOwnTokens : Signature → List (List ℕ) → Type 0
 AreOwnTokens sig [] = Unit {0}

@@ -1,9 +1,11 @@
 -- The conditions under which an image can be made: the sorts and symbols belong to the signature,
 -- and each value is a value of its sort.
-use Rattle.std.specs.Prelude.{◌≡◌, ◌≢◌, ◌<◌, ◌≤◌, ◌+◌, ◌^◌, ℕ, true, false, IsSome, List, [], ◌∷◌, length, Option, Some}
+use Rattle.std.specs.Prelude.{◌≡◌, ◌≢◌, ◌<◌, ◌≤◌, ◌+◌, ◌^◌, ℕ, true, false, IsSome, List, [], ◌∷◌}
+use Rattle.std.specs.Prelude.{length, Option, Some}
 use Rattle.std.specs.Prelude.{None, ◌⊎◌, suc}
 use Rattle.term_core.specs.Terms.{truth}
-use Rattle.term_core.specs.Patterns.{Pattern, Patterns, variable, domain_value, application, injection, call}
+use Rattle.term_core.specs.Patterns.{Pattern, Patterns, variable, domain_value, application}
+use Rattle.term_core.specs.Patterns.{injection, call}
 use Rattle.term_core.specs.Patterns.{no_pattern, more_patterns}
 use Rattle.rule_core.specs.Rules.{RewriteRule, Equation}
 use Rattle.rule_core.specs.Sorting.{HasValue, AreSorts}
@@ -19,7 +21,8 @@ abbrev mutual
   HasImage sig n (variable x) = x < n
   HasImage sig n (domain_value s v) = HasValue sig s v
   HasImage sig n (application f ps) = (f < length sig.symbols) × HaveImages sig n ps
-  HasImage sig n (injection a b p) = IsSome (injection_symbol sig) × AreSorts sig (a ∷ b ∷ []) × HasImage sig n p
+  HasImage sig n (injection a b p) =
+      IsSome (injection_symbol sig) × AreSorts sig (a ∷ b ∷ []) × HasImage sig n p
   HasImage sig n (call f ss ps) = (f < length sig.symbols) × AreSorts sig ss × HaveImages sig n ps
 
   pub HaveImages : Signature → ℕ → Patterns → Type 0
@@ -73,13 +76,15 @@ pub record HasEquationImage (sig : Signature) (f : ℕ) (e : Equation) : Type 0 
 
 -- The symbol with this number is a constructor whose declaration names sorts of the signature. It
 -- has fewer than 2^31 arguments, so that the numbers of twice as many variables fit in 32 bits.
-pub record MakesTerms (sig : Signature) (f : ℕ) (info : SymInfo) (sorts : List ℕ) (sort : ℕ) : Type 0 where
+pub record MakesTerms (sig : Signature) (f : ℕ) (info : SymInfo) (sorts : List ℕ) (sort : ℕ) :
+    Type 0 where
   pub constructs : IsConstructor sig f info sorts sort
   pub are_sorts : AreSorts sig (sort ∷ sorts)
   pub few : length sorts < 2 ^ 31
 
 abbrev pub HasTotality : Signature → ℕ → Type 0
-HasTotality sig f = (info : SymInfo) × (sorts : List ℕ) × (sort : ℕ) × MakesTerms sig f info sorts sort
+HasTotality sig f =
+    (info : SymInfo) × (sorts : List ℕ) × (sort : ℕ) × MakesTerms sig f info sorts sort
 
 -- two constructors with the same result sort, neither of which is associative, commutative or
 -- idempotent, or has a unit

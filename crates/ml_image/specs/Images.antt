@@ -1,10 +1,13 @@
 -- The images of rules' patterns as patterns of matching logic (Chen and Rosu 2019). A constant or a
 -- sort of an image is the number of its token among the names. If the names do not have a token,
 -- there is no image.
-use Rattle.std.specs.Prelude.{ℕ, ◌+◌, Bool, true, false, List, [], ◌∷◌, Option, Some, None, option_map}
+use Rattle.std.specs.Prelude.{ℕ, ◌+◌, Bool, true, false, List, [], ◌∷◌, Option, Some, None}
+use Rattle.std.specs.Prelude.{option_map}
 use Rattle.std.specs.List.{position_from}
 use Rattle.ml_pat.specs.Patterns.{Pattern, app, at_sort, var, constant}
-use Rattle.term_core.specs.Patterns.{Pattern as RulePattern, Patterns as RulePatterns, variable, domain_value, application, injection, call, no_pattern, more_patterns}
+use Rattle.term_core.specs.Patterns.{Pattern as RulePattern, Patterns as RulePatterns, variable}
+use Rattle.term_core.specs.Patterns.{domain_value, application, injection, call, no_pattern}
+use Rattle.term_core.specs.Patterns.{more_patterns}
 use Rattle.rule_core.specs.declared.signature.Signature.{Signature}
 use Rattle.rule_core.specs.declared.signature.SymInfo.{SymInfo}
 use Rattle.rule_core.specs.declared.signature.SymKind.{SymKind}
@@ -40,7 +43,8 @@ sort_image sig names s = numbered names (token_of_sort sig s)
 -- the pattern applied to the sort arguments, in order
 abbrev pub at_sorts : Signature → List (List ℕ) → Option Pattern → List ℕ → Option Pattern
 at_sorts sig names head [] = head
-at_sorts sig names head (s ∷ ss) = at_sorts sig names (both at_sort head (sort_image sig names s)) ss
+at_sorts sig names head (s ∷ ss) =
+    at_sorts sig names (both at_sort head (sort_image sig names s)) ss
 
 -- the injection symbol, if there is one, applied to the source sort and the target sort of an
 -- injection
@@ -49,7 +53,8 @@ some_symbol_image sig names None = None
 some_symbol_image sig names (Some f) = symbol_image sig names f
 
 abbrev pub injection_image : Signature → List (List ℕ) → ℕ → ℕ → Option Pattern
-injection_image sig names a b = at_sorts sig names (some_symbol_image sig names (injection_symbol sig)) (a ∷ b ∷ [])
+injection_image sig names a b =
+    at_sorts sig names (some_symbol_image sig names (injection_symbol sig)) (a ∷ b ∷ [])
 
 -- The image of a variable is the object variable with its number. The image of a domain value is
 -- the constant of its token. A symbol is applied to its sort arguments and then to its arguments,
@@ -57,15 +62,19 @@ injection_image sig names a b = at_sorts sig names (some_symbol_image sig names 
 abbrev mutual
   pub image_of : Signature → List (List ℕ) → RulePattern → Option Pattern
   image_of sig names (variable x) = Some (var x)
-  image_of sig names (domain_value s v) = option_map constant (numbered names (token_of_value sig s v))
+  image_of sig names (domain_value s v) =
+      option_map constant (numbered names (token_of_value sig s v))
   image_of sig names (application f ps) = applied sig names (symbol_image sig names f) ps
-  image_of sig names (injection a b p) = both app (injection_image sig names a b) (image_of sig names p)
-  image_of sig names (call f ss ps) = applied sig names (at_sorts sig names (symbol_image sig names f) ss) ps
+  image_of sig names (injection a b p) =
+      both app (injection_image sig names a b) (image_of sig names p)
+  image_of sig names (call f ss ps) =
+      applied sig names (at_sorts sig names (symbol_image sig names f) ss) ps
 
   -- the pattern applied to the images of the arguments, in order
   pub applied : Signature → List (List ℕ) → Option Pattern → RulePatterns → Option Pattern
   applied sig names head no_pattern = head
-  applied sig names head (more_patterns p ps) = applied sig names (both app head (image_of sig names p)) ps
+  applied sig names head (more_patterns p ps) =
+      applied sig names (both app head (image_of sig names p)) ps
 
 -- the pattern with its variables numbered from k
 abbrev mutual

@@ -6,4 +6,5 @@ use Rattle.ml_image.specs.Images.{is_injection}
 
 -- whether the symbol with this number is an injection
 abbrev pub IsInjectionAt : Signature → ℕ → Bool → Type 0
-IsInjectionAt sig i injects = (e : List ℕ × SymInfo) → slice_get sig.symbols i ≡ Some e → injects ≡ is_injection e.1.kind
+IsInjectionAt sig i injects =
+    (e : List ℕ × SymInfo) → slice_get sig.symbols i ≡ Some e → injects ≡ is_injection e.1.kind

@@ -10,12 +10,14 @@ use Rattle.ml_image.specs.Gained.{AreOwnTokens, HasGained}
 -- names that have gained tokens are the old names followed by own tokens
 abbrev pub GainedAreOwn : Type 0
 GainedAreOwn =
-    (sig : Signature) (old new : List (List ℕ)) → HasGained sig old new → AreOwnTokens sig (drop (length old) new)
+    (sig : Signature) (old new : List (List ℕ)) → HasGained sig old new
+    → AreOwnTokens sig (drop (length old) new)
 
 -- an image of a pattern does not change when names gain tokens
 abbrev pub ImageStays : Type 0
 ImageStays =
-    (sig : Signature) (names more : List (List ℕ)) (a : RulePattern) (p : Pattern) → image_of sig names a ≡ Some p →
+    (sig : Signature) (names more : List (List ℕ)) (a : RulePattern) (p : Pattern)
+    → image_of sig names a ≡ Some p →
     image_of sig (names ++ more) a ≡ Some p
 
 abbrev pub SentenceStays : Type 0

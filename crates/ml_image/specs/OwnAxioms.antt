@@ -1,9 +1,11 @@
 -- The statements of a definition's rules, equations, symbols and sorts in matching logic: its own
 -- axioms (Chen and Rosu 2019; K framework, attributes `constructor`, `subsort` and `function`).
-use Rattle.std.specs.Prelude.{◌≡◌, ◌≢◌, ◌+◌, ◌<◌, ℕ, false, true, List, [], ◌∷◌, ◌++◌, length, map, slice_get, Contains}
+use Rattle.std.specs.Prelude.{◌≡◌, ◌≢◌, ◌+◌, ◌<◌, ℕ, false, true, List, [], ◌∷◌, ◌++◌, length, map}
+use Rattle.std.specs.Prelude.{slice_get, Contains}
 use Rattle.std.specs.Prelude.{Option, Some, None, option_map}
 use Rattle.term_core.specs.Terms.{truth}
-use Rattle.term_core.specs.Patterns.{Pattern, Patterns, variable, domain_value, application, injection, call}
+use Rattle.term_core.specs.Patterns.{Pattern, Patterns, variable, domain_value, application}
+use Rattle.term_core.specs.Patterns.{injection, call}
 use Rattle.term_core.specs.Patterns.{no_pattern, more_patterns}
 use Rattle.rule_core.specs.Rules.{RewriteRule, Equation}
 use Rattle.rule_core.specs.Theories.{RewriteTheory, equations_of}
@@ -15,7 +17,8 @@ use Rattle.rule_core.specs.declared.signature.SymKind.TheVariants.{Ctor, Equatio
 use Rattle.rule_core.specs.declared.signature.SortRef.{SortRef}
 use Rattle.rule_core.specs.declared.signature.SortRef.TheVariants.{Sort}
 use Rattle.ml_image.specs.Images.{shifted, all_shifted}
-use Rattle.ml_image.specs.Sentences.{Sentence, term, symbol, top, not, and, implies, equals, is_in, exists, next}
+use Rattle.ml_image.specs.Sentences.{Sentence, term, symbol, top, not, and, implies, equals, is_in}
+use Rattle.ml_image.specs.Sentences.{exists, next}
 use Rattle.ml_image.specs.Sentences.{for_all, variables, apply_all, conjunctions}
 
 -- ---- rules and equations
@@ -58,7 +61,8 @@ pub record SaysRule (sig : Signature) (r : RewriteRule) (p : Sentence) : Type 0 
 -- The sentence of an equation that is written directly: if the condition holds, the function
 -- applied to these arguments equals the right side.
 abbrev pub direct_sentence : ℕ → Equation → Sentence → Sentence
-direct_sentence f e c = for_all 0 e.variables (implies c (equals (term (call f [] e.arguments)) (term e.right)))
+direct_sentence f e c =
+    for_all 0 e.variables (implies c (equals (term (call f [] e.arguments)) (term e.right)))
 
 -- the equation with parameters of these sorts, which come before its other variables
 abbrev pub behind_parameters : List ℕ → Equation → Equation
@@ -79,14 +83,16 @@ meets k (more_patterns p ps) = and (is_in (term (variable k)) (term p)) (meets (
 abbrev pub kompile_sentence : ℕ → ℕ → Equation → Sentence → Sentence
 kompile_sentence f n e c =
     for_all 0 e.variables
-    (implies (and c (meets 0 e.arguments)) (equals (apply_all (symbol f) (variables 0 n)) (term e.right)))
+    (implies (and c (meets 0 e.arguments))
+    (equals (apply_all (symbol f) (variables 0 n)) (term e.right)))
 
 -- a sort in a declaration, which is not a sort parameter
 abbrev pub named : ℕ → SortRef
 named s = Sort (record { 0 = s })
 
 -- the symbol with this number has these argument sorts and this result sort
-pub record Declares (sig : Signature) (f : ℕ) (info : SymInfo) (sorts : List ℕ) (sort : ℕ) : Type 0 where
+pub record Declares (sig : Signature) (f : ℕ) (info : SymInfo) (sorts : List ℕ) (sort : ℕ) :
+    Type 0 where
   pub there : IsSymbol sig f info
   pub takes : info.args.items ≡ map named sorts
   pub makes : info.result ≡ named sort
@@ -98,7 +104,8 @@ pub data SaysEquation (sig : Signature) (f : ℕ) (e : Equation) (p : Sentence) 
       p ≡ direct_sentence f e c → SaysEquation sig f e p
   kompile : (c : Sentence) (info : SymInfo) (sorts : List ℕ) (sort : ℕ) → e.parameters ≢ 0 →
       e.parameters ≡ length sorts → Declares sig f info sorts sort →
-      condition_of sig (behind_parameters sorts e).variables (behind_parameters sorts e).condition ≡ Some c →
+      condition_of sig (behind_parameters sorts e).variables (behind_parameters sorts e).condition
+      ≡ Some c →
       p ≡ kompile_sentence f (length sorts) (behind_parameters sorts e) c → SaysEquation sig f e p
 
 -- the function is defined by equations, and this is one of them
@@ -124,7 +131,8 @@ pub record SaysTotal (sig : Signature) (f : ℕ) (p : Sentence) : Type 0 where
   pub sort : ℕ
   pub constructs : IsConstructor sig f info sorts sort
   pub says : p ≡ for_all 0 sorts
-      (exists (length sorts) sort (equals (term (variable (length sorts))) (of_variables f 0 (length sorts))))
+      (exists (length sorts) sort
+      (equals (term (variable (length sorts))) (of_variables f 0 (length sorts))))
 
 -- Two constructors with the same result sort have different results. Neither of them is
 -- associative, commutative or idempotent, or has a unit.
@@ -160,7 +168,9 @@ pub record SaysFree (sig : Signature) (f : ℕ) (p : Sentence) : Type 0 where
 -- element of that sort.
 pub record SaysSubsort (sig : Signature) (a b : ℕ) (p : Sentence) : Type 0 where
   pub pair : Contains sig.subsorts (a, b)
-  pub says : p ≡ for_all 0 (a ∷ []) (exists 1 b (equals (term (variable 1)) (term (injection a b (variable 0)))))
+  pub says : p
+      ≡ for_all 0 (a ∷ [])
+      (exists 1 b (equals (term (variable 1)) (term (injection a b (variable 0)))))
 
 -- Two injections in a row, along a chain of three sorts, equal the injection from the first sort to
 -- the last.
@@ -168,7 +178,8 @@ pub record SaysCollapse (sig : Signature) (a b c : ℕ) (p : Sentence) : Type 0 
   pub lower : IsBelow sig.subsorts a b
   pub upper : IsBelow sig.subsorts b c
   pub says : p ≡ for_all 0 (a ∷ [])
-      (equals (term (injection b c (injection a b (variable 0)))) (term (injection a c (variable 0))))
+      (equals (term (injection b c (injection a b (variable 0))))
+      (term (injection a c (variable 0))))
 
 -- ---- all of them
 
@@ -176,8 +187,10 @@ pub record SaysCollapse (sig : Signature) (a b c : ℕ) (p : Sentence) : Type 0 
 -- are total, different and free; that its subsorts are subsorts; and that two injections in a row
 -- equal one.
 pub data IsOwnAxiom (theory : RewriteTheory) (p : Sentence) : Type 0 where
-  of_rule : (r : RewriteRule) → Contains theory.rules r → SaysRule theory.sig r p → IsOwnAxiom theory p
-  of_equation : (f : ℕ) (e : Equation) → IsEquationFor theory f e → SaysEquation theory.sig f e p → IsOwnAxiom theory p
+  of_rule : (r : RewriteRule) → Contains theory.rules r → SaysRule theory.sig r p
+      → IsOwnAxiom theory p
+  of_equation : (f : ℕ) (e : Equation) → IsEquationFor theory f e → SaysEquation theory.sig f e p
+      → IsOwnAxiom theory p
   total : (f : ℕ) → SaysTotal theory.sig f p → IsOwnAxiom theory p
   apart : (f g : ℕ) → SaysApart theory.sig f g p → IsOwnAxiom theory p
   free : (f : ℕ) → SaysFree theory.sig f p → IsOwnAxiom theory p

@@ -30,16 +30,24 @@ pub data Sentence : Type 0 where
 abbrev pub sentence_image : Signature → List (List ℕ) → Sentence → Option Pattern
 sentence_image sig names (term p) = image_of sig names p
 sentence_image sig names (symbol f) = symbol_image sig names f
-sentence_image sig names (apply p q) = both logic.app (sentence_image sig names p) (sentence_image sig names q)
+sentence_image sig names (apply p q) =
+    both logic.app (sentence_image sig names p) (sentence_image sig names q)
 sentence_image sig names top = Some logic.top
 sentence_image sig names (not p) = option_map logic.not (sentence_image sig names p)
-sentence_image sig names (and p q) = both logic.and (sentence_image sig names p) (sentence_image sig names q)
-sentence_image sig names (implies p q) = both logic.imp (sentence_image sig names p) (sentence_image sig names q)
-sentence_image sig names (equals p q) = both logic.equal (sentence_image sig names p) (sentence_image sig names q)
-sentence_image sig names (is_in p q) = both logic.member (sentence_image sig names p) (sentence_image sig names q)
-sentence_image sig names (functional p s) = both logic.fun (sentence_image sig names p) (sort_image sig names s)
-sentence_image sig names (exists x s p) = both (logic.ex x) (sort_image sig names s) (sentence_image sig names p)
-sentence_image sig names (forall x s p) = both (logic.all x) (sort_image sig names s) (sentence_image sig names p)
+sentence_image sig names (and p q) =
+    both logic.and (sentence_image sig names p) (sentence_image sig names q)
+sentence_image sig names (implies p q) =
+    both logic.imp (sentence_image sig names p) (sentence_image sig names q)
+sentence_image sig names (equals p q) =
+    both logic.equal (sentence_image sig names p) (sentence_image sig names q)
+sentence_image sig names (is_in p q) =
+    both logic.member (sentence_image sig names p) (sentence_image sig names q)
+sentence_image sig names (functional p s) =
+    both logic.fun (sentence_image sig names p) (sort_image sig names s)
+sentence_image sig names (exists x s p) =
+    both (logic.ex x) (sort_image sig names s) (sentence_image sig names p)
+sentence_image sig names (forall x s p) =
+    both (logic.all x) (sort_image sig names s) (sentence_image sig names p)
 sentence_image sig names (next p) = option_map logic.next (sentence_image sig names p)
 
 -- `for each x:k of the first sort, each x:(k+1) of the second, ..`, the first outermost

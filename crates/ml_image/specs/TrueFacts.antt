@@ -40,7 +40,8 @@ pub record SaysHook (sig : Signature) (f : ℕ) (vs : List DomainValue) (p : Sen
   pub value : DomainValue
   pub answers : hook_value row vs ≡ Some (Ok value)
   pub has : HasValue sig sort value
-  pub says : p ≡ equals (term (call f [] (value_patterns sorts vs))) (term (domain_value sort value))
+  pub says : p
+      ≡ equals (term (call f [] (value_patterns sorts vs))) (term (domain_value sort value))
 
 pub data IsTrueFact (sig : Signature) (p : Sentence) : Type 0 where
   of_value : (s : ℕ) (v : DomainValue) → SaysValue sig s v p → IsTrueFact sig p

@@ -26,7 +26,8 @@ pub(crate) fn close(
 ) -> Result<MPat, AllocError>
     requires sorts { AreSorts sig.now (sort_numbers sorts.now) }
     requires few { length sorts.now ≤ 2 ^ 32 }
-    ensures image { IfOk result (λ p. (s : Sentence) → sentence_image sig.now names.old s ≡ Some body
+    ensures image { IfOk result
+        (λ p. (s : Sentence) → sentence_image sig.now names.old s ≡ Some body
         → sentence_image sig.now names.new (for_all 0 (sort_numbers sorts.now) s) ≡ Some p) }
     ensures names { HasGained sig.now names.old names.new }
 {

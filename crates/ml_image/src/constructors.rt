@@ -121,7 +121,8 @@ pub(crate) fn of_variables(
 ) -> Result<MPat, AllocError>
     requires symbol { symbol.0 < length sig.now.symbols }
     requires few { first + count ≤ 2 ^ 32 }
-    ensures image { IfOk result (λ p. sentence_image sig.now names.new (of_variables symbol.0 first count) ≡ Some p) }
+    ensures image { IfOk result
+        (λ p. sentence_image sig.now names.new (of_variables symbol.0 first count) ≡ Some p) }
     ensures names { HasGained sig.now names.old names.new }
 {
     let head = head_image(alloc, sig, names, symbol.0 as usize)?;

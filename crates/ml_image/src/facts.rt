@@ -31,7 +31,8 @@ pub fn value_fact(
     value: &Value,
 ) -> Result<MPat, AllocError>
     requires { HasValue sig.now sort.0 (value_of value.now) }
-    ensures image { IfOk result (IsImageOf sig.now names.new (SaysValue sig.now sort.0 (value_of value.now))) }
+    ensures image { IfOk result
+        (IsImageOf sig.now names.new (SaysValue sig.now sort.0 (value_of value.now))) }
     ensures names { HasGained sig.now names.old names.new }
 {
     let number = value_number(alloc, sig, names, sort, value)?;
@@ -50,7 +51,8 @@ pub fn hook_fact(
     args: &[Scalar],
 ) -> Result<MPat, AllocError>
     requires { (s : Sentence) × SaysHook sig.now symbol.0 (map scalar_value args.now) s }
-    ensures image { IfOk result (IsImageOf sig.now names.new (SaysHook sig.now symbol.0 (map scalar_value args.now))) }
+    ensures image { IfOk result
+        (IsImageOf sig.now names.new (SaysHook sig.now symbol.0 (map scalar_value args.now))) }
     ensures names { HasGained sig.now names.old names.new }
 {
     let info = declaration(sig, symbol);
@@ -89,7 +91,8 @@ fn at_values(
 fn hook_answer(info: &SymInfo, args: &[Scalar]) -> Scalar
     requires { (row : ℕ) × (value : DomainValue) × (info.now.kind ≡ Hooked (record { 0 = row }))
         × (hook_value row (map scalar_value args.now) ≡ Some (Ok value)) }
-    ensures { (row : ℕ) → info.now.kind ≡ Hooked (record { 0 = row }) → hook_value row (map scalar_value args.now)
+    ensures { (row : ℕ) → info.now.kind ≡ Hooked (record { 0 = row })
+        → hook_value row (map scalar_value args.now)
         ≡ Some (Ok (scalar_value result)) }
 {
     let SymKind::Hooked(hook) = info.kind else {

@@ -1,10 +1,12 @@
 // The images of patterns.
-ghost use Rattle.std.specs.Prelude.{◌≡◌, ◌<◌, ◌-◌, ◌^◌, [], ◌∷◌, length, slice_get, IfOk, IfSome, IsSome, Some};
+ghost use Rattle.std.specs.Prelude.{◌≡◌, ◌<◌, ◌-◌, ◌^◌, [], ◌∷◌, length, slice_get, IfOk, IfSome};
+ghost use Rattle.std.specs.Prelude.{IsSome, Some};
 ghost use Rattle.ml_pat.specs.Patterns.{Pattern};
 ghost use Rattle.term_core.specs.RulePatterns.{plain_pattern, sort_numbers};
 ghost use Rattle.term_core.specs.PatternLists.{plain_patterns};
 ghost use Rattle.rule_core.specs.Sorting.{AreSorts};
-ghost use Rattle.ml_image.specs.Images.{image_of, applied, at_sorts, symbol_image, injection_symbol, injection_image};
+ghost use Rattle.ml_image.specs.Images.{image_of, applied, at_sorts, symbol_image};
+ghost use Rattle.ml_image.specs.Images.{injection_symbol, injection_image};
 ghost use Rattle.ml_image.specs.Images.{shifted, all_shifted};
 ghost use Rattle.ml_image.specs.HasImages.{HasImage, HaveImages};
 ghost use Rattle.ml_image.specs.Injecting.{IsInjectionAt};
@@ -42,7 +44,8 @@ pub(crate) fn image(
     pat: &RulePat,
 ) -> Result<MPat, AllocError>
     requires { HasImage sig.now (2 ^ 32 - first) (plain_pattern pat.now) }
-    ensures image { IfOk result (λ p. image_of sig.now names.new (shifted first (plain_pattern pat.now)) ≡ Some p) }
+    ensures image { IfOk result
+        (λ p. image_of sig.now names.new (shifted first (plain_pattern pat.now)) ≡ Some p) }
     ensures names { HasGained sig.now names.old names.new }
 {
     match pat {
@@ -80,7 +83,8 @@ pub(crate) fn applied(
 ) -> Result<MPat, AllocError>
     requires { HaveImages sig.now (2 ^ 32 - first) (plain_patterns args.now) }
     ensures image { IfOk result
-        (λ p. applied sig.now names.new (Some head) (all_shifted first (plain_patterns args.now)) ≡ Some p) }
+        (λ p. applied sig.now names.new (Some head) (all_shifted first (plain_patterns args.now))
+        ≡ Some p) }
     ensures names { HasGained sig.now names.old names.new }
 {
     let mut made = head;
@@ -115,7 +119,8 @@ fn at_sorts(
     sorts: &[SortId],
 ) -> Result<MPat, AllocError>
     requires { AreSorts sig.now (sort_numbers sorts.now) }
-    ensures image { IfOk result (λ p. at_sorts sig.now names.new (Some head) (sort_numbers sorts.now) ≡ Some p) }
+    ensures image { IfOk result
+        (λ p. at_sorts sig.now names.new (Some head) (sort_numbers sorts.now) ≡ Some p) }
     ensures names { HasGained sig.now names.old names.new }
 {
     let mut made = head;

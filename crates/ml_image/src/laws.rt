@@ -1,5 +1,6 @@
 // Laws about images and names.
-ghost use Rattle.ml_image.specs.ConditionLaws.{ConstructorHasTotality, EquationHasImage, RuleHasImage, SortedHasImage};
+ghost use Rattle.ml_image.specs.ConditionLaws.{ConstructorHasTotality, EquationHasImage};
+ghost use Rattle.ml_image.specs.ConditionLaws.{RuleHasImage, SortedHasImage};
 ghost use Rattle.ml_image.specs.NamingLaws.{GainedAreOwn, ImageStays, SentenceStays};
 
 /// Has no effect at run time. It states that names gain tokens only at the end, and only tokens of

@@ -1,5 +1,6 @@
 // The images of rewrite rules and equations.
-ghost use Rattle.std.specs.Prelude.{◌≡◌, ◌≢◌, ◌<◌, ◌≤◌, ◌-◌, ◌+◌, ◌^◌, [], length, IfOk, Some, option_map};
+ghost use Rattle.std.specs.Prelude.{◌≡◌, ◌≢◌, ◌<◌, ◌≤◌, ◌-◌, ◌+◌, ◌^◌, [], length, IfOk, Some};
+ghost use Rattle.std.specs.Prelude.{option_map};
 ghost use Rattle.std.specs.Prelude.{option_copied, slice_get};
 ghost use Rattle.ml_pat.specs.Patterns.{imp, and, equal, next};
 ghost use Rattle.term_core.specs.Patterns.{call};
@@ -10,7 +11,8 @@ ghost use Rattle.term_core.specs.declared.ids.SortId.{SortId};
 ghost use Rattle.ml_image.specs.Images.{image_of, all_shifted};
 ghost use Rattle.ml_image.specs.Sentences.{IsImageOf, sentence_image};
 ghost use Rattle.ml_image.specs.OwnAxioms.{SaysRule, SaysEquation, sort_of, made_sort, meets};
-ghost use Rattle.ml_image.specs.HasImages.{HaveImages, HasRuleImage, HasEquationImage, IsTruth, IsCondition};
+ghost use Rattle.ml_image.specs.HasImages.{HaveImages, HasRuleImage, HasEquationImage, IsTruth};
+ghost use Rattle.ml_image.specs.HasImages.{IsCondition};
 ghost use Rattle.ml_image.specs.Counted.{IsConditionImage};
 ghost use Rattle.ml_image.specs.Gained.{HasGained};
 
@@ -33,7 +35,8 @@ pub fn rule_image(
     rule: &Rule,
 ) -> Result<MPat, AllocError>
     requires { HasRuleImage sig.now (rewrite_rule rule.now) }
-    ensures image { IfOk result (IsImageOf sig.now names.new (SaysRule sig.now (rewrite_rule rule.now))) }
+    ensures image { IfOk result
+        (IsImageOf sig.now names.new (SaysRule sig.now (rewrite_rule rule.now))) }
     ensures names { HasGained sig.now names.old names.new }
 {
     let left = term_image(alloc, sig, names, &rule.left)?;
@@ -62,10 +65,12 @@ fn condition_image(
     vars: &[VarInfo],
     condition: &Option<RulePat>,
 ) -> Result<MPat, AllocError>
-    requires condition { IsCondition sig.now (sorts_of vars.now) (option_map plain_pattern condition.now) }
+    requires condition { IsCondition sig.now (sorts_of vars.now)
+        (option_map plain_pattern condition.now) }
     requires few { first + length vars.now ≤ 2 ^ 32 }
     ensures image { IfOk result
-        (IsConditionImage sig.now names.new (sorts_of vars.now) first (option_map plain_pattern condition.now)) }
+        (IsConditionImage sig.now names.new (sorts_of vars.now) first
+        (option_map plain_pattern condition.now)) }
     ensures names { HasGained sig.now names.old names.new }
 {
     match condition {
@@ -86,7 +91,8 @@ fn truth_image(
     requires condition { IsTruth sig.now (sorts_of vars.now) (plain_pattern pat.now) }
     requires few { first + length vars.now ≤ 2 ^ 32 }
     ensures image { IfOk result
-        (IsConditionImage sig.now names.new (sorts_of vars.now) first (Some (plain_pattern pat.now))) }
+        (IsConditionImage sig.now names.new (sorts_of vars.now) first
+        (Some (plain_pattern pat.now))) }
     ensures names { HasGained sig.now names.old names.new }
 {
     match sort_of(sig, vars, pat) {
@@ -101,7 +107,8 @@ fn truth_image(
 
 // The sort of a pattern.
 fn sort_of(sig: &Signature, vars: &[VarInfo], pat: &RulePat) -> Option<SortId>
-    ensures { option_map (λ (s : SortId). s.0) result ≡ sort_of sig.now (sorts_of vars.now) (plain_pattern pat.now) }
+    ensures { option_map (λ (s : SortId). s.0) result
+        ≡ sort_of sig.now (sorts_of vars.now) (plain_pattern pat.now) }
 {
     match pat {
         RulePat::Var(x) => Some(variable(vars, *x)?.sort),
@@ -121,7 +128,8 @@ fn variable(vars: &[VarInfo], number: u32) -> Option<&VarInfo>
 
 // The result sort of a symbol at these sort arguments.
 fn made_sort(sig: &Signature, symbol: SymId, sorts: &[SortId]) -> Option<SortId>
-    ensures { option_map (λ (s : SortId). s.0) result ≡ made_sort sig.now symbol.0 (sort_numbers sorts.now) }
+    ensures { option_map (λ (s : SortId). s.0) result
+        ≡ made_sort sig.now symbol.0 (sort_numbers sorts.now) }
 {
     match sig.symbols.value(symbol.0 as usize)?.result {
         SortRef::Param(place) => sorts.get(place as usize).copied(),
@@ -142,7 +150,8 @@ pub fn equation_image(
 ) -> Result<MPat, AllocError>
     requires { HasEquationImage sig.now equation.now.fun.0 (function_equation equation.now) }
     ensures image { IfOk result
-        (IsImageOf sig.now names.new (SaysEquation sig.now equation.now.fun.0 (function_equation equation.now))) }
+        (IsImageOf sig.now names.new
+        (SaysEquation sig.now equation.now.fun.0 (function_equation equation.now))) }
     ensures names { HasGained sig.now names.old names.new }
 {
     if equation.params == 0 {
@@ -159,10 +168,12 @@ fn direct_image(
     names: &mut Names,
     equation: &Equation,
 ) -> Result<MPat, AllocError>
-    requires equation { HasEquationImage sig.now equation.now.fun.0 (function_equation equation.now) }
+    requires equation { HasEquationImage sig.now equation.now.fun.0
+        (function_equation equation.now) }
     requires direct { equation.now.params ≡ 0 }
     ensures image { IfOk result
-        (IsImageOf sig.now names.new (SaysEquation sig.now equation.now.fun.0 (function_equation equation.now))) }
+        (IsImageOf sig.now names.new
+        (SaysEquation sig.now equation.now.fun.0 (function_equation equation.now))) }
     ensures names { HasGained sig.now names.old names.new }
 {
     let condition = condition_image(alloc, sig, names, 0, &equation.vars, &equation.cond)?;
@@ -198,10 +209,12 @@ fn kompile_image(
     names: &mut Names,
     equation: &Equation,
 ) -> Result<MPat, AllocError>
-    requires equation { HasEquationImage sig.now equation.now.fun.0 (function_equation equation.now) }
+    requires equation { HasEquationImage sig.now equation.now.fun.0
+        (function_equation equation.now) }
     requires kompile { equation.now.params ≢ 0 }
     ensures image { IfOk result
-        (IsImageOf sig.now names.new (SaysEquation sig.now equation.now.fun.0 (function_equation equation.now))) }
+        (IsImageOf sig.now names.new
+        (SaysEquation sig.now equation.now.fun.0 (function_equation equation.now))) }
     ensures names { HasGained sig.now names.old names.new }
 {
     let count = equation.params;
@@ -223,7 +236,8 @@ fn met_equal(
     function: &MPat,
     right: &MPat,
 ) -> Result<MPat, AllocError>
-    ensures { IfOk result (λ p. p ≡ imp (and condition.now met.now) (equal function.now right.now)) }
+    ensures { IfOk result
+        (λ p. p ≡ imp (and condition.now met.now) (equal function.now right.now)) }
 {
     let holds = MPat::and(alloc, condition, met)?;
     MPat::imp(alloc, &holds, &MPat::equal(alloc, function, right)?)
@@ -241,7 +255,8 @@ fn meets_image(
     requires arguments { HaveImages sig.now (2 ^ 32 - first) (plain_patterns args.now) }
     requires few { length args.now ≤ 2 ^ 32 }
     ensures image { IfOk result
-        (λ p. sentence_image sig.now names.new (meets 0 (all_shifted first (plain_patterns args.now))) ≡ Some p) }
+        (λ p. sentence_image sig.now names.new
+        (meets 0 (all_shifted first (plain_patterns args.now))) ≡ Some p) }
     ensures names { HasGained sig.now names.old names.new }
 {
     let mut made = MPat::top(alloc)?;

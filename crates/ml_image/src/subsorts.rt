@@ -52,7 +52,8 @@ pub fn inj_collapse(
     requires sorts { CanInject sig.now (from.0 ∷ through.0 ∷ to.0 ∷ []) }
     requires lower { IsBelow sig.now.subsorts from.0 through.0 }
     requires upper { IsBelow sig.now.subsorts through.0 to.0 }
-    ensures image { IfOk result (IsImageOf sig.now names.new (SaysCollapse sig.now from.0 through.0 to.0)) }
+    ensures image { IfOk result
+        (IsImageOf sig.now names.new (SaysCollapse sig.now from.0 through.0 to.0)) }
     ensures names { HasGained sig.now names.old names.new }
 {
     let lower = injected_variable(alloc, sig, names, from, through)?;
@@ -72,7 +73,8 @@ fn injected_variable(
     to: SortId,
 ) -> Result<MPat, AllocError>
     requires { CanInject sig.now (from.0 ∷ to.0 ∷ []) }
-    ensures image { IfOk result (λ p. image_of sig.now names.new (injection from.0 to.0 (variable 0)) ≡ Some p) }
+    ensures image { IfOk result
+        (λ p. image_of sig.now names.new (injection from.0 to.0 (variable 0)) ≡ Some p) }
     ensures names { HasGained sig.now names.old names.new }
 {
     let head = injection_image(alloc, sig, names, from, to)?;

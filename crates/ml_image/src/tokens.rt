@@ -1,10 +1,12 @@
 // The numbers of the tokens of sorts, symbols and domain values.
-ghost use Rattle.std.specs.Prelude.{◌≡◌, OnOk, ◌<◌, ◌++◌, length, slice_get, string_bytes, option_map, IfOk, Some};
+ghost use Rattle.std.specs.Prelude.{◌≡◌, OnOk, ◌<◌, ◌++◌, length, slice_get, string_bytes};
+ghost use Rattle.std.specs.Prelude.{option_map, IfOk, Some};
 ghost use Rattle.std.specs.Prelude.{codes};
 ghost use Rattle.std.specs.Char.{digit_char};
 ghost use Rattle.term_core.specs.Values.{value_of};
 ghost use Rattle.ml_pat.specs.Named.{number_of, IsNumbered};
-ghost use Rattle.ml_image.specs.Tokens.{sort_token, symbol_token, name_at, token_of_sort, token_of_symbol};
+ghost use Rattle.ml_image.specs.Tokens.{sort_token, symbol_token, name_at, token_of_sort};
+ghost use Rattle.ml_image.specs.Tokens.{token_of_symbol};
 ghost use Rattle.ml_image.specs.Tokens.{token_of_value, value_token, hexadecimal, numbered};
 ghost use Rattle.rule_core.specs.Sorting.{HasValue};
 ghost use Rattle.ml_image.specs.Gained.{HasGained};
@@ -23,7 +25,8 @@ pub(crate) fn sort_number(
     sort: SortId,
 ) -> Result<MSort, AllocError>
     requires { sort.0 < length sig.now.sorts }
-    ensures number { IfOk result (λ s. numbered names.new (token_of_sort sig.now sort.0) ≡ Some s.0) }
+    ensures number { IfOk result
+        (λ s. numbered names.new (token_of_sort sig.now sort.0) ≡ Some s.0) }
     ensures names { HasGained sig.now names.old names.new }
 {
     match sig.sorts.name(sort.0 as usize) {
@@ -43,7 +46,8 @@ pub(crate) fn symbol_number(
     symbol: usize,
 ) -> Result<ConstNo, AllocError>
     requires { symbol < length sig.now.symbols }
-    ensures number { IfOk result (λ c. numbered names.new (token_of_symbol sig.now symbol) ≡ Some c.0) }
+    ensures number { IfOk result
+        (λ c. numbered names.new (token_of_symbol sig.now symbol) ≡ Some c.0) }
     ensures names { HasGained sig.now names.old names.new }
 {
     match sig.symbols.name(symbol) {
@@ -64,7 +68,8 @@ pub(crate) fn value_number(
     value: &Value,
 ) -> Result<ConstNo, AllocError>
     requires { HasValue sig.now sort.0 (value_of value.now) }
-    ensures number { IfOk result (λ c. numbered names.new (token_of_value sig.now sort.0 (value_of value.now)) ≡ Some c.0) }
+    ensures number { IfOk result
+        (λ c. numbered names.new (token_of_value sig.now sort.0 (value_of value.now)) ≡ Some c.0) }
     ensures names { HasGained sig.now names.old names.new }
 {
     match sig.sorts.name(sort.0 as usize) {
@@ -78,7 +83,8 @@ pub(crate) fn value_number(
 
 // The token of a domain value of the sort with this name.
 fn value_token(alloc: Global, name: &str, value: &Value) -> Result<String, AllocError>
-    ensures { IfOk result (λ token. string_bytes token ≡ value_token name.now (value_of value.now)) }
+    ensures { IfOk result
+        (λ token. string_bytes token ≡ value_token name.now (value_of value.now)) }
 {
     let mut token = prefixed(alloc, "d:", name)?;
     token.push_str(":")?;
@@ -93,7 +99,8 @@ fn value_token(alloc: Global, name: &str, value: &Value) -> Result<String, Alloc
 
 // Adds the bytes as hexadecimal digits, two for each byte.
 fn push_hexadecimal(token: &mut String, bytes: &[u8]) -> Result<(), AllocError>
-    ensures { OnOk result (string_bytes token.new ≡ string_bytes token.old ++ hexadecimal bytes.now) }
+    ensures { OnOk result
+        (string_bytes token.new ≡ string_bytes token.old ++ hexadecimal bytes.now) }
 {
     for byte in bytes {
         token.push(digit(*byte / 16))?;

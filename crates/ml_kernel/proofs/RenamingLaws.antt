@@ -1,6 +1,7 @@
 -- Axioms whose bound variables are not renamed.
 use Rattle.std.proofs.Common.{◌≡◌, ℕ, List, [], refl, sym, ap}
-use Rattle.ml_pat.specs.Patterns.{Pattern, bot, top, imp, not, and, or, equal, member, fun, ex, all, app, at_sort, next, ev, var, meta, constant}
+use Rattle.ml_pat.specs.Patterns.{Pattern, bot, top, imp, not, and, or, equal, member, fun, ex, all}
+use Rattle.ml_pat.specs.Patterns.{app, at_sort, next, ev, var, meta, constant}
 use Rattle.ml_kernel.specs.Renamings.{renamed, Renames, by_place}
 use Rattle.ml_kernel.specs.Lemmas.{HasNoMeta}
 use Rattle.ml_kernel.specs.Theorems.{own_axiom}
@@ -28,8 +29,13 @@ renamed-none (meta i) = refl
 renamed-none (constant c) = refl
 
 pub renames-none : (p : Pattern) → Renames (by_place []) p p
-renames-none p = record { result = sym (renamed-none p); one_to_one = λ x y h k same. same; keeps_free = λ x h. refl }
+renames-none p = record {
+  result = sym (renamed-none p);
+  one_to_one = λ x y h k same. same;
+  keeps_free = λ x h. refl;
+}
 
 -- so the step concludes the axiom
-pub concludes_axiom : (hyps : List Pattern) (n : ℕ) (p : Pattern) → HasNoMeta p → Concludes hyps (own_axiom n p []) p
+pub concludes_axiom : (hyps : List Pattern) (n : ℕ) (p : Pattern) → HasNoMeta p
+    → Concludes hyps (own_axiom n p []) p
 concludes_axiom hyps n p h = (h, renames-none p)

@@ -12,9 +12,12 @@ mutual
     by_hypothesis : (p : Pattern) → Contains hypotheses p → Derives hypotheses IsAxiom p
     by_axiom : (p : Pattern) → IsAxiom p → Derives hypotheses IsAxiom p
     by_renaming : (p q : Pattern) → IsAxiom p → IsRenaming p q → Derives hypotheses IsAxiom q
-    by_rule : (r : Rule) (is : List Instance) (ps : List Pattern) (q : Pattern) → Infers r is ps q → AllDerive hypotheses IsAxiom ps → Derives hypotheses IsAxiom q
+    by_rule : (r : Rule) (is : List Instance) (ps : List Pattern) (q : Pattern) → Infers r is ps q
+        → AllDerive hypotheses IsAxiom ps → Derives hypotheses IsAxiom q
 
   -- each of these patterns has a derivation
-  pub data AllDerive (hypotheses : List Pattern) (IsAxiom : Pattern → Type 0) : List Pattern → Type 0 where
+  pub data AllDerive (hypotheses : List Pattern) (IsAxiom : Pattern → Type 0) : List Pattern
+      → Type 0 where
     none_left : AllDerive hypotheses IsAxiom []
-    one_more : (p : Pattern) (ps : List Pattern) → Derives hypotheses IsAxiom p → AllDerive hypotheses IsAxiom ps → AllDerive hypotheses IsAxiom (p ∷ ps)
+    one_more : (p : Pattern) (ps : List Pattern) → Derives hypotheses IsAxiom p
+        → AllDerive hypotheses IsAxiom ps → AllDerive hypotheses IsAxiom (p ∷ ps)

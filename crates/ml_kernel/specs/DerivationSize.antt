@@ -9,7 +9,8 @@ use Rattle.ml_kernel.specs.declared.derivations.DerivStep.{DerivStep}
 use Rattle.ml_kernel.specs.declared.derivations.DerivStep.TheVariants as step
 use Rattle.ml_kernel.specs.declared.derivations.Deriv.TheDeep.{deep-DerivStep}
 
-pub most-steps : (ds : List Derivation) → most (λ d. steps_in d + 1) ds ≤ all_steps (derivations ds) + 1
+pub most-steps : (ds : List Derivation)
+    → most (λ d. steps_in d + 1) ds ≤ all_steps (derivations ds) + 1
 most-steps [] = omega arith
 most-steps (d ∷ ds) = omega (arith, most-steps ds)
 

@@ -8,4 +8,8 @@ abbrev pub whole_derivation : tree.Inside → Derivation
 whole_derivation a = derivation_of a.node.value
 
 abbrev pub lemma_theorem : lemma.Inside → Theorem
-lemma_theorem a = record { hypotheses = a.hypotheses.items; conclusion = a.conclusion; derivation = a.past.derivation }
+lemma_theorem a = record {
+  hypotheses = a.hypotheses.items;
+  conclusion = a.conclusion;
+  derivation = a.past.derivation;
+}

@@ -1,7 +1,8 @@
 -- The axioms and lemmas that a derivation cites.
 use Rattle.std.specs.Prelude.{ℕ, List}
 use Rattle.ml_pat.specs.Patterns.{Pattern}
-use Rattle.ml_kernel.specs.Theorems.{Derivation, Derivations, hypothesis, own_axiom, by_rule, cited, no_derivation, more_derivations}
+use Rattle.ml_kernel.specs.Theorems.{Derivation, Derivations, hypothesis, own_axiom, by_rule, cited}
+use Rattle.ml_kernel.specs.Theorems.{no_derivation, more_derivations}
 
 -- which axioms may be cited, with which new numbers of their bound variables, and which lemmas, at
 -- which patterns

@@ -1,6 +1,7 @@
 -- Axioms with renamed bound variables.
 use Rattle.std.specs.Prelude.{◌≡◌, ℕ, false, List, slice_index_or}
-use Rattle.ml_pat.specs.Patterns.{Pattern, bot, top, imp, not, and, or, equal, member, fun, ex, all, app, at_sort, next, ev, var, meta, constant}
+use Rattle.ml_pat.specs.Patterns.{Pattern, bot, top, imp, not, and, or, equal, member, fun, ex, all}
+use Rattle.ml_pat.specs.Patterns.{app, at_sort, next, ev, var, meta, constant}
 use Rattle.ml_pat.specs.Judgements.{fresh, absent}
 
 -- the pattern with each of its variables replaced by another

@@ -1,6 +1,7 @@
 -- How the instance of a pattern is built around the instance of its first part.
 use Rattle.std.specs.Prelude.{List, slice_index_or}
-use Rattle.ml_pat.specs.Patterns.{Pattern, bot, top, imp, not, and, or, equal, member, fun, ex, all, app, at_sort, next, ev, var, meta, constant}
+use Rattle.ml_pat.specs.Patterns.{Pattern, bot, top, imp, not, and, or, equal, member, fun, ex, all}
+use Rattle.ml_pat.specs.Patterns.{app, at_sort, next, ev, var, meta, constant}
 use Rattle.ml_kernel.specs.Lemmas.{instance}
 
 -- the instance of a pattern, built around the instance of its first part, if it has one

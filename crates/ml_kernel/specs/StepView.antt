@@ -24,4 +24,5 @@ abbrev pub derivation_of : DerivStep → Derivation
 derivation_of (step.Hyp p) = hypothesis p
 derivation_of (step.Axiom n p new) = own_axiom n.0 p (numbers_of new.items)
 derivation_of (step.ByRule r is ds) = by_rule r (instances_of is.items) (derivations ds.items)
-derivation_of (step.Cited l ms ds) = cited l.hypotheses l.conclusion l.derivation ms.items (derivations ds.items)
+derivation_of (step.Cited l ms ds) =
+    cited l.hypotheses l.conclusion l.derivation ms.items (derivations ds.items)

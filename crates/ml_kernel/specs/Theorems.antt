@@ -64,16 +64,19 @@ AddsNew old (p ∷ ps) new =
 
 -- The theorem concludes q from these theorems by the rule. It has exactly their hypotheses, in
 -- order, each once. Its last step is the rule at these instances over their derivations.
-pub record IsByRule (r : Rule) (is : List Instance) (ts : List Theorem) (q : Pattern) (t : Theorem) : Type 0 where
+pub record IsByRule (r : Rule) (is : List Instance) (ts : List Theorem) (q : Pattern)
+    (t : Theorem) : Type 0 where
   pub conclusion : t.conclusion ≡ q
   pub kept_hypotheses : AddsNew [] (all_hypotheses ts) t.hypotheses
   pub last_step : t.derivation ≡ by_rule r is (all_derivations ts)
 
 -- The theorem has exactly the hypotheses of these theorems. Its last step cites the lemma at these
 -- instances over their derivations.
-pub record IsByLemma (lemma : Theorem) (ms : List Pattern) (ts : List Theorem) (t : Theorem) : Type 0 where
+pub record IsByLemma (lemma : Theorem) (ms : List Pattern) (ts : List Theorem) (t : Theorem) :
+    Type 0 where
   pub kept_hypotheses : AddsNew [] (all_hypotheses ts) t.hypotheses
-  pub last_step : t.derivation ≡ cited lemma.hypotheses lemma.conclusion lemma.derivation ms (all_derivations ts)
+  pub last_step : t.derivation
+      ≡ cited lemma.hypotheses lemma.conclusion lemma.derivation ms (all_derivations ts)
 
 -- the theorem's conclusion has a derivation from its own hypotheses and from the axioms that it
 -- keeps

@@ -2,7 +2,8 @@
 use Rattle.std.specs.Prelude.{List, [], ◌∷◌}
 use Rattle.ml_pat.specs.Leaves.{LeafFacts, EachLeaf}
 use Rattle.ml_kernel.specs.Rules.{Instance, pattern, variable, sort}
-use Rattle.ml_kernel.specs.Theorems.{Derivation, Derivations, hypothesis, own_axiom, by_rule, cited, no_derivation, more_derivations}
+use Rattle.ml_kernel.specs.Theorems.{Derivation, Derivations, hypothesis, own_axiom, by_rule, cited}
+use Rattle.ml_kernel.specs.Theorems.{no_derivation, more_derivations}
 
 -- each leaf of the instances of a rule's variables has its fact
 abbrev pub EachInstance : LeafFacts → List Instance → Type 0

@@ -5,7 +5,7 @@ ghost use Rattle.ml_kernel.specs.Theorems.{derivations};
 ghost use Rattle.ml_kernel.specs.StepsIn.{steps_in, all_steps};
 ghost use Rattle.ml_kernel.specs.Concluding.{IsKept};
 
-use crate::past::Past;
+use crate::erased::ErasedDerivation;
 use crate::rules::Rule;
 use ml_pat::{MPat, MSort, VarNo};
 use std::alloc::{AllocError, Global};
@@ -56,7 +56,7 @@ pub enum DerivStep {
 pub struct Lemma {
     pub(crate) hypotheses: Vec<MPat>,
     pub(crate) conclusion: MPat,
-    pub(crate) past: Past,
+    pub(crate) past: ErasedDerivation,
 }
 
 impl Model for Deriv {
@@ -126,7 +126,8 @@ impl Deriv {
 impl DerivStep {
     // The derivations directly below. A cited lemma does not keep any.
     fn into_parts(self) -> Option<Vec<Deriv>>
-        ensures { IfSome result (λ parts. all_steps (derivations parts.items) < steps_in (derivation_of self)) }
+        ensures { IfSome result
+            (λ parts. all_steps (derivations parts.items) < steps_in (derivation_of self)) }
     {
         match self {
             DerivStep::Hyp(_p) => None,

@@ -8,8 +8,8 @@
 #![tactic(auto)]
 
 mod derivations;
+mod erased;
 mod instances;
-mod past;
 mod rules;
 mod theorems;
 mod theory;

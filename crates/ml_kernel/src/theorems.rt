@@ -1,15 +1,18 @@
 // Theorems, and the private function with which each rule makes one.
 ghost use Rattle.std.specs.Prelude.{◌≡◌, ◌↔◌, [], ◌∷◌, length, IfOk, OnOk, IsTrue, Contains};
 ghost use Rattle.ml_kernel.specs.Rules.{Infers};
-ghost use Rattle.ml_kernel.specs.Theorems.{Theorem, hypothesis, own_axiom, cited, AddsNew, all_hypotheses, conclusions, all_derivations, derivations, IsByRule, IsByLemma, IsDerived};
-ghost use Rattle.ml_kernel.specs.Lemmas.{instance, instances, IsMetaBelow, AreMetasBelow, HasNoMeta, HaveNoVariables};
+ghost use Rattle.ml_kernel.specs.Theorems.{Theorem, hypothesis, own_axiom, cited, AddsNew};
+ghost use Rattle.ml_kernel.specs.Theorems.{all_hypotheses, conclusions, all_derivations};
+ghost use Rattle.ml_kernel.specs.Theorems.{derivations, IsByRule, IsByLemma, IsDerived};
+ghost use Rattle.ml_kernel.specs.Lemmas.{instance, instances, IsMetaBelow, AreMetasBelow};
+ghost use Rattle.ml_kernel.specs.Lemmas.{HasNoMeta, HaveNoVariables};
 ghost use Rattle.ml_kernel.specs.Concluding.{IsKept};
 ghost use Rattle.ml_kernel.specs.StepView.{instance_of, instances_of};
 ghost use Rattle.ml_kernel.specs.Premises.{part_of, parts_of, theorems_of, AreKept};
 
 use crate::derivations::{AxiomNo, Deriv, DerivStep, Inst, Lemma, all_shared};
+use crate::erased::ErasedDerivation;
 use crate::instances::instance;
-use crate::past::Past;
 use crate::rules::Rule;
 use ml_pat::{MPat, MSort, VarNo};
 use std::alloc::{AllocError, Global};
@@ -40,7 +43,8 @@ impl Model for Thm {
 
     ghost coded = { theorem_code };
 
-    ghost use Rattle.ml_kernel.specs.Lemmas.{instance, instances, IsMetaBelow, AreMetasBelow, HasNoMeta, HaveNoVariables};
+    ghost use Rattle.ml_kernel.specs.Lemmas.{instance, instances, IsMetaBelow, AreMetasBelow};
+    ghost use Rattle.ml_kernel.specs.Lemmas.{HasNoMeta, HaveNoVariables};
     ghost use Rattle.ml_kernel.specs.Concluding.{IsKept};
     ghost use Rattle.ml_kernel.specs.TheoremView.{theorem_of};
 
@@ -121,7 +125,8 @@ impl Thm {
         requires conclusion_metas { IsMetaBelow (length metas.now) lemma.now.conclusion }
         requires no_variables { HaveNoVariables metas.now }
         requires proofs { conclusions proofs.now ≡ instances metas.now lemma.now.hypotheses }
-        ensures conclusion { IfOk result (λ t. t.conclusion ≡ instance metas.now lemma.now.conclusion) }
+        ensures conclusion { IfOk result
+            (λ t. t.conclusion ≡ instance metas.now lemma.now.conclusion) }
         ensures lemma { IfOk result (λ t. IsByLemma lemma.now metas.now proofs.now t) }
     {
         let premises = references(alloc, proofs)?;
@@ -162,8 +167,10 @@ impl Thm {
         premises: &[&Thm],
         conclusion: &MPat,
     ) -> Result<Thm, AllocError>
-        requires { Infers rule (parts_of parts.now) (conclusions (theorems_of premises.now)) conclusion.now }
-        ensures { IfOk result (IsByRule rule (parts_of parts.now) (theorems_of premises.now) conclusion.now) }
+        requires { Infers rule (parts_of parts.now) (conclusions (theorems_of premises.now))
+            conclusion.now }
+        ensures { IfOk result
+            (IsByRule rule (parts_of parts.now) (theorems_of premises.now) conclusion.now) }
     {
         let instances = kept_parts(alloc, parts)?;
         let hypotheses = merged(alloc, premises)?;
@@ -186,7 +193,7 @@ impl Lemma {
         Ok(Lemma {
             hypotheses: thm.hypotheses,
             conclusion: thm.conclusion,
-            past: Past::of(&thm.derivation),
+            past: ErasedDerivation::of(&thm.derivation),
         })
     }
 }
@@ -198,7 +205,9 @@ fn citation(
     metas: &[MPat],
     below: Vec<Deriv>,
 ) -> Result<Deriv, AllocError>
-    ensures citation { IfOk result (λ d. d ≡ cited lemma.now.hypotheses lemma.now.conclusion lemma.now.derivation metas.now (derivations below.items)) }
+    ensures citation { IfOk result (λ d. d
+        ≡ cited lemma.now.hypotheses lemma.now.conclusion lemma.now.derivation metas.now
+        (derivations below.items)) }
     ensures kept { OnOk result (IsKept lemma.now) }
 {
     let _hypotheses = lemma.hypotheses();
@@ -260,7 +269,8 @@ fn add_new(old: &mut Vec<MPat>, from: &[MPat]) -> Result<(), AllocError>
 
 // The hypotheses of the premises, in order, each once.
 fn merged(alloc: Global, premises: &[&Thm]) -> Result<Vec<MPat>, AllocError>
-    ensures merged { IfOk result (λ v. AddsNew [] (all_hypotheses (theorems_of premises.now)) v.items) }
+    ensures merged { IfOk result
+        (λ v. AddsNew [] (all_hypotheses (theorems_of premises.now)) v.items) }
     ensures kept { OnOk result (AreKept (theorems_of premises.now)) }
 {
     let mut all = Vec::new(alloc);

@@ -1,5 +1,6 @@
 // Theories: lists of axioms.
-ghost use Rattle.std.specs.Prelude.{◌≡◌, ◌<◌, [], ◌∷◌, ◌++◌, length, slice_get, IfOk, OnOk, OnErr, Some};
+ghost use Rattle.std.specs.Prelude.{◌≡◌, ◌<◌, [], ◌∷◌, ◌++◌, length, slice_get, IfOk, OnOk, OnErr};
+ghost use Rattle.std.specs.Prelude.{Some};
 ghost use Rattle.ml_kernel.specs.Lemmas.{HasNoMeta};
 ghost use Rattle.ml_kernel.specs.Theorems.{own_axiom};
 

@@ -1,4 +1,5 @@
-use Rattle.std.proofs.Common.{◌≡◌, ℕ, ◌+◌, List, [], ◌∷◌, ◌++◌, length, Bool, true, false, cond, Option, Some, None, refl, sym, ◌∙◌, ap, ◌≢◌, arith, add-zero}
+use Rattle.std.proofs.Common.{◌≡◌, ℕ, ◌+◌, List, [], ◌∷◌, ◌++◌, length, Bool, true, false, cond}
+use Rattle.std.proofs.Common.{Option, Some, None, refl, sym, ◌∙◌, ap, ◌≢◌, arith, add-zero}
 use Rattle.std.specs.List.{position_from}
 use Rattle.std.specs.Str.{bytes_eq}
 use Rattle.std.proofs.lemmas.Bool.{false≢true}
@@ -12,11 +13,13 @@ bytes_eq-comm a b =
     let d = bytes_eq-Decides b a in
     same_from_decides _ _ (bytes_eq-Decides a b) (λ e. sym (d.0 e), λ p. d.1 (sym p))
 
-only_none : (b : Bool) (i : ℕ) (rest : Option ℕ) → cond b (Some i) rest ≡ None → (b ≡ false) × (rest ≡ None)
+only_none : (b : Bool) (i : ℕ) (rest : Option ℕ) → cond b (Some i) rest ≡ None
+    → (b ≡ false) × (rest ≡ None)
 only_none true i rest h = absurd (let z : ⊥ = cc in z)
 only_none false i rest h = (refl, h)
 
-step : (e k q : List ℕ) (i n : ℕ) (rest old : Option ℕ) (b same : Bool) → bytes_eq k q ≡ same → bytes_eq q e ≡ b → bytes_eq k e ≡ false → rest ≡ cond same (Some n) old
+step : (e k q : List ℕ) (i n : ℕ) (rest old : Option ℕ) (b same : Bool) → bytes_eq k q ≡ same
+    → bytes_eq q e ≡ b → bytes_eq k e ≡ false → rest ≡ cond same (Some n) old
     → cond b (Some i) rest ≡ cond same (Some n) (cond b (Some i) old)
 step e k q i n rest old true true es eb kb h =
     absurd (false≢true (sym kb ∙ ap (λ x. bytes_eq x e) ((bytes_eq-Decides k q).0 es) ∙ eb))
@@ -24,39 +27,58 @@ step e k q i n rest old true false es eb kb h = refl
 step e k q i n rest old false same es eb kb h = h
 
 -- a token that is not found differs from the first one, and is not found among the others
-not_found : (e : List ℕ) (es : List (List ℕ)) (i : ℕ) (k : List ℕ) → position_from (λ (other : List ℕ). bytes_eq k other) i (e ∷ es) ≡ None
-    → (bytes_eq k e ≡ false) × (position_from (λ (other : List ℕ). bytes_eq k other) (i + 1) es ≡ None)
+not_found : (e : List ℕ) (es : List (List ℕ)) (i : ℕ) (k : List ℕ)
+    → position_from (λ (other : List ℕ). bytes_eq k other) i (e ∷ es) ≡ None
+    → (bytes_eq k e ≡ false)
+    × (position_from (λ (other : List ℕ). bytes_eq k other) (i + 1) es ≡ None)
 not_found e es i k h = only_none (bytes_eq k e) i _ h
 
-from : (es : List (List ℕ)) (i : ℕ) (k q : List ℕ) → position_from (λ (e : List ℕ). bytes_eq k e) i es ≡ None
-    → position_from (λ (e : List ℕ). bytes_eq q e) i (es ++ k ∷ []) ≡ cond (bytes_eq k q) (Some (i + length es)) (position_from (λ (e : List ℕ). bytes_eq q e) i es)
+from : (es : List (List ℕ)) (i : ℕ) (k q : List ℕ)
+    → position_from (λ (e : List ℕ). bytes_eq k e) i es ≡ None
+    → position_from (λ (e : List ℕ). bytes_eq q e) i (es ++ k ∷ [])
+    ≡ cond (bytes_eq k q) (Some (i + length es))
+    (position_from (λ (e : List ℕ). bytes_eq q e) i es)
 from [] i k q h = rw (bytes_eq-comm q k, add-zero) refl
 from (e ∷ es) i k q h =
     let o = not_found e es i k h in
-    step e k q i (i + length (e ∷ es)) _ _ (bytes_eq q e) (bytes_eq k q) refl refl o.0 (from es (i + 1) k q o.1 ∙ ap (λ n. cond (bytes_eq k q) (Some n) (position_from (λ (other : List ℕ). bytes_eq q other) (i + 1) es)) (omega arith))
+    step e k q i (i + length (e ∷ es)) _ _ (bytes_eq q e) (bytes_eq k q) refl refl o.0 (from es
+    (i + 1) k q o.1
+    ∙ ap (λ n. cond (bytes_eq k q) (Some n)
+    (position_from (λ (other : List ℕ). bytes_eq q other) (i + 1) es)) (omega arith))
 
 -- the number of each token after a new token is added
-pub number_of-push : (es : List (List ℕ)) (k q : List ℕ) → number_of es k ≡ None → number_of (es ++ k ∷ []) q ≡ cond (bytes_eq k q) (Some (length es)) (number_of es q)
-number_of-push es k q h = from es 0 k q h ∙ ap (λ n. cond (bytes_eq k q) (Some n) (number_of es q)) (omega arith)
+pub number_of-push : (es : List (List ℕ)) (k q : List ℕ) → number_of es k ≡ None
+    → number_of (es ++ k ∷ []) q ≡ cond (bytes_eq k q) (Some (length es)) (number_of es q)
+number_of-push es k q h =
+    from es 0 k q h ∙ ap (λ n. cond (bytes_eq k q) (Some n) (number_of es q)) (omega arith)
 
 -- if a map has exactly the numbers of the old tokens, then with the new token's number it has
 -- exactly the numbers of all tokens
-pub indexed-push : (f g : List ℕ → Option ℕ) (es new : List (List ℕ)) (k : List ℕ) (n : ℕ) → ((q : List ℕ) → f q ≡ number_of es q)
-    → number_of es k ≡ None → n ≡ length es → ((q : List ℕ) → g q ≡ cond (bytes_eq k q) (Some n) (f q)) → new ≡ es ++ k ∷ [] → (q : List ℕ) → g q ≡ number_of new q
+pub indexed-push : (f g : List ℕ → Option ℕ) (es new : List (List ℕ)) (k : List ℕ) (n : ℕ)
+    → ((q : List ℕ) → f q ≡ number_of es q) → number_of es k ≡ None → n ≡ length es
+    → ((q : List ℕ) → g q ≡ cond (bytes_eq k q) (Some n) (f q)) → new ≡ es ++ k ∷ [] → (q : List ℕ)
+    → g q ≡ number_of new q
 indexed-push f g es new k n had absent size got grown q =
-    got q ∙ ap (λ o. cond (bytes_eq k q) (Some n) o) (had q) ∙ ap (λ m. cond (bytes_eq k q) (Some m) (number_of es q)) size
+    got q ∙ ap (λ o. cond (bytes_eq k q) (Some n) o) (had q)
+    ∙ ap (λ m. cond (bytes_eq k q) (Some m) (number_of es q)) size
     ∙ sym (number_of-push es k q absent) ∙ ap (λ xs. number_of xs q) (sym grown)
 
 -- different tokens stay different when a token is added that is none of them
-IsNoneOf-push : (name : List ℕ) (others : List (List ℕ)) (new : List ℕ) → IsNoneOf name others → name ≢ new → IsNoneOf name (others ++ new ∷ [])
+IsNoneOf-push : (name : List ℕ) (others : List (List ℕ)) (new : List ℕ) → IsNoneOf name others
+    → name ≢ new → IsNoneOf name (others ++ new ∷ [])
 IsNoneOf-push name [] new all last = (last, tt)
 IsNoneOf-push name (other ∷ others) new all last = (all.0, IsNoneOf-push name others new all.1 last)
 
-differ : (es : List (List ℕ)) (i : ℕ) (k : List ℕ) → AreDistinct es → position_from (λ (e : List ℕ). bytes_eq k e) i es ≡ None → AreDistinct (es ++ k ∷ [])
+differ : (es : List (List ℕ)) (i : ℕ) (k : List ℕ) → AreDistinct es
+    → position_from (λ (e : List ℕ). bytes_eq k e) i es ≡ None → AreDistinct (es ++ k ∷ [])
 differ [] i k had absent = (tt, tt)
 differ (e ∷ es) i k had absent =
-    let o = not_found e es i k absent in
-    (IsNoneOf-push e es k had.0 (λ same. false≢true (sym o.0 ∙ (bytes_eq-Decides k e).1 (sym same))), differ es (i + 1) k had.1 o.1)
+    let o = not_found e es i k absent in (
+      IsNoneOf-push e es k had.0
+          (λ same. false≢true (sym o.0 ∙ (bytes_eq-Decides k e).1 (sym same))),
+      differ es (i + 1) k had.1 o.1,
+    )
 
-pub AreDistinct-push : (es : List (List ℕ)) (k : List ℕ) → AreDistinct es → number_of es k ≡ None → AreDistinct (es ++ k ∷ [])
+pub AreDistinct-push : (es : List (List ℕ)) (k : List ℕ) → AreDistinct es → number_of es k ≡ None
+    → AreDistinct (es ++ k ∷ [])
 AreDistinct-push es k had absent = differ es 0 k had absent

@@ -1,7 +1,9 @@
 -- Patterns along their first parts.
-use Rattle.std.proofs.Common.{◌≡◌, ◌≤◌, ◌<◌, List, [], ◌∷◌, ◌++◌, Some, None, refl, sym, ◌∙◌, ap, arith}
+use Rattle.std.proofs.Common.{◌≡◌, ◌≤◌, ◌<◌, List, [], ◌∷◌, ◌++◌, Some, None, refl, sym, ◌∙◌, ap}
+use Rattle.std.proofs.Common.{arith}
 use Rattle.std.specs.Borrow.{Bor}
-use Rattle.ml_pat.specs.Patterns.{Pattern, bot, top, imp, not, and, or, equal, member, fun, ex, all, app, at_sort, next, ev, var, meta, constant}
+use Rattle.ml_pat.specs.Patterns.{Pattern, bot, top, imp, not, and, or, equal, member, fun, ex, all}
+use Rattle.ml_pat.specs.Patterns.{app, at_sort, next, ev, var, meta, constant}
 use Rattle.ml_pat.specs.FormsIn.{forms_in}
 use Rattle.ml_pat.specs.FirstPart.{first_part}
 use Rattle.ml_pat.specs.Spines.{LeadsTo}
@@ -15,36 +17,56 @@ none_some p h = cc
 pub first_part-smaller : (r p : Pattern) → first_part r ≡ Some p → forms_in p < forms_in r
 first_part-smaller bot p h = absurd (none_some p h)
 first_part-smaller top p h = absurd (none_some p h)
-first_part-smaller (imp t q) p h = let same : forms_in t ≡ forms_in p = ap forms_in (some_same t p h) in omega (arith, same)
-first_part-smaller (not t) p h = let same : forms_in t ≡ forms_in p = ap forms_in (some_same t p h) in omega (arith, same)
-first_part-smaller (and t q) p h = let same : forms_in t ≡ forms_in p = ap forms_in (some_same t p h) in omega (arith, same)
-first_part-smaller (or t q) p h = let same : forms_in t ≡ forms_in p = ap forms_in (some_same t p h) in omega (arith, same)
-first_part-smaller (equal t q) p h = let same : forms_in t ≡ forms_in p = ap forms_in (some_same t p h) in omega (arith, same)
-first_part-smaller (member t q) p h = let same : forms_in t ≡ forms_in p = ap forms_in (some_same t p h) in omega (arith, same)
-first_part-smaller (fun t s) p h = let same : forms_in t ≡ forms_in p = ap forms_in (some_same t p h) in omega (arith, same)
-first_part-smaller (ex x s t) p h = let same : forms_in t ≡ forms_in p = ap forms_in (some_same t p h) in omega (arith, same)
-first_part-smaller (all x s t) p h = let same : forms_in t ≡ forms_in p = ap forms_in (some_same t p h) in omega (arith, same)
-first_part-smaller (app t q) p h = let same : forms_in t ≡ forms_in p = ap forms_in (some_same t p h) in omega (arith, same)
-first_part-smaller (at_sort t s) p h = let same : forms_in t ≡ forms_in p = ap forms_in (some_same t p h) in omega (arith, same)
-first_part-smaller (next t) p h = let same : forms_in t ≡ forms_in p = ap forms_in (some_same t p h) in omega (arith, same)
-first_part-smaller (ev t) p h = let same : forms_in t ≡ forms_in p = ap forms_in (some_same t p h) in omega (arith, same)
+first_part-smaller (imp t q) p h =
+    let same : forms_in t ≡ forms_in p = ap forms_in (some_same t p h) in omega (arith, same)
+first_part-smaller (not t) p h =
+    let same : forms_in t ≡ forms_in p = ap forms_in (some_same t p h) in omega (arith, same)
+first_part-smaller (and t q) p h =
+    let same : forms_in t ≡ forms_in p = ap forms_in (some_same t p h) in omega (arith, same)
+first_part-smaller (or t q) p h =
+    let same : forms_in t ≡ forms_in p = ap forms_in (some_same t p h) in omega (arith, same)
+first_part-smaller (equal t q) p h =
+    let same : forms_in t ≡ forms_in p = ap forms_in (some_same t p h) in omega (arith, same)
+first_part-smaller (member t q) p h =
+    let same : forms_in t ≡ forms_in p = ap forms_in (some_same t p h) in omega (arith, same)
+first_part-smaller (fun t s) p h =
+    let same : forms_in t ≡ forms_in p = ap forms_in (some_same t p h) in omega (arith, same)
+first_part-smaller (ex x s t) p h =
+    let same : forms_in t ≡ forms_in p = ap forms_in (some_same t p h) in omega (arith, same)
+first_part-smaller (all x s t) p h =
+    let same : forms_in t ≡ forms_in p = ap forms_in (some_same t p h) in omega (arith, same)
+first_part-smaller (app t q) p h =
+    let same : forms_in t ≡ forms_in p = ap forms_in (some_same t p h) in omega (arith, same)
+first_part-smaller (at_sort t s) p h =
+    let same : forms_in t ≡ forms_in p = ap forms_in (some_same t p h) in omega (arith, same)
+first_part-smaller (next t) p h =
+    let same : forms_in t ≡ forms_in p = ap forms_in (some_same t p h) in omega (arith, same)
+first_part-smaller (ev t) p h =
+    let same : forms_in t ≡ forms_in p = ap forms_in (some_same t p h) in omega (arith, same)
 first_part-smaller (var x) p h = absurd (none_some p h)
 first_part-smaller (meta i) p h = absurd (none_some p h)
 first_part-smaller (constant c) p h = absurd (none_some p h)
 
 -- the path down to a pattern, and one part further
-pub LeadsTo-push : (p : Pattern) (rs : List (Bor Pattern)) (r : Bor Pattern) (q : Pattern) → LeadsTo p rs r.now → first_part r.now ≡ Some q → LeadsTo p (rs ++ r ∷ []) q
+pub LeadsTo-push : (p : Pattern) (rs : List (Bor Pattern)) (r : Bor Pattern) (q : Pattern)
+    → LeadsTo p rs r.now → first_part r.now ≡ Some q → LeadsTo p (rs ++ r ∷ []) q
 LeadsTo-push p [] r q way part = (way, (q, (ap first_part way ∙ part, refl)))
-LeadsTo-push p (t ∷ rs) r q way part = (way.0, (way.1.0, (way.1.1.0, LeadsTo-push way.1.0 rs r q way.1.1.1 part)))
+LeadsTo-push p (t ∷ rs) r q way part =
+    (way.0, (way.1.0, (way.1.1.0, LeadsTo-push way.1.0 rs r q way.1.1.1 part)))
 
-pub LeadsTo-pop : (p : Pattern) (rs : List (Bor Pattern)) (r : Bor Pattern) (q : Pattern) → LeadsTo p (rs ++ r ∷ []) q → LeadsTo p rs r.now × (first_part r.now ≡ Some q)
-LeadsTo-pop p [] r q way = (way.0, ap first_part (sym way.0) ∙ way.1.1.0 ∙ ap (λ (u : Pattern). Some u) way.1.1.1)
+pub LeadsTo-pop : (p : Pattern) (rs : List (Bor Pattern)) (r : Bor Pattern) (q : Pattern)
+    → LeadsTo p (rs ++ r ∷ []) q → LeadsTo p rs r.now × (first_part r.now ≡ Some q)
+LeadsTo-pop p [] r q way =
+    (way.0, ap first_part (sym way.0) ∙ way.1.1.0 ∙ ap (λ (u : Pattern). Some u) way.1.1.1)
 LeadsTo-pop p (t ∷ rs) r q way =
-    let rest : LeadsTo way.1.0 rs r.now × (first_part r.now ≡ Some q) = LeadsTo-pop way.1.0 rs r q way.1.1.1 in
+    let rest : LeadsTo way.1.0 rs r.now × (first_part r.now ≡ Some q) =
+    LeadsTo-pop way.1.0 rs r q way.1.1.1 in
     ((way.0, (way.1.0, (way.1.1.0, rest.0))), rest.1)
 
-pub LeadsTo-smaller : (p : Pattern) (rs : List (Bor Pattern)) (q : Pattern) → LeadsTo p rs q → forms_in q ≤ forms_in p
-LeadsTo-smaller p [] q way = let same : forms_in p ≡ forms_in q = ap forms_in way in omega (arith, same)
+pub LeadsTo-smaller : (p : Pattern) (rs : List (Bor Pattern)) (q : Pattern) → LeadsTo p rs q
+    → forms_in q ≤ forms_in p
+LeadsTo-smaller p [] q way =
+    let same : forms_in p ≡ forms_in q = ap forms_in way in omega (arith, same)
 LeadsTo-smaller p (r ∷ rs) q way =
     let below : forms_in q ≤ forms_in way.1.0 = LeadsTo-smaller way.1.0 rs q way.1.1.1 in
     omega (arith, below, first_part-smaller p way.1.0 way.1.1.0)

@@ -9,9 +9,11 @@ use Rattle.ml_pat.specs.declared.same.Comparison.TheVariants as comparison
 -- two smaller ones are.
 abbrev pub Compares : Pattern → Pattern → Comparison → Type 0
 Compares p q (comparison.Known same) = IsTrue same ↔ (p ≡ q)
-Compares p q (comparison.AsFirstParts r t) = ((r.now ≡ t.now) ↔ (p ≡ q)) × (forms_in r.now < forms_in p)
+Compares p q (comparison.AsFirstParts r t) =
+    ((r.now ≡ t.now) ↔ (p ≡ q)) × (forms_in r.now < forms_in p)
 
 -- what is left to compare, given whether the other parts are the same
 abbrev pub ByFirstParts : Bool → Pattern → Pattern → Comparison → Type 0
 ByFirstParts others p q (comparison.Known same) = (others ≡ false) × (same ≡ false)
-ByFirstParts others p q (comparison.AsFirstParts r t) = (others ≡ true) × ((r.now ≡ p) × (t.now ≡ q))
+ByFirstParts others p q (comparison.AsFirstParts r t) =
+    (others ≡ true) × ((r.now ≡ p) × (t.now ≡ q))

@@ -1,6 +1,7 @@
 -- The number of forms in a pattern.
 use Rattle.std.specs.Prelude.{ℕ, ◌+◌}
-use Rattle.ml_pat.specs.Patterns.{Pattern, bot, top, imp, not, and, or, equal, member, fun, ex, all, app, at_sort, next, ev, var, meta, constant}
+use Rattle.ml_pat.specs.Patterns.{Pattern, bot, top, imp, not, and, or, equal, member, fun, ex, all}
+use Rattle.ml_pat.specs.Patterns.{app, at_sort, next, ev, var, meta, constant}
 
 abbrev pub forms_in : Pattern → ℕ
 forms_in bot = 1

@@ -2,9 +2,11 @@
 -- tables of judgements of the Metamath header): freshness, substitution without capture, and being
 -- everything or nothing. A pattern variable of a lemma stands for patterns without variables: every
 -- variable is fresh in it, and substitution does not change it. It is not a predicate.
-use Rattle.std.specs.Prelude.{ℕ, ◌==◌, ◌||◌, ◌&&◌, Bool, true, false, IsTrue, if◌then◌else◌, Option, Some, None, option_map}
+use Rattle.std.specs.Prelude.{ℕ, ◌==◌, ◌||◌, ◌&&◌, Bool, true, false, IsTrue, if◌then◌else◌, Option}
+use Rattle.std.specs.Prelude.{Some, None, option_map}
 use Rattle.std.specs.Prelude as std
-use Rattle.ml_pat.specs.Patterns.{Pattern, bot, top, imp, not, and, or, equal, member, fun, ex, all, app, at_sort, next, ev, var, meta, constant}
+use Rattle.ml_pat.specs.Patterns.{Pattern, bot, top, imp, not, and, or, equal, member, fun, ex, all}
+use Rattle.ml_pat.specs.Patterns.{app, at_sort, next, ev, var, meta, constant}
 
 -- whether x is not free in the pattern
 abbrev pub fresh : ℕ → Pattern → Bool
@@ -57,7 +59,8 @@ abbrev pub IsAbsent : ℕ → Pattern → Type 0
 IsAbsent x p = IsTrue (absent x p)
 
 -- a pattern of two parts, if both are given
-abbrev pub both_parts : (Pattern → Pattern → Pattern) → Option Pattern → Option Pattern → Option Pattern
+abbrev pub both_parts : (Pattern → Pattern → Pattern) → Option Pattern → Option Pattern
+    → Option Pattern
 both_parts f None q = None
 both_parts f (Some p) None = None
 both_parts f (Some p) (Some q) = Some (f p q)
@@ -65,7 +68,8 @@ both_parts f (Some p) (Some q) = Some (f p q)
 -- Under the quantifier of y, whose body is p and has become p': if x is bound there or not free
 -- there, nothing changes. Otherwise, if y is free in u, there is no result, since y would be
 -- captured.
-abbrev pub under_quantifier : (Pattern → Pattern) → ℕ → ℕ → Pattern → Pattern → Option Pattern → Option Pattern
+abbrev pub under_quantifier : (Pattern → Pattern) → ℕ → ℕ → Pattern → Pattern → Option Pattern
+    → Option Pattern
 under_quantifier f x y u p p' =
     if (x == y) || fresh x p then Some (f p) else (if fresh y u then option_map f p' else None)
 

@@ -10,13 +10,15 @@ use Rattle.ml_pat.specs.declared.judgements.Judgement.TheVariants as judgement
 -- part.
 abbrev pub JudgesFresh : ℕ → Pattern → Judgement → Type 0
 JudgesFresh x p (judgement.Known answer) = answer ≡ fresh x p
-JudgesFresh x p (judgement.AsPart part) = (fresh x part.now ≡ fresh x p) × (forms_in part.now < forms_in p)
+JudgesFresh x p (judgement.AsPart part) =
+    (fresh x part.now ≡ fresh x p) × (forms_in part.now < forms_in p)
 
 -- Either it is known whether the pattern is a predicate, or it is one if and only if this smaller
 -- part is one.
 abbrev pub JudgesPredicate : Pattern → Judgement → Type 0
 JudgesPredicate p (judgement.Known answer) = answer ≡ predicate p
-JudgesPredicate p (judgement.AsPart part) = (predicate part.now ≡ predicate p) × (forms_in part.now < forms_in p)
+JudgesPredicate p (judgement.AsPart part) =
+    (predicate part.now ≡ predicate p) × (forms_in part.now < forms_in p)
 
 -- the answer is that of the part if the other one holds, and otherwise no
 abbrev pub IsPartWhere : Bool → Pattern → Judgement → Type 0

@@ -1,6 +1,7 @@
 -- Facts about each sort, constant and variable of a pattern.
 use Rattle.std.specs.Prelude.{ℕ}
-use Rattle.ml_pat.specs.Patterns.{Pattern, bot, top, imp, not, and, or, equal, member, fun, ex, all, app, at_sort, next, ev, var, meta, constant}
+use Rattle.ml_pat.specs.Patterns.{Pattern, bot, top, imp, not, and, or, equal, member, fun, ex, all}
+use Rattle.ml_pat.specs.Patterns.{app, at_sort, next, ev, var, meta, constant}
 
 -- a fact about each sort, constant, object variable and pattern variable
 pub record LeafFacts : Type 1 where

@@ -10,7 +10,8 @@ number_of tokens token = position_from (λ (other : List ℕ). bytes_eq token ot
 -- a known token keeps its number, and nothing changes; a new token gets the next number
 abbrev pub IsNumbered : List (List ℕ) → List (List ℕ) → List ℕ → ℕ → Type 0
 IsNumbered old new token number =
-    MatchOption (number_of old token) ((number ≡ length old) × (new ≡ old ++ token ∷ [])) (λ n. (number ≡ n) × (new ≡ old))
+    MatchOption (number_of old token) ((number ≡ length old) × (new ≡ old ++ token ∷ []))
+    (λ n. (number ≡ n) × (new ≡ old))
 
 -- the token is not in the list
 abbrev pub IsNoneOf : List ℕ → List (List ℕ) → Type 0

@@ -3,7 +3,8 @@
 use Rattle.std.specs.Prelude.{◌≡◌, refl, ℕ, ◌==◌, if◌then◌else◌, List, [], ◌∷◌, ◌⊎◌}
 use Rattle.std.proofs.Common.{inl, inr, ◌∙◌, ap}
 use Rattle.std.specs.Coded.{Coded, code_by, coded×, coded⊎, coded_ℕ, coded_list}
-use Rattle.ml_pat.specs.Patterns.{Pattern, bot, top, imp, not, and, or, equal, member, fun, ex, all, app, at_sort, next, ev, var, meta, constant}
+use Rattle.ml_pat.specs.Patterns.{Pattern, bot, top, imp, not, and, or, equal, member, fun, ex, all}
+use Rattle.ml_pat.specs.Patterns.{app, at_sort, next, ev, var, meta, constant}
 
 -- A token is that of a form with no part, with one part, or with two parts. It has the number of
 -- the form among those, and the other numbers in the form.
@@ -37,7 +38,9 @@ tokens (app p q) rest = tokens p (tokens q (inr (inr 5) ∷ rest))
 
 abbrev leaf_of : ℕ → ℕ → Pattern
 leaf_of k n =
-    if k == 0 then bot else (if k == 1 then top else (if k == 2 then var n else (if k == 3 then meta n else constant n)))
+    if k == 0 then bot
+    else (if k == 1 then top else (if k == 2 then var n else (if k == 3 then meta n else constant
+    n)))
 
 abbrev over_one : ℕ → ℕ → ℕ → Pattern → Pattern
 over_one k x s p =
@@ -71,7 +74,8 @@ abbrev read_all : List Token → List Pattern → List Pattern
 read_all [] ps = ps
 read_all (k ∷ ks) ps = read_all ks (read_token k ps)
 
-read_all-tokens : (p : Pattern) (rest : List Token) (ps : List Pattern) → read_all (tokens p rest) ps ≡ read_all rest (p ∷ ps)
+read_all-tokens : (p : Pattern) (rest : List Token) (ps : List Pattern)
+    → read_all (tokens p rest) ps ≡ read_all rest (p ∷ ps)
 read_all-tokens bot rest ps = refl
 read_all-tokens top rest ps = refl
 read_all-tokens (var x) rest ps = refl
@@ -101,4 +105,5 @@ top_pattern-tokens p = ap top_pattern (read_all-tokens p [] [])
 
 abbrev pub pattern_code : Coded Pattern
 pattern_code =
-    code_by (List Token) (coded_list token_code) (λ p. tokens p []) (λ ks. top_pattern (read_all ks [])) top_pattern-tokens
+    code_by (List Token) (coded_list token_code) (λ p. tokens p [])
+    (λ ks. top_pattern (read_all ks [])) top_pattern-tokens

@@ -1,6 +1,7 @@
 -- The pattern that represents a form of the code. The parts of the pattern represent the parts of
 -- the form.
-use Rattle.ml_pat.specs.Patterns.{Pattern, bot, top, imp, not, and, or, equal, member, fun, ex, all, app, at_sort, next, ev, var, meta, constant}
+use Rattle.ml_pat.specs.Patterns.{Pattern, bot, top, imp, not, and, or, equal, member, fun, ex, all}
+use Rattle.ml_pat.specs.Patterns.{app, at_sort, next, ev, var, meta, constant}
 use Rattle.ml_pat.specs.declared.patterns.MForm.{MForm}
 use Rattle.ml_pat.specs.declared.patterns.MForm.TheVariants as form
 

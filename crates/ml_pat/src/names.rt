@@ -1,5 +1,6 @@
 // Tokens and their numbers.
-ghost use Rattle.std.specs.Prelude.{◌≡◌, [], ◌∷◌, ◌++◌, length, IfOk, OnOk, OnErr, slice_get, option_copied, None};
+ghost use Rattle.std.specs.Prelude.{◌≡◌, [], ◌∷◌, ◌++◌, length, IfOk, OnOk, OnErr, slice_get};
+ghost use Rattle.std.specs.Prelude.{option_copied, None};
 ghost use Rattle.ml_pat.specs.Named.{number_of, IsNumbered, AreDistinct};
 
 use std::alloc::{AllocError, Global};

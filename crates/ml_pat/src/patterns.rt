@@ -1,7 +1,8 @@
 // Patterns of matching logic, shared and not copied.
 ghost use Rattle.std.specs.Prelude.{◌≡◌, ◌<◌, IfOk, IfSome};
 ghost use Rattle.ml_pat.specs.FormsIn.{forms_in};
-ghost use Rattle.ml_pat.specs.Patterns.{bot, top, imp, not, and, or, equal, member, fun, ex, all, app, at_sort, next, ev, var, meta, constant};
+ghost use Rattle.ml_pat.specs.Patterns.{bot, top, imp, not, and, or, equal, member, fun, ex, all};
+ghost use Rattle.ml_pat.specs.Patterns.{app, at_sort, next, ev, var, meta, constant};
 ghost use Rattle.ml_pat.specs.PatternView.{pattern_of};
 
 use crate::numbers::{ConstNo, MSort, VarNo};

@@ -4,8 +4,9 @@ ghost use Rattle.ml_pat.specs.Judgements.{fresh, substituted};
 ghost use Rattle.ml_pat.specs.PatternView.{pattern_of};
 ghost use Rattle.ml_pat.specs.FirstPart.{first_part};
 ghost use Rattle.ml_pat.specs.Spines.{with_parts};
-ghost use Rattle.ml_pat.specs.Replacing.{replaced, around, both_replaced, one_replaced, under_replaced};
-ghost use Rattle.ml_pat.specs.declared.substitution.Outcome.TheVariants.{New};
+ghost use Rattle.ml_pat.specs.Replacing.{replaced, around, both_replaced, one_replaced};
+ghost use Rattle.ml_pat.specs.Replacing.{under_replaced};
+ghost use Rattle.ml_pat.specs.declared.substitution.SubstitutionResult.TheVariants.{New};
 
 use crate::judgements::fresh;
 use crate::numbers::VarNo;
@@ -14,7 +15,7 @@ use std::alloc::{AllocError, Global};
 
 // The outcome of replacing x in a pattern.
 #[derive(Drop)]
-pub(crate) enum Outcome {
+pub(crate) enum SubstitutionResult {
     // The pattern does not change, because x is not free in it.
     Kept,
     // The pattern becomes this one.
@@ -30,15 +31,20 @@ pub fn subst(alloc: Global, pat: &MPat, x: VarNo, by: &MPat) -> Result<Option<MP
     ensures { IfOk result (λ r. r ≡ substituted pat.now x.0 by.now) }
 {
     match replaced(alloc, x, by, pat)? {
-        Outcome::Kept => Ok(Some(pat.share()?)),
-        Outcome::New(made) => Ok(Some(made)),
-        Outcome::Captured => Ok(None),
+        SubstitutionResult::Kept => Ok(Some(pat.share()?)),
+        SubstitutionResult::New(made) => Ok(Some(made)),
+        SubstitutionResult::Captured => Ok(None),
     }
 }
 
 // Goes down the first parts and back up.
 #[cycle(replaced)]
-fn replaced(alloc: Global, x: VarNo, by: &MPat, pat: &MPat) -> Result<Outcome, AllocError>
+fn replaced(
+    alloc: Global,
+    x: VarNo,
+    by: &MPat,
+    pat: &MPat,
+) -> Result<SubstitutionResult, AllocError>
     ensures { IfOk result (λ made. made ≡ replaced x.0 by.now pat.now) }
 {
     let mut above = Vec::new(alloc);
@@ -47,7 +53,7 @@ fn replaced(alloc: Global, x: VarNo, by: &MPat, pat: &MPat) -> Result<Outcome, A
         above.push(lowest)?;
         lowest = first;
     }
-    let mut made = replaced_around(alloc, x, by, lowest, Outcome::Kept)?;
+    let mut made = replaced_around(alloc, x, by, lowest, SubstitutionResult::Kept)?;
     while let Some(whole) = above.pop() {
         made = replaced_around(alloc, x, by, whole, made)?;
     }
@@ -61,16 +67,16 @@ fn replaced_around(
     x: VarNo,
     by: &MPat,
     pat: &MPat,
-    first: Outcome,
-) -> Result<Outcome, AllocError>
+    first: SubstitutionResult,
+) -> Result<SubstitutionResult, AllocError>
     ensures { IfOk result (λ made. made ≡ around x.0 by.now first pat.now) }
 {
     match pat.form() {
-        MForm::Bot | MForm::Top | MForm::Meta(_) | MForm::Const(_) => Ok(Outcome::Kept),
+        MForm::Bot | MForm::Top | MForm::Meta(_) | MForm::Const(_) => Ok(SubstitutionResult::Kept),
         MForm::Var(y) => if x == *y {
-            Ok(Outcome::New(by.share()?))
+            Ok(SubstitutionResult::New(by.share()?))
         } else {
-            Ok(Outcome::Kept)
+            Ok(SubstitutionResult::Kept)
         },
         MForm::Imp(p, q)
         | MForm::And(p, q)
@@ -84,7 +90,7 @@ fn replaced_around(
         MForm::Not(_) | MForm::Fun(_, _) | MForm::At(_, _) | MForm::Next(_) | MForm::Ev(_) =>
             one_replaced(alloc, pat, first),
         MForm::Ex(y, _, _) | MForm::All(y, _, _) => if x == *y {
-            Ok(Outcome::Kept)
+            Ok(SubstitutionResult::Kept)
         } else {
             under_replaced(alloc, pat, *y, by, first)
         },
@@ -97,28 +103,35 @@ fn both_replaced(
     pat: &MPat,
     p: &MPat,
     q: &MPat,
-    first: Outcome,
-    second: Outcome,
-) -> Result<Outcome, AllocError>
-    ensures { IfOk result (λ made. made ≡ both_replaced (with_parts pat.now) p.now q.now first second) }
+    first: SubstitutionResult,
+    second: SubstitutionResult,
+) -> Result<SubstitutionResult, AllocError>
+    ensures { IfOk result
+        (λ made. made ≡ both_replaced (with_parts pat.now) p.now q.now first second) }
 {
     match (first, second) {
-        (Outcome::Kept, Outcome::Kept) => Ok(Outcome::Kept),
-        (Outcome::New(r), Outcome::Kept) => new(alloc, pat, &r, q),
-        (Outcome::Kept, Outcome::New(t)) => new(alloc, pat, p, &t),
-        (Outcome::New(r), Outcome::New(t)) => new(alloc, pat, &r, &t),
-        (Outcome::Captured, _) | (_, Outcome::Captured) => Ok(Outcome::Captured),
+        (SubstitutionResult::Kept, SubstitutionResult::Kept) => Ok(SubstitutionResult::Kept),
+        (SubstitutionResult::New(r), SubstitutionResult::Kept) => new(alloc, pat, &r, q),
+        (SubstitutionResult::Kept, SubstitutionResult::New(t)) => new(alloc, pat, p, &t),
+        (SubstitutionResult::New(r), SubstitutionResult::New(t)) => new(alloc, pat, &r, &t),
+        (SubstitutionResult::Captured, _) | (_, SubstitutionResult::Captured) => Ok(
+            SubstitutionResult::Captured,
+        ),
     }
 }
 
 // The outcome for a pattern with one part.
-fn one_replaced(alloc: Global, pat: &MPat, first: Outcome) -> Result<Outcome, AllocError>
+fn one_replaced(
+    alloc: Global,
+    pat: &MPat,
+    first: SubstitutionResult,
+) -> Result<SubstitutionResult, AllocError>
     ensures { IfOk result (λ made. made ≡ one_replaced (with_parts pat.now) first) }
 {
     match first {
-        Outcome::New(r) => new(alloc, pat, &r, &r),
-        Outcome::Kept => Ok(Outcome::Kept),
-        Outcome::Captured => Ok(Outcome::Captured),
+        SubstitutionResult::New(r) => new(alloc, pat, &r, &r),
+        SubstitutionResult::Kept => Ok(SubstitutionResult::Kept),
+        SubstitutionResult::Captured => Ok(SubstitutionResult::Captured),
     }
 }
 
@@ -128,25 +141,26 @@ fn under_replaced(
     pat: &MPat,
     y: VarNo,
     by: &MPat,
-    first: Outcome,
-) -> Result<Outcome, AllocError>
-    ensures { IfOk result (λ made. made ≡ under_replaced (with_parts pat.now) (fresh y.0 by.now) first) }
+    first: SubstitutionResult,
+) -> Result<SubstitutionResult, AllocError>
+    ensures { IfOk result
+        (λ made. made ≡ under_replaced (with_parts pat.now) (fresh y.0 by.now) first) }
 {
     match first {
-        Outcome::New(r) => if fresh(y, by) {
+        SubstitutionResult::New(r) => if fresh(y, by) {
             new(alloc, pat, &r, &r)
         } else {
-            Ok(Outcome::Captured)
+            Ok(SubstitutionResult::Captured)
         },
-        Outcome::Kept => Ok(Outcome::Kept),
-        Outcome::Captured => Ok(Outcome::Captured),
+        SubstitutionResult::Kept => Ok(SubstitutionResult::Kept),
+        SubstitutionResult::Captured => Ok(SubstitutionResult::Captured),
     }
 }
 
-fn new(alloc: Global, pat: &MPat, p: &MPat, q: &MPat) -> Result<Outcome, AllocError>
+fn new(alloc: Global, pat: &MPat, p: &MPat, q: &MPat) -> Result<SubstitutionResult, AllocError>
     ensures { IfOk result (λ made. made ≡ New (with_parts pat.now p.now q.now)) }
 {
-    Ok(Outcome::New(with_parts(alloc, pat, p, q)?))
+    Ok(SubstitutionResult::New(with_parts(alloc, pat, p, q)?))
 }
 
 // The pattern with its first part, if it has one, replaced by p, and its second part, if it has

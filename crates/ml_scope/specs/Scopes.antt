@@ -86,5 +86,6 @@ AssumesWithin p t = (s : Scope) → Contains s.assumed p → IsOver s p → IsWi
 -- patterns and these proofs, contains this theorem.
 abbrev pub CitesWithin : Theorem → List Pattern → List Theorem → Theorem → Type 0
 CitesWithin lemma ms ts t =
-    (s : Scope) → IsStatedIn s lemma.hypotheses lemma.conclusion → IsOverPlaces s lemma.conclusion → AreOver s ms
+    (s : Scope) → IsStatedIn s lemma.hypotheses lemma.conclusion → IsOverPlaces s lemma.conclusion
+    → AreOver s ms
     → AreWithin s ts → IsWithin s t

@@ -1,6 +1,7 @@
 // Assumptions and citations of lemmas.
 ghost use Rattle.std.specs.Prelude.{◌≡◌, ◌∷◌, [], length, IfOk};
-ghost use Rattle.ml_kernel.specs.Lemmas.{instance, instances, IsMetaBelow, AreMetasBelow, HaveNoVariables};
+ghost use Rattle.ml_kernel.specs.Lemmas.{instance, instances, IsMetaBelow, AreMetasBelow};
+ghost use Rattle.ml_kernel.specs.Lemmas.{HaveNoVariables};
 ghost use Rattle.ml_kernel.specs.Theorems.{conclusions};
 ghost use Rattle.ml_scope.specs.Scopes.{AssumesWithin, CitesWithin};
 

@@ -18,7 +18,8 @@ pub fn p_1(alloc: Global, p: &MPat, q: &MPat) -> Result<Thm, AllocError>
 
 /// `(p -> q -> r) -> (p -> q) -> p -> r`.
 pub fn p_2(alloc: Global, p: &MPat, q: &MPat, r: &MPat) -> Result<Thm, AllocError>
-    ensures conclusion { IfOk result (λ t. t.conclusion ≡ imp (imp p.now (imp q.now r.now)) (imp (imp p.now q.now) (imp p.now r.now))) }
+    ensures conclusion { IfOk result (λ t. t.conclusion
+        ≡ imp (imp p.now (imp q.now r.now)) (imp (imp p.now q.now) (imp p.now r.now))) }
     ensures stays { IfOk result (StaysWithin (p.now ∷ q.now ∷ r.now ∷ []) ([])) }
 {
     Thm::p_2(alloc, p, q, r)
@@ -103,7 +104,8 @@ pub fn inst<'a>(
     s: MSort,
 ) -> Result<Thm, AllocError>
     requires { substituted p.now x.0 q.now ≡ Some r.now }
-    ensures conclusion { IfOk result (λ t. t.conclusion ≡ imp (all x.0 s.0 p.now) (imp (fun q.now s.0) r.now)) }
+    ensures conclusion { IfOk result
+        (λ t. t.conclusion ≡ imp (all x.0 s.0 p.now) (imp (fun q.now s.0) r.now)) }
     ensures stays { IfOk result (StaysWithin (all x.0 s.0 p.now ∷ q.now ∷ r.now ∷ []) []) }
 {
     Thm::inst(alloc, p, q, r, x, s)
@@ -131,7 +133,8 @@ pub fn eq_el<'a>(
 ) -> Result<Thm, AllocError>
     requires t { substituted r.now x.0 p.now ≡ Some t.now }
     requires u { substituted r.now x.0 q.now ≡ Some u.now }
-    ensures conclusion { IfOk result (λ e. e.conclusion ≡ imp (equal p.now q.now) (imp t.now u.now)) }
+    ensures conclusion { IfOk result
+        (λ e. e.conclusion ≡ imp (equal p.now q.now) (imp t.now u.now)) }
     ensures stays { IfOk result
         (StaysWithin (p.now ∷ q.now ∷ r.now ∷ t.now ∷ u.now ∷ var x.0 ∷ []) []) }
 {

@@ -1,7 +1,8 @@
 -- No variable occurs in a closed pattern.
 use Rattle.std.proofs.Common.{◌≡◌, ℕ, List, [], ◌++◌, map, refl, ap}
 use Rattle.mm_text.specs.Bytes.{Token}
-use Rattle.ml_pat.specs.Patterns.{Pattern, bot, top, imp, not, and, or, equal, member, fun, ex, all, app, at_sort, next, ev, var, meta, constant}
+use Rattle.ml_pat.specs.Patterns.{Pattern, bot, top, imp, not, and, or, equal, member, fun, ex, all}
+use Rattle.ml_pat.specs.Patterns.{app, at_sort, next, ev, var, meta, constant}
 use Rattle.ml_pat.specs.Leaves.{EachLeaf}
 use Rattle.ml_pat.proofs.LeafLaws.{EachLeaf-implied}
 use Rattle.mm_claims.specs.OverNames.{closed_over, over_names}
@@ -16,7 +17,8 @@ use Rattle.mm_claims.specs.ClosedLaws.{ClosedHasNoMeta, ClosedIsOver, ClosedClai
 none_in_both : (us vs : List Variable) → us ≡ [] → vs ≡ [] → us ++ vs ≡ []
 none_in_both us vs h k = rw (h, k) refl
 
-closed_variables : (names : List Token) (p : Pattern) → EachLeaf (closed_over names) p → variables_in p ≡ []
+closed_variables : (names : List Token) (p : Pattern) → EachLeaf (closed_over names) p
+    → variables_in p ≡ []
 closed_variables names bot h = refl
 closed_variables names top h = refl
 closed_variables names (var x) h = absurd h
@@ -29,15 +31,28 @@ closed_variables names (fun p s) h = closed_variables names p h.0
 closed_variables names (at_sort p s) h = closed_variables names p h.0
 closed_variables names (ex x s p) h = absurd h.1.0
 closed_variables names (all x s p) h = absurd h.1.0
-closed_variables names (imp p q) h = none_in_both (variables_in p) (variables_in q) (closed_variables names p h.0) (closed_variables names q h.1)
-closed_variables names (and p q) h = none_in_both (variables_in p) (variables_in q) (closed_variables names p h.0) (closed_variables names q h.1)
-closed_variables names (or p q) h = none_in_both (variables_in p) (variables_in q) (closed_variables names p h.0) (closed_variables names q h.1)
-closed_variables names (equal p q) h = none_in_both (variables_in p) (variables_in q) (closed_variables names p h.0) (closed_variables names q h.1)
-closed_variables names (member p q) h = none_in_both (variables_in p) (variables_in q) (closed_variables names p h.0) (closed_variables names q h.1)
-closed_variables names (app p q) h = none_in_both (variables_in p) (variables_in q) (closed_variables names p h.0) (closed_variables names q h.1)
+closed_variables names (imp p q) h =
+    none_in_both (variables_in p) (variables_in q) (closed_variables names p h.0)
+    (closed_variables names q h.1)
+closed_variables names (and p q) h =
+    none_in_both (variables_in p) (variables_in q) (closed_variables names p h.0)
+    (closed_variables names q h.1)
+closed_variables names (or p q) h =
+    none_in_both (variables_in p) (variables_in q) (closed_variables names p h.0)
+    (closed_variables names q h.1)
+closed_variables names (equal p q) h =
+    none_in_both (variables_in p) (variables_in q) (closed_variables names p h.0)
+    (closed_variables names q h.1)
+closed_variables names (member p q) h =
+    none_in_both (variables_in p) (variables_in q) (closed_variables names p h.0)
+    (closed_variables names q h.1)
+closed_variables names (app p q) h =
+    none_in_both (variables_in p) (variables_in q) (closed_variables names p h.0)
+    (closed_variables names q h.1)
 
 pub closed_claims : ClosedClaims
-closed_claims names p h = ap (λ (vs : List Variable). other_variables [] (vs ++ [])) (closed_variables names p h)
+closed_claims names p h =
+    ap (λ (vs : List Variable). other_variables [] (vs ++ [])) (closed_variables names p h)
 
 pub closed_is_over : ClosedIsOver
 closed_is_over names p h = EachLeaf-implied (closed_over names) (over_names names) p (record {
@@ -60,13 +75,21 @@ closed_has_no_meta names (fun p s) h = closed_has_no_meta names p h.0
 closed_has_no_meta names (at_sort p s) h = closed_has_no_meta names p h.0
 closed_has_no_meta names (ex x s p) h = closed_has_no_meta names p h.0
 closed_has_no_meta names (all x s p) h = closed_has_no_meta names p h.0
-closed_has_no_meta names (imp p q) h = (closed_has_no_meta names p h.0, closed_has_no_meta names q h.1)
-closed_has_no_meta names (and p q) h = (closed_has_no_meta names p h.0, closed_has_no_meta names q h.1)
-closed_has_no_meta names (or p q) h = (closed_has_no_meta names p h.0, closed_has_no_meta names q h.1)
-closed_has_no_meta names (equal p q) h = (closed_has_no_meta names p h.0, closed_has_no_meta names q h.1)
-closed_has_no_meta names (member p q) h = (closed_has_no_meta names p h.0, closed_has_no_meta names q h.1)
-closed_has_no_meta names (app p q) h = (closed_has_no_meta names p h.0, closed_has_no_meta names q h.1)
+closed_has_no_meta names (imp p q) h =
+    (closed_has_no_meta names p h.0, closed_has_no_meta names q h.1)
+closed_has_no_meta names (and p q) h =
+    (closed_has_no_meta names p h.0, closed_has_no_meta names q h.1)
+closed_has_no_meta names (or p q) h =
+    (closed_has_no_meta names p h.0, closed_has_no_meta names q h.1)
+closed_has_no_meta names (equal p q) h =
+    (closed_has_no_meta names p h.0, closed_has_no_meta names q h.1)
+closed_has_no_meta names (member p q) h =
+    (closed_has_no_meta names p h.0, closed_has_no_meta names q h.1)
+closed_has_no_meta names (app p q) h =
+    (closed_has_no_meta names p h.0, closed_has_no_meta names q h.1)
 
 -- so the frame of its claim has no hypotheses
-pub closed_frame_has_none : (names : List Token) (k : ℕ) (p : Pattern) → EachLeaf (closed_over names) p → (open_frame names k (claim_of [] p)).hypotheses ≡ []
-closed_frame_has_none names k p h = ap (λ (vs : List Variable). map (variable_float k) vs ++ []) (closed_claims names p h)
+pub closed_frame_has_none : (names : List Token) (k : ℕ) (p : Pattern)
+    → EachLeaf (closed_over names) p → (open_frame names k (claim_of [] p)).hypotheses ≡ []
+closed_frame_has_none names k p h =
+    ap (λ (vs : List Variable). map (variable_float k) vs ++ []) (closed_claims names p h)

@@ -1,5 +1,6 @@
 -- The tokens and labels of names.
-use Rattle.std.proofs.Common.{◌≡◌, ℕ, ◌+◌, ◌<◌, ◌^◌, Bool, true, false, List, [], ◌∷◌, ◌++◌, refl, ap, sym, subst, arith}
+use Rattle.std.proofs.Common.{◌≡◌, ℕ, ◌+◌, ◌<◌, ◌^◌, Bool, true, false, List, [], ◌∷◌, ◌++◌, refl}
+use Rattle.std.proofs.Common.{ap, sym, subst, arith}
 use Rattle.std.specs.Prelude.{◌==◌, if◌then◌else◌, codes, decimal, bytes_eq}
 use Rattle.std.specs.List.{list_all}
 use Rattle.std.proofs.lemmas.Bool.{false≢true}
@@ -14,7 +15,8 @@ use Rattle.mm_header.specs.HeaderContext.{header_context, header_labels}
 use Rattle.mm_proof.specs.Labels.{name_label}
 use Rattle.ml_pat.proofs.LeafLaws.{both_true, split_true}
 use Rattle.mm_proof.proofs.Decimals.{list_all-decimal, decimal-same}
-use Rattle.mm_claims.specs.Statements.{NameKind, sort_name, symbol_name, value_name, kind_front, is_name_byte, IsName, typecode_of}
+use Rattle.mm_claims.specs.Statements.{NameKind, sort_name, symbol_name, value_name, kind_front}
+use Rattle.mm_claims.specs.Statements.{is_name_byte, IsName, typecode_of}
 use Rattle.mm_claims.specs.Fitting.{name_frame, AreNames}
 use Rattle.mm_claims.specs.Variables.{is_variable_token}
 use Rattle.mm_text.specs.PlainTokens.{is_plain_token}
@@ -33,12 +35,14 @@ pub record NameFacts (t : Token) : Type 0 where
   pub clean_typecode : has_dollar (typecode_of t) ≡ false
   pub plain_typecode : is_plain_token (typecode_of t) ≡ true
   pub no_end_typecode : ends_statement (typecode_of t) ≡ false
-  pub frame : (i : ℕ) → frame_of header_context.scope (name_label i) (typecode_of t ∷ (t ∷ [])) ≡ name_frame i t
+  pub frame : (i : ℕ)
+      → frame_of header_context.scope (name_label i) (typecode_of t ∷ (t ∷ [])) ≡ name_frame i t
 
 -- a byte of a name is printable and is not `$`
 printing : (b : ℕ) → is_name_byte b ≡ true → is_printable_class (class_of b) ≡ true
 printing b h =
-    let both : (is_printable b ≡ true) × ((if b == 36 then false else true) ≡ true) = split_true (is_printable b) (if b == 36 then false else true) h in
+    let both : (is_printable b ≡ true) × ((if b == 36 then false else true) ≡ true) =
+    split_true (is_printable b) (if b == 36 then false else true) h in
     class b both.0
   where
     class : (b : ℕ) → is_printable b ≡ true → is_printable_class (class_of b) ≡ true
@@ -46,30 +50,36 @@ printing b h =
 
 no_dollar : (b : ℕ) → is_name_byte b ≡ true → (b == 36) ≡ false
 no_dollar b h =
-    let both : (is_printable b ≡ true) × ((if b == 36 then false else true) ≡ true) = split_true (is_printable b) (if b == 36 then false else true) h in
+    let both : (is_printable b ≡ true) × ((if b == 36 then false else true) ≡ true) =
+    split_true (is_printable b) (if b == 36 then false else true) h in
     go (b == 36) both.1
   where
     go : (c : Bool) → (if c then false else true) ≡ true → c ≡ false
     go true k = absurd (false≢true k)
     go false k = refl
 
-pub all_printing : (bs : Token) → list_all is_name_byte bs ≡ true → list_all (λ c. is_printable_class (class_of c)) bs ≡ true
+pub all_printing : (bs : Token) → list_all is_name_byte bs ≡ true
+    → list_all (λ c. is_printable_class (class_of c)) bs ≡ true
 all_printing [] h = refl
 all_printing (b ∷ bs) h =
-    let both : (is_name_byte b ≡ true) × (list_all is_name_byte bs ≡ true) = split_true (is_name_byte b) (list_all is_name_byte bs) h in
-    both_true (is_printable_class (class_of b)) (list_all (λ c. is_printable_class (class_of c)) bs) (printing b both.0) (all_printing bs both.1)
+    let both : (is_name_byte b ≡ true) × (list_all is_name_byte bs ≡ true) =
+    split_true (is_name_byte b) (list_all is_name_byte bs) h in
+    both_true (is_printable_class (class_of b)) (list_all (λ c. is_printable_class (class_of c)) bs)
+    (printing b both.0) (all_printing bs both.1)
 
 pub no_dollars : (bs : Token) → list_all is_name_byte bs ≡ true → has_dollar bs ≡ false
 no_dollars [] h = refl
 no_dollars (b ∷ bs) h =
-    let both : (is_name_byte b ≡ true) × (list_all is_name_byte bs ≡ true) = split_true (is_name_byte b) (list_all is_name_byte bs) h in
+    let both : (is_name_byte b ≡ true) × (list_all is_name_byte bs ≡ true) =
+    split_true (is_name_byte b) (list_all is_name_byte bs) h in
     let here : (b == 36) ≡ false = no_dollar b both.0 in
     rw here (no_dollars bs both.1)
 
 sort_facts : (w : Token) → list_all is_name_byte w ≡ true → NameFacts (codes "s:" ++ w)
 unfolding header_context header_rows header_labels
 sort_facts w h = record {
-  plain = both_true (list_all (λ c. is_printable_class (class_of c)) w) true (all_printing w h) refl;
+  plain =
+      both_true (list_all (λ c. is_printable_class (class_of c)) w) true (all_printing w h) refl;
   clean = no_dollars w h;
   no_end = refl;
   no_constant = refl;
@@ -87,7 +97,8 @@ sort_facts w h = record {
 symbol_facts : (w : Token) → list_all is_name_byte w ≡ true → NameFacts (codes "f:" ++ w)
 unfolding header_context header_rows header_labels
 symbol_facts w h = record {
-  plain = both_true (list_all (λ c. is_printable_class (class_of c)) w) true (all_printing w h) refl;
+  plain =
+      both_true (list_all (λ c. is_printable_class (class_of c)) w) true (all_printing w h) refl;
   clean = no_dollars w h;
   no_end = refl;
   no_constant = refl;
@@ -105,7 +116,8 @@ symbol_facts w h = record {
 value_facts : (w : Token) → list_all is_name_byte w ≡ true → NameFacts (codes "d:" ++ w)
 unfolding header_context header_rows header_labels
 value_facts w h = record {
-  plain = both_true (list_all (λ c. is_printable_class (class_of c)) w) true (all_printing w h) refl;
+  plain =
+      both_true (list_all (λ c. is_printable_class (class_of c)) w) true (all_printing w h) refl;
   clean = no_dollars w h;
   no_end = refl;
   no_constant = refl;
@@ -141,13 +153,16 @@ name_label-is_label i h = list_all-decimal is_label_byte digit_of_label i h
 
 pub name_label-plain : (i : ℕ) → i < 2 ^ 64 → is_plain_token (name_label i) ≡ true
 name_label-plain i h =
-    let bytes : list_all is_name_byte (decimal i) ≡ true = list_all-decimal is_name_byte digit_prints i h in
-    both_true (list_all (λ c. is_printable_class (class_of c)) (decimal i)) true (all_printing (decimal i) bytes) refl
+    let bytes : list_all is_name_byte (decimal i) ≡ true =
+    list_all-decimal is_name_byte digit_prints i h in
+    both_true (list_all (λ c. is_printable_class (class_of c)) (decimal i)) true
+    (all_printing (decimal i) bytes) refl
 
 pub name_label-clean : (i : ℕ) → i < 2 ^ 64 → has_dollar (name_label i) ≡ false
 name_label-clean i h = no_dollars (decimal i) (list_all-decimal is_name_byte digit_prints i h)
 
-pub name_label-differs : (i j : ℕ) → i < 2 ^ 64 → j < 2 ^ 64 → (i ≡ j → ⊥) → bytes_eq (name_label i) (name_label j) ≡ false
+pub name_label-differs : (i j : ℕ) → i < 2 ^ 64 → j < 2 ^ 64 → (i ≡ j → ⊥)
+    → bytes_eq (name_label i) (name_label j) ≡ false
 name_label-differs i j h k differ = go (bytes_eq (name_label i) (name_label j)) refl
   where
     behind : Token → Token
@@ -155,8 +170,11 @@ name_label-differs i j h k differ = go (bytes_eq (name_label i) (name_label j)) 
     behind (a ∷ []) = []
     behind (a ∷ (b ∷ bs)) = bs
 
-    go : (b : Bool) → bytes_eq (name_label i) (name_label j) ≡ b → bytes_eq (name_label i) (name_label j) ≡ false
-    go true is = absurd (differ (decimal-same i j h k (ap behind ((bytes_eq-Decides (name_label i) (name_label j)).0 is))))
+    go : (b : Bool) → bytes_eq (name_label i) (name_label j) ≡ b
+        → bytes_eq (name_label i) (name_label j) ≡ false
+    go true is =
+        absurd (differ (decimal-same i j h k
+        (ap behind ((bytes_eq-Decides (name_label i) (name_label j)).0 is))))
     go false is = is
 
 -- no name is a label

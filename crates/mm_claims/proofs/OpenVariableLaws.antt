@@ -1,23 +1,28 @@
 -- A block that declares the variables that a derivation needs has everything that the derivation
 -- uses and cites there.
-use Rattle.std.proofs.Common.{◌≡◌, ℕ, Bool, true, false, List, [], ◌∷◌, ◌++◌, refl, ◌∙◌, sym, subst, append_assoc, append-nil}
+use Rattle.std.proofs.Common.{◌≡◌, ℕ, Bool, true, false, List, [], ◌∷◌, ◌++◌, refl, ◌∙◌, sym, subst}
+use Rattle.std.proofs.Common.{append_assoc, append-nil}
 use Rattle.std.specs.Prelude.{if◌then◌else◌, flat_map}
 use Rattle.std.proofs.lemmas.Bool.{false≢true}
 use Rattle.mm_text.specs.Bytes.{Token}
-use Rattle.ml_pat.specs.Patterns.{Pattern, bot, top, imp, not, and, or, equal, member, fun, ex, all, app, at_sort, next, ev, var, meta, constant}
+use Rattle.ml_pat.specs.Patterns.{Pattern, bot, top, imp, not, and, or, equal, member, fun, ex, all}
+use Rattle.ml_pat.specs.Patterns.{app, at_sort, next, ev, var, meta, constant}
 use Rattle.ml_kernel.specs.Lemmas.{instance}
 use Rattle.ml_kernel.specs.Renamings.{by_place}
 use Rattle.ml_kernel.specs.Rules.{Instance, pattern, variable, sort}
-use Rattle.ml_kernel.specs.Theorems.{Derivation, Derivations, hypothesis, own_axiom, by_rule, cited, no_derivation, more_derivations}
+use Rattle.ml_kernel.specs.Theorems.{Derivation, Derivations, hypothesis, own_axiom, by_rule, cited}
+use Rattle.ml_kernel.specs.Theorems.{no_derivation, more_derivations}
 use Rattle.ml_pat.specs.Leaves.{EachLeaf}
 use Rattle.ml_kernel.specs.UsedLeaves.{EachInstance, EachUsed, AllUsed}
 use Rattle.ml_kernel.specs.MayCite.{EachCited, AllCited}
-use Rattle.mm_claims.specs.Variables.{Variable, object_variable, pattern_variable, has_variable, are_once, AreNumbered}
+use Rattle.mm_claims.specs.Variables.{Variable, object_variable, pattern_variable, has_variable}
+use Rattle.mm_claims.specs.Variables.{are_once, AreNumbered}
 use Rattle.mm_claims.specs.Blocks.{Claim}
 use Rattle.mm_claims.specs.OverNames.{open_over, over_names}
 use Rattle.mm_claims.specs.CitedAt.{at_places, claim_at, HaveInstances, IsCitable}
 use Rattle.mm_claims.specs.Citable.{citable}
-use Rattle.mm_claims.specs.OpenVariables.{variables_in, variables_for, variables_at, variables_of, all_variables_of, other_variables}
+use Rattle.mm_claims.specs.OpenVariables.{variables_in, variables_for, variables_at, variables_of}
+use Rattle.mm_claims.specs.OpenVariables.{all_variables_of, other_variables}
 use Rattle.mm_claims.specs.ClaimLaws.{NeededAreEnough}
 use Rattle.mm_claims.proofs.OpenCitingTexts.{case_variable, first_there, later_there}
 use Rattle.mm_claims.proofs.OpenCiting.{claim_is}
@@ -41,71 +46,173 @@ among_behind : (us ws vs : List Variable) → Among (us ++ ws) vs → Among ws v
 among_behind us ws vs h v there = h v (behind us ws v there)
 
 -- a pattern over declared names whose variables are among some
-pub leaves_among : (declared : List Token) (vs : List Variable) (p : Pattern) → Among (variables_in p) vs → EachLeaf (over_names declared) p → EachLeaf (open_over declared vs) p
+pub leaves_among : (declared : List Token) (vs : List Variable) (p : Pattern)
+    → Among (variables_in p) vs → EachLeaf (over_names declared) p
+    → EachLeaf (open_over declared vs) p
 leaves_among declared vs bot w h = tt
 leaves_among declared vs top w h = tt
-leaves_among declared vs (imp p q) w h = (leaves_among declared vs p (among_front (variables_in p) (variables_in q) vs w) h.0, leaves_among declared vs q (among_behind (variables_in p) (variables_in q) vs w) h.1)
-leaves_among declared vs (and p q) w h = (leaves_among declared vs p (among_front (variables_in p) (variables_in q) vs w) h.0, leaves_among declared vs q (among_behind (variables_in p) (variables_in q) vs w) h.1)
-leaves_among declared vs (or p q) w h = (leaves_among declared vs p (among_front (variables_in p) (variables_in q) vs w) h.0, leaves_among declared vs q (among_behind (variables_in p) (variables_in q) vs w) h.1)
-leaves_among declared vs (equal p q) w h = (leaves_among declared vs p (among_front (variables_in p) (variables_in q) vs w) h.0, leaves_among declared vs q (among_behind (variables_in p) (variables_in q) vs w) h.1)
-leaves_among declared vs (member p q) w h = (leaves_among declared vs p (among_front (variables_in p) (variables_in q) vs w) h.0, leaves_among declared vs q (among_behind (variables_in p) (variables_in q) vs w) h.1)
-leaves_among declared vs (app p q) w h = (leaves_among declared vs p (among_front (variables_in p) (variables_in q) vs w) h.0, leaves_among declared vs q (among_behind (variables_in p) (variables_in q) vs w) h.1)
+leaves_among declared vs (imp p q) w h = (
+  leaves_among declared vs p (among_front (variables_in p) (variables_in q) vs w) h.0,
+  leaves_among declared vs q (among_behind (variables_in p) (variables_in q) vs w) h.1,
+)
+leaves_among declared vs (and p q) w h = (
+  leaves_among declared vs p (among_front (variables_in p) (variables_in q) vs w) h.0,
+  leaves_among declared vs q (among_behind (variables_in p) (variables_in q) vs w) h.1,
+)
+leaves_among declared vs (or p q) w h = (
+  leaves_among declared vs p (among_front (variables_in p) (variables_in q) vs w) h.0,
+  leaves_among declared vs q (among_behind (variables_in p) (variables_in q) vs w) h.1,
+)
+leaves_among declared vs (equal p q) w h = (
+  leaves_among declared vs p (among_front (variables_in p) (variables_in q) vs w) h.0,
+  leaves_among declared vs q (among_behind (variables_in p) (variables_in q) vs w) h.1,
+)
+leaves_among declared vs (member p q) w h = (
+  leaves_among declared vs p (among_front (variables_in p) (variables_in q) vs w) h.0,
+  leaves_among declared vs q (among_behind (variables_in p) (variables_in q) vs w) h.1,
+)
+leaves_among declared vs (app p q) w h = (
+  leaves_among declared vs p (among_front (variables_in p) (variables_in q) vs w) h.0,
+  leaves_among declared vs q (among_behind (variables_in p) (variables_in q) vs w) h.1,
+)
 leaves_among declared vs (not p) w h = leaves_among declared vs p w h
 leaves_among declared vs (next p) w h = leaves_among declared vs p w h
 leaves_among declared vs (ev p) w h = leaves_among declared vs p w h
 leaves_among declared vs (at_sort p s) w h = (leaves_among declared vs p w h.0, h.1)
 leaves_among declared vs (fun p s) w h = (leaves_among declared vs p w h.0, h.1)
-leaves_among declared vs (ex x s p) w h = (leaves_among declared vs p (λ v there. w v (later_there (object_variable x) (variables_in p) v there)) h.0, (w (object_variable x) (first_there (object_variable x) (variables_in p)), h.1.1))
-leaves_among declared vs (all x s p) w h = (leaves_among declared vs p (λ v there. w v (later_there (object_variable x) (variables_in p) v there)) h.0, (w (object_variable x) (first_there (object_variable x) (variables_in p)), h.1.1))
+leaves_among declared vs (ex x s p) w h = (
+  leaves_among declared vs p
+      (λ v there. w v (later_there (object_variable x) (variables_in p) v there)) h.0,
+  (w (object_variable x) (first_there (object_variable x) (variables_in p)), h.1.1),
+)
+leaves_among declared vs (all x s p) w h = (
+  leaves_among declared vs p
+      (λ v there. w v (later_there (object_variable x) (variables_in p) v there)) h.0,
+  (w (object_variable x) (first_there (object_variable x) (variables_in p)), h.1.1),
+)
 leaves_among declared vs (var x) w h = w (object_variable x) (first_there (object_variable x) [])
 leaves_among declared vs (meta i) w h = w (pattern_variable i) (first_there (pattern_variable i) [])
 leaves_among declared vs (constant c) w h = h
 
 -- the same is true of what is substituted for the variables of a rule, and of a claim
-instances_among : (declared : List Token) (vs : List Variable) (is : List Instance) → Among (flat_map variables_for is) vs → EachInstance (over_names declared) is → EachInstance (open_over declared vs) is
+instances_among : (declared : List Token) (vs : List Variable) (is : List Instance)
+    → Among (flat_map variables_for is) vs → EachInstance (over_names declared) is
+    → EachInstance (open_over declared vs) is
 instances_among declared vs [] w h = tt
-instances_among declared vs (pattern p ∷ is) w h = (leaves_among declared vs p (among_front (variables_in p) (flat_map variables_for is) vs w) h.0, instances_among declared vs is (among_behind (variables_in p) (flat_map variables_for is) vs w) h.1)
-instances_among declared vs (variable x ∷ is) w h = (w (object_variable x) (first_there (object_variable x) (flat_map variables_for is)), instances_among declared vs is (λ v there. w v (later_there (object_variable x) (flat_map variables_for is) v there)) h.1)
+instances_among declared vs (pattern p ∷ is) w h = (
+  leaves_among declared vs p (among_front (variables_in p) (flat_map variables_for is) vs w) h.0,
+  instances_among declared vs is
+      (among_behind (variables_in p) (flat_map variables_for is) vs w) h.1,
+)
+instances_among declared vs (variable x ∷ is) w h = (
+  w (object_variable x) (first_there (object_variable x) (flat_map variables_for is)),
+  instances_among declared vs is
+      (λ v there. w v (later_there (object_variable x) (flat_map variables_for is) v there))
+      h.1,
+)
 instances_among declared vs (sort s ∷ is) w h = (h.0, instances_among declared vs is w h.1)
 
-values_among : (declared : List Token) (vs : List Variable) (new : List ℕ) (ms : List Pattern) (us : List Variable) → Among (flat_map (variables_at new ms) us) vs → HaveInstances (over_names declared) new ms us → HaveInstances (open_over declared vs) new ms us
+values_among : (declared : List Token) (vs : List Variable) (new : List ℕ) (ms : List Pattern)
+    (us : List Variable) → Among (flat_map (variables_at new ms) us) vs
+    → HaveInstances (over_names declared) new ms us
+    → HaveInstances (open_over declared vs) new ms us
 values_among declared vs new ms [] w h = tt
-values_among declared vs new ms (object_variable x ∷ us) w h = (w (object_variable (by_place new x)) (first_there (object_variable (by_place new x)) (flat_map (variables_at new ms) us)), values_among declared vs new ms us (λ v there. w v (later_there (object_variable (by_place new x)) (flat_map (variables_at new ms) us) v there)) h.1)
-values_among declared vs new ms (pattern_variable i ∷ us) w h = (leaves_among declared vs (instance ms (meta i)) (among_front (variables_in (instance ms (meta i))) (flat_map (variables_at new ms) us) vs w) h.0, values_among declared vs new ms us (among_behind (variables_in (instance ms (meta i))) (flat_map (variables_at new ms) us) vs w) h.1)
+values_among declared vs new ms (object_variable x ∷ us) w h = (
+  w (object_variable (by_place new x))
+      (first_there (object_variable (by_place new x)) (flat_map (variables_at new ms) us)),
+  values_among declared vs new ms us (λ v there. w v (later_there
+      (object_variable (by_place new x)) (flat_map (variables_at new ms) us) v there))
+      h.1,
+)
+values_among declared vs new ms (pattern_variable i ∷ us) w h = (
+  leaves_among declared vs (instance ms (meta i)) (among_front
+      (variables_in (instance ms (meta i))) (flat_map (variables_at new ms) us) vs w) h.0,
+  values_among declared vs new ms us (among_behind (variables_in (instance ms (meta i)))
+      (flat_map (variables_at new ms) us) vs w) h.1,
+)
 
-citable_among : (declared : List Token) (vs : List Variable) (claims : List Claim) (place : List Pattern → Pattern → ℕ) (own : List Pattern) (q : Pattern) (new : List ℕ) (ms : List Pattern) → Among (flat_map (variables_at new ms) (claim_at claims (place own q)).variables) vs → IsCitable (over_names declared) claims place own q new ms → IsCitable (open_over declared vs) claims place own q new ms
+citable_among : (declared : List Token) (vs : List Variable) (claims : List Claim)
+    (place : List Pattern → Pattern → ℕ) (own : List Pattern) (q : Pattern) (new : List ℕ)
+    (ms : List Pattern)
+    → Among (flat_map (variables_at new ms) (claim_at claims (place own q)).variables) vs
+    → IsCitable (over_names declared) claims place own q new ms
+    → IsCitable (open_over declared vs) claims place own q new ms
 citable_among declared vs claims place own q new ms w h = record {
   claim = h.claim;
   there = h.there;
   hypotheses = h.hypotheses;
   conclusion = h.conclusion;
-  instances = values_among declared vs new ms h.claim.variables (subst (λ (s : Claim). Among (flat_map (variables_at new ms) s.variables) vs) (claim_is claims (place own q) h.claim h.there) w) h.instances;
+  instances =
+      values_among declared vs new ms h.claim.variables (subst
+      (λ (s : Claim). Among (flat_map (variables_at new ms) s.variables) vs)
+      (claim_is claims (place own q) h.claim h.there) w) h.instances;
 }
 
 mutual
-  used_among : (declared : List Token) (vs : List Variable) (claims : List Claim) (place : List Pattern → Pattern → ℕ) (d : Derivation) → Among (variables_of (at_places claims place) d) vs → EachUsed (over_names declared) d → EachUsed (open_over declared vs) d
+  used_among : (declared : List Token) (vs : List Variable) (claims : List Claim)
+      (place : List Pattern → Pattern → ℕ) (d : Derivation)
+      → Among (variables_of (at_places claims place) d) vs → EachUsed (over_names declared) d
+      → EachUsed (open_over declared vs) d
   used_among declared vs claims place (hypothesis p) w h = tt
   used_among declared vs claims place (own_axiom n p new) w h = tt
-  used_among declared vs claims place (by_rule r is ds) w h = (instances_among declared vs is (among_front (flat_map variables_for is) (all_variables_of (at_places claims place) ds) vs w) h.0, all_used_among declared vs claims place ds (among_behind (flat_map variables_for is) (all_variables_of (at_places claims place) ds) vs w) h.1)
-  used_among declared vs claims place (cited own q d ms ds) w h = all_used_among declared vs claims place ds (among_behind (flat_map (variables_at [] ms) (claim_at claims (place own q)).variables) (all_variables_of (at_places claims place) ds) vs w) h
+  used_among declared vs claims place (by_rule r is ds) w h = (
+    instances_among declared vs is (among_front (flat_map variables_for is)
+        (all_variables_of (at_places claims place) ds) vs w) h.0,
+    all_used_among declared vs claims place ds (among_behind (flat_map variables_for is)
+        (all_variables_of (at_places claims place) ds) vs w) h.1,
+  )
+  used_among declared vs claims place (cited own q d ms ds) w h =
+      all_used_among declared vs claims place ds (among_behind
+      (flat_map (variables_at [] ms) (claim_at claims (place own q)).variables)
+      (all_variables_of (at_places claims place) ds) vs w) h
 
-  all_used_among : (declared : List Token) (vs : List Variable) (claims : List Claim) (place : List Pattern → Pattern → ℕ) (ds : Derivations) → Among (all_variables_of (at_places claims place) ds) vs → AllUsed (over_names declared) ds → AllUsed (open_over declared vs) ds
+  all_used_among : (declared : List Token) (vs : List Variable) (claims : List Claim)
+      (place : List Pattern → Pattern → ℕ) (ds : Derivations)
+      → Among (all_variables_of (at_places claims place) ds) vs → AllUsed (over_names declared) ds
+      → AllUsed (open_over declared vs) ds
   all_used_among declared vs claims place no_derivation w h = tt
-  all_used_among declared vs claims place (more_derivations d ds) w h = (used_among declared vs claims place d (among_front (variables_of (at_places claims place) d) (all_variables_of (at_places claims place) ds) vs w) h.0, all_used_among declared vs claims place ds (among_behind (variables_of (at_places claims place) d) (all_variables_of (at_places claims place) ds) vs w) h.1)
-
-mutual
-  cited_among : (declared : List Token) (vs : List Variable) (claims : List Claim) (place : List Pattern → Pattern → ℕ) (d : Derivation) → Among (variables_of (at_places claims place) d) vs → EachCited (citable (over_names declared) claims place) d → EachCited (citable (open_over declared vs) claims place) d
-  cited_among declared vs claims place (hypothesis p) w h = tt
-  cited_among declared vs claims place (own_axiom n p new) w h = citable_among declared vs claims place [] p new [] w h
-  cited_among declared vs claims place (by_rule r is ds) w h = all_cited_among declared vs claims place ds (among_behind (flat_map variables_for is) (all_variables_of (at_places claims place) ds) vs w) h
-  cited_among declared vs claims place (cited own q d ms ds) w h = (
-    citable_among declared vs claims place own q [] ms (among_front (flat_map (variables_at [] ms) (claim_at claims (place own q)).variables) (all_variables_of (at_places claims place) ds) vs w) h.0,
-    all_cited_among declared vs claims place ds (among_behind (flat_map (variables_at [] ms) (claim_at claims (place own q)).variables) (all_variables_of (at_places claims place) ds) vs w) h.1,
+  all_used_among declared vs claims place (more_derivations d ds) w h = (
+    used_among declared vs claims place d (among_front (variables_of (at_places claims place) d)
+        (all_variables_of (at_places claims place) ds) vs w) h.0,
+    all_used_among declared vs claims place ds (among_behind
+        (variables_of (at_places claims place) d)
+        (all_variables_of (at_places claims place) ds) vs w) h.1,
   )
 
-  all_cited_among : (declared : List Token) (vs : List Variable) (claims : List Claim) (place : List Pattern → Pattern → ℕ) (ds : Derivations) → Among (all_variables_of (at_places claims place) ds) vs → AllCited (citable (over_names declared) claims place) ds → AllCited (citable (open_over declared vs) claims place) ds
+mutual
+  cited_among : (declared : List Token) (vs : List Variable) (claims : List Claim)
+      (place : List Pattern → Pattern → ℕ) (d : Derivation)
+      → Among (variables_of (at_places claims place) d) vs
+      → EachCited (citable (over_names declared) claims place) d
+      → EachCited (citable (open_over declared vs) claims place) d
+  cited_among declared vs claims place (hypothesis p) w h = tt
+  cited_among declared vs claims place (own_axiom n p new) w h =
+      citable_among declared vs claims place [] p new [] w h
+  cited_among declared vs claims place (by_rule r is ds) w h =
+      all_cited_among declared vs claims place ds (among_behind (flat_map variables_for is)
+      (all_variables_of (at_places claims place) ds) vs w) h
+  cited_among declared vs claims place (cited own q d ms ds) w h = (
+    citable_among declared vs claims place own q [] ms (among_front
+        (flat_map (variables_at [] ms) (claim_at claims (place own q)).variables)
+        (all_variables_of (at_places claims place) ds) vs w) h.0,
+    all_cited_among declared vs claims place ds (among_behind
+        (flat_map (variables_at [] ms) (claim_at claims (place own q)).variables)
+        (all_variables_of (at_places claims place) ds) vs w) h.1,
+  )
+
+  all_cited_among : (declared : List Token) (vs : List Variable) (claims : List Claim)
+      (place : List Pattern → Pattern → ℕ) (ds : Derivations)
+      → Among (all_variables_of (at_places claims place) ds) vs
+      → AllCited (citable (over_names declared) claims place) ds
+      → AllCited (citable (open_over declared vs) claims place) ds
   all_cited_among declared vs claims place no_derivation w h = tt
-  all_cited_among declared vs claims place (more_derivations d ds) w h = (cited_among declared vs claims place d (among_front (variables_of (at_places claims place) d) (all_variables_of (at_places claims place) ds) vs w) h.0, all_cited_among declared vs claims place ds (among_behind (variables_of (at_places claims place) d) (all_variables_of (at_places claims place) ds) vs w) h.1)
+  all_cited_among declared vs claims place (more_derivations d ds) w h = (
+    cited_among declared vs claims place d (among_front (variables_of (at_places claims place) d)
+        (all_variables_of (at_places claims place) ds) vs w) h.0,
+    all_cited_among declared vs claims place ds (among_behind
+        (variables_of (at_places claims place) d)
+        (all_variables_of (at_places claims place) ds) vs w) h.1,
+  )
 
 -- Other variables after some variables, each once.
 
@@ -115,33 +222,50 @@ record HasThem (others vs : List Variable) : Type 0 where
   numbered : AreNumbered vs
   there : Among others vs
 
-all_there : (vs us : List Variable) → are_once vs ≡ true → AreNumbered vs → AreNumbered us → HasThem us (vs ++ other_variables vs us)
+all_there : (vs us : List Variable) → are_once vs ≡ true → AreNumbered vs → AreNumbered us
+    → HasThem us (vs ++ other_variables vs us)
 all_there vs [] once numbered others =
-    subst (λ (ws : List Variable). HasThem [] ws) (sym (append-nil vs)) (record { once = once; numbered = numbered; there = λ v none. absurd (false≢true none) })
+    subst (λ (ws : List Variable). HasThem [] ws) (sym (append-nil vs))
+    (record { once = once; numbered = numbered; there = λ v none. absurd (false≢true none) })
 all_there vs (u ∷ us) once numbered others =
     go (has_variable vs u) refl (λ is. all_there vs us once numbered others.1)
-    (λ new. all_there (vs ++ u ∷ []) us (once_more vs u once new) (numbered_both vs (u ∷ []) numbered (others.0, tt)) others.1)
+    (λ new. all_there (vs ++ u ∷ []) us (once_more vs u once new)
+    (numbered_both vs (u ∷ []) numbered (others.0, tt)) others.1)
   where
-    go : (b : Bool) → has_variable vs u ≡ b → (has_variable vs u ≡ true → HasThem us (vs ++ other_variables vs us)) → (has_variable vs u ≡ false → HasThem us ((vs ++ u ∷ []) ++ other_variables (vs ++ u ∷ []) us))
-        → HasThem (u ∷ us) (vs ++ (if b then other_variables vs us else (u ∷ other_variables (vs ++ u ∷ []) us)))
+    go : (b : Bool) → has_variable vs u ≡ b
+        → (has_variable vs u ≡ true → HasThem us (vs ++ other_variables vs us))
+        → (has_variable vs u ≡ false
+        → HasThem us ((vs ++ u ∷ []) ++ other_variables (vs ++ u ∷ []) us))
+        → HasThem (u ∷ us)
+        (vs ++ (if b then other_variables vs us else (u ∷ other_variables (vs ++ u ∷ []) us)))
     go true is old new = record {
       once = (old is).once;
       numbered = (old is).numbered;
-      there = λ v has. case_variable (λ w. has_variable (vs ++ other_variables vs us) w ≡ true) u us v has (in_front vs (other_variables vs us) u is) ((old is).there v);
+      there =
+          λ v has. case_variable (λ w. has_variable (vs ++ other_variables vs us) w ≡ true) u us v
+          has (in_front vs (other_variables vs us) u is) ((old is).there v);
     }
     go false is old new =
-        subst (λ (ws : List Variable). HasThem (u ∷ us) ws) (append_assoc vs (u ∷ []) (other_variables (vs ++ u ∷ []) us)) (record {
+        subst (λ (ws : List Variable). HasThem (u ∷ us) ws)
+        (append_assoc vs (u ∷ []) (other_variables (vs ++ u ∷ []) us)) (record {
           once = (new is).once;
           numbered = (new is).numbered;
           there = λ v has.
-              case_variable (λ w. has_variable ((vs ++ u ∷ []) ++ other_variables (vs ++ u ∷ []) us) w ≡ true) u us v has
-              (in_front (vs ++ u ∷ []) (other_variables (vs ++ u ∷ []) us) u (behind vs (u ∷ []) u (first_there u []))) ((new is).there v);
+              case_variable
+              (λ w. has_variable ((vs ++ u ∷ []) ++ other_variables (vs ++ u ∷ []) us) w ≡ true)
+              u us v has
+              (in_front (vs ++ u ∷ []) (other_variables (vs ++ u ∷ []) us) u
+              (behind vs (u ∷ []) u (first_there u []))) ((new is).there v);
         })
 
 pub needed_are_enough : NeededAreEnough
-needed_are_enough declared claims s d place premise_place is numbered concludes used cites premises =
-    let vs : List Variable = s.variables ++ other_variables s.variables (variables_of (at_places claims place) d) in
-    let w : HasThem (variables_of (at_places claims place) d) vs = all_there s.variables (variables_of (at_places claims place) d) is.once is.numbered numbered in
+needed_are_enough declared claims s d place premise_place is numbered concludes used cites
+    premises =
+    let vs : List Variable =
+    s.variables ++ other_variables s.variables (variables_of (at_places claims place) d) in
+    let w : HasThem (variables_of (at_places claims place) d) vs =
+    all_there s.variables (variables_of (at_places claims place) d) is.once is.numbered
+    numbered in
     record {
       once = w.once;
       numbered = w.numbered;

@@ -1,5 +1,6 @@
 -- The labels of a proof are well spelled.
-use Rattle.std.proofs.Common.{◌≡◌, ℕ, ◌<◌, ◌^◌, Bool, true, false, List, [], ◌∷◌, refl, ap, ◌∙◌, sym, arith, map}
+use Rattle.std.proofs.Common.{◌≡◌, ℕ, ◌<◌, ◌^◌, Bool, true, false, List, [], ◌∷◌, refl, ap, ◌∙◌}
+use Rattle.std.proofs.Common.{sym, arith, map}
 use Rattle.std.specs.Prelude.{◌||◌, ◌==◌, not, if◌then◌else◌, codes, bytes_eq, Some, None}
 use Rattle.std.specs.List.{list_all}
 use Rattle.std.proofs.lemmas.Bool.{false≢true}
@@ -10,7 +11,9 @@ use Rattle.mm_text.specs.Statements.{ends_statement}
 use Rattle.mm_database.specs.Forms.{has_dollar}
 use Rattle.mm_database.specs.Frames.{Hypothesis, label_of, Frame}
 use Rattle.mm_database.specs.Database.{Context}
-use Rattle.mm_database.specs.Proofs.{Expression, Leads, by_hypothesis, by_assertion, hypothesis_of, ProofTree, proof_node, ProofForest, no_proof, more_proofs, Proves, AllProve, postorder, all_postorder}
+use Rattle.mm_database.specs.Proofs.{Expression, Leads, by_hypothesis, by_assertion, hypothesis_of}
+use Rattle.mm_database.specs.Proofs.{ProofTree, proof_node, ProofForest, no_proof, more_proofs}
+use Rattle.mm_database.specs.Proofs.{Proves, AllProve, postorder, all_postorder}
 use Rattle.mm_database.specs.Writing.{begins_compressed}
 use Rattle.mm_header.specs.Header.{Row, header_rows}
 use Rattle.mm_header.specs.HeaderContext.{header_context}
@@ -33,11 +36,14 @@ pub record LabelFacts (t : Token) : Type 0 where
 label_byte_prints : (b : ℕ) → is_label_byte b ≡ true → is_name_byte b ≡ true
 label_byte_prints b h = grind (arith, h)
 
-label_bytes_print : (bs : Token) → list_all is_label_byte bs ≡ true → list_all is_name_byte bs ≡ true
+label_bytes_print : (bs : Token) → list_all is_label_byte bs ≡ true
+    → list_all is_name_byte bs ≡ true
 label_bytes_print [] h = refl
 label_bytes_print (b ∷ bs) h =
-    let both : (is_label_byte b ≡ true) × (list_all is_label_byte bs ≡ true) = split_true (is_label_byte b) (list_all is_label_byte bs) h in
-    both_true (is_name_byte b) (list_all is_name_byte bs) (label_byte_prints b both.0) (label_bytes_print bs both.1)
+    let both : (is_label_byte b ≡ true) × (list_all is_label_byte bs ≡ true) =
+    split_true (is_label_byte b) (list_all is_label_byte bs) h in
+    both_true (is_name_byte b) (list_all is_name_byte bs) (label_byte_prints b both.0)
+    (label_bytes_print bs both.1)
 
 no_first : (b c : ℕ) (bs cs : Token) → (b == c) ≡ false → bytes_eq (b ∷ bs) (c ∷ cs) ≡ false
 no_first b c bs cs h = rw h refl
@@ -51,12 +57,16 @@ no_comment b bs h = rw h refl
 pub label_facts : (t : Token) → is_label t ≡ true → LabelFacts t
 label_facts [] h = absurd (false≢true h)
 label_facts (b ∷ bs) h =
-    let first : is_label_byte b ≡ true = (split_true (is_label_byte b) (list_all is_label_byte bs) h).0 in
+    let first : is_label_byte b ≡ true =
+    (split_true (is_label_byte b) (list_all is_label_byte bs) h).0 in
     let other : ((b == 36) ≡ false) × ((b == 40) ≡ false) = label_byte_no b first in
     let prints : list_all is_name_byte (b ∷ bs) ≡ true = label_bytes_print (b ∷ bs) h in
     record {
-      plain = both_true (list_all (λ c. is_printable_class (class_of c)) (b ∷ bs)) _ (all_printing (b ∷ bs) prints)
-          (both_true _ _ (no_comment (b ∷ bs) (codes "$(") (no_first b 36 bs (40 ∷ []) other.0)) (no_comment (b ∷ bs) (codes "$)") (no_first b 36 bs (41 ∷ []) other.0)));
+      plain =
+          both_true (list_all (λ c. is_printable_class (class_of c)) (b ∷ bs)) _
+          (all_printing (b ∷ bs) prints)
+          (both_true _ _ (no_comment (b ∷ bs) (codes "$(") (no_first b 36 bs (40 ∷ []) other.0))
+          (no_comment (b ∷ bs) (codes "$)") (no_first b 36 bs (41 ∷ []) other.0)));
       clean = no_dollars (b ∷ bs) prints;
       no_end = no_first b 36 bs (46 ∷ []) other.0;
       no_bracket = no_first b 40 bs [] other.1;
@@ -68,20 +78,28 @@ rows_spelt : list_all is_label (map (λ (r : Row). r.label) header_rows) ≡ tru
 unfolding header_rows
 rows_spelt = refl
 
-among : (ts : List Token) (t : Token) → has_token ts t ≡ true → list_all is_label ts ≡ true → is_label t ≡ true
+among : (ts : List Token) (t : Token) → has_token ts t ≡ true → list_all is_label ts ≡ true
+    → is_label t ≡ true
 among [] t there all = absurd (false≢true there)
-among (u ∷ ts) t there all = go (bytes_eq u t) refl there (split_true (is_label u) (list_all is_label ts) all) (among ts t)
+among (u ∷ ts) t there all =
+    go (bytes_eq u t) refl there (split_true (is_label u) (list_all is_label ts) all) (among ts t)
   where
-    go : (b : Bool) → bytes_eq u t ≡ b → (b || has_token ts t) ≡ true → ((is_label u ≡ true) × (list_all is_label ts ≡ true)) → (has_token ts t ≡ true → list_all is_label ts ≡ true → is_label t ≡ true) → is_label t ≡ true
+    go : (b : Bool) → bytes_eq u t ≡ b → (b || has_token ts t) ≡ true
+        → ((is_label u ≡ true) × (list_all is_label ts ≡ true))
+        → (has_token ts t ≡ true → list_all is_label ts ≡ true → is_label t ≡ true)
+        → is_label t ≡ true
     go true is found both behind = ap is_label (sym ((bytes_eq-Decides u t).0 is)) ∙ both.0
     go false is found both behind = behind found both.1
 
-pub header_spelt : (label : Token) (f : Frame) → header_context.frames label ≡ Some f → is_label label ≡ true
+pub header_spelt : (label : Token) (f : Frame) → header_context.frames label ≡ Some f
+    → is_label label ≡ true
 header_spelt label f h = go (has_token (map (λ (r : Row). r.label) header_rows) label) refl
   where
-    go : (b : Bool) → has_token (map (λ (r : Row). r.label) header_rows) label ≡ b → is_label label ≡ true
+    go : (b : Bool) → has_token (map (λ (r : Row). r.label) header_rows) label ≡ b
+        → is_label label ≡ true
     go true there = among (map (λ (r : Row). r.label) header_rows) label there rows_spelt
-    go false none = absurd (let never : Some f ≡ None = sym h ∙ header_only label none in let z : ⊥ = cc in z)
+    go false none =
+        absurd (let never : Some f ≡ None = sym h ∙ header_only label none in let z : ⊥ = cc in z)
 
 -- the labels of the header's `$f`s are well spelled
 
@@ -89,69 +107,107 @@ pub types_spelt : list_all (λ h. is_label (label_of h)) header_context.scope.hy
 unfolding header_context
 types_spelt = refl
 
-pub hypothesis_spelt : (hs : List Hypothesis) (label : Token) (h : Hypothesis) → list_all (λ g. is_label (label_of g)) hs ≡ true → hypothesis_of hs label ≡ Some h → is_label label ≡ true
+pub hypothesis_spelt : (hs : List Hypothesis) (label : Token) (h : Hypothesis)
+    → list_all (λ g. is_label (label_of g)) hs ≡ true → hypothesis_of hs label ≡ Some h
+    → is_label label ≡ true
 hypothesis_spelt [] label h all found = absurd (let z : ⊥ = cc in z)
-hypothesis_spelt (g ∷ hs) label h all found = go (bytes_eq (label_of g) label) refl found (split_true (is_label (label_of g)) (list_all (λ k. is_label (label_of k)) hs) all) (hypothesis_spelt hs label h)
+hypothesis_spelt (g ∷ hs) label h all found =
+    go (bytes_eq (label_of g) label) refl found
+    (split_true (is_label (label_of g)) (list_all (λ k. is_label (label_of k)) hs) all)
+    (hypothesis_spelt hs label h)
   where
-    go : (b : Bool) → bytes_eq (label_of g) label ≡ b → (if b then Some g else hypothesis_of hs label) ≡ Some h → ((is_label (label_of g) ≡ true) × (list_all (λ k. is_label (label_of k)) hs ≡ true)) → (list_all (λ k. is_label (label_of k)) hs ≡ true → hypothesis_of hs label ≡ Some h → is_label label ≡ true) → is_label label ≡ true
-    go true is there both behind = ap is_label (sym ((bytes_eq-Decides (label_of g) label).0 is)) ∙ both.0
+    go : (b : Bool) → bytes_eq (label_of g) label ≡ b
+        → (if b then Some g else hypothesis_of hs label) ≡ Some h
+        → ((is_label (label_of g) ≡ true) × (list_all (λ k. is_label (label_of k)) hs ≡ true))
+        → (list_all (λ k. is_label (label_of k)) hs ≡ true → hypothesis_of hs label ≡ Some h
+        → is_label label ≡ true) → is_label label ≡ true
+    go true is there both behind =
+        ap is_label (sym ((bytes_eq-Decides (label_of g) label).0 is)) ∙ both.0
     go false is there both behind = behind both.1 there
 
 -- each label of a proof is that of an assertion or of an active hypothesis
 
-leads_spelt : {c : Context} {label : Token} {given : List Expression} {result : Expression} → ((l : Token) (h : Hypothesis) → hypothesis_of c.scope.hypotheses l ≡ Some h → is_label l ≡ true) → ((l : Token) (f : Frame) → c.frames l ≡ Some f → is_label l ≡ true) → Leads c label given result → is_label label ≡ true
+leads_spelt : {c : Context} {label : Token} {given : List Expression} {result : Expression}
+    → ((l : Token) (h : Hypothesis) → hypothesis_of c.scope.hypotheses l ≡ Some h
+    → is_label l ≡ true) → ((l : Token) (f : Frame) → c.frames l ≡ Some f → is_label l ≡ true)
+    → Leads c label given result → is_label label ≡ true
 leads_spelt {c = c} {label = label} active spelt (by_hypothesis h is) = active label h is
-leads_spelt {c = c} {label = label} active spelt (by_assertion f sigma given result none is applies) = spelt label f is
+leads_spelt {c = c} {label = label} active spelt
+    (by_assertion f sigma given result none is applies) =
+    spelt label f is
 
 -- the same is true if only the header is active
-pub header_active_spelt : (c : Context) → c.scope ≡ header_context.scope → (l : Token) (h : Hypothesis) → hypothesis_of c.scope.hypotheses l ≡ Some h → is_label l ≡ true
-header_active_spelt c scope l h is = hypothesis_spelt header_context.scope.hypotheses l h types_spelt (ap (λ s. hypothesis_of s.hypotheses l) (sym scope) ∙ is)
+pub header_active_spelt : (c : Context) → c.scope ≡ header_context.scope
+    → (l : Token) (h : Hypothesis) → hypothesis_of c.scope.hypotheses l ≡ Some h → is_label l ≡ true
+header_active_spelt c scope l h is =
+    hypothesis_spelt header_context.scope.hypotheses l h types_spelt
+    (ap (λ s. hypothesis_of s.hypotheses l) (sym scope) ∙ is)
 
 mutual
-  pub postorder_spelt : (c : Context) (tree : ProofTree) (e : Expression) → ((l : Token) (h : Hypothesis) → hypothesis_of c.scope.hypotheses l ≡ Some h → is_label l ≡ true) → ((l : Token) (f : Frame) → c.frames l ≡ Some f → is_label l ≡ true) → Proves c tree e → list_all is_label (postorder tree) ≡ true
+  pub postorder_spelt : (c : Context) (tree : ProofTree) (e : Expression)
+      → ((l : Token) (h : Hypothesis) → hypothesis_of c.scope.hypotheses l ≡ Some h
+      → is_label l ≡ true) → ((l : Token) (f : Frame) → c.frames l ≡ Some f → is_label l ≡ true)
+      → Proves c tree e → list_all is_label (postorder tree) ≡ true
   postorder_spelt c (proof_node label trees) e active spelt (given, leads, all) =
-      list_all-append is_label (all_postorder trees) (label ∷ []) (all_postorder_spelt c trees given active spelt all) (both_true (is_label label) true (leads_spelt active spelt leads) refl)
+      list_all-append is_label (all_postorder trees) (label ∷ [])
+      (all_postorder_spelt c trees given active spelt all)
+      (both_true (is_label label) true (leads_spelt active spelt leads) refl)
 
-  all_postorder_spelt : (c : Context) (trees : ProofForest) (es : List Expression) → ((l : Token) (h : Hypothesis) → hypothesis_of c.scope.hypotheses l ≡ Some h → is_label l ≡ true) → ((l : Token) (f : Frame) → c.frames l ≡ Some f → is_label l ≡ true) → AllProve c trees es → list_all is_label (all_postorder trees) ≡ true
+  all_postorder_spelt : (c : Context) (trees : ProofForest) (es : List Expression)
+      → ((l : Token) (h : Hypothesis) → hypothesis_of c.scope.hypotheses l ≡ Some h
+      → is_label l ≡ true) → ((l : Token) (f : Frame) → c.frames l ≡ Some f → is_label l ≡ true)
+      → AllProve c trees es → list_all is_label (all_postorder trees) ≡ true
   all_postorder_spelt c no_proof es active spelt all = refl
   all_postorder_spelt c (more_proofs tree trees) es active spelt (first, rest, is, proof, all) =
-      list_all-append is_label (postorder tree) (all_postorder trees) (postorder_spelt c tree first active spelt proof) (all_postorder_spelt c trees rest active spelt all)
+      list_all-append is_label (postorder tree) (all_postorder trees)
+      (postorder_spelt c tree first active spelt proof)
+      (all_postorder_spelt c trees rest active spelt all)
 
 -- well spelled labels are clean tokens
 
 abbrev pub is_clean_token : Token → Bool
 is_clean_token t = not (has_dollar t)
 
-pub labels_clean : (ts : List Token) → list_all is_label ts ≡ true → list_all is_clean_token ts ≡ true
+pub labels_clean : (ts : List Token) → list_all is_label ts ≡ true
+    → list_all is_clean_token ts ≡ true
 labels_clean [] h = refl
 labels_clean (t ∷ ts) h =
-    let both : (is_label t ≡ true) × (list_all is_label ts ≡ true) = split_true (is_label t) (list_all is_label ts) h in
+    let both : (is_label t ≡ true) × (list_all is_label ts ≡ true) =
+    split_true (is_label t) (list_all is_label ts) h in
     let here : has_dollar t ≡ false = (label_facts t both.0).clean in
     rw here (labels_clean ts both.1)
 
-pub labels_plain : (ts : List Token) → list_all is_label ts ≡ true → list_all is_plain_token ts ≡ true
+pub labels_plain : (ts : List Token) → list_all is_label ts ≡ true
+    → list_all is_plain_token ts ≡ true
 labels_plain [] h = refl
 labels_plain (t ∷ ts) h =
-    let both : (is_label t ≡ true) × (list_all is_label ts ≡ true) = split_true (is_label t) (list_all is_label ts) h in
-    both_true (is_plain_token t) (list_all is_plain_token ts) (label_facts t both.0).plain (labels_plain ts both.1)
+    let both : (is_label t ≡ true) × (list_all is_label ts ≡ true) =
+    split_true (is_label t) (list_all is_label ts) h in
+    both_true (is_plain_token t) (list_all is_plain_token ts) (label_facts t both.0).plain
+    (labels_plain ts both.1)
 
-pub labels_go_on : (ts : List Token) → list_all is_label ts ≡ true → list_all (λ t. not (ends_statement t)) ts ≡ true
+pub labels_go_on : (ts : List Token) → list_all is_label ts ≡ true
+    → list_all (λ t. not (ends_statement t)) ts ≡ true
 labels_go_on [] h = refl
 labels_go_on (t ∷ ts) h =
-    let both : (is_label t ≡ true) × (list_all is_label ts ≡ true) = split_true (is_label t) (list_all is_label ts) h in
+    let both : (is_label t ≡ true) × (list_all is_label ts ≡ true) =
+    split_true (is_label t) (list_all is_label ts) h in
     let here : ends_statement t ≡ false = (label_facts t both.0).no_end in
     rw here (labels_go_on ts both.1)
 
-pub labels_uncompressed : (ts : List Token) → list_all is_label ts ≡ true → begins_compressed ts ≡ false
+pub labels_uncompressed : (ts : List Token) → list_all is_label ts ≡ true
+    → begins_compressed ts ≡ false
 labels_uncompressed [] h = refl
-labels_uncompressed (t ∷ ts) h = (label_facts t (split_true (is_label t) (list_all is_label ts) h).0).no_bracket
+labels_uncompressed (t ∷ ts) h =
+    (label_facts t (split_true (is_label t) (list_all is_label ts) h).0).no_bracket
 
 -- the label of a statement
 
 pub statement_label-is_label : (k : ℕ) → k < 2 ^ 64 → is_label (statement_label k) ≡ true
 statement_label-is_label k h = list_all-decimal is_label_byte digit_of_label k h
 
-pub statement_label-differs : (i j : ℕ) → i < 2 ^ 64 → j < 2 ^ 64 → (i ≡ j → ⊥) → bytes_eq (statement_label i) (statement_label j) ≡ false
+pub statement_label-differs : (i j : ℕ) → i < 2 ^ 64 → j < 2 ^ 64 → (i ≡ j → ⊥)
+    → bytes_eq (statement_label i) (statement_label j) ≡ false
 statement_label-differs i j h k differ = go (bytes_eq (statement_label i) (statement_label j)) refl
   where
     behind : Token → Token
@@ -159,6 +215,9 @@ statement_label-differs i j h k differ = go (bytes_eq (statement_label i) (state
     behind (a ∷ []) = []
     behind (a ∷ (b ∷ bs)) = bs
 
-    go : (b : Bool) → bytes_eq (statement_label i) (statement_label j) ≡ b → bytes_eq (statement_label i) (statement_label j) ≡ false
-    go true is = absurd (differ (decimal-same i j h k (ap behind ((bytes_eq-Decides (statement_label i) (statement_label j)).0 is))))
+    go : (b : Bool) → bytes_eq (statement_label i) (statement_label j) ≡ b
+        → bytes_eq (statement_label i) (statement_label j) ≡ false
+    go true is =
+        absurd (differ (decimal-same i j h k
+        (ap behind ((bytes_eq-Decides (statement_label i) (statement_label j)).0 is))))
     go false is = is

@@ -1,5 +1,6 @@
 -- Derivations that cite lemmas at patterns for their pattern variables, under hypotheses.
-use Rattle.std.specs.Prelude.{◌≡◌, ℕ, List, [], ◌∷◌, ◌++◌, map, slice_get, slice_index_or, Some, Contains}
+use Rattle.std.specs.Prelude.{◌≡◌, ℕ, List, [], ◌∷◌, ◌++◌, map, slice_get, slice_index_or, Some}
+use Rattle.std.specs.Prelude.{Contains}
 use Rattle.mm_database.specs.Proofs.{ProofTree}
 use Rattle.ml_pat.specs.Patterns.{Pattern, bot, meta}
 use Rattle.ml_kernel.specs.Lemmas.{instance}
@@ -20,7 +21,8 @@ variable_tree l new ms (object_variable i) = cite (l.object (by_place new i)) []
 variable_tree l new ms (pattern_variable i) = syntax_tree l (instance ms (meta i))
 
 abbrev pub claim_tree : Naming → Stated → List ℕ → List Pattern → List ProofTree → ProofTree
-claim_tree l s new ms trees = cite (statement_label s.number) (map (variable_tree l new ms) s.claim.variables ++ trees)
+claim_tree l s new ms trees =
+    cite (statement_label s.number) (map (variable_tree l new ms) s.claim.variables ++ trees)
 
 -- citing in the block with a number: claims are found by hypotheses and conclusion, and the
 -- hypotheses of the block have places
@@ -33,10 +35,14 @@ claims_citing k find premise_place = record {
 
 -- the claim at a place of a text, where each claim has the number of its place
 abbrev pub claim_at : List Claim → ℕ → Claim
-claim_at claims k = slice_index_or claims k (record { variables = []; hypotheses = []; conclusion = bot })
+claim_at claims k =
+    slice_index_or claims k (record { variables = []; hypotheses = []; conclusion = bot })
 
 abbrev pub at_places : List Claim → (List Pattern → Pattern → ℕ) → List Pattern → Pattern → Stated
-at_places claims place own q = record { number = place own q; claim = claim_at claims (place own q) }
+at_places claims place own q = record {
+  number = place own q;
+  claim = claim_at claims (place own q);
+}
 
 -- each leaf of what is substituted for the variable has its fact
 abbrev pub HasInstance : LeafFacts → List ℕ → List Pattern → Variable → Type 0
@@ -49,7 +55,8 @@ HaveInstances f new ms (v ∷ vs) = HasInstance f new ms v × HaveInstances f ne
 
 -- a claim with these hypotheses and this conclusion is at its place, and what is substituted for
 -- its variables is known
-pub record IsCitable (known : LeafFacts) (claims : List Claim) (place : List Pattern → Pattern → ℕ) (own : List Pattern) (q : Pattern) (new : List ℕ) (ms : List Pattern) : Type 0 where
+pub record IsCitable (known : LeafFacts) (claims : List Claim) (place : List Pattern → Pattern → ℕ)
+    (own : List Pattern) (q : Pattern) (new : List ℕ) (ms : List Pattern) : Type 0 where
   pub claim : Claim
   pub there : slice_get claims (place own q) ≡ Some claim
   pub hypotheses : claim.hypotheses ≡ own
@@ -58,4 +65,5 @@ pub record IsCitable (known : LeafFacts) (claims : List Claim) (place : List Pat
 
 -- each hypothesis of the block is at its place
 abbrev pub ArePremises : List Pattern → (Pattern → ℕ) → Type 0
-ArePremises hypotheses place = (p : Pattern) → Contains hypotheses p → slice_get hypotheses (place p) ≡ Some p
+ArePremises hypotheses place =
+    (p : Pattern) → Contains hypotheses p → slice_get hypotheses (place p) ≡ Some p

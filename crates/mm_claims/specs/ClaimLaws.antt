@@ -18,15 +18,21 @@ use Rattle.mm_claims.specs.Provable.{IsProvable}
 -- patterns over declared names are a claim if their variables have numbers of 64 bits
 abbrev pub OverNamesIsClaim : Type 0
 OverNamesIsClaim =
-    (declared : List Token) (hypotheses : List Pattern) (conclusion : Pattern) → AreOverNames declared (conclusion ∷ hypotheses) →
-    AreNumbered (claim_variables hypotheses conclusion) → length hypotheses < 2 ^ 64 → IsClaim declared (claim_of hypotheses conclusion)
+    (declared : List Token) (hypotheses : List Pattern) (conclusion : Pattern)
+    → AreOverNames declared (conclusion ∷ hypotheses) →
+    AreNumbered (claim_variables hypotheses conclusion) → length hypotheses < 2 ^ 64
+    → IsClaim declared (claim_of hypotheses conclusion)
 
 -- A derivation that uses declared names and cites claims can be written in a block that declares
 -- the variables of its claim, and then the other variables that the derivation needs.
 abbrev pub NeededAreEnough : Type 0
 NeededAreEnough =
-    (declared : List Token) (claims : List Claim) (s : Claim) (d : Derivation) (place : List Pattern → Pattern → ℕ) (premise_place : Pattern → ℕ) →
-    IsClaim declared s → AreNumbered (variables_of (at_places claims place) d) → Concludes s.hypotheses d s.conclusion →
-    EachUsed (over_names declared) d → EachCited (citable (over_names declared) claims place) d → ArePremises s.hypotheses premise_place →
-    IsProvable declared claims s (other_variables s.variables (variables_of (at_places claims place) d)) d place
+    (declared : List Token) (claims : List Claim) (s : Claim) (d : Derivation)
+    (place : List Pattern → Pattern → ℕ) (premise_place : Pattern → ℕ) →
+    IsClaim declared s → AreNumbered (variables_of (at_places claims place) d)
+    → Concludes s.hypotheses d s.conclusion →
+    EachUsed (over_names declared) d → EachCited (citable (over_names declared) claims place) d
+    → ArePremises s.hypotheses premise_place →
+    IsProvable declared claims s
+    (other_variables s.variables (variables_of (at_places claims place) d)) d place
     premise_place

@@ -7,8 +7,13 @@ use Rattle.mm_claims.specs.Blocks.{Claim}
 use Rattle.mm_claims.specs.OpenVariables.{variables_in, other_variables}
 
 abbrev pub claim_variables : List Pattern → Pattern → List Variable
-claim_variables hypotheses conclusion = other_variables [] (flat_map variables_in (conclusion ∷ hypotheses))
+claim_variables hypotheses conclusion =
+    other_variables [] (flat_map variables_in (conclusion ∷ hypotheses))
 
 -- a conclusion under hypotheses, as a claim
 abbrev pub claim_of : List Pattern → Pattern → Claim
-claim_of hypotheses conclusion = record { variables = claim_variables hypotheses conclusion; hypotheses = hypotheses; conclusion = conclusion }
+claim_of hypotheses conclusion = record {
+  variables = claim_variables hypotheses conclusion;
+  hypotheses = hypotheses;
+  conclusion = conclusion;
+}

@@ -1,5 +1,6 @@
 -- Statements after a text that fits: what it has declared, and what may follow.
-use Rattle.std.specs.Prelude.{◌≡◌, ℕ, ◌<◌, ◌≤◌, ◌^◌, true, false, List, [], ◌∷◌, ◌++◌, map, length, slice_get, Some, None}
+use Rattle.std.specs.Prelude.{◌≡◌, ℕ, ◌<◌, ◌≤◌, ◌^◌, true, false, List, [], ◌∷◌, ◌++◌, map, length}
+use Rattle.std.specs.Prelude.{slice_get, Some, None}
 use Rattle.mm_text.specs.Bytes.{Token}
 use Rattle.mm_text.specs.Labels.{is_label}
 use Rattle.mm_database.specs.Frames.{Frame}
@@ -12,9 +13,10 @@ use Rattle.mm_proof.specs.Labels.{statement_label, premise_label, own_labels}
 use Rattle.mm_proof.specs.Derivations.{derivation_tree}
 use Rattle.mm_claims.specs.Fitting.{AreNames, Holds}
 use Rattle.mm_claims.specs.Variables.{Variable, number_of, variable_token, variable_label}
-use Rattle.mm_claims.specs.Blocks.{Claim, Stated, IsClaim, variable_float, open_frame, theorem_statements}
+use Rattle.mm_claims.specs.Blocks.{Claim, Stated, IsClaim, variable_float, open_frame}
+use Rattle.mm_claims.specs.Blocks.{theorem_statements}
 use Rattle.mm_claims.specs.CitedAt.{claims_citing}
-use Rattle.mm_database.specs.Leaving.{Leaves}
+use Rattle.mm_database.specs.Leaving.{DeclaresInText}
 
 -- no label of a block with this number is taken
 pub record IsFree (c : Context) (k : ℕ) : Type 0 where
@@ -33,26 +35,31 @@ pub record HoldsClaims (declared : List Token) (claims : List Claim) (c : Contex
   pub base : Holds declared c
   pub names : AreNames declared
   pub claimed : AreClaims declared claims
-  pub frames : (k : ℕ) (s : Claim) → slice_get claims k ≡ Some s → c.frames (statement_label k) ≡ Some (open_frame declared k s)
+  pub frames : (k : ℕ) (s : Claim) → slice_get claims k ≡ Some s
+      → c.frames (statement_label k) ≡ Some (open_frame declared k s)
   pub free : (k : ℕ) → length claims ≤ k → k < 2 ^ 64 → IsFree c k
   pub no_label : (v : Variable) → c.labels (variable_token v) ≡ false
   pub spelt : (label : Token) (f : Frame) → c.frames label ≡ Some f → is_label label ≡ true
   pub labelled : (label : Token) (f : Frame) → c.frames label ≡ Some f → c.labels label ≡ true
-  pub no_hypothesis : (label : Token) (f : Frame) → c.frames label ≡ Some f → active_hypothesis c label ≡ None
+  pub no_hypothesis : (label : Token) (f : Frame) → c.frames label ≡ Some f
+      → active_hypothesis c label ≡ None
 
 -- a text that fits these names and claims
 abbrev pub FitsClaims : List Token → List Claim → List ℕ → Type 0
-FitsClaims declared claims bytes = (c : Context) × Leaves bytes c × HoldsClaims declared claims c
+FitsClaims declared claims bytes =
+    (c : Context) × DeclaresInText bytes c × HoldsClaims declared claims c
 
 -- what is written for a theorem with a derivation, whose citations are found by `find` and
 -- `premise_place`
-abbrev pub proved_statements : List Token → ℕ → (List Pattern → Pattern → Stated) → (Pattern → ℕ) → Claim →
-    List Variable → Derivation → List (List Token)
+abbrev pub proved_statements : List Token → ℕ → (List Pattern → Pattern → Stated) → (Pattern → ℕ)
+    → Claim → List Variable → Derivation → List (List Token)
 proved_statements declared k find premise_place s more d =
-    theorem_statements declared k s more (derivation_tree (own_labels k) (claims_citing k find premise_place) d)
+    theorem_statements declared k s more
+    (derivation_tree (own_labels k) (claims_citing k find premise_place) d)
 
 -- What a text has gained with a statement after it: exactly this assertion, and the typings of
 -- these variables in its block.
-pub record HasJust (bytes appended : List ℕ) (k : ℕ) (vs : List Variable) (a : Assertion) : Type 0 where
+pub record GainsExactly (bytes appended : List ℕ) (k : ℕ) (vs : List Variable) (a : Assertion) :
+    Type 0 where
   pub assertions : assertions_of (bytes ++ appended) ≡ assertions_of bytes ++ a ∷ []
   pub typings : typings_of (bytes ++ appended) ≡ typings_of bytes ++ map (variable_float k) vs

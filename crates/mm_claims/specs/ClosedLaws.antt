@@ -13,7 +13,9 @@ ClosedHasNoMeta = (names : List Token) (p : Pattern) → EachLeaf (closed_over n
 
 -- what is closed is over the names, and as a claim without hypotheses it has no variables
 abbrev pub ClosedIsOver : Type 0
-ClosedIsOver = (names : List Token) (p : Pattern) → EachLeaf (closed_over names) p → EachLeaf (over_names names) p
+ClosedIsOver = (names : List Token) (p : Pattern) → EachLeaf (closed_over names) p
+    → EachLeaf (over_names names) p
 
 abbrev pub ClosedClaims : Type 0
-ClosedClaims = (names : List Token) (p : Pattern) → EachLeaf (closed_over names) p → claim_variables [] p ≡ []
+ClosedClaims =
+    (names : List Token) (p : Pattern) → EachLeaf (closed_over names) p → claim_variables [] p ≡ []

@@ -24,10 +24,13 @@ name_frame i t = closed_frame (name_label i) (typecode_of t ∷ (t ∷ []))
 -- declared too. The constants are those of the header and the names. Each name has its `$a` under
 -- its label. The labels of later names are free, and no label is the token of a name.
 pub record Holds (declared : List Token) (c : Context) : Type 0 where
-  pub rows : (label : Token) (f : Frame) → header_context.frames label ≡ Some f → c.frames label ≡ Some f
+  pub rows : (label : Token) (f : Frame) → header_context.frames label ≡ Some f
+      → c.frames label ≡ Some f
   pub scope : c.scope ≡ header_context.scope
-  pub variables : (t : Token) → is_variable_token t ≡ false → c.variables t ≡ header_context.variables t
+  pub variables : (t : Token) → is_variable_token t ≡ false
+      → c.variables t ≡ header_context.variables t
   pub constants : (t : Token) → c.constants t ≡ (header_context.constants t || has_token declared t)
-  pub frames : (i : ℕ) → i < length declared → c.frames (name_label i) ≡ Some (name_frame i (name_of declared i))
+  pub frames : (i : ℕ) → i < length declared
+      → c.frames (name_label i) ≡ Some (name_frame i (name_of declared i))
   pub free : (i : ℕ) → length declared ≤ i → i < 2 ^ 64 → c.labels (name_label i) ≡ false
   pub no_label : (t : Token) → IsName t → c.labels t ≡ false

@@ -3,7 +3,7 @@ use Rattle.std.specs.Prelude.{◌≡◌, ℕ, ◌≤◌, List, [], ◌∷◌, �
 use Rattle.mm_text.specs.Bytes.{Token}
 use Rattle.ml_pat.specs.Patterns.{Pattern}
 use Rattle.ml_pat.specs.Leaves.{EachLeaf}
-use Rattle.mm_claims.specs.Kept.{Kept}
+use Rattle.mm_claims.specs.Rendered.{Rendered}
 use Rattle.mm_claims.specs.OverNames.{closed_over}
 use Rattle.mm_claims.specs.Blocks.{Stated}
 use Rattle.mm_claims.specs.Keeping.{Fits}
@@ -11,20 +11,24 @@ use Rattle.mm_claims.specs.Places.{IsStated}
 
 -- a text that fits what is kept of some names still fits it when the names gain tokens
 abbrev pub FitsLater : Type 0
-FitsLater = (names more : List Token) (k : Kept) (bytes : List ℕ) → k.named ≤ length names → Fits names k bytes → Fits (names ++ more) k bytes
+FitsLater = (names more : List Token) (k : Rendered) (bytes : List ℕ) → k.named ≤ length names
+    → Fits names k bytes → Fits (names ++ more) k bytes
 
 -- if all names are declared, the declared names are all names
 abbrev pub AllDeclared : Type 0
-AllDeclared = (names : List Token) (k : Kept) → k.named ≡ length names → take k.named names ≡ names
+AllDeclared =
+    (names : List Token) (k : Rendered) → k.named ≡ length names → take k.named names ≡ names
 
 -- what is closed over names stays so when they gain tokens
 abbrev pub ClosedStays : Type 0
-ClosedStays = (names more : List Token) (p : Pattern) → EachLeaf (closed_over names) p → EachLeaf (closed_over (names ++ more)) p
+ClosedStays = (names more : List Token) (p : Pattern) → EachLeaf (closed_over names) p
+    → EachLeaf (closed_over (names ++ more)) p
 
 -- a claim that was stated last was stated; a claim that was stated is still stated if its claims
 -- are among others
 abbrev pub LastIsStated : Type 0
-LastIsStated = (stated : List Stated) (s : Stated) → IsStated (stated ++ s ∷ []) s.claim.hypotheses s.claim.conclusion
+LastIsStated = (stated : List Stated) (s : Stated)
+    → IsStated (stated ++ s ∷ []) s.claim.hypotheses s.claim.conclusion
 
 abbrev pub StatedStays : Type 0
 StatedStays =

@@ -1,5 +1,5 @@
 -- Believed: what public clauses say, and believed definitions of other crates.
-pub mod Kept
+pub mod Rendered
 pub mod Statements
 pub mod OverNames
 pub mod Fitting

@@ -2,11 +2,13 @@
 -- With these variables it can be written after a text that fits, if all that it uses besides them
 -- is declared names.
 use Rattle.std.specs.Prelude.{ℕ, if◌then◌else◌, List, [], ◌∷◌, ◌++◌, flat_map}
-use Rattle.ml_pat.specs.Patterns.{Pattern, bot, top, imp, not, and, or, equal, member, fun, ex, all, app, at_sort, next, ev, var, meta, constant}
+use Rattle.ml_pat.specs.Patterns.{Pattern, bot, top, imp, not, and, or, equal, member, fun, ex, all}
+use Rattle.ml_pat.specs.Patterns.{app, at_sort, next, ev, var, meta, constant}
 use Rattle.ml_kernel.specs.Lemmas.{instance}
 use Rattle.ml_kernel.specs.Renamings.{by_place}
 use Rattle.ml_kernel.specs.Rules.{Instance, pattern, variable, sort}
-use Rattle.ml_kernel.specs.Theorems.{Derivation, Derivations, hypothesis, own_axiom, by_rule, cited, no_derivation, more_derivations}
+use Rattle.ml_kernel.specs.Theorems.{Derivation, Derivations, hypothesis, own_axiom, by_rule, cited}
+use Rattle.ml_kernel.specs.Theorems.{no_derivation, more_derivations}
 use Rattle.mm_claims.specs.Variables.{Variable, object_variable, pattern_variable, has_variable}
 use Rattle.mm_claims.specs.Blocks.{Stated}
 
@@ -58,4 +60,5 @@ abbrev mutual
 -- those of some variables that are not among others, each once, in the order of first occurrence
 abbrev pub other_variables : List Variable → List Variable → List Variable
 other_variables vs [] = []
-other_variables vs (u ∷ us) = if has_variable vs u then other_variables vs us else (u ∷ other_variables (vs ++ u ∷ []) us)
+other_variables vs (u ∷ us) =
+    if has_variable vs u then other_variables vs us else (u ∷ other_variables (vs ++ u ∷ []) us)

@@ -5,7 +5,7 @@ use Rattle.ml_pat.specs.Patterns.{Pattern}
 use Rattle.ml_kernel.specs.Theorems.{Theorem}
 use Rattle.ml_kernel.specs.UsedLeaves.{EachUsed}
 use Rattle.ml_kernel.specs.MayCite.{MayCite, EachCited}
-use Rattle.mm_claims.specs.Kept.{Kept, all_stated}
+use Rattle.mm_claims.specs.Rendered.{Rendered, all_stated}
 use Rattle.mm_claims.specs.OverNames.{over_names, AreOverNames}
 use Rattle.mm_claims.specs.Variables.{Variable}
 use Rattle.mm_claims.specs.Blocks.{Stated, open_assertion}
@@ -17,7 +17,8 @@ use Rattle.mm_claims.specs.Keeping.{Gains}
 use Rattle.mm_database.specs.StatementTexts.{written_statements}
 
 -- this claim is among some claims, and it has this conclusion under these hypotheses
-pub record IsFoundAs (claims : List Stated) (hypotheses : List Pattern) (conclusion : Pattern) (s : Stated) : Type 0
+pub record IsFoundAs (claims : List Stated) (hypotheses : List Pattern) (conclusion : Pattern)
+    (s : Stated) : Type 0
   where
     pub there : Contains claims s
     pub hypotheses_are : s.claim.hypotheses ≡ hypotheses
@@ -35,7 +36,7 @@ stated_cites declared claims = record {
 
 -- What may be proved after what is kept: a pattern under hypotheses, over the declared names. Its
 -- derivation uses only patterns over these names and cites only what was stated.
-pub record MayProve (names : List Token) (k : Kept) (t : Theorem) : Type 0 where
+pub record MayProve (names : List Token) (k : Rendered) (t : Theorem) : Type 0 where
   pub begun : IsTrue k.begun
   pub over : AreOverNames (take k.named names) (t.conclusion ∷ t.hypotheses)
   pub used : EachUsed (over_names (take k.named names)) t.derivation
@@ -49,25 +50,30 @@ Finds claims find =
 
 -- The variables that the proof of a lemma has in its block, in addition to those of the lemma.
 abbrev pub more_variables : (List Pattern → Pattern → Stated) → Theorem → List Variable
-more_variables find t = other_variables (claim_variables t.hypotheses t.conclusion) (variables_of find t.derivation)
+more_variables find t =
+    other_variables (claim_variables t.hypotheses t.conclusion) (variables_of find t.derivation)
 
 -- a lemma as the theorem with a number, whose citations are found by `find` and `premise_place`
-abbrev pub lemma_statements : List Token → ℕ → (List Pattern → Pattern → Stated) → (Pattern → ℕ) → Theorem →
-    List (List Token)
+abbrev pub lemma_statements : List Token → ℕ → (List Pattern → Pattern → Stated) → (Pattern → ℕ)
+    → Theorem → List (List Token)
 lemma_statements names k find premise_place t =
-    proved_statements names k find premise_place (claim_of t.hypotheses t.conclusion) (more_variables find t)
+    proved_statements names k find premise_place (claim_of t.hypotheses t.conclusion)
+    (more_variables find t)
     t.derivation
 
 -- A lemma was stated. Its statements were appended, and each citation in them has the label of the
 -- claim, or of the place of the hypothesis. If the lemma may be proved, exactly this theorem is
 -- gained.
-pub record StatesLemma (names : List Token) (old new : Kept) (t : Theorem) (text text' : List ℕ) : Type 0 where
+pub record StatesLemma (names : List Token) (old new : Rendered) (t : Theorem)
+    (text text' : List ℕ) : Type 0 where
   pub find : List Pattern → Pattern → Stated
   pub premise_place : Pattern → ℕ
   pub finds : Finds (all_stated old) find
   pub premises : ArePremises t.hypotheses premise_place
-  pub appended : text' ≡ text ++ written_statements (lemma_statements names old.count find premise_place t)
+  pub appended : text'
+      ≡ text ++ written_statements (lemma_statements names old.count find premise_place t)
   pub gains : MayProve names old t →
-      Gains names old new (written_statements (lemma_statements names old.count find premise_place t))
+      Gains names old new
+      (written_statements (lemma_statements names old.count find premise_place t))
       (claim_variables t.hypotheses t.conclusion ++ more_variables find t)
       (open_assertion true (take old.named names) old.count (claim_of t.hypotheses t.conclusion))

@@ -14,7 +14,9 @@ use Rattle.mm_claims.specs.Citable.{citable}
 
 -- A theorem that may be claimed. Its derivation from its hypotheses uses only what is declared and
 -- the variables of the block, and cites only what was claimed before.
-pub record IsProvable (declared : List Token) (claims : List Claim) (s : Claim) (more : List Variable) (d : Derivation) (place : List Pattern → Pattern → ℕ) (premise_place : Pattern → ℕ) : Type 0 where
+pub record IsProvable (declared : List Token) (claims : List Claim) (s : Claim)
+    (more : List Variable) (d : Derivation) (place : List Pattern → Pattern → ℕ)
+    (premise_place : Pattern → ℕ) : Type 0 where
   pub once : are_once (s.variables ++ more) ≡ true
   pub numbered : AreNumbered (s.variables ++ more)
   pub concludes : Concludes s.hypotheses d s.conclusion

@@ -11,13 +11,14 @@ use Rattle.mm_claims.specs.Fitting.{AreNames}
 use Rattle.mm_claims.specs.Variables.{Variable}
 use Rattle.mm_claims.specs.Blocks.{Claim, IsClaim, open_assertion, axiom_statements}
 use Rattle.mm_claims.specs.CitedAt.{at_places}
-use Rattle.mm_claims.specs.Claiming.{FitsClaims, proved_statements, HasJust}
+use Rattle.mm_claims.specs.Claiming.{FitsClaims, proved_statements, GainsExactly}
 use Rattle.mm_claims.specs.Provable.{IsProvable}
 use Rattle.mm_database.specs.StatementTexts.{written_statements}
 
 -- such a text is valid
 abbrev pub ClaimsAreValid : Type 0
-ClaimsAreValid = (declared : List Token) (claims : List Claim) (bytes : List ℕ) → FitsClaims declared claims bytes → IsValid bytes
+ClaimsAreValid = (declared : List Token) (claims : List Claim) (bytes : List ℕ)
+    → FitsClaims declared claims bytes → IsValid bytes
 
 -- the header fits if there are no names and no claims
 abbrev pub HeaderFitsClaims : Type 0
@@ -26,35 +27,52 @@ HeaderFitsClaims = FitsClaims [] [] header_bytes
 -- a text that fits, with the declarations of more names after it, fits with these names
 abbrev pub NamesFitClaims : Type 0
 NamesFitClaims =
-    (declared more : List Token) (claims : List Claim) (bytes : List ℕ) → FitsClaims declared claims bytes →
-    AreNames (declared ++ more) → AreDistinct (declared ++ more) → length (declared ++ more) < 2 ^ 64 →
-    FitsClaims (declared ++ more) claims (bytes ++ written_statements (all_name_statements (length declared) more))
+    (declared more : List Token) (claims : List Claim) (bytes : List ℕ)
+    → FitsClaims declared claims bytes →
+    AreNames (declared ++ more) → AreDistinct (declared ++ more)
+    → length (declared ++ more) < 2 ^ 64 →
+    FitsClaims (declared ++ more) claims
+    (bytes ++ written_statements (all_name_statements (length declared) more))
 
 -- a text that fits, with an axiom after it, fits with one more claim
 abbrev pub AxiomFits : Type 0
 AxiomFits =
-    (declared : List Token) (claims : List Claim) (bytes : List ℕ) (s : Claim) → FitsClaims declared claims bytes →
+    (declared : List Token) (claims : List Claim) (bytes : List ℕ) (s : Claim)
+    → FitsClaims declared claims bytes →
     length claims < 2 ^ 64 → IsClaim declared s →
-    FitsClaims declared (claims ++ s ∷ []) (bytes ++ written_statements (axiom_statements declared (length claims) s))
+    FitsClaims declared (claims ++ s ∷ [])
+    (bytes ++ written_statements (axiom_statements declared (length claims) s))
 
 -- the same is true of a theorem
 abbrev pub TheoremFits : Type 0
 TheoremFits =
-    (declared : List Token) (claims : List Claim) (bytes : List ℕ) (s : Claim) (more : List Variable) (d : Derivation) (place : List Pattern → Pattern → ℕ) (premise_place : Pattern → ℕ) →
-    FitsClaims declared claims bytes → length claims < 2 ^ 64 → IsClaim declared s → IsProvable declared claims s more d place premise_place →
+    (declared : List Token) (claims : List Claim) (bytes : List ℕ) (s : Claim)
+    (more : List Variable) (d : Derivation) (place : List Pattern → Pattern → ℕ)
+    (premise_place : Pattern → ℕ) →
+    FitsClaims declared claims bytes → length claims < 2 ^ 64 → IsClaim declared s
+    → IsProvable declared claims s more d place premise_place →
     FitsClaims declared (claims ++ s ∷ [])
-    (bytes ++ written_statements (proved_statements declared (length claims) (at_places claims place) premise_place s
+    (bytes
+    ++ written_statements
+    (proved_statements declared (length claims) (at_places claims place) premise_place s
     more d))
 
 abbrev pub AxiomIsGained : Type 0
 AxiomIsGained =
-    (declared : List Token) (claims : List Claim) (bytes : List ℕ) (s : Claim) → FitsClaims declared claims bytes →
+    (declared : List Token) (claims : List Claim) (bytes : List ℕ) (s : Claim)
+    → FitsClaims declared claims bytes →
     length claims < 2 ^ 64 → IsClaim declared s →
-    HasJust bytes (written_statements (axiom_statements declared (length claims) s)) (length claims) s.variables (open_assertion false declared (length claims) s)
+    GainsExactly bytes (written_statements (axiom_statements declared (length claims) s))
+    (length claims) s.variables (open_assertion false declared (length claims) s)
 
 abbrev pub TheoremIsGained : Type 0
 TheoremIsGained =
-    (declared : List Token) (claims : List Claim) (bytes : List ℕ) (s : Claim) (more : List Variable) (d : Derivation) (place : List Pattern → Pattern → ℕ) (premise_place : Pattern → ℕ) →
-    FitsClaims declared claims bytes → length claims < 2 ^ 64 → IsClaim declared s → IsProvable declared claims s more d place premise_place →
-    HasJust bytes (written_statements (proved_statements declared (length claims) (at_places claims place)
-    premise_place s more d)) (length claims) (s.variables ++ more) (open_assertion true declared (length claims) s)
+    (declared : List Token) (claims : List Claim) (bytes : List ℕ) (s : Claim)
+    (more : List Variable) (d : Derivation) (place : List Pattern → Pattern → ℕ)
+    (premise_place : Pattern → ℕ) →
+    FitsClaims declared claims bytes → length claims < 2 ^ 64 → IsClaim declared s
+    → IsProvable declared claims s more d place premise_place →
+    GainsExactly bytes
+    (written_statements (proved_statements declared (length claims) (at_places claims place)
+    premise_place s more
+    d)) (length claims) (s.variables ++ more) (open_assertion true declared (length claims) s)

@@ -1,5 +1,6 @@
 -- The statements that a renderer writes.
-use Rattle.std.specs.Prelude.{◌≡◌, ℕ, ◌+◌, Bool, true, false, ◌&&◌, ◌==◌, if◌then◌else◌, List, [], ◌∷◌, ◌++◌, codes}
+use Rattle.std.specs.Prelude.{◌≡◌, ℕ, ◌+◌, Bool, true, false, ◌&&◌, ◌==◌, if◌then◌else◌, List, []}
+use Rattle.std.specs.Prelude.{◌∷◌, ◌++◌, codes}
 use Rattle.std.specs.List.{list_all}
 use Rattle.mm_text.specs.Bytes.{Token, is_printable}
 use Rattle.mm_database.specs.Forms.{declares_constants, asserts}
@@ -46,11 +47,14 @@ name_statements i token =
 -- the statements of names with the numbers from i on
 abbrev pub all_name_statements : ℕ → List Token → List (List Token)
 all_name_statements i [] = []
-all_name_statements i (token ∷ tokens) = name_statements i token ++ all_name_statements (i + 1) tokens
+all_name_statements i (token ∷ tokens) =
+    name_statements i token ++ all_name_statements (i + 1) tokens
 
 -- an axiom, and a theorem with its proof
 abbrev pub axiom_statement : List Token → ℕ → Pattern → List Token
-axiom_statement declared k p = plain_tokens (statement_label k ∷ []) asserts (holds_text (own_naming declared) p)
+axiom_statement declared k p =
+    plain_tokens (statement_label k ∷ []) asserts (holds_text (own_naming declared) p)
 
 abbrev pub theorem_statement : List Token → ℕ → Pattern → ProofTree → List Token
-theorem_statement declared k p tree = proof_tokens (statement_label k ∷ []) (holds_text (own_naming declared) p) (postorder tree)
+theorem_statement declared k p tree =
+    proof_tokens (statement_label k ∷ []) (holds_text (own_naming declared) p) (postorder tree)

@@ -1,9 +1,11 @@
 -- The variables of a statement: object variables and pattern variables, each with its number.
-use Rattle.std.specs.Prelude.{ℕ, ◌<◌, ◌^◌, Bool, true, false, ◌==◌, ◌||◌, ◌&&◌, List, [], ◌∷◌, map, filter, codes}
+use Rattle.std.specs.Prelude.{ℕ, ◌<◌, ◌^◌, Bool, true, false, ◌==◌, ◌||◌, ◌&&◌, List, [], ◌∷◌, map}
+use Rattle.std.specs.Prelude.{filter, codes}
 use Rattle.std.specs.Prelude as std
 use Rattle.std.specs.List.{list_any}
 use Rattle.mm_text.specs.Bytes.{Token}
-use Rattle.ml_pat.specs.Patterns.{Pattern, bot, top, imp, not, and, or, equal, member, fun, ex, all, app, at_sort, next, ev, var, meta, constant}
+use Rattle.ml_pat.specs.Patterns.{Pattern, bot, top, imp, not, and, or, equal, member, fun, ex, all}
+use Rattle.ml_pat.specs.Patterns.{app, at_sort, next, ev, var, meta, constant}
 use Rattle.mm_proof.specs.Tokens.{object_token, meta_token}
 use Rattle.mm_proof.specs.Labels.{object_label, meta_label}
 
@@ -39,25 +41,25 @@ AreNumbered [] = Unit {0}
 AreNumbered (v ∷ vs) = (number_of v < 2 ^ 64) × AreNumbered vs
 
 -- the variable occurs in the pattern, bound or free
-abbrev pub stands_in : Variable → Pattern → Bool
-stands_in v bot = false
-stands_in v top = false
-stands_in v (imp p q) = stands_in v p || stands_in v q
-stands_in v (not p) = stands_in v p
-stands_in v (and p q) = stands_in v p || stands_in v q
-stands_in v (or p q) = stands_in v p || stands_in v q
-stands_in v (equal p q) = stands_in v p || stands_in v q
-stands_in v (member p q) = stands_in v p || stands_in v q
-stands_in v (fun p s) = stands_in v p
-stands_in v (ex x s p) = same_variable (object_variable x) v || stands_in v p
-stands_in v (all x s p) = same_variable (object_variable x) v || stands_in v p
-stands_in v (app p q) = stands_in v p || stands_in v q
-stands_in v (at_sort p s) = stands_in v p
-stands_in v (next p) = stands_in v p
-stands_in v (ev p) = stands_in v p
-stands_in v (var x) = same_variable (object_variable x) v
-stands_in v (meta i) = same_variable (pattern_variable i) v
-stands_in v (constant c) = false
+abbrev pub occurs_in : Variable → Pattern → Bool
+occurs_in v bot = false
+occurs_in v top = false
+occurs_in v (imp p q) = occurs_in v p || occurs_in v q
+occurs_in v (not p) = occurs_in v p
+occurs_in v (and p q) = occurs_in v p || occurs_in v q
+occurs_in v (or p q) = occurs_in v p || occurs_in v q
+occurs_in v (equal p q) = occurs_in v p || occurs_in v q
+occurs_in v (member p q) = occurs_in v p || occurs_in v q
+occurs_in v (fun p s) = occurs_in v p
+occurs_in v (ex x s p) = same_variable (object_variable x) v || occurs_in v p
+occurs_in v (all x s p) = same_variable (object_variable x) v || occurs_in v p
+occurs_in v (app p q) = occurs_in v p || occurs_in v q
+occurs_in v (at_sort p s) = occurs_in v p
+occurs_in v (next p) = occurs_in v p
+occurs_in v (ev p) = occurs_in v p
+occurs_in v (var x) = same_variable (object_variable x) v
+occurs_in v (meta i) = same_variable (pattern_variable i) v
+occurs_in v (constant c) = false
 
 -- the token of a variable, the label that types it in the block of a statement, and its type
 abbrev pub variable_token : Variable → Token

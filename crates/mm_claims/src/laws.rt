@@ -3,11 +3,15 @@ ghost use Rattle.mm_claims.specs.BlockCases.{BlockTried};
 ghost use Rattle.mm_claims.specs.ClaimLaws.{NeededAreEnough, OverNamesIsClaim};
 ghost use Rattle.mm_claims.specs.ClosedLaws.{ClosedClaims, ClosedHasNoMeta, ClosedIsOver};
 ghost use Rattle.mm_claims.specs.KeepingLaws.{BegunFits, DeclaredFits, EmptyFits};
-ghost use Rattle.mm_claims.specs.LaterLaws.{AllDeclared, ClosedStays, FitsLater, LastIsStated, StatedStays};
+ghost use Rattle.mm_claims.specs.LaterLaws.{AllDeclared, ClosedStays, FitsLater, LastIsStated};
+ghost use Rattle.mm_claims.specs.LaterLaws.{StatedStays};
 ghost use Rattle.mm_claims.specs.OpenCases.{TriedCitations};
-ghost use Rattle.mm_claims.specs.OpenCiting.{CitingDerivationsAreProved, CitingIsSound, ClaimsAreCited};
+ghost use Rattle.mm_claims.specs.OpenCiting.{CitingDerivationsAreProved, CitingIsSound};
+ghost use Rattle.mm_claims.specs.OpenCiting.{ClaimsAreCited};
 ghost use Rattle.mm_claims.specs.RenderedCases.{RenderedCases};
-ghost use Rattle.mm_claims.specs.StatementLaws.{AxiomFits, AxiomIsGained, ClaimsAreValid, HeaderFitsClaims, NamesFitClaims, TheoremFits, TheoremIsGained};
+ghost use Rattle.mm_claims.specs.StatementLaws.{AxiomFits, AxiomIsGained, ClaimsAreValid};
+ghost use Rattle.mm_claims.specs.StatementLaws.{HeaderFitsClaims, NamesFitClaims, TheoremFits};
+ghost use Rattle.mm_claims.specs.StatementLaws.{TheoremIsGained};
 
 /// By the definitions, a small database with claims has no fault, the block of a small claim is the
 /// expected one, and a small statement is cited as expected.

@@ -8,7 +8,7 @@
 //! claims and hypotheses by the labels of their places (`specs/CitedAt`).
 //!
 //! **What fits what.** A text fits what was kept of it if it is valid and has declared and stated
-//! what was kept (`specs/Kept`, `specs/Keeping`, `specs/Claiming`). `specs/Keeping` and
+//! what was kept (`specs/Rendered`, `specs/Keeping`, `specs/Claiming`). `specs/Keeping` and
 //! `specs/Places` define which claims may be stated or proved after it, and what the text has then
 //! gained.
 //!

@@ -1,10 +1,14 @@
 -- What a database states: its assertions with their frames, and its typings of variables.
-use Rattle.std.specs.Prelude.{ℕ, Bool, true, false, not, List, [], ◌∷◌, Option, Some, None, count_by}
+use Rattle.std.specs.Prelude.{ℕ, Bool, true, false, not, List, [], ◌∷◌, Option, Some, None}
+use Rattle.std.specs.Prelude.{count_by}
 use Rattle.mm_text.specs.Bytes.{Token}
-use Rattle.mm_text.specs.Statements.{Statements, no_statement, unended, bad_statement, next_statement, statements_of}
-use Rattle.mm_database.specs.Forms.{Keyword, types_variable, asserts, proves, Form, block_start, block_end, plain, form_of}
+use Rattle.mm_text.specs.Statements.{Statements, no_statement, unended, bad_statement}
+use Rattle.mm_text.specs.Statements.{next_statement, statements_of}
+use Rattle.mm_database.specs.Forms.{Keyword, types_variable, asserts, proves, Form, block_start}
+use Rattle.mm_database.specs.Forms.{block_end, plain, form_of}
 use Rattle.mm_database.specs.Frames.{Hypothesis, Frame, frame_of}
-use Rattle.mm_database.specs.Database.{Context, empty_context, context_after, first_label, floating_of}
+use Rattle.mm_database.specs.Database.{Context, empty_context, context_after, first_label}
+use Rattle.mm_database.specs.Database.{floating_of}
 
 -- an assertion: a `$a`, or a `$p`, which is proved; and its frame
 pub record Assertion : Type 0 where
@@ -12,7 +16,10 @@ pub record Assertion : Type 0 where
   pub frame : Frame
 
 abbrev pub assertion : Context → Bool → List Token → List Token → Assertion
-assertion c proved labels symbols = record { is_proved = proved; frame = frame_of c.scope (first_label labels) symbols }
+assertion c proved labels symbols = record {
+  is_proved = proved;
+  frame = frame_of c.scope (first_label labels) symbols;
+}
 
 abbrev pub keyword_assertion : Context → List Token → List Token → Keyword → Option Assertion
 keyword_assertion c labels symbols asserts = Some (assertion c false labels symbols)
@@ -37,7 +44,8 @@ assertions_in c no_statement = []
 assertions_in c (unended at) = []
 assertions_in c (bad_statement f) = []
 assertions_in c (next_statement s statements) =
-    with_assertion_first (form_assertion c (form_of s.tokens)) (assertions_in (context_after c s) statements)
+    with_assertion_first (form_assertion c (form_of s.tokens))
+    (assertions_in (context_after c s) statements)
 
 abbrev pub assertions_of : List ℕ → List Assertion
 assertions_of bytes = assertions_in empty_context (statements_of bytes)

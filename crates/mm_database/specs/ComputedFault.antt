@@ -2,7 +2,8 @@
 use Rattle.std.specs.Prelude.{ℕ, if◌then◌else◌, List, [], ◌∷◌, Option, Some, None, option_map}
 use Rattle.mm_text.specs.Bytes.{Token}
 use Rattle.mm_text.specs.FaultKinds.{bad_keyword, bad_scope, bad_step, bad_conclusion, fault}
-use Rattle.mm_text.specs.Statements.{Statements, no_statement, unended, bad_statement, next_statement, statements_of}
+use Rattle.mm_text.specs.Statements.{Statements, no_statement, unended, bad_statement}
+use Rattle.mm_text.specs.Statements.{next_statement, statements_of}
 use Rattle.mm_text.specs.declared.fault.MmFault.{MmFault}
 use Rattle.mm_database.specs.Forms.{form_of}
 use Rattle.mm_database.specs.Database.{Context, empty_context, context_after}

@@ -1,10 +1,13 @@
 -- What a database has declared before a statement, and which of it is active at the statement
 -- (Metamath book, "Scoping Statements"). It is a function of the statements before it and their
 -- blocks.
-use Rattle.std.specs.Prelude.{ℕ, Bool, false, not, ◌&&◌, ◌||◌, if◌then◌else◌, List, [], ◌∷◌, ◌++◌, Option, Some, None, bytes_eq}
+use Rattle.std.specs.Prelude.{ℕ, Bool, false, not, ◌&&◌, ◌||◌, if◌then◌else◌, List, [], ◌∷◌, ◌++◌}
+use Rattle.std.specs.Prelude.{Option, Some, None, bytes_eq}
 use Rattle.mm_text.specs.Bytes.{Token, has_token}
 use Rattle.mm_text.specs.Statements.{Statement}
-use Rattle.mm_database.specs.Forms.{Keyword, declares_constants, declares_variables, types_variable, assumes, separates, asserts, proves, Form, block_start, block_end, plain, form_of}
+use Rattle.mm_database.specs.Forms.{Keyword, declares_constants, declares_variables, types_variable}
+use Rattle.mm_database.specs.Forms.{assumes, separates, asserts, proves, Form, block_start}
+use Rattle.mm_database.specs.Forms.{block_end, plain, form_of}
 use Rattle.mm_database.specs.Frames.{Hypothesis, floating, essential, Scope, Frame, frame_of}
 
 -- an open block: the byte of its `${`, and what was active at its `${`
@@ -62,7 +65,8 @@ abbrev pub floating_of : Token → List Token → Hypothesis
 floating_of label [] = essential label []
 floating_of label (typecode ∷ []) = essential label (typecode ∷ [])
 floating_of label (typecode ∷ (variable ∷ [])) = floating label typecode variable
-floating_of label (typecode ∷ (variable ∷ (other ∷ symbols))) = essential label (typecode ∷ (variable ∷ (other ∷ symbols)))
+floating_of label (typecode ∷ (variable ∷ (other ∷ symbols))) =
+    essential label (typecode ∷ (variable ∷ (other ∷ symbols)))
 
 abbrev pub with_hypothesis : Context → Token → Hypothesis → Context
 with_hypothesis c label h = record c {
@@ -114,10 +118,10 @@ abbrev pub context_after : Context → Statement → Context
 context_after c s = after_form c s.at (form_of s.tokens)
 
 -- the context after some statements
-abbrev pub context_behind : Context → List Statement → Context
-context_behind c [] = c
-context_behind c (s ∷ statements) = context_behind (context_after c s) statements
+abbrev pub context_after_all : Context → List Statement → Context
+context_after_all c [] = c
+context_after_all c (s ∷ statements) = context_after_all (context_after c s) statements
 
 -- what is declared and active at a statement, by the statements before it
 abbrev pub active_at : List Statement → Context
-active_at before = context_behind empty_context before
+active_at before = context_after_all empty_context before

@@ -1,7 +1,8 @@
 -- What the tokens of a statement mean (Metamath book, "The Complete Language Specification"). Its
 -- keyword is its first token with a `$`. Labels come before the keyword, and symbols after it. The
 -- proof of a `$p` comes after its `$=`.
-use Rattle.std.specs.Prelude.{Bool, true, false, ◌&&◌, ◌==◌, if◌then◌else◌, List, [], ◌∷◌, Option, Some, None, option_and_then, codes, bytes_eq}
+use Rattle.std.specs.Prelude.{Bool, true, false, ◌&&◌, ◌==◌, if◌then◌else◌, List, [], ◌∷◌, Option}
+use Rattle.std.specs.Prelude.{Some, None, option_and_then, codes, bytes_eq}
 use Rattle.std.specs.List.{list_any}
 use Rattle.mm_text.specs.Bytes.{Token}
 use Rattle.mm_text.specs.Statements.{ends_statement}
@@ -60,19 +61,25 @@ form_if test form = if test then Some form else None
 -- `rest` begins with the first token with a `$` after the symbols; there has to be a symbol
 abbrev pub declaration_form : List Token → Keyword → List Token → List Token → Option Form
 declaration_form labels keyword [] rest = None
-declaration_form labels keyword (symbol ∷ symbols) rest = form_if (is_end rest) (plain labels keyword (symbol ∷ symbols) [])
+declaration_form labels keyword (symbol ∷ symbols) rest =
+    form_if (is_end rest) (plain labels keyword (symbol ∷ symbols) [])
 
 abbrev pub proof_form : List Token → List Token → List Token → Option Form
 proof_form labels symbols [] = None
 proof_form labels symbols (token ∷ rest) =
-    form_if (bytes_eq token (codes "$=") && is_end (from_dollar rest)) (plain labels proves symbols (before_dollar rest))
+    form_if (bytes_eq token (codes "$=") && is_end (from_dollar rest))
+    (plain labels proves symbols (before_dollar rest))
 
 abbrev pub keyword_form : List Token → List Token → List Token → Keyword → Option Form
-keyword_form labels symbols rest declares_constants = declaration_form labels declares_constants symbols rest
-keyword_form labels symbols rest declares_variables = declaration_form labels declares_variables symbols rest
-keyword_form labels symbols rest types_variable = form_if (is_end rest) (plain labels types_variable symbols [])
+keyword_form labels symbols rest declares_constants =
+    declaration_form labels declares_constants symbols rest
+keyword_form labels symbols rest declares_variables =
+    declaration_form labels declares_variables symbols rest
+keyword_form labels symbols rest types_variable =
+    form_if (is_end rest) (plain labels types_variable symbols [])
 keyword_form labels symbols rest assumes = form_if (is_end rest) (plain labels assumes symbols [])
-keyword_form labels symbols rest separates = form_if (is_end rest) (plain labels separates symbols [])
+keyword_form labels symbols rest separates =
+    form_if (is_end rest) (plain labels separates symbols [])
 keyword_form labels symbols rest asserts = form_if (is_end rest) (plain labels asserts symbols [])
 keyword_form labels symbols rest proves = proof_form labels symbols rest
 

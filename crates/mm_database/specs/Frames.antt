@@ -43,13 +43,14 @@ types token (floating label typecode variable) = bytes_eq variable token
 types token (essential label statement) = false
 
 -- the token occurs in a `$e`
-abbrev pub stands_in : Token → Hypothesis → Bool
-stands_in token (floating label typecode variable) = false
-stands_in token (essential label statement) = has_token statement token
+abbrev pub occurs_in : Token → Hypothesis → Bool
+occurs_in token (floating label typecode variable) = false
+occurs_in token (essential label statement) = has_token statement token
 
 -- the token occurs in the statement or in an active `$e`
 abbrev pub is_needed : Scope → List Token → Token → Bool
-is_needed scope statement token = has_token statement token || list_any (stands_in token) scope.hypotheses
+is_needed scope statement token =
+    has_token statement token || list_any (occurs_in token) scope.hypotheses
 
 -- each active `$e`, and the `$f` of each variable that is needed
 abbrev pub is_mandatory : Scope → List Token → Hypothesis → Bool

@@ -6,7 +6,7 @@ use Rattle.mm_text.specs.Bytes.{Token}
 use Rattle.mm_text.specs.Statements.{Statement}
 use Rattle.mm_database.specs.Frames.{Hypothesis, floating, essential, Frame, types}
 use Rattle.mm_database.specs.Database.{Block, Context, empty_context, context_after}
-use Rattle.mm_database.specs.Validity.{IsFine}
+use Rattle.mm_database.specs.Validity.{HasNoFault}
 
 abbrev pub TypeOnce : List Hypothesis → Type 0
 TypeOnce [] = Unit {0}
@@ -30,4 +30,5 @@ EmptyIsOrderly = IsOrderly empty_context
 
 abbrev pub OrderlyAfter : Type 0
 OrderlyAfter =
-    (c : Context) (s : Statement) → IsOrderly c → IsFine c s.tokens → IsOrderly (context_after c s)
+    (c : Context) (s : Statement) → IsOrderly c → HasNoFault c s.tokens
+    → IsOrderly (context_after c s)

@@ -1,7 +1,8 @@
 -- Statements as they are written.
 use Rattle.std.specs.Prelude.{ℕ, List, [], ◌∷◌, ◌++◌, flat_map, codes}
 use Rattle.mm_text.specs.Bytes.{Token}
-use Rattle.mm_database.specs.Forms.{Keyword, declares_constants, declares_variables, types_variable, assumes, separates, asserts, proves}
+use Rattle.mm_database.specs.Forms.{Keyword, declares_constants, declares_variables, types_variable}
+use Rattle.mm_database.specs.Forms.{assumes, separates, asserts, proves}
 use Rattle.mm_text.specs.Written.{written}
 
 -- the text of some statements
@@ -19,7 +20,9 @@ keyword_token proves = codes "$p"
 
 -- the tokens of a statement with these labels, keyword and symbols, and of one with a proof
 abbrev pub plain_tokens : List Token → Keyword → List Token → List Token
-plain_tokens labels keyword symbols = labels ++ (keyword_token keyword ∷ (symbols ++ codes "$." ∷ []))
+plain_tokens labels keyword symbols =
+    labels ++ (keyword_token keyword ∷ (symbols ++ codes "$." ∷ []))
 
 abbrev pub proof_tokens : List Token → List Token → List Token → List Token
-proof_tokens labels symbols proof = labels ++ (codes "$p" ∷ (symbols ++ (codes "$=" ∷ (proof ++ codes "$." ∷ []))))
+proof_tokens labels symbols proof =
+    labels ++ (codes "$p" ∷ (symbols ++ (codes "$=" ∷ (proof ++ codes "$." ∷ []))))

@@ -1,18 +1,24 @@
 -- The first fault of a Metamath text; a text without one is valid (Metamath book, "The Complete
 -- Language Specification"). Faults are reported by statement, and within a statement by kind. A
 -- block that is not closed is reported only if there is no other fault.
-use Rattle.std.specs.Prelude.{◌≡◌, ℕ, Bool, true, false, not, ◌&&◌, ◌||◌, ◌⊎◌, if◌then◌else◌, List, [], ◌∷◌, Option, Some, None, IfSome, is_none, option_map}
+use Rattle.std.specs.Prelude.{◌≡◌, ℕ, Bool, true, false, not, ◌&&◌, ◌||◌, ◌⊎◌, if◌then◌else◌, List}
+use Rattle.std.specs.Prelude.{[], ◌∷◌, Option, Some, None, IfSome, is_none, option_map}
 use Rattle.std.specs.List.{list_any, list_all}
 use Rattle.mm_text.specs.Bytes.{Token, has_repeated}
 use Rattle.mm_text.specs.Labels.{is_label}
-use Rattle.mm_text.specs.FaultKinds.{bad_keyword, inner_constant, redeclared, not_active, bad_typecode, second_float, bad_disjoint, bad_scope, bad_label, bad_proof_text, bad_step, bad_conclusion, fault}
-use Rattle.mm_text.specs.Statements.{Statements, no_statement, unended, bad_statement, next_statement, statements_of}
+use Rattle.mm_text.specs.FaultKinds.{bad_keyword, inner_constant, redeclared, not_active}
+use Rattle.mm_text.specs.FaultKinds.{bad_typecode, second_float, bad_disjoint, bad_scope, bad_label}
+use Rattle.mm_text.specs.FaultKinds.{bad_proof_text, bad_step, bad_conclusion, fault}
+use Rattle.mm_text.specs.Statements.{Statements, no_statement, unended, bad_statement}
+use Rattle.mm_text.specs.Statements.{next_statement, statements_of}
 use Rattle.mm_text.specs.declared.fault.MmFault.{MmFault}
-use Rattle.mm_database.specs.Forms.{Keyword, declares_constants, declares_variables, types_variable, separates, proves, Form, block_start, block_end, plain, form_of, is_nil}
+use Rattle.mm_database.specs.Forms.{Keyword, declares_constants, declares_variables, types_variable}
+use Rattle.mm_database.specs.Forms.{separates, proves, Form, block_start, block_end, plain, form_of}
+use Rattle.mm_database.specs.Forms.{is_nil}
 use Rattle.mm_database.specs.Frames.{types, Frame, frame_of}
 use Rattle.mm_database.specs.Database.{Block, Context, empty_context, context_after, first_label}
 use Rattle.mm_database.specs.Proofs.{Expression}
-use Rattle.mm_database.specs.Steps.{Step, Forms}
+use Rattle.mm_database.specs.Steps.{Step, BuildsAndProves}
 use Rattle.mm_database.specs.ProofText.{proof_steps}
 
 -- an active `$f` types the symbol
@@ -39,7 +45,8 @@ abbrev pub declares_again : Context → Keyword → List Token → Bool
 declares_again c declares_constants symbols =
     list_any (λ t. c.constants t || (c.variables t || c.labels t)) symbols || has_repeated symbols
 declares_again c declares_variables symbols =
-    list_any (λ t. c.constants t || (c.scope.variables t || c.labels t)) symbols || has_repeated symbols
+    list_any (λ t. c.constants t || (c.scope.variables t || c.labels t)) symbols
+    || has_repeated symbols
 declares_again c keyword symbols = false
 
 -- a symbol is not active, or is a variable without a type although it needs one
@@ -114,7 +121,8 @@ task_of c f proof =
     option_map (λ ss. record { conclusion = f.statement; steps = ss }) (proof_steps c f proof)
 
 abbrev pub theorem_task : Context → List Token → List Token → List Token → Option Task
-theorem_task c labels symbols proof = task_of c (frame_of c.scope (first_label labels) symbols) proof
+theorem_task c labels symbols proof =
+    task_of c (frame_of c.scope (first_label labels) symbols) proof
 
 abbrev pub task : Context → Option Form → Option Task
 task c (Some (plain labels proves symbols proof)) = theorem_task c labels symbols proof
@@ -167,42 +175,44 @@ form_fault c form = or_else (declaration_fault c form) (proof_text_fault c form)
 
 -- the steps build one tree, which proves the conclusion
 abbrev pub IsProved : Context → Task → Type 0
-IsProved c t = Forms c t.steps (t.conclusion ∷ [])
+IsProved c t = BuildsAndProves c t.steps (t.conclusion ∷ [])
 
 -- the steps build no forest that proves something
 abbrev pub HasBadStep : Context → Task → Type 0
-HasBadStep c t = (results : List Expression) → Forms c t.steps results → ⊥
+HasBadStep c t = (results : List Expression) → BuildsAndProves c t.steps results → ⊥
 
 -- the steps build a forest that proves something, but not exactly the statement
 pub record HasBadConclusion (c : Context) (t : Task) : Type 0 where
   pub results : List Expression
-  pub forms : Forms c t.steps results
+  pub forms : BuildsAndProves c t.steps results
   pub differs : results ≡ t.conclusion ∷ [] → ⊥
 
 -- the first fault of a statement is of this kind; faults in bytes and comments are not counted
 pub data IsFaulty (c : Context) (tokens : List Token) : ℕ → Type 0 where
   by_form : (kind : ℕ) → form_fault c (form_of tokens) ≡ Some kind → IsFaulty c tokens kind
-  by_step : (t : Task) → form_fault c (form_of tokens) ≡ None → task c (form_of tokens) ≡ Some t → HasBadStep c t → IsFaulty c tokens bad_step
-  by_conclusion : (t : Task) → form_fault c (form_of tokens) ≡ None → task c (form_of tokens) ≡ Some t → HasBadConclusion c t → IsFaulty c tokens bad_conclusion
+  by_step : (t : Task) → form_fault c (form_of tokens) ≡ None → task c (form_of tokens) ≡ Some t
+      → HasBadStep c t → IsFaulty c tokens bad_step
+  by_conclusion : (t : Task) → form_fault c (form_of tokens) ≡ None
+      → task c (form_of tokens) ≡ Some t → HasBadConclusion c t → IsFaulty c tokens bad_conclusion
 
 -- the statement has no fault
-pub record IsFine (c : Context) (tokens : List Token) : Type 0 where
+pub record HasNoFault (c : Context) (tokens : List Token) : Type 0 where
   pub form : form_fault c (form_of tokens) ≡ None
   pub proof : IfSome (task c (form_of tokens)) (IsProved c)
 
 -- the statements have no fault from the first context on, and the second context is the one after
 -- them
-abbrev pub AreFine : Context → Statements → Context → Type 0
-AreFine c no_statement left = left ≡ c
-AreFine c (unended at) left = ⊥
-AreFine c (bad_statement f) left = ⊥
-AreFine c (next_statement s statements) left =
-    IsFine c s.tokens × AreFine (context_after c s) statements left
+abbrev pub HaveNoFault : Context → Statements → Context → Type 0
+HaveNoFault c no_statement left = left ≡ c
+HaveNoFault c (unended at) left = ⊥
+HaveNoFault c (bad_statement f) left = ⊥
+HaveNoFault c (next_statement s statements) left =
+    HasNoFault c s.tokens × HaveNoFault (context_after c s) statements left
 
 -- no statement of the text has a fault, and each block is closed
 pub record IsValid (bytes : List ℕ) : Type 0 where
   pub left : Context
-  pub fine : AreFine empty_context (statements_of bytes) left
+  pub fine : HaveNoFault empty_context (statements_of bytes) left
   pub closed : left.blocks ≡ []
 
 -- the outermost block that is open
@@ -213,11 +223,13 @@ first_open (block ∷ (outer ∷ blocks)) = first_open (outer ∷ blocks)
 
 -- the first fault of statements, from a context on
 abbrev pub IsFirstFaultIn : Context → Statements → MmFault → Type 0
-IsFirstFaultIn c no_statement f = (at : ℕ) × (first_open c.blocks ≡ Some at) × (f ≡ fault bad_scope at)
+IsFirstFaultIn c no_statement f =
+    (at : ℕ) × (first_open c.blocks ≡ Some at) × (f ≡ fault bad_scope at)
 IsFirstFaultIn c (unended at) f = f ≡ fault bad_keyword at
 IsFirstFaultIn c (bad_statement g) f = f ≡ g
 IsFirstFaultIn c (next_statement s statements) f =
-    ((kind : ℕ) × IsFaulty c s.tokens kind × (f ≡ fault kind s.at)) ⊎ (IsFine c s.tokens × IsFirstFaultIn (context_after c s) statements f)
+    ((kind : ℕ) × IsFaulty c s.tokens kind × (f ≡ fault kind s.at))
+    ⊎ (HasNoFault c s.tokens × IsFirstFaultIn (context_after c s) statements f)
 
 abbrev pub IsFirstFault : List ℕ → MmFault → Type 0
 IsFirstFault bytes f = IsFirstFaultIn empty_context (statements_of bytes) f

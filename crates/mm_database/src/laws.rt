@@ -1,8 +1,12 @@
 // Laws on the definitions, and the definitions tried on small texts.
 ghost use Rattle.mm_database.specs.Cases.{TriedCases};
-ghost use Rattle.mm_database.specs.FrameLaws.{AppendedIsFine, AppendedStates, FaultlessIsFine, FineWhereActive, FirstFaultIsComputed, LabelsArePostorder, PlainTokensSay, ProofTokensSay, StacksAreForests, ValidIsFaultless, WrittenIsFine};
+ghost use Rattle.mm_database.specs.FrameLaws.{AppendedIsFine, AppendedStates, FaultlessIsFine};
+ghost use Rattle.mm_database.specs.FrameLaws.{FineWhereActive, FirstFaultIsComputed};
+ghost use Rattle.mm_database.specs.FrameLaws.{LabelsArePostorder, PlainTokensSay, ProofTokensSay};
+ghost use Rattle.mm_database.specs.FrameLaws.{StacksAreForests, ValidIsFaultless, WrittenIsFine};
 ghost use Rattle.mm_database.specs.Orderly.{EmptyIsOrderly, OrderlyAfter};
-ghost use Rattle.mm_database.specs.Writing.{AxiomIsFine, ClosedHasNone, ContinuedLeaves, LeavesIsValid, TheoremIsFine};
+ghost use Rattle.mm_database.specs.Writing.{AxiomIsFine, ClosedHasNone, ContinuedLeaves};
+ghost use Rattle.mm_database.specs.Writing.{LeavesIsValid, TheoremIsFine};
 
 /// On some small texts, the definitions agree with the Metamath book: on which texts are valid, and
 /// on the first fault of the others. Each kind of fault occurs at least once.

@@ -1,7 +1,7 @@
 pub mod Named
 pub mod NamedSteps
 pub mod Repeats
-pub mod HeldAdds
+pub mod StateAdds
 pub mod Groups
 pub mod Placing
 pub mod FramePlaces

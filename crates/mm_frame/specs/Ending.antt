@@ -1,4 +1,4 @@
--- How a statement ends that is judged: cited by the clauses of private functions alone.
+-- How the judgment of a statement ends. Only clauses of private functions cite these definitions.
 use Rattle.std.specs.Prelude.{ℕ}
 use Rattle.mm_text.specs.FaultKinds.{fault}
 use Rattle.mm_frame.specs.declared.declare.FrameEnd.{FrameEnd}

@@ -1,8 +1,8 @@
 -- What the list of active hypotheses has.
 use Rattle.std.specs.Prelude.{List}
 use Rattle.mm_frame.specs.Numbered.{NumberedHypothesis}
-use Rattle.mm_frame.specs.FramesHeld.{hypotheses_held}
+use Rattle.mm_frame.specs.PlainFrames.{plain_hypotheses}
 use Rattle.mm_frame.specs.declared.hypotheses.Hypotheses.{Hypotheses}
 
 abbrev pub hypotheses_in : Hypotheses → List NumberedHypothesis
-hypotheses_in h = hypotheses_held h.all.items
+hypotheses_in h = plain_hypotheses h.all.items

@@ -1,19 +1,21 @@
--- What a statement without fault says, by what scopes hold, and what adding it does: cited by the
--- clauses of private functions alone.
+-- What a faultless statement says, from what scopes hold, and what adding it does. Only clauses of
+-- private functions cite these definitions.
 use Rattle.std.specs.Prelude.{◌≡◌, ℕ, List, [], ◌∷◌, Option, Some, None, Result, Ok, Err}
 use Rattle.mm_text.specs.Bytes.{Token}
 use Rattle.mm_text.specs.FaultKinds.{bad_scope}
 use Rattle.mm_text.specs.Reader.{words_of}
 use Rattle.mm_frame.specs.Numbered.{NumberedHypothesis, NumberedFrame}
-use Rattle.mm_frame.specs.FramesHeld.{hypothesis_held}
-use Rattle.mm_frame.specs.Held.{Held}
-use Rattle.mm_frame.specs.HeldFaults.{stated_held, floating_in, stated_in, disjoint_in, constants_fault}
-use Rattle.mm_frame.specs.HeldFaults.{variables_fault}
-use Rattle.mm_frame.specs.HeldFrames.{IsHeldFrame, Statement}
-use Rattle.mm_frame.specs.HeldSteps.{AddsConstants, AddsVariables, AddsHypothesis, AddsDisjoint}
-use Rattle.mm_frame.specs.HeldSteps.{AddsAssertion, OpensBlock, ClosesBlock}
+use Rattle.mm_frame.specs.PlainFrames.{plain_hypothesis}
+use Rattle.mm_frame.specs.ScopeState.{ScopeState}
+use Rattle.mm_frame.specs.StateFaults.{plain_stated, floating_in, stated_in, disjoint_in}
+use Rattle.mm_frame.specs.StateFaults.{constants_fault}
+use Rattle.mm_frame.specs.StateFaults.{variables_fault}
+use Rattle.mm_frame.specs.StateFrames.{IsFrameIn, Statement}
+use Rattle.mm_frame.specs.StateSteps.{AddsConstants, AddsVariables, AddsHypothesis, AddsDisjoint}
+use Rattle.mm_frame.specs.StateSteps.{AddsAssertion, OpensBlock, ClosesBlock}
 use Rattle.mm_frame.specs.declared.forms.Keyword.{Keyword}
-use Rattle.mm_frame.specs.declared.forms.Keyword.TheVariants.{Constants, Variables, Floating, Essential}
+use Rattle.mm_frame.specs.declared.forms.Keyword.TheVariants.{Constants, Variables, Floating}
+use Rattle.mm_frame.specs.declared.forms.Keyword.TheVariants.{Essential}
 use Rattle.mm_frame.specs.declared.forms.Keyword.TheVariants.{Disjoint, Axiom, Theorem}
 use Rattle.mm_frame.specs.declared.forms.Form.{Form}
 use Rattle.mm_frame.specs.declared.forms.Form.TheVariants.{BlockStart, BlockEnd, Plain}
@@ -23,7 +25,7 @@ use Rattle.mm_frame.specs.declared.judge.Refusal.TheVariants.{Fault}
 use Rattle.mm_frame.specs.declared.declare.Said.{Said}
 use Rattle.mm_database.specs.Frames.{essential}
 use Rattle.mm_frame.specs.declared.declare.Said.TheVariants as code
-use Rattle.mm_frame.specs.HeldPlaces.{ArePlaced}
+use Rattle.mm_frame.specs.StatePlaces.{ArePlaced}
 
 pub data Saying : Type 0 where
   opens : Saying
@@ -39,9 +41,9 @@ said_by bytes code.Opens = opens
 said_by bytes code.Closes = closes
 said_by bytes (code.Constants tokens) = names_constants (words_of bytes tokens.now)
 said_by bytes (code.Variables tokens) = names_variables (words_of bytes tokens.now)
-said_by bytes (code.Hypothesis hyp) = supposes (hypothesis_held hyp)
+said_by bytes (code.Hypothesis hyp) = supposes (plain_hypothesis hyp)
 said_by bytes (code.Disjoint variables) = parts variables.items
-said_by bytes (code.Assertion stated) = states (stated_held stated)
+said_by bytes (code.Assertion stated) = states (plain_stated stated)
 
 abbrev pub or_saying : Option ℕ → Saying → Result Saying ℕ
 or_saying None saying = Ok saying
@@ -68,9 +70,11 @@ saying_states (Ok s) = Ok (states s)
 saying_states (Err kind) = Err kind
 
 -- what a statement with a keyword says, or its fault
-abbrev pub judged_plain : Held → Keyword → List Token → List Token → Result Saying ℕ
-judged_plain h Constants labels symbols = or_saying (constants_fault h labels symbols) (names_constants symbols)
-judged_plain h Variables labels symbols = or_saying (variables_fault h labels symbols) (names_variables symbols)
+abbrev pub judged_plain : ScopeState → Keyword → List Token → List Token → Result Saying ℕ
+judged_plain h Constants labels symbols =
+    or_saying (constants_fault h labels symbols) (names_constants symbols)
+judged_plain h Variables labels symbols =
+    or_saying (variables_fault h labels symbols) (names_variables symbols)
 judged_plain h Floating labels symbols = saying_floating (floating_in h labels symbols)
 judged_plain h Essential labels symbols = saying_essential (stated_in h labels symbols)
 judged_plain h Disjoint labels symbols = saying_disjoint (disjoint_in h labels symbols)
@@ -81,21 +85,23 @@ abbrev pub judged_end : List OpenBlock → Result Saying ℕ
 judged_end [] = Err bad_scope
 judged_end (block ∷ blocks) = Ok closes
 
-abbrev pub judged_form : Held → List ℕ → Form → Result Saying ℕ
+abbrev pub judged_form : ScopeState → List ℕ → Form → Result Saying ℕ
 judged_form h bytes BlockStart = Ok opens
 judged_form h bytes BlockEnd = judged_end h.blocks
-judged_form h bytes (Plain p) = judged_plain h p.keyword (words_of bytes p.labels.now) (words_of bytes p.symbols.now)
+judged_form h bytes (Plain p) =
+    judged_plain h p.keyword (words_of bytes p.labels.now) (words_of bytes p.symbols.now)
 
 abbrev pub error_of : Result Saying ℕ → Option ℕ
 error_of (Ok saying) = None
 error_of (Err kind) = Some kind
 
--- what adding it does
-abbrev pub Follows : Held → ℕ → Saying → Held → Type 0
+-- what adding the statement does
+abbrev pub Follows : ScopeState → ℕ → Saying → ScopeState → Type 0
 Follows old at opens new = OpensBlock old at new
 Follows old at closes new = (block : Option OpenBlock) × ClosesBlock old new block
 Follows old at (names_constants tokens) new = AddsConstants old tokens new
 Follows old at (names_variables tokens) new = AddsVariables old tokens new
 Follows old at (supposes h) new = AddsHypothesis old h new
 Follows old at (parts variables) new = AddsDisjoint old variables new
-Follows old at (states s) new = (f : NumberedFrame) × (ArePlaced old → IsHeldFrame old s f) × AddsAssertion old f new
+Follows old at (states s) new =
+    (f : NumberedFrame) × (ArePlaced old → IsFrameIn old s f) × AddsAssertion old f new

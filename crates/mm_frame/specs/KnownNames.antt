@@ -1,4 +1,4 @@
--- What the ordered map of tokens gives a token.
+-- The name of a token in the ordered map.
 use Rattle.std.specs.Prelude.{Option}
 use Rattle.std.specs.Borrow.{Bor}
 use Rattle.std.specs.BTreeMap.{BTreeMap, get_by}

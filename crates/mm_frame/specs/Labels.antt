@@ -15,4 +15,5 @@ label_in (Essential label statement) = label.now
 -- the map has just the labels of these hypotheses
 abbrev pub HasLabels : {V : Type 0} → BTreeMap (Bor Token) V → List Hyp → Type 0
 HasLabels labels hyps =
-    (t : Token) → is_some (get_by (λ k. slice_cmp nat_cmp t k.now) labels) ≡ has_token (map label_in hyps) t
+    (t : Token)
+    → is_some (get_by (λ k. slice_cmp nat_cmp t k.now) labels) ≡ has_token (map label_in hyps) t

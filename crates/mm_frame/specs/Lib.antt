@@ -1,16 +1,16 @@
 -- Believed: what public clauses say, and believed definitions of other crates.
 pub mod Numbered
 pub mod FormsRead
-pub mod FramesHeld
+pub mod PlainFrames
 pub mod NeededNumbers
 pub mod HypothesesView
 pub mod DisjointView
 pub mod KnownNames
-pub mod Held
-pub mod HeldFrames
+pub mod ScopeState
+pub mod StateFrames
 pub mod Standing
-pub mod Takes
-pub mod HeldReads
+pub mod TakesStatement
+pub mod StateReads
 pub mod Proposing
 pub mod AddedView
 pub mod CitedView
@@ -25,10 +25,10 @@ pub mod Listed
 pub mod Grouping
 pub mod EntriesView
 pub mod ShortWords
-pub mod HeldTests
-pub mod HeldFaults
-pub mod HeldSteps
-pub mod HeldPlaces
+pub mod StateTests
+pub mod StateFaults
+pub mod StateSteps
+pub mod StatePlaces
 pub mod Sharing
 pub mod Judging
 pub mod Ending

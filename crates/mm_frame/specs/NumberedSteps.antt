@@ -1,6 +1,7 @@
--- The steps of a proof over numbers: what they do to a stack of numbers is what the steps over tokens do
--- to a stack of their tokens.
-use Rattle.std.specs.Prelude.{◌≡◌, ℕ, Bool, true, false, not, ◌&&◌, ◌||◌, nat_eq, if◌then◌else◌, List, []}
+-- The steps of a proof over numbers. They do to a stack of numbers what the steps over tokens do to
+-- the stack of their tokens.
+use Rattle.std.specs.Prelude.{◌≡◌, ℕ, Bool, true, false, not, ◌&&◌, ◌||◌, nat_eq, if◌then◌else◌}
+use Rattle.std.specs.Prelude.{List, []}
 use Rattle.std.specs.Prelude.{◌∷◌, ◌++◌, map, length, Option, Some, None, option_map}
 use Rattle.std.specs.Cmp.Lexicographic.{pointwise}
 use Rattle.mm_text.specs.Bytes.{Token}
@@ -9,9 +10,11 @@ use Rattle.mm_database.specs.Database.{Context}
 use Rattle.mm_database.specs.Proofs.{substituted, keeps_apart, active_hypothesis}
 use Rattle.mm_database.specs.Stack.{bindings_of, text_in, stack_with, stack_after_label}
 use Rattle.mm_database.specs.Orderly.{TypeOnce}
-use Rattle.mm_frame.specs.Numbered.{NumberedHypothesis, NumberedFrame, IsNaming, named, IsNamedFrame}
+use Rattle.mm_frame.specs.Numbered.{NumberedHypothesis, NumberedFrame, IsNaming, named}
+use Rattle.mm_frame.specs.Numbered.{IsNamedFrame}
 
--- what a step asks of a place: which numbers are variables, and which pairs a `$d` keeps apart there
+-- what a step needs to know of the place of the proof: which numbers are variables, and which pairs
+-- an active `$d` keeps apart
 pub record NumberedPlace : Type 0 where
   pub is_variable : ℕ → Bool
   pub apart : ℕ → ℕ → Bool
@@ -30,8 +33,8 @@ abbrev pub begins_with : ℕ → List ℕ → Bool
 begins_with typecode [] = false
 begins_with typecode (symbol ∷ symbols) = nat_eq symbol typecode
 
--- an entry is what a hypothesis asks for: at a `$f` any text after its typecode, at a `$e` the
--- statement with the texts in it
+-- an entry is what a hypothesis asks for: for a `$f` its typecode and then any text, for an `$e`
+-- its statement with the texts substituted
 abbrev pub agrees : (ℕ → List ℕ) → NumberedHypothesis → List ℕ → Bool
 agrees sigma (floating label typecode variable) entry = begins_with typecode entry
 agrees sigma (essential label statement) entry = same_numbers entry (substituted sigma statement)
@@ -40,15 +43,17 @@ abbrev pub all_agree : (ℕ → List ℕ) → List NumberedHypothesis → List (
 all_agree sigma [] [] = true
 all_agree sigma [] (entry ∷ entries) = false
 all_agree sigma (h ∷ hypotheses) [] = false
-all_agree sigma (h ∷ hypotheses) (entry ∷ entries) = agrees sigma h entry && all_agree sigma hypotheses entries
+all_agree sigma (h ∷ hypotheses) (entry ∷ entries) =
+    agrees sigma h entry && all_agree sigma hypotheses entries
 
-abbrev pub numbered_applied_under : NumberedPlace → NumberedFrame → (ℕ → List ℕ) → List (List ℕ) → Option (List ℕ)
+abbrev pub numbered_applied_under : NumberedPlace → NumberedFrame → (ℕ → List ℕ) → List (List ℕ)
+    → Option (List ℕ)
 numbered_applied_under p f sigma entries =
     if all_agree sigma f.hypotheses entries && keeps_apart (numbers_apart p) f sigma
     then Some (substituted sigma f.statement)
     else None
 
--- what an assertion gives from entries of numbers
+-- the result of applying an assertion to entries of numbers
 abbrev pub numbered_applied : NumberedPlace → NumberedFrame → List (List ℕ) → Option (List ℕ)
 numbered_applied p f entries =
     numbered_applied_under p f (text_in nat_eq (bindings_of f.hypotheses entries)) entries
@@ -58,19 +63,22 @@ pub data Citation : Type 0 where
   gives : List ℕ → Citation
   applies : NumberedFrame → Citation
 
--- the stack after what is cited
+-- the stack after a citation
 abbrev pub stack_after_citation : NumberedPlace → Citation → List (List ℕ) → Option (List (List ℕ))
 stack_after_citation p (gives statement) stack = Some (stack ++ statement ∷ [])
-stack_after_citation p (applies f) stack = stack_with (numbered_applied p f) (length f.hypotheses) stack
+stack_after_citation p (applies f) stack =
+    stack_with (numbered_applied p f) (length f.hypotheses) stack
 
--- the label of an active hypothesis with this statement
-pub record NamesHypothesis (name : ℕ → Token) (c : Context) (label : Token) (statement : List ℕ) : Type 0 where
+-- the label is that of an active hypothesis with this statement
+pub record NamesHypothesis (name : ℕ → Token) (c : Context) (label : Token) (statement : List ℕ) :
+    Type 0 where
   pub hypothesis : Hypothesis
   pub is : active_hypothesis c label ≡ Some hypothesis
   pub says : statement_of hypothesis ≡ named name statement
 
--- the label of an assertion with this frame
-pub record NamesFrame (name : ℕ → Token) (c : Context) (label : Token) (n : NumberedFrame) : Type 0 where
+-- the label is that of an assertion with this frame
+pub record NamesFrame (name : ℕ → Token) (c : Context) (label : Token) (n : NumberedFrame) :
+    Type 0 where
   pub frame : Frame
   pub no_hypothesis : active_hypothesis c label ≡ None
   pub is : c.frames label ≡ Some frame
@@ -81,9 +89,11 @@ abbrev pub IsNamedCitation : (ℕ → Token) → Context → Token → Citation 
 IsNamedCitation name c label (gives statement) = NamesHypothesis name c label statement
 IsNamedCitation name c label (applies n) = NamesFrame name c label n
 
--- what is cited does to a stack of numbers what its label does to the stack of their tokens
+-- a citation does to a stack of numbers what its label does to the stack of their tokens
 abbrev pub CitationIsNamed : Type 0
 CitationIsNamed =
-    (name : ℕ → Token) (p : NumberedPlace) (c : Context) (label : Token) (n : Citation) (stack : List (List ℕ)) →
+    (name : ℕ → Token) (p : NumberedPlace) (c : Context) (label : Token) (n : Citation)
+    (stack : List (List ℕ)) →
     IsNaming name → IsNamedPlace name p c → IsNamedCitation name c label n →
-    stack_after_label c label (map (named name) stack) ≡ option_map (map (named name)) (stack_after_citation p n stack)
+    stack_after_label c label (map (named name) stack)
+    ≡ option_map (map (named name)) (stack_after_citation p n stack)

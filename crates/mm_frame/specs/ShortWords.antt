@@ -1,6 +1,6 @@
--- Short tokens, as they stand in the entries of names.
+-- Short tokens, as the entries of names hold them.
 use Rattle.std.specs.Prelude.{◌≡◌, ◌≤◌, ℕ, List, length, take}
 
--- the front has the whole token, where this is short
+-- the front begins with the whole token if the token is short
 abbrev pub IsFront : List ℕ → List ℕ → Type 0
 IsFront front word = length word ≤ 16 → take (length word) front ≡ word

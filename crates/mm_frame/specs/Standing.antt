@@ -1,15 +1,18 @@
--- What scopes hold stands for what a database has declared: names for its symbols and labels, and
--- numbers for symbols, under every naming that gives the numbers their tokens.
-use Rattle.std.specs.Prelude.{◌≡◌, ℕ, ◌≤◌, Bool, true, false, List, [], ◌∷◌, map, length, take, reverse}
+-- What scopes hold stands for what a database has declared. Names stand for its symbols and labels.
+-- Numbers stand for symbols, under every naming that gives the numbers their tokens.
+use Rattle.std.specs.Prelude.{◌≡◌, ℕ, ◌≤◌, Bool, true, false, List, [], ◌∷◌, map, length, take}
+use Rattle.std.specs.Prelude.{reverse}
 use Rattle.std.specs.Prelude.{slice_get, slice_index, Option, Some, None}
 use Rattle.mm_text.specs.Bytes.{Token}
 use Rattle.mm_database.specs.Frames.{Scope, Frame, floating, label_of}
 use Rattle.mm_database.specs.Database.{Block, Context}
-use Rattle.mm_frame.specs.Numbered.{NumberedHypothesis, NumberedFrame, IsNaming, named_hypothesis, IsNamedFrame}
-use Rattle.mm_frame.specs.FramesHeld.{has_number, in_groups}
-use Rattle.mm_frame.specs.Held.{HeldSymbol, Held, symbol, symbol_name}
+use Rattle.mm_frame.specs.Numbered.{NumberedHypothesis, NumberedFrame, IsNaming, named_hypothesis}
+use Rattle.mm_frame.specs.Numbered.{IsNamedFrame}
+use Rattle.mm_frame.specs.PlainFrames.{has_number, in_groups}
+use Rattle.mm_frame.specs.ScopeState.{ScopeSymbol, ScopeState, symbol, symbol_name}
 use Rattle.mm_frame.specs.declared.scopes.Name.{Name}
-use Rattle.mm_frame.specs.declared.scopes.Name.TheVariants.{Constant, Variable, Hypothesis, Assertion}
+use Rattle.mm_frame.specs.declared.scopes.Name.TheVariants.{Constant, Variable, Hypothesis}
+use Rattle.mm_frame.specs.declared.scopes.Name.TheVariants.{Assertion}
 use Rattle.mm_frame.specs.declared.scopes.OpenBlock.{OpenBlock}
 
 abbrev pub names_constant : Option Name → Bool
@@ -33,19 +36,20 @@ names_label (Some (Variable n)) = false
 names_label (Some (Hypothesis i)) = true
 names_label (Some (Assertion i)) = true
 
--- the number that names a symbol is that of its token
-abbrev pub SymbolStands : List HeldSymbol → Token → Option Name → Type 0
+-- if the token names a symbol, the symbol with that number has this token
+abbrev pub SymbolStands : List ScopeSymbol → Token → Option Name → Type 0
 SymbolStands symbols token None = Unit {0}
 SymbolStands symbols token (Some (Constant n)) = slice_get symbols n ≡ Some (symbol token false)
 SymbolStands symbols token (Some (Variable n)) = slice_get symbols n ≡ Some (symbol token true)
 SymbolStands symbols token (Some (Hypothesis i)) = Unit {0}
 SymbolStands symbols token (Some (Assertion i)) = Unit {0}
 
--- the naming gives the symbols their tokens
-abbrev pub NamesSymbols : (ℕ → Token) → List HeldSymbol → Type 0
-NamesSymbols name symbols = (n : ℕ) (s : HeldSymbol) → slice_get symbols n ≡ Some s → name n ≡ s.token
+-- the naming gives each symbol its token
+abbrev pub NamesSymbols : (ℕ → Token) → List ScopeSymbol → Type 0
+NamesSymbols name symbols =
+    (n : ℕ) (s : ScopeSymbol) → slice_get symbols n ≡ Some s → name n ≡ s.token
 
--- lists of what is active stand for a scope
+-- the lists of what is active stand for a scope
 pub record ScopeStands (name : ℕ → Token) (declared : Token → Bool) (vs : List ℕ)
     (hs : List NumberedHypothesis) (ds : List (List ℕ)) (scope : Scope) : Type 0 where
   pub only : (t : Token) → declared t ≡ false → scope.variables t ≡ false
@@ -53,37 +57,43 @@ pub record ScopeStands (name : ℕ → Token) (declared : Token → Bool) (vs : 
   pub typed : scope.hypotheses ≡ map (named_hypothesis name) hs
   pub separate : (a b : ℕ) → scope.apart (name a) (name b) ≡ in_groups ds a b
 
--- the lists, cut for each block, inmost first, stand for what was active outside it
-abbrev pub BlocksStand : (ℕ → Token) → (Token → Bool) → List ℕ → List NumberedHypothesis → List (List ℕ)
-    → List OpenBlock → List Block → Type 0
+-- the lists, cut at the start of each block, stand for what was active outside it; innermost block
+-- first
+abbrev pub BlocksStand : (ℕ → Token) → (Token → Bool) → List ℕ → List NumberedHypothesis
+    → List (List ℕ) → List OpenBlock → List Block → Type 0
 BlocksStand name declared vs hs ds [] [] = Unit {0}
 BlocksStand name declared vs hs ds [] (block ∷ blocks) = ⊥
 BlocksStand name declared vs hs ds (o ∷ os) [] = ⊥
 BlocksStand name declared vs hs ds (o ∷ os) (block ∷ blocks) =
     (block.at ≡ o.at) × (o.variables ≤ length vs) × (o.hyps ≤ length hs) × (o.disjoint ≤ length ds)
-    × ScopeStands name declared (take o.variables vs) (take o.hyps hs) (take o.disjoint ds) block.outside
-    × BlocksStand name declared (take o.variables vs) (take o.hyps hs) (take o.disjoint ds) os blocks
+    × ScopeStands name declared (take o.variables vs) (take o.hyps hs) (take o.disjoint ds)
+    block.outside
+    × BlocksStand name declared (take o.variables vs) (take o.hyps hs) (take o.disjoint ds) os
+    blocks
 
--- the number of an assertion is that of its frame
+-- if the token names an assertion, the frame with that number stands for its frame; else it has no
+-- frame
 abbrev pub FrameStands : (ℕ → Token) → List NumberedFrame → Option Name → Option Frame → Type 0
 FrameStands name frames None frame = frame ≡ None
 FrameStands name frames (Some (Constant n)) frame = frame ≡ None
 FrameStands name frames (Some (Variable n)) frame = frame ≡ None
 FrameStands name frames (Some (Hypothesis i)) frame = frame ≡ None
 FrameStands name frames (Some (Assertion i)) frame =
-    (n : NumberedFrame) × (f : Frame) × (slice_get frames i ≡ Some n) × (frame ≡ Some f) × IsNamedFrame name n f
+    (n : NumberedFrame) × (f : Frame) × (slice_get frames i ≡ Some n) × (frame ≡ Some f)
+    × IsNamedFrame name n f
 
-pub record StandsUnder (name : ℕ → Token) (h : Held) (c : Context) : Type 0 where
+pub record StandsUnder (name : ℕ → Token) (h : ScopeState) (c : Context) : Type 0 where
   pub scope : ScopeStands name c.variables h.variables h.hypotheses h.disjoint c.scope
-  pub blocks : BlocksStand name c.variables h.variables h.hypotheses h.disjoint (reverse h.blocks) c.blocks
+  pub blocks : BlocksStand name c.variables h.variables h.hypotheses h.disjoint (reverse h.blocks)
+      c.blocks
   pub frames : (t : Token) → FrameStands name h.frames (h.names t) (c.frames t)
 
-pub record Stands (h : Held) (c : Context) : Type 0 where
+pub record Stands (h : ScopeState) (c : Context) : Type 0 where
   pub constants : (t : Token) → c.constants t ≡ names_constant (h.names t)
   pub variables : (t : Token) → c.variables t ≡ names_variable (h.names t)
   pub labels : (t : Token) → c.labels t ≡ names_label (h.names t)
   pub numbered : (t : Token) → SymbolStands h.symbols t (h.names t)
-  pub named : (n : ℕ) (s : HeldSymbol) → slice_get h.symbols n ≡ Some s
+  pub named : (n : ℕ) (s : ScopeSymbol) → slice_get h.symbols n ≡ Some s
       → h.names s.token ≡ Some (symbol_name s.is_variable n)
   pub many_places : length h.places ≡ length h.symbols
   pub many_types : length h.types ≡ length h.symbols
@@ -92,13 +102,15 @@ pub record Stands (h : Held) (c : Context) : Type 0 where
       → slice_index h.types v ≡ i
   pub labelled : (i : ℕ) (x : NumberedHypothesis) → slice_get h.hypotheses i ≡ Some x
       → h.names (label_of x) ≡ Some (Hypothesis i)
-  pub under : (name : ℕ → Token) → IsNaming name → NamesSymbols name h.symbols → StandsUnder name h c
+  pub under : (name : ℕ → Token) → IsNaming name → NamesSymbols name h.symbols
+      → StandsUnder name h c
 
--- a fact on each context that scopes stand for, under each naming of their symbols
-abbrev pub Tells : Held → (Context → (ℕ → Token) → Type 0) → Type 0
-Tells h Fact = (c : Context) (name : ℕ → Token) → Stands h c → IsNaming name → NamesSymbols name h.symbols → Fact c name
+-- a fact holds of each context that the scopes stand for, under each naming of their symbols
+abbrev pub Tells : ScopeState → (Context → (ℕ → Token) → Type 0) → Type 0
+Tells h Fact = (c : Context) (name : ℕ → Token) → Stands h c → IsNaming name
+    → NamesSymbols name h.symbols → Fact c name
 
--- a frame of numbers is the frame of tokens, where there is one
+-- the frame of numbers stands for the frame of tokens, or there is neither
 abbrev pub FrameFound : (ℕ → Token) → Option NumberedFrame → Option Frame → Type 0
 FrameFound name None frame = frame ≡ None
 FrameFound name (Some n) frame = (f : Frame) × (frame ≡ Some f) × IsNamedFrame name n f

@@ -2,10 +2,12 @@
 
 ghost use Rattle.std.specs.Prelude.{◌≡◌, ◌++◌, ◌∷◌, [], ℕ, cond, Some, IfOk, length, bytes_eq};
 ghost use Rattle.mm_text.specs.Bytes.{Token};
-ghost use Rattle.mm_frame.specs.Held.{held, Held, symbol_name};
-ghost use Rattle.mm_frame.specs.FramesHeld.{hypothesis_held, frame_held};
-ghost use Rattle.mm_frame.specs.HeldSteps.{AppendsSymbol, Names, AddsSymbol, Activates, AddsHypothesis};
-ghost use Rattle.mm_frame.specs.HeldSteps.{AddsDisjoint, AddsAssertion, OpensBlock, ClosesBlock, types_with};
+ghost use Rattle.mm_frame.specs.ScopeState.{scope_state, ScopeState, symbol_name};
+ghost use Rattle.mm_frame.specs.PlainFrames.{plain_hypothesis, plain_frame};
+ghost use Rattle.mm_frame.specs.StateSteps.{AppendsSymbol, Names, AddsSymbol, Activates};
+ghost use Rattle.mm_frame.specs.StateSteps.{AddsHypothesis};
+ghost use Rattle.mm_frame.specs.StateSteps.{AddsDisjoint, AddsAssertion, OpensBlock, ClosesBlock};
+ghost use Rattle.mm_frame.specs.StateSteps.{types_with};
 
 use crate::frames::{Frame, Hyp};
 use crate::scopes::{Name, OpenBlock, Scopes, Symbol};
@@ -18,7 +20,8 @@ impl<'a> Scopes<'a> {
         word: &'a [u8],
         is_variable: bool,
     ) -> Result<u32, AllocError>
-        ensures { IfOk result (λ n. AddsSymbol (held self.old) word.now is_variable n (held self.new)) }
+        ensures { IfOk result
+            (λ n. AddsSymbol (scope_state self.old) word.now is_variable n (scope_state self.new)) }
     {
         let Ok(n) = u32::try_from(self.symbols.len()) else {
             return Err(AllocError);
@@ -30,7 +33,8 @@ impl<'a> Scopes<'a> {
 
     /// Appends a symbol.
     fn push_symbol(&mut self, word: &'a [u8], is_variable: bool) -> Result<(), AllocError>
-        ensures { IfOk result (λ _. AppendsSymbol (held self.old) word.now is_variable (held self.new)) }
+        ensures { IfOk result (λ _.
+            AppendsSymbol (scope_state self.old) word.now is_variable (scope_state self.new)) }
     {
         let shared = self.shared.take();
         self.places.push(0)?;
@@ -45,7 +49,8 @@ impl<'a> Scopes<'a> {
 
     /// Gives a token a name.
     fn rename(&mut self, word: &'a [u8], name: Name) -> Result<(), AllocError>
-        ensures { IfOk result (λ _. Names (held self.old) word.now name (held self.new)) }
+        ensures { IfOk result
+            (λ _. Names (scope_state self.old) word.now name (scope_state self.new)) }
     {
         self.names.insert(word, name)?;
         Ok(())
@@ -53,7 +58,7 @@ impl<'a> Scopes<'a> {
 
     /// Makes a variable active.
     pub(crate) fn activate(&mut self, n: u32) -> Result<(), AllocError>
-        ensures { IfOk result (λ _. Activates (held self.old) n (held self.new)) }
+        ensures { IfOk result (λ _. Activates (scope_state self.old) n (scope_state self.new)) }
     {
         let place = self.variables.len();
         self.variables.push(n)?;
@@ -65,7 +70,8 @@ impl<'a> Scopes<'a> {
 
     /// Makes a hypothesis active.
     pub(crate) fn add_hypothesis(&mut self, hyp: Hyp<'a>) -> Result<(), AllocError>
-        ensures { IfOk result (λ _. AddsHypothesis (held self.old) (hypothesis_held hyp.entry) (held self.new)) }
+        ensures { IfOk result (λ _. AddsHypothesis (scope_state self.old)
+            (plain_hypothesis hyp.entry) (scope_state self.new)) }
     {
         let place = self.hyps.len();
         self.rename(hyp.label(), Name::Hypothesis(place))?;
@@ -89,7 +95,8 @@ impl<'a> Scopes<'a> {
         alloc: Global,
         variables: Vec<u32>,
     ) -> Result<(), AllocError>
-        ensures { IfOk result (λ _. AddsDisjoint (held self.old) variables.items (held self.new)) }
+        ensures { IfOk result
+            (λ _. AddsDisjoint (scope_state self.old) variables.items (scope_state self.new)) }
     {
         let spares = self.spares_pairs(alloc, &variables)?;
         let shared = self.shared.take();
@@ -108,7 +115,8 @@ impl<'a> Scopes<'a> {
         alloc: Global,
         frame: Frame<'a>,
     ) -> Result<(), AllocError>
-        ensures { IfOk result (λ _. AddsAssertion (held self.old) (frame_held frame.entry) (held self.new)) }
+        ensures { IfOk result (λ _.
+            AddsAssertion (scope_state self.old) (plain_frame frame.entry) (scope_state self.new)) }
     {
         self.push_frame(frame)?;
         self.share(alloc)?;
@@ -117,7 +125,8 @@ impl<'a> Scopes<'a> {
 
     /// Appends the frame of an assertion.
     fn push_frame(&mut self, frame: Frame<'a>) -> Result<(), AllocError>
-        ensures { IfOk result (λ _. AddsAssertion (held self.old) (frame_held frame.entry) (held self.new)) }
+        ensures { IfOk result (λ _.
+            AddsAssertion (scope_state self.old) (plain_frame frame.entry) (scope_state self.new)) }
     {
         let place = self.frames.len();
         self.rename(frame.label, Name::Assertion(place))?;
@@ -129,7 +138,7 @@ impl<'a> Scopes<'a> {
 
     /// Opens a block.
     pub(crate) fn open_block(&mut self, at: usize) -> Result<(), AllocError>
-        ensures { IfOk result (λ _. OpensBlock (held self.old) at (held self.new)) }
+        ensures { IfOk result (λ _. OpensBlock (scope_state self.old) at (scope_state self.new)) }
     {
         self.blocks.push(OpenBlock {
             at,
@@ -142,7 +151,7 @@ impl<'a> Scopes<'a> {
 
     /// Closes the inmost block, and gives it; none where no block is open.
     pub(crate) fn close_block(&mut self) -> Option<OpenBlock>
-        ensures { ClosesBlock (held self.old) (held self.new) result }
+        ensures { ClosesBlock (scope_state self.old) (scope_state self.new) result }
     {
         let block = self.blocks.pop()?;
         let spares = self.spares_end(&block);
@@ -161,7 +170,7 @@ impl<'a> Scopes<'a> {
 
 /// Keeps the place of an `$f` for its variable.
 fn set_type(types: &mut Vec<usize>, hyp: &Hyp<'_>, place: usize)
-    ensures { types.new.items ≡ types_with types.old.items place (hypothesis_held hyp.now) }
+    ensures { types.new.items ≡ types_with types.old.items place (plain_hypothesis hyp.now) }
 {
     if let Hyp::Floating(_, _, variable) = hyp {
         let n = *variable as usize;

@@ -1,13 +1,14 @@
-// One statement after another is judged and added.
+// Judging and adding statements, one after another.
 
 ghost use Rattle.std.specs.Prelude.{◌≡◌, ℕ, List, IfOk, option_map, Some};
 ghost use Rattle.mm_text.specs.Reader.{words_of, statement_of};
-ghost use Rattle.mm_frame.specs.Held.{held};
-ghost use Rattle.mm_frame.specs.HeldFaults.{Judges};
-ghost use Rattle.mm_frame.specs.HeldSteps.{AddsConstants, VariableStep, AddsVariable, AddsVariables};
+ghost use Rattle.mm_frame.specs.ScopeState.{scope_state};
+ghost use Rattle.mm_frame.specs.StateFaults.{Judges};
+ghost use Rattle.mm_frame.specs.StateSteps.{AddsConstants, VariableStep, AddsVariable};
+ghost use Rattle.mm_frame.specs.StateSteps.{AddsVariables};
 ghost use Rattle.mm_database.specs.Database.{Context};
 ghost use Rattle.mm_frame.specs.Standing.{Stands};
-ghost use Rattle.mm_frame.specs.Takes.{Takes, KeepsFrames};
+ghost use Rattle.mm_frame.specs.TakesStatement.{TakesStatement, KeepsFrames};
 ghost use Rattle.mm_database.specs.Forms.{form_of};
 ghost use Rattle.mm_frame.specs.FormsRead.{form_read};
 ghost use Rattle.mm_frame.specs.AddedView.{form_added};
@@ -41,12 +42,11 @@ pub enum Added {
 pub enum FrameEnd {
     /// Its first fault, of kinds 3 to 11.
     Fault(MmFault),
-    /// There was not enough memory. The scopes may then have taken a part of the statement, and are to
-    /// be let go.
+    /// Out of memory. The scopes may then hold a part of the statement, and must be dropped.
     Memory,
 }
 
-/// What a statement without fault says.
+/// What a faultless statement says.
 #[derive(Drop)]
 pub(crate) enum Said<'a, 't> {
     Opens,
@@ -59,24 +59,28 @@ pub(crate) enum Said<'a, 't> {
 }
 
 impl<'a> Scopes<'a> {
-    /// Adds one statement, whose tokens stand in `bytes`, where it has no fault of kinds 3 to 11; else
-    /// answers the first of these, with the byte of its first token, and changes nothing. Of a proof it
-    /// looks at the tokens that have a `$`, and at nothing else.
+    /// Adds one statement, whose tokens are in `bytes`, if it has no fault of kinds 3 to 11.
+    /// Otherwise returns the first of these faults, with the byte of the statement's first token,
+    /// and changes nothing. Of a proof it looks only at the tokens that contain a `$`. Returns
+    /// `FrameEnd::Memory` when out of memory.
     ///
-    /// The time is that of the tokens, each looked up once or twice among the names, and for
-    /// the frame of an assertion that of sorting what the frame has and of looking through the active
-    /// `$d` that one of its variables is in.
+    /// It takes the time to read the tokens and to look up each of them once or twice among the
+    /// names. For the frame of an assertion it also takes the time to sort what the frame has, and
+    /// to go through the active `$d` that contain one of its variables.
     pub fn statement(
         &mut self,
         alloc: Global,
         bytes: &'a [u8],
         tokens: &[MmToken],
     ) -> Result<Added, FrameEnd>
-        ensures takes { (c : Context) → Stands (held self.old) c
-            → Takes c (statement_of bytes.now tokens.now) (held self.old) (held self.new) result }
-        ensures frames { IfOk result (λ _. KeepsFrames (held self.old) (held self.new)) }
+        ensures takes { (c : Context) → Stands (scope_state self.old) c
+            → TakesStatement c (statement_of bytes.now tokens.now) (scope_state self.old)
+            (scope_state self.new) result }
+        ensures frames { IfOk result
+            (λ _. KeepsFrames (scope_state self.old) (scope_state self.new)) }
         ensures added { IfOk result
-            (λ a. option_map form_added (form_of (statement_of bytes.now tokens.now).tokens) ≡ Some a) }
+            (λ a. option_map form_added (form_of (statement_of bytes.now tokens.now).tokens)
+            ≡ Some a) }
     {
         let at = first_byte(tokens);
         let Some(form) = read_form(bytes, tokens) else {
@@ -93,14 +97,15 @@ impl<'a> Scopes<'a> {
         }
     }
 
-    /// What the statement says, where it has no fault.
+    /// What the statement says, or why it is refused.
     pub(crate) fn judge<'t>(
         &self,
         alloc: Global,
         bytes: &'a [u8],
         form: &Form<'t>,
     ) -> Result<Said<'a, 't>, Refusal>
-        ensures { Judges (said_by bytes.now) result (judged_form (held self.now) bytes.now form.now) }
+        ensures { Judges (said_by bytes.now) result
+            (judged_form (scope_state self.now) bytes.now form.now) }
     {
         match form {
             Form::BlockStart => Ok(Said::Opens),
@@ -122,7 +127,8 @@ impl<'a> Scopes<'a> {
         plain: &Plain<'t>,
     ) -> Result<Said<'a, 't>, Refusal>
         ensures { Judges (said_by bytes.now) result
-            (judged_plain (held self.now) plain.now.keyword (words_of bytes.now plain.now.labels.now)
+            (judged_plain (scope_state self.now) plain.now.keyword
+            (words_of bytes.now plain.now.labels.now)
             (words_of bytes.now plain.now.symbols.now)) }
     {
         let labels = plain.labels;
@@ -163,7 +169,8 @@ impl<'a> Scopes<'a> {
         at: usize,
         said: Said<'a, 't>,
     ) -> Result<(), AllocError>
-        ensures { IfOk result (λ _. Follows (held self.old) at (said_by bytes.now said.entry) (held self.new)) }
+        ensures { IfOk result (λ _. Follows (scope_state self.old) at (said_by bytes.now said.entry)
+            (scope_state self.new)) }
     {
         match said {
             Said::Opens => self.open_block(at),
@@ -183,7 +190,8 @@ impl<'a> Scopes<'a> {
     }
 
     fn add_constants(&mut self, bytes: &'a [u8], tokens: &[MmToken]) -> Result<(), AllocError>
-        ensures { IfOk result (λ _. AddsConstants (held self.old) (words_of bytes.now tokens.now) (held self.new)) }
+        ensures { IfOk result (λ _. AddsConstants (scope_state self.old)
+            (words_of bytes.now tokens.now) (scope_state self.new)) }
     {
         for token in tokens {
             self.add_symbol(token.word(bytes), false)?;
@@ -192,7 +200,8 @@ impl<'a> Scopes<'a> {
     }
 
     fn add_variables(&mut self, bytes: &'a [u8], tokens: &[MmToken]) -> Result<(), AllocError>
-        ensures { IfOk result (λ _. AddsVariables (held self.old) (words_of bytes.now tokens.now) (held self.new)) }
+        ensures { IfOk result (λ _. AddsVariables (scope_state self.old)
+            (words_of bytes.now tokens.now) (scope_state self.new)) }
     {
         for token in tokens {
             self.add_variable(token.word(bytes))?;
@@ -201,14 +210,16 @@ impl<'a> Scopes<'a> {
     }
 
     fn add_variable(&mut self, word: &'a [u8]) -> Result<(), AllocError>
-        ensures { IfOk result (λ _. AddsVariable (held self.old) word.now (held self.new)) }
+        ensures { IfOk result
+            (λ _. AddsVariable (scope_state self.old) word.now (scope_state self.new)) }
     {
         let name = self.name(word);
         self.add_named(word, name)
     }
 
     fn add_named(&mut self, word: &'a [u8], name: Option<Name>) -> Result<(), AllocError>
-        ensures { IfOk result (λ _. VariableStep (held self.old) word.now name (held self.new)) }
+        ensures { IfOk result
+            (λ _. VariableStep (scope_state self.old) word.now name (scope_state self.new)) }
     {
         let Some(name) = name else {
             let n = self.add_symbol(word, true)?;
@@ -258,7 +269,7 @@ pub(crate) fn first_byte(tokens: &[MmToken]) -> usize
     }
 }
 
-/// The fault, or what is said where there is none.
+/// The fault, or what is said if there is no fault.
 fn or_fault<'a, 't>(fault: Option<u8>, said: Said<'a, 't>) -> Result<Said<'a, 't>, Refusal>
     ensures { OrFault fault said.entry result }
 {

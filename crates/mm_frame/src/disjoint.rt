@@ -1,33 +1,37 @@
 // The active `$d`.
 
-ghost use Rattle.std.specs.Prelude.{◌≡◌, ℕ, ◌<◌, ◌||◌, ◌&&◌, false, true, nat_eq, IfOk, filter, flat_map, option_map};
+ghost use Rattle.std.specs.Prelude.{◌≡◌, ℕ, ◌<◌, ◌||◌, ◌&&◌, false, true, nat_eq, IfOk, filter};
+ghost use Rattle.std.specs.Prelude.{flat_map, option_map};
 ghost use Rattle.std.specs.Prelude.{slice_get, if◌then◌else◌, ◌++◌, ◌∷◌, [], vec_len};
 ghost use Rattle.std.specs.List.Sorted.{IsStrictlyIncreasing};
 ghost use Rattle.std.specs.List.{list_any, list_all};
-ghost use Rattle.mm_frame.specs.FramesHeld.{has_number, in_group, in_groups, items_of, groups_of};
+ghost use Rattle.mm_frame.specs.PlainFrames.{has_number, in_group, in_groups, items_of, groups_of};
 ghost use Rattle.mm_frame.specs.Grouping.{Extends, is_apart_or_same, is_pair_of};
-ghost use Rattle.mm_frame.specs.Listed.{list_of, group_places, AreListed, ends_with, with_place, without_place, shares};
+ghost use Rattle.mm_frame.specs.Listed.{list_of, group_places, AreListed, ends_with, with_place};
+ghost use Rattle.mm_frame.specs.Listed.{without_place, shares};
 ghost use Rattle.mm_frame.specs.Places.{passes};
 
 use std::alloc::{AllocError, Global};
 use std::collections::BTreeMap;
 
-/// Of a group of more variables no pair is noted.
+/// No pair is noted of a group that has more variables than this.
 const SMALL: usize = 16;
 
-/// In so many groups a variable is before its pairs are noted.
+/// The pairs of a variable are noted once it is in more groups than this.
 const FEW: usize = 16;
 
-/// Groups of variables that are kept apart from each other, one for each `$d`, in the order in which
-/// they came, and for each variable the places of the groups that it is in, ascending.
+/// Groups of variables that are kept apart from each other, one for each `$d`, in order. For each
+/// variable there is an ascending list of the places of the groups that it is in.
 ///
-/// A group adds nothing where each of its pairs is in a group already: of a group of few variables this
-/// is looked for pair by pair, and of a larger one in the last group of its first variable.
+/// A group adds nothing if each of its pairs is in a group already. For a group of few variables,
+/// this is tested pair by pair. For a larger one, only the last group of its first variable is
+/// tested.
 ///
-/// Appending a group takes time in its length, and cutting the list that of what is cut. Whether two
-/// variables are kept apart takes one look-up where their pair is noted. Else it takes a search in the
-/// longer of their two lists for each place of the shorter one: these are few, or their groups are
-/// large. What is noted is trusted for nothing: it counts where the place is still in both lists.
+/// Appending a group takes time in its length. Truncating takes time in the lengths of the groups
+/// that are removed. To find whether two variables are kept apart takes one look-up if their pair
+/// is noted. Otherwise it takes a search in the longer of their two lists for each place of the
+/// shorter one. These places are few, or their groups are large. Notes are not trusted: one counts
+/// only if its place is still in both lists.
 #[derive(Drop)]
 pub(crate) struct Disjoint {
     groups: Vec<Vec<u32>>,
@@ -58,7 +62,8 @@ impl Disjoint {
         self.groups.len()
     }
 
-    /// Keeps the variables of a group apart from each other. After running out of memory no groups may be left.
+    /// Keeps the variables of a group apart from each other. When out of memory, all groups may be
+    /// lost.
     pub(crate) fn push(&mut self, alloc: Global, group: Vec<u32>) -> Result<(), AllocError>
         ensures { IfOk result (λ _. Extends (groups_in self.old) group.items (groups_in self.new)) }
     {
@@ -68,7 +73,7 @@ impl Disjoint {
         self.append(alloc, group)
     }
 
-    /// Appends a group. After running out of memory no groups may be left.
+    /// Appends a group. When out of memory, all groups may be lost.
     fn append(&mut self, alloc: Global, group: Vec<u32>) -> Result<(), AllocError>
         ensures { IfOk result (λ _. groups_in self.new ≡ groups_in self.old ++ group.items ∷ []) }
     {
@@ -83,7 +88,7 @@ impl Disjoint {
         Err(AllocError)
     }
 
-    /// Keeps this many of the first groups.
+    /// Keeps the first `count` groups.
     pub(crate) fn truncate(&mut self, count: usize)
         ensures { groups_in self.new ≡ take count (groups_in self.old) }
     {
@@ -92,7 +97,7 @@ impl Disjoint {
         }
     }
 
-    /// Lets the last group go.
+    /// Removes the last group.
     fn pop(&mut self)
         ensures { groups_in self.new ≡ take (length (groups_in self.old) - 1) (groups_in self.old) }
     {
@@ -121,7 +126,8 @@ impl Disjoint {
 
     /// Whether each pair of the group is known to be in a group already.
     fn has_pairs_of(&self, group: &[u32]) -> bool
-        ensures { result ≡ true → (a b : ℕ) → in_group a b group.now ≡ true → in_groups (groups_in self.now) a b
+        ensures { result ≡ true → (a b : ℕ) → in_group a b group.now ≡ true
+            → in_groups (groups_in self.now) a b
             ≡ true }
     {
         if group.len() <= SMALL {
@@ -133,10 +139,11 @@ impl Disjoint {
         }
     }
 
-    /// Whether a group is found that has all these variables. It is not looked for where the first of them
-    /// is in more groups than there are variables.
+    /// Whether a group is found that has all these variables. No group is looked for if the first
+    /// variable is in more groups than there are variables.
     pub(crate) fn are_together(&self, variables: &[u32]) -> bool
-        ensures { result ≡ true → (a b : ℕ) → in_group a b variables.now ≡ true → in_groups (groups_in self.now) a b
+        ensures { result ≡ true → (a b : ℕ) → in_group a b variables.now ≡ true
+            → in_groups (groups_in self.now) a b
             ≡ true }
     {
         if variables.is_empty() {
@@ -154,9 +161,11 @@ impl Disjoint {
         false
     }
 
-    /// Whether each two of the variables that differ are in a group.
+    /// Whether each two different variables of the group are in a group together.
     fn are_all_apart(&self, group: &[u32]) -> bool
-        ensures { result ≡ list_all (λ a. list_all (is_apart_or_same (groups_in self.now) a) group.now) group.now }
+        ensures { result
+            ≡ list_all (λ a. list_all (is_apart_or_same (groups_in self.now) a) group.now)
+            group.now }
     {
         for a in group {
             if !self.is_apart_from(*a, group) {
@@ -166,7 +175,7 @@ impl Disjoint {
         true
     }
 
-    /// Whether a variable is in a group with each of others that is another one.
+    /// Whether a variable is in a group with each of the others that differs from it.
     fn is_apart_from(&self, a: u32, others: &[u32]) -> bool
         ensures { result ≡ list_all (is_apart_or_same (groups_in self.now) a) others.now }
     {
@@ -180,7 +189,8 @@ impl Disjoint {
 
     /// Whether the group at a place has all the variables.
     fn are_listed(&self, variables: &[u32], place: usize) -> bool
-        ensures { result ≡ list_all (λ n. has_number (group_places (groups_in self.now) n) place) variables.now }
+        ensures { result
+            ≡ list_all (λ n. has_number (group_places (groups_in self.now) n) place) variables.now }
     {
         for n in variables {
             if !self.is_listed(*n, place) {
@@ -197,14 +207,14 @@ impl Disjoint {
         self.listed(n).is_empty()
     }
 
-    /// Whether two variables are different ones of a group.
+    /// Whether two variables differ and are in a group together.
     pub(crate) fn are_apart(&self, a: u32, b: u32) -> bool
         ensures { result ≡ in_groups (groups_in self.now) a b }
     {
         self.is_noted(a, b) || self.have_group(a, b)
     }
 
-    /// Whether a group is noted for the two variables.
+    /// Whether a group that has the two variables is noted.
     fn is_noted(&self, a: u32, b: u32) -> bool
         ensures { result ≡ true → in_groups (groups_in self.now) a b ≡ true }
     {
@@ -215,7 +225,7 @@ impl Disjoint {
         }
     }
 
-    /// Whether the group at a place has two variables that differ.
+    /// Whether the group at a place has both variables, and these differ.
     fn has_both(&self, a: u32, b: u32, place: usize) -> bool
         ensures { result ≡ true → in_groups (groups_in self.now) a b ≡ true }
     {
@@ -225,7 +235,7 @@ impl Disjoint {
         self.is_listed(a, place) && self.is_listed(b, place)
     }
 
-    /// Whether two variables are different ones of a group, by their lists.
+    /// Whether two variables differ and are in a group together, by their lists.
     fn have_group(&self, a: u32, b: u32) -> bool
         ensures { result ≡ in_groups (groups_in self.now) a b }
     {
@@ -239,13 +249,14 @@ impl Disjoint {
             }
     }
 
-    /// Groups with the pairs of these numbers, which ascend, that are in groups here: what each group has
-    /// of them, or the pairs themselves, where there are fewer of these than places in the numbers'
-    /// lists.
+    /// Groups that have exactly those pairs of the numbers that are in a group here. The numbers
+    /// ascend. The result is what each group has of the numbers, or the pairs themselves if there
+    /// are fewer pairs than places in the numbers' lists.
     pub(crate) fn within(&self, alloc: Global, numbers: &[u32]) -> Result<Vec<Vec<u32>>, AllocError>
         requires { IsStrictlyIncreasing numbers.now }
         ensures { IfOk result (λ v. (a b : ℕ) → in_groups (groups_of v.items) a b
-            ≡ (in_groups (groups_in self.now) a b && (has_number numbers.now a && has_number numbers.now b))) }
+            ≡ (in_groups (groups_in self.now) a b
+            && (has_number numbers.now a && has_number numbers.now b))) }
     {
         if numbers.len().saturating_mul(numbers.len()) < self.count_places(numbers) {
             self.pairs_within(alloc, numbers)
@@ -254,7 +265,7 @@ impl Disjoint {
         }
     }
 
-    /// How many places stand in the lists of these numbers.
+    /// How many places the lists of these numbers have.
     fn count_places(&self, numbers: &[u32]) -> usize {
         let mut count: usize = 0;
         for n in numbers {
@@ -263,10 +274,11 @@ impl Disjoint {
         count
     }
 
-    /// The pairs of these numbers that are in groups, each as a group of its own.
+    /// The pairs of these numbers that are in a group, each as a group of its own.
     fn pairs_within(&self, alloc: Global, numbers: &[u32]) -> Result<Vec<Vec<u32>>, AllocError>
         ensures { IfOk result (λ v. (a b : ℕ) → in_groups (groups_of v.items) a b
-            ≡ (in_groups (groups_in self.now) a b && (has_number numbers.now a && has_number numbers.now b))) }
+            ≡ (in_groups (groups_in self.now) a b
+            && (has_number numbers.now a && has_number numbers.now b))) }
     {
         let mut groups = Vec::new(alloc);
         for i in 0..numbers.len() {
@@ -275,7 +287,7 @@ impl Disjoint {
         Ok(groups)
     }
 
-    /// Appends the pairs of a number with others.
+    /// Appends the pairs of a number with the others that are in a group.
     fn push_pairs(
         &self,
         alloc: Global,
@@ -293,14 +305,15 @@ impl Disjoint {
         Ok(())
     }
 
-    /// What each group has of these numbers, which ascend, where it has two or more of them.
+    /// What each group has of these numbers, if it has two or more of them. The numbers ascend.
     ///
-    /// The groups are found by the numbers' own lists. Each of them then takes as many searches as there
-    /// are numbers, or as it has variables, where these are fewer.
+    /// The groups are found by the lists of the numbers. Each group then takes as many searches as
+    /// there are numbers, or as it has variables if these are fewer.
     fn groups_within(&self, alloc: Global, numbers: &[u32]) -> Result<Vec<Vec<u32>>, AllocError>
         requires { IsStrictlyIncreasing numbers.now }
         ensures { IfOk result (λ v. (a b : ℕ) → in_groups (groups_of v.items) a b
-            ≡ (in_groups (groups_in self.now) a b && (has_number numbers.now a && has_number numbers.now b))) }
+            ≡ (in_groups (groups_in self.now) a b
+            && (has_number numbers.now a && has_number numbers.now b))) }
     {
         let places = self.places_among(alloc, numbers)?;
         let mut groups = Vec::new(alloc);
@@ -325,7 +338,7 @@ impl Disjoint {
         Ok(places)
     }
 
-    /// What the group at a place has of these numbers, which ascend.
+    /// What the group at a place has of these numbers. The numbers ascend.
     fn common(&self, alloc: Global, place: usize, numbers: &[u32]) -> Result<Vec<u32>, AllocError>
         requires { IsStrictlyIncreasing numbers.now }
         ensures { IfOk result (λ v. (n : ℕ) → has_number v.items n
@@ -367,7 +380,7 @@ impl Disjoint {
     }
 }
 
-/// Notes the place for those pairs of a small group of which one variable is in many groups.
+/// Notes the place for each pair of a small group that has a variable in many groups.
 fn note_pairs(
     noted: &mut BTreeMap<(u32, u32), usize>,
     lists: &[Vec<usize>],
@@ -412,7 +425,7 @@ fn list_all(
     Ok(())
 }
 
-/// Appends the place to one list, where it does not stand last in it.
+/// Appends the place to one list, unless it is the last there.
 fn list_one(
     lists: &mut Vec<Vec<usize>>,
     alloc: Global,
@@ -420,7 +433,8 @@ fn list_one(
     place: usize,
 ) -> Result<(), AllocError>
     ensures { IfOk result (λ _. (n : ℕ) → list_of lists.new.items n
-        ≡ (if nat_eq at n then with_place place (list_of lists.old.items n) else list_of lists.old.items n)) }
+        ≡ (if nat_eq at n then with_place place (list_of lists.old.items n)
+        else list_of lists.old.items n)) }
 {
     reach(lists, alloc, at)?;
     if stands_last(lists, at, place) {
@@ -430,7 +444,7 @@ fn list_one(
     Ok(())
 }
 
-/// Appends empty lists, until there is one with this number.
+/// Appends empty lists until there is one with this number.
 fn reach(lists: &mut Vec<Vec<usize>>, alloc: Global, at: usize) -> Result<(), AllocError>
     ensures same { (n : ℕ) → list_of lists.new.items n ≡ list_of lists.old.items n }
     ensures long { IfOk result (λ _. at < vec_len lists.new) }
@@ -443,7 +457,8 @@ fn reach(lists: &mut Vec<Vec<usize>>, alloc: Global, at: usize) -> Result<(), Al
     Ok(())
 }
 
-/// Takes the place away from the lists of the group's numbers, where it stands last and only once.
+/// Removes the place from the end of the lists of the group's numbers. No list has it twice at its
+/// end.
 fn unlist_all(lists: &mut Vec<Vec<usize>>, group: &[u32], place: usize)
     requires { (n : ℕ) → ends_with place (without_place place (list_of lists.old.items n)) ≡ false }
     ensures { (n : ℕ) → list_of lists.new.items n
@@ -455,10 +470,11 @@ fn unlist_all(lists: &mut Vec<Vec<usize>>, group: &[u32], place: usize)
     }
 }
 
-/// Takes the place away from one list, where it stands last in it.
+/// Removes the place from one list, if it is the last there.
 fn unlist_one(lists: &mut Vec<Vec<usize>>, at: usize, place: usize)
     ensures { (n : ℕ) → list_of lists.new.items n
-        ≡ (if nat_eq at n then without_place place (list_of lists.old.items n) else list_of lists.old.items n) }
+        ≡ (if nat_eq at n then without_place place (list_of lists.old.items n)
+        else list_of lists.old.items n) }
 {
     if at >= lists.len() {
         return;
@@ -468,7 +484,7 @@ fn unlist_one(lists: &mut Vec<Vec<usize>>, at: usize, place: usize)
     }
 }
 
-/// Whether the place stands last in the list with this number.
+/// Whether the place is the last in the list with this number.
 fn stands_last(lists: &[Vec<usize>], at: usize, place: usize) -> bool
     ensures { result ≡ ends_with place (list_of lists.now at) }
 {
@@ -485,7 +501,7 @@ fn list_at(lists: &[Vec<usize>], at: usize) -> Option<&Vec<usize>>
     lists.get(at)
 }
 
-/// Whether the place stands last.
+/// Whether the place is the last of these.
 fn is_last(places: &[usize], place: usize) -> bool
     ensures { result ≡ ends_with place places.now }
 {
@@ -495,7 +511,7 @@ fn is_last(places: &[usize], place: usize) -> bool
     }
 }
 
-/// Whether a place of one list stands in the other, which ascends.
+/// Whether a place of one list is in the other one, which ascends.
 fn have_common(fewer: &[usize], more: &[usize]) -> bool
     requires { IsStrictlyIncreasing more.now }
     ensures { result ≡ list_any (has_number more.now) fewer.now }
@@ -524,7 +540,7 @@ pub(crate) fn is_among(numbers: &[u32], n: u32) -> bool
     numbers.binary_search(&n).is_ok()
 }
 
-/// What a group has of the numbers, which ascend.
+/// What a group has of the numbers. The numbers ascend.
 pub(crate) fn kept_numbers(
     alloc: Global,
     numbers: &[u32],
@@ -540,9 +556,10 @@ pub(crate) fn kept_numbers(
     Ok(kept)
 }
 
-/// Appends the number, if it is to be kept.
+/// Appends the number if it is to be kept.
 fn push_if(keeps: bool, kept: &mut Vec<u32>, n: u32) -> Result<(), AllocError>
-    ensures { IfOk result (λ _. kept.new.items ≡ (if keeps then kept.old.items ++ n ∷ [] else kept.old.items)) }
+    ensures { IfOk result
+        (λ _. kept.new.items ≡ (if keeps then kept.old.items ++ n ∷ [] else kept.old.items)) }
 {
     if keeps {
         kept.push(n)?;
@@ -550,7 +567,7 @@ fn push_if(keeps: bool, kept: &mut Vec<u32>, n: u32) -> Result<(), AllocError>
     Ok(())
 }
 
-/// Appends the group, where it has a pair.
+/// Appends the group if it has a pair.
 fn push_group(groups: &mut Vec<Vec<u32>>, group: Vec<u32>) -> Result<(), AllocError>
     ensures { IfOk result (λ _. (a b : ℕ) → in_groups (groups_of groups.new.items) a b
         ≡ (in_groups (groups_of groups.old.items) a b || in_group a b group.items)) }
@@ -564,7 +581,7 @@ fn push_group(groups: &mut Vec<Vec<u32>>, group: Vec<u32>) -> Result<(), AllocEr
     Ok(())
 }
 
-/// Appends two numbers as a group, where they are to be kept.
+/// Appends two numbers as a group if they are to be kept.
 fn push_pair(
     alloc: Global,
     groups: &mut Vec<Vec<u32>>,
@@ -573,7 +590,8 @@ fn push_pair(
     keeps: bool,
 ) -> Result<(), AllocError>
     ensures { IfOk result (λ _. (a b : ℕ) → in_groups (groups_of groups.new.items) a b
-        ≡ (in_groups (groups_of groups.old.items) a b || (keeps && in_group a b (n ∷ (other ∷ []))))) }
+        ≡ (in_groups (groups_of groups.old.items) a b
+        || (keeps && in_group a b (n ∷ (other ∷ []))))) }
 {
     if !keeps {
         return Ok(());

@@ -5,7 +5,8 @@ ghost use Rattle.mm_frame.specs.ShortWords.{IsFront};
 
 use crate::scopes::Name;
 
-/// As many bytes of a token as stand in its entry, so that the text is not looked at for a short one.
+/// How many bytes of a token its entry holds. A token of at most this length is compared without a
+/// look at the text.
 const SHORT: usize = 16;
 
 /// A token with what it names.
@@ -45,7 +46,7 @@ impl<'a> Entry<'a> {
     }
 }
 
-/// A short token, with zeros after it.
+/// A short token with zeros after it; for a longer token, only zeros.
 fn front(word: &[u8]) -> [u8; SHORT]
     ensures { IsFront result word.now }
 {

@@ -2,7 +2,8 @@
 
 ghost use Rattle.std.specs.Prelude.{◌≡◌, [], option_map};
 ghost use Rattle.mm_text.specs.Reader.{words_of};
-ghost use Rattle.mm_database.specs.Forms.{form_of, keyword_of, has_dollar, before_dollar, from_dollar};
+ghost use Rattle.mm_database.specs.Forms.{form_of, keyword_of, has_dollar, before_dollar};
+ghost use Rattle.mm_database.specs.Forms.{from_dollar};
 ghost use Rattle.mm_database.specs.Forms.{is_end, block_form, labelled_form};
 ghost use Rattle.mm_frame.specs.FormsRead.{form_read, keyword_read};
 ghost use Rattle.mm_frame.specs.FormParts.{proof_read, proof_for, names_symbols};
@@ -28,8 +29,8 @@ pub enum Keyword {
     Theorem,
 }
 
-/// A statement with a keyword: the tokens before it, between it and the next token with a `$`, and,
-/// where it is a `$p`, those of its proof.
+/// A statement with a keyword: the tokens before the keyword, those between it and the next token
+/// with a `$`, and, if it is a `$p`, those of its proof.
 #[derive(Clone, Copy)]
 pub struct Plain<'t> {
     pub labels: &'t [MmToken],
@@ -46,8 +47,8 @@ pub enum Form<'t> {
     Plain(Plain<'t>),
 }
 
-/// What the tokens of a statement say; none exactly where a token with `$` is unknown or misplaced, a
-/// `$p` has no `$=`, or a `$c` or `$v` names no symbol.
+/// What the tokens of a statement say. Returns `None` exactly when a token with `$` is unknown or
+/// misplaced, a `$p` has no `$=`, or a `$c` or `$v` names no symbol.
 pub fn read_form<'t>(bytes: &[u8], tokens: &'t [MmToken]) -> Option<Form<'t>>
     ensures { option_map (form_read bytes.now) result ≡ form_of (words_of bytes.now tokens.now) }
 {
@@ -58,7 +59,7 @@ pub fn read_form<'t>(bytes: &[u8], tokens: &'t [MmToken]) -> Option<Form<'t>>
     labelled_form(bytes, labels, rest)
 }
 
-/// The form of labels and of the tokens from a keyword on.
+/// The form of a statement, from its labels and the tokens from its keyword on.
 fn labelled_form<'t>(bytes: &[u8], labels: &'t [MmToken], rest: &'t [MmToken]) -> Option<Form<'t>>
     ensures { option_map (form_read bytes.now) result
         ≡ labelled_form (words_of bytes.now labels.now) (words_of bytes.now rest.now) }
@@ -90,7 +91,8 @@ fn block_form<'t>(word: &[u8]) -> Option<Form<'t>>
 
 /// The tokens before the first one with a `$`, and those from it on.
 fn split_at_dollar<'t>(bytes: &[u8], tokens: &'t [MmToken]) -> (&'t [MmToken], &'t [MmToken])
-    ensures front { words_of bytes.now result.0.now ≡ before_dollar (words_of bytes.now tokens.now) }
+    ensures front { words_of bytes.now result.0.now
+        ≡ before_dollar (words_of bytes.now tokens.now) }
     ensures back { words_of bytes.now result.1.now ≡ from_dollar (words_of bytes.now tokens.now) }
 {
     let mut at = 0;
@@ -110,7 +112,7 @@ fn has_dollar(word: &[u8]) -> bool
     word.contains(&b'$')
 }
 
-/// The keyword that the token is.
+/// The keyword that the token spells.
 fn keyword_of(word: &[u8]) -> Option<Keyword>
     ensures { option_map keyword_read result ≡ keyword_of word.now }
 {
@@ -133,7 +135,8 @@ fn keyword_of(word: &[u8]) -> Option<Keyword>
     }
 }
 
-/// The tokens of the proof, none where there is none, in what stands after the symbols.
+/// The tokens of the proof in what follows the symbols; empty if the keyword has no proof. Returns
+/// `None` if what follows is misplaced, or a symbol is needed and missing.
 fn proof_of<'t>(
     bytes: &[u8],
     keyword: Keyword,
@@ -153,9 +156,10 @@ fn proof_of<'t>(
     }
 }
 
-/// The tokens between `$=` and the end.
+/// The tokens between `$=` and the end of the statement.
 fn theorem_proof<'t>(bytes: &[u8], rest: &'t [MmToken]) -> Option<&'t [MmToken]>
-    ensures { option_map (λ p. words_of bytes.now p.now) result ≡ proof_read (words_of bytes.now rest.now) }
+    ensures { option_map (λ p. words_of bytes.now p.now) result
+        ≡ proof_read (words_of bytes.now rest.now) }
 {
     let (equals, rest) = rest.split_first()?;
     if equals.word(bytes) != b"$=".as_slice() {
@@ -169,7 +173,7 @@ fn theorem_proof<'t>(bytes: &[u8], rest: &'t [MmToken]) -> Option<&'t [MmToken]>
     }
 }
 
-/// Whether the statement has to name a symbol.
+/// Whether a statement with this keyword must name a symbol.
 fn names_symbols(keyword: Keyword) -> bool
     ensures { result ≡ names_symbols keyword }
 {

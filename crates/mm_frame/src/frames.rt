@@ -1,7 +1,7 @@
 // Hypotheses and frames.
 
 ghost use Rattle.std.specs.Prelude.{◌≡◌};
-ghost use Rattle.mm_frame.specs.FramesHeld.{types_number, hypothesis_held};
+ghost use Rattle.mm_frame.specs.PlainFrames.{types_number, plain_hypothesis};
 ghost use Rattle.mm_database.specs.Frames.{label_of};
 ghost use Rattle.mm_frame.specs.Listed.{is_essential};
 
@@ -17,8 +17,8 @@ pub enum Hyp<'a> {
     Essential(&'a [u8], Vec<u32>),
 }
 
-/// The frame of an assertion: its label, what it asks for, and its statement. Assertions of one place may
-/// share what they ask for.
+/// The frame of an assertion: its label, what it asks for, and its statement. Assertions of one
+/// place may share what they ask for.
 #[derive(Drop)]
 pub struct Frame<'a> {
     pub label: &'a [u8],
@@ -38,7 +38,7 @@ pub enum Cited<'s, 'a> {
 impl<'a> Hyp<'a> {
     /// Its label.
     pub fn label(&self) -> &'a [u8]
-        ensures { result.now ≡ label_of (hypothesis_held self.now) }
+        ensures { result.now ≡ label_of (plain_hypothesis self.now) }
     {
         match self {
             Hyp::Floating(label, _, _) => label,
@@ -48,7 +48,7 @@ impl<'a> Hyp<'a> {
 
     /// Whether it is an `$e`.
     pub(crate) fn is_essential(&self) -> bool
-        ensures { result ≡ is_essential (hypothesis_held self.now) }
+        ensures { result ≡ is_essential (plain_hypothesis self.now) }
     {
         match self {
             Hyp::Floating(_, _, _) => false,
@@ -58,7 +58,7 @@ impl<'a> Hyp<'a> {
 
     /// Whether it types this variable.
     pub fn types(&self, n: u32) -> bool
-        ensures { result ≡ types_number n (hypothesis_held self.now) }
+        ensures { result ≡ types_number n (plain_hypothesis self.now) }
     {
         match self {
             Hyp::Floating(_, _, variable) => *variable == n,

@@ -1,7 +1,7 @@
 // The active hypotheses.
 
 ghost use Rattle.std.specs.Prelude.{◌≡◌};
-ghost use Rattle.mm_frame.specs.FramesHeld.{hypotheses_held};
+ghost use Rattle.mm_frame.specs.PlainFrames.{plain_hypotheses};
 ghost use Rattle.mm_frame.specs.Places.{places_of};
 ghost use Rattle.mm_frame.specs.Listed.{is_essential};
 
@@ -20,12 +20,13 @@ const ONE: usize = 8;
 pub(crate) struct Hypotheses<'a> {
     all: Vec<Hyp<'a>>,
     essentials: Vec<usize>,
-    ghost placed: { essentials.items ≡ places_of is_essential (hypotheses_held all.items) },
+    ghost placed: { essentials.items ≡ places_of is_essential (plain_hypotheses all.items) },
 }
 
 impl<'a> Hypotheses<'a> {
-    ghost use Rattle.std.specs.Prelude.{◌++◌, ◌∷◌, [], ◌-◌, IfOk, length, take, option_map, slice_get};
-    ghost use Rattle.mm_frame.specs.FramesHeld.{hypothesis_held};
+    ghost use Rattle.std.specs.Prelude.{◌++◌, ◌∷◌, [], ◌-◌, IfOk, length, take, option_map};
+    ghost use Rattle.std.specs.Prelude.{slice_get};
+    ghost use Rattle.mm_frame.specs.PlainFrames.{plain_hypothesis};
     ghost use Rattle.mm_frame.specs.HypothesesView.{hypotheses_in};
 
     /// No hypotheses. Takes no memory yet.
@@ -47,7 +48,8 @@ impl<'a> Hypotheses<'a> {
 
     /// The hypothesis at a place.
     pub(crate) fn get(&self, place: usize) -> Option<&Hyp<'a>>
-        ensures { option_map (λ h. hypothesis_held h.now) result ≡ slice_get (hypotheses_in self.now) place }
+        ensures { option_map (λ h. plain_hypothesis h.now) result
+            ≡ slice_get (hypotheses_in self.now) place }
     {
         self.all.get(place)
     }
@@ -75,7 +77,8 @@ impl<'a> Hypotheses<'a> {
 
     /// Appends a hypothesis.
     pub(crate) fn push(&mut self, hyp: Hyp<'a>) -> Result<(), AllocError>
-        ensures { IfOk result (λ _. hypotheses_in self.new ≡ hypotheses_in self.old ++ hypothesis_held hyp.entry ∷ []) }
+        ensures { IfOk result (λ _.
+            hypotheses_in self.new ≡ hypotheses_in self.old ++ plain_hypothesis hyp.entry ∷ []) }
     {
         let place = self.all.len();
         let is_essential = hyp.is_essential();
@@ -100,7 +103,8 @@ impl<'a> Hypotheses<'a> {
 
     /// Lets the last hypothesis go.
     fn pop(&mut self)
-        ensures { hypotheses_in self.new ≡ take (length (hypotheses_in self.old) - 1) (hypotheses_in self.old) }
+        ensures { hypotheses_in self.new
+            ≡ take (length (hypotheses_in self.old) - 1) (hypotheses_in self.old) }
     {
         if let Some(hyp) = self.all.pop() {
             if hyp.is_essential() {

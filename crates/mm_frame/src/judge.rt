@@ -1,16 +1,17 @@
-// Which fault a statement has, and what it declares where it has none.
+// Which fault a statement has, and what it declares if it has none.
 
 ghost use Rattle.std.specs.Prelude.{◌≡◌, IfOk, option_map, is_none, is_some};
 ghost use Rattle.std.specs.List.{list_any, list_all};
 ghost use Rattle.mm_text.specs.Reader.{words_of};
 ghost use Rattle.mm_text.specs.Labels.{is_label, is_label_byte};
 ghost use Rattle.mm_database.specs.Forms.{is_nil};
-ghost use Rattle.mm_frame.specs.FramesHeld.{items_of, hypothesis_held};
-ghost use Rattle.mm_frame.specs.Held.{held};
-ghost use Rattle.mm_frame.specs.HeldTests.{numbers_in, is_active_in, constant_in, label_in};
-ghost use Rattle.mm_frame.specs.HeldTests.{redeclares_constant, redeclares_variable};
-ghost use Rattle.mm_frame.specs.HeldFaults.{Judges, stated_held, floating_in, stated_in, disjoint_in};
-ghost use Rattle.mm_frame.specs.HeldFaults.{constants_fault, variables_fault};
+ghost use Rattle.mm_frame.specs.PlainFrames.{items_of, plain_hypothesis};
+ghost use Rattle.mm_frame.specs.ScopeState.{scope_state};
+ghost use Rattle.mm_frame.specs.StateTests.{numbers_in, is_active_in, constant_in, label_in};
+ghost use Rattle.mm_frame.specs.StateTests.{redeclares_constant, redeclares_variable};
+ghost use Rattle.mm_frame.specs.StateFaults.{Judges, plain_stated, floating_in, stated_in};
+ghost use Rattle.mm_frame.specs.StateFaults.{disjoint_in};
+ghost use Rattle.mm_frame.specs.StateFaults.{constants_fault, variables_fault};
 ghost use Rattle.mm_text.specs.Bytes.{has_repeated};
 
 use crate::frames::Hyp;
@@ -19,7 +20,7 @@ use mm_text::MmToken;
 use std::alloc::{AllocError, Global};
 use std::collections::BTreeMap;
 
-/// Why a statement is not taken: it has a fault of this kind, or there is not enough memory.
+/// Why a statement is refused: it has a fault of this kind, or memory ran out.
 #[derive(Clone, Copy)]
 pub(crate) enum Refusal {
     Fault(u8),
@@ -34,7 +35,7 @@ pub(crate) struct Stated<'a> {
 }
 
 impl<'a> Scopes<'a> {
-    /// The numbers of symbols that are each what it has to be.
+    /// The numbers of symbols, if each is what is needed.
     fn numbers(
         &self,
         alloc: Global,
@@ -43,7 +44,8 @@ impl<'a> Scopes<'a> {
         tokens: &[MmToken],
     ) -> Result<Option<Vec<u32>>, AllocError>
         ensures { IfOk result
-            (λ r. option_map items_of r ≡ numbers_in (held self.now) need (words_of bytes.now tokens.now)) }
+            (λ r. option_map items_of r
+            ≡ numbers_in (scope_state self.now) need (words_of bytes.now tokens.now)) }
     {
         let mut numbers = Vec::with_capacity(alloc, tokens.len())?;
         for token in tokens {
@@ -57,7 +59,8 @@ impl<'a> Scopes<'a> {
 
     /// Whether each symbol is a constant or an active variable.
     fn are_active(&self, bytes: &'a [u8], tokens: &[MmToken]) -> bool
-        ensures { result ≡ list_all (is_active_in (held self.now)) (words_of bytes.now tokens.now) }
+        ensures { result
+            ≡ list_all (is_active_in (scope_state self.now)) (words_of bytes.now tokens.now) }
     {
         for token in tokens {
             if self.number(Need::Active, token.word(bytes)).is_none() {
@@ -69,7 +72,7 @@ impl<'a> Scopes<'a> {
 
     /// The number of a constant.
     fn constant(&self, word: &'a [u8]) -> Option<u32>
-        ensures { result ≡ constant_in (held self.now) word.now }
+        ensures { result ≡ constant_in (scope_state self.now) word.now }
     {
         match self.name(word)? {
             Name::Constant(n) => Some(n),
@@ -77,9 +80,10 @@ impl<'a> Scopes<'a> {
         }
     }
 
-    /// The label of a statement that has to have one, which is spelled well and not in use.
+    /// The only label of a statement, if it is spelled as a label and is not in use.
     fn new_label(&self, bytes: &'a [u8], labels: &[MmToken]) -> Option<&'a [u8]>
-        ensures { option_map (λ l. l.now) result ≡ label_in (held self.now) (words_of bytes.now labels.now) }
+        ensures { option_map (λ l. l.now) result
+            ≡ label_in (scope_state self.now) (words_of bytes.now labels.now) }
     {
         if labels.len() != 1 {
             return None;
@@ -99,8 +103,9 @@ impl<'a> Scopes<'a> {
         labels: &[MmToken],
         symbols: &[MmToken],
     ) -> Result<Hyp<'a>, Refusal>
-        ensures { Judges hypothesis_held result
-            (floating_in (held self.now) (words_of bytes.now labels.now) (words_of bytes.now symbols.now)) }
+        ensures { Judges plain_hypothesis result
+            (floating_in (scope_state self.now) (words_of bytes.now labels.now)
+            (words_of bytes.now symbols.now)) }
     {
         if !self.are_active(bytes, symbols) {
             return Err(Refusal::Fault(6));
@@ -131,8 +136,9 @@ impl<'a> Scopes<'a> {
         labels: &[MmToken],
         symbols: &[MmToken],
     ) -> Result<Stated<'a>, Refusal>
-        ensures { Judges stated_held result
-            (stated_in (held self.now) (words_of bytes.now labels.now) (words_of bytes.now symbols.now)) }
+        ensures { Judges plain_stated result
+            (stated_in (scope_state self.now) (words_of bytes.now labels.now)
+            (words_of bytes.now symbols.now)) }
     {
         let statement = match self.numbers(alloc, Need::Typed, bytes, symbols) {
             Err(_) => return Err(Refusal::Memory),
@@ -157,7 +163,8 @@ impl<'a> Scopes<'a> {
         symbols: &[MmToken],
     ) -> Result<Vec<u32>, Refusal>
         ensures { Judges items_of result
-            (disjoint_in (held self.now) (words_of bytes.now labels.now) (words_of bytes.now symbols.now)) }
+            (disjoint_in (scope_state self.now) (words_of bytes.now labels.now)
+            (words_of bytes.now symbols.now)) }
     {
         let variables = match self.numbers(alloc, Need::Variable, bytes, symbols) {
             Err(_) => return Err(Refusal::Memory),
@@ -180,7 +187,9 @@ impl<'a> Scopes<'a> {
 
     /// Whether one of the symbols of a `$c` names something already.
     fn redeclare_constants(&self, bytes: &'a [u8], symbols: &[MmToken]) -> bool
-        ensures { result ≡ list_any (redeclares_constant (held self.now)) (words_of bytes.now symbols.now) }
+        ensures { result
+            ≡ list_any (redeclares_constant (scope_state self.now))
+            (words_of bytes.now symbols.now) }
     {
         for token in symbols {
             if self.name(token.word(bytes)).is_some() {
@@ -190,9 +199,12 @@ impl<'a> Scopes<'a> {
         false
     }
 
-    /// Whether one of the symbols of a `$v` names something already that is no inactive variable.
+    /// Whether one of the symbols of a `$v` already names something other than an inactive
+    /// variable.
     fn redeclare_variables(&self, bytes: &'a [u8], symbols: &[MmToken]) -> bool
-        ensures { result ≡ list_any (redeclares_variable (held self.now)) (words_of bytes.now symbols.now) }
+        ensures { result
+            ≡ list_any (redeclares_variable (scope_state self.now))
+            (words_of bytes.now symbols.now) }
     {
         for token in symbols {
             if self.redeclares_variable(token.word(bytes)) {
@@ -203,7 +215,7 @@ impl<'a> Scopes<'a> {
     }
 
     fn redeclares_variable(&self, word: &'a [u8]) -> bool
-        ensures { result ≡ redeclares_variable (held self.now) word.now }
+        ensures { result ≡ redeclares_variable (scope_state self.now) word.now }
     {
         match self.name(word) {
             None => false,
@@ -223,7 +235,8 @@ impl<'a> Scopes<'a> {
         symbols: &[MmToken],
     ) -> Result<Option<u8>, AllocError>
         ensures { IfOk result (λ r. r
-            ≡ constants_fault (held self.now) (words_of bytes.now labels.now) (words_of bytes.now symbols.now)) }
+            ≡ constants_fault (scope_state self.now) (words_of bytes.now labels.now)
+            (words_of bytes.now symbols.now)) }
     {
         if !self.blocks.is_empty() {
             return Ok(Some(4));
@@ -244,7 +257,8 @@ impl<'a> Scopes<'a> {
         symbols: &[MmToken],
     ) -> Result<Option<u8>, AllocError>
         ensures { IfOk result (λ r. r
-            ≡ variables_fault (held self.now) (words_of bytes.now labels.now) (words_of bytes.now symbols.now)) }
+            ≡ variables_fault (scope_state self.now) (words_of bytes.now labels.now)
+            (words_of bytes.now symbols.now)) }
     {
         let repeated = has_repeated(alloc, bytes, symbols)?;
         if self.redeclare_variables(bytes, symbols) || repeated {
@@ -254,7 +268,7 @@ impl<'a> Scopes<'a> {
     }
 }
 
-/// Whether a token stands twice.
+/// Whether a token occurs twice.
 fn has_repeated(alloc: Global, bytes: &[u8], tokens: &[MmToken]) -> Result<bool, AllocError>
     ensures { IfOk result (λ r. r ≡ has_repeated (words_of bytes.now tokens.now)) }
 {

@@ -8,9 +8,9 @@ use crate::frames::Hyp;
 use std::alloc::{AllocError, Global};
 use std::collections::BTreeMap;
 
-/// What an assertion asks for: its mandatory hypotheses in order, and the variables that have to stay
-/// apart from each other, as lists. Where assertions share it, it has the labels of the hypotheses in a
-/// table too.
+/// What an assertion asks for: its mandatory hypotheses in order, and the variables that have to
+/// stay apart from each other, as lists. Where assertions share it, it has the labels of the
+/// hypotheses in a table too.
 #[derive(Drop)]
 pub struct Mandatory<'a> {
     pub hyps: Vec<Hyp<'a>>,
@@ -31,7 +31,8 @@ pub fn own_labels<'a>(alloc: Global, hyps: &[Hyp<'a>]) -> Result<BTreeMap<&'a [u
 }
 
 impl<'a> Mandatory<'a> {
-    /// The labels of the hypotheses, where assertions share them: so a proof need not go through them.
+    /// The labels of the hypotheses, where assertions share them: so a proof need not go through
+    /// them.
     pub fn labels(&self) -> Option<&BTreeMap<&'a [u8], ()>>
         ensures { IfSome result (λ m. HasLabels m.now self.now.hyps.items) }
     {

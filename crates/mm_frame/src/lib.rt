@@ -1,9 +1,9 @@
 //! Scopes, which take the statements of a Metamath database one after another.
 //!
-//! `Standing` says when scopes stand for what a database has declared (crate `mm_database`), `Takes` and
-//! `Proposing` what they do with one more statement, and `StandingLaws` what the steps of a proof may rest
-//! on. Symbols have numbers: `Numbered` says which frames of tokens those of numbers are, and
-//! `NumberedSteps` what the steps of a proof do to numbers.
+//! `Standing` says when scopes stand for what a database has declared (crate `mm_database`),
+//! `TakesStatement` and `Proposing` what they do with one more statement, and `StandingLaws` what the steps
+//! of a proof may rest on. Symbols have numbers: `Numbered` says which frames of tokens those of
+//! numbers are, and `NumberedSteps` what the steps of a proof do to numbers.
 #![tactic(auto)]
 
 mod add;

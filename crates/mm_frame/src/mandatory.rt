@@ -1,18 +1,19 @@
 // The frame of an assertion.
 
-ghost use Rattle.std.specs.Prelude.{◌≡◌, ℕ, ◌||◌, ◌&&◌, IfOk, filter, flat_map, slice_get, if◌then◌else◌};
+ghost use Rattle.std.specs.Prelude.{◌≡◌, ℕ, ◌||◌, ◌&&◌, IfOk, filter, flat_map, slice_get};
+ghost use Rattle.std.specs.Prelude.{if◌then◌else◌};
 ghost use Rattle.std.specs.Prelude.{◌++◌, ◌∷◌, []};
 ghost use Rattle.std.specs.List.Sorted.{IsStrictlyIncreasing};
-ghost use Rattle.mm_frame.specs.Held.{held};
-ghost use Rattle.mm_frame.specs.FramesHeld.{has_number, in_group, in_groups, items_of, groups_of};
-ghost use Rattle.mm_frame.specs.FramesHeld.{hypothesis_held, hypotheses_held, frame_held};
-ghost use Rattle.mm_frame.specs.HeldFaults.{stated_held};
-ghost use Rattle.mm_frame.specs.HeldFrames.{IsHeldFrame};
+ghost use Rattle.mm_frame.specs.ScopeState.{scope_state};
+ghost use Rattle.mm_frame.specs.PlainFrames.{has_number, in_group, in_groups, items_of, groups_of};
+ghost use Rattle.mm_frame.specs.PlainFrames.{plain_hypothesis, plain_hypotheses, plain_frame};
+ghost use Rattle.mm_frame.specs.StateFaults.{plain_stated};
+ghost use Rattle.mm_frame.specs.StateFrames.{IsFrameIn};
 ghost use Rattle.mm_frame.specs.NeededNumbers.{is_needed_number, is_mandatory_number};
 ghost use Rattle.mm_frame.specs.Places.{places_of, found_at};
 ghost use Rattle.mm_frame.specs.Sharing.{IsMandatory};
 ghost use Rattle.mm_frame.specs.Listed.{is_essential};
-ghost use Rattle.mm_frame.specs.HeldPlaces.{premise_at, ArePlaced, typed_places};
+ghost use Rattle.mm_frame.specs.StatePlaces.{premise_at, ArePlaced, typed_places};
 
 use crate::frames::{Frame, Hyp};
 use crate::judge::Stated;
@@ -24,8 +25,8 @@ use std::rc::Rc;
 impl<'a> Scopes<'a> {
     /// The frame of an assertion with this label and these symbols.
     pub(crate) fn frame(&self, alloc: Global, stated: Stated<'a>) -> Result<Frame<'a>, AllocError>
-        ensures { IfOk result (λ f. ArePlaced (held self.now)
-            → IsHeldFrame (held self.now) (stated_held stated.entry) (frame_held f)) }
+        ensures { IfOk result (λ f. ArePlaced (scope_state self.now)
+            → IsFrameIn (scope_state self.now) (plain_stated stated.entry) (plain_frame f)) }
     {
         let mandatory = match self.shared_for(&stated.statement) {
             Some(shared) => shared.clone()?,
@@ -44,8 +45,9 @@ impl<'a> Scopes<'a> {
         alloc: Global,
         statement: &[u32],
     ) -> Result<Mandatory<'a>, AllocError>
-        ensures { IfOk result (λ m. ArePlaced (held self.now)
-            → IsMandatory (held self.now).hypotheses (held self.now).disjoint statement.now m) }
+        ensures { IfOk result (λ m. ArePlaced (scope_state self.now)
+            → IsMandatory (scope_state self.now).hypotheses (scope_state self.now).disjoint
+            statement.now m) }
     {
         let needed = self.needed(alloc, statement)?;
         Ok(Mandatory {
@@ -59,7 +61,7 @@ impl<'a> Scopes<'a> {
     pub(crate) fn needed(&self, alloc: Global, statement: &[u32]) -> Result<Vec<u32>, AllocError>
         ensures ascending { IfOk result (λ v. IsStrictlyIncreasing v.items) }
         ensures symbols { IfOk result (λ v. (n : ℕ) → has_number v.items n
-            ≡ is_needed_number (held self.now).hypotheses statement.now n) }
+            ≡ is_needed_number (scope_state self.now).hypotheses statement.now n) }
     {
         let mut symbols = self.stated_symbols(alloc, statement)?;
         symbols.sort_unstable();
@@ -70,8 +72,9 @@ impl<'a> Scopes<'a> {
     /// The symbols of a statement, and those of the active `$e` after them.
     fn stated_symbols(&self, alloc: Global, statement: &[u32]) -> Result<Vec<u32>, AllocError>
         ensures { IfOk result (λ v. v.items
-            ≡ statement.now ++ flat_map (λ i. premise_at (slice_get (held self.now).hypotheses i))
-            (places_of is_essential (held self.now).hypotheses)) }
+            ≡ statement.now
+            ++ flat_map (λ i. premise_at (slice_get (scope_state self.now).hypotheses i))
+            (places_of is_essential (scope_state self.now).hypotheses)) }
     {
         let mut symbols = Vec::from_slice(alloc, statement)?;
         for place in self.hyps.essentials() {
@@ -84,9 +87,10 @@ impl<'a> Scopes<'a> {
 
     /// The active `$e`, and the active `$f` of these variables.
     fn mandatory(&self, alloc: Global, needed: &[u32]) -> Result<Vec<Hyp<'a>>, AllocError>
-        ensures { IfOk result (λ v. ArePlaced (held self.now)
-            → hypotheses_held v.items
-            ≡ filter (is_mandatory_number (has_number needed.now)) (held self.now).hypotheses) }
+        ensures { IfOk result (λ v. ArePlaced (scope_state self.now)
+            → plain_hypotheses v.items
+            ≡ filter (is_mandatory_number (has_number needed.now))
+            (scope_state self.now).hypotheses) }
     {
         let places = self.places(alloc, needed)?;
         self.copies(alloc, &places)
@@ -97,8 +101,8 @@ impl<'a> Scopes<'a> {
     fn places(&self, alloc: Global, needed: &[u32]) -> Result<Vec<usize>, AllocError>
         ensures ascending { IfOk result (λ v. IsStrictlyIncreasing v.items) }
         ensures places { IfOk result (λ v. (i : ℕ) → has_number v.items i
-            ≡ (has_number (places_of is_essential (held self.now).hypotheses) i
-            || has_number (typed_places (held self.now) needed.now) i)) }
+            ≡ (has_number (places_of is_essential (scope_state self.now).hypotheses) i
+            || has_number (typed_places (scope_state self.now) needed.now) i)) }
     {
         let mut places = Vec::from_slice(alloc, self.hyps.essentials())?;
         for n in needed {
@@ -111,7 +115,8 @@ impl<'a> Scopes<'a> {
 
     /// Appends the place of the active `$f` of a variable, if it has one.
     fn push_place(&self, places: &mut Vec<usize>, n: u32) -> Result<(), AllocError>
-        ensures { IfOk result (λ _. places.new.items ≡ places.old.items ++ typed_places (held self.now) (n ∷ [])) }
+        ensures { IfOk result (λ _.
+            places.new.items ≡ places.old.items ++ typed_places (scope_state self.now) (n ∷ [])) }
     {
         if self.has_type(n) {
             places.push(self.type_place(n))?;
@@ -121,8 +126,8 @@ impl<'a> Scopes<'a> {
 
     /// The hypotheses at places.
     fn copies(&self, alloc: Global, places: &[usize]) -> Result<Vec<Hyp<'a>>, AllocError>
-        ensures { IfOk result (λ v. hypotheses_held v.items
-            ≡ flat_map (λ i. found_at (slice_get (held self.now).hypotheses i)) places.now) }
+        ensures { IfOk result (λ v. plain_hypotheses v.items
+            ≡ flat_map (λ i. found_at (slice_get (scope_state self.now).hypotheses i)) places.now) }
     {
         let mut hyps = Vec::with_capacity(alloc, places.len())?;
         for place in places {
@@ -139,7 +144,7 @@ impl<'a> Scopes<'a> {
 
 impl<'a> Hyp<'a> {
     fn copied(&self, alloc: Global) -> Result<Hyp<'a>, AllocError>
-        ensures { IfOk result (λ h. hypothesis_held h ≡ hypothesis_held self.now) }
+        ensures { IfOk result (λ h. plain_hypothesis h ≡ plain_hypothesis self.now) }
     {
         match self {
             Hyp::Floating(label, typecode, variable) => Ok(Hyp::Floating(

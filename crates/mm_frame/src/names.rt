@@ -7,7 +7,7 @@ use crate::scopes::Name;
 use std::alloc::{AllocError, Global};
 use std::collections::BTreeMap;
 
-/// In how many slots a token may stand.
+/// How many slots a token has to choose from.
 const NEAR: usize = 4;
 
 /// How many slots there are at first.
@@ -16,13 +16,13 @@ const FIRST_SLOTS: usize = 64;
 /// What an empty slot holds: the number of no entry.
 const EMPTY: u32 = u32::MAX;
 
-/// Tokens with what they name: an ordered map, and before it a table of slots, which have the numbers of
-/// entries.
+/// Tokens with what they name. There is an ordered map, and in front of it a table of slots. A slot
+/// holds the number of an entry.
 ///
-/// A look-up compares the token with the entries of at most four slots, which its bytes choose, and asks
-/// the map where it is none of these. So it takes time in the token's length, and at worst, however the
-/// tokens are chosen, that of four comparisons and of one look-up in the map. What a slot holds is
-/// trusted for nothing: an entry counts where its token is the one that is sought.
+/// A look-up compares the token with the entries of at most four slots, which its bytes select. If
+/// none of these has the token, it is looked up in the map. This takes time in the token's length.
+/// The worst case, for any choice of tokens, is four comparisons and one look-up in the map. Slots
+/// are not trusted: an entry counts only if it has the token that is looked up.
 #[derive(Drop)]
 pub(crate) struct Names<'a> {
     ordered: BTreeMap<&'a [u8], Name>,
@@ -32,10 +32,11 @@ pub(crate) struct Names<'a> {
 }
 
 impl<'a> Names<'a> {
-    ghost use Rattle.std.specs.Prelude.{◌≡◌, ◌<◌, IfOk, IfSome, None, Some, option_map, slice_get, vec_len};
+    ghost use Rattle.std.specs.Prelude.{◌≡◌, ◌<◌, IfOk, IfSome, None, Some, option_map, slice_get};
+    ghost use Rattle.std.specs.Prelude.{vec_len};
     ghost use Rattle.mm_text.specs.Bytes.{Token};
     ghost use Rattle.mm_frame.specs.KnownNames.{name_in};
-    ghost use Rattle.mm_frame.specs.HeldSteps.{Renames};
+    ghost use Rattle.mm_frame.specs.StateSteps.{Renames};
 
     /// No names. Takes no memory yet.
     pub(crate) fn new(alloc: Global) -> Self
@@ -58,7 +59,7 @@ impl<'a> Names<'a> {
         }
     }
 
-    /// What the token names, where one of its slots has its entry.
+    /// What the token names, if one of its slots has its entry.
     fn near(&self, word: &[u8]) -> Option<Name>
         ensures { IfSome result (λ name. name_in self.now.ordered word.now ≡ Some name) }
     {
@@ -80,9 +81,10 @@ impl<'a> Names<'a> {
         self.entries.get(number)
     }
 
-    /// Gives a token a name. Where it had one, all entries are forgotten, and only the map is left.
+    /// Gives a token a name. If it had one, all entries are forgotten and only the map is left.
     pub(crate) fn insert(&mut self, word: &'a [u8], name: Name) -> Result<(), AllocError>
-        ensures { IfOk result (λ _. Renames (name_in self.old.ordered) word.now name (name_in self.new.ordered)) }
+        ensures { IfOk result
+            (λ _. Renames (name_in self.old.ordered) word.now name (name_in self.new.ordered)) }
     {
         self.entries.reserve(1)?;
         match self.ordered.insert(word, name) {
@@ -98,7 +100,7 @@ impl<'a> Names<'a> {
         }
     }
 
-    /// Gives the last entry a slot. The slots are at least twice as many as the entries.
+    /// Gives the last entry a slot. Keeps at least twice as many slots as entries.
     fn put_last(&mut self) -> Result<(), AllocError>
         ensures { self.new.ordered ≡ self.old.ordered }
     {
@@ -112,7 +114,7 @@ impl<'a> Names<'a> {
         Ok(())
     }
 
-    /// Doubles the slots, and gives each entry one.
+    /// Doubles the number of slots, and gives each entry a slot.
     fn put_all(&mut self) -> Result<(), AllocError>
         ensures { self.new.ordered ≡ self.old.ordered }
     {
@@ -125,7 +127,7 @@ impl<'a> Names<'a> {
         Ok(())
     }
 
-    /// Gives an entry the first of its slots that is empty, if there is one.
+    /// Gives an entry the first of its slots that is empty, if one is.
     fn put(&mut self, number: usize)
         ensures ordered { self.new.ordered ≡ self.old.ordered }
         ensures entries { self.new.entries ≡ self.old.entries }
@@ -171,13 +173,14 @@ fn mixed(word: &[u8]) -> u64 {
     stirred(sum ^ last)
 }
 
-/// A number in which each bit of another one has been mixed with those above it.
+/// The number with its bits mixed. The product mixes each bit into the bits above it, and then the
+/// upper half is mixed into the lower one.
 fn stirred(sum: u64) -> u64 {
     let product = sum.wrapping_mul(0x9e37_79b9_7f4a_7c15);
     product ^ product >> 32
 }
 
-/// The place of a slot among a number of slots, a power of two.
+/// The place of a slot. `count` is how many slots there are, a power of two.
 fn slot(mixed: u64, step: usize, count: usize) -> usize {
     (mixed as usize).wrapping_add(step) & count.wrapping_sub(1)
 }

@@ -1,16 +1,19 @@
-// What scopes answer.
+// Questions to scopes.
 
-ghost use Rattle.std.specs.Prelude.{◌≡◌, ℕ, true, option_map, slice_get, slice_index, option_and_then, map, []};
-ghost use Rattle.mm_frame.specs.Held.{held, named};
+ghost use Rattle.std.specs.Prelude.{◌≡◌, ℕ, true, option_map, slice_get, slice_index};
+ghost use Rattle.std.specs.Prelude.{option_and_then, map, []};
+ghost use Rattle.mm_frame.specs.ScopeState.{scope_state, named};
 ghost use Rattle.mm_frame.specs.CitedView.{cited_hypothesis, cited_assertion};
-ghost use Rattle.mm_frame.specs.FramesHeld.{frames_held, in_group, in_groups, hypothesis_held, frame_held};
+ghost use Rattle.mm_frame.specs.PlainFrames.{plain_frames, in_group, in_groups, plain_hypothesis};
+ghost use Rattle.mm_frame.specs.PlainFrames.{plain_frame};
 ghost use Rattle.mm_database.specs.Database.{Context, empty_context};
 ghost use Rattle.mm_frame.specs.Standing.{Stands, Tells, FrameFound};
 ghost use Rattle.mm_database.specs.Validity.{first_open};
 ghost use Rattle.mm_database.specs.Proofs.{active_hypothesis};
 ghost use Rattle.mm_frame.specs.Numbered.{named_hypothesis};
-ghost use Rattle.mm_frame.specs.HeldReads.{frame_named, symbol_is_variable, hypothesis_at, hypothesis_named};
-ghost use Rattle.mm_frame.specs.HeldTests.{is_held_active, is_held_typed, number_in, first_block};
+ghost use Rattle.mm_frame.specs.StateReads.{frame_named, symbol_is_variable, hypothesis_at};
+ghost use Rattle.mm_frame.specs.StateReads.{hypothesis_named};
+ghost use Rattle.mm_frame.specs.StateTests.{is_held_active, is_typed_in, number_in, first_block};
 
 use crate::disjoint::Disjoint;
 use crate::frames::{Cited, Frame, Hyp};
@@ -22,8 +25,8 @@ use std::alloc::Global;
 impl<'a> Scopes<'a> {
     /// The scopes of a database without statements. Takes no memory yet.
     pub fn new(alloc: Global) -> Self
-        ensures stands { Stands (held result) empty_context }
-        ensures frames { (held result).frames ≡ [] }
+        ensures stands { Stands (scope_state result) empty_context }
+        ensures frames { (scope_state result).frames ≡ [] }
     {
         Scopes {
             names: Names::new(alloc),
@@ -49,7 +52,7 @@ impl<'a> Scopes<'a> {
 
     /// Whether the variable with this number is active.
     pub(crate) fn is_active_variable(&self, n: u32) -> bool
-        ensures { result ≡ is_held_active (held self.now) n }
+        ensures { result ≡ is_held_active (scope_state self.now) n }
     {
         let place = self.places.get(n as usize).copied().unwrap_or(0);
         match self.variables.get(place) {
@@ -60,7 +63,7 @@ impl<'a> Scopes<'a> {
 
     /// Whether an active `$f` types the variable with this number.
     pub(crate) fn has_type(&self, n: u32) -> bool
-        ensures { result ≡ is_held_typed (held self.now) n }
+        ensures { result ≡ is_typed_in (scope_state self.now) n }
     {
         match self.hyps.get(self.type_place(n)) {
             None => false,
@@ -70,14 +73,14 @@ impl<'a> Scopes<'a> {
 
     /// The place that is kept for the `$f` of the variable with this number.
     pub(crate) fn type_place(&self, n: u32) -> usize
-        ensures { result ≡ slice_index (held self.now).types n }
+        ensures { result ≡ slice_index (scope_state self.now).types n }
     {
         self.types.get(n as usize).copied().unwrap_or(0)
     }
 
-    /// The number of a symbol that is what it has to be.
+    /// The number of a symbol, if it is what is needed.
     pub(crate) fn number(&self, need: Need, word: &'a [u8]) -> Option<u32>
-        ensures { result ≡ number_in (held self.now) need word.now }
+        ensures { result ≡ number_in (scope_state self.now) need word.now }
     {
         match self.name(word)? {
             Name::Constant(n) => if need == Need::Variable {
@@ -96,10 +99,11 @@ impl<'a> Scopes<'a> {
         }
     }
 
-    /// The token with this number, none exactly where no symbol has it. Takes no memory.
+    /// The token of the symbol with this number. Returns `None` exactly when no symbol has this
+    /// number. Takes no memory.
     pub fn token(&self, symbol: u32) -> Option<&'a [u8]>
         ensures { option_map (λ t. t.now) result
-            ≡ option_map (λ s. s.token) (slice_get (held self.now).symbols symbol) }
+            ≡ option_map (λ s. s.token) (slice_get (scope_state self.now).symbols symbol) }
     {
         let symbol = self.symbols.get(symbol as usize)?;
         Some(symbol.token)
@@ -107,14 +111,16 @@ impl<'a> Scopes<'a> {
 
     /// Whether the symbol was declared by a `$v`. Takes no memory.
     pub fn is_variable(&self, symbol: u32) -> bool
-        ensures held { result ≡ symbol_is_variable (slice_get (held self.now).symbols symbol) }
-        ensures tells { Tells (held self.now) (λ c name. result ≡ c.variables (name symbol)) }
+        ensures scope_state { result
+            ≡ symbol_is_variable (slice_get (scope_state self.now).symbols symbol) }
+        ensures tells { Tells (scope_state self.now)
+            (λ c name. result ≡ c.variables (name symbol)) }
     {
         self.has_variable(symbol)
     }
 
     fn has_variable(&self, symbol: u32) -> bool
-        ensures { result ≡ symbol_is_variable (slice_get (held self.now).symbols symbol) }
+        ensures { result ≡ symbol_is_variable (slice_get (scope_state self.now).symbols symbol) }
     {
         match self.symbols.get(symbol as usize) {
             None => false,
@@ -122,31 +128,35 @@ impl<'a> Scopes<'a> {
         }
     }
 
-    /// The byte of the first `${` that is not closed, none exactly where there is none. Takes no memory.
+    /// The byte of the first `${` that is not closed. Returns `None` exactly when all are closed.
+    /// Takes no memory.
     pub fn unclosed(&self) -> Option<usize>
-        ensures { (c : Context) → Stands (held self.now) c → result ≡ first_open c.blocks }
+        ensures { (c : Context) → Stands (scope_state self.now) c → result ≡ first_open c.blocks }
     {
         self.first_block()
     }
 
     fn first_block(&self) -> Option<usize>
-        ensures { result ≡ first_block (held self.now).blocks }
+        ensures { result ≡ first_block (scope_state self.now).blocks }
     {
         let block = self.blocks.first()?;
         Some(block.at)
     }
 
-    /// The active hypothesis with this label, none exactly where there is none. Takes no memory.
+    /// The active hypothesis with this label. Returns `None` exactly when there is none. Takes no
+    /// memory.
     pub fn active(&self, label: &'a [u8]) -> Option<&Hyp<'a>>
-        ensures held { option_map (λ h. hypothesis_held h.now) result ≡ hypothesis_named (held self.now) label.now }
-        ensures tells { Tells (held self.now) (λ c name. active_hypothesis c label.now
-            ≡ option_map (λ h. named_hypothesis name (hypothesis_held h.now)) result) }
+        ensures scope_state { option_map (λ h. plain_hypothesis h.now) result
+            ≡ hypothesis_named (scope_state self.now) label.now }
+        ensures tells { Tells (scope_state self.now) (λ c name. active_hypothesis c label.now
+            ≡ option_map (λ h. named_hypothesis name (plain_hypothesis h.now)) result) }
     {
         self.hypothesis(label)
     }
 
     fn hypothesis(&self, label: &'a [u8]) -> Option<&Hyp<'a>>
-        ensures { option_map (λ h. hypothesis_held h.now) result ≡ hypothesis_named (held self.now) label.now }
+        ensures { option_map (λ h. plain_hypothesis h.now) result
+            ≡ hypothesis_named (scope_state self.now) label.now }
     {
         match self.name(label)? {
             Name::Hypothesis(place) => self.hypothesis_at(place, label),
@@ -155,8 +165,8 @@ impl<'a> Scopes<'a> {
     }
 
     fn hypothesis_at(&self, place: usize, label: &'a [u8]) -> Option<&Hyp<'a>>
-        ensures { option_map (λ h. hypothesis_held h.now) result
-            ≡ hypothesis_at label.now (slice_get (held self.now).hypotheses place) }
+        ensures { option_map (λ h. plain_hypothesis h.now) result
+            ≡ hypothesis_at label.now (slice_get (scope_state self.now).hypotheses place) }
     {
         let hyp = self.hyps.get(place)?;
         if hyp.label() == label {
@@ -166,17 +176,21 @@ impl<'a> Scopes<'a> {
         }
     }
 
-    /// The frame of the assertion with this label, none exactly where there is none. Takes no memory.
+    /// The frame of the assertion with this label. Returns `None` exactly when there is none. Takes
+    /// no memory.
     pub fn assertion(&self, label: &'a [u8]) -> Option<&Frame<'a>>
-        ensures held { option_map (λ f. frame_held f.now) result ≡ frame_named (held self.now) label.now }
-        ensures tells { Tells (held self.now)
-            (λ c name. FrameFound name (option_map (λ f. frame_held f.now) result) (c.frames label.now)) }
+        ensures scope_state { option_map (λ f. plain_frame f.now) result
+            ≡ frame_named (scope_state self.now) label.now }
+        ensures tells { Tells (scope_state self.now)
+            (λ c name. FrameFound name (option_map (λ f. plain_frame f.now) result)
+            (c.frames label.now)) }
     {
         self.frame_named(label)
     }
 
     fn frame_named(&self, label: &'a [u8]) -> Option<&Frame<'a>>
-        ensures { option_map (λ f. frame_held f.now) result ≡ frame_named (held self.now) label.now }
+        ensures { option_map (λ f. plain_frame f.now) result
+            ≡ frame_named (scope_state self.now) label.now }
     {
         match self.name(label)? {
             Name::Assertion(place) => self.frames.get(place),
@@ -186,17 +200,19 @@ impl<'a> Scopes<'a> {
 
     /// The frames of all assertions, in order.
     pub fn frames(&self) -> &[Frame<'a>]
-        ensures { frames_held result.now ≡ (held self.now).frames }
+        ensures { plain_frames result.now ≡ (scope_state self.now).frames }
     {
         &self.frames
     }
 
-    /// What a label cites, found by one look-up: none exactly where it is neither that of an active
-    /// hypothesis nor that of an assertion. Takes no memory.
+    /// What a label cites, found by one look-up. Returns `None` exactly when the label is neither
+    /// that of an active hypothesis nor that of an assertion. Takes no memory.
     pub fn cited(&self, label: &'a [u8]) -> Option<Cited<'_, 'a>>
-        ensures hypothesis { cited_hypothesis result ≡ hypothesis_named (held self.now) label.now }
-        ensures assertion { option_and_then (slice_get (held self.now).frames) (cited_assertion result)
-            ≡ frame_named (held self.now) label.now }
+        ensures hypothesis { cited_hypothesis result
+            ≡ hypothesis_named (scope_state self.now) label.now }
+        ensures assertion { option_and_then (slice_get (scope_state self.now).frames)
+            (cited_assertion result)
+            ≡ frame_named (scope_state self.now) label.now }
     {
         match self.name(label)? {
             Name::Hypothesis(place) => Some(Cited::Hypothesis(self.hypothesis_at(place, label)?)),
@@ -205,26 +221,27 @@ impl<'a> Scopes<'a> {
         }
     }
 
-    /// Whether the two symbols are a pair of an active `$d`. Takes no memory, and a search for each
-    /// active `$d` that has the one of them that is in fewer.
+    /// Whether the two symbols are a pair of an active `$d`. Takes no memory. It takes at most one
+    /// search for each active `$d` that has the rarer symbol, the one in fewer active `$d`.
     pub fn apart(&self, a: u32, b: u32) -> bool
-        ensures held { result ≡ in_groups (held self.now).disjoint a b }
-        ensures tells { Tells (held self.now) (λ c name. result ≡ c.scope.apart (name a) (name b)) }
+        ensures scope_state { result ≡ in_groups (scope_state self.now).disjoint a b }
+        ensures tells { Tells (scope_state self.now)
+            (λ c name. result ≡ c.scope.apart (name a) (name b)) }
     {
         self.are_grouped(a, b)
     }
 
-    /// Whether an active `$d` is found that has all these symbols: then each two of them that differ are a
-    /// pair of it. Takes no memory, and no more than a search for each two symbols.
+    /// Whether an active `$d` is found that has all these symbols. If so, each two different
+    /// symbols are a pair of it. Takes no memory, and at most one search for each two symbols.
     pub fn are_together(&self, symbols: &[u32]) -> bool
         ensures { result ≡ true → (a b : ℕ) → in_group a b symbols.now ≡ true
-            → in_groups (held self.now).disjoint a b ≡ true }
+            → in_groups (scope_state self.now).disjoint a b ≡ true }
     {
         self.disjoint.are_together(symbols)
     }
 
     fn are_grouped(&self, a: u32, b: u32) -> bool
-        ensures { result ≡ in_groups (held self.now).disjoint a b }
+        ensures { result ≡ in_groups (scope_state self.now).disjoint a b }
     {
         self.disjoint.are_apart(a, b)
     }

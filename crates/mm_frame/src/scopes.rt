@@ -12,7 +12,8 @@ use crate::hypotheses::Hypotheses;
 use crate::names::Names;
 use crate::sharing::Shared;
 
-/// What a token names. Symbols, hypotheses and assertions have numbers in the order in which they came.
+/// What a token names. Symbols, hypotheses and assertions have numbers in the order in which they
+/// came.
 #[derive(Clone, Copy)]
 pub(crate) enum Name {
     Constant(u32),
@@ -40,14 +41,14 @@ pub(crate) struct OpenBlock {
 /// What the statements of a database have declared so far, and what of it is active. Symbols have
 /// numbers.
 ///
-/// What is active stands in lists, in the order in which it came, and the end of a block cuts them. The
-/// place of a variable in the list of active variables, and that of its `$f` in the list of active
-/// hypotheses, are kept beside it, also when they are no longer active: what stands at the place
-/// tells.
+/// What is active stands in lists, in the order in which it came, and the end of a block cuts them.
+/// The place of a variable in the list of active variables, and that of its `$f` in the list of
+/// active hypotheses, are kept beside it, also when they are no longer active: what stands at the
+/// place tells.
 ///
-/// Where the active `$e` are long, assertions share what they ask for. What they share is let go at each
-/// change of what it was made from, and is made where two assertions are stated after the change, so that
-/// nothing is made for one alone.
+/// Where the active `$e` are long, assertions share what they ask for. What they share is let go at
+/// each change of what it was made from, and is made where two assertions are stated after the
+/// change, so that nothing is made for one alone.
 #[derive(Drop)]
 pub struct Scopes<'a> {
     pub(crate) names: Names<'a>,

@@ -3,7 +3,7 @@
 ghost use Rattle.std.specs.Prelude.{◌≡◌, ℕ};
 ghost use Rattle.mm_text.specs.Reader.{statement_of};
 ghost use Rattle.mm_database.specs.Database.{Context};
-ghost use Rattle.mm_frame.specs.Held.{held};
+ghost use Rattle.mm_frame.specs.ScopeState.{scope_state};
 ghost use Rattle.mm_frame.specs.Standing.{Stands};
 
 use crate::declare::{FrameEnd, end_at, first_byte};
@@ -14,7 +14,7 @@ use crate::scopes::Scopes;
 use mm_text::MmToken;
 use std::alloc::{AllocError, Global};
 
-/// A `$p`: the frame that it is to have, and the tokens of its proof.
+/// A `$p` that is not added yet: the frame that it will have, and the tokens of its proof.
 #[derive(Drop)]
 pub struct Theorem<'a, 't> {
     pub frame: Frame<'a>,
@@ -25,20 +25,21 @@ impl<'a> Scopes<'a> {
     ghost use Rattle.std.specs.Prelude.{IfOk, List};
     ghost use Rattle.mm_text.specs.Statements.{Statement};
     ghost use Rattle.mm_database.specs.Database.{context_after};
-    ghost use Rattle.mm_frame.specs.Takes.{KeepsFrames};
+    ghost use Rattle.mm_frame.specs.TakesStatement.{KeepsFrames};
     ghost use Rattle.mm_frame.specs.Proposing.{IsProposed, Proposes};
 
-    /// The theorem that a statement is to be, whose tokens stand in `bytes`: none exactly where it is
-    /// no `$p`, or its keywords are not well placed. Where it has a fault of kinds 4 to 11, the first
-    /// of these, with the byte of its first token. Nothing is added.
+    /// The theorem that a statement proposes. Its tokens are in `bytes`. Returns `None` exactly
+    /// when the statement is no `$p`, or its keywords are misplaced. If it has a fault of kinds 4
+    /// to 11, returns the first of these, with the byte of the statement's first token. Returns
+    /// `FrameEnd::Memory` when out of memory. Adds nothing.
     pub fn theorem<'t>(
         &self,
         alloc: Global,
         bytes: &'a [u8],
         tokens: &'t [MmToken],
     ) -> Result<Option<Theorem<'a, 't>>, FrameEnd>
-        ensures { (c : Context) → Stands (held self.now) c
-            → Proposes bytes.now (held self.now) c (statement_of bytes.now tokens.now) result }
+        ensures { (c : Context) → Stands (scope_state self.now) c
+            → Proposes bytes.now (scope_state self.now) c (statement_of bytes.now tokens.now) result }
     {
         let Some(form) = read_form(bytes, tokens) else {
             return Ok(None);
@@ -62,13 +63,15 @@ impl<'a> Scopes<'a> {
         }
     }
 
-    /// Adds a theorem as it was proposed. After running out of memory the scopes may have a part of it, and are
-    /// to be let go.
+    /// Adds a theorem as it was proposed. When out of memory, the scopes may hold a part of it and
+    /// must be dropped.
     pub fn add_theorem(&mut self, alloc: Global, theorem: Theorem<'a, '_>) -> Result<(), AllocError>
         ensures stands { IfOk result (λ _. (bytes : List ℕ) (c : Context) (s : Statement)
-            → Stands (held self.old) c → IsProposed bytes (held self.old) c s theorem.entry
-            → Stands (held self.new) (context_after c s)) }
-        ensures frames { IfOk result (λ _. KeepsFrames (held self.old) (held self.new)) }
+            → Stands (scope_state self.old) c
+            → IsProposed bytes (scope_state self.old) c s theorem.entry
+            → Stands (scope_state self.new) (context_after c s)) }
+        ensures frames { IfOk result
+            (λ _. KeepsFrames (scope_state self.old) (scope_state self.new)) }
     {
         match self.add_assertion(alloc, theorem.frame) {
             Err(_) => Err(AllocError),

@@ -1,10 +1,11 @@
 -- The header is valid, by computation.
 use Rattle.std.proofs.Common.{◌≡◌, ℕ, refl, subst, false, true}
 use Rattle.std.specs.Prelude.{Option, Some, None}
-use Rattle.mm_text.specs.Statements.{Statements, no_statement, unended, bad_statement, next_statement, statements_of}
+use Rattle.mm_text.specs.Statements.{Statements, no_statement, unended, bad_statement}
+use Rattle.mm_text.specs.Statements.{next_statement, statements_of}
 use Rattle.mm_database.specs.Database.{Context, empty_context, context_after}
-use Rattle.mm_database.specs.Validity.{AreFine, IsValid}
-use Rattle.mm_database.proofs.Faults.{faultless_valid, IsFine-statement}
+use Rattle.mm_database.specs.Validity.{HaveNoFault, IsValid}
+use Rattle.mm_database.proofs.Faults.{faultless_valid, HasNoFault-statement}
 use Rattle.mm_header.specs.Header.{header_rows}
 use Rattle.mm_header.specs.HeaderText.{header_bytes}
 use Rattle.mm_header.specs.HeaderContext.{header_context, header_labels}
@@ -26,23 +27,32 @@ context_past c (unended at) = c
 context_past c (bad_statement f) = c
 context_past c (next_statement s statements) = context_past (context_after c s) statements
 
-AreFine-past : (c : Context) (statements : Statements) → first_fault_in c statements ≡ None → AreFine c statements (context_past c statements)
+HaveNoFault-past : (c : Context) (statements : Statements) → first_fault_in c statements ≡ None
+    → HaveNoFault c statements (context_past c statements)
 unfolding context_past
-AreFine-past c no_statement none = refl
-AreFine-past c (unended at) none = absurd (cc)
-AreFine-past c (bad_statement f) none = absurd (cc)
-AreFine-past c (next_statement s statements) none = go (statement_fault c s.tokens) refl none (AreFine-past (context_after c s) statements)
+HaveNoFault-past c no_statement none = refl
+HaveNoFault-past c (unended at) none = absurd (cc)
+HaveNoFault-past c (bad_statement f) none = absurd (cc)
+HaveNoFault-past c (next_statement s statements) none =
+    go (statement_fault c s.tokens) refl none (HaveNoFault-past (context_after c s) statements)
   where
-    go : (kind : Option ℕ) → statement_fault c s.tokens ≡ kind → fault_or kind s.at (first_fault_in (context_after c s) statements) ≡ None → (first_fault_in (context_after c s) statements ≡ None → AreFine (context_after c s) statements (context_past (context_after c s) statements)) → AreFine c (next_statement s statements) (context_past c (next_statement s statements))
-    go None here h behind = (IsFine-statement c s.tokens here, behind h)
+    go : (kind : Option ℕ) → statement_fault c s.tokens ≡ kind
+        → fault_or kind s.at (first_fault_in (context_after c s) statements) ≡ None
+        → (first_fault_in (context_after c s) statements ≡ None
+        → HaveNoFault (context_after c s) statements
+        (context_past (context_after c s) statements))
+        → HaveNoFault c (next_statement s statements) (context_past c (next_statement s statements))
+    go None here h behind = (HasNoFault-statement c s.tokens here, behind h)
     go (Some kind) here h behind = absurd (cc)
 
 header_past : context_past empty_context (statements_of header_bytes) ≡ header_context
 unfolding context_past header_bytes header_rows header_context header_labels
 header_past = refl
 
-pub header_fine : AreFine empty_context (statements_of header_bytes) header_context
-header_fine = subst (λ (c : Context). AreFine empty_context (statements_of header_bytes) c) header_past (AreFine-past empty_context (statements_of header_bytes) header_faultless)
+pub header_fine : HaveNoFault empty_context (statements_of header_bytes) header_context
+header_fine =
+    subst (λ (c : Context). HaveNoFault empty_context (statements_of header_bytes) c) header_past
+    (HaveNoFault-past empty_context (statements_of header_bytes) header_faultless)
 
 pub labels_differ : has_repeated header_labels ≡ false
 unfolding header_labels header_rows

@@ -1,11 +1,14 @@
 -- What the header declares, and the frames of its rows.
-use Rattle.std.specs.Prelude.{◌≡◌, ℕ, Bool, false, ◌&&◌, ◌||◌, ◌==◌, if◌then◌else◌, List, [], ◌∷◌, ◌++◌, map, filter, fold, None, bytes_eq}
+use Rattle.std.specs.Prelude.{◌≡◌, ℕ, Bool, false, ◌&&◌, ◌||◌, ◌==◌, if◌then◌else◌, List, [], ◌∷◌}
+use Rattle.std.specs.Prelude.{◌++◌, map, filter, fold, None, bytes_eq}
 use Rattle.std.specs.List.{flat_map, list_any}
 use Rattle.mm_text.specs.Bytes.{Token, has_token}
-use Rattle.mm_database.specs.Frames.{Hypothesis, floating, essential, label_of, Scope, Frame, frame_of}
+use Rattle.mm_database.specs.Frames.{Hypothesis, floating, essential, label_of, Scope, Frame}
+use Rattle.mm_database.specs.Frames.{frame_of}
 use Rattle.mm_database.specs.Database.{Context, with_tokens, with_token, with_apart, with_frame}
 use Rattle.mm_header.specs.Header.{Row, header_rows}
-use Rattle.mm_header.specs.HeaderText.{constants_text, variables_text, types_texts, expression_text, labelled}
+use Rattle.mm_header.specs.HeaderText.{constants_text, variables_text, types_texts, expression_text}
+use Rattle.mm_header.specs.HeaderText.{labelled}
 
 -- a byte before the first word
 abbrev pub in_first : ℕ → List Token → List Token
@@ -37,7 +40,8 @@ premises r = map (premise_of r) (labelled r)
 
 -- the variable of a `$f` occurs in the statement of the row or in one of its hypotheses
 abbrev pub is_in_row : Row → Hypothesis → Bool
-is_in_row r (floating label typecode variable) = list_any (λ text. has_token (expression_of text) variable) (r.statement ∷ r.hypotheses)
+is_in_row r (floating label typecode variable) =
+    list_any (λ text. has_token (expression_of text) variable) (r.statement ∷ r.hypotheses)
 is_in_row r (essential label statement) = false
 
 -- the two variables of a pair, in either order

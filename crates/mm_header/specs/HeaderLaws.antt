@@ -14,4 +14,5 @@ pub record HasRow (c : Context) (r : Row) : Type 0 where
 
 -- only the labels of the rows have a frame
 abbrev pub HasOnlyRows : Context → List Row → Type 0
-HasOnlyRows c rows = (label : Token) → has_token (map (λ r. r.label) rows) label ≡ false → c.frames label ≡ None
+HasOnlyRows c rows =
+    (label : Token) → has_token (map (λ r. r.label) rows) label ≡ false → c.frames label ≡ None

@@ -14,7 +14,8 @@ pub struct HeaderVariable {
 
 /// The constants of the header, separated by spaces.
 pub const CONSTANTS: &str =
-    "( ) \\bot \\top \\imp \\not \\and \\or \\eq \\mem \\fun \\ex \\all \\app \\at \\next \\ev #Pattern #Sort #Var #Sub #Fresh #Pred |-";
+    "( ) \\bot \\top \\imp \\not \\and \\or \\eq \\mem \\fun \\ex \\all \\app \\at \\next \\ev \
+        #Pattern #Sort #Var #Sub #Fresh #Pred |-";
 
 /// The names of the variables, separated by spaces.
 pub const VARIABLE_NAMES: &str = "p q r t u x y s v";

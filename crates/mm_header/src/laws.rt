@@ -2,7 +2,7 @@
 ghost use Rattle.std.specs.Prelude.{◌≡◌, true, false, All};
 ghost use Rattle.mm_text.specs.Statements.{statements_of};
 ghost use Rattle.mm_database.specs.Database.{empty_context};
-ghost use Rattle.mm_database.specs.Validity.{AreFine, IsValid};
+ghost use Rattle.mm_database.specs.Validity.{HaveNoFault, IsValid};
 ghost use Rattle.mm_header.specs.Header.{header_rows};
 ghost use Rattle.mm_header.specs.HeaderText.{header_bytes};
 ghost use Rattle.mm_header.specs.HeaderContext.{header_context, header_labels};
@@ -16,7 +16,7 @@ ghost use Rattle.mm_text.specs.Written.{ends_white};
 /// that statements may follow.
 pub fn header_laws()
     ensures valid { IsValid header_bytes }
-    ensures context { AreFine empty_context (statements_of header_bytes) header_context }
+    ensures context { HaveNoFault empty_context (statements_of header_bytes) header_context }
     ensures frames { All (HasRow header_context) header_rows }
     ensures only { HasOnlyRows header_context header_rows }
     ensures labels { has_repeated header_labels ≡ false }

@@ -504,7 +504,8 @@ pub static HEADER: [HeaderRow; 88] = [
         label: "apart",
         apart: &[],
         hyps: &[],
-        statement: "( \\imp ( \\fun p s ) ( \\imp ( \\fun q v ) ( \\imp ( \\not ( \\eq p q ) ) ( \\not ( \\and p q ) ) ) ) )",
+        statement: "( \\imp ( \\fun p s ) ( \\imp ( \\fun q v ) ( \\imp ( \\not ( \\eq p q ) ) ( \
+            \\not ( \\and p q ) ) ) ) )",
     },
     HeaderRow {
         label: "app.l",

@@ -2,7 +2,9 @@
 ghost use Rattle.std.specs.Prelude.{◌≡◌, ◌++◌, map, IfOk, OnOk, OnErr};
 ghost use Rattle.std.specs.List.{flat_map, zip};
 ghost use Rattle.mm_header.specs.HeaderTable.{pair_of, row_of, type_texts};
-ghost use Rattle.mm_header.specs.HeaderText.{apart_line, declarations_text, endings, header_bytes, hypothesis_line, row_text, statement_line, turnstile_text, type_line};
+ghost use Rattle.mm_header.specs.HeaderText.{apart_line, declarations_text, endings, header_bytes};
+ghost use Rattle.mm_header.specs.HeaderText.{hypothesis_line, row_text, statement_line};
+ghost use Rattle.mm_header.specs.HeaderText.{turnstile_text, type_line};
 
 use crate::declarations::{CONSTANTS, HeaderVariable, VARIABLE_NAMES, variables};
 use crate::rows::{HeaderRow, table};
@@ -110,7 +112,8 @@ fn push_hypotheses(
     hyps: &[&'static str],
 ) -> Result<(), AllocError>
     ensures text { OnOk result (to.new.items
-        ≡ to.old.items ++ flat_map (hypothesis_line label.now) (zip endings (map (λ h. h.now) hyps.now))) }
+        ≡ to.old.items
+        ++ flat_map (hypothesis_line label.now) (zip endings (map (λ h. h.now) hyps.now))) }
 {
     if let Some(first) = hyps.first() {
         push_hypothesis(to, label, ".1", first)?;

@@ -3,12 +3,15 @@ use Rattle.std.proofs.Common.{◌≡◌, ◌+◌, ◌≤◌, ℕ, [], ◌∷◌,
 use Rattle.std.specs.Prelude.{decimal}
 use Rattle.std.proofs.lemmas.Fmt.{decimal_by_steps, decimal-digits_of}
 use Rattle.rule_core.specs.declared.signature.Signature.{Signature}
-use Rattle.mm_justify.specs.ImageCases.{DeclaresMoves, MovingSpelt, DeclaresNumbers, NumbersSpelt, DeclaresLists, ListsSpelt, DeclaresAddition, AdditionSpelt, TriedImages}
+use Rattle.mm_justify.specs.ImageCases.{DeclaresMoves, MovingSpelt, DeclaresNumbers, NumbersSpelt}
+use Rattle.mm_justify.specs.ImageCases.{DeclaresLists, ListsSpelt, DeclaresAddition, AdditionSpelt}
+use Rattle.mm_justify.specs.ImageCases.{TriedImages}
 
 -- the digits of a number below 10
 digit : (n : ℕ) → n ≤ 9 → decimal n ≡ (48 + n) ∷ []
 digit n low =
-    decimal_by_steps (λ m ds. m ≡ n → ds ≡ (48 + n) ∷ []) (λ m small is. ap (λ (k : ℕ). (48 + k) ∷ []) is)
+    decimal_by_steps (λ m ds. m ≡ n → ds ≡ (48 + n) ∷ [])
+    (λ m small is. ap (λ (k : ℕ). (48 + k) ∷ []) is)
     (λ m ds large below is. absurd (omega (arith, large, is, low))) n (omega arith) refl
 
 d0 : decimal 0 ≡ 48 ∷ []
@@ -50,7 +53,22 @@ lists sig h = record {
 
 additions : (sig : Signature) → DeclaresAddition sig → AdditionSpelt sig
 additions sig h = record {
-  rule = rw (h.injects, h.inj, h.integers, h.expressions, h.items, h.lists, h.kseq, h.plus, h.sum, h.cell, d0, d1, d2) refl;
+  rule =
+      rw (
+        h.injects,
+        h.inj,
+        h.integers,
+        h.expressions,
+        h.items,
+        h.lists,
+        h.kseq,
+        h.plus,
+        h.sum,
+        h.cell,
+        d0,
+        d1,
+        d2,
+      ) refl;
   collapse = rw (h.injects, h.inj, h.integers, h.expressions, h.items, d0) refl;
 }
 

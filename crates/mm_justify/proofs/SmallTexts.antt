@@ -1,6 +1,9 @@
 -- A small text that justifies a run, and an axiom that no theory has.
-use Rattle.std.proofs.Common.{◌≡◌, ℕ, ◌+◌, ◌<◌, Bool, true, false, List, [], ◌∷◌, ◌++◌, map, length, zero, suc, Option, Some, None, option_map, inl, inr, refl, sym, ap, ◌∙◌, subst, arith, append_assoc}
-use Rattle.std.specs.Prelude.{◌==◌, ◌||◌, ◌⊎◌, if◌then◌else◌, codes, decimal, bytes_eq, slice_index_or}
+use Rattle.std.proofs.Common.{◌≡◌, ℕ, ◌+◌, ◌<◌, Bool, true, false, List, [], ◌∷◌, ◌++◌, map, length}
+use Rattle.std.proofs.Common.{zero, suc, Option, Some, None, option_map, inl, inr, refl, sym, ap}
+use Rattle.std.proofs.Common.{◌∙◌, subst, arith, append_assoc}
+use Rattle.std.specs.Prelude.{◌==◌, ◌||◌, ◌⊎◌, if◌then◌else◌, codes, decimal, bytes_eq}
+use Rattle.std.specs.Prelude.{slice_index_or}
 use Rattle.std.proofs.lemmas.Bool.{false≢true}
 use Rattle.std.proofs.lemmas.Fmt.{decimal_by_steps}
 use Rattle.std.proofs.lemmas.Slice.Eq.{bytes_eq-Decides}
@@ -19,11 +22,16 @@ use Rattle.ml_kernel.specs.declared.rules.Rule.TheVariants as rule
 use Rattle.rule_core.specs.Theories.{RewriteTheory}
 use Rattle.ml_image.specs.Tokens.{token_of_symbol, numbered}
 use Rattle.term_core.specs.Terms.{truth}
-use Rattle.term_core.specs.Patterns.{Pattern as RulePattern, variable, domain_value, injection, call}
+use Rattle.term_core.specs.Patterns.{Pattern as RulePattern, variable, domain_value, injection}
+use Rattle.term_core.specs.Patterns.{call}
 use Rattle.rule_core.specs.declared.signature.Signature.{Signature}
 use Rattle.ml_image.specs.Images.{both, image_of, sort_image}
-use Rattle.ml_image.specs.Sentences.{Sentence, term, symbol, top, not, and, implies, equals, exists, functional, next, sentence_image, for_all, variables, apply_all, conjunctions}
-use Rattle.ml_image.specs.OwnAxioms.{is_true, sort_of, condition_of, direct, kompile, behind_parameters, meets, of_variables, IsOwnAxiom, of_rule, of_equation, total, apart, free, subsort, collapse}
+use Rattle.ml_image.specs.Sentences.{Sentence, term, symbol, top, not, and, implies, equals, exists}
+use Rattle.ml_image.specs.Sentences.{functional, next, sentence_image, for_all, variables}
+use Rattle.ml_image.specs.Sentences.{apply_all, conjunctions}
+use Rattle.ml_image.specs.OwnAxioms.{is_true, sort_of, condition_of, direct, kompile}
+use Rattle.ml_image.specs.OwnAxioms.{behind_parameters, meets, of_variables, IsOwnAxiom, of_rule}
+use Rattle.ml_image.specs.OwnAxioms.{of_equation, total, apart, free, subsort, collapse}
 use Rattle.ml_image.specs.TrueFacts.{value_patterns, IsTrueFact, of_value, of_hook}
 use Rattle.ml_image.specs.Gained.{of_symbol}
 use Rattle.ml_image.proofs.ImageLaws.{none_some, some_same}
@@ -35,11 +43,14 @@ use Rattle.mm_claims.specs.Fitting.{AreNames}
 use Rattle.mm_claims.specs.OverNames.{closed_over}
 use Rattle.mm_claims.specs.Blocks.{Claim, IsClaim, open_frame, open_assertion}
 use Rattle.mm_claims.specs.CitedAt.{at_places, ArePremises}
-use Rattle.mm_claims.specs.Claiming.{FitsClaims, proved_statements, HasJust}
+use Rattle.mm_claims.specs.Claiming.{FitsClaims, proved_statements, GainsExactly}
 use Rattle.mm_claims.specs.Provable.{IsProvable}
-use Rattle.mm_justify.specs.Justifying.{IsAssumed, header_row, declaration, assumption_of, HasOnlyAxiomsOf, Justifies}
-use Rattle.mm_justify.specs.JustifyingCases.{small_text, alone, SmallJustifies, conclusion, ConclusionIsNoAxiom}
-use Rattle.mm_claims.proofs.OpenFits.{header_fits_claims, claims_are_valid, theorem_fits, theorem_is_gained}
+use Rattle.mm_justify.specs.Justifying.{IsAssumed, header_row, declaration, assumption_of}
+use Rattle.mm_justify.specs.Justifying.{HasOnlyAxiomsOf, Justifies}
+use Rattle.mm_justify.specs.JustifyingCases.{small_text, alone, SmallJustifies, conclusion}
+use Rattle.mm_justify.specs.JustifyingCases.{ConclusionIsNoAxiom}
+use Rattle.mm_claims.proofs.OpenFits.{header_fits_claims, claims_are_valid, theorem_fits}
+use Rattle.mm_claims.proofs.OpenFits.{theorem_is_gained}
 use Rattle.mm_claims.proofs.NamedClaims.{names_fit_claims}
 use Rattle.mm_justify.proofs.Allowing.{has_only_just}
 use Rattle.mm_justify.proofs.DeclaredStates.{declared_behind}
@@ -71,19 +82,28 @@ abbrev declarations : List ℕ
 declarations = written_statements (all_name_statements 0 names)
 
 abbrev theorem : List ℕ
-theorem = written_statements (proved_statements names 0 (at_places [] nowhere) no_premise claim [] one_rule)
+theorem =
+    written_statements
+    (proved_statements names 0 (at_places [] nowhere) no_premise claim [] one_rule)
 
 are_names : AreNames names
 are_names = (record { kind = symbol_name; rest = codes "a"; is = refl; bytes = refl }, tt)
 
 declared_fits : FitsClaims names [] (header_bytes ++ declarations)
-declared_fits = names_fit_claims [] names [] header_bytes header_fits_claims are_names (tt, tt) (omega arith)
+declared_fits =
+    names_fit_claims [] names [] header_bytes header_fits_claims are_names (tt, tt) (omega arith)
 
 closed_constant : EachLeaf (closed_over names) (constant 0)
 closed_constant = (omega arith, refl)
 
 is_claim : IsClaim names claim
-is_claim = record { once = refl; numbered = tt; stand = refl; over = ((closed_constant, closed_constant), tt); few = omega arith }
+is_claim = record {
+  once = refl;
+  numbered = tt;
+  stand = refl;
+  over = ((closed_constant, closed_constant), tt);
+  few = omega arith;
+}
 
 concludes : Concludes [] one_rule reached
 concludes = ([], (ev_1 (constant 0), tt))
@@ -92,38 +112,65 @@ no_premises : ArePremises [] no_premise
 no_premises p (k, lt, is) = absurd (omega (arith, lt))
 
 provable : IsProvable names [] claim [] one_rule nowhere no_premise
-provable = record { once = refl; numbered = tt; concludes = concludes; used = ((closed_constant, tt), tt); cites = tt; premises = no_premises }
+provable = record {
+  once = refl;
+  numbered = tt;
+  concludes = concludes;
+  used = ((closed_constant, tt), tt);
+  cites = tt;
+  premises = no_premises;
+}
 
 decimal_zero : decimal 0 ≡ codes "0"
 decimal_zero =
-    decimal_by_steps (λ m ds. m ≡ 0 → ds ≡ 48 ∷ []) (λ m small none. ap (λ (n : ℕ). (48 + n) ∷ []) none)
+    decimal_by_steps (λ m ds. m ≡ 0 → ds ≡ 48 ∷ [])
+    (λ m small none. ap (λ (n : ℕ). (48 + n) ∷ []) none)
     (λ m ds large below none. absurd (omega (arith, large, none))) 0 (omega arith) refl
 
 -- the text after the header, with the digits of 0
 abbrev spelt_with : List ℕ → List ℕ
 spelt_with digits =
-    written_statements (plain_tokens [] declares_constants (codes "f:a" ∷ []) ∷ plain_tokens ((codes "n." ++ digits) ∷ []) asserts (codes "#Pattern" ∷ codes "f:a" ∷ []) ∷ [])
-    ++ written_statements (proof_tokens ((codes "t." ++ digits) ∷ []) (holds_text (own_naming names) reached) ((codes "n." ++ digits) ∷ codes "ev.1" ∷ []) ∷ [])
+    written_statements (plain_tokens [] declares_constants (codes "f:a" ∷ [])
+    ∷ plain_tokens ((codes "n." ++ digits) ∷ []) asserts (codes "#Pattern" ∷ codes "f:a" ∷ [])
+    ∷ [])
+    ++ written_statements (proof_tokens ((codes "t." ++ digits) ∷ [])
+    (holds_text (own_naming names) reached) ((codes "n." ++ digits) ∷ codes "ev.1" ∷ [])
+    ∷ [])
 
 spelt_behind : declarations ++ theorem ≡ spelt_with (decimal 0)
 spelt_behind = refl
 
 text_spelt : (header_bytes ++ declarations) ++ theorem ≡ small_text
 text_spelt =
-    append_assoc header_bytes declarations theorem ∙ ap (λ (text : List ℕ). header_bytes ++ text) spelt_behind
+    append_assoc header_bytes declarations theorem
+    ∙ ap (λ (text : List ℕ). header_bytes ++ text) spelt_behind
     ∙ ap (λ (digits : List ℕ). header_bytes ++ spelt_with digits) decimal_zero
 
-small_image : (theory : RewriteTheory) (f : ℕ) → token_of_symbol theory.sig f ≡ Some (codes "f:a") → image_of theory.sig names (alone f) ≡ Some (constant 0)
+small_image : (theory : RewriteTheory) (f : ℕ) → token_of_symbol theory.sig f ≡ Some (codes "f:a")
+    → image_of theory.sig names (alone f) ≡ Some (constant 0)
 small_image theory f there = ap (λ (o : Option Token). option_map constant (numbered names o)) there
 
-small_text_justifies : (theory : RewriteTheory) (f : ℕ) → token_of_symbol theory.sig f ≡ Some (codes "f:a") → Justifies small_text theory names (constant 0) (constant 0)
+small_text_justifies : (theory : RewriteTheory) (f : ℕ)
+    → token_of_symbol theory.sig f ≡ Some (codes "f:a")
+    → Justifies small_text theory names (constant 0) (constant 0)
 small_text_justifies theory f there =
-    let before : HasOnlyAxiomsOf theory (header_bytes ++ declarations) = declared_behind theory [] names [] header_bytes header_fits_claims are_names (tt, tt) (omega arith) (of_symbol f there, tt) (header_has_only theory) in
-    let fits : FitsClaims names (claim ∷ []) ((header_bytes ++ declarations) ++ theorem) = theorem_fits names [] (header_bytes ++ declarations) claim [] one_rule nowhere no_premise declared_fits (omega arith) is_claim provable in
-    let just : HasJust (header_bytes ++ declarations) theorem 0 [] (open_assertion true names 0 claim) = theorem_is_gained names [] (header_bytes ++ declarations) claim [] one_rule nowhere no_premise declared_fits (omega arith) is_claim provable in
-    subst (λ (bytes : List ℕ). Justifies bytes theory names (constant 0) (constant 0)) text_spelt (record {
+    let before : HasOnlyAxiomsOf theory (header_bytes ++ declarations) =
+    declared_behind theory [] names [] header_bytes header_fits_claims are_names (tt, tt)
+    (omega arith) (of_symbol f there, tt) (header_has_only theory) in
+    let fits : FitsClaims names (claim ∷ []) ((header_bytes ++ declarations) ++ theorem) =
+    theorem_fits names [] (header_bytes ++ declarations) claim [] one_rule nowhere no_premise
+    declared_fits (omega arith) is_claim provable in
+    let just : GainsExactly (header_bytes ++ declarations) theorem 0 []
+    (open_assertion true names 0 claim) =
+    theorem_is_gained names [] (header_bytes ++ declarations) claim [] one_rule nowhere
+    no_premise declared_fits (omega arith) is_claim provable in
+    subst (λ (bytes : List ℕ). Justifies bytes theory names (constant 0) (constant 0)) text_spelt
+    (record {
       valid = claims_are_valid names (claim ∷ []) ((header_bytes ++ declarations) ++ theorem) fits;
-      only = has_only_just theory (header_bytes ++ declarations) theorem 0 [] (open_assertion true names 0 claim) before (λ never. absurd (false≢true (sym never)), tt) just;
+      only =
+          has_only_just theory (header_bytes ++ declarations) theorem 0 []
+          (open_assertion true names 0 claim) before
+          (λ never. absurd (false≢true (sym never)), tt) just;
       before = assertions_of (header_bytes ++ declarations);
       last = open_frame names 0 claim;
       assertions = just.assertions;
@@ -147,19 +194,24 @@ small_justifies theory f there = record {
 -- an axiom that no theory has
 
 -- no row has this token at this place
-rows_differ : has_token (map (λ (r : Row). name_of (expression_of r.statement) 3) header_rows) (codes "f:a") ≡ false
+rows_differ : has_token (map (λ (r : Row). name_of (expression_of r.statement) 3) header_rows)
+    (codes "f:a") ≡ false
 unfolding header_rows
 rows_differ = refl
 
-is_there : (g : Row → Token) (rows : List Row) (k : ℕ) (d : Row) → k < length rows → has_token (map g rows) (g (slice_index_or rows k d)) ≡ true
+is_there : (g : Row → Token) (rows : List Row) (k : ℕ) (d : Row) → k < length rows
+    → has_token (map g rows) (g (slice_index_or rows k d)) ≡ true
 is_there g [] k d lt = absurd (omega (arith, lt))
-is_there g (r ∷ rows) zero d lt = first (bytes_eq (g r) (g r)) ((bytes_eq-Decides (g r) (g r)).1 refl)
+is_there g (r ∷ rows) zero d lt =
+    first (bytes_eq (g r) (g r)) ((bytes_eq-Decides (g r) (g r)).1 refl)
   where
     first : (b : Bool) → b ≡ true → (b || has_token (map g rows) (g r)) ≡ true
     first b h = rw h refl
-is_there g (r ∷ rows) (suc k) d lt = second (bytes_eq (g r) (g (slice_index_or rows k d))) (is_there g rows k d (omega (arith, lt)))
+is_there g (r ∷ rows) (suc k) d lt =
+    second (bytes_eq (g r) (g (slice_index_or rows k d))) (is_there g rows k d (omega (arith, lt)))
   where
-    second : (b : Bool) → has_token (map g rows) (g (slice_index_or rows k d)) ≡ true → (b || has_token (map g rows) (g (slice_index_or rows k d))) ≡ true
+    second : (b : Bool) → has_token (map g rows) (g (slice_index_or rows k d)) ≡ true
+        → (b || has_token (map g rows) (g (slice_index_or rows k d))) ≡ true
     second true h = refl
     second false h = h
 
@@ -175,99 +227,175 @@ begins (b ∷ bytes) = go (b == 115)
 -- ---- what the program may assume
 
 -- if something was made of two options, both have a value
-pub both_there : {A B C : Type 0} (f : A → B → C) (a : Option A) (b : Option B) (c : C) → both f a b ≡ Some c → (x : A) × (y : B) × (a ≡ Some x) × (b ≡ Some y) × (c ≡ f x y)
+pub both_there : {A B C : Type 0} (f : A → B → C) (a : Option A) (b : Option B) (c : C)
+    → both f a b ≡ Some c → (x : A) × (y : B) × (a ≡ Some x) × (b ≡ Some y) × (c ≡ f x y)
 both_there f None b c is = absurd (none_some c is)
 both_there f (Some x) None c is = absurd (none_some c is)
 both_there f (Some x) (Some y) c is = (x, y, refl, refl, some_same c (f x y) (sym is))
 
-pub map_there : {A B : Type 0} (f : A → B) (a : Option A) (b : B) → option_map f a ≡ Some b → (x : A) × (a ≡ Some x) × (b ≡ f x)
+pub map_there : {A B : Type 0} (f : A → B) (a : Option A) (b : B) → option_map f a ≡ Some b
+    → (x : A) × (a ≡ Some x) × (b ≡ f x)
 map_there f None b is = absurd (none_some b is)
 map_there f (Some x) b is = (x, refl, some_same b (f x) (sym is))
 
 -- the text of the pattern differs from the conclusion: in its connective, or in the first token
 -- after it
 abbrev IsOther : List Token → Pattern → Type 0
-IsOther ts p = (bytes_eq (name_of (holds_text (own_naming ts) p) 2) (codes "\\imp") ≡ false) ⊎ (bytes_eq (name_of (holds_text (own_naming ts) p) 3) (codes "f:a") ≡ false)
+IsOther ts p = (bytes_eq (name_of (holds_text (own_naming ts) p) 2) (codes "\\imp") ≡ false)
+    ⊎ (bytes_eq (name_of (holds_text (own_naming ts) p) 3) (codes "f:a") ≡ false)
 
-other_text : (ts : List Token) (p : Pattern) → IsOther ts p → holds_text (own_naming ts) p ≡ conclusion → ⊥
-other_text ts p (inl other) same = false≢true (sym other ∙ ap (λ (text : List Token). bytes_eq (name_of text 2) (codes "\\imp")) same)
-other_text ts p (inr other) same = false≢true (sym other ∙ ap (λ (text : List Token). bytes_eq (name_of text 3) (codes "f:a")) same)
+other_text : (ts : List Token) (p : Pattern) → IsOther ts p
+    → holds_text (own_naming ts) p ≡ conclusion → ⊥
+other_text ts p (inl other) same =
+    false≢true
+    (sym other ∙ ap (λ (text : List Token). bytes_eq (name_of text 2) (codes "\\imp")) same)
+other_text ts p (inr other) same =
+    false≢true
+    (sym other ∙ ap (λ (text : List Token). bytes_eq (name_of text 3) (codes "f:a")) same)
 
 -- all images of the sentence differ from the conclusion
 abbrev AreOther : Signature → List Token → Sentence → Type 0
 AreOther sig ts s = (p : Pattern) → sentence_image sig ts s ≡ Some p → IsOther ts p
 
-closed_other : (sig : Signature) (ts : List Token) (k : ℕ) (ss : List ℕ) (s : Sentence) → AreOther sig ts s → AreOther sig ts (for_all k ss s)
+closed_other : (sig : Signature) (ts : List Token) (k : ℕ) (ss : List ℕ) (s : Sentence)
+    → AreOther sig ts s → AreOther sig ts (for_all k ss s)
 closed_other sig ts k [] s others p is = others p is
 closed_other sig ts k (x ∷ ss) s others p is =
-    let w = both_there (logic.all k) (sort_image sig ts x) (sentence_image sig ts (for_all (k + 1) ss s)) p is in
+    let w =
+    both_there (logic.all k) (sort_image sig ts x)
+    (sentence_image sig ts (for_all (k + 1) ss s)) p is in
     subst (IsOther ts) (sym w.4) (inl refl)
 
 equals_other : (sig : Signature) (ts : List Token) (a b : Sentence) → AreOther sig ts (equals a b)
-equals_other sig ts a b p is = let w = both_there logic.equal (sentence_image sig ts a) (sentence_image sig ts b) p is in subst (IsOther ts) (sym w.4) (inl refl)
+equals_other sig ts a b p is =
+    let w = both_there logic.equal (sentence_image sig ts a) (sentence_image sig ts b) p is in
+    subst (IsOther ts) (sym w.4) (inl refl)
 
-after_and_other : (sig : Signature) (ts : List Token) (a b c : Sentence) → AreOther sig ts (implies (and a b) c)
+after_and_other : (sig : Signature) (ts : List Token) (a b c : Sentence)
+    → AreOther sig ts (implies (and a b) c)
 after_and_other sig ts a b c p is =
-    let w = both_there logic.imp (both logic.and (sentence_image sig ts a) (sentence_image sig ts b)) (sentence_image sig ts c) p is in
+    let w =
+    both_there logic.imp (both logic.and (sentence_image sig ts a) (sentence_image sig ts b))
+    (sentence_image sig ts c) p is in
     let v = both_there logic.and (sentence_image sig ts a) (sentence_image sig ts b) w.0 w.2 in
     subst (IsOther ts) (sym (w.4 ∙ ap (λ (q : Pattern). logic.imp q w.1) v.4)) (inr refl)
 
-condition_other : (sig : Signature) (ts : List Token) (vars : List ℕ) (o : Option RulePattern) (c d : Sentence) → condition_of sig vars o ≡ Some c → AreOther sig ts (implies c d)
+condition_other : (sig : Signature) (ts : List Token) (vars : List ℕ) (o : Option RulePattern)
+    (c d : Sentence) → condition_of sig vars o ≡ Some c → AreOther sig ts (implies c d)
 condition_other sig ts vars None c d says p is =
-    let top_is : sentence_image sig ts c ≡ Some logic.top = ap (sentence_image sig ts) (sym (some_same top c says)) in
+    let top_is : sentence_image sig ts c ≡ Some logic.top =
+    ap (sentence_image sig ts) (sym (some_same top c says)) in
     let w = both_there logic.imp (sentence_image sig ts c) (sentence_image sig ts d) p is in
     let first : w.0 ≡ logic.top = some_same w.0 logic.top (sym w.2 ∙ top_is) in
     subst (IsOther ts) (sym (w.4 ∙ ap (λ (q : Pattern). logic.imp q w.1) first)) (inr refl)
 condition_other sig ts vars (Some q) c d says p is =
     let u = map_there (is_true q) (sort_of sig vars q) c says in
     let w = both_there logic.imp (sentence_image sig ts c) (sentence_image sig ts d) p is in
-    let v = both_there logic.equal (sentence_image sig ts (term q)) (sentence_image sig ts (term (domain_value u.0 (truth true)))) w.0 (ap (sentence_image sig ts) (sym u.2) ∙ w.2) in
+    let v =
+    both_there logic.equal (sentence_image sig ts (term q))
+    (sentence_image sig ts (term (domain_value u.0 (truth true)))) w.0
+    (ap (sentence_image sig ts) (sym u.2) ∙ w.2) in
     subst (IsOther ts) (sym (w.4 ∙ ap (λ (r : Pattern). logic.imp r w.1) v.4)) (inr refl)
 
-exists_other : (sig : Signature) (ts : List Token) (x s : ℕ) (a : Sentence) → AreOther sig ts (exists x s a)
-exists_other sig ts x s a p is = let w = both_there (logic.ex x) (sort_image sig ts s) (sentence_image sig ts a) p is in subst (IsOther ts) (sym w.4) (inl refl)
+exists_other : (sig : Signature) (ts : List Token) (x s : ℕ) (a : Sentence)
+    → AreOther sig ts (exists x s a)
+exists_other sig ts x s a p is =
+    let w = both_there (logic.ex x) (sort_image sig ts s) (sentence_image sig ts a) p is in
+    subst (IsOther ts) (sym w.4) (inl refl)
 
 not_other : (sig : Signature) (ts : List Token) (a : Sentence) → AreOther sig ts (not a)
-not_other sig ts a p is = let w = map_there logic.not (sentence_image sig ts a) p is in subst (IsOther ts) (sym w.2) (inl refl)
+not_other sig ts a p is =
+    let w = map_there logic.not (sentence_image sig ts a) p is in
+    subst (IsOther ts) (sym w.2) (inl refl)
 
-functional_other : (sig : Signature) (ts : List Token) (a : Sentence) (s : ℕ) → AreOther sig ts (functional a s)
-functional_other sig ts a s p is = let w = both_there logic.fun (sentence_image sig ts a) (sort_image sig ts s) p is in subst (IsOther ts) (sym w.4) (inl refl)
+functional_other : (sig : Signature) (ts : List Token) (a : Sentence) (s : ℕ)
+    → AreOther sig ts (functional a s)
+functional_other sig ts a s p is =
+    let w = both_there logic.fun (sentence_image sig ts a) (sort_image sig ts s) p is in
+    subst (IsOther ts) (sym w.4) (inl refl)
 
-own_other : (theory : RewriteTheory) (ts : List Token) (s : Sentence) → IsOwnAxiom theory s → AreOther theory.sig ts s
+own_other : (theory : RewriteTheory) (ts : List Token) (s : Sentence) → IsOwnAxiom theory s
+    → AreOther theory.sig ts s
 own_other theory ts s (of_rule r there says) =
-    subst (AreOther theory.sig ts) (sym says.says) (closed_other theory.sig ts 0 r.variables _ (after_and_other theory.sig ts (term r.left) says.condition (next (term r.right))))
+    subst (AreOther theory.sig ts) (sym says.says) (closed_other theory.sig ts 0 r.variables _
+    (after_and_other theory.sig ts (term r.left) says.condition (next (term r.right))))
 own_other theory ts s (of_equation f e there (direct c none says is)) =
-    subst (AreOther theory.sig ts) (sym is) (closed_other theory.sig ts 0 e.variables _ (condition_other theory.sig ts e.variables e.condition c (equals (term (call f [] e.arguments)) (term e.right)) says))
-own_other theory ts s (of_equation f e there (kompile c info sorts sort some many declared says is)) =
-    subst (AreOther theory.sig ts) (sym is) (closed_other theory.sig ts 0 (behind_parameters sorts e).variables _ (after_and_other theory.sig ts c (meets 0 (behind_parameters sorts e).arguments) (equals (of_variables f 0 (length sorts)) (term (behind_parameters sorts e).right))))
+    subst (AreOther theory.sig ts) (sym is) (closed_other theory.sig ts 0 e.variables _
+    (condition_other theory.sig ts e.variables e.condition c
+    (equals (term (call f [] e.arguments)) (term e.right)) says))
+own_other theory ts s
+    (of_equation f e there (kompile c info sorts sort some many declared says is)) =
+    subst (AreOther theory.sig ts) (sym is) (closed_other theory.sig ts 0
+    (behind_parameters sorts e).variables _ (after_and_other theory.sig ts c
+    (meets 0 (behind_parameters sorts e).arguments)
+    (equals (of_variables f 0 (length sorts)) (term (behind_parameters sorts e).right))))
 own_other theory ts s (total f says) =
-    subst (AreOther theory.sig ts) (sym says.says) (closed_other theory.sig ts 0 says.sorts (exists (length says.sorts) says.sort (equals (term (variable (length says.sorts))) (of_variables f 0 (length says.sorts)))) (exists_other theory.sig ts (length says.sorts) says.sort (equals (term (variable (length says.sorts))) (of_variables f 0 (length says.sorts)))))
+    subst (AreOther theory.sig ts) (sym says.says) (closed_other theory.sig ts 0 says.sorts
+    (exists (length says.sorts) says.sort
+    (equals (term (variable (length says.sorts))) (of_variables f 0 (length says.sorts))))
+    (exists_other theory.sig ts (length says.sorts) says.sort
+    (equals (term (variable (length says.sorts))) (of_variables f 0 (length says.sorts)))))
 own_other theory ts s (apart f g says) =
-    subst (AreOther theory.sig ts) (sym says.says) (closed_other theory.sig ts 0 (says.sorts ++ says.others) (not (and (of_variables f 0 (length says.sorts)) (of_variables g (length says.sorts) (length says.others)))) (not_other theory.sig ts (and (of_variables f 0 (length says.sorts)) (of_variables g (length says.sorts) (length says.others)))))
+    subst (AreOther theory.sig ts) (sym says.says) (closed_other theory.sig ts 0
+    (says.sorts ++ says.others) (not (and (of_variables f 0
+    (length says.sorts)) (of_variables g (length says.sorts) (length says.others))))
+    (not_other theory.sig ts (and (of_variables f 0 (length says.sorts))
+    (of_variables g (length says.sorts) (length says.others)))))
 own_other theory ts s (free f says) =
-    subst (AreOther theory.sig ts) (sym says.says) (closed_other theory.sig ts 0 (says.sorts ++ says.sorts) (implies (and (of_variables f 0 (length says.sorts)) (of_variables f (length says.sorts) (length says.sorts))) (apply_all (symbol f) (conjunctions (variables 0 (length says.sorts)) (variables (length says.sorts) (length says.sorts))))) (after_and_other theory.sig ts (of_variables f 0 (length says.sorts)) (of_variables f (length says.sorts) (length says.sorts)) (apply_all (symbol f) (conjunctions (variables 0 (length says.sorts)) (variables (length says.sorts) (length says.sorts))))))
+    subst (AreOther theory.sig ts) (sym says.says) (closed_other theory.sig ts 0
+    (says.sorts ++ says.sorts) (implies (and (of_variables f 0 (length says.sorts))
+    (of_variables f (length says.sorts) (length says.sorts))) (apply_all (symbol f)
+    (conjunctions (variables 0 (length says.sorts))
+    (variables (length says.sorts) (length says.sorts)))))
+    (after_and_other theory.sig ts (of_variables f 0 (length says.sorts))
+    (of_variables f (length says.sorts) (length says.sorts)) (apply_all (symbol f)
+    (conjunctions (variables 0 (length says.sorts))
+    (variables (length says.sorts) (length says.sorts))))))
 own_other theory ts s (subsort a b says) =
-    subst (AreOther theory.sig ts) (sym says.says) (closed_other theory.sig ts 0 (a ∷ []) (exists 1 b (equals (term (variable 1)) (term (injection a b (variable 0))))) (exists_other theory.sig ts 1 b (equals (term (variable 1)) (term (injection a b (variable 0))))))
+    subst (AreOther theory.sig ts) (sym says.says) (closed_other theory.sig ts 0 (a ∷ [])
+    (exists 1 b (equals (term (variable 1)) (term (injection a b (variable 0)))))
+    (exists_other theory.sig ts 1 b
+    (equals (term (variable 1)) (term (injection a b (variable 0))))))
 own_other theory ts s (collapse a b c says) =
-    subst (AreOther theory.sig ts) (sym says.says) (closed_other theory.sig ts 0 (a ∷ []) (equals (term (injection b c (injection a b (variable 0)))) (term (injection a c (variable 0)))) (equals_other theory.sig ts (term (injection b c (injection a b (variable 0)))) (term (injection a c (variable 0)))))
+    subst (AreOther theory.sig ts) (sym says.says) (closed_other theory.sig ts 0 (a ∷ [])
+    (equals (term (injection b c (injection a b (variable 0))))
+    (term (injection a c (variable 0)))) (equals_other theory.sig ts
+    (term (injection b c (injection a b (variable 0)))) (term (injection a c (variable 0)))))
 
-fact_other : (sig : Signature) (ts : List Token) (s : Sentence) → IsTrueFact sig s → AreOther sig ts s
-fact_other sig ts s (of_value sort v says) = subst (AreOther sig ts) (sym says.says) (functional_other sig ts (term (domain_value sort v)) sort)
-fact_other sig ts s (of_hook f vs says) = subst (AreOther sig ts) (sym says.says) (equals_other sig ts (term (call f [] (value_patterns says.sorts vs))) (term (domain_value says.sort says.value)))
+fact_other : (sig : Signature) (ts : List Token) (s : Sentence) → IsTrueFact sig s
+    → AreOther sig ts s
+fact_other sig ts s (of_value sort v says) =
+    subst (AreOther sig ts) (sym says.says)
+    (functional_other sig ts (term (domain_value sort v)) sort)
+fact_other sig ts s (of_hook f vs says) =
+    subst (AreOther sig ts) (sym says.says) (equals_other sig ts
+    (term (call f [] (value_patterns says.sorts vs)))
+    (term (domain_value says.sort says.value)))
 
-assumed_other : (theory : RewriteTheory) (ts : List Token) (s : Sentence) → IsAssumed theory s → AreOther theory.sig ts s
+assumed_other : (theory : RewriteTheory) (ts : List Token) (s : Sentence) → IsAssumed theory s
+    → AreOther theory.sig ts s
 assumed_other theory ts s (inl own) = own_other theory ts s own
 assumed_other theory ts s (inr fact) = fact_other theory.sig ts s fact
 
 pub conclusion_is_no_axiom : ConclusionIsNoAxiom
 conclusion_is_no_axiom theory f states (header_row r other (k, lt, at) fits says) =
-    let statement : expression_of r.statement ≡ conclusion = sym (says.statement ∙ fits.statement) ∙ states in
-    let here : has_token (map (λ (q : Row). name_of (expression_of q.statement) 3) header_rows) (name_of (expression_of r.statement) 3) ≡ true =
-    ap (λ (q : Row). has_token (map (λ (q' : Row). name_of (expression_of q'.statement) 3) header_rows) (name_of (expression_of q.statement) 3)) (sym at) ∙ is_there (λ (q : Row). name_of (expression_of q.statement) 3) header_rows k r lt in
-    let token : name_of (expression_of r.statement) 3 ≡ codes "f:a" = ap (λ (tokens : List Token). name_of tokens 3) statement in
-    false≢true (sym rows_differ ∙ ap (has_token (map (λ (q : Row). name_of (expression_of q.statement) 3) header_rows)) (sym token) ∙ here)
+    let statement : expression_of r.statement ≡ conclusion =
+    sym (says.statement ∙ fits.statement) ∙ states in
+    let here : has_token (map (λ (q : Row). name_of (expression_of q.statement) 3) header_rows)
+    (name_of (expression_of r.statement) 3) ≡ true =
+    ap (λ (q : Row). has_token
+    (map (λ (q' : Row). name_of (expression_of q'.statement) 3) header_rows)
+    (name_of (expression_of q.statement) 3)) (sym at)
+    ∙ is_there (λ (q : Row). name_of (expression_of q.statement) 3) header_rows k r lt in
+    let token : name_of (expression_of r.statement) 3 ≡ codes "f:a" =
+    ap (λ (tokens : List Token). name_of tokens 3) statement in
+    false≢true (sym rows_differ
+    ∙ ap (has_token (map (λ (q : Row). name_of (expression_of q.statement) 3) header_rows))
+    (sym token) ∙ here)
 conclusion_is_no_axiom theory f states (declaration token own says) =
-    let first : typecode_of token ≡ codes "|-" = ap (λ (tokens : List Token). name_of tokens 0) (sym says.statement ∙ states) in
+    let first : typecode_of token ≡ codes "|-" =
+    ap (λ (tokens : List Token). name_of tokens 0) (sym says.statement ∙ states) in
     let byte : 35 ≡ 124 = sym (begins token) ∙ ap (λ (t : Token). slice_index_or t 0 0) first in
     absurd (omega (arith, byte))
-conclusion_is_no_axiom theory f states (assumption_of ts s p assumed image says) = other_text ts p (assumed_other theory ts s assumed p image) (sym says.statement ∙ states)
+conclusion_is_no_axiom theory f states (assumption_of ts s p assumed image says) =
+    other_text ts p (assumed_other theory ts s assumed p image) (sym says.statement ∙ states)

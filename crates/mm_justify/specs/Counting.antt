@@ -26,12 +26,12 @@ has_none (h ∷ hypotheses) = false
 abbrev pub is_fact : Assertion → Bool
 is_fact a = not a.is_proved && (has_none a.frame.hypotheses && begins_as_fact a.frame.statement)
 
-abbrev pub facts_in : List ℕ → ℕ
-facts_in bytes = count_by is_fact (assertions_of bytes)
+abbrev pub fact_count : List ℕ → ℕ
+fact_count bytes = count_by is_fact (assertions_of bytes)
 
 -- `$a` and `$p` statements
-abbrev pub statements_in : List ℕ → ℕ
-statements_in bytes = length (assertions_of bytes)
+abbrev pub statement_count : List ℕ → ℕ
+statement_count bytes = length (assertions_of bytes)
 
 -- a count that has reached 2^64 - 1 stays there
 abbrev pub capped : ℕ → ℕ
@@ -39,5 +39,5 @@ capped n = min n (2 ^ 64 - 1)
 
 -- these are the counts of facts and statements of the database
 pub record HasCounts (facts statements : ℕ) (bytes : List ℕ) : Type 0 where
-  pub facts_are : facts ≡ capped (facts_in bytes)
-  pub statements_are : statements ≡ capped (statements_in bytes)
+  pub facts_are : facts ≡ capped (fact_count bytes)
+  pub statements_are : statements ≡ capped (statement_count bytes)

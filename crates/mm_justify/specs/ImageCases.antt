@@ -3,21 +3,25 @@ use Rattle.std.specs.Prelude.{◌≡◌, ℕ, pos, List, [], ◌∷◌, Some, No
 use Rattle.mm_text.specs.Bytes.{Token}
 use Rattle.mm_header.specs.HeaderContext.{words_of}
 use Rattle.term_core.specs.Terms.{integer}
-use Rattle.term_core.specs.Patterns.{Pattern, Patterns, variable, domain_value, application, injection, call}
+use Rattle.term_core.specs.Patterns.{Pattern, Patterns, variable, domain_value, application}
+use Rattle.term_core.specs.Patterns.{injection, call}
 use Rattle.term_core.specs.Patterns.{no_pattern, more_patterns}
 use Rattle.rule_core.specs.Rules.{RewriteRule, Equation}
 use Rattle.rule_core.specs.declared.signature.Signature.{Signature}
 use Rattle.ml_image.specs.Tokens.{name_at}
 use Rattle.ml_image.specs.Images.{injection_symbol}
-use Rattle.ml_image.specs.Sentences.{Sentence, term, top, not, and, implies, equals, functional, exists, for_all}
+use Rattle.ml_image.specs.Sentences.{Sentence, term, top, not, and, implies, equals, functional}
+use Rattle.ml_image.specs.Sentences.{exists, for_all}
 use Rattle.ml_image.specs.Sentences.{symbol, variables, apply_all, conjunctions, sentence_image}
-use Rattle.ml_image.specs.OwnAxioms.{is_true, rule_sentence, direct_sentence, behind_parameters, kompile_sentence}
+use Rattle.ml_image.specs.OwnAxioms.{is_true, rule_sentence, direct_sentence, behind_parameters}
+use Rattle.ml_image.specs.OwnAxioms.{kompile_sentence}
 use Rattle.ml_image.specs.OwnAxioms.{of_variables}
 use Rattle.mm_proof.specs.Tokens.{tokens_of}
 
 -- the image of the sentence has these words
 abbrev pub IsSpelt : Signature → List Token → Sentence → List ℕ → Type 0
-IsSpelt sig names s text = option_map (tokens_of names) (sentence_image sig names s) ≡ Some (words_of text)
+IsSpelt sig names s text =
+    option_map (tokens_of names) (sentence_image sig names s) ≡ Some (words_of text)
 
 abbrev pub one : Pattern → Patterns
 one p = more_patterns p no_pattern
@@ -38,7 +42,8 @@ pub record DeclaresMoves (sig : Signature) : Type 0 where
   pub done : name_at sig.symbols 2 ≡ Some (codes "done")
 
 abbrev pub moving_names : List Token
-moving_names = codes "f:k" ∷ codes "f:inj" ∷ codes "s:SortAExp" ∷ codes "s:SortKItem" ∷ codes "f:done"
+moving_names =
+    codes "f:k" ∷ codes "f:inj" ∷ codes "s:SortAExp" ∷ codes "s:SortKItem" ∷ codes "f:done"
     ∷ codes "s:SortStmt" ∷ []
 
 abbrev pub moves : RewriteRule
@@ -53,12 +58,16 @@ moves = record {
 
 pub record MovingSpelt (sig : Signature) : Type 0 where
   pub rule : IsSpelt sig moving_names (rule_sentence moves top)
-      (codes "( \\all x:0 s:SortAExp ( \\imp ( \\and ( \\app f:k ( \\app ( \\at ( \\at f:inj s:SortAExp ) s:SortKItem "
-      ++ codes ") x:0 ) ) \\top ) ( \\next ( \\app f:done ( \\app ( \\at ( \\at f:inj s:SortAExp ) s:SortStmt ) x:0 "
+      (codes
+      "( \\all x:0 s:SortAExp ( \\imp ( \\and ( \\app f:k ( \\app ( \\at ( \\at f:inj s:SortAExp ) s:SortKItem "
+      ++ codes
+      ") x:0 ) ) \\top ) ( \\next ( \\app f:done ( \\app ( \\at ( \\at f:inj s:SortAExp ) s:SortStmt ) x:0 "
       ++ codes ") ) ) ) )")
   pub subsort : IsSpelt sig moving_names
-      (for_all 0 (1 ∷ []) (exists 1 3 (equals (term (variable 1)) (term (injection 1 3 (variable 0))))))
-      (codes "( \\all x:0 s:SortAExp ( \\ex x:1 s:SortKItem ( \\eq x:1 ( \\app ( \\at ( \\at f:inj s:SortAExp ) "
+      (for_all 0 (1 ∷ [])
+      (exists 1 3 (equals (term (variable 1)) (term (injection 1 3 (variable 0))))))
+      (codes
+      "( \\all x:0 s:SortAExp ( \\ex x:1 s:SortKItem ( \\eq x:1 ( \\app ( \\at ( \\at f:inj s:SortAExp ) "
       ++ codes "s:SortKItem ) x:0 ) ) ) )")
 
 -- ---- whole numbers: `t(N) => u(N) if gt(N,10)`, and facts
@@ -73,7 +82,8 @@ pub record DeclaresNumbers (sig : Signature) : Type 0 where
 
 abbrev pub number_names : List Token
 number_names =
-    codes "s:SortInt" ∷ codes "f:t" ∷ codes "f:gt" ∷ codes "d:SortInt:3130" ∷ codes "d:SortBool:74727565" ∷ codes "f:u"
+    codes "s:SortInt" ∷ codes "f:t" ∷ codes "f:gt" ∷ codes "d:SortInt:3130"
+    ∷ codes "d:SortBool:74727565" ∷ codes "f:u"
     ∷ codes "f:add" ∷
     codes "d:SortInt:32" ∷ codes "d:SortInt:33" ∷ codes "d:SortInt:35" ∷ []
 
@@ -94,11 +104,15 @@ abbrev pub number : ℕ → Pattern
 number n = domain_value 0 (integer (pos n))
 
 pub record NumbersSpelt (sig : Signature) : Type 0 where
-  pub rule : IsSpelt sig number_names (rule_sentence above_ten (is_true (call 0 [] (two (variable 0) ten)) 1))
-      (codes "( \\all x:0 s:SortInt ( \\imp ( \\and ( \\app f:t x:0 ) ( \\eq ( \\app ( \\app f:gt x:0 ) d:SortInt:3130 "
+  pub rule : IsSpelt sig number_names
+      (rule_sentence above_ten (is_true (call 0 [] (two (variable 0) ten)) 1))
+      (codes
+      "( \\all x:0 s:SortInt ( \\imp ( \\and ( \\app f:t x:0 ) ( \\eq ( \\app ( \\app f:gt x:0 ) d:SortInt:3130 "
       ++ codes ") d:SortBool:74727565 ) ) ( \\next ( \\app f:u x:0 ) ) ) )")
-  pub value : IsSpelt sig number_names (functional (term (number 5)) 0) (codes "( \\fun d:SortInt:35 s:SortInt )")
-  pub sum : IsSpelt sig number_names (equals (term (call 1 [] (two (number 2) (number 3)))) (term (number 5)))
+  pub value : IsSpelt sig number_names (functional (term (number 5)) 0)
+      (codes "( \\fun d:SortInt:35 s:SortInt )")
+  pub sum : IsSpelt sig number_names
+      (equals (term (call 1 [] (two (number 2) (number 3)))) (term (number 5)))
       (codes "( \\eq ( \\app ( \\app f:add d:SortInt:32 ) d:SortInt:33 ) d:SortInt:35 )")
 
 -- ---- lists: constructors, and the function that appends, as kompile writes its equations
@@ -111,7 +125,8 @@ pub record DeclaresLists (sig : Signature) : Type 0 where
   pub append : name_at sig.symbols 2 ≡ Some (codes "append")
 
 abbrev pub list_names : List Token
-list_names = codes "s:SortK" ∷ codes "s:SortKItem" ∷ codes "f:kseq" ∷ codes "f:dotk" ∷ codes "f:append" ∷ []
+list_names =
+    codes "s:SortK" ∷ codes "s:SortKItem" ∷ codes "f:kseq" ∷ codes "f:dotk" ∷ codes "f:append" ∷ []
 
 -- `append(dotk, TAIL) = TAIL` and `append(kseq(K, KS), TAIL) = kseq(K, append(KS, TAIL))`
 abbrev pub append_nothing : Equation
@@ -137,30 +152,43 @@ append_item = record {
 }
 
 pub record ListsSpelt (sig : Signature) : Type 0 where
-  pub nothing : IsSpelt sig list_names (kompile_sentence 2 2 (behind_parameters (0 ∷ 0 ∷ []) append_nothing) top)
-      (codes "( \\all x:0 s:SortK ( \\all x:1 s:SortK ( \\all x:2 s:SortK ( \\imp ( \\and \\top ( \\and ( \\mem x:0 "
-      ++ codes "f:dotk ) ( \\and ( \\mem x:1 x:2 ) \\top ) ) ) ( \\eq ( \\app ( \\app f:append x:0 ) x:1 ) x:2 ) ) ) "
+  pub nothing : IsSpelt sig list_names
+      (kompile_sentence 2 2 (behind_parameters (0 ∷ 0 ∷ []) append_nothing) top)
+      (codes
+      "( \\all x:0 s:SortK ( \\all x:1 s:SortK ( \\all x:2 s:SortK ( \\imp ( \\and \\top ( \\and ( \\mem x:0 "
+      ++ codes
+      "f:dotk ) ( \\and ( \\mem x:1 x:2 ) \\top ) ) ) ( \\eq ( \\app ( \\app f:append x:0 ) x:1 ) x:2 ) ) ) "
       ++ codes ") )")
-  pub item : IsSpelt sig list_names (kompile_sentence 2 2 (behind_parameters (0 ∷ 0 ∷ []) append_item) top)
-      (codes "( \\all x:0 s:SortK ( \\all x:1 s:SortK ( \\all x:2 s:SortKItem ( \\all x:3 s:SortK ( \\all x:4 s:SortK "
-      ++ codes "( \\imp ( \\and \\top ( \\and ( \\mem x:0 ( \\app ( \\app f:kseq x:2 ) x:3 ) ) ( \\and ( \\mem x:1 "
-      ++ codes "x:4 ) \\top ) ) ) ( \\eq ( \\app ( \\app f:append x:0 ) x:1 ) ( \\app ( \\app f:kseq x:2 ) ( \\app ( "
+  pub item : IsSpelt sig list_names
+      (kompile_sentence 2 2 (behind_parameters (0 ∷ 0 ∷ []) append_item) top)
+      (codes
+      "( \\all x:0 s:SortK ( \\all x:1 s:SortK ( \\all x:2 s:SortKItem ( \\all x:3 s:SortK ( \\all x:4 s:SortK "
+      ++ codes
+      "( \\imp ( \\and \\top ( \\and ( \\mem x:0 ( \\app ( \\app f:kseq x:2 ) x:3 ) ) ( \\and ( \\mem x:1 "
+      ++ codes
+      "x:4 ) \\top ) ) ) ( \\eq ( \\app ( \\app f:append x:0 ) x:1 ) ( \\app ( \\app f:kseq x:2 ) ( \\app ( "
       ++ codes "\\app f:append x:3 ) x:4 ) ) ) ) ) ) ) ) )")
   pub directly : IsSpelt sig list_names (direct_sentence 2 append_nothing top)
-      (codes "( \\all x:0 s:SortK ( \\imp \\top ( \\eq ( \\app ( \\app f:append f:dotk ) x:0 ) x:0 ) ) )")
+      (codes
+      "( \\all x:0 s:SortK ( \\imp \\top ( \\eq ( \\app ( \\app f:append f:dotk ) x:0 ) x:0 ) ) )")
   pub total : IsSpelt sig list_names
       (for_all 0 (1 ∷ 0 ∷ []) (exists 2 0 (equals (term (variable 2)) (of_variables 0 0 2))))
-      (codes "( \\all x:0 s:SortKItem ( \\all x:1 s:SortK ( \\ex x:2 s:SortK ( \\eq x:2 ( \\app ( \\app f:kseq x:0 ) "
+      (codes
+      "( \\all x:0 s:SortKItem ( \\all x:1 s:SortK ( \\ex x:2 s:SortK ( \\eq x:2 ( \\app ( \\app f:kseq x:0 ) "
       ++ codes "x:1 ) ) ) ) )")
-  pub apart : IsSpelt sig list_names (for_all 0 (1 ∷ 0 ∷ []) (not (and (of_variables 0 0 2) (of_variables 1 2 0))))
-      (codes "( \\all x:0 s:SortKItem ( \\all x:1 s:SortK ( \\not ( \\and ( \\app ( \\app f:kseq x:0 ) x:1 ) f:dotk ) "
+  pub apart : IsSpelt sig list_names
+      (for_all 0 (1 ∷ 0 ∷ []) (not (and (of_variables 0 0 2) (of_variables 1 2 0))))
+      (codes
+      "( \\all x:0 s:SortKItem ( \\all x:1 s:SortK ( \\not ( \\and ( \\app ( \\app f:kseq x:0 ) x:1 ) f:dotk ) "
       ++ codes ") ) )")
   pub free : IsSpelt sig list_names
       (for_all 0 (1 ∷ 0 ∷ 1 ∷ 0 ∷ [])
       (implies (and (of_variables 0 0 2) (of_variables 0 2 2))
       (apply_all (symbol 0) (conjunctions (variables 0 2) (variables 2 2)))))
-      (codes "( \\all x:0 s:SortKItem ( \\all x:1 s:SortK ( \\all x:2 s:SortKItem ( \\all x:3 s:SortK ( \\imp ( \\and "
-      ++ codes "( \\app ( \\app f:kseq x:0 ) x:1 ) ( \\app ( \\app f:kseq x:2 ) x:3 ) ) ( \\app ( \\app f:kseq ( "
+      (codes
+      "( \\all x:0 s:SortKItem ( \\all x:1 s:SortK ( \\all x:2 s:SortKItem ( \\all x:3 s:SortK ( \\imp ( \\and "
+      ++ codes
+      "( \\app ( \\app f:kseq x:0 ) x:1 ) ( \\app ( \\app f:kseq x:2 ) x:3 ) ) ( \\app ( \\app f:kseq ( "
       ++ codes "\\and x:0 x:2 ) ) ( \\and x:1 x:3 ) ) ) ) ) ) )")
 
 -- ---- addition, as kompile writes it: `<k>(kseq(inj{SortExp,SortKItem}(+(inj(I), inj(J))), R)) =>
@@ -180,17 +208,20 @@ pub record DeclaresAddition (sig : Signature) : Type 0 where
 
 abbrev pub addition_names : List Token
 addition_names =
-    codes "s:SortInt" ∷ codes "s:SortExp" ∷ codes "s:SortKItem" ∷ codes "s:SortK" ∷ codes "f:inj" ∷ codes "f:kseq" ∷
+    codes "s:SortInt" ∷ codes "s:SortExp" ∷ codes "s:SortKItem" ∷ codes "s:SortK" ∷ codes "f:inj"
+    ∷ codes "f:kseq" ∷
     codes "f:Lbl'UndsPlusUnds'" ∷ codes "f:Lbl'UndsPlus'Int'Unds'" ∷ codes "f:Lbl'-LT-'k'-GT-'" ∷ []
 
 abbrev pub addition : RewriteRule
 addition = record {
   left = application 4 (one
       (application 1 (two (injection 1 2
-      (application 2 (two (injection 0 1 (variable 0)) (injection 0 1 (variable 1))))) (variable 2))));
+      (application 2 (two (injection 0 1 (variable 0)) (injection 0 1 (variable 1))))) (variable
+      2))));
   condition = None;
   right = application 4
-      (one (application 1 (two (injection 0 2 (call 3 [] (two (variable 0) (variable 1)))) (variable 2))));
+      (one (application 1
+      (two (injection 0 2 (call 3 [] (two (variable 0) (variable 1)))) (variable 2))));
   variables = 0 ∷ 0 ∷ 3 ∷ [];
   priority = 50;
   place = 0;
@@ -198,17 +229,24 @@ addition = record {
 
 pub record AdditionSpelt (sig : Signature) : Type 0 where
   pub rule : IsSpelt sig addition_names (rule_sentence addition top)
-      (codes "( \\all x:0 s:SortInt ( \\all x:1 s:SortInt ( \\all x:2 s:SortK ( \\imp ( \\and ( \\app "
-      ++ codes "f:Lbl'-LT-'k'-GT-' ( \\app ( \\app f:kseq ( \\app ( \\at ( \\at f:inj s:SortExp ) s:SortKItem ) ( "
-      ++ codes "\\app ( \\app f:Lbl'UndsPlusUnds' ( \\app ( \\at ( \\at f:inj s:SortInt ) s:SortExp ) x:0 ) ) ( "
-      ++ codes "\\app ( \\at ( \\at f:inj s:SortInt ) s:SortExp ) x:1 ) ) ) ) x:2 ) ) \\top ) ( \\next ( \\app "
-      ++ codes "f:Lbl'-LT-'k'-GT-' ( \\app ( \\app f:kseq ( \\app ( \\at ( \\at f:inj s:SortInt ) s:SortKItem ) ( "
+      (codes
+      "( \\all x:0 s:SortInt ( \\all x:1 s:SortInt ( \\all x:2 s:SortK ( \\imp ( \\and ( \\app "
+      ++ codes
+      "f:Lbl'-LT-'k'-GT-' ( \\app ( \\app f:kseq ( \\app ( \\at ( \\at f:inj s:SortExp ) s:SortKItem ) ( "
+      ++ codes
+      "\\app ( \\app f:Lbl'UndsPlusUnds' ( \\app ( \\at ( \\at f:inj s:SortInt ) s:SortExp ) x:0 ) ) ( "
+      ++ codes
+      "\\app ( \\at ( \\at f:inj s:SortInt ) s:SortExp ) x:1 ) ) ) ) x:2 ) ) \\top ) ( \\next ( \\app "
+      ++ codes
+      "f:Lbl'-LT-'k'-GT-' ( \\app ( \\app f:kseq ( \\app ( \\at ( \\at f:inj s:SortInt ) s:SortKItem ) ( "
       ++ codes "\\app ( \\app f:Lbl'UndsPlus'Int'Unds' x:0 ) x:1 ) ) ) x:2 ) ) ) ) ) ) )")
   pub collapse : IsSpelt sig addition_names
       (for_all 0 (0 ∷ []) (equals (term (injection 1 2 (injection 0 1 (variable 0))))
       (term (injection 0 2 (variable 0)))))
-      (codes "( \\all x:0 s:SortInt ( \\eq ( \\app ( \\at ( \\at f:inj s:SortExp ) s:SortKItem ) ( \\app ( \\at ( \\at "
-      ++ codes "f:inj s:SortInt ) s:SortExp ) x:0 ) ) ( \\app ( \\at ( \\at f:inj s:SortInt ) s:SortKItem ) x:0 ) ) "
+      (codes
+      "( \\all x:0 s:SortInt ( \\eq ( \\app ( \\at ( \\at f:inj s:SortExp ) s:SortKItem ) ( \\app ( \\at ( \\at "
+      ++ codes
+      "f:inj s:SortInt ) s:SortExp ) x:0 ) ) ( \\app ( \\at ( \\at f:inj s:SortInt ) s:SortKItem ) x:0 ) ) "
       ++ codes ")")
 
 pub record TriedImages : Type 0 where

@@ -1,7 +1,8 @@
 -- A database justifies that one pattern reaches another. It is valid. It assumes only matching
 -- logic, what the program's definition says, and true facts on built-ins. Its last theorem says
 -- exactly that (Chen and Rosu 2019).
-use Rattle.std.specs.Prelude.{◌≡◌, ℕ, true, false, IsTrue, if◌then◌else◌, List, [], ◌∷◌, ◌++◌, ◌⊎◌, Contains, Option}
+use Rattle.std.specs.Prelude.{◌≡◌, ℕ, true, false, IsTrue, if◌then◌else◌, List, [], ◌∷◌, ◌++◌, ◌⊎◌}
+use Rattle.std.specs.Prelude.{Contains, Option}
 use Rattle.std.specs.Prelude.{Some, None, bytes_eq, codes}
 use Rattle.mm_text.specs.Bytes.{Token, has_token}
 use Rattle.mm_database.specs.Frames.{Hypothesis, floating, essential, Frame}
@@ -46,7 +47,8 @@ premises_in (essential label statement ∷ hypotheses) = statement ∷ premises_
 pub record SaysNoMore (f other : Frame) : Type 0 where
   pub statement : f.statement ≡ other.statement
   pub premises : premises_in f.hypotheses ≡ premises_in other.hypotheses
-  pub types : (variable : Token) → typecode_in f.hypotheses variable ≡ typecode_in other.hypotheses variable
+  pub types : (variable : Token)
+      → typecode_in f.hypotheses variable ≡ typecode_in other.hypotheses variable
   pub apart : (x y : Token) → IsTrue (other.apart x y) → IsTrue (f.apart x y)
 
 -- The frame of the statement that a pattern holds, with the tokens of names. It has no `$e`. Its
@@ -64,11 +66,13 @@ IsAssumed theory s = IsOwnAxiom theory s ⊎ IsTrueFact theory.sig s
 -- What an axiom may say: a row of the header; that a token is a sort, a symbol or a domain value of
 -- the program; or what the program may assume, with the tokens of names.
 pub data IsAxiomOf (theory : RewriteTheory) (f : Frame) : Type 0 where
-  header_row : (r : Row) (other : Frame) → Contains header_rows r → IsFrameOfRow r other → SaysNoMore f other →
-      IsAxiomOf theory f
-  declaration : (token : Token) → IsOwnToken theory.sig token → SaysNoMore f (name_frame 0 token) → IsAxiomOf theory f
+  header_row : (r : Row) (other : Frame) → Contains header_rows r → IsFrameOfRow r other
+      → SaysNoMore f other → IsAxiomOf theory f
+  declaration : (token : Token) → IsOwnToken theory.sig token → SaysNoMore f (name_frame 0 token)
+      → IsAxiomOf theory f
   assumption_of : (names : List Token) (s : Sentence) (p : Pattern) → IsAssumed theory s →
-      sentence_image theory.sig names s ≡ Some p → SaysNoMore f (holds_frame names p) → IsAxiomOf theory f
+      sentence_image theory.sig names s ≡ Some p → SaysNoMore f (holds_frame names p)
+      → IsAxiomOf theory f
 
 -- a `$p` may say whatever it proves, and a `$a` is one of these axioms
 abbrev pub IsAllowed : RewriteTheory → Assertion → Type 0
@@ -100,7 +104,8 @@ pub record HasOnlyAxiomsOf (theory : RewriteTheory) (bytes : List ℕ) : Type 0 
 -- thing that it states is a `$p` without hypotheses, `|- ( \imp A ( \ev B ) )`. A and B are the
 -- texts of a and b, which have no variables. The sorts and constants of a and b are numbers of
 -- names. The names are tokens of sorts, symbols and values, each once.
-pub record Justifies (bytes : List ℕ) (theory : RewriteTheory) (names : List Token) (a b : Pattern) : Type 0 where
+pub record Justifies (bytes : List ℕ) (theory : RewriteTheory) (names : List Token)
+    (a b : Pattern) : Type 0 where
   pub valid : IsValid bytes
   pub only : HasOnlyAxiomsOf theory bytes
   pub before : List Assertion
@@ -114,7 +119,8 @@ pub record Justifies (bytes : List ℕ) (theory : RewriteTheory) (names : List T
 
 -- A database justifies a run: it justifies that the image of the start reaches the image of the
 -- end.
-pub record JustifiesRun (bytes : List ℕ) (theory : RewriteTheory) (start end : RulePattern) : Type 0 where
+pub record JustifiesRun (bytes : List ℕ) (theory : RewriteTheory) (start end : RulePattern) :
+    Type 0 where
   pub names : List Token
   pub from : Pattern
   pub to : Pattern

@@ -13,7 +13,9 @@ use Rattle.mm_justify.specs.Justifying.{SaysNoMore, holds_frame, IsAxiomOf, Just
 
 -- the header, the declaration of a symbol, and a theorem on it
 abbrev pub small_text : List ℕ
-small_text = header_bytes ++ codes "$c f:a $.\nn.0 $a #Pattern f:a $.\nt.0 $p |- ( \\imp f:a ( \\ev f:a ) ) $= n.0 ev.1 $.\n"
+small_text = header_bytes
+    ++ codes
+    "$c f:a $.\nn.0 $a #Pattern f:a $.\nt.0 $p |- ( \\imp f:a ( \\ev f:a ) ) $= n.0 ev.1 $.\n"
 
 -- a constant
 abbrev pub alone : ℕ → RulePattern
@@ -27,11 +29,13 @@ SmallJustifies =
 
 -- `|- ( \imp f:a ( \ev f:b ) )`
 abbrev pub conclusion : List Token
-conclusion = codes "|-" ∷ codes "(" ∷ codes "\\imp" ∷ codes "f:a" ∷ codes "(" ∷ codes "\\ev" ∷ codes "f:b" ∷ codes ")" ∷ codes ")" ∷ []
+conclusion = codes "|-" ∷ codes "(" ∷ codes "\\imp" ∷ codes "f:a" ∷ codes "(" ∷ codes "\\ev"
+    ∷ codes "f:b" ∷ codes ")" ∷ codes ")" ∷ []
 
 -- no program has an axiom that one symbol reaches another
 abbrev pub ConclusionIsNoAxiom : Type 0
-ConclusionIsNoAxiom = (theory : RewriteTheory) (f : Frame) → f.statement ≡ conclusion → IsAxiomOf theory f → ⊥
+ConclusionIsNoAxiom =
+    (theory : RewriteTheory) (f : Frame) → f.statement ≡ conclusion → IsAxiomOf theory f → ⊥
 
 -- ---- frames of an axiom with two variables:
 -- `|- ( \all x:0 s:S ( \all x:1 s:S ( \eq x:0 x:1 ) ) )`
@@ -68,8 +72,10 @@ pub record TriedFrames : Type 0 where
   pub taken : IsTaken (stated (first_typed ∷ (second_typed ∷ [])) (λ x y. true))
   pub other_order : IsTaken (stated (second_typed ∷ (first_typed ∷ [])) (λ x y. true))
   pub other_type : IsTaken
-      (stated (floating (codes "fa") (codes "#Pattern") (object_token 0) ∷ (second_typed ∷ [])) (λ x y. true)) → ⊥
+      (stated (floating (codes "fa") (codes "#Pattern") (object_token 0) ∷ (second_typed ∷ []))
+      (λ x y. true)) → ⊥
   pub untyped : IsTaken (stated (second_typed ∷ []) (λ x y. true)) → ⊥
   pub not_apart : IsTaken (stated (first_typed ∷ (second_typed ∷ [])) (λ x y. false)) → ⊥
   pub hypothesis : (statement : List Token)
-      → IsTaken (stated (first_typed ∷ (second_typed ∷ (essential (codes "h") statement ∷ []))) (λ x y. true)) → ⊥
+      → IsTaken (stated (first_typed ∷ (second_typed ∷ (essential (codes "h") statement ∷ [])))
+      (λ x y. true)) → ⊥

@@ -1,11 +1,15 @@
 // Laws on what justifies a run, and the definition tried on small texts and frames.
-ghost use Rattle.mm_justify.specs.CountingLaws.{AxiomCounts, DeclaredCounts, FactsAreTrue, HeaderCounts};
+ghost use Rattle.mm_justify.specs.CountingLaws.{AxiomCounts, DeclaredCounts, FactsAreTrue};
+ghost use Rattle.mm_justify.specs.CountingLaws.{HeaderCounts};
 ghost use Rattle.mm_justify.specs.CountingLaws.{TheoremCounts, TrueFactsAreFacts};
 ghost use Rattle.mm_justify.specs.ImageCases.{TriedImages};
 ghost use Rattle.mm_justify.specs.ImageLaws.{ImageIsClosed, SentenceHasNoMeta, SentenceIsOver};
-ghost use Rattle.mm_justify.specs.JustifyingCases.{ConclusionIsNoAxiom, SmallJustifies, TriedFrames};
-ghost use Rattle.mm_justify.specs.JustifyingLaws.{AxiomHasOnly, DeclaredHasOnly, HeaderHasOnly, RunIsJustified};
-ghost use Rattle.mm_justify.specs.JustifyingLaws.{TheoremFitsAnywhere, TheoremHasOnly, TheoremJustifies};
+ghost use Rattle.mm_justify.specs.JustifyingCases.{ConclusionIsNoAxiom, SmallJustifies};
+ghost use Rattle.mm_justify.specs.JustifyingCases.{TriedFrames};
+ghost use Rattle.mm_justify.specs.JustifyingLaws.{AxiomHasOnly, DeclaredHasOnly, HeaderHasOnly};
+ghost use Rattle.mm_justify.specs.JustifyingLaws.{RunIsJustified};
+ghost use Rattle.mm_justify.specs.JustifyingLaws.{TheoremFitsAnywhere, TheoremHasOnly};
+ghost use Rattle.mm_justify.specs.JustifyingLaws.{TheoremJustifies};
 
 /// By the definition, a small text justifies a run, and no program has an axiom that one symbol
 /// reaches another. Frames of an axiom with two variables are accepted or not, as they should be.

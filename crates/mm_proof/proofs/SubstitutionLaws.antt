@@ -1,104 +1,377 @@
 -- The proofs of substitution.
-use Rattle.std.proofs.Common.{◌≡◌, ℕ, Bool, true, false, List, [], ◌∷◌, ◌++◌, refl, ap, ◌∙◌, sym, Option, Some, None, subst, eqb-true}
+use Rattle.std.proofs.Common.{◌≡◌, ℕ, Bool, true, false, List, [], ◌∷◌, ◌++◌, refl, ap, ◌∙◌, sym}
+use Rattle.std.proofs.Common.{Option, Some, None, subst, eqb-true}
 use Rattle.std.proofs.Common as std
 use Rattle.std.specs.Prelude.{◌==◌, ◌||◌, if◌then◌else◌, codes, option_map}
 use Rattle.std.proofs.lemmas.Bool.{false≢true}
 use Rattle.mm_text.specs.Bytes.{Token}
 use Rattle.mm_database.specs.Database.{Context}
 use Rattle.mm_database.specs.Proofs.{Expression, Proves, symbols_apart, texts_apart}
-use Rattle.ml_pat.specs.Patterns.{Pattern, bot, top, imp, not, and, or, equal, member, fun, ex, all, app, at_sort, next, ev, var, meta, constant}
+use Rattle.ml_pat.specs.Patterns.{Pattern, bot, top, imp, not, and, or, equal, member, fun, ex, all}
+use Rattle.ml_pat.specs.Patterns.{app, at_sort, next, ev, var, meta, constant}
 use Rattle.ml_pat.specs.Judgements.{fresh, substituted, both_parts}
 use Rattle.mm_proof.specs.Tokens.{Naming, letters_of, is_fresh, is_substituted, judgement_by}
 use Rattle.ml_pat.specs.Leaves.{LeafFacts, EachLeaf}
 use Rattle.mm_proof.specs.Serving.{Serves}
-use Rattle.mm_proof.specs.Trees.{cite, syntax_tree, fresh_tree, unchanged_tree, substitution_tree, substitution_by_form}
+use Rattle.mm_proof.specs.Trees.{cite, syntax_tree, fresh_tree, unchanged_tree, substitution_tree}
+use Rattle.mm_proof.specs.Trees.{substitution_by_form}
 use Rattle.mm_proof.proofs.Schemes.{under}
 use Rattle.mm_proof.proofs.RowProofs.{sigma_of, row_proves}
-use Rattle.mm_proof.proofs.SyntaxLaws.{pattern_text, sort_text, object_text, sort_proves, object_proves, syntax_proves}
+use Rattle.mm_proof.proofs.SyntaxLaws.{pattern_text, sort_text, object_text, sort_proves}
+use Rattle.mm_proof.proofs.SyntaxLaws.{object_proves, syntax_proves}
 use Rattle.ml_pat.proofs.LeafLaws.{split_true, not_true}
 use Rattle.mm_proof.proofs.ApartLaws.{turned}
 use Rattle.mm_proof.proofs.FreshLaws.{fresh_text, fresh_proves, two_apart}
-use Rattle.mm_proof.proofs.Rows.{header_naming, no_pair, pair_of, IsRow, P, Q, R, T, U, fp, fq, fr, ft, fu, fx, fy, fs, su_v, su_f, su_imp, su_and, su_or, su_eq, su_mem, su_app, su_not, su_next, su_ev, su_at, su_fun, su_ex, su_all}
+use Rattle.mm_proof.proofs.Rows.{header_naming, no_pair, pair_of, IsRow, P, Q, R, T, U, fp, fq, fr}
+use Rattle.mm_proof.proofs.Rows.{ft, fu, fx, fy, fs, su_v, su_f, su_imp, su_and, su_or, su_eq}
+use Rattle.mm_proof.proofs.Rows.{su_mem, su_app, su_not, su_next, su_ev, su_at, su_fun, su_ex}
+use Rattle.mm_proof.proofs.Rows.{su_all}
 
 -- t is p with u substituted for x
 abbrev pub substitution_text : Naming → Pattern → Pattern → Pattern → ℕ → Expression
 substitution_text n t p u x = judgement_by (letters_of n) (is_substituted t p u x)
 
 -- a pattern in which x is not free
-unchanged_proves : (c : Context) (l n : Naming) (known : LeafFacts) (x : ℕ) (u p : Pattern) → Serves c l n known → known.object x → EachLeaf known u → EachLeaf known p → fresh x p ≡ true → Proves c (unchanged_tree l x u p) (substitution_text n p p u x)
+unchanged_proves : (c : Context) (l n : Naming) (known : LeafFacts) (x : ℕ) (u p : Pattern)
+    → Serves c l n known → known.object x → EachLeaf known u → EachLeaf known p → fresh x p ≡ true
+    → Proves c (unchanged_tree l x u p) (substitution_text n p p u x)
 unchanged_proves c l n known x u p w hx hu hp f =
-    row_proves c (codes "su.f") no_pair (fp ∷ fu ∷ fx ∷ []) (is_fresh 0 P ∷ []) (is_substituted P P U 0) (pattern_text n p ∷ pattern_text n u ∷ object_text n x ∷ fresh_text n x p ∷ []) _ (syntax_tree l p ∷ syntax_tree l u ∷ cite (l.object x) [] ∷ fresh_tree l x p ∷ []) w.header su_f refl refl refl refl
-    (_, _, refl, syntax_proves c l n p known w hp, (_, _, refl, syntax_proves c l n u known w hu, (_, _, refl, object_proves c l n x (w.object x hx), (_, _, refl, fresh_proves c l n known x p w hx hp f, refl))))
+    row_proves c (codes "su.f") no_pair (fp ∷ fu ∷ fx ∷ []) (is_fresh 0 P ∷ [])
+    (is_substituted P P U 0)
+    (pattern_text n p ∷ pattern_text n u ∷ object_text n x ∷ fresh_text n x p ∷ []) _
+    (syntax_tree l p ∷ syntax_tree l u ∷ cite (l.object x) [] ∷ fresh_tree l x p ∷ []) w.header
+    su_f refl refl refl refl (
+      _,
+      _,
+      refl,
+      syntax_proves c l n p known w hp,
+      (
+        _,
+        _,
+        refl,
+        syntax_proves c l n u known w hu,
+        (
+          _,
+          _,
+          refl,
+          object_proves c l n x (w.object x hx),
+          (_, _, refl, fresh_proves c l n known x p w hx hp f, refl),
+        ),
+      ),
+    )
 
 -- the variable itself
-replaced_proves : (c : Context) (l n : Naming) (known : LeafFacts) (x : ℕ) (u : Pattern) → Serves c l n known → known.object x → EachLeaf known u → Proves c (cite (codes "su.v") (syntax_tree l u ∷ cite (l.object x) [] ∷ [])) (substitution_text n u (var x) u x)
+replaced_proves : (c : Context) (l n : Naming) (known : LeafFacts) (x : ℕ) (u : Pattern)
+    → Serves c l n known → known.object x → EachLeaf known u
+    → Proves c (cite (codes "su.v") (syntax_tree l u ∷ cite (l.object x) [] ∷ []))
+    (substitution_text n u (var x) u x)
 replaced_proves c l n known x u w hx hu =
-    row_proves c (codes "su.v") no_pair (fu ∷ fx ∷ []) [] (is_substituted U (var 0) U 0) (pattern_text n u ∷ object_text n x ∷ []) _ (syntax_tree l u ∷ cite (l.object x) [] ∷ []) w.header su_v refl refl refl refl
-    (_, _, refl, syntax_proves c l n u known w hu, (_, _, refl, object_proves c l n x (w.object x hx), refl))
+    row_proves c (codes "su.v") no_pair (fu ∷ fx ∷ []) [] (is_substituted U (var 0) U 0)
+    (pattern_text n u ∷ object_text n x ∷ []) _ (syntax_tree l u ∷ cite (l.object x) [] ∷ [])
+    w.header su_v refl refl refl refl (
+      _,
+      _,
+      refl,
+      syntax_proves c l n u known w hu,
+      (_, _, refl, object_proves c l n x (w.object x hx), refl),
+    )
 
-substituted_two : (c : Context) (l n : Naming) (name : Token) (k : Pattern → Pattern → Pattern) (x : ℕ) (u p q t r : Pattern) (known : LeafFacts) → Serves c l n known → IsRow name no_pair (fp ∷ fq ∷ fr ∷ ft ∷ fu ∷ fx ∷ []) (is_substituted T P U 0 ∷ is_substituted R Q U 0 ∷ []) (is_substituted (k T R) (k P Q) U 0)
-    → judgement_by (under (sigma_of name (fp ∷ fq ∷ fr ∷ ft ∷ fu ∷ fx ∷ []) (is_substituted T P U 0 ∷ is_substituted R Q U 0 ∷ []) (pattern_text n p ∷ pattern_text n q ∷ pattern_text n r ∷ pattern_text n t ∷ pattern_text n u ∷ object_text n x ∷ substitution_text n t p u x ∷ substitution_text n r q u x ∷ [])) header_naming) (is_substituted (k T R) (k P Q) U 0) ≡ substitution_text n (k t r) (k p q) u x
-    → known.object x → EachLeaf known u → EachLeaf known p → EachLeaf known q → EachLeaf known t → EachLeaf known r → Proves c (substitution_tree l x u p t) (substitution_text n t p u x) → Proves c (substitution_tree l x u q r) (substitution_text n r q u x)
-    → Proves c (cite name (syntax_tree l p ∷ syntax_tree l q ∷ syntax_tree l r ∷ syntax_tree l t ∷ syntax_tree l u ∷ cite (l.object x) [] ∷ substitution_tree l x u p t ∷ substitution_tree l x u q r ∷ [])) (substitution_text n (k t r) (k p q) u x)
+substituted_two : (c : Context) (l n : Naming) (name : Token) (k : Pattern → Pattern → Pattern)
+    (x : ℕ) (u p q t r : Pattern) (known : LeafFacts) → Serves c l n known
+    → IsRow name no_pair (fp ∷ fq ∷ fr ∷ ft ∷ fu ∷ fx ∷ [])
+    (is_substituted T P U 0 ∷ is_substituted R Q U 0 ∷ []) (is_substituted (k T R) (k P Q) U 0)
+    → judgement_by (under (sigma_of name (fp ∷ fq ∷ fr ∷ ft ∷ fu ∷ fx ∷ [])
+    (is_substituted T P U 0 ∷ is_substituted R Q U 0 ∷ []) (pattern_text n p
+    ∷ pattern_text n q ∷ pattern_text n r ∷ pattern_text n t ∷ pattern_text n u
+    ∷ object_text n x ∷ substitution_text n t p u x ∷ substitution_text n r q u x
+    ∷ [])) header_naming) (is_substituted (k T R) (k P Q) U 0)
+    ≡ substitution_text n (k t r) (k p q) u x → known.object x → EachLeaf known u
+    → EachLeaf known p → EachLeaf known q → EachLeaf known t → EachLeaf known r
+    → Proves c (substitution_tree l x u p t) (substitution_text n t p u x)
+    → Proves c (substitution_tree l x u q r) (substitution_text n r q u x)
+    → Proves c (cite name (syntax_tree l p ∷ syntax_tree l q ∷ syntax_tree l r ∷ syntax_tree l t
+    ∷ syntax_tree l u ∷ cite (l.object x) [] ∷ substitution_tree l x u p t
+    ∷ substitution_tree l x u q r ∷ [])) (substitution_text n (k t r) (k p q) u x)
 substituted_two c l n name k x u p q t r known w row same hx hu hp hq ht hr first second =
-    row_proves c name no_pair (fp ∷ fq ∷ fr ∷ ft ∷ fu ∷ fx ∷ []) (is_substituted T P U 0 ∷ is_substituted R Q U 0 ∷ []) (is_substituted (k T R) (k P Q) U 0) (pattern_text n p ∷ pattern_text n q ∷ pattern_text n r ∷ pattern_text n t ∷ pattern_text n u ∷ object_text n x ∷ substitution_text n t p u x ∷ substitution_text n r q u x ∷ []) _ (syntax_tree l p ∷ syntax_tree l q ∷ syntax_tree l r ∷ syntax_tree l t ∷ syntax_tree l u ∷ cite (l.object x) [] ∷ substitution_tree l x u p t ∷ substitution_tree l x u q r ∷ []) w.header row refl refl refl same
-    (_, _, refl, syntax_proves c l n p known w hp, (_, _, refl, syntax_proves c l n q known w hq, (_, _, refl, syntax_proves c l n r known w hr, (_, _, refl, syntax_proves c l n t known w ht, (_, _, refl, syntax_proves c l n u known w hu, (_, _, refl, object_proves c l n x (w.object x hx), (_, _, refl, first, (_, _, refl, second, refl))))))))
+    row_proves c name no_pair (fp ∷ fq ∷ fr ∷ ft ∷ fu ∷ fx ∷ [])
+    (is_substituted T P U 0 ∷ is_substituted R Q U 0 ∷ []) (is_substituted (k T R) (k P Q) U 0)
+    (pattern_text n p ∷ pattern_text n q ∷ pattern_text n r ∷ pattern_text n t
+    ∷ pattern_text n u ∷ object_text n x ∷ substitution_text n t p u x
+    ∷ substitution_text n r q u x ∷ []) _ (syntax_tree l p ∷ syntax_tree l q
+    ∷ syntax_tree l r ∷ syntax_tree l t ∷ syntax_tree l u ∷ cite (l.object x) []
+    ∷ substitution_tree l x u p t ∷ substitution_tree l x u q r ∷ []) w.header row refl refl
+    refl same (
+      _,
+      _,
+      refl,
+      syntax_proves c l n p known w hp,
+      (
+        _,
+        _,
+        refl,
+        syntax_proves c l n q known w hq,
+        (
+          _,
+          _,
+          refl,
+          syntax_proves c l n r known w hr,
+          (
+            _,
+            _,
+            refl,
+            syntax_proves c l n t known w ht,
+            (
+              _,
+              _,
+              refl,
+              syntax_proves c l n u known w hu,
+              (
+                _,
+                _,
+                refl,
+                object_proves c l n x (w.object x hx),
+                (_, _, refl, first, (_, _, refl, second, refl)),
+              ),
+            ),
+          ),
+        ),
+      ),
+    )
 
-substituted_one : (c : Context) (l n : Naming) (name : Token) (k : Pattern → Pattern) (x : ℕ) (u p t : Pattern) (known : LeafFacts) → Serves c l n known → IsRow name no_pair (fp ∷ ft ∷ fu ∷ fx ∷ []) (is_substituted T P U 0 ∷ []) (is_substituted (k T) (k P) U 0)
-    → judgement_by (under (sigma_of name (fp ∷ ft ∷ fu ∷ fx ∷ []) (is_substituted T P U 0 ∷ []) (pattern_text n p ∷ pattern_text n t ∷ pattern_text n u ∷ object_text n x ∷ substitution_text n t p u x ∷ [])) header_naming) (is_substituted (k T) (k P) U 0) ≡ substitution_text n (k t) (k p) u x
-    → known.object x → EachLeaf known u → EachLeaf known p → EachLeaf known t → Proves c (substitution_tree l x u p t) (substitution_text n t p u x)
-    → Proves c (cite name (syntax_tree l p ∷ syntax_tree l t ∷ syntax_tree l u ∷ cite (l.object x) [] ∷ substitution_tree l x u p t ∷ [])) (substitution_text n (k t) (k p) u x)
+substituted_one : (c : Context) (l n : Naming) (name : Token) (k : Pattern → Pattern) (x : ℕ)
+    (u p t : Pattern) (known : LeafFacts) → Serves c l n known
+    → IsRow name no_pair (fp ∷ ft ∷ fu ∷ fx ∷ []) (is_substituted T P U 0 ∷ [])
+    (is_substituted (k T) (k P) U 0)
+    → judgement_by (under (sigma_of name (fp ∷ ft ∷ fu ∷ fx ∷ []) (is_substituted T P U 0 ∷ [])
+    (pattern_text n p ∷ pattern_text n t ∷ pattern_text n u ∷ object_text n x
+    ∷ substitution_text n t p u x ∷ [])) header_naming)
+    (is_substituted (k T) (k P) U 0) ≡ substitution_text n (k t) (k p) u x → known.object x
+    → EachLeaf known u → EachLeaf known p → EachLeaf known t
+    → Proves c (substitution_tree l x u p t) (substitution_text n t p u x)
+    → Proves c (cite name (syntax_tree l p ∷ syntax_tree l t ∷ syntax_tree l u
+    ∷ cite (l.object x) [] ∷ substitution_tree l x u p t ∷ []))
+    (substitution_text n (k t) (k p) u x)
 substituted_one c l n name k x u p t known w row same hx hu hp ht below =
-    row_proves c name no_pair (fp ∷ ft ∷ fu ∷ fx ∷ []) (is_substituted T P U 0 ∷ []) (is_substituted (k T) (k P) U 0) (pattern_text n p ∷ pattern_text n t ∷ pattern_text n u ∷ object_text n x ∷ substitution_text n t p u x ∷ []) _ (syntax_tree l p ∷ syntax_tree l t ∷ syntax_tree l u ∷ cite (l.object x) [] ∷ substitution_tree l x u p t ∷ []) w.header row refl refl refl same
-    (_, _, refl, syntax_proves c l n p known w hp, (_, _, refl, syntax_proves c l n t known w ht, (_, _, refl, syntax_proves c l n u known w hu, (_, _, refl, object_proves c l n x (w.object x hx), (_, _, refl, below, refl)))))
+    row_proves c name no_pair (fp ∷ ft ∷ fu ∷ fx ∷ []) (is_substituted T P U 0 ∷ [])
+    (is_substituted (k T) (k P) U 0) (pattern_text n p ∷ pattern_text n t ∷ pattern_text n u
+    ∷ object_text n x ∷ substitution_text n t p u x ∷ []) _ (syntax_tree l p
+    ∷ syntax_tree l t ∷ syntax_tree l u ∷ cite (l.object x) [] ∷ substitution_tree l x u p t
+    ∷ []) w.header row refl refl refl same (
+      _,
+      _,
+      refl,
+      syntax_proves c l n p known w hp,
+      (
+        _,
+        _,
+        refl,
+        syntax_proves c l n t known w ht,
+        (
+          _,
+          _,
+          refl,
+          syntax_proves c l n u known w hu,
+          (_, _, refl, object_proves c l n x (w.object x hx), (_, _, refl, below, refl)),
+        ),
+      ),
+    )
 
-substituted_sort : (c : Context) (l n : Naming) (name : Token) (k : Pattern → ℕ → Pattern) (x : ℕ) (u p t : Pattern) (s : ℕ) (known : LeafFacts) → Serves c l n known → IsRow name no_pair (fp ∷ ft ∷ fu ∷ fx ∷ fs ∷ []) (is_substituted T P U 0 ∷ []) (is_substituted (k T 0) (k P 0) U 0)
-    → judgement_by (under (sigma_of name (fp ∷ ft ∷ fu ∷ fx ∷ fs ∷ []) (is_substituted T P U 0 ∷ []) (pattern_text n p ∷ pattern_text n t ∷ pattern_text n u ∷ object_text n x ∷ sort_text n s ∷ substitution_text n t p u x ∷ [])) header_naming) (is_substituted (k T 0) (k P 0) U 0) ≡ substitution_text n (k t s) (k p s) u x
-    → known.object x → EachLeaf known u → EachLeaf known p → EachLeaf known t → known.sort s → Proves c (substitution_tree l x u p t) (substitution_text n t p u x)
-    → Proves c (cite name (syntax_tree l p ∷ syntax_tree l t ∷ syntax_tree l u ∷ cite (l.object x) [] ∷ cite (l.sort s) [] ∷ substitution_tree l x u p t ∷ [])) (substitution_text n (k t s) (k p s) u x)
+substituted_sort : (c : Context) (l n : Naming) (name : Token) (k : Pattern → ℕ → Pattern) (x : ℕ)
+    (u p t : Pattern) (s : ℕ) (known : LeafFacts) → Serves c l n known
+    → IsRow name no_pair (fp ∷ ft ∷ fu ∷ fx ∷ fs ∷ []) (is_substituted T P U 0 ∷ [])
+    (is_substituted (k T 0) (k P 0) U 0)
+    → judgement_by (under (sigma_of name (fp ∷ ft ∷ fu ∷ fx ∷ fs ∷ []) (is_substituted T P U 0 ∷ [])
+    (pattern_text n p ∷ pattern_text n t ∷ pattern_text n u ∷ object_text n x
+    ∷ sort_text n s ∷ substitution_text n t p u x ∷ [])) header_naming)
+    (is_substituted (k T 0) (k P 0) U 0) ≡ substitution_text n (k t s) (k p s) u x
+    → known.object x → EachLeaf known u → EachLeaf known p → EachLeaf known t → known.sort s
+    → Proves c (substitution_tree l x u p t) (substitution_text n t p u x)
+    → Proves c (cite name (syntax_tree l p ∷ syntax_tree l t ∷ syntax_tree l u
+    ∷ cite (l.object x) [] ∷ cite (l.sort s) [] ∷ substitution_tree l x u p t ∷ []))
+    (substitution_text n (k t s) (k p s) u x)
 substituted_sort c l n name k x u p t s known w row same hx hu hp ht hs below =
-    row_proves c name no_pair (fp ∷ ft ∷ fu ∷ fx ∷ fs ∷ []) (is_substituted T P U 0 ∷ []) (is_substituted (k T 0) (k P 0) U 0) (pattern_text n p ∷ pattern_text n t ∷ pattern_text n u ∷ object_text n x ∷ sort_text n s ∷ substitution_text n t p u x ∷ []) _ (syntax_tree l p ∷ syntax_tree l t ∷ syntax_tree l u ∷ cite (l.object x) [] ∷ cite (l.sort s) [] ∷ substitution_tree l x u p t ∷ []) w.header row refl refl refl same
-    (_, _, refl, syntax_proves c l n p known w hp, (_, _, refl, syntax_proves c l n t known w ht, (_, _, refl, syntax_proves c l n u known w hu, (_, _, refl, object_proves c l n x (w.object x hx), (_, _, refl, sort_proves c l n s (w.sort s hs), (_, _, refl, below, refl))))))
+    row_proves c name no_pair (fp ∷ ft ∷ fu ∷ fx ∷ fs ∷ []) (is_substituted T P U 0 ∷ [])
+    (is_substituted (k T 0) (k P 0) U 0) (pattern_text n p ∷ pattern_text n t ∷ pattern_text n u
+    ∷ object_text n x ∷ sort_text n s ∷ substitution_text n t p u x ∷ []) _
+    (syntax_tree l p ∷ syntax_tree l t ∷ syntax_tree l u ∷ cite (l.object x) []
+    ∷ cite (l.sort s) [] ∷ substitution_tree l x u p t ∷ []) w.header row refl refl refl
+    same (
+      _,
+      _,
+      refl,
+      syntax_proves c l n p known w hp,
+      (
+        _,
+        _,
+        refl,
+        syntax_proves c l n t known w ht,
+        (
+          _,
+          _,
+          refl,
+          syntax_proves c l n u known w hu,
+          (
+            _,
+            _,
+            refl,
+            object_proves c l n x (w.object x hx),
+            (_, _, refl, sort_proves c l n s (w.sort s hs), (_, _, refl, below, refl)),
+          ),
+        ),
+      ),
+    )
 
-parted_texts : (c : Context) (a b : Token) → symbols_apart c a b ≡ true → texts_apart (symbols_apart c) (a ∷ []) (b ∷ []) ≡ true
+parted_texts : (c : Context) (a b : Token) → symbols_apart c a b ≡ true
+    → texts_apart (symbols_apart c) (a ∷ []) (b ∷ []) ≡ true
 parted_texts c a b h = rw h refl
 
-substituted_ex : (c : Context) (l n : Naming) (known : LeafFacts) (x y s : ℕ) (u p t : Pattern) → Serves c l n known → known.object x → known.object y → known.sort s → EachLeaf known u → EachLeaf known p → EachLeaf known t
-    → (x == y) ≡ false → fresh y u ≡ true → Proves c (substitution_tree l x u p t) (substitution_text n t p u x)
-    → Proves c (cite (codes "su.ex") (syntax_tree l p ∷ syntax_tree l t ∷ syntax_tree l u ∷ cite (l.object x) [] ∷ cite (l.object y) [] ∷ cite (l.sort s) [] ∷ fresh_tree l y u ∷ substitution_tree l x u p t ∷ [])) (substitution_text n (ex y s t) (ex y s p) u x)
+substituted_ex : (c : Context) (l n : Naming) (known : LeafFacts) (x y s : ℕ) (u p t : Pattern)
+    → Serves c l n known → known.object x → known.object y → known.sort s → EachLeaf known u
+    → EachLeaf known p → EachLeaf known t → (x == y) ≡ false → fresh y u ≡ true
+    → Proves c (substitution_tree l x u p t) (substitution_text n t p u x)
+    → Proves c (cite (codes "su.ex") (syntax_tree l p ∷ syntax_tree l t ∷ syntax_tree l u
+    ∷ cite (l.object x) [] ∷ cite (l.object y) [] ∷ cite (l.sort s) [] ∷ fresh_tree l y u
+    ∷ substitution_tree l x u p t ∷ [])) (substitution_text n (ex y s t) (ex y s p) u x)
 substituted_ex c l n known x y s u p t w hx hy hs hu hp ht differ f below =
-    row_proves c (codes "su.ex") (pair_of (codes "x") (codes "y") (codes "su.ex") (codes "#Fresh y u" ∷ codes "#Sub t p u x" ∷ []) (codes "#Sub ( \\ex y s t ) ( \\ex y s p ) u x")) (fp ∷ ft ∷ fu ∷ fx ∷ fy ∷ fs ∷ []) (is_fresh 1 U ∷ is_substituted T P U 0 ∷ []) (is_substituted (ex 1 0 T) (ex 1 0 P) U 0) (pattern_text n p ∷ pattern_text n t ∷ pattern_text n u ∷ object_text n x ∷ object_text n y ∷ sort_text n s ∷ fresh_text n y u ∷ substitution_text n t p u x ∷ []) _ (syntax_tree l p ∷ syntax_tree l t ∷ syntax_tree l u ∷ cite (l.object x) [] ∷ cite (l.object y) [] ∷ cite (l.sort s) [] ∷ fresh_tree l y u ∷ substitution_tree l x u p t ∷ []) w.header su_ex refl
-    (two_apart (texts_apart (symbols_apart c) (n.object x ∷ []) (n.object y ∷ [])) (texts_apart (symbols_apart c) (n.object y ∷ []) (n.object x ∷ [])) (parted_texts c (n.object x) (n.object y) (w.objects_apart x y hx hy differ)) (parted_texts c (n.object y) (n.object x) (w.objects_apart y x hy hx (turned x y differ))))
-    refl refl (_, _, refl, syntax_proves c l n p known w hp, (_, _, refl, syntax_proves c l n t known w ht, (_, _, refl, syntax_proves c l n u known w hu, (_, _, refl, object_proves c l n x (w.object x hx), (_, _, refl, object_proves c l n y (w.object y hy), (_, _, refl, sort_proves c l n s (w.sort s hs), (_, _, refl, fresh_proves c l n known y u w hy hu f, (_, _, refl, below, refl))))))))
+    row_proves c (codes "su.ex") (pair_of (codes "x") (codes "y") (codes "su.ex")
+    (codes "#Fresh y u" ∷ codes "#Sub t p u x" ∷ [])
+    (codes "#Sub ( \\ex y s t ) ( \\ex y s p ) u x")) (fp ∷ ft ∷ fu ∷ fx ∷ fy ∷ fs ∷ [])
+    (is_fresh 1 U ∷ is_substituted T P U 0 ∷ []) (is_substituted (ex 1 0 T) (ex 1 0 P) U 0)
+    (pattern_text n p ∷ pattern_text n t ∷ pattern_text n u ∷ object_text n x ∷ object_text n y
+    ∷ sort_text n s ∷ fresh_text n y u ∷ substitution_text n t p u x ∷ []) _
+    (syntax_tree l p ∷ syntax_tree l t ∷ syntax_tree l u ∷ cite (l.object x) []
+    ∷ cite (l.object y) [] ∷ cite (l.sort s) [] ∷ fresh_tree l y u
+    ∷ substitution_tree l x u p t ∷ []) w.header su_ex refl
+    (two_apart (texts_apart (symbols_apart c) (n.object x ∷ []) (n.object y ∷ []))
+    (texts_apart (symbols_apart c) (n.object y ∷ []) (n.object x ∷ []))
+    (parted_texts c (n.object x) (n.object y) (w.objects_apart x y hx hy differ))
+    (parted_texts c (n.object y) (n.object x) (w.objects_apart y x hy hx (turned x y differ))))
+    refl refl (
+      _,
+      _,
+      refl,
+      syntax_proves c l n p known w hp,
+      (
+        _,
+        _,
+        refl,
+        syntax_proves c l n t known w ht,
+        (
+          _,
+          _,
+          refl,
+          syntax_proves c l n u known w hu,
+          (
+            _,
+            _,
+            refl,
+            object_proves c l n x (w.object x hx),
+            (
+              _,
+              _,
+              refl,
+              object_proves c l n y (w.object y hy),
+              (
+                _,
+                _,
+                refl,
+                sort_proves c l n s (w.sort s hs),
+                (_, _, refl, fresh_proves c l n known y u w hy hu f, (_, _, refl, below, refl)),
+              ),
+            ),
+          ),
+        ),
+      ),
+    )
 
-substituted_all : (c : Context) (l n : Naming) (known : LeafFacts) (x y s : ℕ) (u p t : Pattern) → Serves c l n known → known.object x → known.object y → known.sort s → EachLeaf known u → EachLeaf known p → EachLeaf known t
-    → (x == y) ≡ false → fresh y u ≡ true → Proves c (substitution_tree l x u p t) (substitution_text n t p u x)
-    → Proves c (cite (codes "su.all") (syntax_tree l p ∷ syntax_tree l t ∷ syntax_tree l u ∷ cite (l.object x) [] ∷ cite (l.object y) [] ∷ cite (l.sort s) [] ∷ fresh_tree l y u ∷ substitution_tree l x u p t ∷ [])) (substitution_text n (all y s t) (all y s p) u x)
+substituted_all : (c : Context) (l n : Naming) (known : LeafFacts) (x y s : ℕ) (u p t : Pattern)
+    → Serves c l n known → known.object x → known.object y → known.sort s → EachLeaf known u
+    → EachLeaf known p → EachLeaf known t → (x == y) ≡ false → fresh y u ≡ true
+    → Proves c (substitution_tree l x u p t) (substitution_text n t p u x)
+    → Proves c (cite (codes "su.all") (syntax_tree l p ∷ syntax_tree l t ∷ syntax_tree l u
+    ∷ cite (l.object x) [] ∷ cite (l.object y) [] ∷ cite (l.sort s) [] ∷ fresh_tree l y u
+    ∷ substitution_tree l x u p t ∷ [])) (substitution_text n (all y s t) (all y s p) u x)
 substituted_all c l n known x y s u p t w hx hy hs hu hp ht differ f below =
-    row_proves c (codes "su.all") (pair_of (codes "x") (codes "y") (codes "su.all") (codes "#Fresh y u" ∷ codes "#Sub t p u x" ∷ []) (codes "#Sub ( \\all y s t ) ( \\all y s p ) u x")) (fp ∷ ft ∷ fu ∷ fx ∷ fy ∷ fs ∷ []) (is_fresh 1 U ∷ is_substituted T P U 0 ∷ []) (is_substituted (all 1 0 T) (all 1 0 P) U 0) (pattern_text n p ∷ pattern_text n t ∷ pattern_text n u ∷ object_text n x ∷ object_text n y ∷ sort_text n s ∷ fresh_text n y u ∷ substitution_text n t p u x ∷ []) _ (syntax_tree l p ∷ syntax_tree l t ∷ syntax_tree l u ∷ cite (l.object x) [] ∷ cite (l.object y) [] ∷ cite (l.sort s) [] ∷ fresh_tree l y u ∷ substitution_tree l x u p t ∷ []) w.header su_all refl
-    (two_apart (texts_apart (symbols_apart c) (n.object x ∷ []) (n.object y ∷ [])) (texts_apart (symbols_apart c) (n.object y ∷ []) (n.object x ∷ [])) (parted_texts c (n.object x) (n.object y) (w.objects_apart x y hx hy differ)) (parted_texts c (n.object y) (n.object x) (w.objects_apart y x hy hx (turned x y differ))))
-    refl refl (_, _, refl, syntax_proves c l n p known w hp, (_, _, refl, syntax_proves c l n t known w ht, (_, _, refl, syntax_proves c l n u known w hu, (_, _, refl, object_proves c l n x (w.object x hx), (_, _, refl, object_proves c l n y (w.object y hy), (_, _, refl, sort_proves c l n s (w.sort s hs), (_, _, refl, fresh_proves c l n known y u w hy hu f, (_, _, refl, below, refl))))))))
+    row_proves c (codes "su.all") (pair_of (codes "x") (codes "y") (codes "su.all")
+    (codes "#Fresh y u" ∷ codes "#Sub t p u x" ∷ [])
+    (codes "#Sub ( \\all y s t ) ( \\all y s p ) u x")) (fp ∷ ft ∷ fu ∷ fx ∷ fy ∷ fs ∷ [])
+    (is_fresh 1 U ∷ is_substituted T P U 0 ∷ []) (is_substituted (all 1 0 T) (all 1 0 P) U 0)
+    (pattern_text n p ∷ pattern_text n t ∷ pattern_text n u ∷ object_text n x ∷ object_text n y
+    ∷ sort_text n s ∷ fresh_text n y u ∷ substitution_text n t p u x ∷ []) _
+    (syntax_tree l p ∷ syntax_tree l t ∷ syntax_tree l u ∷ cite (l.object x) []
+    ∷ cite (l.object y) [] ∷ cite (l.sort s) [] ∷ fresh_tree l y u
+    ∷ substitution_tree l x u p t ∷ []) w.header su_all refl
+    (two_apart (texts_apart (symbols_apart c) (n.object x ∷ []) (n.object y ∷ []))
+    (texts_apart (symbols_apart c) (n.object y ∷ []) (n.object x ∷ []))
+    (parted_texts c (n.object x) (n.object y) (w.objects_apart x y hx hy differ))
+    (parted_texts c (n.object y) (n.object x) (w.objects_apart y x hy hx (turned x y differ))))
+    refl refl (
+      _,
+      _,
+      refl,
+      syntax_proves c l n p known w hp,
+      (
+        _,
+        _,
+        refl,
+        syntax_proves c l n t known w ht,
+        (
+          _,
+          _,
+          refl,
+          syntax_proves c l n u known w hu,
+          (
+            _,
+            _,
+            refl,
+            object_proves c l n x (w.object x hx),
+            (
+              _,
+              _,
+              refl,
+              object_proves c l n y (w.object y hy),
+              (
+                _,
+                _,
+                refl,
+                sort_proves c l n s (w.sort s hs),
+                (_, _, refl, fresh_proves c l n known y u w hy hu f, (_, _, refl, below, refl)),
+              ),
+            ),
+          ),
+        ),
+      ),
+    )
 
 -- an option with a value was made from options with values
 
-pub record BothParts (k : Pattern → Pattern → Pattern) (a b : Option Pattern) (r : Pattern) : Type 0 where
+pub record BothParts (k : Pattern → Pattern → Pattern) (a b : Option Pattern) (r : Pattern) :
+    Type 0 where
   pub first : Pattern
   pub second : Pattern
   pub first_is : a ≡ Some first
   pub second_is : b ≡ Some second
   pub whole : k first second ≡ r
 
-both_parts_some : (k : Pattern → Pattern → Pattern) (a b : Option Pattern) (r : Pattern) → both_parts k a b ≡ Some r → BothParts k a b r
+both_parts_some : (k : Pattern → Pattern → Pattern) (a b : Option Pattern) (r : Pattern)
+    → both_parts k a b ≡ Some r → BothParts k a b r
 both_parts_some k None b r h = absurd (cc)
 both_parts_some k (Some p) None r h = absurd (cc)
-both_parts_some k (Some p) (Some q) r h = record { first = p; second = q; first_is = refl; second_is = refl; whole = cc }
+both_parts_some k (Some p) (Some q) r h = record {
+  first = p;
+  second = q;
+  first_is = refl;
+  second_is = refl;
+  whole = cc;
+}
 
 pub record OnePart (k : Pattern → Pattern) (a : Option Pattern) (r : Pattern) : Type 0 where
   pub part : Pattern
   pub part_is : a ≡ Some part
   pub whole : k part ≡ r
 
-one_part_some : (k : Pattern → Pattern) (a : Option Pattern) (r : Pattern) → option_map k a ≡ Some r → OnePart k a r
+one_part_some : (k : Pattern → Pattern) (a : Option Pattern) (r : Pattern) → option_map k a ≡ Some r
+    → OnePart k a r
 one_part_some k None r h = absurd (cc)
 one_part_some k (Some p) r h = record { part = p; part_is = refl; whole = cc }
 
@@ -110,143 +383,292 @@ some_same p r h = cc
 
 -- if x is not free, nothing changes
 
-joined : (k : Pattern → Pattern → Pattern) (p q : Pattern) (a b : Option Pattern) → a ≡ Some p → b ≡ Some q → both_parts k a b ≡ Some (k p q)
+joined : (k : Pattern → Pattern → Pattern) (p q : Pattern) (a b : Option Pattern) → a ≡ Some p
+    → b ≡ Some q → both_parts k a b ≡ Some (k p q)
 joined k p q a b e g = rw (e, g) refl
 
-pub substituted-fresh : (p : Pattern) (x : ℕ) (u : Pattern) → fresh x p ≡ true → substituted p x u ≡ Some p
+pub substituted-fresh : (p : Pattern) (x : ℕ) (u : Pattern) → fresh x p ≡ true
+    → substituted p x u ≡ Some p
 substituted-fresh bot x u f = refl
 substituted-fresh top x u f = refl
 substituted-fresh (meta i) x u f = refl
 substituted-fresh (constant i) x u f = refl
-substituted-fresh (imp p q) x u f = let b : (fresh x p ≡ true) × (fresh x q ≡ true) = split_true (fresh x p) (fresh x q) f in joined imp p q (substituted p x u) (substituted q x u) (substituted-fresh p x u b.0) (substituted-fresh q x u b.1)
-substituted-fresh (and p q) x u f = let b : (fresh x p ≡ true) × (fresh x q ≡ true) = split_true (fresh x p) (fresh x q) f in joined and p q (substituted p x u) (substituted q x u) (substituted-fresh p x u b.0) (substituted-fresh q x u b.1)
-substituted-fresh (or p q) x u f = let b : (fresh x p ≡ true) × (fresh x q ≡ true) = split_true (fresh x p) (fresh x q) f in joined or p q (substituted p x u) (substituted q x u) (substituted-fresh p x u b.0) (substituted-fresh q x u b.1)
-substituted-fresh (equal p q) x u f = let b : (fresh x p ≡ true) × (fresh x q ≡ true) = split_true (fresh x p) (fresh x q) f in joined equal p q (substituted p x u) (substituted q x u) (substituted-fresh p x u b.0) (substituted-fresh q x u b.1)
-substituted-fresh (member p q) x u f = let b : (fresh x p ≡ true) × (fresh x q ≡ true) = split_true (fresh x p) (fresh x q) f in joined member p q (substituted p x u) (substituted q x u) (substituted-fresh p x u b.0) (substituted-fresh q x u b.1)
-substituted-fresh (app p q) x u f = let b : (fresh x p ≡ true) × (fresh x q ≡ true) = split_true (fresh x p) (fresh x q) f in joined app p q (substituted p x u) (substituted q x u) (substituted-fresh p x u b.0) (substituted-fresh q x u b.1)
+substituted-fresh (imp p q) x u f =
+    let b : (fresh x p ≡ true) × (fresh x q ≡ true) = split_true (fresh x p) (fresh x q) f in
+    joined imp p q (substituted p x u) (substituted q x u) (substituted-fresh p x u b.0)
+    (substituted-fresh q x u b.1)
+substituted-fresh (and p q) x u f =
+    let b : (fresh x p ≡ true) × (fresh x q ≡ true) = split_true (fresh x p) (fresh x q) f in
+    joined and p q (substituted p x u) (substituted q x u) (substituted-fresh p x u b.0)
+    (substituted-fresh q x u b.1)
+substituted-fresh (or p q) x u f =
+    let b : (fresh x p ≡ true) × (fresh x q ≡ true) = split_true (fresh x p) (fresh x q) f in
+    joined or p q (substituted p x u) (substituted q x u) (substituted-fresh p x u b.0)
+    (substituted-fresh q x u b.1)
+substituted-fresh (equal p q) x u f =
+    let b : (fresh x p ≡ true) × (fresh x q ≡ true) = split_true (fresh x p) (fresh x q) f in
+    joined equal p q (substituted p x u) (substituted q x u) (substituted-fresh p x u b.0)
+    (substituted-fresh q x u b.1)
+substituted-fresh (member p q) x u f =
+    let b : (fresh x p ≡ true) × (fresh x q ≡ true) = split_true (fresh x p) (fresh x q) f in
+    joined member p q (substituted p x u) (substituted q x u) (substituted-fresh p x u b.0)
+    (substituted-fresh q x u b.1)
+substituted-fresh (app p q) x u f =
+    let b : (fresh x p ≡ true) × (fresh x q ≡ true) = split_true (fresh x p) (fresh x q) f in
+    joined app p q (substituted p x u) (substituted q x u) (substituted-fresh p x u b.0)
+    (substituted-fresh q x u b.1)
 substituted-fresh (not p) x u f = ap (option_map not) (substituted-fresh p x u f)
 substituted-fresh (next p) x u f = ap (option_map next) (substituted-fresh p x u f)
 substituted-fresh (ev p) x u f = ap (option_map ev) (substituted-fresh p x u f)
-substituted-fresh (at_sort p s) x u f = ap (option_map (λ (t : Pattern). at_sort t s)) (substituted-fresh p x u f)
-substituted-fresh (fun p s) x u f = ap (option_map (λ (t : Pattern). fun t s)) (substituted-fresh p x u f)
-substituted-fresh (ex y s p) x u f = ap (λ (b : Bool). if b then Some (ex y s p) else (if fresh y u then option_map (ex y s) (substituted p x u) else None)) f
-substituted-fresh (all y s p) x u f = ap (λ (b : Bool). if b then Some (all y s p) else (if fresh y u then option_map (all y s) (substituted p x u) else None)) f
-substituted-fresh (var y) x u f = ap (λ (b : Bool). if b then Some u else Some (var y)) (not_true (x == y) f)
+substituted-fresh (at_sort p s) x u f =
+    ap (option_map (λ (t : Pattern). at_sort t s)) (substituted-fresh p x u f)
+substituted-fresh (fun p s) x u f =
+    ap (option_map (λ (t : Pattern). fun t s)) (substituted-fresh p x u f)
+substituted-fresh (ex y s p) x u f =
+    ap (λ (b : Bool). if b then Some (ex y s p)
+    else (if fresh y u then option_map (ex y s) (substituted p x u) else None)) f
+substituted-fresh (all y s p) x u f =
+    ap (λ (b : Bool). if b then Some (all y s p)
+    else (if fresh y u then option_map (all y s) (substituted p x u) else None)) f
+substituted-fresh (var y) x u f =
+    ap (λ (b : Bool). if b then Some u else Some (var y)) (not_true (x == y) f)
 
 -- a pattern with u substituted for x, if it stays the same
-unchanged_law : (c : Context) (l n : Naming) (known : LeafFacts) (x : ℕ) (u p r : Pattern) → Serves c l n known → known.object x → EachLeaf known u → EachLeaf known p → fresh x p ≡ true → Some p ≡ Some r → Proves c (unchanged_tree l x u p) (substitution_text n r p u x)
-unchanged_law c l n known x u p r w hx hu hp f same = subst (λ (t : Pattern). Proves c (unchanged_tree l x u p) (substitution_text n t p u x)) (some_same p r same) (unchanged_proves c l n known x u p w hx hu hp f)
+unchanged_law : (c : Context) (l n : Naming) (known : LeafFacts) (x : ℕ) (u p r : Pattern)
+    → Serves c l n known → known.object x → EachLeaf known u → EachLeaf known p → fresh x p ≡ true
+    → Some p ≡ Some r → Proves c (unchanged_tree l x u p) (substitution_text n r p u x)
+unchanged_law c l n known x u p r w hx hu hp f same =
+    subst (λ (t : Pattern). Proves c (unchanged_tree l x u p) (substitution_text n t p u x))
+    (some_same p r same) (unchanged_proves c l n known x u p w hx hu hp f)
 
 -- if it changes, it is proved by its form
-whole_or_form : (c : Context) (l n : Naming) (known : LeafFacts) (x : ℕ) (u p r : Pattern) → Serves c l n known → known.object x → EachLeaf known u → EachLeaf known p → substituted p x u ≡ Some r
+whole_or_form : (c : Context) (l n : Naming) (known : LeafFacts) (x : ℕ) (u p r : Pattern)
+    → Serves c l n known → known.object x → EachLeaf known u → EachLeaf known p
+    → substituted p x u ≡ Some r
     → (fresh x p ≡ false → Proves c (substitution_by_form l x u p r) (substitution_text n r p u x))
     → Proves c (substitution_tree l x u p r) (substitution_text n r p u x)
 whole_or_form c l n known x u p r w hx hu hp h below = go (fresh x p) refl
   where
-    go : (b : Bool) → fresh x p ≡ b → Proves c (if b then unchanged_tree l x u p else substitution_by_form l x u p r) (substitution_text n r p u x)
-    go true is = unchanged_law c l n known x u p r w hx hu hp is (sym (substituted-fresh p x u is) ∙ h)
+    go : (b : Bool) → fresh x p ≡ b
+        → Proves c (if b then unchanged_tree l x u p else substitution_by_form l x u p r)
+        (substitution_text n r p u x)
+    go true is =
+        unchanged_law c l n known x u p r w hx hu hp is (sym (substituted-fresh p x u is) ∙ h)
     go false is = below is
 
-variable_law : (c : Context) (l n : Naming) (known : LeafFacts) (x y : ℕ) (u r : Pattern) → Serves c l n known → known.object x → EachLeaf known u → substituted (var y) x u ≡ Some r → fresh x (var y) ≡ false → Proves c (substitution_by_form l x u (var y) r) (substitution_text n r (var y) u x)
+variable_law : (c : Context) (l n : Naming) (known : LeafFacts) (x y : ℕ) (u r : Pattern)
+    → Serves c l n known → known.object x → EachLeaf known u → substituted (var y) x u ≡ Some r
+    → fresh x (var y) ≡ false
+    → Proves c (substitution_by_form l x u (var y) r) (substitution_text n r (var y) u x)
 variable_law c l n known x y u r w hx hu h free = go (x == y) refl h free
   where
-    go : (b : Bool) → (x == y) ≡ b → (if b then Some u else Some (var y)) ≡ Some r → std.not b ≡ false → Proves c (cite (codes "su.v") (syntax_tree l u ∷ cite (l.object x) [] ∷ [])) (substitution_text n r (var y) u x)
+    go : (b : Bool) → (x == y) ≡ b → (if b then Some u else Some (var y)) ≡ Some r
+        → std.not b ≡ false
+        → Proves c (cite (codes "su.v") (syntax_tree l u ∷ cite (l.object x) [] ∷ []))
+        (substitution_text n r (var y) u x)
     go true is same here =
-        let made : Proves c (cite (codes "su.v") (syntax_tree l u ∷ cite (l.object x) [] ∷ [])) (substitution_text n u (var x) u x) = replaced_proves c l n known x u w hx hu in
-        let found : Proves c (cite (codes "su.v") (syntax_tree l u ∷ cite (l.object x) [] ∷ [])) (substitution_text n r (var x) u x) = subst (λ (t : Pattern). Proves c (cite (codes "su.v") (syntax_tree l u ∷ cite (l.object x) [] ∷ [])) (substitution_text n t (var x) u x)) (some_same u r same) made in
-        subst (λ (z : ℕ). Proves c (cite (codes "su.v") (syntax_tree l u ∷ cite (l.object x) [] ∷ [])) (substitution_text n r (var z) u x)) (eqb-true x y is) found
+        let made : Proves c (cite (codes "su.v") (syntax_tree l u ∷ cite (l.object x) [] ∷ []))
+        (substitution_text n u (var x) u x) =
+        replaced_proves c l n known x u w hx hu in
+        let found : Proves c (cite (codes "su.v") (syntax_tree l u ∷ cite (l.object x) [] ∷ []))
+        (substitution_text n r (var x) u x) =
+        subst (λ (t : Pattern). Proves c
+        (cite (codes "su.v") (syntax_tree l u ∷ cite (l.object x) [] ∷ []))
+        (substitution_text n t (var x) u x)) (some_same u r same) made in
+        subst (λ (z : ℕ). Proves c
+        (cite (codes "su.v") (syntax_tree l u ∷ cite (l.object x) [] ∷ []))
+        (substitution_text n r (var z) u x)) (eqb-true x y is) found
     go false is same here = absurd (false≢true (sym here))
 
-ex_law : (c : Context) (l n : Naming) (known : LeafFacts) (x y s : ℕ) (u p r : Pattern) → Serves c l n known → known.object x → EachLeaf known u → EachLeaf known (ex y s p) → EachLeaf known r → substituted (ex y s p) x u ≡ Some r → fresh x (ex y s p) ≡ false
-    → ((t : Pattern) → EachLeaf known t → substituted p x u ≡ Some t → Proves c (substitution_tree l x u p t) (substitution_text n t p u x))
+ex_law : (c : Context) (l n : Naming) (known : LeafFacts) (x y s : ℕ) (u p r : Pattern)
+    → Serves c l n known → known.object x → EachLeaf known u → EachLeaf known (ex y s p)
+    → EachLeaf known r → substituted (ex y s p) x u ≡ Some r → fresh x (ex y s p) ≡ false
+    → ((t : Pattern) → EachLeaf known t → substituted p x u ≡ Some t
+    → Proves c (substitution_tree l x u p t) (substitution_text n t p u x))
     → Proves c (substitution_by_form l x u (ex y s p) r) (substitution_text n r (ex y s p) u x)
-ex_law c l n known x y s u p r w hx hu hp hr h free below = go (x == y) (fresh x p) (fresh y u) refl refl h free
+ex_law c l n known x y s u p r w hx hu hp hr h free below =
+    go (x == y) (fresh x p) (fresh y u) refl refl h free
   where
-    go : (a b f : Bool) → (x == y) ≡ a → fresh y u ≡ f → (if a || b then Some (ex y s p) else (if f then option_map (ex y s) (substituted p x u) else None)) ≡ Some r → (a || b) ≡ false
+    go : (a b f : Bool) → (x == y) ≡ a → fresh y u ≡ f
+        → (if a || b then Some (ex y s p)
+        else (if f then option_map (ex y s) (substituted p x u) else None)) ≡ Some r
+        → (a || b) ≡ false
         → Proves c (substitution_by_form l x u (ex y s p) r) (substitution_text n r (ex y s p) u x)
     go true b f same captured made is = absurd (false≢true (sym is))
     go false true f differ captured made is = absurd (false≢true (sym is))
     go false false true differ captured made is =
-        let w' : OnePart (ex y s) (substituted p x u) r = one_part_some (ex y s) (substituted p x u) r made in
-        subst (λ (r : Pattern). EachLeaf known r → Proves c (substitution_by_form l x u (ex y s p) r) (substitution_text n r (ex y s p) u x)) w'.whole
-        (λ ht. substituted_ex c l n known x y s u p w'.part w hx hp.1.0 hp.1.1 hu hp.0 ht.0 differ captured (below w'.part ht.0 w'.part_is)) hr
+        let w' : OnePart (ex y s) (substituted p x u) r =
+        one_part_some (ex y s) (substituted p x u) r made in
+        subst (λ (r : Pattern). EachLeaf known r
+        → Proves c (substitution_by_form l x u (ex y s p) r)
+        (substitution_text n r (ex y s p) u x)) w'.whole
+        (λ ht. substituted_ex c l n known x y s u p w'.part w hx hp.1.0 hp.1.1 hu hp.0 ht.0 differ
+        captured (below w'.part ht.0 w'.part_is)) hr
     go false false false differ captured made is = absurd (none_some r made)
 
-all_law : (c : Context) (l n : Naming) (known : LeafFacts) (x y s : ℕ) (u p r : Pattern) → Serves c l n known → known.object x → EachLeaf known u → EachLeaf known (all y s p) → EachLeaf known r → substituted (all y s p) x u ≡ Some r → fresh x (all y s p) ≡ false
-    → ((t : Pattern) → EachLeaf known t → substituted p x u ≡ Some t → Proves c (substitution_tree l x u p t) (substitution_text n t p u x))
+all_law : (c : Context) (l n : Naming) (known : LeafFacts) (x y s : ℕ) (u p r : Pattern)
+    → Serves c l n known → known.object x → EachLeaf known u → EachLeaf known (all y s p)
+    → EachLeaf known r → substituted (all y s p) x u ≡ Some r → fresh x (all y s p) ≡ false
+    → ((t : Pattern) → EachLeaf known t → substituted p x u ≡ Some t
+    → Proves c (substitution_tree l x u p t) (substitution_text n t p u x))
     → Proves c (substitution_by_form l x u (all y s p) r) (substitution_text n r (all y s p) u x)
-all_law c l n known x y s u p r w hx hu hp hr h free below = go (x == y) (fresh x p) (fresh y u) refl refl h free
+all_law c l n known x y s u p r w hx hu hp hr h free below =
+    go (x == y) (fresh x p) (fresh y u) refl refl h free
   where
-    go : (a b f : Bool) → (x == y) ≡ a → fresh y u ≡ f → (if a || b then Some (all y s p) else (if f then option_map (all y s) (substituted p x u) else None)) ≡ Some r → (a || b) ≡ false
-        → Proves c (substitution_by_form l x u (all y s p) r) (substitution_text n r (all y s p) u x)
+    go : (a b f : Bool) → (x == y) ≡ a → fresh y u ≡ f
+        → (if a || b then Some (all y s p)
+        else (if f then option_map (all y s) (substituted p x u) else None)) ≡ Some r
+        → (a || b) ≡ false
+        → Proves c (substitution_by_form l x u (all y s p) r)
+        (substitution_text n r (all y s p) u x)
     go true b f same captured made is = absurd (false≢true (sym is))
     go false true f differ captured made is = absurd (false≢true (sym is))
     go false false true differ captured made is =
-        let w' : OnePart (all y s) (substituted p x u) r = one_part_some (all y s) (substituted p x u) r made in
-        subst (λ (r : Pattern). EachLeaf known r → Proves c (substitution_by_form l x u (all y s p) r) (substitution_text n r (all y s p) u x)) w'.whole
-        (λ ht. substituted_all c l n known x y s u p w'.part w hx hp.1.0 hp.1.1 hu hp.0 ht.0 differ captured (below w'.part ht.0 w'.part_is)) hr
+        let w' : OnePart (all y s) (substituted p x u) r =
+        one_part_some (all y s) (substituted p x u) r made in
+        subst (λ (r : Pattern). EachLeaf known r
+        → Proves c (substitution_by_form l x u (all y s p) r)
+        (substitution_text n r (all y s p) u x)) w'.whole
+        (λ ht. substituted_all c l n known x y s u p w'.part w hx hp.1.0 hp.1.1 hu hp.0 ht.0 differ
+        captured (below w'.part ht.0 w'.part_is)) hr
     go false false false differ captured made is = absurd (none_some r made)
 
-pub substitution_proves : (c : Context) (l n : Naming) (known : LeafFacts) (x : ℕ) (u p r : Pattern) → Serves c l n known → known.object x → EachLeaf known u → EachLeaf known p → EachLeaf known r → substituted p x u ≡ Some r → Proves c (substitution_tree l x u p r) (substitution_text n r p u x)
-substitution_proves c l n known x u bot r w hx hu hp hr h = unchanged_law c l n known x u bot r w hx hu tt refl h
-substitution_proves c l n known x u top r w hx hu hp hr h = unchanged_law c l n known x u top r w hx hu tt refl h
-substitution_proves c l n known x u (meta i) r w hx hu hp hr h = unchanged_law c l n known x u (meta i) r w hx hu hp refl h
-substitution_proves c l n known x u (constant i) r w hx hu hp hr h = unchanged_law c l n known x u (constant i) r w hx hu hp refl h
-substitution_proves c l n known x u (var y) r w hx hu hp hr h = whole_or_form c l n known x u (var y) r w hx hu hp h (variable_law c l n known x y u r w hx hu h)
+pub substitution_proves : (c : Context) (l n : Naming) (known : LeafFacts) (x : ℕ) (u p r : Pattern)
+    → Serves c l n known → known.object x → EachLeaf known u → EachLeaf known p → EachLeaf known r
+    → substituted p x u ≡ Some r
+    → Proves c (substitution_tree l x u p r) (substitution_text n r p u x)
+substitution_proves c l n known x u bot r w hx hu hp hr h =
+    unchanged_law c l n known x u bot r w hx hu tt refl h
+substitution_proves c l n known x u top r w hx hu hp hr h =
+    unchanged_law c l n known x u top r w hx hu tt refl h
+substitution_proves c l n known x u (meta i) r w hx hu hp hr h =
+    unchanged_law c l n known x u (meta i) r w hx hu hp refl h
+substitution_proves c l n known x u (constant i) r w hx hu hp hr h =
+    unchanged_law c l n known x u (constant i) r w hx hu hp refl h
+substitution_proves c l n known x u (var y) r w hx hu hp hr h =
+    whole_or_form c l n known x u (var y) r w hx hu hp h
+    (variable_law c l n known x y u r w hx hu h)
 substitution_proves c l n known x u (imp p q) r w hx hu hp hr h =
-    let made : BothParts imp (substituted p x u) (substituted q x u) r = both_parts_some imp (substituted p x u) (substituted q x u) r h in
+    let made : BothParts imp (substituted p x u) (substituted q x u) r =
+    both_parts_some imp (substituted p x u) (substituted q x u) r h in
     whole_or_form c l n known x u (imp p q) r w hx hu hp h (λ free.
-    subst (λ (r : Pattern). EachLeaf known r → Proves c (substitution_by_form l x u (imp p q) r) (substitution_text n r (imp p q) u x)) made.whole
-    (λ ht. substituted_two c l n (codes "su.imp") imp x u p q made.first made.second known w su_imp refl hx hu hp.0 hp.1 ht.0 ht.1 (substitution_proves c l n known x u p made.first w hx hu hp.0 ht.0 made.first_is) (substitution_proves c l n known x u q made.second w hx hu hp.1 ht.1 made.second_is)) hr)
+    subst (λ (r : Pattern). EachLeaf known r
+    → Proves c (substitution_by_form l x u (imp p q) r)
+    (substitution_text n r (imp p q) u x)) made.whole
+    (λ ht. substituted_two c l n (codes "su.imp") imp x u p q made.first made.second known w su_imp
+    refl hx hu hp.0 hp.1 ht.0 ht.1
+    (substitution_proves c l n known x u p made.first w hx hu hp.0 ht.0 made.first_is)
+    (substitution_proves c l n known x u q made.second w hx hu hp.1 ht.1 made.second_is))
+    hr)
 substitution_proves c l n known x u (and p q) r w hx hu hp hr h =
-    let made : BothParts and (substituted p x u) (substituted q x u) r = both_parts_some and (substituted p x u) (substituted q x u) r h in
+    let made : BothParts and (substituted p x u) (substituted q x u) r =
+    both_parts_some and (substituted p x u) (substituted q x u) r h in
     whole_or_form c l n known x u (and p q) r w hx hu hp h (λ free.
-    subst (λ (r : Pattern). EachLeaf known r → Proves c (substitution_by_form l x u (and p q) r) (substitution_text n r (and p q) u x)) made.whole
-    (λ ht. substituted_two c l n (codes "su.and") and x u p q made.first made.second known w su_and refl hx hu hp.0 hp.1 ht.0 ht.1 (substitution_proves c l n known x u p made.first w hx hu hp.0 ht.0 made.first_is) (substitution_proves c l n known x u q made.second w hx hu hp.1 ht.1 made.second_is)) hr)
+    subst (λ (r : Pattern). EachLeaf known r
+    → Proves c (substitution_by_form l x u (and p q) r)
+    (substitution_text n r (and p q) u x)) made.whole
+    (λ ht. substituted_two c l n (codes "su.and") and x u p q made.first made.second known w su_and
+    refl hx hu hp.0 hp.1 ht.0 ht.1
+    (substitution_proves c l n known x u p made.first w hx hu hp.0 ht.0 made.first_is)
+    (substitution_proves c l n known x u q made.second w hx hu hp.1 ht.1 made.second_is))
+    hr)
 substitution_proves c l n known x u (or p q) r w hx hu hp hr h =
-    let made : BothParts or (substituted p x u) (substituted q x u) r = both_parts_some or (substituted p x u) (substituted q x u) r h in
+    let made : BothParts or (substituted p x u) (substituted q x u) r =
+    both_parts_some or (substituted p x u) (substituted q x u) r h in
     whole_or_form c l n known x u (or p q) r w hx hu hp h (λ free.
-    subst (λ (r : Pattern). EachLeaf known r → Proves c (substitution_by_form l x u (or p q) r) (substitution_text n r (or p q) u x)) made.whole
-    (λ ht. substituted_two c l n (codes "su.or") or x u p q made.first made.second known w su_or refl hx hu hp.0 hp.1 ht.0 ht.1 (substitution_proves c l n known x u p made.first w hx hu hp.0 ht.0 made.first_is) (substitution_proves c l n known x u q made.second w hx hu hp.1 ht.1 made.second_is)) hr)
+    subst (λ (r : Pattern). EachLeaf known r
+    → Proves c (substitution_by_form l x u (or p q) r) (substitution_text n r (or p q) u x))
+    made.whole
+    (λ ht. substituted_two c l n (codes "su.or") or x u p q made.first made.second known w su_or
+    refl hx hu hp.0 hp.1 ht.0 ht.1
+    (substitution_proves c l n known x u p made.first w hx hu hp.0 ht.0 made.first_is)
+    (substitution_proves c l n known x u q made.second w hx hu hp.1 ht.1 made.second_is))
+    hr)
 substitution_proves c l n known x u (equal p q) r w hx hu hp hr h =
-    let made : BothParts equal (substituted p x u) (substituted q x u) r = both_parts_some equal (substituted p x u) (substituted q x u) r h in
+    let made : BothParts equal (substituted p x u) (substituted q x u) r =
+    both_parts_some equal (substituted p x u) (substituted q x u) r h in
     whole_or_form c l n known x u (equal p q) r w hx hu hp h (λ free.
-    subst (λ (r : Pattern). EachLeaf known r → Proves c (substitution_by_form l x u (equal p q) r) (substitution_text n r (equal p q) u x)) made.whole
-    (λ ht. substituted_two c l n (codes "su.eq") equal x u p q made.first made.second known w su_eq refl hx hu hp.0 hp.1 ht.0 ht.1 (substitution_proves c l n known x u p made.first w hx hu hp.0 ht.0 made.first_is) (substitution_proves c l n known x u q made.second w hx hu hp.1 ht.1 made.second_is)) hr)
+    subst (λ (r : Pattern). EachLeaf known r
+    → Proves c (substitution_by_form l x u (equal p q) r)
+    (substitution_text n r (equal p q) u x)) made.whole
+    (λ ht. substituted_two c l n (codes "su.eq") equal x u p q made.first made.second known w su_eq
+    refl hx hu hp.0 hp.1 ht.0 ht.1
+    (substitution_proves c l n known x u p made.first w hx hu hp.0 ht.0 made.first_is)
+    (substitution_proves c l n known x u q made.second w hx hu hp.1 ht.1 made.second_is))
+    hr)
 substitution_proves c l n known x u (member p q) r w hx hu hp hr h =
-    let made : BothParts member (substituted p x u) (substituted q x u) r = both_parts_some member (substituted p x u) (substituted q x u) r h in
+    let made : BothParts member (substituted p x u) (substituted q x u) r =
+    both_parts_some member (substituted p x u) (substituted q x u) r h in
     whole_or_form c l n known x u (member p q) r w hx hu hp h (λ free.
-    subst (λ (r : Pattern). EachLeaf known r → Proves c (substitution_by_form l x u (member p q) r) (substitution_text n r (member p q) u x)) made.whole
-    (λ ht. substituted_two c l n (codes "su.mem") member x u p q made.first made.second known w su_mem refl hx hu hp.0 hp.1 ht.0 ht.1 (substitution_proves c l n known x u p made.first w hx hu hp.0 ht.0 made.first_is) (substitution_proves c l n known x u q made.second w hx hu hp.1 ht.1 made.second_is)) hr)
+    subst (λ (r : Pattern). EachLeaf known r
+    → Proves c (substitution_by_form l x u (member p q) r)
+    (substitution_text n r (member p q) u x)) made.whole
+    (λ ht. substituted_two c l n (codes "su.mem") member x u p q made.first made.second known w
+    su_mem refl hx hu hp.0 hp.1 ht.0 ht.1
+    (substitution_proves c l n known x u p made.first w hx hu hp.0 ht.0 made.first_is)
+    (substitution_proves c l n known x u q made.second w hx hu hp.1 ht.1 made.second_is))
+    hr)
 substitution_proves c l n known x u (app p q) r w hx hu hp hr h =
-    let made : BothParts app (substituted p x u) (substituted q x u) r = both_parts_some app (substituted p x u) (substituted q x u) r h in
+    let made : BothParts app (substituted p x u) (substituted q x u) r =
+    both_parts_some app (substituted p x u) (substituted q x u) r h in
     whole_or_form c l n known x u (app p q) r w hx hu hp h (λ free.
-    subst (λ (r : Pattern). EachLeaf known r → Proves c (substitution_by_form l x u (app p q) r) (substitution_text n r (app p q) u x)) made.whole
-    (λ ht. substituted_two c l n (codes "su.app") app x u p q made.first made.second known w su_app refl hx hu hp.0 hp.1 ht.0 ht.1 (substitution_proves c l n known x u p made.first w hx hu hp.0 ht.0 made.first_is) (substitution_proves c l n known x u q made.second w hx hu hp.1 ht.1 made.second_is)) hr)
+    subst (λ (r : Pattern). EachLeaf known r
+    → Proves c (substitution_by_form l x u (app p q) r)
+    (substitution_text n r (app p q) u x)) made.whole
+    (λ ht. substituted_two c l n (codes "su.app") app x u p q made.first made.second known w su_app
+    refl hx hu hp.0 hp.1 ht.0 ht.1
+    (substitution_proves c l n known x u p made.first w hx hu hp.0 ht.0 made.first_is)
+    (substitution_proves c l n known x u q made.second w hx hu hp.1 ht.1 made.second_is))
+    hr)
 substitution_proves c l n known x u (not p) r w hx hu hp hr h =
     let made : OnePart not (substituted p x u) r = one_part_some not (substituted p x u) r h in
     whole_or_form c l n known x u (not p) r w hx hu hp h (λ free.
-    subst (λ (r : Pattern). EachLeaf known r → Proves c (substitution_by_form l x u (not p) r) (substitution_text n r (not p) u x)) made.whole
-    (λ ht. substituted_one c l n (codes "su.not") not x u p made.part known w su_not refl hx hu hp ht (substitution_proves c l n known x u p made.part w hx hu hp ht made.part_is)) hr)
+    subst (λ (r : Pattern). EachLeaf known r
+    → Proves c (substitution_by_form l x u (not p) r) (substitution_text n r (not p) u x))
+    made.whole
+    (λ ht. substituted_one c l n (codes "su.not") not x u p made.part known w su_not refl hx hu hp
+    ht (substitution_proves c l n known x u p made.part w hx hu hp ht made.part_is)) hr)
 substitution_proves c l n known x u (next p) r w hx hu hp hr h =
     let made : OnePart next (substituted p x u) r = one_part_some next (substituted p x u) r h in
     whole_or_form c l n known x u (next p) r w hx hu hp h (λ free.
-    subst (λ (r : Pattern). EachLeaf known r → Proves c (substitution_by_form l x u (next p) r) (substitution_text n r (next p) u x)) made.whole
-    (λ ht. substituted_one c l n (codes "su.next") next x u p made.part known w su_next refl hx hu hp ht (substitution_proves c l n known x u p made.part w hx hu hp ht made.part_is)) hr)
+    subst (λ (r : Pattern). EachLeaf known r
+    → Proves c (substitution_by_form l x u (next p) r) (substitution_text n r (next p) u x))
+    made.whole
+    (λ ht. substituted_one c l n (codes "su.next") next x u p made.part known w su_next refl hx hu
+    hp ht (substitution_proves c l n known x u p made.part w hx hu hp ht made.part_is)) hr)
 substitution_proves c l n known x u (ev p) r w hx hu hp hr h =
     let made : OnePart ev (substituted p x u) r = one_part_some ev (substituted p x u) r h in
     whole_or_form c l n known x u (ev p) r w hx hu hp h (λ free.
-    subst (λ (r : Pattern). EachLeaf known r → Proves c (substitution_by_form l x u (ev p) r) (substitution_text n r (ev p) u x)) made.whole
-    (λ ht. substituted_one c l n (codes "su.ev") ev x u p made.part known w su_ev refl hx hu hp ht (substitution_proves c l n known x u p made.part w hx hu hp ht made.part_is)) hr)
+    subst (λ (r : Pattern). EachLeaf known r
+    → Proves c (substitution_by_form l x u (ev p) r) (substitution_text n r (ev p) u x))
+    made.whole
+    (λ ht. substituted_one c l n (codes "su.ev") ev x u p made.part known w su_ev refl hx hu hp ht
+    (substitution_proves c l n known x u p made.part w hx hu hp ht made.part_is)) hr)
 substitution_proves c l n known x u (at_sort p s) r w hx hu hp hr h =
-    let made : OnePart (λ t. at_sort t s) (substituted p x u) r = one_part_some (λ t. at_sort t s) (substituted p x u) r h in
+    let made : OnePart (λ t. at_sort t s) (substituted p x u) r =
+    one_part_some (λ t. at_sort t s) (substituted p x u) r h in
     whole_or_form c l n known x u (at_sort p s) r w hx hu hp h (λ free.
-    subst (λ (r : Pattern). EachLeaf known r → Proves c (substitution_by_form l x u (at_sort p s) r) (substitution_text n r (at_sort p s) u x)) made.whole
-    (λ ht. substituted_sort c l n (codes "su.at") at_sort x u p made.part s known w su_at refl hx hu hp.0 ht.0 hp.1 (substitution_proves c l n known x u p made.part w hx hu hp.0 ht.0 made.part_is)) hr)
+    subst (λ (r : Pattern). EachLeaf known r
+    → Proves c (substitution_by_form l x u (at_sort p s) r)
+    (substitution_text n r (at_sort p s) u x)) made.whole
+    (λ ht. substituted_sort c l n (codes "su.at") at_sort x u p made.part s known w su_at refl hx hu
+    hp.0 ht.0 hp.1
+    (substitution_proves c l n known x u p made.part w hx hu hp.0 ht.0 made.part_is)) hr)
 substitution_proves c l n known x u (fun p s) r w hx hu hp hr h =
-    let made : OnePart (λ t. fun t s) (substituted p x u) r = one_part_some (λ t. fun t s) (substituted p x u) r h in
+    let made : OnePart (λ t. fun t s) (substituted p x u) r =
+    one_part_some (λ t. fun t s) (substituted p x u) r h in
     whole_or_form c l n known x u (fun p s) r w hx hu hp h (λ free.
-    subst (λ (r : Pattern). EachLeaf known r → Proves c (substitution_by_form l x u (fun p s) r) (substitution_text n r (fun p s) u x)) made.whole
-    (λ ht. substituted_sort c l n (codes "su.fun") fun x u p made.part s known w su_fun refl hx hu hp.0 ht.0 hp.1 (substitution_proves c l n known x u p made.part w hx hu hp.0 ht.0 made.part_is)) hr)
-substitution_proves c l n known x u (ex y s p) r w hx hu hp hr h = whole_or_form c l n known x u (ex y s p) r w hx hu hp h (λ free. ex_law c l n known x y s u p r w hx hu hp hr h free (λ t ht is. substitution_proves c l n known x u p t w hx hu hp.0 ht is))
-substitution_proves c l n known x u (all y s p) r w hx hu hp hr h = whole_or_form c l n known x u (all y s p) r w hx hu hp h (λ free. all_law c l n known x y s u p r w hx hu hp hr h free (λ t ht is. substitution_proves c l n known x u p t w hx hu hp.0 ht is))
+    subst (λ (r : Pattern). EachLeaf known r
+    → Proves c (substitution_by_form l x u (fun p s) r)
+    (substitution_text n r (fun p s) u x)) made.whole
+    (λ ht. substituted_sort c l n (codes "su.fun") fun x u p made.part s known w su_fun refl hx hu
+    hp.0 ht.0 hp.1
+    (substitution_proves c l n known x u p made.part w hx hu hp.0 ht.0 made.part_is)) hr)
+substitution_proves c l n known x u (ex y s p) r w hx hu hp hr h =
+    whole_or_form c l n known x u (ex y s p) r w hx hu hp h (λ free. ex_law c l n known x y s u p r
+    w hx hu hp hr h free
+    (λ t ht is. substitution_proves c l n known x u p t w hx hu hp.0 ht is))
+substitution_proves c l n known x u (all y s p) r w hx hu hp hr h =
+    whole_or_form c l n known x u (all y s p) r w hx hu hp h (λ free. all_law c l n known x y s u p
+    r w hx hu hp hr h free
+    (λ t ht is. substitution_proves c l n known x u p t w hx hu hp.0 ht is))

@@ -6,7 +6,8 @@ use Rattle.ml_kernel.specs.Rules.{pattern, variable, sort}
 use Rattle.ml_kernel.specs.Theorems.{by_rule, own_axiom, no_derivation, more_derivations}
 use Rattle.ml_kernel.specs.declared.rules.Rule.TheVariants as rule
 use Rattle.mm_proof.specs.Tokens.{Naming, tokens_of, object_token}
-use Rattle.mm_proof.specs.Trees.{cite, syntax_tree, fresh_tree, substitution_tree, predicate_tree, rule_tree}
+use Rattle.mm_proof.specs.Trees.{cite, syntax_tree, fresh_tree, substitution_tree, predicate_tree}
+use Rattle.mm_proof.specs.Trees.{rule_tree}
 use Rattle.mm_proof.specs.Derivations.{Citing, derivation_tree}
 
 -- short labels: the sort is S, the constants are a and b, and the variables x and y
@@ -27,17 +28,23 @@ one_axiom = record {
 }
 
 pub record TriedCases : Type 0 where
-  pub application : tokens_of (codes "f:f" ∷ codes "f:a" ∷ []) (app (constant 0) (constant 1)) ≡ codes "(" ∷ codes "\\app" ∷ codes "f:f" ∷ codes "f:a" ∷ codes ")" ∷ []
-  pub universal : tokens_of (codes "s:S" ∷ []) (all 0 0 (fun (var 0) 0)) ≡ codes "(" ∷ codes "\\all" ∷ object_token 0 ∷ codes "s:S" ∷ codes "(" ∷ codes "\\fun" ∷ object_token 0 ∷ codes "s:S" ∷ codes ")" ∷ codes ")" ∷ []
-  pub syntax : postorder (syntax_tree short (imp (constant 0) bot)) ≡ codes "a" ∷ codes "w.bot" ∷ codes "w.imp" ∷ []
+  pub application : tokens_of (codes "f:f" ∷ codes "f:a" ∷ []) (app (constant 0) (constant 1))
+      ≡ codes "(" ∷ codes "\\app" ∷ codes "f:f" ∷ codes "f:a" ∷ codes ")" ∷ []
+  pub universal : tokens_of (codes "s:S" ∷ []) (all 0 0 (fun (var 0) 0))
+      ≡ codes "(" ∷ codes "\\all" ∷ object_token 0 ∷ codes "s:S" ∷ codes "(" ∷ codes "\\fun"
+      ∷ object_token 0 ∷ codes "s:S" ∷ codes ")" ∷ codes ")" ∷ []
+  pub syntax : postorder (syntax_tree short (imp (constant 0) bot))
+      ≡ codes "a" ∷ codes "w.bot" ∷ codes "w.imp" ∷ []
   pub bound :
-      postorder (fresh_tree short 0 (ex 0 0 (constant 0))) ≡ codes "a" ∷ codes "x" ∷ codes "S" ∷ codes "fr.exb" ∷ []
+      postorder (fresh_tree short 0 (ex 0 0 (constant 0)))
+      ≡ codes "a" ∷ codes "x" ∷ codes "S" ∷ codes "fr.exb" ∷ []
   pub absent :
       postorder (fresh_tree short 0 (ex 1 0 (constant 0))) ≡
       codes "a" ∷ codes "y" ∷ codes "S" ∷ codes "w.ex" ∷ codes "x" ∷ codes "fr.d" ∷ []
   pub partly_absent :
       postorder (fresh_tree short 0 (app (app (constant 0) (constant 1)) (ex 0 0 (constant 0)))) ≡
-      codes "a" ∷ codes "b" ∷ codes "w.app" ∷ codes "a" ∷ codes "x" ∷ codes "S" ∷ codes "w.ex" ∷ codes "x" ∷
+      codes "a" ∷ codes "b" ∷ codes "w.app" ∷ codes "a" ∷ codes "x" ∷ codes "S" ∷ codes "w.ex"
+      ∷ codes "x" ∷
       codes "a" ∷ codes "b" ∷ codes "w.app" ∷ codes "x" ∷ codes "fr.d" ∷
       codes "a" ∷ codes "x" ∷ codes "S" ∷ codes "fr.exb" ∷ codes "fr.app" ∷ []
   pub replaced :
@@ -45,9 +52,19 @@ pub record TriedCases : Type 0 where
       codes "a" ∷ codes "x" ∷ codes "su.v" ∷ []
   pub kept :
       postorder (substitution_tree short 0 (constant 0) (next (constant 1)) (next (constant 1))) ≡
-      codes "b" ∷ codes "w.next" ∷ codes "a" ∷ codes "x" ∷ codes "b" ∷ codes "w.next" ∷ codes "x" ∷ codes "fr.d" ∷
+      codes "b" ∷ codes "w.next" ∷ codes "a" ∷ codes "x" ∷ codes "b" ∷ codes "w.next" ∷ codes "x"
+      ∷ codes "fr.d" ∷
       codes "su.f" ∷ []
-  pub equality : postorder (predicate_tree short (equal (constant 0) (constant 1))) ≡ codes "a" ∷ codes "b" ∷ codes "pr.eq" ∷ []
-  pub schema : postorder (rule_tree short rule.Ev1 (pattern (constant 0) ∷ []) []) ≡ codes "a" ∷ codes "ev.1" ∷ []
-  pub instantiated : postorder (rule_tree short rule.Inst (pattern (var 0) ∷ pattern (constant 0) ∷ pattern (constant 0) ∷ variable 0 ∷ sort 0 ∷ []) []) ≡ codes "x" ∷ codes "w.var" ∷ codes "a" ∷ codes "a" ∷ codes "x" ∷ codes "S" ∷ codes "a" ∷ codes "x" ∷ codes "su.v" ∷ codes "inst" ∷ []
-  pub step : postorder (derivation_tree short one_axiom (by_rule rule.NextIn (pattern (constant 0) ∷ pattern (constant 1) ∷ []) (more_derivations (own_axiom 0 (imp (constant 0) (constant 1)) []) no_derivation))) ≡ codes "a" ∷ codes "b" ∷ codes "A" ∷ codes "next.in" ∷ []
+  pub equality : postorder (predicate_tree short (equal (constant 0) (constant 1)))
+      ≡ codes "a" ∷ codes "b" ∷ codes "pr.eq" ∷ []
+  pub schema : postorder (rule_tree short rule.Ev1 (pattern (constant 0) ∷ []) [])
+      ≡ codes "a" ∷ codes "ev.1" ∷ []
+  pub instantiated : postorder (rule_tree short rule.Inst
+      (pattern (var 0) ∷ pattern (constant 0) ∷ pattern (constant 0) ∷ variable 0 ∷ sort 0 ∷ [])
+      [])
+      ≡ codes "x" ∷ codes "w.var" ∷ codes "a" ∷ codes "a" ∷ codes "x" ∷ codes "S" ∷ codes "a"
+      ∷ codes "x" ∷ codes "su.v" ∷ codes "inst" ∷ []
+  pub step : postorder (derivation_tree short one_axiom (by_rule rule.NextIn
+      (pattern (constant 0) ∷ pattern (constant 1) ∷ [])
+      (more_derivations (own_axiom 0 (imp (constant 0) (constant 1)) []) no_derivation)))
+      ≡ codes "a" ∷ codes "b" ∷ codes "A" ∷ codes "next.in" ∷ []

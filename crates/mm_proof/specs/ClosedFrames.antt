@@ -5,4 +5,9 @@ use Rattle.mm_database.specs.Frames.{Frame}
 
 -- an assertion without hypotheses
 abbrev pub closed_frame : Token → List Token → Frame
-closed_frame name tokens = record { label = name; hypotheses = []; apart = λ a b. false; statement = tokens }
+closed_frame name tokens = record {
+  label = name;
+  hypotheses = [];
+  apart = λ a b. false;
+  statement = tokens;
+}

@@ -18,7 +18,8 @@ how_many (more_proofs tree trees) = suc (how_many trees)
 
 abbrev mutual
   pub entries_of : ProofTree → List Entry
-  entries_of (proof_node label trees) = entries_below trees ++ record { label = label; takes = how_many trees } ∷ []
+  entries_of (proof_node label trees) =
+      entries_below trees ++ record { label = label; takes = how_many trees } ∷ []
 
   pub entries_below : ProofForest → List Entry
   entries_below no_proof = []

@@ -29,4 +29,9 @@ premise_label k j = codes "e." ++ two_numbers k j
 
 -- the labels of what a pattern is made of, in the block of a statement
 abbrev pub own_labels : ℕ → Naming
-own_labels k = record { sort = name_label; constant = name_label; object = object_label k; meta = meta_label k }
+own_labels k = record {
+  sort = name_label;
+  constant = name_label;
+  object = object_label k;
+  meta = meta_label k;
+}

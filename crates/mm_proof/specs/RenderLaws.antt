@@ -10,9 +10,11 @@ use Rattle.ml_pat.specs.Judgements.{fresh, substituted, predicate}
 use Rattle.ml_kernel.specs.Rules.{Instance, Infers}
 use Rattle.ml_kernel.specs.UsedLeaves.{EachInstance}
 use Rattle.ml_kernel.specs.declared.rules.Rule.{Rule}
-use Rattle.mm_proof.specs.Tokens.{Naming, Judgement, is_pattern, is_fresh, is_substituted, is_predicate, holds, letters_of, judgement_by}
+use Rattle.mm_proof.specs.Tokens.{Naming, Judgement, is_pattern, is_fresh, is_substituted}
+use Rattle.mm_proof.specs.Tokens.{is_predicate, holds, letters_of, judgement_by}
 use Rattle.mm_proof.specs.Serving.{Serves}
-use Rattle.mm_proof.specs.Trees.{trees_of, syntax_tree, fresh_tree, substitution_tree, predicate_tree, rule_tree}
+use Rattle.mm_proof.specs.Trees.{trees_of, syntax_tree, fresh_tree, substitution_tree}
+use Rattle.mm_proof.specs.Trees.{predicate_tree, rule_tree}
 
 -- the labels of the tree are a proof of the judgement
 abbrev pub IsWritten : Context → Naming → ProofTree → Judgement → Type 0
@@ -21,30 +23,36 @@ IsWritten c n tree j = IsProof c (postorder tree) (judgement_by (letters_of n) j
 -- the tokens of a pattern parse as its syntax rows
 abbrev pub PatternsParse : Type 0
 PatternsParse =
-    (c : Context) (l n : Naming) (known : Known) (p : Pattern) → Serves c l n (are_known known) → EachLeaf (are_known known) p →
+    (c : Context) (l n : Naming) (known : Known) (p : Pattern) → Serves c l n (are_known known)
+    → EachLeaf (are_known known) p →
     IsWritten c n (syntax_tree l p) (is_pattern p)
 
 -- the proofs that are written for the judgements on patterns prove them
 abbrev pub FreshnessIsProved : Type 0
 FreshnessIsProved =
-    (c : Context) (l n : Naming) (known : Known) (x : ℕ) (p : Pattern) → Serves c l n (are_known known) → IsTrue (known.object x) → EachLeaf (are_known known) p →
+    (c : Context) (l n : Naming) (known : Known) (x : ℕ) (p : Pattern)
+    → Serves c l n (are_known known) → IsTrue (known.object x) → EachLeaf (are_known known) p →
     fresh x p ≡ true → IsWritten c n (fresh_tree l x p) (is_fresh x p)
 
 abbrev pub SubstitutionIsProved : Type 0
 SubstitutionIsProved =
-    (c : Context) (l n : Naming) (known : Known) (x : ℕ) (u p r : Pattern) → Serves c l n (are_known known) → IsTrue (known.object x) →
-    EachLeaf (are_known known) u → EachLeaf (are_known known) p → EachLeaf (are_known known) r → substituted p x u ≡ Some r →
+    (c : Context) (l n : Naming) (known : Known) (x : ℕ) (u p r : Pattern)
+    → Serves c l n (are_known known) → IsTrue (known.object x) →
+    EachLeaf (are_known known) u → EachLeaf (are_known known) p → EachLeaf (are_known known) r
+    → substituted p x u ≡ Some r →
     IsWritten c n (substitution_tree l x u p r) (is_substituted r p u x)
 
 abbrev pub PredicatesAreProved : Type 0
 PredicatesAreProved =
-    (c : Context) (l n : Naming) (known : Known) (p : Pattern) → Serves c l n (are_known known) → EachLeaf (are_known known) p → predicate p ≡ true →
+    (c : Context) (l n : Naming) (known : Known) (p : Pattern) → Serves c l n (are_known known)
+    → EachLeaf (are_known known) p → predicate p ≡ true →
     IsWritten c n (predicate_tree l p) (is_predicate p)
 
 -- a rule over proofs of its premises is a proof of its conclusion
 abbrev pub RulesAreProved : Type 0
 RulesAreProved =
-    (c : Context) (l n : Naming) (known : Known) (r : Rule) (is : List Instance) (ps : List Pattern) (q : Pattern) (trees : List ProofTree) →
+    (c : Context) (l n : Naming) (known : Known) (r : Rule) (is : List Instance) (ps : List Pattern)
+    (q : Pattern) (trees : List ProofTree) →
     Serves c l n (are_known known) → Infers r is ps q → EachInstance (are_known known) is →
     AllProve c (trees_of trees) (map (λ p. judgement_by (letters_of n) (holds p)) ps) →
     IsWritten c n (rule_tree l r is trees) (holds q)

@@ -1,7 +1,8 @@
 -- The tokens of a pattern in a proof file: a connective in brackets before its parts.
 use Rattle.std.specs.Prelude.{ℕ, List, [], ◌∷◌, ◌++◌, codes, decimal, slice_index_or}
 use Rattle.mm_text.specs.Bytes.{Token}
-use Rattle.ml_pat.specs.Patterns.{Pattern, bot, top, imp, not, and, or, equal, member, fun, ex, all, app, at_sort, next, ev, var, meta, constant}
+use Rattle.ml_pat.specs.Patterns.{Pattern, bot, top, imp, not, and, or, equal, member, fun, ex, all}
+use Rattle.ml_pat.specs.Patterns.{app, at_sort, next, ev, var, meta, constant}
 
 -- a token for each sort, constant, object variable and pattern variable
 pub record Naming : Type 0 where
@@ -43,8 +44,10 @@ text_by l (or p q) = bracketed (codes "\\or") (text_by l p ++ (text_by l q ++ br
 text_by l (equal p q) = bracketed (codes "\\eq") (text_by l p ++ (text_by l q ++ bracket))
 text_by l (member p q) = bracketed (codes "\\mem") (text_by l p ++ (text_by l q ++ bracket))
 text_by l (fun p s) = bracketed (codes "\\fun") (text_by l p ++ (l.sort s ++ bracket))
-text_by l (ex x s p) = bracketed (codes "\\ex") (l.object x ++ (l.sort s ++ (text_by l p ++ bracket)))
-text_by l (all x s p) = bracketed (codes "\\all") (l.object x ++ (l.sort s ++ (text_by l p ++ bracket)))
+text_by l (ex x s p) =
+    bracketed (codes "\\ex") (l.object x ++ (l.sort s ++ (text_by l p ++ bracket)))
+text_by l (all x s p) =
+    bracketed (codes "\\all") (l.object x ++ (l.sort s ++ (text_by l p ++ bracket)))
 text_by l (app p q) = bracketed (codes "\\app") (text_by l p ++ (text_by l q ++ bracket))
 text_by l (at_sort p s) = bracketed (codes "\\at") (text_by l p ++ (l.sort s ++ bracket))
 text_by l (next p) = bracketed (codes "\\next") (text_by l p ++ bracket)
@@ -66,7 +69,12 @@ name_of names i = slice_index_or names i []
 
 -- the tokens of sorts and constants are these, by number
 abbrev pub own_naming : List Token → Naming
-own_naming names = record { sort = name_of names; constant = name_of names; object = object_token; meta = meta_token }
+own_naming names = record {
+  sort = name_of names;
+  constant = name_of names;
+  object = object_token;
+  meta = meta_token;
+}
 
 abbrev pub tokens_of : List Token → Pattern → List Token
 tokens_of names p = text_by (letters_of (own_naming names)) p
@@ -85,5 +93,6 @@ abbrev pub judgement_by : Letters → Judgement → List Token
 judgement_by l (is_pattern p) = codes "#Pattern" ∷ text_by l p
 judgement_by l (holds p) = codes "|-" ∷ text_by l p
 judgement_by l (is_fresh x p) = codes "#Fresh" ∷ (l.object x ++ text_by l p)
-judgement_by l (is_substituted t p u x) = codes "#Sub" ∷ (text_by l t ++ (text_by l p ++ (text_by l u ++ l.object x)))
+judgement_by l (is_substituted t p u x) =
+    codes "#Sub" ∷ (text_by l t ++ (text_by l p ++ (text_by l u ++ l.object x)))
 judgement_by l (is_predicate p) = codes "#Pred" ∷ text_by l p

@@ -2,17 +2,20 @@
 use Rattle.std.specs.Prelude.{◌≡◌, ℕ, List, [], ◌∷◌, ◌++◌, flat_map, map, codes}
 use Rattle.mm_text.specs.Bytes.{Token}
 use Rattle.mm_database.specs.Proofs.{postorder}
-use Rattle.ml_pat.specs.Patterns.{Pattern, bot, top, imp, not, and, or, equal, member, fun, ex, all, app, at_sort}
+use Rattle.ml_pat.specs.Patterns.{Pattern, bot, top, imp, not, and, or, equal, member, fun, ex, all}
+use Rattle.ml_pat.specs.Patterns.{app, at_sort}
 use Rattle.ml_pat.specs.Patterns.{next, ev, var, meta, constant}
 use Rattle.mm_proof.specs.Tokens.{tokens_of, name_of, object_token, meta_token}
-use Rattle.mm_proof.specs.Labels.{name_label, statement_label, object_label, meta_label, premise_label, own_labels}
-use Rattle.mm_proof.specs.Trees.{syntax_tree, fresh_tree, unchanged_tree, substitution_tree, predicate_tree}
+use Rattle.mm_proof.specs.Labels.{name_label, statement_label, object_label, meta_label}
+use Rattle.mm_proof.specs.Labels.{premise_label, own_labels}
+use Rattle.mm_proof.specs.Trees.{syntax_tree, fresh_tree, unchanged_tree, substitution_tree}
+use Rattle.mm_proof.specs.Trees.{predicate_tree}
 use Rattle.mm_proof.specs.Entries.{Entry, entries_of}
 use Rattle.mm_proof.specs.declared.words.Word.{Word}
 use Rattle.mm_proof.specs.declared.words.Word.TheVariants as word
 use Rattle.mm_proof.specs.declared.words.Label.{Label}
-use Rattle.mm_proof.specs.declared.works.Work.{Work}
-use Rattle.mm_proof.specs.declared.works.Work.TheVariants as work
+use Rattle.mm_proof.specs.declared.works.ListingTask.{ListingTask}
+use Rattle.mm_proof.specs.declared.works.ListingTask.TheVariants as work
 
 -- the token of a word, with these names, in the block of a statement
 abbrev pub word_token : List Token → ℕ → Word → Token
@@ -35,21 +38,24 @@ listed names k labels = map (label_entry names k) labels
 
 -- labels were put after others, for all names and all statements
 abbrev pub Lists : (List Token → ℕ → List Entry) → List Label → List Label → Type 0
-Lists entries old new = (names : List Token) (k : ℕ) → listed names k new ≡ listed names k old ++ entries names k
+Lists entries old new =
+    (names : List Token) (k : ℕ) → listed names k new ≡ listed names k old ++ entries names k
 
 -- the tokens that a work writes
-abbrev pub work_tokens : List Token → ℕ → Work → List Token
+abbrev pub work_tokens : List Token → ℕ → ListingTask → List Token
 work_tokens names k (work.One w) = word_token names k w ∷ []
 work_tokens names k (work.Taking w n) = word_token names k w ∷ []
 work_tokens names k (work.Text p) = tokens_of names p.now
 work_tokens names k (work.Syntax p) = postorder (syntax_tree (own_labels k) p.now)
 work_tokens names k (work.Fresh x p) = postorder (fresh_tree (own_labels k) x.0 p.now)
-work_tokens names k (work.Unchanged x u p) = postorder (unchanged_tree (own_labels k) x.0 u.now p.now)
-work_tokens names k (work.Substituted x u p r) = postorder (substitution_tree (own_labels k) x.0 u.now p.now r.now)
+work_tokens names k (work.Unchanged x u p) =
+    postorder (unchanged_tree (own_labels k) x.0 u.now p.now)
+work_tokens names k (work.Substituted x u p r) =
+    postorder (substitution_tree (own_labels k) x.0 u.now p.now r.now)
 work_tokens names k (work.Predicate p) = postorder (predicate_tree (own_labels k) p.now)
 
 -- works one after another
-abbrev pub all_tokens : List Token → ℕ → List Work → List Token
+abbrev pub all_tokens : List Token → ℕ → List ListingTask → List Token
 all_tokens names k works = flat_map (work_tokens names k) works
 
 -- A token that takes no proof; and the tokens of a pattern, which take no proof.
@@ -86,22 +92,25 @@ text_entries names (app p q) = plain_bracketed (codes "\\app")
     (text_entries names p ++ (text_entries names q ++ plain_bracket))
 text_entries names (at_sort p s) = plain_bracketed (codes "\\at")
     (text_entries names p ++ (plain (name_of names s) ∷ plain_bracket))
-text_entries names (next p) = plain_bracketed (codes "\\next") (text_entries names p ++ plain_bracket)
+text_entries names (next p) =
+    plain_bracketed (codes "\\next") (text_entries names p ++ plain_bracket)
 text_entries names (ev p) = plain_bracketed (codes "\\ev") (text_entries names p ++ plain_bracket)
 text_entries names (var x) = plain (object_token x) ∷ []
 text_entries names (meta i) = plain (meta_token i) ∷ []
 text_entries names (constant c) = plain (name_of names c) ∷ []
 
 -- the labels that a work lists, with what each takes; tokens of a text take nothing
-abbrev pub work_entries : List Token → ℕ → Work → List Entry
+abbrev pub work_entries : List Token → ℕ → ListingTask → List Entry
 work_entries names k (work.One w) = plain (word_token names k w) ∷ []
 work_entries names k (work.Taking w n) = record { label = word_token names k w; takes = n } ∷ []
 work_entries names k (work.Text p) = text_entries names p.now
 work_entries names k (work.Syntax p) = entries_of (syntax_tree (own_labels k) p.now)
 work_entries names k (work.Fresh x p) = entries_of (fresh_tree (own_labels k) x.0 p.now)
-work_entries names k (work.Unchanged x u p) = entries_of (unchanged_tree (own_labels k) x.0 u.now p.now)
-work_entries names k (work.Substituted x u p r) = entries_of (substitution_tree (own_labels k) x.0 u.now p.now r.now)
+work_entries names k (work.Unchanged x u p) =
+    entries_of (unchanged_tree (own_labels k) x.0 u.now p.now)
+work_entries names k (work.Substituted x u p r) =
+    entries_of (substitution_tree (own_labels k) x.0 u.now p.now r.now)
 work_entries names k (work.Predicate p) = entries_of (predicate_tree (own_labels k) p.now)
 
-abbrev pub works_entries : List Token → ℕ → List Work → List Entry
+abbrev pub works_entries : List Token → ℕ → List ListingTask → List Entry
 works_entries names k works = flat_map (work_entries names k) works

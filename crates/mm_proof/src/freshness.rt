@@ -1,23 +1,26 @@
 // How the proofs of freshness and of predicates are split into smaller works.
 ghost use Rattle.std.specs.Prelude.{OnOk};
-ghost use Rattle.mm_proof.specs.WorkStacks.{PutsOn, quantified_steps, fresh_two_steps, fresh_one_steps};
-ghost use Rattle.mm_proof.specs.WorkStacks.{fresh_sorted_steps, predicate_two_steps, predicate_under_steps};
+ghost use Rattle.mm_proof.specs.WorkStacks.{PutsOn, quantified_steps, fresh_two_steps};
+ghost use Rattle.mm_proof.specs.WorkStacks.{fresh_one_steps};
+ghost use Rattle.mm_proof.specs.WorkStacks.{fresh_sorted_steps, predicate_two_steps};
+ghost use Rattle.mm_proof.specs.WorkStacks.{predicate_under_steps};
 ghost use Rattle.mm_proof.specs.Labels.{own_labels};
 ghost use Rattle.mm_proof.specs.Entries.{entries_of};
-ghost use Rattle.mm_proof.specs.Trees.{absent_tree, fresh_by_form, fresh_tree, predicate_tree, unchanged_tree};
+ghost use Rattle.mm_proof.specs.Trees.{absent_tree, fresh_by_form, fresh_tree, predicate_tree};
+ghost use Rattle.mm_proof.specs.Trees.{unchanged_tree};
 
 use crate::patterns::expand_syntax;
 use crate::searching::is_absent;
 use crate::stacks::put_steps;
 use crate::words::Word;
-use crate::works::Work;
+use crate::works::ListingTask;
 use ml_pat::{MForm, MPat, MSort, VarNo};
 use std::alloc::AllocError;
 
 /// The proof that x is not free under the quantifier of y. There is one label for y equal to x, and
 /// one for another y.
 fn put_quantified<'a>(
-    stack: &mut Vec<Work<'a>>,
+    stack: &mut Vec<ListingTask<'a>>,
     x: VarNo,
     y: VarNo,
     s: MSort,
@@ -25,16 +28,17 @@ fn put_quantified<'a>(
     bound: &'static str,
     other: &'static str,
 ) -> Result<(), AllocError>
-    ensures { OnOk result (PutsOn (λ names k. quantified_steps k x.0 y.0 s.0 body.now bound.now other.now)
+    ensures { OnOk result
+        (PutsOn (λ names k. quantified_steps k x.0 y.0 s.0 body.now bound.now other.now)
         stack.old.items stack.new.items) }
 {
     if x == y {
         return put_steps(
             stack,
             &[
-                Work::Syntax(body),
-                Work::One(Word::ObjectLabel(x.0)),
-                Work::One(Word::Declared(s.0)),
+                ListingTask::Syntax(body),
+                ListingTask::One(Word::ObjectLabel(x.0)),
+                ListingTask::One(Word::Declared(s.0)),
             ],
             bound,
         );
@@ -42,11 +46,11 @@ fn put_quantified<'a>(
     put_steps(
         stack,
         &[
-            Work::Syntax(body),
-            Work::One(Word::ObjectLabel(x.0)),
-            Work::One(Word::ObjectLabel(y.0)),
-            Work::One(Word::Declared(s.0)),
-            Work::Fresh(x, body),
+            ListingTask::Syntax(body),
+            ListingTask::One(Word::ObjectLabel(x.0)),
+            ListingTask::One(Word::ObjectLabel(y.0)),
+            ListingTask::One(Word::Declared(s.0)),
+            ListingTask::Fresh(x, body),
         ],
         other,
     )
@@ -54,7 +58,7 @@ fn put_quantified<'a>(
 
 /// The proof that x is not free in a form with two parts, by the rule with this label.
 fn put_fresh_two<'a>(
-    stack: &mut Vec<Work<'a>>,
+    stack: &mut Vec<ListingTask<'a>>,
     x: VarNo,
     p: &'a MPat,
     q: &'a MPat,
@@ -66,11 +70,11 @@ fn put_fresh_two<'a>(
     put_steps(
         stack,
         &[
-            Work::Syntax(p),
-            Work::Syntax(q),
-            Work::One(Word::ObjectLabel(x.0)),
-            Work::Fresh(x, p),
-            Work::Fresh(x, q),
+            ListingTask::Syntax(p),
+            ListingTask::Syntax(q),
+            ListingTask::One(Word::ObjectLabel(x.0)),
+            ListingTask::Fresh(x, p),
+            ListingTask::Fresh(x, q),
         ],
         label,
     )
@@ -78,19 +82,20 @@ fn put_fresh_two<'a>(
 
 /// The proof that x is not free in a form with one part, by the rule with this label.
 fn put_fresh_one<'a>(
-    stack: &mut Vec<Work<'a>>,
+    stack: &mut Vec<ListingTask<'a>>,
     x: VarNo,
     p: &'a MPat,
     label: &'static str,
 ) -> Result<(), AllocError>
-    ensures { OnOk result (PutsOn (λ names k. fresh_one_steps k x.0 p.now label.now) stack.old.items stack.new.items) }
+    ensures { OnOk result (PutsOn (λ names k. fresh_one_steps k x.0 p.now label.now) stack.old.items
+        stack.new.items) }
 {
     put_steps(
         stack,
         &[
-            Work::Syntax(p),
-            Work::One(Word::ObjectLabel(x.0)),
-            Work::Fresh(x, p),
+            ListingTask::Syntax(p),
+            ListingTask::One(Word::ObjectLabel(x.0)),
+            ListingTask::Fresh(x, p),
         ],
         label,
     )
@@ -98,7 +103,7 @@ fn put_fresh_one<'a>(
 
 /// The proof that x is not free in a form with one part and a sort, by the rule with this label.
 fn put_fresh_sorted<'a>(
-    stack: &mut Vec<Work<'a>>,
+    stack: &mut Vec<ListingTask<'a>>,
     x: VarNo,
     p: &'a MPat,
     s: MSort,
@@ -110,10 +115,10 @@ fn put_fresh_sorted<'a>(
     put_steps(
         stack,
         &[
-            Work::Syntax(p),
-            Work::One(Word::ObjectLabel(x.0)),
-            Work::One(Word::Declared(s.0)),
-            Work::Fresh(x, p),
+            ListingTask::Syntax(p),
+            ListingTask::One(Word::ObjectLabel(x.0)),
+            ListingTask::One(Word::Declared(s.0)),
+            ListingTask::Fresh(x, p),
         ],
         label,
     )
@@ -123,7 +128,7 @@ fn put_fresh_sorted<'a>(
 /// search for x takes no longer than writing the proof, because in both cases the proof has the
 /// syntax of the whole pattern.
 pub(crate) fn expand_fresh<'a>(
-    stack: &mut Vec<Work<'a>>,
+    stack: &mut Vec<ListingTask<'a>>,
     x: VarNo,
     pat: &'a MPat,
 ) -> Result<(), AllocError>
@@ -137,20 +142,27 @@ pub(crate) fn expand_fresh<'a>(
 }
 
 /// The proof that x is not free in a pattern in which it does not occur.
-fn put_absent<'a>(stack: &mut Vec<Work<'a>>, x: VarNo, pat: &'a MPat) -> Result<(), AllocError>
+fn put_absent<'a>(
+    stack: &mut Vec<ListingTask<'a>>,
+    x: VarNo,
+    pat: &'a MPat,
+) -> Result<(), AllocError>
     ensures { OnOk result (PutsOn (λ names k. entries_of (absent_tree (own_labels k) x.0 pat.now))
         stack.old.items stack.new.items) }
 {
     put_steps(
         stack,
-        &[Work::Syntax(pat), Work::One(Word::ObjectLabel(x.0))],
+        &[
+            ListingTask::Syntax(pat),
+            ListingTask::One(Word::ObjectLabel(x.0)),
+        ],
         "fr.d",
     )
 }
 
 /// The proof that x is not free in a pattern, by its form.
 fn expand_fresh_by_form<'a>(
-    stack: &mut Vec<Work<'a>>,
+    stack: &mut Vec<ListingTask<'a>>,
     x: VarNo,
     pat: &'a MPat,
 ) -> Result<(), AllocError>
@@ -179,21 +191,22 @@ fn expand_fresh_by_form<'a>(
 
 /// The proof that a pattern in which x is not free stays the same with u substituted for x.
 pub(crate) fn expand_unchanged<'a>(
-    stack: &mut Vec<Work<'a>>,
+    stack: &mut Vec<ListingTask<'a>>,
     x: VarNo,
     u: &'a MPat,
     pat: &'a MPat,
 ) -> Result<(), AllocError>
-    ensures { OnOk result (PutsOn (λ names k. entries_of (unchanged_tree (own_labels k) x.0 u.now pat.now))
+    ensures { OnOk result
+        (PutsOn (λ names k. entries_of (unchanged_tree (own_labels k) x.0 u.now pat.now))
         stack.old.items stack.new.items) }
 {
     put_steps(
         stack,
         &[
-            Work::Syntax(pat),
-            Work::Syntax(u),
-            Work::One(Word::ObjectLabel(x.0)),
-            Work::Fresh(x, pat),
+            ListingTask::Syntax(pat),
+            ListingTask::Syntax(u),
+            ListingTask::One(Word::ObjectLabel(x.0)),
+            ListingTask::Fresh(x, pat),
         ],
         "su.f",
     )
@@ -201,7 +214,7 @@ pub(crate) fn expand_unchanged<'a>(
 
 /// The proof that a form of two predicates is a predicate, by the rule with this label.
 fn put_predicate_two<'a>(
-    stack: &mut Vec<Work<'a>>,
+    stack: &mut Vec<ListingTask<'a>>,
     p: &'a MPat,
     q: &'a MPat,
     label: &'static str,
@@ -212,10 +225,10 @@ fn put_predicate_two<'a>(
     put_steps(
         stack,
         &[
-            Work::Syntax(p),
-            Work::Syntax(q),
-            Work::Predicate(p),
-            Work::Predicate(q),
+            ListingTask::Syntax(p),
+            ListingTask::Syntax(q),
+            ListingTask::Predicate(p),
+            ListingTask::Predicate(q),
         ],
         label,
     )
@@ -223,7 +236,7 @@ fn put_predicate_two<'a>(
 
 /// The proof that a quantifier over a predicate is a predicate, by the rule with this label.
 fn put_predicate_under<'a>(
-    stack: &mut Vec<Work<'a>>,
+    stack: &mut Vec<ListingTask<'a>>,
     x: VarNo,
     s: MSort,
     p: &'a MPat,
@@ -235,10 +248,10 @@ fn put_predicate_under<'a>(
     put_steps(
         stack,
         &[
-            Work::Syntax(p),
-            Work::One(Word::ObjectLabel(x.0)),
-            Work::One(Word::Declared(s.0)),
-            Work::Predicate(p),
+            ListingTask::Syntax(p),
+            ListingTask::One(Word::ObjectLabel(x.0)),
+            ListingTask::One(Word::Declared(s.0)),
+            ListingTask::Predicate(p),
         ],
         label,
     )
@@ -246,7 +259,7 @@ fn put_predicate_under<'a>(
 
 /// The proof that a pattern is everything or nothing, if its form shows this.
 pub(crate) fn expand_predicate<'a>(
-    stack: &mut Vec<Work<'a>>,
+    stack: &mut Vec<ListingTask<'a>>,
     pat: &'a MPat,
 ) -> Result<(), AllocError>
     ensures { OnOk result (PutsOn (λ names k. entries_of (predicate_tree (own_labels k) pat.now))
@@ -258,12 +271,27 @@ pub(crate) fn expand_predicate<'a>(
         MForm::Imp(p, q) => put_predicate_two(stack, p, q, "pr.imp"),
         MForm::And(p, q) => put_predicate_two(stack, p, q, "pr.and"),
         MForm::Or(p, q) => put_predicate_two(stack, p, q, "pr.or"),
-        MForm::Equal(p, q) => put_steps(stack, &[Work::Syntax(p), Work::Syntax(q)], "pr.eq"),
-        MForm::Member(p, q) => put_steps(stack, &[Work::Syntax(p), Work::Syntax(q)], "pr.mem"),
-        MForm::Not(p) => put_steps(stack, &[Work::Syntax(p), Work::Predicate(p)], "pr.not"),
+        MForm::Equal(p, q) => put_steps(
+            stack,
+            &[ListingTask::Syntax(p), ListingTask::Syntax(q)],
+            "pr.eq",
+        ),
+        MForm::Member(p, q) => put_steps(
+            stack,
+            &[ListingTask::Syntax(p), ListingTask::Syntax(q)],
+            "pr.mem",
+        ),
+        MForm::Not(p) => put_steps(
+            stack,
+            &[ListingTask::Syntax(p), ListingTask::Predicate(p)],
+            "pr.not",
+        ),
         MForm::Fun(p, s) => put_steps(
             stack,
-            &[Work::Syntax(p), Work::One(Word::Declared(s.0))],
+            &[
+                ListingTask::Syntax(p),
+                ListingTask::One(Word::Declared(s.0)),
+            ],
             "pr.fun",
         ),
         MForm::Ex(x, s, p) => put_predicate_under(stack, *x, *s, p, "pr.ex"),

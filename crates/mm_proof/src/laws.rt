@@ -1,6 +1,7 @@
 // Laws on the definitions, and the definitions tried on small patterns.
 ghost use Rattle.mm_proof.specs.Cases.{TriedCases};
-ghost use Rattle.mm_proof.specs.RenderLaws.{FreshnessIsProved, PatternsParse, PredicatesAreProved, RulesAreProved, SubstitutionIsProved};
+ghost use Rattle.mm_proof.specs.RenderLaws.{FreshnessIsProved, PatternsParse, PredicatesAreProved};
+ghost use Rattle.mm_proof.specs.RenderLaws.{RulesAreProved, SubstitutionIsProved};
 
 /// On small patterns, the definitions say what is written for them.
 pub fn tried()

@@ -28,4 +28,4 @@ mod works;
 pub use laws::{proof_laws, tried};
 pub use rules::{judgements, list_before, list_instances, pattern_at, variable_at};
 pub use words::{Label, Word, list_label, push_labels, push_word, push_words};
-pub use works::{Work, list_works, write_works};
+pub use works::{ListingTask, list_works, write_works};

@@ -8,31 +8,63 @@ ghost use Rattle.mm_proof.specs.Trees.{syntax_tree};
 
 use crate::stacks::{put_bracket, put_steps, put_word};
 use crate::words::Word;
-use crate::works::Work;
+use crate::works::ListingTask;
 use ml_pat::{MForm, MPat, MSort, VarNo};
 use std::alloc::AllocError;
 
 /// The tokens of a pattern.
-pub(crate) fn expand_text<'a>(stack: &mut Vec<Work<'a>>, pat: &'a MPat) -> Result<(), AllocError>
-    ensures { OnOk result (PutsOn (λ names k. text_entries names pat.now) stack.old.items stack.new.items) }
+pub(crate) fn expand_text<'a>(
+    stack: &mut Vec<ListingTask<'a>>,
+    pat: &'a MPat,
+) -> Result<(), AllocError>
+    ensures { OnOk result
+        (PutsOn (λ names k. text_entries names pat.now) stack.old.items stack.new.items) }
 {
     match pat.form() {
         MForm::Bot => put_word(stack, Word::Fixed("\\bot")),
         MForm::Top => put_word(stack, Word::Fixed("\\top")),
-        MForm::Imp(p, q) => put_bracket(stack, "\\imp", &[Work::Text(p), Work::Text(q)]),
-        MForm::And(p, q) => put_bracket(stack, "\\and", &[Work::Text(p), Work::Text(q)]),
-        MForm::Or(p, q) => put_bracket(stack, "\\or", &[Work::Text(p), Work::Text(q)]),
-        MForm::Equal(p, q) => put_bracket(stack, "\\eq", &[Work::Text(p), Work::Text(q)]),
-        MForm::Member(p, q) => put_bracket(stack, "\\mem", &[Work::Text(p), Work::Text(q)]),
-        MForm::App(p, q) => put_bracket(stack, "\\app", &[Work::Text(p), Work::Text(q)]),
-        MForm::Not(p) => put_bracket(stack, "\\not", &[Work::Text(p)]),
-        MForm::Next(p) => put_bracket(stack, "\\next", &[Work::Text(p)]),
-        MForm::Ev(p) => put_bracket(stack, "\\ev", &[Work::Text(p)]),
-        MForm::At(p, s) => put_bracket(stack, "\\at", &[Work::Text(p), Work::One(Word::Name(s.0))]),
+        MForm::Imp(p, q) => put_bracket(
+            stack,
+            "\\imp",
+            &[ListingTask::Text(p), ListingTask::Text(q)],
+        ),
+        MForm::And(p, q) => put_bracket(
+            stack,
+            "\\and",
+            &[ListingTask::Text(p), ListingTask::Text(q)],
+        ),
+        MForm::Or(p, q) => put_bracket(
+            stack,
+            "\\or",
+            &[ListingTask::Text(p), ListingTask::Text(q)],
+        ),
+        MForm::Equal(p, q) => put_bracket(
+            stack,
+            "\\eq",
+            &[ListingTask::Text(p), ListingTask::Text(q)],
+        ),
+        MForm::Member(p, q) => put_bracket(
+            stack,
+            "\\mem",
+            &[ListingTask::Text(p), ListingTask::Text(q)],
+        ),
+        MForm::App(p, q) => put_bracket(
+            stack,
+            "\\app",
+            &[ListingTask::Text(p), ListingTask::Text(q)],
+        ),
+        MForm::Not(p) => put_bracket(stack, "\\not", &[ListingTask::Text(p)]),
+        MForm::Next(p) => put_bracket(stack, "\\next", &[ListingTask::Text(p)]),
+        MForm::Ev(p) => put_bracket(stack, "\\ev", &[ListingTask::Text(p)]),
+        MForm::At(p, s) => put_bracket(
+            stack,
+            "\\at",
+            &[ListingTask::Text(p), ListingTask::One(Word::Name(s.0))],
+        ),
         MForm::Fun(p, s) => put_bracket(
             stack,
             "\\fun",
-            &[Work::Text(p), Work::One(Word::Name(s.0))],
+            &[ListingTask::Text(p), ListingTask::One(Word::Name(s.0))],
         ),
         MForm::Ex(x, s, p) => put_quantifier(stack, "\\ex", *x, *s, p),
         MForm::All(x, s, p) => put_quantifier(stack, "\\all", *x, *s, p),
@@ -43,35 +75,69 @@ pub(crate) fn expand_text<'a>(stack: &mut Vec<Work<'a>>, pat: &'a MPat) -> Resul
 }
 
 /// The proof that it is a pattern.
-pub(crate) fn expand_syntax<'a>(stack: &mut Vec<Work<'a>>, pat: &'a MPat) -> Result<(), AllocError>
+pub(crate) fn expand_syntax<'a>(
+    stack: &mut Vec<ListingTask<'a>>,
+    pat: &'a MPat,
+) -> Result<(), AllocError>
     ensures { OnOk result
-        (PutsOn (λ names k. entries_of (syntax_tree (own_labels k) pat.now)) stack.old.items stack.new.items) }
+        (PutsOn (λ names k. entries_of (syntax_tree (own_labels k) pat.now)) stack.old.items
+        stack.new.items) }
 {
     match pat.form() {
         MForm::Bot => put_steps(stack, &[], "w.bot"),
         MForm::Top => put_steps(stack, &[], "w.top"),
-        MForm::Imp(p, q) => put_steps(stack, &[Work::Syntax(p), Work::Syntax(q)], "w.imp"),
-        MForm::And(p, q) => put_steps(stack, &[Work::Syntax(p), Work::Syntax(q)], "w.and"),
-        MForm::Or(p, q) => put_steps(stack, &[Work::Syntax(p), Work::Syntax(q)], "w.or"),
-        MForm::Equal(p, q) => put_steps(stack, &[Work::Syntax(p), Work::Syntax(q)], "w.eq"),
-        MForm::Member(p, q) => put_steps(stack, &[Work::Syntax(p), Work::Syntax(q)], "w.mem"),
-        MForm::App(p, q) => put_steps(stack, &[Work::Syntax(p), Work::Syntax(q)], "w.app"),
-        MForm::Not(p) => put_steps(stack, &[Work::Syntax(p)], "w.not"),
-        MForm::Next(p) => put_steps(stack, &[Work::Syntax(p)], "w.next"),
-        MForm::Ev(p) => put_steps(stack, &[Work::Syntax(p)], "w.ev"),
+        MForm::Imp(p, q) => put_steps(
+            stack,
+            &[ListingTask::Syntax(p), ListingTask::Syntax(q)],
+            "w.imp",
+        ),
+        MForm::And(p, q) => put_steps(
+            stack,
+            &[ListingTask::Syntax(p), ListingTask::Syntax(q)],
+            "w.and",
+        ),
+        MForm::Or(p, q) => put_steps(
+            stack,
+            &[ListingTask::Syntax(p), ListingTask::Syntax(q)],
+            "w.or",
+        ),
+        MForm::Equal(p, q) => put_steps(
+            stack,
+            &[ListingTask::Syntax(p), ListingTask::Syntax(q)],
+            "w.eq",
+        ),
+        MForm::Member(p, q) => put_steps(
+            stack,
+            &[ListingTask::Syntax(p), ListingTask::Syntax(q)],
+            "w.mem",
+        ),
+        MForm::App(p, q) => put_steps(
+            stack,
+            &[ListingTask::Syntax(p), ListingTask::Syntax(q)],
+            "w.app",
+        ),
+        MForm::Not(p) => put_steps(stack, &[ListingTask::Syntax(p)], "w.not"),
+        MForm::Next(p) => put_steps(stack, &[ListingTask::Syntax(p)], "w.next"),
+        MForm::Ev(p) => put_steps(stack, &[ListingTask::Syntax(p)], "w.ev"),
         MForm::At(p, s) => put_steps(
             stack,
-            &[Work::Syntax(p), Work::One(Word::Declared(s.0))],
+            &[
+                ListingTask::Syntax(p),
+                ListingTask::One(Word::Declared(s.0)),
+            ],
             "w.at",
         ),
         MForm::Fun(p, s) => put_steps(
             stack,
-            &[Work::Syntax(p), Work::One(Word::Declared(s.0))],
+            &[
+                ListingTask::Syntax(p),
+                ListingTask::One(Word::Declared(s.0)),
+            ],
             "w.fun",
         ),
         MForm::Ex(x, s, p) => put_quantifier_syntax(stack, *x, *s, p, "w.ex"),
         MForm::All(x, s, p) => put_quantifier_syntax(stack, *x, *s, p, "w.all"),
-        MForm::Var(x) => put_steps(stack, &[Work::One(Word::ObjectLabel(x.0))], "w.var"),
+        MForm::Var(x) => put_steps(stack, &[ListingTask::One(Word::ObjectLabel(x.0))], "w.var"),
         MForm::Meta(i) => put_word(stack, Word::MetaLabel(*i)),
         MForm::Const(c) => put_word(stack, Word::Declared(c.0)),
     }
@@ -79,29 +145,30 @@ pub(crate) fn expand_syntax<'a>(stack: &mut Vec<Work<'a>>, pat: &'a MPat) -> Res
 
 /// Puts the tokens of a quantifier on a stack.
 fn put_quantifier<'a>(
-    stack: &mut Vec<Work<'a>>,
+    stack: &mut Vec<ListingTask<'a>>,
     connective: &'static str,
     x: VarNo,
     s: MSort,
     body: &'a MPat,
 ) -> Result<(), AllocError>
-    ensures { OnOk result (PutsOn (λ names k. quantifier_entries names connective.now x.0 s.0 body.now)
+    ensures { OnOk result
+        (PutsOn (λ names k. quantifier_entries names connective.now x.0 s.0 body.now)
         stack.old.items stack.new.items) }
 {
     put_bracket(
         stack,
         connective,
         &[
-            Work::One(Word::Object(x.0)),
-            Work::One(Word::Name(s.0)),
-            Work::Text(body),
+            ListingTask::One(Word::Object(x.0)),
+            ListingTask::One(Word::Name(s.0)),
+            ListingTask::Text(body),
         ],
     )
 }
 
 /// Puts the proof that a quantifier is a pattern on a stack.
 fn put_quantifier_syntax<'a>(
-    stack: &mut Vec<Work<'a>>,
+    stack: &mut Vec<ListingTask<'a>>,
     x: VarNo,
     s: MSort,
     body: &'a MPat,
@@ -113,9 +180,9 @@ fn put_quantifier_syntax<'a>(
     put_steps(
         stack,
         &[
-            Work::Syntax(body),
-            Work::One(Word::ObjectLabel(x.0)),
-            Work::One(Word::Declared(s.0)),
+            ListingTask::Syntax(body),
+            ListingTask::One(Word::ObjectLabel(x.0)),
+            ListingTask::One(Word::Declared(s.0)),
         ],
         label,
     )

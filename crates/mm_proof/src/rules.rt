@@ -7,10 +7,10 @@ ghost use Rattle.mm_proof.specs.Tokens.{Naming};
 ghost use Rattle.mm_proof.specs.Labels.{own_labels};
 ghost use Rattle.mm_proof.specs.Entries.{all_entries, instance_entries};
 ghost use Rattle.mm_proof.specs.Writing.{Lists};
-ghost use Rattle.mm_proof.specs.Trees.{pattern_at, trees_before, trees_behind, variable_at};
+ghost use Rattle.mm_proof.specs.Trees.{pattern_at, trees_before, trees_after, variable_at};
 
 use crate::words::{Label, Word, list_label};
-use crate::works::{Work, list_works};
+use crate::works::{ListingTask, list_works};
 use ml_kernel::{Inst, Rule};
 use ml_pat::{MPat, VarNo};
 use std::alloc::AllocError;
@@ -18,7 +18,8 @@ use std::alloc::AllocError;
 /// Lists the labels of the proofs of what is substituted for the variables of a rule.
 pub fn list_instances(labels: &mut Vec<Label>, instances: &[Inst]) -> Result<(), AllocError>
     ensures { OnOk result
-        (Lists (λ names k. instance_entries k (instances_of instances.now)) labels.old.items labels.new.items) }
+        (Lists (λ names k. instance_entries k (instances_of instances.now)) labels.old.items
+        labels.new.items) }
 {
     for instance in instances {
         list_instance(labels, instance)?;
@@ -29,10 +30,11 @@ pub fn list_instances(labels: &mut Vec<Label>, instances: &[Inst]) -> Result<(),
 /// Lists the proof of what is substituted for a variable of a rule.
 fn list_instance(labels: &mut Vec<Label>, instance: &Inst) -> Result<(), AllocError>
     ensures { OnOk result
-        (Lists (λ names k. instance_entries k (instances_of (instance.now ∷ []))) labels.old.items labels.new.items) }
+        (Lists (λ names k. instance_entries k (instances_of (instance.now ∷ []))) labels.old.items
+        labels.new.items) }
 {
     match instance {
-        Inst::Pat(p) => list_works(labels, &[Work::Syntax(p)]),
+        Inst::Pat(p) => list_works(labels, &[ListingTask::Syntax(p)]),
         Inst::Var(x) => list_label(labels, Word::ObjectLabel(x.0), 0),
         Inst::Sort(s) => list_label(labels, Word::Declared(s.0), 0),
     }
@@ -48,7 +50,8 @@ pub fn list_before(
 ) -> Result<(), AllocError>
     requires { nothing.now ≡ bot }
     ensures { OnOk result
-        (Lists (λ names k. all_entries (trees_before (own_labels k) rule (instances_of instances.now)))
+        (Lists
+        (λ names k. all_entries (trees_before (own_labels k) rule (instances_of instances.now)))
         labels.old.items labels.new.items) }
 {
     match rule {
@@ -56,7 +59,7 @@ pub fn list_before(
             let p = pattern_at(instances, 0, nothing);
             let q = pattern_at(instances, 1, nothing);
             let r = pattern_at(instances, 2, nothing);
-            let judged = Work::Substituted(variable_at(instances, 3), q, p, r);
+            let judged = ListingTask::Substituted(variable_at(instances, 3), q, p, r);
             list_works(labels, &[judged])
         }
         Rule::EqEl => {
@@ -66,11 +69,14 @@ pub fn list_before(
             let t = pattern_at(instances, 3, nothing);
             let u = pattern_at(instances, 4, nothing);
             let x = variable_at(instances, 5);
-            let judged = [Work::Substituted(x, p, r, t), Work::Substituted(x, q, r, u)];
+            let judged = [
+                ListingTask::Substituted(x, p, r, t),
+                ListingTask::Substituted(x, q, r, u),
+            ];
             list_works(labels, &judged)
         }
         Rule::MemNo | Rule::AppL | Rule::AppR => {
-            let judged = Work::Predicate(pattern_at(instances, 2, nothing));
+            let judged = ListingTask::Predicate(pattern_at(instances, 2, nothing));
             list_works(labels, &[judged])
         }
         _ => Ok(()),
@@ -80,7 +86,7 @@ pub fn list_before(
 /// How many judgements a rule has, before and after the proofs of its premises.
 pub fn judgements(rule: Rule) -> usize
     ensures judged { (l : Naming) (is : List Instance) →
-        result ≡ length (trees_before l rule is) + length (trees_behind l rule is) }
+        result ≡ length (trees_before l rule is) + length (trees_after l rule is) }
     ensures few { result ≤ 2 }
 {
     match rule {

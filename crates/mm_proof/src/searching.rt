@@ -65,7 +65,8 @@ fn put_both<'a>(
     p: &'a MPat,
     q: &'a MPat,
 ) -> Result<bool, AllocError>
-    ensures { IfOk result (λ going. IsLeft x.0 (absent x.0 p.now && absent x.0 q.now) (forms_in p.now + forms_in q.now + 1)
+    ensures { IfOk result (λ going.
+        IsLeft x.0 (absent x.0 p.now && absent x.0 q.now) (forms_in p.now + forms_in q.now + 1)
         stack.old.items stack.new.items going) }
 {
     stack.push(q)?;
@@ -80,7 +81,8 @@ fn put_body<'a>(
     y: VarNo,
     p: &'a MPat,
 ) -> Result<bool, AllocError>
-    ensures { IfOk result (λ going. IsLeft x.0 (not (x.0 == y.0) && absent x.0 p.now) (forms_in p.now + 1)
+    ensures { IfOk result
+        (λ going. IsLeft x.0 (not (x.0 == y.0) && absent x.0 p.now) (forms_in p.now + 1)
         stack.old.items stack.new.items going) }
 {
     if x == y {

@@ -1,14 +1,16 @@
 // How the proof of a substitution is split into smaller works.
 ghost use Rattle.std.specs.Prelude.{◌≡◌, OnOk};
-ghost use Rattle.mm_proof.specs.WorkStacks.{PutsOn, one_steps, sorted_steps, two_steps, under_steps};
+ghost use Rattle.mm_proof.specs.WorkStacks.{PutsOn, one_steps, sorted_steps, two_steps};
+ghost use Rattle.mm_proof.specs.WorkStacks.{under_steps};
 ghost use Rattle.mm_proof.specs.Labels.{own_labels};
 ghost use Rattle.mm_proof.specs.Entries.{entries_of};
-ghost use Rattle.mm_proof.specs.Trees.{first_part, second_part, substitution_by_form, substitution_tree};
+ghost use Rattle.mm_proof.specs.Trees.{first_part, second_part, substitution_by_form};
+ghost use Rattle.mm_proof.specs.Trees.{substitution_tree};
 
 use crate::freshness::expand_unchanged;
 use crate::stacks::put_steps;
 use crate::words::Word;
-use crate::works::Work;
+use crate::works::ListingTask;
 use ml_pat::{MForm, MPat, MSort, VarNo, fresh};
 use std::alloc::AllocError;
 
@@ -51,7 +53,7 @@ fn second_part(pat: &MPat) -> &MPat
 
 /// The proof of the substitution in two parts.
 fn put_two<'a>(
-    stack: &mut Vec<Work<'a>>,
+    stack: &mut Vec<ListingTask<'a>>,
     x: VarNo,
     u: &'a MPat,
     p: &'a MPat,
@@ -67,14 +69,14 @@ fn put_two<'a>(
     put_steps(
         stack,
         &[
-            Work::Syntax(p),
-            Work::Syntax(q),
-            Work::Syntax(second),
-            Work::Syntax(first),
-            Work::Syntax(u),
-            Work::One(Word::ObjectLabel(x.0)),
-            Work::Substituted(x, u, p, first),
-            Work::Substituted(x, u, q, second),
+            ListingTask::Syntax(p),
+            ListingTask::Syntax(q),
+            ListingTask::Syntax(second),
+            ListingTask::Syntax(first),
+            ListingTask::Syntax(u),
+            ListingTask::One(Word::ObjectLabel(x.0)),
+            ListingTask::Substituted(x, u, p, first),
+            ListingTask::Substituted(x, u, q, second),
         ],
         label,
     )
@@ -82,7 +84,7 @@ fn put_two<'a>(
 
 /// The proof of the substitution in one part, with the sort next to it.
 fn put_one<'a>(
-    stack: &mut Vec<Work<'a>>,
+    stack: &mut Vec<ListingTask<'a>>,
     x: VarNo,
     u: &'a MPat,
     p: &'a MPat,
@@ -96,18 +98,18 @@ fn put_one<'a>(
     put_steps(
         stack,
         &[
-            Work::Syntax(p),
-            Work::Syntax(first),
-            Work::Syntax(u),
-            Work::One(Word::ObjectLabel(x.0)),
-            Work::Substituted(x, u, p, first),
+            ListingTask::Syntax(p),
+            ListingTask::Syntax(first),
+            ListingTask::Syntax(u),
+            ListingTask::One(Word::ObjectLabel(x.0)),
+            ListingTask::Substituted(x, u, p, first),
         ],
         label,
     )
 }
 
 fn put_sorted<'a>(
-    stack: &mut Vec<Work<'a>>,
+    stack: &mut Vec<ListingTask<'a>>,
     x: VarNo,
     u: &'a MPat,
     p: &'a MPat,
@@ -122,12 +124,12 @@ fn put_sorted<'a>(
     put_steps(
         stack,
         &[
-            Work::Syntax(p),
-            Work::Syntax(first),
-            Work::Syntax(u),
-            Work::One(Word::ObjectLabel(x.0)),
-            Work::One(Word::Declared(s.0)),
-            Work::Substituted(x, u, p, first),
+            ListingTask::Syntax(p),
+            ListingTask::Syntax(first),
+            ListingTask::Syntax(u),
+            ListingTask::One(Word::ObjectLabel(x.0)),
+            ListingTask::One(Word::Declared(s.0)),
+            ListingTask::Substituted(x, u, p, first),
         ],
         label,
     )
@@ -135,7 +137,7 @@ fn put_sorted<'a>(
 
 /// The proof of the substitution under the quantifier of y, if x is free in the body.
 fn put_under<'a>(
-    stack: &mut Vec<Work<'a>>,
+    stack: &mut Vec<ListingTask<'a>>,
     x: VarNo,
     u: &'a MPat,
     y: VarNo,
@@ -144,21 +146,22 @@ fn put_under<'a>(
     made: &'a MPat,
     label: &'static str,
 ) -> Result<(), AllocError>
-    ensures { OnOk result (PutsOn (λ names k. under_steps k x.0 u.now y.0 s.0 p.now made.now label.now)
+    ensures { OnOk result
+        (PutsOn (λ names k. under_steps k x.0 u.now y.0 s.0 p.now made.now label.now)
         stack.old.items stack.new.items) }
 {
     let first = first_part(made);
     put_steps(
         stack,
         &[
-            Work::Syntax(p),
-            Work::Syntax(first),
-            Work::Syntax(u),
-            Work::One(Word::ObjectLabel(x.0)),
-            Work::One(Word::ObjectLabel(y.0)),
-            Work::One(Word::Declared(s.0)),
-            Work::Fresh(y, u),
-            Work::Substituted(x, u, p, first),
+            ListingTask::Syntax(p),
+            ListingTask::Syntax(first),
+            ListingTask::Syntax(u),
+            ListingTask::One(Word::ObjectLabel(x.0)),
+            ListingTask::One(Word::ObjectLabel(y.0)),
+            ListingTask::One(Word::Declared(s.0)),
+            ListingTask::Fresh(y, u),
+            ListingTask::Substituted(x, u, p, first),
         ],
         label,
     )
@@ -168,13 +171,14 @@ fn put_under<'a>(
 /// in the pattern. The search for x takes no longer than writing the proof, because the proof has
 /// the syntax of the whole pattern. The only exception is the pattern x itself.
 pub(crate) fn expand_substituted<'a>(
-    stack: &mut Vec<Work<'a>>,
+    stack: &mut Vec<ListingTask<'a>>,
     x: VarNo,
     u: &'a MPat,
     pat: &'a MPat,
     made: &'a MPat,
 ) -> Result<(), AllocError>
-    ensures { OnOk result (PutsOn (λ names k. entries_of (substitution_tree (own_labels k) x.0 u.now pat.now made.now))
+    ensures { OnOk result (PutsOn
+        (λ names k. entries_of (substitution_tree (own_labels k) x.0 u.now pat.now made.now))
         stack.old.items stack.new.items) }
 {
     if fresh(x, pat) {
@@ -185,7 +189,7 @@ pub(crate) fn expand_substituted<'a>(
 
 /// The proof of the substitution by the form of a pattern, in which x is free.
 fn expand_by_form<'a>(
-    stack: &mut Vec<Work<'a>>,
+    stack: &mut Vec<ListingTask<'a>>,
     x: VarNo,
     u: &'a MPat,
     pat: &'a MPat,
@@ -211,7 +215,10 @@ fn expand_by_form<'a>(
         MForm::All(y, s, p) => put_under(stack, x, u, *y, *s, p, made, "su.all"),
         MForm::Var(_) => put_steps(
             stack,
-            &[Work::Syntax(u), Work::One(Word::ObjectLabel(x.0))],
+            &[
+                ListingTask::Syntax(u),
+                ListingTask::One(Word::ObjectLabel(x.0)),
+            ],
             "su.v",
         ),
         MForm::Bot | MForm::Top | MForm::Meta(_) | MForm::Const(_) => expand_unchanged(

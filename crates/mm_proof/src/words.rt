@@ -4,7 +4,7 @@ ghost use Rattle.mm_proof.specs.Labels.{two_numbers};
 ghost use Rattle.mm_proof.specs.Tokens.{name_of};
 ghost use Rattle.mm_proof.specs.Entries.{labels_in};
 ghost use Rattle.mm_proof.specs.Writing.{Lists, label_entry, listed, word_token};
-ghost use Rattle.mm_text.specs.Written.{white_behind, written};
+ghost use Rattle.mm_text.specs.Written.{white_after, written};
 
 use itoa::Buffer;
 use ml_pat::Names;
@@ -42,19 +42,20 @@ pub struct Label {
 
 /// Adds a token, in the block of the statement with the number `serial`, and white space.
 pub fn push_word(to: &mut Vec<u8>, names: &Names, serial: u64, word: Word) -> Result<(), AllocError>
-    ensures { OnOk result (to.new.items ≡ to.old.items ++ written (word_token names.now serial word ∷ [])) }
+    ensures { OnOk result
+        (to.new.items ≡ to.old.items ++ written (word_token names.now serial word ∷ [])) }
 {
     let start = to.len();
     push_token(to, names, serial, word)?;
-    let white = white_behind(&to[start..]);
+    let white = white_after(&to[start..]);
     to.push(white)?;
     Ok(())
 }
 
 /// The white space after a token: the end of the line after the end of a statement, and otherwise a
 /// space.
-fn white_behind(token: &[u8]) -> u8
-    ensures { result ≡ white_behind token.now }
+fn white_after(token: &[u8]) -> u8
+    ensures { result ≡ white_after token.now }
 {
     let ends = token == b"${".as_slice() || token == b"$}".as_slice() || token == b"$.".as_slice();
     if ends { b'\n' } else { b' ' }
@@ -67,7 +68,8 @@ pub fn push_words(
     serial: u64,
     words: &[Word],
 ) -> Result<(), AllocError>
-    ensures { OnOk result (to.new.items ≡ to.old.items ++ written (map (word_token names.now serial) words.now)) }
+    ensures { OnOk result
+        (to.new.items ≡ to.old.items ++ written (map (word_token names.now serial) words.now)) }
 {
     for word in words {
         push_word(to, names, serial, *word)?;

@@ -15,7 +15,7 @@ use std::alloc::AllocError;
 
 /// Something to be listed.
 #[derive(Clone, Copy)]
-pub enum Work<'a> {
+pub enum ListingTask<'a> {
     /// A token, or a label that takes no proof.
     One(Word),
     /// A label that takes this many proofs.
@@ -44,9 +44,10 @@ pub fn write_works(
     labels: &mut Vec<Label>,
     names: &Names,
     serial: u64,
-    works: &[Work<'_>],
+    works: &[ListingTask<'_>],
 ) -> Result<(), AllocError>
-    ensures { OnOk result (to.new.items ≡ to.old.items ++ written (all_tokens names.now serial works.now)) }
+    ensures { OnOk result
+        (to.new.items ≡ to.old.items ++ written (all_tokens names.now serial works.now)) }
 {
     labels.clear();
     list_works(labels, works)?;
@@ -54,8 +55,9 @@ pub fn write_works(
 }
 
 /// Puts the labels of works after the other labels, in time linear in the number of labels.
-pub fn list_works(labels: &mut Vec<Label>, works: &[Work<'_>]) -> Result<(), AllocError>
-    ensures { OnOk result (Lists (λ names k. works_entries names k works.now) labels.old.items labels.new.items) }
+pub fn list_works(labels: &mut Vec<Label>, works: &[ListingTask<'_>]) -> Result<(), AllocError>
+    ensures { OnOk result
+        (Lists (λ names k. works_entries names k works.now) labels.old.items labels.new.items) }
 {
     let mut stack = Vec::new(*labels.allocator());
     put_all(&mut stack, works)?;
@@ -68,19 +70,20 @@ pub fn list_works(labels: &mut Vec<Label>, works: &[Work<'_>]) -> Result<(), All
 /// Lists a label, or splits a larger work.
 fn list_step<'a>(
     labels: &mut Vec<Label>,
-    stack: &mut Vec<Work<'a>>,
-    work: Work<'a>,
+    stack: &mut Vec<ListingTask<'a>>,
+    work: ListingTask<'a>,
 ) -> Result<(), AllocError>
-    ensures { OnOk result (TakesWork work.entry stack.old.items stack.new.items labels.old.items labels.new.items) }
+    ensures { OnOk result
+        (TakesWork work.entry stack.old.items stack.new.items labels.old.items labels.new.items) }
 {
     match work {
-        Work::One(word) => list_label(labels, word, 0),
-        Work::Taking(word, takes) => list_label(labels, word, takes),
-        Work::Text(p) => expand_text(stack, p),
-        Work::Syntax(p) => expand_syntax(stack, p),
-        Work::Fresh(x, p) => expand_fresh(stack, x, p),
-        Work::Unchanged(x, u, p) => expand_unchanged(stack, x, u, p),
-        Work::Substituted(x, u, p, r) => expand_substituted(stack, x, u, p, r),
-        Work::Predicate(p) => expand_predicate(stack, p),
+        ListingTask::One(word) => list_label(labels, word, 0),
+        ListingTask::Taking(word, takes) => list_label(labels, word, takes),
+        ListingTask::Text(p) => expand_text(stack, p),
+        ListingTask::Syntax(p) => expand_syntax(stack, p),
+        ListingTask::Fresh(x, p) => expand_fresh(stack, x, p),
+        ListingTask::Unchanged(x, u, p) => expand_unchanged(stack, x, u, p),
+        ListingTask::Substituted(x, u, p, r) => expand_substituted(stack, x, u, p, r),
+        ListingTask::Predicate(p) => expand_predicate(stack, p),
     }
 }

@@ -5,22 +5,32 @@ use Rattle.mm_database.specs.StatementTexts.{written_statements}
 use Rattle.ml_kernel.specs.Theorems.{Theorem}
 use Rattle.mm_claims.specs.Blocks.{Claim}
 use Rattle.mm_claims.specs.ClaimVariables.{claim_of}
-use Rattle.mm_claims.specs.Kept.{Kept}
+use Rattle.mm_claims.specs.Rendered.{Rendered}
 use Rattle.mm_claims.specs.Places.{MayProve, StatesLemma, lemma_statements}
 use Rattle.mm_render.specs.ProvedText.{GainsTheorem, WritesProof}
 
 -- `keep` says how it is kept: as a lemma, or as the last of a run
-pub states_written : (names : List Token) (old new : Kept) (t : Theorem) (keep : Kept → Claim → Kept) (claim : Claim)
+pub states_written : (names : List Token) (old new : Rendered) (t : Theorem)
+    (keep : Rendered → Claim → Rendered) (claim : Claim)
     (before own text after : List ℕ) (w : WritesProof names old t own text)
-    → (MayProve names old t → GainsTheorem names old (keep old (claim_of t.hypotheses t.conclusion)) w.find w.premise_place t)
-    → own ≡ [] → claim ≡ claim_of t.hypotheses t.conclusion → after ≡ before ++ text → new ≡ keep old claim
+    → (MayProve names old t
+    → GainsTheorem names old (keep old (claim_of t.hypotheses t.conclusion)) w.find
+    w.premise_place t)
+    → own ≡ [] → claim ≡ claim_of t.hypotheses t.conclusion → after ≡ before ++ text
+    → new ≡ keep old claim
     → StatesLemma names old new t before after
-states_written names old new t keep claim before own text after w gains empty claimed appended kept = record {
-  find = w.find;
-  premise_place = w.premise_place;
-  finds = w.finds;
-  premises = w.premises;
-  appended = appended ∙ ap (λ (bytes : List ℕ). before ++ bytes)
-      (w.appended ∙ ap (λ (bytes : List ℕ). bytes ++ written_statements (lemma_statements names old.count w.find w.premise_place t)) empty);
-  gains = λ may. subst (λ (k : Kept). GainsTheorem names old k w.find w.premise_place t) (sym (kept ∙ ap (keep old) claimed)) (gains may);
-}
+states_written names old new t keep claim before own text after w gains empty claimed appended
+    kept = record {
+      find = w.find;
+      premise_place = w.premise_place;
+      finds = w.finds;
+      premises = w.premises;
+      appended = appended ∙ ap (λ (bytes : List ℕ). before ++ bytes)
+          (w.appended
+          ∙ ap (λ (bytes : List ℕ). bytes
+          ++ written_statements (lemma_statements names old.count w.find w.premise_place t))
+          empty);
+      gains =
+          λ may. subst (λ (k : Rendered). GainsTheorem names old k w.find w.premise_place t)
+          (sym (kept ∙ ap (keep old) claimed)) (gains may);
+    }

@@ -7,7 +7,11 @@ use Rattle.mm_claims.specs.Blocks.{Claim, Stated}
 use Rattle.mm_render.specs.VariablesView.{plain_variables}
 
 abbrev pub plain_claim : code.Claim → Claim
-plain_claim s = record { variables = plain_variables s.variables.items; hypotheses = s.hypotheses.items; conclusion = s.conclusion }
+plain_claim s = record {
+  variables = plain_variables s.variables.items;
+  hypotheses = s.hypotheses.items;
+  conclusion = s.conclusion;
+}
 
 -- with the number of its label
 abbrev pub plain_stated : numbered.Stated → Stated

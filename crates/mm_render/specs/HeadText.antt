@@ -16,7 +16,8 @@ AreWordsOf tokens ws = (names : List Token) (k : ℕ) → map (word_token names 
 
 -- words with these tokens were added
 abbrev pub AddsWordsOf : List Token → List Word → List Word → Type 0
-AddsWordsOf tokens old new = (names : List Token) (k : ℕ) → map (word_token names k) new ≡ map (word_token names k) old ++ tokens
+AddsWordsOf tokens old new = (names : List Token) (k : ℕ)
+    → map (word_token names k) new ≡ map (word_token names k) old ++ tokens
 
 -- a `$d` of these tokens, if there are at least two
 abbrev pub separation : List Token → List (List Token)
@@ -26,4 +27,6 @@ separation (t ∷ (u ∷ ts)) = plain_tokens [] separates (t ∷ (u ∷ ts)) ∷
 
 -- the `$d` of each pattern variable among some, after these tokens
 abbrev pub pattern_separations : List Token → List Variable → List (List Token)
-pattern_separations objects vs = flat_map (λ v. separation (objects ++ variable_token v ∷ [])) (filter (λ v. not (is_object v)) vs)
+pattern_separations objects vs =
+    flat_map (λ v. separation (objects ++ variable_token v ∷ []))
+    (filter (λ v. not (is_object v)) vs)

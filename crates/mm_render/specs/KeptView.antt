@@ -1,11 +1,11 @@
 -- What a `Renderer` of the code keeps.
 use Rattle.mm_render.specs.declared.renderer.Renderer.TheInside.{Inside}
-use Rattle.mm_claims.specs.Kept.{Kept}
+use Rattle.mm_claims.specs.Rendered.{Rendered}
 use Rattle.mm_render.specs.ClaimView.{last_of, plain_stated_all}
 use Rattle.mm_render.specs.KeyPlaces.{ArePlaced}
 use Rattle.mm_render.specs.PlaceTable.{found_in}
 
-abbrev pub kept_of : Inside → Kept
+abbrev pub kept_of : Inside → Rendered
 kept_of r = record {
   begun = r.begun;
   named = r.named;

@@ -1,6 +1,8 @@
 -- The bytes by which statements are looked up.
-use Rattle.std.specs.Prelude.{ℕ, zero, suc, ◌+◌, ◌/◌, ◌%◌, nat_lt, if◌then◌else◌, List, [], ◌∷◌, flat_map}
-use Rattle.ml_pat.specs.Patterns.{Pattern, bot, top, imp, not, and, or, equal, member, fun, ex, all, app, at_sort, next, ev, var, meta, constant}
+use Rattle.std.specs.Prelude.{ℕ, zero, suc, ◌+◌, ◌/◌, ◌%◌, nat_lt, if◌then◌else◌, List, [], ◌∷◌}
+use Rattle.std.specs.Prelude.{flat_map}
+use Rattle.ml_pat.specs.Patterns.{Pattern, bot, top, imp, not, and, or, equal, member, fun, ex, all}
+use Rattle.ml_pat.specs.Patterns.{app, at_sort, next, ev, var, meta, constant}
 
 -- The numbers of a pattern before others, a form before its parts. For each form there is its
 -- number, and two numbers for what else is in it.
@@ -28,7 +30,8 @@ numbers (app p q) rest = 17 ∷ 0 ∷ 0 ∷ numbers p (numbers q rest)
 -- has 128 added. `room` is how many bytes there may be before the last one.
 abbrev pub bytes_within : ℕ → ℕ → List ℕ
 bytes_within zero n = n ∷ []
-bytes_within (suc room) n = if nat_lt n 128 then n ∷ [] else (n % 128 + 128) ∷ bytes_within room (n / 128)
+bytes_within (suc room) n =
+    if nat_lt n 128 then n ∷ [] else (n % 128 + 128) ∷ bytes_within room (n / 128)
 
 abbrev pub number_bytes : ℕ → List ℕ
 number_bytes n = bytes_within n n

@@ -22,13 +22,15 @@ stack_steps (d ∷ ds) = stack_steps ds + steps_in d.now
 
 -- derivations were put on a stack
 pub record PutsDerivations (ds : Derivations) (old new : List (Bor Derivation)) : Type 0 where
-  pub needs : (find : List Pattern → Pattern → Stated) → stack_needs find new ≡ all_variables_of find ds
-      ++ stack_needs find old
+  pub needs : (find : List Pattern → Pattern → Stated)
+      → stack_needs find new ≡ all_variables_of find ds ++ stack_needs find old
   pub steps : stack_steps new ≤ stack_steps old + all_steps ds
 
 -- A derivation was taken from a stack. The variables of its last step were added, and the
 -- derivations below it were put on the stack.
-pub record StepIsTaken (find : List Pattern → Pattern → Stated) (d : Derivation) (old new : List (Bor Derivation))
+pub record StepIsTaken (find : List Pattern → Pattern → Stated) (d : Derivation)
+    (old new : List (Bor Derivation))
     (vs vs' : List Variable) : Type 0 where
-  pub needs : added vs' (stack_needs find new) ≡ added vs (variables_of find d ++ stack_needs find old)
+  pub needs : added vs' (stack_needs find new)
+      ≡ added vs (variables_of find d ++ stack_needs find old)
   pub steps : stack_steps new < stack_steps old + steps_in d

@@ -10,9 +10,9 @@ use Rattle.ml_kernel.specs.declared.rules.Rule.{Rule}
 use Rattle.mm_proof.specs.Entries.{Entry, entries_of, all_entries}
 use Rattle.mm_proof.specs.Labels.{own_labels, statement_label}
 use Rattle.mm_proof.specs.Derivations.{Citing, derivation_tree, derivation_trees}
-use Rattle.mm_proof.specs.Trees.{trees_before, trees_behind}
+use Rattle.mm_proof.specs.Trees.{trees_before, trees_after}
 use Rattle.mm_proof.specs.Writing.{work_entries}
-use Rattle.mm_render.specs.declared.places.Standing.{Standing}
+use Rattle.mm_render.specs.declared.places.StatementContext.{StatementContext}
 use Rattle.mm_render.specs.declared.derivations.Part.{Part}
 use Rattle.mm_render.specs.declared.derivations.Part.TheVariants as part
 use Rattle.mm_claims.specs.Variables.{Variable}
@@ -56,26 +56,28 @@ parts_weight [] = 0
 parts_weight (p ∷ ps) = parts_weight ps + part_weight p
 
 -- parts that list these labels were put on a stack, with at most this weight
-pub record PutsParts (put : List Token → ℕ → Citing → List Entry) (more : ℕ) (old new : List Part) : Type 0 where
-  pub entries : (names : List Token) (k : ℕ) (s : Citing) → parts_entries names k s new ≡ put names k s
-      ++ parts_entries names k s old
+pub record PutsParts (put : List Token → ℕ → Citing → List Entry) (more : ℕ) (old new : List Part) :
+    Type 0 where
+  pub entries : (names : List Token) (k : ℕ) (s : Citing)
+      → parts_entries names k s new ≡ put names k s ++ parts_entries names k s old
   pub weight : parts_weight new ≤ parts_weight old + more
 
 -- a part was taken from a stack: it was listed, or the parts that are left of it were put on the
 -- stack
 pub record PartIsTaken (names : List Token) (k : ℕ) (s : Citing) (p : Part) (old new : List Part)
     (list list' : List Entry) : Type 0 where
-  pub entries : list' ++ parts_entries names k s new ≡ list ++ (part_entries names k s p ++ parts_entries names k s old)
+  pub entries : list' ++ parts_entries names k s new
+      ≡ list ++ (part_entries names k s p ++ parts_entries names k s old)
   pub weight : parts_weight new < parts_weight old + part_weight p
 
 -- what is left of a rule: the proofs of its premises, the judgement after them, and its label
 abbrev pub rest_of_rule : ℕ → Citing → Rule → List Instance → Derivations → List Entry
 rest_of_rule k s r is ds =
-    all_entries_by k s ds ++ (all_entries (trees_behind (own_labels k) r is) ++
+    all_entries_by k s ds ++ (all_entries (trees_after (own_labels k) r is) ++
     record {
       label = label r;
       takes = length is + (length (trees_before (own_labels k) r is)
-          + (how_many_by ds + length (trees_behind (own_labels k) r is)));
+          + (how_many_by ds + length (trees_after (own_labels k) r is)));
     } ∷ [])
 
 -- what is left of the citation of a claim: the proofs of its hypotheses and its label
@@ -92,5 +94,5 @@ abbrev pub value_entries : ℕ → List ℕ → List Pattern → List Variable �
 value_entries k new ms vs = all_entries (map (variable_tree (own_labels k) new ms) vs)
 
 -- the citing of the statement that is being written
-abbrev pub citing_at : Standing → Citing
+abbrev pub citing_at : StatementContext → Citing
 citing_at at = claims_citing at.serial (found_at at) (premises_at at)

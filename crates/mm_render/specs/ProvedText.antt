@@ -8,24 +8,28 @@ use Rattle.mm_claims.specs.Blocks.{Stated, open_assertion}
 use Rattle.mm_claims.specs.CitedAt.{ArePremises}
 use Rattle.mm_claims.specs.ClaimVariables.{claim_of, claim_variables}
 use Rattle.mm_claims.specs.Keeping.{Gains, with_last, with_stated}
-use Rattle.mm_claims.specs.Kept.{Kept, all_stated}
+use Rattle.mm_claims.specs.Rendered.{Rendered, all_stated}
 use Rattle.mm_claims.specs.Places.{Finds, MayProve, lemma_statements, more_variables}
 
 -- exactly this theorem is gained, if it is kept as a lemma or as the last of a run
-abbrev pub GainsTheorem : List Token → Kept → Kept → (List Pattern → Pattern → Stated) → (Pattern → ℕ) → Theorem →
-    Type 0
+abbrev pub GainsTheorem : List Token → Rendered → Rendered → (List Pattern → Pattern → Stated)
+    → (Pattern → ℕ) → Theorem → Type 0
 GainsTheorem names old new find premise_place t =
     Gains names old new (written_statements (lemma_statements names old.count find premise_place t))
     (claim_variables t.hypotheses t.conclusion ++ more_variables find t)
     (open_assertion true (take old.named names) old.count (claim_of t.hypotheses t.conclusion))
 
-pub record WritesProof (names : List Token) (k : Kept) (t : Theorem) (text text' : List ℕ) : Type 0 where
+pub record WritesProof (names : List Token) (k : Rendered) (t : Theorem) (text text' : List ℕ) :
+    Type 0 where
   pub find : List Pattern → Pattern → Stated
   pub premise_place : Pattern → ℕ
   pub finds : Finds (all_stated k) find
   pub premises : ArePremises t.hypotheses premise_place
-  pub appended : text' ≡ text ++ written_statements (lemma_statements names k.count find premise_place t)
-  pub gains : MayProve names k t → GainsTheorem names k (with_stated k (claim_of t.hypotheses t.conclusion)) find
+  pub appended : text'
+      ≡ text ++ written_statements (lemma_statements names k.count find premise_place t)
+  pub gains : MayProve names k t
+      → GainsTheorem names k (with_stated k (claim_of t.hypotheses t.conclusion)) find
       premise_place t
-  pub gains_last : MayProve names k t → GainsTheorem names k (with_last k (claim_of t.hypotheses t.conclusion)) find
+  pub gains_last : MayProve names k t
+      → GainsTheorem names k (with_last k (claim_of t.hypotheses t.conclusion)) find
       premise_place t

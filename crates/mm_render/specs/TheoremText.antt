@@ -12,8 +12,12 @@ use Rattle.mm_database.specs.StatementTexts.{written_statements}
 
 -- the theorem's label and statement, up to its proof
 abbrev pub statement_front : List Token → ℕ → Pattern → List ℕ
-statement_front names k q = written (statement_label k ∷ (codes "$p" ∷ (holds_text (own_naming names) q ++ codes "$=" ∷ [])))
+statement_front names k q =
+    written
+    (statement_label k ∷ (codes "$p" ∷ (holds_text (own_naming names) q ++ codes "$=" ∷ [])))
 
 -- `${`, the head, and then the label and the statement
 abbrev pub theorem_front : List Token → ℕ → List Variable → List Pattern → Pattern → List ℕ
-theorem_front names k vs ps q = written_statements ((codes "${" ∷ []) ∷ head_statements names k vs ps) ++ statement_front names k q
+theorem_front names k vs ps q =
+    written_statements ((codes "${" ∷ []) ∷ head_statements names k vs ps)
+    ++ statement_front names k q

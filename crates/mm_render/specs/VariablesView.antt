@@ -35,11 +35,15 @@ stack_variables (p ∷ ps) = stack_variables ps ++ variables_in p
 
 -- A pattern was taken from a stack. Some of its variables were added, and its parts with the others
 -- were put on the stack.
-pub record VariablesAreTaken (of_pattern : List plain.Variable) (size : ℕ) (old new : List (Bor Pattern)) (vs vs' : List plain.Variable) : Type 0 where
-  pub variables : added vs' (stack_variables (patterns_of new)) ≡ added vs (of_pattern ++ stack_variables (patterns_of old))
+pub record VariablesAreTaken (of_pattern : List plain.Variable) (size : ℕ)
+    (old new : List (Bor Pattern)) (vs vs' : List plain.Variable) : Type 0 where
+  pub variables : added vs' (stack_variables (patterns_of new))
+      ≡ added vs (of_pattern ++ stack_variables (patterns_of old))
   pub weight : all_forms (patterns_of new) < all_forms (patterns_of old) + size
 
 -- patterns with these variables were put on a stack
-pub record PutsVariables (of_patterns : List plain.Variable) (size : ℕ) (old new : List (Bor Pattern)) : Type 0 where
-  pub variables : stack_variables (patterns_of new) ≡ of_patterns ++ stack_variables (patterns_of old)
+pub record PutsVariables (of_patterns : List plain.Variable) (size : ℕ)
+    (old new : List (Bor Pattern)) : Type 0 where
+  pub variables : stack_variables (patterns_of new)
+      ≡ of_patterns ++ stack_variables (patterns_of old)
   pub weight : all_forms (patterns_of new) < all_forms (patterns_of old) + size

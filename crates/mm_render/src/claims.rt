@@ -32,7 +32,8 @@ pub(crate) fn claim_of(
     hypotheses: &[MPat],
     conclusion: &MPat,
 ) -> Result<Claim, AllocError>
-    ensures claim { IfOk result (λ claim. plain_claim claim ≡ claim_of hypotheses.now conclusion.now) }
+    ensures claim { IfOk result
+        (λ claim. plain_claim claim ≡ claim_of hypotheses.now conclusion.now) }
     ensures numbered { OnOk result (AreNumbered (claim_variables hypotheses.now conclusion.now)) }
 {
     let variables = variables_of_claim(alloc, hypotheses, conclusion)?;

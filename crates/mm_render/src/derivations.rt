@@ -7,21 +7,22 @@ ghost use Rattle.ml_kernel.specs.StepsIn.{all_steps};
 ghost use Rattle.ml_kernel.specs.Theorems.{derivations};
 ghost use Rattle.mm_proof.specs.Entries.{all_entries};
 ghost use Rattle.mm_proof.specs.Labels.{own_labels, premise_label};
-ghost use Rattle.mm_proof.specs.Trees.{trees_behind};
+ghost use Rattle.mm_proof.specs.Trees.{trees_after};
 ghost use Rattle.mm_proof.specs.Writing.{Lists, listed, plain};
-ghost use Rattle.mm_render.specs.Parts.{PartIsTaken, PutsParts, citing_at, entries_by, all_entries_by, proof_of};
+ghost use Rattle.mm_render.specs.Parts.{PartIsTaken, PutsParts, citing_at, entries_by};
+ghost use Rattle.mm_render.specs.Parts.{all_entries_by, proof_of};
 ghost use Rattle.mm_render.specs.Parts.{rest_of_citation, rest_of_rule, value_entries};
 ghost use Rattle.mm_render.specs.PlaceTable.{found_at, premises_at};
 ghost use Rattle.mm_render.specs.VariablesView.{plain_variables, variable_of};
 ghost use Rattle.mm_text.specs.Written.{written};
 
-use crate::places::{Standing, found, premise_of};
+use crate::places::{StatementContext, found, premise_of};
 use crate::variables::{Variable, renamed};
 use ml_kernel::{Deriv, DerivStep, Inst, Rule};
 use ml_pat::{MPat, VarNo};
 use mm_proof::{
-    Label, Word, Work, judgements, list_before, list_instances, list_label, list_works, pattern_at,
-    push_labels, variable_at,
+    Label, ListingTask, Word, judgements, list_before, list_instances, list_label, list_works,
+    pattern_at, push_labels, variable_at,
 };
 use std::alloc::AllocError;
 
@@ -29,7 +30,7 @@ use std::alloc::AllocError;
 #[derive(Clone, Copy)]
 pub(crate) enum Part<'a> {
     /// A part without a derivation in it.
-    Plain(Work<'a>),
+    Plain(ListingTask<'a>),
     /// The proof by a derivation.
     Derived(&'a Deriv),
 }
@@ -38,11 +39,13 @@ pub(crate) enum Part<'a> {
 pub(crate) fn write_derivation(
     to: &mut Vec<u8>,
     labels: &mut Vec<Label>,
-    at: &Standing<'_>,
+    at: &StatementContext<'_>,
     derivation: &Deriv,
 ) -> Result<(), AllocError>
     ensures { OnOk result
-        (to.new.items ≡ to.old.items ++ written (proof_of at.now.serial (citing_at at.now) derivation.now)) }
+        (to.new.items
+        ≡ to.old.items
+        ++ written (proof_of at.now.serial (citing_at at.now) derivation.now)) }
 {
     labels.clear();
     list_derivation(labels, at, derivation)?;
@@ -52,7 +55,7 @@ pub(crate) fn write_derivation(
 /// Lists the labels of the proof by a derivation, in the statement `at`.
 fn list_derivation(
     labels: &mut Vec<Label>,
-    at: &Standing<'_>,
+    at: &StatementContext<'_>,
     derivation: &Deriv,
 ) -> Result<(), AllocError>
     ensures { OnOk result (listed at.now.names.now at.now.serial labels.new.items ≡
@@ -71,7 +74,7 @@ fn list_derivation(
 /// Lists a part, or splits a step of a derivation.
 fn list_part<'a>(
     labels: &mut Vec<Label>,
-    at: &Standing<'_>,
+    at: &StatementContext<'_>,
     nothing: &'a MPat,
     stack: &mut Vec<Part<'a>>,
     part: Part<'a>,
@@ -109,7 +112,7 @@ fn list_part<'a>(
 /// Lists the label of a hypothesis.
 fn list_premise(
     labels: &mut Vec<Label>,
-    at: &Standing<'_>,
+    at: &StatementContext<'_>,
     pattern: &MPat,
 ) -> Result<(), AllocError>
     ensures { OnOk result (listed at.now.names.now at.now.serial labels.new.items ≡
@@ -125,7 +128,7 @@ fn list_premise(
 /// label.
 fn list_citation<'a>(
     labels: &mut Vec<Label>,
-    at: &Standing<'_>,
+    at: &StatementContext<'_>,
     stack: &mut Vec<Part<'a>>,
     hypotheses: &[MPat],
     conclusion: &MPat,
@@ -135,17 +138,20 @@ fn list_citation<'a>(
 ) -> Result<(), AllocError>
     ensures values { OnOk result
         (Lists (λ names k. value_entries k (numbers_of new.now) patterns.now
-        (found_at at.now hypotheses.now conclusion.now).claim.variables) labels.old.items labels.new.items) }
+        (found_at at.now hypotheses.now
+        conclusion.now).claim.variables) labels.old.items labels.new.items) }
     ensures stack { OnOk result
-        (PutsParts (λ names k s. rest_of_citation k s (found_at at.now hypotheses.now conclusion.now)
-        (derivations parts.now)) (3 * all_steps (derivations parts.now) + 1) stack.old.items stack.new.items) }
+        (PutsParts
+        (λ names k s. rest_of_citation k s (found_at at.now hypotheses.now conclusion.now)
+        (derivations parts.now)) (3 * all_steps (derivations parts.now)
+        + 1) stack.old.items stack.new.items) }
 {
     let cited = found(*labels.allocator(), at, hypotheses, conclusion)?;
     for variable in cited.variables {
         list_value(labels, *variable, new, patterns)?;
     }
     let takes = cited.variables.len() + parts.len();
-    stack.push(Part::Plain(Work::Taking(Word::Stated(cited.number), takes)))?;
+    stack.push(Part::Plain(ListingTask::Taking(Word::Stated(cited.number), takes)))?;
     put_derived(stack, parts)
 }
 
@@ -158,13 +164,14 @@ fn list_value(
     patterns: &[MPat],
 ) -> Result<(), AllocError>
     ensures { OnOk result
-        (Lists (λ names k. value_entries k (numbers_of new.now) patterns.now (variable_of variable ∷ []))
+        (Lists (λ names k.
+        value_entries k (numbers_of new.now) patterns.now (variable_of variable ∷ []))
         labels.old.items labels.new.items) }
 {
     match variable {
         Variable::Object(x) => list_label(labels, Word::ObjectLabel(renamed(new, x).0), 0),
         Variable::Pattern(i) => match patterns.get(i as usize) {
-            Some(pattern) => list_works(labels, &[Work::Syntax(pattern)]),
+            Some(pattern) => list_works(labels, &[ListingTask::Syntax(pattern)]),
             None => list_label(labels, Word::MetaLabel(i), 0),
         },
     }
@@ -173,7 +180,8 @@ fn list_value(
 /// Puts derivations on a stack, the first on top.
 fn put_derived<'a>(stack: &mut Vec<Part<'a>>, parts: &'a [Deriv]) -> Result<(), AllocError>
     ensures { OnOk result
-        (PutsParts (λ names k s. all_entries_by k s (derivations parts.now)) (3 * all_steps (derivations parts.now))
+        (PutsParts (λ names k s. all_entries_by k s (derivations parts.now))
+        (3 * all_steps (derivations parts.now))
         stack.old.items stack.new.items) }
 {
     let mut left = parts.len();
@@ -195,18 +203,19 @@ fn put_rule<'a>(
 ) -> Result<(), AllocError>
     requires { nothing.now ≡ bot }
     ensures { OnOk result
-        (PutsParts (λ names k s. rest_of_rule k s rule (instances_of instances.now) (derivations parts.now))
+        (PutsParts (λ names k s.
+        rest_of_rule k s rule (instances_of instances.now) (derivations parts.now))
         (3 * all_steps (derivations parts.now) + 2) stack.old.items stack.new.items) }
 {
     let takes = instances.len() + judgements(rule) + parts.len();
-    stack.push(Part::Plain(Work::Taking(Word::Fixed(rule.label()), takes)))?;
-    put_behind(stack, rule, instances, nothing)?;
+    stack.push(Part::Plain(ListingTask::Taking(Word::Fixed(rule.label()), takes)))?;
+    put_after(stack, rule, instances, nothing)?;
     put_derived(stack, parts)
 }
 
 /// Puts on a stack the judgement of a rule that comes after the proofs of its premises, if it has
 /// one.
-fn put_behind<'a>(
+fn put_after<'a>(
     stack: &mut Vec<Part<'a>>,
     rule: Rule,
     instances: &'a [Inst],
@@ -214,12 +223,16 @@ fn put_behind<'a>(
 ) -> Result<(), AllocError>
     requires { nothing.now ≡ bot }
     ensures { OnOk result
-        (PutsParts (λ names k s. all_entries (trees_behind (own_labels k) rule (instances_of instances.now))) 1
+        (PutsParts (λ names k s.
+        all_entries (trees_after (own_labels k) rule (instances_of instances.now))) 1
         stack.old.items stack.new.items) }
 {
     match rule {
         Rule::ExEl => {
-            let judged = Work::Fresh(variable_at(instances, 2), pattern_at(instances, 1, nothing));
+            let judged = ListingTask::Fresh(
+                variable_at(instances, 2),
+                pattern_at(instances, 1, nothing),
+            );
             stack.push(Part::Plain(judged))?;
             Ok(())
         }

@@ -1,7 +1,9 @@
 // The head of a block: its variables, which of them have to stay apart, and its hypotheses.
 ghost use Rattle.std.specs.Prelude.{◌≡◌, [], ◌∷◌, ◌++◌, IfOk, OnOk, map};
-ghost use Rattle.mm_claims.specs.Blocks.{head_statements, premise_statements, separation_statements, separations, variable_statements};
-ghost use Rattle.mm_render.specs.HeadText.{AddsWordsOf, AreWordsOf, IsWordOf, pattern_separations, separation};
+ghost use Rattle.mm_claims.specs.Blocks.{head_statements, premise_statements};
+ghost use Rattle.mm_claims.specs.Blocks.{separation_statements, separations, variable_statements};
+ghost use Rattle.mm_render.specs.HeadText.{AddsWordsOf, AreWordsOf, IsWordOf, pattern_separations};
+ghost use Rattle.mm_render.specs.HeadText.{separation};
 ghost use Rattle.mm_claims.specs.Variables.{object_tokens, variable_label, variable_token};
 ghost use Rattle.mm_render.specs.VariablesView.{plain_variables, variable_of};
 ghost use Rattle.mm_proof.specs.Writing.{word_token};
@@ -9,7 +11,7 @@ ghost use Rattle.mm_database.specs.StatementTexts.{written_statements};
 
 use crate::variables::Variable;
 use ml_pat::{MPat, Names};
-use mm_proof::{Label, Word, Work, push_word, push_words, write_works};
+use mm_proof::{Label, ListingTask, Word, push_word, push_words, write_works};
 use std::alloc::{AllocError, Global};
 
 /// Adds the head of the block with the number `serial`: its variables, which of them have to stay
@@ -22,7 +24,10 @@ pub(crate) fn push_head(
     variables: &[Variable],
     hypotheses: &[MPat],
 ) -> Result<(), AllocError>
-    ensures { OnOk result (to.new.items ≡ to.old.items ++ written_statements (head_statements names.now serial (plain_variables variables.now) hypotheses.now)) }
+    ensures { OnOk result (to.new.items
+        ≡ to.old.items
+        ++ written_statements
+        (head_statements names.now serial (plain_variables variables.now) hypotheses.now)) }
 {
     push_variables(to, names, serial, variables)?;
     push_separations(to, names, serial, variables)?;
@@ -36,7 +41,9 @@ fn push_variables(
     serial: u64,
     variables: &[Variable],
 ) -> Result<(), AllocError>
-    ensures { OnOk result (to.new.items ≡ to.old.items ++ written_statements (variable_statements serial (plain_variables variables.now))) }
+    ensures { OnOk result (to.new.items
+        ≡ to.old.items
+        ++ written_statements (variable_statements serial (plain_variables variables.now))) }
 {
     for variable in variables {
         push_variable(to, names, serial, *variable)?;
@@ -51,7 +58,9 @@ fn push_variable(
     serial: u64,
     variable: Variable,
 ) -> Result<(), AllocError>
-    ensures { OnOk result (to.new.items ≡ to.old.items ++ written_statements (variable_statements serial (variable_of variable ∷ []))) }
+    ensures { OnOk result (to.new.items
+        ≡ to.old.items
+        ++ written_statements (variable_statements serial (variable_of variable ∷ []))) }
 {
     let token = token_word(variable);
     let typecode = match variable {
@@ -103,7 +112,10 @@ fn push_separations(
     serial: u64,
     variables: &[Variable],
 ) -> Result<(), AllocError>
-    ensures { OnOk result (to.new.items ≡ to.old.items ++ written_statements (separation_statements (separations (plain_variables variables.now)))) }
+    ensures { OnOk result (to.new.items
+        ≡ to.old.items
+        ++ written_statements
+        (separation_statements (separations (plain_variables variables.now)))) }
 {
     let mut words = object_words(*to.allocator(), variables)?;
     push_separation(to, names, serial, &words)?;
@@ -119,7 +131,11 @@ fn push_pattern_separations(
     words: &mut Vec<Word>,
     variables: &[Variable],
 ) -> Result<(), AllocError>
-    ensures { OnOk result (to.new.items ≡ to.old.items ++ written_statements (pattern_separations (map (word_token names.now serial) words.old.items) (plain_variables variables.now))) }
+    ensures { OnOk result (to.new.items
+        ≡ to.old.items
+        ++ written_statements (pattern_separations
+        (map (word_token names.now serial) words.old.items)
+        (plain_variables variables.now))) }
 {
     for variable in variables {
         push_separations_of(to, names, serial, words, *variable)?;
@@ -136,7 +152,10 @@ fn push_separations_of(
     words: &mut Vec<Word>,
     variable: Variable,
 ) -> Result<(), AllocError>
-    ensures text { OnOk result (to.new.items ≡ to.old.items ++ written_statements (pattern_separations (map (word_token names.now serial) words.old.items) (variable_of variable ∷ []))) }
+    ensures text { OnOk result (to.new.items
+        ≡ to.old.items
+        ++ written_statements (pattern_separations
+        (map (word_token names.now serial) words.old.items) (variable_of variable ∷ []))) }
     ensures words { OnOk result (words.new.items ≡ words.old.items) }
 {
     match variable {
@@ -152,7 +171,8 @@ fn push_separations_of(
 
 /// The tokens of the object variables among some.
 fn object_words(alloc: Global, variables: &[Variable]) -> Result<Vec<Word>, AllocError>
-    ensures { IfOk result (λ words. AreWordsOf (object_tokens (plain_variables variables.now)) words.items) }
+    ensures { IfOk result
+        (λ words. AreWordsOf (object_tokens (plain_variables variables.now)) words.items) }
 {
     let mut words = Vec::new(alloc);
     for variable in variables {
@@ -163,7 +183,8 @@ fn object_words(alloc: Global, variables: &[Variable]) -> Result<Vec<Word>, Allo
 
 /// Adds the token of a variable, if it is an object variable.
 fn push_object(words: &mut Vec<Word>, variable: Variable) -> Result<(), AllocError>
-    ensures { OnOk result (AddsWordsOf (object_tokens (variable_of variable ∷ [])) words.old.items words.new.items) }
+    ensures { OnOk result
+        (AddsWordsOf (object_tokens (variable_of variable ∷ [])) words.old.items words.new.items) }
 {
     match variable {
         Variable::Object(x) => {
@@ -181,7 +202,9 @@ fn push_separation(
     serial: u64,
     words: &[Word],
 ) -> Result<(), AllocError>
-    ensures { OnOk result (to.new.items ≡ to.old.items ++ written_statements (separation (map (word_token names.now serial) words.now))) }
+    ensures { OnOk result (to.new.items
+        ≡ to.old.items
+        ++ written_statements (separation (map (word_token names.now serial) words.now))) }
 {
     if words.len() < 2 {
         return Ok(());
@@ -199,7 +222,9 @@ fn push_premises(
     serial: u64,
     hypotheses: &[MPat],
 ) -> Result<(), AllocError>
-    ensures { OnOk result (to.new.items ≡ to.old.items ++ written_statements (premise_statements names.now serial 0 hypotheses.now)) }
+    ensures { OnOk result (to.new.items
+        ≡ to.old.items
+        ++ written_statements (premise_statements names.now serial 0 hypotheses.now)) }
 {
     for no in 0..hypotheses.len() {
         push_premise(to, labels, names, serial, no as u64, &hypotheses[no])?;
@@ -216,7 +241,9 @@ fn push_premise(
     no: u64,
     hypothesis: &MPat,
 ) -> Result<(), AllocError>
-    ensures { OnOk result (to.new.items ≡ to.old.items ++ written_statements (premise_statements names.now serial no (hypothesis.now ∷ []))) }
+    ensures { OnOk result (to.new.items
+        ≡ to.old.items
+        ++ written_statements (premise_statements names.now serial no (hypothesis.now ∷ []))) }
 {
     write_works(
         to,
@@ -224,11 +251,11 @@ fn push_premise(
         names,
         serial,
         &[
-            Work::One(Word::Premise(no)),
-            Work::One(Word::Fixed("$e")),
-            Work::One(Word::Fixed("|-")),
-            Work::Text(hypothesis),
-            Work::One(Word::Fixed("$.")),
+            ListingTask::One(Word::Premise(no)),
+            ListingTask::One(Word::Fixed("$e")),
+            ListingTask::One(Word::Fixed("|-")),
+            ListingTask::Text(hypothesis),
+            ListingTask::One(Word::Fixed("$.")),
         ],
     )
 }

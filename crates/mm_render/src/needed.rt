@@ -11,7 +11,7 @@ ghost use Rattle.mm_render.specs.PlaceTable.{found_at};
 ghost use Rattle.mm_claims.specs.Variables.{AreNumbered};
 ghost use Rattle.mm_render.specs.VariablesView.{plain_variables, variable_of};
 
-use crate::places::{Standing, found};
+use crate::places::{StatementContext, found};
 use crate::variables::{Variable, VariableList, renamed};
 use ml_kernel::{Deriv, DerivStep, Inst};
 use ml_pat::{MPat, VarNo};
@@ -21,11 +21,12 @@ use std::alloc::{AllocError, Global};
 /// in 64 bits.
 pub(crate) fn needed_variables(
     alloc: Global,
-    at: &Standing<'_>,
+    at: &StatementContext<'_>,
     variables: &[Variable],
     derivation: &Deriv,
 ) -> Result<Vec<Variable>, AllocError>
-    ensures needed { IfOk result (λ all. plain_variables all.items ≡ added (plain_variables variables.now)
+    ensures needed { IfOk result
+        (λ all. plain_variables all.items ≡ added (plain_variables variables.now)
         (variables_of (found_at at.now) derivation.now)) }
     ensures numbered { OnOk result (AreNumbered (variables_of (found_at at.now) derivation.now)) }
 {
@@ -41,12 +42,13 @@ pub(crate) fn needed_variables(
 /// Adds the variables of a step, and puts the derivations below it on a stack, the first on top.
 fn take_step<'a>(
     alloc: Global,
-    at: &Standing<'_>,
+    at: &StatementContext<'_>,
     list: &mut VariableList,
     stack: &mut Vec<&'a Deriv>,
     derivation: &'a Deriv,
 ) -> Result<(), AllocError>
-    ensures { OnOk result (StepIsTaken (found_at at.now) derivation.now stack.old.items stack.new.items
+    ensures { OnOk result
+        (StepIsTaken (found_at at.now) derivation.now stack.old.items stack.new.items
         (listed list.old) (listed list.new)) }
 {
     match derivation.step() {
@@ -76,7 +78,8 @@ fn add_values(
     patterns: &[MPat],
 ) -> Result<(), AllocError>
     ensures { OnOk result (listed list.new ≡ added (listed list.old)
-        (flat_map (variables_at (numbers_of new.now) patterns.now) (plain_variables variables.now))) }
+        (flat_map (variables_at (numbers_of new.now) patterns.now)
+        (plain_variables variables.now))) }
 {
     for variable in variables {
         add_value(alloc, list, *variable, new, patterns)?;
@@ -92,7 +95,9 @@ fn add_value(
     new: &[VarNo],
     patterns: &[MPat],
 ) -> Result<(), AllocError>
-    ensures { OnOk result (listed list.new ≡ added (listed list.old) (variables_at (numbers_of new.now) patterns.now (variable_of variable))) }
+    ensures { OnOk result (listed list.new
+        ≡ added (listed list.old)
+        (variables_at (numbers_of new.now) patterns.now (variable_of variable))) }
 {
     match variable {
         Variable::Object(x) => list.add(Variable::Object(renamed(new, x))),
@@ -109,7 +114,8 @@ fn add_instances(
     list: &mut VariableList,
     instances: &[Inst],
 ) -> Result<(), AllocError>
-    ensures { OnOk result (listed list.new ≡ added (listed list.old) (flat_map variables_for (instances_of instances.now))) }
+    ensures { OnOk result (listed list.new
+        ≡ added (listed list.old) (flat_map variables_for (instances_of instances.now))) }
 {
     for instance in instances {
         add_instance(alloc, list, instance)?;
@@ -119,7 +125,8 @@ fn add_instances(
 
 /// Adds the variables of what is substituted for a variable of a rule.
 fn add_instance(alloc: Global, list: &mut VariableList, instance: &Inst) -> Result<(), AllocError>
-    ensures { OnOk result (listed list.new ≡ added (listed list.old) (variables_for (instance_of instance.now))) }
+    ensures { OnOk result
+        (listed list.new ≡ added (listed list.old) (variables_for (instance_of instance.now))) }
 {
     match instance {
         Inst::Pat(p) => list.add_all(alloc, p),
@@ -130,7 +137,8 @@ fn add_instance(alloc: Global, list: &mut VariableList, instance: &Inst) -> Resu
 
 /// Puts derivations on a stack, the first on top.
 fn put_derivations<'a>(stack: &mut Vec<&'a Deriv>, parts: &'a [Deriv]) -> Result<(), AllocError>
-    ensures { OnOk result (PutsDerivations (derivations parts.now) stack.old.items stack.new.items) }
+    ensures { OnOk result
+        (PutsDerivations (derivations parts.now) stack.old.items stack.new.items) }
 {
     let mut left = parts.len();
     while left > 0 {

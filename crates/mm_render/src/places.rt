@@ -5,7 +5,8 @@
 ghost use Rattle.std.specs.Prelude.{◌≡◌, ◌+◌, [], ◌∷◌, ◌++◌, IfOk, OnOk};
 ghost use Rattle.ml_pat.specs.FormsIn.{forms_in};
 ghost use Rattle.mm_claims.specs.CitedAt.{ArePremises};
-ghost use Rattle.mm_render.specs.Keys.{all_bytes, number_bytes, numbers, pattern_key, statement_key};
+ghost use Rattle.mm_render.specs.Keys.{all_bytes, number_bytes, numbers, pattern_key};
+ghost use Rattle.mm_render.specs.Keys.{statement_key};
 ghost use Rattle.mm_render.specs.KeyPlaces.{premise_place_by, stated_at, stated_or_none};
 ghost use Rattle.mm_render.specs.PlaceTable.{FormIsAdded, found_at, found_in, premises_at};
 ghost use Rattle.mm_render.specs.ClaimView.{last_of, plain_stated_all};
@@ -19,7 +20,7 @@ use std::collections::BTreeMap;
 
 /// The statement that is being written, and what it may cite.
 #[derive(Clone, Copy)]
-pub(crate) struct Standing<'a> {
+pub(crate) struct StatementContext<'a> {
     /// The names that its patterns are made of.
     pub(crate) names: &'a Names,
     /// The number of the statement.
@@ -45,7 +46,7 @@ pub(crate) struct Citation<'a> {
 /// there is none.
 pub(crate) fn found<'a>(
     alloc: Global,
-    at: &Standing<'a>,
+    at: &StatementContext<'a>,
     hypotheses: &[MPat],
     conclusion: &MPat,
 ) -> Result<Citation<'a>, AllocError>
@@ -104,7 +105,7 @@ fn cited(stated: &Stated) -> Citation<'_>
 /// The place of a hypothesis of the statement, or 0 if it is none.
 pub(crate) fn premise_of(
     alloc: Global,
-    at: &Standing<'_>,
+    at: &StatementContext<'_>,
     pattern: &MPat,
 ) -> Result<u64, AllocError>
     ensures { IfOk result (λ place. place ≡ premises_at at.now pattern.now) }
@@ -122,7 +123,8 @@ pub(crate) fn premise_places(
     alloc: Global,
     hypotheses: &[MPat],
 ) -> Result<BTreeMap<Vec<u8>, u64>, AllocError>
-    ensures { IfOk result (λ places. ArePremises hypotheses.now (premise_place_by (found_in places))) }
+    ensures { IfOk result
+        (λ places. ArePremises hypotheses.now (premise_place_by (found_in places))) }
 {
     let mut places = BTreeMap::new(alloc);
     for no in 0..hypotheses.len() {
@@ -167,7 +169,8 @@ fn push_form<'a>(
     stack: &mut Vec<&'a MPat>,
     pattern: &'a MPat,
 ) -> Result<(), AllocError>
-    ensures { OnOk result (FormIsAdded (numbers pattern.now) (forms_in pattern.now) stack.old.items stack.new.items key.old.items key.new.items) }
+    ensures { OnOk result (FormIsAdded (numbers pattern.now) (forms_in pattern.now) stack.old.items
+        stack.new.items key.old.items key.new.items) }
 {
     match pattern.form() {
         MForm::Bot => push_numbers(key, 0, 0, 0),
@@ -200,7 +203,8 @@ fn push_over<'a>(
     sort: u64,
     p: &'a MPat,
 ) -> Result<(), AllocError>
-    ensures { OnOk result (FormIsAdded (λ rest. form ∷ variable ∷ sort ∷ numbers p.now rest) (forms_in p.now + 1) stack.old.items stack.new.items key.old.items key.new.items) }
+    ensures { OnOk result (FormIsAdded (λ rest. form ∷ variable ∷ sort ∷ numbers p.now rest)
+        (forms_in p.now + 1) stack.old.items stack.new.items key.old.items key.new.items) }
 {
     push_numbers(key, form, variable, sort)?;
     stack.push(p)?;
@@ -215,7 +219,9 @@ fn push_between<'a>(
     p: &'a MPat,
     q: &'a MPat,
 ) -> Result<(), AllocError>
-    ensures { OnOk result (FormIsAdded (λ rest. form ∷ 0 ∷ 0 ∷ numbers p.now (numbers q.now rest)) (forms_in p.now + forms_in q.now + 1) stack.old.items stack.new.items key.old.items key.new.items) }
+    ensures { OnOk result (FormIsAdded (λ rest. form ∷ 0 ∷ 0 ∷ numbers p.now (numbers q.now rest))
+        (forms_in p.now + forms_in q.now + 1) stack.old.items stack.new.items key.old.items
+        key.new.items) }
 {
     push_numbers(key, form, 0, 0)?;
     stack.push(q)?;
@@ -225,7 +231,8 @@ fn push_between<'a>(
 
 /// Adds the bytes of three numbers.
 fn push_numbers(key: &mut Vec<u8>, first: u64, second: u64, third: u64) -> Result<(), AllocError>
-    ensures { OnOk result (key.new.items ≡ key.old.items ++ all_bytes (first ∷ second ∷ third ∷ [])) }
+    ensures { OnOk result
+        (key.new.items ≡ key.old.items ++ all_bytes (first ∷ second ∷ third ∷ [])) }
 {
     push_number(key, first)?;
     push_number(key, second)?;

@@ -1,14 +1,16 @@
 // What is written: whole statements, after a text that fits.
-ghost use Rattle.std.specs.Prelude.{◌≡◌, ◌+◌, ◌<◌, ◌≤◌, [], ◌∷◌, ◌++◌, false, IsTrue, IfOk, OnErr, OnOk, drop};
+ghost use Rattle.std.specs.Prelude.{◌≡◌, ◌+◌, ◌<◌, ◌≤◌, [], ◌∷◌, ◌++◌, false, IsTrue, IfOk, OnErr};
+ghost use Rattle.std.specs.Prelude.{OnOk, drop};
 ghost use Rattle.std.specs.Prelude.{length, option_copied, take, unwrap_or};
 ghost use Rattle.mm_header.specs.HeaderText.{header_bytes};
 ghost use Rattle.mm_claims.specs.Blocks.{axiom_statements, open_assertion};
 ghost use Rattle.mm_claims.specs.ClaimVariables.{claim_of, claim_variables};
 ghost use Rattle.mm_render.specs.ClaimView.{plain_claim};
 ghost use Rattle.mm_claims.specs.Fitting.{AreNames};
-ghost use Rattle.mm_claims.specs.Keeping.{AppendsFitting, AppendsFittingNames, Gains, MayState, axiom_at, with_last};
+ghost use Rattle.mm_claims.specs.Keeping.{AppendsFitting, AppendsFittingNames, Gains, MayState};
+ghost use Rattle.mm_claims.specs.Keeping.{axiom_at, with_last};
 ghost use Rattle.mm_claims.specs.Keeping.{with_stated};
-ghost use Rattle.mm_claims.specs.Kept.{header_kept, nothing_kept};
+ghost use Rattle.mm_claims.specs.Rendered.{header_rendered, nothing_rendered};
 ghost use Rattle.mm_claims.specs.Places.{StatesLemma};
 ghost use Rattle.mm_render.specs.ProvedText.{WritesProof};
 ghost use Rattle.mm_proof.specs.Tokens.{name_of};
@@ -16,7 +18,7 @@ ghost use Rattle.mm_claims.specs.Statements.{all_name_statements, name_statement
 ghost use Rattle.mm_database.specs.StatementTexts.{written_statements};
 
 use crate::claims::{Claim, Stated, claim_of};
-use crate::places::{Standing, premise_places, statement_key};
+use crate::places::{StatementContext, premise_places, statement_key};
 use crate::statements::{push_axiom, push_theorem};
 use ml_kernel::{AxiomNo, Theory, Thm};
 use ml_pat::Names;
@@ -45,10 +47,10 @@ pub struct Renderer {
 }
 
 impl Model for Renderer {
-    ghost use Rattle.mm_claims.specs.Kept.{Kept};
+    ghost use Rattle.mm_claims.specs.Rendered.{Rendered};
     ghost use Rattle.mm_render.specs.KeptCode.{kept_code};
 
-    ghost Value = { Kept };
+    ghost Value = { Rendered };
 
     ghost coded = { kept_code };
 
@@ -62,7 +64,7 @@ impl Model for Renderer {
 impl Renderer {
     /// A renderer that has written nothing.
     pub fn new(alloc: Global) -> Renderer
-        ensures { result ≡ nothing_kept }
+        ensures { result ≡ nothing_rendered }
     {
         Renderer {
             begun: false,
@@ -77,9 +79,9 @@ impl Renderer {
 
     /// Adds the header. The error: out of memory; then nothing changes.
     pub fn begin(&mut self, to: &mut Vec<u8>) -> Result<(), AllocError>
-        requires { self.old ≡ nothing_kept }
+        requires { self.old ≡ nothing_rendered }
         ensures text { OnOk result (to.new.items ≡ to.old.items ++ header_bytes) }
-        ensures kept { OnOk result (self.new ≡ header_kept) }
+        ensures kept { OnOk result (self.new ≡ header_rendered) }
         ensures fits { OnOk result (AppendsFitting self.old self.new header_bytes) }
         ensures unchanged { OnErr result (to.new.items ≡ to.old.items) }
         ensures as_before { OnErr result (self.new ≡ self.old) }
@@ -100,10 +102,15 @@ impl Renderer {
     /// The error: out of memory; then nothing changes.
     pub fn declare(&mut self, names: &Names, to: &mut Vec<u8>) -> Result<(), AllocError>
         requires { self.old.named ≤ length names.now }
-        ensures text { OnOk result (to.new.items ≡ to.old.items ++ written_statements (all_name_statements self.old.named (drop self.old.named names.now))) }
+        ensures text { OnOk result (to.new.items
+            ≡ to.old.items
+            ++ written_statements
+            (all_name_statements self.old.named (drop self.old.named names.now))) }
         ensures kept { OnOk result (self.new ≡ record self.old { named = length names.now }) }
         ensures fits { OnOk result (AreNames names.now → IsTrue self.old.begun →
-            AppendsFittingNames names.now self.old self.new (written_statements (all_name_statements self.old.named (drop self.old.named names.now)))) }
+            AppendsFittingNames names.now self.old self.new
+            (written_statements
+            (all_name_statements self.old.named (drop self.old.named names.now)))) }
         ensures unchanged { OnErr result (to.new.items ≡ to.old.items) }
         ensures as_before { OnErr result (self.new ≡ self.old) }
     {
@@ -128,10 +135,12 @@ impl Renderer {
         requires { no.0 < length theory.now }
         ensures text { OnOk result (to.new.items ≡ to.old.items ++ written_statements
             (axiom_statements names.now self.old.count (claim_of [] (axiom_at theory.now no.0)))) }
-        ensures kept { OnOk result (self.new ≡ with_stated self.old (claim_of [] (axiom_at theory.now no.0))) }
+        ensures kept { OnOk result
+            (self.new ≡ with_stated self.old (claim_of [] (axiom_at theory.now no.0))) }
         ensures gains { OnOk result (MayState names.now self.old (axiom_at theory.now no.0) →
             Gains names.now self.old self.new
-            (written_statements (axiom_statements names.now self.old.count (claim_of [] (axiom_at theory.now no.0))))
+            (written_statements (axiom_statements names.now self.old.count
+            (claim_of [] (axiom_at theory.now no.0))))
             (claim_variables [] (axiom_at theory.now no.0))
             (open_assertion false (take self.old.named names.now) self.old.count
             (claim_of [] (axiom_at theory.now no.0)))) }
@@ -151,8 +160,10 @@ impl Renderer {
     /// text that fits still fits with it appended, and has gained exactly this theorem. The theorem
     /// is kept. The error: out of memory; then nothing changes.
     pub fn lemma(&mut self, names: &Names, lemma: &Thm, to: &mut Vec<u8>) -> Result<(), AllocError>
-        ensures states { OnOk result (StatesLemma names.now self.old self.new lemma.now to.old.items to.new.items) }
-        ensures kept { OnOk result (self.new ≡ with_stated self.old (claim_of lemma.now.hypotheses lemma.now.conclusion)) }
+        ensures states { OnOk result
+            (StatesLemma names.now self.old self.new lemma.now to.old.items to.new.items) }
+        ensures kept { OnOk result
+            (self.new ≡ with_stated self.old (claim_of lemma.now.hypotheses lemma.now.conclusion)) }
         ensures unchanged { OnErr result (to.new.items ≡ to.old.items) }
         ensures as_before { OnErr result (self.new ≡ self.old) }
     {
@@ -169,7 +180,8 @@ impl Renderer {
         theorem: &Thm,
         to: &mut Vec<u8>,
     ) -> Result<(), AllocError>
-        ensures states { OnOk result (StatesLemma names.now self.old self.new theorem.now to.old.items to.new.items) }
+        ensures states { OnOk result
+            (StatesLemma names.now self.old self.new theorem.now to.old.items to.new.items) }
         ensures kept { OnOk result
             (self.new ≡ with_last self.old (claim_of theorem.now.hypotheses theorem.now.conclusion)) }
         ensures unchanged { OnErr result (to.new.items ≡ to.old.items) }
@@ -196,7 +208,8 @@ impl Renderer {
     ) -> Result<Claim, AllocError>
         ensures claim { IfOk result (λ claim. plain_claim claim ≡ claim_of theorem.now.hypotheses
             theorem.now.conclusion) }
-        ensures text { OnOk result (WritesProof names.now self.old theorem.now to.old.items to.new.items) }
+        ensures text { OnOk result
+            (WritesProof names.now self.old theorem.now to.old.items to.new.items) }
         ensures as_before { self.new ≡ self.old }
     {
         let alloc = *to.allocator();
@@ -205,7 +218,7 @@ impl Renderer {
         let claim = claim_of(alloc, hypotheses, theorem.conclusion())?;
         let premises = premise_places(alloc, hypotheses)?;
         let serial = self.serial();
-        let at = Standing {
+        let at = StatementContext {
             names,
             serial,
             stated: &self.stated,
@@ -268,7 +281,8 @@ fn next_number(number: u64) -> Result<u64, AllocError>
 /// Adds the declarations of the names from a number on.
 fn push_names(to: &mut Vec<u8>, names: &Names, first: u64) -> Result<(), AllocError>
     requires { first ≤ length names.now }
-    ensures { OnOk result (to.new.items ≡ to.old.items ++ written_statements (all_name_statements first (drop first names.now))) }
+    ensures { OnOk result (to.new.items
+        ≡ to.old.items ++ written_statements (all_name_statements first (drop first names.now))) }
 {
     for no in first..names.count() {
         push_declaration(to, names, no)?;
@@ -278,7 +292,8 @@ fn push_names(to: &mut Vec<u8>, names: &Names, first: u64) -> Result<(), AllocEr
 
 /// Adds the declaration of the name with this number.
 fn push_declaration(to: &mut Vec<u8>, names: &Names, no: u64) -> Result<(), AllocError>
-    ensures { OnOk result (to.new.items ≡ to.old.items ++ written_statements (name_statements no (name_of names.now no))) }
+    ensures { OnOk result (to.new.items
+        ≡ to.old.items ++ written_statements (name_statements no (name_of names.now no))) }
 {
     let typecode = typecode_of(names.token(no));
     push_words(

@@ -15,11 +15,11 @@ use crate::claims::{Claim, needs_block};
 use crate::derivations::write_derivation;
 use crate::heads::push_head;
 use crate::needed::needed_variables;
-use crate::places::Standing;
+use crate::places::StatementContext;
 use crate::variables::Variable;
 use ml_kernel::Deriv;
 use ml_pat::{MPat, Names};
-use mm_proof::{Label, Word, Work, push_word, push_words, write_works};
+use mm_proof::{Label, ListingTask, Word, push_word, push_words, write_works};
 use std::alloc::AllocError;
 
 /// Adds a claim as an axiom, under the label with this number.
@@ -30,7 +30,9 @@ pub(crate) fn push_axiom(
     serial: u64,
     claim: &Claim,
 ) -> Result<(), AllocError>
-    ensures { OnOk result (to.new.items ≡ to.old.items ++ written_statements (axiom_statements names.now serial (plain_claim claim.now))) }
+    ensures { OnOk result (to.new.items
+        ≡ to.old.items
+        ++ written_statements (axiom_statements names.now serial (plain_claim claim.now))) }
 {
     if !needs_block(&claim.variables, &claim.hypotheses) {
         return push_plain_axiom(to, labels, names, serial, &claim.conclusion);
@@ -56,7 +58,8 @@ fn push_plain_axiom(
     serial: u64,
     pattern: &MPat,
 ) -> Result<(), AllocError>
-    ensures { OnOk result (to.new.items ≡ to.old.items ++ written_statements (axiom_statement names.now serial pattern.now ∷ [])) }
+    ensures { OnOk result (to.new.items
+        ≡ to.old.items ++ written_statements (axiom_statement names.now serial pattern.now ∷ [])) }
 {
     write_works(
         to,
@@ -64,11 +67,11 @@ fn push_plain_axiom(
         names,
         serial,
         &[
-            Work::One(Word::Stated(serial)),
-            Work::One(Word::Fixed("$a")),
-            Work::One(Word::Fixed("|-")),
-            Work::Text(pattern),
-            Work::One(Word::Fixed("$.")),
+            ListingTask::One(Word::Stated(serial)),
+            ListingTask::One(Word::Fixed("$a")),
+            ListingTask::One(Word::Fixed("|-")),
+            ListingTask::Text(pattern),
+            ListingTask::One(Word::Fixed("$.")),
         ],
     )
 }
@@ -78,14 +81,15 @@ fn push_plain_axiom(
 pub(crate) fn push_theorem(
     to: &mut Vec<u8>,
     labels: &mut Vec<Label>,
-    at: &Standing<'_>,
+    at: &StatementContext<'_>,
     claim: &Claim,
     derivation: &Deriv,
 ) -> Result<(), AllocError>
     ensures text { OnOk result (to.new.items ≡ to.old.items ++ written_statements
         (proved_statements at.now.names.now at.now.serial (found_at at.now) (premises_at at.now)
         (plain_claim claim.now)
-        (other_variables (plain_variables claim.now.variables.items) (variables_of (found_at at.now) derivation.now))
+        (other_variables (plain_variables claim.now.variables.items)
+        (variables_of (found_at at.now) derivation.now))
         derivation.now)) }
     ensures numbered { OnOk result (AreNumbered (variables_of (found_at at.now) derivation.now)) }
 {
@@ -114,7 +118,10 @@ fn push_theorem_front(
     variables: &[Variable],
     claim: &Claim,
 ) -> Result<(), AllocError>
-    ensures { OnOk result (to.new.items ≡ to.old.items ++ theorem_front names.now serial (plain_variables variables.now) claim.now.hypotheses.items claim.now.conclusion) }
+    ensures { OnOk result (to.new.items
+        ≡ to.old.items
+        ++ theorem_front names.now serial (plain_variables variables.now)
+        claim.now.hypotheses.items claim.now.conclusion) }
 {
     push_word(to, names, serial, Word::Fixed("${"))?;
     push_head(to, labels, names, serial, variables, &claim.hypotheses)?;
@@ -129,7 +136,8 @@ fn push_statement_front(
     serial: u64,
     conclusion: &MPat,
 ) -> Result<(), AllocError>
-    ensures { OnOk result (to.new.items ≡ to.old.items ++ statement_front names.now serial conclusion.now) }
+    ensures { OnOk result
+        (to.new.items ≡ to.old.items ++ statement_front names.now serial conclusion.now) }
 {
     write_works(
         to,
@@ -137,11 +145,11 @@ fn push_statement_front(
         names,
         serial,
         &[
-            Work::One(Word::Stated(serial)),
-            Work::One(Word::Fixed("$p")),
-            Work::One(Word::Fixed("|-")),
-            Work::Text(conclusion),
-            Work::One(Word::Fixed("$=")),
+            ListingTask::One(Word::Stated(serial)),
+            ListingTask::One(Word::Fixed("$p")),
+            ListingTask::One(Word::Fixed("|-")),
+            ListingTask::Text(conclusion),
+            ListingTask::One(Word::Fixed("$=")),
         ],
     )
 }

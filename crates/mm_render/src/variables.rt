@@ -7,7 +7,8 @@ ghost use Rattle.mm_claims.specs.ClaimVariables.{claim_variables};
 ghost use Rattle.mm_claims.specs.AddedVariables.{added};
 ghost use Rattle.mm_claims.specs.OpenVariables.{variables_in};
 ghost use Rattle.mm_claims.specs.Variables.{AreNumbered, has_variable, object_variable};
-ghost use Rattle.mm_render.specs.VariablesView.{AreNumbersOf, HaveNumbers, PutsVariables, VariablesAreTaken, plain_variables, variable_of};
+ghost use Rattle.mm_render.specs.VariablesView.{AreNumbersOf, HaveNumbers, PutsVariables};
+ghost use Rattle.mm_render.specs.VariablesView.{VariablesAreTaken, plain_variables, variable_of};
 
 use ml_pat::{MForm, MPat, VarNo};
 use std::alloc::{AllocError, Global};
@@ -78,7 +79,8 @@ impl VariableList {
 
     /// Adds a variable after the others, if it is not among them.
     pub(crate) fn add(&mut self, variable: Variable) -> Result<(), AllocError>
-        ensures { OnOk result (listed self.new ≡ added (listed self.old) (variable_of variable ∷ [])) }
+        ensures { OnOk result
+            (listed self.new ≡ added (listed self.old) (variable_of variable ∷ [])) }
     {
         if self.has(variable) {
             return Ok(());
@@ -111,7 +113,8 @@ impl VariableList {
 
     /// Adds the variables that occur in a pattern, bound or free. A stack replaces recursion.
     pub(crate) fn add_all(&mut self, alloc: Global, pattern: &MPat) -> Result<(), AllocError>
-        ensures { OnOk result (listed self.new ≡ added (listed self.old) (variables_in pattern.now)) }
+        ensures { OnOk result
+            (listed self.new ≡ added (listed self.old) (variables_in pattern.now)) }
     {
         let mut stack = Vec::new(alloc);
         stack.push(pattern)?;
@@ -127,7 +130,8 @@ impl VariableList {
         stack: &mut Vec<&'a MPat>,
         pattern: &'a MPat,
     ) -> Result<(), AllocError>
-        ensures { OnOk result (VariablesAreTaken (variables_in pattern.now) (forms_in pattern.now) stack.old.items stack.new.items (listed self.old) (listed self.new)) }
+        ensures { OnOk result (VariablesAreTaken (variables_in pattern.now) (forms_in pattern.now)
+            stack.old.items stack.new.items (listed self.old) (listed self.new)) }
     {
         match pattern.form() {
             MForm::Bot => Ok(()),
@@ -158,7 +162,9 @@ impl VariableList {
         x: VarNo,
         body: &'a MPat,
     ) -> Result<(), AllocError>
-        ensures { OnOk result (VariablesAreTaken (object_variable x.0 ∷ variables_in body.now) (forms_in body.now + 1) stack.old.items stack.new.items (listed self.old) (listed self.new)) }
+        ensures { OnOk result (VariablesAreTaken (object_variable x.0 ∷ variables_in body.now)
+            (forms_in body.now + 1) stack.old.items stack.new.items (listed self.old)
+            (listed self.new)) }
     {
         self.add(Variable::Object(x))?;
         put_one(stack, body)
@@ -167,7 +173,8 @@ impl VariableList {
 
 /// Puts the part of a form on a stack.
 fn put_one<'a>(stack: &mut Vec<&'a MPat>, p: &'a MPat) -> Result<(), AllocError>
-    ensures { OnOk result (PutsVariables (variables_in p.now) (forms_in p.now + 1) stack.old.items stack.new.items) }
+    ensures { OnOk result
+        (PutsVariables (variables_in p.now) (forms_in p.now + 1) stack.old.items stack.new.items) }
 {
     stack.push(p)?;
     Ok(())
@@ -175,7 +182,8 @@ fn put_one<'a>(stack: &mut Vec<&'a MPat>, p: &'a MPat) -> Result<(), AllocError>
 
 /// Puts the parts of a form on a stack.
 fn put_two<'a>(stack: &mut Vec<&'a MPat>, p: &'a MPat, q: &'a MPat) -> Result<(), AllocError>
-    ensures { OnOk result (PutsVariables (variables_in p.now ++ variables_in q.now) (forms_in p.now + forms_in q.now + 1) stack.old.items stack.new.items) }
+    ensures { OnOk result (PutsVariables (variables_in p.now ++ variables_in q.now)
+        (forms_in p.now + forms_in q.now + 1) stack.old.items stack.new.items) }
 {
     stack.push(q)?;
     stack.push(p)?;
@@ -189,8 +197,10 @@ pub(crate) fn variables_of_claim(
     hypotheses: &[MPat],
     conclusion: &MPat,
 ) -> Result<Vec<Variable>, AllocError>
-    ensures variables { IfOk result (λ all. plain_variables all.items ≡ claim_variables hypotheses.now conclusion.now) }
-    ensures numbered { IfOk result (λ all. AreNumbered (claim_variables hypotheses.now conclusion.now)) }
+    ensures variables { IfOk result
+        (λ all. plain_variables all.items ≡ claim_variables hypotheses.now conclusion.now) }
+    ensures numbered { IfOk result
+        (λ all. AreNumbered (claim_variables hypotheses.now conclusion.now)) }
 {
     let mut list = VariableList::new(alloc);
     list.add_all(alloc, conclusion)?;

@@ -1,7 +1,8 @@
 -- What follows if a test is true.
 use Rattle.std.proofs.Common.{◌≡◌, ℕ, Bool, true, false, refl}
 use Rattle.std.specs.Prelude.{not, ◌&&◌}
-use Rattle.mm_text.specs.Bytes.{Class, printable, white, foreign, class_of, is_printable_class, is_white}
+use Rattle.mm_text.specs.Bytes.{Class, printable, white, foreign, class_of, is_printable_class}
+use Rattle.mm_text.specs.Bytes.{is_white}
 
 pub both_true : (a b : Bool) → (a && b) ≡ true → (a ≡ true) × (b ≡ true)
 both_true true b h = (refl, h)

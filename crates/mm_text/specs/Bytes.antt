@@ -1,7 +1,8 @@
 -- The bytes of a Metamath text (Metamath book, "The Complete Language Specification"). Tokens
 -- consist of printable ASCII without the space. White space separates them. No other byte is
 -- allowed.
-use Rattle.std.specs.Prelude.{ℕ, Bool, true, false, ◌&&◌, ◌||◌, ◌==◌, nat_le, if◌then◌else◌, List, [], ◌∷◌, bytes_eq}
+use Rattle.std.specs.Prelude.{ℕ, Bool, true, false, ◌&&◌, ◌||◌, ◌==◌, nat_le, if◌then◌else◌, List}
+use Rattle.std.specs.Prelude.{[], ◌∷◌, bytes_eq}
 use Rattle.std.specs.List.{list_any}
 
 -- a token of a text: its bytes

@@ -2,7 +2,8 @@
 -- digits, 1 to 20. `U` to `Y` are the digits before the last one, 1 to 5, in base 5 without a zero.
 -- So `A` is 1, `T` 20, `UA` 21, `YT` 120 and `UUA` 121. A `Z` saves the step of the number before
 -- it.
-use Rattle.std.specs.Prelude.{ℕ, ◌+◌, ◌-◌, ◌*◌, ◌^◌, ◌&&◌, ◌==◌, nat_le, if◌then◌else◌, List, [], ◌∷◌, ◌++◌, Option, Some, None}
+use Rattle.std.specs.Prelude.{ℕ, ◌+◌, ◌-◌, ◌*◌, ◌^◌, ◌&&◌, ◌==◌, nat_le, if◌then◌else◌, List, []}
+use Rattle.std.specs.Prelude.{◌∷◌, ◌++◌, Option, Some, None}
 
 pub data Letter : Type 0 where
   last_digit : ℕ → Letter
@@ -63,14 +64,17 @@ steps_at_end a_number = Some []
 steps_at_end a_save = Some []
 
 -- two lists, one after the other, if both are there
-abbrev pub joined_steps : Option (List CompressedStep) → Option (List CompressedStep) → Option (List CompressedStep)
+abbrev pub joined_steps : Option (List CompressedStep) → Option (List CompressedStep)
+    → Option (List CompressedStep)
 joined_steps None steps = None
 joined_steps (Some first) None = None
 joined_steps (Some first) (Some rest) = Some (first ++ rest)
 
 abbrev pub steps_from : Before → List ℕ → Option (List CompressedStep)
 steps_from before [] = steps_at_end before
-steps_from before (b ∷ bytes) = joined_steps (steps_of_letter before (letter_of b)) (steps_from (before_next before (letter_of b)) bytes)
+steps_from before (b ∷ bytes) =
+    joined_steps (steps_of_letter before (letter_of b))
+    (steps_from (before_next before (letter_of b)) bytes)
 
 -- the steps that the letters of a compressed proof mean, if they mean any
 abbrev pub steps_of : List ℕ → Option (List CompressedStep)

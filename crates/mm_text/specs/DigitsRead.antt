@@ -1,6 +1,7 @@
 -- The letters of a number one by one. Only clauses of private functions cite this.
 use Rattle.std.specs.Prelude.{ℕ, List, [], ◌∷◌, Option, Some, None}
-use Rattle.mm_text.specs.Compressed.{Letter, last_digit, digit, saves, no_letter, letter_of, digits, steps_from, number_of_steps, within_limit}
+use Rattle.mm_text.specs.Compressed.{Letter, last_digit, digit, saves, no_letter, letter_of, digits}
+use Rattle.mm_text.specs.Compressed.{steps_from, number_of_steps, within_limit}
 
 abbrev pub leading_value : Letter → Option ℕ
 leading_value (last_digit d) = None

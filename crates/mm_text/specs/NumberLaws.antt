@@ -9,4 +9,5 @@ OneSpelling = (n : ℕ) (xs ys : List ℕ) → number_of xs ≡ Some n → numbe
 
 -- letters that were appended for a number are read as that number
 abbrev pub ReadBack : Type 0
-ReadBack = (n : ℕ) (old letters : List ℕ) → n ≤ 2 ^ 63 → Spells n old (old ++ letters) → within_limit (number_of letters) ≡ Some n
+ReadBack = (n : ℕ) (old letters : List ℕ) → n ≤ 2 ^ 63 → Spells n old (old ++ letters)
+    → within_limit (number_of letters) ≡ Some n

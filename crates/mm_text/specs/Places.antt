@@ -1,5 +1,6 @@
 -- The pieces of a text from a place on, as a reader finds them.
-use Rattle.std.specs.Prelude.{◌≡◌, ℕ, ◌+◌, ◌-◌, ◌<◌, ◌≤◌, Bool, true, false, List, [], ◌∷◌, length, take, drop, slice_index}
+use Rattle.std.specs.Prelude.{◌≡◌, ℕ, ◌+◌, ◌-◌, ◌<◌, ◌≤◌, Bool, true, false, List, [], ◌∷◌, length}
+use Rattle.std.specs.Prelude.{take, drop, slice_index}
 use Rattle.mm_text.specs.Bytes.{foreign, class_of, is_printable_class, is_white}
 use Rattle.mm_text.specs.Tokens.{Piece, run, stray, pieces_from}
 

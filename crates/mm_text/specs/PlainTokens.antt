@@ -8,7 +8,8 @@ use Rattle.mm_text.specs.Statements.{ends_statement, is_whole}
 -- a token of printable bytes that neither opens nor closes a comment
 abbrev pub is_plain_token : Token → Bool
 is_plain_token [] = false
-is_plain_token (b ∷ bytes) = list_all (λ c. is_printable_class (class_of c)) (b ∷ bytes) && (not (opens_comment (b ∷ bytes)) && not (closes_comment (b ∷ bytes)))
+is_plain_token (b ∷ bytes) = list_all (λ c. is_printable_class (class_of c)) (b ∷ bytes)
+    && (not (opens_comment (b ∷ bytes)) && not (closes_comment (b ∷ bytes)))
 
 -- the last token is `$.`, and no other token is
 abbrev pub ends_once : List Token → Bool

@@ -3,7 +3,8 @@ use Rattle.std.specs.Prelude.{◌≡◌, ℕ, ◌<◌, List, [], ◌∷◌, map,
 use Rattle.std.specs.List.{slice_range}
 use Rattle.mm_text.specs.Bytes.{Token}
 use Rattle.mm_text.specs.Next.{left}
-use Rattle.mm_text.specs.Statements.{Statement, statement, Statements, no_statement, unended, bad_statement, next_statement, between, statements_in}
+use Rattle.mm_text.specs.Statements.{Statement, statement, Statements, no_statement, unended}
+use Rattle.mm_text.specs.Statements.{bad_statement, next_statement, between, statements_in}
 use Rattle.mm_text.specs.declared.tokens.MmToken.{MmToken}
 use Rattle.mm_text.specs.declared.tokens.MmTokens.{MmTokens}
 use Rattle.mm_text.specs.declared.statements.MmFound.{MmFound}
@@ -29,8 +30,10 @@ statements_left reader = statements_in between (left reader)
 
 -- The tokens make the first statement of `before`, and `behind` has the others. Or there is no
 -- statement: the text ends, a statement has no end, or there is a fault.
-abbrev pub Finds : List ℕ → Statements → Statements → List MmToken → Result MmFound MmReadEnd → Type 0
-Finds bytes before behind tokens (Ok Found) = before ≡ next_statement (statement_of bytes tokens) behind
+abbrev pub Finds : List ℕ → Statements → Statements → List MmToken → Result MmFound MmReadEnd
+    → Type 0
+Finds bytes before behind tokens (Ok Found) =
+    before ≡ next_statement (statement_of bytes tokens) behind
 Finds bytes before behind tokens (Ok End) = before ≡ no_statement
 Finds bytes before behind tokens (Ok (Unended at)) = before ≡ unended at
 Finds bytes before behind tokens (Err (Fault f)) = before ≡ bad_statement f

@@ -2,7 +2,8 @@
 use Rattle.std.specs.Prelude.{◌≡◌, ℕ, ◌+◌, Bool, true, false, List, ◌++◌, length}
 use Rattle.std.specs.List.{list_all}
 use Rattle.mm_text.specs.Bytes.{Token}
-use Rattle.mm_text.specs.Statements.{Statements, no_statement, unended, bad_statement, next_statement, statement, statements_from}
+use Rattle.mm_text.specs.Statements.{Statements, no_statement, unended, bad_statement}
+use Rattle.mm_text.specs.Statements.{next_statement, statement, statements_from}
 use Rattle.mm_text.specs.Written.{ends_white, written}
 use Rattle.mm_text.specs.PlainTokens.{is_plain_token, is_one_statement}
 
@@ -26,11 +27,13 @@ abbrev pub AppendedText : Type 0
 AppendedText =
     (at : ℕ) (text more : List ℕ) → ends_white text ≡ true →
     end_well (statements_from at text) ≡ true →
-    statements_from at (text ++ more) ≡ followed_by (statements_from at text) (statements_from (at + length text) more)
+    statements_from at (text ++ more)
+    ≡ followed_by (statements_from at text) (statements_from (at + length text) more)
 
 -- a written statement is read back, and then what comes after it
 abbrev pub WrittenStatement : Type 0
 WrittenStatement =
     (at : ℕ) (tokens : List Token) (more : List ℕ) → list_all is_plain_token tokens ≡ true →
     is_one_statement tokens ≡ true →
-    statements_from at (written tokens ++ more) ≡ next_statement (statement at tokens) (statements_from (at + length (written tokens)) more)
+    statements_from at (written tokens ++ more)
+    ≡ next_statement (statement at tokens) (statements_from (at + length (written tokens)) more)

@@ -1,7 +1,9 @@
 -- The tokens of a Metamath text outside its comments, and the first byte or comment at which it
 -- breaks (Metamath book, "The Complete Language Specification").
-use Rattle.std.specs.Prelude.{ℕ, ◌+◌, Bool, true, false, ◌||◌, ◌==◌, if◌then◌else◌, List, [], ◌∷◌, Option, Some, None, codes, bytes_eq}
-use Rattle.mm_text.specs.Bytes.{Token, Class, printable, white, foreign, class_of, is_printable_class}
+use Rattle.std.specs.Prelude.{ℕ, ◌+◌, Bool, true, false, ◌||◌, ◌==◌, if◌then◌else◌, List, [], ◌∷◌}
+use Rattle.std.specs.Prelude.{Option, Some, None, codes, bytes_eq}
+use Rattle.mm_text.specs.Bytes.{Token, Class, printable, white, foreign, class_of}
+use Rattle.mm_text.specs.Bytes.{is_printable_class}
 use Rattle.mm_text.specs.FaultKinds.{bad_byte, bad_comment, fault}
 use Rattle.mm_text.specs.declared.fault.MmFault.{MmFault}
 
@@ -31,7 +33,8 @@ with_byte foreign begins at b pieces = stray at ∷ pieces
 -- the pieces of a text whose first byte has this place
 abbrev pub pieces_from : ℕ → List ℕ → List Piece
 pieces_from at [] = []
-pieces_from at (b ∷ bytes) = with_byte (class_of b) (begins_printable bytes) at b (pieces_from (at + 1) bytes)
+pieces_from at (b ∷ bytes) =
+    with_byte (class_of b) (begins_printable bytes) at b (pieces_from (at + 1) bytes)
 
 -- the token is `$(`, and the token is `$)`
 abbrev pub opens_comment : Token → Bool
@@ -65,7 +68,8 @@ abbrev pub place_after : Place → Piece → Place
 place_after outside (stray at) = outside
 place_after outside (run at token) = if opens_comment token then in_comment at None else outside
 place_after (in_comment opened bad) (stray at) = in_comment opened (first_stray bad at)
-place_after (in_comment opened bad) (run at token) = if closes_comment token then outside else in_comment opened bad
+place_after (in_comment opened bad) (run at token) =
+    if closes_comment token then outside else in_comment opened bad
 
 -- what a piece gives: nothing, a token, or a fault, which ends the text
 pub data Given : Type 0 where
@@ -109,7 +113,8 @@ tokens_at_end (in_comment opened bad) = bad_text (fault bad_comment opened)
 -- the tokens that pieces give; the reader starts outside comments or in a comment
 abbrev pub tokens_in : Place → List Piece → Tokens
 tokens_in place [] = tokens_at_end place
-tokens_in place (piece ∷ pieces) = with_given (given place piece) (tokens_in (place_after place piece) pieces)
+tokens_in place (piece ∷ pieces) =
+    with_given (given place piece) (tokens_in (place_after place piece) pieces)
 
 -- the tokens of a text whose first byte has this place, outside comments
 abbrev pub tokens_from : ℕ → List ℕ → Tokens

@@ -11,9 +11,9 @@ ends_white (b ∷ (c ∷ bytes)) = ends_white (c ∷ bytes)
 
 -- The white space after a token: the end of the line after the end of a statement, and otherwise a
 -- space.
-abbrev pub white_behind : Token → ℕ
-white_behind token = if is_whole token then 10 else 32
+abbrev pub white_after : Token → ℕ
+white_after token = if is_whole token then 10 else 32
 
 -- the text of tokens, with white space after each
 abbrev pub written : List Token → List ℕ
-written tokens = flat_map (λ token. token ++ white_behind token ∷ []) tokens
+written tokens = flat_map (λ token. token ++ white_after token ∷ []) tokens

@@ -3,7 +3,8 @@
 ghost use Rattle.std.specs.Prelude.{◌≡◌, ◌≤◌, false, length, drop};
 ghost use Rattle.mm_text.specs.Bytes.{is_white};
 ghost use Rattle.mm_text.specs.Tokens.{opens_comment, closes_comment, has_comment_mark};
-ghost use Rattle.mm_text.specs.Ahead.{pieces_at, in_run, white, printed, begins_white, mark_ahead, Shows};
+ghost use Rattle.mm_text.specs.Ahead.{pieces_at, in_run, white, printed, begins_white, mark_ahead};
+ghost use Rattle.mm_text.specs.Ahead.{Shows};
 
 use crate::tokens::MmToken;
 

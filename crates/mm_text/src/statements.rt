@@ -35,7 +35,8 @@ impl<'a> MmTokens<'a> {
     /// before the end or the fault.
     pub fn next_statement(&mut self, tokens: &mut Vec<MmToken>) -> Result<MmFound, MmReadEnd>
         ensures text { self.new.bytes.now ≡ self.old.bytes.now }
-        ensures finds { Finds self.old.bytes.now (statements_left self.old) (statements_left self.new) tokens.new.items result }
+        ensures finds { Finds self.old.bytes.now (statements_left self.old)
+            (statements_left self.new) tokens.new.items result }
         ensures passes { Passes self.old.at self.new.at result }
     {
         tokens.clear();

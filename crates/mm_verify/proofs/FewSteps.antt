@@ -1,4 +1,4 @@
--- There are not more steps than memory has room for.
+-- There are at most as many steps as memory can hold.
 use Rattle.std.proofs.Common.{◌+◌, ◌<◌, ◌^◌, length, arith}
 use Rattle.std.specs.Global.{Vec}
 use Rattle.mm_verify.specs.declared.letters.ReadSteps.{ReadSteps}
@@ -9,4 +9,5 @@ few_items : {X : Type 0} (v : Vec X) → length v.items < 2 ^ 63
 few_items v = grind (arith, v.small, v.ok)
 
 pub few_steps : (r : ReadSteps) → length (table_of r.hyps.now r.listed.items) + r.saved < 2 ^ 64
-few_steps r = omega (arith, table-length r.hyps.now r.listed.items, r.given, few_items r.steps, r.few)
+few_steps r =
+    omega (arith, table-length r.hyps.now r.listed.items, r.given, few_items r.steps, r.few)

@@ -1,7 +1,7 @@
 -- The frame of an assertion.
 use Rattle.std.specs.Prelude.{map}
 use Rattle.mm_frame.specs.Numbered.{NumberedFrame}
-use Rattle.mm_frame.specs.FramesHeld.{in_groups}
+use Rattle.mm_frame.specs.PlainFrames.{in_groups}
 use Rattle.mm_verify.specs.declared.assertion.Assertion.{Assertion}
 use Rattle.mm_verify.specs.Places.{symbol_of, symbols_in}
 use Rattle.mm_verify.specs.Resolved.{hypotheses_of}

@@ -1,7 +1,8 @@
--- What checking one statement does and answers.
+-- What checking one statement does and returns.
 use Rattle.std.specs.Prelude.{◌≡◌, ℕ, List, map, option_map, Option, Some, None, Result, Ok, Err}
 use Rattle.mm_text.specs.Statements.{Statement}
-use Rattle.mm_database.specs.Forms.{Keyword, asserts, proves, Form, block_start, block_end, plain, form_of}
+use Rattle.mm_database.specs.Forms.{Keyword, asserts, proves, Form, block_start, block_end, plain}
+use Rattle.mm_database.specs.Forms.{form_of}
 use Rattle.mm_database.specs.Database.{Context, context_after}
 use Rattle.mm_database.specs.Validity.{declaration_fault}
 use Rattle.mm_database.specs.Orderly.{IsOrderly}
@@ -9,22 +10,22 @@ use Rattle.mm_frame.specs.Proposing.{IsProposed}
 use Rattle.mm_frame.specs.declared.theorem.Theorem.{Theorem}
 use Rattle.mm_frame.specs.AddedView.{form_added}
 use Rattle.mm_frame.specs.declared.declare.Added.{Added}
-use Rattle.mm_frame.specs.Held.{held}
+use Rattle.mm_frame.specs.ScopeState.{scope_state}
 use Rattle.mm_frame.specs.Standing.{Stands}
 use Rattle.mm_verify.specs.declared.checker.Checker.{Checker}
 use Rattle.mm_verify.specs.declared.ends.Stated.{Stated}
 use Rattle.mm_verify.specs.declared.ends.Stated.TheVariants as stated
 use Rattle.mm_verify.specs.declared.ends.VerifyEnd.{VerifyEnd}
 use Rattle.mm_verify.specs.declared.ends.VerifyEnd.TheVariants.{Invalid, Memory}
-use Rattle.mm_verify.specs.KeptView.{kept_frame}
+use Rattle.mm_verify.specs.StoredView.{stored_frame}
 use Rattle.mm_database.specs.ComputedFault.{statement_fault}
 
 abbrev pub HasFrames : Checker → Type 0
-HasFrames k = map kept_frame k.assertions.items ≡ (held k.scopes).frames
+HasFrames k = map stored_frame k.assertions.items ≡ (scope_state k.scopes).frames
 
 -- the checker stands for what statements have declared
 pub record IsBehind (k : Checker) (c : Context) : Type 0 where
-  pub stands : Stands (held k.scopes) c
+  pub stands : Stands (scope_state k.scopes) c
   pub orderly : IsOrderly c
   pub frames : HasFrames k
 
@@ -40,23 +41,27 @@ form_stated (Some block_start) = stated.Nothing
 form_stated (Some block_end) = stated.Nothing
 form_stated (Some (plain labels keyword symbols proof)) = keyword_stated keyword
 
--- a statement without fault is after the checker, and else its fault is answered
+-- a faultless statement is taken: the checker then stands for the context after it; else its fault
+-- is returned
 abbrev pub Checks : Context → Statement → Checker → Result Stated VerifyEnd → Type 0
 Checks c s new (Ok a) = (statement_fault c s.tokens ≡ None) × IsBehind new (context_after c s)
     × (a ≡ form_stated (form_of s.tokens))
 Checks c s new (Err (Invalid f)) = (statement_fault c s.tokens ≡ Some f.kind) × (f.at ≡ s.at)
 Checks c s new (Err Memory) = Unit {0}
 
--- the part of it on declarations
+-- the same for what a statement declares, without its proof
 abbrev pub Declares : Context → Statement → Checker → Result Added VerifyEnd → Type 0
 Declares c s new (Ok a) = (declaration_fault c (form_of s.tokens) ≡ None)
-    × Stands (held new.scopes) (context_after c s) × HasFrames new
+    × Stands (scope_state new.scopes) (context_after c s) × HasFrames new
     × (option_map form_added (form_of s.tokens) ≡ Some a)
-Declares c s new (Err (Invalid f)) = (declaration_fault c (form_of s.tokens) ≡ Some f.kind) × (f.at ≡ s.at)
+Declares c s new (Err (Invalid f)) =
+    (declaration_fault c (form_of s.tokens) ≡ Some f.kind) × (f.at ≡ s.at)
 Declares c s new (Err Memory) = Unit {0}
 
--- a theorem is after the checker, as what it was proposed to be
+-- a theorem is added as it was proposed
 abbrev pub Adds : Checker → Theorem → Checker → Type 0
 Adds old t new =
-    HasFrames new × ((bytes : List ℕ) (c : Context) (s : Statement) → Stands (held old.scopes) c
-    → IsProposed bytes (held old.scopes) c s t → Stands (held new.scopes) (context_after c s))
+    HasFrames new
+    × ((bytes : List ℕ) (c : Context) (s : Statement) → Stands (scope_state old.scopes) c
+    → IsProposed bytes (scope_state old.scopes) c s t
+    → Stands (scope_state new.scopes) (context_after c s))

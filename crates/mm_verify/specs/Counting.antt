@@ -22,7 +22,7 @@ theorems_with n stated.Nothing = n
 abbrev pub unended_at : ℕ → VerifyEnd
 unended_at at = Invalid (fault bad_keyword at)
 
--- the outermost block that is open, if one is
+-- the end of a text: a fault at the outermost block that is still open, if there is one
 abbrev pub end_at_open : Option ℕ → Report → Result Report VerifyEnd
 end_at_open None report = Ok report
 end_at_open (Some at) report = Err (Invalid (fault bad_scope at))

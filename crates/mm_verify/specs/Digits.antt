@@ -1,6 +1,7 @@
--- Letters of compressed proofs, as code tells them.
+-- Letters of compressed proofs, as the code represents them.
 use Rattle.std.specs.Prelude.{◌≤◌}
-use Rattle.mm_text.specs.Compressed.{last_digit, digit, saves, no_letter, Before, beginning, digits, a_number, a_save}
+use Rattle.mm_text.specs.Compressed.{last_digit, digit, saves, no_letter, Before, beginning, digits}
+use Rattle.mm_text.specs.Compressed.{a_number, a_save}
 use Rattle.mm_text.specs.Compressed as compressed
 use Rattle.mm_verify.specs.declared.digits.Letter.{Letter}
 use Rattle.mm_verify.specs.declared.digits.Letter.TheVariants as letter

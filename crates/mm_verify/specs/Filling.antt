@@ -1,5 +1,6 @@
 -- Statements with the texts that entries give in the places of variables.
-use Rattle.std.specs.Prelude.{ℕ, ◌<◌, Bool, true, false, ◌&&◌, ◌||◌, nat_eq, List, [], ◌∷◌, flat_map}
+use Rattle.std.specs.Prelude.{ℕ, ◌<◌, Bool, true, false, ◌&&◌, ◌||◌, nat_eq, List, [], ◌∷◌}
+use Rattle.std.specs.Prelude.{flat_map}
 use Rattle.std.specs.Prelude.{slice_index_or, Option, Some, None, IfSome, All}
 use Rattle.std.specs.List.{list_all}
 use Rattle.std.specs.Global.{Vec}
@@ -48,7 +49,8 @@ GroupWithin n group = AreWithin n (parts_of group)
 -- an entry is what is wanted
 abbrev pub is_wanted : List (List ℕ) → Wanted → List ℕ → Bool
 is_wanted entries (wanted.Typed label typecode variable) entry = begins_with typecode entry
-is_wanted entries (wanted.Stated label parts) entry = same_numbers entry (filled entries parts.items)
+is_wanted entries (wanted.Stated label parts) entry =
+    same_numbers entry (filled entries parts.items)
 
 -- some entries, one by one, are what is wanted
 abbrev pub are_wanted : List (List ℕ) → List Wanted → List (List ℕ) → Bool
@@ -61,11 +63,13 @@ are_wanted entries (w ∷ ws) (e ∷ es) = is_wanted entries w e && are_wanted e
 abbrev pub places_apart : NumberedPlace → List (List ℕ) → Option ℕ → Option ℕ → Bool
 places_apart p entries None b = true
 places_apart p entries (Some a) None = true
-places_apart p entries (Some a) (Some b) = texts_apart (numbers_apart p) (text_at entries a) (text_at entries b)
+places_apart p entries (Some a) (Some b) =
+    texts_apart (numbers_apart p) (text_at entries a) (text_at entries b)
 
 -- two parts with different symbols are kept apart
 abbrev pub are_parts_apart : NumberedPlace → List (List ℕ) → Part → Part → Bool
-are_parts_apart p entries a b = nat_eq (symbol_of a) (symbol_of b) || places_apart p entries (place_in a) (place_in b)
+are_parts_apart p entries a b =
+    nat_eq (symbol_of a) (symbol_of b) || places_apart p entries (place_in a) (place_in b)
 
 abbrev pub is_group_apart : NumberedPlace → List (List ℕ) → List Part → Bool
 is_group_apart p entries group = list_all (λ a. list_all (are_parts_apart p entries a) group) group

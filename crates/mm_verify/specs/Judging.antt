@@ -12,7 +12,7 @@ kind_of None = None
 kind_of (Some fault.Step) = Some bad_step
 kind_of (Some fault.Conclusion) = Some bad_conclusion
 
--- of steps that a proof's text names, if it names some
+-- the fault kind of the steps that a proof's text names, or of a text that names none
 abbrev pub proof_kind : NumberedPlace → List ℕ → Option (List (Step Citation)) → Option ℕ
 proof_kind p conclusion None = Some bad_proof_text
 proof_kind p conclusion (Some steps) = kind_of (steps_fault p steps conclusion)

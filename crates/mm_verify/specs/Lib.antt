@@ -5,7 +5,7 @@ pub mod Places
 pub mod Locating
 pub mod Resolved
 pub mod AssertionView
-pub mod KeptView
+pub mod StoredView
 pub mod Filling
 pub mod Pairs
 pub mod Meeting

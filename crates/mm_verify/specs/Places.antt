@@ -1,24 +1,25 @@
 -- The places of variables among the mandatory hypotheses of an assertion.
-use Rattle.std.specs.Prelude.{◌≡◌, ℕ, Bool, true, false, nat_eq, List, Option, Some, None, if◌then◌else◌, map}
+use Rattle.std.specs.Prelude.{◌≡◌, ℕ, Bool, true, false, nat_eq, List, Option, Some, None}
+use Rattle.std.specs.Prelude.{if◌then◌else◌, map}
 use Rattle.std.specs.List.{position_from}
 use Rattle.std.specs.Ordering.{nat_cmp}
 use Rattle.std.specs.BTreeMap.{get, BTreeMap}
 use Rattle.std.specs.Global.{Vec}
 use Rattle.mm_frame.specs.Numbered.{NumberedHypothesis}
-use Rattle.mm_frame.specs.FramesHeld.{types_number}
+use Rattle.mm_frame.specs.PlainFrames.{types_number}
 use Rattle.mm_verify.specs.declared.parts.Part.{Part}
 
--- the place of the first `$f` of a variable: none where it has none
+-- the place of the first `$f` of a variable: none if the variable has no `$f`
 abbrev pub place_of : List NumberedHypothesis → ℕ → Option ℕ
 place_of hypotheses symbol = position_from (types_number symbol) 0 hypotheses
 
--- the place that a variable has, or else this one, where it is typed there
+-- the place that a variable has already, or else this one if the variable is typed there
 abbrev pub first_place : Option ℕ → Bool → ℕ → Option ℕ
 first_place (Some place) typed i = Some place
 first_place None true i = Some i
 first_place None false i = None
 
--- a variable that there is, and is this symbol
+-- there is a variable, and it is this symbol
 abbrev pub is_this : ℕ → Option ℕ → Bool
 is_this symbol None = false
 is_this symbol (Some variable) = nat_eq variable symbol

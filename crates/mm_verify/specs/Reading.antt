@@ -1,14 +1,15 @@
--- Letters of a compressed proof that are read.
-use Rattle.std.specs.Prelude.{◌≡◌, ℕ, Bool, true, false, List, ◌++◌, map, flat_map, Option, None, option_map}
+-- Reading the letters of a compressed proof.
+use Rattle.std.specs.Prelude.{◌≡◌, ℕ, Bool, true, false, List, ◌++◌, map, flat_map, Option, None}
+use Rattle.std.specs.Prelude.{option_map}
 use Rattle.std.specs.Prelude.{option_and_then}
 use Rattle.mm_text.specs.Reader.{words_of}
 use Rattle.mm_text.specs.Compressed.{Before, steps_from}
 use Rattle.mm_text.specs.declared.tokens.MmToken.{MmToken}
 use Rattle.mm_database.specs.Steps.{Step}
-use Rattle.mm_database.specs.ProofText.{meanings}
+use Rattle.mm_database.specs.ProofText.{steps_of_numbers}
 use Rattle.mm_frame.specs.NumberedSteps.{Citation}
 use Rattle.std.specs.Global.{Vec}
-use Rattle.mm_frame.specs.FramesHeld.{hypotheses_held}
+use Rattle.mm_frame.specs.PlainFrames.{plain_hypotheses}
 use Rattle.mm_frame.specs.declared.frames.Hyp.{Hyp}
 use Rattle.mm_verify.specs.declared.letters.ReadSteps.{ReadSteps}
 use Rattle.mm_verify.specs.declared.machine.Citation as code
@@ -16,34 +17,36 @@ use Rattle.mm_verify.specs.ProofSteps.{given_by}
 use Rattle.mm_verify.specs.Running.{citation_of, step_of}
 use Rattle.mm_verify.specs.Digits.{before_of}
 
--- what the letters that are left stand for, where so many steps are saved and this stands before them
+-- what the remaining letters stand for, by how many steps are saved and what is before the letters
 abbrev pub left_meanings : {A : Type 0} → List A → ℕ → Before → List ℕ → Option (List (Step A))
-left_meanings table saved before letters = option_and_then (meanings table saved) (steps_from before letters)
+left_meanings table saved before letters =
+    option_and_then (steps_of_numbers table saved) (steps_from before letters)
 
--- items in front of others
+-- items put before others
 abbrev pub behind_items : {A : Type 0} → List A → Option (List A) → Option (List A)
 behind_items done left = option_map (λ others. done ++ others) left
 
--- what is cited
+-- what the elements of a vector cite
 abbrev pub citations_in : Vec code.Citation → List Citation
 citations_in v = map citation_of v.items
 
--- what the first numbers cite: the hypotheses, and after them what is listed
+-- what the first numbers cite: the hypotheses, and then what is listed
 abbrev pub table_of : List Hyp → List code.Citation → List Citation
-table_of hyps listed = given_by (hypotheses_held hyps) ++ map citation_of listed
+table_of hyps listed = given_by (plain_hypotheses hyps) ++ map citation_of listed
 
--- the steps that are read, and those that the letters left stand for
+-- the steps that were read, and then those that the remaining letters stand for
 abbrev pub meant : ReadSteps → List ℕ → Option (List (Step Citation))
 meant r letters =
     behind_items (map step_of r.steps.items)
     (left_meanings (table_of r.hyps.now r.listed.items) r.saved (before_of r.behind) letters)
 
--- Some letters are read, so that they and others stand for what is read with what the others stand for;
--- or, with whatever others, they stand for nothing.
+-- Some letters are read. If the result is true, then these and any further letters stand for the
+-- steps that were read and those of the further letters. If it is false, the letters stand for
+-- nothing, whatever letters follow.
 abbrev pub ReadsOn : ReadSteps → List ℕ → ReadSteps → Bool → Type 0
 ReadsOn old letters new true = (others : List ℕ) → meant old (letters ++ others) ≡ meant new others
 ReadsOn old letters new false = (others : List ℕ) → meant old (letters ++ others) ≡ None
 
--- the letters of some tokens in a row
+-- the letters of some tokens, one after another
 abbrev pub letters_of : List ℕ → List MmToken → List ℕ
 letters_of bytes tokens = flat_map (λ t. t) (words_of bytes tokens)

@@ -11,7 +11,7 @@ abbrev pub wanted_hypothesis : Wanted → NumberedHypothesis
 wanted_hypothesis (wanted.Typed label typecode variable) = floating label.now typecode variable
 wanted_hypothesis (wanted.Stated label parts) = essential label.now (map symbol_of parts.items)
 
--- the parts that stand in what is wanted
+-- the parts of what a hypothesis asks for
 abbrev pub parts_in : Wanted → List Part
 parts_in (wanted.Typed label typecode variable) = []
 parts_in (wanted.Stated label parts) = parts.items

@@ -1,4 +1,4 @@
--- What contracts see of a stack.
+-- A stack as contracts see it.
 use Rattle.std.specs.Prelude.{ℕ, List, length}
 use Rattle.mm_verify.specs.Cut.{cut, AreEnds}
 use Rattle.mm_verify.specs.declared.stack.Stack.TheInside.{Inside}

@@ -1,4 +1,5 @@
--- What a statement is, and how a database ends by it, by what scopes answer.
+-- What kind a statement is, from what it added, and the end of a database, from the end of a
+-- statement.
 use Rattle.mm_frame.specs.declared.declare.Added.{Added}
 use Rattle.mm_frame.specs.declared.declare.Added.TheVariants as added
 use Rattle.mm_frame.specs.declared.declare.FrameEnd.{FrameEnd}

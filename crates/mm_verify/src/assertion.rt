@@ -16,14 +16,16 @@ use std::alloc::{AllocError, Global};
 /// With so many symbols an entry may be long.
 const LONG: usize = 65536;
 
-/// An assertion, each of whose variables knows which entry gives its text. `assertion_frame` is its frame.
+/// An assertion, each of whose variables knows which entry gives its text. `assertion_frame` is its
+/// frame.
 #[derive(Drop)]
 pub(crate) struct Assertion<'a> {
     label: &'a [u8],
     wanted: Vec<Wanted<'a>>,
     apart: Vec<Vec<Part>>,
     conclusion: Vec<Part>,
-    ghost wanted_placed: { ArePlaced (hypotheses_of wanted.items) (flat_map parts_in wanted.items) },
+    ghost wanted_placed: { ArePlaced (hypotheses_of wanted.items)
+        (flat_map parts_in wanted.items) },
     ghost apart_placed: { ArePlaced (hypotheses_of wanted.items) (flat_map parts_of apart.items) },
     ghost conclusion_placed: { ArePlaced (hypotheses_of wanted.items) conclusion.items },
 }
@@ -31,7 +33,7 @@ pub(crate) struct Assertion<'a> {
 impl<'a> Assertion<'a> {
     ghost use Rattle.std.specs.Prelude.{◌≡◌, ◌++◌, ◌≤◌, length, drop, IfOk, OnOk};
     ghost use Rattle.mm_verify.specs.Applied.{bindings_in, is_met as met};
-    ghost use Rattle.mm_frame.specs.FramesHeld.{frame_held};
+    ghost use Rattle.mm_frame.specs.PlainFrames.{plain_frame};
     ghost use Rattle.mm_verify.specs.AssertionView.{assertion_frame};
     ghost use Rattle.mm_database.specs.Proofs.{substituted, keeps_apart};
     ghost use Rattle.mm_frame.specs.NumberedSteps.{all_agree, numbers_apart};
@@ -39,7 +41,7 @@ impl<'a> Assertion<'a> {
     /// The assertion with this frame. It takes time in the frame's size, but for a factor of the
     /// logarithm of the number of its variables.
     pub(crate) fn of(alloc: Global, frame: &Frame<'a>) -> Result<Assertion<'a>, AllocError>
-        ensures { IfOk result (λ a. assertion_frame a ≡ frame_held frame.now) }
+        ensures { IfOk result (λ a. assertion_frame a ≡ plain_frame frame.now) }
     {
         let mandatory = &*frame.mandatory;
         let places = find_places(alloc, &mandatory.hyps)?;
@@ -71,7 +73,8 @@ impl<'a> Assertion<'a> {
         spreads: &mut Spreads,
     ) -> Result<bool, AllocError>
         requires { length (assertion_frame self.now).hypotheses ≡ length (drop base stack.now) }
-        ensures { IfOk result (λ r. r ≡ met (P.place place.now) (assertion_frame self.now) (drop base stack.now)) }
+        ensures { IfOk result
+            (λ r. r ≡ met (P.place place.now) (assertion_frame self.now) (drop base stack.now)) }
     {
         if self.agrees(stack, base) {
             self.is_apart(alloc, place, stack, base, spreads)
@@ -113,7 +116,8 @@ impl<'a> Assertion<'a> {
         self.conclusion.len().saturating_mul(stack.taken(base)) >= LONG
     }
 
-    /// How long its statement is, with the texts that the entries from `base` on give its variables.
+    /// How long its statement is, with the texts that the entries from `base` on give its
+    /// variables.
     pub(crate) fn length(&self, stack: &Stack, base: usize) -> usize
         requires { length (assertion_frame self.now).hypotheses ≡ length (drop base stack.now) }
     {

@@ -1,10 +1,10 @@
 // Statements of a database, checked one after another.
 
-use crate::answers::{first_byte, stated, verify_end};
+use crate::conversions::{first_byte, stated, verify_end};
 use crate::ends::{Stated, VerifyEnd};
-use crate::kept::Kept;
 use crate::proof_fault::{add_assertions, proof_fault};
 use crate::room::Room;
+use crate::stored::StoredAssertion;
 use mm_frame::{Added, Scopes, Theorem};
 use mm_text::{MmFault, MmToken};
 use std::alloc::Global;
@@ -13,7 +13,7 @@ use std::alloc::Global;
 #[derive(Drop)]
 pub(crate) struct Checker<'a> {
     scopes: Scopes<'a>,
-    assertions: Vec<Kept<'a>>,
+    assertions: Vec<StoredAssertion<'a>>,
 }
 
 impl<'a> Checker<'a> {
@@ -24,7 +24,7 @@ impl<'a> Checker<'a> {
     ghost use Rattle.mm_text.specs.Reader.{statement_of};
     ghost use Rattle.mm_database.specs.Database.{Context, empty_context};
     ghost use Rattle.mm_database.specs.Validity.{first_open};
-    ghost use Rattle.mm_frame.specs.Held.{held};
+    ghost use Rattle.mm_frame.specs.ScopeState.{scope_state};
     ghost use Rattle.mm_frame.specs.Standing.{Stands};
     ghost use Rattle.mm_verify.specs.Checking.{HasFrames, IsBehind, Checks, Declares, Adds};
 
@@ -39,8 +39,8 @@ impl<'a> Checker<'a> {
         }
     }
 
-    /// Checks a statement whose tokens stand in `bytes`, and adds what it declares; else answers its
-    /// first fault.
+    /// Checks a statement whose tokens stand in `bytes`, and adds what it declares; else answers
+    /// its first fault.
     pub(crate) fn check(
         &mut self,
         alloc: Global,
@@ -49,7 +49,8 @@ impl<'a> Checker<'a> {
         room: &mut Room,
     ) -> Result<Stated, VerifyEnd>
         requires frames { HasFrames self.old }
-        ensures { (c : Context) → IsBehind self.old c → Checks c (statement_of bytes.now tokens.now) self.new result }
+        ensures { (c : Context) → IsBehind self.old c
+            → Checks c (statement_of bytes.now tokens.now) self.new result }
     {
         mm_database::proof_laws();
         let theorem = match self.scopes.theorem(alloc, bytes, tokens) {
@@ -76,7 +77,8 @@ impl<'a> Checker<'a> {
     ) -> Result<Stated, VerifyEnd>
         requires frames { HasFrames self.old }
         ensures { (c : Context) → IsBehind self.old c
-            → IsProposed bytes.now (held self.old.scopes) c (statement_of bytes.now tokens.now) theorem.entry
+            → IsProposed bytes.now (scope_state self.old.scopes) c
+            (statement_of bytes.now tokens.now) theorem.entry
             → Checks c (statement_of bytes.now tokens.now) self.new result }
     {
         mm_database::proof_laws();
@@ -117,7 +119,7 @@ impl<'a> Checker<'a> {
         tokens: &[MmToken],
     ) -> Result<Added, VerifyEnd>
         requires frames { HasFrames self.old }
-        ensures { (c : Context) → Stands (held self.old.scopes) c
+        ensures { (c : Context) → Stands (scope_state self.old.scopes) c
             → Declares c (statement_of bytes.now tokens.now) self.new result }
     {
         let added = match self.scopes.statement(alloc, bytes, tokens) {

@@ -1,4 +1,4 @@
-// The ends of a database, and what it has.
+// The end of a database, and the counts of its statements.
 ghost use Rattle.std.specs.Prelude.{◌≡◌, ◌+◌, ◌<◌, ◌^◌};
 ghost use Rattle.mm_database.specs.Database.{Context};
 ghost use Rattle.mm_verify.specs.Counting.{axioms_with, theorems_with, end_of_open, unended_at};
@@ -27,14 +27,14 @@ pub(crate) fn counted(report: Report, stated: Stated) -> Report
     }
 }
 
-/// The end of a text in a statement that begins at a byte.
+/// The end of a database whose text ends within a statement. The statement begins at byte `at`.
 pub(crate) fn unended(at: usize) -> VerifyEnd
     ensures { result ≡ unended_at at }
 {
     VerifyEnd::Invalid(MmFault { kind: 3, at })
 }
 
-/// The end of a text whose statements have no fault: a block may be open.
+/// The end of a database whose statements have no fault. It is a fault if a block is still open.
 pub(crate) fn ended(checker: &Checker<'_>, report: Report) -> Result<Report, VerifyEnd>
     ensures { (c : Context) → IsBehind checker.now c → result ≡ end_of_open c.blocks report }
 {

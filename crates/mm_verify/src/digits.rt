@@ -1,7 +1,7 @@
 // Letters and the numbers that they make.
 ghost use Rattle.std.specs.Prelude.{◌≡◌, ◌≤◌, ◌-◌, ◌*◌, ◌+◌, ◌^◌, option_map, MatchOption};
 ghost use Rattle.mm_text.specs.Compressed.{letter_of, value_before};
-ghost use Rattle.mm_database.specs.ProofText.{meaning as meaning_in};
+ghost use Rattle.mm_database.specs.ProofText.{step_of_number as meaning_in};
 ghost use Rattle.mm_verify.specs.Running.{step_of};
 ghost use Rattle.mm_verify.specs.Reading.{table_of};
 ghost use Rattle.mm_verify.specs.Digits.{before_of, letter_is, IsLetter};
@@ -22,12 +22,12 @@ pub(crate) enum Letter {
     Other,
 }
 
-/// What stands before a letter.
+/// What is before a letter.
 #[derive(Clone, Copy, PartialEq, Eq)]
 pub(crate) enum Behind {
     /// Nothing.
     Nothing,
-    /// Digits with this value, which are no number yet.
+    /// Digits with this value that are not yet a whole number.
     Digits(u64),
     /// The last digit of a number.
     Number,
@@ -45,9 +45,10 @@ pub(crate) fn value(behind: Behind) -> u64
     }
 }
 
-/// A number with one more digit, in a place of this factor: none where it is past 2^64 - 1.
+/// `factor * value + digit`, or `None` if this is more than 2^64 - 1.
 pub(crate) fn extended(value: u64, factor: u64, digit: u8) -> Option<u64>
-    ensures { MatchOption result (2 ^ 64 ≤ factor * value + digit) (λ n. n ≡ factor * value + digit) }
+    ensures { MatchOption result (2 ^ 64 ≤ factor * value + digit)
+        (λ n. n ≡ factor * value + digit) }
 {
     match value.checked_mul(factor) {
         Some(product) => product.checked_add(digit as u64),
@@ -55,8 +56,8 @@ pub(crate) fn extended(value: u64, factor: u64, digit: u8) -> Option<u64>
     }
 }
 
-/// The step that a number from 1 on stands for: it cites a hypothesis or what is listed, or is a saved
-/// step again.
+/// The step that a number stands for. Numbers begin at 1. The step cites a hypothesis or what is
+/// listed, or repeats a saved entry.
 pub(crate) fn meaning<'s, 'a>(
     hyps: &'s [Hyp<'a>],
     listed: &[Citation<'s, 'a>],
@@ -64,7 +65,8 @@ pub(crate) fn meaning<'s, 'a>(
     number: u64,
 ) -> Option<Step<'s, 'a>>
     requires { 1 ≤ number }
-    ensures { option_map step_of result ≡ meaning_in (table_of hyps.now listed.now) saved (number - 1) }
+    ensures { option_map step_of result
+        ≡ meaning_in (table_of hyps.now listed.now) saved (number - 1) }
 {
     let place = number - 1;
     let given = hyps.len() as u64;

@@ -2,7 +2,7 @@
 
 use mm_text::MmFault;
 
-/// What a valid database has.
+/// How many statements a valid database has.
 #[derive(Clone, Copy, PartialEq, Eq, Debug)]
 pub struct Report {
     /// How many `$a` statements.
@@ -11,12 +11,12 @@ pub struct Report {
     pub theorems: u64,
 }
 
-/// Why a database is not found to be valid.
+/// Why a database was not found to be valid.
 #[derive(Clone, Copy, PartialEq, Eq)]
 pub enum VerifyEnd {
-    /// It is not, by its first fault.
+    /// It is not valid. This is its first fault.
     Invalid(MmFault),
-    /// Memory was wanting.
+    /// Out of memory.
     Memory,
 }
 

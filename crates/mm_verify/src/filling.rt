@@ -1,5 +1,6 @@
 // Statements of assertions with the texts of a stack's entries in the places of variables.
-ghost use Rattle.std.specs.Prelude.{◌≡◌, ◌+◌, ◌-◌, ◌<◌, ◌≤◌, ◌++◌, ◌∷◌, [], ℕ, List, false, length, drop};
+ghost use Rattle.std.specs.Prelude.{◌≡◌, ◌+◌, ◌-◌, ◌<◌, ◌≤◌, ◌++◌, ◌∷◌, [], ℕ, List, false, length};
+ghost use Rattle.std.specs.Prelude.{drop};
 ghost use Rattle.std.specs.Prelude.{OnOk, MatchOption};
 ghost use Rattle.mm_verify.specs.Filling.{part_text, text_at, filled, IsWithin, AreWithin};
 ghost use Rattle.mm_database.specs.Stack.{behind_first};
@@ -10,8 +11,8 @@ use crate::stack::Stack;
 use std::alloc::AllocError;
 use std::slice::from_ref;
 
-/// The text that stands for a part: the symbol itself, or what stands after the typecode of an entry
-/// from `base` on.
+/// The text that stands for a part: the symbol itself, or what stands after the typecode of an
+/// entry from `base` on.
 pub(crate) fn text_of<'a>(part: &'a Part, stack: &'a Stack, base: usize) -> &'a [u32]
     requires { IsWithin (length (drop base stack.now)) part.now }
     ensures { result.now ≡ part_text (drop base stack.now) part.now }
@@ -51,8 +52,8 @@ pub(crate) fn filled_length(parts: &[Part], stack: &Stack, base: usize) -> usize
     length
 }
 
-/// Appends the statement of some parts, with the texts of the entries from `base` on. It takes time in
-/// the length of what is appended.
+/// Appends the statement of some parts, with the texts of the entries from `base` on. It takes time
+/// in the length of what is appended.
 pub(crate) fn fill(
     parts: &[Part],
     stack: &Stack,
@@ -71,7 +72,8 @@ pub(crate) fn fill(
 /// Appends the text that stands for a part.
 fn append_part(part: &Part, stack: &Stack, base: usize, to: &mut Vec<u32>) -> Result<(), AllocError>
     requires within { IsWithin (length (drop base stack.now)) part.now }
-    ensures { OnOk result (to.new.items ≡ to.old.items ++ part_text (drop base stack.now) part.now) }
+    ensures { OnOk result
+        (to.new.items ≡ to.old.items ++ part_text (drop base stack.now) part.now) }
 {
     match part.place() {
         None => to.push(part.symbol)?,

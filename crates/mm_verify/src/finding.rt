@@ -3,29 +3,29 @@ ghost use Rattle.std.specs.Prelude.{◌≡◌, ℕ, IfOk, IfSome, OnOk};
 ghost use Rattle.std.specs.Ordering.{nat_cmp};
 ghost use Rattle.std.specs.BTreeMap.{get as found};
 ghost use Rattle.std.proofs.Props.{props};
-ghost use Rattle.mm_frame.specs.FramesHeld.{hypothesis_held, hypotheses_held, types_number};
+ghost use Rattle.mm_frame.specs.PlainFrames.{plain_hypothesis, plain_hypotheses, types_number};
 ghost use Rattle.mm_verify.specs.Places.{first_place, is_this, place_of, IsTable};
 
 use mm_frame::Hyp;
 use std::alloc::{AllocError, Global};
 use std::collections::BTreeMap;
 
-/// Of so many hypotheses the `$f` of a variable is looked for by going through them.
+/// Up to this many hypotheses are searched one by one for the `$f` of a variable.
 const FEW: usize = 16;
 
-/// The places of the `$f` of variables: by the hypotheses themselves, where they are few, and else by a
-/// table.
+/// The places of the `$f` of variables: found in the hypotheses themselves if these are few, and
+/// else in a table.
 #[derive(Drop)]
 pub(crate) struct Places<'f, 'a> {
     hyps: &'f [Hyp<'a>],
     table: Option<BTreeMap<u32, usize>>,
-    ghost is_table: { IfSome table (λ m. IsTable m (hypotheses_held hyps.now)) } by { Prim.hlevel props },
+    ghost is_table: { IfSome table (λ m. IsTable m (plain_hypotheses hyps.now)) } by { Prim.hlevel props },
 }
 
 impl Places<'_, '_> {
     /// The place of the first `$f` of a variable.
     pub(crate) fn get(&self, symbol: u32) -> Option<usize>
-        ensures { result ≡ place_of (hypotheses_held self.now.hyps.now) symbol }
+        ensures { result ≡ place_of (plain_hypotheses self.now.hyps.now) symbol }
     {
         match &self.table {
             None => first_place(self.hyps, symbol),
@@ -36,7 +36,7 @@ impl Places<'_, '_> {
 
 /// The place of the first `$f` of a variable among hypotheses.
 fn first_place(hyps: &[Hyp<'_>], symbol: u32) -> Option<usize>
-    ensures { result ≡ place_of (hypotheses_held hyps.now) symbol }
+    ensures { result ≡ place_of (plain_hypotheses hyps.now) symbol }
 {
     for i in 0..hyps.len() {
         let hyp = &hyps[i];
@@ -47,12 +47,12 @@ fn first_place(hyps: &[Hyp<'_>], symbol: u32) -> Option<usize>
     None
 }
 
-/// The places of the `$f` of variables.
+/// The places of the `$f` of variables among hypotheses.
 pub(crate) fn find_places<'f, 'a>(
     alloc: Global,
     hyps: &'f [Hyp<'a>],
 ) -> Result<Places<'f, 'a>, AllocError>
-    ensures { IfOk result (λ p. hypotheses_held p.hyps.now ≡ hypotheses_held hyps.now) }
+    ensures { IfOk result (λ p. plain_hypotheses p.hyps.now ≡ plain_hypotheses hyps.now) }
 {
     if hyps.len() <= FEW {
         return Ok(Places { hyps, table: None });
@@ -64,9 +64,9 @@ pub(crate) fn find_places<'f, 'a>(
     })
 }
 
-/// The same as a table.
+/// A table with the places of the `$f` of variables.
 fn place_table(alloc: Global, hyps: &[Hyp<'_>]) -> Result<BTreeMap<u32, usize>, AllocError>
-    ensures { IfOk result (λ m. IsTable m (hypotheses_held hyps.now)) }
+    ensures { IfOk result (λ m. IsTable m (plain_hypotheses hyps.now)) }
 {
     let mut places = BTreeMap::new(alloc);
     for i in 0..hyps.len() {
@@ -76,10 +76,11 @@ fn place_table(alloc: Global, hyps: &[Hyp<'_>]) -> Result<BTreeMap<u32, usize>, 
     Ok(places)
 }
 
-/// Gives the variable of a `$f` its place, where it has none yet.
+/// Gives the variable of a `$f` its place, if it has none yet.
 fn add_place(places: &mut BTreeMap<u32, usize>, hyp: &Hyp<'_>, i: usize) -> Result<(), AllocError>
     ensures { OnOk result ((symbol : ℕ) → found nat_cmp places.new symbol
-        ≡ first_place (found nat_cmp places.old symbol) (types_number symbol (hypothesis_held hyp.now)) i) }
+        ≡ first_place (found nat_cmp places.old symbol)
+        (types_number symbol (plain_hypothesis hyp.now)) i) }
 {
     if let Some(variable) = typed_variable(hyp) {
         if !places.contains_key(&variable) {
@@ -91,7 +92,8 @@ fn add_place(places: &mut BTreeMap<u32, usize>, hyp: &Hyp<'_>, i: usize) -> Resu
 
 /// The variable of a `$f`.
 fn typed_variable(hyp: &Hyp<'_>) -> Option<u32>
-    ensures { (symbol : ℕ) → types_number symbol (hypothesis_held hyp.now) ≡ is_this symbol result }
+    ensures { (symbol : ℕ)
+        → types_number symbol (plain_hypothesis hyp.now) ≡ is_this symbol result }
 {
     match hyp {
         Hyp::Floating(_label, _typecode, variable) => Some(*variable),

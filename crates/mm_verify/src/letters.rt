@@ -7,11 +7,11 @@ use mm_frame::Hyp;
 use mm_text::MmToken;
 use std::alloc::{AllocError, Global};
 
-/// More hypotheses or labels than memory has room for.
+/// More hypotheses or labels than memory can hold.
 const MANY: usize = 1 << 62;
 
-/// The steps that letters stand for, as far as they are read. The first numbers are those of the
-/// hypotheses, and the next ones of what is listed.
+/// The steps of the letters that were read so far. The first numbers stand for the hypotheses, and
+/// the next ones for what is listed.
 #[derive(Drop)]
 pub(crate) struct ReadSteps<'s, 'a> {
     hyps: &'s [Hyp<'a>],
@@ -32,7 +32,7 @@ impl<'s, 'a> ReadSteps<'s, 'a> {
     ghost use Rattle.mm_verify.specs.Running.{steps_in};
     ghost use Rattle.mm_verify.specs.Reading.{meant, letters_of, ReadsOn};
 
-    /// Nothing is read. There is room for this many steps.
+    /// Nothing is read yet. There is room for `count` steps.
     pub(crate) fn new(
         alloc: Global,
         hyps: &'s [Hyp<'a>],
@@ -57,7 +57,8 @@ impl<'s, 'a> ReadSteps<'s, 'a> {
         })
     }
 
-    /// Reads a letter, where it may stand and what it completes stands for a step.
+    /// Reads a letter. Returns false if it may not occur here, or if it completes a number that
+    /// stands for no step.
     fn take_letter(&mut self, byte: u8) -> Result<bool, AllocError>
         ensures { IfOk result (ReadsOn self.old (byte ∷ []) self.new) }
     {
@@ -69,10 +70,11 @@ impl<'s, 'a> ReadSteps<'s, 'a> {
         }
     }
 
-    /// Reads the last digit of a number.
+    /// Reads the last digit of a number. Returns false if the number stands for no step.
     fn end_number(&mut self, d: u8) -> Result<bool, AllocError>
         requires { 1 ≤ d }
-        ensures { IfOk result (λ done. (b : ℕ) → letter_of b ≡ last_digit d → ReadsOn self.old (b ∷ []) self.new done) }
+        ensures { IfOk result (λ done.
+            (b : ℕ) → letter_of b ≡ last_digit d → ReadsOn self.old (b ∷ []) self.new done) }
     {
         let Some(number) = extended(value(self.behind), 20, d) else {
             return Ok(false);
@@ -102,7 +104,8 @@ impl<'s, 'a> ReadSteps<'s, 'a> {
 
     /// Reads a `Z`.
     fn save(&mut self) -> Result<bool, AllocError>
-        ensures { IfOk result (λ done. (b : ℕ) → letter_of b ≡ saves → ReadsOn self.old (b ∷ []) self.new done) }
+        ensures { IfOk result
+            (λ done. (b : ℕ) → letter_of b ≡ saves → ReadsOn self.old (b ∷ []) self.new done) }
     {
         if self.behind != Behind::Number {
             return Ok(false);
@@ -141,7 +144,7 @@ impl<'s, 'a> ReadSteps<'s, 'a> {
         Ok(true)
     }
 
-    /// All steps, where the letters may end here.
+    /// All steps, if the letters may end here.
     pub(crate) fn ended(self) -> Option<Vec<Step<'s, 'a>>>
         ensures { option_map steps_in result ≡ meant self.entry [] }
     {

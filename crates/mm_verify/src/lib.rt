@@ -1,25 +1,26 @@
-//! Whether a Metamath database is valid, and its first fault where it is not.
+//! Whether a Metamath database is valid, and its first fault if it is not.
 //!
-//! `verify` reads a text statement by statement. `Checker` judges each: scopes take what it declares, and a
-//! proof is read into steps (`proof_text`, `letters`) and run on a stack (`machine`, `applying`, `checking`).
-//! What proofs are checked in keeps its memory from one to the next (`room`). Symbols are numbers. An
-//! `Assertion` knows for each of its variables which entry of the stack gives its text (`parts`), so that a
-//! step fills texts in without a look-up. The contract of `verify` is the definition of validity of the
-//! crate `mm_database`, in both directions.
+//! `verify` reads a text statement by statement. `Checker` judges each statement: scopes take what
+//! it declares, and its proof is read into steps (`proof_text`, `letters`) and run on a stack
+//! (`machine`, `applying`, `checking`). The memory for checking proofs is kept from one proof to
+//! the next (`room`). Symbols are numbers. An `Assertion` knows for each of its variables which
+//! entry of the stack gives its text (`parts`), so that a step substitutes texts without a look-up.
+//! The contract of `verify` is the definition of validity of the crate `mm_database`, in both
+//! directions.
 #![tactic(auto)]
 
-mod answers;
 mod applying;
 mod assertion;
 mod checker;
 mod checking;
+mod citable;
+mod conversions;
 mod counting;
 mod digits;
 mod ends;
 mod filling;
 mod finding;
-mod kept;
-mod known;
+mod label_marks;
 mod letters;
 mod machine;
 mod parts;
@@ -27,9 +28,9 @@ mod place;
 mod proof_fault;
 mod proof_text;
 mod room;
-mod scattered;
 mod spreads;
 mod stack;
+mod stored;
 mod together;
 mod verdicts;
 

@@ -4,15 +4,16 @@ ghost use Rattle.mm_database.specs.Frames.{statement_of};
 ghost use Rattle.mm_database.specs.Steps.{cites, saves, repeats};
 ghost use Rattle.mm_database.specs.Stack.{saving};
 ghost use Rattle.mm_frame.specs.NumberedSteps.{gives};
-ghost use Rattle.mm_frame.specs.FramesHeld.{hypothesis_held};
-ghost use Rattle.mm_verify.specs.Applied.{Answers};
-ghost use Rattle.mm_verify.specs.Running.{step_of, saving_of, numbered_step, left_fault as left_fault_of, steps_fault};
+ghost use Rattle.mm_frame.specs.PlainFrames.{plain_hypothesis};
+ghost use Rattle.mm_verify.specs.Applied.{AgreesWithStep};
+ghost use Rattle.mm_verify.specs.Running.{step_of, saving_of, numbered_step};
+ghost use Rattle.mm_verify.specs.Running.{left_fault as left_fault_of, steps_fault};
 ghost use Rattle.mm_database.specs.Frames.{statement_of};
 
-use crate::kept::Kept;
 use crate::place::Place;
 use crate::spreads::Spreads;
 use crate::stack::Stack;
+use crate::stored::StoredAssertion;
 use mm_frame::Hyp;
 use std::alloc::{AllocError, Global};
 
@@ -22,7 +23,7 @@ pub(crate) enum Citation<'s, 'a> {
     /// Puts the statement of a hypothesis on top.
     Gives(&'s Hyp<'a>),
     /// Applies an assertion to the last entries.
-    Applies(&'s Kept<'a>),
+    Applies(&'s StoredAssertion<'a>),
 }
 
 /// A step of a proof.
@@ -36,7 +37,7 @@ pub(crate) enum Step<'s, 'a> {
     Repeats(usize),
 }
 
-/// A stack with the entries that were saved, a buffer for new ones, and lists for what `$d` asks for.
+/// A stack, the saved entries, a buffer for new entries, and lists for the tests of `$d`.
 #[derive(Drop)]
 pub(crate) struct Machine {
     stack: Stack,
@@ -50,7 +51,7 @@ pub(crate) struct Machine {
 pub(crate) enum ProofFault {
     /// A step does not fit.
     Step,
-    /// The entries left are not the statement alone.
+    /// The statement is not the only entry left.
     Conclusion,
 }
 
@@ -75,14 +76,14 @@ impl Machine {
         self.saved.truncate(0);
     }
 
-    /// Does a step. Answers whether it fits; where not, nothing changes.
+    /// Does a step. Returns whether the step fits. If it does not, nothing changes.
     fn take<P: Place>(
         &mut self,
         alloc: Global,
         place: &P,
         step: Step<'_, '_>,
     ) -> Result<bool, AllocError>
-        ensures { IfOk result (Answers
+        ensures { IfOk result (AgreesWithStep
             (numbered_step (P.place place.now) (step_of step.entry) (saving_of self.old))
             (saving_of self.old) (saving_of self.new)) }
     {
@@ -104,8 +105,9 @@ impl Machine {
 
     /// Puts the statement of a hypothesis on top.
     fn give<P: Place>(&mut self, place: &P, hyp: &Hyp<'_>) -> Result<bool, AllocError>
-        ensures { IfOk result (Answers
-            (numbered_step (P.place place.now) (cites (gives (statement_of (hypothesis_held hyp.now))))
+        ensures { IfOk result (AgreesWithStep
+            (numbered_step (P.place place.now)
+            (cites (gives (statement_of (plain_hypothesis hyp.now))))
             (saving_of self.old)) (saving_of self.old) (saving_of self.new)) }
     {
         match hyp {
@@ -115,9 +117,9 @@ impl Machine {
         Ok(true)
     }
 
-    /// Saves the last entry, where there is one.
+    /// Saves the last entry. Returns false if there is none.
     fn save<P: Place>(&mut self, place: &P) -> Result<bool, AllocError>
-        ensures { IfOk result (Answers
+        ensures { IfOk result (AgreesWithStep
             (numbered_step (P.place place.now) saves (saving_of self.old))
             (saving_of self.old) (saving_of self.new)) }
     {
@@ -129,9 +131,9 @@ impl Machine {
         Ok(true)
     }
 
-    /// Puts a saved entry on top, where there is one of this number.
+    /// Puts the saved entry with this number on top. Returns false if there is none.
     fn repeat<P: Place>(&mut self, place: &P, number: usize) -> Result<bool, AllocError>
-        ensures { IfOk result (Answers
+        ensures { IfOk result (AgreesWithStep
             (numbered_step (P.place place.now) (repeats number) (saving_of self.old))
             (saving_of self.old) (saving_of self.new)) }
     {
@@ -142,7 +144,7 @@ impl Machine {
         Ok(true)
     }
 
-    /// What is wrong with what is left, where the statement has to be left alone.
+    /// The fault of what is left on the stack. Only the statement may be left.
     fn left_fault(&self, conclusion: &[u32]) -> Option<ProofFault>
         ensures { result ≡ left_fault_of conclusion.now (Some (saving_of self.now)) }
     {
@@ -162,7 +164,8 @@ pub(crate) fn check_steps<P: Place>(
     conclusion: &[u32],
     machine: &mut Machine,
 ) -> Result<Option<ProofFault>, AllocError>
-    ensures { IfOk result (λ f. f ≡ steps_fault (P.place place.now) (map step_of steps.now) conclusion.now) }
+    ensures { IfOk result
+        (λ f. f ≡ steps_fault (P.place place.now) (map step_of steps.now) conclusion.now) }
 {
     machine.clear();
     for step in steps {

@@ -1,6 +1,6 @@
 // The symbols of assertions, with the places of their variables.
 ghost use Rattle.std.specs.Prelude.{◌≡◌, Some, IfOk, map, flat_map};
-ghost use Rattle.mm_frame.specs.FramesHeld.{hypothesis_held, hypotheses_held, groups_of};
+ghost use Rattle.mm_frame.specs.PlainFrames.{plain_hypothesis, plain_hypotheses, groups_of};
 ghost use Rattle.mm_verify.specs.Places.{symbol_of, place_in, symbols_in, parts_of};
 ghost use Rattle.mm_verify.specs.Locating.{place_by, AreLocated};
 ghost use Rattle.mm_verify.specs.Resolved.{wanted_hypothesis, hypotheses_of, parts_in};
@@ -12,8 +12,9 @@ use std::alloc::{AllocError, Global};
 /// The place of a symbol that has none.
 const NOWHERE: u32 = u32::MAX;
 
-/// A symbol of an assertion. A variable has the place of its `$f` among the mandatory hypotheses: the
-/// entry at that place gives its text. A step leaves another symbol as it is, which has no place.
+/// A symbol of an assertion. A variable has the place of its `$f` among the mandatory hypotheses:
+/// the entry at that place gives its text. A step leaves another symbol as it is, which has no
+/// place.
 #[derive(Clone, Copy, PartialEq, Eq)]
 pub(crate) struct Part {
     pub(crate) symbol: u32,
@@ -77,7 +78,8 @@ pub(crate) fn located(
     symbols: &[u32],
 ) -> Result<Vec<Part>, AllocError>
     ensures symbols { IfOk result (λ v. map symbol_of v.items ≡ symbols.now) }
-    ensures places { IfOk result (λ v. map place_in v.items ≡ map (place_by places.now) symbols.now) }
+    ensures places { IfOk result
+        (λ v. map place_in v.items ≡ map (place_by places.now) symbols.now) }
 {
     let mut parts = Vec::with_capacity(alloc, symbols.len())?;
     for symbol in symbols {
@@ -108,7 +110,7 @@ fn wanted_by<'a>(
     places: &Places<'_, '_>,
     hyp: &Hyp<'a>,
 ) -> Result<Wanted<'a>, AllocError>
-    ensures hypothesis { IfOk result (λ w. wanted_hypothesis w ≡ hypothesis_held hyp.now) }
+    ensures hypothesis { IfOk result (λ w. wanted_hypothesis w ≡ plain_hypothesis hyp.now) }
     ensures places { IfOk result (λ w. AreLocated places.now (parts_in w)) }
 {
     match hyp {
@@ -126,7 +128,7 @@ pub(crate) fn all_wanted<'a>(
     places: &Places<'_, '_>,
     hyps: &[Hyp<'a>],
 ) -> Result<Vec<Wanted<'a>>, AllocError>
-    ensures hypotheses { IfOk result (λ v. hypotheses_of v.items ≡ hypotheses_held hyps.now) }
+    ensures hypotheses { IfOk result (λ v. hypotheses_of v.items ≡ plain_hypotheses hyps.now) }
     ensures places { IfOk result (λ v. AreLocated places.now (flat_map parts_in v.items)) }
 {
     let mut all = Vec::with_capacity(alloc, hyps.len())?;

@@ -1,6 +1,6 @@
-// What a step of a proof asks of the place where the proof stands.
+// What a step of a proof needs to know of the place of the proof.
 ghost use Rattle.std.specs.Prelude.{◌≡◌, ℕ, true};
-ghost use Rattle.mm_frame.specs.FramesHeld.{in_group};
+ghost use Rattle.mm_frame.specs.PlainFrames.{in_group};
 
 /// The place of a proof in a database.
 pub(crate) trait Place {
@@ -17,11 +17,11 @@ pub(crate) trait Place {
     fn apart(&self, a: u32, b: u32) -> bool
         ensures { result ≡ (place self.now).apart a b };
 
-    /// Whether it is found that each two of the symbols that differ are a pair of an active `$d`.
+    /// Whether it is found that each two different symbols are a pair of an active `$d`.
     fn are_together(&self, symbols: &[u32]) -> bool
         ensures { result ≡ true → (a b : ℕ) → in_group a b symbols.now ≡ true
             → (place self.now).apart a b ≡ true };
 
-    // It does not matter in which order they are named.
+    // The order of the two symbols does not matter.
     ghost turned: { (s : Self) (a b : ℕ) → (place s).apart a b ≡ (place s).apart b a };
 }

@@ -1,24 +1,24 @@
-// Statements of a database, checked one after another.
+// The fault of a theorem's proof.
 ghost use Rattle.std.specs.Prelude.{◌≡◌, ℕ, map, IfOk, OnOk, length, take};
 ghost use Rattle.mm_text.specs.Reader.{words_of, statement_of};
 ghost use Rattle.mm_database.specs.Database.{Context};
-ghost use Rattle.mm_frame.specs.Held.{held};
-ghost use Rattle.mm_frame.specs.FramesHeld.{frame_held};
+ghost use Rattle.mm_frame.specs.ScopeState.{scope_state};
+ghost use Rattle.mm_frame.specs.PlainFrames.{plain_frame};
 ghost use Rattle.mm_frame.specs.StandingLaws.{place_of};
-ghost use Rattle.mm_verify.specs.KeptView.{kept_frame};
+ghost use Rattle.mm_verify.specs.StoredView.{stored_frame};
 ghost use Rattle.mm_verify.specs.ProofSteps.{steps_named};
 ghost use Rattle.mm_verify.specs.Judging.{kind_of, proof_kind};
 
-use crate::kept::Kept;
-use crate::known::Known;
+use crate::citable::Citable;
 use crate::machine::{ProofFault, check_steps};
 use crate::proof_text::read_proof;
 use crate::room::Room;
+use crate::stored::StoredAssertion;
 use mm_frame::{Scopes, Theorem};
 use std::alloc::{AllocError, Global};
 
-/// The fault kind of a proof whose text names no steps, of a step that does not fit, and of steps that
-/// do not leave the statement alone.
+/// The fault kinds: the text of a proof names no steps; a step does not fit; the statement is not
+/// the only entry left.
 const BAD_PROOF_TEXT: u8 = 12;
 
 const BAD_STEP: u8 = 13;
@@ -29,18 +29,18 @@ const BAD_CONCLUSION: u8 = 14;
 pub(crate) fn proof_fault<'a>(
     alloc: Global,
     scopes: &Scopes<'a>,
-    assertions: &[Kept<'a>],
+    assertions: &[StoredAssertion<'a>],
     bytes: &'a [u8],
     theorem: &Theorem<'a, '_>,
     room: &mut Room,
 ) -> Result<Option<u8>, AllocError>
-    requires same { map kept_frame assertions.now ≡ (held scopes.now).frames }
+    requires same { map stored_frame assertions.now ≡ (scope_state scopes.now).frames }
     ensures { IfOk result (λ k. k
-        ≡ proof_kind (place_of (held scopes.now)) (frame_held theorem.now.frame).statement
-        (steps_named (held scopes.now) (frame_held theorem.now.frame).hypotheses
+        ≡ proof_kind (place_of (scope_state scopes.now)) (plain_frame theorem.now.frame).statement
+        (steps_named (scope_state scopes.now) (plain_frame theorem.now.frame).hypotheses
         (words_of bytes.now theorem.now.proof.now))) }
 {
-    let known = Known::new(scopes, assertions);
+    let known = Citable::new(scopes, assertions);
     match read_proof(
         alloc,
         &known,
@@ -60,7 +60,7 @@ pub(crate) fn proof_fault<'a>(
     }
 }
 
-/// The kind of a fault of steps.
+/// The fault kind of the fault of steps.
 fn kind(fault: Option<ProofFault>) -> Option<u8>
     ensures { result ≡ kind_of fault }
 {
@@ -71,19 +71,21 @@ fn kind(fault: Option<ProofFault>) -> Option<u8>
     }
 }
 
-/// Appends the assertions of the frames that are not among these.
+/// Appends the assertions of the frames that have none yet.
 pub(crate) fn add_assertions<'a>(
     alloc: Global,
     scopes: &Scopes<'a>,
-    assertions: &mut Vec<Kept<'a>>,
+    assertions: &mut Vec<StoredAssertion<'a>>,
 ) -> Result<(), AllocError>
-    requires front { map kept_frame assertions.old.items ≡ take (length assertions.old.items) (held scopes.now).frames }
-    ensures { OnOk result (map kept_frame assertions.new.items ≡ (held scopes.now).frames) }
+    requires front { map stored_frame assertions.old.items
+        ≡ take (length assertions.old.items) (scope_state scopes.now).frames }
+    ensures { OnOk result
+        (map stored_frame assertions.new.items ≡ (scope_state scopes.now).frames) }
 {
     let frames = scopes.frames();
     while assertions.len() < frames.len() {
         let frame = &frames[assertions.len()];
-        assertions.push(Kept::of(alloc, frame)?)?;
+        assertions.push(StoredAssertion::of(alloc, frame)?)?;
     }
     Ok(())
 }

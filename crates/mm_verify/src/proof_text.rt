@@ -1,10 +1,11 @@
 // The texts of proofs, as steps.
-ghost use Rattle.std.specs.Prelude.{◌≡◌, map, IfOk, IfSome, Some, None, true, false, option_map, if◌then◌else◌, codes};
+ghost use Rattle.std.specs.Prelude.{◌≡◌, map, IfOk, IfSome, Some, None, true, false, option_map};
+ghost use Rattle.std.specs.Prelude.{if◌then◌else◌, codes};
 ghost use Rattle.std.specs.List.{list_any};
 ghost use Rattle.mm_text.specs.Bytes.{has_token};
 ghost use Rattle.mm_text.specs.Reader.{words_of};
-ghost use Rattle.mm_frame.specs.FramesHeld.{hypotheses_held};
-ghost use Rattle.mm_frame.specs.Held.{held};
+ghost use Rattle.mm_frame.specs.PlainFrames.{plain_hypotheses};
+ghost use Rattle.mm_frame.specs.ScopeState.{scope_state};
 ghost use Rattle.mm_database.specs.ProofText.{lettered_steps};
 ghost use Rattle.mm_verify.specs.Running.{citation_of, step_of, steps_in};
 ghost use Rattle.mm_verify.specs.Reading.{letters_of, behind_items, citations_in, table_of};
@@ -14,28 +15,29 @@ ghost use Rattle.mm_verify.specs.ProofSteps.{clashes, listed_citations, compress
 ghost use Rattle.mm_verify.specs.ProofSteps.{citing as citing_all, steps_named, labels_in};
 ghost use Rattle.mm_database.specs.ProofText.{before_close, behind_close};
 
-use crate::known::Known;
+use crate::citable::Citable;
+use crate::label_marks::{Marks, are_surely_distinct};
 use crate::letters::ReadSteps;
 use crate::machine::{Citation, Step};
-use crate::scattered::{Marks, are_scattered};
 use mm_frame::{Hyp, Mandatory, own_labels};
 use mm_text::MmToken;
 use std::alloc::{AllocError, Global};
 use std::collections::BTreeMap;
 
-/// The steps of a proof of an assertion that asks for this: none exactly where its text names no steps.
-/// It takes time in the number of the proof's tokens and letters, and of the mandatory hypotheses where
-/// these are not shared, but for a factor of the logarithm of the number of labels.
+/// The steps of a proof of an assertion with these mandatory hypotheses. Returns `None` exactly
+/// when the text of the proof names no steps. It takes time in the number of the proof's tokens and
+/// letters, and of the mandatory hypotheses if these are not shared, times the logarithm of the
+/// number of labels.
 pub(crate) fn read_proof<'s, 'a>(
     alloc: Global,
-    known: &Known<'s, 'a>,
+    known: &Citable<'s, 'a>,
     bytes: &'a [u8],
     mandatory: &'s Mandatory<'a>,
     proof: &[MmToken],
     marks: &mut Marks,
 ) -> Result<Option<Vec<Step<'s, 'a>>>, AllocError>
     ensures { IfOk result (λ r. option_map steps_in r
-        ≡ steps_named (held known.now.scopes.now) (hypotheses_held mandatory.now.hyps.items)
+        ≡ steps_named (scope_state known.now.scopes.now) (plain_hypotheses mandatory.now.hyps.items)
         (words_of bytes.now proof.now)) }
 {
     match proof {
@@ -53,12 +55,13 @@ pub(crate) fn read_proof<'s, 'a>(
 /// The steps of a proof that is a list of labels.
 fn read_normal<'s, 'a>(
     alloc: Global,
-    known: &Known<'s, 'a>,
+    known: &Citable<'s, 'a>,
     bytes: &'a [u8],
     proof: &[MmToken],
 ) -> Result<Option<Vec<Step<'s, 'a>>>, AllocError>
     ensures { IfOk result (λ r. option_map steps_in r
-        ≡ option_map citing_all (all_cited (held known.now.scopes.now) (words_of bytes.now proof.now))) }
+        ≡ option_map citing_all
+        (all_cited (scope_state known.now.scopes.now) (words_of bytes.now proof.now))) }
 {
     match all_cited(alloc, known, bytes, proof)? {
         None => Ok(None),
@@ -80,15 +83,15 @@ fn citing<'s, 'a>(
     Ok(steps)
 }
 
-/// What labels cite, where each cites something.
+/// What labels cite, if each cites something.
 fn all_cited<'s, 'a>(
     alloc: Global,
-    known: &Known<'s, 'a>,
+    known: &Citable<'s, 'a>,
     bytes: &'a [u8],
     labels: &[MmToken],
 ) -> Result<Option<Vec<Citation<'s, 'a>>>, AllocError>
     ensures { IfOk result (λ r. option_map citations_in r
-        ≡ all_cited (held known.now.scopes.now) (words_of bytes.now labels.now)) }
+        ≡ all_cited (scope_state known.now.scopes.now) (words_of bytes.now labels.now)) }
 {
     let mut citations = Vec::new(alloc);
     if cite_all(known, bytes, labels, &mut citations)? {
@@ -98,15 +101,15 @@ fn all_cited<'s, 'a>(
     }
 }
 
-/// Appends what labels cite, where each cites something.
+/// Appends what labels cite. Returns false if one of them cites nothing.
 fn cite_all<'s, 'a>(
-    known: &Known<'s, 'a>,
+    known: &Citable<'s, 'a>,
     bytes: &'a [u8],
     labels: &[MmToken],
     citations: &mut Vec<Citation<'s, 'a>>,
 ) -> Result<bool, AllocError>
     ensures { IfOk result (λ all. behind_items (map citation_of citations.old.items)
-        (all_cited (held known.now.scopes.now) (words_of bytes.now labels.now))
+        (all_cited (scope_state known.now.scopes.now) (words_of bytes.now labels.now))
         ≡ (if all then Some (map citation_of citations.new.items) else None)) }
 {
     citations.reserve(labels.len())?;
@@ -122,14 +125,15 @@ fn cite_all<'s, 'a>(
 /// The steps of a compressed proof, by the tokens after its `(`.
 fn read_compressed<'s, 'a>(
     alloc: Global,
-    known: &Known<'s, 'a>,
+    known: &Citable<'s, 'a>,
     bytes: &'a [u8],
     mandatory: &'s Mandatory<'a>,
     tokens: &[MmToken],
     marks: &mut Marks,
 ) -> Result<Option<Vec<Step<'s, 'a>>>, AllocError>
     ensures { IfOk result (λ r. option_map steps_in r
-        ≡ compressed_proof (held known.now.scopes.now) (hypotheses_held mandatory.now.hyps.items)
+        ≡ compressed_proof (scope_state known.now.scopes.now)
+        (plain_hypotheses mandatory.now.hyps.items)
         (words_of bytes.now tokens.now)) }
 {
     match split_at_close(bytes, tokens) {
@@ -145,7 +149,8 @@ fn read_compressed<'s, 'a>(
 
 /// The tokens before the first `)`, and those after it.
 fn split_at_close<'t>(bytes: &[u8], tokens: &'t [MmToken]) -> Option<(&'t [MmToken], &'t [MmToken])>
-    ensures found { IfSome result (λ r. (has_token (words_of bytes.now tokens.now) (codes ")") ≡ true)
+    ensures found { IfSome result
+        (λ r. (has_token (words_of bytes.now tokens.now) (codes ")") ≡ true)
         × (words_of bytes.now r.0.now ≡ before_close (words_of bytes.now tokens.now))
         × (words_of bytes.now r.1.now ≡ behind_close (words_of bytes.now tokens.now))) }
     ensures none { result ≡ None → has_token (words_of bytes.now tokens.now) (codes ")") ≡ false }
@@ -160,18 +165,19 @@ fn split_at_close<'t>(bytes: &[u8], tokens: &'t [MmToken]) -> Option<(&'t [MmTok
     None
 }
 
-/// What the labels cite that a compressed proof lists, where each cites something, and none stands
-/// twice or is that of a mandatory hypothesis.
+/// What the listed labels of a compressed proof cite. Returns `None` if one of them cites nothing,
+/// occurs twice or is that of a mandatory hypothesis.
 fn read_listed<'s, 'a>(
     alloc: Global,
-    known: &Known<'s, 'a>,
+    known: &Citable<'s, 'a>,
     bytes: &'a [u8],
     mandatory: &Mandatory<'a>,
     labels: &[MmToken],
     marks: &mut Marks,
 ) -> Result<Option<Vec<Citation<'s, 'a>>>, AllocError>
     ensures { IfOk result (λ r. option_map citations_in r
-        ≡ listed_citations (held known.now.scopes.now) (hypotheses_held mandatory.now.hyps.items)
+        ≡ listed_citations (scope_state known.now.scopes.now)
+        (plain_hypotheses mandatory.now.hyps.items)
         (words_of bytes.now labels.now)) }
 {
     if clash(alloc, bytes, mandatory, labels, marks)? {
@@ -180,8 +186,8 @@ fn read_listed<'s, 'a>(
     all_cited(alloc, known, bytes, labels)
 }
 
-/// Whether a label stands twice or is that of a mandatory hypothesis. Where these are shared, it takes
-/// no time in their number.
+/// Whether a label occurs twice or is that of a mandatory hypothesis. If the hypotheses are shared,
+/// the time does not depend on their number, except by a logarithm.
 fn clash<'a>(
     alloc: Global,
     bytes: &'a [u8],
@@ -190,7 +196,8 @@ fn clash<'a>(
     marks: &mut Marks,
 ) -> Result<bool, AllocError>
     ensures { IfOk result (λ r. r
-        ≡ clashes (labels_in (hypotheses_held mandatory.now.hyps.items)) (words_of bytes.now labels.now)) }
+        ≡ clashes (labels_in (plain_hypotheses mandatory.now.hyps.items))
+        (words_of bytes.now labels.now)) }
 {
     match mandatory.labels() {
         None => has_clash(alloc, bytes, &mandatory.hyps, labels, marks),
@@ -203,7 +210,7 @@ fn clash<'a>(
     }
 }
 
-/// Whether a label is one of these hypotheses, whose labels stand in the table.
+/// Whether a label is that of one of these hypotheses. The table has the labels of the hypotheses.
 fn lists_own<'a>(
     bytes: &'a [u8],
     own: &BTreeMap<&'a [u8], ()>,
@@ -211,7 +218,8 @@ fn lists_own<'a>(
     labels: &[MmToken],
 ) -> bool
     requires { HasLabels own.now hyps.now }
-    ensures { result ≡ list_any (has_token (map label_in hyps.now)) (words_of bytes.now labels.now) }
+    ensures { result
+        ≡ list_any (has_token (map label_in hyps.now)) (words_of bytes.now labels.now) }
 {
     for label in labels {
         if own.contains_key(&label.word(bytes)) {
@@ -221,7 +229,7 @@ fn lists_own<'a>(
     false
 }
 
-/// Whether a label stands twice or is that of one of these hypotheses.
+/// Whether a label occurs twice or is that of one of these hypotheses.
 fn has_clash<'a>(
     alloc: Global,
     bytes: &'a [u8],
@@ -229,9 +237,10 @@ fn has_clash<'a>(
     labels: &[MmToken],
     marks: &mut Marks,
 ) -> Result<bool, AllocError>
-    ensures { IfOk result (λ r. r ≡ clashes (labels_in (hypotheses_held hyps.now)) (words_of bytes.now labels.now)) }
+    ensures { IfOk result
+        (λ r. r ≡ clashes (labels_in (plain_hypotheses hyps.now)) (words_of bytes.now labels.now)) }
 {
-    if are_scattered(bytes, hyps, labels, marks) {
+    if are_surely_distinct(bytes, hyps, labels, marks) {
         return Ok(false);
     }
     let mut seen = own_labels(alloc, hyps)?;
@@ -245,9 +254,9 @@ fn has_clash<'a>(
     Ok(false)
 }
 
-/// The steps that the letters of some tokens stand for: none exactly where they stand for none. The
-/// first numbers are those of the hypotheses, the next ones of what is listed, and then of the saved
-/// steps, in order. It takes time in the number of letters.
+/// The steps that the letters of some tokens stand for. Returns `None` exactly when they stand for
+/// no steps. The first numbers stand for the hypotheses, the next ones for what is listed, and the
+/// next for the saved entries, in order. It takes time in the number of letters.
 pub(crate) fn read_letters<'s, 'a>(
     alloc: Global,
     hyps: &'s [Hyp<'a>],
@@ -266,7 +275,7 @@ pub(crate) fn read_letters<'s, 'a>(
     }
 }
 
-/// How many letters tokens have, which are at least as many as the steps that they stand for.
+/// How many letters tokens have. They stand for at most this many steps.
 fn count_letters(tokens: &[MmToken]) -> usize {
     let mut count: usize = 0;
     for token in tokens {

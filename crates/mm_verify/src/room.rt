@@ -1,11 +1,11 @@
-// What proofs are checked in, one after another.
+// The memory for checking proofs, one after another.
 
+use crate::label_marks::Marks;
 use crate::machine::Machine;
-use crate::scattered::Marks;
 use std::alloc::{AllocError, Global};
 
-/// A machine and marks, which keep their memory from one proof to the next. What an earlier proof left in
-/// them counts for nothing.
+/// A machine and marks. They keep their memory from one proof to the next. What an earlier proof
+/// left in them has no effect on the result.
 #[derive(Drop)]
 pub(crate) struct Room {
     pub(crate) machine: Machine,
@@ -13,7 +13,7 @@ pub(crate) struct Room {
 }
 
 impl Room {
-    /// Room for proofs.
+    /// A machine and marks before the first proof.
     pub(crate) fn new(alloc: Global) -> Result<Room, AllocError> {
         Ok(Room {
             machine: Machine::new(alloc)?,

@@ -1,14 +1,17 @@
-// Whether texts keep apart what `$d` asks for.
+// Whether texts keep apart the variables that `$d` asks for.
 ghost use Rattle.std.specs.Prelude.{◌≡◌, ℕ, List, suc, Some, length, drop, All, true};
-ghost use Rattle.std.specs.Prelude.{IfOk, slice_get, slice_index_or, if◌then◌else◌, slice_set, ◌++◌, ◌∷◌, [], ◌<◌};
+ghost use Rattle.std.specs.Prelude.{IfOk, slice_get, slice_index_or, if◌then◌else◌, slice_set};
+ghost use Rattle.std.specs.Prelude.{◌++◌, ◌∷◌, [], ◌<◌};
 ghost use Rattle.std.specs.List.{list_all};
 ghost use Rattle.mm_database.specs.Proofs.{texts_apart};
 ghost use Rattle.mm_frame.specs.NumberedSteps.{NumberedPlace, numbers_apart};
 ghost use Rattle.mm_verify.specs.Filling.{GroupWithin, AreWithin, IsWithin, text_at};
-ghost use Rattle.mm_verify.specs.Filling.{are_groups_apart as groups_apart, is_group_apart as group_apart};
+ghost use Rattle.mm_verify.specs.Filling.{are_groups_apart as groups_apart};
+ghost use Rattle.mm_verify.specs.Filling.{is_group_apart as group_apart};
 ghost use Rattle.mm_verify.specs.Filling.{are_parts_apart as parts_apart};
 ghost use Rattle.mm_verify.specs.Pairs.{HasVariables, AreKnown, Keeps, IsTested};
-ghost use Rattle.mm_verify.specs.Pairs.{are_variables_apart as variables_apart, is_variable_apart as variable_apart};
+ghost use Rattle.mm_verify.specs.Pairs.{are_variables_apart as variables_apart};
+ghost use Rattle.mm_verify.specs.Pairs.{is_variable_apart as variable_apart};
 
 use crate::filling::text_at;
 use crate::parts::Part;
@@ -18,12 +21,12 @@ use crate::together::is_group_apart;
 use std::alloc::{AllocError, Global};
 use std::collections::BTreeMap;
 
-/// Of so many pairs of variables two texts have, where it is noted that they are kept apart.
+/// If two texts have at least this many pairs of variables, it is noted that they are kept apart.
 const MANY: usize = 64;
 
-/// The variables in the texts of entries, each text looked at once. At the place of an entry stands 0
-/// where its text is not looked at yet, else one more than the number of its list. Of texts with many
-/// variables the pairs of places are noted that were found to be kept apart.
+/// The variables in the texts of entries. Each text is looked at once. The number at the place of
+/// an entry is 0 if its text was not looked at yet, and else one more than the number of its list.
+/// If two texts with many variables were found to be kept apart, the pair of their places is noted.
 #[derive(Drop)]
 pub(crate) struct Spreads {
     numbers: Vec<usize>,
@@ -33,7 +36,7 @@ pub(crate) struct Spreads {
 }
 
 impl Spreads {
-    /// Nothing is known, with room for what most steps need.
+    /// Nothing is known yet. There is room for what most steps need.
     pub(crate) fn new(alloc: Global) -> Result<Spreads, AllocError> {
         Ok(Spreads {
             numbers: Vec::with_capacity(alloc, 64)?,
@@ -43,9 +46,10 @@ impl Spreads {
         })
     }
 
-    /// Nothing is known of the entries of this many places.
+    /// Forgets everything, and prepares for the entries of `count` places.
     fn clear(&mut self, count: usize) -> Result<(), AllocError>
-        ensures { IfOk result (λ _. (p : NumberedPlace) (entries : List (List ℕ)) → length entries ≡ count
+        ensures { IfOk result
+            (λ _. (p : NumberedPlace) (entries : List (List ℕ)) → length entries ≡ count
             → AreKnown p entries self.new) }
     {
         self.lists.truncate(0);
@@ -65,7 +69,8 @@ impl Spreads {
     ) -> Result<usize, AllocError>
         requires within { i < length (drop base stack.now) }
         requires known { AreKnown (P.place place.now) (drop base stack.now) self.old }
-        ensures known { IfOk result (λ _. AreKnown (P.place place.now) (drop base stack.now) self.new) }
+        ensures known { IfOk result
+            (λ _. AreKnown (P.place place.now) (drop base stack.now) self.new) }
         ensures keeps { IfOk result (λ _. Keeps self.old self.new) }
         ensures found { IfOk result (λ k. slice_get self.new.numbers.items i ≡ Some (suc k)) }
     {
@@ -78,11 +83,13 @@ impl Spreads {
         Ok(number)
     }
 
-    /// Adds the variables that are gathered as the list of a place.
+    /// Adds the gathered variables as the list of a place.
     fn add(&mut self, i: usize) -> Result<usize, AllocError>
         requires within { i < length self.old.numbers.items }
-        ensures numbers { IfOk result (λ k. self.new.numbers.items ≡ slice_set self.old.numbers.items i (suc k)) }
-        ensures lists { IfOk result (λ k. self.new.lists ≡ self.old.lists ++ self.old.gathered.items ∷ []) }
+        ensures numbers { IfOk result
+            (λ k. self.new.numbers.items ≡ slice_set self.old.numbers.items i (suc k)) }
+        ensures lists { IfOk result
+            (λ k. self.new.lists ≡ self.old.lists ++ self.old.gathered.items ∷ []) }
         ensures last { IfOk result (λ k. k ≡ length self.old.lists) }
         ensures tested { self.new.tested ≡ self.old.tested }
     {
@@ -110,7 +117,8 @@ impl Spreads {
 
     /// Whether it is noted that the texts of two places are kept apart.
     fn is_tested(&self, i: usize, j: usize) -> bool
-        ensures { (p : NumberedPlace) (entries : List (List ℕ)) → AreKnown p entries self.now → result ≡ true
+        ensures { (p : NumberedPlace) (entries : List (List ℕ)) → AreKnown p entries self.now
+            → result ≡ true
             → texts_apart (numbers_apart p) (text_at entries i) (text_at entries j) ≡ true }
     {
         match self.tested.get(&pair_key(i, j)) {
@@ -121,7 +129,8 @@ impl Spreads {
 
     /// Notes that the texts of two places are kept apart.
     fn note(&mut self, i: usize, j: usize) -> Result<(), AllocError>
-        ensures { IfOk result (λ _. (p : NumberedPlace) (entries : List (List ℕ)) → AreKnown p entries self.old
+        ensures { IfOk result
+            (λ _. (p : NumberedPlace) (entries : List (List ℕ)) → AreKnown p entries self.old
             → texts_apart (numbers_apart p) (text_at entries i) (text_at entries j) ≡ true
             → AreKnown p entries self.new) }
     {
@@ -130,13 +139,13 @@ impl Spreads {
     }
 }
 
-/// The key of a pair of places, of which fewer than 2^32 differ.
+/// The key of a pair of places. Keys of different pairs differ if there are fewer than 2^32 places.
 fn pair_key(i: usize, j: usize) -> usize {
     i.wrapping_mul(1 << 32).wrapping_add(j)
 }
 
-/// Whether in each group the texts of variables that are not the same have no variable in common, and
-/// each pair of their variables is kept apart at the place. The variables of each text are found once.
+/// Whether in each group the texts of different variables have no variable in common, and each pair
+/// of their variables is kept apart at the place. The variables of each text are found once.
 pub(crate) fn are_groups_apart<P: Place>(
     alloc: Global,
     place: &P,
@@ -146,7 +155,8 @@ pub(crate) fn are_groups_apart<P: Place>(
     spreads: &mut Spreads,
 ) -> Result<bool, AllocError>
     requires within { All (GroupWithin (length (drop base stack.now))) groups.now }
-    ensures { IfOk result (λ r. r ≡ groups_apart (P.place place.now) (drop base stack.now) groups.now) }
+    ensures { IfOk result
+        (λ r. r ≡ groups_apart (P.place place.now) (drop base stack.now) groups.now) }
 {
     if groups.is_empty() {
         return Ok(true);
@@ -160,8 +170,8 @@ pub(crate) fn are_groups_apart<P: Place>(
     Ok(true)
 }
 
-/// The same of one group. It takes time in the length of the texts whose variables are not known yet,
-/// but for a factor of its logarithm, and a test for each two variables of different texts.
+/// The same for one group. It takes time in the length of the texts whose variables are not known
+/// yet, times its logarithm, and a test for each two variables of different texts.
 pub(crate) fn are_pairs_apart<P: Place>(
     place: &P,
     group: &[Part],
@@ -171,8 +181,10 @@ pub(crate) fn are_pairs_apart<P: Place>(
 ) -> Result<bool, AllocError>
     requires within { AreWithin (length (drop base stack.now)) group.now }
     requires known { AreKnown (P.place place.now) (drop base stack.now) spreads.old }
-    ensures known { IfOk result (λ _. AreKnown (P.place place.now) (drop base stack.now) spreads.new) }
-    ensures apart { IfOk result (λ r. r ≡ group_apart (P.place place.now) (drop base stack.now) group.now) }
+    ensures known { IfOk result
+        (λ _. AreKnown (P.place place.now) (drop base stack.now) spreads.new) }
+    ensures apart { IfOk result
+        (λ r. r ≡ group_apart (P.place place.now) (drop base stack.now) group.now) }
 {
     for i in 0..group.len() {
         if !is_part_apart(place, &group[i], &group[i + 1..], stack, base, spreads)? {
@@ -182,7 +194,7 @@ pub(crate) fn are_pairs_apart<P: Place>(
     Ok(true)
 }
 
-/// Whether one part is kept apart from each of others.
+/// Whether one part is kept apart from each of the others.
 fn is_part_apart<P: Place>(
     place: &P,
     one: &Part,
@@ -194,7 +206,8 @@ fn is_part_apart<P: Place>(
     requires one { IsWithin (length (drop base stack.now)) one.now }
     requires others { AreWithin (length (drop base stack.now)) others.now }
     requires known { AreKnown (P.place place.now) (drop base stack.now) spreads.old }
-    ensures known { IfOk result (λ _. AreKnown (P.place place.now) (drop base stack.now) spreads.new) }
+    ensures known { IfOk result
+        (λ _. AreKnown (P.place place.now) (drop base stack.now) spreads.new) }
     ensures apart { IfOk result (λ r. r
         ≡ list_all (parts_apart (P.place place.now) (drop base stack.now) one.now) others.now) }
 {
@@ -218,7 +231,8 @@ fn are_parts_apart<P: Place>(
     requires one { IsWithin (length (drop base stack.now)) one.now }
     requires other { IsWithin (length (drop base stack.now)) other.now }
     requires known { AreKnown (P.place place.now) (drop base stack.now) spreads.old }
-    ensures known { IfOk result (λ _. AreKnown (P.place place.now) (drop base stack.now) spreads.new) }
+    ensures known { IfOk result
+        (λ _. AreKnown (P.place place.now) (drop base stack.now) spreads.new) }
     ensures apart { IfOk result (λ r. r
         ≡ parts_apart (P.place place.now) (drop base stack.now) one.now other.now) }
 {
@@ -243,7 +257,8 @@ fn are_texts_apart<P: Place>(
     requires one { i < length (drop base stack.now) }
     requires other { j < length (drop base stack.now) }
     requires known { AreKnown (P.place place.now) (drop base stack.now) spreads.old }
-    ensures known { IfOk result (λ _. AreKnown (P.place place.now) (drop base stack.now) spreads.new) }
+    ensures known { IfOk result
+        (λ _. AreKnown (P.place place.now) (drop base stack.now) spreads.new) }
     ensures apart { IfOk result (λ r. r ≡ texts_apart (numbers_apart (P.place place.now))
         (text_at (drop base stack.now) i) (text_at (drop base stack.now) j)) }
 {
@@ -256,8 +271,8 @@ fn are_texts_apart<P: Place>(
     }
 }
 
-/// The same of texts with many variables, whose lists have these numbers: what is noted is not tested
-/// again.
+/// The same for texts with many variables, whose lists have these numbers. A noted pair is not
+/// tested again.
 fn are_long_apart<P: Place>(
     place: &P,
     i: usize,
@@ -268,8 +283,10 @@ fn are_long_apart<P: Place>(
 ) -> Result<bool, AllocError>
     requires one { x < length spreads.old.lists }
     requires other { y < length spreads.old.lists }
-    ensures { IfOk result (λ r. (entries : List (List ℕ)) → AreKnown (P.place place.now) entries spreads.old
-        → slice_get spreads.old.numbers.items i ≡ Some (suc x) → slice_get spreads.old.numbers.items j ≡ Some (suc y)
+    ensures { IfOk result
+        (λ r. (entries : List (List ℕ)) → AreKnown (P.place place.now) entries spreads.old
+        → slice_get spreads.old.numbers.items i ≡ Some (suc x)
+        → slice_get spreads.old.numbers.items j ≡ Some (suc y)
         → IsTested (P.place place.now) entries i j r spreads.new) }
 {
     if spreads.is_tested(i, j) {
@@ -295,10 +312,11 @@ fn gather<P: Place>(place: &P, text: &[u32], to: &mut Vec<u32>) -> Result<(), Al
     Ok(())
 }
 
-/// Appends the symbol, if it is a variable.
+/// Appends the symbol if it is a variable.
 fn push_variable<P: Place>(place: &P, to: &mut Vec<u32>, symbol: u32) -> Result<(), AllocError>
     ensures { IfOk result (λ _. to.new.items
-        ≡ (if (P.place place.now).is_variable symbol then to.old.items ++ symbol ∷ [] else to.old.items)) }
+        ≡ (if (P.place place.now).is_variable symbol then to.old.items ++ symbol ∷ []
+        else to.old.items)) }
 {
     if place.is_variable(symbol) {
         to.push(symbol)?;
@@ -318,7 +336,7 @@ fn are_variables_apart<P: Place>(place: &P, xs: &[u32], ys: &[u32]) -> bool
     true
 }
 
-/// The same of one variable and others.
+/// The same for one variable and the others.
 fn is_variable_apart<P: Place>(place: &P, x: u32, ys: &[u32]) -> bool
     ensures { result ≡ list_all (variable_apart (P.place place.now) x) ys.now }
 {

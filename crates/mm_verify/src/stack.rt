@@ -1,13 +1,13 @@
 // A stack of expressions, which are lists of symbols, each symbol by its number.
-ghost use Rattle.std.specs.Prelude.{◌≡◌, ◌<◌, ◌≤◌, [], ◌∷◌, ◌++◌, length, take, drop, IfOk, OnOk, OnErr};
+ghost use Rattle.std.specs.Prelude.{◌≡◌, ◌<◌, ◌≤◌, [], ◌∷◌, ◌++◌, length, take, drop, IfOk, OnOk};
+ghost use Rattle.std.specs.Prelude.{OnErr};
 ghost use Rattle.std.specs.Prelude.{slice_index_or};
 ghost use Rattle.mm_verify.specs.Cut.{cut, start_of, AreEnds};
 
 use std::alloc::{AllocError, Global};
 use std::marker::Model;
 
-/// Expressions in a row, the last one on top. All symbols stand in one buffer. Contracts see a list of
-/// lists.
+/// Expressions, the last one on top. All symbols are in one buffer. Contracts see a list of lists.
 #[derive(Drop)]
 pub(crate) struct Stack {
     symbols: Vec<u32>,
@@ -27,7 +27,7 @@ impl Model for Stack {
 }
 
 impl Stack {
-    /// Nothing, with room for what most proofs need.
+    /// An empty stack, with room for what most proofs need.
     pub(crate) fn new(alloc: Global) -> Result<Stack, AllocError>
         ensures { IfOk result (λ s. s ≡ []) }
     {
@@ -74,7 +74,7 @@ impl Stack {
         Ok(())
     }
 
-    /// How many symbols the expressions from `base` on have, and one for their typecodes.
+    /// How many symbols the expressions from `base` on have, plus one for a typecode.
     #[tactic(auto, using(crate::proofs::Cuts::length_cut))]
     pub(crate) fn taken(&self, base: usize) -> usize
         requires { base ≤ length self.now }
@@ -83,7 +83,7 @@ impl Stack {
         self.symbols.len().saturating_sub(from).saturating_add(1)
     }
 
-    /// Asks for room for one more expression of this length.
+    /// Makes room for one more expression of this length.
     pub(crate) fn reserve(&mut self, length: usize) -> Result<(), AllocError>
         ensures { self.new ≡ self.old }
     {

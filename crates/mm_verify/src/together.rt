@@ -1,6 +1,7 @@
 // Whether one `$d` keeps apart all variables of the texts of a group.
 ghost use Rattle.std.specs.Prelude.{◌≡◌, ◌<◌, true, length, drop, IfOk, []};
-ghost use Rattle.mm_verify.specs.Filling.{AreWithin, IsWithin, text_at, text_for, is_group_apart as group_apart};
+ghost use Rattle.mm_verify.specs.Filling.{AreWithin, IsWithin, text_at, text_for};
+ghost use Rattle.mm_verify.specs.Filling.{is_group_apart as group_apart};
 ghost use Rattle.mm_verify.specs.Pairs.{AreKnown};
 ghost use Rattle.mm_verify.specs.Meeting.{AreSeen, MeetsOne, MeetsAll, MeetsText};
 ghost use Rattle.mm_verify.specs.Places.{place_in};
@@ -12,10 +13,11 @@ use crate::stack::Stack;
 use std::alloc::{AllocError, Global};
 use std::collections::BTreeMap;
 
-/// In a group of so many parts one `$d` is looked for that keeps all their variables apart.
+/// In a group of at least this many parts, one `$d` is looked for that keeps all their variables
+/// apart.
 const WIDE: usize = 24;
 
-/// Variables that were met, and the same in a table.
+/// Variables that were met, as a list and as a table.
 #[derive(Drop)]
 pub(crate) struct Met {
     variables: Vec<u32>,
@@ -23,7 +25,7 @@ pub(crate) struct Met {
 }
 
 impl Met {
-    /// Nothing is met.
+    /// No variable is met yet.
     fn new(alloc: Global) -> Met
         ensures { result.variables.items ≡ [] }
     {
@@ -33,7 +35,8 @@ impl Met {
         }
     }
 
-    /// Meets a variable. Answers whether it is a new one; where not, what is met counts no more.
+    /// Meets a variable. Returns whether it is new. If it is not, what was met must not be used any
+    /// more.
     fn meet(&mut self, n: u32) -> Result<bool, AllocError>
         requires { AreSeen self.old }
         ensures { IfOk result (λ r. r ≡ true → MeetsOne self.old n self.new) }
@@ -45,7 +48,7 @@ impl Met {
         Ok(true)
     }
 
-    /// The same of several variables.
+    /// The same for several variables.
     fn meet_all(&mut self, list: &[u32]) -> Result<bool, AllocError>
         requires { AreSeen self.old }
         ensures { IfOk result (λ r. r ≡ true → MeetsAll self.old list.now self.new) }
@@ -59,7 +62,7 @@ impl Met {
     }
 }
 
-/// Meets the variables of the text of an entry. Answers whether they are all new.
+/// Meets the variables of the text of an entry. Returns whether they are all new.
 fn meet_text<P: Place>(
     place: &P,
     i: usize,
@@ -71,7 +74,8 @@ fn meet_text<P: Place>(
     requires within { i < length (drop base stack.now) }
     requires known { AreKnown (P.place place.now) (drop base stack.now) spreads.old }
     requires seen { AreSeen met.old }
-    ensures known { IfOk result (λ _. AreKnown (P.place place.now) (drop base stack.now) spreads.new) }
+    ensures known { IfOk result
+        (λ _. AreKnown (P.place place.now) (drop base stack.now) spreads.new) }
     ensures met { IfOk result (λ r. r ≡ true
         → MeetsText (P.place place.now) (text_at (drop base stack.now) i) met.old met.new) }
 {
@@ -79,7 +83,7 @@ fn meet_text<P: Place>(
     met.meet_all(spreads.list(number))
 }
 
-/// The same of a part's text, where it has one.
+/// The same for the text of a part, if it has one.
 fn meet_part<P: Place>(
     place: &P,
     part: &Part,
@@ -91,9 +95,11 @@ fn meet_part<P: Place>(
     requires within { IsWithin (length (drop base stack.now)) part.now }
     requires known { AreKnown (P.place place.now) (drop base stack.now) spreads.old }
     requires seen { AreSeen met.old }
-    ensures known { IfOk result (λ _. AreKnown (P.place place.now) (drop base stack.now) spreads.new) }
+    ensures known { IfOk result
+        (λ _. AreKnown (P.place place.now) (drop base stack.now) spreads.new) }
     ensures met { IfOk result (λ r. r ≡ true
-        → MeetsText (P.place place.now) (text_for (drop base stack.now) (place_in part.now)) met.old met.new) }
+        → MeetsText (P.place place.now) (text_for (drop base stack.now) (place_in part.now)) met.old
+        met.new) }
 {
     match part.place() {
         None => Ok(true),
@@ -101,9 +107,9 @@ fn meet_part<P: Place>(
     }
 }
 
-/// Whether it is found that no two texts of a group have a variable in common, and one `$d` keeps all
-/// their variables apart. It takes time in the length of the texts whose variables are not known yet,
-/// and in the number of variables, but for a factor of their logarithm.
+/// Whether it is found that no two texts of a group have a variable in common, and that one `$d`
+/// keeps all their variables apart. It takes time in the length of the texts whose variables are
+/// not known yet and in the number of variables, times their logarithm.
 fn are_together<P: Place>(
     alloc: Global,
     place: &P,
@@ -114,7 +120,8 @@ fn are_together<P: Place>(
 ) -> Result<bool, AllocError>
     requires within { AreWithin (length (drop base stack.now)) group.now }
     requires known { AreKnown (P.place place.now) (drop base stack.now) spreads.old }
-    ensures known { IfOk result (λ _. AreKnown (P.place place.now) (drop base stack.now) spreads.new) }
+    ensures known { IfOk result
+        (λ _. AreKnown (P.place place.now) (drop base stack.now) spreads.new) }
     ensures apart { IfOk result (λ r. r ≡ true
         → group_apart (P.place place.now) (drop base stack.now) group.now ≡ true) }
 {
@@ -130,9 +137,9 @@ fn are_together<P: Place>(
     Ok(place.are_together(&met.variables))
 }
 
-/// Whether the texts of different variables of a group have no variable in common, and each pair of their
-/// variables is kept apart at the place. In a large group one `$d` is looked for that keeps all of them
-/// apart, and the pairs are tested where none is found.
+/// Whether the texts of different variables of a group have no variable in common, and each pair of
+/// their variables is kept apart at the place. In a large group one `$d` is looked for that keeps
+/// all of them apart. If none is found, the pairs are tested.
 pub(crate) fn is_group_apart<P: Place>(
     alloc: Global,
     place: &P,
@@ -143,8 +150,10 @@ pub(crate) fn is_group_apart<P: Place>(
 ) -> Result<bool, AllocError>
     requires within { AreWithin (length (drop base stack.now)) group.now }
     requires known { AreKnown (P.place place.now) (drop base stack.now) spreads.old }
-    ensures known { IfOk result (λ _. AreKnown (P.place place.now) (drop base stack.now) spreads.new) }
-    ensures apart { IfOk result (λ r. r ≡ group_apart (P.place place.now) (drop base stack.now) group.now) }
+    ensures known { IfOk result
+        (λ _. AreKnown (P.place place.now) (drop base stack.now) spreads.new) }
+    ensures apart { IfOk result
+        (λ r. r ≡ group_apart (P.place place.now) (drop base stack.now) group.now) }
 {
     if group.len() < WIDE {
         return are_pairs_apart(place, group, stack, base, spreads);

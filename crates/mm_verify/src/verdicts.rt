@@ -13,9 +13,10 @@ use crate::room::Room;
 use mm_text::{MmFound, MmReadEnd, MmTokens};
 use std::alloc::Global;
 
-/// Whether a Metamath database is valid (Metamath book, "The Complete Language Specification"): then
-/// how many `$a` and `$p` statements it has, and else its first fault. `VerifyEnd::Memory` says that
-/// memory ran out. It recurses nowhere, and looks at each token of the text a few times.
+/// Whether a Metamath database is valid (Metamath book, "The Complete Language Specification"): if
+/// so, how many `$a` and `$p` statements it has, and else its first fault. Returns
+/// `VerifyEnd::Memory` when out of memory. It does not recurse, and looks at each token of the text
+/// a few times.
 pub fn verify(alloc: Global, bytes: &[u8]) -> Result<Report, VerifyEnd>
     ensures valid { IfOk result (λ r. IsValid bytes.now × (r.axioms ≡ axiom_count bytes.now)
         × (r.theorems ≡ theorem_count bytes.now)) }
@@ -25,7 +26,7 @@ pub fn verify(alloc: Global, bytes: &[u8]) -> Result<Report, VerifyEnd>
     verdict(alloc, bytes)
 }
 
-/// The counts of a database without fault, or its first fault.
+/// The counts of a faultless database, or its first fault.
 fn verdict(alloc: Global, bytes: &[u8]) -> Result<Report, VerifyEnd>
     ensures { Finds bytes.now result }
 {

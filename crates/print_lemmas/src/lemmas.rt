@@ -9,7 +9,8 @@ use std::alloc::{AllocError, Global};
 // If x implies m, then `next x` implies `next m`: a lemma with two variables and a hypothesis.
 pub(crate) fn next_lemma(alloc: Global) -> Result<Thm, AllocError>
     ensures hypotheses { IfOk result (λ lemma. lemma.hypotheses ≡ imp (var 0) (meta 0) ∷ []) }
-    ensures conclusion { IfOk result (λ lemma. lemma.conclusion ≡ imp (next (var 0)) (next (meta 0))) }
+    ensures conclusion { IfOk result
+        (λ lemma. lemma.conclusion ≡ imp (next (var 0)) (next (meta 0))) }
 {
     let x = MPat::var(alloc, VarNo(0))?;
     let m = MPat::meta(alloc, 0)?;

@@ -1,6 +1,6 @@
 // Worked examples, written by hand.
 use ml_pat::{ConstNo, MPat, MSort, Names, VarNo};
-use mm_proof::{Work, write_works};
+use mm_proof::{ListingTask, write_works};
 use std::alloc::{AllocError, Global};
 use std::test::Fail;
 
@@ -14,7 +14,7 @@ pub(crate) fn three_names(alloc: Global) -> Result<Names, AllocError> {
 }
 
 // What `work` writes, in the block of the statement 7.
-pub(crate) fn text_of(alloc: Global, work: Work<'_>) -> Result<Vec<u8>, AllocError> {
+pub(crate) fn text_of(alloc: Global, work: ListingTask<'_>) -> Result<Vec<u8>, AllocError> {
     let names = three_names(alloc)?;
     let mut text = Vec::new(alloc);
     write_works(&mut text, &mut Vec::new(alloc), &names, 7, &[work])?;
@@ -29,7 +29,7 @@ fn writes_an_application(rt: HostRuntime) -> Result<(), Fail> {
         &MPat::constant(alloc, ConstNo(2))?,
         &MPat::constant(alloc, ConstNo(1))?,
     )?;
-    let text = text_of(alloc, Work::Text(&applied))?;
+    let text = text_of(alloc, ListingTask::Text(&applied))?;
     assert_eq!(rt; text.as_slice(), b"( \\app f:f f:a ) ".as_slice());
     Ok(())
 }
@@ -42,7 +42,7 @@ fn proves_the_syntax_of_an_application(rt: HostRuntime) -> Result<(), Fail> {
         &MPat::constant(alloc, ConstNo(2))?,
         &MPat::constant(alloc, ConstNo(1))?,
     )?;
-    let text = text_of(alloc, Work::Syntax(&applied))?;
+    let text = text_of(alloc, ListingTask::Syntax(&applied))?;
     assert_eq!(rt; text.as_slice(), b"n.2 n.1 w.app ".as_slice());
     Ok(())
 }
@@ -52,7 +52,7 @@ fn writes_a_quantifier(rt: HostRuntime) -> Result<(), Fail> {
     let alloc = rt.alloc();
     let here = MPat::fun(alloc, &MPat::var(alloc, VarNo(4))?, MSort(0))?;
     let each = MPat::all(alloc, VarNo(4), MSort(0), &here)?;
-    let text = text_of(alloc, Work::Text(&each))?;
+    let text = text_of(alloc, ListingTask::Text(&each))?;
     assert_eq!(rt;
         text.as_slice(),
         b"( \\all x:4 s:S ( \\fun x:4 s:S ) ) ".as_slice()
@@ -66,7 +66,7 @@ fn proves_the_syntax_of_a_quantifier(rt: HostRuntime) -> Result<(), Fail> {
     let alloc = rt.alloc();
     let here = MPat::var(alloc, VarNo(4))?;
     let each = MPat::all(alloc, VarNo(4), MSort(0), &here)?;
-    let text = text_of(alloc, Work::Syntax(&each))?;
+    let text = text_of(alloc, ListingTask::Syntax(&each))?;
     assert_eq!(rt; text.as_slice(), b"x.7.4 w.var x.7.4 n.0 w.all ".as_slice());
     Ok(())
 }
@@ -77,7 +77,7 @@ fn proves_that_a_bound_variable_is_not_free(rt: HostRuntime) -> Result<(), Fail>
     let alloc = rt.alloc();
     let here = MPat::var(alloc, VarNo(4))?;
     let each = MPat::all(alloc, VarNo(4), MSort(0), &here)?;
-    let text = text_of(alloc, Work::Fresh(VarNo(4), &each))?;
+    let text = text_of(alloc, ListingTask::Fresh(VarNo(4), &each))?;
     assert_eq!(rt;
         text.as_slice(),
         b"x.7.4 w.var x.7.4 n.0 fr.allb ".as_slice()
@@ -92,7 +92,7 @@ fn proves_a_substitution(rt: HostRuntime) -> Result<(), Fail> {
     let a = MPat::constant(alloc, ConstNo(1))?;
     let pat = MPat::next(alloc, &MPat::var(alloc, VarNo(0))?)?;
     let made = MPat::next(alloc, &a)?;
-    let text = text_of(alloc, Work::Substituted(VarNo(0), &a, &pat, &made))?;
+    let text = text_of(alloc, ListingTask::Substituted(VarNo(0), &a, &pat, &made))?;
     assert_eq!(rt;
         text.as_slice(),
         b"x.7.0 w.var n.1 n.1 x.7.0 n.1 x.7.0 su.v su.next ".as_slice()
@@ -103,7 +103,7 @@ fn proves_a_substitution(rt: HostRuntime) -> Result<(), Fail> {
 // Returns the number of labels in the proof that `pat` with a substituted for x is `made`.
 fn labels(alloc: Global, pat: &MPat, made: &MPat) -> Result<usize, AllocError> {
     let a = MPat::constant(alloc, ConstNo(1))?;
-    let text = text_of(alloc, Work::Substituted(VarNo(0), &a, pat, made))?;
+    let text = text_of(alloc, ListingTask::Substituted(VarNo(0), &a, pat, made))?;
     Ok(text.iter().filter(|byte| **byte == b' ').count())
 }
 
@@ -146,10 +146,12 @@ fn proves_freshness_of_a_part_in_one_step(rt: HostRuntime) -> Result<(), Fail> {
     let a = MPat::constant(alloc, ConstNo(1))?;
     let bound = MPat::all(alloc, VarNo(4), MSort(0), &a)?;
     let pat = MPat::imp(alloc, &MPat::next(alloc, &a)?, &bound)?;
-    let text = text_of(alloc, Work::Fresh(VarNo(4), &pat))?;
+    let text = text_of(alloc, ListingTask::Fresh(VarNo(4), &pat))?;
     assert_eq!(rt;
         text.as_slice(),
-        b"n.1 w.next n.1 x.7.4 n.0 w.all x.7.4 n.1 w.next x.7.4 fr.d n.1 x.7.4 n.0 fr.allb fr.imp ".as_slice()
+        b"n.1 w.next n.1 x.7.4 n.0 w.all x.7.4 n.1 w.next x.7.4 fr.d n.1 x.7.4 n.0 fr.allb \
+            fr.imp "
+            .as_slice()
     );
     Ok(())
 }

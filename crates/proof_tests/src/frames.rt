@@ -122,7 +122,8 @@ fn texts_have_their_first_fault(rt: HostRuntime) -> Result<(), Fail> {
 }
 
 const SCOPED: &str =
-    "$c t $. $v x y z $. fz $f t z $. fx $f t x $. ${ $v w $. fw $f t w $. fy $f t y $. $d x y w $. h $e t y \
+    "$c t $. $v x y z $. fz $f t z $. fx $f t x $. ${ $v w $. fw $f t w $. fy $f t y $. $d x y w \
+        $. h $e t y \
      $. a $a t x $. $}";
 
 /// The scopes after the statements of a text that come before its first fault.
@@ -185,13 +186,15 @@ const FRAMES: [FrameExample; 6] = [
         &[],
     ),
     (
-        "$c t $. $v x y z $. fz $f t z $. h $e t z $. fx $f t x $. fy $f t y $. $d x y z $. a $a t x $.",
+        "$c t $. $v x y z $. fz $f t z $. h $e t z $. fx $f t x $. fy $f t y $. $d x y z $. a $a t \
+            x $.",
         "a",
         &["fz", "h", "fx"],
         &[(1, 3)],
     ),
     (
-        "$c t $. $v x y z $. fx $f t x $. fy $f t y $. fz $f t z $. $d x y $. $d y z $. $d z x $. a $a t z y $.",
+        "$c t $. $v x y z $. fx $f t x $. fy $f t y $. fz $f t z $. $d x y $. $d y z $. $d z x $. \
+            a $a t z y $.",
         "a",
         &["fy", "fz"],
         &[(2, 3)],
@@ -203,13 +206,15 @@ const FRAMES: [FrameExample; 6] = [
         &[],
     ),
     (
-        "$c t $. $v x y $. fx $f t x $. fy $f t y $. $d y x $. ${ h $e t x $. $} ${ a $a t y x x $. $}",
+        "$c t $. $v x y $. fx $f t x $. fy $f t y $. $d y x $. ${ h $e t x $. $} ${ a $a t y x x \
+            $. $}",
         "a",
         &["fx", "fy"],
         &[(1, 2)],
     ),
     (
-        "$c t $. ${ $v x $. fx $f t x $. h $e t x $. $} $v x y $. gy $f t y $. gx $f t x $. $d x y $. a $a t y x $.",
+        "$c t $. ${ $v x $. fx $f t x $. h $e t x $. $} $v x y $. gy $f t y $. gx $f t x $. $d x y \
+            $. a $a t y x $.",
         "a",
         &["gy", "gx"],
         &[(1, 2)],

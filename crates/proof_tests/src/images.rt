@@ -29,7 +29,8 @@ pub(crate) fn alone(alloc: Global, symbol: SymId) -> RulePat
 // f(a, b).
 pub(crate) fn pair(alloc: Global) -> Result<RulePat, AllocError>
     ensures { IfOk result (λ p. plain_pattern p ≡ application 0
-        (more_patterns (application 1 no_pattern) (more_patterns (application 2 no_pattern) no_pattern))) }
+        (more_patterns (application 1 no_pattern)
+        (more_patterns (application 2 no_pattern) no_pattern))) }
 {
     let args = vec![in alloc; alone(alloc, A), alone(alloc, B)]?;
     Ok(RulePat::Ctor(F, args))

@@ -25,7 +25,8 @@ fn declares_names(rt: HostRuntime) -> Result<(), Fail> {
     renderer.declare(&names, &mut text)?;
     assert_eq!(rt;
         text.as_slice(),
-        b"$c s:S $.\nn.0 $a #Sort s:S $.\n$c f:a $.\nn.1 $a #Pattern f:a $.\n$c f:f $.\nn.2 $a #Pattern f:f \
+        b"$c s:S $.\nn.0 $a #Sort s:S $.\n$c f:a $.\nn.1 $a #Pattern f:a $.\n$c f:f $.\nn.2 $a \
+            #Pattern f:f \
         $.\n"
             .as_slice()
     );
@@ -96,7 +97,8 @@ fn proves_a_lemma(rt: HostRuntime) -> Result<(), Fail> {
     let text = stated(rt.alloc())?;
     assert_eq!(rt;
         text.as_slice(),
-        b"t.0 $a |- ( \\app f:f f:a ) $.\nt.1 $p |- ( \\ev ( \\app f:f f:a ) ) $= n.2 n.1 w.app n.2 n.1 \
+        b"t.0 $a |- ( \\app f:f f:a ) $.\nt.1 $p |- ( \\ev ( \\app f:f f:a ) ) $= n.2 n.1 w.app \
+            n.2 n.1 \
         w.app w.ev t.0 n.2 n.1 w.app ev.1 mp $.\n"
             .as_slice()
     );
@@ -120,8 +122,10 @@ fn writes_the_database_that_was_judged(rt: HostRuntime) -> Result<(), Fail> {
     assert_eq!(rt;
         text.get(5968..),
         Some(
-            b"$c s:S $.\nn.0 $a #Sort s:S $.\n$c f:a $.\nn.1 $a #Pattern f:a $.\n$c f:f $.\nn.2 $a #Pattern f:f \
-            $.\nt.0 $a |- ( \\app f:f f:a ) $.\nt.1 $p |- ( \\ev ( \\app f:f f:a ) ) $= n.2 n.1 w.app n.2 n.1 \
+            b"$c s:S $.\nn.0 $a #Sort s:S $.\n$c f:a $.\nn.1 $a #Pattern f:a $.\n$c f:f $.\nn.2 $a \
+                #Pattern f:f \
+            $.\nt.0 $a |- ( \\app f:f f:a ) $.\nt.1 $p |- ( \\ev ( \\app f:f f:a ) ) $= n.2 n.1 \
+            w.app n.2 n.1 \
             w.app w.ev t.0 n.2 n.1 w.app ev.1 mp $.\n"
                 .as_slice()
         )
@@ -142,7 +146,9 @@ fn states_an_axiom_with_a_variable(rt: HostRuntime) -> Result<(), Fail> {
     renderer.axiom(&names, &theory, no, &mut text)?;
     assert_eq!(rt;
         text.as_slice(),
-        b"${\n$v x:4 $.\nx.0.4 $f #Var x:4 $.\nt.0 $a |- ( \\all x:4 s:S ( \\fun x:4 s:S ) ) $.\n$}\n".as_slice()
+        b"${\n$v x:4 $.\nx.0.4 $f #Var x:4 $.\nt.0 $a |- ( \\all x:4 s:S ( \\fun x:4 s:S ) ) $.\n\
+            $}\n"
+            .as_slice()
     );
     Ok(())
 }
@@ -162,9 +168,12 @@ fn writes_which_variables_stay_apart(rt: HostRuntime) -> Result<(), Fail> {
     renderer.lemma(&names, &lemma, &mut text)?;
     assert_eq!(rt;
         text.as_slice(),
-        b"${\n$v x:5 $.\nx.0.5 $f #Var x:5 $.\n$v x:2 $.\nx.0.2 $f #Var x:2 $.\n$v m:1 $.\nm.0.1 $f \
-        #Pattern m:1 $.\n$v m:0 $.\nm.0.0 $f #Pattern m:0 $.\n$d x:5 x:2 $.\n$d x:5 x:2 m:1 $.\n$d x:5 x:2 \
-        m:0 $.\nt.0 $p |- ( \\imp ( \\all x:5 s:S ( \\imp x:2 m:1 ) ) ( \\imp m:0 ( \\all x:5 s:S ( \\imp \
+        b"${\n$v x:5 $.\nx.0.5 $f #Var x:5 $.\n$v x:2 $.\nx.0.2 $f #Var x:2 $.\n$v m:1 $.\nm.0.1 \
+            $f \
+        #Pattern m:1 $.\n$v m:0 $.\nm.0.0 $f #Pattern m:0 $.\n$d x:5 x:2 $.\n$d x:5 x:2 m:1 $.\n$d \
+        x:5 x:2 \
+        m:0 $.\nt.0 $p |- ( \\imp ( \\all x:5 s:S ( \\imp x:2 m:1 ) ) ( \\imp m:0 ( \\all x:5 s:S \
+        ( \\imp \
         x:2 m:1 ) ) ) ) $= x.0.2 w.var m.0.1 w.imp x.0.5 n.0 w.all m.0.0 p.1 $.\n$}\n"
             .as_slice()
     );

@@ -8,9 +8,12 @@ const PAIR: &str = "$c t $. $v x y $. fx $f t x $. fy $f t y $. ax $a t x y $. "
 
 /// The axioms of the Metamath book's first example.
 const BOOK: &str =
-    "$c 0 + = -> ( ) term wff |- $. $v t r s P Q $. tt $f term t $. tr $f term r $. ts $f term s $. wp $f \
-     wff P $. wq $f wff Q $. tze $a term 0 $. tpl $a term ( t + r ) $. weq $a wff t = r $. wim $a wff ( P -> \
-     Q ) $. a1 $a |- ( t = r -> ( t = s -> r = s ) ) $. a2 $a |- ( t + 0 ) = t $. ${ min $e |- P $. maj $e \
+    "$c 0 + = -> ( ) term wff |- $. $v t r s P Q $. tt $f term t $. tr $f term r $. ts $f term s \
+        $. wp $f \
+     wff P $. wq $f wff Q $. tze $a term 0 $. tpl $a term ( t + r ) $. weq $a wff t = r $. wim $a \
+     wff ( P -> \
+     Q ) $. a1 $a |- ( t = r -> ( t = s -> r = s ) ) $. a2 $a |- ( t + 0 ) = t $. ${ min $e |- P \
+     $. maj $e \
      |- ( P -> Q ) $. mp $a |- Q $. $} ";
 
 /// A text with its counts, or the kind and the byte of its first fault.
@@ -32,7 +35,8 @@ const PROOFS: [(&str, &str, Verdict); 26] = [
     ),
     (
         BOOK,
-        "th1 $p |- t = t $= tt tze tpl tt weq tt tt weq tt a2 tt tze tpl tt weq tt tze tpl tt weq tt tt weq \
+        "th1 $p |- t = t $= tt tze tpl tt weq tt tt weq tt a2 tt tze tpl tt weq tt tze tpl tt weq \
+            tt tt weq \
          wim tt a2 tt tze tpl tt tt a1 mp mp $.",
         Verdict::Valid(7, 1),
     ),

@@ -7,5 +7,7 @@ use Rattle.mm_claims.specs.Statements.{is_name_byte}
 
 -- each byte of the names of the signature's sorts and symbols is printable and not `$`
 pub record HasPlainNames (sig : Signature) : Type 0 where
-  pub sorts : (s : ℕ) (name : List ℕ) → name_at sig.sorts s ≡ Some name → list_all is_name_byte name ≡ true
-  pub symbols : (f : ℕ) (name : List ℕ) → name_at sig.symbols f ≡ Some name → list_all is_name_byte name ≡ true
+  pub sorts : (s : ℕ) (name : List ℕ) → name_at sig.sorts s ≡ Some name
+      → list_all is_name_byte name ≡ true
+  pub symbols : (f : ℕ) (name : List ℕ) → name_at sig.symbols f ≡ Some name
+      → list_all is_name_byte name ≡ true

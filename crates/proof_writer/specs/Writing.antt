@@ -4,20 +4,20 @@ use Rattle.ml_pat.specs.Patterns.{Pattern, imp, ev}
 use Rattle.ml_kernel.specs.Theorems.{Theorem}
 use Rattle.ml_scope.specs.Scopes.{Scope, IsStatedIn, IsWithin}
 use Rattle.term_core.specs.Patterns.{Pattern as RulePattern}
-use Rattle.rule_core.specs.Matching.{StandsIn}
+use Rattle.rule_core.specs.Matching.{OccursIn}
 use Rattle.rule_core.specs.ProgramView.{theory_of}
 use Rattle.ml_image.specs.Images.{image_of}
-use Rattle.mm_claims.specs.Kept.{Kept, all_stated}
+use Rattle.mm_claims.specs.Rendered.{Rendered, all_stated}
 use Rattle.mm_claims.specs.Keeping.{Fits}
 use Rattle.mm_claims.specs.Places.{IsStated}
 use Rattle.mm_justify.specs.Justifying.{HasOnlyAxiomsOf, JustifiesRun}
 use Rattle.mm_justify.specs.Counting.{HasCounts}
 use Rattle.prove_term.specs.Contexts.{Context, HasContext}
-use Rattle.proof_writer.specs.declared.writer.Made.{Made}
+use Rattle.proof_writer.specs.declared.writer.ProofParts.{ProofParts}
 use Rattle.proof_writer.specs.declared.writer.Writer.{Writer}
 
 -- the context of what was made
-abbrev pub context_of : Made → Context
+abbrev pub context_of : ProofParts → Context
 context_of made = record {
   program = made.program.now;
   names = made.names.now;
@@ -63,29 +63,32 @@ Adds cx old new before after =
     ((text : List ℕ) → IsTextOf cx old text → IsTextOf cx new (text ++ added))
 
 -- all that could be cited can still be cited
-abbrev pub Keeps : Kept → Kept → Type 0
+abbrev pub Keeps : Rendered → Rendered → Type 0
 Keeps old new =
-    (hypotheses : List Pattern) (conclusion : Pattern) → IsStated (all_stated old) hypotheses conclusion →
+    (hypotheses : List Pattern) (conclusion : Pattern)
+    → IsStated (all_stated old) hypotheses conclusion →
     IsStated (all_stated new) hypotheses conclusion
 
 -- the scope has all that may be cited
-abbrev pub HasStated : Scope → Kept → Type 0
-HasStated s k = (hypotheses : List Pattern) (conclusion : Pattern) → IsStated (all_stated k) hypotheses conclusion →
+abbrev pub HasStated : Scope → Rendered → Type 0
+HasStated s k = (hypotheses : List Pattern) (conclusion : Pattern)
+    → IsStated (all_stated k) hypotheses conclusion →
     IsStatedIn s hypotheses conclusion
 
 -- the theorem assumes nothing, and uses and cites only what the context has and what was stated
-abbrev pub MayFollow : Context → Kept → Theorem → Type 0
+abbrev pub MayFollow : Context → Rendered → Theorem → Type 0
 MayFollow cx k t = (s : Scope) → HasContext s cx → HasStated s k → IsWithin s t
 
 -- the pattern of a rule has no variable
 abbrev pub HasNoVariables : RulePattern → Type 0
-HasNoVariables a = (x : ℕ) → StandsIn x a → ⊥
+HasNoVariables a = (x : ℕ) → OccursIn x a → ⊥
 
 -- If the theorem says that the image of a pattern reaches the image of another, the appended bytes
 -- turn each text into one that justifies the run between the two patterns.
 abbrev pub Concludes : Context → Writer → Theorem → List ℕ → List ℕ → Type 0
 Concludes cx old t before after =
-    (a b : RulePattern) (from to : Pattern) (added text : List ℕ) → HasNoVariables a → HasNoVariables b →
+    (a b : RulePattern) (from to : Pattern) (added text : List ℕ) → HasNoVariables a
+    → HasNoVariables b →
     image_of cx.program.sig cx.names a ≡ Some from → image_of cx.program.sig cx.names b ≡ Some to →
     t.conclusion ≡ imp from (ev to) → after ≡ before ++ added → IsTextOf cx old text →
     JustifiesRun (text ++ added) (theory_of cx.program) a b

@@ -7,4 +7,4 @@
 
 mod writer;
 
-pub use writer::{Made, Writer};
+pub use writer::{ProofParts, Writer};

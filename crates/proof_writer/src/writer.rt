@@ -4,11 +4,12 @@ ghost use Rattle.mm_justify.specs.Counting.{capped};
 ghost use Rattle.mm_justify.specs.CountingLaws.{is_fact_form};
 ghost use Rattle.mm_claims.specs.ClaimVariables.{claim_of};
 ghost use Rattle.mm_claims.specs.Keeping.{with_last, with_stated};
-ghost use Rattle.mm_claims.specs.Kept.{all_stated};
+ghost use Rattle.mm_claims.specs.Rendered.{all_stated};
 ghost use Rattle.prove_term.specs.Contexts.{IsContext, new_context};
 ghost use Rattle.proof_writer.specs.PlainNames.{HasPlainNames};
 ghost use Rattle.mm_claims.specs.Places.{IsStated, MayProve, StatesLemma};
-ghost use Rattle.proof_writer.specs.Writing.{Adds, Begins, Concludes, HasWritten, HasWrittenAll, Keeps, MayFollow};
+ghost use Rattle.proof_writer.specs.Writing.{Adds, Begins, Concludes, HasWritten, HasWrittenAll};
+ghost use Rattle.proof_writer.specs.Writing.{Keeps, MayFollow};
 ghost use Rattle.proof_writer.specs.Writing.{context_of};
 ghost use Rattle.proof_writer.specs.WritingOn.{WritesOn};
 
@@ -25,7 +26,7 @@ const HEADER_STATEMENTS: u64 = 88;
 
 /// What was made for the proof of a run: a program, and the names, the axioms and the lemmas.
 #[derive(Clone, Copy)]
-pub struct Made<'a> {
+pub struct ProofParts<'a> {
     /// The program.
     pub program: &'a Program,
     /// The names of its sorts, symbols and values.
@@ -57,7 +58,8 @@ impl Writer {
     /// of the header was appended.
     pub fn begin(alloc: Global, program: &Program, to: &mut Vec<u8>) -> Result<Writer, AllocError>
         ensures written { IfOk result (λ w. HasWrittenAll w (new_context program.now)) }
-        ensures text { IfOk result (λ w. Begins (new_context program.now) w to.old.items to.new.items) }
+        ensures text { IfOk result
+            (λ w. Begins (new_context program.now) w to.old.items to.new.items) }
     {
         justifying_laws();
         counting_laws();
@@ -74,7 +76,7 @@ impl Writer {
 
     /// Appends what is not written yet: declarations of names, axioms and lemmas. The error: out of
     /// memory. Then a part of that was appended.
-    pub fn write(&mut self, made: &Made<'_>, to: &mut Vec<u8>) -> Result<(), AllocError>
+    pub fn write(&mut self, made: &ProofParts<'_>, to: &mut Vec<u8>) -> Result<(), AllocError>
         requires names { HasPlainNames made.now.program.now.sig }
         requires context { IsContext (context_of made.now) }
         requires written { HasWritten self.old (context_of made.now) }
@@ -89,7 +91,7 @@ impl Writer {
     }
 
     // Declares the new names.
-    fn declare(&mut self, made: &Made<'_>, to: &mut Vec<u8>) -> Result<(), AllocError>
+    fn declare(&mut self, made: &ProofParts<'_>, to: &mut Vec<u8>) -> Result<(), AllocError>
         requires names { HasPlainNames made.now.program.now.sig }
         requires context { IsContext (context_of made.now) }
         requires written { HasWritten self.old (context_of made.now) }
@@ -107,7 +109,7 @@ impl Writer {
     }
 
     // States the new axioms.
-    fn write_axioms(&mut self, made: &Made<'_>, to: &mut Vec<u8>) -> Result<(), AllocError>
+    fn write_axioms(&mut self, made: &ProofParts<'_>, to: &mut Vec<u8>) -> Result<(), AllocError>
         requires context { IsContext (context_of made.now) }
         requires written { HasWritten self.old (context_of made.now) }
         requires named { self.old.renderer.named ≡ length made.now.names.now }
@@ -122,7 +124,7 @@ impl Writer {
     }
 
     // States the next axiom.
-    fn axiom(&mut self, made: &Made<'_>, no: u64, to: &mut Vec<u8>) -> Result<(), AllocError>
+    fn axiom(&mut self, made: &ProofParts<'_>, no: u64, to: &mut Vec<u8>) -> Result<(), AllocError>
         requires context { IsContext (context_of made.now) }
         requires there { no < length made.now.theory.now }
         requires next { self.old.axioms ≡ no }
@@ -148,7 +150,7 @@ impl Writer {
     }
 
     // States the new lemmas.
-    fn write_lemmas(&mut self, made: &Made<'_>, to: &mut Vec<u8>) -> Result<(), AllocError>
+    fn write_lemmas(&mut self, made: &ProofParts<'_>, to: &mut Vec<u8>) -> Result<(), AllocError>
         requires context { IsContext (context_of made.now) }
         requires written { HasWritten self.old (context_of made.now) }
         requires named { self.old.renderer.named ≡ length made.now.names.now }
@@ -164,7 +166,12 @@ impl Writer {
     }
 
     // States the next lemma.
-    fn lemma(&mut self, made: &Made<'_>, place: u64, to: &mut Vec<u8>) -> Result<(), AllocError>
+    fn lemma(
+        &mut self,
+        made: &ProofParts<'_>,
+        place: u64,
+        to: &mut Vec<u8>,
+    ) -> Result<(), AllocError>
         requires context { IsContext (context_of made.now) }
         requires there { place < length made.now.lemmas.now }
         requires next { self.old.lemmas ≡ place }
@@ -187,7 +194,7 @@ impl Writer {
     /// is appended. The error: out of memory. Then a part of the theorem was appended.
     pub fn theorem(
         &mut self,
-        made: &Made<'_>,
+        made: &ProofParts<'_>,
         thm: &Thm,
         to: &mut Vec<u8>,
     ) -> Result<(), AllocError>
@@ -211,7 +218,12 @@ impl Writer {
     }
 
     // States a theorem that may be proved.
-    fn state(&mut self, made: &Made<'_>, thm: &Thm, to: &mut Vec<u8>) -> Result<(), AllocError>
+    fn state(
+        &mut self,
+        made: &ProofParts<'_>,
+        thm: &Thm,
+        to: &mut Vec<u8>,
+    ) -> Result<(), AllocError>
         requires named { self.old.renderer.named ≡ length made.now.names.now }
         requires proved { MayProve made.now.names.now self.old.renderer thm.now }
         ensures kept { OnOk result (self.new ≡ record self.old {
@@ -231,10 +243,16 @@ impl Writer {
     }
 
     // The same, as the new last theorem of the run.
-    fn state_last(&mut self, made: &Made<'_>, thm: &Thm, to: &mut Vec<u8>) -> Result<(), AllocError>
+    fn state_last(
+        &mut self,
+        made: &ProofParts<'_>,
+        thm: &Thm,
+        to: &mut Vec<u8>,
+    ) -> Result<(), AllocError>
         requires named { self.old.renderer.named ≡ length made.now.names.now }
         requires proved { MayProve made.now.names.now self.old.renderer thm.now }
-        ensures states { OnOk result (StatesLemma made.now.names.now self.old.renderer self.new.renderer thm.now
+        ensures states { OnOk result
+            (StatesLemma made.now.names.now self.old.renderer self.new.renderer thm.now
             to.old.items to.new.items) }
         ensures kept { OnOk result (self.new ≡ record self.old {
           renderer = with_last self.old.renderer (claim_of thm.now.hypotheses thm.now.conclusion);

@@ -1,8 +1,11 @@
 -- How the lemma of an equation is made from its axiom.
-use Rattle.std.proofs.Common.{◌≡◌, ◌+◌, ℕ, zero, suc, List, [], ◌∷◌, ◌++◌, inl, inr, sym, subst, arith}
+use Rattle.std.proofs.Common.{◌≡◌, ◌+◌, ℕ, zero, suc, List, [], ◌∷◌, ◌++◌, inl, inr, sym, subst}
+use Rattle.std.proofs.Common.{arith}
 use Rattle.std.specs.Prelude.{IsTrue, Contains, ◌⊎◌}
-use Rattle.std.proofs.lemmas.List.Elements.{Contains-append_left, Contains-append_right, Contains-append_cases}
-use Rattle.ml_pat.specs.Patterns.{Pattern, bot, top, imp, not, and, or, equal, member, fun, ex, all, app, at_sort, next, ev, var, meta, constant}
+use Rattle.std.proofs.lemmas.List.Elements.{Contains-append_left, Contains-append_right}
+use Rattle.std.proofs.lemmas.List.Elements.{Contains-append_cases}
+use Rattle.ml_pat.specs.Patterns.{Pattern, bot, top, imp, not, and, or, equal, member, fun, ex, all}
+use Rattle.ml_pat.specs.Patterns.{app, at_sort, next, ev, var, meta, constant}
 use Rattle.ml_kernel.specs.Theorems.{Theorem}
 use Rattle.ml_scope.specs.Scopes.{Scope, IsOver, AreAssumed, IsWithin}
 use Rattle.rule_core.specs.Rules.{Equation}
@@ -11,7 +14,8 @@ use Rattle.ml_image.specs.HasImages.{HasEquationImage}
 use Rattle.prove_term.specs.Contexts.{Context, HasGrown, StaysIn, IsLemmaIn}
 use Rattle.prove_term.specs.EquationAxioms.{SaysEquationOf}
 use Rattle.prove_schema.specs.Schemas.{with_metas, closed, meta_facts, parts_of}
-use Rattle.prove_schema.specs.Opening.{IsForAll, IsSchemaOf, StaysOpen, IsConditional, IsFollowing, StaysFollowing}
+use Rattle.prove_schema.specs.Opening.{IsForAll, IsSchemaOf, StaysOpen, IsConditional, IsFollowing}
+use Rattle.prove_schema.specs.Opening.{StaysFollowing}
 use Rattle.prove_schema.proofs.ScopeLaws.{StaysAssuming, lemma_of, assumes_only}
 use Rattle.prove_equation.specs.EquationLemmas.{SaysEquationSchema}
 use Rattle.prove_equation.proofs.ShapeLaws.{IsImplied, equation_implied}
@@ -34,7 +38,9 @@ parts_over s bot q over there = alone_over s bot q over there
 parts_over s top q over there = absurd (omega (arith, there.1))
 parts_over s (imp a b) q over there = alone_over s (imp a b) q over there
 parts_over s (not a) q over there = alone_over s (not a) q over there
-parts_over s (and a b) q over there = either (parts_over s a q over.0) (parts_over s b q over.1) (Contains-append_cases (parts_of a) (parts_of b) q there)
+parts_over s (and a b) q over there =
+    either (parts_over s a q over.0) (parts_over s b q over.1)
+    (Contains-append_cases (parts_of a) (parts_of b) q there)
 parts_over s (or a b) q over there = alone_over s (or a b) q over there
 parts_over s (equal a b) q over there = alone_over s (equal a b) q over there
 parts_over s (member a b) q over there = alone_over s (member a b) q over there
@@ -49,10 +55,12 @@ parts_over s (var x) q over there = alone_over s (var x) q over there
 parts_over s (meta i) q over there = alone_over s (meta i) q over there
 parts_over s (constant c) q over there = alone_over s (constant c) q over there
 
-facts_over : (s : Scope) (k : ℕ) (ns : List ℕ) (p q : Pattern) → ((i : ℕ) → IsTrue (s.meta i)) → IsOver s (closed k ns p) → Contains (meta_facts k ns) q → IsOver s q
+facts_over : (s : Scope) (k : ℕ) (ns : List ℕ) (p q : Pattern) → ((i : ℕ) → IsTrue (s.meta i))
+    → IsOver s (closed k ns p) → Contains (meta_facts k ns) q → IsOver s q
 facts_over s k [] p q metas over there = absurd (omega (arith, there.1))
 facts_over s k (n ∷ ns) p q metas over (zero, low, is) = subst (IsOver s) is (metas k, over.1.1)
-facts_over s k (n ∷ ns) p q metas over (suc i, low, is) = facts_over s (k + 1) ns p q metas over.0 (i, omega (arith, low), is)
+facts_over s k (n ∷ ns) p q metas over (suc i, low, is) =
+    facts_over s (k + 1) ns p q metas over.0 (i, omega (arith, low), is)
 
 -- ---- the lemma
 
@@ -65,43 +73,67 @@ pub record IsOpened (cx : Context) (f : ℕ) (e : Equation) (stated whole : Theo
   pub says : IsSchemaOf stated.conclusion whole.conclusion
   pub stays : StaysOpen stated whole
 
-pub image_grown : (old cx : Context) (f : ℕ) (e : Equation) → HasGrown old cx → HasEquationImage old.program.sig f e → HasEquationImage cx.program.sig f e
+pub image_grown : (old cx : Context) (f : ℕ) (e : Equation) → HasGrown old cx
+    → HasEquationImage old.program.sig f e → HasEquationImage cx.program.sig f e
 image_grown old cx f e g h = subst (λ (p : Program). HasEquationImage p.sig f e) (sym g.program) h
 
-implied : (cx : Context) (f : ℕ) (e : Equation) (p : Pattern) → HasEquationImage cx.program.sig f e → SaysEquationOf cx f e p → IsImplied p
+implied : (cx : Context) (f : ℕ) (e : Equation) (p : Pattern) → HasEquationImage cx.program.sig f e
+    → SaysEquationOf cx f e p → IsImplied p
 implied cx f e p has says = equation_implied cx.program.sig cx.names f e p has says
 
-pub axiom_for_all : (old cx : Context) (f : ℕ) (e : Equation) (p : Pattern) → HasGrown old cx → HasEquationImage old.program.sig f e → SaysEquationOf cx f e p → IsForAll p
+pub axiom_for_all : (old cx : Context) (f : ℕ) (e : Equation) (p : Pattern) → HasGrown old cx
+    → HasEquationImage old.program.sig f e → SaysEquationOf cx f e p → IsForAll p
 axiom_for_all old cx f e p g has says =
     let i : IsImplied p = implied cx f e p (image_grown old cx f e g has) says in
     (i.numbers, imp i.condition i.equality, i.closes)
 
-pub opened_conditional : (cx : Context) (f : ℕ) (e : Equation) (stated whole : Theorem) → IsOpened cx f e stated whole → IsConditional whole.conclusion
+pub opened_conditional : (cx : Context) (f : ℕ) (e : Equation) (stated whole : Theorem)
+    → IsOpened cx f e stated whole → IsConditional whole.conclusion
 opened_conditional cx f e stated whole o =
-    let i : IsImplied stated.conclusion = implied cx f e stated.conclusion o.image o.axiom_says in
-    (with_metas i.condition, with_metas i.equality, o.says i.numbers (imp i.condition i.equality) i.closes)
+    let i : IsImplied stated.conclusion = implied cx f e stated.conclusion o.image o.axiom_says in (
+      with_metas i.condition,
+      with_metas i.equality,
+      o.says i.numbers (imp i.condition i.equality) i.closes,
+    )
 
-opened_assuming : (cx : Context) (f : ℕ) (e : Equation) (stated whole freed : Theorem) → IsOpened cx f e stated whole → StaysFollowing whole freed → (i : IsImplied stated.conclusion)
+opened_assuming : (cx : Context) (f : ℕ) (e : Equation) (stated whole freed : Theorem)
+    → IsOpened cx f e stated whole → StaysFollowing whole freed → (i : IsImplied stated.conclusion)
     → StaysAssuming cx (meta_facts 0 i.numbers ++ parts_of (with_metas i.condition)) freed
 opened_assuming cx f e stated whole freed o follows i s has may =
     let facts : List Pattern = meta_facts 0 i.numbers in
     let conditions : List Pattern = parts_of (with_metas i.condition) in
     let axiom_within : IsWithin s stated = o.axiom_stays s has in
-    let axiom_over : IsOver s (closed 0 i.numbers (imp i.condition i.equality)) = subst (IsOver s) i.closes.says axiom_within.conclusion in
+    let axiom_over : IsOver s (closed 0 i.numbers (imp i.condition i.equality)) =
+    subst (IsOver s) i.closes.says axiom_within.conclusion in
     let facts_assumed : AreAssumed s (meta_facts 0 i.numbers) =
-    λ p there. (may p (Contains-append_left (meta_facts 0 i.numbers) (parts_of (with_metas i.condition)) p there), facts_over s 0 i.numbers (imp i.condition i.equality) p has.metas axiom_over there) in
-    let whole_within : IsWithin s whole = o.stays i.numbers (imp i.condition i.equality) i.closes s axiom_within facts_assumed in
-    let says : whole.conclusion ≡ imp (with_metas i.condition) (with_metas i.equality) = o.says i.numbers (imp i.condition i.equality) i.closes in
-    let whole_over : IsOver s (imp (with_metas i.condition) (with_metas i.equality)) = subst (IsOver s) says whole_within.conclusion in
+    λ p there. (
+      may p (Contains-append_left (meta_facts 0 i.numbers)
+          (parts_of (with_metas i.condition)) p there),
+      facts_over s 0 i.numbers (imp i.condition i.equality) p has.metas axiom_over there,
+    ) in
+    let whole_within : IsWithin s whole =
+    o.stays i.numbers (imp i.condition i.equality) i.closes s axiom_within facts_assumed in
+    let says : whole.conclusion ≡ imp (with_metas i.condition) (with_metas i.equality) =
+    o.says i.numbers (imp i.condition i.equality) i.closes in
+    let whole_over : IsOver s (imp (with_metas i.condition) (with_metas i.equality)) =
+    subst (IsOver s) says whole_within.conclusion in
     follows (with_metas i.condition) (with_metas i.equality) says s whole_within
-    (λ p there. (may p (Contains-append_right (meta_facts 0 i.numbers) (parts_of (with_metas i.condition)) p there), parts_over s (with_metas i.condition) p whole_over.0 there))
+    (λ p there. (
+      may p (Contains-append_right (meta_facts 0 i.numbers)
+          (parts_of (with_metas i.condition)) p there),
+      parts_over s (with_metas i.condition) p whole_over.0 there,
+    ))
 
-pub opened_lemma : (cx : Context) (f : ℕ) (e : Equation) (stated whole freed : Theorem) → IsOpened cx f e stated whole → StaysFollowing whole freed → IsLemmaIn cx freed
+pub opened_lemma : (cx : Context) (f : ℕ) (e : Equation) (stated whole freed : Theorem)
+    → IsOpened cx f e stated whole → StaysFollowing whole freed → IsLemmaIn cx freed
 opened_lemma cx f e stated whole freed o follows =
     let i : IsImplied stated.conclusion = implied cx f e stated.conclusion o.image o.axiom_says in
-    lemma_of cx (meta_facts 0 i.numbers ++ parts_of (with_metas i.condition)) freed (opened_assuming cx f e stated whole freed o follows i)
+    lemma_of cx (meta_facts 0 i.numbers ++ parts_of (with_metas i.condition)) freed
+    (opened_assuming cx f e stated whole freed o follows i)
 
-pub opened_says : (cx : Context) (f : ℕ) (e : Equation) (stated whole freed : Theorem) → IsOpened cx f e stated whole → IsFollowing whole.conclusion freed.conclusion → StaysFollowing whole freed → SaysEquationSchema cx f e freed
+pub opened_says : (cx : Context) (f : ℕ) (e : Equation) (stated whole freed : Theorem)
+    → IsOpened cx f e stated whole → IsFollowing whole.conclusion freed.conclusion
+    → StaysFollowing whole freed → SaysEquationSchema cx f e freed
 opened_says cx f e stated whole freed o follows stays =
     let i : IsImplied stated.conclusion = implied cx f e stated.conclusion o.image o.axiom_says in
     record {
@@ -111,6 +143,10 @@ opened_says cx f e stated whole freed o follows stays =
       condition = i.condition;
       equality = i.equality;
       closes = i.closes;
-      says = follows (with_metas i.condition) (with_metas i.equality) (o.says i.numbers (imp i.condition i.equality) i.closes);
-      assumes = assumes_only cx (meta_facts 0 i.numbers ++ parts_of (with_metas i.condition)) freed (opened_assuming cx f e stated whole freed o stays i);
+      says =
+          follows (with_metas i.condition) (with_metas i.equality)
+          (o.says i.numbers (imp i.condition i.equality) i.closes);
+      assumes =
+          assumes_only cx (meta_facts 0 i.numbers ++ parts_of (with_metas i.condition)) freed
+          (opened_assuming cx f e stated whole freed o stays i);
     }

@@ -1,15 +1,22 @@
 -- The image of an equation, taken apart.
-use Rattle.std.proofs.Common.{◌≡◌, ◌≢◌, ◌≤◌, ◌+◌, ◌⊎◌, ℕ, zero, suc, List, [], ◌∷◌, ◌++◌, Option, Some, None, option_map, length, length-append, slice_get, inl, inr, refl, sym, ◌∙◌, ap, subst, arith}
+use Rattle.std.proofs.Common.{◌≡◌, ◌≢◌, ◌≤◌, ◌+◌, ◌⊎◌, ℕ, zero, suc, List, [], ◌∷◌, ◌++◌, Option}
+use Rattle.std.proofs.Common.{Some, None, option_map, length, length-append, slice_get, inl, inr}
+use Rattle.std.proofs.Common.{refl, sym, ◌∙◌, ap, subst, arith}
 use Rattle.ml_pat.specs.Patterns.{Pattern, imp, and, equal, all}
-use Rattle.term_core.specs.Patterns.{Pattern as RulePattern, Patterns as RulePatterns, variable, domain_value, application, injection, call, no_pattern, more_patterns}
+use Rattle.term_core.specs.Patterns.{Pattern as RulePattern, Patterns as RulePatterns, variable}
+use Rattle.term_core.specs.Patterns.{domain_value, application, injection, call, no_pattern}
+use Rattle.term_core.specs.Patterns.{more_patterns}
 use Rattle.rule_core.specs.Rules.{Equation}
 use Rattle.rule_core.specs.declared.signature.Signature.{Signature}
 use Rattle.rule_core.specs.declared.signature.SymInfo.{SymInfo}
 use Rattle.ml_image.specs.Images.{both, image_of, shifted, all_shifted}
 use Rattle.ml_image.specs.HasImages as own
-use Rattle.ml_image.specs.HasImages.{HasImage, HaveImages, HasEquationImage, HasParameters, count_of}
-use Rattle.ml_image.specs.OwnAxioms.{SaysEquation, direct, kompile, condition_of, sort_of, is_true, meets, Declares}
-use Rattle.ml_image.specs.Sentences.{Sentence, sentence_image, IsImageOf, term, symbol, apply, top, implies, equals, is_in, for_all, variables, apply_all}
+use Rattle.ml_image.specs.HasImages.{HasImage, HaveImages, HasEquationImage, HasParameters}
+use Rattle.ml_image.specs.HasImages.{count_of}
+use Rattle.ml_image.specs.OwnAxioms.{SaysEquation, direct, kompile, condition_of, sort_of, is_true}
+use Rattle.ml_image.specs.OwnAxioms.{meets, Declares}
+use Rattle.ml_image.specs.Sentences.{Sentence, sentence_image, IsImageOf, term, symbol, apply, top}
+use Rattle.ml_image.specs.Sentences.{implies, equals, is_in, for_all, variables, apply_all}
 use Rattle.ml_image.specs.Sentences as says
 use Rattle.ml_image.proofs.ImageLaws.{some_same}
 use Rattle.prove_term.proofs.ImageShapes.{both_some}
@@ -26,7 +33,8 @@ imp_same p q a b e = (cc, cc)
 all_same : (k n m : ℕ) (p q : Pattern) → all k n p ≡ all k m q → (n ≡ m) × (p ≡ q)
 all_same k n m p q e = (cc, cc)
 
-pub closed_same : (k : ℕ) (ns ms : List ℕ) (p q a b : Pattern) → closed k ns (imp p q) ≡ closed k ms (imp a b) → (ns ≡ ms) × (p ≡ a) × (q ≡ b)
+pub closed_same : (k : ℕ) (ns ms : List ℕ) (p q a b : Pattern)
+    → closed k ns (imp p q) ≡ closed k ms (imp a b) → (ns ≡ ms) × (p ≡ a) × (q ≡ b)
 closed_same k [] [] p q a b e = let s : (p ≡ a) × (q ≡ b) = imp_same p q a b e in (refl, s.0, s.1)
 closed_same k [] (m ∷ ms) p q a b e = absurd (differ (closed (k + 1) ms (imp a b)) e)
   where
@@ -37,24 +45,32 @@ closed_same k (n ∷ ns) [] p q a b e = absurd (differ (closed (k + 1) ns (imp p
     differ : (r : Pattern) → all k n r ≡ imp a b → ⊥
     differ r h = cc
 closed_same k (n ∷ ns) (m ∷ ms) p q a b e =
-    let s : (n ≡ m) × (closed (k + 1) ns (imp p q) ≡ closed (k + 1) ms (imp a b)) = all_same k n m (closed (k + 1) ns (imp p q)) (closed (k + 1) ms (imp a b)) e in
+    let s : (n ≡ m) × (closed (k + 1) ns (imp p q) ≡ closed (k + 1) ms (imp a b)) =
+    all_same k n m (closed (k + 1) ns (imp p q)) (closed (k + 1) ms (imp a b)) e in
     let below : (ns ≡ ms) × (p ≡ a) × (q ≡ b) = closed_same (k + 1) ns ms p q a b s.1 in
     (ap (λ (x : ℕ). x ∷ ns) s.0 ∙ ap (λ (xs : List ℕ). m ∷ xs) below.0, below.1, below.2)
 
 -- ---- conditions
 
 -- what a condition says
-pub condition_is : (sig : Signature) (vars : List ℕ) (p : RulePattern) (sort : ℕ) (c : Sentence) → sort_of sig vars p ≡ Some sort → condition_of sig vars (Some p) ≡ Some c → c ≡ is_true p sort
-condition_is sig vars p sort c sorted is = some_same c (is_true p sort) (sym is ∙ ap (option_map (is_true p)) sorted)
+pub condition_is : (sig : Signature) (vars : List ℕ) (p : RulePattern) (sort : ℕ) (c : Sentence)
+    → sort_of sig vars p ≡ Some sort → condition_of sig vars (Some p) ≡ Some c → c ≡ is_true p sort
+condition_is sig vars p sort c sorted is =
+    some_same c (is_true p sort) (sym is ∙ ap (option_map (is_true p)) sorted)
 
-pub condition_open : (sig : Signature) (vars : List ℕ) (o : Option RulePattern) (c : Sentence) → own.IsCondition sig vars o → condition_of sig vars o ≡ Some c → IsOpenSentence sig (length vars) c
-condition_open sig vars None c h is = subst (IsOpenSentence sig (length vars)) (some_same top c is) tt
+pub condition_open : (sig : Signature) (vars : List ℕ) (o : Option RulePattern) (c : Sentence)
+    → own.IsCondition sig vars o → condition_of sig vars o ≡ Some c
+    → IsOpenSentence sig (length vars) c
+condition_open sig vars None c h is =
+    subst (IsOpenSentence sig (length vars)) (some_same top c is) tt
 condition_open sig vars (Some p) c h is =
-    subst (IsOpenSentence sig (length vars)) (sym (condition_is sig vars p h.sort c h.sorted is)) (h.image, h.truths)
+    subst (IsOpenSentence sig (length vars)) (sym (condition_is sig vars p h.sort c h.sorted is))
+    (h.image, h.truths)
 
 -- ---- an equation without parameters
 
-pub record IsDirect (sig : Signature) (names : List (List ℕ)) (f : ℕ) (e : Equation) (p : Pattern) : Type 0 where
+pub record IsDirect (sig : Signature) (names : List (List ℕ)) (f : ℕ) (e : Equation) (p : Pattern) :
+    Type 0 where
   pub numbers : List ℕ
   pub are : AreNumbers sig names e.variables numbers
   pub holds : Sentence
@@ -77,10 +93,14 @@ pub record Sides (c l r : Option Pattern) (p : Pattern) : Type 0 where
   pub is_right : r ≡ Some right
   pub says : p ≡ imp condition (equal left right)
 
-sides : (c l r : Option Pattern) (p : Pattern) → both imp c (both equal l r) ≡ Some p → Sides c l r p
+sides : (c l r : Option Pattern) (p : Pattern) → both imp c (both equal l r) ≡ Some p
+    → Sides c l r p
 sides c l r p h =
-    let w : (x : Pattern) × (y : Pattern) × (c ≡ Some x) × (both equal l r ≡ Some y) × (p ≡ imp x y) = both_some imp c (both equal l r) p h in
-    let v : (x : Pattern) × (y : Pattern) × (l ≡ Some x) × (r ≡ Some y) × (w.1 ≡ equal x y) = both_some equal l r w.1 w.3 in
+    let w : (x : Pattern) × (y : Pattern) × (c ≡ Some x) × (both equal l r ≡ Some y) ×
+    (p ≡ imp x y) =
+    both_some imp c (both equal l r) p h in
+    let v : (x : Pattern) × (y : Pattern) × (l ≡ Some x) × (r ≡ Some y) × (w.1 ≡ equal x y) =
+    both_some equal l r w.1 w.3 in
     record {
       condition = w.0;
       is_condition = w.2;
@@ -91,13 +111,20 @@ sides c l r p h =
       says = w.4 ∙ ap (imp w.0) v.4;
     }
 
-pub direct_shape : (sig : Signature) (names : List (List ℕ)) (f : ℕ) (e : Equation) (p : Pattern) → e.parameters ≡ 0 → IsImageOf sig names (SaysEquation sig f e) p → IsDirect sig names f e p
-direct_shape sig names f e p none (s, kompile c info sorts sort some many declared holds is, image) = absurd (some none)
+pub direct_shape : (sig : Signature) (names : List (List ℕ)) (f : ℕ) (e : Equation) (p : Pattern)
+    → e.parameters ≡ 0 → IsImageOf sig names (SaysEquation sig f e) p → IsDirect sig names f e p
+direct_shape sig names f e p none
+    (s, kompile c info sorts sort some many declared holds is, image) =
+    absurd (some none)
 direct_shape sig names f e p none (s, direct c zero_parameters holds is, image) =
     let body : Sentence = implies c (equals (term (call f [] e.arguments)) (term e.right)) in
-    let inside : IsClosed sig names 0 e.variables body p = closed_image sig names 0 e.variables body p (ap (sentence_image sig names) (sym is) ∙ image) in
-    let parts : Sides (sentence_image sig names c) (image_of sig names (call f [] e.arguments)) (image_of sig names e.right) inside.body =
-    sides (sentence_image sig names c) (image_of sig names (call f [] e.arguments)) (image_of sig names e.right) inside.body inside.is_body in
+    let inside : IsClosed sig names 0 e.variables body p =
+    closed_image sig names 0 e.variables body p
+    (ap (sentence_image sig names) (sym is) ∙ image) in
+    let parts : Sides (sentence_image sig names c) (image_of sig names (call f [] e.arguments))
+    (image_of sig names e.right) inside.body =
+    sides (sentence_image sig names c) (image_of sig names (call f [] e.arguments))
+    (image_of sig names e.right) inside.body inside.is_body in
     record {
       numbers = inside.numbers;
       are = inside.are;
@@ -112,21 +139,33 @@ direct_shape sig names f e p none (s, direct c zero_parameters holds is, image) 
       says = inside.says ∙ ap (closed 0 inside.numbers) parts.says;
     }
 
-pub direct_is_sentence : (sig : Signature) (names : List (List ℕ)) (f : ℕ) (e : Equation) (p : Pattern) → HasEquationImage sig f e → (d : IsDirect sig names f e p) → IsSentence d.numbers (imp d.condition (equal d.left d.right)) p
+pub direct_is_sentence : (sig : Signature) (names : List (List ℕ)) (f : ℕ) (e : Equation)
+    (p : Pattern) → HasEquationImage sig f e → (d : IsDirect sig names f e p)
+    → IsSentence d.numbers (imp d.condition (equal d.left d.right)) p
 direct_is_sentence sig names f e p has d =
-    let many : length e.variables ≡ length d.numbers = sym (numbers_length sig names e.variables d.numbers d.are) in
+    let many : length e.variables ≡ length d.numbers =
+    sym (numbers_length sig names e.variables d.numbers d.are) in
     let Open : Pattern → Type 0 = IsOpenFrom 0 (length e.variables) in
-    let condition : IsOpenFrom 0 (length e.variables) d.condition = sentence_is_open sig names (length e.variables) d.holds (condition_open sig e.variables e.condition d.holds has.condition d.is_holds) d.condition d.is_condition in
-    let left : IsOpenFrom 0 (length e.variables) d.left = image_is_open sig names (length e.variables) (call f [] e.arguments) (has.function, tt, has.arguments) d.left d.left_image in
-    let right : IsOpenFrom 0 (length e.variables) d.right = image_is_open sig names (length e.variables) e.right has.right d.right d.right_image in
+    let condition : IsOpenFrom 0 (length e.variables) d.condition =
+    sentence_is_open sig names (length e.variables) d.holds
+    (condition_open sig e.variables e.condition d.holds has.condition d.is_holds)
+    d.condition d.is_condition in
+    let left : IsOpenFrom 0 (length e.variables) d.left =
+    image_is_open sig names (length e.variables) (call f [] e.arguments)
+    (has.function, tt, has.arguments) d.left d.left_image in
+    let right : IsOpenFrom 0 (length e.variables) d.right =
+    image_is_open sig names (length e.variables) e.right has.right d.right d.right_image in
     record {
       says = d.says;
-      is_open = subst (λ (n : ℕ). IsOpenFrom 0 n (imp d.condition (equal d.left d.right))) many (condition, (left, right));
+      is_open =
+          subst (λ (n : ℕ). IsOpenFrom 0 n (imp d.condition (equal d.left d.right))) many
+          (condition, (left, right));
     }
 
 -- ---- an equation in the form of kompile
 
-pub record IsKompile (sig : Signature) (names : List (List ℕ)) (f : ℕ) (e : Equation) (p : Pattern) : Type 0 where
+pub record IsKompile (sig : Signature) (names : List (List ℕ)) (f : ℕ) (e : Equation)
+    (p : Pattern) : Type 0 where
   pub info : SymInfo
   pub sorts : List ℕ
   pub sort : ℕ
@@ -135,29 +174,44 @@ pub record IsKompile (sig : Signature) (names : List (List ℕ)) (f : ℕ) (e : 
   pub numbers : List ℕ
   pub are : AreNumbers sig names (sorts ++ e.variables) numbers
   pub holds : Sentence
-  pub is_holds : condition_of sig (sorts ++ e.variables) (option_map (shifted (length sorts)) e.condition) ≡ Some holds
+  pub is_holds : condition_of sig (sorts ++ e.variables)
+      (option_map (shifted (length sorts)) e.condition) ≡ Some holds
   pub condition : Pattern
   pub is_condition : sentence_image sig names holds ≡ Some condition
   pub met : Pattern
-  pub is_met : sentence_image sig names (meets 0 (all_shifted (length sorts) e.arguments)) ≡ Some met
+  pub is_met : sentence_image sig names (meets 0 (all_shifted (length sorts) e.arguments))
+      ≡ Some met
   pub left : Pattern
-  pub left_image : sentence_image sig names (apply_all (symbol f) (variables 0 (length sorts))) ≡ Some left
+  pub left_image : sentence_image sig names (apply_all (symbol f) (variables 0 (length sorts)))
+      ≡ Some left
   pub right : Pattern
   pub right_image : image_of sig names (shifted (length sorts) e.right) ≡ Some right
   pub says : p ≡ closed 0 numbers (imp (and condition met) (equal left right))
 
-pub kompile_shape : (sig : Signature) (names : List (List ℕ)) (f : ℕ) (e : Equation) (p : Pattern) → e.parameters ≢ 0 → IsImageOf sig names (SaysEquation sig f e) p → IsKompile sig names f e p
-kompile_shape sig names f e p some (s, direct c zero_parameters holds is, image) = absurd (some zero_parameters)
-kompile_shape sig names f e p some (s, kompile c info sorts sort other many declared holds is, image) =
+pub kompile_shape : (sig : Signature) (names : List (List ℕ)) (f : ℕ) (e : Equation) (p : Pattern)
+    → e.parameters ≢ 0 → IsImageOf sig names (SaysEquation sig f e) p → IsKompile sig names f e p
+kompile_shape sig names f e p some (s, direct c zero_parameters holds is, image) =
+    absurd (some zero_parameters)
+kompile_shape sig names f e p some
+    (s, kompile c info sorts sort other many declared holds is, image) =
     let k : ℕ = length sorts in
     let ms : Sentence = meets 0 (all_shifted (length sorts) e.arguments) in
     let fs : Sentence = apply_all (symbol f) (variables 0 (length sorts)) in
-    let body : Sentence = implies (says.and c ms) (equals fs (term (shifted (length sorts) e.right))) in
-    let inside : IsClosed sig names 0 (sorts ++ e.variables) body p = closed_image sig names 0 (sorts ++ e.variables) body p (ap (sentence_image sig names) (sym is) ∙ image) in
-    let parts : Sides (both and (sentence_image sig names c) (sentence_image sig names ms)) (sentence_image sig names fs) (image_of sig names (shifted (length sorts) e.right)) inside.body =
-    sides (both and (sentence_image sig names c) (sentence_image sig names ms)) (sentence_image sig names fs) (image_of sig names (shifted (length sorts) e.right)) inside.body inside.is_body in
-    let w : (x : Pattern) × (y : Pattern) × (sentence_image sig names c ≡ Some x) × (sentence_image sig names ms ≡ Some y) × (parts.condition ≡ and x y) =
-    both_some and (sentence_image sig names c) (sentence_image sig names ms) parts.condition parts.is_condition in
+    let body : Sentence =
+    implies (says.and c ms) (equals fs (term (shifted (length sorts) e.right))) in
+    let inside : IsClosed sig names 0 (sorts ++ e.variables) body p =
+    closed_image sig names 0 (sorts ++ e.variables) body p
+    (ap (sentence_image sig names) (sym is) ∙ image) in
+    let parts : Sides (both and (sentence_image sig names c) (sentence_image sig names ms))
+    (sentence_image sig names fs) (image_of sig names (shifted (length sorts) e.right))
+    inside.body =
+    sides (both and (sentence_image sig names c) (sentence_image sig names ms))
+    (sentence_image sig names fs) (image_of sig names (shifted (length sorts) e.right))
+    inside.body inside.is_body in
+    let w : (x : Pattern) × (y : Pattern) × (sentence_image sig names c ≡ Some x) ×
+    (sentence_image sig names ms ≡ Some y) × (parts.condition ≡ and x y) =
+    both_some and (sentence_image sig names c) (sentence_image sig names ms) parts.condition
+    parts.is_condition in
     record {
       info = info;
       sorts = sorts;
@@ -176,88 +230,123 @@ kompile_shape sig names f e p some (s, kompile c info sorts sort other many decl
       left_image = parts.is_left;
       right = parts.right;
       right_image = parts.is_right;
-      says = inside.says ∙ ap (closed 0 inside.numbers) (parts.says ∙ ap (λ (q : Pattern). imp q (equal parts.left parts.right)) w.4);
+      says = inside.says
+          ∙ ap (closed 0 inside.numbers)
+          (parts.says ∙ ap (λ (q : Pattern). imp q (equal parts.left parts.right)) w.4);
     }
 
 -- patterns after parameters
 mutual
-  pub shifted_has : (sig : Signature) (k n : ℕ) (p : RulePattern) → HasImage sig n p → HasImage sig (k + n) (shifted k p)
+  pub shifted_has : (sig : Signature) (k n : ℕ) (p : RulePattern) → HasImage sig n p
+      → HasImage sig (k + n) (shifted k p)
   shifted_has sig k n (variable x) h = omega (arith, h)
   shifted_has sig k n (domain_value s v) h = h
   shifted_has sig k n (application f ps) h = (h.0, all_shifted_have sig k n ps h.1)
   shifted_has sig k n (injection a b p) h = (h.0, h.1, shifted_has sig k n p h.2)
   shifted_has sig k n (call f ss ps) h = (h.0, h.1, all_shifted_have sig k n ps h.2)
 
-  pub all_shifted_have : (sig : Signature) (k n : ℕ) (ps : RulePatterns) → HaveImages sig n ps → HaveImages sig (k + n) (all_shifted k ps)
+  pub all_shifted_have : (sig : Signature) (k n : ℕ) (ps : RulePatterns) → HaveImages sig n ps
+      → HaveImages sig (k + n) (all_shifted k ps)
   all_shifted_have sig k n no_pattern h = tt
-  all_shifted_have sig k n (more_patterns p ps) h = (shifted_has sig k n p h.0, all_shifted_have sig k n ps h.1)
+  all_shifted_have sig k n (more_patterns p ps) h =
+      (shifted_has sig k n p h.0, all_shifted_have sig k n ps h.1)
 
-pub behind : (sorts vars : List ℕ) (x : ℕ) → slice_get (sorts ++ vars) (length sorts + x) ≡ slice_get vars x
+pub behind : (sorts vars : List ℕ) (x : ℕ)
+    → slice_get (sorts ++ vars) (length sorts + x) ≡ slice_get vars x
 behind [] vars x = ap (slice_get vars) (omega arith)
 behind (s ∷ sorts) vars x =
     let further : length (s ∷ sorts) + x ≡ suc (length sorts + x) = omega arith in
     ap (slice_get (s ∷ (sorts ++ vars))) further ∙ behind sorts vars x
 
-pub sort_of-behind : (sig : Signature) (sorts vars : List ℕ) (p : RulePattern) → sort_of sig (sorts ++ vars) (shifted (length sorts) p) ≡ sort_of sig vars p
+pub sort_of-behind : (sig : Signature) (sorts vars : List ℕ) (p : RulePattern)
+    → sort_of sig (sorts ++ vars) (shifted (length sorts) p) ≡ sort_of sig vars p
 sort_of-behind sig sorts vars (variable x) = behind sorts vars x
 sort_of-behind sig sorts vars (domain_value s v) = refl
 sort_of-behind sig sorts vars (application f ps) = refl
 sort_of-behind sig sorts vars (injection a b p) = refl
 sort_of-behind sig sorts vars (call f ss ps) = refl
 
-pub condition_behind : (sig : Signature) (sorts vars : List ℕ) (o : Option RulePattern) → own.IsCondition sig vars o → own.IsCondition sig (sorts ++ vars) (option_map (shifted (length sorts)) o)
+pub condition_behind : (sig : Signature) (sorts vars : List ℕ) (o : Option RulePattern)
+    → own.IsCondition sig vars o
+    → own.IsCondition sig (sorts ++ vars) (option_map (shifted (length sorts)) o)
 condition_behind sig sorts vars None h = tt
 condition_behind sig sorts vars (Some p) h = record {
-  image = subst (λ (n : ℕ). HasImage sig n (shifted (length sorts) p)) (sym (length-append sorts vars)) (shifted_has sig (length sorts) (length vars) p h.image);
+  image =
+      subst (λ (n : ℕ). HasImage sig n (shifted (length sorts) p)) (sym (length-append sorts vars))
+      (shifted_has sig (length sorts) (length vars) p h.image);
   sort = h.sort;
   sorted = sort_of-behind sig sorts vars p ∙ h.sorted;
   truths = h.truths;
 }
 
-meets_open : (sig : Signature) (n j : ℕ) (ps : RulePatterns) → HaveImages sig n ps → j + count_of ps ≤ n → IsOpenSentence sig n (meets j ps)
+meets_open : (sig : Signature) (n j : ℕ) (ps : RulePatterns) → HaveImages sig n ps
+    → j + count_of ps ≤ n → IsOpenSentence sig n (meets j ps)
 meets_open sig n j no_pattern h few = tt
-meets_open sig n j (more_patterns p ps) h few = ((omega (arith, few), h.0), meets_open sig n (j + 1) ps h.1 (omega (arith, few)))
+meets_open sig n j (more_patterns p ps) h few =
+    ((omega (arith, few), h.0), meets_open sig n (j + 1) ps h.1 (omega (arith, few)))
 
-applied_open : (sig : Signature) (n m j : ℕ) (s : Sentence) → IsOpenSentence sig n s → j + m ≤ n → IsOpenSentence sig n (apply_all s (variables j m))
+applied_open : (sig : Signature) (n m j : ℕ) (s : Sentence) → IsOpenSentence sig n s → j + m ≤ n
+    → IsOpenSentence sig n (apply_all s (variables j m))
 applied_open sig n zero j s h few = h
-applied_open sig n (suc m) j s h few = applied_open sig n m (j + 1) (apply s (term (variable j))) (h, omega (arith, few)) (omega (arith, few))
+applied_open sig n (suc m) j s h few =
+    applied_open sig n m (j + 1) (apply s (term (variable j))) (h, omega (arith, few))
+    (omega (arith, few))
 
 count_shifted : (k : ℕ) (ps : RulePatterns) → count_of (all_shifted k ps) ≡ count_of ps
 count_shifted k no_pattern = refl
 count_shifted k (more_patterns p ps) = ap suc (count_shifted k ps)
 
-has_parameters : (sig : Signature) (f : ℕ) (e : Equation) → e.parameters ≢ 0 → HasEquationImage sig f e → HasParameters sig f e
+has_parameters : (sig : Signature) (f : ℕ) (e : Equation) → e.parameters ≢ 0
+    → HasEquationImage sig f e → HasParameters sig f e
 has_parameters sig f e some has = go has.parameters
   where
     go : (e.parameters ≡ 0) ⊎ HasParameters sig f e → HasParameters sig f e
     go (inl none) = absurd (some none)
     go (inr h) = h
 
-pub kompile_is_sentence : (sig : Signature) (names : List (List ℕ)) (f : ℕ) (e : Equation) (p : Pattern) → e.parameters ≢ 0 → HasEquationImage sig f e → (d : IsKompile sig names f e p) → IsSentence d.numbers (imp (and d.condition d.met) (equal d.left d.right)) p
+pub kompile_is_sentence : (sig : Signature) (names : List (List ℕ)) (f : ℕ) (e : Equation)
+    (p : Pattern) → e.parameters ≢ 0 → HasEquationImage sig f e
+    → (d : IsKompile sig names f e p)
+    → IsSentence d.numbers (imp (and d.condition d.met) (equal d.left d.right)) p
 kompile_is_sentence sig names f e p some has d =
     let k : ℕ = length d.sorts in
     let both_sorts : List ℕ = d.sorts ++ e.variables in
-    let total : length (d.sorts ++ e.variables) ≡ length d.sorts + length e.variables = length-append d.sorts e.variables in
+    let total : length (d.sorts ++ e.variables) ≡ length d.sorts + length e.variables =
+    length-append d.sorts e.variables in
     let params : HasParameters sig f e = has_parameters sig f e some has in
     let enough : count_of e.arguments ≡ length d.sorts = sym params.each ∙ d.as_many in
-    let many : length (d.sorts ++ e.variables) ≡ length d.numbers = sym (numbers_length sig names (d.sorts ++ e.variables) d.numbers d.are) in
+    let many : length (d.sorts ++ e.variables) ≡ length d.numbers =
+    sym (numbers_length sig names (d.sorts ++ e.variables) d.numbers d.are) in
     let condition : IsOpenFrom 0 (length (d.sorts ++ e.variables)) d.condition =
     sentence_is_open sig names (length (d.sorts ++ e.variables)) d.holds
-    (condition_open sig (d.sorts ++ e.variables) (option_map (shifted (length d.sorts)) e.condition) d.holds (condition_behind sig d.sorts e.variables e.condition has.condition) d.is_holds) d.condition d.is_condition in
-    let args : HaveImages sig (length (d.sorts ++ e.variables)) (all_shifted (length d.sorts) e.arguments) =
-    subst (λ (n : ℕ). HaveImages sig n (all_shifted (length d.sorts) e.arguments)) (sym total) (all_shifted_have sig (length d.sorts) (length e.variables) e.arguments has.arguments) in
+    (condition_open sig (d.sorts ++ e.variables) (option_map (shifted (length d.sorts)) e.condition)
+    d.holds (condition_behind sig d.sorts e.variables e.condition has.condition) d.is_holds)
+    d.condition d.is_condition in
+    let args : HaveImages sig (length (d.sorts ++ e.variables))
+    (all_shifted (length d.sorts) e.arguments) =
+    subst (λ (n : ℕ). HaveImages sig n (all_shifted (length d.sorts) e.arguments)) (sym total)
+    (all_shifted_have sig (length d.sorts) (length e.variables) e.arguments has.arguments) in
     let met : IsOpenFrom 0 (length (d.sorts ++ e.variables)) d.met =
-    sentence_is_open sig names (length (d.sorts ++ e.variables)) (meets 0 (all_shifted (length d.sorts) e.arguments))
-    (meets_open sig (length (d.sorts ++ e.variables)) 0 (all_shifted (length d.sorts) e.arguments) args (omega (arith, total, enough, count_shifted (length d.sorts) e.arguments))) d.met d.is_met in
+    sentence_is_open sig names (length (d.sorts ++ e.variables))
+    (meets 0 (all_shifted (length d.sorts) e.arguments))
+    (meets_open sig (length (d.sorts ++ e.variables)) 0 (all_shifted (length d.sorts) e.arguments)
+    args (omega (arith, total, enough, count_shifted (length d.sorts) e.arguments))) d.met
+    d.is_met in
     let left : IsOpenFrom 0 (length (d.sorts ++ e.variables)) d.left =
-    sentence_is_open sig names (length (d.sorts ++ e.variables)) (apply_all (symbol f) (variables 0 (length d.sorts)))
-    (applied_open sig (length (d.sorts ++ e.variables)) (length d.sorts) 0 (symbol f) tt (omega (arith, total))) d.left d.left_image in
+    sentence_is_open sig names (length (d.sorts ++ e.variables))
+    (apply_all (symbol f) (variables 0 (length d.sorts)))
+    (applied_open sig (length (d.sorts ++ e.variables)) (length d.sorts) 0 (symbol f) tt
+    (omega (arith, total))) d.left d.left_image in
     let right : IsOpenFrom 0 (length (d.sorts ++ e.variables)) d.right =
     image_is_open sig names (length (d.sorts ++ e.variables)) (shifted (length d.sorts) e.right)
-    (subst (λ (n : ℕ). HasImage sig n (shifted (length d.sorts) e.right)) (sym total) (shifted_has sig (length d.sorts) (length e.variables) e.right has.right)) d.right d.right_image in
+    (subst (λ (n : ℕ). HasImage sig n (shifted (length d.sorts) e.right)) (sym total)
+    (shifted_has sig (length d.sorts) (length e.variables) e.right has.right)) d.right
+    d.right_image in
     record {
       says = d.says;
-      is_open = subst (λ (n : ℕ). IsOpenFrom 0 n (imp (and d.condition d.met) (equal d.left d.right))) many ((condition, met), (left, right));
+      is_open =
+          subst (λ (n : ℕ). IsOpenFrom 0 n (imp (and d.condition d.met) (equal d.left d.right)))
+          many ((condition, met), (left, right));
     }
 
 -- ---- both
@@ -273,13 +362,25 @@ zero_or : (n : ℕ) → (n ≡ 0) ⊎ (n ≢ 0)
 zero_or zero = inl refl
 zero_or (suc n) = inr (λ e. omega (arith, e))
 
-pub equation_implied : (sig : Signature) (names : List (List ℕ)) (f : ℕ) (e : Equation) (p : Pattern) → HasEquationImage sig f e → IsImageOf sig names (SaysEquation sig f e) p → IsImplied p
+pub equation_implied : (sig : Signature) (names : List (List ℕ)) (f : ℕ) (e : Equation)
+    (p : Pattern) → HasEquationImage sig f e → IsImageOf sig names (SaysEquation sig f e) p
+    → IsImplied p
 equation_implied sig names f e p has image = go (zero_or e.parameters)
   where
     go : (e.parameters ≡ 0) ⊎ (e.parameters ≢ 0) → IsImplied p
     go (inl none) =
         let d : IsDirect sig names f e p = direct_shape sig names f e p none image in
-        record { numbers = d.numbers; condition = d.condition; equality = equal d.left d.right; closes = direct_is_sentence sig names f e p has d }
+        record {
+          numbers = d.numbers;
+          condition = d.condition;
+          equality = equal d.left d.right;
+          closes = direct_is_sentence sig names f e p has d;
+        }
     go (inr some) =
         let d : IsKompile sig names f e p = kompile_shape sig names f e p some image in
-        record { numbers = d.numbers; condition = and d.condition d.met; equality = equal d.left d.right; closes = kompile_is_sentence sig names f e p some has d }
+        record {
+          numbers = d.numbers;
+          condition = and d.condition d.met;
+          equality = equal d.left d.right;
+          closes = kompile_is_sentence sig names f e p some has d;
+        }

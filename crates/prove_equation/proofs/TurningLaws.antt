@@ -6,7 +6,8 @@ use Rattle.ml_kernel.specs.Theorems.{Theorem}
 use Rattle.ml_scope.specs.Scopes.{StaysWithin}
 use Rattle.ml_derived.specs.Equalities.{IsFromClosed, IsFlip, AreJoinable, IsJoin}
 use Rattle.term_core.specs.Terms.{Tree, Forest}
-use Rattle.term_core.specs.Patterns.{Patterns as RulePatterns, call, all_substituted, ground_patterns}
+use Rattle.term_core.specs.Patterns.{Patterns as RulePatterns, call, all_substituted}
+use Rattle.term_core.specs.Patterns.{ground_patterns}
 use Rattle.rule_core.specs.Rules.{Equation}
 use Rattle.rule_core.specs.Theories.{equations_of}
 use Rattle.rule_core.specs.ProgramView.{theory_of}
@@ -27,69 +28,108 @@ use Rattle.prove_equation.specs.Filled.{SaysFilled, CanTurn, IsTurned, StaysTurn
 
 -- ---- turning an equality
 
-pub can_flip : (made : Pattern) (o : Option Theorem) (t : Theorem) → o ≡ Some t → CanTurn made o → IsFromClosed t.conclusion
+pub can_flip : (made : Pattern) (o : Option Theorem) (t : Theorem) → o ≡ Some t → CanTurn made o
+    → IsFromClosed t.conclusion
 can_flip made None t is can = absurd (none_some t is)
-can_flip made (Some u) t is (p, q, r, first, second, closed, other) = subst (λ (v : Theorem). IsFromClosed v.conclusion) (some_same u t is) (p, (q, (first, closed)))
+can_flip made (Some u) t is (p, q, r, first, second, closed, other) =
+    subst (λ (v : Theorem). IsFromClosed v.conclusion) (some_same u t is) (p, (q, (first, closed)))
 
-pub can_join : (made turned : Pattern) (o : Option Theorem) (t : Theorem) → o ≡ Some t → CanTurn made o → IsFlip t.conclusion turned → AreJoinable turned made
+pub can_join : (made turned : Pattern) (o : Option Theorem) (t : Theorem) → o ≡ Some t
+    → CanTurn made o → IsFlip t.conclusion turned → AreJoinable turned made
 can_join made turned None t is can flips = absurd (none_some t is)
 can_join made turned (Some u) t is (p, q, r, first, second, closed, other) flips =
-    let same : t.conclusion ≡ equal p q = ap (λ (v : Theorem). v.conclusion) (sym (some_same u t is)) ∙ first in
+    let same : t.conclusion ≡ equal p q =
+    ap (λ (v : Theorem). v.conclusion) (sym (some_same u t is)) ∙ first in
     (q, (p, (r, (flips p q same, (second, other)))))
 
-pub turned_says : (made turned joined : Theorem) (o : Option Theorem) (t : Theorem) → o ≡ Some t → IsFlip t.conclusion turned.conclusion → IsJoin turned.conclusion made.conclusion joined.conclusion → IsTurned made o joined
+pub turned_says : (made turned joined : Theorem) (o : Option Theorem) (t : Theorem) → o ≡ Some t
+    → IsFlip t.conclusion turned.conclusion
+    → IsJoin turned.conclusion made.conclusion joined.conclusion → IsTurned made o joined
 turned_says made turned joined None t is flips joins = absurd (none_some t is)
 turned_says made turned joined (Some u) t is flips joins = λ p q r first second.
-    let same : t.conclusion ≡ equal p q = ap (λ (v : Theorem). v.conclusion) (sym (some_same u t is)) ∙ first in
+    let same : t.conclusion ≡ equal p q =
+    ap (λ (v : Theorem). v.conclusion) (sym (some_same u t is)) ∙ first in
     joins q p r (flips p q same) second
 
-pub turned_stays : (made turned joined : Theorem) (o : Option Theorem) (t : Theorem) → o ≡ Some t → StaysWithin (var 0 ∷ []) (t ∷ []) turned → StaysWithin (var 0 ∷ []) (turned ∷ made ∷ []) joined → StaysTurned made o joined
+pub turned_stays : (made turned joined : Theorem) (o : Option Theorem) (t : Theorem) → o ≡ Some t
+    → StaysWithin (var 0 ∷ []) (t ∷ []) turned
+    → StaysWithin (var 0 ∷ []) (turned ∷ made ∷ []) joined → StaysTurned made o joined
 turned_stays made turned joined None t is first second = absurd (none_some t is)
 turned_stays made turned joined (Some u) t is first second =
-    subst (λ (v : Theorem). StaysWithin (var 0 ∷ []) (v ∷ made ∷ []) joined) (sym (some_same u t is))
+    subst (λ (v : Theorem). StaysWithin (var 0 ∷ []) (v ∷ made ∷ []) joined)
+    (sym (some_same u t is))
     (λ s over within. second s over (first s over (within.0, tt), (within.1.0, tt)))
 
 -- ---- what an equation says of its function at terms
 
 -- what is known of the arguments as they are written
-pub record IsWritten (cx : Context) (f : ℕ) (e : Equation) (theta : List (Option Tree)) (us : Forest) (made : Theorem) (normal : Option Theorem) : Type 0 where
+pub record IsWritten (cx : Context) (f : ℕ) (e : Equation) (theta : List (Option Tree))
+    (us : Forest) (made : Theorem) (normal : Option Theorem) : Type 0 where
   pub says : SaysFilled cx f e theta made.conclusion
   pub stays : StaysIn cx made
   pub calls : SaysEqualCalls cx f theta e.arguments us normal
 
-pub filled_grown : (old new : Context) (f : ℕ) (e : Equation) (theta : List (Option Tree)) (p : Pattern) → HasGrown old new → SaysFilled old f e theta p → SaysFilled new f e theta p
+pub filled_grown : (old new : Context) (f : ℕ) (e : Equation) (theta : List (Option Tree))
+    (p : Pattern) → HasGrown old new → SaysFilled old f e theta p → SaysFilled new f e theta p
 filled_grown old new f e theta p g says = record {
   left = says.left;
-  left_image = pattern_grown old new (filled theta (call f [] e.arguments)) says.left g says.left_image;
+  left_image =
+      pattern_grown old new (filled theta (call f [] e.arguments)) says.left g says.left_image;
   right = says.right;
   right_image = pattern_grown old new (filled theta e.right) says.right g says.right_image;
   says = says.says;
   no_variable = says.no_variable;
 }
 
-pub written_at : (old new : Context) (f : ℕ) (e : Equation) (theta : List (Option Tree)) (us : Forest) (made : Theorem) (normal : Option Theorem) → HasGrown old new → SaysFilled old f e theta made.conclusion → StaysIn old made → SaysEqualCalls new f theta e.arguments us normal
-    → IsWritten new f e theta us made normal
+pub written_at : (old new : Context) (f : ℕ) (e : Equation) (theta : List (Option Tree))
+    (us : Forest) (made : Theorem) (normal : Option Theorem) → HasGrown old new
+    → SaysFilled old f e theta made.conclusion → StaysIn old made
+    → SaysEqualCalls new f theta e.arguments us normal → IsWritten new f e theta us made normal
 written_at old new f e theta us made normal g says stays calls =
-    record { says = filled_grown old new f e theta made.conclusion g says; stays = stays_grown old new made g stays; calls = calls }
+    record {
+      says = filled_grown old new f e theta made.conclusion g says;
+      stays = stays_grown old new made g stays;
+      calls = calls;
+    }
 
 -- the image of the function of the arguments as they are written
-left_is : (cx : Context) (f : ℕ) (e : Equation) (theta : List (Option Tree)) (ts : Forest) (p q : Pattern) → all_substituted theta e.arguments ≡ Some ts → image_of cx.program.sig cx.names (filled theta (call f [] e.arguments)) ≡ Some p
+left_is : (cx : Context) (f : ℕ) (e : Equation) (theta : List (Option Tree)) (ts : Forest)
+    (p q : Pattern) → all_substituted theta e.arguments ≡ Some ts
+    → image_of cx.program.sig cx.names (filled theta (call f [] e.arguments)) ≡ Some p
     → image_of cx.program.sig cx.names (call f [] (ground_patterns ts)) ≡ Some q → p ≡ q
 left_is cx f e theta ts p q written is other =
-    some_same p q (sym is ∙ ap (λ (ps : RulePatterns). image_of cx.program.sig cx.names (call f [] ps)) (all_filled_written theta e.arguments ts written) ∙ other)
+    some_same p q (sym is
+    ∙ ap (λ (ps : RulePatterns). image_of cx.program.sig cx.names (call f [] ps))
+    (all_filled_written theta e.arguments ts written) ∙ other)
 
-pub written_turns : (cx : Context) (f : ℕ) (e : Equation) (theta : List (Option Tree)) (us : Forest) (made : Theorem) (normal : Option Theorem) → IsWritten cx f e theta us made normal → CanTurn made.conclusion normal
+pub written_turns : (cx : Context) (f : ℕ) (e : Equation) (theta : List (Option Tree)) (us : Forest)
+    (made : Theorem) (normal : Option Theorem) → IsWritten cx f e theta us made normal
+    → CanTurn made.conclusion normal
 written_turns cx f e theta us made None w = tt
 written_turns cx f e theta us made (Some t) w =
     let ts : Forest = w.calls.0 in
     let call_says : SaysEqualCall cx f w.calls.0 us t.conclusion = w.calls.2 in
-    let same : w.says.left ≡ call_says.left = left_is cx f e theta w.calls.0 w.says.left call_says.left w.calls.1 w.says.left_image call_says.left_image in
-    (call_says.left, call_says.right, w.says.right, call_says.says, w.says.says ∙ ap (λ (p : Pattern). equal p w.says.right) same, call_says.no_variable.0, call_says.no_variable.1)
+    let same : w.says.left ≡ call_says.left =
+    left_is cx f e theta w.calls.0 w.says.left call_says.left w.calls.1 w.says.left_image
+    call_says.left_image in (
+      call_says.left,
+      call_says.right,
+      w.says.right,
+      call_says.says,
+      w.says.says
+          ∙ ap (λ (p : Pattern). equal p w.says.right) same,
+      call_says.no_variable.0,
+      call_says.no_variable.1,
+    )
 
-pub written_says : (cx : Context) (f : ℕ) (e : Equation) (theta : List (Option Tree)) (us : Forest) (made turned : Theorem) (normal : Option Theorem) → IsWritten cx f e theta us made normal → IsTurned made normal turned → SaysEquationAt cx f e theta us turned.conclusion
+pub written_says : (cx : Context) (f : ℕ) (e : Equation) (theta : List (Option Tree)) (us : Forest)
+    (made turned : Theorem) (normal : Option Theorem) → IsWritten cx f e theta us made normal
+    → IsTurned made normal turned → SaysEquationAt cx f e theta us turned.conclusion
 written_says cx f e theta us made turned None w is = record {
   left = w.says.left;
-  left_image = ap (λ (ps : RulePatterns). image_of cx.program.sig cx.names (call f [] ps)) (sym (all_filled_written theta e.arguments us w.calls)) ∙ w.says.left_image;
+  left_image =
+      ap (λ (ps : RulePatterns). image_of cx.program.sig cx.names (call f [] ps))
+      (sym (all_filled_written theta e.arguments us w.calls)) ∙ w.says.left_image;
   right = w.says.right;
   right_image = w.says.right_image;
   says = ap (λ (t : Theorem). t.conclusion) is ∙ w.says.says;
@@ -97,23 +137,35 @@ written_says cx f e theta us made turned None w is = record {
 }
 written_says cx f e theta us made turned (Some t) w is =
     let call_says : SaysEqualCall cx f w.calls.0 us t.conclusion = w.calls.2 in
-    let same : w.says.left ≡ call_says.left = left_is cx f e theta w.calls.0 w.says.left call_says.left w.calls.1 w.says.left_image call_says.left_image in
+    let same : w.says.left ≡ call_says.left =
+    left_is cx f e theta w.calls.0 w.says.left call_says.left w.calls.1 w.says.left_image
+    call_says.left_image in
     record {
       left = call_says.right;
       left_image = call_says.right_image;
       right = w.says.right;
       right_image = w.says.right_image;
-      says = is call_says.left call_says.right w.says.right call_says.says (w.says.says ∙ ap (λ (p : Pattern). equal p w.says.right) same);
+      says =
+          is call_says.left call_says.right w.says.right call_says.says
+          (w.says.says ∙ ap (λ (p : Pattern). equal p w.says.right) same);
       no_variable = (call_says.no_variable.1, w.says.no_variable.1);
     }
 
-pub written_stays : (cx : Context) (f : ℕ) (e : Equation) (theta : List (Option Tree)) (us : Forest) (made turned : Theorem) (normal : Option Theorem) → IsWritten cx f e theta us made normal → StaysTurned made normal turned → StaysIn cx turned
+pub written_stays : (cx : Context) (f : ℕ) (e : Equation) (theta : List (Option Tree)) (us : Forest)
+    (made turned : Theorem) (normal : Option Theorem) → IsWritten cx f e theta us made normal
+    → StaysTurned made normal turned → StaysIn cx turned
 written_stays cx f e theta us made turned None w is = subst (StaysIn cx) (sym is) w.stays
-written_stays cx f e theta us made turned (Some t) w within = λ s has. within s (has.objects 0, tt) (w.calls.3 s has, (w.stays s has, tt))
+written_stays cx f e theta us made turned (Some t) w within =
+    λ s has. within s (has.objects 0, tt) (w.calls.3 s has, (w.stays s has, tt))
 
 -- ---- the equation's arguments
 
-pub arguments_sorted : (cx : Context) (f : ℕ) (e : Equation) → IsWellSorted (theory_of cx.program) → IsEquationFor (theory_of cx.program) f e → (refs : List SortRef) × HaveSorts cx.program.sig e.variables [] e.arguments refs
+pub arguments_sorted : (cx : Context) (f : ℕ) (e : Equation) → IsWellSorted (theory_of cx.program)
+    → IsEquationFor (theory_of cx.program) f e
+    → (refs : List SortRef) × HaveSorts cx.program.sig e.variables [] e.arguments refs
 arguments_sorted cx f e ok own =
-    let is : IsEquationOf (theory_of cx.program).sig own.info e = All-contains (IsEquationOf (theory_of cx.program).sig own.info) (equations_of (theory_of cx.program) f) e (ok.equations f own.info own.function) own.listed in
+    let is : IsEquationOf (theory_of cx.program).sig own.info e =
+    All-contains (IsEquationOf (theory_of cx.program).sig own.info)
+    (equations_of (theory_of cx.program) f) e (ok.equations f own.info own.function)
+    own.listed in
     (own.info.args.items, is.arguments)

@@ -10,12 +10,14 @@ use Rattle.prove_term.specs.Values.{SaysValue}
 -- There is a theorem exactly when there is a condition. The theorem says that the condition is true
 -- when a substitution replaces its variables, and stays in the context. The variables have the
 -- given sorts.
-abbrev pub SaysCondition : Context → List ℕ → List (Option Tree) → Option RulePattern → Option Theorem → Type 0
+abbrev pub SaysCondition : Context → List ℕ → List (Option Tree) → Option RulePattern
+    → Option Theorem → Type 0
 SaysCondition cx variables theta None None = Unit {0}
 SaysCondition cx variables theta None (Some t) = ⊥
 SaysCondition cx variables theta (Some p) None = ⊥
 SaysCondition cx variables theta (Some p) (Some t) =
-    (sort : ℕ) × HasSort cx.program.sig variables p sort × SaysValue cx theta p (leaf sort (truth true)) t.conclusion
+    (sort : ℕ) × HasSort cx.program.sig variables p sort
+    × SaysValue cx theta p (leaf sort (truth true)) t.conclusion
     × StaysIn cx t
 
 -- the list of the theorem, or the empty list

@@ -17,7 +17,8 @@ use Rattle.prove_equation.specs.Conditions.{BindsEach, SaysCondition}
 use Rattle.prove_equation.specs.EquationLemmas.{IsEquationLemma}
 
 -- the lemma of a direct equation, which has no parameters, may be used with this substitution
-pub record CanFill (cx : Context) (f : ℕ) (e : Equation) (lemma : Theorem) (theta : List (Option Tree))
+pub record CanFill (cx : Context) (f : ℕ) (e : Equation) (lemma : Theorem)
+    (theta : List (Option Tree))
     (o : Option Theorem) : Type 0 where
   pub image : HasEquationImage cx.program.sig f e
   pub direct : e.parameters ≡ 0
@@ -29,9 +30,11 @@ pub record CanFill (cx : Context) (f : ℕ) (e : Equation) (lemma : Theorem) (th
 
 -- The pattern says that the image of the function f of the equation's arguments equals the image of
 -- the right side. The variables of both are replaced by the terms of a substitution.
-pub record SaysFilled (cx : Context) (f : ℕ) (e : Equation) (theta : List (Option Tree)) (p : Pattern) : Type 0 where
+pub record SaysFilled (cx : Context) (f : ℕ) (e : Equation) (theta : List (Option Tree))
+    (p : Pattern) : Type 0 where
   pub left : Pattern
-  pub left_image : image_of cx.program.sig cx.names (filled theta (call f [] e.arguments)) ≡ Some left
+  pub left_image : image_of cx.program.sig cx.names (filled theta (call f [] e.arguments))
+      ≡ Some left
   pub right : Pattern
   pub right_image : image_of cx.program.sig cx.names (filled theta e.right) ≡ Some right
   pub says : p ≡ equal left right
@@ -41,14 +44,16 @@ pub record SaysFilled (cx : Context) (f : ℕ) (e : Equation) (theta : List (Opt
 abbrev pub CanTurn : Pattern → Option Theorem → Type 0
 CanTurn made None = Unit {0}
 CanTurn made (Some t) =
-    (p : Pattern) × (q : Pattern) × (r : Pattern) × (t.conclusion ≡ equal p q) × (made ≡ equal p r) × HasNoVariable p
+    (p : Pattern) × (q : Pattern) × (r : Pattern) × (t.conclusion ≡ equal p q) × (made ≡ equal p r)
+    × HasNoVariable p
     × HasNoVariable q
 
 -- the result is `q = r`, or `made` itself if there is no theorem
 abbrev pub IsTurned : Theorem → Option Theorem → Theorem → Type 0
 IsTurned made None turned = turned ≡ made
 IsTurned made (Some t) turned =
-    (p q r : Pattern) → t.conclusion ≡ equal p q → made.conclusion ≡ equal p r → turned.conclusion ≡ equal q r
+    (p q r : Pattern) → t.conclusion ≡ equal p q → made.conclusion ≡ equal p r
+    → turned.conclusion ≡ equal q r
 
 abbrev pub StaysTurned : Theorem → Option Theorem → Theorem → Type 0
 StaysTurned made None turned = turned ≡ made

@@ -6,7 +6,8 @@ use Rattle.ml_kernel.specs.Lemmas.{HasNoVariable}
 use Rattle.ml_kernel.specs.Theorems.{Theorem}
 use Rattle.ml_scope.specs.Scopes.{StaysWithin}
 use Rattle.term_core.specs.Terms.{Tree, forest}
-use Rattle.term_core.specs.Patterns.{Pattern as RulePattern, Patterns as RulePatterns, no_pattern, more_patterns}
+use Rattle.term_core.specs.Patterns.{Pattern as RulePattern, Patterns as RulePatterns, no_pattern}
+use Rattle.term_core.specs.Patterns.{more_patterns}
 use Rattle.term_core.specs.Patterns.{ground_pattern, instances_of}
 use Rattle.rule_core.specs.Rules.{Equation}
 use Rattle.rule_core.specs.Matching.{RespectsSorts}
@@ -27,7 +28,8 @@ behind_terms (t ∷ ts) theta = Some t ∷ behind_terms ts theta
 
 -- The pattern says that the image of the term u is a member of the image of p. The variables of p
 -- are replaced by the terms of a substitution.
-pub record SaysMember (cx : Context) (theta : List (Option Tree)) (p : RulePattern) (u : Tree) (q : Pattern)
+pub record SaysMember (cx : Context) (theta : List (Option Tree)) (p : RulePattern) (u : Tree)
+    (q : Pattern)
     : Type 0 where
   pub element : Pattern
   pub element_image : image_of cx.program.sig cx.names (ground_pattern u) ≡ Some element
@@ -40,7 +42,8 @@ abbrev pub IsMembership : Context → List (Option Tree) → RulePattern → Tre
 IsMembership cx theta p u t = SaysMember cx theta p u t.conclusion × StaysIn cx t
 
 -- the same for each of the patterns, in order
-abbrev pub AreMemberships : Context → List (Option Tree) → RulePatterns → List Tree → List Theorem → Type 0
+abbrev pub AreMemberships : Context → List (Option Tree) → RulePatterns → List Tree → List Theorem
+    → Type 0
 AreMemberships cx theta no_pattern [] [] = Unit {0}
 AreMemberships cx theta no_pattern [] (t ∷ ts) = ⊥
 AreMemberships cx theta no_pattern (u ∷ us) ts = ⊥
@@ -51,7 +54,8 @@ AreMemberships cx theta (more_patterns p ps) (u ∷ us) (t ∷ ts) =
 
 -- the lemma of an equation in the form of kompile may be used at these terms, which its arguments
 -- match
-pub record CanMeet (cx : Context) (f : ℕ) (e : Equation) (lemma : Theorem) (theta : List (Option Tree)) (us : List Tree)
+pub record CanMeet (cx : Context) (f : ℕ) (e : Equation) (lemma : Theorem)
+    (theta : List (Option Tree)) (us : List Tree)
     (o : Option Theorem) : Type 0 where
   pub well_sorted : IsWellSorted (theory_of cx.program)
   pub image : HasEquationImage cx.program.sig f e
@@ -76,7 +80,8 @@ IsInItself fact t = (p : Pattern) (n : ℕ) → fact.conclusion ≡ fun p n → 
 abbrev pub CanEnter : Pattern → Option Theorem → Type 0
 CanEnter itself None = Unit {0}
 CanEnter itself (Some t) =
-    (p : Pattern) × (q : Pattern) × (t.conclusion ≡ equal p q) × (itself ≡ member q q) × HasNoVariable p
+    (p : Pattern) × (q : Pattern) × (t.conclusion ≡ equal p q) × (itself ≡ member q q)
+    × HasNoVariable p
     × HasNoVariable q
 
 -- the result is `q in p`, or `itself` if there is no theorem

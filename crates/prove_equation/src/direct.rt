@@ -34,16 +34,20 @@ pub(crate) fn direct_at(
     condition: &Option<Thm>,
 ) -> Result<Thm, AllocError>
     requires well_sorted { IsWellSorted (theory_of cx.old.program) }
-    requires image { HasEquationImage cx.old.program.sig equation.now.fun.0 (function_equation equation.now) }
-    requires own { IsEquationFor (theory_of cx.old.program) equation.now.fun.0 (function_equation equation.now) }
+    requires image { HasEquationImage cx.old.program.sig equation.now.fun.0
+        (function_equation equation.now) }
+    requires own { IsEquationFor (theory_of cx.old.program) equation.now.fun.0
+        (function_equation equation.now) }
     requires direct { equation.now.params ≡ 0 }
-    requires lemma { IsEquationLemma cx.old equation.now.fun.0 (function_equation equation.now) lemma.now }
+    requires lemma { IsEquationLemma cx.old equation.now.fun.0 (function_equation equation.now)
+        lemma.now }
     requires matches { MatchAll cx.old.program.sig (sorts_of equation.now.vars.items)
         (plain_patterns equation.now.args.items) (forest args.now) subst.now }
     requires bound { BindsEach (sorts_of equation.now.vars.items) subst.now }
     requires condition { SaysCondition cx.old (sorts_of equation.now.vars.items) subst.now
         (function_equation equation.now).condition condition.now }
-    ensures says { IfOk result (λ t. SaysEquationAt cx.new equation.now.fun.0 (function_equation equation.now)
+    ensures says { IfOk result
+        (λ t. SaysEquationAt cx.new equation.now.fun.0 (function_equation equation.now)
         subst.now (forest args.now) t.conclusion) }
     ensures no_hypotheses { IfOk result (λ t. t.hypotheses ≡ []) }
     ensures stays { IfOk result (StaysIn cx.new) }
@@ -65,10 +69,12 @@ fn filled(
     condition: &Option<Thm>,
 ) -> Result<Thm, AllocError>
     requires well_sorted { IsWellSorted (theory_of cx.old.program) }
-    requires used { CanFill cx.old equation.now.fun.0 (function_equation equation.now) lemma.now subst.now
+    requires used { CanFill cx.old equation.now.fun.0 (function_equation equation.now) lemma.now
+        subst.now
         condition.now }
     ensures says { IfOk result
-        (λ t. SaysFilled cx.new equation.now.fun.0 (function_equation equation.now) subst.now t.conclusion) }
+        (λ t. SaysFilled cx.new equation.now.fun.0 (function_equation equation.now) subst.now
+        t.conclusion) }
     ensures stays { IfOk result (StaysIn cx.new) }
     ensures grown { HasGrown cx.old cx.new }
 {

@@ -22,9 +22,12 @@ pub fn equation_lemma(
     cx: &mut Cx<'_>,
     equation: &Equation,
 ) -> Result<Thm, AllocError>
-    requires image { HasEquationImage cx.old.program.sig equation.now.fun.0 (function_equation equation.now) }
-    requires own { IsEquationFor (theory_of cx.old.program) equation.now.fun.0 (function_equation equation.now) }
-    ensures says { IfOk result (SaysEquationSchema cx.new equation.now.fun.0 (function_equation equation.now)) }
+    requires image { HasEquationImage cx.old.program.sig equation.now.fun.0
+        (function_equation equation.now) }
+    requires own { IsEquationFor (theory_of cx.old.program) equation.now.fun.0
+        (function_equation equation.now) }
+    ensures says { IfOk result
+        (SaysEquationSchema cx.new equation.now.fun.0 (function_equation equation.now)) }
     ensures lemma { IfOk result (IsLemmaIn cx.new) }
     ensures grown { HasGrown cx.old cx.new }
 {

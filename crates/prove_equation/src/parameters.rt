@@ -20,7 +20,8 @@ ghost use Rattle.prove_term.specs.Values.{SaysEquationAt};
 ghost use Rattle.prove_schema.specs.Elements.{IsElementOf};
 ghost use Rattle.prove_equation.specs.Conditions.{BindsEach, SaysCondition};
 ghost use Rattle.prove_equation.specs.EquationLemmas.{IsEquationLemma};
-ghost use Rattle.prove_equation.specs.Parameters.{AreMemberships, CanEnter, IsEntered, IsInItself, IsMembership};
+ghost use Rattle.prove_equation.specs.Parameters.{AreMemberships, CanEnter, IsEntered, IsInItself};
+ghost use Rattle.prove_equation.specs.Parameters.{IsMembership};
 ghost use Rattle.prove_equation.specs.Parameters.{IsEquality, IsInHole, SaysElement, StaysEntered};
 
 use crate::conditions::given;
@@ -46,16 +47,20 @@ pub(crate) fn kompile_at(
     condition: &Option<Thm>,
 ) -> Result<Thm, AllocError>
     requires well_sorted { IsWellSorted (theory_of cx.old.program) }
-    requires image { HasEquationImage cx.old.program.sig equation.now.fun.0 (function_equation equation.now) }
-    requires own { IsEquationFor (theory_of cx.old.program) equation.now.fun.0 (function_equation equation.now) }
+    requires image { HasEquationImage cx.old.program.sig equation.now.fun.0
+        (function_equation equation.now) }
+    requires own { IsEquationFor (theory_of cx.old.program) equation.now.fun.0
+        (function_equation equation.now) }
     requires kompile { equation.now.params ≢ 0 }
-    requires lemma { IsEquationLemma cx.old equation.now.fun.0 (function_equation equation.now) lemma.now }
+    requires lemma { IsEquationLemma cx.old equation.now.fun.0 (function_equation equation.now)
+        lemma.now }
     requires matches { MatchAll cx.old.program.sig (sorts_of equation.now.vars.items)
         (plain_patterns equation.now.args.items) (forest args.now) subst.now }
     requires bound { BindsEach (sorts_of equation.now.vars.items) subst.now }
     requires condition { SaysCondition cx.old (sorts_of equation.now.vars.items) subst.now
         (function_equation equation.now).condition condition.now }
-    ensures says { IfOk result (λ t. SaysEquationAt cx.new equation.now.fun.0 (function_equation equation.now)
+    ensures says { IfOk result
+        (λ t. SaysEquationAt cx.new equation.now.fun.0 (function_equation equation.now)
         subst.now (forest args.now) t.conclusion) }
     ensures no_hypotheses { IfOk result (λ t. t.hypotheses ≡ []) }
     ensures stays { IfOk result (StaysIn cx.new) }
@@ -150,7 +155,8 @@ fn in_itself(alloc: Global, fact: &Thm) -> Result<Thm, AllocError>
 
 // `fun p s -> p in p`.
 fn mem_in(alloc: Global, p: &MPat, s: MSort) -> Result<Thm, AllocError>
-    ensures conclusion { IfOk result (λ t. t.conclusion ≡ imp (fun p.now s.0) (member p.now p.now)) }
+    ensures conclusion { IfOk result
+        (λ t. t.conclusion ≡ imp (fun p.now s.0) (member p.now p.now)) }
     ensures stays { IfOk result (StaysWithin (fun p.now s.0 ∷ []) []) }
 {
     Thm::mem_in(alloc, p, s)

@@ -15,60 +15,92 @@ use Rattle.prove_term.proofs.ContextLaws.{stays_grown, image_grown}
 use Rattle.prove_term.proofs.ComparingLaws.{image_closed}
 use Rattle.prove_fun.specs.Evaluating.{IsImage, SaysEqual, Equates, HasEqual}
 
-pub says_grown : (a b : Context) (p q : Pattern) (t : Theorem) → HasGrown a b → SaysEqual a p q t → SaysEqual b p q t
+pub says_grown : (a b : Context) (p q : Pattern) (t : Theorem) → HasGrown a b → SaysEqual a p q t
+    → SaysEqual b p q t
 says_grown a b p q t g h = record { says = h.says; stays = stays_grown a b t g h.stays }
 
-pub equates_grown : (a b : Context) (p q : Pattern) (o : Option Theorem) → HasGrown a b → Equates a p q o → Equates b p q o
+pub equates_grown : (a b : Context) (p q : Pattern) (o : Option Theorem) → HasGrown a b
+    → Equates a p q o → Equates b p q o
 equates_grown a b p q None g h = h
 equates_grown a b p q (Some t) g h = says_grown a b p q t g h
 
-pub has_equal_grown : (a b : Context) (p : RulePattern) (image : Pattern) (o : Option Theorem) → HasGrown a b → HasEqual a p image o → HasEqual b p image o
+pub has_equal_grown : (a b : Context) (p : RulePattern) (image : Pattern) (o : Option Theorem)
+    → HasGrown a b → HasEqual a p image o → HasEqual b p image o
 has_equal_grown a b p image o g h =
-    record { left = h.left; left_image = image_grown a b (term p) h.left g h.left_image; closed = h.closed; equates = equates_grown a b h.left image o g h.equates }
+    record {
+      left = h.left;
+      left_image = image_grown a b (term p) h.left g h.left_image;
+      closed = h.closed;
+      equates = equates_grown a b h.left image o g h.equates;
+    }
 
 -- the image of a term equals itself
-pub equals_itself : (cx : Context) (t : Tree) (image : Pattern) → IsImage cx (ground_pattern t) image → HasEqual cx (ground_pattern t) image None
-equals_itself cx t image is = record { left = image; left_image = is; closed = image_closed cx.program.sig cx.names t image is; equates = refl }
+pub equals_itself : (cx : Context) (t : Tree) (image : Pattern)
+    → IsImage cx (ground_pattern t) image → HasEqual cx (ground_pattern t) image None
+equals_itself cx t image is = record {
+  left = image;
+  left_image = is;
+  closed = image_closed cx.program.sig cx.names t image is;
+  equates = refl;
+}
 
-pub says_equal_to : (cx : Context) (p q : Pattern) (o : Option Theorem) → HasNoVariable p → Equates cx p q o → SaysEqualTo q o
+pub says_equal_to : (cx : Context) (p q : Pattern) (o : Option Theorem) → HasNoVariable p
+    → Equates cx p q o → SaysEqualTo q o
 says_equal_to cx p q None closed h = tt
 says_equal_to cx p q (Some t) closed h = (p, h.says, closed)
 
 -- ---- applications
 
-pub application : (cx : Context) (f g a b : Pattern) (d e o : Option Theorem) → IsOverContext cx g → IsOverContext cx b → Equates cx f g d → Equates cx a b e → IsApplication g b d e o → Equates cx (app f a) (app g b) o
+pub application : (cx : Context) (f g a b : Pattern) (d e o : Option Theorem) → IsOverContext cx g
+    → IsOverContext cx b → Equates cx f g d → Equates cx a b e → IsApplication g b d e o
+    → Equates cx (app f a) (app g b) o
 application cx f g a b None None o over_g over_b function argument is =
-    subst (Equates cx (app f a) (app g b)) (sym is) (ap (λ (x : Pattern). app x a) function ∙ ap (app g) argument)
+    subst (Equates cx (app f a) (app g b)) (sym is)
+    (ap (λ (x : Pattern). app x a) function ∙ ap (app g) argument)
 application cx f g a b (Some d) None o over_g over_b function argument is =
     subst (Equates cx (app f a) (app g b)) (sym is.is) (record {
-      says = is.says f g function.says ∙ ap (λ (x : Pattern). equal (app f x) (app g b)) (sym argument);
+      says = is.says f g function.says
+          ∙ ap (λ (x : Pattern). equal (app f x) (app g b)) (sym argument);
       stays = λ s has. is.stays s (over_b s has, (has.objects 0, tt)) (function.stays s has, tt);
     })
 application cx f g a b None (Some e) o over_g over_b function argument is =
     subst (Equates cx (app f a) (app g b)) (sym is.is) (record {
-      says = is.says a b argument.says ∙ ap (λ (x : Pattern). equal (app x a) (app g b)) (sym function);
+      says = is.says a b argument.says
+          ∙ ap (λ (x : Pattern). equal (app x a) (app g b)) (sym function);
       stays = λ s has. is.stays s (over_g s has, (has.objects 0, tt)) (argument.stays s has, tt);
     })
 application cx f g a b (Some d) (Some e) o over_g over_b function argument is =
     subst (Equates cx (app f a) (app g b)) (sym is.is) (record {
       says = is.says f g a b function.says argument.says;
-      stays = λ s has. is.stays s (has.objects 0, tt) (function.stays s has, (argument.stays s has, tt));
+      stays =
+          λ s has.
+          is.stays s (has.objects 0, tt) (function.stays s has, (argument.stays s has, tt));
     })
 
 -- ---- one after another
 
-pub joinable : (cx : Context) (a b c : Pattern) (d e : Theorem) → HasNoVariable a → SaysEqual cx a b d → SaysEqual cx b c e → AreJoinable d.conclusion e.conclusion
+pub joinable : (cx : Context) (a b c : Pattern) (d e : Theorem) → HasNoVariable a
+    → SaysEqual cx a b d → SaysEqual cx b c e → AreJoinable d.conclusion e.conclusion
 joinable cx a b c d e closed first second = (a, (b, (c, (first.says, (second.says, closed)))))
 
-pub joined_says : (cx : Context) (a b c : Pattern) (d e t : Theorem) → SaysEqual cx a b d → SaysEqual cx b c e → IsJoin d.conclusion e.conclusion t.conclusion → StaysWithin (var hole ∷ []) (d ∷ e ∷ []) t → SaysEqual cx a c t
+pub joined_says : (cx : Context) (a b c : Pattern) (d e t : Theorem) → SaysEqual cx a b d
+    → SaysEqual cx b c e → IsJoin d.conclusion e.conclusion t.conclusion
+    → StaysWithin (var hole ∷ []) (d ∷ e ∷ []) t → SaysEqual cx a c t
 joined_says cx a b c d e t first second is stays =
-    record { says = is a b c first.says second.says; stays = λ s has. stays s (has.objects 0, tt) (first.stays s has, (second.stays s has, tt)) }
+    record {
+      says = is a b c first.says second.says;
+      stays = λ s has. stays s (has.objects 0, tt) (first.stays s has, (second.stays s has, tt));
+    }
 
-pub joined_both : (cx : Context) (a b c : Pattern) (d e t : Theorem) → Equates cx a b (Some d) → Equates cx b c (Some e) → IsJoin d.conclusion e.conclusion t.conclusion → StaysWithin (var hole ∷ []) (d ∷ e ∷ []) t → Equates cx a c (Some t)
+pub joined_both : (cx : Context) (a b c : Pattern) (d e t : Theorem) → Equates cx a b (Some d)
+    → Equates cx b c (Some e) → IsJoin d.conclusion e.conclusion t.conclusion
+    → StaysWithin (var hole ∷ []) (d ∷ e ∷ []) t → Equates cx a c (Some t)
 joined_both cx a b c d e t first second is stays = joined_says cx a b c d e t first second is stays
 
-pub joined_second : (cx : Context) (a b c : Pattern) (o : Option Theorem) → Equates cx a b None → Equates cx b c o → Equates cx a c o
+pub joined_second : (cx : Context) (a b c : Pattern) (o : Option Theorem) → Equates cx a b None
+    → Equates cx b c o → Equates cx a c o
 joined_second cx a b c o first second = subst (λ (x : Pattern). Equates cx x c o) (sym first) second
 
-pub joined_first : (cx : Context) (a b c : Pattern) (o : Option Theorem) → Equates cx a b o → Equates cx b c None → Equates cx a c o
+pub joined_first : (cx : Context) (a b c : Pattern) (o : Option Theorem) → Equates cx a b o
+    → Equates cx b c None → Equates cx a c o
 joined_first cx a b c o first second = subst (λ (x : Pattern). Equates cx a x o) second first

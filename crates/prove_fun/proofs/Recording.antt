@@ -1,9 +1,13 @@
 -- Records of evaluations, part by part, and the sorts of their results.
-use Rattle.std.proofs.Common.{◌≡◌, ◌<◌, ◌≤◌, ℕ, zero, suc, List, [], ◌∷◌, length, Option, Some, None, get_or, refl, sym, ◌∙◌, ap, subst, arith, inl, inr, slice_get}
+use Rattle.std.proofs.Common.{◌≡◌, ◌<◌, ◌≤◌, ℕ, zero, suc, List, [], ◌∷◌, length, Option, Some}
+use Rattle.std.proofs.Common.{None, get_or, refl, sym, ◌∙◌, ap, subst, arith, inl, inr, slice_get}
 use Rattle.std.specs.Prelude.{IsSome, IfSome, All}
 use Rattle.std.proofs.lemmas.Option.{slice_get_within, get_or_from_slice_get}
-use Rattle.term_core.specs.Terms.{Tree, Forest, leaf, node, height, heights, injected, DomainValue, IsNormal, AreNormal}
-use Rattle.term_core.specs.Patterns.{Pattern as RulePattern, Patterns as RulePatterns, variable, domain_value, application, injection, call, no_pattern, more_patterns, binding, ground_pattern}
+use Rattle.term_core.specs.Terms.{Tree, Forest, leaf, node, height, heights, injected, DomainValue}
+use Rattle.term_core.specs.Terms.{IsNormal, AreNormal}
+use Rattle.term_core.specs.Patterns.{Pattern as RulePattern, Patterns as RulePatterns, variable}
+use Rattle.term_core.specs.Patterns.{domain_value, application, injection, call, no_pattern}
+use Rattle.term_core.specs.Patterns.{more_patterns, binding, ground_pattern}
 use Rattle.term_core.specs.RulePatterns.{plain_pattern}
 use Rattle.term_core.specs.PatternLists.{plain_patterns}
 use Rattle.term_core.specs.declared.rule_patterns.RulePat.{RulePat}
@@ -13,13 +17,17 @@ use Rattle.rule_core.specs.declared.rules.Program.{Program}
 use Rattle.rule_core.specs.Subsorts.{IsBelow}
 use Rattle.rule_core.specs.Sorting.{HaveSorts, IsTermOf, HasInjection, IsSymbol}
 use Rattle.rule_core.specs.MatchLaws.{AreTermsOf}
-use Rattle.rule_core.specs.Matching.{StandsInSome, RespectsSorts, MatchAll}
-use Rattle.rule_core.specs.Evaluation.{HasHead, of_constructor, of_injection, built, most_height, IsTrueValue}
-use Rattle.rule_core.specs.Records.{Record, RecordList, OptionalRecord, conditional, Records, RecordAll, RecordsCondition, bound, itself, made, by_hook, by_equation, no_record, more_records, result_of, results_of}
+use Rattle.rule_core.specs.Matching.{OccursInSome, RespectsSorts, MatchAll}
+use Rattle.rule_core.specs.Evaluation.{HasHead, of_constructor, of_injection, built, most_height}
+use Rattle.rule_core.specs.Evaluation.{IsTrueValue}
+use Rattle.rule_core.specs.Records.{Record, RecordList, OptionalRecord, conditional, Records}
+use Rattle.rule_core.specs.Records.{RecordAll, RecordsCondition, bound, itself, made, by_hook}
+use Rattle.rule_core.specs.Records.{by_equation, no_record, more_records, result_of, results_of}
 use Rattle.rule_core.specs.WellSorted.{IsWellSorted, IsEquationOf, IsCondition}
 use Rattle.rule_core.specs.declared.signature.SortRef.{SortRef}
 use Rattle.rule_core.specs.declared.signature.SymInfo.{SymInfo}
-use Rattle.rule_core.proofs.EvaluationUnique.{same_head, no_head_of-variable, no_head_of-value, same_symbol}
+use Rattle.rule_core.proofs.EvaluationUnique.{same_head, no_head_of-variable, no_head_of-value}
+use Rattle.rule_core.proofs.EvaluationUnique.{same_symbol}
 use Rattle.rule_core.proofs.EvaluationAnswers.{serves_match}
 use Rattle.rule_core.proofs.Determined.{values_are_sorted, record_tells_value}
 use Rattle.prove_term.specs.Filling.{filled, in_place}
@@ -30,17 +38,22 @@ use Rattle.prove_fun.specs.Using.{IsUse}
 -- ---- results
 
 -- the result is a normal term of the pattern's sort, and not too high
-pub result_good : (program : Program) (theta : List (Option Tree)) (p : RulePattern) (r : Record) (h : IsRecorded program theta p r) → IsTermOf program.sig (result_of r) h.sort × IsNormal (result_of r) × (height (result_of r) ≤ most_height)
+pub result_good : (program : Program) (theta : List (Option Tree)) (p : RulePattern) (r : Record)
+    (h : IsRecorded program theta p r)
+    → IsTermOf program.sig (result_of r) h.sort × IsNormal (result_of r)
+    × (height (result_of r) ≤ most_height)
 result_good program theta p r h =
     let told = record_tells_value (theory_of program) theta p r h.records in
-    values_are_sorted (theory_of program) told.0 told.1 told.2 h.variables theta p h.sort (result_of r) h.ready.well_sorted h.sorted h.serves told.3
+    values_are_sorted (theory_of program) told.0 told.1 told.2 h.variables theta p h.sort
+    (result_of r) h.ready.well_sorted h.sorted h.serves told.3
 
 -- ---- calls and their parts
 
 first_same : (f g : ℕ) (ss rs : List ℕ) (ps qs : RulePatterns) → call g rs qs ≡ call f ss ps → f ≡ g
 first_same f g ss rs ps qs e = cc
 
-last_same : (f g : ℕ) (ss rs : List ℕ) (ps qs : RulePatterns) → call g rs qs ≡ call f ss ps → ps ≡ qs
+last_same : (f g : ℕ) (ss rs : List ℕ) (ps qs : RulePatterns) → call g rs qs ≡ call f ss ps
+    → ps ≡ qs
 last_same f g ss rs ps qs e = cc
 
 -- ---- variables and values
@@ -48,40 +61,58 @@ last_same f g ss rs ps qs e = cc
 same_variable : (x y : ℕ) → variable x ≡ variable y → x ≡ y
 same_variable x y e = cc
 
-pub variable_filled : (program : Program) (theta : List (Option Tree)) (x : ℕ) (r : Record) → Records (theory_of program) theta (variable x) r → filled theta (variable x) ≡ ground_pattern (result_of r)
-variable_filled program theta x (bound y t) (is, there) = ap (in_place x) (ap (binding theta) (same_variable x y is) ∙ there)
+pub variable_filled : (program : Program) (theta : List (Option Tree)) (x : ℕ) (r : Record)
+    → Records (theory_of program) theta (variable x) r
+    → filled theta (variable x) ≡ ground_pattern (result_of r)
+variable_filled program theta x (bound y t) (is, there) =
+    ap (in_place x) (ap (binding theta) (same_variable x y is) ∙ there)
 variable_filled program theta x (itself t) (s, v, is, value) = absurd (let no : ⊥ = cc in no)
 variable_filled program theta x (made rs t) w = absurd (no_head_of-variable w.2)
 variable_filled program theta x (by_hook rs t) w = absurd (let e = w.7 in let no : ⊥ = cc in no)
-variable_filled program theta x (by_equation rs i sigma condition body) w = absurd (let e = w.5 in let no : ⊥ = cc in no)
+variable_filled program theta x (by_equation rs i sigma condition body) w =
+    absurd (let e = w.5 in let no : ⊥ = cc in no)
 
 same_value : (s t : ℕ) (v w : DomainValue) → domain_value s v ≡ domain_value t w → (s ≡ t) × (v ≡ w)
 same_value s t v w e = (cc, cc)
 
-pub value_filled : (program : Program) (theta : List (Option Tree)) (s : ℕ) (v : DomainValue) (r : Record) → Records (theory_of program) theta (domain_value s v) r → filled theta (domain_value s v) ≡ ground_pattern (result_of r)
+pub value_filled : (program : Program) (theta : List (Option Tree)) (s : ℕ) (v : DomainValue)
+    (r : Record) → Records (theory_of program) theta (domain_value s v) r
+    → filled theta (domain_value s v) ≡ ground_pattern (result_of r)
 value_filled program theta s v (bound y t) (is, there) = absurd (let no : ⊥ = cc in no)
 value_filled program theta s v (itself t) (u, w, is, value) = is ∙ ap ground_pattern (sym value)
 value_filled program theta s v (made rs t) w = absurd (no_head_of-value w.2)
 value_filled program theta s v (by_hook rs t) w = absurd (let e = w.7 in let no : ⊥ = cc in no)
-value_filled program theta s v (by_equation rs i sigma condition body) w = absurd (let e = w.5 in let no : ⊥ = cc in no)
+value_filled program theta s v (by_equation rs i sigma condition body) w =
+    absurd (let e = w.5 in let no : ⊥ = cc in no)
 
 -- ---- constructors
 
 made_of : (t u : Tree) → Some t ≡ Some u → u ≡ t
 made_of t u e = cc
 
-application_made : (program : Program) (theta : List (Option Tree)) (f : ℕ) (ps : RulePatterns) (r : Record) → Records (theory_of program) theta (application f ps) r → (result_of r ≡ node f (results_of (children_of r))) × RecordAll (theory_of program) theta ps (children_of r)
+application_made : (program : Program) (theta : List (Option Tree)) (f : ℕ) (ps : RulePatterns)
+    (r : Record) → Records (theory_of program) theta (application f ps) r
+    → (result_of r ≡ node f (results_of (children_of r)))
+    × RecordAll (theory_of program) theta ps (children_of r)
 application_made program theta f ps (bound y t) (is, there) = absurd (let no : ⊥ = cc in no)
 application_made program theta f ps (itself t) (u, w, is, value) = absurd (let no : ⊥ = cc in no)
 application_made program theta f ps (made rs t) (g, qs, head, is, low, all) =
-    let same : (g ≡ f) × (qs ≡ ps) = same_head head of_constructor in
-    (made_of (node f (results_of rs)) t is, subst (λ (xs : RulePatterns). RecordAll (theory_of program) theta xs rs) same.1 all)
+    let same : (g ≡ f) × (qs ≡ ps) = same_head head of_constructor in (
+      made_of (node f (results_of rs)) t is,
+      subst (λ (xs : RulePatterns). RecordAll (theory_of program) theta xs rs) same.1 all,
+    )
 application_made program theta f ps (by_hook rs t) w = absurd (let e = w.7 in let no : ⊥ = cc in no)
-application_made program theta f ps (by_equation rs i sigma condition body) w = absurd (let e = w.5 in let no : ⊥ = cc in no)
+application_made program theta f ps (by_equation rs i sigma condition body) w =
+    absurd (let e = w.5 in let no : ⊥ = cc in no)
 
-pub constructor_recorded : (program : Program) (theta : List (Option Tree)) (f : ℕ) (ps : RulePatterns) (r : Record) → IsRecorded program theta (application f ps) r → (result_of r ≡ node f (results_of (children_of r))) × AreRecorded program theta ps (children_of r)
+pub constructor_recorded : (program : Program) (theta : List (Option Tree)) (f : ℕ)
+    (ps : RulePatterns) (r : Record) → IsRecorded program theta (application f ps) r
+    → (result_of r ≡ node f (results_of (children_of r)))
+    × AreRecorded program theta ps (children_of r)
 constructor_recorded program theta f ps r h =
-    let m : (result_of r ≡ node f (results_of (children_of r))) × RecordAll (theory_of program) theta ps (children_of r) = application_made program theta f ps r h.records in (
+    let m : (result_of r ≡ node f (results_of (children_of r))) × RecordAll (theory_of program)
+    theta ps (children_of r) =
+    application_made program theta f ps r h.records in (
       m.0,
       record {
         ready = h.ready;
@@ -98,7 +129,8 @@ constructor_recorded program theta f ps r h =
 -- ---- injections
 
 -- the record of the injected pattern
-pub record IsInjection (program : Program) (theta : List (Option Tree)) (a b : ℕ) (p : RulePattern) (r : Record) : Type 0 where
+pub record IsInjection (program : Program) (theta : List (Option Tree)) (a b : ℕ) (p : RulePattern)
+    (r : Record) : Type 0 where
   pub below : Record
   pub only : children r ≡ below ∷ []
   pub makes : result_of r ≡ injected a b (result_of below)
@@ -107,7 +139,9 @@ pub record IsInjection (program : Program) (theta : List (Option Tree)) (a b : �
   pub injects : HasInjection program.sig × IsBelow program.sig.subsorts a b
   pub low : height (injected a b (result_of below)) ≤ most_height
 
-only_record : (program : Program) (theta : List (Option Tree)) (p : RulePattern) (rs : RecordList) → RecordAll (theory_of program) theta (more_patterns p no_pattern) rs → (q : Record) × (rs ≡ more_records q no_record) × Records (theory_of program) theta p q
+only_record : (program : Program) (theta : List (Option Tree)) (p : RulePattern) (rs : RecordList)
+    → RecordAll (theory_of program) theta (more_patterns p no_pattern) rs
+    → (q : Record) × (rs ≡ more_records q no_record) × Records (theory_of program) theta p q
 only_record program theta p no_record h = absurd (let no : ⊥ = cc in no)
 only_record program theta p (more_records q no_record) (x, xs, is, one, rest) =
     let same : p ≡ x = cc in
@@ -116,30 +150,45 @@ only_record program theta p (more_records q (more_records s rs)) w =
     let none : w.1 ≡ no_pattern = rest_none p w.0 w.1 w.2 in
     absurd (more_than_none w.4.0 w.4.1 (sym none ∙ w.4.2))
   where
-    rest_none : (p x : RulePattern) (xs : RulePatterns) → more_patterns p no_pattern ≡ more_patterns x xs → xs ≡ no_pattern
+    rest_none : (p x : RulePattern) (xs : RulePatterns)
+        → more_patterns p no_pattern ≡ more_patterns x xs → xs ≡ no_pattern
     rest_none p x xs e = cc
 
     more_than_none : (y : RulePattern) (ys : RulePatterns) → no_pattern ≡ more_patterns y ys → ⊥
     more_than_none y ys e = let no : ⊥ = cc in no
 
-injection_made : (program : Program) (theta : List (Option Tree)) (a b : ℕ) (p : RulePattern) (r : Record) → Records (theory_of program) theta (injection a b p) r
-    → (q : Record) × (children_of r ≡ more_records q no_record) × (result_of r ≡ injected a b (result_of q)) × Records (theory_of program) theta p q × (height (result_of r) ≤ most_height)
+injection_made : (program : Program) (theta : List (Option Tree)) (a b : ℕ) (p : RulePattern)
+    (r : Record) → Records (theory_of program) theta (injection a b p) r
+    → (q : Record) × (children_of r ≡ more_records q no_record)
+    × (result_of r ≡ injected a b (result_of q)) × Records (theory_of program) theta p q
+    × (height (result_of r) ≤ most_height)
 injection_made program theta a b p (bound y t) (is, there) = absurd (let no : ⊥ = cc in no)
 injection_made program theta a b p (itself t) (u, w, is, value) = absurd (let no : ⊥ = cc in no)
 injection_made program theta a b p (made rs t) (g, qs, head, is, low, all) = go (head_is g qs head)
   where
-    head_is : (g : ℕ) (qs : RulePatterns) → HasHead (theory_of program) (injection a b p) g qs → qs ≡ more_patterns p no_pattern
+    head_is : (g : ℕ) (qs : RulePatterns) → HasHead (theory_of program) (injection a b p) g qs
+        → qs ≡ more_patterns p no_pattern
     head_is g qs (of_injection i) = refl
 
-    go : qs ≡ more_patterns p no_pattern → (q : Record) × (rs ≡ more_records q no_record) × (t ≡ injected a b (result_of q)) × Records (theory_of program) theta p q × (height t ≤ most_height)
+    go : qs ≡ more_patterns p no_pattern
+        → (q : Record) × (rs ≡ more_records q no_record) × (t ≡ injected a b (result_of q))
+        × Records (theory_of program) theta p q × (height t ≤ most_height)
     go same =
-        let one : (q : Record) × (rs ≡ more_records q no_record) × Records (theory_of program) theta p q = only_record program theta p rs (subst (λ (xs : RulePatterns). RecordAll (theory_of program) theta xs rs) same all) in
-        let made' : built (injection a b p) (results_of (more_records one.0 no_record)) ≡ Some t = subst (λ (xs : RecordList). built (injection a b p) (results_of xs) ≡ Some t) one.1 is in
+        let one : (q : Record) × (rs ≡ more_records q no_record) × Records (theory_of program) theta
+        p q =
+        only_record program theta p rs (subst
+        (λ (xs : RulePatterns). RecordAll (theory_of program) theta xs rs) same all) in
+        let made' : built (injection a b p) (results_of (more_records one.0 no_record)) ≡ Some t =
+        subst (λ (xs : RecordList). built (injection a b p) (results_of xs) ≡ Some t) one.1
+        is in
         (one.0, one.1, made_of (injected a b (result_of one.0)) t made', one.2, low)
 injection_made program theta a b p (by_hook rs t) w = absurd (let e = w.7 in let no : ⊥ = cc in no)
-injection_made program theta a b p (by_equation rs i sigma condition body) w = absurd (let e = w.5 in let no : ⊥ = cc in no)
+injection_made program theta a b p (by_equation rs i sigma condition body) w =
+    absurd (let e = w.5 in let no : ⊥ = cc in no)
 
-pub injection_recorded : (program : Program) (theta : List (Option Tree)) (a b : ℕ) (p : RulePattern) (r : Record) → IsRecorded program theta (injection a b p) r → IsInjection program theta a b p r
+pub injection_recorded : (program : Program) (theta : List (Option Tree)) (a b : ℕ)
+    (p : RulePattern) (r : Record) → IsRecorded program theta (injection a b p) r
+    → IsInjection program theta a b p r
 injection_recorded program theta a b p r h =
     let m = injection_made program theta a b p r h.records in
     let inner : IsRecorded program theta p m.0 = record {
@@ -162,13 +211,17 @@ injection_recorded program theta a b p r h =
 
 -- ---- arguments
 
-pub as_many_records : (program : Program) (theta : List (Option Tree)) (args : List RulePat) (rs : RecordList) → RecordAll (theory_of program) theta (plain_patterns args) rs → length (listed rs) ≡ length args
+pub as_many_records : (program : Program) (theta : List (Option Tree)) (args : List RulePat)
+    (rs : RecordList) → RecordAll (theory_of program) theta (plain_patterns args) rs
+    → length (listed rs) ≡ length args
 as_many_records program theta [] no_record h = refl
 as_many_records program theta (a ∷ args) no_record h = absurd (let no : ⊥ = cc in no)
-as_many_records program theta [] (more_records r rs) (p, ps, is, one, rest) = absurd (let no : ⊥ = cc in no)
+as_many_records program theta [] (more_records r rs) (p, ps, is, one, rest) =
+    absurd (let no : ⊥ = cc in no)
 as_many_records program theta (a ∷ args) (more_records r rs) (p, ps, is, one, rest) =
     let same : plain_patterns args ≡ ps = cc in
-    ap suc (as_many_records program theta args rs (subst (λ (xs : RulePatterns). RecordAll (theory_of program) theta xs rs) (sym same) rest))
+    ap suc (as_many_records program theta args rs
+    (subst (λ (xs : RulePatterns). RecordAll (theory_of program) theta xs rs) (sym same) rest))
 
 same_record : (q r : Record) → Some q ≡ Some r → q ≡ r
 same_record q r e = cc
@@ -176,20 +229,42 @@ same_record q r e = cc
 no_item : {A : Type 0} (r : Record) → None ≡ Some r → A
 no_item r e = absurd (let no : ⊥ = cc in no)
 
-others_recorded : (program : Program) (theta : List (Option Tree)) (a : RulePat) (args : List RulePat) (r : Record) (rs : RecordList) → RecordAll (theory_of program) theta (plain_patterns (a ∷ args)) (more_records r rs) → Records (theory_of program) theta (plain_pattern a) r × RecordAll (theory_of program) theta (plain_patterns args) rs
+others_recorded : (program : Program) (theta : List (Option Tree)) (a : RulePat)
+    (args : List RulePat) (r : Record) (rs : RecordList)
+    → RecordAll (theory_of program) theta (plain_patterns (a ∷ args)) (more_records r rs)
+    → Records (theory_of program) theta (plain_pattern a) r
+    × RecordAll (theory_of program) theta (plain_patterns args) rs
 others_recorded program theta a args r rs (p, ps, is, one, rest) =
     let first : plain_pattern a ≡ p = cc in
-    let others : plain_patterns args ≡ ps = cc in
-    (subst (λ (x : RulePattern). Records (theory_of program) theta x r) (sym first) one, subst (λ (xs : RulePatterns). RecordAll (theory_of program) theta xs rs) (sym others) rest)
+    let others : plain_patterns args ≡ ps = cc in (
+      subst (λ (x : RulePattern). Records (theory_of program) theta x r) (sym first) one,
+      subst (λ (xs : RulePatterns). RecordAll (theory_of program) theta xs rs) (sym others) rest,
+    )
 
-item_recorded : (program : Program) (variables : List ℕ) (theta : List (Option Tree)) (args : List RulePat) (refs : List SortRef) (rs : RecordList) (i : ℕ) (p : RulePat) (r : Record) → IsReady program → i < length args → p ≡ get_or args i p → slice_get (listed rs) i ≡ Some r
-    → HaveSorts program.sig variables [] (plain_patterns args) refs → ((x : ℕ) → StandsInSome x (plain_patterns args) → IsSome (binding theta x)) → RespectsSorts program.sig variables theta → ((x : ℕ) (t : Tree) → binding theta x ≡ Some t → height t ≤ most_height)
-    → RecordAll (theory_of program) theta (plain_patterns args) rs → IsRecorded program theta (plain_pattern p) r
-item_recorded program variables theta [] refs rs i p r ok low at there sorted stand respects lows all = absurd (omega (arith, low))
-item_recorded program variables theta (a ∷ args) [] rs i p r ok low at there sorted stand respects lows all = absurd sorted
-item_recorded program variables theta (a ∷ args) (of ∷ refs) no_record i p r ok low at there sorted stand respects lows all = no_item r there
-item_recorded program variables theta (a ∷ args) (of ∷ refs) (more_records q rs) zero p r ok low at there sorted stand respects lows all =
-    let first : Records (theory_of program) theta (plain_pattern a) q × RecordAll (theory_of program) theta (plain_patterns args) rs = others_recorded program theta a args q rs all in
+item_recorded : (program : Program) (variables : List ℕ) (theta : List (Option Tree))
+    (args : List RulePat) (refs : List SortRef) (rs : RecordList) (i : ℕ) (p : RulePat)
+    (r : Record) → IsReady program → i < length args → p ≡ get_or args i p
+    → slice_get (listed rs) i ≡ Some r
+    → HaveSorts program.sig variables [] (plain_patterns args) refs
+    → ((x : ℕ) → OccursInSome x (plain_patterns args) → IsSome (binding theta x))
+    → RespectsSorts program.sig variables theta
+    → ((x : ℕ) (t : Tree) → binding theta x ≡ Some t → height t ≤ most_height)
+    → RecordAll (theory_of program) theta (plain_patterns args) rs
+    → IsRecorded program theta (plain_pattern p) r
+item_recorded program variables theta [] refs rs i p r ok low at there sorted stand respects lows
+    all =
+    absurd (omega (arith, low))
+item_recorded program variables theta (a ∷ args) [] rs i p r ok low at there sorted stand respects
+    lows all =
+    absurd sorted
+item_recorded program variables theta (a ∷ args) (of ∷ refs) no_record i p r ok low at there sorted
+    stand respects lows all =
+    no_item r there
+item_recorded program variables theta (a ∷ args) (of ∷ refs) (more_records q rs) zero p r ok low at
+    there sorted stand respects lows all =
+    let first : Records (theory_of program) theta (plain_pattern a) q × RecordAll
+    (theory_of program) theta (plain_patterns args) rs =
+    others_recorded program theta a args q rs all in
     let P : RulePat → Record → Type 0 = λ x y. IsRecorded program theta (plain_pattern x) y in
     let one : IsRecorded program theta (plain_pattern a) q = record {
       ready = ok;
@@ -200,12 +275,19 @@ item_recorded program variables theta (a ∷ args) (of ∷ refs) (more_records q
       records = first.0;
     } in
     subst (λ (x : RulePat). P x r) (sym at) (subst (P a) (same_record q r there) one)
-item_recorded program variables theta (a ∷ args) (of ∷ refs) (more_records q rs) (suc i) p r ok low at there sorted stand respects lows all =
-    item_recorded program variables theta args refs rs i p r ok (omega (arith, low)) at there sorted.3 (λ x stands. stand x (inr stands)) respects lows (others_recorded program theta a args q rs all).1
+item_recorded program variables theta (a ∷ args) (of ∷ refs) (more_records q rs) (suc i) p r ok low
+    at there sorted stand respects lows all =
+    item_recorded program variables theta args refs rs i p r ok (omega (arith, low)) at there
+    sorted.3 (λ x stands. stand x (inr stands)) respects lows
+    (others_recorded program theta a args q rs all).1
 
-pub argument_recorded : (program : Program) (theta : List (Option Tree)) (args : List RulePat) (rs : RecordList) (i : ℕ) (p : RulePat) (r : Record) → AreRecorded program theta (plain_patterns args) rs → i < length args → p ≡ get_or args i p → slice_get (listed rs) i ≡ Some r → IsRecorded program theta (plain_pattern p) r
+pub argument_recorded : (program : Program) (theta : List (Option Tree)) (args : List RulePat)
+    (rs : RecordList) (i : ℕ) (p : RulePat) (r : Record)
+    → AreRecorded program theta (plain_patterns args) rs → i < length args → p ≡ get_or args i p
+    → slice_get (listed rs) i ≡ Some r → IsRecorded program theta (plain_pattern p) r
 argument_recorded program theta args rs i p r h low at there =
-    item_recorded program h.variables theta args h.refs rs i p r h.ready low at there h.sorted h.bound h.respects h.low h.records
+    item_recorded program h.variables theta args h.refs rs i p r h.ready low at there h.sorted
+    h.bound h.respects h.low h.records
 
 -- ---- the results of arguments
 
@@ -214,17 +296,32 @@ record AreGood (program : Program) (ts : Forest) (refs : List SortRef) : Type 0 
   normal : AreNormal ts
   low : heights ts ≤ most_height
 
-go_good : (program : Program) (variables : List ℕ) (theta : List (Option Tree)) (ps : RulePatterns) (refs : List SortRef) (rs : RecordList) → IsReady program → HaveSorts program.sig variables [] ps refs
-    → ((x : ℕ) → StandsInSome x ps → IsSome (binding theta x)) → RespectsSorts program.sig variables theta → ((x : ℕ) (t : Tree) → binding theta x ≡ Some t → height t ≤ most_height) → RecordAll (theory_of program) theta ps rs → AreGood program (results_of rs) refs
-go_good program variables theta ps [] no_record ok sorted stand respects lows all = record { sorted = tt; normal = tt; low = omega arith }
+go_good : (program : Program) (variables : List ℕ) (theta : List (Option Tree)) (ps : RulePatterns)
+    (refs : List SortRef) (rs : RecordList) → IsReady program
+    → HaveSorts program.sig variables [] ps refs
+    → ((x : ℕ) → OccursInSome x ps → IsSome (binding theta x))
+    → RespectsSorts program.sig variables theta
+    → ((x : ℕ) (t : Tree) → binding theta x ≡ Some t → height t ≤ most_height)
+    → RecordAll (theory_of program) theta ps rs → AreGood program (results_of rs) refs
+go_good program variables theta ps [] no_record ok sorted stand respects lows all = record
+    { sorted = tt; normal = tt; low = omega arith }
 go_good program variables theta ps (of ∷ refs) no_record ok sorted stand respects lows all =
-    absurd (subst (λ (qs : RulePatterns). HaveSorts program.sig variables [] qs (of ∷ refs)) all sorted)
-go_good program variables theta ps [] (more_records r rs) ok sorted stand respects lows (q, qs, is, one, rest) =
+    absurd (subst (λ (qs : RulePatterns). HaveSorts program.sig variables [] qs (of ∷ refs)) all
+    sorted)
+go_good program variables theta ps [] (more_records r rs) ok sorted stand respects lows
+    (q, qs, is, one, rest) =
     absurd (subst (λ (xs : RulePatterns). HaveSorts program.sig variables [] xs []) is sorted)
-go_good program variables theta ps (of ∷ refs) (more_records r rs) ok sorted stand respects lows (q, qs, is, one, rest) =
-    let sorts : HaveSorts program.sig variables [] (more_patterns q qs) (of ∷ refs) = subst (λ (xs : RulePatterns). HaveSorts program.sig variables [] xs (of ∷ refs)) is sorted in
-    let stand' : (x : ℕ) → StandsInSome x (more_patterns q qs) → IsSome (binding theta x) = subst (λ (xs : RulePatterns). (x : ℕ) → StandsInSome x xs → IsSome (binding theta x)) is stand in
-    let good : IsTermOf program.sig (result_of r) sorts.0 × IsNormal (result_of r) × (height (result_of r) ≤ most_height) = result_good program theta q r (record {
+go_good program variables theta ps (of ∷ refs) (more_records r rs) ok sorted stand respects lows
+    (q, qs, is, one, rest) =
+    let sorts : HaveSorts program.sig variables [] (more_patterns q qs) (of ∷ refs) =
+    subst (λ (xs : RulePatterns). HaveSorts program.sig variables [] xs (of ∷ refs)) is
+    sorted in
+    let stand' : (x : ℕ) → OccursInSome x (more_patterns q qs) → IsSome (binding theta x) =
+    subst (λ (xs : RulePatterns). (x : ℕ) → OccursInSome x xs → IsSome (binding theta x)) is
+    stand in
+    let good : IsTermOf program.sig (result_of r) sorts.0 × IsNormal (result_of r) ×
+    (height (result_of r) ≤ most_height) =
+    result_good program theta q r (record {
       ready = ok;
       variables = variables;
       sort = sorts.0;
@@ -232,13 +329,24 @@ go_good program variables theta ps (of ∷ refs) (more_records r rs) ok sorted s
       serves = record { bound = λ x stands. stand' x (inl stands); sorted = respects; low = lows };
       records = one;
     }) in
-    let others : AreGood program (results_of rs) refs = go_good program variables theta qs refs rs ok sorts.3 (λ x stands. stand' x (inr stands)) respects lows rest in
-    record { sorted = (sorts.0, sorts.1, good.0, others.sorted); normal = (good.1, others.normal); low = omega (arith, good.2, others.low) }
+    let others : AreGood program (results_of rs) refs =
+    go_good program variables theta qs refs rs ok sorts.3 (λ x stands. stand' x (inr stands))
+    respects lows rest in
+    record {
+      sorted = (sorts.0, sorts.1, good.0, others.sorted);
+      normal = (good.1, others.normal);
+      low = omega (arith, good.2, others.low);
+    }
 
 -- the results are normal terms of the declared sorts, and not too high
-pub arguments_good : (program : Program) (theta : List (Option Tree)) (ps : RulePatterns) (rs : RecordList) (h : AreRecorded program theta ps rs) → AreTermsOf program.sig [] (results_of rs) h.refs × AreNormal (results_of rs) × (heights (results_of rs) ≤ most_height)
+pub arguments_good : (program : Program) (theta : List (Option Tree)) (ps : RulePatterns)
+    (rs : RecordList) (h : AreRecorded program theta ps rs)
+    → AreTermsOf program.sig [] (results_of rs) h.refs × AreNormal (results_of rs)
+    × (heights (results_of rs) ≤ most_height)
 arguments_good program theta ps rs h =
-    let g : AreGood program (results_of rs) h.refs = go_good program h.variables theta ps h.refs rs h.ready h.sorted h.bound h.respects h.low h.records in
+    let g : AreGood program (results_of rs) h.refs =
+    go_good program h.variables theta ps h.refs rs h.ready h.sorted h.bound h.respects h.low
+    h.records in
     (g.sorted, g.normal, g.low)
 
 -- ---- calls
@@ -247,34 +355,55 @@ empty_list : (xs : List ℕ) → length xs ≡ 0 → xs ≡ []
 empty_list [] e = refl
 empty_list (x ∷ xs) e = absurd (omega (arith, e))
 
-call_made : (program : Program) (theta : List (Option Tree)) (f : ℕ) (sorts : List ℕ) (ps : RulePatterns) (r : Record) → IsWellSorted (theory_of program) → Records (theory_of program) theta (call f sorts ps) r
-    → (info : SymInfo) × IsSymbol program.sig f info × (info.params ≡ 0) × RecordAll (theory_of program) theta ps (children_of r)
+call_made : (program : Program) (theta : List (Option Tree)) (f : ℕ) (sorts : List ℕ)
+    (ps : RulePatterns) (r : Record) → IsWellSorted (theory_of program)
+    → Records (theory_of program) theta (call f sorts ps) r
+    → (info : SymInfo) × IsSymbol program.sig f info × (info.params ≡ 0)
+    × RecordAll (theory_of program) theta ps (children_of r)
 call_made program theta f sorts ps (bound y t) ok (is, there) = absurd (let no : ⊥ = cc in no)
 call_made program theta f sorts ps (itself t) ok (u, w, is, value) = absurd (let no : ⊥ = cc in no)
-call_made program theta f sorts ps (made rs t) ok w = absurd (let e : None ≡ Some t = w.3 in let no : ⊥ = cc in no)
+call_made program theta f sorts ps (made rs t) ok w =
+    absurd (let e : None ≡ Some t = w.3 in let no : ⊥ = cc in no)
 call_made program theta f sorts ps (by_hook rs t) ok w =
     let same : w.0 ≡ f = first_same w.0 f w.1 sorts w.2 ps w.7 in
     let args : w.2 ≡ ps = last_same w.0 f w.1 sorts w.2 ps w.7 in
-    let there : IsSymbol program.sig f w.3 = subst (λ (n : ℕ). IsSymbol program.sig n w.3) same w.8 in
-    (w.3, there, (ok.hooked f w.4 w.3 there w.9.hooked).plain, subst (λ (xs : RulePatterns). RecordAll (theory_of program) theta xs rs) args w.12)
+    let there : IsSymbol program.sig f w.3 =
+    subst (λ (n : ℕ). IsSymbol program.sig n w.3) same w.8 in (
+      w.3,
+      there,
+      (ok.hooked f w.4 w.3 there w.9.hooked).plain,
+      subst (λ (xs : RulePatterns). RecordAll (theory_of program) theta xs rs) args w.12,
+    )
 call_made program theta f sorts ps (by_equation rs i sigma condition body) ok w =
     let same : w.0 ≡ f = first_same w.0 f w.1 sorts w.2 ps w.5 in
     let args : w.2 ≡ ps = last_same w.0 f w.1 sorts w.2 ps w.5 in
-    let there : IsSymbol program.sig f w.3 = subst (λ (n : ℕ). IsSymbol program.sig n w.3) same w.6 in
-    (w.3, there, ok.functions f w.3 there w.7, subst (λ (xs : RulePatterns). RecordAll (theory_of program) theta xs rs) args w.11)
+    let there : IsSymbol program.sig f w.3 =
+    subst (λ (n : ℕ). IsSymbol program.sig n w.3) same w.6 in (
+      w.3,
+      there,
+      ok.functions f w.3 there w.7,
+      subst (λ (xs : RulePatterns). RecordAll (theory_of program) theta xs rs) args w.11,
+    )
 
 -- a function has no sort parameters
-pub call_recorded : (program : Program) (theta : List (Option Tree)) (f : ℕ) (sorts : List ℕ) (ps : RulePatterns) (r : Record) → IsRecorded program theta (call f sorts ps) r → (sorts ≡ []) × AreRecorded program theta ps (children_of r)
+pub call_recorded : (program : Program) (theta : List (Option Tree)) (f : ℕ) (sorts : List ℕ)
+    (ps : RulePatterns) (r : Record) → IsRecorded program theta (call f sorts ps) r
+    → (sorts ≡ []) × AreRecorded program theta ps (children_of r)
 call_recorded program theta f sorts ps r h =
-    let m : (info : SymInfo) × IsSymbol program.sig f info × (info.params ≡ 0) × RecordAll (theory_of program) theta ps (children_of r) = call_made program theta f sorts ps r h.ready.well_sorted h.records in
+    let m : (info : SymInfo) × IsSymbol program.sig f info × (info.params ≡ 0) × RecordAll
+    (theory_of program) theta ps (children_of r) =
+    call_made program theta f sorts ps r h.ready.well_sorted h.records in
     let info : h.sorted.0 ≡ m.0 = same_symbol program.sig f h.sorted.0 m.0 h.sorted.1 m.1 in
-    let none : sorts ≡ [] = empty_list sorts (h.sorted.3 ∙ ap (λ (i : SymInfo). i.params) info ∙ m.2) in (
+    let none : sorts ≡ [] =
+    empty_list sorts (h.sorted.3 ∙ ap (λ (i : SymInfo). i.params) info ∙ m.2) in (
       none,
       record {
         ready = h.ready;
         variables = h.variables;
         refs = h.sorted.0.args.items;
-        sorted = subst (λ (ss : List ℕ). HaveSorts program.sig h.variables ss ps h.sorted.0.args.items) none h.sorted.6;
+        sorted =
+            subst (λ (ss : List ℕ). HaveSorts program.sig h.variables ss ps h.sorted.0.args.items)
+            none h.sorted.6;
         bound = h.serves.bound;
         respects = h.serves.sorted;
         low = h.serves.low;
@@ -283,25 +412,38 @@ call_recorded program theta f sorts ps r h =
     )
 
 -- the result of a hook
-pub hook_recorded : (program : Program) (theta : List (Option Tree)) (f : ℕ) (ps : RulePatterns) (r : Record) (rs : RecordList) (t : Tree) → r ≡ by_hook rs t → IsRecorded program theta (call f [] ps) r → IsHookCall program.sig f (results_of (children_of r)) (result_of r)
+pub hook_recorded : (program : Program) (theta : List (Option Tree)) (f : ℕ) (ps : RulePatterns)
+    (r : Record) (rs : RecordList) (t : Tree) → r ≡ by_hook rs t
+    → IsRecorded program theta (call f [] ps) r
+    → IsHookCall program.sig f (results_of (children_of r)) (result_of r)
 unfolding call_recorded
-hook_recorded program theta f ps r rs t is h = subst (λ (q : Record). IsHookCall program.sig f (results_of (children_of q)) (result_of q)) (sym is) (go (subst (IsRecorded program theta (call f [] ps)) is h))
+hook_recorded program theta f ps r rs t is h =
+    subst (λ (q : Record). IsHookCall program.sig f (results_of (children_of q)) (result_of q))
+    (sym is) (go (subst (IsRecorded program theta (call f [] ps)) is h))
   where
-    go : IsRecorded program theta (call f [] ps) (by_hook rs t) → IsHookCall program.sig f (results_of rs) t
+    go : IsRecorded program theta (call f [] ps) (by_hook rs t)
+        → IsHookCall program.sig f (results_of rs) t
     go h =
         let w = h.records in
         let same : w.0 ≡ f = first_same w.0 f w.1 [] w.2 ps w.7 in
-        let there : IsSymbol program.sig f w.3 = subst (λ (n : ℕ). IsSymbol program.sig n w.3) same w.8 in
+        let there : IsSymbol program.sig f w.3 =
+        subst (λ (n : ℕ). IsSymbol program.sig n w.3) same w.8 in
         let info : h.sorted.0 ≡ w.3 = same_symbol program.sig f h.sorted.0 w.3 h.sorted.1 there in
-        let all : AreRecorded program theta ps rs = (call_recorded program theta f [] ps (by_hook rs t) h).1 in
-        let good : AreTermsOf program.sig [] (results_of rs) h.sorted.0.args.items = (arguments_good program theta ps rs all).0 in
-        let value : IsTermOf program.sig (leaf w.6 w.5) h.sort = subst (λ (u : Tree). IsTermOf program.sig u h.sort) w.11 (result_good program theta (call f [] ps) (by_hook rs t) h).0 in
+        let all : AreRecorded program theta ps rs =
+        (call_recorded program theta f [] ps (by_hook rs t) h).1 in
+        let good : AreTermsOf program.sig [] (results_of rs) h.sorted.0.args.items =
+        (arguments_good program theta ps rs all).0 in
+        let value : IsTermOf program.sig (leaf w.6 w.5) h.sort =
+        subst (λ (u : Tree). IsTermOf program.sig u h.sort) w.11
+        (result_good program theta (call f [] ps) (by_hook rs t) h).0 in
         record {
           info = w.3;
           there = there;
           row = w.4;
           fits = h.ready.well_sorted.hooked f w.4 w.3 there w.9.hooked;
-          sorted = subst (λ (i : SymInfo). AreTermsOf program.sig [] (results_of rs) i.args.items) info good;
+          sorted =
+              subst (λ (i : SymInfo). AreTermsOf program.sig [] (results_of rs) i.args.items) info
+              good;
           value = w.5;
           answers = w.9;
           sort = w.6;
@@ -310,33 +452,50 @@ hook_recorded program theta f ps r rs t is h = subst (λ (q : Record). IsHookCal
           result = w.11;
         }
 
-pub bound_no_call : (program : Program) (theta : List (Option Tree)) (f : ℕ) (ps : RulePatterns) (r : Record) (x : ℕ) (t : Tree) → r ≡ bound x t → IsRecorded program theta (call f [] ps) r → ⊥
-bound_no_call program theta f ps r x t is h = go (subst (Records (theory_of program) theta (call f [] ps)) is h.records)
+pub bound_no_call : (program : Program) (theta : List (Option Tree)) (f : ℕ) (ps : RulePatterns)
+    (r : Record) (x : ℕ) (t : Tree) → r ≡ bound x t → IsRecorded program theta (call f [] ps) r
+    → ⊥
+bound_no_call program theta f ps r x t is h =
+    go (subst (Records (theory_of program) theta (call f [] ps)) is h.records)
   where
     go : Records (theory_of program) theta (call f [] ps) (bound x t) → ⊥
     go w = let e : call f [] ps ≡ variable x = w.0 in let no : ⊥ = cc in no
 
-pub itself_no_call : (program : Program) (theta : List (Option Tree)) (f : ℕ) (ps : RulePatterns) (r : Record) (t : Tree) → r ≡ itself t → IsRecorded program theta (call f [] ps) r → ⊥
-itself_no_call program theta f ps r t is h = go (subst (Records (theory_of program) theta (call f [] ps)) is h.records)
+pub itself_no_call : (program : Program) (theta : List (Option Tree)) (f : ℕ) (ps : RulePatterns)
+    (r : Record) (t : Tree) → r ≡ itself t → IsRecorded program theta (call f [] ps) r → ⊥
+itself_no_call program theta f ps r t is h =
+    go (subst (Records (theory_of program) theta (call f [] ps)) is h.records)
   where
     go : Records (theory_of program) theta (call f [] ps) (itself t) → ⊥
     go w = let e : call f [] ps ≡ domain_value w.0 w.1 = w.2 in let no : ⊥ = cc in no
 
-pub made_no_call : (program : Program) (theta : List (Option Tree)) (f : ℕ) (ps : RulePatterns) (r : Record) (rs : RecordList) (t : Tree) → r ≡ made rs t → IsRecorded program theta (call f [] ps) r → ⊥
-made_no_call program theta f ps r rs t is h = go (subst (Records (theory_of program) theta (call f [] ps)) is h.records)
+pub made_no_call : (program : Program) (theta : List (Option Tree)) (f : ℕ) (ps : RulePatterns)
+    (r : Record) (rs : RecordList) (t : Tree) → r ≡ made rs t
+    → IsRecorded program theta (call f [] ps) r → ⊥
+made_no_call program theta f ps r rs t is h =
+    go (subst (Records (theory_of program) theta (call f [] ps)) is h.records)
   where
     go : Records (theory_of program) theta (call f [] ps) (made rs t) → ⊥
     go w = let e : None ≡ Some t = w.3 in let no : ⊥ = cc in no
 
 -- ---- the use of an equation
 
-pub all_at : {X : Type 0} (P : X → Type 0) (xs : List X) (i : ℕ) (x : X) → All P xs → slice_get xs i ≡ Some x → P x
-all_at P xs i x each there = subst P (get_or_from_slice_get xs i x x there) (each i x (slice_get_within xs i x there))
+pub all_at : {X : Type 0} (P : X → Type 0) (xs : List X) (i : ℕ) (x : X) → All P xs
+    → slice_get xs i ≡ Some x → P x
+all_at P xs i x each there =
+    subst P (get_or_from_slice_get xs i x x there) (each i x (slice_get_within xs i x there))
 
-pub held_record : (program : Program) (sigma : List (Option Tree)) (variables : List ℕ) (ps : RulePatterns) (ts : Forest) (p : RulePattern) (q : Record) (c : Option RulePattern) (o : OptionalRecord) → IsReady program → IsCondition program.sig variables ps p
-    → MatchAll program.sig variables ps ts sigma → heights ts ≤ most_height → c ≡ Some p → o ≡ conditional q → RecordsCondition (theory_of program) sigma c o → (h : IsRecorded program sigma p q) × (h.variables ≡ variables) × IsTrueValue (result_of q)
+pub held_record : (program : Program) (sigma : List (Option Tree)) (variables : List ℕ)
+    (ps : RulePatterns) (ts : Forest) (p : RulePattern) (q : Record) (c : Option RulePattern)
+    (o : OptionalRecord) → IsReady program → IsCondition program.sig variables ps p
+    → MatchAll program.sig variables ps ts sigma → heights ts ≤ most_height → c ≡ Some p
+    → o ≡ conditional q → RecordsCondition (theory_of program) sigma c o
+    → (h : IsRecorded program sigma p q) × (h.variables ≡ variables) × IsTrueValue (result_of q)
 held_record program sigma variables ps ts p q c o ready has matches low is_c is_o held =
-    let w : RecordsCondition (theory_of program) sigma (Some p) (conditional q) = subst (λ (x : Option RulePattern). RecordsCondition (theory_of program) sigma x (conditional q)) is_c (subst (RecordsCondition (theory_of program) sigma c) is_o held) in
+    let w : RecordsCondition (theory_of program) sigma (Some p) (conditional q) =
+    subst (λ (x : Option RulePattern).
+    RecordsCondition (theory_of program) sigma x (conditional q)) is_c
+    (subst (RecordsCondition (theory_of program) sigma c) is_o held) in
     let same : p ≡ w.0 = some_pattern p w.0 w.1 in (
       record {
         ready = ready;
@@ -353,20 +512,33 @@ held_record program sigma variables ps ts p q c o ready has matches low is_c is_
     some_pattern : (p q : RulePattern) → Some p ≡ Some q → p ≡ q
     some_pattern p q e = cc
 
-pub equation_recorded : (program : Program) (theta : List (Option Tree)) (f : ℕ) (ps : RulePatterns) (r : Record) (rs : RecordList) (i : ℕ) (sigma : List (Option Tree)) (condition : OptionalRecord) (body : Record) → r ≡ by_equation rs i sigma condition body → IsRecorded program theta (call f [] ps) r
+pub equation_recorded : (program : Program) (theta : List (Option Tree)) (f : ℕ) (ps : RulePatterns)
+    (r : Record) (rs : RecordList) (i : ℕ) (sigma : List (Option Tree))
+    (condition : OptionalRecord) (body : Record) → r ≡ by_equation rs i sigma condition body
+    → IsRecorded program theta (call f [] ps) r
     → IsUse program f (children_of r) i sigma condition body
 unfolding call_recorded
-equation_recorded program theta f ps r rs i sigma condition body is h = subst (λ (q : Record). IsUse program f (children_of q) i sigma condition body) (sym is) (go (subst (IsRecorded program theta (call f [] ps)) is h))
+equation_recorded program theta f ps r rs i sigma condition body is h =
+    subst (λ (q : Record). IsUse program f (children_of q) i sigma condition body) (sym is)
+    (go (subst (IsRecorded program theta (call f [] ps)) is h))
   where
-    go : IsRecorded program theta (call f [] ps) (by_equation rs i sigma condition body) → IsUse program f rs i sigma condition body
+    go : IsRecorded program theta (call f [] ps) (by_equation rs i sigma condition body)
+        → IsUse program f rs i sigma condition body
     go h =
         let w = h.records in
         let same : w.0 ≡ f = first_same w.0 f w.1 [] w.2 ps w.5 in
-        let function : IsSymbol program.sig f w.3 = subst (λ (n : ℕ). IsSymbol program.sig n w.3) same w.6 in
-        let there : slice_get (equations_of (theory_of program) f) i ≡ Some w.4 = subst (λ (n : ℕ). slice_get (equations_of (theory_of program) n) i ≡ Some w.4) same w.8 in
-        let fits : IsEquationOf program.sig w.3 w.4 = all_at (IsEquationOf program.sig w.3) (equations_of (theory_of program) f) i w.4 (h.ready.well_sorted.equations f w.3 function) there in
-        let all : AreRecorded program theta ps rs = (call_recorded program theta f [] ps (by_equation rs i sigma condition body) h).1 in
-        let low : heights (results_of rs) ≤ most_height = (arguments_good program theta ps rs all).2 in
+        let function : IsSymbol program.sig f w.3 =
+        subst (λ (n : ℕ). IsSymbol program.sig n w.3) same w.6 in
+        let there : slice_get (equations_of (theory_of program) f) i ≡ Some w.4 =
+        subst (λ (n : ℕ). slice_get (equations_of (theory_of program) n) i ≡ Some w.4) same
+        w.8 in
+        let fits : IsEquationOf program.sig w.3 w.4 =
+        all_at (IsEquationOf program.sig w.3) (equations_of (theory_of program) f) i w.4
+        (h.ready.well_sorted.equations f w.3 function) there in
+        let all : AreRecorded program theta ps rs =
+        (call_recorded program theta f [] ps (by_equation rs i sigma condition body) h).1 in
+        let low : heights (results_of rs) ≤ most_height =
+        (arguments_good program theta ps rs all).2 in
         record {
           info = w.3;
           function = function;
@@ -376,14 +548,20 @@ equation_recorded program theta f ps r rs i sigma condition body is h = subst (�
           matches = w.9;
           condition_held = w.12;
           conditional = λ p q o e.
-              let has : IsCondition program.sig w.4.variables w.4.arguments p = subst (λ (x : Option RulePattern). IfSome x (IsCondition program.sig w.4.variables w.4.arguments)) o fits.condition in
-              held_record program sigma w.4.variables w.4.arguments (results_of rs) p q w.4.condition condition h.ready has w.9 low o e w.12;
+              let has : IsCondition program.sig w.4.variables w.4.arguments p =
+              subst (λ (x : Option RulePattern).
+              IfSome x (IsCondition program.sig w.4.variables w.4.arguments)) o
+              fits.condition in
+              held_record program sigma w.4.variables w.4.arguments (results_of rs) p q
+              w.4.condition condition h.ready has w.9 low o e w.12;
           right = record {
             ready = h.ready;
             variables = w.4.variables;
             sort = fits.sort;
             sorted = fits.right;
-            serves = serves_match program.sig w.4.variables w.4.arguments (results_of rs) sigma w.4.right w.9 low fits.bound;
+            serves =
+                serves_match program.sig w.4.variables w.4.arguments (results_of rs) sigma w.4.right
+                w.9 low fits.bound;
             records = w.13;
           };
         }

@@ -1,7 +1,10 @@
 -- The size of a record is greater than the sizes of its parts.
-use Rattle.std.proofs.Common.{◌≡◌, ◌<◌, ◌≤◌, ◌+◌, ℕ, zero, suc, List, Option, Some, slice_get, sym, subst, arith}
+use Rattle.std.proofs.Common.{◌≡◌, ◌<◌, ◌≤◌, ◌+◌, ℕ, zero, suc, List, Option, Some, slice_get, sym}
+use Rattle.std.proofs.Common.{subst, arith}
 use Rattle.term_core.specs.Terms.{Tree}
-use Rattle.rule_core.specs.Records.{Record, RecordList, OptionalRecord, bound, itself, made, by_hook, by_equation, no_record, more_records, unconditional, conditional}
+use Rattle.rule_core.specs.Records.{Record, RecordList, OptionalRecord, bound, itself, made}
+use Rattle.rule_core.specs.Records.{by_hook, by_equation, no_record, more_records, unconditional}
+use Rattle.rule_core.specs.Records.{conditional}
 use Rattle.prove_fun.specs.RecordParts.{children, children_of, listed}
 
 abbrev mutual
@@ -20,7 +23,8 @@ abbrev mutual
   size_if unconditional = 0
   size_if (conditional r) = size r
 
-item_size : (rs : RecordList) (i : ℕ) (q : Record) → slice_get (listed rs) i ≡ Some q → size q ≤ sizes rs
+item_size : (rs : RecordList) (i : ℕ) (q : Record) → slice_get (listed rs) i ≡ Some q
+    → size q ≤ sizes rs
 item_size no_record i q there = absurd (let no : ⊥ = cc in no)
 item_size (more_records r rs) zero q there =
     let same : r ≡ q = first r q there in
@@ -37,7 +41,8 @@ children_size (made rs t) = omega arith
 children_size (by_hook rs t) = omega arith
 children_size (by_equation rs i theta condition body) = omega arith
 
-pub child_size : (r : Record) (i : ℕ) (q : Record) → slice_get (children r) i ≡ Some q → size q < size r
+pub child_size : (r : Record) (i : ℕ) (q : Record) → slice_get (children r) i ≡ Some q
+    → size q < size r
 child_size r i q there = omega (arith, item_size (children_of r) i q there, children_size r)
 
 -- no record has size zero
@@ -48,5 +53,8 @@ some_size (made rs t) = omega arith
 some_size (by_hook rs t) = omega arith
 some_size (by_equation rs i theta condition body) = omega arith
 
-pub equation_size : (r : Record) (rs : RecordList) (i : ℕ) (theta : List (Option Tree)) (condition : OptionalRecord) (body : Record) → r ≡ by_equation rs i theta condition body → size_if condition + (size body + 1) ≤ size r
-equation_size r rs i theta condition body is = subst (λ (q : Record). size_if condition + (size body + 1) ≤ size q) (sym is) (omega arith)
+pub equation_size : (r : Record) (rs : RecordList) (i : ℕ) (theta : List (Option Tree))
+    (condition : OptionalRecord) (body : Record) → r ≡ by_equation rs i theta condition body
+    → size_if condition + (size body + 1) ≤ size r
+equation_size r rs i theta condition body is =
+    subst (λ (q : Record). size_if condition + (size body + 1) ≤ size q) (sym is) (omega arith)

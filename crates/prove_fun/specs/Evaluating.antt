@@ -2,7 +2,8 @@
 -- image of its value.
 use Rattle.std.specs.Prelude.{◌≡◌, ◌≤◌, ℕ, List, [], Option, Some, None, IsSome}
 use Rattle.term_core.specs.Terms.{Tree, Forest, DomainValue, leaf, height, injected}
-use Rattle.term_core.specs.Patterns.{Pattern as RulePattern, Patterns as RulePatterns, injection, call, binding}
+use Rattle.term_core.specs.Patterns.{Pattern as RulePattern, Patterns as RulePatterns, injection}
+use Rattle.term_core.specs.Patterns.{call, binding}
 use Rattle.term_core.specs.Patterns.{ground_pattern, ground_patterns}
 use Rattle.ml_pat.specs.Patterns.{Pattern, equal}
 use Rattle.ml_kernel.specs.Lemmas.{HasNoVariable}
@@ -12,9 +13,9 @@ use Rattle.rule_core.specs.declared.rules.Program.{Program}
 use Rattle.rule_core.specs.Sorting.{HasSort, HaveSorts, HasValue, IsSymbol, sort_at}
 use Rattle.rule_core.specs.MatchLaws.{AreTermsOf}
 use Rattle.rule_core.specs.HookCalls.{HookAnswers}
-use Rattle.rule_core.specs.WellSorted.{FitsHook, IsWellSorted, Serves}
+use Rattle.rule_core.specs.WellSorted.{FitsHook, IsWellSorted, BindsVariablesOf}
 use Rattle.rule_core.specs.BoundVariables.{HasBoundVariables}
-use Rattle.rule_core.specs.Matching.{StandsInSome, RespectsSorts}
+use Rattle.rule_core.specs.Matching.{OccursInSome, RespectsSorts}
 use Rattle.rule_core.specs.Evaluation.{most_height}
 use Rattle.rule_core.specs.Records.{Record, RecordList, Records, RecordAll}
 use Rattle.rule_core.specs.declared.signature.Signature.{Signature}
@@ -31,21 +32,23 @@ pub record IsReady (program : Program) : Type 0 where
 
 -- The record is right for the evaluation of a pattern that has a sort, under a substitution that
 -- serves the pattern.
-pub record IsRecorded (program : Program) (theta : List (Option Tree)) (p : RulePattern) (r : Record) : Type 0 where
+pub record IsRecorded (program : Program) (theta : List (Option Tree)) (p : RulePattern)
+    (r : Record) : Type 0 where
   pub ready : IsReady program
   pub variables : List ℕ
   pub sort : ℕ
   pub sorted : HasSort program.sig variables p sort
-  pub serves : Serves program.sig variables theta p
+  pub serves : BindsVariablesOf program.sig variables theta p
   pub records : Records (theory_of program) theta p r
 
-pub record AreRecorded (program : Program) (theta : List (Option Tree)) (ps : RulePatterns) (rs : RecordList)
+pub record AreRecorded (program : Program) (theta : List (Option Tree)) (ps : RulePatterns)
+    (rs : RecordList)
     : Type 0 where
   pub ready : IsReady program
   pub variables : List ℕ
   pub refs : List SortRef
   pub sorted : HaveSorts program.sig variables [] ps refs
-  pub bound : (x : ℕ) → StandsInSome x ps → IsSome (binding theta x)
+  pub bound : (x : ℕ) → OccursInSome x ps → IsSome (binding theta x)
   pub respects : RespectsSorts program.sig variables theta
   pub low : (x : ℕ) (t : Tree) → binding theta x ≡ Some t → height t ≤ most_height
   pub records : RecordAll (theory_of program) theta ps rs
@@ -65,14 +68,16 @@ Equates cx a b None = a ≡ b
 Equates cx a b (Some t) = SaysEqual cx a b t
 
 -- the image of p and the given pattern are the same, or the theorem says that they are equal
-pub record HasEqual (cx : Context) (p : RulePattern) (image : Pattern) (o : Option Theorem) : Type 0 where
+pub record HasEqual (cx : Context) (p : RulePattern) (image : Pattern) (o : Option Theorem) :
+    Type 0 where
   pub left : Pattern
   pub left_image : IsImage cx p left
   pub closed : HasNoVariable left
   pub equates : Equates cx left image o
 
 -- the same for the image of p with its variables replaced by the terms of a substitution
-abbrev pub IsEvaluated : Context → List (Option Tree) → RulePattern → Pattern → Option Theorem → Type 0
+abbrev pub IsEvaluated : Context → List (Option Tree) → RulePattern → Pattern → Option Theorem
+    → Type 0
 IsEvaluated cx theta p image o = HasEqual cx (filled theta p) image o
 
 -- the same for the image of an injection of a term and the image of the normal form of that
@@ -83,7 +88,8 @@ IsInjectedOnce cx a b t o =
     HasEqual cx (injection a b (ground_pattern t)) image o
 
 -- the same for a head that is applied to the images of such patterns
-pub record AreEvaluated (cx : Context) (theta : List (Option Tree)) (ps : RulePatterns) (head whole : Pattern)
+pub record AreEvaluated (cx : Context) (theta : List (Option Tree)) (ps : RulePatterns)
+    (head whole : Pattern)
     (o : Option Theorem) : Type 0 where
   pub left : Pattern
   pub left_image : applied cx.program.sig cx.names (Some head) (all_filled theta ps) ≡ Some left
@@ -92,7 +98,8 @@ pub record AreEvaluated (cx : Context) (theta : List (Option Tree)) (ps : RulePa
 
 -- The theorem says that the image of the function of these terms equals the given pattern. The
 -- image has no object variable.
-pub record SaysCall (cx : Context) (f : ℕ) (ts : Forest) (right : Pattern) (t : Theorem) : Type 0 where
+pub record SaysCall (cx : Context) (f : ℕ) (ts : Forest) (right : Pattern) (t : Theorem) :
+    Type 0 where
   pub left : Pattern
   pub left_image : IsImage cx (call f [] (ground_patterns ts)) left
   pub closed : HasNoVariable left

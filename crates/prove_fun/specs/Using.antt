@@ -10,7 +10,8 @@ use Rattle.rule_core.specs.Matching.{MatchAll}
 use Rattle.rule_core.specs.Sorting.{IsSymbol}
 use Rattle.rule_core.specs.Evaluation.{IsTrueValue}
 use Rattle.rule_core.specs.ProgramView.{theory_of}
-use Rattle.rule_core.specs.Records.{Record, RecordList, OptionalRecord, RecordsCondition, by_equation}
+use Rattle.rule_core.specs.Records.{Record, RecordList, OptionalRecord, RecordsCondition}
+use Rattle.rule_core.specs.Records.{by_equation}
 use Rattle.rule_core.specs.Records.{result_of, results_of}
 use Rattle.rule_core.specs.RecordView.{optional, plain_record, records}
 use Rattle.rule_core.specs.declared.records.EqRecord.{EqRecord}
@@ -24,12 +25,14 @@ use Rattle.prove_fun.specs.Evaluating.{IsRecorded}
 
 -- the plain record of the condition of the used equation, if it has one
 abbrev pub condition_record : EqRecord → OptionalRecord
-condition_record used = optional (option_map (λ (b : Box EvalRecord). plain_record b.value) used.cond)
+condition_record used =
+    optional (option_map (λ (b : Box EvalRecord). plain_record b.value) used.cond)
 
 -- the plain record of the use of an equation
 abbrev pub used_record : EqRecord → Record
 used_record used =
-    by_equation (records (map plain_record used.args.items)) used.equation used.subst (condition_record used)
+    by_equation (records (map plain_record used.args.items)) used.equation used.subst
+    (condition_record used)
     (plain_record used.body.value)
 
 -- The equation number i of the function f was used. It was used at the results of the records rs,
@@ -43,8 +46,10 @@ pub record IsUse (program : Program) (f : ℕ) (rs : RecordList) (i : ℕ) (sigm
   pub there : slice_get (equations_of (theory_of program) f) i ≡ Some equation
   pub matches : MatchAll program.sig equation.variables equation.arguments (results_of rs) sigma
   pub condition_held : RecordsCondition (theory_of program) sigma equation.condition condition
-  pub conditional : (p : Pattern) (q : Record) → equation.condition ≡ Some p → condition ≡ optional (Some q) →
-      (h : IsRecorded program sigma p q) × (h.variables ≡ equation.variables) × IsTrueValue (result_of q)
+  pub conditional : (p : Pattern) (q : Record) → equation.condition ≡ Some p
+      → condition ≡ optional (Some q)
+      → (h : IsRecorded program sigma p q) × (h.variables ≡ equation.variables)
+      × IsTrueValue (result_of q)
   pub right : IsRecorded program sigma equation.right body
 
 -- the theorem says that the condition of equation i of the function f holds

@@ -12,7 +12,8 @@ use Rattle.prove_term.specs.Values.{SaysValue}
 
 -- The pattern, with its variables replaced by the terms of a substitution, and the term t have the
 -- same image. The image has no object variable.
-pub record HasImageOf (cx : Context) (theta : List (Option Tree)) (p : RulePattern) (t : Tree) : Type 0 where
+pub record HasImageOf (cx : Context) (theta : List (Option Tree)) (p : RulePattern) (t : Tree) :
+    Type 0 where
   pub image : Pattern
   pub left_image : image_of cx.program.sig cx.names (filled theta p) ≡ Some image
   pub right_image : image_of cx.program.sig cx.names (ground_pattern t) ≡ Some image

@@ -18,8 +18,10 @@ pub(crate) fn joined(
     first: Option<Thm>,
     second: Option<Thm>,
 ) -> Result<Option<Thm>, AllocError>
-    requires { (cx : Context) × (a b c : Pattern) × HasNoVariable a × Equates cx a b first × Equates cx b c second }
-    ensures { IfOk result (λ o. (cx : Context) (a b c : Pattern) → HasNoVariable a → Equates cx a b first →
+    requires { (cx : Context) × (a b c : Pattern) × HasNoVariable a × Equates cx a b first
+        × Equates cx b c second }
+    ensures { IfOk result
+        (λ o. (cx : Context) (a b c : Pattern) → HasNoVariable a → Equates cx a b first →
         Equates cx b c second → Equates cx a c o) }
 {
     match (first, second) {
@@ -32,7 +34,8 @@ pub(crate) fn joined(
 pub(crate) fn followed(alloc: Global, first: Thm, second: &Option<Thm>) -> Result<Thm, AllocError>
     requires { (cx : Context) × (a b c : Pattern) × HasNoVariable a × Equates cx a b (Some first)
         × Equates cx b c second.now }
-    ensures { IfOk result (λ t. (cx : Context) (a b c : Pattern) → HasNoVariable a → Equates cx a b (Some first) →
+    ensures { IfOk result
+        (λ t. (cx : Context) (a b c : Pattern) → HasNoVariable a → Equates cx a b (Some first) →
         Equates cx b c second.now → Equates cx a c (Some t)) }
 {
     match second {

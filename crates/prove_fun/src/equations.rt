@@ -14,7 +14,7 @@ ghost use Rattle.prove_fun.specs.RecordParts.{children, children_of};
 ghost use Rattle.prove_fun.specs.Evaluating.{IsReady};
 ghost use Rattle.prove_fun.specs.Using.{IsUse, SaysConditionAt};
 
-use crate::kept::{Kept, lemma_of};
+use crate::lemma_places::{LemmaPlaces, lemma_of};
 use crate::parts::child;
 use ml_kernel::Thm;
 use prove_equation::equation_at;
@@ -25,7 +25,8 @@ use term_core::{SymId, Term};
 
 // Returns the equation of a function with a number.
 pub(crate) fn equation_of(program: &Program, symbol: SymId, number: u32) -> &Equation
-    requires { (e : PlainEquation) × (slice_get (equations_of (theory_of program.now) symbol.0) number ≡ Some e) }
+    requires { (e : PlainEquation)
+        × (slice_get (equations_of (theory_of program.now) symbol.0) number ≡ Some e) }
     ensures { IsEquationAt program.now symbol.0 number result.now }
 {
     &program.equations[symbol.0 as usize][number as usize]
@@ -37,7 +38,7 @@ pub(crate) fn equation_of(program: &Program, symbol: SymId, number: u32) -> &Equ
 pub(crate) fn equation_fact(
     alloc: Global,
     cx: &mut Cx<'_>,
-    kept: &mut Kept,
+    kept: &mut LemmaPlaces,
     symbol: SymId,
     evaluation: &EvalRecord,
     used: &EqRecord,
@@ -46,14 +47,17 @@ pub(crate) fn equation_fact(
 ) -> Result<Thm, AllocError>
     requires ready { IsReady cx.old.program }
     requires used { (condition : OptionalRecord) × (body : Record)
-        × IsUse cx.old.program symbol.0 (children_of (plain_record evaluation.now)) used.now.equation used.now.subst
+        × IsUse cx.old.program symbol.0 (children_of (plain_record evaluation.now))
+        used.now.equation used.now.subst
         condition body }
     requires count { count ≡ length (children (plain_record evaluation.now)) }
-    requires condition { SaysConditionAt cx.old symbol.0 used.now.equation used.now.subst condition.now }
+    requires condition { SaysConditionAt cx.old symbol.0 used.now.equation used.now.subst
+        condition.now }
     requires kept { IsKeptIn cx.old kept.old }
     ensures says { IfOk result (λ t. (e : PlainEquation) →
         slice_get (equations_of (theory_of cx.old.program) symbol.0) used.now.equation ≡ Some e →
-        SaysEquationAt cx.new symbol.0 e used.now.subst (results_of (children_of (plain_record evaluation.now)))
+        SaysEquationAt cx.new symbol.0 e used.now.subst
+        (results_of (children_of (plain_record evaluation.now)))
         t.conclusion) }
     ensures stays { IfOk result (StaysIn cx.new) }
     ensures grown { HasGrown cx.old cx.new }
@@ -68,7 +72,8 @@ pub(crate) fn equation_fact(
 // Returns the values of the `count` arguments.
 fn results(alloc: Global, evaluation: &EvalRecord, count: usize) -> Result<Vec<Term>, AllocError>
     requires { count ≡ length (children (plain_record evaluation.now)) }
-    ensures { IfOk result (λ v. forest v.items ≡ results_of (children_of (plain_record evaluation.now))) }
+    ensures { IfOk result
+        (λ v. forest v.items ≡ results_of (children_of (plain_record evaluation.now))) }
 {
     let mut terms = Vec::with_capacity(alloc, count)?;
     for i in 0..count {

@@ -4,7 +4,8 @@ ghost use Rattle.std.specs.Prelude.{◌≡◌, ◌≤◌, ℕ, List, IfOk, IfSom
 ghost use Rattle.ml_pat.specs.Patterns.{Pattern};
 ghost use Rattle.ml_kernel.specs.Lemmas.{HasNoVariable};
 ghost use Rattle.term_core.specs.Terms.{height, injected};
-ghost use Rattle.term_core.specs.Patterns.{application, call, ground_pattern, ground_patterns, injection};
+ghost use Rattle.term_core.specs.Patterns.{application, call, ground_pattern, ground_patterns};
+ghost use Rattle.term_core.specs.Patterns.{injection};
 ghost use Rattle.term_core.specs.RulePatterns.{plain_pattern};
 ghost use Rattle.term_core.specs.PatternLists.{plain_patterns};
 ghost use Rattle.rule_core.specs.Sorting.{HasInjection, HasSort, IsTermOf};
@@ -13,7 +14,7 @@ ghost use Rattle.rule_core.specs.ProgramView.{theory_of};
 ghost use Rattle.rule_core.specs.BoundVariables.{HasBoundVariables, IsEquationAt};
 ghost use Rattle.rule_core.specs.Records.{Record, RecordList, Records, result_of, results_of};
 ghost use Rattle.rule_core.specs.RecordView.{plain_record};
-ghost use Rattle.rule_core.specs.WellSorted.{IsSignature, IsWellSorted, Serves};
+ghost use Rattle.rule_core.specs.WellSorted.{IsSignature, IsWellSorted, BindsVariablesOf};
 ghost use Rattle.prove_term.specs.Contexts.{Context, HasGrown, StaysIn};
 ghost use Rattle.prove_term.specs.Schemas.{AreImages};
 ghost use Rattle.prove_term.specs.Applications.{applied_to};
@@ -22,14 +23,15 @@ ghost use Rattle.prove_term.specs.Values.{SaysValue};
 ghost use Rattle.prove_fun.specs.Valuing.{EqualsValue};
 ghost use Rattle.prove_fun.specs.KeptLemmas.{IsKeptIn};
 ghost use Rattle.prove_fun.specs.RecordParts.{children_of};
-ghost use Rattle.prove_fun.specs.Evaluating.{AreEvaluated, AreRecorded, Equates, IsEvaluated, IsImage};
+ghost use Rattle.prove_fun.specs.Evaluating.{AreEvaluated, AreRecorded, Equates, IsEvaluated};
+ghost use Rattle.prove_fun.specs.Evaluating.{IsImage};
 ghost use Rattle.prove_fun.specs.Evaluating.{IsInjectedOnce, IsReady, IsRecorded, SaysCall};
 ghost use Rattle.prove_fun.specs.Using.{IsUse, SaysConditionAt, condition_record, used_record};
 
 use crate::equating::{equality, followed, joined};
 use crate::equations::{equation_fact, equation_of};
 use crate::hooks::hook_fact;
-use crate::kept::Kept;
+use crate::lemma_places::LemmaPlaces;
 use crate::parts::{child, sides};
 use ml_derived::join;
 use ml_kernel::Thm;
@@ -49,7 +51,7 @@ use term_core::{MAX_HEIGHT, RulePat, SortId, Subst, SymId, Term, pattern_of};
 pub fn eval_eq(
     alloc: Global,
     cx: &mut Cx<'_>,
-    kept: &mut Kept,
+    kept: &mut LemmaPlaces,
     pat: &RulePat,
     subst: &Subst,
     evaluation: &EvalRecord,
@@ -58,12 +60,13 @@ pub fn eval_eq(
     requires bound { HasBoundVariables cx.old.program }
     requires sorted { (variables : List ℕ) × (sort : ℕ)
         × HasSort cx.old.program.sig variables (plain_pattern pat.now) sort
-        × Serves cx.old.program.sig variables subst.now (plain_pattern pat.now) }
+        × BindsVariablesOf cx.old.program.sig variables subst.now (plain_pattern pat.now) }
     requires recorded { Records (theory_of cx.old.program) subst.now (plain_pattern pat.now)
         (plain_record evaluation.now) }
     requires kept { IsKeptIn cx.old kept.old }
     ensures says { IfOk result
-        (EqualsValue cx.new subst.now (plain_pattern pat.now) (result_of (plain_record evaluation.now))) }
+        (EqualsValue cx.new subst.now (plain_pattern pat.now)
+        (result_of (plain_record evaluation.now))) }
     ensures stays { IfOk result (λ o. IfSome o (StaysIn cx.new)) }
     ensures grown { HasGrown cx.old cx.new }
     ensures kept { IsKeptIn cx.new kept.new }
@@ -78,7 +81,7 @@ pub fn eval_eq(
 pub fn value_eq(
     alloc: Global,
     cx: &mut Cx<'_>,
-    kept: &mut Kept,
+    kept: &mut LemmaPlaces,
     pat: &RulePat,
     subst: &Subst,
     evaluation: &EvalRecord,
@@ -87,12 +90,13 @@ pub fn value_eq(
     requires bound { HasBoundVariables cx.old.program }
     requires sorted { (variables : List ℕ) × (sort : ℕ)
         × HasSort cx.old.program.sig variables (plain_pattern pat.now) sort
-        × Serves cx.old.program.sig variables subst.now (plain_pattern pat.now) }
+        × BindsVariablesOf cx.old.program.sig variables subst.now (plain_pattern pat.now) }
     requires recorded { Records (theory_of cx.old.program) subst.now (plain_pattern pat.now)
         (plain_record evaluation.now) }
     requires kept { IsKeptIn cx.old kept.old }
     ensures says { IfOk result (λ t.
-        SaysValue cx.new subst.now (plain_pattern pat.now) (result_of (plain_record evaluation.now)) t.conclusion) }
+        SaysValue cx.new subst.now (plain_pattern pat.now) (result_of (plain_record evaluation.now))
+        t.conclusion) }
     ensures stays { IfOk result (StaysIn cx.new) }
     ensures grown { HasGrown cx.old cx.new }
     ensures kept { IsKeptIn cx.new kept.new }
@@ -105,7 +109,7 @@ pub fn value_eq(
 fn evaluated(
     alloc: Global,
     cx: &mut Cx<'_>,
-    kept: &mut Kept,
+    kept: &mut LemmaPlaces,
     pat: &RulePat,
     subst: &Subst,
     evaluation: &EvalRecord,
@@ -113,7 +117,8 @@ fn evaluated(
 ) -> Result<Option<Thm>, AllocError>
     requires recorded { IsRecorded cx.old.program subst.now (plain_pattern pat.now)
         (plain_record evaluation.now) }
-    requires image { IsImage cx.old (ground_pattern (result_of (plain_record evaluation.now))) image.now }
+    requires image { IsImage cx.old (ground_pattern (result_of (plain_record evaluation.now)))
+        image.now }
     requires kept { IsKeptIn cx.old kept.old }
     ensures says { IfOk result (IsEvaluated cx.new subst.now (plain_pattern pat.now) image.now) }
     ensures grown { HasGrown cx.old cx.new }
@@ -137,7 +142,7 @@ fn evaluated(
 fn constructed(
     alloc: Global,
     cx: &mut Cx<'_>,
-    kept: &mut Kept,
+    kept: &mut LemmaPlaces,
     args: &[RulePat],
     subst: &Subst,
     evaluation: &EvalRecord,
@@ -145,7 +150,8 @@ fn constructed(
 ) -> Result<Option<Thm>, AllocError>
     requires recorded { (f : ℕ) × IsRecorded cx.old.program subst.now
         (application f (plain_patterns args.now)) (plain_record evaluation.now) }
-    requires image { IsImage cx.old (ground_pattern (result_of (plain_record evaluation.now))) image.now }
+    requires image { IsImage cx.old (ground_pattern (result_of (plain_record evaluation.now)))
+        image.now }
     requires kept { IsKeptIn cx.old kept.old }
     ensures says { IfOk result (λ o. (f : ℕ) →
         IsRecorded cx.old.program subst.now (application f (plain_patterns args.now))
@@ -172,7 +178,7 @@ fn constructed(
 fn all_evaluated(
     alloc: Global,
     cx: &mut Cx<'_>,
-    kept: &mut Kept,
+    kept: &mut LemmaPlaces,
     args: &[RulePat],
     subst: &Subst,
     evaluation: &EvalRecord,
@@ -186,7 +192,8 @@ fn all_evaluated(
         (ground_patterns (results_of (children_of (plain_record evaluation.now)))) images.now }
     requires kept { IsKeptIn cx.old kept.old }
     ensures says { IfOk result
-        (AreEvaluated cx.new subst.now (plain_patterns args.now) head.now (applied_to head.now images.now)) }
+        (AreEvaluated cx.new subst.now (plain_patterns args.now) head.now
+        (applied_to head.now images.now)) }
     ensures grown { HasGrown cx.old cx.new }
     ensures kept { IsKeptIn cx.new kept.new }
 {
@@ -214,7 +221,7 @@ fn all_evaluated(
 fn injected(
     alloc: Global,
     cx: &mut Cx<'_>,
-    kept: &mut Kept,
+    kept: &mut LemmaPlaces,
     from: SortId,
     to: SortId,
     below: &RulePat,
@@ -224,7 +231,8 @@ fn injected(
 ) -> Result<Option<Thm>, AllocError>
     requires recorded { IsRecorded cx.old.program subst.now
         (injection from.0 to.0 (plain_pattern below.now)) (plain_record evaluation.now) }
-    requires image { IsImage cx.old (ground_pattern (result_of (plain_record evaluation.now))) image.now }
+    requires image { IsImage cx.old (ground_pattern (result_of (plain_record evaluation.now)))
+        image.now }
     requires kept { IsKeptIn cx.old kept.old }
     ensures says { IfOk result
         (IsEvaluated cx.new subst.now (injection from.0 to.0 (plain_pattern below.now)) image.now) }
@@ -245,19 +253,22 @@ fn injected(
 fn called(
     alloc: Global,
     cx: &mut Cx<'_>,
-    kept: &mut Kept,
+    kept: &mut LemmaPlaces,
     symbol: SymId,
     args: &[RulePat],
     subst: &Subst,
     evaluation: &EvalRecord,
     image: &MPat,
 ) -> Result<Thm, AllocError>
-    requires recorded { IsRecorded cx.old.program subst.now (call symbol.0 [] (plain_patterns args.now))
+    requires recorded { IsRecorded cx.old.program subst.now
+        (call symbol.0 [] (plain_patterns args.now))
         (plain_record evaluation.now) }
-    requires image { IsImage cx.old (ground_pattern (result_of (plain_record evaluation.now))) image.now }
+    requires image { IsImage cx.old (ground_pattern (result_of (plain_record evaluation.now)))
+        image.now }
     requires kept { IsKeptIn cx.old kept.old }
     ensures says { IfOk result (λ t.
-        IsEvaluated cx.new subst.now (call symbol.0 [] (plain_patterns args.now)) image.now (Some t)) }
+        IsEvaluated cx.new subst.now (call symbol.0 [] (plain_patterns args.now)) image.now
+        (Some t)) }
     ensures grown { HasGrown cx.old cx.new }
     ensures kept { IsKeptIn cx.new kept.new }
 {
@@ -283,7 +294,7 @@ fn called(
 fn by_equation(
     alloc: Global,
     cx: &mut Cx<'_>,
-    kept: &mut Kept,
+    kept: &mut LemmaPlaces,
     symbol: SymId,
     args: &[RulePat],
     subst: &Subst,
@@ -291,13 +302,16 @@ fn by_equation(
     used: &EqRecord,
     image: &MPat,
 ) -> Result<Thm, AllocError>
-    requires recorded { IsRecorded cx.old.program subst.now (call symbol.0 [] (plain_patterns args.now))
+    requires recorded { IsRecorded cx.old.program subst.now
+        (call symbol.0 [] (plain_patterns args.now))
         (plain_record evaluation.now) }
     requires used { plain_record evaluation.now ≡ used_record used.now }
-    requires image { IsImage cx.old (ground_pattern (result_of (plain_record evaluation.now))) image.now }
+    requires image { IsImage cx.old (ground_pattern (result_of (plain_record evaluation.now)))
+        image.now }
     requires kept { IsKeptIn cx.old kept.old }
     ensures says { IfOk result (λ t.
-        IsEvaluated cx.new subst.now (call symbol.0 [] (plain_patterns args.now)) image.now (Some t)) }
+        IsEvaluated cx.new subst.now (call symbol.0 [] (plain_patterns args.now)) image.now
+        (Some t)) }
     ensures grown { HasGrown cx.old cx.new }
     ensures kept { IsKeptIn cx.new kept.new }
 {
@@ -322,7 +336,7 @@ fn by_equation(
 fn condition_held(
     alloc: Global,
     cx: &mut Cx<'_>,
-    kept: &mut Kept,
+    kept: &mut LemmaPlaces,
     symbol: SymId,
     equation: &Equation,
     used: &EqRecord,
@@ -330,7 +344,8 @@ fn condition_held(
     requires ready { IsReady cx.old.program }
     requires equation { IsEquationAt cx.old.program symbol.0 used.now.equation equation.now }
     requires used { (rs : RecordList) × (body : Record)
-        × IsUse cx.old.program symbol.0 rs used.now.equation used.now.subst (condition_record used.now) body }
+        × IsUse cx.old.program symbol.0 rs used.now.equation used.now.subst
+        (condition_record used.now) body }
     requires kept { IsKeptIn cx.old kept.old }
     ensures says { IfOk result (SaysConditionAt cx.new symbol.0 used.now.equation used.now.subst) }
     ensures grown { HasGrown cx.old cx.new }
@@ -350,15 +365,17 @@ fn condition_held(
 fn value_held(
     alloc: Global,
     cx: &mut Cx<'_>,
-    kept: &mut Kept,
+    kept: &mut LemmaPlaces,
     pat: &RulePat,
     subst: &Subst,
     evaluation: &EvalRecord,
 ) -> Result<Thm, AllocError>
-    requires recorded { IsRecorded cx.old.program subst.now (plain_pattern pat.now) (plain_record evaluation.now) }
+    requires recorded { IsRecorded cx.old.program subst.now (plain_pattern pat.now)
+        (plain_record evaluation.now) }
     requires kept { IsKeptIn cx.old kept.old }
     ensures says { IfOk result (λ t.
-        SaysValue cx.new subst.now (plain_pattern pat.now) (result_of (plain_record evaluation.now)) t.conclusion) }
+        SaysValue cx.new subst.now (plain_pattern pat.now) (result_of (plain_record evaluation.now))
+        t.conclusion) }
     ensures stays { IfOk result (StaysIn cx.new) }
     ensures grown { HasGrown cx.old cx.new }
     ensures kept { IsKeptIn cx.new kept.new }
@@ -375,7 +392,7 @@ fn value_held(
 fn at_values(
     alloc: Global,
     cx: &mut Cx<'_>,
-    kept: &mut Kept,
+    kept: &mut LemmaPlaces,
     args: &[RulePat],
     subst: &Subst,
     evaluation: &EvalRecord,
@@ -413,7 +430,8 @@ fn at_values(
 // Returns the image of an injection of a term, from the image of its normal form.
 fn as_written(once: &Option<Thm>, image: &MPat) -> Result<MPat, AllocError>
     requires { (cx : Context) × (a : Pattern) × Equates cx a image.now once.now }
-    ensures { IfOk result (λ p. (cx : Context) (a : Pattern) → Equates cx a image.now once.now → p ≡ a) }
+    ensures { IfOk result
+        (λ p. (cx : Context) (a : Pattern) → Equates cx a image.now once.now → p ≡ a) }
 {
     match once {
         Some(equality) => sides(equality.conclusion()).0.share(),
@@ -432,7 +450,8 @@ fn injected_once(
 ) -> Result<Option<Thm>, AllocError>
     requires signature { IsSignature cx.old.program.sig }
     requires sorted { IsTermOf cx.old.program.sig term.now from.0 }
-    requires injects { HasInjection cx.old.program.sig × IsBelow cx.old.program.sig.subsorts from.0 to.0 }
+    requires injects { HasInjection cx.old.program.sig
+        × IsBelow cx.old.program.sig.subsorts from.0 to.0 }
     requires low { height (injected from.0 to.0 term.now) ≤ MAX_HEIGHT }
     ensures says { IfOk result (IsInjectedOnce cx.new from.0 to.0 term.now) }
     ensures grown { HasGrown cx.old cx.new }

@@ -28,7 +28,8 @@ pub(crate) fn hook_fact(
     evaluation: &EvalRecord,
     count: usize,
 ) -> Result<Thm, AllocError>
-    requires call { IsHookCall cx.old.program.sig symbol.0 (results_of (children_of (plain_record evaluation.now)))
+    requires call { IsHookCall cx.old.program.sig symbol.0
+        (results_of (children_of (plain_record evaluation.now)))
         (result_of (plain_record evaluation.now)) }
     requires count { count ≡ length (children (plain_record evaluation.now)) }
     ensures says { IfOk result (λ t. (image : Pattern) →
@@ -46,7 +47,8 @@ fn scalars(alloc: Global, evaluation: &EvalRecord, count: usize) -> Result<Vec<S
         × AreValues (results_of (children_of (plain_record evaluation.now))) (map scalar_value ss) }
     requires count { count ≡ length (children (plain_record evaluation.now)) }
     ensures { IfOk result (λ v.
-        AreValues (results_of (children_of (plain_record evaluation.now))) (map scalar_value v.items)) }
+        AreValues (results_of (children_of (plain_record evaluation.now)))
+        (map scalar_value v.items)) }
 {
     let mut values = Vec::with_capacity(alloc, count)?;
     for i in 0..count {

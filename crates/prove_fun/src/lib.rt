@@ -6,8 +6,8 @@ mod equating;
 mod equations;
 mod evaluating;
 mod hooks;
-mod kept;
+mod lemma_places;
 mod parts;
 
 pub use evaluating::{eval_eq, value_eq};
-pub use kept::Kept;
+pub use lemma_places::LemmaPlaces;

@@ -10,7 +10,8 @@ use rule_core::EvalRecord;
 // Returns the record of an argument.
 pub(crate) fn child(evaluation: &EvalRecord, i: usize) -> &EvalRecord
     requires { i < length (children (plain_record evaluation.now)) }
-    ensures { slice_get (children (plain_record evaluation.now)) i ≡ Some (plain_record result.now) }
+    ensures { slice_get (children (plain_record evaluation.now)) i
+        ≡ Some (plain_record result.now) }
 {
     match evaluation {
         EvalRecord::Ctor(_, records, _) => &records[i],

@@ -29,8 +29,9 @@ pub record MayGoOn (cx : Context) (last reach : Theorem) (step : StepRecord) : T
 -- The context has grown. If a start reaches something by the last theorem, it reaches the term u by
 -- the new theorem. The new theorem stays in each scope that has the context and the last theorem as
 -- stated.
-pub record GoesOn (old new : Context) (last : Theorem) (u : Tree) (t : Theorem) : Type 0 where
+pub record ExtendsRun (old new : Context) (last : Theorem) (u : Tree) (t : Theorem) : Type 0 where
   pub grown : HasGrown old new
   pub says : (start reached : RulePattern) → SaysReached old start reached last →
       SaysReached new start (ground_pattern u) t
-  pub stays : (s : Scope) → HasContext s new → IsStatedIn s last.hypotheses last.conclusion → IsWithin s t
+  pub stays : (s : Scope) → HasContext s new → IsStatedIn s last.hypotheses last.conclusion
+      → IsWithin s t

@@ -21,7 +21,8 @@ use Rattle.prove_run.specs.RunProof.{RunProof, reached}
 pub record FitsProof (proof : RunProof) (text : List ℕ) : Type 0 where
   pub fits : Fits proof.names proof.kept text
   pub only : HasOnlyAxiomsOf (theory_of proof.program) text
-  pub justifies : JustifiesRun text (theory_of proof.program) (plain_pattern proof.start) (reached proof)
+  pub justifies : JustifiesRun text (theory_of proof.program) (plain_pattern proof.start)
+      (reached proof)
   pub counts : HasCounts proof.facts proof.statements text
 
 -- the value in a record, if there is a record

@@ -26,6 +26,7 @@ ProvesHypothesis sofar step p t = ((p ≡ sofar_form) × (t ≡ sofar)) ⊎ ((p 
 
 -- a scope that has the lemma as stated, the theorem so far and the theorem of the step has the
 -- theorem t
-abbrev pub GoesFurther : Theorem → Theorem → Theorem → Theorem → Type 0
-GoesFurther lemma sofar step t =
-    (s : Scope) → IsStatedIn s lemma.hypotheses lemma.conclusion → AreWithin s (sofar ∷ step ∷ []) → IsWithin s t
+abbrev pub CitesReachLemma : Theorem → Theorem → Theorem → Theorem → Type 0
+CitesReachLemma lemma sofar step t =
+    (s : Scope) → IsStatedIn s lemma.hypotheses lemma.conclusion → AreWithin s (sofar ∷ step ∷ [])
+    → IsWithin s t

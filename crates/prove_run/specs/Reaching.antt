@@ -10,7 +10,7 @@ use Rattle.ml_pat.specs.Patterns.{Pattern, imp, ev}
 use Rattle.ml_kernel.specs.Lemmas.{HasNoVariable}
 use Rattle.ml_kernel.specs.Theorems.{Theorem}
 use Rattle.ml_image.specs.Images.{image_of}
-use Rattle.mm_claims.specs.Kept.{all_stated}
+use Rattle.mm_claims.specs.Rendered.{all_stated}
 use Rattle.mm_claims.specs.Places.{IsStated}
 use Rattle.prove_term.specs.Contexts.{Context}
 use Rattle.proof_writer.specs.Writing.{HasNoVariables}
@@ -36,7 +36,8 @@ pub record SaysReached (cx : Context) (start reached : RulePattern) (t : Theorem
 
 -- The last stated theorem has no hypotheses. It says that the image of the start reaches the image
 -- of the present configuration. The start has no variables.
-pub record HasReached (cx : Context) (w : Writer) (last : Theorem) (start reached : RulePattern) : Type 0 where
+pub record HasReached (cx : Context) (w : Writer) (last : Theorem) (start reached : RulePattern) :
+    Type 0 where
   pub says : SaysReached cx start reached last
   pub ground : HasNoVariables start
   pub no_hypotheses : last.hypotheses ≡ []

@@ -5,7 +5,7 @@ use Rattle.term_core.specs.Patterns.{Pattern, ground_pattern}
 use Rattle.term_core.specs.RulePatterns.{plain_pattern}
 use Rattle.term_core.specs.declared.rule_patterns.RulePat.{RulePat}
 use Rattle.rule_core.specs.declared.rules.Program.{Program}
-use Rattle.mm_claims.specs.Kept.{Kept}
+use Rattle.mm_claims.specs.Rendered.{Rendered}
 
 -- A proof that the start of a program's run reaches a configuration. It has the names in its text,
 -- what is kept of the text, and how many facts and statements the text has. `made` is the
@@ -16,7 +16,7 @@ pub record RunProof : Type 0 where
   pub start : RulePat
   pub made : Option Tree
   pub names : List (List ℕ)
-  pub kept : Kept
+  pub kept : Rendered
   pub facts : ℕ
   pub statements : ℕ
 

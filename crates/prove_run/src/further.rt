@@ -5,7 +5,8 @@ ghost use Rattle.ml_pat.specs.Patterns.{Pattern, imp, next, ev};
 ghost use Rattle.ml_kernel.specs.Lemmas.{HasNoVariable};
 ghost use Rattle.ml_derived.specs.Implications.{IsOneStepOn, ReachesOneFurther};
 ghost use Rattle.prove_term.specs.Contexts.{Context, IsLemmaIn};
-ghost use Rattle.prove_run.specs.ReachLemma.{IsReachHypothesis, IsReachLemma, ProvesHypothesis, GoesFurther};
+ghost use Rattle.prove_run.specs.ReachLemma.{IsReachHypothesis, IsReachLemma, ProvesHypothesis};
+ghost use Rattle.prove_run.specs.ReachLemma.{CitesReachLemma};
 
 use ml_derived::reach_step;
 use ml_kernel::{Lemma, Thm};
@@ -40,8 +41,9 @@ pub(crate) fn reach_further(
     requires lemma { IsReachLemma lemma.now }
     requires linked { IsOneStepOn sofar.now.conclusion step.now.conclusion }
     requires closed { HasNoVariable sofar.now.conclusion × HasNoVariable step.now.conclusion }
-    ensures conclusion { IfOk result (λ t. ReachesOneFurther sofar.now.conclusion step.now.conclusion t.conclusion) }
-    ensures stays { IfOk result (GoesFurther lemma.now sofar.now step.now) }
+    ensures conclusion { IfOk result
+        (λ t. ReachesOneFurther sofar.now.conclusion step.now.conclusion t.conclusion) }
+    ensures stays { IfOk result (CitesReachLemma lemma.now sofar.now step.now) }
 {
     let reached = sofar.conclusion();
     let moved = step.conclusion();
@@ -53,7 +55,8 @@ pub(crate) fn reach_further(
 // Returns a, b and c of `a -> ev b` and `b -> next c`.
 fn images(alloc: Global, sofar: &MPat, step: &MPat) -> Result<Vec<MPat>, AllocError>
     requires { IsOneStepOn sofar.now step.now }
-    ensures { IfOk result (λ v. (a b c : Pattern) → sofar.now ≡ imp a (ev b) → step.now ≡ imp b (next c) →
+    ensures { IfOk result
+        (λ v. (a b c : Pattern) → sofar.now ≡ imp a (ev b) → step.now ≡ imp b (next c) →
         v.items ≡ a ∷ b ∷ c ∷ []) }
 {
     let (a, b) = reached(sofar);
@@ -95,7 +98,8 @@ fn proofs(
     step: &Thm,
 ) -> Result<Vec<Thm>, AllocError>
     requires { All IsReachHypothesis hypotheses.now }
-    ensures { IfOk result (λ v. AllZip (ProvesHypothesis sofar.now step.now) hypotheses.now v.items) }
+    ensures { IfOk result
+        (λ v. AllZip (ProvesHypothesis sofar.now step.now) hypotheses.now v.items) }
 {
     let mut proofs = Vec::with_capacity(alloc, hypotheses.len())?;
     for hypothesis in hypotheses {

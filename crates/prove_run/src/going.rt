@@ -2,7 +2,7 @@
 ghost use Rattle.std.specs.Prelude.{IfOk};
 ghost use Rattle.rule_core.specs.Records.{result_of};
 ghost use Rattle.rule_core.specs.RecordView.{plain_step};
-ghost use Rattle.prove_run.specs.Going.{MayGoOn, GoesOn};
+ghost use Rattle.prove_run.specs.Going.{MayGoOn, ExtendsRun};
 
 use crate::further::reach_further;
 use ml_kernel::{Lemma, Thm};
@@ -21,7 +21,7 @@ pub(crate) fn goes_further(
 ) -> Result<Thm, AllocError>
     requires { MayGoOn prover.old last.now reach.now (plain_step step.now) }
     ensures { IfOk result
-        (GoesOn prover.old prover.new last.now (result_of (plain_step step.now).right)) }
+        (ExtendsRun prover.old prover.new last.now (result_of (plain_step step.now).right)) }
 {
     let moved = prover.step(alloc, step)?;
     let sofar = Thm::use_lemma(alloc, last, &[], &[])?;

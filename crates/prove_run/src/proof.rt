@@ -6,11 +6,12 @@ ghost use Rattle.rule_core.specs.ProgramView.{theory_of};
 ghost use Rattle.rule_core.specs.Records.{Records, result_of};
 ghost use Rattle.rule_core.specs.RecordView.{plain_record, plain_step};
 ghost use Rattle.rule_core.specs.WellSorted.{IsStart, IsWellSorted};
-ghost use Rattle.mm_claims.specs.Kept.{all_stated};
+ghost use Rattle.mm_claims.specs.Rendered.{all_stated};
 ghost use Rattle.mm_claims.specs.Places.{IsStated};
 ghost use Rattle.prove_term.specs.Contexts.{HasGrown, IsContext};
 ghost use Rattle.proof_writer.specs.PlainNames.{HasPlainNames};
-ghost use Rattle.proof_writer.specs.Writing.{Adds, Concludes, HasWritten, HasWrittenAll, Keeps, MayFollow};
+ghost use Rattle.proof_writer.specs.Writing.{Adds, Concludes, HasWritten, HasWrittenAll, Keeps};
+ghost use Rattle.proof_writer.specs.Writing.{MayFollow};
 ghost use Rattle.prove_run.specs.Proving.{Begins, CanStep, StepsTo, value_told};
 ghost use Rattle.prove_run.specs.ReachLemma.{IsReachLemma};
 
@@ -19,7 +20,7 @@ use crate::going::goes_further;
 use crate::starting::start_reaches;
 use ml_kernel::{Lemma, Thm};
 use mm_justify::image_laws;
-use proof_writer::{Made, Writer};
+use proof_writer::{ProofParts, Writer};
 use prove_step::Prover;
 use rule_core::{EvalRecord, Program, StepRecord};
 use std::alloc::{AllocError, Global};
@@ -76,7 +77,8 @@ impl<'p> Proof<'p> {
         requires start { IsStart (theory_of program.now) (plain_pattern start.now) }
         requires value { IfSome value
             (λ r. Records (theory_of program.now) [] (plain_pattern start.now) (plain_record r.now)) }
-        ensures { IfOk result (λ proof. Begins program.now start.now (value_told (option_copied value.entry)) proof
+        ensures { IfOk result
+            (λ proof. Begins program.now start.now (value_told (option_copied value.entry)) proof
             to.old.items to.new.items) }
     {
         let mut prover = Prover::new(alloc, program)?;
@@ -107,7 +109,8 @@ impl<'p> Proof<'p> {
     ) -> Result<Proof<'p>, AllocError>
         requires applies { CanStep self (plain_step step.now) }
         ensures { IfOk result (λ further.
-            StepsTo self.entry further (result_of (plain_step step.now).right) to.old.items to.new.items) }
+            StepsTo self.entry further (result_of (plain_step step.now).right) to.old.items
+            to.new.items) }
     {
         let mut prover = self.prover;
         let mut writer = self.writer;
@@ -176,14 +179,16 @@ fn state(
     ensures no_hypotheses { OnOk result (thm.hypotheses ≡ []) }
     ensures context { OnOk result (IsContext prover.now) }
     ensures all { OnOk result (HasWrittenAll writer.new prover.now) }
-    ensures stated { OnOk result (IsStated (all_stated writer.new.renderer) thm.hypotheses thm.conclusion) }
-    ensures concludes { OnOk result (Concludes prover.now writer.old thm to.old.items to.new.items) }
+    ensures stated { OnOk result
+        (IsStated (all_stated writer.new.renderer) thm.hypotheses thm.conclusion) }
+    ensures concludes { OnOk result
+        (Concludes prover.now writer.old thm to.old.items to.new.items) }
     ensures text { OnOk result (Adds prover.now writer.old writer.new to.old.items to.new.items) }
 {
     image_laws();
     let cx = prover.cx();
     cx.law();
-    let made = Made {
+    let made = ProofParts {
         program: cx.program(),
         names: cx.names(),
         theory: cx.theory(),

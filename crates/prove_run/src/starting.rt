@@ -33,7 +33,8 @@ pub(crate) fn start_reaches(
 ) -> Result<Thm, AllocError>
     requires start { IsStarting prover.old.program (plain_pattern start.now) }
     requires value { IfSome value
-        (λ r. Records (theory_of prover.old.program) [] (plain_pattern start.now) (plain_record r.now)) }
+        (λ r. Records (theory_of prover.old.program) [] (plain_pattern start.now)
+        (plain_record r.now)) }
     ensures says { IfOk result (SaysReached prover.new (plain_pattern start.now)
         (configuration (plain_pattern start.now) (value_told (option_copied value.entry)))) }
     ensures stays { IfOk result (StaysIn prover.new) }
@@ -58,10 +59,12 @@ fn valued(
     requires start { IsStarting prover.old.program (plain_pattern start.now) }
     requires recorded { Records (theory_of prover.old.program) [] (plain_pattern start.now)
         (plain_record evaluation.now) }
-    requires says { SaysReached prover.old (plain_pattern start.now) (plain_pattern start.now) itself }
+    requires says { SaysReached prover.old (plain_pattern start.now) (plain_pattern start.now)
+        itself }
     requires stays { StaysIn prover.old itself }
     ensures says { IfOk result (SaysReached prover.new (plain_pattern start.now)
-        (configuration (plain_pattern start.now) (Some (result_of (plain_record evaluation.now))))) }
+        (configuration (plain_pattern start.now)
+        (Some (result_of (plain_record evaluation.now))))) }
     ensures stays { IfOk result (StaysIn prover.new) }
     ensures grown { HasGrown prover.old prover.new }
 {
@@ -74,7 +77,8 @@ fn valued(
 
 // Proves `p -> ev q` from `r = q` and `p -> ev r`.
 fn to_other(alloc: Global, e: &Thm, reached: &Thm) -> Result<Thm, AllocError>
-    requires { (p r q : Pattern) × (e.now.conclusion ≡ equal r q) × (reached.now.conclusion ≡ imp p (ev r))
+    requires { (p r q : Pattern) × (e.now.conclusion ≡ equal r q)
+        × (reached.now.conclusion ≡ imp p (ev r))
         × HasNoVariable p }
     ensures conclusion { IfOk result (λ t. (p r q : Pattern) → e.now.conclusion ≡ equal r q →
         reached.now.conclusion ≡ imp p (ev r) → t.conclusion ≡ imp p (ev q)) }

@@ -1,9 +1,12 @@
 -- A pattern under quantifiers, and the schema, which is its instance at pattern variables.
-use Rattle.std.proofs.Common.{◌≡◌, ◌≢◌, ◌<◌, ◌≤◌, ◌+◌, ℕ, Bool, true, false, zero, suc, List, [], ◌∷◌, Option, Some, None, length, slice_get, inl, inr, refl, sym, ◌∙◌, ap, subst, arith}
+use Rattle.std.proofs.Common.{◌≡◌, ◌≢◌, ◌<◌, ◌≤◌, ◌+◌, ℕ, Bool, true, false, zero, suc, List, []}
+use Rattle.std.proofs.Common.{◌∷◌, Option, Some, None, length, slice_get, inl, inr, refl, sym, ◌∙◌}
+use Rattle.std.proofs.Common.{ap, subst, arith}
 use Rattle.std.specs.Prelude.{◌==◌, ◌⊎◌, cond}
 use Rattle.std.specs.List.{AllZip}
 use Rattle.std.proofs.lemmas.Bool.Decides.{eqb_tells}
-use Rattle.ml_pat.specs.Patterns.{Pattern, bot, top, imp, not, and, or, equal, member, fun, ex, all, app, at_sort, next, ev, var, meta, constant}
+use Rattle.ml_pat.specs.Patterns.{Pattern, bot, top, imp, not, and, or, equal, member, fun, ex, all}
+use Rattle.ml_pat.specs.Patterns.{app, at_sort, next, ev, var, meta, constant}
 use Rattle.rule_core.specs.declared.signature.Signature.{Signature}
 use Rattle.ml_image.specs.Images.{both, sort_image}
 use Rattle.ml_image.specs.Sentences.{Sentence, sentence_image, for_all}
@@ -14,29 +17,41 @@ use Rattle.prove_schema.proofs.OpenLaws.{open_closed}
 
 -- ---- a pattern variable in place of the first object variable
 
-put_bound : (k : ℕ) (u : Pattern) (y s : ℕ) (p : Pattern) → k ≢ y → put k u (all y s p) ≡ all y s (put k u p)
+put_bound : (k : ℕ) (u : Pattern) (y s : ℕ) (p : Pattern) → k ≢ y
+    → put k u (all y s p) ≡ all y s (put k u p)
 put_bound k u y s p other = go (eqb_tells k y)
   where
-    go : (((k == y) ≡ true) × (k ≡ y)) ⊎ (((k == y) ≡ false) × (k ≢ y)) → put k u (all y s p) ≡ all y s (put k u p)
+    go : (((k == y) ≡ true) × (k ≡ y)) ⊎ (((k == y) ≡ false) × (k ≢ y))
+        → put k u (all y s p) ≡ all y s (put k u p)
     go (inl same) = absurd (other same.1)
     go (inr differ) = ap (λ (b : Bool). cond b (all y s p) (all y s (put k u p))) differ.0
 
-put_closed : (k j : ℕ) (u : Pattern) (ss : List ℕ) (p : Pattern) → k < j → put k u (closed j ss p) ≡ closed j ss (put k u p)
+put_closed : (k j : ℕ) (u : Pattern) (ss : List ℕ) (p : Pattern) → k < j
+    → put k u (closed j ss p) ≡ closed j ss (put k u p)
 put_closed k j u [] p low = refl
 put_closed k j u (s ∷ ss) p low =
     let other : k ≢ j = λ (e : k ≡ j). omega (arith, low, e) in
-    put_bound k u j s (closed (j + 1) ss p) other ∙ ap (all j s) (put_closed k (j + 1) u ss p (omega (arith, low)))
+    put_bound k u j s (closed (j + 1) ss p) other
+    ∙ ap (all j s) (put_closed k (j + 1) u ss p (omega (arith, low)))
 
 -- what a variable becomes
-put_var : (k n x : ℕ) → k ≤ x → x < n → IsOpenFrom (k + 1) n (put k (meta k) (var x)) × (with_metas (put k (meta k) (var x)) ≡ meta x)
+put_var : (k n x : ℕ) → k ≤ x → x < n
+    → IsOpenFrom (k + 1) n (put k (meta k) (var x)) × (with_metas (put k (meta k) (var x)) ≡ meta x)
 put_var k n x from below = go (eqb_tells k x)
   where
-    go : (((k == x) ≡ true) × (k ≡ x)) ⊎ (((k == x) ≡ false) × (k ≢ x)) → IsOpenFrom (k + 1) n (put k (meta k) (var x)) × (with_metas (put k (meta k) (var x)) ≡ meta x)
+    go : (((k == x) ≡ true) × (k ≡ x)) ⊎ (((k == x) ≡ false) × (k ≢ x))
+        → IsOpenFrom (k + 1) n (put k (meta k) (var x))
+        × (with_metas (put k (meta k) (var x)) ≡ meta x)
     go (inl same) =
-        let is : put k (meta k) (var x) ≡ meta k = ap (λ (b : Bool). cond b (meta k) (var x)) same.0 in
-        (subst (IsOpenFrom (k + 1) n) (sym is) (omega (arith, below, same.1)), ap with_metas is ∙ ap meta same.1)
+        let is : put k (meta k) (var x) ≡ meta k =
+        ap (λ (b : Bool). cond b (meta k) (var x)) same.0 in (
+          subst (IsOpenFrom (k + 1) n) (sym is) (omega (arith, below, same.1)),
+          ap with_metas is
+              ∙ ap meta same.1,
+        )
     go (inr differ) =
-        let is : put k (meta k) (var x) ≡ var x = ap (λ (b : Bool). cond b (meta k) (var x)) differ.0 in
+        let is : put k (meta k) (var x) ≡ var x =
+        ap (λ (b : Bool). cond b (meta k) (var x)) differ.0 in
         let above : k + 1 ≤ x = omega (arith, from, differ.1) in
         (subst (IsOpenFrom (k + 1) n) (sym is) (above, below), ap with_metas is)
 
@@ -62,7 +77,8 @@ put_open k n (meta i) h = h
 put_open k n (constant c) h = tt
 
 -- the result has the same schema
-put_schema : (k n : ℕ) (p : Pattern) → IsOpenFrom k n p → with_metas (put k (meta k) p) ≡ with_metas p
+put_schema : (k n : ℕ) (p : Pattern) → IsOpenFrom k n p
+    → with_metas (put k (meta k) p) ≡ with_metas p
 put_schema k n bot h = refl
 put_schema k n top h = refl
 put_schema k n (imp p q) h = rw (put_schema k n p h.0, put_schema k n q h.1) refl
@@ -83,20 +99,28 @@ put_schema k n (meta i) h = refl
 put_schema k n (constant c) h = refl
 
 -- The instance of a closed pattern at pattern variables is its schema.
-pub schema_instance : (k n : ℕ) (ss : List ℕ) (p : Pattern) → k + length ss ≡ n → IsOpenFrom k n p → IsInstance (closed k ss p) (meta_facts k ss) (with_metas p)
+pub schema_instance : (k n : ℕ) (ss : List ℕ) (p : Pattern) → k + length ss ≡ n → IsOpenFrom k n p
+    → IsInstance (closed k ss p) (meta_facts k ss) (with_metas p)
 schema_instance k n [] p all_there is_open =
     let same : k ≡ n = omega (arith, all_there) in
     open_closed n p (subst (λ (j : ℕ). IsOpenFrom j n p) same is_open)
 schema_instance k n (s ∷ ss) p all_there is_open =
     let next_one : ℕ = k + 1 in
     let rest : next_one + length ss ≡ n = omega (arith, all_there) in
-    let inside : put k (meta k) (closed (k + 1) ss p) ≡ closed (k + 1) ss (put k (meta k) p) = put_closed k (k + 1) (meta k) ss p (omega arith) in
-    let further : IsInstance (closed (k + 1) ss (put k (meta k) p)) (meta_facts (k + 1) ss) (with_metas (put k (meta k) p)) =
+    let inside : put k (meta k) (closed (k + 1) ss p) ≡ closed (k + 1) ss (put k (meta k) p) =
+    put_closed k (k + 1) (meta k) ss p (omega arith) in
+    let further : IsInstance (closed (k + 1) ss (put k (meta k) p)) (meta_facts (k + 1) ss)
+    (with_metas (put k (meta k) p)) =
     schema_instance (k + 1) n ss (put k (meta k) p) rest (put_open k n p is_open) in
-    let there : IsInstance (put k (meta k) (closed (k + 1) ss p)) (meta_facts (k + 1) ss) (with_metas (put k (meta k) p)) =
-    subst (λ (r : Pattern). IsInstance r (meta_facts (k + 1) ss) (with_metas (put k (meta k) p))) (sym inside) further in
-    let as_schema : IsInstance (put k (meta k) (closed (k + 1) ss p)) (meta_facts (k + 1) ss) (with_metas p) =
-    subst (λ (r : Pattern). IsInstance (put k (meta k) (closed (k + 1) ss p)) (meta_facts (k + 1) ss) r) (put_schema k n p is_open) there in
+    let there : IsInstance (put k (meta k) (closed (k + 1) ss p)) (meta_facts (k + 1) ss)
+    (with_metas (put k (meta k) p)) =
+    subst (λ (r : Pattern). IsInstance r (meta_facts (k + 1) ss) (with_metas (put k (meta k) p)))
+    (sym inside) further in
+    let as_schema : IsInstance (put k (meta k) (closed (k + 1) ss p)) (meta_facts (k + 1) ss)
+    (with_metas p) =
+    subst (λ (r : Pattern).
+    IsInstance (put k (meta k) (closed (k + 1) ss p)) (meta_facts (k + 1) ss) r)
+    (put_schema k n p is_open) there in
     (k, (s, (meta k, (closed (k + 1) ss p, (refl, (refl, (tt, as_schema)))))))
 
 -- ---- the image of a closed sentence
@@ -107,15 +131,18 @@ AreNumbers sig names ss ns = AllZip (λ (s n : ℕ). sort_image sig names s ≡ 
 
 -- The image of a sentence for all variables of some sorts is the image of the sentence, closed over
 -- the sorts' numbers.
-pub record IsClosed (sig : Signature) (names : List (List ℕ)) (k : ℕ) (ss : List ℕ) (s : Sentence) (p : Pattern) : Type 0 where
+pub record IsClosed (sig : Signature) (names : List (List ℕ)) (k : ℕ) (ss : List ℕ) (s : Sentence)
+    (p : Pattern) : Type 0 where
   pub numbers : List ℕ
   pub are : AreNumbers sig names ss numbers
   pub body : Pattern
   pub is_body : sentence_image sig names s ≡ Some body
   pub says : p ≡ closed k numbers body
 
-one_more : (sig : Signature) (names : List (List ℕ)) (k s : ℕ) (ss : List ℕ) (body : Sentence) (p : Pattern) (o : Option ℕ) (q : Option Pattern) → sort_image sig names s ≡ o →
-    ((r : Pattern) → q ≡ Some r → IsClosed sig names (k + 1) ss body r) → both (all k) o q ≡ Some p → IsClosed sig names k (s ∷ ss) body p
+one_more : (sig : Signature) (names : List (List ℕ)) (k s : ℕ) (ss : List ℕ) (body : Sentence)
+    (p : Pattern) (o : Option ℕ) (q : Option Pattern) → sort_image sig names s ≡ o
+    → ((r : Pattern) → q ≡ Some r → IsClosed sig names (k + 1) ss body r)
+    → both (all k) o q ≡ Some p → IsClosed sig names k (s ∷ ss) body p
 one_more sig names k s ss body p None q sort below e = absurd (none_some p e)
 one_more sig names k s ss body p (Some n) None sort below e = absurd (none_some p e)
 one_more sig names k s ss body p (Some n) (Some r) sort below e =
@@ -128,23 +155,36 @@ one_more sig names k s ss body p (Some n) (Some r) sort below e =
       says = sym (some_same (all k n r) p e) ∙ ap (all k n) inside.says;
     }
 
-pub closed_image : (sig : Signature) (names : List (List ℕ)) (k : ℕ) (ss : List ℕ) (s : Sentence) (p : Pattern) → sentence_image sig names (for_all k ss s) ≡ Some p → IsClosed sig names k ss s p
-closed_image sig names k [] s p e = record { numbers = []; are = tt; body = p; is_body = e; says = refl }
+pub closed_image : (sig : Signature) (names : List (List ℕ)) (k : ℕ) (ss : List ℕ) (s : Sentence)
+    (p : Pattern) → sentence_image sig names (for_all k ss s) ≡ Some p
+    → IsClosed sig names k ss s p
+closed_image sig names k [] s p e = record {
+  numbers = [];
+  are = tt;
+  body = p;
+  is_body = e;
+  says = refl;
+}
 closed_image sig names k (sort ∷ ss) s p e =
-    one_more sig names k sort ss s p (sort_image sig names sort) (sentence_image sig names (for_all (k + 1) ss s)) refl
+    one_more sig names k sort ss s p (sort_image sig names sort)
+    (sentence_image sig names (for_all (k + 1) ss s)) refl
     (λ r. closed_image sig names (k + 1) ss s r) e
 
 -- there are as many numbers as sorts
-pub numbers_length : (sig : Signature) (names : List (List ℕ)) (ss ns : List ℕ) → AreNumbers sig names ss ns → length ns ≡ length ss
+pub numbers_length : (sig : Signature) (names : List (List ℕ)) (ss ns : List ℕ)
+    → AreNumbers sig names ss ns → length ns ≡ length ss
 numbers_length sig names [] [] h = refl
 numbers_length sig names [] (n ∷ ns) h = absurd h
 numbers_length sig names (s ∷ ss) [] h = absurd h
 numbers_length sig names (s ∷ ss) (n ∷ ns) h = ap suc (numbers_length sig names ss ns h.1)
 
 -- the number of one of the sorts
-pub number_at : (sig : Signature) (names : List (List ℕ)) (ss ns : List ℕ) (x s n : ℕ) → AreNumbers sig names ss ns → slice_get ss x ≡ Some s → slice_get ns x ≡ Some n → sort_image sig names s ≡ Some n
+pub number_at : (sig : Signature) (names : List (List ℕ)) (ss ns : List ℕ) (x s n : ℕ)
+    → AreNumbers sig names ss ns → slice_get ss x ≡ Some s → slice_get ns x ≡ Some n
+    → sort_image sig names s ≡ Some n
 number_at sig names [] ns x s n h sort number = absurd (none_some s sort)
 number_at sig names (r ∷ ss) [] x s n h sort number = absurd h
 number_at sig names (r ∷ ss) (m ∷ ns) zero s n h sort number =
     ap (sort_image sig names) (sym (some_same r s sort)) ∙ h.0 ∙ number
-number_at sig names (r ∷ ss) (m ∷ ns) (suc x) s n h sort number = number_at sig names ss ns x s n h.1 sort number
+number_at sig names (r ∷ ss) (m ∷ ns) (suc x) s n h sort number =
+    number_at sig names ss ns x s n h.1 sort number

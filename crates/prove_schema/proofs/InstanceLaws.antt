@@ -1,14 +1,19 @@
 -- Instances of schemas at the images of terms.
-use Rattle.std.proofs.Common.{◌≡◌, ◌<◌, ℕ, List, [], ◌∷◌, Option, Some, None, option_map, slice_get, slice_index_or, zero, suc, refl, sym, ◌∙◌, ap}
+use Rattle.std.proofs.Common.{◌≡◌, ◌<◌, ℕ, List, [], ◌∷◌, Option, Some, None, option_map, slice_get}
+use Rattle.std.proofs.Common.{slice_index_or, zero, suc, refl, sym, ◌∙◌, ap}
 use Rattle.std.proofs.lemmas.Option.{get_or_from_slice_get}
-use Rattle.ml_pat.specs.Patterns.{Pattern, bot, top, imp, not, and, or, equal, member, fun, ex, all, app, at_sort, next, ev, var, meta, constant}
+use Rattle.ml_pat.specs.Patterns.{Pattern, bot, top, imp, not, and, or, equal, member, fun, ex, all}
+use Rattle.ml_pat.specs.Patterns.{app, at_sort, next, ev, var, meta, constant}
 use Rattle.ml_kernel.specs.Lemmas.{instance, HasNoVariable, HaveNoVariables}
 use Rattle.term_core.specs.Terms.{Tree}
-use Rattle.term_core.specs.Patterns.{Pattern as RulePattern, Patterns as RulePatterns, variable, domain_value, application, injection, call, no_pattern, more_patterns}
+use Rattle.term_core.specs.Patterns.{Pattern as RulePattern, Patterns as RulePatterns, variable}
+use Rattle.term_core.specs.Patterns.{domain_value, application, injection, call, no_pattern}
+use Rattle.term_core.specs.Patterns.{more_patterns}
 use Rattle.term_core.specs.Patterns.{binding, ground_pattern}
 use Rattle.rule_core.specs.declared.signature.Signature.{Signature}
 use Rattle.ml_image.specs.Tokens.{token_of_symbol, token_of_value, numbered}
-use Rattle.ml_image.specs.Images.{both, symbol_image, sort_image, at_sorts, image_of, applied, some_symbol_image, injection_symbol, injection_image}
+use Rattle.ml_image.specs.Images.{both, symbol_image, sort_image, at_sorts, image_of, applied}
+use Rattle.ml_image.specs.Images.{some_symbol_image, injection_symbol, injection_image}
 use Rattle.ml_image.specs.HasImages.{HasImage, HaveImages}
 use Rattle.ml_image.proofs.ImageLaws.{none_some, some_same}
 use Rattle.prove_term.specs.Filling.{filled, all_filled, in_place}
@@ -30,65 +35,93 @@ AllThere theta n = (x : ℕ) → x < n → (t : Tree) × (binding theta x ≡ So
 abbrev pub Becomes : List Pattern → Option Pattern → Option Pattern → Type 0
 Becomes qs old new = (p : Pattern) → old ≡ Some p → new ≡ Some (instance qs (with_metas p))
 
-becomes_constant : (qs : List Pattern) (o : Option ℕ) → Becomes qs (option_map constant o) (option_map constant o)
+becomes_constant : (qs : List Pattern) (o : Option ℕ)
+    → Becomes qs (option_map constant o) (option_map constant o)
 becomes_constant qs None p e = absurd (none_some p e)
-becomes_constant qs (Some c) p e = ap (λ (r : Pattern). Some (instance qs (with_metas r))) (some_same (constant c) p e)
+becomes_constant qs (Some c) p e =
+    ap (λ (r : Pattern). Some (instance qs (with_metas r))) (some_same (constant c) p e)
 
-becomes_app : (qs : List Pattern) (a a' b b' : Option Pattern) → Becomes qs a a' → Becomes qs b b' → Becomes qs (both app a b) (both app a' b')
+becomes_app : (qs : List Pattern) (a a' b b' : Option Pattern) → Becomes qs a a' → Becomes qs b b'
+    → Becomes qs (both app a b) (both app a' b')
 becomes_app qs None a' b b' ka kb p e = absurd (none_some p e)
 becomes_app qs (Some x) a' None b' ka kb p e = absurd (none_some p e)
 becomes_app qs (Some x) a' (Some y) b' ka kb p e =
-    ap (λ (o : Option Pattern). both app o b') (ka x refl) ∙ ap (both app (Some (instance qs (with_metas x)))) (kb y refl)
+    ap (λ (o : Option Pattern). both app o b') (ka x refl)
+    ∙ ap (both app (Some (instance qs (with_metas x)))) (kb y refl)
     ∙ ap (λ (r : Pattern). Some (instance qs (with_metas r))) (some_same (app x y) p e)
 
-becomes_at : (qs : List Pattern) (a a' : Option Pattern) (s : Option ℕ) → Becomes qs a a' → Becomes qs (both at_sort a s) (both at_sort a' s)
+becomes_at : (qs : List Pattern) (a a' : Option Pattern) (s : Option ℕ) → Becomes qs a a'
+    → Becomes qs (both at_sort a s) (both at_sort a' s)
 becomes_at qs None a' s ka p e = absurd (none_some p e)
 becomes_at qs (Some x) a' None ka p e = absurd (none_some p e)
 becomes_at qs (Some x) a' (Some s) ka p e =
     ap (λ (o : Option Pattern). both at_sort o (Some s)) (ka x refl)
     ∙ ap (λ (r : Pattern). Some (instance qs (with_metas r))) (some_same (at_sort x s) p e)
 
-becomes_at_sorts : (sig : Signature) (names : List (List ℕ)) (qs : List Pattern) (ss : List ℕ) (a a' : Option Pattern) → Becomes qs a a' → Becomes qs (at_sorts sig names a ss) (at_sorts sig names a' ss)
+becomes_at_sorts : (sig : Signature) (names : List (List ℕ)) (qs : List Pattern) (ss : List ℕ)
+    (a a' : Option Pattern) → Becomes qs a a'
+    → Becomes qs (at_sorts sig names a ss) (at_sorts sig names a' ss)
 becomes_at_sorts sig names qs [] a a' k = k
 becomes_at_sorts sig names qs (s ∷ ss) a a' k =
-    becomes_at_sorts sig names qs ss (both at_sort a (sort_image sig names s)) (both at_sort a' (sort_image sig names s)) (becomes_at qs a a' (sort_image sig names s) k)
+    becomes_at_sorts sig names qs ss (both at_sort a (sort_image sig names s))
+    (both at_sort a' (sort_image sig names s)) (becomes_at qs a a' (sort_image sig names s) k)
 
-becomes_some : (sig : Signature) (names : List (List ℕ)) (qs : List Pattern) (o : Option ℕ) → Becomes qs (some_symbol_image sig names o) (some_symbol_image sig names o)
+becomes_some : (sig : Signature) (names : List (List ℕ)) (qs : List Pattern) (o : Option ℕ)
+    → Becomes qs (some_symbol_image sig names o) (some_symbol_image sig names o)
 becomes_some sig names qs None p e = absurd (none_some p e)
-becomes_some sig names qs (Some f) p e = becomes_constant qs (numbered names (token_of_symbol sig f)) p e
+becomes_some sig names qs (Some f) p e =
+    becomes_constant qs (numbered names (token_of_symbol sig f)) p e
 
 -- The image of a pattern with terms in place of its variables is the instance of the pattern's
 -- schema at the images of the terms.
 mutual
-  pub filled_image : (sig : Signature) (names : List (List ℕ)) (theta : List (Option Tree)) (qs : List Pattern) (n : ℕ) (p : RulePattern) → AreImages sig names theta qs → AllThere theta n
-      → HasImage sig n p → Becomes qs (image_of sig names p) (image_of sig names (filled theta p))
+  pub filled_image : (sig : Signature) (names : List (List ℕ)) (theta : List (Option Tree))
+      (qs : List Pattern) (n : ℕ) (p : RulePattern) → AreImages sig names theta qs
+      → AllThere theta n → HasImage sig n p
+      → Becomes qs (image_of sig names p) (image_of sig names (filled theta p))
   filled_image sig names theta qs n (variable x) are there has =
       let bound : (t : Tree) × (binding theta x ≡ Some t) = there x has in
-      let at : (q : Pattern) × ((slice_get qs x ≡ Some q) × (image_of sig names (ground_pattern bound.0) ≡ Some q)) = are x bound.0 bound.1 in
-      λ q is. ap (λ (o : Option Tree). image_of sig names (in_place x o)) bound.1 ∙ at.1.1 ∙ ap (λ (r : Pattern). Some r) (sym (get_or_from_slice_get qs x at.0 (meta x) at.1.0))
+      let at : (q : Pattern) ×
+      ((slice_get qs x ≡ Some q) × (image_of sig names (ground_pattern bound.0) ≡ Some q)) =
+      are x bound.0 bound.1 in
+      λ q is. ap (λ (o : Option Tree). image_of sig names (in_place x o)) bound.1 ∙ at.1.1
+      ∙ ap (λ (r : Pattern). Some r) (sym (get_or_from_slice_get qs x at.0 (meta x) at.1.0))
       ∙ ap (λ (r : Pattern). Some (instance qs (with_metas r))) (some_same (var x) q is)
-  filled_image sig names theta qs n (domain_value s v) are there has = becomes_constant qs (numbered names (token_of_value sig s v))
+  filled_image sig names theta qs n (domain_value s v) are there has =
+      becomes_constant qs (numbered names (token_of_value sig s v))
   filled_image sig names theta qs n (application f ps) are there has =
-      filled_applied sig names theta qs n ps (symbol_image sig names f) (symbol_image sig names f) are there has.1 (becomes_constant qs (numbered names (token_of_symbol sig f)))
+      filled_applied sig names theta qs n ps (symbol_image sig names f) (symbol_image sig names f)
+      are there has.1 (becomes_constant qs (numbered names (token_of_symbol sig f)))
   filled_image sig names theta qs n (injection a b p) are there has =
-      becomes_app qs (injection_image sig names a b) (injection_image sig names a b) (image_of sig names p) (image_of sig names (filled theta p))
-      (becomes_at_sorts sig names qs (a ∷ b ∷ []) (some_symbol_image sig names (injection_symbol sig)) (some_symbol_image sig names (injection_symbol sig)) (becomes_some sig names qs (injection_symbol sig)))
+      becomes_app qs (injection_image sig names a b) (injection_image sig names a b)
+      (image_of sig names p) (image_of sig names (filled theta p))
+      (becomes_at_sorts sig names qs (a ∷ b ∷ [])
+      (some_symbol_image sig names (injection_symbol sig))
+      (some_symbol_image sig names (injection_symbol sig))
+      (becomes_some sig names qs (injection_symbol sig)))
       (filled_image sig names theta qs n p are there has.2)
   filled_image sig names theta qs n (call f ss ps) are there has =
-      filled_applied sig names theta qs n ps (at_sorts sig names (symbol_image sig names f) ss) (at_sorts sig names (symbol_image sig names f) ss) are there has.2
-      (becomes_at_sorts sig names qs ss (symbol_image sig names f) (symbol_image sig names f) (becomes_constant qs (numbered names (token_of_symbol sig f))))
+      filled_applied sig names theta qs n ps (at_sorts sig names (symbol_image sig names f) ss)
+      (at_sorts sig names (symbol_image sig names f) ss) are there has.2
+      (becomes_at_sorts sig names qs ss (symbol_image sig names f) (symbol_image sig names f)
+      (becomes_constant qs (numbered names (token_of_symbol sig f))))
 
-  filled_applied : (sig : Signature) (names : List (List ℕ)) (theta : List (Option Tree)) (qs : List Pattern) (n : ℕ) (ps : RulePatterns) (head new : Option Pattern) → AreImages sig names theta qs → AllThere theta n
-      → HaveImages sig n ps → Becomes qs head new → Becomes qs (applied sig names head ps) (applied sig names new (all_filled theta ps))
+  filled_applied : (sig : Signature) (names : List (List ℕ)) (theta : List (Option Tree))
+      (qs : List Pattern) (n : ℕ) (ps : RulePatterns) (head new : Option Pattern)
+      → AreImages sig names theta qs → AllThere theta n → HaveImages sig n ps → Becomes qs head new
+      → Becomes qs (applied sig names head ps) (applied sig names new (all_filled theta ps))
   filled_applied sig names theta qs n no_pattern head new are there has k = k
   filled_applied sig names theta qs n (more_patterns p ps) head new are there has k =
-      filled_applied sig names theta qs n ps (both app head (image_of sig names p)) (both app new (image_of sig names (filled theta p))) are there has.1
-      (becomes_app qs head new (image_of sig names p) (image_of sig names (filled theta p)) k (filled_image sig names theta qs n p are there has.0))
+      filled_applied sig names theta qs n ps (both app head (image_of sig names p))
+      (both app new (image_of sig names (filled theta p))) are there has.1
+      (becomes_app qs head new (image_of sig names p) (image_of sig names (filled theta p)) k
+      (filled_image sig names theta qs n p are there has.0))
 
 -- ---- no object variable
 
 -- patterns without object variables bring none in
-pub instance_closed : (qs : List Pattern) (p : Pattern) → HaveNoVariables qs → HasNoVariable p → HasNoVariable (instance qs p)
+pub instance_closed : (qs : List Pattern) (p : Pattern) → HaveNoVariables qs → HasNoVariable p
+    → HasNoVariable (instance qs p)
 instance_closed qs bot h k = tt
 instance_closed qs top h k = tt
 instance_closed qs (imp p q) h k = (instance_closed qs p h k.0, instance_closed qs q h k.1)
@@ -107,7 +140,8 @@ instance_closed qs (ev p) h k = instance_closed qs p h k
 instance_closed qs (var x) h k = absurd k
 instance_closed qs (meta i) h k = one_closed qs i (meta i) h tt
   where
-    one_closed : (qs : List Pattern) (i : ℕ) (d : Pattern) → HaveNoVariables qs → HasNoVariable d → HasNoVariable (slice_index_or qs i d)
+    one_closed : (qs : List Pattern) (i : ℕ) (d : Pattern) → HaveNoVariables qs → HasNoVariable d
+        → HasNoVariable (slice_index_or qs i d)
     one_closed [] i d h k = k
     one_closed (q ∷ qs) zero d h k = h.0
     one_closed (q ∷ qs) (suc i) d h k = one_closed qs i d h.1 k

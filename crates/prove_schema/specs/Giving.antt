@@ -9,7 +9,8 @@ use Rattle.prove_schema.specs.Using.{AreFacts, IsProved}
 -- each of the hypotheses is proved by `facts` or `others`
 abbrev pub CanProve : List Pattern → List Theorem → List Theorem → Type 0
 CanProve hypotheses facts others =
-    (qs : List Pattern) × (ns : List ℕ) × AreFacts qs ns facts × All (IsProved qs ns others) hypotheses
+    (qs : List Pattern) × (ns : List ℕ) × AreFacts qs ns facts
+    × All (IsProved qs ns others) hypotheses
 
 -- the theorem is one of those given, and says the hypothesis at the patterns qs
 pub record IsGiven (facts others : List Theorem) (h : Pattern) (t : Theorem) : Type 0 where

@@ -11,13 +11,15 @@ IsForAll p = (numbers : List ℕ) × (body : Pattern) × IsSentence numbers body
 
 -- q says of pattern variables what p says of all elements
 abbrev pub IsSchemaOf : Pattern → Pattern → Type 0
-IsSchemaOf p q = (numbers : List ℕ) (body : Pattern) → IsSentence numbers body p → q ≡ with_metas body
+IsSchemaOf p q =
+    (numbers : List ℕ) (body : Pattern) → IsSentence numbers body p → q ≡ with_metas body
 
 -- If a scope has the sentence, and may assume that each pattern variable is one element of the sort
 -- of its variable, it has the theorem t.
 abbrev pub StaysOpen : Theorem → Theorem → Type 0
 StaysOpen sentence t =
-    (numbers : List ℕ) (body : Pattern) → IsSentence numbers body sentence.conclusion → (s : Scope) →
+    (numbers : List ℕ) (body : Pattern) → IsSentence numbers body sentence.conclusion → (s : Scope)
+    →
     IsWithin s sentence → AreAssumed s (meta_facts 0 numbers) → IsWithin s t
 
 abbrev pub IsConditional : Pattern → Type 0

@@ -20,15 +20,19 @@ AreFacts (q ∷ qs) (n ∷ ns) (t ∷ ts) = (t.conclusion ≡ fun q n) × HasNoV
 -- hypothesis says that the variable x is a member of a pattern, and the theorem at place x of
 -- `others` says this of its pattern. Or the hypothesis is an equality, and the last theorem of
 -- `others` says it.
-pub data IsProved (qs : List Pattern) (ns : List ℕ) (others : List Theorem) (h : Pattern) : Type 0 where
+pub data IsProved (qs : List Pattern) (ns : List ℕ) (others : List Theorem) (h : Pattern) :
+    Type 0 where
   by_fact : (x n : ℕ) → slice_get ns x ≡ Some n → h ≡ fun (meta x) n → IsProved qs ns others h
-  by_member : (x : ℕ) (p : Pattern) (t : Theorem) → slice_get others x ≡ Some t → h ≡ member (meta x) p →
-      IsMetaBelow (length qs) h → t.conclusion ≡ instance qs h → IsProved qs ns others h
-  by_condition : (x : ℕ) (p q : Pattern) (t : Theorem) → slice_get others x ≡ Some t → x + 1 ≡ length others →
-      h ≡ equal p q → IsMetaBelow (length qs) h → t.conclusion ≡ instance qs h → IsProved qs ns others h
+  by_member : (x : ℕ) (p : Pattern) (t : Theorem) → slice_get others x ≡ Some t
+      → h ≡ member (meta x) p → IsMetaBelow (length qs) h → t.conclusion ≡ instance qs h
+      → IsProved qs ns others h
+  by_condition : (x : ℕ) (p q : Pattern) (t : Theorem) → slice_get others x ≡ Some t
+      → x + 1 ≡ length others → h ≡ equal p q → IsMetaBelow (length qs) h
+      → t.conclusion ≡ instance qs h → IsProved qs ns others h
 
 -- the lemma can be used at these patterns
-pub record IsUsable (qs : List Pattern) (ns : List ℕ) (lemma : Theorem) (facts others : List Theorem) : Type 0 where
+pub record IsUsable (qs : List Pattern) (ns : List ℕ) (lemma : Theorem)
+    (facts others : List Theorem) : Type 0 where
   pub are : AreFacts qs ns facts
   pub proved : All (IsProved qs ns others) lemma.hypotheses
   pub below : IsMetaBelow (length qs) lemma.conclusion
@@ -36,7 +40,8 @@ pub record IsUsable (qs : List Pattern) (ns : List ℕ) (lemma : Theorem) (facts
 -- the theorem says what the lemma concludes at the patterns
 abbrev pub IsUsed : Theorem → List Theorem → List Theorem → Theorem → Type 0
 IsUsed lemma facts others t =
-    (qs : List Pattern) (ns : List ℕ) → IsUsable qs ns lemma facts others → t.conclusion ≡ instance qs lemma.conclusion
+    (qs : List Pattern) (ns : List ℕ) → IsUsable qs ns lemma facts others
+    → t.conclusion ≡ instance qs lemma.conclusion
 
 -- If the lemma was stated in a scope, and the scope has the parts of the lemma's conclusion and the
 -- given theorems, then it has the theorem t.

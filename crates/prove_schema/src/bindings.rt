@@ -5,7 +5,8 @@ ghost use Rattle.term_core.specs.Patterns.{binding};
 ghost use Rattle.rule_core.specs.ProgramView.{theory_of};
 ghost use Rattle.rule_core.specs.WellSorted.{IsWellSorted};
 ghost use Rattle.prove_term.specs.Contexts.{HasGrown};
-ghost use Rattle.prove_schema.specs.Elements.{AllBound, AreElementsFor, AreTerms, IsBound, IsElementFor, IsElementOf};
+ghost use Rattle.prove_schema.specs.Elements.{AllBound, AreElementsFor, AreTerms, IsBound};
+ghost use Rattle.prove_schema.specs.Elements.{IsElementFor, IsElementOf};
 
 use ml_kernel::Thm;
 use prove_term::{Cx, fun_of};

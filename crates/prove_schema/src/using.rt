@@ -32,7 +32,8 @@ pub fn schema_at(
 // Returns the patterns that the facts say to be one element of a sort.
 fn subjects(alloc: Global, facts: &[Thm]) -> Result<Vec<MPat>, AllocError>
     requires { (qs : List Pattern) × (ns : List ℕ) × AreFacts qs ns facts.now }
-    ensures { IfOk result (λ v. (qs : List Pattern) (ns : List ℕ) → AreFacts qs ns facts.now → v.items ≡ qs) }
+    ensures { IfOk result
+        (λ v. (qs : List Pattern) (ns : List ℕ) → AreFacts qs ns facts.now → v.items ≡ qs) }
 {
     let mut patterns = Vec::with_capacity(alloc, facts.len())?;
     for fact in facts {

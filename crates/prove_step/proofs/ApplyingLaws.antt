@@ -17,26 +17,36 @@ use Rattle.prove_step.specs.Applying.{CanApply}
 use Rattle.prove_step.proofs.StepLaws.{IsCited}
 use Rattle.prove_step.proofs.GrowthLaws.{schema_grown}
 
-pub can_apply_grown : (old new : Context) (r : RewriteRule) (lemma : Theorem) (theta : List (Option Tree)) (o : Option Theorem) → HasGrown old new → CanApply old r lemma theta o → CanApply new r lemma theta o
+pub can_apply_grown : (old new : Context) (r : RewriteRule) (lemma : Theorem)
+    (theta : List (Option Tree)) (o : Option Theorem) → HasGrown old new
+    → CanApply old r lemma theta o → CanApply new r lemma theta o
 can_apply_grown old new r lemma theta o g can = record {
   well_sorted = subst (λ (p : Program). IsWellSorted (theory_of p)) (sym g.program) can.well_sorted;
   image = subst (λ (p : Program). HasRuleImage p.sig r) (sym g.program) can.image;
   room = can.room;
-  respects = subst (λ (p : Program). RespectsSorts p.sig r.variables theta) (sym g.program) can.respects;
+  respects =
+      subst (λ (p : Program). RespectsSorts p.sig r.variables theta) (sym g.program) can.respects;
   bound = can.bound;
   schema = schema_grown old new r lemma g can.schema;
-  listed = subst (λ (ts : List Theorem). Contains ts lemma) (sym g.more_lemmas) (Contains-append_left old.lemmas g.lemmas lemma can.listed);
+  listed =
+      subst (λ (ts : List Theorem). Contains ts lemma) (sym g.more_lemmas)
+      (Contains-append_left old.lemmas g.lemmas lemma can.listed);
   condition = condition_grown old new r.variables theta r.condition o g can.condition;
 }
 
 -- the variables have numbers of 32 bits
-pub few_bound : (cx : Context) (r : RewriteRule) (lemma : Theorem) (theta : List (Option Tree)) (o : Option Theorem) → CanApply cx r lemma theta o → length theta ≤ 2 ^ 32
+pub few_bound : (cx : Context) (r : RewriteRule) (lemma : Theorem) (theta : List (Option Tree))
+    (o : Option Theorem) → CanApply cx r lemma theta o → length theta ≤ 2 ^ 32
 few_bound cx r lemma theta o can = subst (λ (n : ℕ). n ≤ 2 ^ 32) (sym can.room) can.image.few
 
-pub each_bound : (cx : Context) (r : RewriteRule) (lemma : Theorem) (theta : List (Option Tree)) (o : Option Theorem) → CanApply cx r lemma theta o → AllBound cx.program.sig theta
-each_bound cx r lemma theta o can = all_bound cx.program.sig r.variables theta can.respects can.room can.bound
+pub each_bound : (cx : Context) (r : RewriteRule) (lemma : Theorem) (theta : List (Option Tree))
+    (o : Option Theorem) → CanApply cx r lemma theta o → AllBound cx.program.sig theta
+each_bound cx r lemma theta o can =
+    all_bound cx.program.sig r.variables theta can.respects can.room can.bound
 
 -- all that is known when the lemma is cited
-pub cited_at : (old new : Context) (r : RewriteRule) (lemma : Theorem) (theta : List (Option Tree)) (o : Option Theorem) (ts : List Theorem) → HasGrown old new → AreElementsFor new theta ts → CanApply old r lemma theta o → IsCited new r lemma theta o ts
+pub cited_at : (old new : Context) (r : RewriteRule) (lemma : Theorem) (theta : List (Option Tree))
+    (o : Option Theorem) (ts : List Theorem) → HasGrown old new → AreElementsFor new theta ts
+    → CanApply old r lemma theta o → IsCited new r lemma theta o ts
 cited_at old new r lemma theta o ts g elements can =
     record { can = can_apply_grown old new r lemma theta o g can; elements = elements }

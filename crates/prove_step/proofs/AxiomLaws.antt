@@ -1,5 +1,6 @@
 -- The image of a rule, and what it becomes at pattern variables.
-use Rattle.std.proofs.Common.{◌≡◌, ℕ, true, List, Option, Some, None, option_map, length, inl, inr, refl, sym, ◌∙◌, ap, subst}
+use Rattle.std.proofs.Common.{◌≡◌, ℕ, true, List, Option, Some, None, option_map, length, inl, inr}
+use Rattle.std.proofs.Common.{refl, sym, ◌∙◌, ap, subst}
 use Rattle.ml_pat.specs.Patterns.{Pattern, top, imp, and, equal, next}
 use Rattle.term_core.specs.Terms.{truth}
 use Rattle.term_core.specs.Patterns.{Pattern as RulePattern, domain_value}
@@ -25,7 +26,8 @@ abbrev pub body_of : Pattern → Pattern → Pattern → Pattern
 body_of left condition right = imp (and left condition) (next right)
 
 -- the image of a rule
-pub record IsRuleImage (sig : Signature) (names : List (List ℕ)) (r : RewriteRule) (p : Pattern) : Type 0 where
+pub record IsRuleImage (sig : Signature) (names : List (List ℕ)) (r : RewriteRule) (p : Pattern) :
+    Type 0 where
   pub numbers : List ℕ
   pub are : AreNumbers sig names r.variables numbers
   pub left : Pattern
@@ -48,24 +50,44 @@ record Sides (l c r : Option Pattern) (p : Pattern) : Type 0 where
   is_right : r ≡ Some right
   says : p ≡ body_of left condition right
 
-sides : (l c r : Option Pattern) (p : Pattern) → both imp (both and l c) (option_map next r) ≡ Some p → Sides l c r p
+sides : (l c r : Option Pattern) (p : Pattern)
+    → both imp (both and l c) (option_map next r) ≡ Some p → Sides l c r p
 sides None c r p e = absurd (none_some p e)
 sides (Some a) None r p e = absurd (none_some p e)
 sides (Some a) (Some c) None p e = absurd (none_some p e)
 sides (Some a) (Some c) (Some b) p e =
-    record { left = a; is_left = refl; condition = c; is_condition = refl; right = b; is_right = refl; says = sym (some_same (body_of a c b) p e) }
+    record {
+      left = a;
+      is_left = refl;
+      condition = c;
+      is_condition = refl;
+      right = b;
+      is_right = refl;
+      says = sym (some_same (body_of a c b) p e);
+    }
 
-pub rule_image : (sig : Signature) (names : List (List ℕ)) (r : RewriteRule) (p : Pattern) → HasRuleImage sig r → IsImageOf sig names (SaysRule sig r) p → IsRuleImage sig names r p
+pub rule_image : (sig : Signature) (names : List (List ℕ)) (r : RewriteRule) (p : Pattern)
+    → HasRuleImage sig r → IsImageOf sig names (SaysRule sig r) p → IsRuleImage sig names r p
 rule_image sig names r p has (s, rule, image) =
-    let body : Sentence = says.implies (says.and (says.term r.left) rule.condition) (says.next (says.term r.right)) in
-    let inside : IsClosed sig names 0 r.variables body p = closed_image sig names 0 r.variables body p (ap (sentence_image sig names) (sym rule.says) ∙ image) in
-    let parts : Sides (image_of sig names r.left) (sentence_image sig names rule.condition) (image_of sig names r.right) inside.body =
-    sides (image_of sig names r.left) (sentence_image sig names rule.condition) (image_of sig names r.right) inside.body inside.is_body in
-    let many : length r.variables ≡ length inside.numbers = sym (numbers_length sig names r.variables inside.numbers inside.are) in
-    let left : IsOpenFrom 0 (length r.variables) parts.left = image_is_open sig names (length r.variables) r.left has.left parts.left parts.is_left in
+    let body : Sentence =
+    says.implies (says.and (says.term r.left) rule.condition) (says.next (says.term r.right)) in
+    let inside : IsClosed sig names 0 r.variables body p =
+    closed_image sig names 0 r.variables body p
+    (ap (sentence_image sig names) (sym rule.says) ∙ image) in
+    let parts : Sides (image_of sig names r.left) (sentence_image sig names rule.condition)
+    (image_of sig names r.right) inside.body =
+    sides (image_of sig names r.left) (sentence_image sig names rule.condition)
+    (image_of sig names r.right) inside.body inside.is_body in
+    let many : length r.variables ≡ length inside.numbers =
+    sym (numbers_length sig names r.variables inside.numbers inside.are) in
+    let left : IsOpenFrom 0 (length r.variables) parts.left =
+    image_is_open sig names (length r.variables) r.left has.left parts.left parts.is_left in
     let condition : IsOpenFrom 0 (length r.variables) parts.condition =
-    sentence_is_open sig names (length r.variables) rule.condition (condition_open sig r.variables r.condition rule.condition has.condition rule.conditional) parts.condition parts.is_condition in
-    let right : IsOpenFrom 0 (length r.variables) parts.right = image_is_open sig names (length r.variables) r.right has.right parts.right parts.is_right in
+    sentence_is_open sig names (length r.variables) rule.condition
+    (condition_open sig r.variables r.condition rule.condition has.condition rule.conditional)
+    parts.condition parts.is_condition in
+    let right : IsOpenFrom 0 (length r.variables) parts.right =
+    image_is_open sig names (length r.variables) r.right has.right parts.right parts.is_right in
     record {
       numbers = inside.numbers;
       are = inside.are;
@@ -78,24 +100,37 @@ rule_image sig names r p has (s, rule, image) =
       right = parts.right;
       right_image = parts.is_right;
       says = inside.says ∙ ap (closed 0 inside.numbers) parts.says;
-      is_open = subst (λ (n : ℕ). IsOpenFrom 0 n (body_of parts.left parts.condition parts.right)) many ((left, condition), right);
+      is_open =
+          subst (λ (n : ℕ). IsOpenFrom 0 n (body_of parts.left parts.condition parts.right)) many
+          ((left, condition), right);
     }
 
 -- the image says the body for all elements of the sorts of the rule's variables
-pub image_sentence : (sig : Signature) (names : List (List ℕ)) (r : RewriteRule) (p : Pattern) (i : IsRuleImage sig names r p) → IsSentence i.numbers (body_of i.left i.condition i.right) p
+pub image_sentence : (sig : Signature) (names : List (List ℕ)) (r : RewriteRule) (p : Pattern)
+    (i : IsRuleImage sig names r p)
+    → IsSentence i.numbers (body_of i.left i.condition i.right) p
 image_sentence sig names r p i = record { says = i.says; is_open = i.is_open }
 
 -- the image of a condition
-condition_form : (sig : Signature) (names : List (List ℕ)) (vars : List ℕ) (o : Option RulePattern) (holds : Sentence) (c : Pattern) → own.IsCondition sig vars o → condition_of sig vars o ≡ Some holds → sentence_image sig names holds ≡ Some c → IsCondition (with_metas c)
+condition_form : (sig : Signature) (names : List (List ℕ)) (vars : List ℕ) (o : Option RulePattern)
+    (holds : Sentence) (c : Pattern) → own.IsCondition sig vars o
+    → condition_of sig vars o ≡ Some holds → sentence_image sig names holds ≡ Some c
+    → IsCondition (with_metas c)
 condition_form sig names vars None holds c has is image =
     let nothing : holds ≡ says.top = some_same holds says.top (sym is) in
     let same : c ≡ top = some_same c top (sym image ∙ ap (sentence_image sig names) nothing) in
     inl (ap with_metas same)
 condition_form sig names vars (Some q) holds c has is image =
-    let truth_of : holds ≡ is_true q has.sort = condition_is sig vars q has.sort holds has.sorted is in
-    let w : (a : Pattern) × (b : Pattern) × (image_of sig names q ≡ Some a) × (image_of sig names (domain_value has.sort (truth true)) ≡ Some b) × (c ≡ equal a b) =
-    both_some equal (image_of sig names q) (image_of sig names (domain_value has.sort (truth true))) c (ap (sentence_image sig names) (sym truth_of) ∙ image) in
+    let truth_of : holds ≡ is_true q has.sort =
+    condition_is sig vars q has.sort holds has.sorted is in
+    let w : (a : Pattern) × (b : Pattern) × (image_of sig names q ≡ Some a) ×
+    (image_of sig names (domain_value has.sort (truth true)) ≡ Some b) × (c ≡ equal a b) =
+    both_some equal (image_of sig names q) (image_of sig names (domain_value has.sort (truth true)))
+    c (ap (sentence_image sig names) (sym truth_of) ∙ image) in
     inr (with_metas w.0, with_metas w.1, ap with_metas w.4)
 
-pub image_condition : (sig : Signature) (names : List (List ℕ)) (r : RewriteRule) (p : Pattern) → HasRuleImage sig r → (i : IsRuleImage sig names r p) → IsCondition (with_metas i.condition)
-image_condition sig names r p has i = condition_form sig names r.variables r.condition i.holds i.condition has.condition i.is_holds i.condition_image
+pub image_condition : (sig : Signature) (names : List (List ℕ)) (r : RewriteRule) (p : Pattern)
+    → HasRuleImage sig r → (i : IsRuleImage sig names r p) → IsCondition (with_metas i.condition)
+image_condition sig names r p has i =
+    condition_form sig names r.variables r.condition i.holds i.condition has.condition i.is_holds
+    i.condition_image

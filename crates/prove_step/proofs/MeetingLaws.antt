@@ -1,12 +1,16 @@
 -- If no two injections meet, a pattern as it is written becomes a normal term.
-use Rattle.std.proofs.Common.{◌≡◌, ℕ, Bool, true, false, List, Option, Some, None, option_map, inl, inr, refl, sym, ◌∙◌, ap, arith}
+use Rattle.std.proofs.Common.{◌≡◌, ℕ, Bool, true, false, List, Option, Some, None, option_map, inl}
+use Rattle.std.proofs.Common.{inr, refl, sym, ◌∙◌, ap, arith}
 use Rattle.std.specs.Prelude.{◌⊎◌, ◌||◌, ◌==◌, ◌≢◌}
 use Rattle.std.proofs.lemmas.Bool.Decides.{eqb_tells}
 use Rattle.term_core.specs.Terms.{Tree, Forest, leaf, node, inj, injected, height}
-use Rattle.term_core.specs.Patterns.{Pattern, Patterns, variable, domain_value, application, injection, call, no_pattern, more_patterns}
-use Rattle.term_core.specs.Patterns.{with_first, substituted, all_substituted, instance_of, instances_of}
+use Rattle.term_core.specs.Patterns.{Pattern, Patterns, variable, domain_value, application}
+use Rattle.term_core.specs.Patterns.{injection, call, no_pattern, more_patterns}
+use Rattle.term_core.specs.Patterns.{with_first, substituted, all_substituted, instance_of}
+use Rattle.term_core.specs.Patterns.{instances_of}
 use Rattle.rule_core.proofs.SortedInstances.{mapped}
-use Rattle.prove_step.specs.Meeting.{is_injection, is_injection_there, becomes_injection, meet_in, meet_in_some}
+use Rattle.prove_step.specs.Meeting.{is_injection, is_injection_there, becomes_injection, meet_in}
+use Rattle.prove_step.specs.Meeting.{meet_in_some}
 
 true_false : true ≡ false → ⊥
 true_false h = cc
@@ -23,7 +27,8 @@ plain_injected a b (leaf s v) h = refl
 plain_injected a b (node f ts) h = refl
 plain_injected a b (inj c d t) h = absurd (true_false h)
 
-kept : (a b : ℕ) (o : Option Tree) → ((t : Tree) → o ≡ Some t → is_injection t ≡ false) → option_map (inj a b) o ≡ option_map (injected a b) o
+kept : (a b : ℕ) (o : Option Tree) → ((t : Tree) → o ≡ Some t → is_injection t ≡ false)
+    → option_map (inj a b) o ≡ option_map (injected a b) o
 kept a b None h = refl
 kept a b (Some t) h = ap (λ (u : Tree). Some u) (plain_injected a b t (h t refl))
 
@@ -42,18 +47,21 @@ same_number m n same = go (eqb_tells m n)
     go (inr differ) = absurd (differ.1 same)
 
 -- injecting makes a term higher if and only if the term is not an injection
-pub high_tells : (t : Tree) (m n : ℕ) → height (injected 0 0 t) ≡ m → n ≡ height t → (m == n) ≡ is_injection t
+pub high_tells : (t : Tree) (m n : ℕ) → height (injected 0 0 t) ≡ m → n ≡ height t
+    → (m == n) ≡ is_injection t
 high_tells (leaf s v) m n high is = not_same m n (λ (e : m ≡ n). omega (arith, high, is, e))
 high_tells (node f ts) m n high is = not_same m n (λ (e : m ≡ n). omega (arith, high, is, e))
 high_tells (inj a b t) m n high is = same_number m n (omega (arith, high, is))
 
 -- ---- patterns
 
-no_injection : (theta : List (Option Tree)) (p : Pattern) (t : Tree) → becomes_injection theta p ≡ false → instance_of theta p ≡ Some t → is_injection t ≡ false
+no_injection : (theta : List (Option Tree)) (p : Pattern) (t : Tree)
+    → becomes_injection theta p ≡ false → instance_of theta p ≡ Some t → is_injection t ≡ false
 no_injection theta (variable x) t h e = sym (ap is_injection_there e) ∙ h
 no_injection theta (domain_value s v) t h e = sym (ap is_injection_there e)
 no_injection theta (application f ps) t h e =
-    let from : (ts : Forest) × ((instances_of theta ps ≡ Some ts) × (node f ts ≡ t)) = mapped (node f) (instances_of theta ps) t e in
+    let from : (ts : Forest) × ((instances_of theta ps ≡ Some ts) × (node f ts ≡ t)) =
+    mapped (node f) (instances_of theta ps) t e in
     sym (ap is_injection from.1.1)
 no_injection theta (injection a b p) t h e = absurd (true_false h)
 no_injection theta (call f ss ps) t h e = absurd (none_some t e)
@@ -62,18 +70,24 @@ no_injection theta (call f ss ps) t h e = absurd (none_some t e)
     none_some u z = cc
 
 mutual
-  pub unmet_instance : (theta : List (Option Tree)) (p : Pattern) → meet_in theta p ≡ false → substituted theta p ≡ instance_of theta p
+  pub unmet_instance : (theta : List (Option Tree)) (p : Pattern) → meet_in theta p ≡ false
+      → substituted theta p ≡ instance_of theta p
   unmet_instance theta (variable x) h = refl
   unmet_instance theta (domain_value s v) h = refl
   unmet_instance theta (application f ps) h = ap (option_map (node f)) (unmet_instances theta ps h)
   unmet_instance theta (injection a b p) h =
-      let parts : (becomes_injection theta p ≡ false) × (meet_in theta p ≡ false) = neither (becomes_injection theta p) (meet_in theta p) h in
-      ap (option_map (inj a b)) (unmet_instance theta p parts.1) ∙ kept a b (instance_of theta p) (λ t e. no_injection theta p t parts.0 e)
+      let parts : (becomes_injection theta p ≡ false) × (meet_in theta p ≡ false) =
+      neither (becomes_injection theta p) (meet_in theta p) h in
+      ap (option_map (inj a b)) (unmet_instance theta p parts.1)
+      ∙ kept a b (instance_of theta p) (λ t e. no_injection theta p t parts.0 e)
   unmet_instance theta (call f ss ps) h = refl
 
-  unmet_instances : (theta : List (Option Tree)) (ps : Patterns) → meet_in_some theta ps ≡ false → all_substituted theta ps ≡ instances_of theta ps
+  unmet_instances : (theta : List (Option Tree)) (ps : Patterns) → meet_in_some theta ps ≡ false
+      → all_substituted theta ps ≡ instances_of theta ps
   unmet_instances theta no_pattern h = refl
   unmet_instances theta (more_patterns p ps) h =
-      let parts : (meet_in theta p ≡ false) × (meet_in_some theta ps ≡ false) = neither (meet_in theta p) (meet_in_some theta ps) h in
-      ap (λ (o : Option Tree). with_first o (all_substituted theta ps)) (unmet_instance theta p parts.0)
+      let parts : (meet_in theta p ≡ false) × (meet_in_some theta ps ≡ false) =
+      neither (meet_in theta p) (meet_in_some theta ps) h in
+      ap (λ (o : Option Tree). with_first o (all_substituted theta ps))
+      (unmet_instance theta p parts.0)
       ∙ ap (with_first (instance_of theta p)) (unmet_instances theta ps parts.1)

@@ -12,7 +12,8 @@ context_of a = a.cx
 
 -- There is room for one place per rule. The lemma at a kept place is the lemma of its rule. The
 -- kept lemmas of equations and of sides are right too.
-pub record AreLemmas (cx : Context) (places : List (Option ℕ)) (kept : List ((ℕ × ℕ) × ℕ)) (lemmas : SideLemmas) :
+pub record AreLemmas (cx : Context) (places : List (Option ℕ)) (kept : List ((ℕ × ℕ) × ℕ))
+    (lemmas : SideLemmas) :
     Type 0 where
   pub room : length places ≡ length cx.program.rules.items
   pub rules : AreRuleLemmas cx places

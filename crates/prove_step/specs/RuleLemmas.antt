@@ -1,5 +1,6 @@
 -- Rules as lemmas: what the lemma of a rule says of its pattern variables.
-use Rattle.std.specs.Prelude.{◌≡◌, ◌⊎◌, ◌++◌, ℕ, List, Contains, Option, Some, None, slice_get, slice_index_or}
+use Rattle.std.specs.Prelude.{◌≡◌, ◌⊎◌, ◌++◌, ℕ, List, Contains, Option, Some, None, slice_get}
+use Rattle.std.specs.Prelude.{slice_index_or}
 use Rattle.std.specs.List.{AllZip}
 use Rattle.ml_pat.specs.Patterns.{Pattern, top, imp, and, equal, next}
 use Rattle.ml_kernel.specs.Theorems.{Theorem}

@@ -26,16 +26,19 @@ pub record CanTurn (side : Side) (e : Option Theorem) (step : Theorem) : Type 0 
 -- the theorem says the step with q at the side instead of p
 abbrev pub IsTurned : Side → Option Theorem → Theorem → Theorem → Type 0
 IsTurned side e step t =
-    (p q r : Pattern) → Turns e p q → step.conclusion ≡ step_of side p r → t.conclusion ≡ step_of side q r
+    (p q r : Pattern) → Turns e p q → step.conclusion ≡ step_of side p r
+    → t.conclusion ≡ step_of side q r
 
 -- a scope that has the context, the equality and the step has the theorem
 abbrev pub StaysTurned : Context → Option Theorem → Theorem → Theorem → Type 0
-StaysTurned cx e step t = (s : Scope) → HasContext s cx → IfSome e (IsWithin s) → IsWithin s step → IsWithin s t
+StaysTurned cx e step t =
+    (s : Scope) → HasContext s cx → IfSome e (IsWithin s) → IsWithin s step → IsWithin s t
 
 -- the same for a scope in which the lemma was stated
 abbrev pub StaysCiting : Theorem → Theorem → Theorem → Theorem → Type 0
 StaysCiting lemma e step t =
-    (s : Scope) → IsStatedIn s lemma.hypotheses lemma.conclusion → AreWithin s (e ∷ step ∷ []) → IsWithin s t
+    (s : Scope) → IsStatedIn s lemma.hypotheses lemma.conclusion → AreWithin s (e ∷ step ∷ [])
+    → IsWithin s t
 
 -- the theorem is the equality if the hypothesis is an equality, and the step if the hypothesis is
 -- an implication

@@ -6,7 +6,7 @@ ghost use Rattle.prove_fun.specs.KeptLemmas.{IsKeptIn};
 ghost use Rattle.prove_step.specs.Applying.{IsStepOf, SaysConditionAt};
 
 use ml_kernel::Thm;
-use prove_fun::{Kept, value_eq};
+use prove_fun::{LemmaPlaces, value_eq};
 use prove_term::Cx;
 use rule_core::StepRecord;
 use std::alloc::{AllocError, Global};
@@ -15,7 +15,7 @@ use std::alloc::{AllocError, Global};
 pub(crate) fn condition_held(
     alloc: Global,
     cx: &mut Cx<'_>,
-    kept: &mut Kept,
+    kept: &mut LemmaPlaces,
     step: &StepRecord,
 ) -> Result<Option<Thm>, AllocError>
     requires step { IsStepOf cx.old.program (plain_step step.now) }

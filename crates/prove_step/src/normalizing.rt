@@ -19,7 +19,7 @@ use crate::meeting::meet_in;
 use crate::side_lemmas::{Side, SideLemmas};
 use crate::turning::turned;
 use ml_kernel::Thm;
-use prove_fun::{Kept, eval_eq};
+use prove_fun::{LemmaPlaces, eval_eq};
 use prove_term::{Cx, inj_eq};
 use rule_core::StepRecord;
 use std::alloc::{AllocError, Global};
@@ -30,7 +30,7 @@ use term_core::{RulePat, Subst};
 pub(crate) fn normalized(
     alloc: Global,
     cx: &mut Cx<'_>,
-    kept: &mut Kept,
+    kept: &mut LemmaPlaces,
     lemmas: &mut SideLemmas,
     step: &StepRecord,
     written: Thm,

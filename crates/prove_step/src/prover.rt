@@ -8,7 +8,7 @@ ghost use Rattle.rule_core.specs.ProgramView.{theory_of};
 ghost use Rattle.rule_core.specs.Records.{Records, result_of};
 ghost use Rattle.rule_core.specs.RecordView.{plain_record, plain_step};
 ghost use Rattle.rule_core.specs.Sorting.{HasSort};
-ghost use Rattle.rule_core.specs.WellSorted.{IsWellSorted, Serves};
+ghost use Rattle.rule_core.specs.WellSorted.{IsWellSorted, BindsVariablesOf};
 ghost use Rattle.ml_image.specs.Images.{image_of};
 ghost use Rattle.ml_image.specs.HasImages.{HasImage};
 ghost use Rattle.prove_term.specs.Contexts.{HasGrown, IsLemmaIn, StaysIn, new_context};
@@ -24,7 +24,7 @@ use crate::schemas::rule_schema;
 use crate::side_lemmas::SideLemmas;
 use ml_kernel::{Lemma, Thm};
 use ml_pat::MPat;
-use prove_fun::{Kept, eval_eq};
+use prove_fun::{LemmaPlaces, eval_eq};
 use prove_term::Cx;
 use rule_core::{EvalRecord, Program, StepRecord};
 use std::alloc::{AllocError, Global};
@@ -39,7 +39,7 @@ pub struct Prover<'p> {
     // The place of the lemma of each rule that was used.
     rules: Vec<Option<usize>>,
     // The places of the lemmas of the equations that were used.
-    kept: Kept,
+    kept: LemmaPlaces,
     // The lemmas that replace a side of a step by what it equals.
     sides: SideLemmas,
 }
@@ -71,7 +71,7 @@ impl<'p> Prover<'p> {
         Ok(Prover {
             cx: Cx::new(alloc, program),
             rules: no_lemmas(alloc, program.rules.len())?,
-            kept: Kept::new(alloc),
+            kept: LemmaPlaces::new(alloc),
             sides: SideLemmas::none(),
         })
     }
@@ -109,11 +109,12 @@ impl<'p> Prover<'p> {
         requires bound { HasBoundVariables self.old.program }
         requires sorted { (variables : List ℕ) × (sort : ℕ)
             × HasSort self.old.program.sig variables (plain_pattern pat.now) sort
-            × Serves self.old.program.sig variables subst.now (plain_pattern pat.now) }
+            × BindsVariablesOf self.old.program.sig variables subst.now (plain_pattern pat.now) }
         requires recorded { Records (theory_of self.old.program) subst.now (plain_pattern pat.now)
             (plain_record evaluation.now) }
         ensures says { IfOk result
-            (EqualsValue self.new subst.now (plain_pattern pat.now) (result_of (plain_record evaluation.now))) }
+            (EqualsValue self.new subst.now (plain_pattern pat.now)
+            (result_of (plain_record evaluation.now))) }
         ensures stays { IfOk result (λ o. IfSome o (StaysIn self.new)) }
         ensures grown { HasGrown self.old self.new }
     {
@@ -124,7 +125,8 @@ impl<'p> Prover<'p> {
     /// its own hypotheses. `AllocError`: out of memory. Then nothing changes.
     pub fn add_lemma(&mut self, alloc: Global, thm: Thm) -> Result<(), AllocError>
         requires { IsLemmaIn self.old thm }
-        ensures ok { OnOk result (self.new ≡ record self.old { lemmas = self.old.lemmas ++ thm ∷ [] }) }
+        ensures ok { OnOk result
+            (self.new ≡ record self.old { lemmas = self.old.lemmas ++ thm ∷ [] }) }
         ensures err { OnErr result (self.new ≡ self.old) }
     {
         self.cx.add_lemma(alloc, thm)
@@ -135,7 +137,8 @@ impl<'p> Prover<'p> {
     pub fn step(&mut self, alloc: Global, step: &StepRecord) -> Result<Thm, AllocError>
         requires well_sorted { IsWellSorted (theory_of self.old.program) }
         requires bound { HasBoundVariables self.old.program }
-        requires follows { (t : Tree) × IsStepFrom (theory_of self.old.program) t (plain_step step.now) }
+        requires follows { (t : Tree)
+            × IsStepFrom (theory_of self.old.program) t (plain_step step.now) }
         ensures says { IfOk result (λ thm. (t : Tree) →
             IsStepFrom (theory_of self.new.program) t (plain_step step.now) →
             SaysStep self.new t (result_of (plain_step step.now).right) thm.conclusion) }

@@ -41,7 +41,8 @@ impl SideLemmas {
 
     // Returns the lemma for a side, if it was made.
     fn of(&self, side: Side) -> &Option<Lemma>
-        ensures { (cx : Context) → AreSideLemmas cx self.now → IfSome result.now (IsSideLemmaIn cx side) }
+        ensures { (cx : Context) → AreSideLemmas cx self.now
+            → IfSome result.now (IsSideLemmaIn cx side) }
     {
         match side {
             Side::Left => &self.left,

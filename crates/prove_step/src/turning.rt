@@ -63,7 +63,8 @@ fn turned_by(
 // Returns p, q and the other side of the step.
 fn images(alloc: Global, side: Side, e: &MPat, step: &MPat) -> Result<Vec<MPat>, AllocError>
     requires { (p q r : Pattern) × (e.now ≡ equal p q) × (step.now ≡ step_of side p r) }
-    ensures { IfOk result (λ v. (p q r : Pattern) → e.now ≡ equal p q → step.now ≡ step_of side p r →
+    ensures { IfOk result
+        (λ v. (p q r : Pattern) → e.now ≡ equal p q → step.now ≡ step_of side p r →
         v.items ≡ p ∷ q ∷ r ∷ []) }
 {
     let (p, q) = equated(e);

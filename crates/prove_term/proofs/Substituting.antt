@@ -1,46 +1,63 @@
 -- Pattern variables substituted into sentences on a symbol, one after another.
-use Rattle.std.proofs.Common.{◌≡◌, ◌<◌, ◌+◌, ℕ, zero, suc, Bool, true, false, List, [], ◌∷◌, Option, Some, None, option_map, length, refl, sym, ◌∙◌, ap, subst, arith, inl, inr}
+use Rattle.std.proofs.Common.{◌≡◌, ◌<◌, ◌+◌, ℕ, zero, suc, Bool, true, false, List, [], ◌∷◌, Option}
+use Rattle.std.proofs.Common.{Some, None, option_map, length, refl, sym, ◌∙◌, ap, subst, arith, inl}
+use Rattle.std.proofs.Common.{inr}
 use Rattle.std.specs.Prelude.{◌==◌, ◌&&◌, ◌||◌, if◌then◌else◌, ◌⊎◌}
-use Rattle.ml_pat.specs.Patterns.{Pattern, bot, top, imp, not, and, or, equal, member, fun, ex, all, app, at_sort, next, ev, var, meta, constant}
+use Rattle.ml_pat.specs.Patterns.{Pattern, bot, top, imp, not, and, or, equal, member, fun, ex, all}
+use Rattle.ml_pat.specs.Patterns.{app, at_sort, next, ev, var, meta, constant}
 use Rattle.ml_pat.specs.Leaves.{LeafFacts, EachLeaf}
-use Rattle.ml_pat.specs.Judgements.{fresh, absent, IsAbsent, both_parts, under_quantifier, substituted}
+use Rattle.ml_pat.specs.Judgements.{fresh, absent, IsAbsent, both_parts, under_quantifier}
+use Rattle.ml_pat.specs.Judgements.{substituted}
 use Rattle.ml_pat.proofs.LeafLaws.{both_true}
 use Rattle.ml_kernel.specs.Lemmas.{HasNoVariable}
 use Rattle.ml_image.specs.Counted.{at_variables}
 use Rattle.ml_image.proofs.ImageLaws.{none_some, some_same}
-use Rattle.prove_term.specs.Schemas.{at_metas, all_from, partly}
+use Rattle.prove_term.specs.Schemas.{at_metas, all_from, totality_from}
 
 -- ---- leaves
 
-parts_some : (f : Pattern → Pattern → Pattern) (a b : Option Pattern) (r : Pattern) → both_parts f a b ≡ Some r → (p : Pattern) × (q : Pattern) × (a ≡ Some p) × (b ≡ Some q) × (r ≡ f p q)
+parts_some : (f : Pattern → Pattern → Pattern) (a b : Option Pattern) (r : Pattern)
+    → both_parts f a b ≡ Some r
+    → (p : Pattern) × (q : Pattern) × (a ≡ Some p) × (b ≡ Some q) × (r ≡ f p q)
 parts_some f None b r h = absurd (none_some r h)
 parts_some f (Some p) None r h = absurd (none_some r h)
 parts_some f (Some p) (Some q) r h = (p, q, refl, refl, sym (some_same (f p q) r h))
 
-part_some : (f : Pattern → Pattern) (a : Option Pattern) (r : Pattern) → option_map f a ≡ Some r → (p : Pattern) × (a ≡ Some p) × (r ≡ f p)
+part_some : (f : Pattern → Pattern) (a : Option Pattern) (r : Pattern) → option_map f a ≡ Some r
+    → (p : Pattern) × (a ≡ Some p) × (r ≡ f p)
 part_some f None r h = absurd (none_some r h)
 part_some f (Some p) r h = (p, refl, sym (some_same (f p) r h))
 
-quantified_some : (f : Pattern → Pattern) (x y : ℕ) (u p : Pattern) (o : Option Pattern) (r : Pattern) → under_quantifier f x y u p o ≡ Some r → (r ≡ f p) ⊎ ((q : Pattern) × (o ≡ Some q) × (r ≡ f q))
+quantified_some : (f : Pattern → Pattern) (x y : ℕ) (u p : Pattern) (o : Option Pattern)
+    (r : Pattern) → under_quantifier f x y u p o ≡ Some r
+    → (r ≡ f p) ⊎ ((q : Pattern) × (o ≡ Some q) × (r ≡ f q))
 quantified_some f x y u p o r h = go ((x == y) || fresh x p) (fresh y u) h
   where
-    go : (b c : Bool) → (if b then Some (f p) else (if c then option_map f o else None)) ≡ Some r → (r ≡ f p) ⊎ ((q : Pattern) × (o ≡ Some q) × (r ≡ f q))
+    go : (b c : Bool) → (if b then Some (f p) else (if c then option_map f o else None)) ≡ Some r
+        → (r ≡ f p) ⊎ ((q : Pattern) × (o ≡ Some q) × (r ≡ f q))
     go true c k = inl (sym (some_same (f p) r k))
     go false true k = inr (part_some f o r k)
     go false false k = absurd (none_some r k)
 
-two_over : (l : LeafFacts) (f : Pattern → Pattern → Pattern) (a b : Option Pattern) (r : Pattern) → ((p q : Pattern) → EachLeaf l p → EachLeaf l q → EachLeaf l (f p q))
-    → ((p : Pattern) → a ≡ Some p → EachLeaf l p) → ((q : Pattern) → b ≡ Some q → EachLeaf l q) → both_parts f a b ≡ Some r → EachLeaf l r
+two_over : (l : LeafFacts) (f : Pattern → Pattern → Pattern) (a b : Option Pattern) (r : Pattern)
+    → ((p q : Pattern) → EachLeaf l p → EachLeaf l q → EachLeaf l (f p q))
+    → ((p : Pattern) → a ≡ Some p → EachLeaf l p) → ((q : Pattern) → b ≡ Some q → EachLeaf l q)
+    → both_parts f a b ≡ Some r → EachLeaf l r
 two_over l f a b r joins ha hb h =
-    let w : (p : Pattern) × (q : Pattern) × (a ≡ Some p) × (b ≡ Some q) × (r ≡ f p q) = parts_some f a b r h in
+    let w : (p : Pattern) × (q : Pattern) × (a ≡ Some p) × (b ≡ Some q) × (r ≡ f p q) =
+    parts_some f a b r h in
     subst (EachLeaf l) (sym w.4) (joins w.0 w.1 (ha w.0 w.2) (hb w.1 w.3))
 
-one_over : (l : LeafFacts) (f : Pattern → Pattern) (a : Option Pattern) (r : Pattern) → ((p : Pattern) → EachLeaf l p → EachLeaf l (f p)) → ((p : Pattern) → a ≡ Some p → EachLeaf l p) → option_map f a ≡ Some r → EachLeaf l r
+one_over : (l : LeafFacts) (f : Pattern → Pattern) (a : Option Pattern) (r : Pattern)
+    → ((p : Pattern) → EachLeaf l p → EachLeaf l (f p))
+    → ((p : Pattern) → a ≡ Some p → EachLeaf l p) → option_map f a ≡ Some r → EachLeaf l r
 one_over l f a r keeps ha h =
     let w : (p : Pattern) × (a ≡ Some p) × (r ≡ f p) = part_some f a r h in
     subst (EachLeaf l) (sym w.2) (keeps w.0 (ha w.0 w.1))
 
-quantified_over : (l : LeafFacts) (f : Pattern → Pattern) (x y : ℕ) (u p : Pattern) (o : Option Pattern) (r : Pattern) → ((q : Pattern) → EachLeaf l q → EachLeaf l (f q)) → EachLeaf l p → ((q : Pattern) → o ≡ Some q → EachLeaf l q)
+quantified_over : (l : LeafFacts) (f : Pattern → Pattern) (x y : ℕ) (u p : Pattern)
+    (o : Option Pattern) (r : Pattern) → ((q : Pattern) → EachLeaf l q → EachLeaf l (f q))
+    → EachLeaf l p → ((q : Pattern) → o ≡ Some q → EachLeaf l q)
     → under_quantifier f x y u p o ≡ Some r → EachLeaf l r
 quantified_over l f x y u p o r keeps hp ho h = go (quantified_some f x y u p o r h)
   where
@@ -48,7 +65,8 @@ quantified_over l f x y u p o r keeps hp ho h = go (quantified_some f x y u p o 
     go (inl same) = subst (EachLeaf l) (sym same) (keeps p hp)
     go (inr (q, there, same)) = subst (EachLeaf l) (sym same) (keeps q (ho q there))
 
-variable_over : (l : LeafFacts) (x y : ℕ) (u r : Pattern) → l.object y → EachLeaf l u → (if x == y then Some u else Some (var y)) ≡ Some r → EachLeaf l r
+variable_over : (l : LeafFacts) (x y : ℕ) (u r : Pattern) → l.object y → EachLeaf l u
+    → (if x == y then Some u else Some (var y)) ≡ Some r → EachLeaf l r
 variable_over l x y u r hy hu h = go (x == y) h
   where
     go : (b : Bool) → (if b then Some u else Some (var y)) ≡ Some r → EachLeaf l r
@@ -57,22 +75,46 @@ variable_over l x y u r hy hu h = go (x == y) h
 
 -- If something is true of the leaves of two patterns, it is true of the leaves of one with the
 -- other substituted in it.
-pub over_substituted : (l : LeafFacts) (p : Pattern) (x : ℕ) (u r : Pattern) → EachLeaf l p → EachLeaf l u → substituted p x u ≡ Some r → EachLeaf l r
+pub over_substituted : (l : LeafFacts) (p : Pattern) (x : ℕ) (u r : Pattern) → EachLeaf l p
+    → EachLeaf l u → substituted p x u ≡ Some r → EachLeaf l r
 over_substituted l bot x u r hp hu h = subst (EachLeaf l) (some_same bot r h) tt
 over_substituted l top x u r hp hu h = subst (EachLeaf l) (some_same top r h) tt
-over_substituted l (imp p q) x u r hp hu h = two_over l imp _ _ r (λ a b ha hb. (ha, hb)) (λ a e. over_substituted l p x u a hp.0 hu e) (λ b e. over_substituted l q x u b hp.1 hu e) h
-over_substituted l (not p) x u r hp hu h = one_over l not _ r (λ a ha. ha) (λ a e. over_substituted l p x u a hp hu e) h
-over_substituted l (and p q) x u r hp hu h = two_over l and _ _ r (λ a b ha hb. (ha, hb)) (λ a e. over_substituted l p x u a hp.0 hu e) (λ b e. over_substituted l q x u b hp.1 hu e) h
-over_substituted l (or p q) x u r hp hu h = two_over l or _ _ r (λ a b ha hb. (ha, hb)) (λ a e. over_substituted l p x u a hp.0 hu e) (λ b e. over_substituted l q x u b hp.1 hu e) h
-over_substituted l (equal p q) x u r hp hu h = two_over l equal _ _ r (λ a b ha hb. (ha, hb)) (λ a e. over_substituted l p x u a hp.0 hu e) (λ b e. over_substituted l q x u b hp.1 hu e) h
-over_substituted l (member p q) x u r hp hu h = two_over l member _ _ r (λ a b ha hb. (ha, hb)) (λ a e. over_substituted l p x u a hp.0 hu e) (λ b e. over_substituted l q x u b hp.1 hu e) h
-over_substituted l (fun p s) x u r hp hu h = one_over l (λ a. fun a s) _ r (λ a ha. (ha, hp.1)) (λ a e. over_substituted l p x u a hp.0 hu e) h
-over_substituted l (ex y s p) x u r hp hu h = quantified_over l (ex y s) x y u p _ r (λ a ha. (ha, hp.1)) hp.0 (λ a e. over_substituted l p x u a hp.0 hu e) h
-over_substituted l (all y s p) x u r hp hu h = quantified_over l (all y s) x y u p _ r (λ a ha. (ha, hp.1)) hp.0 (λ a e. over_substituted l p x u a hp.0 hu e) h
-over_substituted l (app p q) x u r hp hu h = two_over l app _ _ r (λ a b ha hb. (ha, hb)) (λ a e. over_substituted l p x u a hp.0 hu e) (λ b e. over_substituted l q x u b hp.1 hu e) h
-over_substituted l (at_sort p s) x u r hp hu h = one_over l (λ a. at_sort a s) _ r (λ a ha. (ha, hp.1)) (λ a e. over_substituted l p x u a hp.0 hu e) h
-over_substituted l (next p) x u r hp hu h = one_over l next _ r (λ a ha. ha) (λ a e. over_substituted l p x u a hp hu e) h
-over_substituted l (ev p) x u r hp hu h = one_over l ev _ r (λ a ha. ha) (λ a e. over_substituted l p x u a hp hu e) h
+over_substituted l (imp p q) x u r hp hu h =
+    two_over l imp _ _ r (λ a b ha hb. (ha, hb)) (λ a e. over_substituted l p x u a hp.0 hu e)
+    (λ b e. over_substituted l q x u b hp.1 hu e) h
+over_substituted l (not p) x u r hp hu h =
+    one_over l not _ r (λ a ha. ha) (λ a e. over_substituted l p x u a hp hu e) h
+over_substituted l (and p q) x u r hp hu h =
+    two_over l and _ _ r (λ a b ha hb. (ha, hb)) (λ a e. over_substituted l p x u a hp.0 hu e)
+    (λ b e. over_substituted l q x u b hp.1 hu e) h
+over_substituted l (or p q) x u r hp hu h =
+    two_over l or _ _ r (λ a b ha hb. (ha, hb)) (λ a e. over_substituted l p x u a hp.0 hu e)
+    (λ b e. over_substituted l q x u b hp.1 hu e) h
+over_substituted l (equal p q) x u r hp hu h =
+    two_over l equal _ _ r (λ a b ha hb. (ha, hb)) (λ a e. over_substituted l p x u a hp.0 hu e)
+    (λ b e. over_substituted l q x u b hp.1 hu e) h
+over_substituted l (member p q) x u r hp hu h =
+    two_over l member _ _ r (λ a b ha hb. (ha, hb)) (λ a e. over_substituted l p x u a hp.0 hu e)
+    (λ b e. over_substituted l q x u b hp.1 hu e) h
+over_substituted l (fun p s) x u r hp hu h =
+    one_over l (λ a. fun a s) _ r (λ a ha. (ha, hp.1)) (λ a e. over_substituted l p x u a hp.0 hu e)
+    h
+over_substituted l (ex y s p) x u r hp hu h =
+    quantified_over l (ex y s) x y u p _ r (λ a ha. (ha, hp.1)) hp.0
+    (λ a e. over_substituted l p x u a hp.0 hu e) h
+over_substituted l (all y s p) x u r hp hu h =
+    quantified_over l (all y s) x y u p _ r (λ a ha. (ha, hp.1)) hp.0
+    (λ a e. over_substituted l p x u a hp.0 hu e) h
+over_substituted l (app p q) x u r hp hu h =
+    two_over l app _ _ r (λ a b ha hb. (ha, hb)) (λ a e. over_substituted l p x u a hp.0 hu e)
+    (λ b e. over_substituted l q x u b hp.1 hu e) h
+over_substituted l (at_sort p s) x u r hp hu h =
+    one_over l (λ a. at_sort a s) _ r (λ a ha. (ha, hp.1))
+    (λ a e. over_substituted l p x u a hp.0 hu e) h
+over_substituted l (next p) x u r hp hu h =
+    one_over l next _ r (λ a ha. ha) (λ a e. over_substituted l p x u a hp hu e) h
+over_substituted l (ev p) x u r hp hu h =
+    one_over l ev _ r (λ a ha. ha) (λ a e. over_substituted l p x u a hp hu e) h
 over_substituted l (var y) x u r hp hu h = variable_over l x y u r hp hu h
 over_substituted l (meta i) x u r hp hu h = subst (EachLeaf l) (some_same (meta i) r h) hp
 over_substituted l (constant c) x u r hp hu h = subst (EachLeaf l) (some_same (constant c) r h) hp
@@ -89,61 +131,101 @@ and_false : (a : Bool) → (a && false) ≡ false
 and_false true = refl
 and_false false = refl
 
-free_in_variables : (m k x : ℕ) (h : Pattern) → fresh x h ≡ false → fresh x (at_variables h k m) ≡ false
+free_in_variables : (m k x : ℕ) (h : Pattern) → fresh x h ≡ false
+    → fresh x (at_variables h k m) ≡ false
 free_in_variables zero k x h free = free
 free_in_variables (suc m) k x h free = free_in_variables m (k + 1) x (app h (var k)) (rw free refl)
 
-put_in_variables : (m k x : ℕ) (u h h' : Pattern) → x < k → substituted h x u ≡ Some h' → substituted (at_variables h k m) x u ≡ Some (at_variables h' k m)
+put_in_variables : (m k x : ℕ) (u h h' : Pattern) → x < k → substituted h x u ≡ Some h'
+    → substituted (at_variables h k m) x u ≡ Some (at_variables h' k m)
 put_in_variables zero k x u h h' low put = put
 put_in_variables (suc m) k x u h h' low put =
-    put_in_variables m (k + 1) x u (app h (var k)) (app h' (var k)) (omega (arith, low)) (rw (put, differ x k low) refl)
+    put_in_variables m (k + 1) x u (app h (var k)) (app h' (var k)) (omega (arith, low))
+    (rw (put, differ x k low) refl)
 
-free_in_closing : (rest : List ℕ) (k x : ℕ) (p : Pattern) → x < k → fresh x p ≡ false → fresh x (all_from k rest p) ≡ false
+free_in_closing : (rest : List ℕ) (k x : ℕ) (p : Pattern) → x < k → fresh x p ≡ false
+    → fresh x (all_from k rest p) ≡ false
 free_in_closing [] k x p low free = free
-free_in_closing (s ∷ rest) k x p low free = rw (differ x k low) (free_in_closing rest (k + 1) x p (omega (arith, low)) free)
+free_in_closing (s ∷ rest) k x p low free =
+    rw (differ x k low) (free_in_closing rest (k + 1) x p (omega (arith, low)) free)
 
-put_in_closing : (rest : List ℕ) (k x i : ℕ) (p p' : Pattern) → x < k → fresh x p ≡ false → substituted p x (meta i) ≡ Some p' → substituted (all_from k rest p) x (meta i) ≡ Some (all_from k rest p')
+put_in_closing : (rest : List ℕ) (k x i : ℕ) (p p' : Pattern) → x < k → fresh x p ≡ false
+    → substituted p x (meta i) ≡ Some p'
+    → substituted (all_from k rest p) x (meta i) ≡ Some (all_from k rest p')
 put_in_closing [] k x i p p' low free put = put
 put_in_closing (s ∷ rest) k x i p p' low free put =
     let further : x < k + 1 = omega (arith, low) in
-    rw (differ x k low, free_in_closing rest (k + 1) x p further free, put_in_closing rest (k + 1) x i p p' further free put) refl
+    rw (
+      differ x k low,
+      free_in_closing rest (k + 1) x p further free,
+      put_in_closing rest (k + 1) x i p p' further free put,
+    ) refl
 
-put_in_metas : (n k x : ℕ) (u h : Pattern) → substituted h x u ≡ Some h → substituted (at_metas h k n) x u ≡ Some (at_metas h k n)
+put_in_metas : (n k x : ℕ) (u h : Pattern) → substituted h x u ≡ Some h
+    → substituted (at_metas h k n) x u ≡ Some (at_metas h k n)
 put_in_metas zero k x u h put = put
 put_in_metas (suc n) k x u h put = put_in_metas n (k + 1) x u (app h (meta k)) (rw put refl)
 
-pub at_metas-push : (n k : ℕ) (head : Pattern) → at_metas head k (suc n) ≡ app (at_metas head k n) (meta (k + n))
+pub at_metas-push : (n k : ℕ) (head : Pattern)
+    → at_metas head k (suc n) ≡ app (at_metas head k n) (meta (k + n))
 at_metas-push zero k head = ap (λ (x : ℕ). app head (meta x)) (omega arith)
-at_metas-push (suc n) k head = at_metas-push n (k + 1) (app head (meta k)) ∙ ap (λ (x : ℕ). app (at_metas (app head (meta k)) (k + 1) n) (meta x)) (omega arith)
+at_metas-push (suc n) k head = at_metas-push n (k + 1) (app head (meta k))
+    ∙ ap (λ (x : ℕ). app (at_metas (app head (meta k)) (k + 1) n) (meta x)) (omega arith)
 
 -- substitution for a variable below n goes into `ex n (x:n = p)`, if the variable is free in p
-put_in_some : (n sort i : ℕ) (p p' : Pattern) → i < n → fresh i p ≡ false → substituted p i (meta i) ≡ Some p' → substituted (ex n sort (equal (var n) p)) i (meta i) ≡ Some (ex n sort (equal (var n) p'))
+put_in_some : (n sort i : ℕ) (p p' : Pattern) → i < n → fresh i p ≡ false
+    → substituted p i (meta i) ≡ Some p'
+    → substituted (ex n sort (equal (var n) p)) i (meta i) ≡ Some (ex n sort (equal (var n) p'))
 put_in_some n sort i p p' low free put = rw (differ i n low, free, put) refl
 
-free_in_some : (n sort i : ℕ) (p : Pattern) → i < n → fresh i p ≡ false → fresh i (ex n sort (equal (var n) p)) ≡ false
+free_in_some : (n sort i : ℕ) (p : Pattern) → i < n → fresh i p ≡ false
+    → fresh i (ex n sort (equal (var n) p)) ≡ false
 free_in_some n sort i p low free = rw (differ i n low, free) refl
 
 -- the next variable becomes the pattern variable of its number
-pub partly-next : (head i s : ℕ) (rest : List ℕ) (n sort : ℕ) → i < n → (p : Pattern) × (partly head i (s ∷ rest) n sort ≡ all i s p) × (substituted p i (meta i) ≡ Some (partly head (i + 1) rest n sort))
-partly-next head i s rest n sort low =
+pub totality_from-next : (head i s : ℕ) (rest : List ℕ) (n sort : ℕ) → i < n
+    → (p : Pattern) × (totality_from head i (s ∷ rest) n sort ≡ all i s p)
+    × (substituted p i (meta i) ≡ Some (totality_from head (i + 1) rest n sort))
+totality_from-next head i s rest n sort low =
     let before : Pattern = at_metas (constant head) 0 i in
-    let inner : Pattern = at_variables (app (at_metas (constant head) 0 i) (var i)) (i + 1) (length rest) in
-    let inner' : Pattern = at_variables (app (at_metas (constant head) 0 i) (meta i)) (i + 1) (length rest) in
-    let free_head : fresh i (app (at_metas (constant head) 0 i) (var i)) ≡ false = rw (same i) (and_false (fresh i (at_metas (constant head) 0 i))) in
-    let free : fresh i (at_variables (app (at_metas (constant head) 0 i) (var i)) (i + 1) (length rest)) ≡ false =
-    free_in_variables (length rest) (i + 1) i (app (at_metas (constant head) 0 i) (var i)) free_head in
-    let put_head : substituted (app (at_metas (constant head) 0 i) (var i)) i (meta i) ≡ Some (app (at_metas (constant head) 0 i) (meta i)) =
+    let inner : Pattern =
+    at_variables (app (at_metas (constant head) 0 i) (var i)) (i + 1) (length rest) in
+    let inner' : Pattern =
+    at_variables (app (at_metas (constant head) 0 i) (meta i)) (i + 1) (length rest) in
+    let free_head : fresh i (app (at_metas (constant head) 0 i) (var i)) ≡ false =
+    rw (same i) (and_false (fresh i (at_metas (constant head) 0 i))) in
+    let free : fresh i
+    (at_variables (app (at_metas (constant head) 0 i) (var i)) (i + 1) (length rest)) ≡ false =
+    free_in_variables (length rest) (i + 1) i (app (at_metas (constant head) 0 i) (var i))
+    free_head in
+    let put_head : substituted (app (at_metas (constant head) 0 i) (var i)) i (meta i) ≡ Some
+    (app (at_metas (constant head) 0 i) (meta i)) =
     rw (put_in_metas i 0 i (meta i) (constant head) refl, same i) refl in
-    let put : substituted (at_variables (app (at_metas (constant head) 0 i) (var i)) (i + 1) (length rest)) i (meta i) ≡ Some (at_variables (app (at_metas (constant head) 0 i) (meta i)) (i + 1) (length rest)) =
-    put_in_variables (length rest) (i + 1) i (meta i) (app (at_metas (constant head) 0 i) (var i)) (app (at_metas (constant head) 0 i) (meta i)) (omega arith) put_head in
+    let put : substituted
+    (at_variables (app (at_metas (constant head) 0 i) (var i)) (i + 1) (length rest)) i (meta i)
+    ≡ Some (at_variables (app (at_metas (constant head) 0 i) (meta i)) (i + 1) (length rest)) =
+    put_in_variables (length rest) (i + 1) i (meta i) (app (at_metas (constant head) 0 i) (var i))
+    (app (at_metas (constant head) 0 i) (meta i)) (omega arith) put_head in
     let pushed : app (at_metas (constant head) 0 i) (meta i) ≡ at_metas (constant head) 0 (i + 1) =
-    sym (ap (at_metas (constant head) 0) (add_one i) ∙ at_metas-push i 0 (constant head) ∙ ap (λ (x : ℕ). app (at_metas (constant head) 0 i) (meta x)) (from_zero i)) in (
-      all_from (i + 1) rest (ex n sort (equal (var n) (at_variables (app (at_metas (constant head) 0 i) (var i)) (i + 1) (length rest)))),
+    sym (ap (at_metas (constant head)
+    0) (add_one i) ∙ at_metas-push i 0 (constant head) ∙ ap (λ (x : ℕ). app
+    (at_metas (constant head) 0 i) (meta x)) (from_zero i)) in (
+      all_from (i + 1) rest (ex n sort (equal (var n)
+          (at_variables (app (at_metas (constant head) 0 i) (var i)) (i + 1) (length rest)))),
       refl,
-      put_in_closing rest (i + 1) i i (ex n sort (equal (var n) (at_variables (app (at_metas (constant head) 0 i) (var i)) (i + 1) (length rest)))) (ex n sort (equal (var n) (at_variables (app (at_metas (constant head) 0 i) (meta i)) (i + 1) (length rest))))
-          (omega arith) (free_in_some n sort i (at_variables (app (at_metas (constant head) 0 i) (var i)) (i + 1) (length rest)) low free)
-          (put_in_some n sort i (at_variables (app (at_metas (constant head) 0 i) (var i)) (i + 1) (length rest)) (at_variables (app (at_metas (constant head) 0 i) (meta i)) (i + 1) (length rest)) low free put)
-          ∙ ap (λ (h : Pattern). Some (all_from (i + 1) rest (ex n sort (equal (var n) (at_variables h (i + 1) (length rest)))))) pushed,
+      put_in_closing rest (i + 1) i i (ex n sort (equal (var n)
+          (at_variables (app (at_metas (constant head) 0 i) (var i)) (i + 1) (length rest))))
+          (ex n sort (equal (var n)
+          (at_variables (app (at_metas (constant head) 0 i) (meta i)) (i + 1) (length rest))))
+          (omega arith) (free_in_some n sort i
+          (at_variables (app (at_metas (constant head) 0 i) (var i)) (i + 1) (length rest)) low
+          free)
+          (put_in_some n sort i
+          (at_variables (app (at_metas (constant head) 0 i) (var i)) (i + 1) (length rest))
+          (at_variables (app (at_metas (constant head) 0 i) (meta i)) (i + 1) (length rest)) low
+          free put)
+          ∙ ap (λ (h : Pattern). Some (all_from (i + 1) rest
+          (ex n sort (equal (var n) (at_variables h (i + 1) (length rest)))))) pushed,
     )
   where
     add_one : (i : ℕ) → i + 1 ≡ suc i
@@ -154,10 +236,12 @@ partly-next head i s rest n sort low =
 
 -- ---- no object variable
 
-pub no_variable-metas : (n k : ℕ) (head : Pattern) → HasNoVariable head → HasNoVariable (at_metas head k n)
+pub no_variable-metas : (n k : ℕ) (head : Pattern) → HasNoVariable head
+    → HasNoVariable (at_metas head k n)
 no_variable-metas zero k head h = h
 no_variable-metas (suc n) k head h = no_variable-metas n (k + 1) (app head (meta k)) (h, tt)
 
 pub absent-metas : (n k x : ℕ) (head : Pattern) → IsAbsent x head → IsAbsent x (at_metas head k n)
 absent-metas zero k x head h = h
-absent-metas (suc n) k x head h = absent-metas n (k + 1) x (app head (meta k)) (both_true (absent x head) true h refl)
+absent-metas (suc n) k x head h =
+    absent-metas n (k + 1) x (app head (meta k)) (both_true (absent x head) true h refl)

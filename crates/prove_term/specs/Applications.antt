@@ -17,7 +17,8 @@ SaysEqualTo p None = Unit {0}
 SaysEqualTo p (Some t) = (left : Pattern) × (t.conclusion ≡ equal left p) × HasNoVariable left
 
 -- The option holds a theorem. P is true of its conclusion, and it stays within ps and ts.
-pub record IsTheorem (P : Pattern → Type 0) (ps : List Pattern) (ts : List Theorem) (o : Option Theorem) : Type 0 where
+pub record IsTheorem (P : Pattern → Type 0) (ps : List Pattern) (ts : List Theorem)
+    (o : Option Theorem) : Type 0 where
   pub made : Theorem
   pub is : o ≡ Some made
   pub says : P made.conclusion
@@ -25,8 +26,12 @@ pub record IsTheorem (P : Pattern → Type 0) (ps : List Pattern) (ts : List The
 
 -- What is proved of `app f a` from an equality for f and an equality for a. Each equality may be
 -- missing, and without both there is no theorem.
-abbrev pub IsApplication : Pattern → Pattern → Option Theorem → Option Theorem → Option Theorem → Type 0
+abbrev pub IsApplication : Pattern → Pattern → Option Theorem → Option Theorem → Option Theorem
+    → Type 0
 IsApplication f a None None o = o ≡ None
-IsApplication f a (Some d) None o = IsTheorem (IsAppliedTo d.conclusion a) (a ∷ var 0 ∷ []) (d ∷ []) o
-IsApplication f a None (Some e) o = IsTheorem (IsArgument f e.conclusion) (f ∷ var 0 ∷ []) (e ∷ []) o
-IsApplication f a (Some d) (Some e) o = IsTheorem (IsApplied d.conclusion e.conclusion) (var 0 ∷ []) (d ∷ e ∷ []) o
+IsApplication f a (Some d) None o =
+    IsTheorem (IsAppliedTo d.conclusion a) (a ∷ var 0 ∷ []) (d ∷ []) o
+IsApplication f a None (Some e) o =
+    IsTheorem (IsArgument f e.conclusion) (f ∷ var 0 ∷ []) (e ∷ []) o
+IsApplication f a (Some d) (Some e) o =
+    IsTheorem (IsApplied d.conclusion e.conclusion) (var 0 ∷ []) (d ∷ e ∷ []) o

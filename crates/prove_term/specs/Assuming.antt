@@ -4,7 +4,7 @@ use Rattle.ml_pat.specs.Patterns.{Pattern, all, ex, equal, fun, var, meta}
 use Rattle.ml_pat.specs.Judgements.{substituted, IsAbsent}
 use Rattle.ml_kernel.specs.Theorems.{Theorem}
 use Rattle.ml_scope.specs.Scopes.{Scope, IsWithin}
-use Rattle.prove_term.specs.Schemas.{partly, meta_facts, backwards}
+use Rattle.prove_term.specs.Schemas.{totality_from, meta_facts, reversed}
 use Rattle.prove_term.specs.Constructing.{totality, IsTotalLemma}
 
 -- The theorem has no hypotheses. It says that the constructor with these numbers is total, and the
@@ -24,8 +24,8 @@ TotalFrom count t made =
 -- The theorem says the same with pattern variables in place of the first i variables. It assumes
 -- their sorts.
 pub record IsPartly (i head : ℕ) (numbers : List ℕ) (number : ℕ) (t : Theorem) : Type 0 where
-  pub says : t.conclusion ≡ partly head i (drop i numbers) (length numbers) number
-  pub hypotheses : t.hypotheses ≡ backwards (meta_facts 0 (take i numbers))
+  pub says : t.conclusion ≡ totality_from head i (drop i numbers) (length numbers) number
+  pub hypotheses : t.hypotheses ≡ reversed (meta_facts 0 (take i numbers))
 
 abbrev pub PartlyFrom : ℕ → ℕ → Theorem → Theorem → Type 0
 PartlyFrom count i t made =
@@ -53,7 +53,8 @@ pub record Opens (i : ℕ) (p : Pattern) : Type 0 where
 -- the sort
 abbrev pub OpenedFrom : ℕ → Theorem → Theorem → Type 0
 OpenedFrom i t made =
-    (o : Opens i t.conclusion) → (made.conclusion ≡ o.opened) × (made.hypotheses ≡ fun (meta i) o.sort ∷ t.hypotheses)
+    (o : Opens i t.conclusion)
+    → (made.conclusion ≡ o.opened) × (made.hypotheses ≡ fun (meta i) o.sort ∷ t.hypotheses)
 
 -- the pattern says that some element of a sort equals `made`
 pub record IsSome (p : Pattern) : Type 0 where
@@ -66,4 +67,5 @@ pub record IsSome (p : Pattern) : Type 0 where
 -- the second theorem says that `made` is one element of the sort
 abbrev pub OneElementFrom : Theorem → Theorem → Type 0
 OneElementFrom t made =
-    (o : IsSome t.conclusion) → (made.conclusion ≡ fun o.made o.sort) × (made.hypotheses ≡ t.hypotheses)
+    (o : IsSome t.conclusion)
+    → (made.conclusion ≡ fun o.made o.sort) × (made.hypotheses ≡ t.hypotheses)

@@ -18,7 +18,8 @@ CitedFrom lemma proof made =
 
 abbrev pub CitedBy : Theorem → Theorem → Theorem → Type 0
 CitedBy lemma proof made =
-    (c s t : ℕ) (p : Pattern) → Cites c s t p lemma proof → IsByLemma lemma (p ∷ []) (proof ∷ []) made
+    (c s t : ℕ) (p : Pattern) → Cites c s t p lemma proof
+    → IsByLemma lemma (p ∷ []) (proof ∷ []) made
 
 -- the lemma is on injections from s to t and on to u, and the proof says that p is one element of s
 pub record Collapses (c s t u : ℕ) (p : Pattern) (lemma proof : Theorem) : Type 0 where
@@ -33,7 +34,8 @@ CollapsesTo lemma proof made =
 
 abbrev pub CollapsesBy : Theorem → Theorem → Theorem → Type 0
 CollapsesBy lemma proof made =
-    (c s t u : ℕ) (p : Pattern) → Collapses c s t u p lemma proof → IsByLemma lemma (p ∷ []) (proof ∷ []) made
+    (c s t u : ℕ) (p : Pattern) → Collapses c s t u p lemma proof
+    → IsByLemma lemma (p ∷ []) (proof ∷ []) made
 
 -- Two lemmas on injections, from s to t and from t to u, and an equality. The equality says that
 -- both injections in turn are the injection from s to u. It says so of a pattern variable, and
@@ -42,7 +44,8 @@ pub record Twice (c s t u : ℕ) (equality lower upper : Theorem) : Type 0 where
   pub first : SaysInjected c s t lower
   pub second : SaysInjected c t u upper
   pub assumes : equality.hypotheses ≡ fun (meta 0) s ∷ []
-  pub equals : equality.conclusion ≡ equal (inject c t u (inject c s t (meta 0))) (inject c s u (meta 0))
+  pub equals : equality.conclusion
+      ≡ equal (inject c t u (inject c s t (meta 0))) (inject c s u (meta 0))
 
 pub record SaysTwice (c s t u : ℕ) (made : Theorem) : Type 0 where
   pub conclusion : made.conclusion ≡ fun (inject c t u (inject c s t (meta 0))) u
@@ -57,7 +60,8 @@ TwiceFrom equality lower upper made =
 abbrev pub StaysTwice : Theorem → Theorem → Theorem → Theorem → Type 0
 StaysTwice equality lower upper made =
     (s : Scope) → ((i : ℕ) → IsTrue (s.meta i)) → IsWithin s equality
-    → IsStatedIn s lower.hypotheses lower.conclusion → IsStatedIn s upper.hypotheses upper.conclusion
+    → IsStatedIn s lower.hypotheses lower.conclusion
+    → IsStatedIn s upper.hypotheses upper.conclusion
     → ((p : Pattern) → Contains made.hypotheses p → Contains s.assumed p) → IsWithin s made
 
 -- One theorem is an equality. The other says that its left side is one element of a sort. Both have

@@ -20,13 +20,15 @@ use Rattle.prove_term.specs.Applications.{applied_to}
 
 -- Under the substitution the pattern becomes the term u. The pattern has this sort, and the
 -- substitution gives each variable a normal term of the variable's sort.
-pub record IsInstance (sig : Signature) (variables : List ℕ) (theta : List (Option Tree)) (p : RulePattern) (sort : ℕ)
+pub record IsInstance (sig : Signature) (variables : List ℕ) (theta : List (Option Tree))
+    (p : RulePattern) (sort : ℕ)
     (u : Tree) : Type 0 where
   pub sorted : HasSort sig variables p sort
   pub respects : RespectsSorts sig variables theta
   pub makes : instance_of theta p ≡ Some u
 
-pub record AreInstances (sig : Signature) (variables : List ℕ) (theta : List (Option Tree)) (ps : RulePatterns)
+pub record AreInstances (sig : Signature) (variables : List ℕ) (theta : List (Option Tree))
+    (ps : RulePatterns)
     (refs : List SortRef) (us : Forest) : Type 0 where
   pub sorted : HaveSorts sig variables [] ps refs
   pub respects : RespectsSorts sig variables theta
@@ -45,7 +47,8 @@ AreMade sig ps ws =
 
 -- What p becomes as it is written differs from the term u, which has this image. The theorem says
 -- that the two images are equal.
-pub record IsJoined (cx : Context) (theta : List (Option Tree)) (p : RulePattern) (u : Tree) (image : Pattern)
+pub record IsJoined (cx : Context) (theta : List (Option Tree)) (p : RulePattern) (u : Tree)
+    (image : Pattern)
     (t : Theorem) : Type 0 where
   pub written : Tree
   pub is_written : substituted theta p ≡ Some written
@@ -58,7 +61,8 @@ pub record IsJoined (cx : Context) (theta : List (Option Tree)) (p : RulePattern
 
 -- There is no theorem and p becomes u as it is written, or the theorem says that the images are
 -- equal.
-abbrev pub IsCompared : Context → List (Option Tree) → RulePattern → Tree → Pattern → Option Theorem → Type 0
+abbrev pub IsCompared : Context → List (Option Tree) → RulePattern → Tree → Pattern → Option Theorem
+    → Type 0
 IsCompared cx theta p u image None = substituted theta p ≡ Some u
 IsCompared cx theta p u image (Some t) = IsJoined cx theta p u image t
 
@@ -66,10 +70,12 @@ IsCompared cx theta p u image (Some t) = IsJoined cx theta p u image t
 abbrev pub Compares : Context → RulePattern → RulePattern → Pattern → Option Theorem → Type 0
 Compares cx p w image o =
     (variables : List ℕ) (theta : List (Option Tree)) (sort : ℕ) (u : Tree) →
-    IsInstance cx.program.sig variables theta p sort u → w ≡ ground_pattern u → IsCompared cx theta p u image o
+    IsInstance cx.program.sig variables theta p sort u → w ≡ ground_pattern u
+    → IsCompared cx theta p u image o
 
 -- the same for lists of arguments, to whose images a head is applied
-pub record AreJoined (cx : Context) (theta : List (Option Tree)) (ps : RulePatterns) (us : Forest) (head : Pattern)
+pub record AreJoined (cx : Context) (theta : List (Option Tree)) (ps : RulePatterns) (us : Forest)
+    (head : Pattern)
     (images : List Pattern) (t : Theorem) : Type 0 where
   pub written : Forest
   pub are_written : all_substituted theta ps ≡ Some written
@@ -80,12 +86,13 @@ pub record AreJoined (cx : Context) (theta : List (Option Tree)) (ps : RulePatte
   pub says : t.conclusion ≡ equal (applied_to head lefts) (applied_to head images)
   pub stays : StaysIn cx t
 
-abbrev pub AreCompared : Context → List (Option Tree) → RulePatterns → Forest → Pattern → List Pattern →
-    Option Theorem → Type 0
+abbrev pub AreCompared : Context → List (Option Tree) → RulePatterns → Forest → Pattern
+    → List Pattern → Option Theorem → Type 0
 AreCompared cx theta ps us head images None = all_substituted theta ps ≡ Some us
 AreCompared cx theta ps us head images (Some t) = AreJoined cx theta ps us head images t
 
-abbrev pub AllCompare : Context → RulePatterns → RulePatterns → Pattern → List Pattern → Option Theorem → Type 0
+abbrev pub AllCompare : Context → RulePatterns → RulePatterns → Pattern → List Pattern
+    → Option Theorem → Type 0
 AllCompare cx ps ws head images o =
     (variables : List ℕ) (theta : List (Option Tree)) (refs : List SortRef) (us : Forest) →
     AreInstances cx.program.sig variables theta ps refs us → ws ≡ ground_patterns us →

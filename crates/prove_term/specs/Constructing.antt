@@ -9,7 +9,7 @@ use Rattle.rule_core.specs.declared.signature.SymKind.TheVariants.{Ctor}
 use Rattle.ml_image.specs.Images.{symbol_image, sort_image}
 use Rattle.ml_image.specs.OwnAxioms.{IsConstructor}
 use Rattle.prove_term.specs.Contexts.{Context}
-use Rattle.prove_term.specs.Schemas.{AreSortImages, partly, at_metas, meta_facts, backwards}
+use Rattle.prove_term.specs.Schemas.{AreSortImages, totality_from, at_metas, meta_facts, reversed}
 
 -- the symbol with this number is a constructor
 abbrev pub Constructs : Signature → ℕ → Type 0
@@ -17,7 +17,8 @@ Constructs sig f = (info : SymInfo) × IsSymbol sig f info × (info.kind ≡ Cto
 
 -- the numbers, among the names, of a symbol, of the sorts of its arguments, and of the sort of its
 -- result
-pub record HasNumbers (sig : Signature) (names : List (List ℕ)) (f : ℕ) (sorts : List ℕ) (sort : ℕ) : Type 0 where
+pub record HasNumbers (sig : Signature) (names : List (List ℕ)) (f : ℕ) (sorts : List ℕ)
+    (sort : ℕ) : Type 0 where
   pub head : ℕ
   pub is_head : symbol_image sig names f ≡ Some (constant head)
   pub numbers : List ℕ
@@ -35,7 +36,7 @@ pub record IsNumbered (sig : Signature) (names : List (List ℕ)) (f : ℕ) : Ty
 
 -- for all arguments, a constructor with these numbers makes one element of its sort
 abbrev pub totality : ℕ → List ℕ → ℕ → Pattern
-totality head numbers number = partly head 0 numbers (length numbers) number
+totality head numbers number = totality_from head 0 numbers (length numbers) number
 
 -- the pattern says that the constructor is total
 pub record SaysTotality (cx : Context) (f : ℕ) (p : Pattern) : Type 0 where
@@ -47,7 +48,7 @@ pub record SaysTotality (cx : Context) (f : ℕ) (p : Pattern) : Type 0 where
 -- that each variable is one element of its sort. It says that the application is one element of the
 -- constructor's sort.
 pub record IsTotalLemma (head : ℕ) (numbers : List ℕ) (number : ℕ) (t : Theorem) : Type 0 where
-  pub hypotheses : t.hypotheses ≡ backwards (meta_facts 0 numbers)
+  pub hypotheses : t.hypotheses ≡ reversed (meta_facts 0 numbers)
   pub conclusion : t.conclusion ≡ fun (at_metas (constant head) 0 (length numbers)) number
 
 -- the lemma at this place says that of the constructor
@@ -55,8 +56,9 @@ pub record IsConstructorAt (cx : Context) (f k : ℕ) : Type 0 where
   pub numbered : IsNumbered cx.program.sig cx.names f
   pub lemma : Theorem
   pub there : slice_get cx.lemmas k ≡ Some lemma
-  pub says : IsTotalLemma numbered.numbers.head numbered.numbers.numbers numbered.numbers.number lemma
+  pub says : IsTotalLemma numbered.numbers.head numbered.numbers.numbers numbered.numbers.number
+      lemma
 
 -- the symbol has n arguments
-abbrev pub Takes : Signature → ℕ → ℕ → Type 0
-Takes sig f n = (info : SymInfo) → IsSymbol sig f info → n ≡ length info.args.items
+abbrev pub HasArity : Signature → ℕ → ℕ → Type 0
+HasArity sig f n = (info : SymInfo) → IsSymbol sig f info → n ≡ length info.args.items

@@ -11,16 +11,24 @@ use Rattle.prove_term.specs.Injections.{IsInjectionAt, IsCollapseAt}
 use Rattle.prove_term.specs.SortKeys.{pair_cmp, triple_cmp}
 
 abbrev pub context_of : Inside → Context
-context_of a = record { program = a.program.now; names = a.names; axioms = a.theory; lemmas = a.lemmas.items }
+context_of a = record {
+  program = a.program.now;
+  names = a.names;
+  axioms = a.theory;
+  lemmas = a.lemmas.items;
+}
 
 -- The context is right, and the theorems are its lemmas. Each entry of the maps is right: the axiom
 -- or the lemma that it numbers is about the key of the entry.
 pub record IsKept (a : Inside) : Type 0 where
   pub context : IsContext (context_of a)
-  pub rules : (i : ℕ) → IfSome (tree.get nat_cmp a.rules i) (λ no. IsRuleAxiom (context_of a) i no.0)
-  pub values : (c : ℕ) → IfSome (tree.get nat_cmp a.values c) (λ v. IsValueAxiom (context_of a) c v.sort.0 v.no.0)
+  pub rules : (i : ℕ)
+      → IfSome (tree.get nat_cmp a.rules i) (λ no. IsRuleAxiom (context_of a) i no.0)
+  pub values : (c : ℕ)
+      → IfSome (tree.get nat_cmp a.values c) (λ v. IsValueAxiom (context_of a) c v.sort.0 v.no.0)
   pub theorems : a.theorems.items ≡ a.lemmas.items
-  pub constructors : (f : ℕ) → IfSome (tree.get nat_cmp a.constructors f) (IsConstructorAt (context_of a) f)
+  pub constructors : (f : ℕ)
+      → IfSome (tree.get nat_cmp a.constructors f) (IsConstructorAt (context_of a) f)
   pub injections : (q : ℕ × ℕ) →
       IfSome (tree.get pair_cmp a.injections q) (IsInjectionAt (context_of a) q.0 q.1)
   pub collapses : (q : ℕ × ℕ × ℕ) →

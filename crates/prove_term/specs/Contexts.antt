@@ -27,7 +27,8 @@ IsAssumed theory s = IsOwnAxiom theory s ⊎ IsTrueFact theory.sig s
 -- The scope has what the context has: the sorts and constants of each image over its names, all
 -- variables, and its axioms and lemmas as stated.
 pub record HasContext (s : Scope) (cx : Context) : Type 0 where
-  pub images : (q : Sentence) (p : Pattern) → sentence_image cx.program.sig cx.names q ≡ Some p → IsOver s p
+  pub images : (q : Sentence) (p : Pattern) → sentence_image cx.program.sig cx.names q ≡ Some p
+      → IsOver s p
   pub objects : (x : ℕ) → IsTrue (s.object x)
   pub metas : (i : ℕ) → IsTrue (s.meta i)
   pub axioms : (p : Pattern) → Contains cx.axioms p → IsStatedIn s [] p
@@ -40,7 +41,8 @@ StaysIn cx t = (s : Scope) → HasContext s cx → IsWithin s t
 -- the theorem uses and cites only what the context has, and assumes only its own hypotheses
 abbrev pub IsLemmaIn : Context → Theorem → Type 0
 IsLemmaIn cx t =
-    (s : Scope) → HasContext s cx → ((p : Pattern) → Contains t.hypotheses p → Contains s.assumed p) → IsWithin s t
+    (s : Scope) → HasContext s cx → ((p : Pattern) → Contains t.hypotheses p → Contains s.assumed p)
+    → IsWithin s t
 
 -- The names are the program's own, and so are the axioms. Each lemma stays in the context of the
 -- names, the axioms and the lemmas before it.

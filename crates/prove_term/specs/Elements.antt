@@ -11,7 +11,7 @@ use Rattle.rule_core.specs.declared.signature.SortRef.{SortRef}
 use Rattle.ml_image.specs.Images.{image_of, sort_image}
 use Rattle.ml_image.specs.OwnAxioms.{named}
 use Rattle.prove_term.specs.Contexts.{Context, HasContext}
-use Rattle.prove_term.specs.Schemas.{AreImages, AreSortImages, facts, backwards}
+use Rattle.prove_term.specs.Schemas.{AreImages, AreSortImages, facts, reversed}
 
 abbrev pub IsSorted : Signature → RulePattern → Type 0
 IsSorted sig p = (sort : ℕ) × HasSort sig [] p sort
@@ -36,18 +36,21 @@ IsElement cx p q = (sort : ℕ) → HasSort cx.program.sig [] p sort → IsEleme
 
 -- The theorems are in reverse order. They say that the images qs of the patterns are each one
 -- element of the declared sort. The images are closed.
-pub record AreElements (cx : Context) (ps : RulePatterns) (qs : List Pattern) (ts : List Theorem) : Type 0 where
+pub record AreElements (cx : Context) (ps : RulePatterns) (qs : List Pattern) (ts : List Theorem) :
+    Type 0 where
   pub images : AreImages cx.program.sig cx.names ps qs
-  pub say : (refs : List SortRef) (sorts : List ℕ) → HaveSorts cx.program.sig [] [] ps refs → refs ≡ map named sorts →
-      (numbers : List ℕ) × AreSortImages cx.program.sig cx.names sorts numbers
-      × (conclusions ts ≡ backwards (facts qs numbers))
+  pub say : (refs : List SortRef) (sorts : List ℕ) → HaveSorts cx.program.sig [] [] ps refs
+      → refs ≡ map named sorts
+      → (numbers : List ℕ) × AreSortImages cx.program.sig cx.names sorts numbers
+      × (conclusions ts ≡ reversed (facts qs numbers))
   pub no_hypotheses : all_hypotheses ts ≡ []
   pub stay : (s : Scope) → HasContext s cx → AreWithin s ts
   pub no_variables : HaveNoVariables qs
   pub no_metas : AreMetasBelow 0 qs
 
 -- the same if the images too are in reverse order
-pub record AreGathered (cx : Context) (ps : RulePatterns) (images : List Pattern) (ts : List Theorem) : Type 0 where
+pub record AreGathered (cx : Context) (ps : RulePatterns) (images : List Pattern)
+    (ts : List Theorem) : Type 0 where
   pub natural : List Pattern
-  pub are : images ≡ backwards natural
+  pub are : images ≡ reversed natural
   pub elements : AreElements cx ps natural ts

@@ -22,8 +22,10 @@ pub record SaysEqualCall (cx : Context) (f : ℕ) (ts us : Forest) (p : Pattern)
 -- There is no theorem, and the patterns become the terms us under the substitution as they are
 -- written. Or the theorem says that f of the written terms equals f of us, and stays in the
 -- context.
-abbrev pub SaysEqualCalls : Context → ℕ → List (Option Tree) → Patterns → Forest → Option Theorem → Type 0
+abbrev pub SaysEqualCalls : Context → ℕ → List (Option Tree) → Patterns → Forest → Option Theorem
+    → Type 0
 SaysEqualCalls cx f theta ps us None = all_substituted theta ps ≡ Some us
 SaysEqualCalls cx f theta ps us (Some t) =
-    (written : Forest) × (all_substituted theta ps ≡ Some written) × SaysEqualCall cx f written us t.conclusion
+    (written : Forest) × (all_substituted theta ps ≡ Some written)
+    × SaysEqualCall cx f written us t.conclusion
     × StaysIn cx t

@@ -2,7 +2,8 @@
 -- its normal form.
 use Rattle.std.specs.Prelude.{◌≡◌, ◌≢◌, List, Option, Some, None}
 use Rattle.term_core.specs.Terms.{Tree}
-use Rattle.term_core.specs.Patterns.{Pattern as RulePattern, substituted, instance_of, ground_pattern}
+use Rattle.term_core.specs.Patterns.{Pattern as RulePattern, substituted, instance_of}
+use Rattle.term_core.specs.Patterns.{ground_pattern}
 use Rattle.ml_pat.specs.Patterns.{Pattern, equal}
 use Rattle.ml_kernel.specs.Lemmas.{HasNoVariable}
 use Rattle.ml_kernel.specs.Theorems.{Theorem}
@@ -25,4 +26,5 @@ abbrev pub SaysEqualImages : Context → List (Option Tree) → RulePattern → 
 SaysEqualImages cx theta p None = substituted theta p ≡ instance_of theta p
 SaysEqualImages cx theta p (Some thm) =
     (substituted theta p ≢ instance_of theta p)
-    × ((t u : Tree) → substituted theta p ≡ Some t → instance_of theta p ≡ Some u → SaysEqual cx t u thm.conclusion)
+    × ((t u : Tree) → substituted theta p ≡ Some t → instance_of theta p ≡ Some u
+    → SaysEqual cx t u thm.conclusion)

@@ -1,7 +1,8 @@
 -- Patterns of rules with terms in place of their variables, as they are written.
 use Rattle.std.specs.Prelude.{ℕ, List, Option, Some, None}
 use Rattle.term_core.specs.Terms.{Tree}
-use Rattle.term_core.specs.Patterns.{Pattern, Patterns, variable, domain_value, application, injection, call}
+use Rattle.term_core.specs.Patterns.{Pattern, Patterns, variable, domain_value, application}
+use Rattle.term_core.specs.Patterns.{injection, call}
 use Rattle.term_core.specs.Patterns.{no_pattern, more_patterns, binding, ground_pattern}
 
 -- the term that is bound to the variable x, or the variable itself if none is

@@ -60,7 +60,8 @@ pub record IsInjectionAt (cx : Context) (a b k : ℕ) : Type 0 where
 -- t and then into u equals its injection into u.
 pub record SaysCollapsed (c s t u : ℕ) (made : Theorem) : Type 0 where
   pub hypotheses : made.hypotheses ≡ fun (meta 0) s ∷ []
-  pub conclusion : made.conclusion ≡ equal (inject c t u (inject c s t (meta 0))) (inject c s u (meta 0))
+  pub conclusion : made.conclusion
+      ≡ equal (inject c t u (inject c s t (meta 0))) (inject c s u (meta 0))
 
 -- the lemma says this for the sorts a, b and d
 pub record IsCollapsed (cx : Context) (a b d : ℕ) (lemma : Theorem) : Type 0 where
@@ -77,7 +78,8 @@ pub record IsCollapseAt (cx : Context) (a b d k : ℕ) : Type 0 where
 
 -- what is proved from an axiom
 abbrev pub CollapsedFrom : Theorem → Theorem → Type 0
-CollapsedFrom first made = (c s t u : ℕ) → first.conclusion ≡ collapsing c s t u → SaysCollapsed c s t u made
+CollapsedFrom first made =
+    (c s t u : ℕ) → first.conclusion ≡ collapsing c s t u → SaysCollapsed c s t u made
 
 abbrev pub InjectedFrom : Theorem → Theorem → Type 0
 InjectedFrom first made = (c s t : ℕ) → first.conclusion ≡ injecting c s t → SaysInjected c s t made
@@ -96,7 +98,9 @@ JoinedFrom collapse first second made =
 -- assumes the hypotheses of the result, it has the result.
 abbrev pub StaysJoined : Theorem → Theorem → Theorem → Theorem → Type 0
 StaysJoined collapse first second made =
-    (s : Scope) → ((x : ℕ) → IsTrue (s.object x)) → ((i : ℕ) → IsTrue (s.meta i)) → IsOver s collapse.conclusion
+    (s : Scope) → ((x : ℕ) → IsTrue (s.object x)) → ((i : ℕ) → IsTrue (s.meta i))
+    → IsOver s collapse.conclusion
     → IsStatedIn s collapse.hypotheses collapse.conclusion
-    → IsStatedIn s first.hypotheses first.conclusion → IsStatedIn s second.hypotheses second.conclusion
+    → IsStatedIn s first.hypotheses first.conclusion
+    → IsStatedIn s second.hypotheses second.conclusion
     → ((p : Pattern) → Contains made.hypotheses p → Contains s.assumed p) → IsWithin s made

@@ -12,7 +12,8 @@ use Rattle.prove_term.specs.Contexts.{Context}
 -- there is a rule at place i of the program, and it has an image
 abbrev pub HasImageAt : Program → ℕ → Type 0
 HasImageAt program i =
-    (r : Rule) × (slice_get program.rules.items i ≡ Some r) × HasRuleImage program.sig (rewrite_rule r)
+    (r : Rule) × (slice_get program.rules.items i ≡ Some r)
+    × HasRuleImage program.sig (rewrite_rule r)
 
 -- the pattern is the image of what the rule at place i says
 abbrev pub SaysRuleAt : Context → ℕ → Pattern → Type 0

@@ -33,23 +33,26 @@ abbrev pub AreSortImages : Signature → List (List ℕ) → List ℕ → List �
 AreSortImages sig names [] [] = Unit {0}
 AreSortImages sig names [] (n ∷ ns) = ⊥
 AreSortImages sig names (s ∷ ss) [] = ⊥
-AreSortImages sig names (s ∷ ss) (n ∷ ns) = (sort_image sig names s ≡ Some n) × AreSortImages sig names ss ns
+AreSortImages sig names (s ∷ ss) (n ∷ ns) =
+    (sort_image sig names s ≡ Some n) × AreSortImages sig names ss ns
 
 -- the images of patterns
 abbrev pub AreImages : Signature → List (List ℕ) → Patterns → List Pattern → Type 0
 AreImages sig names no_pattern [] = Unit {0}
 AreImages sig names no_pattern (q ∷ qs) = ⊥
 AreImages sig names (more_patterns p ps) [] = ⊥
-AreImages sig names (more_patterns p ps) (q ∷ qs) = (image_of sig names p ≡ Some q) × AreImages sig names ps qs
+AreImages sig names (more_patterns p ps) (q ∷ qs) =
+    (image_of sig names p ≡ Some q) × AreImages sig names ps qs
 
 -- What is left of the sentence that a constructor is total, after i of its variables became pattern
 -- variables. It is for all variables from i on, of the sorts in `rest`. It says that some x:n of
 -- the sort equals the constructor's application.
-abbrev pub partly : ℕ → ℕ → List ℕ → ℕ → ℕ → Pattern
-partly head i rest n sort =
-    all_from i rest (ex n sort (equal (var n) (at_variables (at_metas (constant head) 0 i) i (length rest))))
+abbrev pub totality_from : ℕ → ℕ → List ℕ → ℕ → ℕ → Pattern
+totality_from head i rest n sort =
+    all_from i rest
+    (ex n sort (equal (var n) (at_variables (at_metas (constant head) 0 i) i (length rest))))
 
 -- a list in reverse order
-abbrev pub backwards : {A : Type 0} → List A → List A
-backwards [] = []
-backwards (x ∷ xs) = backwards xs ++ x ∷ []
+abbrev pub reversed : {A : Type 0} → List A → List A
+reversed [] = []
+reversed (x ∷ xs) = reversed xs ++ x ∷ []

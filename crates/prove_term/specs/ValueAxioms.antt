@@ -8,7 +8,8 @@ use Rattle.ml_image.specs.Images.{sort_image}
 use Rattle.prove_term.specs.Contexts.{Context}
 
 -- the pattern says that the constant of the value is one element of the sort
-pub record IsValueFact (sig : Signature) (names : List (List ℕ)) (s : ℕ) (v : DomainValue) (p : Pattern) : Type 0 where
+pub record IsValueFact (sig : Signature) (names : List (List ℕ)) (s : ℕ) (v : DomainValue)
+    (p : Pattern) : Type 0 where
   pub token : ℕ
   pub is_token : numbered names (token_of_value sig s v) ≡ Some token
   pub sort : ℕ

@@ -12,7 +12,8 @@ use Rattle.prove_term.specs.Filling.{filled}
 
 -- The pattern P says that the image of p, with its variables replaced by the terms of a
 -- substitution, equals the image of the term t. Neither image has an object variable.
-pub record SaysValue (cx : Context) (theta : List (Option Tree)) (p : RulePattern) (t : Tree) (P : Pattern)
+pub record SaysValue (cx : Context) (theta : List (Option Tree)) (p : RulePattern) (t : Tree)
+    (P : Pattern)
     : Type 0 where
   pub left : Pattern
   pub left_image : image_of cx.program.sig cx.names (filled theta p) ≡ Some left
@@ -24,7 +25,8 @@ pub record SaysValue (cx : Context) (theta : List (Option Tree)) (p : RulePatter
 -- The pattern P says that the image of the function f of these terms equals the image of the
 -- equation's right side, with its variables replaced by the terms of a substitution. Neither image
 -- has an object variable.
-pub record SaysEquationAt (cx : Context) (f : ℕ) (e : Equation) (theta : List (Option Tree)) (ts : Forest)
+pub record SaysEquationAt (cx : Context) (f : ℕ) (e : Equation) (theta : List (Option Tree))
+    (ts : Forest)
     (P : Pattern) : Type 0 where
   pub left : Pattern
   pub left_image : image_of cx.program.sig cx.names (call f [] (ground_patterns ts)) ≡ Some left

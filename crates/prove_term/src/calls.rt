@@ -51,7 +51,8 @@ pub fn call_eq(
 
 // Returns the pattern of a function of terms.
 fn called(alloc: Global, function: SymId, terms: &[Term]) -> Result<RulePat, AllocError>
-    ensures { IfOk result (λ p. plain_pattern p ≡ call function.0 [] (ground_patterns (forest terms.now))) }
+    ensures { IfOk result
+        (λ p. plain_pattern p ≡ call function.0 [] (ground_patterns (forest terms.now))) }
 {
     let args = patterns(alloc, terms)?;
     let sorts: Vec<SortId> = Vec::new(alloc);

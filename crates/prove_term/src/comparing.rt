@@ -14,7 +14,8 @@ ghost use Rattle.ml_image.specs.Images.{image_of};
 ghost use Rattle.prove_term.specs.Contexts.{HasGrown, StaysIn};
 ghost use Rattle.prove_term.specs.Schemas.{AreImages};
 ghost use Rattle.prove_term.specs.EqualImages.{SaysEqualImages};
-ghost use Rattle.prove_term.specs.Comparing.{AllCompare, AreMade, Compares, IsFactOn, IsMade, IsOverContext};
+ghost use Rattle.prove_term.specs.Comparing.{AllCompare, AreMade, Compares, IsFactOn, IsMade};
+ghost use Rattle.prove_term.specs.Comparing.{IsOverContext};
 
 use crate::congruence::{applied, halves, taken_apart};
 use crate::context::Cx;
@@ -64,8 +65,10 @@ fn compared(
 ) -> Result<Option<Thm>, AllocError>
     requires signature { IsSignature cx.old.program.sig }
     requires made { IsMade cx.old.program.sig (plain_pattern pat.now) (plain_pattern whole.now) }
-    requires image { image_of cx.old.program.sig cx.old.names (plain_pattern whole.now) ≡ Some image.now }
-    ensures says { IfOk result (Compares cx.new (plain_pattern pat.now) (plain_pattern whole.now) image.now) }
+    requires image { image_of cx.old.program.sig cx.old.names (plain_pattern whole.now)
+        ≡ Some image.now }
+    ensures says { IfOk result
+        (Compares cx.new (plain_pattern pat.now) (plain_pattern whole.now) image.now) }
     ensures grown { HasGrown cx.old cx.new }
 {
     match pat {
@@ -89,10 +92,13 @@ fn constructor_compared(
 ) -> Result<Option<Thm>, AllocError>
     requires signature { IsSignature cx.old.program.sig }
     requires made { (f : ℕ)
-        × IsMade cx.old.program.sig (application f (plain_patterns args.now)) (plain_pattern whole.now) }
-    requires image { image_of cx.old.program.sig cx.old.names (plain_pattern whole.now) ≡ Some image.now }
+        × IsMade cx.old.program.sig (application f (plain_patterns args.now))
+        (plain_pattern whole.now) }
+    requires image { image_of cx.old.program.sig cx.old.names (plain_pattern whole.now)
+        ≡ Some image.now }
     ensures says { IfOk result (λ o. (f : ℕ) →
-        Compares cx.new (application f (plain_patterns args.now)) (plain_pattern whole.now) image.now o) }
+        Compares cx.new (application f (plain_patterns args.now)) (plain_pattern whole.now)
+        image.now o) }
     ensures grown { HasGrown cx.old cx.new }
 {
     let RulePat::Ctor(_, wholes) = whole else {
@@ -113,11 +119,14 @@ pub(crate) fn all_compared(
     images: &[MPat],
 ) -> Result<Option<Thm>, AllocError>
     requires signature { IsSignature cx.old.program.sig }
-    requires made { AreMade cx.old.program.sig (plain_patterns args.now) (plain_patterns wholes.now) }
+    requires made { AreMade cx.old.program.sig (plain_patterns args.now)
+        (plain_patterns wholes.now) }
     requires head { HasNoVariable head.now × IsOverContext cx.old head.now }
-    requires images { AreImages cx.old.program.sig cx.old.names (plain_patterns wholes.now) images.now }
+    requires images { AreImages cx.old.program.sig cx.old.names (plain_patterns wholes.now)
+        images.now }
     ensures says { IfOk result
-        (AllCompare cx.new (plain_patterns args.now) (plain_patterns wholes.now) head.now images.now) }
+        (AllCompare cx.new (plain_patterns args.now) (plain_patterns wholes.now) head.now
+        images.now) }
     ensures grown { HasGrown cx.old cx.new }
 {
     let mut made: Option<Thm> = None;
@@ -145,9 +154,11 @@ fn injection_compared(
     requires signature { IsSignature cx.old.program.sig }
     requires made { IsMade cx.old.program.sig (injection from.0 to.0 (plain_pattern below.now))
         (plain_pattern whole.now) }
-    requires image { image_of cx.old.program.sig cx.old.names (plain_pattern whole.now) ≡ Some image.now }
+    requires image { image_of cx.old.program.sig cx.old.names (plain_pattern whole.now)
+        ≡ Some image.now }
     ensures says { IfOk result
-        (Compares cx.new (injection from.0 to.0 (plain_pattern below.now)) (plain_pattern whole.now) image.now) }
+        (Compares cx.new (injection from.0 to.0 (plain_pattern below.now)) (plain_pattern whole.now)
+        image.now) }
     ensures grown { HasGrown cx.old cx.new }
 {
     let RulePat::Inj(lowest, _, base) = whole else {
@@ -173,11 +184,14 @@ fn beneath(
     requires signature { IsSignature cx.old.program.sig }
     requires made { IsMade cx.old.program.sig (plain_pattern below.now) (plain_pattern base.now) }
     requires image { (a b : ℕ) ×
-        (image_of cx.old.program.sig cx.old.names (injection a b (plain_pattern base.now)) ≡ Some image.now) }
+        (image_of cx.old.program.sig cx.old.names (injection a b (plain_pattern base.now))
+        ≡ Some image.now) }
     ensures says { IfOk result (λ o. (a b : ℕ) →
-        image_of cx.old.program.sig cx.old.names (injection a b (plain_pattern base.now)) ≡ Some image.now →
+        image_of cx.old.program.sig cx.old.names (injection a b (plain_pattern base.now))
+        ≡ Some image.now →
         IsMade cx.old.program.sig (plain_pattern below.now) (plain_pattern base.now) →
-        Compares cx.new (injection a b (plain_pattern below.now)) (injection a b (plain_pattern base.now))
+        Compares cx.new (injection a b (plain_pattern below.now))
+        (injection a b (plain_pattern base.now))
         image.now o) }
     ensures grown { HasGrown cx.old cx.new }
 {
@@ -205,7 +219,8 @@ fn joined_compared(
     requires apart { lowest.0 ≢ from.0 }
     requires fact { IsFactOn cx.old (plain_pattern base.now) lowest.0 fact.now }
     ensures says { IfOk result (λ t. (image : Pattern) →
-        image_of cx.new.program.sig cx.new.names (injection lowest.0 to.0 (plain_pattern base.now)) ≡ Some image →
+        image_of cx.new.program.sig cx.new.names (injection lowest.0 to.0 (plain_pattern base.now))
+        ≡ Some image →
         Compares cx.new (injection from.0 to.0 (plain_pattern below.now))
         (injection lowest.0 to.0 (plain_pattern base.now)) image (Some t)) }
     ensures grown { HasGrown cx.old cx.new }
@@ -237,10 +252,12 @@ fn middle_compared(
     requires made { IsMade cx.old.program.sig (plain_pattern pat.now)
         (injection lowest.0 to.0 (plain_pattern base.now)) }
     requires fact { IsFactOn cx.old (plain_pattern base.now) lowest.0 fact.now }
-    requires image { image_of cx.old.program.sig cx.old.names (injection lowest.0 to.0 (plain_pattern base.now)) ≡
+    requires image { image_of cx.old.program.sig cx.old.names
+        (injection lowest.0 to.0 (plain_pattern base.now)) ≡
         Some image.now }
     ensures says { IfOk result
-        (Compares cx.new (plain_pattern pat.now) (injection lowest.0 to.0 (plain_pattern base.now)) image.now) }
+        (Compares cx.new (plain_pattern pat.now) (injection lowest.0 to.0 (plain_pattern base.now))
+        image.now) }
     ensures grown { HasGrown cx.old cx.new }
 {
     match pat {

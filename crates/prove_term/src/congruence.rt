@@ -18,8 +18,10 @@ pub struct Parts {
 
 /// Takes apart a head that is applied to `count` patterns. `AllocError`: out of memory.
 pub fn taken_apart(alloc: Global, image: &MPat, count: usize) -> Result<Parts, AllocError>
-    requires { (head : Pattern) × (qs : List Pattern) × (image.now ≡ applied_to head qs) × (count ≡ length qs) }
-    ensures { IfOk result (λ a. (head : Pattern) (qs : List Pattern) → image.now ≡ applied_to head qs →
+    requires { (head : Pattern) × (qs : List Pattern) × (image.now ≡ applied_to head qs)
+        × (count ≡ length qs) }
+    ensures { IfOk result
+        (λ a. (head : Pattern) (qs : List Pattern) → image.now ≡ applied_to head qs →
         count ≡ length qs → (a.head ≡ head) × (a.arguments.items ≡ qs)) }
 {
     let mut arguments = Vec::with_capacity(alloc, count)?;

@@ -4,7 +4,8 @@ ghost use Rattle.rule_core.specs.ProgramView.{theory_of};
 ghost use Rattle.rule_core.specs.WellSorted.{IsSignature};
 ghost use Rattle.ml_image.specs.Sentences.{IsImageOf};
 ghost use Rattle.prove_term.specs.Contexts.{HasGrown, IsAssumed, StaysIn};
-ghost use Rattle.prove_term.specs.Constructing.{Constructs, IsConstructorAt, SaysTotality, Takes};
+ghost use Rattle.prove_term.specs.Constructing.{Constructs, IsConstructorAt, SaysTotality};
+ghost use Rattle.prove_term.specs.Constructing.{HasArity};
 
 use crate::context::Cx;
 use crate::schemas::total_lemma;
@@ -81,7 +82,7 @@ impl<'p> Cx<'p> {
 
     // Returns how many arguments a symbol has.
     fn count(&self, symbol: SymId) -> usize
-        ensures { Takes self.now.program.sig symbol.0 result }
+        ensures { HasArity self.now.program.sig symbol.0 result }
     {
         match self.program.sig.symbols.value(symbol.0 as usize) {
             Some(info) => info.args.len(),

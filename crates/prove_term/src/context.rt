@@ -1,12 +1,14 @@
 // The context of the proofs about a program.
-ghost use Rattle.std.specs.Prelude.{◌≡◌, ◌^◌, ◌<◌, ◌∷◌, ◌++◌, [], IfOk, OnOk, OnErr, Some, length, slice_get};
+ghost use Rattle.std.specs.Prelude.{◌≡◌, ◌^◌, ◌<◌, ◌∷◌, ◌++◌, [], IfOk, OnOk, OnErr, Some, length};
+ghost use Rattle.std.specs.Prelude.{slice_get};
 ghost use Rattle.term_core.specs.RulePatterns.{plain_pattern};
 ghost use Rattle.rule_core.specs.ProgramView.{rewrite_rule, theory_of};
 ghost use Rattle.rule_core.specs.declared.rules.Rule.{Rule};
 ghost use Rattle.ml_image.specs.Images.{image_of};
 ghost use Rattle.ml_image.specs.HasImages.{HasImage};
 ghost use Rattle.ml_image.specs.Sentences.{IsImageOf};
-ghost use Rattle.prove_term.specs.Contexts.{HasGrown, IsAssumed, IsContext, IsLemmaIn, StaysIn, new_context};
+ghost use Rattle.prove_term.specs.Contexts.{HasGrown, IsAssumed, IsContext, IsLemmaIn, StaysIn};
+ghost use Rattle.prove_term.specs.Contexts.{new_context};
 ghost use Rattle.prove_term.specs.RuleAxioms.{HasImageAt, SaysRuleAt};
 ghost use Rattle.prove_term.specs.Stated.{IsRuleAxiom};
 
@@ -191,7 +193,8 @@ impl<'p> Cx<'p> {
 
     /// States the image of an assumed sentence as an axiom. `AllocError`: out of memory.
     pub fn state(&mut self, image: MPat) -> Result<AxiomNo, AllocError>
-        requires { IsImageOf self.old.program.sig self.old.names (IsAssumed (theory_of self.old.program)) image }
+        requires { IsImageOf self.old.program.sig self.old.names
+            (IsAssumed (theory_of self.old.program)) image }
         ensures there { IfOk result (λ no. slice_get self.new.axioms no.0 ≡ Some image) }
         ensures grown { HasGrown self.old self.new }
         ensures names { self.new.names ≡ self.old.names }
@@ -213,7 +216,8 @@ impl<'p> Cx<'p> {
     /// its own hypotheses. `AllocError`: out of memory. Then nothing changes.
     pub fn add_lemma(&mut self, alloc: Global, thm: Thm) -> Result<(), AllocError>
         requires { IsLemmaIn self.old thm }
-        ensures ok { OnOk result (self.new ≡ record self.old { lemmas = self.old.lemmas ++ thm ∷ [] }) }
+        ensures ok { OnOk result
+            (self.new ≡ record self.old { lemmas = self.old.lemmas ++ thm ∷ [] }) }
         ensures err { OnErr result (self.new ≡ self.old) }
     {
         let lemma = Lemma::close(thm.share(alloc)?)?;

@@ -65,7 +65,8 @@ fn constructed(
     requires signature { IsSignature cx.old.program.sig }
     requires sorted { IsSorted cx.old.program.sig (application symbol.0 (plain_patterns args.now)) }
     requires ground { AreGround (plain_patterns args.now) }
-    ensures says { IfOk result (λ t. IsElement cx.new (application symbol.0 (plain_patterns args.now)) t.conclusion) }
+    ensures says { IfOk result
+        (λ t. IsElement cx.new (application symbol.0 (plain_patterns args.now)) t.conclusion) }
     ensures no_hypotheses { IfOk result (λ t. t.hypotheses ≡ []) }
     ensures stays { IfOk result (StaysIn cx.new) }
     ensures grown { HasGrown cx.old cx.new }
@@ -85,9 +86,11 @@ fn injected(
     below: &RulePat,
 ) -> Result<Thm, AllocError>
     requires signature { IsSignature cx.old.program.sig }
-    requires sorted { IsSorted cx.old.program.sig (injection from.0 to.0 (plain_pattern below.now)) }
+    requires sorted { IsSorted cx.old.program.sig
+        (injection from.0 to.0 (plain_pattern below.now)) }
     requires ground { IsGround (plain_pattern below.now) }
-    ensures says { IfOk result (λ t. IsElement cx.new (injection from.0 to.0 (plain_pattern below.now)) t.conclusion) }
+    ensures says { IfOk result
+        (λ t. IsElement cx.new (injection from.0 to.0 (plain_pattern below.now)) t.conclusion) }
     ensures no_hypotheses { IfOk result (λ t. t.hypotheses ≡ []) }
     ensures stays { IfOk result (StaysIn cx.new) }
     ensures grown { HasGrown cx.old cx.new }
@@ -110,7 +113,8 @@ fn all_elements(alloc: Global, cx: &mut Cx<'_>, args: &[RulePat]) -> Result<Argu
     requires signature { IsSignature cx.old.program.sig }
     requires sorted { AreSorted cx.old.program.sig (plain_patterns args.now) }
     requires ground { AreGround (plain_patterns args.now) }
-    ensures elements { IfOk result (λ a. AreElements cx.new (plain_patterns args.now) a.images.items a.proofs.items) }
+    ensures elements { IfOk result
+        (λ a. AreElements cx.new (plain_patterns args.now) a.images.items a.proofs.items) }
     ensures grown { HasGrown cx.old cx.new }
 {
     let mut images = Vec::with_capacity(alloc, args.len())?;

@@ -18,10 +18,13 @@ impl<'p> Cx<'p> {
     /// caller that uses an equation often keeps the theorem, or what follows from it. `AllocError`:
     /// out of memory. After an error the context may have grown.
     pub fn equation_axiom(&mut self, alloc: Global, equation: &Equation) -> Result<Thm, AllocError>
-        requires image { HasEquationImage self.old.program.sig equation.now.fun.0 (function_equation equation.now) }
-        requires own { IsEquationFor (theory_of self.old.program) equation.now.fun.0 (function_equation equation.now) }
+        requires image { HasEquationImage self.old.program.sig equation.now.fun.0
+            (function_equation equation.now) }
+        requires own { IsEquationFor (theory_of self.old.program) equation.now.fun.0
+            (function_equation equation.now) }
         ensures says { IfOk result
-            (λ t. SaysEquationOf self.new equation.now.fun.0 (function_equation equation.now) t.conclusion) }
+            (λ t. SaysEquationOf self.new equation.now.fun.0 (function_equation equation.now)
+            t.conclusion) }
         ensures no_hypotheses { IfOk result (λ t. t.hypotheses ≡ []) }
         ensures stays { IfOk result (StaysIn self.new) }
         ensures grown { HasGrown self.old self.new }
@@ -33,7 +36,8 @@ impl<'p> Cx<'p> {
 
     // Returns the image of an equation.
     fn equation_image(&mut self, alloc: Global, equation: &Equation) -> Result<MPat, AllocError>
-        requires { HasEquationImage self.old.program.sig equation.now.fun.0 (function_equation equation.now) }
+        requires { HasEquationImage self.old.program.sig equation.now.fun.0
+            (function_equation equation.now) }
         ensures says { IfOk result
             (SaysEquationOf self.new equation.now.fun.0 (function_equation equation.now)) }
         ensures grown { HasGrown self.old self.new }

@@ -21,7 +21,8 @@ impl<'p> Cx<'p> {
     /// first call states this as an axiom. `AllocError`: out of memory. After an error the context
     /// may have grown.
     pub fn hook(&mut self, alloc: Global, symbol: SymId, args: &[Scalar]) -> Result<Thm, AllocError>
-        requires { (s : Sentence) × SaysHook self.old.program.sig symbol.0 (map scalar_value args.now) s }
+        requires { (s : Sentence)
+            × SaysHook self.old.program.sig symbol.0 (map scalar_value args.now) s }
         ensures says { IfOk result (λ t. IsImageOf self.new.program.sig self.new.names
             (SaysHook self.new.program.sig symbol.0 (map scalar_value args.now)) t.conclusion) }
         ensures no_hypotheses { IfOk result (λ t. t.hypotheses ≡ []) }
@@ -40,7 +41,8 @@ impl<'p> Cx<'p> {
         symbol: SymId,
         args: &[Scalar],
     ) -> Result<MPat, AllocError>
-        requires { (s : Sentence) × SaysHook self.old.program.sig symbol.0 (map scalar_value args.now) s }
+        requires { (s : Sentence)
+            × SaysHook self.old.program.sig symbol.0 (map scalar_value args.now) s }
         ensures says { IfOk result (IsImageOf self.new.program.sig self.new.names
             (SaysHook self.new.program.sig symbol.0 (map scalar_value args.now))) }
         ensures assumed { IfOk result
@@ -52,7 +54,8 @@ impl<'p> Cx<'p> {
 
     // Returns the number of the axiom of a fact on a call.
     fn fact_number(&mut self, of: Call, fact: MPat) -> Result<AxiomNo, AllocError>
-        requires { IsImageOf self.old.program.sig self.old.names (IsAssumed (theory_of self.old.program)) fact }
+        requires { IsImageOf self.old.program.sig self.old.names
+            (IsAssumed (theory_of self.old.program)) fact }
         ensures there { IfOk result (λ no. slice_get self.new.axioms no.0 ≡ Some fact) }
         ensures names { self.new.names ≡ self.old.names }
         ensures grown { HasGrown self.old self.new }

@@ -8,7 +8,8 @@ ghost use Rattle.ml_image.specs.HasImages.{CanInject};
 ghost use Rattle.ml_image.specs.Sentences.{IsImageOf};
 ghost use Rattle.prove_term.specs.Contexts.{HasGrown, IsAssumed, IsLemmaIn, StaysIn};
 ghost use Rattle.prove_term.specs.InjectionTables.{InjectsBelow, AllowsPair};
-ghost use Rattle.prove_term.specs.Injections.{IsInjectionAt, IsInjected, IsCollapseAt, SaysInjecting, SaysCollapsing};
+ghost use Rattle.prove_term.specs.Injections.{IsInjectionAt, IsInjected, IsCollapseAt};
+ghost use Rattle.prove_term.specs.Injections.{SaysInjecting, SaysCollapsing};
 
 use crate::context::Cx;
 use crate::joining::{collapsed, injected, joined};
@@ -215,7 +216,8 @@ impl<'p> Cx<'p> {
     ) -> Result<Thm, AllocError>
         requires below { IsBelow self.old.program.sig.subsorts from.0 through.0 }
         requires above { InjectsBelow self.old.program.sig through.0 to.0 }
-        ensures says { IfOk result (λ t. SaysCollapsing self.new from.0 through.0 to.0 t.conclusion) }
+        ensures says { IfOk result
+            (λ t. SaysCollapsing self.new from.0 through.0 to.0 t.conclusion) }
         ensures no_hypotheses { IfOk result (λ t. t.hypotheses ≡ []) }
         ensures stays { IfOk result (StaysIn self.new) }
         ensures grown { HasGrown self.old self.new }

@@ -5,8 +5,10 @@ ghost use Rattle.ml_scope.specs.Scopes.{StaysWithin};
 ghost use Rattle.prove_term.specs.Assuming.{StaysFrom};
 ghost use Rattle.prove_term.specs.Injections.{injecting, collapsing, InjectedFrom, CollapsedFrom};
 ghost use Rattle.prove_term.specs.Injections.{Joins, JoinedFrom, StaysJoined};
-ghost use Rattle.prove_term.specs.Carrying.{Twice, TwiceFrom, StaysTwice, Cites, CitedFrom, CitedBy};
-ghost use Rattle.prove_term.specs.Carrying.{Carries, CarriedFrom, Collapses, CollapsesTo, CollapsesBy};
+ghost use Rattle.prove_term.specs.Carrying.{Twice, TwiceFrom, StaysTwice, Cites, CitedFrom};
+ghost use Rattle.prove_term.specs.Carrying.{CitedBy};
+ghost use Rattle.prove_term.specs.Carrying.{Carries, CarriedFrom, Collapses, CollapsesTo};
+ghost use Rattle.prove_term.specs.Carrying.{CollapsesBy};
 
 use crate::elements::subject;
 use crate::schemas::{at_meta, detach, one_element};
@@ -118,7 +120,8 @@ fn exchanged(alloc: Global, equality: &Thm, old: &MPat, new: &MPat) -> Result<Th
     requires { (p q : Pattern) × (s : ℕ) ×
         (equality.now.conclusion ≡ equal p q) × (old.now ≡ fun p s) × (new.now ≡ fun q s) }
     ensures conclusion { IfOk result (λ t. t.conclusion ≡ imp old.now new.now) }
-    ensures hypotheses { IfOk result (λ t. (h : Pattern) → equality.now.hypotheses ≡ h ∷ [] → t.hypotheses ≡ h ∷ []) }
+    ensures hypotheses { IfOk result
+        (λ t. (h : Pattern) → equality.now.hypotheses ≡ h ∷ [] → t.hypotheses ≡ h ∷ []) }
     ensures stays { IfOk result (StaysWithin (var 0 ∷ old.now ∷ []) (equality.now ∷ [])) }
 {
     let MForm::Equal(left, right) = equality.conclusion().form() else {

@@ -5,7 +5,8 @@ ghost use Rattle.ml_pat.specs.Judgements.{substituted};
 ghost use Rattle.ml_kernel.specs.Theorems.{AddsNew, all_hypotheses};
 ghost use Rattle.ml_scope.specs.Scopes.{StaysWithin};
 ghost use Rattle.prove_term.specs.Falling.{Falls};
-ghost use Rattle.prove_term.specs.Assuming.{IsTotality, TotalFrom, PartlyFrom, StaysFrom, Opens, OpenedFrom, IsSome};
+ghost use Rattle.prove_term.specs.Assuming.{IsTotality, TotalFrom, PartlyFrom, StaysFrom, Opens};
+ghost use Rattle.prove_term.specs.Assuming.{OpenedFrom, IsSome};
 ghost use Rattle.prove_term.specs.Assuming.{OneElementFrom};
 
 use ml_kernel::Thm;
@@ -16,7 +17,8 @@ use std::alloc::{AllocError, Global};
 // The lemma that a constructor of `count` pattern variables makes one element, if each variable is
 // one element of its sort. It follows from the same for all arguments.
 pub(crate) fn total_lemma(alloc: Global, totality: Thm, count: u32) -> Result<Thm, AllocError>
-    requires { (head : ℕ) × (numbers : List ℕ) × (number : ℕ) × IsTotality count head numbers number totality }
+    requires { (head : ℕ) × (numbers : List ℕ) × (number : ℕ)
+        × IsTotality count head numbers number totality }
     ensures says { IfOk result (TotalFrom count totality) }
     ensures stays { IfOk result (StaysFrom totality) }
 {
@@ -26,7 +28,8 @@ pub(crate) fn total_lemma(alloc: Global, totality: Thm, count: u32) -> Result<Th
 
 // The sentence with its variables replaced by pattern variables.
 fn at_metas(alloc: Global, totality: Thm, count: u32) -> Result<Thm, AllocError>
-    requires { (head : ℕ) × (numbers : List ℕ) × (number : ℕ) × IsTotality count head numbers number totality }
+    requires { (head : ℕ) × (numbers : List ℕ) × (number : ℕ)
+        × IsTotality count head numbers number totality }
     ensures says { IfOk result (PartlyFrom count count totality) }
     ensures falls { IfOk result (λ t. Falls count t.hypotheses) }
     ensures stays { IfOk result (StaysFrom totality) }
@@ -70,7 +73,8 @@ fn assumed(
     requires opened { substituted body.now x.0 (meta i) ≡ Some opened.now }
     requires falls { Falls i made.now.hypotheses }
     ensures conclusion { IfOk result (λ t. t.conclusion ≡ opened.now) }
-    ensures hypotheses { IfOk result (λ t. t.hypotheses ≡ fun (meta i) sort.0 ∷ made.now.hypotheses) }
+    ensures hypotheses { IfOk result
+        (λ t. t.hypotheses ≡ fun (meta i) sort.0 ∷ made.now.hypotheses) }
     ensures stays { IfOk result (StaysFrom made.now) }
 {
     let by = MPat::meta(alloc, i)?;
@@ -105,7 +109,8 @@ pub(crate) fn detach(alloc: Global, a: &Thm, b: &Thm, p: &MPat, q: &MPat) -> Res
     requires a { a.now.conclusion ≡ p.now }
     requires b { b.now.conclusion ≡ imp p.now q.now }
     ensures conclusion { IfOk result (λ t. t.conclusion ≡ q.now) }
-    ensures hypotheses { IfOk result (λ t. AddsNew [] (all_hypotheses (a.now ∷ b.now ∷ [])) t.hypotheses) }
+    ensures hypotheses { IfOk result
+        (λ t. AddsNew [] (all_hypotheses (a.now ∷ b.now ∷ [])) t.hypotheses) }
     ensures stays { IfOk result (StaysWithin [] (a.now ∷ b.now ∷ [])) }
 {
     Thm::mp(alloc, a, b, p, q)

@@ -24,7 +24,8 @@ impl<'p> Cx<'p> {
         value: &Value,
     ) -> Result<Thm, AllocError>
         requires { HasValue self.old.program.sig sort.0 (value_of value.now) }
-        ensures says { IfOk result (λ t. SaysValueOf self.new sort.0 (value_of value.now) t.conclusion) }
+        ensures says { IfOk result
+            (λ t. SaysValueOf self.new sort.0 (value_of value.now) t.conclusion) }
         ensures no_hypotheses { IfOk result (λ t. t.hypotheses ≡ []) }
         ensures stays { IfOk result (StaysIn self.new) }
         ensures grown { HasGrown self.old self.new }
@@ -52,7 +53,8 @@ impl<'p> Cx<'p> {
 
     // Returns the number of the axiom of a value.
     fn value_number(&mut self, fact: MPat) -> Result<AxiomNo, AllocError>
-        requires assumed { IsImageOf self.old.program.sig self.old.names (IsAssumed (theory_of self.old.program)) fact }
+        requires assumed { IsImageOf self.old.program.sig self.old.names
+            (IsAssumed (theory_of self.old.program)) fact }
         requires form { (c s : ℕ) × (fact ≡ fun (constant c) s) }
         ensures there { IfOk result (λ no. slice_get self.new.axioms no.0 ≡ Some fact) }
         ensures names { self.new.names ≡ self.old.names }

@@ -1,5 +1,7 @@
 -- How rules are tried one by one, and the result of a step.
-use Rattle.std.proofs.Common.{rules, ◌≡◌, ℕ, suc, zero, ◌+◌, ◌-◌, ◌<◌, ◌≤◌, ⊎_elim, inl, inr, List, [], ◌∷◌, length, drop, Option, Some, None, refl, sym, ◌∙◌, ap, subst, arith}
+use Rattle.std.proofs.Common.{rules, ◌≡◌, ℕ, suc, zero, ◌+◌, ◌-◌, ◌<◌, ◌≤◌, ⊎_elim, inl, inr, List}
+use Rattle.std.proofs.Common.{[], ◌∷◌, length, drop, Option, Some, None, refl, sym, ◌∙◌, ap, subst}
+use Rattle.std.proofs.Common.{arith}
 use Rattle.std.specs.Prelude.{Err, slice_get, IfSome, MatchOption, vec_len}
 use Rattle.std.proofs.lemmas.List.{drop_all, length-map}
 use Rattle.std.proofs.lemmas.Option.{slice_get_within}
@@ -10,13 +12,18 @@ use Rattle.term_core.specs.RulePatterns.{plain_pattern}
 use Rattle.rule_core.specs.Rules.{RewriteRule}
 use Rattle.rule_core.specs.Theories.{RewriteTheory}
 use Rattle.rule_core.specs.ProgramView.{rewrite_rule, rewrite_rules, sorts_of, theory_of}
-use Rattle.rule_core.specs.Matching.{StandsInSome}
+use Rattle.rule_core.specs.Matching.{OccursInSome}
 use Rattle.rule_core.specs.MatchSearch.{FindsMatch}
 use Rattle.rule_core.specs.WellSorted.{IsWellSorted, IsRuleOf, IsCondition}
-use Rattle.rule_core.specs.Evaluation.{value, blocked, Tested, holds, fails, untested, IsTrueValue, says_true, says_other, says_nothing, Evaluates}
-use Rattle.rule_core.specs.FirstRule.{most_nesting, Matches, IsUnmatched, Meets, no_condition, condition, applies, none_applies, trial_blocked, Tries, no_rule_left, unmatched, condition_fails, condition_blocked, condition_holds}
+use Rattle.rule_core.specs.Evaluation.{value, blocked, Tested, holds, fails, untested, IsTrueValue}
+use Rattle.rule_core.specs.Evaluation.{says_true, says_other, says_nothing, Evaluates}
+use Rattle.rule_core.specs.FirstRule.{most_nesting, Matches, IsUnmatched, Meets, no_condition}
+use Rattle.rule_core.specs.FirstRule.{condition, applies, none_applies, trial_blocked, Tries}
+use Rattle.rule_core.specs.FirstRule.{no_rule_left, unmatched, condition_fails, condition_blocked}
+use Rattle.rule_core.specs.FirstRule.{condition_holds}
 use Rattle.rule_core.specs.FirstRule as first
-use Rattle.rule_core.specs.Records.{Record, OptionalRecord, unconditional, conditional, RecordsCondition, IsUnusedRule, most_calls, Records}
+use Rattle.rule_core.specs.Records.{Record, OptionalRecord, unconditional, conditional}
+use Rattle.rule_core.specs.Records.{RecordsCondition, IsUnusedRule, most_calls, Records}
 use Rattle.rule_core.specs.Runs.{Steps, next, by_rule, in_condition, in_right_side}
 use Rattle.rule_core.specs.RunView.{cause_of}
 use Rattle.rule_core.specs.declared.rules.Program.{Program}
@@ -36,7 +43,8 @@ use Rattle.fun_eval.specs.declared.answer.EvalEnd.TheVariants.{Blocked, Memory}
 use Rattle.fun_eval.specs.declared.equations.Trial.TheVariants.{Unused}
 use Rattle.rewriter.specs.Configurations.{IsConfiguration}
 use Rattle.rewriter.specs.NextSteps.{TellsStep}
-use Rattle.rewriter.specs.Choosing.{IsTriable, IsRecordedCondition, RuleSays, TriesRule, IsChosen, Chooses}
+use Rattle.rewriter.specs.Choosing.{IsTriable, IsRecordedCondition, RuleSays, TriesRule, IsChosen}
+use Rattle.rewriter.specs.Choosing.{Chooses}
 use Rattle.rewriter.specs.Stepping.{Advances}
 
 -- ---- matching
@@ -44,160 +52,304 @@ use Rattle.rewriter.specs.Stepping.{Advances}
 count_of : (r : Rule) → length (sorts_of r.vars.items) ≡ vec_len r.vars
 count_of r = search (rules, length-map)
 
-pub own_variables : (theory : RewriteTheory) (r : Rule) (t : Tree) (n : ℕ) → IsTriable theory (rewrite_rule r) t → n ≡ vec_len r.vars → (x : ℕ) → StandsInSome x (more_patterns (plain_pattern r.left) no_pattern) → x < n
+pub own_variables : (theory : RewriteTheory) (r : Rule) (t : Tree) (n : ℕ)
+    → IsTriable theory (rewrite_rule r) t → n ≡ vec_len r.vars → (x : ℕ)
+    → OccursInSome x (more_patterns (plain_pattern r.left) no_pattern) → x < n
 own_variables theory r t n fits many x stands =
-    let within : x < length (sorts_of r.vars.items) = sorted_use_first theory.sig (sorts_of r.vars.items) [] (more_patterns (plain_pattern r.left) no_pattern) (Sort (record { 0 = fits.0 }) ∷ []) (fits.0, refl, fits.1.left, tt) x stands in
+    let within : x < length (sorts_of r.vars.items) =
+    sorted_use_first theory.sig (sorts_of r.vars.items) []
+    (more_patterns (plain_pattern r.left) no_pattern) (Sort (record { 0 = fits.0 }) ∷ [])
+    (fits.0, refl, fits.1.left, tt) x stands in
     omega (arith, count_of r)
 
-rule_matches : (theory : RewriteTheory) (r : Rule) (t : Tree) (n : ℕ) (found : Option (List (Option Tree))) → IsTriable theory (rewrite_rule r) t → n ≡ vec_len r.vars → FindsMatch theory.sig.subsorts n (more_patterns (plain_pattern r.left) no_pattern) (more_trees t no_tree) found → MatchOption found (IsUnmatched theory (rewrite_rule r) t) (Matches theory (rewrite_rule r) t)
+rule_matches : (theory : RewriteTheory) (r : Rule) (t : Tree) (n : ℕ)
+    (found : Option (List (Option Tree))) → IsTriable theory (rewrite_rule r) t
+    → n ≡ vec_len r.vars
+    → FindsMatch theory.sig.subsorts n (more_patterns (plain_pattern r.left) no_pattern)
+    (more_trees t no_tree) found
+    → MatchOption found (IsUnmatched theory (rewrite_rule r) t) (Matches theory (rewrite_rule r) t)
 rule_matches theory r t n found fits many finds =
-    finds theory.sig (sorts_of r.vars.items) [] (Sort (record { 0 = fits.0 }) ∷ []) refl (count_of r ∙ sym many) (fits.0, refl, fits.1.left, tt) (fits.0, refl, fits.2, tt)
+    finds theory.sig (sorts_of r.vars.items) [] (Sort (record { 0 = fits.0 }) ∷ []) refl
+    (count_of r ∙ sym many) (fits.0, refl, fits.1.left, tt) (fits.0, refl, fits.2, tt)
 
-pub matched_none : (theory : RewriteTheory) (r : Rule) (t : Tree) (n : ℕ) (found : Option (List (Option Tree))) → IsTriable theory (rewrite_rule r) t → n ≡ vec_len r.vars → FindsMatch theory.sig.subsorts n (more_patterns (plain_pattern r.left) no_pattern) (more_trees t no_tree) found → found ≡ None → IsUnmatched theory (rewrite_rule r) t
+pub matched_none : (theory : RewriteTheory) (r : Rule) (t : Tree) (n : ℕ)
+    (found : Option (List (Option Tree))) → IsTriable theory (rewrite_rule r) t
+    → n ≡ vec_len r.vars
+    → FindsMatch theory.sig.subsorts n (more_patterns (plain_pattern r.left) no_pattern)
+    (more_trees t no_tree) found → found ≡ None → IsUnmatched theory (rewrite_rule r) t
 matched_none theory r t n found fits many finds is =
-    subst (λ o. MatchOption o (IsUnmatched theory (rewrite_rule r) t) (Matches theory (rewrite_rule r) t)) is (rule_matches theory r t n found fits many finds)
+    subst (λ o. MatchOption o (IsUnmatched theory (rewrite_rule r) t)
+    (Matches theory (rewrite_rule r) t)) is
+    (rule_matches theory r t n found fits many finds)
 
-pub matched_some : (theory : RewriteTheory) (r : Rule) (t : Tree) (n : ℕ) (found : Option (List (Option Tree))) (theta : List (Option Tree)) → IsTriable theory (rewrite_rule r) t → n ≡ vec_len r.vars → FindsMatch theory.sig.subsorts n (more_patterns (plain_pattern r.left) no_pattern) (more_trees t no_tree) found → found ≡ Some theta → Matches theory (rewrite_rule r) t theta
+pub matched_some : (theory : RewriteTheory) (r : Rule) (t : Tree) (n : ℕ)
+    (found : Option (List (Option Tree))) (theta : List (Option Tree))
+    → IsTriable theory (rewrite_rule r) t → n ≡ vec_len r.vars
+    → FindsMatch theory.sig.subsorts n (more_patterns (plain_pattern r.left) no_pattern)
+    (more_trees t no_tree) found → found ≡ Some theta → Matches theory (rewrite_rule r) t theta
 matched_some theory r t n found theta fits many finds is =
-    subst (λ o. MatchOption o (IsUnmatched theory (rewrite_rule r) t) (Matches theory (rewrite_rule r) t)) is (rule_matches theory r t n found fits many finds)
+    subst (λ o. MatchOption o (IsUnmatched theory (rewrite_rule r) t)
+    (Matches theory (rewrite_rule r) t)) is
+    (rule_matches theory r t n found fits many finds)
 
 -- ---- one rule
 
-pub condition_evaluable : (theory : RewriteTheory) (rule : RewriteRule) (t : Tree) (theta : List (Option Tree)) (p : Pattern) → IsTriable theory rule t → Matches theory rule t theta → height t ≤ 500 → rule.condition ≡ Some p → IsEvaluable theory theta p
+pub condition_evaluable : (theory : RewriteTheory) (rule : RewriteRule) (t : Tree)
+    (theta : List (Option Tree)) (p : Pattern) → IsTriable theory rule t
+    → Matches theory rule t theta → height t ≤ 500 → rule.condition ≡ Some p
+    → IsEvaluable theory theta p
 condition_evaluable theory rule t theta p fits match low is =
-    let has : IsCondition theory.sig rule.variables (more_patterns rule.left no_pattern) p = subst (λ o. IfSome o (IsCondition theory.sig rule.variables (more_patterns rule.left no_pattern))) is fits.1.condition in
-    (rule.variables, has.0, has.5, serves_match theory.sig rule.variables (more_patterns rule.left no_pattern) (more_trees t no_tree) theta p match (omega arith) has.6)
+    let has : IsCondition theory.sig rule.variables (more_patterns rule.left no_pattern) p =
+    subst (λ o. IfSome o
+    (IsCondition theory.sig rule.variables (more_patterns rule.left no_pattern))) is
+    fits.1.condition in (
+      rule.variables,
+      has.0,
+      has.5,
+      serves_match theory.sig rule.variables (more_patterns rule.left no_pattern)
+          (more_trees t no_tree) theta p match (omega arith) has.6,
+    )
 
-pub no_test : (theory : RewriteTheory) (c : ℕ) (theta : List (Option Tree)) (p : Option Pattern) → p ≡ None → Meets theory theta p c (holds c) × ((o : OptionalRecord) × (o ≡ unconditional) × RecordsCondition theory theta p o)
-no_test theory c theta p is = (subst (λ o. Meets theory theta o c (holds c)) (sym is) no_condition, (unconditional, refl, is))
+pub no_test : (theory : RewriteTheory) (c : ℕ) (theta : List (Option Tree)) (p : Option Pattern)
+    → p ≡ None
+    → Meets theory theta p c (holds c)
+    × ((o : OptionalRecord) × (o ≡ unconditional) × RecordsCondition theory theta p o)
+no_test theory c theta p is =
+    (subst (λ o. Meets theory theta o c (holds c)) (sym is) no_condition, (unconditional, refl, is))
 
-pub test_holds : (tell : Record → Type 0) (theory : RewriteTheory) (c left : ℕ) (theta : List (Option Tree)) (p : Option Pattern) (q : Pattern) (t : Tree) → p ≡ Some q → Evaluates theory most_nesting theta q c (value t left) → IsRecorded tell theory theta q t → IsTrueValue t → Meets theory theta p c (holds left) × ((o : OptionalRecord) × ((r : Record) × (o ≡ conditional r) × tell r) × RecordsCondition theory theta p o)
+pub test_holds : (tell : Record → Type 0) (theory : RewriteTheory) (c left : ℕ)
+    (theta : List (Option Tree)) (p : Option Pattern) (q : Pattern) (t : Tree) → p ≡ Some q
+    → Evaluates theory most_nesting theta q c (value t left) → IsRecorded tell theory theta q t
+    → IsTrueValue t
+    → Meets theory theta p c (holds left)
+    × ((o : OptionalRecord) × ((r : Record) × (o ≡ conditional r) × tell r)
+    × RecordsCondition theory theta p o)
 test_holds tell theory c left theta p q t is evaluated told true_value = (
-  subst (λ o. Meets theory theta o c (holds left)) (sym is) (condition evaluated (says_true true_value)),
-  (conditional told.0, (told.0, refl, told.1), (q, is, told.2, subst IsTrueValue (sym told.3) true_value)),
+  subst (λ o. Meets theory theta o c (holds left)) (sym is)
+      (condition evaluated (says_true true_value)),
+  (
+    conditional told.0,
+    (told.0, refl, told.1),
+    (q, is, told.2, subst IsTrueValue (sym told.3) true_value),
+  ),
 )
 
-pub test_fails : (theory : RewriteTheory) (c left : ℕ) (theta : List (Option Tree)) (p : Option Pattern) (q : Pattern) (t : Tree) → p ≡ Some q → Evaluates theory most_nesting theta q c (value t left) → (IsTrueValue t → ⊥) → Meets theory theta p c (fails left)
+pub test_fails : (theory : RewriteTheory) (c left : ℕ) (theta : List (Option Tree))
+    (p : Option Pattern) (q : Pattern) (t : Tree) → p ≡ Some q
+    → Evaluates theory most_nesting theta q c (value t left) → (IsTrueValue t → ⊥)
+    → Meets theory theta p c (fails left)
 test_fails theory c left theta p q t is evaluated other =
-    subst (λ o. Meets theory theta o c (fails left)) (sym is) (condition evaluated (says_other other))
+    subst (λ o. Meets theory theta o c (fails left)) (sym is)
+    (condition evaluated (says_other other))
 
-pub test_stops : {R : Type 0} (tells : R → Record → Type 0) (theory : RewriteTheory) (rule : RewriteRule) (t : Tree) (c : ℕ) (theta : List (Option Tree)) (q : Pattern) (end : EvalEnd) → Matches theory rule t theta → rule.condition ≡ Some q → EndsBy (Evaluates theory most_nesting theta q c) end → TriesRule tells theory rule t c (Err end)
-test_stops tells theory rule t c theta q (Blocked why) match is h =
-    (theta, match, subst (λ o. Meets theory theta o c (untested (cause_of why))) (sym is) (condition h says_nothing))
+pub test_stops : {R : Type 0} (tells : R → Record → Type 0) (theory : RewriteTheory)
+    (rule : RewriteRule) (t : Tree) (c : ℕ) (theta : List (Option Tree)) (q : Pattern)
+    (end : EvalEnd) → Matches theory rule t theta → rule.condition ≡ Some q
+    → EndsBy (Evaluates theory most_nesting theta q c) end
+    → TriesRule tells theory rule t c (Err end)
+test_stops tells theory rule t c theta q (Blocked why) match is h = (
+  theta,
+  match,
+  subst (λ o. Meets theory theta o c (untested (cause_of why))) (sym is)
+      (condition h says_nothing),
+)
 test_stops tells theory rule t c theta q Memory match is h = tt
 
 -- ---- with less and with more calls left
 
-meets_more : (theory : RewriteTheory) (k : ℕ) {c : ℕ} {theta : List (Option Tree)} {p : Option Pattern} {r : Tested} → Meets theory theta p c r → IsTold r → Meets theory theta p (c + k) (with_calls k r)
+meets_more : (theory : RewriteTheory) (k : ℕ) {c : ℕ} {theta : List (Option Tree)}
+    {p : Option Pattern} {r : Tested} → Meets theory theta p c r → IsTold r
+    → Meets theory theta p (c + k) (with_calls k r)
 meets_more theory k no_condition told = no_condition
-meets_more theory k (condition {e = value t d} e says) told = condition (evaluates_more theory k e most_nesting (omega arith)) (more_says k says)
+meets_more theory k (condition {e = value t d} e says) told =
+    condition (evaluates_more theory k e most_nesting (omega arith)) (more_says k says)
 meets_more theory k (condition {e = blocked cause} e says_nothing) told = absurd told
 
-meets_fall : {theory : RewriteTheory} {c : ℕ} {theta : List (Option Tree)} {p : Option Pattern} {r : Tested} → Meets theory theta p c r → LeavesAtMost c r
+meets_fall : {theory : RewriteTheory} {c : ℕ} {theta : List (Option Tree)} {p : Option Pattern}
+    {r : Tested} → Meets theory theta p c r → LeavesAtMost c r
 meets_fall no_condition = omega arith
 meets_fall (condition {e = value t d} e says) = says_at_most says (calls_fall e)
 meets_fall (condition {e = blocked cause} e says_nothing) = tt
 
-failed_with : (theory : RewriteTheory) (theta : List (Option Tree)) (p : Option Pattern) (c d k : ℕ) → Meets theory theta p c (fails d) → c ≤ k → (left : ℕ) × Meets theory theta p k (fails left)
+failed_with : (theory : RewriteTheory) (theta : List (Option Tree)) (p : Option Pattern) (c d k : ℕ)
+    → Meets theory theta p c (fails d) → c ≤ k → (left : ℕ) × Meets theory theta p k (fails left)
 failed_with theory theta p c d k test few =
-    let whole : c + (k - c) ≡ k = omega arith in
-    (d + (k - c), subst (λ j. Meets theory theta p j (fails (d + (k - c)))) whole (meets_more theory (k - c) test tt))
+    let whole : c + (k - c) ≡ k = omega arith in (
+      d
+          + (k - c),
+      subst (λ j. Meets theory theta p j (fails (d + (k - c)))) whole
+          (meets_more theory (k - c) test tt),
+    )
 
-pub is_unused : {R : Type 0} (tells : R → Record → Type 0) (theory : RewriteTheory) (rule : RewriteRule) (t : Tree) (c left : ℕ) → c ≤ most_calls → RuleSays tells theory rule t c Unused left → IsUnusedRule theory rule t
+pub is_unused : {R : Type 0} (tells : R → Record → Type 0) (theory : RewriteTheory)
+    (rule : RewriteRule) (t : Tree) (c left : ℕ) → c ≤ most_calls
+    → RuleSays tells theory rule t c Unused left → IsUnusedRule theory rule t
 is_unused tells theory rule t c left few (inl never) = inl never.0
 is_unused tells theory rule t c left few (inr failed) =
-    let more = failed_with theory failed.0 rule.condition c left most_calls failed.2 few in inr (failed.0, more.0, failed.1, more.1)
+    let more = failed_with theory failed.0 rule.condition c left most_calls failed.2 few in
+    inr (failed.0, more.0, failed.1, more.1)
 
-pub trial_falls : {R : Type 0} (tells : R → Record → Type 0) (theory : RewriteTheory) (rule : RewriteRule) (t : Tree) (c left : ℕ) → RuleSays tells theory rule t c Unused left → left ≤ c
+pub trial_falls : {R : Type 0} (tells : R → Record → Type 0) (theory : RewriteTheory)
+    (rule : RewriteRule) (t : Tree) (c left : ℕ) → RuleSays tells theory rule t c Unused left
+    → left ≤ c
 trial_falls tells theory rule t c left (inl never) = omega (arith, never.1)
 trial_falls tells theory rule t c left (inr failed) = meets_fall failed.2
 
-pub holds_fall : (theory : RewriteTheory) (theta : List (Option Tree)) (p : Option Pattern) (c left rest : ℕ) → Meets theory theta p left (holds rest) → left ≤ c → rest ≤ c
-holds_fall theory theta p c left rest test le = let fall : rest ≤ left = meets_fall test in omega arith
+pub holds_fall : (theory : RewriteTheory) (theta : List (Option Tree)) (p : Option Pattern)
+    (c left rest : ℕ) → Meets theory theta p left (holds rest) → left ≤ c → rest ≤ c
+holds_fall theory theta p c left rest test le =
+    let fall : rest ≤ left = meets_fall test in omega arith
 
 -- ---- the rules from i on
 
 abbrev pub TriedUpTo : RewriteTheory → Tree → ℕ → ℕ → ℕ → Type 0
 TriedUpTo theory t c i left =
-    (r : first.Trial) → Tries theory t i (drop i theory.rules) left r → Tries theory t 0 theory.rules c r
+    (r : first.Trial) → Tries theory t i (drop i theory.rules) left r
+    → Tries theory t 0 theory.rules c r
 
 abbrev pub UnusedUpTo : RewriteTheory → Tree → ℕ → Type 0
-UnusedUpTo theory t i = (j : ℕ) (other : RewriteRule) → j < i → slice_get theory.rules j ≡ Some other → IsUnusedRule theory other t
+UnusedUpTo theory t i = (j : ℕ) (other : RewriteRule) → j < i
+    → slice_get theory.rules j ≡ Some other → IsUnusedRule theory other t
 
-pub from_here : (rs : List RewriteRule) (i : ℕ) (rule : RewriteRule) → slice_get rs i ≡ Some rule → drop i rs ≡ rule ∷ drop (i + 1) rs
+pub from_here : (rs : List RewriteRule) (i : ℕ) (rule : RewriteRule) → slice_get rs i ≡ Some rule
+    → drop i rs ≡ rule ∷ drop (i + 1) rs
 from_here [] i rule there = let no : ⊥ = cc in absurd no
 from_here (x ∷ rs) zero rule there = let same : x ≡ rule = cc in ap (λ y. y ∷ rs) same
-from_here (x ∷ rs) (suc i) rule there = let later : suc i + 1 ≡ suc (i + 1) = omega arith in rw later (from_here rs i rule there)
+from_here (x ∷ rs) (suc i) rule there =
+    let later : suc i + 1 ≡ suc (i + 1) = omega arith in rw later (from_here rs i rule there)
 
-passed : {R : Type 0} (tells : R → Record → Type 0) (theory : RewriteTheory) (t : Tree) (i c left : ℕ) (rule : RewriteRule) (rs : List RewriteRule) (r : first.Trial) → RuleSays tells theory rule t c Unused left → Tries theory t (i + 1) rs left r → Tries theory t i (rule ∷ rs) c r
-passed tells theory t i c left rule rs r (inl never) rest = unmatched never.0 (subst (λ d. Tries theory t (i + 1) rs d r) never.1 rest)
+passed : {R : Type 0} (tells : R → Record → Type 0) (theory : RewriteTheory) (t : Tree)
+    (i c left : ℕ) (rule : RewriteRule) (rs : List RewriteRule) (r : first.Trial)
+    → RuleSays tells theory rule t c Unused left → Tries theory t (i + 1) rs left r
+    → Tries theory t i (rule ∷ rs) c r
+passed tells theory t i c left rule rs r (inl never) rest =
+    unmatched never.0 (subst (λ d. Tries theory t (i + 1) rs d r) never.1 rest)
 passed tells theory t i c left rule rs r (inr failed) rest = condition_fails failed.1 failed.2 rest
 
-pub tried-more : {R : Type 0} (tells : R → Record → Type 0) (theory : RewriteTheory) (t : Tree) (c i left rest : ℕ) (rule : RewriteRule) → TriedUpTo theory t c i left → slice_get theory.rules i ≡ Some rule → RuleSays tells theory rule t left Unused rest → TriedUpTo theory t c (i + 1) rest
+pub tried-more : {R : Type 0} (tells : R → Record → Type 0) (theory : RewriteTheory) (t : Tree)
+    (c i left rest : ℕ) (rule : RewriteRule) → TriedUpTo theory t c i left
+    → slice_get theory.rules i ≡ Some rule → RuleSays tells theory rule t left Unused rest
+    → TriedUpTo theory t c (i + 1) rest
 tried-more tells theory t c i left rest rule tried there says = λ r others.
-    tried r (subst (λ xs. Tries theory t i xs left r) (sym (from_here theory.rules i rule there)) (passed tells theory t i left rest rule (drop (i + 1) theory.rules) r says others))
+    tried r (subst (λ xs. Tries theory t i xs left r) (sym (from_here theory.rules i rule there))
+    (passed tells theory t i left rest rule (drop (i + 1) theory.rules) r says others))
 
-pub unused-more : (theory : RewriteTheory) (t : Tree) (i : ℕ) (rule : RewriteRule) → UnusedUpTo theory t i → slice_get theory.rules i ≡ Some rule → IsUnusedRule theory rule t → UnusedUpTo theory t (i + 1)
+pub unused-more : (theory : RewriteTheory) (t : Tree) (i : ℕ) (rule : RewriteRule)
+    → UnusedUpTo theory t i → slice_get theory.rules i ≡ Some rule → IsUnusedRule theory rule t
+    → UnusedUpTo theory t (i + 1)
 unused-more theory t i rule before there unused = λ j other lt at.
     ⊎_elim
-    (λ (same : j ≡ i). let k : Some rule ≡ Some other = sym there ∙ ap (slice_get theory.rules) (sym same) ∙ at in
+    (λ (same : j ≡ i).
+    let k : Some rule ≡ Some other = sym there ∙ ap (slice_get theory.rules) (sym same) ∙ at in
     let is : rule ≡ other = cc in subst (λ x. IsUnusedRule theory x t) is unused)
     (λ (earlier : j < i). before j other earlier at)
     (eq-or-lt_of_le (omega arith))
 
-abbrev pub chosen : (theory : RewriteTheory) (t : Tree) (c i left rest : ℕ) (rule : RewriteRule) (theta : List (Option Tree)) → TriedUpTo theory t c i left → UnusedUpTo theory t i → slice_get theory.rules i ≡ Some rule → Matches theory rule t theta → Meets theory theta rule.condition left (holds rest) → left ≤ c → IsChosen theory t c i theta rest
+abbrev pub chosen : (theory : RewriteTheory) (t : Tree) (c i left rest : ℕ) (rule : RewriteRule)
+    (theta : List (Option Tree)) → TriedUpTo theory t c i left → UnusedUpTo theory t i
+    → slice_get theory.rules i ≡ Some rule → Matches theory rule t theta
+    → Meets theory theta rule.condition left (holds rest) → left ≤ c
+    → IsChosen theory t c i theta rest
 chosen theory t c i left rest rule theta tried before there match test le = record {
   rule = rule;
   there = there;
   matches = match;
   earlier = before;
-  tried = tried (applies i rule theta rest) (subst (λ xs. Tries theory t i xs left (applies i rule theta rest)) (sym (from_here theory.rules i rule there)) (condition_holds match test));
+  tried =
+      tried (applies i rule theta rest) (subst
+      (λ xs. Tries theory t i xs left (applies i rule theta rest))
+      (sym (from_here theory.rules i rule there)) (condition_holds match test));
   fewer = holds_fall theory theta rule.condition c left rest test le;
 }
 
-pub trial_stops : {R : Type 0} (tells : R → Record → Type 0) (theory : RewriteTheory) (t : Tree) (c i left : ℕ) (rule : RewriteRule) (end : EvalEnd) → TriedUpTo theory t c i left → slice_get theory.rules i ≡ Some rule → TriesRule tells theory rule t left (Err end) → Chooses tells theory t c (Err end)
+pub trial_stops : {R : Type 0} (tells : R → Record → Type 0) (theory : RewriteTheory) (t : Tree)
+    (c i left : ℕ) (rule : RewriteRule) (end : EvalEnd) → TriedUpTo theory t c i left
+    → slice_get theory.rules i ≡ Some rule → TriesRule tells theory rule t left (Err end)
+    → Chooses tells theory t c (Err end)
 trial_stops tells theory t c i left rule (Blocked why) tried there h =
-    tried (trial_blocked (cause_of why)) (subst (λ xs. Tries theory t i xs left (trial_blocked (cause_of why))) (sym (from_here theory.rules i rule there)) (condition_blocked h.1 h.2))
+    tried (trial_blocked (cause_of why)) (subst
+    (λ xs. Tries theory t i xs left (trial_blocked (cause_of why)))
+    (sym (from_here theory.rules i rule there)) (condition_blocked h.1 h.2))
 trial_stops tells theory t c i left rule Memory tried there h = tt
 
-pub tried-all : (theory : RewriteTheory) (t : Tree) (c i left : ℕ) → TriedUpTo theory t c i left → length theory.rules ≤ i → Tries theory t 0 theory.rules c none_applies
+pub tried-all : (theory : RewriteTheory) (t : Tree) (c i left : ℕ) → TriedUpTo theory t c i left
+    → length theory.rules ≤ i → Tries theory t 0 theory.rules c none_applies
 tried-all theory t c i left tried le =
-    tried none_applies (subst (λ xs. Tries theory t i xs left none_applies) (sym (drop_all i theory.rules le)) no_rule_left)
+    tried none_applies (subst (λ xs. Tries theory t i xs left none_applies)
+    (sym (drop_all i theory.rules le)) no_rule_left)
 
-pub triable : (theory : RewriteTheory) (t : Tree) (i : ℕ) (rule : RewriteRule) → IsConfiguration theory t → slice_get theory.rules i ≡ Some rule → IsTriable theory rule t
-triable theory t i rule is there = (is.0, all_at (IsRuleOf theory.sig is.0) theory.rules i rule is.1 there, is.2)
+pub triable : (theory : RewriteTheory) (t : Tree) (i : ℕ) (rule : RewriteRule)
+    → IsConfiguration theory t → slice_get theory.rules i ≡ Some rule → IsTriable theory rule t
+triable theory t i rule is there =
+    (is.0, all_at (IsRuleOf theory.sig is.0) theory.rules i rule is.1 there, is.2)
 
 -- ---- the step
 
-pub right_evaluable : (theory : RewriteTheory) (t : Tree) (c number left : ℕ) (theta : List (Option Tree)) (rule : RewriteRule) → IsConfiguration theory t → IsChosen theory t c number theta left → slice_get theory.rules number ≡ Some rule → height t ≤ 500 → IsEvaluable theory theta rule.right
+pub right_evaluable : (theory : RewriteTheory) (t : Tree) (c number left : ℕ)
+    (theta : List (Option Tree)) (rule : RewriteRule) → IsConfiguration theory t
+    → IsChosen theory t c number theta left → slice_get theory.rules number ≡ Some rule
+    → height t ≤ 500 → IsEvaluable theory theta rule.right
 right_evaluable theory t c number left theta rule is picked there low =
     let both : Some picked.rule ≡ Some rule = sym picked.there ∙ there in
     let same : picked.rule ≡ rule = cc in
     let match = subst (λ (r : RewriteRule). Matches theory r t theta) same picked.matches in
-    let fits : IsRuleOf theory.sig is.0 rule = all_at (IsRuleOf theory.sig is.0) theory.rules number rule is.1 there in
-    (rule.variables, is.0, fits.right, serves_match theory.sig rule.variables (more_patterns rule.left no_pattern) (more_trees t no_tree) theta rule.right match (omega arith) fits.bound)
+    let fits : IsRuleOf theory.sig is.0 rule =
+    all_at (IsRuleOf theory.sig is.0) theory.rules number rule is.1 there in (
+      rule.variables,
+      is.0,
+      fits.right,
+      serves_match theory.sig rule.variables (more_patterns rule.left no_pattern)
+          (more_trees t no_tree) theta rule.right match (omega arith) fits.bound,
+    )
 
-pub right_stops : {R : Type 0} (tells : R → Record → Type 0) (theory : RewriteTheory) (t : Tree) (c number left : ℕ) (theta : List (Option Tree)) (rule : RewriteRule) (end : EvalEnd) → IsChosen theory t c number theta left → slice_get theory.rules number ≡ Some rule → EndsBy (Evaluates theory most_nesting theta rule.right left) end → Advances tells theory t c (Err end)
+pub right_stops : {R : Type 0} (tells : R → Record → Type 0) (theory : RewriteTheory) (t : Tree)
+    (c number left : ℕ) (theta : List (Option Tree)) (rule : RewriteRule) (end : EvalEnd)
+    → IsChosen theory t c number theta left → slice_get theory.rules number ≡ Some rule
+    → EndsBy (Evaluates theory most_nesting theta rule.right left) end
+    → Advances tells theory t c (Err end)
 right_stops tells theory t c number left theta rule (Blocked why) picked there h =
     let both : Some rule ≡ Some picked.rule = sym there ∙ picked.there in
     let same : rule ≡ picked.rule = cc in
-    in_right_side picked.tried (subst (λ (r : RewriteRule). Evaluates theory most_nesting theta r.right left (blocked (cause_of why))) same h)
+    in_right_side picked.tried (subst (λ (r : RewriteRule).
+    Evaluates theory most_nesting theta r.right left (blocked (cause_of why))) same h)
 right_stops tells theory t c number left theta rule Memory picked there h = tt
 
-pub choice_stops : {R : Type 0} (tells : R → Record → Type 0) (theory : RewriteTheory) (t : Tree) (c : ℕ) (end : EvalEnd) → Chooses tells theory t c (Err end) → Advances tells theory t c (Err end)
+pub choice_stops : {R : Type 0} (tells : R → Record → Type 0) (theory : RewriteTheory) (t : Tree)
+    (c : ℕ) (end : EvalEnd) → Chooses tells theory t c (Err end)
+    → Advances tells theory t c (Err end)
 choice_stops tells theory t c (Blocked why) h = in_condition h
 choice_stops tells theory t c Memory h = tt
 
-pub step_made : {R : Type 0} (tells : R → Record → Type 0) (theory : RewriteTheory) (t u : Tree) (c number left rest : ℕ) (theta : List (Option Tree)) (cond : Option R) (rule : RewriteRule) (recorded : R) → IsWellSorted theory → IsConfiguration theory t → height t ≤ 500 → (picked : IsChosen theory t c number theta left) → IsRecordedCondition tells theory theta picked.rule.condition cond → slice_get theory.rules number ≡ Some rule → Evaluates theory most_nesting theta rule.right left (value u rest) → IsRecorded (tells recorded) theory theta rule.right u → Steps theory t c (next u rest) × TellsStep tells theory t u (record { rule = number; subst = theta; cond = cond; right = recorded }) × IsConfiguration theory u
-step_made tells theory t u c number left rest theta cond rule recorded good is low picked met there evaluated told =
+pub step_made : {R : Type 0} (tells : R → Record → Type 0) (theory : RewriteTheory) (t u : Tree)
+    (c number left rest : ℕ) (theta : List (Option Tree)) (cond : Option R) (rule : RewriteRule)
+    (recorded : R) → IsWellSorted theory → IsConfiguration theory t → height t ≤ 500
+    → (picked : IsChosen theory t c number theta left)
+    → IsRecordedCondition tells theory theta picked.rule.condition cond
+    → slice_get theory.rules number ≡ Some rule
+    → Evaluates theory most_nesting theta rule.right left (value u rest)
+    → IsRecorded (tells recorded) theory theta rule.right u
+    → Steps theory t c (next u rest)
+    × TellsStep tells theory t u
+    (record { rule = number; subst = theta; cond = cond; right = recorded })
+    × IsConfiguration theory u
+step_made tells theory t u c number left rest theta cond rule recorded good is low picked met there
+    evaluated told =
     let both : Some rule ≡ Some picked.rule = sym there ∙ picked.there in
     let same : rule ≡ picked.rule = cc in
-    let right : Evaluates theory most_nesting theta picked.rule.right left (value u rest) = subst (λ (r : RewriteRule). Evaluates theory most_nesting theta r.right left (value u rest)) same evaluated in
-    let fits : IsEvaluable theory theta rule.right = right_evaluable theory t c number left theta rule is picked there low in
-    let rule_fits : IsRuleOf theory.sig is.0 rule = all_at (IsRuleOf theory.sig is.0) theory.rules number rule is.1 there in
+    let right : Evaluates theory most_nesting theta picked.rule.right left (value u rest) =
+    subst (λ (r : RewriteRule). Evaluates theory most_nesting theta r.right left (value u rest))
+    same evaluated in
+    let fits : IsEvaluable theory theta rule.right =
+    right_evaluable theory t c number left theta rule is picked there low in
+    let rule_fits : IsRuleOf theory.sig is.0 rule =
+    all_at (IsRuleOf theory.sig is.0) theory.rules number rule is.1 there in
     let match = subst (λ (r : RewriteRule). Matches theory r t theta) (sym same) picked.matches in
-    let serves = serves_match theory.sig rule.variables (more_patterns rule.left no_pattern) (more_trees t no_tree) theta rule.right match (omega arith) rule_fits.bound in
-    let fine = values_are_sorted theory most_nesting left rest rule.variables theta rule.right is.0 u good rule_fits.right serves evaluated in (
+    let serves =
+    serves_match theory.sig rule.variables (more_patterns rule.left no_pattern)
+    (more_trees t no_tree) theta rule.right match (omega arith) rule_fits.bound in
+    let fine =
+    values_are_sorted theory most_nesting left rest rule.variables theta rule.right is.0 u good
+    rule_fits.right serves evaluated in (
       by_rule picked.tried right,
       record {
         step = record { rule = number; theta = theta; condition = met.0; right = told.0 };
@@ -219,9 +371,13 @@ step_made tells theory t u c number left rest theta cond rule recorded good is l
     )
 
 -- the number of the chosen rule is the number of a rule
-pub chosen_within : (p q : Program) (t : Tree) (c number left : ℕ) (theta : List (Option Tree)) → q ≡ p → IsChosen (theory_of p) t c number theta left → number < length q.rules.items
+pub chosen_within : (p q : Program) (t : Tree) (c number left : ℕ) (theta : List (Option Tree))
+    → q ≡ p → IsChosen (theory_of p) t c number theta left → number < length q.rules.items
 chosen_within p q t c number left theta same picked =
-    let within : number < length (rewrite_rules p.rules.items) = slice_get_within (rewrite_rules p.rules.items) number picked.rule picked.there in
-    let len : length (rewrite_rules p.rules.items) ≡ length p.rules.items = length-map p.rules.items rewrite_rule in
-    let own : length q.rules.items ≡ length p.rules.items = ap (λ (r : Program). length r.rules.items) same in
+    let within : number < length (rewrite_rules p.rules.items) =
+    slice_get_within (rewrite_rules p.rules.items) number picked.rule picked.there in
+    let len : length (rewrite_rules p.rules.items) ≡ length p.rules.items =
+    length-map p.rules.items rewrite_rule in
+    let own : length q.rules.items ≡ length p.rules.items =
+    ap (λ (r : Program). length r.rules.items) same in
     omega arith

@@ -7,7 +7,8 @@ use Rattle.rule_core.specs.Theories.{RewriteTheory}
 use Rattle.rule_core.specs.Sorting.{IsTermOf}
 use Rattle.rule_core.specs.WellSorted.{IsRuleOf}
 use Rattle.rule_core.specs.Evaluation.{holds, fails, untested}
-use Rattle.rule_core.specs.FirstRule.{Matches, IsUnmatched, Meets, applies, none_applies, trial_blocked, Tries}
+use Rattle.rule_core.specs.FirstRule.{Matches, IsUnmatched, Meets, applies, none_applies}
+use Rattle.rule_core.specs.FirstRule.{trial_blocked, Tries}
 use Rattle.rule_core.specs.Records.{Record, OptionalRecord, RecordsCondition, IsUnusedRule}
 use Rattle.fun_eval.specs.Giving.{Comes}
 use Rattle.fun_eval.specs.RecordLists.{TellsOption}
@@ -21,16 +22,17 @@ abbrev pub IsTriable : RewriteTheory → RewriteRule → Tree → Type 0
 IsTriable theory rule t = (sort : ℕ) × IsRuleOf theory.sig sort rule × IsTermOf theory.sig t sort
 
 -- what is recorded of a condition that holds
-abbrev pub IsRecordedCondition : {R : Type 0} → (R → Record → Type 0) → RewriteTheory → List (Option Tree)
-    → Option Pattern → Option R → Type 0
+abbrev pub IsRecordedCondition : {R : Type 0} → (R → Record → Type 0) → RewriteTheory
+    → List (Option Tree) → Option Pattern → Option R → Type 0
 IsRecordedCondition tells theory theta p kept =
     (o : OptionalRecord) × TellsOption tells kept o × RecordsCondition theory theta p o
 
 -- a rule is not used, or it matches and its condition holds
-abbrev pub RuleSays : {R : Type 0} → (R → Record → Type 0) → RewriteTheory → RewriteRule → Tree → ℕ → Trial R → ℕ
-    → Type 0
+abbrev pub RuleSays : {R : Type 0} → (R → Record → Type 0) → RewriteTheory → RewriteRule → Tree → ℕ
+    → Trial R → ℕ → Type 0
 RuleSays tells theory rule t c Unused left =
-    (IsUnmatched theory rule t × (left ≡ c)) ⊎ ((theta : List (Option Tree)) × Matches theory rule t theta
+    (IsUnmatched theory rule t × (left ≡ c))
+    ⊎ ((theta : List (Option Tree)) × Matches theory rule t theta
     × Meets theory theta rule.condition c (fails left))
 RuleSays tells theory rule t c (Used theta kept) left =
     Matches theory rule t theta × Meets theory theta rule.condition c (holds left)
@@ -47,7 +49,8 @@ TriesRule tells theory rule t c answer =
     answer
 
 -- the rule with this number applies with this substitution, and no earlier rule applies
-pub record IsChosen (theory : RewriteTheory) (t : Tree) (c number : ℕ) (theta : List (Option Tree)) (left : ℕ) : Type 0
+pub record IsChosen (theory : RewriteTheory) (t : Tree) (c number : ℕ) (theta : List (Option Tree))
+    (left : ℕ) : Type 0
   where
     pub rule : RewriteRule
     pub there : slice_get theory.rules number ≡ Some rule
@@ -57,7 +60,8 @@ pub record IsChosen (theory : RewriteTheory) (t : Tree) (c number : ℕ) (theta 
     pub tried : Tries theory t 0 theory.rules c (applies number rule theta left)
     pub fewer : left ≤ c
 
-abbrev pub ChoiceSays : {R : Type 0} → (R → Record → Type 0) → RewriteTheory → Tree → ℕ → Option (Choice R) → ℕ → Type 0
+abbrev pub ChoiceSays : {R : Type 0} → (R → Record → Type 0) → RewriteTheory → Tree → ℕ
+    → Option (Choice R) → ℕ → Type 0
 ChoiceSays tells theory t c None left = Tries theory t 0 theory.rules c none_applies
 ChoiceSays tells theory t c (Some chosen) left =
     (is : IsChosen theory t c chosen.number chosen.subst left)
@@ -67,4 +71,5 @@ ChoiceSays tells theory t c (Some chosen) left =
 abbrev pub Chooses : {R : Type 0} → (R → Record → Type 0) → RewriteTheory → Tree → ℕ
     → Result (Option (Choice R) × ℕ) EvalEnd → Type 0
 Chooses tells theory t c answer =
-    Comes (ChoiceSays tells theory t c) (λ cause. Tries theory t 0 theory.rules c (trial_blocked cause)) answer
+    Comes (ChoiceSays tells theory t c)
+    (λ cause. Tries theory t 0 theory.rules c (trial_blocked cause)) answer

@@ -13,8 +13,10 @@ pub record RunState : Type 0 where
 
 -- the initial term has a sort, which is the sort of the rules if there are any, and no variable
 abbrev pub IsStartOf : RewriteTheory → Pattern → Type 0
-IsStartOf theory start = (sort : ℕ) × All (IsRuleOf theory.sig sort) theory.rules × HasSort theory.sig [] start sort
+IsStartOf theory start =
+    (sort : ℕ) × All (IsRuleOf theory.sig sort) theory.rules × HasSort theory.sig [] start sort
 
 -- a configuration has such a sort too
 abbrev pub IsConfiguration : RewriteTheory → Tree → Type 0
-IsConfiguration theory t = (sort : ℕ) × All (IsRuleOf theory.sig sort) theory.rules × IsTermOf theory.sig t sort
+IsConfiguration theory t =
+    (sort : ℕ) × All (IsRuleOf theory.sig sort) theory.rules × IsTermOf theory.sig t sort

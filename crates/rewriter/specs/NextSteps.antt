@@ -16,9 +16,11 @@ use Rattle.rewriter.specs.declared.step.Made.{Made}
 -- The step is the one of the definition. It leads to the new state, or to none, and then the state
 -- is as before.
 abbrev pub TakesStep : {S : Type 0} → RewriteTheory → RunState → RunState → Next S → Type 0
-TakesStep theory old new (answer.Made s) = Steps theory old.config old.calls (next new.config new.calls)
+TakesStep theory old new (answer.Made s) =
+    Steps theory old.config old.calls (next new.config new.calls)
 TakesStep theory old new answer.Stuck = Steps theory old.config old.calls stays × (new ≡ old)
-TakesStep theory old new (answer.Blocked why) = Steps theory old.config old.calls (stops (cause_of why)) × (new ≡ old)
+TakesStep theory old new (answer.Blocked why) =
+    Steps theory old.config old.calls (stops (cause_of why)) × (new ≡ old)
 
 -- the record of the step follows the step from one term to the other
 abbrev pub RecordsNext : RewriteTheory → Tree → Tree → Next code.StepRecord → Type 0
@@ -28,7 +30,8 @@ RecordsNext theory t u answer.Stuck = Unit {0}
 RecordsNext theory t u (answer.Blocked why) = Unit {0}
 
 -- the recording of a step tells such a record
-pub record TellsStep {R : Type 0} (tells : R → Record → Type 0) (theory : RewriteTheory) (t u : Tree) (made : Made R) :
+pub record TellsStep {R : Type 0} (tells : R → Record → Type 0) (theory : RewriteTheory)
+    (t u : Tree) (made : Made R) :
     Type 0 where
   pub step : StepRecord
   pub rule : step.rule ≡ made.rule
@@ -38,7 +41,8 @@ pub record TellsStep {R : Type 0} (tells : R → Record → Type 0) (theory : Re
   pub follows : RecordsStep theory t step
   pub result : result_of step.right ≡ u
 
-abbrev pub RecordedNext : {R : Type 0} → (R → Record → Type 0) → RewriteTheory → Tree → Tree → Next (Made R) → Type 0
+abbrev pub RecordedNext : {R : Type 0} → (R → Record → Type 0) → RewriteTheory → Tree → Tree
+    → Next (Made R) → Type 0
 RecordedNext tells theory t u (answer.Made s) = TellsStep tells theory t u s
 RecordedNext tells theory t u answer.Stuck = Unit {0}
 RecordedNext tells theory t u (answer.Blocked why) = Unit {0}

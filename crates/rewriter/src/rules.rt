@@ -61,7 +61,8 @@ fn try_rule<R: Recording>(
     calls: u32,
 ) -> Result<(Trial<R>, u32), EvalEnd>
     requires { IsTriable (theory_of engine.now) (rewrite_rule rule.now) term.now }
-    ensures { TriesRule R.tells (theory_of engine.now) (rewrite_rule rule.now) term.now calls result }
+    ensures { TriesRule R.tells (theory_of engine.now) (rewrite_rule rule.now) term.now calls
+        result }
 {
     let subsorts = &engine.program().sig.subsorts;
     let Some(subst) = match_term(alloc, &rule.left, rule.vars.len(), subsorts, term)? else {

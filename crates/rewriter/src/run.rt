@@ -61,13 +61,15 @@ impl Run {
     ) -> Result<(Run, EvalRecord), EvalEnd>
         requires { IsStartOf (theory_of engine.now) (plain_pattern start.now) }
         ensures starts { IfOk result
-            (λ r. Reaches (theory_of engine.now) (plain_pattern start.now) calls 0 r.0.config r.0.calls) }
+            (λ r. Reaches (theory_of engine.now) (plain_pattern start.now) calls 0 r.0.config
+            r.0.calls) }
         ensures recorded { IfOk result
             (λ r. Records (theory_of engine.now) [] (plain_pattern start.now) (plain_record r.1)) }
         ensures value { IfOk result (λ r. result_of (plain_record r.1) ≡ r.0.config) }
         ensures sorted { IfOk result (λ r. IsConfiguration (theory_of engine.now) r.0.config) }
         ensures blocked { IfErr result
-            (EndsBy (Evaluates (theory_of engine.now) most_nesting [] (plain_pattern start.now) calls)) }
+            (EndsBy (Evaluates (theory_of engine.now) most_nesting [] (plain_pattern start.now)
+            calls)) }
     {
         Run::new_as::<EvalRecord>(alloc, engine, start, calls)
     }
@@ -81,12 +83,15 @@ impl Run {
     ) -> Result<(Run, R), EvalEnd>
         requires { IsStartOf (theory_of engine.now) (plain_pattern start.now) }
         ensures starts { IfOk result
-            (λ r. Reaches (theory_of engine.now) (plain_pattern start.now) calls 0 r.0.config r.0.calls) }
+            (λ r. Reaches (theory_of engine.now) (plain_pattern start.now) calls 0 r.0.config
+            r.0.calls) }
         ensures recorded { IfOk result
-            (λ r. IsRecorded (R.tells r.1) (theory_of engine.now) [] (plain_pattern start.now) r.0.config) }
+            (λ r. IsRecorded (R.tells r.1) (theory_of engine.now) [] (plain_pattern start.now)
+            r.0.config) }
         ensures sorted { IfOk result (λ r. IsConfiguration (theory_of engine.now) r.0.config) }
         ensures blocked { IfErr result
-            (EndsBy (Evaluates (theory_of engine.now) most_nesting [] (plain_pattern start.now) calls)) }
+            (EndsBy (Evaluates (theory_of engine.now) most_nesting [] (plain_pattern start.now)
+            calls)) }
     {
         let _program = engine.program();
         let subst = Subst::new(alloc, 0)?;
@@ -130,7 +135,8 @@ impl Run {
     ) -> Result<Next<StepRecord>, AllocError>
         requires { IsConfiguration (theory_of engine.now) self.old.config }
         ensures next { IfOk result (TakesStep (theory_of engine.now) self.old self.new) }
-        ensures recorded { IfOk result (RecordsNext (theory_of engine.now) self.old.config self.new.config) }
+        ensures recorded { IfOk result
+            (RecordsNext (theory_of engine.now) self.old.config self.new.config) }
         ensures sorted { IsConfiguration (theory_of engine.now) self.new.config }
         ensures err { OnErr result (self.new ≡ self.old) }
     {
@@ -148,7 +154,8 @@ impl Run {
     ) -> Result<Next<Made<R>>, AllocError>
         requires { IsConfiguration (theory_of engine.now) self.old.config }
         ensures next { IfOk result (TakesStep (theory_of engine.now) self.old self.new) }
-        ensures recorded { IfOk result (RecordedNext R.tells (theory_of engine.now) self.old.config self.new.config) }
+        ensures recorded { IfOk result
+            (RecordedNext R.tells (theory_of engine.now) self.old.config self.new.config) }
         ensures sorted { IsConfiguration (theory_of engine.now) self.new.config }
         ensures err { OnErr result (self.new ≡ self.old) }
     {

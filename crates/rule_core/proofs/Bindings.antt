@@ -1,5 +1,7 @@
 -- The bindings of substitutions.
-use Rattle.std.proofs.Common.{◌≡◌, ◌≢◌, ◌<◌, ◌⊎◌, inl, inr, ℕ, zero, suc, Bool, true, false, List, [], ◌∷◌, length, replicate, set, Option, Some, None, refl, sym, ◌∙◌, eq-eqb}
+use Rattle.std.proofs.Common.{◌≡◌, ◌≢◌, ◌<◌, ◌⊎◌, inl, inr, ℕ, zero, suc, Bool, true, false, List}
+use Rattle.std.proofs.Common.{[], ◌∷◌, length, replicate, set, Option, Some, None, refl, sym, ◌∙◌}
+use Rattle.std.proofs.Common.{eq-eqb}
 use Rattle.std.specs.Prelude.{◌==◌, IsSome}
 use Rattle.std.proofs.lemmas.Bool.{eqb-true, false≢true}
 use Rattle.std.proofs.lemmas.List.{get_or-set_same, get_or-set_other}
@@ -13,7 +15,8 @@ Extends more fewer = (x : ℕ) (t : Tree) → binding fewer x ≡ Some t → bin
 pub Extends-refl : (theta : List (Option Tree)) → Extends theta theta
 Extends-refl theta x t e = e
 
-pub Extends-trans : (most more fewer : List (Option Tree)) → Extends most more → Extends more fewer → Extends most fewer
+pub Extends-trans : (most more fewer : List (Option Tree)) → Extends most more → Extends more fewer
+    → Extends most fewer
 Extends-trans most more fewer h k x t e = h x t (k x t e)
 
 -- a number equals another one, or does not
@@ -23,10 +26,12 @@ same_or_other x y = told (x == y) refl where
   told true e = inl (eqb-true x y e)
   told false e = inr (λ same. false≢true (sym e ∙ eq-eqb x y same))
 
-pub binding-set_same : (theta : List (Option Tree)) (x : ℕ) (t : Tree) → x < length theta → binding (set theta x (Some t)) x ≡ Some t
+pub binding-set_same : (theta : List (Option Tree)) (x : ℕ) (t : Tree) → x < length theta
+    → binding (set theta x (Some t)) x ≡ Some t
 binding-set_same theta x t lt = get_or-set_same theta x (Some t) None lt
 
-pub binding-set_other : (theta : List (Option Tree)) (x y : ℕ) (t : Tree) → y ≢ x → binding (set theta x (Some t)) y ≡ binding theta y
+pub binding-set_other : (theta : List (Option Tree)) (x y : ℕ) (t : Tree) → y ≢ x
+    → binding (set theta x (Some t)) y ≡ binding theta y
 binding-set_other theta x y t other = get_or-set_other theta x y (Some t) None other
 
 -- a substitution in which no variable is bound
@@ -36,7 +41,8 @@ binding-replicate (suc n) zero = refl
 binding-replicate (suc n) (suc x) = binding-replicate n x
 
 -- substitutions with the same bindings are equal
-pub same_bindings : (xs ys : List (Option Tree)) → length xs ≡ length ys → ((x : ℕ) → binding xs x ≡ binding ys x) → xs ≡ ys
+pub same_bindings : (xs ys : List (Option Tree)) → length xs ≡ length ys
+    → ((x : ℕ) → binding xs x ≡ binding ys x) → xs ≡ ys
 same_bindings [] [] len same = refl
 same_bindings [] (y ∷ ys) len same = absurd (cc)
 same_bindings (x ∷ xs) [] len same = absurd (cc)

@@ -6,7 +6,9 @@ use Rattle.rule_core.specs.Theories.{RewriteTheory}
 use Rattle.rule_core.specs.Evaluation.{value, Evaluates}
 use Rattle.rule_core.specs.Records.{result_of}
 use Rattle.rule_core.specs.WellSorted.{IsWellSorted}
-use Rattle.rule_core.specs.EvaluationLaws.{CallsFall, EvaluationIsUnique, EvaluationHasAnswer, ValuesAreSorted, MoreLeftKeepsValue, ValueHasRecord, RecordTells, RecordDetermines, RecordsAgree}
+use Rattle.rule_core.specs.EvaluationLaws.{CallsFall, EvaluationIsUnique, EvaluationHasAnswer}
+use Rattle.rule_core.specs.EvaluationLaws.{ValuesAreSorted, MoreLeftKeepsValue, ValueHasRecord}
+use Rattle.rule_core.specs.EvaluationLaws.{RecordTells, RecordDetermines, RecordsAgree}
 use Rattle.rule_core.proofs.EvaluationUnique.{AllMatchOnce, evaluation_unique}
 use Rattle.rule_core.proofs.MoreLeft.{evaluates_more}
 use Rattle.rule_core.proofs.RecordsTell.{record_tells}
@@ -17,10 +19,12 @@ use Rattle.rule_core.proofs.MatchExact.{match_is_unique}
 pub all_match_once : (theory : RewriteTheory) → IsWellSorted theory → AllMatchOnce theory
 all_match_once theory good f info i =
     λ k e lt. let fits = good.equations f info i k e lt in
-    λ ts theta sigma m l. match_is_unique theory.sig _ [] _ info.args.items ts theta sigma good.signature.no_cycle fits.arguments m l
+    λ ts theta sigma m l. match_is_unique theory.sig _ [] _ info.args.items ts theta sigma
+    good.signature.no_cycle fits.arguments m l
 
 pub evaluation_is_unique : EvaluationIsUnique
-evaluation_is_unique theory n c theta p r s good a b = evaluation_unique theory (all_match_once theory good) a s b
+evaluation_is_unique theory n c theta p r s good a b =
+    evaluation_unique theory (all_match_once theory good) a s b
 
 pub evaluation_has_answer : EvaluationHasAnswer
 evaluation_has_answer theory n c variables theta p sort good h serves =
@@ -29,7 +33,8 @@ evaluation_has_answer theory n c variables theta p sort good h serves =
 pub values_are_sorted : ValuesAreSorted
 values_are_sorted theory n c d variables theta p sort t good h serves e =
     let r = (answers theory good n).0 variables theta p sort c h serves in
-    let same : r.0 ≡ value t d = evaluation_unique theory (all_match_once theory good) r.1 (value t d) e in
+    let same : r.0 ≡ value t d =
+    evaluation_unique theory (all_match_once theory good) r.1 (value t d) e in
     subst (IsGood theory.sig sort) same r.2
 
 pub more_left_keeps_value : MoreLeftKeepsValue
@@ -45,17 +50,24 @@ pub record_tells_value : RecordTells
 record_tells_value theory theta p r w = record_tells theory theta p r w
 
 -- two values agree, whatever was left
-pub values_agree : (theory : RewriteTheory) → IsWellSorted theory → (theta : List (Option Tree)) (p : Pattern) (t u : Tree) (n c d m k e : ℕ) → Evaluates theory n theta p c (value t d) → Evaluates theory m theta p k (value u e) → t ≡ u
+pub values_agree : (theory : RewriteTheory) → IsWellSorted theory
+    → (theta : List (Option Tree)) (p : Pattern) (t u : Tree) (n c d m k e : ℕ)
+    → Evaluates theory n theta p c (value t d) → Evaluates theory m theta p k (value u e) → t ≡ u
 values_agree theory good theta p t u n c d m k e a b =
-    let first : Evaluates theory (n + m) theta p (c + k) (value t (d + k)) = evaluates_more theory k a (n + m) (omega arith) in
-    let second : Evaluates theory (n + m) theta p (k + c) (value u (e + c)) = evaluates_more theory c b (n + m) (omega arith) in
+    let first : Evaluates theory (n + m) theta p (c + k) (value t (d + k)) =
+    evaluates_more theory k a (n + m) (omega arith) in
+    let second : Evaluates theory (n + m) theta p (k + c) (value u (e + c)) =
+    evaluates_more theory c b (n + m) (omega arith) in
     let swap : k + c ≡ c + k = omega arith in
-    let same : value t (d + k) ≡ value u (e + c) = evaluation_unique theory (all_match_once theory good) first (value u (e + c)) (subst (λ j. Evaluates theory (n + m) theta p j (value u (e + c))) swap second) in
+    let same : value t (d + k) ≡ value u (e + c) =
+    evaluation_unique theory (all_match_once theory good) first (value u (e + c))
+    (subst (λ j. Evaluates theory (n + m) theta p j (value u (e + c))) swap second) in
     cc
 
 pub record_determines : RecordDetermines
 record_determines theory n c d theta p r t good w e =
-    let told = record_tells theory theta p r w in values_agree theory good theta p t (result_of r) n c d told.0 told.1 told.2 e told.3
+    let told = record_tells theory theta p r w in
+    values_agree theory good theta p t (result_of r) n c d told.0 told.1 told.2 e told.3
 
 pub records_agree : RecordsAgree
 records_agree theory theta p r s good w v =

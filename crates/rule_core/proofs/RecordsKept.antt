@@ -1,14 +1,22 @@
 -- An evaluation that has a value leaves no more calls than there were, and has a record.
-use Rattle.std.proofs.Common.{◌≡◌, ℕ, suc, zero, ◌+◌, ◌-◌, ◌<◌, ◌≤◌, inl, inr, List, ◌∷◌, Option, Some, refl, sym, ◌∙◌, ap, subst, slice_get, le_trans, arith}
+use Rattle.std.proofs.Common.{◌≡◌, ℕ, suc, zero, ◌+◌, ◌-◌, ◌<◌, ◌≤◌, inl, inr, List, ◌∷◌, Option}
+use Rattle.std.proofs.Common.{Some, refl, sym, ◌∙◌, ap, subst, slice_get, le_trans, arith}
 use Rattle.term_core.specs.Terms.{Tree, leaf, Forest, more_trees}
 use Rattle.term_core.specs.Patterns.{Pattern, Patterns, call}
 use Rattle.rule_core.specs.Rules.{Equation}
 use Rattle.rule_core.specs.Theories.{RewriteTheory, equations_of}
 use Rattle.rule_core.specs.Matching.{MatchAll}
-use Rattle.rule_core.specs.Evaluation.{value, blocked, values, Tested, holds, fails, untested, built, says_true, says_other, says_nothing, Evaluates, bound, itself, made, called, EvaluateAll, none_left, one_more, Applies, by_hook, by_equations, Equates, unmatched, condition_fails, used, Tests, no_condition, condition, EvaluatesIn, inside, IsTrueValue, Says}
+use Rattle.rule_core.specs.Evaluation.{value, blocked, values, Tested, holds, fails, untested}
+use Rattle.rule_core.specs.Evaluation.{built, says_true, says_other, says_nothing, Evaluates, bound}
+use Rattle.rule_core.specs.Evaluation.{itself, made, called, EvaluateAll, none_left, one_more}
+use Rattle.rule_core.specs.Evaluation.{Applies, by_hook, by_equations, Equates, unmatched}
+use Rattle.rule_core.specs.Evaluation.{condition_fails, used, Tests, no_condition, condition}
+use Rattle.rule_core.specs.Evaluation.{EvaluatesIn, inside, IsTrueValue, Says}
 use Rattle.rule_core.specs.FirstRule.{most_nesting}
 use Rattle.rule_core.specs.HookCalls.{HookAnswers}
-use Rattle.rule_core.specs.Records.{Record, RecordList, no_record, more_records, OptionalRecord, unconditional, conditional, result_of, results_of, most_calls, IsUnused, Records, RecordAll, RecordsCondition}
+use Rattle.rule_core.specs.Records.{Record, RecordList, no_record, more_records, OptionalRecord}
+use Rattle.rule_core.specs.Records.{unconditional, conditional, result_of, results_of, most_calls}
+use Rattle.rule_core.specs.Records.{IsUnused, Records, RecordAll, RecordsCondition}
 use Rattle.rule_core.specs.Records as kept
 use Rattle.rule_core.specs.Sorting.{IsSymbol}
 use Rattle.rule_core.specs.declared.signature.SymInfo.{SymInfo}
@@ -26,31 +34,39 @@ says_at_most (says_true is) le = le
 says_at_most (says_other other) le = le
 
 mutual
-  pub calls_fall : {theory : RewriteTheory} {n c d : ℕ} {theta : List (Option Tree)} {p : Pattern} {t : Tree} → Evaluates theory n theta p c (value t d) → d ≤ c
+  pub calls_fall : {theory : RewriteTheory} {n c d : ℕ} {theta : List (Option Tree)} {p : Pattern}
+      {t : Tree} → Evaluates theory n theta p c (value t d) → d ≤ c
   calls_fall (bound e) = omega arith
   calls_fall itself = omega arith
   calls_fall (made h all b low) = all_calls_fall all
   calls_fall (called all applied) = omega (arith, all_calls_fall all, applied_calls_fall applied)
 
-  pub all_calls_fall : {theory : RewriteTheory} {n c d : ℕ} {theta : List (Option Tree)} {ps : Patterns} {ts : Forest} → EvaluateAll theory n theta ps c (values ts d) → d ≤ c
+  pub all_calls_fall : {theory : RewriteTheory} {n c d : ℕ} {theta : List (Option Tree)}
+      {ps : Patterns} {ts : Forest} → EvaluateAll theory n theta ps c (values ts d) → d ≤ c
   all_calls_fall none_left = omega arith
   all_calls_fall (one_more e all) = omega (arith, calls_fall e, all_calls_fall all)
 
-  applied_calls_fall : {theory : RewriteTheory} {n f c d : ℕ} {ts : Forest} {t : Tree} → Applies theory n f ts c (value t d) → d ≤ c
+  applied_calls_fall : {theory : RewriteTheory} {n f c d : ℕ} {ts : Forest} {t : Tree}
+      → Applies theory n f ts c (value t d) → d ≤ c
   applied_calls_fall (by_hook i a s) = omega arith
   applied_calls_fall (by_equations i is e) = omega (arith, equated_calls_fall e)
 
-  equated_calls_fall : {theory : RewriteTheory} {n f c d : ℕ} {es : List Equation} {ts : Forest} {t : Tree} → Equates theory n f es ts c (value t d) → d ≤ c
+  equated_calls_fall : {theory : RewriteTheory} {n f c d : ℕ} {es : List Equation} {ts : Forest}
+      {t : Tree} → Equates theory n f es ts c (value t d) → d ≤ c
   equated_calls_fall (unmatched never others) = equated_calls_fall others
-  equated_calls_fall (condition_fails {c = c} {d = k} match test others) = let le : k ≤ c = tested_calls_fall test in omega (arith, le, equated_calls_fall others)
-  equated_calls_fall (used {c = c} {d = k} match test right) = let le : k ≤ c = tested_calls_fall test in omega (arith, le, within_calls_fall right)
+  equated_calls_fall (condition_fails {c = c} {d = k} match test others) =
+      let le : k ≤ c = tested_calls_fall test in omega (arith, le, equated_calls_fall others)
+  equated_calls_fall (used {c = c} {d = k} match test right) =
+      let le : k ≤ c = tested_calls_fall test in omega (arith, le, within_calls_fall right)
 
-  tested_calls_fall : {theory : RewriteTheory} {n f c : ℕ} {theta : List (Option Tree)} {p : Option Pattern} {r : Tested} → Tests theory n f theta p c r → LeavesAtMost c r
+  tested_calls_fall : {theory : RewriteTheory} {n f c : ℕ} {theta : List (Option Tree)}
+      {p : Option Pattern} {r : Tested} → Tests theory n f theta p c r → LeavesAtMost c r
   tested_calls_fall no_condition = omega arith
   tested_calls_fall (condition {e = value t d} e says) = says_at_most says (within_calls_fall e)
   tested_calls_fall (condition {e = blocked cause} e says_nothing) = tt
 
-  within_calls_fall : {theory : RewriteTheory} {n f c d : ℕ} {theta : List (Option Tree)} {p : Pattern} {t : Tree} → EvaluatesIn theory n f theta p c (value t d) → d ≤ c
+  within_calls_fall : {theory : RewriteTheory} {n f c d : ℕ} {theta : List (Option Tree)}
+      {p : Pattern} {t : Tree} → EvaluatesIn theory n f theta p c (value t d) → d ≤ c
   within_calls_fall (inside e) = calls_fall e
 
 -- a record of the pattern whose result is this term
@@ -58,7 +74,8 @@ abbrev pub RecordOf : RewriteTheory → List (Option Tree) → Pattern → Tree 
 RecordOf theory theta p t = (r : Record) × Records theory theta p r × (result_of r ≡ t)
 
 abbrev RecordsOf : RewriteTheory → List (Option Tree) → Patterns → Forest → Type 0
-RecordsOf theory theta ps ts = (rs : RecordList) × RecordAll theory theta ps rs × (results_of rs ≡ ts)
+RecordsOf theory theta ps ts =
+    (rs : RecordList) × RecordAll theory theta ps rs × (results_of rs ≡ ts)
 
 abbrev pub ConditionRecord : RewriteTheory → List (Option Tree) → Option Pattern → Tested → Type 0
 ConditionRecord theory theta p (holds c) = (o : OptionalRecord) × RecordsCondition theory theta p o
@@ -66,20 +83,24 @@ ConditionRecord theory theta p (fails c) = Unit {0}
 ConditionRecord theory theta p (untested cause) = Unit {0}
 
 -- the first of these equations that applies at the terms, with its records
-record EquationRecord (theory : RewriteTheory) (f : ℕ) (es : List Equation) (ts : Forest) (t : Tree) : Type 0 where
+record EquationRecord (theory : RewriteTheory) (f : ℕ) (es : List Equation) (ts : Forest)
+    (t : Tree) : Type 0 where
   place : ℕ
   equation : Equation
   there : slice_get es place ≡ Some equation
   sigma : List (Option Tree)
   matches : MatchAll theory.sig equation.variables equation.arguments ts sigma
-  earlier : (j : ℕ) (other : Equation) → j < place → slice_get es j ≡ Some other → IsUnused theory f other ts
+  earlier : (j : ℕ) (other : Equation) → j < place → slice_get es j ≡ Some other
+      → IsUnused theory f other ts
   test : OptionalRecord
   condition : RecordsCondition theory sigma equation.condition test
   body : Record
   right : Records theory sigma equation.right body
   result : result_of body ≡ t
 
-one_later : {theory : RewriteTheory} {f : ℕ} {es : List Equation} {ts : Forest} {t : Tree} (e : Equation) → IsUnused theory f e ts → EquationRecord theory f es ts t → EquationRecord theory f (e ∷ es) ts t
+one_later : {theory : RewriteTheory} {f : ℕ} {es : List Equation} {ts : Forest} {t : Tree}
+    (e : Equation) → IsUnused theory f e ts → EquationRecord theory f es ts t
+    → EquationRecord theory f (e ∷ es) ts t
 one_later {theory} {f} {es} {ts} e unused r = record {
   place = suc r.place;
   equation = r.equation;
@@ -93,11 +114,18 @@ one_later {theory} {f} {es} {ts} e unused r = record {
   right = r.right;
   result = r.result;
 } where
-  before : (j : ℕ) (other : Equation) → j < suc r.place → slice_get (e ∷ es) j ≡ Some other → IsUnused theory f other ts
-  before zero other lt s = let k : Some e ≡ Some other = s in let same : e ≡ other = cc in subst (λ x. IsUnused theory f x ts) same unused
+  before : (j : ℕ) (other : Equation) → j < suc r.place → slice_get (e ∷ es) j ≡ Some other
+      → IsUnused theory f other ts
+  before zero other lt s =
+      let k : Some e ≡ Some other = s in
+      let same : e ≡ other = cc in subst (λ x. IsUnused theory f x ts) same unused
   before (suc j) other lt s = r.earlier j other (omega arith) s
 
-first_used : {theory : RewriteTheory} {f : ℕ} {ts : Forest} {t : Tree} (e : Equation) (es : List Equation) (theta : List (Option Tree)) → MatchAll theory.sig e.variables e.arguments ts theta → (o : OptionalRecord) → RecordsCondition theory theta e.condition o → RecordOf theory theta e.right t → EquationRecord theory f (e ∷ es) ts t
+first_used : {theory : RewriteTheory} {f : ℕ} {ts : Forest} {t : Tree} (e : Equation)
+    (es : List Equation) (theta : List (Option Tree))
+    → MatchAll theory.sig e.variables e.arguments ts theta → (o : OptionalRecord)
+    → RecordsCondition theory theta e.condition o → RecordOf theory theta e.right t
+    → EquationRecord theory f (e ∷ es) ts t
 first_used e es theta match o kept_condition right = record {
   place = 0;
   equation = e;
@@ -114,65 +142,151 @@ first_used e es theta match o kept_condition right = record {
 
 -- a condition that fails with less also fails with the calls and the nesting with which records are
 -- judged
-failed_before : {theory : RewriteTheory} {f : ℕ} {ts : Forest} (e : Equation) (theta : List (Option Tree)) (n c d m k : ℕ) → MatchAll theory.sig e.variables e.arguments ts theta → Tests theory n f theta e.condition c (fails d) → n ≤ m → c ≤ k → (left : ℕ) × Tests theory m f theta e.condition k (fails left)
+failed_before : {theory : RewriteTheory} {f : ℕ} {ts : Forest} (e : Equation)
+    (theta : List (Option Tree)) (n c d m k : ℕ)
+    → MatchAll theory.sig e.variables e.arguments ts theta
+    → Tests theory n f theta e.condition c (fails d) → n ≤ m → c ≤ k
+    → (left : ℕ) × Tests theory m f theta e.condition k (fails left)
 failed_before {theory} {f} e theta n c d m k match test le few =
-    let whole : c + (k - c) ≡ k = omega arith in
-    (d + (k - c), subst (λ j. Tests theory m f theta e.condition j (fails (d + (k - c)))) whole (tests_more theory (k - c) test tt m le))
+    let whole : c + (k - c) ≡ k = omega arith in (
+      d
+          + (k - c),
+      subst (λ j. Tests theory m f theta e.condition j (fails (d + (k - c)))) whole
+          (tests_more theory (k - c) test tt m le),
+    )
 
-unused_before : {theory : RewriteTheory} {f : ℕ} {ts : Forest} (e : Equation) (theta : List (Option Tree)) (n c d : ℕ) → MatchAll theory.sig e.variables e.arguments ts theta → Tests theory n f theta e.condition c (fails d) → n ≤ most_nesting → c ≤ most_calls → IsUnused theory f e ts
+unused_before : {theory : RewriteTheory} {f : ℕ} {ts : Forest} (e : Equation)
+    (theta : List (Option Tree)) (n c d : ℕ)
+    → MatchAll theory.sig e.variables e.arguments ts theta
+    → Tests theory n f theta e.condition c (fails d) → n ≤ most_nesting → c ≤ most_calls
+    → IsUnused theory f e ts
 unused_before e theta n c d match test le few =
-    let failed = failed_before e theta n c d most_nesting most_calls match test le few in inr (theta, failed.0, match, failed.1)
+    let failed = failed_before e theta n c d most_nesting most_calls match test le few in
+    inr (theta, failed.0, match, failed.1)
 
-by_equation_record : (theory : RewriteTheory) (f : ℕ) (info : SymInfo) {theta : List (Option Tree)} {ts : Forest} {t : Tree} → IsSymbol theory.sig f info → info.kind ≡ Equations → (sorts : List ℕ) (ps : Patterns) → RecordsOf theory theta ps ts → EquationRecord theory f (equations_of theory f) ts t → RecordOf theory theta (call f sorts ps) t
+by_equation_record : (theory : RewriteTheory) (f : ℕ) (info : SymInfo) {theta : List (Option Tree)}
+    {ts : Forest} {t : Tree} → IsSymbol theory.sig f info → info.kind ≡ Equations
+    → (sorts : List ℕ) (ps : Patterns) → RecordsOf theory theta ps ts
+    → EquationRecord theory f (equations_of theory f) ts t
+    → RecordOf theory theta (call f sorts ps) t
 by_equation_record theory f info {ts = ts} is defined sorts ps args r =
     let back : ts ≡ results_of args.0 = sym args.2 in
-    let there = subst (λ us. MatchAll theory.sig r.equation.variables r.equation.arguments us r.sigma) back r.matches in
-    let before = subst (λ us. (j : ℕ) (other : Equation) → j < r.place → slice_get (equations_of theory f) j ≡ Some other → IsUnused theory f other us) back r.earlier in
-    (kept.by_equation args.0 r.place r.sigma r.test r.body, (f, sorts, ps, info, r.equation, refl, is, defined, r.there, there, before, args.1, r.condition, r.right), r.result)
+    let there =
+    subst (λ us. MatchAll theory.sig r.equation.variables r.equation.arguments us r.sigma) back
+    r.matches in
+    let before =
+    subst (λ us. (j : ℕ) (other : Equation) → j < r.place
+    → slice_get (equations_of theory f) j ≡ Some other → IsUnused theory f other us)
+    back r.earlier in (
+      kept.by_equation args.0 r.place r.sigma r.test r.body,
+      (
+        f,
+        sorts,
+        ps,
+        info,
+        r.equation,
+        refl,
+        is,
+        defined,
+        r.there,
+        there,
+        before,
+        args.1,
+        r.condition,
+        r.right,
+      ),
+      r.result,
+    )
 
-pub condition_record : (theory : RewriteTheory) {theta : List (Option Tree)} (p : Pattern) {d : ℕ} {t : Tree} {r : Tested} → Says (value t d) r → RecordOf theory theta p t → ConditionRecord theory theta (Some p) r
-condition_record theory p (says_true is) kept_value = (conditional kept_value.0, (p, refl, kept_value.1, subst IsTrueValue (sym kept_value.2) is))
+pub condition_record : (theory : RewriteTheory) {theta : List (Option Tree)} (p : Pattern) {d : ℕ}
+    {t : Tree} {r : Tested} → Says (value t d) r → RecordOf theory theta p t
+    → ConditionRecord theory theta (Some p) r
+condition_record theory p (says_true is) kept_value =
+    (conditional kept_value.0, (p, refl, kept_value.1, subst IsTrueValue (sym kept_value.2) is))
 condition_record theory p (says_other other) kept_value = tt
 
 mutual
-  pub has_record : (theory : RewriteTheory) {n c d : ℕ} {theta : List (Option Tree)} {p : Pattern} {t : Tree} → Evaluates theory n theta p c (value t d) → n ≤ most_nesting → c ≤ most_calls → RecordOf theory theta p t
+  pub has_record : (theory : RewriteTheory) {n c d : ℕ} {theta : List (Option Tree)} {p : Pattern}
+      {t : Tree} → Evaluates theory n theta p c (value t d) → n ≤ most_nesting → c ≤ most_calls
+      → RecordOf theory theta p t
   has_record theory (bound {x = x} {t = t} e) le few = (kept.bound x t, (refl, e), refl)
-  has_record theory (itself {s = s} {v = v}) le few = (kept.itself (leaf s v), (s, v, refl, refl), refl)
+  has_record theory (itself {s = s} {v = v}) le few =
+      (kept.itself (leaf s v), (s, v, refl, refl), refl)
   has_record theory (made {f = f} {p = p} {ps = ps} {t = t} h all b low) le few =
-      let args = have_records theory all (omega arith) few in (kept.made args.0 t, (f, ps, h, ap (built p) args.2 ∙ b, low, args.1), refl)
+      let args = have_records theory all (omega arith) few in
+      (kept.made args.0 t, (f, ps, h, ap (built p) args.2 ∙ b, low, args.1), refl)
   has_record theory (called {c = c} {d = d} {sorts = sorts} {ps = ps} all applied) le few =
       let fewer : d ≤ c = all_calls_fall all in
-      has_call_record theory applied (omega arith) (le_trans fewer few) sorts ps (have_records theory all (omega arith) few)
+      has_call_record theory applied (omega arith) (le_trans fewer few) sorts ps
+      (have_records theory all (omega arith) few)
 
-  have_records : (theory : RewriteTheory) {n c d : ℕ} {theta : List (Option Tree)} {ps : Patterns} {ts : Forest} → EvaluateAll theory n theta ps c (values ts d) → n ≤ most_nesting → c ≤ most_calls → RecordsOf theory theta ps ts
+  have_records : (theory : RewriteTheory) {n c d : ℕ} {theta : List (Option Tree)} {ps : Patterns}
+      {ts : Forest} → EvaluateAll theory n theta ps c (values ts d) → n ≤ most_nesting
+      → c ≤ most_calls → RecordsOf theory theta ps ts
   have_records theory none_left le few = (no_record, refl, refl)
   have_records theory (one_more {c = c} {d = d} {p = p} {ps = ps} {t = t} e all) le few =
       let fewer : d ≤ c = calls_fall e in
       let first = has_record theory e le few in
-      let others = have_records theory all le (le_trans fewer few) in
-      (more_records first.0 others.0, (p, ps, refl, first.1, others.1), ap (λ u. more_trees u (results_of others.0)) first.2 ∙ ap (more_trees t) others.2)
+      let others = have_records theory all le (le_trans fewer few) in (
+        more_records first.0 others.0,
+        (p, ps, refl, first.1, others.1),
+        ap (λ u. more_trees u (results_of others.0)) first.2 ∙ ap (more_trees t) others.2,
+      )
 
-  has_call_record : (theory : RewriteTheory) {n f c d : ℕ} {ts : Forest} {t : Tree} → Applies theory n f ts c (value t d) → n ≤ most_nesting → c ≤ most_calls → {theta : List (Option Tree)} (sorts : List ℕ) (ps : Patterns) → RecordsOf theory theta ps ts → RecordOf theory theta (call f sorts ps) t
-  has_call_record theory (by_hook {f = f} {sort = sort} {info = info} {v = v} {row = row} i a s) le few sorts ps args =
-      (kept.by_hook args.0 (leaf sort v), (f, sorts, ps, info, row, v, sort, refl, i, subst (λ us. HookAnswers info row us v) (sym args.2) a, s, refl, args.1), refl)
-  has_call_record theory (by_equations {n = n} {f = f} {c = c} {info = info} {e = e} i is eq) le few sorts ps args =
+  has_call_record : (theory : RewriteTheory) {n f c d : ℕ} {ts : Forest} {t : Tree}
+      → Applies theory n f ts c (value t d) → n ≤ most_nesting → c ≤ most_calls
+      → {theta : List (Option Tree)} (sorts : List ℕ) (ps : Patterns) → RecordsOf theory theta ps ts
+      → RecordOf theory theta (call f sorts ps) t
+  has_call_record theory (by_hook {f = f} {sort = sort} {info = info} {v = v} {row = row} i a s) le
+      few sorts ps args = (
+        kept.by_hook args.0 (leaf sort v),
+        (
+          f,
+          sorts,
+          ps,
+          info,
+          row,
+          v,
+          sort,
+          refl,
+          i,
+          subst (λ us. HookAnswers info row us v) (sym args.2) a,
+          s,
+          refl,
+          args.1,
+        ),
+        refl,
+      )
+  has_call_record theory (by_equations {n = n} {f = f} {c = c} {info = info} {e = e} i is eq) le few
+      sorts ps args =
       let r = has_equation_record theory eq le (le_trans (omega arith) few) in
       by_equation_record theory f info i is sorts ps args r
 
-  has_equation_record : (theory : RewriteTheory) {n f c d : ℕ} {es : List Equation} {ts : Forest} {t : Tree} → Equates theory n f es ts c (value t d) → n ≤ most_nesting → c ≤ most_calls → EquationRecord theory f es ts t
-  has_equation_record theory (unmatched {e = e} never others) le few = one_later e (inl never) (has_equation_record theory others le few)
-  has_equation_record theory (condition_fails {n = n} {c = c} {d = d} {e = e} {theta = theta} match test others) le few =
+  has_equation_record : (theory : RewriteTheory) {n f c d : ℕ} {es : List Equation} {ts : Forest}
+      {t : Tree} → Equates theory n f es ts c (value t d) → n ≤ most_nesting → c ≤ most_calls
+      → EquationRecord theory f es ts t
+  has_equation_record theory (unmatched {e = e} never others) le few =
+      one_later e (inl never) (has_equation_record theory others le few)
+  has_equation_record theory
+      (condition_fails {n = n} {c = c} {d = d} {e = e} {theta = theta} match test others) le few =
       let fewer : d ≤ c = tested_calls_fall test in
-      one_later e (unused_before e theta n c d match test le few) (has_equation_record theory others le (le_trans fewer few))
-  has_equation_record theory (used {c = c} {d = d} {e = e} {es = es} {theta = theta} match test right) le few =
+      one_later e (unused_before e theta n c d match test le few)
+      (has_equation_record theory others le (le_trans fewer few))
+  has_equation_record theory
+      (used {c = c} {d = d} {e = e} {es = es} {theta = theta} match test right) le few =
       let fewer : d ≤ c = tested_calls_fall test in
       let o = has_condition_record theory test le few in
       first_used e es theta match o.0 o.1 (has_record_within theory right le (le_trans fewer few))
 
-  has_condition_record : (theory : RewriteTheory) {n f c : ℕ} {theta : List (Option Tree)} {p : Option Pattern} {r : Tested} → Tests theory n f theta p c r → n ≤ most_nesting → c ≤ most_calls → ConditionRecord theory theta p r
+  has_condition_record : (theory : RewriteTheory) {n f c : ℕ} {theta : List (Option Tree)}
+      {p : Option Pattern} {r : Tested} → Tests theory n f theta p c r → n ≤ most_nesting
+      → c ≤ most_calls → ConditionRecord theory theta p r
   has_condition_record theory no_condition le few = (unconditional, refl)
-  has_condition_record theory (condition {p = p} {e = value t d} e says) le few = condition_record theory p says (has_record_within theory e le few)
+  has_condition_record theory (condition {p = p} {e = value t d} e says) le few =
+      condition_record theory p says (has_record_within theory e le few)
   has_condition_record theory (condition {e = blocked cause} e says_nothing) le few = tt
 
-  has_record_within : (theory : RewriteTheory) {n f c d : ℕ} {theta : List (Option Tree)} {p : Pattern} {t : Tree} → EvaluatesIn theory n f theta p c (value t d) → n ≤ most_nesting → c ≤ most_calls → RecordOf theory theta p t
+  has_record_within : (theory : RewriteTheory) {n f c d : ℕ} {theta : List (Option Tree)}
+      {p : Pattern} {t : Tree} → EvaluatesIn theory n f theta p c (value t d) → n ≤ most_nesting
+      → c ≤ most_calls → RecordOf theory theta p t
   has_record_within theory (inside e) le few = has_record theory e (omega arith) few

@@ -4,7 +4,7 @@ use Rattle.std.specs.Prelude.{◌≡◌, ◌⊎◌, ◌+◌, ◌<◌, ◌≤◌,
 use Rattle.std.specs.Global.{Global}
 use Rattle.term_core.specs.RulePatterns.{plain_pattern}
 use Rattle.term_core.specs.PatternLists.{plain_patterns}
-use Rattle.rule_core.specs.Matching.{StandsIn, StandsInSome}
+use Rattle.rule_core.specs.Matching.{OccursIn, OccursInSome}
 use Rattle.rule_core.specs.declared.rules.Rule.{Rule}
 use Rattle.rule_core.specs.declared.rules.Equation.{Equation}
 use Rattle.rule_core.specs.declared.rules.Program.{Program}
@@ -12,7 +12,7 @@ use Rattle.rule_core.specs.declared.rules.Program.{Program}
 -- each variable of the rule occurs in its left side, and its number fits in 32 bits
 pub record IsBoundRule (r : Rule) : Type 0 where
   pub few : length r.vars.items < 2 ^ 32
-  pub each : (x : ℕ) → x < length r.vars.items → StandsIn x (plain_pattern r.left)
+  pub each : (x : ℕ) → x < length r.vars.items → OccursIn x (plain_pattern r.left)
 
 -- The equation is one of the function f, and each of its variables occurs in its arguments. It has
 -- no parameters, or one for each argument. The parameters and the variables together can be
@@ -21,12 +21,13 @@ pub record IsBoundEquation (f : ℕ) (e : Equation) : Type 0 where
   pub own : e.fun.0 ≡ f
   pub parameters : (e.params ≡ 0) ⊎ (e.params ≡ length e.args.items)
   pub few : e.params + length e.vars.items ≤ 2 ^ 32
-  pub each : (x : ℕ) → x < length e.vars.items → StandsInSome x (plain_patterns e.args.items)
+  pub each : (x : ℕ) → x < length e.vars.items → OccursInSome x (plain_patterns e.args.items)
 
 -- the equation is the one with this number among the equations of the function f
 abbrev pub IsEquationAt : Program → ℕ → ℕ → Equation → Type 0
 IsEquationAt program f i e =
-    (es : Vec Equation Global) × (slice_get program.equations.items f ≡ Some es) × (slice_get es.items i ≡ Some e)
+    (es : Vec Equation Global) × (slice_get program.equations.items f ≡ Some es)
+    × (slice_get es.items i ≡ Some e)
 
 pub record HasBoundVariables (program : Program) : Type 0 where
   pub rules : (i : ℕ) (r : Rule) → slice_get program.rules.items i ≡ Some r → IsBoundRule r

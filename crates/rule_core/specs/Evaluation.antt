@@ -2,8 +2,10 @@
 -- "Functions"; Rosu 2017), as a big-step semantics. Three things bound it: the calls of functions
 -- that are left, the nesting that is left, and the height of terms.
 use Rattle.std.specs.Prelude.{◌≡◌, ◌≢◌, ◌≤◌, ◌<◌, ℕ, suc, true, List, [], ◌∷◌, Option, Some, None}
-use Rattle.term_core.specs.Terms.{Tree, leaf, node, Forest, no_tree, more_trees, height, truth, injected, DomainValue}
-use Rattle.term_core.specs.Patterns.{Pattern, Patterns, variable, domain_value, application, injection, call, no_pattern, more_patterns, binding}
+use Rattle.term_core.specs.Terms.{Tree, leaf, node, Forest, no_tree, more_trees, height, truth}
+use Rattle.term_core.specs.Terms.{injected, DomainValue}
+use Rattle.term_core.specs.Patterns.{Pattern, Patterns, variable, domain_value, application}
+use Rattle.term_core.specs.Patterns.{injection, call, no_pattern, more_patterns, binding}
 use Rattle.rule_core.specs.Rules.{Equation}
 use Rattle.rule_core.specs.Theories.{RewriteTheory, equations_of}
 use Rattle.rule_core.specs.Matching.{MatchAll, NoneMatches}
@@ -84,78 +86,100 @@ IsUnmatchedBy theory e ts = NoneMatches theory.sig e.variables e.arguments ts
 
 mutual
   -- with this nesting and this many calls left, the pattern has this outcome under the substitution
-  pub data Evaluates (theory : RewriteTheory) : ℕ → List (Option Tree) → Pattern → ℕ → Evaluated → Type 0 where
+  pub data Evaluates (theory : RewriteTheory) : ℕ → List (Option Tree) → Pattern → ℕ → Evaluated
+      → Type 0 where
     bound : {n c x : ℕ} {theta : List (Option Tree)} {t : Tree} → binding theta x ≡ Some t →
         Evaluates theory n theta (variable x) c (value t c)
     itself : {n c s : ℕ} {theta : List (Option Tree)} {v : DomainValue} →
         Evaluates theory n theta (domain_value s v) c (value (leaf s v) c)
-    nested_out : {c f : ℕ} {theta : List (Option Tree)} {p : Pattern} {ps : Patterns} → HasHead theory p f ps →
-        Evaluates theory 0 theta p c (blocked (too_nested f))
-    argument_blocked : {n c f : ℕ} {theta : List (Option Tree)} {p : Pattern} {ps : Patterns} {cause : Cause} →
-        HasHead theory p f ps →
-        EvaluateAll theory n theta ps c (stopped cause) → Evaluates theory (suc n) theta p c (blocked cause)
-    made : {n c d f : ℕ} {theta : List (Option Tree)} {p : Pattern} {ps : Patterns} {ts : Forest} {t : Tree} →
-        HasHead theory p f ps → EvaluateAll theory n theta ps c (values ts d) →
-        built p ts ≡ Some t → height t ≤ most_height → Evaluates theory (suc n) theta p c (value t d)
-    made_too_high : {n c d f : ℕ} {theta : List (Option Tree)} {p : Pattern} {ps : Patterns} {ts : Forest} {t : Tree} → HasHead theory p f ps → EvaluateAll theory n theta ps c (values ts d) →
-        built p ts ≡ Some t → most_height < height t → Evaluates theory (suc n) theta p c (blocked (too_high f))
-    called : {n c d f : ℕ} {theta : List (Option Tree)} {sorts : List ℕ} {ps : Patterns} {ts : Forest} {e : Evaluated} → EvaluateAll theory n theta ps c (values ts d) →
-        Applies theory n f ts d e → Evaluates theory (suc n) theta (call f sorts ps) c e
+    nested_out : {c f : ℕ} {theta : List (Option Tree)} {p : Pattern} {ps : Patterns}
+        → HasHead theory p f ps → Evaluates theory 0 theta p c (blocked (too_nested f))
+    argument_blocked : {n c f : ℕ} {theta : List (Option Tree)} {p : Pattern} {ps : Patterns}
+        {cause : Cause} → HasHead theory p f ps
+        → EvaluateAll theory n theta ps c (stopped cause)
+        → Evaluates theory (suc n) theta p c (blocked cause)
+    made : {n c d f : ℕ} {theta : List (Option Tree)} {p : Pattern} {ps : Patterns} {ts : Forest}
+        {t : Tree} → HasHead theory p f ps → EvaluateAll theory n theta ps c (values ts d)
+        → built p ts ≡ Some t → height t ≤ most_height
+        → Evaluates theory (suc n) theta p c (value t d)
+    made_too_high : {n c d f : ℕ} {theta : List (Option Tree)} {p : Pattern} {ps : Patterns}
+        {ts : Forest} {t : Tree} → HasHead theory p f ps
+        → EvaluateAll theory n theta ps c (values ts d) → built p ts ≡ Some t
+        → most_height < height t → Evaluates theory (suc n) theta p c (blocked (too_high f))
+    called : {n c d f : ℕ} {theta : List (Option Tree)} {sorts : List ℕ} {ps : Patterns}
+        {ts : Forest} {e : Evaluated} → EvaluateAll theory n theta ps c (values ts d)
+        → Applies theory n f ts d e → Evaluates theory (suc n) theta (call f sorts ps) c e
 
   -- the same for the patterns, one after another
-  pub data EvaluateAll (theory : RewriteTheory) : ℕ → List (Option Tree) → Patterns → ℕ → AllEvaluated → Type 0 where
-    none_left : {n c : ℕ} {theta : List (Option Tree)} → EvaluateAll theory n theta no_pattern c (values no_tree c)
-    first_blocked : {n c : ℕ} {theta : List (Option Tree)} {p : Pattern} {ps : Patterns} {cause : Cause} →
-        Evaluates theory n theta p c (blocked cause) →
-        EvaluateAll theory n theta (more_patterns p ps) c (stopped cause)
-    later_blocked : {n c d : ℕ} {theta : List (Option Tree)} {p : Pattern} {ps : Patterns} {t : Tree} {cause : Cause} → Evaluates theory n theta p c (value t d) →
-        EvaluateAll theory n theta ps d (stopped cause) →
-        EvaluateAll theory n theta (more_patterns p ps) c (stopped cause)
-    one_more : {n c d e : ℕ} {theta : List (Option Tree)} {p : Pattern} {ps : Patterns} {t : Tree} {ts : Forest} →
-        Evaluates theory n theta p c (value t d) →
-        EvaluateAll theory n theta ps d (values ts e) →
-        EvaluateAll theory n theta (more_patterns p ps) c (values (more_trees t ts) e)
+  pub data EvaluateAll (theory : RewriteTheory) : ℕ → List (Option Tree) → Patterns → ℕ
+      → AllEvaluated → Type 0 where
+    none_left : {n c : ℕ} {theta : List (Option Tree)}
+        → EvaluateAll theory n theta no_pattern c (values no_tree c)
+    first_blocked : {n c : ℕ} {theta : List (Option Tree)} {p : Pattern} {ps : Patterns}
+        {cause : Cause} → Evaluates theory n theta p c (blocked cause)
+        → EvaluateAll theory n theta (more_patterns p ps) c (stopped cause)
+    later_blocked : {n c d : ℕ} {theta : List (Option Tree)} {p : Pattern} {ps : Patterns}
+        {t : Tree} {cause : Cause} → Evaluates theory n theta p c (value t d)
+        → EvaluateAll theory n theta ps d (stopped cause)
+        → EvaluateAll theory n theta (more_patterns p ps) c (stopped cause)
+    one_more : {n c d e : ℕ} {theta : List (Option Tree)} {p : Pattern} {ps : Patterns} {t : Tree}
+        {ts : Forest} → Evaluates theory n theta p c (value t d)
+        → EvaluateAll theory n theta ps d (values ts e)
+        → EvaluateAll theory n theta (more_patterns p ps) c (values (more_trees t ts) e)
 
   -- The function has this outcome at these terms. This takes one call, unless nothing defines the
   -- function.
   pub data Applies (theory : RewriteTheory) : ℕ → ℕ → Forest → ℕ → Evaluated → Type 0 where
-    by_nothing : {n f c : ℕ} {ts : Forest} {info : SymInfo} → IsSymbol theory.sig f info → info.kind ≡ Closed →
-        Applies theory n f ts c (blocked (closed f))
-    without_call : {n f : ℕ} {ts : Forest} {info : SymInfo} → IsSymbol theory.sig f info → info.kind ≢ Closed →
-        Applies theory n f ts 0 (blocked (no_call_left f))
+    by_nothing : {n f c : ℕ} {ts : Forest} {info : SymInfo} → IsSymbol theory.sig f info
+        → info.kind ≡ Closed → Applies theory n f ts c (blocked (closed f))
+    without_call : {n f : ℕ} {ts : Forest} {info : SymInfo} → IsSymbol theory.sig f info
+        → info.kind ≢ Closed → Applies theory n f ts 0 (blocked (no_call_left f))
     by_hook : {n f c sort : ℕ} {ts : Forest} {info : SymInfo} {v : DomainValue} {row : ℕ} →
-        IsSymbol theory.sig f info → HookAnswers info row ts v → sort_at [] info.result ≡ Some sort →
+        IsSymbol theory.sig f info → HookAnswers info row ts v → sort_at [] info.result ≡ Some sort
+        →
         Applies theory n f ts (suc c) (value (leaf sort v) c)
-    hook_fails : {n f c : ℕ} {ts : Forest} {info : SymInfo} {why : NoValue} {row : ℕ} → IsSymbol theory.sig f info →
-        HookFails info row ts why →
-        Applies theory n f ts (suc c) (blocked (no_value row why))
-    by_equations : {n f c : ℕ} {ts : Forest} {info : SymInfo} {e : Evaluated} → IsSymbol theory.sig f info →
-        info.kind ≡ Equations →
-        Equates theory n f (equations_of theory f) ts c e → Applies theory n f ts (suc c) e
+    hook_fails : {n f c : ℕ} {ts : Forest} {info : SymInfo} {why : NoValue} {row : ℕ}
+        → IsSymbol theory.sig f info → HookFails info row ts why
+        → Applies theory n f ts (suc c) (blocked (no_value row why))
+    by_equations : {n f c : ℕ} {ts : Forest} {info : SymInfo} {e : Evaluated}
+        → IsSymbol theory.sig f info → info.kind ≡ Equations
+        → Equates theory n f (equations_of theory f) ts c e → Applies theory n f ts (suc c) e
 
   -- The value is that of the right side of the first of these equations that matches and whose
   -- condition holds. The calls that a condition takes are not available to later conditions.
-  pub data Equates (theory : RewriteTheory) : ℕ → ℕ → List Equation → Forest → ℕ → Evaluated → Type 0 where
-    no_equation_left : {n f c : ℕ} {ts : Forest} → Equates theory n f [] ts c (blocked (no_equation f))
+  pub data Equates (theory : RewriteTheory) : ℕ → ℕ → List Equation → Forest → ℕ → Evaluated
+      → Type 0 where
+    no_equation_left : {n f c : ℕ} {ts : Forest}
+        → Equates theory n f [] ts c (blocked (no_equation f))
     unmatched : {n f c : ℕ} {ts : Forest} {e : Equation} {es : List Equation} {r : Evaluated} →
-        IsUnmatchedBy theory e ts → Equates theory n f es ts c r → Equates theory n f (e ∷ es) ts c r
-    condition_fails : {n f c d : ℕ} {ts : Forest} {e : Equation} {es : List Equation} {r : Evaluated} {theta : List (Option Tree)} → MatchAll theory.sig e.variables e.arguments ts theta →
-        Tests theory n f theta e.condition c (fails d) → Equates theory n f es ts d r →
-        Equates theory n f (e ∷ es) ts c r
-    condition_blocked : {n f c : ℕ} {ts : Forest} {e : Equation} {es : List Equation} {theta : List (Option Tree)} {cause : Cause} → MatchAll theory.sig e.variables e.arguments ts theta →
-        Tests theory n f theta e.condition c (untested cause) → Equates theory n f (e ∷ es) ts c (blocked cause)
-    used : {n f c d : ℕ} {ts : Forest} {e : Equation} {es : List Equation} {r : Evaluated} {theta : List (Option Tree)} → MatchAll theory.sig e.variables e.arguments ts theta →
-        Tests theory n f theta e.condition c (holds d) → EvaluatesIn theory n f theta e.right d r →
-        Equates theory n f (e ∷ es) ts c r
+        IsUnmatchedBy theory e ts → Equates theory n f es ts c r
+        → Equates theory n f (e ∷ es) ts c r
+    condition_fails : {n f c d : ℕ} {ts : Forest} {e : Equation} {es : List Equation}
+        {r : Evaluated} {theta : List (Option Tree)}
+        → MatchAll theory.sig e.variables e.arguments ts theta
+        → Tests theory n f theta e.condition c (fails d) → Equates theory n f es ts d r
+        → Equates theory n f (e ∷ es) ts c r
+    condition_blocked : {n f c : ℕ} {ts : Forest} {e : Equation} {es : List Equation}
+        {theta : List (Option Tree)} {cause : Cause}
+        → MatchAll theory.sig e.variables e.arguments ts theta
+        → Tests theory n f theta e.condition c (untested cause)
+        → Equates theory n f (e ∷ es) ts c (blocked cause)
+    used : {n f c d : ℕ} {ts : Forest} {e : Equation} {es : List Equation} {r : Evaluated}
+        {theta : List (Option Tree)} → MatchAll theory.sig e.variables e.arguments ts theta
+        → Tests theory n f theta e.condition c (holds d) → EvaluatesIn theory n f theta e.right d r
+        → Equates theory n f (e ∷ es) ts c r
 
   -- the condition of an equation of this function, if it has one
-  pub data Tests (theory : RewriteTheory) : ℕ → ℕ → List (Option Tree) → Option Pattern → ℕ → Tested → Type 0 where
-    no_condition : {n f c : ℕ} {theta : List (Option Tree)} → Tests theory n f theta None c (holds c)
-    condition : {n f c : ℕ} {theta : List (Option Tree)} {p : Pattern} {e : Evaluated} {r : Tested} →
-        EvaluatesIn theory n f theta p c e → Says e r → Tests theory n f theta (Some p) c r
+  pub data Tests (theory : RewriteTheory) : ℕ → ℕ → List (Option Tree) → Option Pattern → ℕ → Tested
+      → Type 0 where
+    no_condition : {n f c : ℕ} {theta : List (Option Tree)}
+        → Tests theory n f theta None c (holds c)
+    condition : {n f c : ℕ} {theta : List (Option Tree)} {p : Pattern} {e : Evaluated} {r : Tested}
+        → EvaluatesIn theory n f theta p c e → Says e r → Tests theory n f theta (Some p) c r
 
   -- a condition or a right side of an equation of this function, which takes one level of nesting
-  pub data EvaluatesIn (theory : RewriteTheory) : ℕ → ℕ → List (Option Tree) → Pattern → ℕ → Evaluated → Type 0 where
+  pub data EvaluatesIn (theory : RewriteTheory) : ℕ → ℕ → List (Option Tree) → Pattern → ℕ
+      → Evaluated → Type 0 where
     no_nesting : {f c : ℕ} {theta : List (Option Tree)} {p : Pattern} →
         EvaluatesIn theory 0 f theta p c (blocked (too_nested f))
     inside : {n f c : ℕ} {theta : List (Option Tree)} {p : Pattern} {e : Evaluated} →

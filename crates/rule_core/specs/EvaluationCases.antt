@@ -1,15 +1,20 @@
 -- Small theories, with the evaluations and steps that the definitions give there. A theory is
 -- described by the declarations of its signature. Each case holds for every signature with these
 -- declarations.
-use Rattle.std.specs.Prelude.{◌≡◌, ◌-◌, ◌^◌, ℕ, ℤ, pos, negsuc, List, [], ◌∷◌, slice_get, Some, None, map}
-use Rattle.term_core.specs.Terms.{integer, text, Tree, leaf, node, inj, Forest, no_tree, more_trees, height}
-use Rattle.term_core.specs.Patterns.{Pattern, Patterns, variable, domain_value, application, injection, call, no_pattern, more_patterns}
+use Rattle.std.specs.Prelude.{◌≡◌, ◌-◌, ◌^◌, ℕ, ℤ, pos, negsuc, List, [], ◌∷◌, slice_get, Some}
+use Rattle.std.specs.Prelude.{None, map}
+use Rattle.term_core.specs.Terms.{integer, text, Tree, leaf, node, inj, Forest, no_tree, more_trees}
+use Rattle.term_core.specs.Terms.{height}
+use Rattle.term_core.specs.Patterns.{Pattern, Patterns, variable, domain_value, application}
+use Rattle.term_core.specs.Patterns.{injection, call, no_pattern, more_patterns}
 use Rattle.term_core.specs.declared.values.NoValue.TheVariants.{ZeroDivisor, Range}
 use Rattle.rule_core.specs.Rules.{RewriteRule, Equation}
 use Rattle.rule_core.specs.Theories.{RewriteTheory}
 use Rattle.rule_core.specs.Subsorts.{IsBelow}
 use Rattle.rule_core.specs.Sorting.{IsSymbol}
-use Rattle.rule_core.specs.Evaluation.{Evaluated, value, blocked, no_value, closed, no_equation, no_call_left, too_high, too_nested, IsInjectionSymbol, Evaluates}
+use Rattle.rule_core.specs.Evaluation.{Evaluated, value, blocked, no_value, closed, no_equation}
+use Rattle.rule_core.specs.Evaluation.{no_call_left, too_high, too_nested, IsInjectionSymbol}
+use Rattle.rule_core.specs.Evaluation.{Evaluates}
 use Rattle.rule_core.specs.FirstRule.{most_nesting}
 use Rattle.rule_core.specs.Runs.{next, stops, stays, Steps}
 use Rattle.rule_core.specs.declared.signature.Signature.{Signature}
@@ -27,7 +32,8 @@ abbrev pub named : ℕ → SortRef
 named s = Sort (record { 0 = s })
 
 -- the symbol with this number has this kind, these argument sorts and this result sort
-pub record Declares (sig : Signature) (f : ℕ) (is : SymKind) (arguments : List ℕ) (result : ℕ) : Type 0 where
+pub record Declares (sig : Signature) (f : ℕ) (is : SymKind) (arguments : List ℕ) (result : ℕ) :
+    Type 0 where
   pub info : SymInfo
   pub there : IsSymbol sig f info
   pub of_kind : info.kind ≡ is
@@ -36,7 +42,8 @@ pub record Declares (sig : Signature) (f : ℕ) (is : SymKind) (arguments : List
 
 -- the sort with this number has the whole numbers as values
 abbrev pub IsOfIntegers : Signature → ℕ → Type 0
-IsOfIntegers sig s = (name : List ℕ) × (info : SortInfo) × (slice_get sig.sorts s ≡ Some (name, info))
+IsOfIntegers sig s =
+    (name : List ℕ) × (info : SortInfo) × (slice_get sig.sorts s ≡ Some (name, info))
     × (info.kind ≡ kind.Int)
 
 abbrev pub hook : ℕ → SymKind
@@ -94,18 +101,31 @@ least = negsuc (2 ^ 127 - 1)
 
 pub record TriedIntegers (sig : Signature) : Type 0 where
   pub itself : Gives (without_rules sig) (n (number (pos 1))) 0 (value (tree_n (pos 1)) 0)
-  pub greatest_sum : Gives (without_rules sig) (n (binary 0 greatest (pos 0))) 1 (value (tree_n greatest) 0)
-  pub past_range : Gives (without_rules sig) (n (binary 0 greatest (pos 1))) 1 (blocked (no_value 0 Range))
-  pub no_call : Gives (without_rules sig) (n (binary 0 (pos 2) (pos 3))) 0 (blocked (no_call_left 0))
-  pub truncated_rest : Gives (without_rules sig) (n (binary 2 (negsuc 6) (pos 2))) 1 (value (tree_n (negsuc 0)) 0)
-  pub euclidean_rest : Gives (without_rules sig) (n (binary 4 (negsuc 6) (pos 2))) 1 (value (tree_n (pos 1)) 0)
-  pub truncated_quotient : Gives (without_rules sig) (n (binary 1 (negsuc 6) (pos 2))) 1 (value (tree_n (negsuc 2)) 0)
-  pub euclidean_quotient : Gives (without_rules sig) (n (binary 3 (negsuc 6) (pos 2))) 1 (value (tree_n (negsuc 3)) 0)
-  pub rest_of_least : Gives (without_rules sig) (n (binary 2 least (negsuc 0))) 1 (value (tree_n (pos 0)) 0)
-  pub least_by_minus_one : Gives (without_rules sig) (n (binary 1 least (negsuc 0))) 1 (blocked (no_value 3 Range))
-  pub by_zero : Gives (without_rules sig) (n (binary 1 (pos 1) (pos 0))) 1 (blocked (no_value 3 ZeroDivisor))
-  pub nothing_gives : Gives (without_rules sig) (n (call 6 [] (one (domain_value 2 (text []))))) 0 (blocked (closed 6))
-  pub first_cause : Gives (without_rules sig) (call 0 [] (two (binary 1 (pos 1) (pos 0)) (call 6 [] (one (domain_value 2 (text [])))))) 9 (blocked (no_value 3 ZeroDivisor))
+  pub greatest_sum : Gives (without_rules sig) (n (binary 0 greatest (pos 0))) 1
+      (value (tree_n greatest) 0)
+  pub past_range : Gives (without_rules sig) (n (binary 0 greatest (pos 1))) 1
+      (blocked (no_value 0 Range))
+  pub no_call : Gives (without_rules sig) (n (binary 0 (pos 2) (pos 3))) 0
+      (blocked (no_call_left 0))
+  pub truncated_rest : Gives (without_rules sig) (n (binary 2 (negsuc 6) (pos 2))) 1
+      (value (tree_n (negsuc 0)) 0)
+  pub euclidean_rest : Gives (without_rules sig) (n (binary 4 (negsuc 6) (pos 2))) 1
+      (value (tree_n (pos 1)) 0)
+  pub truncated_quotient : Gives (without_rules sig) (n (binary 1 (negsuc 6) (pos 2))) 1
+      (value (tree_n (negsuc 2)) 0)
+  pub euclidean_quotient : Gives (without_rules sig) (n (binary 3 (negsuc 6) (pos 2))) 1
+      (value (tree_n (negsuc 3)) 0)
+  pub rest_of_least : Gives (without_rules sig) (n (binary 2 least (negsuc 0))) 1
+      (value (tree_n (pos 0)) 0)
+  pub least_by_minus_one : Gives (without_rules sig) (n (binary 1 least (negsuc 0))) 1
+      (blocked (no_value 3 Range))
+  pub by_zero : Gives (without_rules sig) (n (binary 1 (pos 1) (pos 0))) 1
+      (blocked (no_value 3 ZeroDivisor))
+  pub nothing_gives : Gives (without_rules sig) (n (call 6 [] (one (domain_value 2 (text []))))) 0
+      (blocked (closed 6))
+  pub first_cause : Gives (without_rules sig)
+      (call 0 [] (two (binary 1 (pos 1) (pos 0)) (call 6 [] (one (domain_value 2 (text [])))))) 9
+      (blocked (no_value 3 ZeroDivisor))
 
 -- ---- a function without arguments, of three forms: no equation, a value, and a constructor
 
@@ -126,7 +146,8 @@ defined_by sig es = record { sig = sig; rules = []; equations = es ∷ [] }
 
 -- the call of the function has this outcome, with this nesting and this many calls left
 abbrev pub Calls : Signature → List Equation → ℕ → ℕ → Evaluated → Type 0
-Calls sig es nesting calls r = Evaluates (defined_by sig es) nesting [] (call 0 [] no_pattern) calls r
+Calls sig es nesting calls r =
+    Evaluates (defined_by sig es) nesting [] (call 0 [] no_pattern) calls r
 
 pub record TriedBounds (sig : Signature) : Type 0 where
   pub no_equation_used : Calls sig [] most_nesting 1 (blocked (no_equation 0))
@@ -135,12 +156,16 @@ pub record TriedBounds (sig : Signature) : Type 0 where
   pub right_side_nested : Calls sig (always (number (pos 5)) ∷ []) 1 1 (blocked (too_nested 0))
   pub value_reached : Calls sig (always (number (pos 5)) ∷ []) 2 1 (value (tree_number (pos 5)) 0)
   pub root_nested : Calls sig (always (application 7 no_pattern) ∷ []) 2 1 (blocked (too_nested 7))
-  pub root_reached : Calls sig (always (application 7 no_pattern) ∷ []) 3 1 (value (node 7 no_tree) 0)
-  pub endless : Calls sig (always (call 0 [] no_pattern) ∷ []) most_nesting 2 (blocked (no_call_left 0))
+  pub root_reached : Calls sig (always (application 7 no_pattern) ∷ []) 3 1
+      (value (node 7 no_tree) 0)
+  pub endless : Calls sig (always (call 0 [] no_pattern) ∷ []) most_nesting 2
+      (blocked (no_call_left 0))
   pub at_height : (t : Tree) → height t ≡ 499 →
-      Evaluates (defined_by sig []) 1 (Some t ∷ []) (application 7 (one (variable 0))) 0 (value (node 7 (one_tree t)) 0)
+      Evaluates (defined_by sig []) 1 (Some t ∷ []) (application 7 (one (variable 0))) 0
+      (value (node 7 (one_tree t)) 0)
   pub past_height : (t : Tree) → height t ≡ 500 →
-      Evaluates (defined_by sig []) 1 (Some t ∷ []) (application 7 (one (variable 0))) 0 (blocked (too_high 7))
+      Evaluates (defined_by sig []) 1 (Some t ∷ []) (application 7 (one (variable 0))) 0
+      (blocked (too_high 7))
 
 -- ---- rules with conditions on whole numbers: the constructors 8 (before the step), 9 and 10
 
@@ -162,11 +187,15 @@ with_rules sig rules = record { sig = sig; rules = rules; equations = [] }
 
 -- above 10 the step leads to the constructor 9, below 10 to the constructor 10
 abbrev pub by_size : Signature → RewriteTheory
-by_size sig = with_rules sig (when (greater (variable 0) (number (pos 10))) 9 ∷ (when (greater (number (pos 10)) (variable 0)) 10 ∷ []))
+by_size sig =
+    with_rules sig (when (greater (variable 0) (number (pos 10))) 9
+    ∷ (when (greater (number (pos 10)) (variable 0)) 10 ∷ []))
 
 -- the same with another first condition, which divides by the number
 abbrev pub by_quotient : Signature → RewriteTheory
-by_quotient sig = with_rules sig (when (greater (call 1 [] (two (number (pos 1)) (variable 0))) (number (pos 0))) 9 ∷ (when (greater (number (pos 10)) (variable 0)) 10 ∷ []))
+by_quotient sig =
+    with_rules sig (when (greater (call 1 [] (two (number (pos 1)) (variable 0))) (number (pos 0)))
+    9 ∷ (when (greater (number (pos 10)) (variable 0)) 10 ∷ []))
 
 abbrev pub on : ℕ → ℤ → Tree
 on f z = node f (one_tree (tree_number z))
@@ -199,8 +228,11 @@ moves = record {
 }
 
 pub record TriedInjections (sig : Signature) : Type 0 where
-  pub joined : Gives (without_rules sig) (injection 1 2 (injection 0 1 (number (pos 5)))) 0 (value (inj 0 2 (tree_number (pos 5))) 0)
-  pub moved : Steps (with_rules sig (moves ∷ [])) (node 1 (one_tree (inj 0 3 (tree_number (pos 5))))) 0 (next (node 2 (one_tree (inj 0 2 (tree_number (pos 5))))) 0)
+  pub joined : Gives (without_rules sig) (injection 1 2 (injection 0 1 (number (pos 5)))) 0
+      (value (inj 0 2 (tree_number (pos 5))) 0)
+  pub moved : Steps (with_rules sig (moves ∷ []))
+      (node 1 (one_tree (inj 0 3 (tree_number (pos 5))))) 0
+      (next (node 2 (one_tree (inj 0 2 (tree_number (pos 5))))) 0)
 
 -- ---- lists: the constructors 1 (empty) and 2 (an item followed by a list), and the function 0,
 -- which appends, in the sort 1; the item 3
@@ -249,8 +281,10 @@ abbrev pub one_item_tree : Tree
 one_item_tree = node 2 (more_trees (node 3 no_tree) (one_tree (node 1 no_tree)))
 
 pub record TriedLists (sig : Signature) : Type 0 where
-  pub appended : Gives (appending sig) (call 0 [] (two one_item one_item)) 2 (value (node 2 (more_trees (node 3 no_tree) (one_tree one_item_tree))) 0)
-  pub too_few : Gives (appending sig) (call 0 [] (two one_item one_item)) 1 (blocked (no_call_left 0))
+  pub appended : Gives (appending sig) (call 0 [] (two one_item one_item)) 2
+      (value (node 2 (more_trees (node 3 no_tree) (one_tree one_item_tree))) 0)
+  pub too_few : Gives (appending sig) (call 0 [] (two one_item one_item)) 1
+      (blocked (no_call_left 0))
 
 -- ---- all of them
 

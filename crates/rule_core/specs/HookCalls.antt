@@ -9,7 +9,8 @@ use Rattle.rule_core.specs.declared.signature.SymKind.TheVariants.{Hooked}
 -- the terms are these values, of any sorts
 abbrev pub AreValues : Forest → List DomainValue → Type 0
 AreValues no_tree vs = vs ≡ []
-AreValues (more_trees (leaf s v) ts) vs = (rest : List DomainValue) × (vs ≡ v ∷ rest) × AreValues ts rest
+AreValues (more_trees (leaf s v) ts) vs =
+    (rest : List DomainValue) × (vs ≡ v ∷ rest) × AreValues ts rest
 AreValues (more_trees (node f us) ts) vs = ⊥
 AreValues (more_trees (inj a b t) ts) vs = ⊥
 

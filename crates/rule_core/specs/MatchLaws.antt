@@ -22,18 +22,25 @@ SortedUseFirst =
 -- the patterns' sorts.
 abbrev pub InstancesAreSorted : Type 0
 InstancesAreSorted =
-    (sig : Signature) (variables sorts : List ℕ) (ps : Patterns) (refs : List SortRef) (theta : List (Option Tree)) (ts : Forest) → HaveSorts sig variables sorts ps refs →
-    RespectsSorts sig variables theta → instances_of theta ps ≡ Some ts → AreTermsOf sig sorts ts refs × AreNormal ts
+    (sig : Signature) (variables sorts : List ℕ) (ps : Patterns) (refs : List SortRef)
+    (theta : List (Option Tree)) (ts : Forest) → HaveSorts sig variables sorts ps refs →
+    RespectsSorts sig variables theta → instances_of theta ps ≡ Some ts
+    → AreTermsOf sig sorts ts refs × AreNormal ts
 
 -- At most one substitution matches well-sorted patterns with terms.
 abbrev pub MatchIsUnique : Type 0
 MatchIsUnique =
-    (sig : Signature) (variables sorts : List ℕ) (ps : Patterns) (refs : List SortRef) (ts : Forest) (theta sigma : List (Option Tree)) → HasNoCycle sig.subsorts → HaveSorts sig variables sorts ps refs →
+    (sig : Signature) (variables sorts : List ℕ) (ps : Patterns) (refs : List SortRef) (ts : Forest)
+    (theta sigma : List (Option Tree)) → HasNoCycle sig.subsorts
+    → HaveSorts sig variables sorts ps refs →
     MatchAll sig variables ps ts theta → MatchAll sig variables ps ts sigma → theta ≡ sigma
 
 -- It is decidable whether there is one, for normal terms of the patterns' sorts.
 abbrev pub MatchIsDecidable : Type 0
 MatchIsDecidable =
-    (sig : Signature) (variables sorts : List ℕ) (ps : Patterns) (refs : List SortRef) (ts : Forest) →
-    HasNoCycle sig.subsorts → HaveSorts sig variables sorts ps refs → AreTermsOf sig sorts ts refs → AreNormal ts →
-    ((theta : List (Option Tree)) × MatchAll sig variables ps ts theta) ⊎ NoneMatches sig variables ps ts
+    (sig : Signature) (variables sorts : List ℕ) (ps : Patterns) (refs : List SortRef) (ts : Forest)
+    →
+    HasNoCycle sig.subsorts → HaveSorts sig variables sorts ps refs → AreTermsOf sig sorts ts refs
+    → AreNormal ts →
+    ((theta : List (Option Tree)) × MatchAll sig variables ps ts theta)
+    ⊎ NoneMatches sig variables ps ts

@@ -2,7 +2,8 @@
 -- the terms are well-sorted.
 use Rattle.std.specs.Prelude.{◌≡◌, ◌+◌, ℕ, List, [], length, Option, MatchOption}
 use Rattle.term_core.specs.Terms.{Tree, Forest}
-use Rattle.term_core.specs.Patterns.{Pattern, Patterns, variable, domain_value, application, injection, call, no_pattern, more_patterns, ground_patterns}
+use Rattle.term_core.specs.Patterns.{Pattern, Patterns, variable, domain_value, application}
+use Rattle.term_core.specs.Patterns.{injection, call, no_pattern, more_patterns, ground_patterns}
 use Rattle.rule_core.specs.Sorting.{HaveSorts}
 use Rattle.rule_core.specs.Matching.{MatchAll, NoneMatches}
 use Rattle.rule_core.specs.declared.signature.Signature.{Signature}

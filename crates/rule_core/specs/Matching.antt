@@ -3,49 +3,56 @@
 -- substitutions. The code takes the term apart instead.
 use Rattle.std.specs.Prelude.{◌≡◌, ◌↔◌, ◌<◌, ℕ, List, length, slice_get, Option, Some, IsSome, ◌⊎◌}
 use Rattle.term_core.specs.Terms.{Tree, Forest, no_tree, more_trees, IsNormal}
-use Rattle.term_core.specs.Patterns.{Pattern, Patterns, variable, domain_value, application, injection, call, no_pattern, more_patterns, binding, instances_of}
+use Rattle.term_core.specs.Patterns.{Pattern, Patterns, variable, domain_value, application}
+use Rattle.term_core.specs.Patterns.{injection, call, no_pattern, more_patterns, binding}
+use Rattle.term_core.specs.Patterns.{instances_of}
 use Rattle.rule_core.specs.Sorting.{IsTermOf}
 use Rattle.rule_core.specs.declared.signature.Signature.{Signature}
 
 -- the variable occurs in the pattern
 abbrev mutual
-  pub StandsIn : ℕ → Pattern → Type 0
-  StandsIn x (variable y) = x ≡ y
-  StandsIn x (domain_value s v) = ⊥
-  StandsIn x (application f ps) = StandsInSome x ps
-  StandsIn x (injection a b p) = StandsIn x p
-  StandsIn x (call f sorts ps) = StandsInSome x ps
+  pub OccursIn : ℕ → Pattern → Type 0
+  OccursIn x (variable y) = x ≡ y
+  OccursIn x (domain_value s v) = ⊥
+  OccursIn x (application f ps) = OccursInSome x ps
+  OccursIn x (injection a b p) = OccursIn x p
+  OccursIn x (call f sorts ps) = OccursInSome x ps
 
-  pub StandsInSome : ℕ → Patterns → Type 0
-  StandsInSome x no_pattern = ⊥
-  StandsInSome x (more_patterns p ps) = StandsIn x p ⊎ StandsInSome x ps
+  pub OccursInSome : ℕ → Patterns → Type 0
+  OccursInSome x no_pattern = ⊥
+  OccursInSome x (more_patterns p ps) = OccursIn x p ⊎ OccursInSome x ps
 
 -- only the first n variables occur in the patterns
 abbrev pub UseFirst : ℕ → Patterns → Type 0
-UseFirst n ps = (x : ℕ) → StandsInSome x ps → x < n
+UseFirst n ps = (x : ℕ) → OccursInSome x ps → x < n
 
 -- each variable that the substitution binds is bound to a normal term of the variable's sort
 abbrev pub RespectsSorts : Signature → List ℕ → List (Option Tree) → Type 0
 RespectsSorts sig variables theta =
-    (x : ℕ) (t : Tree) → binding theta x ≡ Some t → IsNormal t × ((sort : ℕ) × (slice_get variables x ≡ Some sort)
+    (x : ℕ) (t : Tree) → binding theta x ≡ Some t
+    → IsNormal t × ((sort : ℕ) × (slice_get variables x ≡ Some sort)
     × IsTermOf sig t sort)
 
 -- the substitution binds exactly the variables that occur in the patterns, each to a normal term of
 -- the variable's sort
-pub record Binds (sig : Signature) (variables : List ℕ) (ps : Patterns) (theta : List (Option Tree)) : Type 0 where
+pub record Binds (sig : Signature) (variables : List ℕ) (ps : Patterns)
+    (theta : List (Option Tree)) : Type 0 where
   pub room : length theta ≡ length variables
-  pub just : (x : ℕ) → IsSome (binding theta x) ↔ StandsInSome x ps
+  pub just : (x : ℕ) → IsSome (binding theta x) ↔ OccursInSome x ps
   pub sorted : RespectsSorts sig variables theta
 
 -- under such a substitution the patterns become the terms, in order
-pub record MatchAll (sig : Signature) (variables : List ℕ) (ps : Patterns) (ts : Forest) (theta : List (Option Tree)) : Type 0 where
+pub record MatchAll (sig : Signature) (variables : List ℕ) (ps : Patterns) (ts : Forest)
+    (theta : List (Option Tree)) : Type 0 where
   pub binds : Binds sig variables ps theta
   pub makes : instances_of theta ps ≡ Some ts
 
 -- under such a substitution the pattern becomes the term
 abbrev pub MatchesTerm : Signature → List ℕ → Pattern → Tree → List (Option Tree) → Type 0
-MatchesTerm sig variables p t theta = MatchAll sig variables (more_patterns p no_pattern) (more_trees t no_tree) theta
+MatchesTerm sig variables p t theta =
+    MatchAll sig variables (more_patterns p no_pattern) (more_trees t no_tree) theta
 
 -- under no substitution do the patterns become the terms
 abbrev pub NoneMatches : Signature → List ℕ → Patterns → Forest → Type 0
-NoneMatches sig variables ps ts = (theta : List (Option Tree)) → MatchAll sig variables ps ts theta → ⊥
+NoneMatches sig variables ps ts =
+    (theta : List (Option Tree)) → MatchAll sig variables ps ts theta → ⊥

@@ -44,4 +44,8 @@ abbrev pub function_equations : List (Vec Equation Global) → List (List plain.
 function_equations lists = map (λ (es : Vec Equation Global). map function_equation es.items) lists
 
 abbrev pub theory_of : Program → RewriteTheory
-theory_of p = record { sig = p.sig; rules = rewrite_rules p.rules.items; equations = function_equations p.equations.items }
+theory_of p = record {
+  sig = p.sig;
+  rules = rewrite_rules p.rules.items;
+  equations = function_equations p.equations.items;
+}

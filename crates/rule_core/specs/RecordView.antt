@@ -1,6 +1,8 @@
 -- The plain records that represent the records of the code.
 use Rattle.std.specs.Prelude.{List, [], ◌∷◌, Option, Some, None, option_map}
-use Rattle.rule_core.specs.Records.{Record, RecordList, OptionalRecord, bound, itself, made, by_hook, by_equation, no_record, more_records, unconditional, conditional}
+use Rattle.rule_core.specs.Records.{Record, RecordList, OptionalRecord, bound, itself, made}
+use Rattle.rule_core.specs.Records.{by_hook, by_equation, no_record, more_records, unconditional}
+use Rattle.rule_core.specs.Records.{conditional}
 use Rattle.rule_core.specs.Records as plain
 use Rattle.rule_core.specs.declared.records.EvalRecord.{EvalRecord}
 use Rattle.rule_core.specs.declared.records.StepRecord.{StepRecord}
@@ -22,7 +24,8 @@ optional (Some r) = conditional r
 -- one layer, whose parts are already plain records
 abbrev pub plain_use : EqRecord-F Record Record → Record
 plain_use used =
-    by_equation (records used.args.items) used.equation used.subst (optional (option_map (λ r. r.value) used.cond)) used.body.value
+    by_equation (records used.args.items) used.equation used.subst
+    (optional (option_map (λ r. r.value) used.cond)) used.body.value
 
 abbrev pub plain_layer : EvalRecord-F Record Record → Record
 plain_layer (layer.Bound x t) = bound x t

@@ -1,14 +1,17 @@
 -- Records of evaluations. A record holds what was used at each node of a pattern to get its value,
 -- so that a proof can be built from it.
-use Rattle.std.specs.Prelude.{◌≡◌, ◌<◌, ◌≤◌, ◌-◌, ◌^◌, ◌⊎◌, ℕ, List, [], slice_get, Option, Some, None}
+use Rattle.std.specs.Prelude.{◌≡◌, ◌<◌, ◌≤◌, ◌-◌, ◌^◌, ◌⊎◌, ℕ, List, [], slice_get, Option, Some}
+use Rattle.std.specs.Prelude.{None}
 use Rattle.term_core.specs.Terms.{Tree, leaf, Forest, no_tree, more_trees, height, DomainValue}
-use Rattle.term_core.specs.Patterns.{Pattern, Patterns, variable, domain_value, call, no_pattern, more_patterns, binding}
+use Rattle.term_core.specs.Patterns.{Pattern, Patterns, variable, domain_value, call, no_pattern}
+use Rattle.term_core.specs.Patterns.{more_patterns, binding}
 use Rattle.rule_core.specs.Rules.{RewriteRule, Equation}
 use Rattle.rule_core.specs.Theories.{RewriteTheory, equations_of}
 use Rattle.rule_core.specs.Matching.{MatchAll}
 use Rattle.rule_core.specs.Sorting.{IsSymbol, sort_at}
 use Rattle.rule_core.specs.HookCalls.{HookAnswers}
-use Rattle.rule_core.specs.Evaluation.{HasHead, built, most_height, IsTrueValue, IsUnmatchedBy, Tests, fails}
+use Rattle.rule_core.specs.Evaluation.{HasHead, built, most_height, IsTrueValue, IsUnmatchedBy}
+use Rattle.rule_core.specs.Evaluation.{Tests, fails}
 use Rattle.rule_core.specs.FirstRule.{Matches, IsUnmatched, Meets, most_nesting}
 use Rattle.rule_core.specs.declared.signature.SymInfo.{SymInfo}
 use Rattle.rule_core.specs.declared.signature.SymKind.TheVariants.{Equations}
@@ -60,17 +63,22 @@ IsUnused theory f e ts =
 abbrev mutual
   pub Records : RewriteTheory → List (Option Tree) → Pattern → Record → Type 0
   Records theory theta p (bound x t) = (p ≡ variable x) × (binding theta x ≡ Some t)
-  Records theory theta p (itself t) = (s : ℕ) × (v : DomainValue) × (p ≡ domain_value s v) × (t ≡ leaf s v)
+  Records theory theta p (itself t) =
+      (s : ℕ) × (v : DomainValue) × (p ≡ domain_value s v) × (t ≡ leaf s v)
   Records theory theta p (made rs t) = (f : ℕ) × (ps : Patterns) × HasHead theory p f ps
       × (built p (results_of rs) ≡ Some t) × (height t ≤ most_height) × RecordAll theory theta ps rs
   Records theory theta p (by_hook rs t) =
-      (f : ℕ) × (sorts : List ℕ) × (ps : Patterns) × (info : SymInfo) × (row : ℕ) × (v : DomainValue) × (sort : ℕ)
+      (f : ℕ) × (sorts : List ℕ) × (ps : Patterns) × (info : SymInfo) × (row : ℕ)
+      × (v : DomainValue) × (sort : ℕ)
       × (p ≡ call f sorts ps) × IsSymbol theory.sig f info × HookAnswers info row (results_of rs) v
       × (sort_at [] info.result ≡ Some sort) × (t ≡ leaf sort v) × RecordAll theory theta ps rs
   Records theory theta p (by_equation rs i sigma condition body) =
-      (f : ℕ) × (sorts : List ℕ) × (ps : Patterns) × (info : SymInfo) × (e : Equation) × (p ≡ call f sorts ps)
-      × IsSymbol theory.sig f info × (info.kind ≡ Equations) × (slice_get (equations_of theory f) i ≡ Some e)
-      × MatchAll theory.sig e.variables e.arguments (results_of rs) sigma × ((j : ℕ) (other : Equation) → j < i →
+      (f : ℕ) × (sorts : List ℕ) × (ps : Patterns) × (info : SymInfo) × (e : Equation)
+      × (p ≡ call f sorts ps)
+      × IsSymbol theory.sig f info × (info.kind ≡ Equations)
+      × (slice_get (equations_of theory f) i ≡ Some e)
+      × MatchAll theory.sig e.variables e.arguments (results_of rs) sigma
+      × ((j : ℕ) (other : Equation) → j < i →
       slice_get (equations_of theory f) j ≡ Some other → IsUnused theory f other (results_of rs))
       × RecordAll theory theta ps rs × RecordsCondition theory sigma e.condition condition
       × Records theory sigma e.right body
@@ -82,9 +90,11 @@ abbrev mutual
       × RecordAll theory theta qs rs
 
   -- the same for a condition that holds
-  pub RecordsCondition : RewriteTheory → List (Option Tree) → Option Pattern → OptionalRecord → Type 0
+  pub RecordsCondition : RewriteTheory → List (Option Tree) → Option Pattern → OptionalRecord
+      → Type 0
   RecordsCondition theory theta p unconditional = p ≡ None
-  RecordsCondition theory theta p (conditional r) = (q : Pattern) × (p ≡ Some q) × Records theory theta q r
+  RecordsCondition theory theta p (conditional r) =
+      (q : Pattern) × (p ≡ Some q) × Records theory theta q r
       × IsTrueValue (result_of r)
 
 -- The record of a step: the number of the rule that was used, its substitution, and the records of
@@ -98,7 +108,8 @@ pub record StepRecord : Type 0 where
 -- the rule is not used at the term: it does not match, or its condition fails
 abbrev pub IsUnusedRule : RewriteTheory → RewriteRule → Tree → Type 0
 IsUnusedRule theory rule t =
-    IsUnmatched theory rule t ⊎ ((theta : List (Option Tree)) × (left : ℕ) × Matches theory rule t theta
+    IsUnmatched theory rule t
+    ⊎ ((theta : List (Option Tree)) × (left : ℕ) × Matches theory rule t theta
     × Meets theory theta rule.condition most_calls (fails left))
 
 -- The record describes a step from this term: the rule applies, and the rules before it do not.
@@ -106,7 +117,7 @@ pub record RecordsStep (theory : RewriteTheory) (t : Tree) (step : StepRecord) :
   pub rule : RewriteRule
   pub there : slice_get theory.rules step.rule ≡ Some rule
   pub matches : Matches theory rule t step.theta
-  pub earlier : (j : ℕ) (other : RewriteRule) → j < step.rule → slice_get theory.rules j ≡ Some other →
-      IsUnusedRule theory other t
+  pub earlier : (j : ℕ) (other : RewriteRule) → j < step.rule
+      → slice_get theory.rules j ≡ Some other → IsUnusedRule theory other t
   pub condition : RecordsCondition theory step.theta rule.condition step.condition
   pub right : Records theory step.theta rule.right step.right

@@ -7,4 +7,5 @@ use Rattle.rule_core.specs.declared.rules.Rule.{Rule}
 
 -- only the variables of the rule itself
 abbrev pub MatchesByOwnVariables : Rule → Type 0
-MatchesByOwnVariables r = UseFirst (vec_len r.vars) (more_patterns (plain_pattern r.left) no_pattern)
+MatchesByOwnVariables r =
+    UseFirst (vec_len r.vars) (more_patterns (plain_pattern r.left) no_pattern)

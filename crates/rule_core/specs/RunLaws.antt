@@ -6,7 +6,8 @@ use Rattle.rule_core.specs.Rules.{RewriteRule, ComesBefore}
 use Rattle.rule_core.specs.Theories.{RewriteTheory}
 use Rattle.rule_core.specs.Sorting.{HasSort, IsTermOf}
 use Rattle.rule_core.specs.Evaluation.{holds, fails, most_height}
-use Rattle.rule_core.specs.FirstRule.{Matches, IsUnmatched, Meets, Trial, applies, none_applies, Tries}
+use Rattle.rule_core.specs.FirstRule.{Matches, IsUnmatched, Meets, Trial, applies, none_applies}
+use Rattle.rule_core.specs.FirstRule.{Tries}
 use Rattle.rule_core.specs.Runs.{Stepped, next, Steps, Reaches, Run, IsRunOf}
 use Rattle.rule_core.specs.Records.{StepRecord, RecordsStep, most_calls, result_of}
 use Rattle.rule_core.specs.WellSorted.{IsWellSorted, IsRuleOf}
@@ -29,19 +30,22 @@ RunIsUnique =
 -- that were left then
 abbrev pub IsPassedOver : RewriteTheory → Tree → RewriteRule → Type 0
 IsPassedOver theory t rule =
-    IsUnmatched theory rule t ⊎ ((theta : List (Option Tree)) × (c : ℕ) × (d : ℕ) × Matches theory rule t theta
+    IsUnmatched theory rule t
+    ⊎ ((theta : List (Option Tree)) × (c : ℕ) × (d : ℕ) × Matches theory rule t theta
     × Meets theory theta rule.condition c (fails d))
 
 -- The rule that applies matches, and its condition holds. Each rule that comes before it by
 -- priority and position is passed over.
 abbrev pub FirstApplies : Type 0
 FirstApplies =
-    (theory : RewriteTheory) (t : Tree) (c i d : ℕ) (rule : RewriteRule) (theta : List (Option Tree)) →
+    (theory : RewriteTheory) (t : Tree) (c i d : ℕ) (rule : RewriteRule)
+    (theta : List (Option Tree)) →
     IsWellSorted theory → Tries theory t 0 theory.rules c (applies i rule theta d) →
     (slice_get theory.rules i ≡ Some rule) × Matches theory rule t theta × ((b : ℕ)
     × Meets theory theta rule.condition b (holds d)) ×
     ((j : ℕ) (other : RewriteRule) → slice_get theory.rules j ≡ Some other →
-    ComesBefore (other.priority, other.place) (rule.priority, rule.place) → IsPassedOver theory t other)
+    ComesBefore (other.priority, other.place) (rule.priority, rule.place)
+    → IsPassedOver theory t other)
 
 -- If no rule applies, each is passed over.
 abbrev pub NoneApplies : Type 0
@@ -60,9 +64,11 @@ HasRun =
 -- Its configurations are normal terms of this sort, and they are not too high.
 abbrev pub ConfigurationsAreSorted : Type 0
 ConfigurationsAreSorted =
-    (theory : RewriteTheory) (calls sort n c : ℕ) (start : Pattern) (t : Tree) → IsWellSorted theory →
+    (theory : RewriteTheory) (calls sort n c : ℕ) (start : Pattern) (t : Tree) → IsWellSorted theory
+    →
     All (IsRuleOf theory.sig sort) theory.rules → HasSort theory.sig [] start sort →
-    Reaches theory start calls n t c → IsTermOf theory.sig t sort × IsNormal t × (height t ≤ most_height)
+    Reaches theory start calls n t c
+    → IsTermOf theory.sig t sort × IsNormal t × (height t ≤ most_height)
 
 -- A step has a record, if the number of calls left is at most the one with which records are
 -- judged.

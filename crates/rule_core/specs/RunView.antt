@@ -17,8 +17,9 @@ cause_of (why.Height f) = plain.too_high f.0
 cause_of (why.Nest f) = plain.too_nested f.0
 
 -- The run has this end. A run that does not start is blocked after 0 steps.
-abbrev pub EndsSo : Outcome → Run → Type 0
-EndsSo (outcome.Stuck n) run = (t : Tree) × (run ≡ stuck n t)
-EndsSo (outcome.Limit n) run = (t : Tree) × (run ≡ limited n t)
-EndsSo (outcome.Blocked n reason) run =
-    ((t : Tree) × (run ≡ stopped n (cause_of reason) t)) ⊎ ((n ≡ 0) × (run ≡ unstarted (cause_of reason)))
+abbrev pub IsEndOf : Outcome → Run → Type 0
+IsEndOf (outcome.Stuck n) run = (t : Tree) × (run ≡ stuck n t)
+IsEndOf (outcome.Limit n) run = (t : Tree) × (run ≡ limited n t)
+IsEndOf (outcome.Blocked n reason) run =
+    ((t : Tree) × (run ≡ stopped n (cause_of reason) t))
+    ⊎ ((n ≡ 0) × (run ≡ unstarted (cause_of reason)))

@@ -25,15 +25,17 @@ pub data Steps (theory : RewriteTheory) (t : Tree) (c : ℕ) : Stepped → Type 
       Steps theory t c (stops cause)
   in_right_side : {i d : ℕ} {rule : RewriteRule} {theta : List (Option Tree)} {cause : Cause} →
       Tries theory t 0 theory.rules c (applies i rule theta d) →
-      Evaluates theory most_nesting theta rule.right d (blocked cause) → Steps theory t c (stops cause)
+      Evaluates theory most_nesting theta rule.right d (blocked cause)
+      → Steps theory t c (stops cause)
 
 -- this many steps lead from the value of the initial term to this configuration, and leave this
 -- many calls
-pub data Reaches (theory : RewriteTheory) (start : Pattern) (calls : ℕ) : ℕ → Tree → ℕ → Type 0 where
+pub data Reaches (theory : RewriteTheory) (start : Pattern) (calls : ℕ) : ℕ → Tree → ℕ
+    → Type 0 where
   at_start : {t : Tree} {c : ℕ} → Evaluates theory most_nesting [] start calls (value t c) →
       Reaches theory start calls 0 t c
-  after_step : {n c d : ℕ} {t u : Tree} → Reaches theory start calls n t c → Steps theory t c (next u d) →
-      Reaches theory start calls (suc n) u d
+  after_step : {n c d : ℕ} {t u : Tree} → Reaches theory start calls n t c
+      → Steps theory t c (next u d) → Reaches theory start calls (suc n) u d
 
 -- how a run ends, after how many steps, and the last complete configuration; if the initial term
 -- has no value, there is no configuration
@@ -52,9 +54,13 @@ kept_by start (unstarted cause) = start
 
 -- The run of a term. If the limit is reached, no rule is tried.
 abbrev pub IsRunOf : RewriteTheory → ℕ → ℕ → Pattern → Run → Type 0
-IsRunOf theory limit calls start (stuck n t) = (c : ℕ) × Reaches theory start calls n t c × (n < limit)
+IsRunOf theory limit calls start (stuck n t) =
+    (c : ℕ) × Reaches theory start calls n t c × (n < limit)
     × Steps theory t c stays
-IsRunOf theory limit calls start (limited n t) = (c : ℕ) × Reaches theory start calls n t c × (n ≡ limit)
-IsRunOf theory limit calls start (stopped n cause t) = (c : ℕ) × Reaches theory start calls n t c × (n < limit)
+IsRunOf theory limit calls start (limited n t) =
+    (c : ℕ) × Reaches theory start calls n t c × (n ≡ limit)
+IsRunOf theory limit calls start (stopped n cause t) =
+    (c : ℕ) × Reaches theory start calls n t c × (n < limit)
     × Steps theory t c (stops cause)
-IsRunOf theory limit calls start (unstarted cause) = Evaluates theory most_nesting [] start calls (blocked cause)
+IsRunOf theory limit calls start (unstarted cause) =
+    Evaluates theory most_nesting [] start calls (blocked cause)

@@ -1,9 +1,11 @@
 -- Well-sorted patterns (Kore language document, "Well-formed patterns"), over the signature of a
 -- definition.
-use Rattle.std.specs.Prelude.{◌≡◌, ◌≤ℤ◌, ◌-◌, ◌^◌, ◌<◌, ℕ, ℤ, pos, neg_ℤ, IsTrue, List, [], ◌∷◌, length, slice_get, Option, Some}
+use Rattle.std.specs.Prelude.{◌≡◌, ◌≤ℤ◌, ◌-◌, ◌^◌, ◌<◌, ℕ, ℤ, pos, neg_ℤ, IsTrue, List, [], ◌∷◌}
+use Rattle.std.specs.Prelude.{length, slice_get, Option, Some}
 use Rattle.std.specs.Str.{is_utf8}
 use Rattle.term_core.specs.Terms.{DomainValue, integer, truth, text, Tree}
-use Rattle.term_core.specs.Patterns.{Pattern, Patterns, variable, domain_value, application, injection, call, no_pattern, more_patterns, ground_pattern}
+use Rattle.term_core.specs.Patterns.{Pattern, Patterns, variable, domain_value, application}
+use Rattle.term_core.specs.Patterns.{injection, call, no_pattern, more_patterns, ground_pattern}
 use Rattle.rule_core.specs.Subsorts.{IsBelow}
 use Rattle.rule_core.specs.declared.signature.Signature.{Signature}
 use Rattle.rule_core.specs.declared.signature.SortInfo.{SortInfo}
@@ -11,7 +13,8 @@ use Rattle.rule_core.specs.declared.signature.SortKind.{SortKind}
 use Rattle.rule_core.specs.declared.signature.SortKind.TheVariants as kind
 use Rattle.rule_core.specs.declared.signature.SymInfo.{SymInfo}
 use Rattle.rule_core.specs.declared.signature.SymKind.{SymKind}
-use Rattle.rule_core.specs.declared.signature.SymKind.TheVariants.{Injection, Ctor, Equations, Hooked, Closed, NoKind}
+use Rattle.rule_core.specs.declared.signature.SymKind.TheVariants.{Injection, Ctor, Equations}
+use Rattle.rule_core.specs.declared.signature.SymKind.TheVariants.{Hooked, Closed, NoKind}
 use Rattle.rule_core.specs.declared.signature.SortRef.{SortRef}
 use Rattle.rule_core.specs.declared.signature.SortRef.TheVariants.{Param, Sort}
 
@@ -85,7 +88,8 @@ abbrev mutual
   HasSort sig variables (variable x) sort = slice_get variables x ≡ Some sort
   HasSort sig variables (domain_value s v) sort = (s ≡ sort) × HasValue sig s v
   HasSort sig variables (application f ps) sort =
-      (info : SymInfo) × IsSymbol sig f info × (info.kind ≡ Ctor) × (sort_at [] info.result ≡ Some sort)
+      (info : SymInfo) × IsSymbol sig f info × (info.kind ≡ Ctor)
+      × (sort_at [] info.result ≡ Some sort)
       × HaveSorts sig variables [] ps info.args.items
   HasSort sig variables (injection a b p) sort =
       HasInjection sig × (b ≡ sort) × IsBelow sig.subsorts a b × HasSort sig variables p a
@@ -100,7 +104,8 @@ abbrev mutual
   HaveSorts sig variables sorts no_pattern (of ∷ refs) = ⊥
   HaveSorts sig variables sorts (more_patterns p ps) [] = ⊥
   HaveSorts sig variables sorts (more_patterns p ps) (of ∷ refs) =
-      (sort : ℕ) × (sort_at sorts of ≡ Some sort) × HasSort sig variables p sort × HaveSorts sig variables sorts ps refs
+      (sort : ℕ) × (sort_at sorts of ≡ Some sort) × HasSort sig variables p sort
+      × HaveSorts sig variables sorts ps refs
 
 -- the term has this sort
 abbrev pub IsTermOf : Signature → Tree → ℕ → Type 0

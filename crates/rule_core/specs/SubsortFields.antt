@@ -1,5 +1,6 @@
 -- The stored pairs, and the tables that are stored with them.
-use Rattle.std.specs.Prelude.{◌≡◌, ◌↔◌, ◌==◌, ◌||◌, ◌/◌, ◌%◌, ℕ, Bool, IsTrue, List, Vec, [], map, Contains}
+use Rattle.std.specs.Prelude.{◌≡◌, ◌↔◌, ◌==◌, ◌||◌, ◌/◌, ◌%◌, ℕ, Bool, IsTrue, List, Vec, [], map}
+use Rattle.std.specs.Prelude.{Contains}
 use Rattle.std.specs.Prelude.{slice_index_or}
 use Rattle.std.specs.Global.{Global}
 use Rattle.std.specs.Int.{bit_at}
@@ -36,7 +37,8 @@ reaches sets x a = x == a || is_in sets x a
 
 -- a set contains everything that the sets of its members contain
 abbrev pub IsClosed : List (Vec ℕ Global) → Type 0
-IsClosed sets = (x y z : ℕ) → IsTrue (is_in sets x y) → IsTrue (is_in sets y z) → IsTrue (is_in sets x z)
+IsClosed sets =
+    (x y z : ℕ) → IsTrue (is_in sets x y) → IsTrue (is_in sets y z) → IsTrue (is_in sets x z)
 
 -- the tables agree with the pairs, and no sort is below itself
 pub record IsTable (t : Inside) : Type 0 where

@@ -10,7 +10,8 @@ pub data IsBelow (pairs : List (ℕ × ℕ)) : ℕ → ℕ → Type 0 where
 abbrev pub is_below : List (ℕ × ℕ) → ℕ → ℕ → Bool
 is_below [] a b = false
 is_below (pair ∷ pairs) a b =
-    is_below pairs a b || ((a == pair.0 || is_below pairs a pair.0) && (pair.1 == b || is_below pairs pair.1 b))
+    is_below pairs a b
+    || ((a == pair.0 || is_below pairs a pair.0) && (pair.1 == b || is_below pairs pair.1 b))
 
 -- no sort is below itself
 abbrev pub HasNoCycle : List (ℕ × ℕ) → Type 0
@@ -21,4 +22,5 @@ abbrev pub IsPath : List (ℕ × ℕ) → ℕ → ℕ → List ℕ → Type 0
 IsPath pairs a b [] = ⊥
 IsPath pairs a b (s ∷ []) = ⊥
 IsPath pairs a b (s ∷ (t ∷ [])) = (s ≡ a) × (t ≡ b) × Contains pairs (a, b)
-IsPath pairs a b (s ∷ (t ∷ (u ∷ sorts))) = (s ≡ a) × Contains pairs (a, t) × IsPath pairs t b (t ∷ (u ∷ sorts))
+IsPath pairs a b (s ∷ (t ∷ (u ∷ sorts))) =
+    (s ≡ a) × Contains pairs (a, t) × IsPath pairs t b (t ∷ (u ∷ sorts))

@@ -1,5 +1,6 @@
 -- The trial of rules one by one, in their order.
-use Rattle.std.specs.Prelude.{◌≡◌, ℕ, ◌<◌, ◌≤◌, List, length, slice_get, Option, Some, All, MatchOption}
+use Rattle.std.specs.Prelude.{◌≡◌, ℕ, ◌<◌, ◌≤◌, List, length, slice_get, Option, Some, All}
+use Rattle.std.specs.Prelude.{MatchOption}
 use Rattle.term_core.specs.Terms.{Tree, no_tree, more_trees}
 use Rattle.term_core.specs.Patterns.{no_pattern, more_patterns}
 use Rattle.rule_core.specs.Rules.{RewriteRule}
@@ -15,7 +16,8 @@ NoRuleMatches sig rules from to t =
     NoneMatches sig rule.variables (more_patterns rule.left no_pattern) (more_trees t no_tree)
 
 -- the rule at i is the first from this index on that matches, and it matches with this substitution
-pub record IsFirstMatch (sig : Signature) (rules : List RewriteRule) (from : ℕ) (t : Tree) (i : ℕ) (theta : List (Option Tree)) : Type 0 where
+pub record IsFirstMatch (sig : Signature) (rules : List RewriteRule) (from : ℕ) (t : Tree) (i : ℕ)
+    (theta : List (Option Tree)) : Type 0 where
   pub rule : RewriteRule
   pub there : slice_get rules i ≡ Some rule
   pub not_before : from ≤ i
@@ -24,8 +26,10 @@ pub record IsFirstMatch (sig : Signature) (rules : List RewriteRule) (from : ℕ
 
 -- The result of a trial, in each signature that has these pairs of subsorts and in which the rules
 -- and the term have one common sort.
-abbrev pub FindsFirstMatch : List (ℕ × ℕ) → List RewriteRule → ℕ → Tree → Option (ℕ × List (Option Tree)) → Type 0
+abbrev pub FindsFirstMatch : List (ℕ × ℕ) → List RewriteRule → ℕ → Tree
+    → Option (ℕ × List (Option Tree)) → Type 0
 FindsFirstMatch pairs rules from t found =
     (sig : Signature) (sort : ℕ) → sig.subsorts ≡ pairs → All (IsRuleOf sig sort) rules →
     IsTermOf sig t sort →
-    MatchOption found (NoRuleMatches sig rules from (length rules) t) (λ hit. IsFirstMatch sig rules from t hit.0 hit.1)
+    MatchOption found (NoRuleMatches sig rules from (length rules) t)
+    (λ hit. IsFirstMatch sig rules from t hit.0 hit.1)

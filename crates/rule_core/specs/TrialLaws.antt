@@ -10,7 +10,8 @@ use Rattle.rule_core.specs.Trial.{NoRuleMatches}
 -- one that begins at the first of them.
 abbrev pub UnmatchedAreSkipped : Type 0
 UnmatchedAreSkipped =
-    (theory : RewriteTheory) (t : Tree) (from count calls : ℕ) (r : Trial) → from + count ≤ length theory.rules →
+    (theory : RewriteTheory) (t : Tree) (from count calls : ℕ) (r : Trial)
+    → from + count ≤ length theory.rules →
     NoRuleMatches theory.sig theory.rules from (from + count) t →
     Tries theory t (from + count) (drop (from + count) theory.rules) calls r →
     Tries theory t from (drop from theory.rules) calls r

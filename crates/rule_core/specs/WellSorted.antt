@@ -1,20 +1,24 @@
 -- Well-sorted theories: what holds of an accepted definition, and what matching, evaluation and
 -- runs require.
-use Rattle.std.specs.Prelude.{◌≡◌, ℕ, ◌<◌, ◌≤◌, List, [], ◌∷◌, length, slice_get, Option, Some, IsSome, IfSome, All, ◌⊎◌, map}
+use Rattle.std.specs.Prelude.{◌≡◌, ℕ, ◌<◌, ◌≤◌, List, [], ◌∷◌, length, slice_get, Option, Some}
+use Rattle.std.specs.Prelude.{IsSome, IfSome, All, ◌⊎◌, map}
 use Rattle.term_core.specs.Terms.{Tree, height}
-use Rattle.term_core.specs.Patterns.{Pattern, Patterns, variable, domain_value, application, injection, call, no_pattern, more_patterns, binding}
-use Rattle.term_core.specs.HookValues.{Hook, Kind, integers, truths, hooks, argument_kinds, result_kind}
+use Rattle.term_core.specs.Patterns.{Pattern, Patterns, variable, domain_value, application}
+use Rattle.term_core.specs.Patterns.{injection, call, no_pattern, more_patterns, binding}
+use Rattle.term_core.specs.HookValues.{Hook, Kind, integers, truths, hooks, argument_kinds}
+use Rattle.term_core.specs.HookValues.{result_kind}
 use Rattle.rule_core.specs.Rules.{RewriteRule, Equation, ComesBefore}
 use Rattle.rule_core.specs.Theories.{RewriteTheory, equations_of}
 use Rattle.rule_core.specs.Subsorts.{IsBelow, HasNoCycle}
-use Rattle.rule_core.specs.Matching.{StandsIn, StandsInSome, RespectsSorts}
+use Rattle.rule_core.specs.Matching.{OccursIn, OccursInSome, RespectsSorts}
 use Rattle.rule_core.specs.Evaluation.{most_height}
 use Rattle.rule_core.specs.Sorting.{HasSort, HaveSorts, IsSymbol, sort_at}
 use Rattle.rule_core.specs.declared.signature.Signature.{Signature}
 use Rattle.rule_core.specs.declared.signature.SortInfo.{SortInfo}
 use Rattle.rule_core.specs.declared.signature.SortKind.TheVariants as kind
 use Rattle.rule_core.specs.declared.signature.SymInfo.{SymInfo}
-use Rattle.rule_core.specs.declared.signature.SymKind.TheVariants.{Injection, Ctor, Equations, Hooked}
+use Rattle.rule_core.specs.declared.signature.SymKind.TheVariants.{Injection, Ctor, Equations}
+use Rattle.rule_core.specs.declared.signature.SymKind.TheVariants.{Hooked}
 use Rattle.rule_core.specs.declared.signature.SortRef.{SortRef}
 use Rattle.rule_core.specs.declared.signature.SortRef.TheVariants.{Param, Sort}
 
@@ -53,8 +57,10 @@ IsPair sig pair = (pair.0 < length sig.sorts) × (pair.1 < length sig.sorts)
 
 pub record IsSignature (sig : Signature) : Type 0 where
   pub declared : (f : ℕ) (info : SymInfo) → IsSymbol sig f info → IsDeclaration sig info
-  pub injections : (f : ℕ) (info : SymInfo) → IsSymbol sig f info → info.kind ≡ Injection → IsInjectionDeclaration info
-  pub constructors : (f : ℕ) (info : SymInfo) → IsSymbol sig f info → info.kind ≡ Ctor → info.params ≡ 0
+  pub injections : (f : ℕ) (info : SymInfo) → IsSymbol sig f info → info.kind ≡ Injection
+      → IsInjectionDeclaration info
+  pub constructors : (f : ℕ) (info : SymInfo) → IsSymbol sig f info → info.kind ≡ Ctor
+      → info.params ≡ 0
   pub pairs : All (IsPair sig) sig.subsorts
   pub no_cycle : HasNoCycle sig.subsorts
 
@@ -95,12 +101,13 @@ pub record FitsHook (sig : Signature) (row : ℕ) (info : SymInfo) : Type 0 wher
 
 -- each variable that occurs in the pattern occurs in one of these
 abbrev pub UsesOnly : Patterns → Pattern → Type 0
-UsesOnly ps p = (x : ℕ) → StandsIn x p → StandsInSome x ps
+UsesOnly ps p = (x : ℕ) → OccursIn x p → OccursInSome x ps
 
 -- the condition has a sort of truth values, and uses only variables of these patterns
 abbrev pub IsCondition : Signature → List ℕ → Patterns → Pattern → Type 0
 IsCondition sig variables ps p =
-    (sort : ℕ) × (name : List ℕ) × (info : SortInfo) × (slice_get sig.sorts sort ≡ Some (name, info))
+    (sort : ℕ) × (name : List ℕ) × (info : SortInfo)
+    × (slice_get sig.sorts sort ≡ Some (name, info))
     × (info.kind ≡ kind.Bool) × HasSort sig variables p sort × UsesOnly ps p
 
 -- a rule on terms of this sort
@@ -108,7 +115,8 @@ pub record IsRuleOf (sig : Signature) (sort : ℕ) (rule : RewriteRule) : Type 0
   pub variables : All (λ s. s < length sig.sorts) rule.variables
   pub left : HasSort sig rule.variables rule.left sort
   pub no_call : HasNoCall rule.left
-  pub condition : IfSome rule.condition (IsCondition sig rule.variables (more_patterns rule.left no_pattern))
+  pub condition : IfSome rule.condition
+      (IsCondition sig rule.variables (more_patterns rule.left no_pattern))
   pub right : HasSort sig rule.variables rule.right sort
   pub bound : UsesOnly (more_patterns rule.left no_pattern) rule.right
 
@@ -130,23 +138,27 @@ AreInOrder (first ∷ later) = All (ComesBefore first) later × AreInOrder later
 
 pub record IsWellSorted (theory : RewriteTheory) : Type 0 where
   pub signature : IsSignature theory.sig
-  pub hooked : (f row : ℕ) (info : SymInfo) → IsSymbol theory.sig f info → info.kind ≡ Hooked (record { 0 = row }) →
-      FitsHook theory.sig row info
-  pub functions : (f : ℕ) (info : SymInfo) → IsSymbol theory.sig f info → info.kind ≡ Equations → info.params ≡ 0
+  pub hooked : (f row : ℕ) (info : SymInfo) → IsSymbol theory.sig f info
+      → info.kind ≡ Hooked (record { 0 = row }) → FitsHook theory.sig row info
+  pub functions : (f : ℕ) (info : SymInfo) → IsSymbol theory.sig f info → info.kind ≡ Equations
+      → info.params ≡ 0
   pub one_sort : (theory.rules ≡ []) ⊎ ((sort : ℕ) × All (IsRuleOf theory.sig sort) theory.rules)
   pub rules_in_order : AreInOrder (map (λ (r : RewriteRule). (r.priority, r.place)) theory.rules)
   pub listed : length theory.equations ≡ length theory.sig.symbols
   pub equations : (f : ℕ) (info : SymInfo) → IsSymbol theory.sig f info →
       All (IsEquationOf theory.sig info) (equations_of theory f)
-  pub equations_in_order : (f : ℕ) → AreInOrder (map (λ (e : Equation). (e.priority, e.place)) (equations_of theory f))
+  pub equations_in_order : (f : ℕ)
+      → AreInOrder (map (λ (e : Equation). (e.priority, e.place)) (equations_of theory f))
 
 -- the substitution binds each variable of the pattern, and maybe other variables, to a normal term
 -- of the variable's sort that is not too high
-pub record Serves (sig : Signature) (variables : List ℕ) (theta : List (Option Tree)) (p : Pattern) : Type 0 where
-  pub bound : (x : ℕ) → StandsIn x p → IsSome (binding theta x)
+pub record BindsVariablesOf (sig : Signature) (variables : List ℕ) (theta : List (Option Tree))
+    (p : Pattern) : Type 0 where
+  pub bound : (x : ℕ) → OccursIn x p → IsSome (binding theta x)
   pub sorted : RespectsSorts sig variables theta
   pub low : (x : ℕ) (t : Tree) → binding theta x ≡ Some t → height t ≤ most_height
 
 -- the initial term of a run: it has no variable, and its sort is that of the rules
 abbrev pub IsStart : RewriteTheory → Pattern → Type 0
-IsStart theory start = (sort : ℕ) × HasSort theory.sig [] start sort × All (IsRuleOf theory.sig sort) theory.rules
+IsStart theory start =
+    (sort : ℕ) × HasSort theory.sig [] start sort × All (IsRuleOf theory.sig sort) theory.rules

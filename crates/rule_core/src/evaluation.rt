@@ -1,7 +1,12 @@
 // Laws of evaluation, of its records and of runs, and the definitions tested on small theories.
 ghost use Rattle.rule_core.specs.EvaluationCases.{TriedEvaluations};
-ghost use Rattle.rule_core.specs.EvaluationLaws.{CallsFall, EvaluationHasAnswer, EvaluationIsUnique, MoreLeftKeepsValue, RecordDetermines, RecordTells, RecordsAgree, ValueHasRecord, ValuesAreSorted};
-ghost use Rattle.rule_core.specs.RunLaws.{ConfigurationsAreSorted, FirstApplies, HasRun, NoneApplies, RunIsUnique, StepHasRecord, StepIsUnique, StepRecordDetermines, TrialIsUnique};
+ghost use Rattle.rule_core.specs.EvaluationLaws.{CallsFall, EvaluationHasAnswer};
+ghost use Rattle.rule_core.specs.EvaluationLaws.{EvaluationIsUnique, MoreLeftKeepsValue};
+ghost use Rattle.rule_core.specs.EvaluationLaws.{RecordDetermines, RecordTells, RecordsAgree};
+ghost use Rattle.rule_core.specs.EvaluationLaws.{ValueHasRecord, ValuesAreSorted};
+ghost use Rattle.rule_core.specs.RunLaws.{ConfigurationsAreSorted, FirstApplies, HasRun};
+ghost use Rattle.rule_core.specs.RunLaws.{NoneApplies, RunIsUnique, StepHasRecord, StepIsUnique};
+ghost use Rattle.rule_core.specs.RunLaws.{StepRecordDetermines, TrialIsUnique};
 
 /// Has no effect at run time. It states that evaluation in a well-sorted theory is a function. A
 /// pattern that has a sort has exactly one answer under a substitution that gives its variables

@@ -1,6 +1,7 @@
 // Laws of the order of sorts, of matching and of trials.
 ghost use Rattle.rule_core.specs.SubsortLaws.{BelowIsTested};
-ghost use Rattle.rule_core.specs.MatchLaws.{SortedUseFirst, InstancesAreSorted, MatchIsUnique, MatchIsDecidable};
+ghost use Rattle.rule_core.specs.MatchLaws.{SortedUseFirst, InstancesAreSorted, MatchIsUnique};
+ghost use Rattle.rule_core.specs.MatchLaws.{MatchIsDecidable};
 ghost use Rattle.rule_core.specs.TrialLaws.{UnmatchedAreSkipped};
 
 /// Has no effect at run time. It states that the test `is_below` decides whether one sort is below

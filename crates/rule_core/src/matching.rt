@@ -1,12 +1,15 @@
 // Matching of patterns with terms: the substitution under which a pattern becomes a term.
-ghost use Rattle.std.specs.Prelude.{ℕ, ◌≡◌, ◌+◌, ◌<◌, ◌≤◌, ◌==◌, ◌||◌, if◌then◌else◌, length, IfOk, None};
-ghost use Rattle.term_core.specs.Terms.{inj, no_tree, more_trees, forest, children, height, IsNoInjection};
+ghost use Rattle.std.specs.Prelude.{ℕ, ◌≡◌, ◌+◌, ◌<◌, ◌≤◌, ◌==◌, ◌||◌, if◌then◌else◌, length, IfOk};
+ghost use Rattle.std.specs.Prelude.{None};
+ghost use Rattle.term_core.specs.Terms.{inj, no_tree, more_trees, forest, children, height};
+ghost use Rattle.term_core.specs.Terms.{IsNoInjection};
 ghost use Rattle.term_core.specs.Patterns.{binding, no_pattern, more_patterns};
 ghost use Rattle.term_core.specs.RulePatterns.{plain_pattern};
 ghost use Rattle.term_core.specs.PatternLists.{plain_patterns};
-ghost use Rattle.rule_core.specs.Matching.{StandsIn, UseFirst};
+ghost use Rattle.rule_core.specs.Matching.{OccursIn, UseFirst};
 ghost use Rattle.rule_core.specs.MatchSearch.{FindsMatch, nodes, all_nodes};
-ghost use Rattle.rule_core.specs.MatchSteps.{lowered, bound_to, matched, all_matched, Answers};
+ghost use Rattle.rule_core.specs.MatchSteps.{lowered, bound_to, matched, all_matched};
+ghost use Rattle.rule_core.specs.MatchSteps.{AgreesWithSearch};
 ghost use Rattle.rule_core.specs.Subsorts.{is_below};
 
 use crate::Subsorts;
@@ -28,7 +31,8 @@ pub fn find_match<L: Ledger>(
     steps: &mut Steps<L>,
 ) -> Result<Option<Subst>, AllocError>
     requires { UseFirst vars (more_patterns (plain_pattern pat.now) no_pattern) }
-    ensures found { IfOk result (FindsMatch subsorts.now vars (more_patterns (plain_pattern pat.now) no_pattern) (more_trees term.now no_tree)) }
+    ensures found { IfOk result (FindsMatch subsorts.now vars
+        (more_patterns (plain_pattern pat.now) no_pattern) (more_trees term.now no_tree)) }
     ensures looks { steps.new ≤ steps.old + nodes (plain_pattern pat.now) }
 {
     // A term is normal, and no sort is below itself.
@@ -53,7 +57,8 @@ pub fn find_match_all<L: Ledger>(
 ) -> Result<Option<Subst>, AllocError>
     requires scoped { UseFirst vars (plain_patterns pats.now) }
     requires count { length pats.now ≡ length terms.now }
-    ensures found { IfOk result (FindsMatch subsorts.now vars (plain_patterns pats.now) (forest terms.now)) }
+    ensures found { IfOk result
+        (FindsMatch subsorts.now vars (plain_patterns pats.now) (forest terms.now)) }
     ensures looks { steps.new ≤ steps.old + all_nodes (plain_patterns pats.now) }
 {
     // Terms are normal, and no sort is below itself.
@@ -78,9 +83,10 @@ fn match_term<L: Ledger>(
     subst: &mut Subst,
     steps: &mut Steps<L>,
 ) -> Result<bool, AllocError>
-    requires { (x : ℕ) → StandsIn x (plain_pattern pat.now) → x < length subst.old }
+    requires { (x : ℕ) → OccursIn x (plain_pattern pat.now) → x < length subst.old }
     ensures room { length subst.new ≡ length subst.old }
-    ensures found { IfOk result (λ yes. Answers (matched subsorts.now (plain_pattern pat.now) term.now subst.old) yes subst.new) }
+    ensures found { IfOk result (λ yes. AgreesWithSearch
+        (matched subsorts.now (plain_pattern pat.now) term.now subst.old) yes subst.new) }
     ensures looks { steps.new ≤ steps.old + nodes (plain_pattern pat.now) }
 {
     match pat {
@@ -122,7 +128,9 @@ fn match_children<L: Ledger>(
     requires scoped { UseFirst (length subst.old) (plain_patterns pats.now) }
     requires count { length pats.now ≡ length (children term.now) }
     ensures room { length subst.new ≡ length subst.old }
-    ensures found { IfOk result (λ yes. Answers (all_matched subsorts.now (plain_patterns pats.now) (forest (children term.now)) subst.old) yes subst.new) }
+    ensures found { IfOk result (λ yes. AgreesWithSearch
+        (all_matched subsorts.now (plain_patterns pats.now) (forest (children term.now)) subst.old)
+        yes subst.new) }
     ensures looks { steps.new ≤ steps.old + all_nodes (plain_patterns pats.now) }
 {
     for i in 0..pats.len() {
@@ -147,11 +155,11 @@ fn match_lowered<L: Ledger>(
     subst: &mut Subst,
     steps: &mut Steps<L>,
 ) -> Result<bool, AllocError>
-    requires scoped { (x : ℕ) → StandsIn x (plain_pattern pat.now) → x < length subst.old }
+    requires scoped { (x : ℕ) → OccursIn x (plain_pattern pat.now) → x < length subst.old }
     requires low { height child.now < MAX_HEIGHT }
     requires other { IsNoInjection child.now }
     ensures room { length subst.new ≡ length subst.old }
-    ensures found { IfOk result (λ yes. Answers
+    ensures found { IfOk result (λ yes. AgreesWithSearch
         (if from.0 == to.0 || is_below subsorts.now from.0 to.0
         then matched subsorts.now (plain_pattern pat.now) (lowered from.0 to.0 child.now) subst.old
         else None)
@@ -180,11 +188,13 @@ fn match_injected<L: Ledger>(
     subst: &mut Subst,
     steps: &mut Steps<L>,
 ) -> Result<bool, AllocError>
-    requires scoped { (x : ℕ) → StandsIn x (plain_pattern pat.now) → x < length subst.old }
+    requires scoped { (x : ℕ) → OccursIn x (plain_pattern pat.now) → x < length subst.old }
     requires low { height child.now < MAX_HEIGHT }
     requires other { IsNoInjection child.now }
     ensures room { length subst.new ≡ length subst.old }
-    ensures found { IfOk result (λ yes. Answers (matched subsorts.now (plain_pattern pat.now) (inj from.0 to.0 child.now) subst.old) yes subst.new) }
+    ensures found { IfOk result (λ yes. AgreesWithSearch
+        (matched subsorts.now (plain_pattern pat.now) (inj from.0 to.0 child.now) subst.old) yes
+        subst.new) }
     ensures looks { steps.new ≤ steps.old + nodes (plain_pattern pat.now) }
 {
     match pat {
@@ -200,7 +210,8 @@ fn match_injected<L: Ledger>(
 fn bind_term(var: u32, term: &Term, subst: &mut Subst) -> Result<bool, AllocError>
     requires { var < length subst.old }
     ensures room { length subst.new ≡ length subst.old }
-    ensures found { IfOk result (λ yes. Answers (bound_to term.now var subst.old (binding subst.old var)) yes subst.new) }
+    ensures found { IfOk result (λ yes.
+        AgreesWithSearch (bound_to term.now var subst.old (binding subst.old var)) yes subst.new) }
 {
     if let Some(known) = subst.get(var) {
         return Ok(known.same(term));
@@ -223,7 +234,9 @@ fn bind_injected(
     requires low { height child.now < MAX_HEIGHT }
     requires other { IsNoInjection child.now }
     ensures room { length subst.new ≡ length subst.old }
-    ensures found { IfOk result (λ yes. Answers (bound_to (inj from.0 to.0 child.now) var subst.old (binding subst.old var)) yes subst.new) }
+    ensures found { IfOk result (λ yes. AgreesWithSearch
+        (bound_to (inj from.0 to.0 child.now) var subst.old (binding subst.old var)) yes
+        subst.new) }
 {
     if let Some(known) = subst.get(var) {
         return Ok(known.same_inj(from, to, child));

@@ -1,7 +1,8 @@
 // Sets of sorts, one for each sort. A set is a list of words of 64 bits. Bit s % 64 of the word s /
 // 64 says whether the set contains the sort with the number s. A set does not contain the sorts
 // past its end.
-ghost use Rattle.std.specs.Prelude.{ℕ, ◌≡◌, ◌<◌, ◌≤◌, ◌/◌, ◌==◌, ◌||◌, ◌&&◌, length, vec_len, false, OnOk, OnErr, IfOk};
+ghost use Rattle.std.specs.Prelude.{ℕ, ◌≡◌, ◌<◌, ◌≤◌, ◌/◌, ◌==◌, ◌||◌, ◌&&◌, length, vec_len};
+ghost use Rattle.std.specs.Prelude.{false, OnOk, OnErr, IfOk};
 ghost use Rattle.std.specs.Prelude.{IsTrue};
 ghost use Rattle.rule_core.specs.SubsortFields.{word_at, has, set_at, is_in, reaches, IsClosed};
 
@@ -77,7 +78,8 @@ pub(crate) fn join(
     requires { IsClosed rows.old.items }
     ensures same { OnErr result ((x y : ℕ) → is_in rows.new.items x y ≡ is_in rows.old.items x y) }
     ensures joined { OnOk result ((x y : ℕ) → is_in rows.new.items x y
-        ≡ (is_in rows.old.items x y || (reaches rows.old.items x a.0 && (b.0 == y || is_in rows.old.items b.0 y)))) }
+        ≡ (is_in rows.old.items x y
+        || (reaches rows.old.items x a.0 && (b.0 == y || is_in rows.old.items b.0 y)))) }
 {
     if is_in(rows, a, b) {
         return Ok(());
@@ -93,7 +95,8 @@ pub(crate) fn join(
 fn widen(rows: &mut Vec<Vec<u64>>, a: SortId, len: usize) -> Result<(), AllocError>
     ensures same { (x y : ℕ) → is_in rows.new.items x y ≡ is_in rows.old.items x y }
     ensures count { vec_len rows.new ≡ vec_len rows.old }
-    ensures long { OnOk result ((x : ℕ) → x < vec_len rows.new → IsTrue (reaches rows.old.items x a.0) → len ≤ length (set_at rows.new.items x)) }
+    ensures long { OnOk result ((x : ℕ) → x < vec_len rows.new
+        → IsTrue (reaches rows.old.items x a.0) → len ≤ length (set_at rows.new.items x)) }
 {
     for x in 0..rows.len() {
         if leads(rows, x, a) {
@@ -107,10 +110,13 @@ fn widen(rows: &mut Vec<Vec<u64>>, a: SortId, len: usize) -> Result<(), AllocErr
 // already contains all of them.
 fn merge(rows: &mut Vec<Vec<u64>>, a: SortId, b: SortId, more: &[u64])
     requires there { a.0 < vec_len rows.old }
-    requires long { (x : ℕ) → x < vec_len rows.old → IsTrue (reaches rows.old.items x a.0) → length more.now ≤ length (set_at rows.old.items x) }
+    requires long { (x : ℕ) → x < vec_len rows.old → IsTrue (reaches rows.old.items x a.0)
+        → length more.now ≤ length (set_at rows.old.items x) }
     requires known { (x y : ℕ) → IsTrue (is_in rows.old.items x b.0) → IsTrue (has more.now y)
         → IsTrue (is_in rows.old.items x y) }
-    ensures { (x y : ℕ) → is_in rows.new.items x y ≡ (is_in rows.old.items x y || (reaches rows.old.items x a.0 && has more.now y)) }
+    ensures { (x y : ℕ)
+        → is_in rows.new.items x y
+        ≡ (is_in rows.old.items x y || (reaches rows.old.items x a.0 && has more.now y)) }
 {
     let from = first_word(more);
     for x in 0..rows.len() {
@@ -136,7 +142,8 @@ fn first_word(set: &[u64]) -> usize
 fn gets(rows: &[Vec<u64>], x: usize, a: SortId, b: SortId) -> bool
     requires { x < length rows.now }
     ensures leads { IsTrue result → IsTrue (reaches rows.now x a.0) }
-    ensures known { result ≡ false → IsTrue (reaches rows.now x a.0) → IsTrue (is_in rows.now x b.0) }
+    ensures known { result ≡ false → IsTrue (reaches rows.now x a.0)
+        → IsTrue (is_in rows.now x b.0) }
 {
     leads(rows, x, a) && !has(&rows[x], b)
 }

@@ -1,5 +1,6 @@
 // The order of a definition's sorts.
-ghost use Rattle.std.specs.Prelude.{◌≡◌, ◌↔◌, ◌⊎◌, ◌++◌, ◌∷◌, IsTrue, [], Contains, IsSome, IfSome, IfOk, OnErr};
+ghost use Rattle.std.specs.Prelude.{◌≡◌, ◌↔◌, ◌⊎◌, ◌++◌, ◌∷◌, IsTrue, [], Contains, IsSome, IfSome};
+ghost use Rattle.std.specs.Prelude.{IfOk, OnErr};
 ghost use Rattle.std.specs.Prelude.{if◌then◌else◌};
 ghost use Rattle.term_core.specs.RulePatterns.{sort_numbers};
 ghost use Rattle.rule_core.specs.Subsorts.{IsBelow, HasNoCycle, IsPath};
@@ -127,8 +128,10 @@ impl Subsorts {
     /// a chain of 10,000 sorts, in order, reversed or shuffled, cost some hundred million steps in
     /// all.
     pub fn add(&mut self, alloc: Global, a: SortId, b: SortId) -> Result<bool, AllocError>
-        ensures fresh { IfOk result (λ added. IsTrue added ↔ HasNoCycle (self.old ++ (a.0, b.0) ∷ [])) }
-        ensures pairs { IfOk result (λ added. self.new ≡ (if added then self.old ++ (a.0, b.0) ∷ [] else self.old)) }
+        ensures fresh { IfOk result
+            (λ added. IsTrue added ↔ HasNoCycle (self.old ++ (a.0, b.0) ∷ [])) }
+        ensures pairs { IfOk result
+            (λ added. self.new ≡ (if added then self.old ++ (a.0, b.0) ∷ [] else self.old)) }
         ensures err { OnErr result (self.new ≡ self.old) }
     {
         if a == b || self.below(b, a) {

@@ -1,5 +1,7 @@
 // Names with their numbers and values.
-ghost use Rattle.std.specs.Prelude.{◌≡◌, ◌+◌, ◌^◌, ◌<◌, [], ◌∷◌, ◌++◌, length, OnErr, IfOk, IsNone, slice_get, option_copied, option_map, string_bytes, is_none, if◌then◌else◌, ◌==◌};
+ghost use Rattle.std.specs.Prelude.{◌≡◌, ◌+◌, ◌^◌, ◌<◌, [], ◌∷◌, ◌++◌, length, OnErr, IfOk, IsNone};
+ghost use Rattle.std.specs.Prelude.{slice_get, option_copied, option_map, string_bytes, is_none};
+ghost use Rattle.std.specs.Prelude.{if◌then◌else◌, ◌==◌};
 ghost use Rattle.rule_core.specs.Named.{number_of, names_of, AreDistinct};
 
 use std::alloc::{AllocError, Global};
@@ -89,8 +91,10 @@ impl<V: Drop> Table<V> {
     /// changes either. It costs a look-up and a copy of the name, and sometimes a move of all
     /// entries to larger memory.
     pub fn insert(&mut self, name: String, value: V) -> Result<bool, AllocError>
-        ensures fresh { IfOk result (λ added. added ≡ is_none (number_of self.old (string_bytes name))) }
-        ensures entries { IfOk result (λ added. self.new ≡ (if added then self.old ++ (string_bytes name, value) ∷ [] else self.old)) }
+        ensures fresh { IfOk result
+            (λ added. added ≡ is_none (number_of self.old (string_bytes name))) }
+        ensures entries { IfOk result (λ added.
+            self.new ≡ (if added then self.old ++ (string_bytes name, value) ∷ [] else self.old)) }
         ensures err { OnErr result (self.new ≡ self.old) }
     {
         if self.number(name.as_str()).is_some() {

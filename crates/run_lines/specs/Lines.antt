@@ -1,11 +1,13 @@
 -- The two lines of a run: its end, and what it keeps.
-use Rattle.std.specs.Prelude.{ℕ, List, [], ◌∷◌, ◌++◌, Option, option_map, unwrap_or, slice_get, codes, decimal}
+use Rattle.std.specs.Prelude.{ℕ, List, [], ◌∷◌, ◌++◌, Option, option_map, unwrap_or, slice_get}
+use Rattle.std.specs.Prelude.{codes, decimal}
 use Rattle.kore_text.specs.Trees.{PatternTree}
 use Rattle.kore_print.specs.CanonicalText.{canonical_text}
 use Rattle.kore_show.specs.KorePatterns.{declared_name, kore_pattern}
 use Rattle.term_core.specs.HookValues.{Hook, hooks}
 use Rattle.term_core.specs.Patterns.{Pattern}
-use Rattle.rule_core.specs.Evaluation.{Cause, no_value, closed, no_equation, no_call_left, too_high, too_nested}
+use Rattle.rule_core.specs.Evaluation.{Cause, no_value, closed, no_equation, no_call_left, too_high}
+use Rattle.rule_core.specs.Evaluation.{too_nested}
 use Rattle.rule_core.specs.Runs.{Run, stuck, limited, stopped, unstarted, kept_by}
 use Rattle.rule_core.specs.declared.signature.Signature.{Signature}
 
@@ -38,7 +40,8 @@ cause_name sig (too_nested f) = symbol_name sig f
 -- `blocked N CAUSE NAME`
 abbrev pub blocked_line : Signature → ℕ → Cause → List ℕ
 blocked_line sig n cause =
-    codes "blocked " ++ (decimal n ++ (codes " " ++ (cause_word cause ++ (codes " " ++ cause_name sig cause))))
+    codes "blocked "
+    ++ (decimal n ++ (codes " " ++ (cause_word cause ++ (codes " " ++ cause_name sig cause))))
 
 -- `stuck N`, `limit N` or `blocked N CAUSE NAME`; a run that does not start is blocked after 0
 -- steps

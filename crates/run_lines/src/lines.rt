@@ -1,6 +1,6 @@
 // The two lines of a run.
 ghost use Rattle.std.specs.Prelude.{◌≡◌, IsSome, IfOk, Some};
-ghost use Rattle.kore_ast.specs.Plain.{plain_pattern as kore_tree};
+ghost use Rattle.kore_ast.specs.Plain.{pattern_tree as kore_tree};
 ghost use Rattle.term_core.specs.RulePatterns.{plain_pattern};
 ghost use Rattle.term_core.specs.Patterns.{ground_pattern};
 ghost use Rattle.kore_show.specs.KorePatterns.{kore_pattern};
@@ -50,7 +50,8 @@ fn kept_pattern(
 ) -> Result<Pat, AllocError>
     requires { IsSome (kept_pattern sig.now (plain_pattern start.now) (plain_run end.now)) }
     ensures { IfOk result
-        (λ p. kept_pattern sig.now (plain_pattern start.now) (plain_run end.now) ≡ Some (kore_tree p)) }
+        (λ p. kept_pattern sig.now (plain_pattern start.now) (plain_run end.now)
+        ≡ Some (kore_tree p)) }
 {
     match end {
         RunEnd::Stuck(_, last) | RunEnd::Limit(_, last) | RunEnd::Blocked(_, _, last) => {
@@ -63,7 +64,8 @@ fn kept_pattern(
 // The Kore pattern of a term.
 fn shown_term(alloc: Global, sig: &Signature, term: &Term) -> Result<Pat, AllocError>
     requires { IsSome (kore_pattern sig.now (ground_pattern term.now)) }
-    ensures { IfOk result (λ p. kore_pattern sig.now (ground_pattern term.now) ≡ Some (kore_tree p)) }
+    ensures { IfOk result
+        (λ p. kore_pattern sig.now (ground_pattern term.now) ≡ Some (kore_tree p)) }
 {
     let pattern = pattern_of(alloc, term)?;
     shown(alloc, sig, &pattern)

@@ -25,7 +25,8 @@ pub fn run(
 ) -> Result<RunEnd, AllocError>
     requires { IsStartOf (theory_of engine.now) (plain_pattern start.now) }
     ensures run { IfOk result
-        (λ end. IsRunOf (theory_of engine.now) limit calls (plain_pattern start.now) (plain_run end)) }
+        (λ end. IsRunOf (theory_of engine.now) limit calls (plain_pattern start.now)
+        (plain_run end)) }
     ensures sorted { IfOk result (λ end. IsSortedEnd (theory_of engine.now) (plain_run end)) }
 {
     let mut run = match Run::new_as::<Unrecorded>(alloc, engine, start, calls) {

@@ -19,11 +19,11 @@ use Rattle.proof_writer.specs.PlainNames.{HasPlainNames}
 use Rattle.prove_run.specs.RunProof.{RunProof, reached}
 use Rattle.prove_run.specs.Proving.{FitsProof, StepsTo}
 use Rattle.run_proof.specs.declared.steps.ProvedSteps.{ProvedSteps}
-use Rattle.run_proof.specs.declared.steps.Left.{Left}
-use Rattle.run_proof.specs.declared.steps.Beginning.{Beginning}
-use Rattle.run_proof.specs.declared.steps.Beginning.TheVariants as beginning
-use Rattle.run_proof.specs.declared.steps.Going.{Going}
-use Rattle.run_proof.specs.declared.steps.Going.TheVariants as going
+use Rattle.run_proof.specs.declared.steps.ProofRest.{ProofRest}
+use Rattle.run_proof.specs.declared.steps.StartResult.{StartResult}
+use Rattle.run_proof.specs.declared.steps.StartResult.TheVariants as beginning
+use Rattle.run_proof.specs.declared.steps.StepResult.{StepResult}
+use Rattle.run_proof.specs.declared.steps.StepResult.TheVariants as going
 
 -- the run of this initial term by this program can be proved
 pub record IsReady (program : Program) (start : Pattern) : Type 0 where
@@ -32,7 +32,8 @@ pub record IsReady (program : Program) (start : Pattern) : Type 0 where
   pub is_start : IsStart (theory_of program) start
 
 -- a proof for this program and this start has reached a configuration, and the text fits it
-pub record IsProofAt (program : Program) (start at : Pattern) (proof : RunProof) (text : List ℕ) : Type 0 where
+pub record IsProofAt (program : Program) (start at : Pattern) (proof : RunProof) (text : List ℕ) :
+    Type 0 where
   pub same_program : proof.program ≡ program
   pub same_start : plain_pattern proof.start ≡ start
   pub is_reached : reached proof ≡ at
@@ -47,68 +48,71 @@ IsProvedRun program start written s =
 
 -- the same, from the proof's own start
 abbrev pub IsAtStep : Program → ProvedSteps → Type 0
-IsAtStep program s = (written : List ℕ) × IsProvedRun program (plain_pattern s.proof.start) written s
+IsAtStep program s =
+    (written : List ℕ) × IsProvedRun program (plain_pattern s.proof.start) written s
 
 -- what is left of a proof and of its text
-pub record IsLeftOf (proof : RunProof) (text : List ℕ) (left : Left) : Type 0 where
+pub record IsLeftOf (proof : RunProof) (text : List ℕ) (left : ProofRest) : Type 0 where
   pub same_text : left.text.items ≡ text
   pub same_facts : left.facts ≡ proof.facts
   pub same_statements : left.statements ≡ proof.statements
 
 -- the text that is left justifies the run of a term without a value, and it has these counts
-pub record JustifiesNoStep (program : Program) (start : Pattern) (left : Left) : Type 0 where
+pub record JustifiesNoStep (program : Program) (start : Pattern) (left : ProofRest) : Type 0 where
   pub justifies : JustifiesRun left.text.items (theory_of program) start start
   pub counts : HasCounts left.facts left.statements left.text.items
 
 -- the run of a term begins with the term's value, or the term has no value
-abbrev pub BeginsRun : Program → Pattern → ℕ → Beginning → Type 0
+abbrev pub BeginsRun : Program → Pattern → ℕ → StartResult → Type 0
 BeginsRun program start calls (beginning.Begun s) =
-    Reaches (theory_of program) start calls 0 s.run.config s.run.calls × IsProvedRun program start [] s
+    Reaches (theory_of program) start calls 0 s.run.config s.run.calls
+    × IsProvedRun program start [] s
 BeginsRun program start calls (beginning.Unstarted why left) =
     Evaluates (theory_of program) most_nesting [] start calls (blocked (cause_of why))
     × JustifiesNoStep program start left
 
 -- the proof has reached the configuration of a run without steps
-abbrev pub BeginsAt : Program → Pattern → RunState → Beginning → Type 0
+abbrev pub BeginsAt : Program → Pattern → RunState → StartResult → Type 0
 BeginsAt program start run (beginning.Begun s) =
     (s.run ≡ run) × IsProofAt program start (ground_pattern run.config) s.proof s.text.items
 BeginsAt program start run (beginning.Unstarted why left) = ⊥
 
 -- the term has no value, and the proof states its run
-abbrev pub IsUnstarted : Program → Pattern → Blocked → Beginning → Type 0
+abbrev pub IsUnstarted : Program → Pattern → Blocked → StartResult → Type 0
 IsUnstarted program start why (beginning.Begun s) = ⊥
 IsUnstarted program start why (beginning.Unstarted because left) =
     (because ≡ why) × JustifiesNoStep program start left
 
 -- the run and its proof have made a step, which is the step of the definition; or no step can be
 -- made
-abbrev pub GoesOn : Program → ProvedSteps → Going → Type 0
-GoesOn program old (going.Further new) =
+abbrev pub ContinuesRun : Program → ProvedSteps → StepResult → Type 0
+ContinuesRun program old (going.Further new) =
     Steps (theory_of program) old.run.config old.run.calls (next new.run.config new.run.calls)
     × ((start : Pattern) (written : List ℕ) → IsProvedRun program start written old →
     IsProvedRun program start written new)
-GoesOn program old (going.Stuck last left) =
+ContinuesRun program old (going.Stuck last left) =
     Steps (theory_of program) old.run.config old.run.calls stays × (last ≡ old.run.config)
     × IsLeftOf old.proof old.text.items left
-GoesOn program old (going.Blocked why last left) =
-    Steps (theory_of program) old.run.config old.run.calls (stops (cause_of why)) × (last ≡ old.run.config)
+ContinuesRun program old (going.Blocked why last left) =
+    Steps (theory_of program) old.run.config old.run.calls (stops (cause_of why))
+    × (last ≡ old.run.config)
     × IsLeftOf old.proof old.text.items left
 
 -- a proof was continued to the configuration of a run
-abbrev pub IsFurther : RunState → RunProof → List ℕ → Going → Type 0
+abbrev pub IsFurther : RunState → RunProof → List ℕ → StepResult → Type 0
 IsFurther run proof text (going.Further new) =
     (new.run ≡ run) × StepsTo proof new.proof run.config text new.text.items
 IsFurther run proof text (going.Stuck last left) = ⊥
 IsFurther run proof text (going.Blocked why last left) = ⊥
 
 -- what is left of a run that is stuck
-abbrev pub IsStuckAt : Tree → RunProof → List ℕ → Going → Type 0
+abbrev pub IsStuckAt : Tree → RunProof → List ℕ → StepResult → Type 0
 IsStuckAt config proof text (going.Further new) = ⊥
 IsStuckAt config proof text (going.Stuck last left) = (last ≡ config) × IsLeftOf proof text left
 IsStuckAt config proof text (going.Blocked why last left) = ⊥
 
 -- what is left of a run that is blocked
-abbrev pub IsBlockedAt : Blocked → Tree → RunProof → List ℕ → Going → Type 0
+abbrev pub IsBlockedAt : Blocked → Tree → RunProof → List ℕ → StepResult → Type 0
 IsBlockedAt why config proof text (going.Further new) = ⊥
 IsBlockedAt why config proof text (going.Stuck last left) = ⊥
 IsBlockedAt why config proof text (going.Blocked because last left) =

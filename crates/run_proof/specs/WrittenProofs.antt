@@ -15,7 +15,8 @@ pub record IsSummaryOf (bytes : List ℕ) (summary : Summary) : Type 0 where
 
 -- the created file grew by a database that justifies the run, from the initial term to what the run
 -- keeps, and that has these counts
-abbrev pub WritesProof : Option Told → Option Told → RewriteTheory → Pattern → Run → Summary → Type 0
+abbrev pub WritesProof : Option Told → Option Told → RewriteTheory → Pattern → Run → Summary
+    → Type 0
 WritesProof old new theory start run summary =
     (text : List ℕ) × Writes old new text × JustifiesRun text theory start (kept_by start run)
     × IsSummaryOf text summary

@@ -5,12 +5,12 @@ ghost use Rattle.rule_core.specs.BoundVariables.{HasBoundVariables};
 ghost use Rattle.rule_core.specs.ProgramView.{theory_of};
 ghost use Rattle.rule_core.specs.Runs.{IsRunOf};
 ghost use Rattle.rule_core.specs.WellSorted.{IsStart};
-ghost use Rattle.desk_io.specs.Counts.{Rose};
+ghost use Rattle.desk_io.specs.Counts.{CountRose};
 ghost use Rattle.proof_writer.specs.PlainNames.{HasPlainNames};
 ghost use Rattle.run_loop.specs.RunEnds.{plain_run, IsSortedEnd};
 ghost use Rattle.run_proof.specs.WrittenProofs.{WritesFrontOfProof, WritesProof};
 
-use crate::steps::{Beginning, Going, proved_beginning, proved_step};
+use crate::steps::{StartResult, StepResult, proved_beginning, proved_step};
 use crate::summaries::Summary;
 use crate::writing::{at_limit, ended, hand_on};
 use desk_io::{Desk, DeskFault};
@@ -49,22 +49,23 @@ pub fn proved_run<'p, D: Desk>(
     ensures front { OnErr result (WritesFrontOfProof (D.told desk.old) (D.told desk.new)
         (theory_of engine.now) (plain_pattern start.now)) }
     ensures created { IsTrue (D.created desk.new) }
-    ensures failed { IsErrOf result DeskFault.Failed → Rose (D.write_faults desk.old) (D.write_faults desk.new) }
+    ensures failed { IsErrOf result DeskFault.Failed
+        → CountRose (D.write_faults desk.old) (D.write_faults desk.new) }
     ensures counts { D.write_faults desk.old ≤ D.write_faults desk.new }
     ensures reads { D.read_faults desk.new ≡ D.read_faults desk.old }
 {
     let mut steps = match proved_beginning(alloc, engine, start, calls)? {
-        Beginning::Begun(steps) => steps,
-        Beginning::Unstarted(why, left) => return ended(desk, 0, &left, RunEnd::Unstarted(why)),
+        StartResult::Begun(steps) => steps,
+        StartResult::Unstarted(why, left) => return ended(desk, 0, &left, RunEnd::Unstarted(why)),
     };
     let mut written = 0;
     for made in 0..limit {
         match proved_step(alloc, engine, steps)? {
-            Going::Further(further) => steps = further,
-            Going::Stuck(last, left) => {
+            StepResult::Further(further) => steps = further,
+            StepResult::Stuck(last, left) => {
                 return ended(desk, written, &left, RunEnd::Stuck(made, last));
             }
-            Going::Blocked(why, last, left) => {
+            StepResult::Blocked(why, last, left) => {
                 return ended(desk, written, &left, RunEnd::Blocked(made, why, last));
             }
         }

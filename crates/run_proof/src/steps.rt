@@ -6,7 +6,8 @@ ghost use Rattle.rule_core.specs.Records.{Records, result_of};
 ghost use Rattle.rule_core.specs.RecordView.{plain_record, plain_step};
 ghost use Rattle.prove_run.specs.Proving.{CanStep};
 ghost use Rattle.run_proof.specs.ProvedSteps.{BeginsAt, BeginsRun, IsReady, IsUnstarted};
-ghost use Rattle.run_proof.specs.ProvedSteps.{GoesOn, IsAtStep, IsBlockedAt, IsFurther, IsLeftOf, IsStuckAt};
+ghost use Rattle.run_proof.specs.ProvedSteps.{ContinuesRun, IsAtStep, IsBlockedAt, IsFurther};
+ghost use Rattle.run_proof.specs.ProvedSteps.{IsLeftOf, IsStuckAt};
 
 use fun_eval::{Engine, EvalEnd};
 use prove_run::Proof;
@@ -26,18 +27,18 @@ pub(crate) struct ProvedSteps<'p> {
 /// What is left at the end of a proof: the part of its text that is not yet written, and the counts
 /// of the whole text.
 #[derive(Drop)]
-pub(crate) struct Left {
+pub(crate) struct ProofRest {
     pub(crate) text: Vec<u8>,
     pub(crate) facts: u64,
     pub(crate) statements: u64,
 }
 
-impl Left {
+impl ProofRest {
     /// What is left of a proof if `text` is the part that is not yet written.
-    pub(crate) fn of(proof: &Proof<'_>, text: Vec<u8>) -> Left
+    pub(crate) fn of(proof: &Proof<'_>, text: Vec<u8>) -> ProofRest
         ensures { IsLeftOf proof.now text.items result }
     {
-        Left {
+        ProofRest {
             text,
             facts: proof.facts(),
             statements: proof.statements(),
@@ -47,23 +48,23 @@ impl Left {
 
 /// The result of beginning the run of an initial term.
 #[derive(Drop)]
-pub(crate) enum Beginning<'p> {
+pub(crate) enum StartResult<'p> {
     /// Its run, without steps.
     Begun(ProvedSteps<'p>),
     /// The term has no value.
-    Unstarted(Blocked, Left),
+    Unstarted(Blocked, ProofRest),
 }
 
 /// The result of a step. If no step is made, the last configuration and the rest of the proof are
 /// left.
 #[derive(Drop)]
-pub(crate) enum Going<'p> {
+pub(crate) enum StepResult<'p> {
     /// The step was made.
     Further(ProvedSteps<'p>),
     /// No rule applies.
-    Stuck(Term, Left),
+    Stuck(Term, ProofRest),
     /// The next step is blocked.
-    Blocked(Blocked, Term, Left),
+    Blocked(Blocked, Term, ProofRest),
 }
 
 /// The run of an initial term up to its value, with at most this many calls of functions.
@@ -73,7 +74,7 @@ pub(crate) fn proved_beginning<'p>(
     engine: &Engine<'p>,
     start: &'p RulePat,
     calls: u32,
-) -> Result<Beginning<'p>, AllocError>
+) -> Result<StartResult<'p>, AllocError>
     requires { IsReady engine.now (plain_pattern start.now) }
     ensures { IfOk result (BeginsRun engine.now (plain_pattern start.now) calls) }
 {
@@ -93,15 +94,16 @@ fn begun<'p>(
     start: &'p RulePat,
     run: Run,
     evaluation: &EvalRecord,
-) -> Result<Beginning<'p>, AllocError>
+) -> Result<StartResult<'p>, AllocError>
     requires ready { IsReady engine.now (plain_pattern start.now) }
-    requires recorded { Records (theory_of engine.now) [] (plain_pattern start.now) (plain_record evaluation.now) }
+    requires recorded { Records (theory_of engine.now) [] (plain_pattern start.now)
+        (plain_record evaluation.now) }
     requires value { result_of (plain_record evaluation.now) ≡ run.config }
     ensures { IfOk result (BeginsAt engine.now (plain_pattern start.now) run) }
 {
     let mut text = Vec::new(alloc);
     let proof = Proof::begin(alloc, engine.program(), start, Some(evaluation), &mut text)?;
-    Ok(Beginning::Begun(ProvedSteps { run, proof, text }))
+    Ok(StartResult::Begun(ProvedSteps { run, proof, text }))
 }
 
 // The run of a term that has no value.
@@ -110,13 +112,13 @@ fn unstarted<'p>(
     engine: &Engine<'p>,
     start: &'p RulePat,
     why: Blocked,
-) -> Result<Beginning<'p>, AllocError>
+) -> Result<StartResult<'p>, AllocError>
     requires { IsReady engine.now (plain_pattern start.now) }
     ensures { IfOk result (IsUnstarted engine.now (plain_pattern start.now) why) }
 {
     let mut text = Vec::new(alloc);
     let proof = Proof::begin(alloc, engine.program(), start, None, &mut text)?;
-    Ok(Beginning::Unstarted(why, Left::of(&proof, text)))
+    Ok(StartResult::Unstarted(why, ProofRest::of(&proof, text)))
 }
 
 /// The next step of a run, and its proof. `AllocError`: out of memory.
@@ -124,9 +126,9 @@ pub(crate) fn proved_step<'p>(
     alloc: Global,
     engine: &Engine<'p>,
     steps: ProvedSteps<'p>,
-) -> Result<Going<'p>, AllocError>
+) -> Result<StepResult<'p>, AllocError>
     requires { IsAtStep engine.now steps }
-    ensures { IfOk result (GoesOn engine.now steps.entry) }
+    ensures { IfOk result (ContinuesRun engine.now steps.entry) }
 {
     let ProvedSteps {
         mut run,
@@ -148,14 +150,14 @@ fn further<'p>(
     proof: Proof<'p>,
     step: &StepRecord,
     text: Vec<u8>,
-) -> Result<Going<'p>, AllocError>
+) -> Result<StepResult<'p>, AllocError>
     requires applies { CanStep proof (plain_step step.now) }
     requires makes { result_of (plain_step step.now).right ≡ run.config }
     ensures { IfOk result (IsFurther run proof.entry text.items) }
 {
     let mut longer = text;
     let further = proof.step(alloc, step, &mut longer)?;
-    Ok(Going::Further(ProvedSteps {
+    Ok(StepResult::Further(ProvedSteps {
         run,
         proof: further,
         text: longer,
@@ -163,10 +165,10 @@ fn further<'p>(
 }
 
 // A run that is stuck.
-fn stuck<'p>(run: &Run, proof: &Proof<'p>, text: Vec<u8>) -> Result<Going<'p>, AllocError>
+fn stuck<'p>(run: &Run, proof: &Proof<'p>, text: Vec<u8>) -> Result<StepResult<'p>, AllocError>
     ensures { IfOk result (IsStuckAt run.now.config proof.now text.items) }
 {
-    Ok(Going::Stuck(run.config().share()?, Left::of(proof, text)))
+    Ok(StepResult::Stuck(run.config().share()?, ProofRest::of(proof, text)))
 }
 
 // A run that is blocked.
@@ -175,9 +177,9 @@ fn blocked<'p>(
     run: &Run,
     proof: &Proof<'p>,
     text: Vec<u8>,
-) -> Result<Going<'p>, AllocError>
+) -> Result<StepResult<'p>, AllocError>
     ensures { IfOk result (IsBlockedAt why run.now.config proof.now text.items) }
 {
     let last = run.config().share()?;
-    Ok(Going::Blocked(why, last, Left::of(proof, text)))
+    Ok(StepResult::Blocked(why, last, ProofRest::of(proof, text)))
 }

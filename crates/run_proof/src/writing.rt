@@ -1,12 +1,12 @@
 // The text of a proof, appended to the created file.
 ghost use Rattle.std.specs.Prelude.{◌≡◌, ◌≤◌, IsTrue, IfOk, OnOk, OnErr, IsErrOf};
 ghost use Rattle.desk_io.specs.Told.{Writes, WritesFront};
-ghost use Rattle.desk_io.specs.Counts.{Rose};
+ghost use Rattle.desk_io.specs.Counts.{CountRose};
 ghost use Rattle.rule_core.specs.Runs as the_run;
 ghost use Rattle.run_loop.specs.RunEnds.{plain_run};
 ghost use Rattle.run_proof.specs.HandedOn.{SumsUp, WritesPiece};
 
-use crate::steps::{Left, ProvedSteps};
+use crate::steps::{ProofRest, ProvedSteps};
 use crate::summaries::Summary;
 use desk_io::{Desk, DeskFault, write_whole};
 use run_loop::RunEnd;
@@ -17,10 +17,12 @@ const PIECE: usize = 65_536;
 /// Writes the text if it is long, and then empties it. Returns how many bytes were written.
 pub(crate) fn hand_on<D: Desk>(desk: &mut D, text: &mut Vec<u8>) -> Result<u64, DeskFault>
     requires file { IsTrue (D.created desk.old) }
-    ensures piece { IfOk result (WritesPiece (D.told desk.old) (D.told desk.new) text.old.items text.new.items) }
+    ensures piece { IfOk result
+        (WritesPiece (D.told desk.old) (D.told desk.new) text.old.items text.new.items) }
     ensures front { OnErr result (WritesFront (D.told desk.old) (D.told desk.new) text.old.items) }
     ensures created { IsTrue (D.created desk.new) }
-    ensures failed { IsErrOf result DeskFault.Failed → Rose (D.write_faults desk.old) (D.write_faults desk.new) }
+    ensures failed { IsErrOf result DeskFault.Failed
+        → CountRose (D.write_faults desk.old) (D.write_faults desk.new) }
     ensures counts { D.write_faults desk.old ≤ D.write_faults desk.new }
     ensures reads { D.read_faults desk.new ≡ D.read_faults desk.old }
 {
@@ -37,16 +39,19 @@ pub(crate) fn hand_on<D: Desk>(desk: &mut D, text: &mut Vec<u8>) -> Result<u64, 
 pub(crate) fn ended<D: Desk>(
     desk: &mut D,
     written: u64,
-    left: &Left,
+    left: &ProofRest,
     end: RunEnd,
 ) -> Result<(RunEnd, Summary), DeskFault>
     requires file { IsTrue (D.created desk.old) }
     ensures end { IfOk result (λ r. r.0 ≡ end) }
-    ensures sums { IfOk result (λ r. SumsUp left.now.facts left.now.statements written left.now.text.items r.1) }
+    ensures sums { IfOk result
+        (λ r. SumsUp left.now.facts left.now.statements written left.now.text.items r.1) }
     ensures text { OnOk result (Writes (D.told desk.old) (D.told desk.new) left.now.text.items) }
-    ensures front { OnErr result (WritesFront (D.told desk.old) (D.told desk.new) left.now.text.items) }
+    ensures front { OnErr result
+        (WritesFront (D.told desk.old) (D.told desk.new) left.now.text.items) }
     ensures created { IsTrue (D.created desk.new) }
-    ensures failed { IsErrOf result DeskFault.Failed → Rose (D.write_faults desk.old) (D.write_faults desk.new) }
+    ensures failed { IsErrOf result DeskFault.Failed
+        → CountRose (D.write_faults desk.old) (D.write_faults desk.new) }
     ensures counts { D.write_faults desk.old ≤ D.write_faults desk.new }
     ensures reads { D.read_faults desk.new ≡ D.read_faults desk.old }
 {
@@ -69,16 +74,19 @@ pub(crate) fn at_limit<D: Desk>(
     requires file { IsTrue (D.created desk.old) }
     ensures end { IfOk result (λ r. plain_run r.0 ≡ the_run.limited limit steps.entry.run.config) }
     ensures sums { IfOk result (λ r.
-        SumsUp steps.entry.proof.facts steps.entry.proof.statements written steps.entry.text.items r.1) }
+        SumsUp steps.entry.proof.facts steps.entry.proof.statements written steps.entry.text.items
+        r.1) }
     ensures text { OnOk result (Writes (D.told desk.old) (D.told desk.new) steps.entry.text.items) }
-    ensures front { OnErr result (WritesFront (D.told desk.old) (D.told desk.new) steps.entry.text.items) }
+    ensures front { OnErr result
+        (WritesFront (D.told desk.old) (D.told desk.new) steps.entry.text.items) }
     ensures created { IsTrue (D.created desk.new) }
-    ensures failed { IsErrOf result DeskFault.Failed → Rose (D.write_faults desk.old) (D.write_faults desk.new) }
+    ensures failed { IsErrOf result DeskFault.Failed
+        → CountRose (D.write_faults desk.old) (D.write_faults desk.new) }
     ensures counts { D.write_faults desk.old ≤ D.write_faults desk.new }
     ensures reads { D.read_faults desk.new ≡ D.read_faults desk.old }
 {
     let ProvedSteps { run, proof, text } = steps;
     let last = run.config().share()?;
-    let left = Left::of(&proof, text);
+    let left = ProofRest::of(&proof, text);
     ended(desk, written, &left, RunEnd::Limit(limit, last))
 }

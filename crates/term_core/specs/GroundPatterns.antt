@@ -1,5 +1,6 @@
 -- Patterns with exactly one instance. The laws are about these.
-use Rattle.term_core.specs.Patterns.{Pattern, Patterns, variable, domain_value, application, injection, call, no_pattern, more_patterns}
+use Rattle.term_core.specs.Patterns.{Pattern, Patterns, variable, domain_value, application}
+use Rattle.term_core.specs.Patterns.{injection, call, no_pattern, more_patterns}
 
 -- the pattern has no variable and no call of a function
 abbrev mutual

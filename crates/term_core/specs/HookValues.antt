@@ -1,7 +1,10 @@
 -- The hooks on whole numbers and truth values (K framework, "domains.md"): the value of each at its
 -- arguments. Whole numbers are mathematical integers. If the result of a hook is a whole number, it
 -- must be from -2^127 to 2^127 - 1.
-use Rattle.std.specs.Prelude.{ℕ, ◌-◌, ◌^◌, ℤ, pos, negsuc, ◌+ℤ◌, ◌-ℤ◌, ◌*ℤ◌, int_lt, int_le, int_div, int_rem, unsigned_abs, bit_and, bit_or, bit_xor, Bool, not, ◌&&◌, ◌||◌, if◌then◌else◌, List, [], ◌∷◌, Option, Some, None, Result, Ok, Err, codes, slice_get, option_map}
+use Rattle.std.specs.Prelude.{ℕ, ◌-◌, ◌^◌, ℤ, pos, negsuc, ◌+ℤ◌, ◌-ℤ◌, ◌*ℤ◌, int_lt, int_le}
+use Rattle.std.specs.Prelude.{int_div, int_rem, unsigned_abs, bit_and, bit_or, bit_xor, Bool, not}
+use Rattle.std.specs.Prelude.{◌&&◌, ◌||◌, if◌then◌else◌, List, [], ◌∷◌, Option, Some, None, Result}
+use Rattle.std.specs.Prelude.{Ok, Err, codes, slice_get, option_map}
 use Rattle.std.specs.Int.{int_min, int_max, int_div_euclid, int_rem_euclid}
 use Rattle.std.specs.Ordering.{int_eq}
 use Rattle.term_core.specs.Terms.{DomainValue, integer, truth}
@@ -12,7 +15,8 @@ use Rattle.term_core.specs.declared.values.NoValue.TheVariants.{ZeroDivisor, Neg
 
 -- the number, if it is in the range
 abbrev pub in_range : ℤ → Result ℤ NoValue
-in_range z = if int_le (pos 0 -ℤ pos (2 ^ 127)) z && int_lt z (pos (2 ^ 127)) then Ok z else Err Range
+in_range z =
+    if int_le (pos 0 -ℤ pos (2 ^ 127)) z && int_lt z (pos (2 ^ 127)) then Ok z else Err Range
 
 -- the result of a division, by the divisor
 abbrev pub unless_zero : ℤ → Result ℤ NoValue → Result ℤ NoValue
@@ -91,8 +95,10 @@ hooks =
     ∷ hook (codes "INT.or") (on_integers (λ x y. Ok (bitwise_or x y)))
     ∷ hook (codes "INT.xor") (on_integers (λ x y. Ok (bitwise_xor x y)))
     ∷ hook (codes "INT.not") (on_integer (λ x. Ok (complement x)))
-    ∷ hook (codes "INT.shl") (on_integers (λ x y. unless_negative y (in_range (x *ℤ pos (2 ^ unsigned_abs y)))))
-    ∷ hook (codes "INT.shr") (on_integers (λ x y. unless_negative y (Ok (int_div_euclid x (pos (2 ^ unsigned_abs y))))))
+    ∷ hook (codes "INT.shl")
+    (on_integers (λ x y. unless_negative y (in_range (x *ℤ pos (2 ^ unsigned_abs y)))))
+    ∷ hook (codes "INT.shr")
+    (on_integers (λ x y. unless_negative y (Ok (int_div_euclid x (pos (2 ^ unsigned_abs y))))))
     ∷ hook (codes "BOOL.and") (on_truths (λ a b. a && b))
     ∷ hook (codes "BOOL.or") (on_truths (λ a b. a || b))
     ∷ hook (codes "BOOL.xor") (on_truths (λ a b. if a then not b else b))
@@ -131,15 +137,21 @@ pub record Signature : Type 0 where
   pub result : Kind
 
 abbrev pub signature : Hook → Signature
-signature h = record { name = h.name; arguments = argument_kinds h.operation; result = result_kind h.operation }
+signature h = record {
+  name = h.name;
+  arguments = argument_kinds h.operation;
+  result = result_kind h.operation;
+}
 
 -- the kinds of the arguments of the hook with this number, if there is one
 abbrev pub hook_arguments : ℕ → Option (List Kind)
-hook_arguments number = option_map (λ (h : Hook). argument_kinds h.operation) (slice_get hooks number)
+hook_arguments number =
+    option_map (λ (h : Hook). argument_kinds h.operation) (slice_get hooks number)
 
 -- ---- the value of a hook
 
-abbrev pub outcome : {A : Type 0} → (A → DomainValue) → Result A NoValue → Result DomainValue NoValue
+abbrev pub outcome : {A : Type 0} → (A → DomainValue) → Result A NoValue
+    → Result DomainValue NoValue
 outcome make (Ok a) = Ok (make a)
 outcome make (Err reason) = Err reason
 

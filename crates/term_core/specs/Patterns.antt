@@ -1,8 +1,10 @@
 -- Patterns of rules (Kore language document, "Patterns"): terms with variables and calls of
 -- functions. Variables are numbers too. A substitution is a list, indexed by the variables'
 -- numbers. It has the term of each variable that is bound.
-use Rattle.std.specs.Prelude.{ℕ, List, [], ◌∷◌, Option, Some, None, option_map, slice_index_or, IsSomeAnd, ◌≤◌}
-use Rattle.term_core.specs.Terms.{DomainValue, Tree, leaf, node, inj, Forest, no_tree, more_trees, height, IsNormal, injected}
+use Rattle.std.specs.Prelude.{ℕ, List, [], ◌∷◌, Option, Some, None, option_map, slice_index_or}
+use Rattle.std.specs.Prelude.{IsSomeAnd, ◌≤◌}
+use Rattle.term_core.specs.Terms.{DomainValue, Tree, leaf, node, inj, Forest, no_tree, more_trees}
+use Rattle.term_core.specs.Terms.{height, IsNormal, injected}
 
 -- `call` has the symbol of a function, its sort arguments, and its arguments.
 mutual
@@ -50,7 +52,8 @@ abbrev mutual
 
   pub all_substituted : List (Option Tree) → Patterns → Option Forest
   all_substituted theta no_pattern = Some no_tree
-  all_substituted theta (more_patterns p ps) = with_first (substituted theta p) (all_substituted theta ps)
+  all_substituted theta (more_patterns p ps) =
+      with_first (substituted theta p) (all_substituted theta ps)
 
 -- The same tree, but two injections in a row are joined when the tree is built. If the terms of the
 -- substitution are normal, it is the normal form of `substituted`.

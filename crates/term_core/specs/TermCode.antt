@@ -2,9 +2,11 @@
 -- trees differ.
 use Rattle.std.specs.Prelude.{◌≡◌, refl, ℕ, ℤ, Bool, List, [], ◌∷◌, ◌⊎◌}
 use Rattle.std.proofs.Common.{inl, inr, ◌∙◌, ap}
-use Rattle.std.specs.Coded.{Coded, code_by, coded×, coded⊎, coded_ℕ, coded_ℤ, coded_bool, coded_list}
+use Rattle.std.specs.Coded.{Coded, code_by, coded×, coded⊎, coded_ℕ, coded_ℤ, coded_bool}
+use Rattle.std.specs.Coded.{coded_list}
 use base.Stored.{coded_unit}
-use Rattle.term_core.specs.Terms.{DomainValue, integer, truth, text, Tree, leaf, node, inj, Forest, no_tree, more_trees}
+use Rattle.term_core.specs.Terms.{DomainValue, integer, truth, text, Tree, leaf, node, inj, Forest}
+use Rattle.term_core.specs.Terms.{no_tree, more_trees}
 
 abbrev value_cases : DomainValue → ℤ ⊎ (Bool ⊎ List ℕ)
 value_cases (integer n) = inl n
@@ -23,7 +25,8 @@ value_of_cases-value_cases (text bytes) = refl
 
 abbrev pub value_code : Coded DomainValue
 value_code =
-    code_by (ℤ ⊎ (Bool ⊎ List ℕ)) (coded⊎ coded_ℤ (coded⊎ coded_bool (coded_list coded_ℕ))) value_cases value_of_cases value_of_cases-value_cases
+    code_by (ℤ ⊎ (Bool ⊎ List ℕ)) (coded⊎ coded_ℤ (coded⊎ coded_bool (coded_list coded_ℕ)))
+    value_cases value_of_cases value_of_cases-value_cases
 
 -- A token begins a list of arguments, or is a leaf, or ends a constructor's arguments, or ends an
 -- injection.
@@ -63,12 +66,15 @@ read_all [] fs = fs
 read_all (k ∷ ks) fs = read_all ks (read_token k fs)
 
 mutual
-  read_all-tokens : (t : Tree) (rest : List Token) (f : Forest) (fs : List Forest) → read_all (tokens t rest) (f ∷ fs) ≡ read_all rest (more_trees t f ∷ fs)
+  read_all-tokens : (t : Tree) (rest : List Token) (f : Forest) (fs : List Forest)
+      → read_all (tokens t rest) (f ∷ fs) ≡ read_all rest (more_trees t f ∷ fs)
   read_all-tokens (leaf s v) rest f fs = refl
   read_all-tokens (node s ts) rest f fs = read_all-all_tokens ts (inr (inl s) ∷ rest) (f ∷ fs)
-  read_all-tokens (inj a b t) rest f fs = read_all-tokens t (inr (inr (a, b)) ∷ rest) no_tree (f ∷ fs)
+  read_all-tokens (inj a b t) rest f fs =
+      read_all-tokens t (inr (inr (a, b)) ∷ rest) no_tree (f ∷ fs)
 
-  read_all-all_tokens : (ts : Forest) (rest : List Token) (fs : List Forest) → read_all (all_tokens ts rest) (no_tree ∷ fs) ≡ read_all rest (ts ∷ fs)
+  read_all-all_tokens : (ts : Forest) (rest : List Token) (fs : List Forest)
+      → read_all (all_tokens ts rest) (no_tree ∷ fs) ≡ read_all rest (ts ∷ fs)
   read_all-all_tokens no_tree rest fs = refl
   read_all-all_tokens (more_trees t ts) rest fs =
       read_all-all_tokens ts (tokens t rest) fs ∙ read_all-tokens t rest ts fs
@@ -84,4 +90,5 @@ first_tree-tokens t = ap first_tree (read_all-tokens t [] no_tree [])
 
 abbrev pub tree_code : Coded Tree
 tree_code =
-    code_by (List Token) (coded_list token_code) (λ t. tokens t []) (λ ks. first_tree (read_all ks (no_tree ∷ []))) first_tree-tokens
+    code_by (List Token) (coded_list token_code) (λ t. tokens t [])
+    (λ ks. first_tree (read_all ks (no_tree ∷ []))) first_tree-tokens

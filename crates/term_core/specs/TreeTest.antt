@@ -2,7 +2,8 @@
 use Rattle.std.specs.Prelude.{◌==◌, ◌&&◌, Bool, true, false, not}
 use Rattle.std.specs.Ordering.{int_eq}
 use Rattle.std.specs.Str.{bytes_eq}
-use Rattle.term_core.specs.Terms.{DomainValue, integer, truth, text, Tree, leaf, node, inj, Forest, no_tree, more_trees}
+use Rattle.term_core.specs.Terms.{DomainValue, integer, truth, text, Tree, leaf, node, inj, Forest}
+use Rattle.term_core.specs.Terms.{no_tree, more_trees}
 
 abbrev pub truth_eq : Bool → Bool → Bool
 truth_eq true b = b

@@ -1,7 +1,9 @@
 // The terms that patterns become when their variables are replaced by terms.
-ghost use Rattle.std.specs.Prelude.{ℕ, ◌≡◌, ◌↔◌, ◌+◌, ◌-◌, ◌≤◌, [], length, IfOk, IsTrue, Some, option_map};
+ghost use Rattle.std.specs.Prelude.{ℕ, ◌≡◌, ◌↔◌, ◌+◌, ◌-◌, ◌≤◌, [], length, IfOk, IsTrue, Some};
+ghost use Rattle.std.specs.Prelude.{option_map};
 ghost use Rattle.term_core.specs.Terms.{forest, children, injected, norm, size, sizes};
-ghost use Rattle.term_core.specs.Patterns.{injection, substituted, instance_of, instances_of, FitsWithin};
+ghost use Rattle.term_core.specs.Patterns.{injection, substituted, instance_of, instances_of};
+ghost use Rattle.term_core.specs.Patterns.{FitsWithin};
 ghost use Rattle.term_core.specs.RulePatterns.{plain_pattern};
 ghost use Rattle.term_core.specs.PatternLists.{AllFitWithin, plain_patterns};
 
@@ -17,7 +19,8 @@ use crate::terms::{MAX_HEIGHT, Term, View};
 pub fn instance(alloc: Global, pat: &RulePat, subst: &Subst) -> Result<Term, AllocError>
     requires { FitsWithin MAX_HEIGHT subst.now (plain_pattern pat.now) }
     ensures instance { IfOk result (λ t. instance_of subst.now (plain_pattern pat.now) ≡ Some t) }
-    ensures norm { IfOk result (λ t. option_map norm (substituted subst.now (plain_pattern pat.now)) ≡ Some t) }
+    ensures norm { IfOk result
+        (λ t. option_map norm (substituted subst.now (plain_pattern pat.now)) ≡ Some t) }
 {
     // The terms of the substitution are normal. So only the injections of the pattern may have to
     // be joined.
@@ -53,7 +56,8 @@ fn build(alloc: Global, pat: &RulePat, subst: &Subst) -> Result<Term, AllocError
 #[cycle(build)]
 fn build_all(alloc: Global, pats: &[RulePat], subst: &Subst) -> Result<Vec<Term>, AllocError>
     requires { AllFitWithin (MAX_HEIGHT - 1) subst.now (plain_patterns pats.now) }
-    ensures { IfOk result (λ ts. instances_of subst.now (plain_patterns pats.now) ≡ Some (forest ts.items)) }
+    ensures { IfOk result
+        (λ ts. instances_of subst.now (plain_patterns pats.now) ≡ Some (forest ts.items)) }
 {
     let mut terms = Vec::with_capacity(alloc, pats.len())?;
     for pat in pats {
@@ -96,7 +100,8 @@ fn all_fit_within(pats: &[RulePat], subst: &Subst, limit: u32) -> bool
 // Whether the injection of the pattern's instance has a height of at most `limit`.
 #[cycle(fits_within)]
 fn injection_fits_within(pat: &RulePat, subst: &Subst, limit: u32) -> bool
-    ensures { (a b : ℕ) → IsTrue result ↔ FitsWithin limit subst.now (injection a b (plain_pattern pat.now)) }
+    ensures { (a b : ℕ) → IsTrue result
+        ↔ FitsWithin limit subst.now (injection a b (plain_pattern pat.now)) }
 {
     match pat {
         RulePat::Var(var) => match subst.get(*var) {
@@ -139,7 +144,8 @@ pub fn is_instance<L: Ledger>(pat: &RulePat, term: &Term, steps: &mut Steps<L>) 
 #[cycle(is_instance)]
 fn are_instances<L: Ledger>(pats: &[RulePat], term: &Term, steps: &mut Steps<L>) -> bool
     requires { length pats.now ≡ length (children term.now) }
-    ensures instances { IsTrue result ↔ (instances_of [] (plain_patterns pats.now) ≡ Some (forest (children term.now))) }
+    ensures instances { IsTrue result
+        ↔ (instances_of [] (plain_patterns pats.now) ≡ Some (forest (children term.now))) }
     ensures looks { steps.new ≤ steps.old + sizes (forest (children term.now)) }
 {
     for i in 0..pats.len() {
@@ -160,7 +166,9 @@ fn is_injected<L: Ledger>(
     term: &Term,
     steps: &mut Steps<L>,
 ) -> bool
-    ensures instance { IsTrue result ↔ (option_map (injected from.0 to.0) (instance_of [] (plain_pattern pat.now)) ≡ Some term.now) }
+    ensures instance { IsTrue result
+        ↔ (option_map (injected from.0 to.0) (instance_of [] (plain_pattern pat.now))
+        ≡ Some term.now) }
     ensures looks { steps.new ≤ steps.old + size term.now }
 {
     if let RulePat::Inj(first, _, below) = pat {

@@ -55,7 +55,8 @@ fn copied(alloc: Global, term: &Term) -> Result<RulePat, AllocError>
 #[cycle(copied)]
 fn copied_children(alloc: Global, term: &Term, count: usize) -> Result<Vec<RulePat>, AllocError>
     requires { count ≡ length (children term.now) }
-    ensures { IfOk result (λ ps. plain_patterns ps.items ≡ ground_patterns (forest (children term.now))) }
+    ensures { IfOk result
+        (λ ps. plain_patterns ps.items ≡ ground_patterns (forest (children term.now))) }
 {
     let mut pats = Vec::with_capacity(alloc, count)?;
     for i in 0..count {

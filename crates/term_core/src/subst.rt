@@ -1,5 +1,6 @@
 // Substitutions.
-ghost use Rattle.std.specs.Prelude.{◌≡◌, ◌<◌, length, replicate, slice_set, option_copied, IfOk, Some, None};
+ghost use Rattle.std.specs.Prelude.{◌≡◌, ◌<◌, length, replicate, slice_set, option_copied, IfOk};
+ghost use Rattle.std.specs.Prelude.{Some, None};
 ghost use Rattle.term_core.specs.Patterns.{binding, AreNormalBindings};
 
 use crate::terms::Term;

@@ -13,4 +13,5 @@ abbrev pub decreases-patterns::MPat::same-loop-same : goal.decreases-patterns::M
 decreases-patterns::MPat::same-loop-same l = forms_in l.p
 
 abbrev pub invariant-patterns::MPat::same-loop-same : goal.invariant-patterns::MPat::same-loop-same
-invariant-patterns::MPat::same-loop-same l = ((l.p ≡ l.q) ↔ (l.fn.self ≡ l.fn.other)) × (forms_in l.p ≤ forms_in l.fn.self)
+invariant-patterns::MPat::same-loop-same l =
+    ((l.p ≡ l.q) ↔ (l.fn.self ≡ l.fn.other)) × (forms_in l.p ≤ forms_in l.fn.self)

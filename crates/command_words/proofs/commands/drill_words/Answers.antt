@@ -1,4 +1,5 @@
-use Rattle.std.proofs.Common.{◌≡◌, ◌∙◌, sym, ap, subst, List, ℕ, map, string_bytes, Option, is_some, option_map, option_copied, codes, false}
+use Rattle.std.proofs.Common.{◌≡◌, ◌∙◌, sym, ap, subst, List, ℕ, map, string_bytes, Option, is_some}
+use Rattle.std.proofs.Common.{option_map, option_copied, codes, false}
 use Rattle.std.specs.Option.{option_map_or}
 use Rattle.std.specs.Str.Parse.{digits_value}
 use Rattle.clap.specs.Simple.{App}
@@ -11,28 +12,46 @@ use Rattle.command_words.proofs.commands.drill_words.Goals as goal
 pub returns-in_default-clause-bad : goal.returns-in_default-clause-bad
 returns-in_default-clause-bad c _ =
     let words = map string_bytes c.args.words.now in
-    let read = subst (λ (a : App). IsReadBy a words c.in-Ok.matches) c.in_ok-command.ensures c.in-Ok.ensures.read in
-    let number : value_of drill_app words (codes "n") ≡ option_copied c.get_str.result = sym (read.values (codes "n")) ∙ sym c.get_str.ensures in
-    no-number (takes drill_app words) (option_map_or is_drill_number (value_of drill_app words (codes "n")) false) (is_some (value_of drill_app words (codes "file")))
-    (ap (λ (o : Option (List ℕ)). option_map_or is_drill_number o false) number ∙ c.in_default.ensures.bad)
+    let read =
+    subst (λ (a : App). IsReadBy a words c.in-Ok.matches) c.in_ok-command.ensures
+    c.in-Ok.ensures.read in
+    let number : value_of drill_app words (codes "n") ≡ option_copied c.get_str.result =
+    sym (read.values (codes "n")) ∙ sym c.get_str.ensures in
+    no-number (takes drill_app words)
+    (option_map_or is_drill_number (value_of drill_app words (codes "n")) false)
+    (is_some (value_of drill_app words (codes "file")))
+    (ap (λ (o : Option (List ℕ)). option_map_or is_drill_number o false) number
+    ∙ c.in_default.ensures.bad)
 
 pub returns-clause-bad : goal.returns-clause-bad
 returns-clause-bad c _ =
     let words = map string_bytes c.args.words.now in
-    let read = subst (λ (a : App). IsReadBy a words c.in-Ok.matches) c.in_ok-command.ensures c.in-Ok.ensures.read in
-    let file : value_of drill_app words (codes "file") ≡ option_copied c.get_str-2.result = sym (read.values (codes "file")) ∙ sym c.get_str-2.ensures in
-    no-file (takes drill_app words) (option_map_or is_drill_number (value_of drill_app words (codes "n")) false) (is_some (value_of drill_app words (codes "file")))
+    let read =
+    subst (λ (a : App). IsReadBy a words c.in-Ok.matches) c.in_ok-command.ensures
+    c.in-Ok.ensures.read in
+    let file : value_of drill_app words (codes "file") ≡ option_copied c.get_str-2.result =
+    sym (read.values (codes "file")) ∙ sym c.get_str-2.ensures in
+    no-file (takes drill_app words)
+    (option_map_or is_drill_number (value_of drill_app words (codes "n")) false)
+    (is_some (value_of drill_app words (codes "file")))
     (ap is_some file ∙ ap (λ r. is_some (option_copied r)) c.in-None.is)
 
 pub returns-in-Some-get_str-clause-good : goal.returns-in-Some-get_str-clause-good
 returns-in-Some-get_str-clause-good c =
     let words = map string_bytes c.args.words.now in
-    let read = subst (λ (a : App). IsReadBy a words c.in-Ok.matches) c.in_ok-command.ensures c.in-Ok.ensures.read in
-    let number : value_of drill_app words (codes "n") ≡ option_copied c.get_str.result = sym (read.values (codes "n")) ∙ sym c.get_str.ensures in
-    let file : value_of drill_app words (codes "file") ≡ option_copied c.get_str-2.result = sym (read.values (codes "file")) ∙ sym c.get_str-2.ensures in (
-      all-three (takes drill_app words) (option_map_or is_drill_number (value_of drill_app words (codes "n")) false) (is_some (value_of drill_app words (codes "file")))
+    let read =
+    subst (λ (a : App). IsReadBy a words c.in-Ok.matches) c.in_ok-command.ensures
+    c.in-Ok.ensures.read in
+    let number : value_of drill_app words (codes "n") ≡ option_copied c.get_str.result =
+    sym (read.values (codes "n")) ∙ sym c.get_str.ensures in
+    let file : value_of drill_app words (codes "file") ≡ option_copied c.get_str-2.result =
+    sym (read.values (codes "file")) ∙ sym c.get_str-2.ensures in (
+      all-three (takes drill_app words)
+          (option_map_or is_drill_number (value_of drill_app words (codes "n")) false)
+          (is_some (value_of drill_app words (codes "file")))
           read.taken
-          (ap (λ (o : Option (List ℕ)). option_map_or is_drill_number o false) number ∙ c.in-Some.ensures.good)
+          (ap (λ (o : Option (List ℕ)). option_map_or is_drill_number o false) number
+          ∙ c.in-Some.ensures.good)
           (ap is_some file ∙ ap (λ r. is_some (option_copied r)) c.in-Some-get_str.is),
       record {
         named = c.requires;

@@ -12,12 +12,17 @@ returns-in-Ok-clause-read c =
     let app = app_of c.args.command in
     let rows = (c.in-Ok.ensures.matches (plain-simple app c.requires)).0 in
     record {
-      taken = is-taken app (map string_bytes c.args.words.now) c.requires (c.in-Ok.ensures.kinds (plain-free app c.requires));
-      values = λ (id : List ℕ). first_value-rows (found_of c.in-Ok.matches) id ∙ ap (first_of id) rows;
+      taken =
+          is-taken app (map string_bytes c.args.words.now) c.requires
+          (c.in-Ok.ensures.kinds (plain-free app c.requires));
+      values =
+          λ (id : List ℕ). first_value-rows (found_of c.in-Ok.matches) id ∙ ap (first_of id) rows;
     }
 
 pub returns : goal.returns
 returns c = record {
   read = tt;
-  bad = λ _. false_from_ne_true _ (λ taken. c.in_default.not-OutOfMemory (c.kind.ensures ∙ c.in-Err.ensures.passes taken));
+  bad =
+      λ _. false_from_ne_true _
+      (λ taken. c.in_default.not-OutOfMemory (c.kind.ensures ∙ c.in-Err.ensures.passes taken));
 }

@@ -1,9 +1,11 @@
-use Rattle.std.proofs.Common.{◌≡◌, ◌∙◌, sym, ap, subst, List, ℕ, map, string_bytes, Option, is_some, option_map, option_copied, codes, true, false}
+use Rattle.std.proofs.Common.{◌≡◌, ◌∙◌, sym, ap, subst, List, ℕ, map, string_bytes, Option, is_some}
+use Rattle.std.proofs.Common.{option_map, option_copied, codes, true, false}
 use Rattle.std.specs.Option.{option_map_or}
 use Rattle.std.specs.Str.Parse.{digits_value}
 use Rattle.clap.specs.Simple.{App}
 use Rattle.clap.specs.Takes.{takes}
-use Rattle.command_words.specs.CommandLine.{run_app, value_of, is_number_to, most_steps, most_calls, usual_calls}
+use Rattle.command_words.specs.CommandLine.{run_app, value_of, is_number_to, most_steps, most_calls}
+use Rattle.command_words.specs.CommandLine.{usual_calls}
 use Rattle.command_words.specs.Plain.{IsReadBy}
 use Rattle.command_words.proofs.RunTests.{no-first, no-second, no-third, no-fourth, all-five}
 use Rattle.command_words.proofs.commands.run_words.Goals as goal
@@ -11,56 +13,96 @@ use Rattle.command_words.proofs.commands.run_words.Goals as goal
 pub returns-in_default-clause-bad : goal.returns-in_default-clause-bad
 returns-in_default-clause-bad c _ =
     let words = map string_bytes c.args.words.now in
-    let read = subst (λ (a : App). IsReadBy a words c.in-Ok.matches) c.in_ok-command.ensures c.in-Ok.ensures.read in
-    let definition : value_of run_app words (codes "def") ≡ option_copied c.get_str.result = sym (read.values (codes "def")) ∙ sym c.get_str.ensures in
-    no-first (takes run_app words) (is_some (value_of run_app words (codes "def"))) (is_some (value_of run_app words (codes "term"))) (option_map_or (is_number_to most_steps) (value_of run_app words (codes "limit")) false) (option_map_or (is_number_to most_calls) (value_of run_app words (codes "calls")) true)
+    let read =
+    subst (λ (a : App). IsReadBy a words c.in-Ok.matches) c.in_ok-command.ensures
+    c.in-Ok.ensures.read in
+    let definition : value_of run_app words (codes "def") ≡ option_copied c.get_str.result =
+    sym (read.values (codes "def")) ∙ sym c.get_str.ensures in
+    no-first (takes run_app words) (is_some (value_of run_app words (codes "def")))
+    (is_some (value_of run_app words (codes "term")))
+    (option_map_or (is_number_to most_steps) (value_of run_app words (codes "limit")) false)
+    (option_map_or (is_number_to most_calls) (value_of run_app words (codes "calls")) true)
     (ap is_some definition ∙ ap (λ r. is_some (option_copied r)) c.in_default.is)
 
 pub returns-in_default-get_str-clause-bad : goal.returns-in_default-get_str-clause-bad
 returns-in_default-get_str-clause-bad c _ =
     let words = map string_bytes c.args.words.now in
-    let read = subst (λ (a : App). IsReadBy a words c.in-Ok.matches) c.in_ok-command.ensures c.in-Ok.ensures.read in
-    let term : value_of run_app words (codes "term") ≡ option_copied c.get_str-2.result = sym (read.values (codes "term")) ∙ sym c.get_str-2.ensures in
-    no-second (takes run_app words) (is_some (value_of run_app words (codes "def"))) (is_some (value_of run_app words (codes "term"))) (option_map_or (is_number_to most_steps) (value_of run_app words (codes "limit")) false) (option_map_or (is_number_to most_calls) (value_of run_app words (codes "calls")) true)
+    let read =
+    subst (λ (a : App). IsReadBy a words c.in-Ok.matches) c.in_ok-command.ensures
+    c.in-Ok.ensures.read in
+    let term : value_of run_app words (codes "term") ≡ option_copied c.get_str-2.result =
+    sym (read.values (codes "term")) ∙ sym c.get_str-2.ensures in
+    no-second (takes run_app words) (is_some (value_of run_app words (codes "def")))
+    (is_some (value_of run_app words (codes "term")))
+    (option_map_or (is_number_to most_steps) (value_of run_app words (codes "limit")) false)
+    (option_map_or (is_number_to most_calls) (value_of run_app words (codes "calls")) true)
     (ap is_some term ∙ ap (λ r. is_some (option_copied r)) c.in_default-get_str.is)
 
 pub returns-in_default-number_in-clause-bad : goal.returns-in_default-number_in-clause-bad
 returns-in_default-number_in-clause-bad c _ =
     let words = map string_bytes c.args.words.now in
-    let read = subst (λ (a : App). IsReadBy a words c.in-Ok.matches) c.in_ok-command.ensures c.in-Ok.ensures.read in
-    let limit : value_of run_app words (codes "limit") ≡ option_copied c.get_str-3.result = sym (read.values (codes "limit")) ∙ sym c.get_str-3.ensures in
-    no-third (takes run_app words) (is_some (value_of run_app words (codes "def"))) (is_some (value_of run_app words (codes "term"))) (option_map_or (is_number_to most_steps) (value_of run_app words (codes "limit")) false) (option_map_or (is_number_to most_calls) (value_of run_app words (codes "calls")) true)
-    (ap (λ (o : Option (List ℕ)). option_map_or (is_number_to most_steps) o false) limit ∙ c.in_default-number_in.ensures.bad)
+    let read =
+    subst (λ (a : App). IsReadBy a words c.in-Ok.matches) c.in_ok-command.ensures
+    c.in-Ok.ensures.read in
+    let limit : value_of run_app words (codes "limit") ≡ option_copied c.get_str-3.result =
+    sym (read.values (codes "limit")) ∙ sym c.get_str-3.ensures in
+    no-third (takes run_app words) (is_some (value_of run_app words (codes "def")))
+    (is_some (value_of run_app words (codes "term")))
+    (option_map_or (is_number_to most_steps) (value_of run_app words (codes "limit")) false)
+    (option_map_or (is_number_to most_calls) (value_of run_app words (codes "calls")) true)
+    (ap (λ (o : Option (List ℕ)). option_map_or (is_number_to most_steps) o false) limit
+    ∙ c.in_default-number_in.ensures.bad)
 
 pub returns-in_default-number_or-clause-bad : goal.returns-in_default-number_or-clause-bad
 returns-in_default-number_or-clause-bad c _ =
     let words = map string_bytes c.args.words.now in
-    let read = subst (λ (a : App). IsReadBy a words c.in-Ok.matches) c.in_ok-command.ensures c.in-Ok.ensures.read in
-    let calls : value_of run_app words (codes "calls") ≡ option_copied c.get_str-4.result = sym (read.values (codes "calls")) ∙ sym c.get_str-4.ensures in
-    no-fourth (takes run_app words) (is_some (value_of run_app words (codes "def"))) (is_some (value_of run_app words (codes "term"))) (option_map_or (is_number_to most_steps) (value_of run_app words (codes "limit")) false) (option_map_or (is_number_to most_calls) (value_of run_app words (codes "calls")) true)
-    (ap (λ (o : Option (List ℕ)). option_map_or (is_number_to most_calls) o true) calls ∙ c.in_default-number_or.ensures.bad)
+    let read =
+    subst (λ (a : App). IsReadBy a words c.in-Ok.matches) c.in_ok-command.ensures
+    c.in-Ok.ensures.read in
+    let calls : value_of run_app words (codes "calls") ≡ option_copied c.get_str-4.result =
+    sym (read.values (codes "calls")) ∙ sym c.get_str-4.ensures in
+    no-fourth (takes run_app words) (is_some (value_of run_app words (codes "def")))
+    (is_some (value_of run_app words (codes "term")))
+    (option_map_or (is_number_to most_steps) (value_of run_app words (codes "limit")) false)
+    (option_map_or (is_number_to most_calls) (value_of run_app words (codes "calls")) true)
+    (ap (λ (o : Option (List ℕ)). option_map_or (is_number_to most_calls) o true) calls
+    ∙ c.in_default-number_or.ensures.bad)
 
 pub returns-clause-good : goal.returns-clause-good
 returns-clause-good c =
     let words = map string_bytes c.args.words.now in
-    let read = subst (λ (a : App). IsReadBy a words c.in-Ok.matches) c.in_ok-command.ensures c.in-Ok.ensures.read in
-    let definition : value_of run_app words (codes "def") ≡ option_copied c.get_str.result = sym (read.values (codes "def")) ∙ sym c.get_str.ensures in
-    let term : value_of run_app words (codes "term") ≡ option_copied c.get_str-2.result = sym (read.values (codes "term")) ∙ sym c.get_str-2.ensures in
-    let limit : value_of run_app words (codes "limit") ≡ option_copied c.get_str-3.result = sym (read.values (codes "limit")) ∙ sym c.get_str-3.ensures in
-    let calls : value_of run_app words (codes "calls") ≡ option_copied c.get_str-4.result = sym (read.values (codes "calls")) ∙ sym c.get_str-4.ensures in
-    let proof : value_of run_app words (codes "proof") ≡ option_copied c.get_str-proof.result = sym (read.values (codes "proof")) ∙ sym c.get_str-proof.ensures in (
-      all-five (takes run_app words) (is_some (value_of run_app words (codes "def"))) (is_some (value_of run_app words (codes "term"))) (option_map_or (is_number_to most_steps) (value_of run_app words (codes "limit")) false) (option_map_or (is_number_to most_calls) (value_of run_app words (codes "calls")) true)
+    let read =
+    subst (λ (a : App). IsReadBy a words c.in-Ok.matches) c.in_ok-command.ensures
+    c.in-Ok.ensures.read in
+    let definition : value_of run_app words (codes "def") ≡ option_copied c.get_str.result =
+    sym (read.values (codes "def")) ∙ sym c.get_str.ensures in
+    let term : value_of run_app words (codes "term") ≡ option_copied c.get_str-2.result =
+    sym (read.values (codes "term")) ∙ sym c.get_str-2.ensures in
+    let limit : value_of run_app words (codes "limit") ≡ option_copied c.get_str-3.result =
+    sym (read.values (codes "limit")) ∙ sym c.get_str-3.ensures in
+    let calls : value_of run_app words (codes "calls") ≡ option_copied c.get_str-4.result =
+    sym (read.values (codes "calls")) ∙ sym c.get_str-4.ensures in
+    let proof : value_of run_app words (codes "proof") ≡ option_copied c.get_str-proof.result =
+    sym (read.values (codes "proof")) ∙ sym c.get_str-proof.ensures in (
+      all-five (takes run_app words) (is_some (value_of run_app words (codes "def")))
+          (is_some (value_of run_app words (codes "term")))
+          (option_map_or (is_number_to most_steps) (value_of run_app words (codes "limit")) false)
+          (option_map_or (is_number_to most_calls) (value_of run_app words (codes "calls")) true)
           read.taken
           (ap is_some definition ∙ ap (λ r. is_some (option_copied r)) c.in-Some.is)
           (ap is_some term ∙ ap (λ r. is_some (option_copied r)) c.in-Some-get_str.is)
-          (ap (λ (o : Option (List ℕ)). option_map_or (is_number_to most_steps) o false) limit ∙ c.in-Some-number_in.ensures.good)
-          (ap (λ (o : Option (List ℕ)). option_map_or (is_number_to most_calls) o true) calls ∙ c.in-Some-number_or.ensures.good),
+          (ap (λ (o : Option (List ℕ)). option_map_or (is_number_to most_steps) o false) limit
+          ∙ c.in-Some-number_in.ensures.good)
+          (ap (λ (o : Option (List ℕ)). option_map_or (is_number_to most_calls) o true) calls
+          ∙ c.in-Some-number_or.ensures.good),
       record {
         named = c.requires;
         definition = definition ∙ ap (λ r. option_copied r) c.in-Some.is;
         term = term ∙ ap (λ r. option_copied r) c.in-Some-get_str.is;
         limit = ap (option_map (digits_value 10)) limit ∙ c.in-Some-number_in.ensures.number;
-        calls = c.in-Some-number_or.ensures.number ∙ ap (λ (o : Option (List ℕ)). option_map_or (digits_value 10) o usual_calls) (sym calls);
+        calls = c.in-Some-number_or.ensures.number
+            ∙ ap (λ (o : Option (List ℕ)). option_map_or (digits_value 10) o usual_calls)
+            (sym calls);
         proof = sym proof;
       },
     )

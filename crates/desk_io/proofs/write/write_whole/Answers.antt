@@ -15,11 +15,15 @@ loop-at-init g c = record {
 pub loop-at-preserved : goal.loop-at-preserved
 loop-at-preserved g c = record {
   within = omega (arith, c.in-Ok.ensures.within, length-take {A = ℕ}, length-drop {A = ℕ});
-  writes = Writes-more _ _ _ c.args.bytes.now c.loop-at.at c.in-Ok.n c.loop-at.invariant.writes c.in-Ok.ensures.writes;
+  writes =
+      Writes-more _ _ _ c.args.bytes.now c.loop-at.at c.in-Ok.n c.loop-at.invariant.writes
+      c.in-Ok.ensures.writes;
   created = c.in-Ok.ensures.created;
   counts = omega (arith, c.in-Ok.ensures.counts);
   reads = c.in-Ok.ensures.reads ∙ c.loop-at.invariant.reads;
 }
 
 pub returns-in-Err-clause-prefix : goal.returns-in-Err-clause-prefix
-returns-in-Err-clause-prefix g c = Writes-fault _ _ _ c.args.bytes.now c.loop-at.at c.loop-at.invariant.writes c.in-Err.ensures.fault
+returns-in-Err-clause-prefix g c =
+    Writes-fault _ _ _ c.args.bytes.now c.loop-at.at c.loop-at.invariant.writes
+    c.in-Err.ensures.fault

@@ -7,5 +7,7 @@ loop-i-2-preserved c =
     let i = c.loop-i-2.i in
     let on : suc i ≡ i + 1 = omega arith in
     let front : List ℕ = first_lines ++ symbol_lines (c.args.steps + 1) in
-    c.in_ok-push_rule_line.ensures ∙ ap (λ (text : List ℕ). text ++ rule_line i) c.loop-i-2.invariant ∙ append_assoc front (rule_lines i) (rule_line i)
+    c.in_ok-push_rule_line.ensures
+    ∙ ap (λ (text : List ℕ). text ++ rule_line i) c.loop-i-2.invariant
+    ∙ append_assoc front (rule_lines i) (rule_line i)
     ∙ ap (λ (n : ℕ). front ++ rule_lines n) on

@@ -1,4 +1,5 @@
-use Rattle.std.proofs.Common.{◌≡◌, ◌<◌, ◌-◌, ◌+◌, ◌∷◌, ◌++◌, [], suc, List, length, map, take, Some, None, sym, ◌∙◌, ap, subst, inr, arith}
+use Rattle.std.proofs.Common.{◌≡◌, ◌<◌, ◌-◌, ◌+◌, ◌∷◌, ◌++◌, [], suc, List, length, map, take, Some}
+use Rattle.std.proofs.Common.{None, sym, ◌∙◌, ap, subst, inr, arith}
 use Rattle.std.specs.Prelude.{slice_get, option_map, Err}
 use Rattle.std.proofs.lemmas.Bool.{false≢true}
 use Rattle.std.proofs.lemmas.List.{take_more, take_all}
@@ -11,103 +12,176 @@ use Rattle.term_core.specs.declared.rule_patterns.RulePat.{RulePat}
 use Rattle.term_core.proofs.PlainPatterns.{plain-Var, plain-Value, plain-Ctor, plain-Call}
 use Rattle.rule_core.specs.Theories.{equations_of}
 use Rattle.rule_core.specs.ProgramView.{theory_of, function_equation}
-use Rattle.rule_core.specs.Evaluation.{Evaluates, value, blocked, too_nested, nested_out, of_constructor, of_injection, of_call, Applies, by_nothing, without_call, no_call_left, EvaluatesIn, no_nesting}
+use Rattle.rule_core.specs.Evaluation.{Evaluates, value, blocked, too_nested, nested_out}
+use Rattle.rule_core.specs.Evaluation.{of_constructor, of_injection, of_call, Applies, by_nothing}
+use Rattle.rule_core.specs.Evaluation.{without_call, no_call_left, EvaluatesIn, no_nesting}
 use Rattle.rule_core.specs.Matching.{MatchAll}
 use Rattle.rule_core.specs.Sorting.{IsSymbol}
 use Rattle.rule_core.specs.declared.rules.Program.{Program}
 use Rattle.rule_core.specs.declared.rules.Equation.{Equation}
 use Rattle.fun_eval.specs.Evaluable.{IsEvaluable}
 use Rattle.fun_eval.specs.Recorded.{IsRecorded}
-use Rattle.fun_eval.specs.Giving.{Gives, GivesWithin, AreRecorded, AreArguments, IsCallable, IsDeclared}
+use Rattle.fun_eval.specs.Giving.{Gives, GivesWithin, AreRecorded, AreArguments, IsCallable}
+use Rattle.fun_eval.specs.Giving.{IsDeclared}
 use Rattle.fun_eval.specs.Equations.{ChoiceSays, IsTriable, Matches, TrialSays}
 use Rattle.fun_eval.specs.declared.equations.Trial.TheVariants.{Unused, Used}
 use Rattle.fun_eval.proofs.Evaluable.{arguments_of-application, arguments_of-call, item_evaluable}
 use Rattle.fun_eval.proofs.Goings.{goes_on-more, goes_on-end}
-use Rattle.fun_eval.proofs.Values.{arguments_callable, defined, hooked_arguments, hooked_result, hook_calls, equations_call, called_gives, constructed_gives, injected_gives, within_gives}
+use Rattle.fun_eval.proofs.Values.{arguments_callable, defined, hooked_arguments, hooked_result}
+use Rattle.fun_eval.proofs.Values.{hook_calls, equations_call, called_gives, constructed_gives}
+use Rattle.fun_eval.proofs.Values.{injected_gives, within_gives}
 use Rattle.fun_eval.proofs.Recordings.{recorded-more}
-use Rattle.fun_eval.proofs.Trials.{tried-more, unused-more, is_unused, trial_falls, chosen, tried-all}
-use Rattle.fun_eval.proofs.Calls.{arguments_stop, injected_stops, pattern_stops, own_equation, as_long, triable, right_evaluable, condition_evaluable, matched_some, no_test, test_holds, test_fails, test_stops, trial_stops, right_stops, right_gives, chosen_within}
+use Rattle.fun_eval.proofs.Trials.{tried-more, unused-more, is_unused, trial_falls, chosen}
+use Rattle.fun_eval.proofs.Trials.{tried-all}
+use Rattle.fun_eval.proofs.Calls.{arguments_stop, injected_stops, pattern_stops, own_equation}
+use Rattle.fun_eval.proofs.Calls.{as_long, triable, right_evaluable, condition_evaluable}
+use Rattle.fun_eval.proofs.Calls.{matched_some, no_test, test_holds, test_fails, test_stops}
+use Rattle.fun_eval.proofs.Calls.{trial_stops, right_stops, right_gives, chosen_within}
 use Rattle.fun_eval.proofs.evaluation.+evaluation.Goals as goal
 
 -- ---- evaluate
 
 pub evaluate-evaluate_ctor-requires : goal.evaluate-evaluate_ctor-requires
 evaluate-evaluate_ctor-requires g t c κs within =
-    let is : plain_pattern c.args.pat.now ≡ application c.in-Ctor.sym.0 (plain_patterns c.deref.result.now) =
-    ap plain_pattern c.in-Ctor.is ∙ (plain-Ctor _ _ ∙ ap (λ (ps : List RulePat). application c.in-Ctor.sym.0 (plain_patterns ps)) (sym c.deref.ensures.value)) in
-    let fits : IsEvaluable (theory_of c.args.engine.now) c.args.subst.now (application c.in-Ctor.sym.0 (plain_patterns c.deref.result.now)) =
-    subst (IsEvaluable (theory_of c.args.engine.now) c.args.subst.now) is c.requires.fits in
-    (omega arith, (within, (arguments_of-application (theory_of c.args.engine.now) c.args.subst.now c.in-Ctor.sym.0 (plain_patterns c.deref.result.now) fits, c.requires.nest)))
+    let is : plain_pattern c.args.pat.now ≡ application c.in-Ctor.sym.0
+    (plain_patterns c.deref.result.now) =
+    ap plain_pattern c.in-Ctor.is
+    ∙ (plain-Ctor _ _
+    ∙ ap (λ (ps : List RulePat). application c.in-Ctor.sym.0 (plain_patterns ps))
+    (sym c.deref.ensures.value)) in
+    let fits : IsEvaluable (theory_of c.args.engine.now) c.args.subst.now
+    (application c.in-Ctor.sym.0 (plain_patterns c.deref.result.now)) =
+    subst (IsEvaluable (theory_of c.args.engine.now) c.args.subst.now) is c.requires.fits in (
+      omega arith,
+      (
+        within,
+        (
+          arguments_of-application (theory_of c.args.engine.now) c.args.subst.now
+              c.in-Ctor.sym.0 (plain_patterns c.deref.result.now) fits,
+          c.requires.nest,
+        ),
+      ),
+    )
 
 pub evaluate-evaluate_call-requires : goal.evaluate-evaluate_call-requires
 evaluate-evaluate_call-requires g t c κs within =
-    let is : plain_pattern c.args.pat.now ≡ call c.in-Call.sym.0 (sort_numbers c.in-Call.field-1.items) (plain_patterns c.deref-in-Call.result.now) =
-    ap plain_pattern c.in-Call.is ∙ (plain-Call _ _ _ ∙ ap (λ (ps : List RulePat). call c.in-Call.sym.0 (sort_numbers c.in-Call.field-1.items) (plain_patterns ps)) (sym c.deref-in-Call.ensures.value)) in
-    let fits : IsEvaluable (theory_of c.args.engine.now) c.args.subst.now (call c.in-Call.sym.0 (sort_numbers c.in-Call.field-1.items) (plain_patterns c.deref-in-Call.result.now)) =
+    let is : plain_pattern c.args.pat.now ≡ call c.in-Call.sym.0
+    (sort_numbers c.in-Call.field-1.items) (plain_patterns c.deref-in-Call.result.now) =
+    ap plain_pattern c.in-Call.is
+    ∙ (plain-Call _ _ _
+    ∙ ap (λ (ps : List RulePat).
+    call c.in-Call.sym.0 (sort_numbers c.in-Call.field-1.items) (plain_patterns ps))
+    (sym c.deref-in-Call.ensures.value)) in
+    let fits : IsEvaluable (theory_of c.args.engine.now) c.args.subst.now
+    (call c.in-Call.sym.0 (sort_numbers c.in-Call.field-1.items)
+    (plain_patterns c.deref-in-Call.result.now)) =
     subst (IsEvaluable (theory_of c.args.engine.now) c.args.subst.now) is c.requires.fits in
     (omega arith, (within, ((sort_numbers c.in-Call.field-1.items, fits), c.requires.nest)))
 
 pub evaluate-returns-in-Var : goal.evaluate-returns-in-Var
 evaluate-returns-in-Var g t c =
-    let is : variable c.in-Var.var ≡ plain_pattern c.args.pat.now = sym (ap plain_pattern c.in-Var.is ∙ plain-Var _) in
-    subst (λ p. Gives g.R.Recording.tells (theory_of c.args.engine.now) c.args.nest c.args.subst.now p c.args.calls c.bound.result) is (c.bound.ensures (theory_of c.args.engine.now) c.args.nest)
+    let is : variable c.in-Var.var ≡ plain_pattern c.args.pat.now =
+    sym (ap plain_pattern c.in-Var.is ∙ plain-Var _) in
+    subst (λ p. Gives g.R.Recording.tells (theory_of c.args.engine.now) c.args.nest c.args.subst.now
+    p c.args.calls c.bound.result) is
+    (c.bound.ensures (theory_of c.args.engine.now) c.args.nest)
 
 pub evaluate-returns-in-Value : goal.evaluate-returns-in-Value
 evaluate-returns-in-Value g t c =
-    let is : domain_value c.in-Value.sort.0 (value_of c.in-Value.value) ≡ plain_pattern c.args.pat.now = sym (ap plain_pattern c.in-Value.is ∙ plain-Value _ _) in
-    subst (λ p. Gives g.R.Recording.tells (theory_of c.args.engine.now) c.args.nest c.args.subst.now p c.args.calls c.itself.result) is (c.itself.ensures (theory_of c.args.engine.now) c.args.nest c.args.subst.now)
+    let is : domain_value c.in-Value.sort.0 (value_of c.in-Value.value) ≡ plain_pattern
+    c.args.pat.now =
+    sym (ap plain_pattern c.in-Value.is ∙ plain-Value _ _) in
+    subst (λ p. Gives g.R.Recording.tells (theory_of c.args.engine.now) c.args.nest c.args.subst.now
+    p c.args.calls c.itself.result) is
+    (c.itself.ensures (theory_of c.args.engine.now) c.args.nest c.args.subst.now)
 
 pub evaluate-returns-in-Call : goal.evaluate-returns-in-Call
 evaluate-returns-in-Call g t c =
-    let is : call c.in-Call.sym.0 (sort_numbers c.in-Call.field-1.items) (plain_patterns c.deref-in-Call.result.now) ≡ plain_pattern c.args.pat.now =
-    sym (ap plain_pattern c.in-Call.is ∙ (plain-Call _ _ _ ∙ ap (λ (ps : List RulePat). call c.in-Call.sym.0 (sort_numbers c.in-Call.field-1.items) (plain_patterns ps)) (sym c.deref-in-Call.ensures.value))) in
-    subst (λ p. Gives g.R.Recording.tells (theory_of c.args.engine.now) c.args.nest c.args.subst.now p c.args.calls c.evaluate_call.result) is (c.evaluate_call.ensures (sort_numbers c.in-Call.field-1.items))
+    let is : call c.in-Call.sym.0 (sort_numbers c.in-Call.field-1.items)
+    (plain_patterns c.deref-in-Call.result.now) ≡ plain_pattern c.args.pat.now =
+    sym (ap plain_pattern c.in-Call.is ∙ (plain-Call _ _ _
+    ∙ ap (λ (ps : List RulePat).
+    call c.in-Call.sym.0 (sort_numbers c.in-Call.field-1.items) (plain_patterns ps))
+    (sym c.deref-in-Call.ensures.value))) in
+    subst (λ p. Gives g.R.Recording.tells (theory_of c.args.engine.now) c.args.nest c.args.subst.now
+    p c.args.calls c.evaluate_call.result) is
+    (c.evaluate_call.ensures (sort_numbers c.in-Call.field-1.items))
 
 -- ---- evaluate_ctor
 
 pub evaluate_ctor-returns-then-nest-eq0 : goal.evaluate_ctor-returns-then-nest-eq0
 evaluate_ctor-returns-then-nest-eq0 g t c =
-    subst (λ n. Evaluates (theory_of c.args.engine.now) n c.args.subst.now (application c.args.sym.0 (plain_patterns c.args.args.now)) c.args.calls (blocked (too_nested c.args.sym.0))) (sym c.if-nest-eq0.true) (nested_out of_constructor)
+    subst (λ n. Evaluates (theory_of c.args.engine.now) n c.args.subst.now
+    (application c.args.sym.0 (plain_patterns c.args.args.now)) c.args.calls
+    (blocked (too_nested c.args.sym.0))) (sym c.if-nest-eq0.true)
+    (nested_out of_constructor)
 
 pub evaluate_ctor-returns-in-Ok : goal.evaluate_ctor-returns-in-Ok
 evaluate_ctor-returns-in-Ok g t c =
     let more : c.args.nest ≡ suc (c.args.nest - 1) = omega arith in
-    constructed_gives g.R.Recording.tells g.R.Recording.all_tell (theory_of c.args.engine.now) (c.args.nest - 1) c.args.nest c.args.sym.0 c.args.calls c.in-Ok.left c.args.subst.now (plain_patterns c.args.args.now) c.in-Ok.args more c.in-Ok.ensures.0 c.in-Ok.ensures.1 c.construct.result c.construct.ensures
+    constructed_gives g.R.Recording.tells g.R.Recording.all_tell (theory_of c.args.engine.now)
+    (c.args.nest - 1) c.args.nest c.args.sym.0 c.args.calls c.in-Ok.left c.args.subst.now
+    (plain_patterns c.args.args.now) c.in-Ok.args more c.in-Ok.ensures.0 c.in-Ok.ensures.1
+    c.construct.result c.construct.ensures
 
 pub evaluate_ctor-returns-in-Err : goal.evaluate_ctor-returns-in-Err
 evaluate_ctor-returns-in-Err g t c =
     let more : c.args.nest ≡ suc (c.args.nest - 1) = omega arith in
-    arguments_stop g.R.Recording.tells g.R.Recording.all_tell (theory_of c.args.engine.now) (c.args.nest - 1) c.args.nest c.args.sym.0 c.args.calls c.args.subst.now (application c.args.sym.0 (plain_patterns c.args.args.now)) (plain_patterns c.args.args.now) c.in-Err.end of_constructor more c.in-Err.ensures
+    arguments_stop g.R.Recording.tells g.R.Recording.all_tell (theory_of c.args.engine.now)
+    (c.args.nest - 1) c.args.nest c.args.sym.0 c.args.calls c.args.subst.now
+    (application c.args.sym.0 (plain_patterns c.args.args.now)) (plain_patterns c.args.args.now)
+    c.in-Err.end of_constructor more c.in-Err.ensures
 
 -- ---- evaluate_inj
 
 pub evaluate_inj-returns-then-nest-eq0 : goal.evaluate_inj-returns-then-nest-eq0
 evaluate_inj-returns-then-nest-eq0 g t c =
-    subst (λ n. Evaluates (theory_of c.args.engine.now) n c.args.subst.now (injection c.args.from.0 c.args.to.0 (plain_pattern c.args.below.now)) c.args.calls (blocked (too_nested c.in-Some.sym.0))) (sym c.if-nest-eq0.true) (nested_out (of_injection c.in-Some.ensures))
+    subst (λ n. Evaluates (theory_of c.args.engine.now) n c.args.subst.now
+    (injection c.args.from.0 c.args.to.0 (plain_pattern c.args.below.now)) c.args.calls
+    (blocked (too_nested c.in-Some.sym.0))) (sym c.if-nest-eq0.true)
+    (nested_out (of_injection c.in-Some.ensures))
 
 pub evaluate_inj-returns-in-Ok : goal.evaluate_inj-returns-in-Ok
 evaluate_inj-returns-in-Ok g t c =
     let more : c.args.nest ≡ suc (c.args.nest - 1) = omega arith in
-    injected_gives g.R.Recording.tells (theory_of c.args.engine.now) (c.args.nest - 1) c.args.nest c.in-Some.sym.0 c.args.from.0 c.args.to.0 c.args.calls c.in-Ok.left c.args.subst.now (plain_pattern c.args.below.now) c.in-Ok.below c.in-Some.ensures more c.in-Ok.ensures.0 c.in-Ok.ensures.1 c.inject.result c.inject.ensures
+    injected_gives g.R.Recording.tells (theory_of c.args.engine.now) (c.args.nest - 1) c.args.nest
+    c.in-Some.sym.0 c.args.from.0 c.args.to.0 c.args.calls c.in-Ok.left c.args.subst.now
+    (plain_pattern c.args.below.now) c.in-Ok.below c.in-Some.ensures more c.in-Ok.ensures.0
+    c.in-Ok.ensures.1 c.inject.result c.inject.ensures
 
 pub evaluate_inj-returns-in-Err : goal.evaluate_inj-returns-in-Err
 evaluate_inj-returns-in-Err g t c =
     let more : c.args.nest ≡ suc (c.args.nest - 1) = omega arith in
-    injected_stops g.R.Recording.tells (theory_of c.args.engine.now) (c.args.nest - 1) c.args.nest c.in-Some.sym.0 c.args.from.0 c.args.to.0 c.args.calls c.args.subst.now (plain_pattern c.args.below.now) c.in-Err.end c.in-Some.ensures more c.in-Err.ensures
+    injected_stops g.R.Recording.tells (theory_of c.args.engine.now) (c.args.nest - 1) c.args.nest
+    c.in-Some.sym.0 c.args.from.0 c.args.to.0 c.args.calls c.args.subst.now
+    (plain_pattern c.args.below.now) c.in-Err.end c.in-Some.ensures more c.in-Err.ensures
 
 -- ---- evaluate_call
 
 pub evaluate_call-returns-then-nest-eq0 : goal.evaluate_call-returns-then-nest-eq0
 evaluate_call-returns-then-nest-eq0 g t c = λ sorts.
-    subst (λ n. Evaluates (theory_of c.args.engine.now) n c.args.subst.now (call c.args.sym.0 sorts (plain_patterns c.args.args.now)) c.args.calls (blocked (too_nested c.args.sym.0))) (sym c.if-nest-eq0.true) (nested_out of_call)
+    subst (λ n. Evaluates (theory_of c.args.engine.now) n c.args.subst.now
+    (call c.args.sym.0 sorts (plain_patterns c.args.args.now)) c.args.calls
+    (blocked (too_nested c.args.sym.0))) (sym c.if-nest-eq0.true) (nested_out of_call)
 
 pub evaluate_call-evaluate_all-requires : goal.evaluate_call-evaluate_all-requires
-evaluate_call-evaluate_all-requires g t c κs within =
-    (omega arith, (within, (arguments_of-call (theory_of c.args.engine.now) c.args.subst.now c.args.sym.0 c.requires.fits.0 (plain_patterns c.args.args.now) c.requires.fits.1, omega arith)))
+evaluate_call-evaluate_all-requires g t c κs within = (
+  omega arith,
+  (
+    within,
+    (
+      arguments_of-call (theory_of c.args.engine.now) c.args.subst.now
+          c.args.sym.0 c.requires.fits.0 (plain_patterns c.args.args.now) c.requires.fits.1,
+      omega arith,
+    ),
+  ),
+)
 
 pub evaluate_call-apply-requires : goal.evaluate_call-apply-requires
 evaluate_call-apply-requires g t c κs within =
-    let are : AreArguments (theory_of c.args.engine.now) c.args.sym.0 (forest c.in-Ok.args.terms.items) = record {
+    let are : AreArguments (theory_of c.args.engine.now) c.args.sym.0
+    (forest c.in-Ok.args.terms.items) =
+    record {
       nesting = c.args.nest - 1;
       calls = c.args.calls;
       left = c.in-Ok.left;
@@ -122,208 +196,557 @@ evaluate_call-apply-requires g t c κs within =
 pub evaluate_call-returns-in-Ok : goal.evaluate_call-returns-in-Ok
 evaluate_call-returns-in-Ok g t c =
     let more : c.args.nest ≡ suc (c.args.nest - 1) = omega arith in
-    called_gives g.R.Recording.tells g.R.Recording.all_tell (theory_of c.args.engine.now) (c.args.nest - 1) c.args.nest c.args.sym.0 c.args.calls c.in-Ok.left c.args.subst.now (plain_patterns c.args.args.now) c.in-Ok.args more c.in-Ok.ensures.0 c.in-Ok.ensures.1 c.apply.result c.apply.ensures
+    called_gives g.R.Recording.tells g.R.Recording.all_tell (theory_of c.args.engine.now)
+    (c.args.nest - 1) c.args.nest c.args.sym.0 c.args.calls c.in-Ok.left c.args.subst.now
+    (plain_patterns c.args.args.now) c.in-Ok.args more c.in-Ok.ensures.0 c.in-Ok.ensures.1
+    c.apply.result c.apply.ensures
 
 pub evaluate_call-returns-in-Err : goal.evaluate_call-returns-in-Err
 evaluate_call-returns-in-Err g t c = λ sorts.
     let more : c.args.nest ≡ suc (c.args.nest - 1) = omega arith in
-    arguments_stop g.R.Recording.tells g.R.Recording.all_tell (theory_of c.args.engine.now) (c.args.nest - 1) c.args.nest c.args.sym.0 c.args.calls c.args.subst.now (call c.args.sym.0 sorts (plain_patterns c.args.args.now)) (plain_patterns c.args.args.now) c.in-Err.end of_call more c.in-Err.ensures
+    arguments_stop g.R.Recording.tells g.R.Recording.all_tell (theory_of c.args.engine.now)
+    (c.args.nest - 1) c.args.nest c.args.sym.0 c.args.calls c.args.subst.now
+    (call c.args.sym.0 sorts (plain_patterns c.args.args.now)) (plain_patterns c.args.args.now)
+    c.in-Err.end of_call more c.in-Err.ensures
 
 -- ---- evaluate_all
 
 pub evaluate_all-evaluate-requires : goal.evaluate_all-evaluate-requires
-evaluate_all-evaluate-requires g t c κs within =
-    (omega arith, (within, (item_evaluable (theory_of c.args.engine.now) c.args.subst.now c.args.pats.now c.loop-pat.pat-index c.pat-item.result c.pat-item.is c.loop-pat-test.true c.requires.fits, c.requires.nest)))
+evaluate_all-evaluate-requires g t c κs within = (
+  omega arith,
+  (
+    within,
+    (
+      item_evaluable (theory_of c.args.engine.now) c.args.subst.now
+          c.args.pats.now c.loop-pat.pat-index c.pat-item.result c.pat-item.is
+          c.loop-pat-test.true c.requires.fits,
+      c.requires.nest,
+    ),
+  ),
+)
 
 pub evaluate_all-returns-in-Err : goal.evaluate_all-returns-in-Err
 evaluate_all-returns-in-Err g t c =
-    pattern_stops g.R.Recording.tells g.R.Recording.all_tell (theory_of c.args.engine.now) c.args.nest c.args.subst.now c.args.pats.now c.args.calls c.loop-pat.pat-index c.loop-pat.terms.items c.loop-pat.left c.pat-item.result c.in-Err.end c.loop-pat.invariant.goes c.pat-item.is c.loop-pat-test.true c.in-Err.ensures
+    pattern_stops g.R.Recording.tells g.R.Recording.all_tell (theory_of c.args.engine.now)
+    c.args.nest c.args.subst.now c.args.pats.now c.args.calls c.loop-pat.pat-index
+    c.loop-pat.terms.items c.loop-pat.left c.pat-item.result c.in-Err.end
+    c.loop-pat.invariant.goes c.pat-item.is c.loop-pat-test.true c.in-Err.ensures
 
 pub evaluate_all-loop-pat-preserved : goal.evaluate_all-loop-pat-preserved
 evaluate_all-loop-pat-preserved g t c =
-    let next : take (c.loop-pat.pat-index + 1) c.args.pats.now ≡ take c.loop-pat.pat-index c.args.pats.now ++ c.pat-item.result ∷ [] = take_more c.args.pats.now c.loop-pat.pat-index c.pat-item.result c.loop-pat-test.true ∙ ap (λ (p : RulePat). take c.loop-pat.pat-index c.args.pats.now ++ p ∷ []) (sym c.pat-item.is) in
+    let next : take (c.loop-pat.pat-index + 1) c.args.pats.now ≡ take c.loop-pat.pat-index
+    c.args.pats.now ++ c.pat-item.result ∷ [] =
+    take_more c.args.pats.now c.loop-pat.pat-index c.pat-item.result c.loop-pat-test.true
+    ∙ ap (λ (p : RulePat). take c.loop-pat.pat-index c.args.pats.now ++ p ∷ [])
+    (sym c.pat-item.is) in
     record {
-      goes = goes_on-more (theory_of c.args.engine.now) c.args.nest c.args.subst.now c.args.pats.now c.args.calls c.loop-pat.pat-index c.loop-pat.terms.items c.push.new.self.items c.loop-pat.left c.in-Ok.rest c.pat-item.result c.in-Ok.answer.term c.loop-pat.invariant.goes c.pat-item.is c.loop-pat-test.true c.in-Ok.ensures.0 c.in_ok-push-in-Ok.ensures.items;
-      recorded = recorded-more g.R.Recording.tells g.R.Recording.all_tell (theory_of c.args.engine.now) c.args.subst.now (take c.loop-pat.pat-index c.args.pats.now) (take (c.loop-pat.pat-index + 1) c.args.pats.now) c.loop-pat.terms.items c.push.new.self.items c.loop-pat.records.items c.push-in-Ok.new.others.items c.pat-item.result c.in-Ok.answer.term c.in-Ok.answer.recorded c.loop-pat.invariant.recorded c.in-Ok.ensures.1 c.in_ok-push-in-Ok-2.ensures c.in_ok-push-in-Ok.ensures.items next;
+      goes =
+          goes_on-more (theory_of c.args.engine.now) c.args.nest c.args.subst.now c.args.pats.now
+          c.args.calls c.loop-pat.pat-index c.loop-pat.terms.items c.push.new.self.items
+          c.loop-pat.left c.in-Ok.rest c.pat-item.result c.in-Ok.answer.term
+          c.loop-pat.invariant.goes c.pat-item.is c.loop-pat-test.true c.in-Ok.ensures.0
+          c.in_ok-push-in-Ok.ensures.items;
+      recorded =
+          recorded-more g.R.Recording.tells g.R.Recording.all_tell (theory_of c.args.engine.now)
+          c.args.subst.now (take c.loop-pat.pat-index c.args.pats.now)
+          (take (c.loop-pat.pat-index + 1) c.args.pats.now) c.loop-pat.terms.items
+          c.push.new.self.items c.loop-pat.records.items c.push-in-Ok.new.others.items
+          c.pat-item.result c.in-Ok.answer.term c.in-Ok.answer.recorded
+          c.loop-pat.invariant.recorded c.in-Ok.ensures.1 c.in_ok-push-in-Ok-2.ensures
+          c.in_ok-push-in-Ok.ensures.items next;
     }
 
 pub evaluate_all-returns : goal.evaluate_all-returns
 evaluate_all-returns g t c =
-    let all : take c.loop-pat.pat-index c.args.pats.now ≡ c.args.pats.now = take_all c.loop-pat.pat-index c.args.pats.now c.loop-pat-test.false in (
-      goes_on-end (theory_of c.args.engine.now) c.args.nest c.args.subst.now c.args.pats.now c.args.calls c.loop-pat.pat-index c.loop-pat.terms.items c.loop-pat.left c.loop-pat.invariant.goes c.loop-pat-test.false,
-      subst (λ (ps : List RulePat). AreRecorded (g.R.Recording.all_tell c.loop-pat.records.items) (theory_of c.args.engine.now) c.args.subst.now (plain_patterns ps) (forest c.loop-pat.terms.items)) all c.loop-pat.invariant.recorded,
+    let all : take c.loop-pat.pat-index c.args.pats.now ≡ c.args.pats.now =
+    take_all c.loop-pat.pat-index c.args.pats.now c.loop-pat-test.false in (
+      goes_on-end (theory_of c.args.engine.now) c.args.nest c.args.subst.now c.args.pats.now
+          c.args.calls c.loop-pat.pat-index c.loop-pat.terms.items c.loop-pat.left
+          c.loop-pat.invariant.goes c.loop-pat-test.false,
+      subst (λ (ps : List RulePat). AreRecorded (g.R.Recording.all_tell c.loop-pat.records.items)
+          (theory_of c.args.engine.now) c.args.subst.now (plain_patterns ps)
+          (forest c.loop-pat.terms.items)) all c.loop-pat.invariant.recorded,
     )
 
 -- ---- evaluate_in
 
 pub evaluate_in-returns-then-nest-eq0 : goal.evaluate_in-returns-then-nest-eq0
 evaluate_in-returns-then-nest-eq0 g t c =
-    subst (λ n. EvaluatesIn (theory_of c.args.engine.now) n c.args.sym.0 c.args.subst.now (plain_pattern c.args.pat.now) c.args.calls (blocked (too_nested c.args.sym.0))) (sym c.if-nest-eq0.true) no_nesting
+    subst (λ n. EvaluatesIn (theory_of c.args.engine.now) n c.args.sym.0 c.args.subst.now
+    (plain_pattern c.args.pat.now) c.args.calls (blocked (too_nested c.args.sym.0)))
+    (sym c.if-nest-eq0.true) no_nesting
 
 pub evaluate_in-returns : goal.evaluate_in-returns
 evaluate_in-returns g t c =
     let more : c.args.nest ≡ suc (c.args.nest - 1) = omega arith in
-    within_gives g.R.Recording.tells (theory_of c.args.engine.now) (c.args.nest - 1) c.args.nest c.args.sym.0 c.args.calls c.args.subst.now (plain_pattern c.args.pat.now) more c.evaluate.result c.evaluate.ensures
+    within_gives g.R.Recording.tells (theory_of c.args.engine.now) (c.args.nest - 1) c.args.nest
+    c.args.sym.0 c.args.calls c.args.subst.now (plain_pattern c.args.pat.now) more
+    c.evaluate.result c.evaluate.ensures
 
 -- ---- apply
 
 pub apply-symbol-info-requires : goal.apply-symbol-info-requires
 apply-symbol-info-requires g t c =
-    subst (λ (p : Program). IsDeclared p.sig c.args.sym.0) (sym c.program.ensures.program) (c.requires.fits.fits.2.0, c.requires.fits.fits.2.1)
+    subst (λ (p : Program). IsDeclared p.sig c.args.sym.0) (sym c.program.ensures.program)
+    (c.requires.fits.fits.2.0, c.requires.fits.fits.2.1)
 
 pub apply-returns-in-Closed : goal.apply-returns-in-Closed
 apply-returns-in-Closed g t c =
-    let there : IsSymbol c.args.engine.now.sig c.args.sym.0 c.symbol-info.result.now = subst (λ (p : Program). IsSymbol p.sig c.args.sym.0 c.symbol-info.result.now) c.program.ensures.program c.symbol-info.ensures in
+    let there : IsSymbol c.args.engine.now.sig c.args.sym.0 c.symbol-info.result.now =
+    subst (λ (p : Program). IsSymbol p.sig c.args.sym.0 c.symbol-info.result.now)
+    c.program.ensures.program c.symbol-info.ensures in
     by_nothing there c.in-Closed.is
 
 pub apply-returns-then-calls-eq0 : goal.apply-returns-then-calls-eq0
 apply-returns-then-calls-eq0 g t c =
-    let there : IsSymbol c.args.engine.now.sig c.args.sym.0 c.symbol-info.result.now = subst (λ (p : Program). IsSymbol p.sig c.args.sym.0 c.symbol-info.result.now) c.program.ensures.program c.symbol-info.ensures in
-    subst (λ k. Applies (theory_of c.args.engine.now) c.args.nest c.args.sym.0 (forest c.args.args.terms.items) k (blocked (no_call_left c.args.sym.0))) (sym c.if-calls-eq0.true) (without_call there c.in_default.not-Closed)
+    let there : IsSymbol c.args.engine.now.sig c.args.sym.0 c.symbol-info.result.now =
+    subst (λ (p : Program). IsSymbol p.sig c.args.sym.0 c.symbol-info.result.now)
+    c.program.ensures.program c.symbol-info.ensures in
+    subst (λ k. Applies (theory_of c.args.engine.now) c.args.nest c.args.sym.0
+    (forest c.args.args.terms.items) k (blocked (no_call_left c.args.sym.0)))
+    (sym c.if-calls-eq0.true) (without_call there c.in_default.not-Closed)
 
 pub apply-result_sort-sort-requires : goal.apply-result_sort-sort-requires
 apply-result_sort-sort-requires g t c =
-    let there : IsSymbol c.args.engine.now.sig c.args.sym.0 c.symbol-info.result.now = subst (λ (p : Program). IsSymbol p.sig c.args.sym.0 c.symbol-info.result.now) c.program.ensures.program c.symbol-info.ensures in
-    let may : IsCallable (theory_of c.args.engine.now) c.args.sym.0 (forest c.args.args.terms.items) = arguments_callable (theory_of c.args.engine.now) c.args.sym.0 (forest c.args.args.terms.items) c.program.ensures.sorted c.requires.fits in
-    hooked_result (theory_of c.args.engine.now) c.args.sym.0 (forest c.args.args.terms.items) c.program.ensures.sorted may c.symbol-info.result.now there c.in-Hooked.hook c.in-Hooked.is
+    let there : IsSymbol c.args.engine.now.sig c.args.sym.0 c.symbol-info.result.now =
+    subst (λ (p : Program). IsSymbol p.sig c.args.sym.0 c.symbol-info.result.now)
+    c.program.ensures.program c.symbol-info.ensures in
+    let may : IsCallable (theory_of c.args.engine.now) c.args.sym.0
+    (forest c.args.args.terms.items) =
+    arguments_callable (theory_of c.args.engine.now) c.args.sym.0
+    (forest c.args.args.terms.items) c.program.ensures.sorted c.requires.fits in
+    hooked_result (theory_of c.args.engine.now) c.args.sym.0 (forest c.args.args.terms.items)
+    c.program.ensures.sorted may c.symbol-info.result.now there c.in-Hooked.hook c.in-Hooked.is
 
 pub apply-call_hook-requires : goal.apply-call_hook-requires
 apply-call_hook-requires g t c =
-    let there : IsSymbol c.args.engine.now.sig c.args.sym.0 c.symbol-info.result.now = subst (λ (p : Program). IsSymbol p.sig c.args.sym.0 c.symbol-info.result.now) c.program.ensures.program c.symbol-info.ensures in
-    let may : IsCallable (theory_of c.args.engine.now) c.args.sym.0 (forest c.args.args.terms.items) = arguments_callable (theory_of c.args.engine.now) c.args.sym.0 (forest c.args.args.terms.items) c.program.ensures.sorted c.requires.fits in
-    hooked_arguments (theory_of c.args.engine.now) c.args.sym.0 (forest c.args.args.terms.items) c.program.ensures.sorted may c.symbol-info.result.now there c.in-Hooked.hook c.in-Hooked.is
+    let there : IsSymbol c.args.engine.now.sig c.args.sym.0 c.symbol-info.result.now =
+    subst (λ (p : Program). IsSymbol p.sig c.args.sym.0 c.symbol-info.result.now)
+    c.program.ensures.program c.symbol-info.ensures in
+    let may : IsCallable (theory_of c.args.engine.now) c.args.sym.0
+    (forest c.args.args.terms.items) =
+    arguments_callable (theory_of c.args.engine.now) c.args.sym.0
+    (forest c.args.args.terms.items) c.program.ensures.sorted c.requires.fits in
+    hooked_arguments (theory_of c.args.engine.now) c.args.sym.0 (forest c.args.args.terms.items)
+    c.program.ensures.sorted may c.symbol-info.result.now there c.in-Hooked.hook c.in-Hooked.is
 
 pub apply-apply_equations-requires : goal.apply-apply_equations-requires
 apply-apply_equations-requires g t c κs within =
-    let there : IsSymbol c.args.engine.now.sig c.args.sym.0 c.symbol-info.result.now = subst (λ (p : Program). IsSymbol p.sig c.args.sym.0 c.symbol-info.result.now) c.program.ensures.program c.symbol-info.ensures in
-    let may : IsCallable (theory_of c.args.engine.now) c.args.sym.0 (forest c.args.args.terms.items) = arguments_callable (theory_of c.args.engine.now) c.args.sym.0 (forest c.args.args.terms.items) c.program.ensures.sorted c.requires.fits in
-    (omega arith, (within, (defined (theory_of c.args.engine.now) c.args.sym.0 (forest c.args.args.terms.items) c.program.ensures.sorted may c.symbol-info.result.now there c.in-Equations.is, c.requires.nest)))
+    let there : IsSymbol c.args.engine.now.sig c.args.sym.0 c.symbol-info.result.now =
+    subst (λ (p : Program). IsSymbol p.sig c.args.sym.0 c.symbol-info.result.now)
+    c.program.ensures.program c.symbol-info.ensures in
+    let may : IsCallable (theory_of c.args.engine.now) c.args.sym.0
+    (forest c.args.args.terms.items) =
+    arguments_callable (theory_of c.args.engine.now) c.args.sym.0
+    (forest c.args.args.terms.items) c.program.ensures.sorted c.requires.fits in (
+      omega arith,
+      (
+        within,
+        (
+          defined (theory_of c.args.engine.now) c.args.sym.0
+              (forest c.args.args.terms.items) c.program.ensures.sorted may c.symbol-info.result.now
+              there c.in-Equations.is,
+          c.requires.nest,
+        ),
+      ),
+    )
 
 pub apply-returns-in-Hooked : goal.apply-returns-in-Hooked
 apply-returns-in-Hooked g t c =
-    let there : IsSymbol c.args.engine.now.sig c.args.sym.0 c.symbol-info.result.now = subst (λ (p : Program). IsSymbol p.sig c.args.sym.0 c.symbol-info.result.now) c.program.ensures.program c.symbol-info.ensures in
+    let there : IsSymbol c.args.engine.now.sig c.args.sym.0 c.symbol-info.result.now =
+    subst (λ (p : Program). IsSymbol p.sig c.args.sym.0 c.symbol-info.result.now)
+    c.program.ensures.program c.symbol-info.ensures in
     let more : c.args.calls ≡ suc (c.args.calls - 1) = omega arith in
-    hook_calls g.R.Recording.tells g.R.Recording.all_tell (theory_of c.args.engine.now) c.args.nest c.args.sym.0 c.result_sort-sort.result.0 c.args.calls (c.args.calls - 1) c.in-Hooked.hook c.symbol-info.result.now c.args.args there c.in-Hooked.is c.result_sort-sort.ensures more c.call_hook.result c.call_hook.ensures
+    hook_calls g.R.Recording.tells g.R.Recording.all_tell (theory_of c.args.engine.now) c.args.nest
+    c.args.sym.0 c.result_sort-sort.result.0 c.args.calls (c.args.calls - 1) c.in-Hooked.hook
+    c.symbol-info.result.now c.args.args there c.in-Hooked.is c.result_sort-sort.ensures more
+    c.call_hook.result c.call_hook.ensures
 
 pub apply-returns-in-Equations : goal.apply-returns-in-Equations
 apply-returns-in-Equations g t c =
-    let there : IsSymbol c.args.engine.now.sig c.args.sym.0 c.symbol-info.result.now = subst (λ (p : Program). IsSymbol p.sig c.args.sym.0 c.symbol-info.result.now) c.program.ensures.program c.symbol-info.ensures in
+    let there : IsSymbol c.args.engine.now.sig c.args.sym.0 c.symbol-info.result.now =
+    subst (λ (p : Program). IsSymbol p.sig c.args.sym.0 c.symbol-info.result.now)
+    c.program.ensures.program c.symbol-info.ensures in
     let more : c.args.calls ≡ suc (c.args.calls - 1) = omega arith in
-    equations_call g.R.Recording.tells g.R.Recording.all_tell (theory_of c.args.engine.now) c.args.nest c.args.sym.0 c.args.calls (c.args.calls - 1) c.symbol-info.result.now c.args.args there c.in-Equations.is more c.apply_equations.result c.apply_equations.ensures
+    equations_call g.R.Recording.tells g.R.Recording.all_tell (theory_of c.args.engine.now)
+    c.args.nest c.args.sym.0 c.args.calls (c.args.calls - 1) c.symbol-info.result.now
+    c.args.args there c.in-Equations.is more c.apply_equations.result c.apply_equations.ensures
 
 -- ---- apply_equations
 
 pub apply_equations-evaluate_in-requires : goal.apply_equations-evaluate_in-requires
 apply_equations-evaluate_in-requires g t c κs within =
-    let values_same : forest c.deref.result.now ≡ forest c.args.args.terms.items = ap forest c.deref.ensures.value in
-    let here : ChoiceSays g.R.Recording.tells (theory_of c.args.engine.now) c.args.nest c.args.sym.0 (forest c.deref.result.now) c.args.calls (Some c.in-Some.chosen) c.in-Ok.found.1 = subst (λ o. ChoiceSays g.R.Recording.tells (theory_of c.args.engine.now) c.args.nest c.args.sym.0 (forest c.deref.result.now) c.args.calls o c.in-Ok.found.1) c.in-Some.is c.in-Ok.ensures in
-    let says : ChoiceSays g.R.Recording.tells (theory_of c.args.engine.now) c.args.nest c.args.sym.0 (forest c.args.args.terms.items) c.args.calls (Some c.in-Some.chosen) c.in-Ok.found.1 = subst (λ ts. ChoiceSays g.R.Recording.tells (theory_of c.args.engine.now) c.args.nest c.args.sym.0 ts c.args.calls (Some c.in-Some.chosen) c.in-Ok.found.1) values_same here in
-    let all : map function_equation c.equations_of.result.now ≡ equations_of (theory_of c.args.engine.now) c.args.sym.0 = subst (λ (p : Program). map function_equation c.equations_of.result.now ≡ equations_of (theory_of p) c.args.sym.0) c.program.ensures.program c.equations_of.ensures in
-    let within_list : c.in-Some.chosen.number < length c.equations_of.result.now = chosen_within (theory_of c.args.engine.now) c.args.nest c.args.sym.0 (forest c.args.args.terms.items) c.args.calls c.in-Some.chosen.number c.in-Ok.found.1 c.in-Some.chosen.subst c.equations_of.result.now says.0 all in
-    let there : slice_get (equations_of (theory_of c.args.engine.now) c.args.sym.0) c.in-Some.chosen.number ≡ Some (function_equation c.index-equations_of-number.result) = own_equation (theory_of c.args.engine.now) c.args.sym.0 c.equations_of.result.now c.in-Some.chosen.number c.index-equations_of-number.result all c.index-equations_of-number.is within_list in
-    let fits : IsEvaluable (theory_of c.args.engine.now) c.in-Some.chosen.subst (plain_pattern c.index-equations_of-number.result.right) = right_evaluable (theory_of c.args.engine.now) c.args.nest c.args.sym.0 (forest c.args.args.terms.items) c.args.calls c.in-Some.chosen.number c.in-Ok.found.1 c.in-Some.chosen.subst (function_equation c.index-equations_of-number.result) c.program.ensures.sorted c.requires.fits says.0 there in
-    (omega arith, (within, (subst (λ (x : Equation). IsEvaluable (theory_of c.args.engine.now) c.in-Some.chosen.subst (plain_pattern x.right)) c.index-equations_of-number.is fits, c.requires.nest)))
+    let values_same : forest c.deref.result.now ≡ forest c.args.args.terms.items =
+    ap forest c.deref.ensures.value in
+    let here : ChoiceSays g.R.Recording.tells (theory_of c.args.engine.now) c.args.nest c.args.sym.0
+    (forest c.deref.result.now) c.args.calls (Some c.in-Some.chosen) c.in-Ok.found.1 =
+    subst (λ o. ChoiceSays g.R.Recording.tells (theory_of c.args.engine.now) c.args.nest
+    c.args.sym.0 (forest c.deref.result.now) c.args.calls o c.in-Ok.found.1)
+    c.in-Some.is c.in-Ok.ensures in
+    let says : ChoiceSays g.R.Recording.tells (theory_of c.args.engine.now) c.args.nest c.args.sym.0
+    (forest c.args.args.terms.items) c.args.calls (Some c.in-Some.chosen) c.in-Ok.found.1 =
+    subst (λ ts. ChoiceSays g.R.Recording.tells (theory_of c.args.engine.now) c.args.nest
+    c.args.sym.0 ts c.args.calls (Some c.in-Some.chosen) c.in-Ok.found.1) values_same
+    here in
+    let all : map function_equation c.equations_of.result.now ≡ equations_of
+    (theory_of c.args.engine.now) c.args.sym.0 =
+    subst (λ (p : Program). map function_equation c.equations_of.result.now
+    ≡ equations_of (theory_of p) c.args.sym.0) c.program.ensures.program
+    c.equations_of.ensures in
+    let within_list : c.in-Some.chosen.number < length c.equations_of.result.now =
+    chosen_within (theory_of c.args.engine.now) c.args.nest c.args.sym.0
+    (forest c.args.args.terms.items) c.args.calls c.in-Some.chosen.number c.in-Ok.found.1
+    c.in-Some.chosen.subst c.equations_of.result.now says.0 all in
+    let there : slice_get (equations_of (theory_of c.args.engine.now) c.args.sym.0)
+    c.in-Some.chosen.number ≡ Some (function_equation c.index-equations_of-number.result) =
+    own_equation (theory_of c.args.engine.now) c.args.sym.0 c.equations_of.result.now
+    c.in-Some.chosen.number c.index-equations_of-number.result all
+    c.index-equations_of-number.is within_list in
+    let fits : IsEvaluable (theory_of c.args.engine.now) c.in-Some.chosen.subst
+    (plain_pattern c.index-equations_of-number.result.right) =
+    right_evaluable (theory_of c.args.engine.now) c.args.nest c.args.sym.0
+    (forest c.args.args.terms.items) c.args.calls c.in-Some.chosen.number c.in-Ok.found.1
+    c.in-Some.chosen.subst (function_equation c.index-equations_of-number.result)
+    c.program.ensures.sorted c.requires.fits says.0 there in (
+      omega arith,
+      (
+        within,
+        (
+          subst (λ (x : Equation). IsEvaluable (theory_of c.args.engine.now)
+              c.in-Some.chosen.subst (plain_pattern x.right)) c.index-equations_of-number.is fits,
+          c.requires.nest,
+        ),
+      ),
+    )
 
 pub apply_equations-returns-in-Ok-evaluate_in : goal.apply_equations-returns-in-Ok-evaluate_in
 apply_equations-returns-in-Ok-evaluate_in g t c =
-    let values_same : forest c.deref.result.now ≡ forest c.args.args.terms.items = ap forest c.deref.ensures.value in
-    let here : ChoiceSays g.R.Recording.tells (theory_of c.args.engine.now) c.args.nest c.args.sym.0 (forest c.deref.result.now) c.args.calls (Some c.in-Some.chosen) c.in-Ok.found.1 = subst (λ o. ChoiceSays g.R.Recording.tells (theory_of c.args.engine.now) c.args.nest c.args.sym.0 (forest c.deref.result.now) c.args.calls o c.in-Ok.found.1) c.in-Some.is c.in-Ok.ensures in
-    let says : ChoiceSays g.R.Recording.tells (theory_of c.args.engine.now) c.args.nest c.args.sym.0 (forest c.args.args.terms.items) c.args.calls (Some c.in-Some.chosen) c.in-Ok.found.1 = subst (λ ts. ChoiceSays g.R.Recording.tells (theory_of c.args.engine.now) c.args.nest c.args.sym.0 ts c.args.calls (Some c.in-Some.chosen) c.in-Ok.found.1) values_same here in
-    let all : map function_equation c.equations_of.result.now ≡ equations_of (theory_of c.args.engine.now) c.args.sym.0 = subst (λ (p : Program). map function_equation c.equations_of.result.now ≡ equations_of (theory_of p) c.args.sym.0) c.program.ensures.program c.equations_of.ensures in
-    let within_list : c.in-Some.chosen.number < length c.equations_of.result.now = chosen_within (theory_of c.args.engine.now) c.args.nest c.args.sym.0 (forest c.args.args.terms.items) c.args.calls c.in-Some.chosen.number c.in-Ok.found.1 c.in-Some.chosen.subst c.equations_of.result.now says.0 all in
-    let there : slice_get (equations_of (theory_of c.args.engine.now) c.args.sym.0) c.in-Some.chosen.number ≡ Some (function_equation c.index-equations_of-number.result) = own_equation (theory_of c.args.engine.now) c.args.sym.0 c.equations_of.result.now c.in-Some.chosen.number c.index-equations_of-number.result all c.index-equations_of-number.is within_list in
-    let evaluated : EvaluatesIn (theory_of c.args.engine.now) c.args.nest c.args.sym.0 c.in-Some.chosen.subst (plain_pattern c.index-equations_of-number.result.right) c.in-Ok.found.1 (value c.in-Ok-evaluate_in.body.term c.in-Ok-evaluate_in.rest) = subst (λ (x : Equation). EvaluatesIn (theory_of c.args.engine.now) c.args.nest c.args.sym.0 c.in-Some.chosen.subst (plain_pattern x.right) c.in-Ok.found.1 (value c.in-Ok-evaluate_in.body.term c.in-Ok-evaluate_in.rest)) (sym c.index-equations_of-number.is) c.in-Ok-evaluate_in.ensures.0 in
-    let told : IsRecorded (g.R.Recording.tells c.in-Ok-evaluate_in.body.recorded) (theory_of c.args.engine.now) c.in-Some.chosen.subst (plain_pattern c.index-equations_of-number.result.right) c.in-Ok-evaluate_in.body.term = subst (λ (x : Equation). IsRecorded (g.R.Recording.tells c.in-Ok-evaluate_in.body.recorded) (theory_of c.args.engine.now) c.in-Some.chosen.subst (plain_pattern x.right) c.in-Ok-evaluate_in.body.term) (sym c.index-equations_of-number.is) c.in-Ok-evaluate_in.ensures.1 in
-    right_gives g.R.Recording.tells g.R.Recording.all_tell (theory_of c.args.engine.now) c.args.nest c.args.sym.0 c.args.args c.args.calls c.in-Some.chosen.number c.in-Ok.found.1 c.in-Ok-evaluate_in.rest c.in-Some.chosen.subst c.in-Some.chosen.cond (function_equation c.index-equations_of-number.result) c.in-Ok-evaluate_in.body c.in_ok-recorded-in-Ok-evaluate_in.recorded c.requires.fits says.0 says.1 there evaluated told c.in_ok-recorded-in-Ok-evaluate_in.ensures
+    let values_same : forest c.deref.result.now ≡ forest c.args.args.terms.items =
+    ap forest c.deref.ensures.value in
+    let here : ChoiceSays g.R.Recording.tells (theory_of c.args.engine.now) c.args.nest c.args.sym.0
+    (forest c.deref.result.now) c.args.calls (Some c.in-Some.chosen) c.in-Ok.found.1 =
+    subst (λ o. ChoiceSays g.R.Recording.tells (theory_of c.args.engine.now) c.args.nest
+    c.args.sym.0 (forest c.deref.result.now) c.args.calls o c.in-Ok.found.1)
+    c.in-Some.is c.in-Ok.ensures in
+    let says : ChoiceSays g.R.Recording.tells (theory_of c.args.engine.now) c.args.nest c.args.sym.0
+    (forest c.args.args.terms.items) c.args.calls (Some c.in-Some.chosen) c.in-Ok.found.1 =
+    subst (λ ts. ChoiceSays g.R.Recording.tells (theory_of c.args.engine.now) c.args.nest
+    c.args.sym.0 ts c.args.calls (Some c.in-Some.chosen) c.in-Ok.found.1) values_same
+    here in
+    let all : map function_equation c.equations_of.result.now ≡ equations_of
+    (theory_of c.args.engine.now) c.args.sym.0 =
+    subst (λ (p : Program). map function_equation c.equations_of.result.now
+    ≡ equations_of (theory_of p) c.args.sym.0) c.program.ensures.program
+    c.equations_of.ensures in
+    let within_list : c.in-Some.chosen.number < length c.equations_of.result.now =
+    chosen_within (theory_of c.args.engine.now) c.args.nest c.args.sym.0
+    (forest c.args.args.terms.items) c.args.calls c.in-Some.chosen.number c.in-Ok.found.1
+    c.in-Some.chosen.subst c.equations_of.result.now says.0 all in
+    let there : slice_get (equations_of (theory_of c.args.engine.now) c.args.sym.0)
+    c.in-Some.chosen.number ≡ Some (function_equation c.index-equations_of-number.result) =
+    own_equation (theory_of c.args.engine.now) c.args.sym.0 c.equations_of.result.now
+    c.in-Some.chosen.number c.index-equations_of-number.result all
+    c.index-equations_of-number.is within_list in
+    let evaluated : EvaluatesIn (theory_of c.args.engine.now) c.args.nest c.args.sym.0
+    c.in-Some.chosen.subst (plain_pattern c.index-equations_of-number.result.right)
+    c.in-Ok.found.1 (value c.in-Ok-evaluate_in.body.term c.in-Ok-evaluate_in.rest) =
+    subst (λ (x : Equation). EvaluatesIn (theory_of c.args.engine.now) c.args.nest c.args.sym.0
+    c.in-Some.chosen.subst (plain_pattern x.right) c.in-Ok.found.1
+    (value c.in-Ok-evaluate_in.body.term c.in-Ok-evaluate_in.rest))
+    (sym c.index-equations_of-number.is) c.in-Ok-evaluate_in.ensures.0 in
+    let told : IsRecorded (g.R.Recording.tells c.in-Ok-evaluate_in.body.recorded)
+    (theory_of c.args.engine.now) c.in-Some.chosen.subst
+    (plain_pattern c.index-equations_of-number.result.right) c.in-Ok-evaluate_in.body.term =
+    subst (λ (x : Equation). IsRecorded (g.R.Recording.tells c.in-Ok-evaluate_in.body.recorded)
+    (theory_of c.args.engine.now) c.in-Some.chosen.subst (plain_pattern x.right)
+    c.in-Ok-evaluate_in.body.term) (sym c.index-equations_of-number.is)
+    c.in-Ok-evaluate_in.ensures.1 in
+    right_gives g.R.Recording.tells g.R.Recording.all_tell (theory_of c.args.engine.now) c.args.nest
+    c.args.sym.0 c.args.args c.args.calls c.in-Some.chosen.number c.in-Ok.found.1
+    c.in-Ok-evaluate_in.rest c.in-Some.chosen.subst c.in-Some.chosen.cond
+    (function_equation c.index-equations_of-number.result) c.in-Ok-evaluate_in.body
+    c.in_ok-recorded-in-Ok-evaluate_in.recorded c.requires.fits says.0 says.1 there evaluated
+    told c.in_ok-recorded-in-Ok-evaluate_in.ensures
 
 pub apply_equations-returns : goal.apply_equations-returns
 apply_equations-returns g t c =
-    let values_same : forest c.deref.result.now ≡ forest c.args.args.terms.items = ap forest c.deref.ensures.value in
-    let here : ChoiceSays g.R.Recording.tells (theory_of c.args.engine.now) c.args.nest c.args.sym.0 (forest c.deref.result.now) c.args.calls (Some c.in-Some.chosen) c.in-Ok.found.1 = subst (λ o. ChoiceSays g.R.Recording.tells (theory_of c.args.engine.now) c.args.nest c.args.sym.0 (forest c.deref.result.now) c.args.calls o c.in-Ok.found.1) c.in-Some.is c.in-Ok.ensures in
-    let says : ChoiceSays g.R.Recording.tells (theory_of c.args.engine.now) c.args.nest c.args.sym.0 (forest c.args.args.terms.items) c.args.calls (Some c.in-Some.chosen) c.in-Ok.found.1 = subst (λ ts. ChoiceSays g.R.Recording.tells (theory_of c.args.engine.now) c.args.nest c.args.sym.0 ts c.args.calls (Some c.in-Some.chosen) c.in-Ok.found.1) values_same here in
-    let all : map function_equation c.equations_of.result.now ≡ equations_of (theory_of c.args.engine.now) c.args.sym.0 = subst (λ (p : Program). map function_equation c.equations_of.result.now ≡ equations_of (theory_of p) c.args.sym.0) c.program.ensures.program c.equations_of.ensures in
-    let within_list : c.in-Some.chosen.number < length c.equations_of.result.now = chosen_within (theory_of c.args.engine.now) c.args.nest c.args.sym.0 (forest c.args.args.terms.items) c.args.calls c.in-Some.chosen.number c.in-Ok.found.1 c.in-Some.chosen.subst c.equations_of.result.now says.0 all in
-    let there : slice_get (equations_of (theory_of c.args.engine.now) c.args.sym.0) c.in-Some.chosen.number ≡ Some (function_equation c.index-equations_of-number.result) = own_equation (theory_of c.args.engine.now) c.args.sym.0 c.equations_of.result.now c.in-Some.chosen.number c.index-equations_of-number.result all c.index-equations_of-number.is within_list in
-    let stops : GivesWithin g.R.Recording.tells (theory_of c.args.engine.now) c.args.nest c.args.sym.0 c.in-Some.chosen.subst (plain_pattern c.index-equations_of-number.result.right) c.in-Ok.found.1 (Err c.in-Err-evaluate_in.end) = subst (λ (x : Equation). GivesWithin g.R.Recording.tells (theory_of c.args.engine.now) c.args.nest c.args.sym.0 c.in-Some.chosen.subst (plain_pattern x.right) c.in-Ok.found.1 (Err c.in-Err-evaluate_in.end)) (sym c.index-equations_of-number.is) c.in-Err-evaluate_in.ensures in
-    right_stops g.R.Recording.tells g.R.Recording.all_tell (theory_of c.args.engine.now) c.args.nest c.args.sym.0 c.args.args c.args.calls c.in-Some.chosen.number c.in-Ok.found.1 c.in-Some.chosen.subst (function_equation c.index-equations_of-number.result) c.in-Err-evaluate_in.end says.0 there stops
+    let values_same : forest c.deref.result.now ≡ forest c.args.args.terms.items =
+    ap forest c.deref.ensures.value in
+    let here : ChoiceSays g.R.Recording.tells (theory_of c.args.engine.now) c.args.nest c.args.sym.0
+    (forest c.deref.result.now) c.args.calls (Some c.in-Some.chosen) c.in-Ok.found.1 =
+    subst (λ o. ChoiceSays g.R.Recording.tells (theory_of c.args.engine.now) c.args.nest
+    c.args.sym.0 (forest c.deref.result.now) c.args.calls o c.in-Ok.found.1)
+    c.in-Some.is c.in-Ok.ensures in
+    let says : ChoiceSays g.R.Recording.tells (theory_of c.args.engine.now) c.args.nest c.args.sym.0
+    (forest c.args.args.terms.items) c.args.calls (Some c.in-Some.chosen) c.in-Ok.found.1 =
+    subst (λ ts. ChoiceSays g.R.Recording.tells (theory_of c.args.engine.now) c.args.nest
+    c.args.sym.0 ts c.args.calls (Some c.in-Some.chosen) c.in-Ok.found.1) values_same
+    here in
+    let all : map function_equation c.equations_of.result.now ≡ equations_of
+    (theory_of c.args.engine.now) c.args.sym.0 =
+    subst (λ (p : Program). map function_equation c.equations_of.result.now
+    ≡ equations_of (theory_of p) c.args.sym.0) c.program.ensures.program
+    c.equations_of.ensures in
+    let within_list : c.in-Some.chosen.number < length c.equations_of.result.now =
+    chosen_within (theory_of c.args.engine.now) c.args.nest c.args.sym.0
+    (forest c.args.args.terms.items) c.args.calls c.in-Some.chosen.number c.in-Ok.found.1
+    c.in-Some.chosen.subst c.equations_of.result.now says.0 all in
+    let there : slice_get (equations_of (theory_of c.args.engine.now) c.args.sym.0)
+    c.in-Some.chosen.number ≡ Some (function_equation c.index-equations_of-number.result) =
+    own_equation (theory_of c.args.engine.now) c.args.sym.0 c.equations_of.result.now
+    c.in-Some.chosen.number c.index-equations_of-number.result all
+    c.index-equations_of-number.is within_list in
+    let stops : GivesWithin g.R.Recording.tells (theory_of c.args.engine.now) c.args.nest
+    c.args.sym.0 c.in-Some.chosen.subst
+    (plain_pattern c.index-equations_of-number.result.right) c.in-Ok.found.1
+    (Err c.in-Err-evaluate_in.end) =
+    subst (λ (x : Equation). GivesWithin g.R.Recording.tells (theory_of c.args.engine.now)
+    c.args.nest c.args.sym.0 c.in-Some.chosen.subst (plain_pattern x.right)
+    c.in-Ok.found.1 (Err c.in-Err-evaluate_in.end)) (sym c.index-equations_of-number.is)
+    c.in-Err-evaluate_in.ensures in
+    right_stops g.R.Recording.tells g.R.Recording.all_tell (theory_of c.args.engine.now) c.args.nest
+    c.args.sym.0 c.args.args c.args.calls c.in-Some.chosen.number c.in-Ok.found.1
+    c.in-Some.chosen.subst (function_equation c.index-equations_of-number.result)
+    c.in-Err-evaluate_in.end says.0 there stops
 
 -- ---- choose_equation
 
 pub choose_equation-try_equation-requires : goal.choose_equation-try_equation-requires
 choose_equation-try_equation-requires g t c κs within =
-    let all : map function_equation c.equations_of-equations.result.now ≡ equations_of (theory_of c.args.engine.now) c.args.sym.0 = subst (λ (p : Program). map function_equation c.equations_of-equations.result.now ≡ equations_of (theory_of p) c.args.sym.0) c.program.ensures.program c.equations_of-equations.ensures in
-    let there : slice_get (equations_of (theory_of c.args.engine.now) c.args.sym.0) c.loop-i.i ≡ Some (function_equation c.index-equations-i.result) = own_equation (theory_of c.args.engine.now) c.args.sym.0 c.equations_of-equations.result.now c.loop-i.i c.index-equations-i.result all c.index-equations-i.is (omega arith) in
-    (omega arith, (within, (triable (theory_of c.args.engine.now) c.args.sym.0 (forest c.args.terms.now) c.loop-i.i (function_equation c.index-equations-i.result) c.program.ensures.sorted c.requires.fits there, c.requires.nest)))
+    let all : map function_equation c.equations_of-equations.result.now ≡ equations_of
+    (theory_of c.args.engine.now) c.args.sym.0 =
+    subst (λ (p : Program). map function_equation c.equations_of-equations.result.now
+    ≡ equations_of (theory_of p) c.args.sym.0) c.program.ensures.program
+    c.equations_of-equations.ensures in
+    let there : slice_get (equations_of (theory_of c.args.engine.now) c.args.sym.0) c.loop-i.i ≡
+    Some (function_equation c.index-equations-i.result) =
+    own_equation (theory_of c.args.engine.now) c.args.sym.0 c.equations_of-equations.result.now
+    c.loop-i.i c.index-equations-i.result all c.index-equations-i.is (omega arith) in (
+      omega arith,
+      (
+        within,
+        (
+          triable (theory_of c.args.engine.now) c.args.sym.0
+              (forest c.args.terms.now) c.loop-i.i (function_equation c.index-equations-i.result)
+              c.program.ensures.sorted c.requires.fits there,
+          c.requires.nest,
+        ),
+      ),
+    )
 
 pub choose_equation-returns-in-Used : goal.choose_equation-returns-in-Used
 choose_equation-returns-in-Used g t c =
-    let all : map function_equation c.equations_of-equations.result.now ≡ equations_of (theory_of c.args.engine.now) c.args.sym.0 = subst (λ (p : Program). map function_equation c.equations_of-equations.result.now ≡ equations_of (theory_of p) c.args.sym.0) c.program.ensures.program c.equations_of-equations.ensures in
-    let there : slice_get (equations_of (theory_of c.args.engine.now) c.args.sym.0) c.loop-i.i ≡ Some (function_equation c.index-equations-i.result) = own_equation (theory_of c.args.engine.now) c.args.sym.0 c.equations_of-equations.result.now c.loop-i.i c.index-equations-i.result all c.index-equations-i.is (omega arith) in
-    let says : TrialSays g.R.Recording.tells (theory_of c.args.engine.now) c.args.nest c.args.sym.0 (function_equation c.index-equations-i.result) (forest c.args.terms.now) c.loop-i.left (Used c.in-Used.subst c.in-Used.cond) c.in-Ok.rest = subst (λ o. TrialSays g.R.Recording.tells (theory_of c.args.engine.now) c.args.nest c.args.sym.0 (function_equation c.index-equations-i.result) (forest c.args.terms.now) c.loop-i.left o c.in-Ok.rest) c.in-Used.is c.in-Ok.ensures in
-    (chosen (theory_of c.args.engine.now) c.args.nest c.args.sym.0 (forest c.args.terms.now) c.args.calls c.loop-i.i c.loop-i.left c.in-Ok.rest (function_equation c.index-equations-i.result) c.in-Used.subst c.loop-i.invariant.tried c.loop-i.invariant.unused there says.0 says.1, says.2)
+    let all : map function_equation c.equations_of-equations.result.now ≡ equations_of
+    (theory_of c.args.engine.now) c.args.sym.0 =
+    subst (λ (p : Program). map function_equation c.equations_of-equations.result.now
+    ≡ equations_of (theory_of p) c.args.sym.0) c.program.ensures.program
+    c.equations_of-equations.ensures in
+    let there : slice_get (equations_of (theory_of c.args.engine.now) c.args.sym.0) c.loop-i.i ≡
+    Some (function_equation c.index-equations-i.result) =
+    own_equation (theory_of c.args.engine.now) c.args.sym.0 c.equations_of-equations.result.now
+    c.loop-i.i c.index-equations-i.result all c.index-equations-i.is (omega arith) in
+    let says : TrialSays g.R.Recording.tells (theory_of c.args.engine.now) c.args.nest c.args.sym.0
+    (function_equation c.index-equations-i.result) (forest c.args.terms.now) c.loop-i.left
+    (Used c.in-Used.subst c.in-Used.cond) c.in-Ok.rest =
+    subst (λ o. TrialSays g.R.Recording.tells (theory_of c.args.engine.now) c.args.nest
+    c.args.sym.0 (function_equation c.index-equations-i.result)
+    (forest c.args.terms.now) c.loop-i.left o c.in-Ok.rest) c.in-Used.is
+    c.in-Ok.ensures in (
+      chosen (theory_of c.args.engine.now) c.args.nest c.args.sym.0 (forest c.args.terms.now)
+          c.args.calls c.loop-i.i c.loop-i.left c.in-Ok.rest
+          (function_equation c.index-equations-i.result) c.in-Used.subst c.loop-i.invariant.tried
+          c.loop-i.invariant.unused there says.0 says.1,
+      says.2,
+    )
 
 pub choose_equation-returns-in-Err : goal.choose_equation-returns-in-Err
 choose_equation-returns-in-Err g t c =
-    let all : map function_equation c.equations_of-equations.result.now ≡ equations_of (theory_of c.args.engine.now) c.args.sym.0 = subst (λ (p : Program). map function_equation c.equations_of-equations.result.now ≡ equations_of (theory_of p) c.args.sym.0) c.program.ensures.program c.equations_of-equations.ensures in
-    let there : slice_get (equations_of (theory_of c.args.engine.now) c.args.sym.0) c.loop-i.i ≡ Some (function_equation c.index-equations-i.result) = own_equation (theory_of c.args.engine.now) c.args.sym.0 c.equations_of-equations.result.now c.loop-i.i c.index-equations-i.result all c.index-equations-i.is (omega arith) in
-    trial_stops g.R.Recording.tells (theory_of c.args.engine.now) c.args.nest c.args.sym.0 (forest c.args.terms.now) c.args.calls c.loop-i.i c.loop-i.left (function_equation c.index-equations-i.result) c.in-Err.end c.loop-i.invariant.tried there c.in-Err.ensures
+    let all : map function_equation c.equations_of-equations.result.now ≡ equations_of
+    (theory_of c.args.engine.now) c.args.sym.0 =
+    subst (λ (p : Program). map function_equation c.equations_of-equations.result.now
+    ≡ equations_of (theory_of p) c.args.sym.0) c.program.ensures.program
+    c.equations_of-equations.ensures in
+    let there : slice_get (equations_of (theory_of c.args.engine.now) c.args.sym.0) c.loop-i.i ≡
+    Some (function_equation c.index-equations-i.result) =
+    own_equation (theory_of c.args.engine.now) c.args.sym.0 c.equations_of-equations.result.now
+    c.loop-i.i c.index-equations-i.result all c.index-equations-i.is (omega arith) in
+    trial_stops g.R.Recording.tells (theory_of c.args.engine.now) c.args.nest c.args.sym.0
+    (forest c.args.terms.now) c.args.calls c.loop-i.i c.loop-i.left
+    (function_equation c.index-equations-i.result) c.in-Err.end c.loop-i.invariant.tried there
+    c.in-Err.ensures
 
 pub choose_equation-loop-i-preserved : goal.choose_equation-loop-i-preserved
 choose_equation-loop-i-preserved g t c =
-    let all : map function_equation c.equations_of-equations.result.now ≡ equations_of (theory_of c.args.engine.now) c.args.sym.0 = subst (λ (p : Program). map function_equation c.equations_of-equations.result.now ≡ equations_of (theory_of p) c.args.sym.0) c.program.ensures.program c.equations_of-equations.ensures in
-    let there : slice_get (equations_of (theory_of c.args.engine.now) c.args.sym.0) c.loop-i.i ≡ Some (function_equation c.index-equations-i.result) = own_equation (theory_of c.args.engine.now) c.args.sym.0 c.equations_of-equations.result.now c.loop-i.i c.index-equations-i.result all c.index-equations-i.is (omega arith) in
-    let says : TrialSays g.R.Recording.tells (theory_of c.args.engine.now) c.args.nest c.args.sym.0 (function_equation c.index-equations-i.result) (forest c.args.terms.now) c.loop-i.left Unused c.in-Ok.rest = subst (λ o. TrialSays g.R.Recording.tells (theory_of c.args.engine.now) c.args.nest c.args.sym.0 (function_equation c.index-equations-i.result) (forest c.args.terms.now) c.loop-i.left o c.in-Ok.rest) c.in-Unused.is c.in-Ok.ensures in
+    let all : map function_equation c.equations_of-equations.result.now ≡ equations_of
+    (theory_of c.args.engine.now) c.args.sym.0 =
+    subst (λ (p : Program). map function_equation c.equations_of-equations.result.now
+    ≡ equations_of (theory_of p) c.args.sym.0) c.program.ensures.program
+    c.equations_of-equations.ensures in
+    let there : slice_get (equations_of (theory_of c.args.engine.now) c.args.sym.0) c.loop-i.i ≡
+    Some (function_equation c.index-equations-i.result) =
+    own_equation (theory_of c.args.engine.now) c.args.sym.0 c.equations_of-equations.result.now
+    c.loop-i.i c.index-equations-i.result all c.index-equations-i.is (omega arith) in
+    let says : TrialSays g.R.Recording.tells (theory_of c.args.engine.now) c.args.nest c.args.sym.0
+    (function_equation c.index-equations-i.result) (forest c.args.terms.now) c.loop-i.left
+    Unused c.in-Ok.rest =
+    subst (λ o. TrialSays g.R.Recording.tells (theory_of c.args.engine.now) c.args.nest
+    c.args.sym.0 (function_equation c.index-equations-i.result)
+    (forest c.args.terms.now) c.loop-i.left o c.in-Ok.rest) c.in-Unused.is
+    c.in-Ok.ensures in
     record {
-      tried = tried-more g.R.Recording.tells (theory_of c.args.engine.now) c.args.nest c.args.sym.0 (forest c.args.terms.now) c.args.calls (equations_of (theory_of c.args.engine.now) c.args.sym.0) c.loop-i.i c.loop-i.left c.in-Ok.rest (function_equation c.index-equations-i.result) c.loop-i.invariant.tried there says;
-      unused = unused-more (theory_of c.args.engine.now) c.args.sym.0 (forest c.args.terms.now) (equations_of (theory_of c.args.engine.now) c.args.sym.0) c.loop-i.i (function_equation c.index-equations-i.result) c.loop-i.invariant.unused there (is_unused g.R.Recording.tells (theory_of c.args.engine.now) c.args.nest c.args.sym.0 (function_equation c.index-equations-i.result) (forest c.args.terms.now) c.loop-i.left c.in-Ok.rest c.requires.nest (omega arith) says);
-      fewer = omega (arith, trial_falls g.R.Recording.tells (theory_of c.args.engine.now) c.args.nest c.args.sym.0 (function_equation c.index-equations-i.result) (forest c.args.terms.now) c.loop-i.left c.in-Ok.rest says);
+      tried =
+          tried-more g.R.Recording.tells (theory_of c.args.engine.now) c.args.nest c.args.sym.0
+          (forest c.args.terms.now) c.args.calls
+          (equations_of (theory_of c.args.engine.now) c.args.sym.0) c.loop-i.i c.loop-i.left
+          c.in-Ok.rest (function_equation c.index-equations-i.result) c.loop-i.invariant.tried
+          there says;
+      unused =
+          unused-more (theory_of c.args.engine.now) c.args.sym.0 (forest c.args.terms.now)
+          (equations_of (theory_of c.args.engine.now) c.args.sym.0) c.loop-i.i
+          (function_equation c.index-equations-i.result) c.loop-i.invariant.unused there
+          (is_unused g.R.Recording.tells (theory_of c.args.engine.now) c.args.nest c.args.sym.0
+          (function_equation c.index-equations-i.result) (forest c.args.terms.now)
+          c.loop-i.left c.in-Ok.rest c.requires.nest (omega arith) says);
+      fewer =
+          omega (
+            arith,
+            trial_falls g.R.Recording.tells (theory_of c.args.engine.now) c.args.nest c.args.sym.0
+                (function_equation c.index-equations-i.result) (forest c.args.terms.now)
+                c.loop-i.left c.in-Ok.rest says,
+          );
     }
 
 pub choose_equation-returns : goal.choose_equation-returns
 choose_equation-returns g t c =
-    let all : map function_equation c.equations_of-equations.result.now ≡ equations_of (theory_of c.args.engine.now) c.args.sym.0 = subst (λ (p : Program). map function_equation c.equations_of-equations.result.now ≡ equations_of (theory_of p) c.args.sym.0) c.program.ensures.program c.equations_of-equations.ensures in
-    let len : length (equations_of (theory_of c.args.engine.now) c.args.sym.0) ≡ length c.equations_of-equations.result.now = as_long (theory_of c.args.engine.now) c.args.sym.0 c.equations_of-equations.result.now all in
-    tried-all (theory_of c.args.engine.now) c.args.nest c.args.sym.0 (forest c.args.terms.now) c.args.calls (equations_of (theory_of c.args.engine.now) c.args.sym.0) c.loop-i.i c.loop-i.left c.loop-i.invariant.tried (omega arith)
+    let all : map function_equation c.equations_of-equations.result.now ≡ equations_of
+    (theory_of c.args.engine.now) c.args.sym.0 =
+    subst (λ (p : Program). map function_equation c.equations_of-equations.result.now
+    ≡ equations_of (theory_of p) c.args.sym.0) c.program.ensures.program
+    c.equations_of-equations.ensures in
+    let len : length (equations_of (theory_of c.args.engine.now) c.args.sym.0) ≡ length
+    c.equations_of-equations.result.now =
+    as_long (theory_of c.args.engine.now) c.args.sym.0 c.equations_of-equations.result.now
+    all in
+    tried-all (theory_of c.args.engine.now) c.args.nest c.args.sym.0 (forest c.args.terms.now)
+    c.args.calls (equations_of (theory_of c.args.engine.now) c.args.sym.0) c.loop-i.i
+    c.loop-i.left c.loop-i.invariant.tried (omega arith)
 
 -- ---- try_equation
 
-pub try_equation-match_equation-requires-clause-fits : goal.try_equation-match_equation-requires-clause-fits
+pub try_equation-match_equation-requires-clause-fits :
+    goal.try_equation-match_equation-requires-clause-fits
 try_equation-match_equation-requires-clause-fits g t c =
-    subst (λ (p : Program). IsTriable (theory_of p) (function_equation c.args.equation.now) (forest c.args.terms.now)) (sym c.program.ensures.program) c.requires.fits
+    subst (λ (p : Program). IsTriable (theory_of p) (function_equation c.args.equation.now)
+    (forest c.args.terms.now)) (sym c.program.ensures.program) c.requires.fits
 
 pub try_equation-returns-in_default-cond : goal.try_equation-returns-in_default-cond
 try_equation-returns-in_default-cond g t c =
-    let found : Matches (theory_of c.args.engine.now) (function_equation c.args.equation.now) (forest c.args.terms.now) c.in_ok-subst.field-0 = subst (λ (p : Program). Matches (theory_of p) (function_equation c.args.equation.now) (forest c.args.terms.now) c.in_ok-subst.field-0) c.program.ensures.program c.in_ok-subst.ensures in
-    let match : MatchAll c.args.engine.now.sig (function_equation c.args.equation.now).variables (function_equation c.args.equation.now).arguments (forest c.args.terms.now) c.in-Some.subst = matched_some (theory_of c.args.engine.now) (function_equation c.args.equation.now) (forest c.args.terms.now) c.in_ok-subst.field-0 c.in-Some.subst found c.in-Some.is in
-    let none : option_map plain_pattern c.args.equation.now.cond ≡ None = ap (option_map plain_pattern) c.in_default-cond.is in
-    let told = no_test (theory_of c.args.engine.now) c.args.nest c.args.sym.0 c.args.calls c.in-Some.subst (option_map plain_pattern c.args.equation.now.cond) none in
+    let found : Matches (theory_of c.args.engine.now) (function_equation c.args.equation.now)
+    (forest c.args.terms.now) c.in_ok-subst.field-0 =
+    subst (λ (p : Program). Matches (theory_of p) (function_equation c.args.equation.now)
+    (forest c.args.terms.now) c.in_ok-subst.field-0) c.program.ensures.program
+    c.in_ok-subst.ensures in
+    let match : MatchAll c.args.engine.now.sig (function_equation c.args.equation.now).variables
+    (function_equation c.args.equation.now).arguments (forest c.args.terms.now)
+    c.in-Some.subst =
+    matched_some (theory_of c.args.engine.now) (function_equation c.args.equation.now)
+    (forest c.args.terms.now) c.in_ok-subst.field-0 c.in-Some.subst found c.in-Some.is in
+    let none : option_map plain_pattern c.args.equation.now.cond ≡ None =
+    ap (option_map plain_pattern) c.in_default-cond.is in
+    let told =
+    no_test (theory_of c.args.engine.now) c.args.nest c.args.sym.0 c.args.calls c.in-Some.subst
+    (option_map plain_pattern c.args.equation.now.cond) none in
     (match, told.0, told.1)
 
 pub try_equation-evaluate_in-requires : goal.try_equation-evaluate_in-requires
 try_equation-evaluate_in-requires g t c κs within =
-    let found : Matches (theory_of c.args.engine.now) (function_equation c.args.equation.now) (forest c.args.terms.now) c.in_ok-subst.field-0 = subst (λ (p : Program). Matches (theory_of p) (function_equation c.args.equation.now) (forest c.args.terms.now) c.in_ok-subst.field-0) c.program.ensures.program c.in_ok-subst.ensures in
-    let match : MatchAll c.args.engine.now.sig (function_equation c.args.equation.now).variables (function_equation c.args.equation.now).arguments (forest c.args.terms.now) c.in-Some.subst = matched_some (theory_of c.args.engine.now) (function_equation c.args.equation.now) (forest c.args.terms.now) c.in_ok-subst.field-0 c.in-Some.subst found c.in-Some.is in
-    let some : option_map plain_pattern c.args.equation.now.cond ≡ Some (plain_pattern c.in-Some-cond.cond) = ap (option_map plain_pattern) c.in-Some-cond.is in
-    (omega arith, (within, (condition_evaluable (theory_of c.args.engine.now) (function_equation c.args.equation.now) (forest c.args.terms.now) c.in-Some.subst (plain_pattern c.in-Some-cond.cond) c.requires.fits match some, c.requires.nest)))
+    let found : Matches (theory_of c.args.engine.now) (function_equation c.args.equation.now)
+    (forest c.args.terms.now) c.in_ok-subst.field-0 =
+    subst (λ (p : Program). Matches (theory_of p) (function_equation c.args.equation.now)
+    (forest c.args.terms.now) c.in_ok-subst.field-0) c.program.ensures.program
+    c.in_ok-subst.ensures in
+    let match : MatchAll c.args.engine.now.sig (function_equation c.args.equation.now).variables
+    (function_equation c.args.equation.now).arguments (forest c.args.terms.now)
+    c.in-Some.subst =
+    matched_some (theory_of c.args.engine.now) (function_equation c.args.equation.now)
+    (forest c.args.terms.now) c.in_ok-subst.field-0 c.in-Some.subst found c.in-Some.is in
+    let some : option_map plain_pattern c.args.equation.now.cond ≡ Some
+    (plain_pattern c.in-Some-cond.cond) =
+    ap (option_map plain_pattern) c.in-Some-cond.is in (
+      omega arith,
+      (
+        within,
+        (
+          condition_evaluable (theory_of c.args.engine.now)
+              (function_equation c.args.equation.now) (forest c.args.terms.now) c.in-Some.subst
+              (plain_pattern c.in-Some-cond.cond) c.requires.fits match some,
+          c.requires.nest,
+        ),
+      ),
+    )
 
 pub try_equation-returns-then-is_true : goal.try_equation-returns-then-is_true
 try_equation-returns-then-is_true g t c =
-    let found : Matches (theory_of c.args.engine.now) (function_equation c.args.equation.now) (forest c.args.terms.now) c.in_ok-subst.field-0 = subst (λ (p : Program). Matches (theory_of p) (function_equation c.args.equation.now) (forest c.args.terms.now) c.in_ok-subst.field-0) c.program.ensures.program c.in_ok-subst.ensures in
-    let match : MatchAll c.args.engine.now.sig (function_equation c.args.equation.now).variables (function_equation c.args.equation.now).arguments (forest c.args.terms.now) c.in-Some.subst = matched_some (theory_of c.args.engine.now) (function_equation c.args.equation.now) (forest c.args.terms.now) c.in_ok-subst.field-0 c.in-Some.subst found c.in-Some.is in
-    let some : option_map plain_pattern c.args.equation.now.cond ≡ Some (plain_pattern c.in-Some-cond.cond) = ap (option_map plain_pattern) c.in-Some-cond.is in
-    let told = test_holds g.R.Recording.tells (theory_of c.args.engine.now) c.args.nest c.args.sym.0 c.args.calls c.in-Ok.left c.in-Some.subst (option_map plain_pattern c.args.equation.now.cond) (plain_pattern c.in-Some-cond.cond) c.in-Ok.answer some c.in-Ok.ensures.0 c.in-Ok.ensures.1 (c.is_true.ensures.0 c.if-is_true.true) in
+    let found : Matches (theory_of c.args.engine.now) (function_equation c.args.equation.now)
+    (forest c.args.terms.now) c.in_ok-subst.field-0 =
+    subst (λ (p : Program). Matches (theory_of p) (function_equation c.args.equation.now)
+    (forest c.args.terms.now) c.in_ok-subst.field-0) c.program.ensures.program
+    c.in_ok-subst.ensures in
+    let match : MatchAll c.args.engine.now.sig (function_equation c.args.equation.now).variables
+    (function_equation c.args.equation.now).arguments (forest c.args.terms.now)
+    c.in-Some.subst =
+    matched_some (theory_of c.args.engine.now) (function_equation c.args.equation.now)
+    (forest c.args.terms.now) c.in_ok-subst.field-0 c.in-Some.subst found c.in-Some.is in
+    let some : option_map plain_pattern c.args.equation.now.cond ≡ Some
+    (plain_pattern c.in-Some-cond.cond) =
+    ap (option_map plain_pattern) c.in-Some-cond.is in
+    let told =
+    test_holds g.R.Recording.tells (theory_of c.args.engine.now) c.args.nest c.args.sym.0
+    c.args.calls c.in-Ok.left c.in-Some.subst
+    (option_map plain_pattern c.args.equation.now.cond) (plain_pattern c.in-Some-cond.cond)
+    c.in-Ok.answer some c.in-Ok.ensures.0 c.in-Ok.ensures.1
+    (c.is_true.ensures.0 c.if-is_true.true) in
     (match, told.0, told.1)
 
 pub try_equation-returns-else-is_true : goal.try_equation-returns-else-is_true
 try_equation-returns-else-is_true g t c =
-    let found : Matches (theory_of c.args.engine.now) (function_equation c.args.equation.now) (forest c.args.terms.now) c.in_ok-subst.field-0 = subst (λ (p : Program). Matches (theory_of p) (function_equation c.args.equation.now) (forest c.args.terms.now) c.in_ok-subst.field-0) c.program.ensures.program c.in_ok-subst.ensures in
-    let match : MatchAll c.args.engine.now.sig (function_equation c.args.equation.now).variables (function_equation c.args.equation.now).arguments (forest c.args.terms.now) c.in-Some.subst = matched_some (theory_of c.args.engine.now) (function_equation c.args.equation.now) (forest c.args.terms.now) c.in_ok-subst.field-0 c.in-Some.subst found c.in-Some.is in
-    let some : option_map plain_pattern c.args.equation.now.cond ≡ Some (plain_pattern c.in-Some-cond.cond) = ap (option_map plain_pattern) c.in-Some-cond.is in
-    inr (c.in-Some.subst, match, test_fails (theory_of c.args.engine.now) c.args.nest c.args.sym.0 c.args.calls c.in-Ok.left c.in-Some.subst (option_map plain_pattern c.args.equation.now.cond) (plain_pattern c.in-Some-cond.cond) c.in-Ok.answer.term some c.in-Ok.ensures.0 (λ is. false≢true (sym c.if-is_true.false ∙ c.is_true.ensures.1 is)))
+    let found : Matches (theory_of c.args.engine.now) (function_equation c.args.equation.now)
+    (forest c.args.terms.now) c.in_ok-subst.field-0 =
+    subst (λ (p : Program). Matches (theory_of p) (function_equation c.args.equation.now)
+    (forest c.args.terms.now) c.in_ok-subst.field-0) c.program.ensures.program
+    c.in_ok-subst.ensures in
+    let match : MatchAll c.args.engine.now.sig (function_equation c.args.equation.now).variables
+    (function_equation c.args.equation.now).arguments (forest c.args.terms.now)
+    c.in-Some.subst =
+    matched_some (theory_of c.args.engine.now) (function_equation c.args.equation.now)
+    (forest c.args.terms.now) c.in_ok-subst.field-0 c.in-Some.subst found c.in-Some.is in
+    let some : option_map plain_pattern c.args.equation.now.cond ≡ Some
+    (plain_pattern c.in-Some-cond.cond) =
+    ap (option_map plain_pattern) c.in-Some-cond.is in
+    inr (
+      c.in-Some.subst,
+      match,
+      test_fails (theory_of c.args.engine.now) c.args.nest c.args.sym.0 c.args.calls c.in-Ok.left
+          c.in-Some.subst (option_map plain_pattern c.args.equation.now.cond)
+          (plain_pattern c.in-Some-cond.cond) c.in-Ok.answer.term some c.in-Ok.ensures.0
+          (λ is. false≢true (sym c.if-is_true.false ∙ c.is_true.ensures.1 is)),
+    )
 
 pub try_equation-returns-in-Err : goal.try_equation-returns-in-Err
 try_equation-returns-in-Err g t c =
-    let found : Matches (theory_of c.args.engine.now) (function_equation c.args.equation.now) (forest c.args.terms.now) c.in_ok-subst.field-0 = subst (λ (p : Program). Matches (theory_of p) (function_equation c.args.equation.now) (forest c.args.terms.now) c.in_ok-subst.field-0) c.program.ensures.program c.in_ok-subst.ensures in
-    let match : MatchAll c.args.engine.now.sig (function_equation c.args.equation.now).variables (function_equation c.args.equation.now).arguments (forest c.args.terms.now) c.in-Some.subst = matched_some (theory_of c.args.engine.now) (function_equation c.args.equation.now) (forest c.args.terms.now) c.in_ok-subst.field-0 c.in-Some.subst found c.in-Some.is in
-    let some : option_map plain_pattern c.args.equation.now.cond ≡ Some (plain_pattern c.in-Some-cond.cond) = ap (option_map plain_pattern) c.in-Some-cond.is in
-    test_stops g.R.Recording.tells (theory_of c.args.engine.now) c.args.nest c.args.sym.0 (function_equation c.args.equation.now) (forest c.args.terms.now) c.args.calls c.in-Some.subst (plain_pattern c.in-Some-cond.cond) c.in-Err.end match some c.in-Err.ensures
+    let found : Matches (theory_of c.args.engine.now) (function_equation c.args.equation.now)
+    (forest c.args.terms.now) c.in_ok-subst.field-0 =
+    subst (λ (p : Program). Matches (theory_of p) (function_equation c.args.equation.now)
+    (forest c.args.terms.now) c.in_ok-subst.field-0) c.program.ensures.program
+    c.in_ok-subst.ensures in
+    let match : MatchAll c.args.engine.now.sig (function_equation c.args.equation.now).variables
+    (function_equation c.args.equation.now).arguments (forest c.args.terms.now)
+    c.in-Some.subst =
+    matched_some (theory_of c.args.engine.now) (function_equation c.args.equation.now)
+    (forest c.args.terms.now) c.in_ok-subst.field-0 c.in-Some.subst found c.in-Some.is in
+    let some : option_map plain_pattern c.args.equation.now.cond ≡ Some
+    (plain_pattern c.in-Some-cond.cond) =
+    ap (option_map plain_pattern) c.in-Some-cond.is in
+    test_stops g.R.Recording.tells (theory_of c.args.engine.now) c.args.nest c.args.sym.0
+    (function_equation c.args.equation.now) (forest c.args.terms.now) c.args.calls
+    c.in-Some.subst (plain_pattern c.in-Some-cond.cond) c.in-Err.end match some c.in-Err.ensures

@@ -40,13 +40,17 @@ decreases-apply g l = 6 * l.nest + 5
 
 abbrev pub invariant-evaluate_all-loop-pat : goal.invariant-evaluate_all-loop-pat
 invariant-evaluate_all-loop-pat g l = record {
-  goes : GoesOn (theory_of l.engine) l.nest l.subst l.pats l.fn.calls l.pat-index l.terms.items l.left;
-  recorded : AreRecorded (g.R.Recording.all_tell l.records.items) (theory_of l.engine) l.subst (plain_patterns (take l.pat-index l.pats)) (forest l.terms.items);
+  goes : GoesOn (theory_of l.engine) l.nest l.subst l.pats l.fn.calls l.pat-index l.terms.items
+      l.left;
+  recorded : AreRecorded (g.R.Recording.all_tell l.records.items) (theory_of l.engine) l.subst
+      (plain_patterns (take l.pat-index l.pats)) (forest l.terms.items);
 }
 
 abbrev pub invariant-choose_equation-loop-i : goal.invariant-choose_equation-loop-i
 invariant-choose_equation-loop-i g l = record {
-  tried : TriedUpTo (theory_of l.engine) l.nest l.sym.0 (forest l.terms) l.fn.calls (equations_of (theory_of l.engine) l.sym.0) l.i l.left;
-  unused : UnusedUpTo (theory_of l.engine) l.sym.0 (forest l.terms) (equations_of (theory_of l.engine) l.sym.0) l.i;
+  tried : TriedUpTo (theory_of l.engine) l.nest l.sym.0 (forest l.terms) l.fn.calls
+      (equations_of (theory_of l.engine) l.sym.0) l.i l.left;
+  unused : UnusedUpTo (theory_of l.engine) l.sym.0 (forest l.terms)
+      (equations_of (theory_of l.engine) l.sym.0) l.i;
   fewer : l.left ≤ l.fn.calls;
 }

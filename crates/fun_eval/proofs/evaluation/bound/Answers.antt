@@ -6,6 +6,9 @@ use Rattle.fun_eval.proofs.evaluation.bound.Goals as goal
 
 pub returns : goal.returns
 returns g c =
-    let shared : Some c.in-Some.term.now ≡ Some c.in_ok-term.term = ap Some (sym c.in_ok-term.ensures.same) in
-    let is : binding c.args.subst.now c.args.var ≡ Some c.in_ok-term.term = sym c.get.ensures ∙ ap option_copied c.in-Some.is ∙ shared in
-    bound_gives (g.R.Recording.tells c.in_ok-recorded.recorded) c.args.subst.now c.args.var c.args.calls c.in_ok-term.term is c.in_ok-recorded.ensures
+    let shared : Some c.in-Some.term.now ≡ Some c.in_ok-term.term =
+    ap Some (sym c.in_ok-term.ensures.same) in
+    let is : binding c.args.subst.now c.args.var ≡ Some c.in_ok-term.term =
+    sym c.get.ensures ∙ ap option_copied c.in-Some.is ∙ shared in
+    bound_gives (g.R.Recording.tells c.in_ok-recorded.recorded) c.args.subst.now c.args.var
+    c.args.calls c.in_ok-term.term is c.in_ok-recorded.ensures

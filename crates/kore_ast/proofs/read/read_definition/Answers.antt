@@ -6,11 +6,17 @@ use Rattle.kore_ast.specs.Reading.{left}
 use Rattle.kore_ast.proofs.Tops.{definition-found, definition-only}
 use Rattle.kore_ast.proofs.read.read_definition.Goals as goal
 
-pub returns-in_ok-definition-in-None-clause-found : goal.returns-in_ok-definition-in-None-clause-found
+pub returns-in_ok-definition-in-None-clause-found :
+    goal.returns-in_ok-definition-in-None-clause-found
 returns-in_ok-definition-in-None-clause-found c =
-    definition-found c.args.bytes.now (left c.new.result) (plain_definition c.in_ok-definition-in-None.field-0) c.new.ensures c.in_ok-definition-in-None.ensures.exact
-    (subst (IsFirstFault IsDefinition 0 (tokens_of c.args.bytes.now)) c.in-None.is c.in_ok-fault.ensures)
+    definition-found c.args.bytes.now (left c.new.result)
+    (plain_definition c.in_ok-definition-in-None.field-0) c.new.ensures
+    c.in_ok-definition-in-None.ensures.exact
+    (subst (IsFirstFault IsDefinition 0 (tokens_of c.args.bytes.now)) c.in-None.is
+    c.in_ok-fault.ensures)
 
 pub returns-in_ok-definition-in-None-clause-only : goal.returns-in_ok-definition-in-None-clause-only
 returns-in_ok-definition-in-None-clause-only c =
-    definition-only c.args.bytes.now (left c.new.result) (plain_definition c.in_ok-definition-in-None.field-0) c.new.ensures c.in_ok-definition-in-None.ensures.exact
+    definition-only c.args.bytes.now (left c.new.result)
+    (plain_definition c.in_ok-definition-in-None.field-0) c.new.ensures
+    c.in_ok-definition-in-None.ensures.exact

@@ -4,7 +4,7 @@ use Rattle.std.specs.Borrow.{Bor}
 use Rattle.kore_text.specs.Trees.{SortTree}
 use Rattle.kore_ast.specs.declared.tree.Pat.{Pat}
 use Rattle.kore_ast.specs.declared.tree.Sort.{Sort}
-use Rattle.kore_ast.specs.Plain.{plain_sort, plain_axiom_decl, plain_pattern as plain_tree}
+use Rattle.kore_ast.specs.Plain.{plain_sort, plain_axiom_decl, pattern_tree as plain_tree}
 use Rattle.term_core.specs.RulePatterns.{plain_pattern}
 use Rattle.rule_core.specs.ProgramView.{sorts_of}
 use Rattle.kore_shapes.specs.Views.{plain_rewriting}
@@ -27,8 +27,11 @@ pub returns-in-Err-clause-refused : goal.returns-in-Err-clause-refused
 returns-in-Err-clause-refused c =
     let v = plain_rewriting c.args.rewriting in
     let a = plain_axiom_decl c.args.decl.now in
-    subst (λ (w : RuleParts). Refuses (FirstOfParts c.args.sig.now (sort_tree c.args.first) a v.sort w) c.in-Err.refusal) c.rule_parts-parts.ensures
-    (shape_refused c.args.sig.now (sort_tree c.args.first) a v.sort (plain_rule_parts c.rule_parts-parts.result) c.in-Err.refusal c.in-Err.ensures.refused)
+    subst (λ (w : RuleParts). Refuses
+    (FirstOfParts c.args.sig.now (sort_tree c.args.first) a v.sort w) c.in-Err.refusal)
+    c.rule_parts-parts.ensures
+    (shape_refused c.args.sig.now (sort_tree c.args.first) a v.sort
+    (plain_rule_parts c.rule_parts-parts.result) c.in-Err.refusal c.in-Err.ensures.refused)
 
 pub rule_patterns-requires-clause-fine : goal.rule_patterns-requires-clause-fine
 rule_patterns-requires-clause-fine c =
@@ -37,8 +40,10 @@ rule_patterns-requires-clause-fine c =
     let a = plain_axiom_decl c.args.decl.now in
     subst (λ (w : RuleParts). IsFine sig w) (sym c.rule_parts-parts.ensures)
     (fine_rule sig a v c.requires.class
-    (subst (λ (w : RuleParts). form_faults a w ≡ []) c.rule_parts-parts.ensures c.in-Ok.ensures.form)
-    (subst (λ (w : RuleParts). sorted_faults sig v.sort w ≡ []) c.rule_parts-parts.ensures c.in-Ok.ensures.sorts))
+    (subst (λ (w : RuleParts). form_faults a w ≡ []) c.rule_parts-parts.ensures
+    c.in-Ok.ensures.form)
+    (subst (λ (w : RuleParts). sorted_faults sig v.sort w ≡ []) c.rule_parts-parts.ensures
+    c.in-Ok.ensures.sorts))
 
 pub returns-in-Some-clause-refused : goal.returns-in-Some-clause-refused
 returns-in-Some-clause-refused c =
@@ -49,9 +54,14 @@ returns-in-Some-clause-refused c =
     let first = sort_tree c.args.first in
     let own : RuleParts = plain_rule_parts c.rule_parts-parts.result in
     let found : FirstOfParts sig first a v.sort own (Some (fault_at at c.in-Some.fault)) =
-    uses_first sig first a v.sort own (Some (fault_at at c.in-Some.fault)) c.in-Ok.ensures.form c.in-Ok.ensures.sorts (sym (ap (option_map (fault_at at)) c.in-Some.is) ∙ c.use_fault.ensures at) in
-    subst (λ (w : RuleParts). FirstOfParts sig first a v.sort w (Some (record { number = c.number.result; byte = at }))) c.rule_parts-parts.ensures
-    (subst (λ (n : ℕ). FirstOfParts sig first a v.sort own (Some (record { number = n; byte = at }))) (sym c.number.ensures) found)
+    uses_first sig first a v.sort own (Some (fault_at at c.in-Some.fault)) c.in-Ok.ensures.form
+    c.in-Ok.ensures.sorts
+    (sym (ap (option_map (fault_at at)) c.in-Some.is) ∙ c.use_fault.ensures at) in
+    subst (λ (w : RuleParts). FirstOfParts sig first a v.sort w
+    (Some (record { number = c.number.result; byte = at }))) c.rule_parts-parts.ensures
+    (subst
+    (λ (n : ℕ). FirstOfParts sig first a v.sort own (Some (record { number = n; byte = at })))
+    (sym c.number.ensures) found)
 
 pub returns-clause-clear : goal.returns-clause-clear
 returns-clause-clear c =
@@ -62,7 +72,8 @@ returns-clause-clear c =
     let first = sort_tree c.args.first in
     let own : RuleParts = plain_rule_parts c.rule_parts-parts.result in
     subst (λ (w : RuleParts). FirstOfParts sig first a v.sort w None) c.rule_parts-parts.ensures
-    (uses_first sig first a v.sort own None c.in-Ok.ensures.form c.in-Ok.ensures.sorts (sym (ap (option_map (fault_at at)) c.in_default.is) ∙ c.use_fault.ensures at))
+    (uses_first sig first a v.sort own None c.in-Ok.ensures.form c.in-Ok.ensures.sorts
+    (sym (ap (option_map (fault_at at)) c.in_default.is) ∙ c.use_fault.ensures at))
 
 pub returns-clause-means : goal.returns-clause-means
 returns-clause-means c =
@@ -74,7 +85,19 @@ returns-clause-means c =
     let made = c.in_ok-made.made in
     let own : RuleParts = plain_rule_parts c.rule_parts-parts.result in
     let yes : made.bound ≡ true =
-    c.in_ok-made.ensures.bound ∙ all_bound sig first at v.sort own (sym (c.use_fault.ensures at) ∙ ap (option_map (fault_at at)) c.in_default.is) in
-    let priority : c.priority_of.result ≡ priority_of a.attributes = c.priority_of.ensures ∙ ap (λ (attrs : List Pat). priority_of (map plain_tree attrs)) c.deref.ensures.value in
-    rule_meant sig a v made _ c.requires.class (subst (λ (w : RuleParts). IsBuiltOf sig w made) c.rule_parts-parts.ensures c.in_ok-made.ensures) yes
-    (ap (λ (n : ℕ). record { left = plain_pattern made.left; condition = option_map plain_pattern made.cond; right = plain_pattern made.right; variables = sorts_of made.vars.items; priority = n; place = at }) priority)
+    c.in_ok-made.ensures.bound
+    ∙ all_bound sig first at v.sort own
+    (sym (c.use_fault.ensures at) ∙ ap (option_map (fault_at at)) c.in_default.is) in
+    let priority : c.priority_of.result ≡ priority_of a.attributes =
+    c.priority_of.ensures
+    ∙ ap (λ (attrs : List Pat). priority_of (map plain_tree attrs)) c.deref.ensures.value in
+    rule_meant sig a v made _ c.requires.class (subst (λ (w : RuleParts). IsBuiltOf sig w made)
+    c.rule_parts-parts.ensures c.in_ok-made.ensures) yes
+    (ap (λ (n : ℕ). record {
+      left = plain_pattern made.left;
+      condition = option_map plain_pattern made.cond;
+      right = plain_pattern made.right;
+      variables = sorts_of made.vars.items;
+      priority = n;
+      place = at;
+    }) priority)

@@ -1,6 +1,6 @@
 use Rattle.std.proofs.Common.{ℕ}
 use Rattle.std.specs.Prelude.{Option, option_map}
-use Rattle.kore_ast.specs.Plain.{plain_pattern}
+use Rattle.kore_ast.specs.Plain.{pattern_tree}
 use Rattle.kore_check.specs.Folds.{unfolded}
 use Rattle.kore_axioms.specs.Noting.{sort_of_id}
 use Rattle.kore_axioms.specs.RuleFaults.{faults_at_sort}
@@ -10,4 +10,5 @@ use Rattle.kore_axioms.proofs.sides.is_faultless.Goals as goal
 pub returns : goal.returns
 returns c =
     let wanted : Option ℕ = option_map sort_of_id c.args.wanted in
-    none_seen (faults_at_sort c.args.sig.now wanted (unfolded (plain_pattern c.args.pat.now))) c.note_at_sort.new.first c.is_none.result c.note_at_sort.ensures c.is_none.ensures
+    none_seen (faults_at_sort c.args.sig.now wanted (unfolded (pattern_tree c.args.pat.now)))
+    c.note_at_sort.new.first c.is_none.result c.note_at_sort.ensures c.is_none.ensures

@@ -5,4 +5,5 @@ use Rattle.kore_axioms.proofs.sides.is_faultless_condition.Goals as goal
 
 pub returns : goal.returns
 returns c =
-    none_seen (condition_faults c.args.sig.now (plain_condition c.args.condition)) c.note_condition.new.first c.is_none.result c.note_condition.ensures c.is_none.ensures
+    none_seen (condition_faults c.args.sig.now (plain_condition c.args.condition))
+    c.note_condition.new.first c.is_none.result c.note_condition.ensures c.is_none.ensures

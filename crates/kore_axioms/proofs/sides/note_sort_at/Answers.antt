@@ -12,7 +12,13 @@ returns c =
     let t = plain_sort c.args.sort.now in
     let wanted : Option ℕ = option_map sort_of_id c.args.wanted in
     let middle = c.noted_sort-own.new.first in
-    let clash : kept_fault c.note_clash.new.first ≡ after middle (clash_faults c.args.at (option_map sort_of_id c.noted_sort-own.result) wanted) =
-    as_noted (clash_faults c.args.at (option_map sort_of_id c.noted_sort-own.result) wanted) middle c.note_clash.new.first c.note_clash.ensures in
-    noted_both (sort_faults c.args.sig.now t) (clash_faults c.args.at (sort_number c.args.sig.now.sorts t) wanted) c.args.first.now middle c.note_clash.new.first c.noted_sort-own.ensures.first
-    (subst (λ (o : Option ℕ). kept_fault c.note_clash.new.first ≡ after middle (clash_faults c.args.at o wanted)) c.noted_sort-own.ensures.sort clash)
+    let clash : kept_fault c.note_clash.new.first ≡ after middle
+    (clash_faults c.args.at (option_map sort_of_id c.noted_sort-own.result) wanted) =
+    as_noted (clash_faults c.args.at (option_map sort_of_id c.noted_sort-own.result) wanted) middle
+    c.note_clash.new.first c.note_clash.ensures in
+    noted_both (sort_faults c.args.sig.now t)
+    (clash_faults c.args.at (sort_number c.args.sig.now.sorts t) wanted) c.args.first.now middle
+    c.note_clash.new.first c.noted_sort-own.ensures.first
+    (subst (λ (o : Option ℕ).
+    kept_fault c.note_clash.new.first ≡ after middle (clash_faults c.args.at o wanted))
+    c.noted_sort-own.ensures.sort clash)

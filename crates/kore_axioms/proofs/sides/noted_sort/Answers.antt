@@ -5,4 +5,5 @@ use Rattle.kore_axioms.proofs.sides.noted_sort.Goals as goal
 
 pub returns-clause-first : goal.returns-clause-first
 returns-clause-first c =
-    as_noted (sort_faults c.args.sig.now (plain_sort c.args.sort.now)) c.args.first.now c.note_sort.new.first c.note_sort.ensures.first
+    as_noted (sort_faults c.args.sig.now (plain_sort c.args.sort.now)) c.args.first.now
+    c.note_sort.new.first c.note_sort.ensures.first

@@ -1,7 +1,7 @@
 use Rattle.std.proofs.Common.{◌≡◌, Bool, ◌||◌, ◌&&◌, List, map, ap, sym, ◌∙◌}
 use Rattle.kore_text.specs.Trees.{pattern_trees}
 use Rattle.kore_ast.specs.declared.tree.Pat.{Pat}
-use Rattle.kore_ast.specs.Plain.{plain_pattern}
+use Rattle.kore_ast.specs.Plain.{pattern_tree}
 use Rattle.kore_check.specs.Folds.{all_unfolded}
 use Rattle.kore_axioms.specs.Uses.{have_symbol}
 use Rattle.kore_axioms.specs.UsedSymbols.{is_used}
@@ -12,20 +12,33 @@ use Rattle.kore_axioms.proofs.uses.+symbol.Goals as goal
 pub fold_has_symbol-returns-then-is_among_folded : goal.fold_has_symbol-returns-then-is_among_folded
 fold_has_symbol-returns-then-is_among_folded t c = λ (left : Bool).
     let test = is_used c.args.which c.args.sig.now in
-    let rest : Bool = have_symbol test (all_unfolded (pattern_trees (map plain_pattern c.in-App.args.items))) in
-    let head : c.is_among_folded.result ≡ (are_two (map plain_pattern c.in-App.args.items) && test c.in-App.name) =
-    c.is_among_folded.ensures ∙ ap (λ (ps : List Pat). are_two (map plain_pattern ps) && test c.in-App.name) c.deref.ensures.value in
+    let rest : Bool =
+    have_symbol test (all_unfolded (pattern_trees (map pattern_tree c.in-App.args.items))) in
+    let head : c.is_among_folded.result ≡
+    (are_two (map pattern_tree c.in-App.args.items) && test c.in-App.name) =
+    c.is_among_folded.ensures
+    ∙ ap (λ (ps : List Pat). are_two (map pattern_tree ps) && test c.in-App.name)
+    c.deref.ensures.value in
     c.if-is_among_folded.true
     ∙ ap (λ (b : Bool). b || rest) (sym c.if-is_among_folded.true ∙ head)
-    ∙ sym (folded_uses test left c.args.pat.now c.in-App.name c.in-App.field-1 c.in-App.args c.in-App.is)
+    ∙
+    sym (folded_uses test left c.args.pat.now c.in-App.name c.in-App.field-1 c.in-App.args
+    c.in-App.is)
 
 pub fold_has_symbol-returns-else-is_among_folded : goal.fold_has_symbol-returns-else-is_among_folded
 fold_has_symbol-returns-else-is_among_folded t c = λ (left : Bool).
     let test = is_used c.args.which c.args.sig.now in
-    let rest : Bool = have_symbol test (all_unfolded (pattern_trees (map plain_pattern c.in-App.args.items))) in
-    let head : c.is_among_folded.result ≡ (are_two (map plain_pattern c.in-App.args.items) && test c.in-App.name) =
-    c.is_among_folded.ensures ∙ ap (λ (ps : List Pat). are_two (map plain_pattern ps) && test c.in-App.name) c.deref.ensures.value in
+    let rest : Bool =
+    have_symbol test (all_unfolded (pattern_trees (map pattern_tree c.in-App.args.items))) in
+    let head : c.is_among_folded.result ≡
+    (are_two (map pattern_tree c.in-App.args.items) && test c.in-App.name) =
+    c.is_among_folded.ensures
+    ∙ ap (λ (ps : List Pat). are_two (map pattern_tree ps) && test c.in-App.name)
+    c.deref.ensures.value in
     c.have_symbol.ensures
-    ∙ ap (λ (ps : List Pat). have_symbol test (all_unfolded (pattern_trees (map plain_pattern ps)))) c.deref-else-is_among_folded.ensures.value
+    ∙ ap (λ (ps : List Pat). have_symbol test (all_unfolded (pattern_trees (map pattern_tree ps))))
+    c.deref-else-is_among_folded.ensures.value
     ∙ ap (λ (b : Bool). b || rest) (sym c.if-is_among_folded.false ∙ head)
-    ∙ sym (folded_uses test left c.args.pat.now c.in-App.name c.in-App.field-1 c.in-App.args c.in-App.is)
+    ∙
+    sym (folded_uses test left c.args.pat.now c.in-App.name c.in-App.field-1 c.in-App.args
+    c.in-App.is)

@@ -1,4 +1,5 @@
-use Rattle.std.proofs.Common.{rules, ◌≡◌, ◌+◌, ◌++◌, ◌∷◌, [], ℕ, List, map, drop, Some, true, false, sym, subst, arith}
+use Rattle.std.proofs.Common.{rules, ◌≡◌, ◌+◌, ◌++◌, ◌∷◌, [], ℕ, List, map, drop, Some, true, false}
+use Rattle.std.proofs.Common.{sym, subst, arith}
 use Rattle.kore_ast.specs.Plain.{plain_sort}
 use Rattle.term_core.specs.Patterns.{Pattern, patterns}
 use Rattle.term_core.specs.RulePatterns.{plain_pattern}
@@ -7,86 +8,145 @@ use Rattle.kore_check.specs.PatternMeanings.{AllMean}
 use Rattle.kore_check.specs.Building.{Built, AllBuilt, IsHead, Extends}
 use Rattle.kore_check.proofs.Applications.{reads}
 use Rattle.kore_check.proofs.BuildLaws.{extends-trans, all-more}
-use Rattle.kore_check.proofs.BuildSteps.{app_none, app_no_arguments, app_built, variable_built, value_built, folded_built, only_none, short_built, fold_none, fold_no_arguments, fold_ready, good-more, variables-more, all_done, connective_built}
+use Rattle.kore_check.proofs.BuildSteps.{app_none, app_no_arguments, app_built, variable_built}
+use Rattle.kore_check.proofs.BuildSteps.{value_built, folded_built, only_none, short_built}
+use Rattle.kore_check.proofs.BuildSteps.{fold_none, fold_no_arguments, fold_ready, good-more}
+use Rattle.kore_check.proofs.BuildSteps.{variables-more, all_done, connective_built}
 use Rattle.kore_check.proofs.build.+build.Goals as goal
 
 pub build-returns-in_default-clause-built : goal.build-returns-in_default-clause-built
 build-returns-in_default-clause-built t c =
-    app_no_arguments c.args.sig.now c.args.pat.now c.in-App.name c.in-App.sorts c.in-App.args c.deref.result.now c.args.vars.now c.build_all.new.vars c.in-App.is c.deref.ensures.value
-    (subst (AllBuilt c.args.sig.now c.args.vars.now c.build_all.new.vars (reads c.deref.result.now)) c.in_default.is c.in_ok-args-in-App.ensures.built)
+    app_no_arguments c.args.sig.now c.args.pat.now c.in-App.name c.in-App.sorts c.in-App.args
+    c.deref.result.now c.args.vars.now c.build_all.new.vars c.in-App.is c.deref.ensures.value
+    (subst (AllBuilt c.args.sig.now c.args.vars.now c.build_all.new.vars (reads c.deref.result.now))
+    c.in_default.is c.in_ok-args-in-App.ensures.built)
 
 pub build-returns-in_default-2-clause-built : goal.build-returns-in_default-2-clause-built
 build-returns-in_default-2-clause-built t c =
-    app_none c.args.sig.now c.args.pat.now c.in-App.name c.in-App.sorts c.in-App.args c.deref-in-App.result.now c.in-App.is c.deref-in-App.ensures.value
-    (subst (IsHead c.args.sig.now c.in-App.name (map plain_sort c.deref-in-App.result.now)) c.in_default-2.is c.in_ok-head-in-App.ensures)
+    app_none c.args.sig.now c.args.pat.now c.in-App.name c.in-App.sorts c.in-App.args
+    c.deref-in-App.result.now c.in-App.is c.deref-in-App.ensures.value
+    (subst (IsHead c.args.sig.now c.in-App.name (map plain_sort c.deref-in-App.result.now))
+    c.in_default-2.is c.in_ok-head-in-App.ensures)
 
 pub build-returns-in-Elem-clause-built : goal.build-returns-in-Elem-clause-built
 build-returns-in-Elem-clause-built t c =
-    variable_built c.args.sig.now c.args.pat.now c.in-Elem.name c.in-Elem.sort _ _ c.build_variable.result c.in-Elem.is c.build_variable.ensures.built
+    variable_built c.args.sig.now c.args.pat.now c.in-Elem.name c.in-Elem.sort _ _
+    c.build_variable.result c.in-Elem.is c.build_variable.ensures.built
 
 pub build-returns-in-Value-clause-built : goal.build-returns-in-Value-clause-built
 build-returns-in-Value-clause-built t c =
-    value_built c.args.sig.now c.args.pat.now c.in-Value.sort c.in-Value.text c.in-Value.field-2 _ c.build_value.result c.in-Value.is c.build_value.ensures
+    value_built c.args.sig.now c.args.pat.now c.in-Value.sort c.in-Value.text c.in-Value.field-2 _
+    c.build_value.result c.in-Value.is c.build_value.ensures
 
 pub build-returns-in-Some-2-clause-built : goal.build-returns-in-Some-2-clause-built
 build-returns-in-Some-2-clause-built t c =
-    app_built c.args.sig.now c.args.pat.now c.in-App.name c.in-App.sorts c.in-App.args c.deref-in-App.result.now c.deref.result.now c.args.vars.now c.build_all.new.vars c.in-Some-2.head c.in-Some.args c.applied.result c.requires.signature c.in-App.is c.deref-in-App.ensures.value c.deref.ensures.value
-    (subst (IsHead c.args.sig.now c.in-App.name (map plain_sort c.deref-in-App.result.now)) c.in-Some-2.is c.in_ok-head-in-App.ensures)
-    (subst (AllBuilt c.args.sig.now c.args.vars.now c.build_all.new.vars (reads c.deref.result.now)) c.in-Some.is c.in_ok-args-in-App.ensures.built)
+    app_built c.args.sig.now c.args.pat.now c.in-App.name c.in-App.sorts c.in-App.args
+    c.deref-in-App.result.now c.deref.result.now c.args.vars.now c.build_all.new.vars
+    c.in-Some-2.head c.in-Some.args c.applied.result c.requires.signature c.in-App.is
+    c.deref-in-App.ensures.value c.deref.ensures.value
+    (subst (IsHead c.args.sig.now c.in-App.name (map plain_sort c.deref-in-App.result.now))
+    c.in-Some-2.is c.in_ok-head-in-App.ensures)
+    (subst (AllBuilt c.args.sig.now c.args.vars.now c.build_all.new.vars (reads c.deref.result.now))
+    c.in-Some.is c.in_ok-args-in-App.ensures.built)
     c.applied.ensures
 
 pub build-returns-in-Fold-clause-built : goal.build-returns-in-Fold-clause-built
 build-returns-in-Fold-clause-built t c =
-    folded_built c.args.sig.now c.args.pat.now c.deref-in-Fold.result.now c.in-Fold.left c.in-Fold.inner _ _ c.build_fold.result c.in-Fold.is c.deref-in-Fold.ensures c.build_fold.ensures.built
+    folded_built c.args.sig.now c.args.pat.now c.deref-in-Fold.result.now c.in-Fold.left
+    c.in-Fold.inner _ _ c.build_fold.result c.in-Fold.is c.deref-in-Fold.ensures
+    c.build_fold.ensures.built
 
 pub build_all-loop-i-preserved : goal.build_all-loop-i-preserved
 build_all-loop-i-preserved t c =
-    let built : Built c.args.sig.now c.loop-i.vars c.build.new.vars _ (Some c.in-Some.pat) = subst (Built c.args.sig.now c.loop-i.vars c.build.new.vars _) c.in-Some.is c.in_ok-pat.ensures.built in
+    let built : Built c.args.sig.now c.loop-i.vars c.build.new.vars _ (Some c.in-Some.pat) =
+    subst (Built c.args.sig.now c.loop-i.vars c.build.new.vars _) c.in-Some.is
+    c.in_ok-pat.ensures.built in
     let pushed : c.push.new.self.items ≡ c.loop-i.pats.items ++ c.in-Some.pat ∷ [] = search rules in
-    let means : (more : List (List ℕ × ℕ)) (qs : List Pattern) → Extends c.build.new.vars more → AllMean c.args.sig.now more (reads (drop (c.loop-i.i + 1) c.args.args.now)) (patterns qs) → AllMean c.args.sig.now more (reads c.args.args.now) (patterns (map plain_pattern (c.loop-i.pats.items ++ c.in-Some.pat ∷ []) ++ qs)) =
-    all-more c.args.sig.now c.args.vars.now c.loop-i.vars c.build.new.vars c.args.args.now c.loop-i.i c.index-args-i.result c.loop-i.pats.items c.in-Some.pat c.loop-i-test.true c.index-args-i.is c.build.ensures.grows built.1 c.loop-i.invariant.means in
+    let means : (more : List (List ℕ × ℕ)) (qs : List Pattern) → Extends c.build.new.vars more →
+    AllMean c.args.sig.now more (reads (drop (c.loop-i.i + 1) c.args.args.now)) (patterns qs) →
+    AllMean c.args.sig.now more (reads c.args.args.now)
+    (patterns (map plain_pattern (c.loop-i.pats.items ++ c.in-Some.pat ∷ []) ++ qs)) =
+    all-more c.args.sig.now c.args.vars.now c.loop-i.vars c.build.new.vars c.args.args.now
+    c.loop-i.i c.index-args-i.result c.loop-i.pats.items c.in-Some.pat c.loop-i-test.true
+    c.index-args-i.is c.build.ensures.grows built.1 c.loop-i.invariant.means in
     record {
-      grows = extends-trans c.args.vars.now c.loop-i.vars c.build.new.vars c.loop-i.invariant.grows c.build.ensures.grows;
-      good = λ g. (good-more c.args.sig.now c.args.args.now c.loop-i.i c.index-args-i.result c.loop-i-test.true c.index-args-i.is c.loop-i.invariant.good g).1;
-      vars = variables-more c.args.sig.now c.args.args.now c.loop-i.i c.index-args-i.result c.loop-i.vars c.build.new.vars _ c.loop-i-test.true c.index-args-i.is built.0 c.loop-i.invariant.vars;
-      means = λ more qs ext rest. subst (λ (ps : List RulePat). AllMean c.args.sig.now more (reads c.args.args.now) (patterns (map plain_pattern ps ++ qs))) (sym pushed) (means more qs ext rest);
+      grows =
+          extends-trans c.args.vars.now c.loop-i.vars c.build.new.vars c.loop-i.invariant.grows
+          c.build.ensures.grows;
+      good =
+          λ g. (good-more c.args.sig.now c.args.args.now c.loop-i.i c.index-args-i.result
+          c.loop-i-test.true c.index-args-i.is c.loop-i.invariant.good g).1;
+      vars =
+          variables-more c.args.sig.now c.args.args.now c.loop-i.i c.index-args-i.result
+          c.loop-i.vars c.build.new.vars _ c.loop-i-test.true c.index-args-i.is built.0
+          c.loop-i.invariant.vars;
+      means =
+          λ more qs ext rest. subst (λ (ps : List RulePat). AllMean c.args.sig.now more
+          (reads c.args.args.now) (patterns (map plain_pattern ps ++ qs))) (sym pushed)
+          (means more qs ext rest);
     }
 
 pub build_all-returns-clause-built : goal.build_all-returns-clause-built
 build_all-returns-clause-built t c =
-    all_done c.args.sig.now c.args.args.now c.loop-i.i c.args.vars.now c.loop-i.vars c.loop-i.pats c.loop-i-test.false c.loop-i.invariant.vars c.loop-i.invariant.means
+    all_done c.args.sig.now c.args.args.now c.loop-i.i c.args.vars.now c.loop-i.vars c.loop-i.pats
+    c.loop-i-test.false c.loop-i.invariant.vars c.loop-i.invariant.means
 
-pub build_only-returns-then-args-ne1-clause-built : goal.build_only-returns-then-args-ne1-clause-built
-build_only-returns-then-args-ne1-clause-built t c = λ at good. only_none c.args.sig.now at c.args.args.now c.if-args-ne1.true good
+pub build_only-returns-then-args-ne1-clause-built :
+    goal.build_only-returns-then-args-ne1-clause-built
+build_only-returns-then-args-ne1-clause-built t c =
+    λ at good. only_none c.args.sig.now at c.args.args.now c.if-args-ne1.true good
 
 pub build_fold-returns-then-len-lt2-clause-built : goal.build_fold-returns-then-len-lt2-clause-built
 build_fold-returns-then-len-lt2-clause-built t c =
-    short_built c.args.sig.now c.args.left c.args.inner.now c.in-App.name c.in-App.sorts c.in-App.args c.deref.result.now _ _ c.build_only.result c.in-App.is c.deref.ensures.value (omega (arith, c.len.ensures, c.if-len-lt2.true)) c.build_only.ensures.built
+    short_built c.args.sig.now c.args.left c.args.inner.now c.in-App.name c.in-App.sorts
+    c.in-App.args c.deref.result.now _ _ c.build_only.result c.in-App.is c.deref.ensures.value
+    (omega (arith, c.len.ensures, c.if-len-lt2.true)) c.build_only.ensures.built
 
 pub build_fold-returns-in_default-clause-built : goal.build_fold-returns-in_default-clause-built
 build_fold-returns-in_default-clause-built t c =
-    fold_no_arguments c.args.sig.now c.args.left c.args.inner.now c.in-App.name c.in-App.sorts c.in-App.args c.deref-in-App.result.now c.args.vars.now c.build_all.new.vars c.in-App.is c.deref-in-App.ensures.value (omega (arith, c.len.ensures, c.if-len-lt2.false))
-    (subst (AllBuilt c.args.sig.now c.args.vars.now c.build_all.new.vars (reads c.deref-in-App.result.now)) c.in_default.is c.in_ok-args-in-App.ensures.built)
+    fold_no_arguments c.args.sig.now c.args.left c.args.inner.now c.in-App.name c.in-App.sorts
+    c.in-App.args c.deref-in-App.result.now c.args.vars.now c.build_all.new.vars c.in-App.is
+    c.deref-in-App.ensures.value (omega (arith, c.len.ensures, c.if-len-lt2.false))
+    (subst (AllBuilt c.args.sig.now c.args.vars.now c.build_all.new.vars
+    (reads c.deref-in-App.result.now)) c.in_default.is c.in_ok-args-in-App.ensures.built)
 
 pub build_fold-returns-in_default-2-clause-built : goal.build_fold-returns-in_default-2-clause-built
 build_fold-returns-in_default-2-clause-built t c =
-    fold_none c.args.sig.now c.args.left c.args.inner.now c.in-App.name c.in-App.sorts c.in-App.args c.deref-in-App-2.result.now c.in-App.is c.deref-in-App-2.ensures.value (omega (arith, c.len.ensures, c.if-len-lt2.false))
-    (subst (IsHead c.args.sig.now c.in-App.name (map plain_sort c.deref-in-App-2.result.now)) c.in_default-2.is c.in_ok-head-in-App.ensures)
+    fold_none c.args.sig.now c.args.left c.args.inner.now c.in-App.name c.in-App.sorts c.in-App.args
+    c.deref-in-App-2.result.now c.in-App.is c.deref-in-App-2.ensures.value
+    (omega (arith, c.len.ensures, c.if-len-lt2.false))
+    (subst (IsHead c.args.sig.now c.in-App.name (map plain_sort c.deref-in-App-2.result.now))
+    c.in_default-2.is c.in_ok-head-in-App.ensures)
 
 pub build_fold-returns-then-left-clause-built : goal.build_fold-returns-then-left-clause-built
 build_fold-returns-then-left-clause-built t c =
-    fold_ready c.args.sig.now c.args.left true c.args.inner.now c.in-App.name c.in-App.sorts c.in-App.args c.deref-in-App-2.result.now c.deref-in-App.result.now c.args.vars.now c.build_all.new.vars c.in-Some-2.head c.in-Some.args c.folded_left.result c.requires.signature c.if-left.true c.in-App.is c.deref-in-App-2.ensures.value c.deref-in-App.ensures.value (omega (arith, c.len.ensures, c.if-len-lt2.false))
-    (subst (IsHead c.args.sig.now c.in-App.name (map plain_sort c.deref-in-App-2.result.now)) c.in-Some-2.is c.in_ok-head-in-App.ensures)
-    (subst (AllBuilt c.args.sig.now c.args.vars.now c.build_all.new.vars (reads c.deref-in-App.result.now)) c.in-Some.is c.in_ok-args-in-App.ensures.built)
+    fold_ready c.args.sig.now c.args.left true c.args.inner.now c.in-App.name c.in-App.sorts
+    c.in-App.args c.deref-in-App-2.result.now c.deref-in-App.result.now c.args.vars.now
+    c.build_all.new.vars c.in-Some-2.head c.in-Some.args c.folded_left.result
+    c.requires.signature c.if-left.true c.in-App.is c.deref-in-App-2.ensures.value
+    c.deref-in-App.ensures.value (omega (arith, c.len.ensures, c.if-len-lt2.false))
+    (subst (IsHead c.args.sig.now c.in-App.name (map plain_sort c.deref-in-App-2.result.now))
+    c.in-Some-2.is c.in_ok-head-in-App.ensures)
+    (subst (AllBuilt c.args.sig.now c.args.vars.now c.build_all.new.vars
+    (reads c.deref-in-App.result.now)) c.in-Some.is c.in_ok-args-in-App.ensures.built)
     c.folded_left.ensures
 
 pub build_fold-returns-in-App-clause-built : goal.build_fold-returns-in-App-clause-built
 build_fold-returns-in-App-clause-built t c =
-    fold_ready c.args.sig.now c.args.left false c.args.inner.now c.in-App.name c.in-App.sorts c.in-App.args c.deref-in-App-2.result.now c.deref-in-App.result.now c.args.vars.now c.build_all.new.vars c.in-Some-2.head c.in-Some.args c.folded_right.result c.requires.signature c.if-left.false c.in-App.is c.deref-in-App-2.ensures.value c.deref-in-App.ensures.value (omega (arith, c.len.ensures, c.if-len-lt2.false))
-    (subst (IsHead c.args.sig.now c.in-App.name (map plain_sort c.deref-in-App-2.result.now)) c.in-Some-2.is c.in_ok-head-in-App.ensures)
-    (subst (AllBuilt c.args.sig.now c.args.vars.now c.build_all.new.vars (reads c.deref-in-App.result.now)) c.in-Some.is c.in_ok-args-in-App.ensures.built)
+    fold_ready c.args.sig.now c.args.left false c.args.inner.now c.in-App.name c.in-App.sorts
+    c.in-App.args c.deref-in-App-2.result.now c.deref-in-App.result.now c.args.vars.now
+    c.build_all.new.vars c.in-Some-2.head c.in-Some.args c.folded_right.result
+    c.requires.signature c.if-left.false c.in-App.is c.deref-in-App-2.ensures.value
+    c.deref-in-App.ensures.value (omega (arith, c.len.ensures, c.if-len-lt2.false))
+    (subst (IsHead c.args.sig.now c.in-App.name (map plain_sort c.deref-in-App-2.result.now))
+    c.in-Some-2.is c.in_ok-head-in-App.ensures)
+    (subst (AllBuilt c.args.sig.now c.args.vars.now c.build_all.new.vars
+    (reads c.deref-in-App.result.now)) c.in-Some.is c.in_ok-args-in-App.ensures.built)
     c.folded_right.ensures
 
 pub build_fold-returns-in-Built-clause-built : goal.build_fold-returns-in-Built-clause-built
 build_fold-returns-in-Built-clause-built t c =
-    connective_built c.args.sig.now c.args.left c.args.inner.now c.in-Built.field-0 c.in-Built.field-1 c.in-Built.args c.deref-in-Built.result.now _ _ c.build_only-in-Built.result c.in-Built.is c.deref-in-Built.ensures.value c.build_only-in-Built.ensures.built
+    connective_built c.args.sig.now c.args.left c.args.inner.now c.in-Built.field-0
+    c.in-Built.field-1 c.in-Built.args c.deref-in-Built.result.now _ _
+    c.build_only-in-Built.result c.in-Built.is c.deref-in-Built.ensures.value
+    c.build_only-in-Built.ensures.built

@@ -10,6 +10,9 @@ abbrev pub invariant-build_all-loop-i : goal.invariant-build_all-loop-i
 invariant-build_all-loop-i l = record {
   grows : Extends l.fn.vars l.vars;
   good : AreFaultless l.sig (reads l.args) → AreFaultless l.sig (reads (drop l.i l.args));
-  vars : with_all_variables l.sig l.vars (reads (drop l.i l.args)) ≡ with_all_variables l.sig l.fn.vars (reads l.args);
-  means : (more : List (List ℕ × ℕ)) (qs : List Pattern) → Extends l.vars more → AllMean l.sig more (reads (drop l.i l.args)) (patterns qs) → AllMean l.sig more (reads l.args) (patterns (map plain_pattern l.pats.items ++ qs));
+  vars : with_all_variables l.sig l.vars (reads (drop l.i l.args))
+      ≡ with_all_variables l.sig l.fn.vars (reads l.args);
+  means : (more : List (List ℕ × ℕ)) (qs : List Pattern) → Extends l.vars more
+      → AllMean l.sig more (reads (drop l.i l.args)) (patterns qs)
+      → AllMean l.sig more (reads l.args) (patterns (map plain_pattern l.pats.items ++ qs));
 }

@@ -7,4 +7,6 @@ use Rattle.kore_check.proofs.build.all_declared.Given as goal
 
 abbrev pub invariant-loop-i : goal.invariant-loop-i
 invariant-loop-i l =
-    option_map (λ (ns : List ℕ). numbers_of l.declared.items ++ ns) (sort_numbers l.sig (map plain_sort (drop l.i l.sorts))) ≡ sort_numbers l.sig (map plain_sort l.sorts)
+    option_map (λ (ns : List ℕ). numbers_of l.declared.items ++ ns)
+    (sort_numbers l.sig (map plain_sort (drop l.i l.sorts)))
+    ≡ sort_numbers l.sig (map plain_sort l.sorts)

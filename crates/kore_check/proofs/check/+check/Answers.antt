@@ -7,72 +7,124 @@ use Rattle.kore_check.specs.Folds.{only_of}
 use Rattle.kore_check.specs.PatternFaults.{pattern_faults}
 use Rattle.kore_check.specs.PatternSorts.{sort_of}
 use Rattle.kore_check.specs.Notes.{sort_no, after}
-use Rattle.kore_check.proofs.FoldChecks.{application_folded, fold_short, only_other, fold_known, fold_sorted, fold_checked, fold_begun, fold_goes_on, fold_ends}
-use Rattle.kore_check.proofs.Applications.{reads, application_sorted, application_checked, argument_checked}
-use Rattle.kore_check.proofs.Places.{place-unfolded}
+use Rattle.kore_check.proofs.FoldChecks.{application_folded, fold_short, only_other, fold_known}
+use Rattle.kore_check.proofs.FoldChecks.{fold_sorted, fold_checked, fold_begun, fold_goes_on}
+use Rattle.kore_check.proofs.FoldChecks.{fold_ends}
+use Rattle.kore_check.proofs.Applications.{reads, application_sorted, application_checked}
+use Rattle.kore_check.proofs.Applications.{argument_checked}
+use Rattle.kore_check.proofs.Places.{byte_of_next-unfolded}
 use Rattle.kore_check.proofs.check.+check.Goals as goal
 
 pub check-returns-in-App-clause-sort : goal.check-returns-in-App-clause-sort
 check-returns-in-App-clause-sort t c =
-    application_sorted c.args.sig.now c.args.pat.now c.in-App.name c.in-App.sorts c.in-App.args (option_copied c.symbol-symbol.result) c.deref.result.now _ c.in-App.is
+    application_sorted c.args.sig.now c.args.pat.now c.in-App.name c.in-App.sorts c.in-App.args
+    (option_copied c.symbol-symbol.result) c.deref.result.now _ c.in-App.is
     c.symbol-symbol.ensures c.deref.ensures.value c.check_head-own.ensures.sort
 
 pub check-returns-in-App-clause-first : goal.check-returns-in-App-clause-first
 check-returns-in-App-clause-first t c =
-    application_checked c.args.sig.now c.args.pat.now c.in-App.name c.in-App.sorts c.in-App.args (option_copied c.symbol-symbol.result) c.deref.result.now c.deref-in-App-2.result.now c.places.result.now c.deref-in-App.result.now c.len.result
+    application_checked c.args.sig.now c.args.pat.now c.in-App.name c.in-App.sorts c.in-App.args
+    (option_copied c.symbol-symbol.result) c.deref.result.now c.deref-in-App-2.result.now
+    c.places.result.now c.deref-in-App.result.now c.len.result
     c.args.first.now c.check_head-own.new.first c.check_arguments.new.first c.in-App.is
-    c.symbol-symbol.ensures c.deref.ensures.value c.deref-in-App-2.ensures.value c.places.ensures c.deref-in-App.ensures.value (omega (arith, c.len.ensures)) c.check_head-own.ensures.first c.check_arguments.ensures
+    c.symbol-symbol.ensures c.deref.ensures.value c.deref-in-App-2.ensures.value c.places.ensures
+    c.deref-in-App.ensures.value (omega (arith, c.len.ensures)) c.check_head-own.ensures.first
+    c.check_arguments.ensures
 
 pub check_arguments-loop-i-preserved : goal.check_arguments-loop-i-preserved
 check_arguments-loop-i-preserved t c =
-    argument_checked c.args.sig.now (map plain_sort c.args.sorts.now) c.args.places.now c.args.args.now c.loop-i.i c.index-args-i.result (option_map sort_no c.check-own.result) (option_map sort_no c.wanted_at.result)
-    c.loop-i.first c.check-own.new.first c.check_clash.new.first _ c.loop-i-test.true c.index-args-i.is (place-unfolded c.index-args-i.result) c.check-own.ensures.sort c.wanted_at.ensures c.check-own.ensures.first c.check_clash.ensures c.loop-i.invariant
+    argument_checked c.args.sig.now (map plain_sort c.args.sorts.now) c.args.places.now
+    c.args.args.now c.loop-i.i c.index-args-i.result (option_map sort_no c.check-own.result)
+    (option_map sort_no c.wanted_at.result)
+    c.loop-i.first c.check-own.new.first c.check_clash.new.first _ c.loop-i-test.true
+    c.index-args-i.is (byte_of_next-unfolded c.index-args-i.result) c.check-own.ensures.sort
+    c.wanted_at.ensures c.check-own.ensures.first c.check_clash.ensures c.loop-i.invariant
 
 pub check_only-returns-then-args-ne1-clause-sort : goal.check_only-returns-then-args-ne1-clause-sort
-check_only-returns-then-args-ne1-clause-sort t c = λ at. sym (ap (sort_of c.args.sig.now) (only_other at c.args.args.now c.if-args-ne1.true))
+check_only-returns-then-args-ne1-clause-sort t c =
+    λ at. sym (ap (sort_of c.args.sig.now) (only_other at c.args.args.now c.if-args-ne1.true))
 
-pub check_only-returns-then-args-ne1-clause-first : goal.check_only-returns-then-args-ne1-clause-first
+pub check_only-returns-then-args-ne1-clause-first :
+    goal.check_only-returns-then-args-ne1-clause-first
 check_only-returns-then-args-ne1-clause-first t c = λ at.
-    sym (ap (λ u. after c.args.first.now (pattern_faults c.args.sig.now u)) (only_other at c.args.args.now c.if-args-ne1.true))
+    sym (ap (λ u. after c.args.first.now
+    (pattern_faults c.args.sig.now u)) (only_other at c.args.args.now c.if-args-ne1.true))
 
 pub check_folded-loop-i-init : goal.check_folded-loop-i-init
 check_folded-loop-i-init t c =
-    fold_begun c.args.sig.now c.args.left c.args.sorts c.args.args.now c.index-args-0.result (option_map sort_no c.check-own.result)
-    c.args.first.now c.check-own.new.first c.check_clash.new.first c.requires.some c.index-args-0.is (place-unfolded c.index-args-0.result) c.check-own.ensures.sort c.check-own.ensures.first c.check_clash.ensures
+    fold_begun c.args.sig.now c.args.left c.args.sorts c.args.args.now c.index-args-0.result
+    (option_map sort_no c.check-own.result)
+    c.args.first.now c.check-own.new.first c.check_clash.new.first c.requires.some c.index-args-0.is
+    (byte_of_next-unfolded c.index-args-0.result) c.check-own.ensures.sort
+    c.check-own.ensures.first c.check_clash.ensures
 
 pub check_folded-loop-i-preserved : goal.check_folded-loop-i-preserved
 check_folded-loop-i-preserved t c =
-    fold_goes_on c.args.sig.now c.args.left (c.loop-i.i + 1 == length c.args.args.now) c.args.sorts c.args.args.now c.loop-i.i c.index-args-i.result (option_map sort_no c.check-own-in-loop-i.result)
-    c.loop-i.first c.check-own-in-loop-i.new.first c.check_next.new.first _ c.loop-i-test.true c.index-args-i.is (place-unfolded c.index-args-i.result) c.check-own-in-loop-i.ensures.sort refl c.check-own-in-loop-i.ensures.first c.check_next.ensures c.loop-i.invariant
+    fold_goes_on c.args.sig.now c.args.left (c.loop-i.i + 1 == length c.args.args.now) c.args.sorts
+    c.args.args.now c.loop-i.i c.index-args-i.result
+    (option_map sort_no c.check-own-in-loop-i.result)
+    c.loop-i.first c.check-own-in-loop-i.new.first c.check_next.new.first _ c.loop-i-test.true
+    c.index-args-i.is (byte_of_next-unfolded c.index-args-i.result)
+    c.check-own-in-loop-i.ensures.sort refl c.check-own-in-loop-i.ensures.first
+    c.check_next.ensures c.loop-i.invariant
 
 pub check_folded-returns : goal.check_folded-returns
 check_folded-returns t c =
-    fold_ends c.args.sig.now c.args.left c.args.sorts c.args.args.now c.loop-i.i c.loop-i.first _ c.loop-i-test.false c.loop-i.invariant
+    fold_ends c.args.sig.now c.args.left c.args.sorts c.args.args.now c.loop-i.i c.loop-i.first _
+    c.loop-i-test.false c.loop-i.invariant
 
 pub check_fold-returns-then-len-lt2-clause-sort : goal.check_fold-returns-then-len-lt2-clause-sort
 check_fold-returns-then-len-lt2-clause-sort t c =
     c.check_only.ensures.sort c.args.inner.now.at
-    ∙ ap (λ (ps : List Pat). sort_of c.args.sig.now (only_of c.args.inner.now.at (reads ps))) c.deref.ensures.value
-    ∙ ap (sort_of c.args.sig.now) (fold_short c.args.left c.args.inner.now.at c.in-App.name (map plain_sort c.in-App.sorts.items) c.in-App.args.items (omega (arith, c.len.ensures, c.if-len-lt2.true))
-    ∙ sym (application_folded c.args.left c.args.inner.now c.in-App.name c.in-App.sorts c.in-App.args c.in-App.is))
+    ∙ ap (λ (ps : List Pat). sort_of c.args.sig.now (only_of c.args.inner.now.at (reads ps)))
+    c.deref.ensures.value
+    ∙ ap (sort_of c.args.sig.now) (fold_short c.args.left c.args.inner.now.at c.in-App.name
+    (map plain_sort c.in-App.sorts.items) c.in-App.args.items
+    (omega (arith, c.len.ensures, c.if-len-lt2.true))
+    ∙
+    sym (application_folded c.args.left c.args.inner.now c.in-App.name c.in-App.sorts
+    c.in-App.args c.in-App.is))
 
 pub check_fold-returns-then-len-lt2-clause-first : goal.check_fold-returns-then-len-lt2-clause-first
 check_fold-returns-then-len-lt2-clause-first t c =
     c.check_only.ensures.first c.args.inner.now.at
-    ∙ ap (λ (ps : List Pat). after c.args.first.now (pattern_faults c.args.sig.now (only_of c.args.inner.now.at (reads ps)))) c.deref.ensures.value
-    ∙ ap (λ u. after c.args.first.now (pattern_faults c.args.sig.now u)) (fold_short c.args.left c.args.inner.now.at c.in-App.name (map plain_sort c.in-App.sorts.items) c.in-App.args.items (omega (arith, c.len.ensures, c.if-len-lt2.true))
-    ∙ sym (application_folded c.args.left c.args.inner.now c.in-App.name c.in-App.sorts c.in-App.args c.in-App.is))
+    ∙ ap (λ (ps : List Pat). after c.args.first.now
+    (pattern_faults c.args.sig.now (only_of c.args.inner.now.at (reads ps))))
+    c.deref.ensures.value
+    ∙ ap (λ u. after c.args.first.now (pattern_faults c.args.sig.now u))
+    (fold_short c.args.left c.args.inner.now.at c.in-App.name
+    (map plain_sort c.in-App.sorts.items) c.in-App.args.items
+    (omega (arith, c.len.ensures, c.if-len-lt2.true))
+    ∙
+    sym (application_folded c.args.left c.args.inner.now c.in-App.name c.in-App.sorts
+    c.in-App.args c.in-App.is))
 
 pub check_fold-returns-else-len-lt2-clause-sort : goal.check_fold-returns-else-len-lt2-clause-sort
 check_fold-returns-else-len-lt2-clause-sort t c =
-    fold_sorted c.args.sig.now c.args.left c.args.inner.now c.in-App.name c.in-App.sorts c.in-App.args (option_copied c.symbol-symbol.result) c.deref-in-App.result.now _ c.in-App.is
-    (omega (arith, c.len.ensures, c.if-len-lt2.false)) c.symbol-symbol.ensures c.deref-in-App.ensures.value c.check_head-own.ensures.sort
+    fold_sorted c.args.sig.now c.args.left c.args.inner.now c.in-App.name c.in-App.sorts
+    c.in-App.args (option_copied c.symbol-symbol.result) c.deref-in-App.result.now _ c.in-App.is
+    (omega (arith, c.len.ensures, c.if-len-lt2.false)) c.symbol-symbol.ensures
+    c.deref-in-App.ensures.value c.check_head-own.ensures.sort
 
 pub check_fold-returns-else-len-lt2-clause-first : goal.check_fold-returns-else-len-lt2-clause-first
 check_fold-returns-else-len-lt2-clause-first t c =
-    let s : FoldSorts = record { at = c.args.inner.now.at; own = c.check_head-own.result; lower = c.wanted_at-lower.result; upper = c.wanted_at-upper.result } in
-    fold_checked c.args.sig.now c.args.left c.args.inner.now c.in-App.name c.in-App.sorts c.in-App.args (option_copied c.symbol-symbol.result) c.deref-in-App.result.now s c.deref-in-App-4.result.now
-    c.args.first.now c.check_head-own.new.first c.check_folded.new.first c.in-App.is (omega (arith, c.len.ensures, c.if-len-lt2.false)) c.symbol-symbol.ensures c.deref-in-App.ensures.value c.deref-in-App-4.ensures.value
-    (fold_known c.args.sig.now c.args.inner.now.at c.in-App.name c.in-App.sorts.items c.deref-in-App.result.now c.deref-in-App-2.result.now c.deref-in-App-3.result.now (option_copied c.symbol-symbol.result) c.places-places.result.now s
-    c.symbol-symbol.ensures c.places-places.ensures c.deref-in-App.ensures.value c.deref-in-App-2.ensures.value c.deref-in-App-3.ensures.value refl c.check_head-own.ensures.sort c.wanted_at-lower.ensures c.wanted_at-upper.ensures)
+    let s : FoldSorts =
+    record {
+      at = c.args.inner.now.at;
+      own = c.check_head-own.result;
+      lower = c.wanted_at-lower.result;
+      upper = c.wanted_at-upper.result;
+    } in
+    fold_checked c.args.sig.now c.args.left c.args.inner.now c.in-App.name c.in-App.sorts
+    c.in-App.args (option_copied c.symbol-symbol.result) c.deref-in-App.result.now s
+    c.deref-in-App-4.result.now
+    c.args.first.now c.check_head-own.new.first c.check_folded.new.first c.in-App.is
+    (omega (arith, c.len.ensures, c.if-len-lt2.false)) c.symbol-symbol.ensures
+    c.deref-in-App.ensures.value c.deref-in-App-4.ensures.value
+    (fold_known c.args.sig.now c.args.inner.now.at c.in-App.name c.in-App.sorts.items
+    c.deref-in-App.result.now c.deref-in-App-2.result.now c.deref-in-App-3.result.now
+    (option_copied c.symbol-symbol.result) c.places-places.result.now s
+    c.symbol-symbol.ensures c.places-places.ensures c.deref-in-App.ensures.value
+    c.deref-in-App-2.ensures.value c.deref-in-App-3.ensures.value refl
+    c.check_head-own.ensures.sort c.wanted_at-lower.ensures c.wanted_at-upper.ensures)
     c.check_head-own.ensures.first c.check_folded.ensures

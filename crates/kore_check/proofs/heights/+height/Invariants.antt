@@ -14,7 +14,8 @@ invariant-highest-loop-i l = record {
 abbrev pub invariant-left_height-loop-i : goal.invariant-left_height-loop-i
 invariant-left_height-loop-i l = record {
   low : l.height ≤ 501;
-  whole : cut (grown_left l.height (drop l.i l.args)) ≡ cut (grown_left l.initial.height (drop 1 l.args));
+  whole : cut (grown_left l.height (drop l.i l.args))
+      ≡ cut (grown_left l.initial.height (drop 1 l.args));
 }
 
 abbrev pub invariant-right_height-leftward : goal.invariant-right_height-leftward

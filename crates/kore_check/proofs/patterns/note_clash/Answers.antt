@@ -6,4 +6,6 @@ use Rattle.kore_check.proofs.patterns.note_clash.Goals as goal
 
 pub returns : goal.returns
 returns c = λ before is.
-    first-kept before (clash_faults c.args.at (option_map sort_no c.args.own) (option_map sort_no c.args.wanted)) c.args.first.now c.check_clash.new.first is c.check_clash.ensures
+    first-kept before
+    (clash_faults c.args.at (option_map sort_no c.args.own) (option_map sort_no c.args.wanted))
+    c.args.first.now c.check_clash.new.first is c.check_clash.ensures

@@ -5,4 +5,5 @@ use Rattle.kore_check.proofs.patterns.note_sort.Goals as goal
 
 pub returns-clause-first : goal.returns-clause-first
 returns-clause-first c = λ before is.
-    first-kept before (sort_faults c.args.sig.now (plain_sort c.args.sort.now)) c.args.first.now c.check_sort.new.first is c.check_sort.ensures.first
+    first-kept before (sort_faults c.args.sig.now (plain_sort c.args.sort.now)) c.args.first.now
+    c.check_sort.new.first is c.check_sort.ensures.first

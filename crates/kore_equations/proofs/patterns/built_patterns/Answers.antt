@@ -4,7 +4,8 @@ use Rattle.term_core.specs.Patterns.{Pattern}
 use Rattle.term_core.specs.RulePatterns.{plain_pattern}
 use Rattle.term_core.specs.declared.rule_patterns.RulePat.{RulePat}
 use Rattle.kore_shapes.specs.Views.{pattern_at}
-use Rattle.kore_equations.proofs.MeaningLaws.{MeanBefore, first_fine, next_variables, next_meaning, last_meaning}
+use Rattle.kore_equations.proofs.MeaningLaws.{MeanBefore, first_fine, next_variables, next_meaning}
+use Rattle.kore_equations.proofs.MeaningLaws.{last_meaning}
 use Rattle.kore_equations.proofs.patterns.built_patterns.Goals as goal
 
 pub loop-i-preserved : goal.loop-i-preserved
@@ -14,14 +15,27 @@ loop-i-preserved c =
     let i = c.loop-i.i in
     let p : RulePat = c.in_ok-build_pattern.field-0 in
     let pushed : c.push.new.self.items ≡ c.loop-i.made.items ++ p ∷ [] = search rules in
-    let mapped : map plain_pattern c.push.new.self.items ≡ map plain_pattern c.loop-i.made.items ++ plain_pattern p ∷ [] = ap (map plain_pattern) pushed ∙ map-append plain_pattern c.loop-i.made.items (p ∷ []) in
+    let mapped : map plain_pattern c.push.new.self.items ≡ map plain_pattern c.loop-i.made.items ++
+    plain_pattern p ∷ [] =
+    ap (map plain_pattern) pushed ∙ map-append plain_pattern c.loop-i.made.items (p ∷ []) in
     record {
-      fine = (first_fine pattern_at sig pats i c.index-pats-i.result c.loop-i-test.true c.index-pats-i.is c.loop-i.invariant.fine).1;
-      vars = next_variables pattern_at sig pats i c.index-pats-i.result c.loop-i.vars c.build_pattern.new.vars _ c.loop-i-test.true c.index-pats-i.is c.in_ok-build_pattern.ensures.vars c.loop-i.invariant.vars;
-      means = subst (λ (ps : List Pattern). MeanBefore pattern_at sig c.build_pattern.new.vars pats (i + 1) ps) (sym mapped)
-          (next_meaning pattern_at sig pats i c.index-pats-i.result c.loop-i.vars c.build_pattern.new.vars (map plain_pattern c.loop-i.made.items) (plain_pattern p) c.loop-i-test.true c.index-pats-i.is c.in_ok-build_pattern.ensures.vars c.in_ok-build_pattern.ensures.means c.loop-i.invariant.means);
+      fine =
+          (first_fine pattern_at sig pats i c.index-pats-i.result c.loop-i-test.true
+          c.index-pats-i.is c.loop-i.invariant.fine).1;
+      vars =
+          next_variables pattern_at sig pats i c.index-pats-i.result c.loop-i.vars
+          c.build_pattern.new.vars _ c.loop-i-test.true c.index-pats-i.is
+          c.in_ok-build_pattern.ensures.vars c.loop-i.invariant.vars;
+      means =
+          subst (λ (ps : List Pattern).
+          MeanBefore pattern_at sig c.build_pattern.new.vars pats (i + 1) ps) (sym mapped)
+          (next_meaning pattern_at sig pats i c.index-pats-i.result c.loop-i.vars
+          c.build_pattern.new.vars (map plain_pattern c.loop-i.made.items) (plain_pattern p)
+          c.loop-i-test.true c.index-pats-i.is c.in_ok-build_pattern.ensures.vars
+          c.in_ok-build_pattern.ensures.means c.loop-i.invariant.means);
     }
 
 pub returns-clause-means : goal.returns-clause-means
 returns-clause-means c =
-    last_meaning pattern_at c.args.sig.now c.args.pats.now c.loop-i.i c.loop-i.vars (map plain_pattern c.loop-i.made.items) c.loop-i-test.false c.loop-i.invariant.means
+    last_meaning pattern_at c.args.sig.now c.args.pats.now c.loop-i.i c.loop-i.vars
+    (map plain_pattern c.loop-i.made.items) c.loop-i-test.false c.loop-i.invariant.means

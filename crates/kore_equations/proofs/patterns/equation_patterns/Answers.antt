@@ -1,4 +1,5 @@
-use Rattle.std.proofs.Common.{◌≡◌, ℕ, List, [], length, map, nat_eq, ◌&&◌, Option, Some, ap, sym, ◌∙◌, subst, arith}
+use Rattle.std.proofs.Common.{◌≡◌, ℕ, List, [], length, map, nat_eq, ◌&&◌, Option, Some, ap, sym}
+use Rattle.std.proofs.Common.{◌∙◌, subst, arith}
 use Rattle.std.specs.Prelude.{option_map}
 use Rattle.std.specs.Borrow.{Bor}
 use Rattle.kore_ast.specs.declared.tree.Pat.{Pat}
@@ -6,7 +7,8 @@ use Rattle.kore_text.specs.Trees.{PatternTree}
 use Rattle.term_core.specs.RulePatterns.{plain_pattern}
 use Rattle.term_core.specs.PatternLists.{plain_patterns}
 use Rattle.kore_check.specs.Folds.{Unfoldeds, unfolded}
-use Rattle.kore_check.specs.PatternMeanings.{named_sorts, with_variables, with_all_variables, Means, AllMean}
+use Rattle.kore_check.specs.PatternMeanings.{named_sorts, with_variables, with_all_variables, Means}
+use Rattle.kore_check.specs.PatternMeanings.{AllMean}
 use Rattle.kore_shapes.specs.EquationForms.{EquationParts}
 use Rattle.kore_shapes.specs.Views.{pattern_at, plain_condition}
 use Rattle.kore_shapes.specs.PartViews.{plain_parts}
@@ -26,33 +28,56 @@ returns c =
     let right : PatternTree = q.right in
     let f = c.requires.fine in
     let first : List (List ℕ × ℕ) = with_all_variables sig [] qs in
-    let read : all_read (map pattern_at c.deref.result.now) ≡ qs = ap (λ (ps : List (Bor Pat)). all_read (map pattern_at ps)) c.deref.ensures.value in
+    let read : all_read (map pattern_at c.deref.result.now) ≡ qs =
+    ap (λ (ps : List (Bor Pat)). all_read (map pattern_at ps)) c.deref.ensures.value in
     let one : c.built_patterns.new.vars ≡ first =
-    c.in_ok-args.ensures.vars ∙ ap (λ (vs : List (List ℕ × ℕ)). with_all_variables sig vs (all_read (map pattern_at c.deref.result.now))) c.new-vars.ensures
+    c.in_ok-args.ensures.vars
+    ∙ ap (λ (vs : List (List ℕ × ℕ)).
+    with_all_variables sig vs (all_read (map pattern_at c.deref.result.now)))
+    c.new-vars.ensures
     ∙ ap (with_all_variables sig []) read in
     let two : c.built_condition.new.vars ≡ with_some_variables sig first test =
-    c.in_ok-cond.ensures.vars ∙ ap (λ (vs : List (List ℕ × ℕ)). with_some_variables sig vs (option_map pattern_at c.tested.result)) one
+    c.in_ok-cond.ensures.vars
+    ∙ ap (λ (vs : List (List ℕ × ℕ)).
+    with_some_variables sig vs (option_map pattern_at c.tested.result)) one
     ∙ ap (with_some_variables sig first) c.tested.ensures in
-    let all : List (List ℕ × ℕ) = with_variables sig (with_some_variables sig first test) (unfolded right) in
+    let all : List (List ℕ × ℕ) =
+    with_variables sig (with_some_variables sig first test) (unfolded right) in
     let three : c.build_pattern.new.vars ≡ all =
-    c.in_ok-right.ensures.vars ∙ ap (λ (vs : List (List ℕ × ℕ)). with_variables sig vs (unfolded right)) two in
+    c.in_ok-right.ensures.vars
+    ∙ ap (λ (vs : List (List ℕ × ℕ)). with_variables sig vs (unfolded right)) two in
     let kept : named_sorts c.into_infos.result.items ≡ all = c.into_infos.ensures ∙ three in
     let most : c.len.result ≡ length all = omega (arith, c.len.ensures, ap length three) in
-    let some : c.len-bound.result ≡ length first = omega (arith, c.len-bound.ensures, ap length one) in
+    let some : c.len-bound.result ≡ length first =
+    omega (arith, c.len-bound.ensures, ap length one) in
     let counted : nat_eq c.len.result c.len-bound.result ≡ nat_eq (length all) (length first) =
     ap (λ (n : ℕ). nat_eq n c.len-bound.result) most ∙ ap (λ (n : ℕ). nat_eq (length all) n) some in
     let clear : (p : PatternTree) → test ≡ Some p → _ = λ p e. (f.test p e).clear in
-    let bound : nat_eq c.len.result c.len-bound.result ≡ (is_bound qs test && is_bound qs (Some right)) = counted ∙ bound_counted sig qs test right clear f.right.clear in
+    let bound : nat_eq c.len.result c.len-bound.result ≡
+    (is_bound qs test && is_bound qs (Some right)) =
+    counted ∙ bound_counted sig qs test right clear f.right.clear in
     record {
       bound = bound;
-      numbered = λ yes. kept ∙ (bound_all sig qs test right clear f.right.clear (sym counted ∙ yes)).1;
+      numbered =
+          λ yes. kept ∙ (bound_all sig qs test right clear f.right.clear (sym counted ∙ yes)).1;
       means_arguments = λ yes.
           let same = bound_all sig qs test right clear f.right.clear (sym counted ∙ yes) in
-          subst (λ (vs : List (List ℕ × ℕ)). AllMean sig vs qs (plain_patterns c.in_ok-args.args.items)) (one ∙ sym same.1 ∙ sym kept)
-          (subst (λ (us : Unfoldeds). AllMean sig c.built_patterns.new.vars us (plain_patterns c.in_ok-args.args.items)) read c.in_ok-args.ensures.means);
+          subst (λ (vs : List (List ℕ × ℕ)).
+          AllMean sig vs qs (plain_patterns c.in_ok-args.args.items))
+          (one ∙ sym same.1 ∙ sym kept)
+          (subst (λ (us : Unfoldeds).
+          AllMean sig c.built_patterns.new.vars us (plain_patterns c.in_ok-args.args.items))
+          read c.in_ok-args.ensures.means);
       means_condition = λ yes.
           let same = bound_all sig qs test right clear f.right.clear (sym counted ∙ yes) in
-          subst (λ (vs : List (List ℕ × ℕ)). MeansTest sig vs test (option_map plain_pattern c.in_ok-cond.cond)) (two ∙ same.0 ∙ sym same.1 ∙ sym kept)
-          (subst (λ (o : Option PatternTree). MeansTest sig c.built_condition.new.vars o (option_map plain_pattern c.in_ok-cond.cond)) c.tested.ensures c.in_ok-cond.ensures.means);
-      means_right = λ yes. subst (λ (vs : List (List ℕ × ℕ)). Means sig vs (unfolded right) (plain_pattern c.in_ok-right.right)) (sym c.into_infos.ensures) c.in_ok-right.ensures.means;
+          subst (λ (vs : List (List ℕ × ℕ)).
+          MeansTest sig vs test (option_map plain_pattern c.in_ok-cond.cond))
+          (two ∙ same.0 ∙ sym same.1 ∙ sym kept)
+          (subst (λ (o : Option PatternTree). MeansTest sig c.built_condition.new.vars o
+          (option_map plain_pattern c.in_ok-cond.cond)) c.tested.ensures
+          c.in_ok-cond.ensures.means);
+      means_right =
+          λ yes. subst (λ (vs : List (List ℕ × ℕ)).
+          Means sig vs (unfolded right) (plain_pattern c.in_ok-right.right))
+          (sym c.into_infos.ensures) c.in_ok-right.ensures.means;
     }

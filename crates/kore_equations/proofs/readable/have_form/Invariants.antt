@@ -6,4 +6,5 @@ use Rattle.kore_equations.proofs.readable.have_form.Given as goal
 
 abbrev pub invariant-loop-pat : goal.invariant-loop-pat
 invariant-loop-pat l =
-    list_any (has_form all_forms) (map pattern_at (drop l.pat-index l.pats)) ≡ list_any (has_form all_forms) (map pattern_at l.pats)
+    list_any (has_form all_forms) (map pattern_at (drop l.pat-index l.pats))
+    ≡ list_any (has_form all_forms) (map pattern_at l.pats)

@@ -8,5 +8,6 @@ use Rattle.kore_equations.proofs.readable.have_symbol.Given as goal
 
 abbrev pub invariant-loop-pat : goal.invariant-loop-pat
 invariant-loop-pat l =
-    have_symbol (is_used l.which l.sig) (all_unfolded (pattern_trees (map pattern_at (drop l.pat-index l.pats))))
+    have_symbol (is_used l.which l.sig)
+    (all_unfolded (pattern_trees (map pattern_at (drop l.pat-index l.pats))))
     ≡ have_symbol (is_used l.which l.sig) (all_unfolded (pattern_trees (map pattern_at l.pats)))

@@ -2,7 +2,7 @@ use Rattle.std.proofs.Common.{◌≡◌, ℕ, List, map, length, Some, refl, ap,
 use Rattle.std.specs.Prelude.{option_map}
 use Rattle.std.proofs.lemmas.List.{length-map}
 use Rattle.kore_ast.specs.declared.tree.Pat.{Pat}
-use Rattle.kore_ast.specs.Plain.{plain_pattern as plain_tree, plain_axiom_decl}
+use Rattle.kore_ast.specs.Plain.{pattern_tree as plain_tree, plain_axiom_decl}
 use Rattle.term_core.specs.RulePatterns.{plain_pattern}
 use Rattle.term_core.specs.PatternLists.{plain_patterns}
 use Rattle.rule_core.specs.ProgramView.{sorts_of}
@@ -22,7 +22,8 @@ use Rattle.kore_equations.proofs.readings.meant_equation.Goals as goal
 
 pub returns-in_default : goal.returns-in_default
 returns-in_default c =
-    none_unreadable c.args.sig.now (plain_axiom_decl c.args.decl.now) c.args.symbol.now (plain_statement c.args.stated.now)
+    none_unreadable c.args.sig.now (plain_axiom_decl c.args.decl.now) c.args.symbol.now
+    (plain_statement c.args.stated.now)
     (sym c.in_ok-parts.ensures ∙ ap (option_map plain_parts) c.in_default.is)
 
 pub equation_patterns-requires-clause-fine : goal.equation_patterns-requires-clause-fine
@@ -31,8 +32,10 @@ equation_patterns-requires-clause-fine c =
     let a = plain_axiom_decl c.args.decl.now in
     let e = plain_statement c.args.stated.now in
     let q = plain_parts c.in-Some.parts in
-    let clear : clear_parts sig a c.args.symbol.now e ≡ Some q = sym c.in_ok-parts.ensures ∙ ap (option_map plain_parts) c.in-Some.is in
-    subst (λ (k : Condition). IsFineEquation sig k q) (sym c.condition_of.ensures) (fine_equation sig a c.args.symbol.now e q c.requires.class clear)
+    let clear : clear_parts sig a c.args.symbol.now e ≡ Some q =
+    sym c.in_ok-parts.ensures ∙ ap (option_map plain_parts) c.in-Some.is in
+    subst (λ (k : Condition). IsFineEquation sig k q) (sym c.condition_of.ensures)
+    (fine_equation sig a c.args.symbol.now e q c.requires.class clear)
 
 pub returns-then-not-made : goal.returns-then-not-made
 returns-then-not-made c =
@@ -41,8 +44,11 @@ returns-then-not-made c =
     let e = plain_statement c.args.stated.now in
     let q = plain_parts c.in-Some.parts in
     let made = c.in_ok-made.made in
-    let clear : clear_parts sig a c.args.symbol.now e ≡ Some q = sym c.in_ok-parts.ensures ∙ ap (option_map plain_parts) c.in-Some.is in
-    let built : IsBuiltOf sig (condition_of_equation sig e q) q made = subst (λ (k : Condition). IsBuiltOf sig k q made) c.condition_of.ensures c.in_ok-made.ensures in
+    let clear : clear_parts sig a c.args.symbol.now e ≡ Some q =
+    sym c.in_ok-parts.ensures ∙ ap (option_map plain_parts) c.in-Some.is in
+    let built : IsBuiltOf sig (condition_of_equation sig e q) q made =
+    subst (λ (k : Condition). IsBuiltOf sig k q made) c.condition_of.ensures
+    c.in_ok-made.ensures in
     unbound_unreadable sig a c.args.symbol.now e q clear (sym built.bound ∙ c.if-not-made.true)
 
 pub returns : goal.returns
@@ -53,12 +59,27 @@ returns c =
     let q : EquationParts = plain_parts c.in-Some.parts in
     let made = c.in_ok-made.made in
     let n : ℕ = c.in_ok-as_number.field-0 in
-    let clear : clear_parts sig a c.args.symbol.now e ≡ Some q = sym c.in_ok-parts.ensures ∙ ap (option_map plain_parts) c.in-Some.is in
-    let built : IsBuiltOf sig (condition_of_equation sig e q) q made = subst (λ (k : Condition). IsBuiltOf sig k q made) c.condition_of.ensures c.in_ok-made.ensures in
-    let count : n ≡ length q.parameters = c.in_ok-as_number.ensures ∙ sym (length-map c.in-Some.parts.parameters.now plain_tree) in
-    let priority : c.priority_of.result ≡ priority_of a.attributes = c.priority_of.ensures ∙ ap (λ (attrs : List Pat). priority_of (map plain_tree attrs)) c.deref.ensures.value in (
+    let clear : clear_parts sig a c.args.symbol.now e ≡ Some q =
+    sym c.in_ok-parts.ensures ∙ ap (option_map plain_parts) c.in-Some.is in
+    let built : IsBuiltOf sig (condition_of_equation sig e q) q made =
+    subst (λ (k : Condition). IsBuiltOf sig k q made) c.condition_of.ensures
+    c.in_ok-made.ensures in
+    let count : n ≡ length q.parameters =
+    c.in_ok-as_number.ensures ∙ sym (length-map c.in-Some.parts.parameters.now plain_tree) in
+    let priority : c.priority_of.result ≡ priority_of a.attributes =
+    c.priority_of.ensures
+    ∙ ap (λ (attrs : List Pat). priority_of (map plain_tree attrs)) c.deref.ensures.value in (
       refl,
       subst
-          (λ (p : ℕ). IsEquationOf sig e.function a (record { parameters = n; arguments = plain_patterns made.args.items; condition = option_map plain_pattern made.cond; right = plain_pattern made.right; variables = sorts_of made.vars.items; priority = p; place = a.at }))
-          (sym priority) (equation_meant sig a c.args.symbol.now e q made n c.requires.class c.requires.declared clear built c.if-not-made.false count),
+          (λ (p : ℕ). IsEquationOf sig e.function a (record {
+            parameters = n;
+            arguments = plain_patterns made.args.items;
+            condition = option_map plain_pattern made.cond;
+            right = plain_pattern made.right;
+            variables = sorts_of made.vars.items;
+            priority = p;
+            place = a.at;
+          }))
+          (sym priority) (equation_meant sig a c.args.symbol.now e q made n c.requires.class
+          c.requires.declared clear built c.if-not-made.false count),
     )

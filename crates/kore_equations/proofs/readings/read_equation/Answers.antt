@@ -1,4 +1,5 @@
-use Rattle.std.proofs.Common.{◌≡◌, ◌<◌, ℕ, List, length, Option, Some, None, refl, ap, sym, ◌∙◌, subst, arith}
+use Rattle.std.proofs.Common.{◌≡◌, ◌<◌, ℕ, List, length, Option, Some, None, refl, ap, sym, ◌∙◌}
+use Rattle.std.proofs.Common.{subst, arith}
 use Rattle.std.specs.Prelude.{option_copied}
 use Rattle.std.specs.Option.{option_and_then}
 use Rattle.kore_ast.specs.Plain.{plain_axiom_decl}
@@ -15,20 +16,26 @@ use Rattle.kore_equations.proofs.readings.read_equation.Goals as goal
 pub unreachable-requires : goal.unreachable-requires
 unreachable-requires c =
     let none : number_of c.args.sig.now.symbols c.args.stated.now.function.now ≡ None =
-    ap (number_of c.args.sig.now.symbols) (sym c.as_str.ensures) ∙ sym c.number.ensures ∙ c.in_default.is in
-    number_there c.args.sig.now (plain_axiom_decl c.args.decl.now) (plain_statement c.args.stated.now) c.requires.class none
+    ap (number_of c.args.sig.now.symbols) (sym c.as_str.ensures) ∙ sym c.number.ensures
+    ∙ c.in_default.is in
+    number_there c.args.sig.now (plain_axiom_decl c.args.decl.now)
+    (plain_statement c.args.stated.now) c.requires.class none
 
 pub unreachable-requires-in_default-value : goal.unreachable-requires-in_default-value
 unreachable-requires-in_default-value c =
-    let is : number_of c.args.sig.now.symbols c.args.stated.now.function.now ≡ Some c.in-Some.number =
-    ap (number_of c.args.sig.now.symbols) (sym c.as_str.ensures) ∙ sym c.number.ensures ∙ c.in-Some.is in
-    declaration_there c.args.sig.now (plain_axiom_decl c.args.decl.now) (plain_statement c.args.stated.now) c.in-Some.number c.requires.class is
+    let is : number_of c.args.sig.now.symbols c.args.stated.now.function.now ≡ Some
+    c.in-Some.number =
+    ap (number_of c.args.sig.now.symbols) (sym c.as_str.ensures) ∙ sym c.number.ensures
+    ∙ c.in-Some.is in
+    declaration_there c.args.sig.now (plain_axiom_decl c.args.decl.now)
+    (plain_statement c.args.stated.now) c.in-Some.number c.requires.class is
     (sym c.value.ensures ∙ ap option_copied c.in_default-value.is)
 
 pub overflow_cast-function : goal.overflow_cast-function
 overflow_cast-function c =
     let within : c.in-Some.number < length c.args.sig.now.symbols =
-    number-within c.args.sig.now.symbols c.as_str.result.now c.in-Some.number (sym c.number.ensures ∙ c.in-Some.is) in
+    number-within c.args.sig.now.symbols c.as_str.result.now c.in-Some.number
+    (sym c.number.ensures ∙ c.in-Some.is) in
     omega (arith, within, c.requires.numbered.1)
 
 pub returns-in-None-clause-means : goal.returns-in-None-clause-means
@@ -41,12 +48,15 @@ returns-in-None-clause-means c =
     let is : number_of sig.symbols f ≡ Some c.in-Some.number =
     ap (number_of sig.symbols) (sym c.as_str.ensures) ∙ sym c.number.ensures ∙ c.in-Some.is in
     let declared : symbol_named sig f ≡ Some info =
-    ap (option_and_then (symbol_info sig)) is ∙ sym c.value.ensures ∙ ap option_copied c.in-Some-value.is in
+    ap (option_and_then (symbol_info sig)) is ∙ sym c.value.ensures
+    ∙ ap option_copied c.in-Some-value.is in
     record {
       stated = e;
       class = c.requires.class;
       function = refl;
       info = info;
       declared = declared;
-      unreadable = subst (λ (o : Option Equation). IsMeant sig f c.in-Some.number info a e o) c.in-None.is c.in_ok-equation.ensures;
+      unreadable =
+          subst (λ (o : Option Equation). IsMeant sig f c.in-Some.number info a e o) c.in-None.is
+          c.in_ok-equation.ensures;
     }

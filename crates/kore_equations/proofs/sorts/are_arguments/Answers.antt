@@ -8,4 +8,7 @@ use Rattle.kore_equations.proofs.sorts.are_arguments.Goals as goal
 pub loop-i-preserved : goal.loop-i-preserved
 loop-i-preserved c =
     let wanted : Option ℕ = option_map (λ (s : SortId). s.0) c.wanted.result in
-    next_faultless pattern_at c.args.sig.now c.args.places.now c.args.pats.now c.loop-i.i c.index-pats-i.result wanted c.is_faultless.result _ c.loop-i-test.true c.index-pats-i.is (c.wanted.ensures c.args.sig.now) c.is_faultless.ensures c.if-not-is_faultless.false c.loop-i.invariant
+    next_faultless pattern_at c.args.sig.now c.args.places.now c.args.pats.now c.loop-i.i
+    c.index-pats-i.result wanted c.is_faultless.result _ c.loop-i-test.true c.index-pats-i.is
+    (c.wanted.ensures c.args.sig.now) c.is_faultless.ensures c.if-not-is_faultless.false
+    c.loop-i.invariant

@@ -1,9 +1,10 @@
 use Rattle.std.proofs.Common.{◌≡◌, drop, map}
-use Rattle.kore_ast.specs.Plain.{plain_pattern}
+use Rattle.kore_ast.specs.Plain.{pattern_tree}
 use Rattle.kore_equations.specs.ReadableEquations.{all_read}
 use Rattle.kore_equations.specs.ClearEquations.{each_faultless}
 use Rattle.kore_equations.proofs.sorts.are_parameters.Given as goal
 
 abbrev pub invariant-loop-i : goal.invariant-loop-i
 invariant-loop-i l =
-    each_faultless l.sig (drop l.i l.places) (all_read (map plain_pattern (drop l.i l.pats))) ≡ each_faultless l.sig l.places (all_read (map plain_pattern l.pats))
+    each_faultless l.sig (drop l.i l.places) (all_read (map pattern_tree (drop l.i l.pats)))
+    ≡ each_faultless l.sig l.places (all_read (map pattern_tree l.pats))

@@ -8,6 +8,7 @@ use Rattle.kore_equations.proofs.sorts.highest.Given as goal
 
 abbrev pub invariant-loop-pat : goal.invariant-loop-pat
 invariant-loop-pat l = record {
-  whole : cut (max l.highest (heights (all_read (map pattern_at (drop l.pat-index l.pats))))) ≡ cut (heights (all_read (map pattern_at l.pats)));
+  whole : cut (max l.highest (heights (all_read (map pattern_at (drop l.pat-index l.pats)))))
+      ≡ cut (heights (all_read (map pattern_at l.pats)));
   within : l.highest ≤ 501;
 }

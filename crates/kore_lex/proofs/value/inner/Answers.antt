@@ -12,4 +12,5 @@ overflow_sub-token c = let h = string-inside c.args.token.now c.requires in h.0
 pub returns-clause-inner : goal.returns-clause-inner
 returns-clause-inner c =
     let h = string-inside c.args.token.now c.requires in
-    subst IsInner (sym (c.first.ensures ∙ ap (take (length c.args.token.now - 2)) c.behind.ensures)) h.1
+    subst IsInner (sym (c.first.ensures ∙ ap (take (length c.args.token.now - 2)) c.behind.ensures))
+    h.1

@@ -10,5 +10,6 @@ unreachable-requires c =
 
 pub returns : goal.returns
 returns c =
-    escape-took c.args.bytes.now _ _ c.in-Some.escape c.requires.some c.requires.begins c.requires.inner
+    escape-took c.args.bytes.now _ _ c.in-Some.escape c.requires.some c.requires.begins
+    c.requires.inner
     (c.in-Some.ensures.value ∙ ap escape c.behind.ensures) c.in_ok-push-in-Some.ensures.bytes

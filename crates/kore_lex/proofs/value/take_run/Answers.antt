@@ -13,7 +13,10 @@ unreachable-requires c =
 
 pub returns : goal.returns
 returns c =
-    let r = c.in-Ok.ensures.cases.0 ∙ c.first.ensures ∙ ap (λ n. take n c.args.bytes.now) c.run_len-len.ensures in
-    subst (λ n. Took c.args.bytes.now (string_bytes c.args.text.now) (string_bytes c.push_str.new.self) n) (sym c.run_len-len.ensures)
+    let r =
+    c.in-Ok.ensures.cases.0 ∙ c.first.ensures
+    ∙ ap (λ n. take n c.args.bytes.now) c.run_len-len.ensures in
+    subst (λ n. Took c.args.bytes.now (string_bytes c.args.text.now)
+    (string_bytes c.push_str.new.self) n) (sym c.run_len-len.ensures)
     (run-took c.args.bytes.now _ _ c.requires.some c.requires.begins c.requires.inner
     (c.in_ok-push_str-in-Ok.ensures.bytes ∙ ap (λ t. string_bytes c.args.text.now ++ t) r))

@@ -4,4 +4,5 @@ use Rattle.kore_lex.proofs.ValueLaws.{plain-past}
 use Rattle.kore_lex.proofs.value.text_value.Goals as goal
 
 pub returns : goal.returns
-returns c = plain-past _ c.loop-at.at _ (omega arith) ∙ c.loop-at.invariant.read ∙ ap (plain 0) c.inner-inner.ensures.bytes
+returns c = plain-past _ c.loop-at.at _ (omega arith) ∙ c.loop-at.invariant.read
+    ∙ ap (plain 0) c.inner-inner.ensures.bytes

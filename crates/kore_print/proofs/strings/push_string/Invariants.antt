@@ -6,5 +6,7 @@ use Rattle.kore_print.proofs.strings.push_string.Given as goal
 abbrev pub invariant-loop-character : goal.invariant-loop-character
 invariant-loop-character l = record {
   utf8 : IsUtf8 (chars_rest l.character-iterator);
-  written : string_bytes l.text ++ (characters_text (chars (chars_rest l.character-iterator)) ++ (34 ∷ [])) ≡ string_bytes l.fn.text ++ string_text l.fn.content;
+  written : string_bytes l.text
+      ++ (characters_text (chars (chars_rest l.character-iterator)) ++ (34 ∷ []))
+      ≡ string_bytes l.fn.text ++ string_text l.fn.content;
 }

@@ -5,36 +5,53 @@ use Rattle.run_loop.specs.RunEnds.{plain_run}
 use Rattle.kore_prove.specs.PlainEnds.{plain_end}
 use Rattle.kore_prove.specs.Requests.{request, drill_request}
 use Rattle.kore_prove.proofs.Ending.{same_bytes, same_files, same_grows}
-use Rattle.kore_prove.proofs.Answering.{run_answered, run_ended, verify_answered, verify_ended, drill_answered, drill_ended, bad_answered, memory_answered}
+use Rattle.kore_prove.proofs.Answering.{run_answered, run_ended, verify_answered, verify_ended}
+use Rattle.kore_prove.proofs.Answering.{drill_answered, drill_ended, bad_answered, memory_answered}
 use Rattle.kore_prove.proofs.call.answered.Goals as goal
 
 pub returns-in-Ok-run_command-clause-answered : goal.returns-in-Ok-run_command-clause-answered
 returns-in-Ok-run_command-clause-answered g c =
-    run_answered _ _ (request c.in-Run.asked) (plain_run c.in-Ok-run_command.end) (rw c.in-Run.is at c.in-Ok.ensures.asked) c.in-Ok-run_command.ensures.done c.exit_code.ensures (same_bytes _)
+    run_answered _ _ (request c.in-Run.asked) (plain_run c.in-Ok-run_command.end)
+    (rw c.in-Run.is at c.in-Ok.ensures.asked) c.in-Ok-run_command.ensures.done
+    c.exit_code.ensures (same_bytes _)
 
 pub returns-in-Err-run_command-clause-answered : goal.returns-in-Err-run_command-clause-answered
 returns-in-Err-run_command-clause-answered g c =
-    run_ended _ _ (request c.in-Run.asked) (plain_end c.in-Err-run_command.end) (rw c.in-Run.is at c.in-Ok.ensures.asked) c.in-Err-run_command.ensures.ended c.report.ensures
+    run_ended _ _ (request c.in-Run.asked) (plain_end c.in-Err-run_command.end)
+    (rw c.in-Run.is at c.in-Ok.ensures.asked) c.in-Err-run_command.ensures.ended
+    c.report.ensures
 
 pub returns-in-Ok-verify_command-clause-answered : goal.returns-in-Ok-verify_command-clause-answered
 returns-in-Ok-verify_command-clause-answered g c =
-    verify_answered _ _ c.in-Verify.file.now c.in-Ok-verify_command.verdict (rw c.in-Verify.is at c.in-Ok.ensures.asked) c.in-Ok-verify_command.ensures.printed c.verify_command.ensures.files c.code.ensures (same_bytes _)
+    verify_answered _ _ c.in-Verify.file.now c.in-Ok-verify_command.verdict
+    (rw c.in-Verify.is at c.in-Ok.ensures.asked) c.in-Ok-verify_command.ensures.printed
+    c.verify_command.ensures.files c.code.ensures (same_bytes _)
 
-pub returns-in-Err-verify_command-clause-answered : goal.returns-in-Err-verify_command-clause-answered
+pub returns-in-Err-verify_command-clause-answered :
+    goal.returns-in-Err-verify_command-clause-answered
 returns-in-Err-verify_command-clause-answered g c =
-    verify_ended _ _ c.in-Verify.file.now (plain_end c.in-Err-verify_command.end) (rw c.in-Verify.is at c.in-Ok.ensures.asked) c.in-Err-verify_command.ensures.cause c.in-Err-verify_command.ensures.output c.verify_command.ensures.files c.report-in-Err-verify_command.ensures
+    verify_ended _ _ c.in-Verify.file.now (plain_end c.in-Err-verify_command.end)
+    (rw c.in-Verify.is at c.in-Ok.ensures.asked) c.in-Err-verify_command.ensures.cause
+    c.in-Err-verify_command.ensures.output c.verify_command.ensures.files
+    c.report-in-Err-verify_command.ensures
 
 pub returns-in-Ok-drill_command-clause-answered : goal.returns-in-Ok-drill_command-clause-answered
 returns-in-Ok-drill_command-clause-answered g c =
-    drill_answered _ _ (drill_request c.in-Drill.asked) (rw c.in-Drill.is at c.in-Ok.ensures.asked).0 c.in-Ok-drill_command.ensures.done refl (same_bytes _)
+    drill_answered _ _ (drill_request c.in-Drill.asked)
+    (rw c.in-Drill.is at c.in-Ok.ensures.asked).0 c.in-Ok-drill_command.ensures.done refl
+    (same_bytes _)
 
 pub returns-in-Err-drill_command-clause-answered : goal.returns-in-Err-drill_command-clause-answered
 returns-in-Err-drill_command-clause-answered g c =
-    drill_ended _ _ (drill_request c.in-Drill.asked) (plain_end c.in-Err-drill_command.end) (rw c.in-Drill.is at c.in-Ok.ensures.asked).0 c.in-Err-drill_command.ensures.ended c.report-in-Err-drill_command.ensures
+    drill_ended _ _ (drill_request c.in-Drill.asked) (plain_end c.in-Err-drill_command.end)
+    (rw c.in-Drill.is at c.in-Ok.ensures.asked).0 c.in-Err-drill_command.ensures.ended
+    c.report-in-Err-drill_command.ensures
 
 pub returns-in-Bad-clause-answered : goal.returns-in-Bad-clause-answered
 returns-in-Bad-clause-answered g c =
-    bad_answered _ _ (c.named_command.ensures.bad (c.in-Err.is ∙ ap (λ (e : WordsEnd). Err e) c.in-Bad.is)) (same_bytes _) (same_files _) c.report-in-Bad.ensures
+    bad_answered _ _
+    (c.named_command.ensures.bad (c.in-Err.is ∙ ap (λ (e : WordsEnd). Err e) c.in-Bad.is))
+    (same_bytes _) (same_files _) c.report-in-Bad.ensures
 
 pub returns-in-Memory-clause-answered : goal.returns-in-Memory-clause-answered
 returns-in-Memory-clause-answered g c =

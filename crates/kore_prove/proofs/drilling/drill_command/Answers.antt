@@ -4,7 +4,7 @@ use Rattle.desk_io.specs.declared.desk.DeskFault.{DeskFault}
 use Rattle.term_core.specs.RulePatterns.{plain_pattern}
 use Rattle.rule_core.specs.ProgramView.{theory_of}
 use Rattle.run_loop.specs.RunEnds.{plain_run}
-use Rattle.kore_prove.specs.Causes.{Course}
+use Rattle.kore_prove.specs.Causes.{IoState}
 use Rattle.kore_prove.specs.PlainEnds.{plain_end}
 use Rattle.kore_prove.specs.Requests.{drill_request}
 use Rattle.kore_prove.proofs.Ending.{same_grows}
@@ -15,7 +15,7 @@ use Rattle.kore_prove.proofs.drilling.drill_command.Goals as goal
 
 pub returns-in-Err-clause-ended : goal.returns-in-Err-clause-ended
 returns-in-Err-clause-ended g c =
-    let course : Course = record {
+    let course : IoState = record {
       told = g.D.Desk.told c.args.desk.now;
       told' = g.D.Desk.told c.args.desk.now;
       reads = g.D.Desk.read_faults c.args.desk.now;
@@ -27,25 +27,35 @@ returns-in-Err-clause-ended g c =
       output = g.O.Sink.bytes c.args.out.now;
       output' = g.O.Sink.bytes c.args.out.now;
     } in
-    texts_ended (drill_request c.args.asked.now) course (plain_end c.in-Err.end) refl refl (c.in-Err.ensures.cause course)
+    texts_ended (drill_request c.args.asked.now) course (plain_end c.in-Err.end) refl refl
+    (c.in-Err.ensures.cause course)
 
 pub returns-in-Err-proved_lines-clause-ended : goal.returns-in-Err-proved_lines-clause-ended
 returns-in-Err-proved_lines-clause-ended g c =
-    drill_unwritten (drill_request c.args.asked.now) _ _ c.in-Err-proved_lines.fault (theory_of c.in-Ok.accepted.program) (plain_pattern c.in-Ok.accepted.start)
-    c.write_end.ensures c.in-Ok.ensures.program c.in-Err-proved_lines.ensures.front c.in-Err-proved_lines.ensures.files
+    drill_unwritten (drill_request c.args.asked.now) _ _ c.in-Err-proved_lines.fault
+    (theory_of c.in-Ok.accepted.program) (plain_pattern c.in-Ok.accepted.start)
+    c.write_end.ensures c.in-Ok.ensures.program c.in-Err-proved_lines.ensures.front
+    c.in-Err-proved_lines.ensures.files
     (λ is. inr (c.in-Err-proved_lines.ensures.failed (ap (λ (f : DeskFault). Err f) is)))
     (same_grows (g.O.Sink.bytes c.args.out.now))
 
 pub returns-in-Ok-send_lines-clause-done : goal.returns-in-Ok-send_lines-clause-done
 returns-in-Ok-send_lines-clause-done g c =
-    drill_made (drill_request c.args.asked.now) _ (theory_of c.in-Ok.accepted.program) (plain_pattern c.in-Ok.accepted.start) (plain_run c.in-Ok-proved_lines.proved.end) c.in-Ok-proved_lines.proved.lines.items c.in-Ok-proved_lines.proved.summary
-    c.in-Ok.ensures.program c.in-Ok-proved_lines.ensures.run c.in-Ok-proved_lines.ensures.proof c.in-Ok-proved_lines.ensures.files (rw (← c.deref.ensures.value) c.in-Ok-send_lines.ensures.sent)
+    drill_made (drill_request c.args.asked.now) _ (theory_of c.in-Ok.accepted.program)
+    (plain_pattern c.in-Ok.accepted.start) (plain_run c.in-Ok-proved_lines.proved.end)
+    c.in-Ok-proved_lines.proved.lines.items c.in-Ok-proved_lines.proved.summary
+    c.in-Ok.ensures.program c.in-Ok-proved_lines.ensures.run c.in-Ok-proved_lines.ensures.proof
+    c.in-Ok-proved_lines.ensures.files
+    (rw (← c.deref.ensures.value) c.in-Ok-send_lines.ensures.sent)
 
 pub returns-clause-ended : goal.returns-clause-ended
 returns-clause-ended g c =
-    drill_unwritten (drill_request c.args.asked.now) _ _ c.in-Err-send_lines.fault (theory_of c.in-Ok.accepted.program) (plain_pattern c.in-Ok.accepted.start)
+    drill_unwritten (drill_request c.args.asked.now) _ _ c.in-Err-send_lines.fault
+    (theory_of c.in-Ok.accepted.program) (plain_pattern c.in-Ok.accepted.start)
     c.write_end-in-Err-send_lines.ensures c.in-Ok.ensures.program
-    (counted_front _ _ _ (theory_of c.in-Ok.accepted.program) (plain_pattern c.in-Ok.accepted.start) (plain_run c.in-Ok-proved_lines.proved.end) c.in-Ok-proved_lines.proved.summary c.in-Ok-proved_lines.ensures.proof)
+    (counted_front _ _ _ (theory_of c.in-Ok.accepted.program) (plain_pattern c.in-Ok.accepted.start)
+    (plain_run c.in-Ok-proved_lines.proved.end) c.in-Ok-proved_lines.proved.summary
+    c.in-Ok-proved_lines.ensures.proof)
     c.in-Ok-proved_lines.ensures.files
     (λ is. inl (c.in-Err-send_lines.ensures.failed (ap (λ (f : DeskFault). Err f) is)))
     (part_grows _ _ _ c.in-Err-send_lines.ensures.prefix)

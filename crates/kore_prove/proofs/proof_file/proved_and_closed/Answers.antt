@@ -11,4 +11,6 @@ returns-in-Err-closed-clause-front g c =
     let new = g.D.Desk.told c.close_file-closed.new.self in
     let theory = theory_of c.args.accepted.now.program in
     let start = plain_pattern c.args.accepted.now.start in
-    front_closed made mid new theory start (proof_written made mid theory start (plain_run c.in-Ok.made.end) c.in-Ok.made.summary c.in-Ok.ensures.justified) c.close_file-closed.ensures.closes
+    front_closed made mid new theory start (proof_written made mid theory start
+    (plain_run c.in-Ok.made.end) c.in-Ok.made.summary c.in-Ok.ensures.justified)
+    c.close_file-closed.ensures.closes

@@ -6,7 +6,8 @@ use Rattle.kore_prove.specs.ProofFiles.{PutsProof, PutsFront, HoldsCounted, MayH
 use Rattle.kore_prove.proofs.FileProofs.{created_proof, created_front, created_others, on_err_more}
 use Rattle.kore_prove.proofs.proof_file.proved_lines.Goals as goal
 
-if_ok : {T E : Type 0} (r : Result T E) (P Q : T → Type 0) → ((t : T) → P t → Q t) → IfOk r P → IfOk r Q
+if_ok : {T E : Type 0} (r : Result T E) (P Q : T → Type 0) → ((t : T) → P t → Q t) → IfOk r P
+    → IfOk r Q
 if_ok (Ok t) P Q f h = f t h
 if_ok (Err e) P Q f h = tt
 
@@ -17,8 +18,11 @@ returns-in-Ok-clause-proof g c =
     let new = g.D.Desk.told c.proved_and_closed.new.desk in
     let theory = theory_of c.args.accepted.now.program in
     let start = plain_pattern c.args.accepted.now.start in
-    if_ok c.proved_and_closed.result (λ r. PutsProof made new theory start (plain_run r.end) r.summary) (λ r. HoldsCounted old new c.args.file.now theory start (plain_run r.end) r.summary)
-    (λ r h. created_proof old made new c.args.file.now theory start (plain_run r.end) r.summary c.in-Ok.ensures.creates h) c.proved_and_closed.ensures.proof
+    if_ok c.proved_and_closed.result
+    (λ r. PutsProof made new theory start (plain_run r.end) r.summary)
+    (λ r. HoldsCounted old new c.args.file.now theory start (plain_run r.end) r.summary)
+    (λ r h. created_proof old made new c.args.file.now theory start (plain_run r.end) r.summary
+    c.in-Ok.ensures.creates h) c.proved_and_closed.ensures.proof
 
 pub returns-in-Ok-clause-front : goal.returns-in-Ok-clause-front
 returns-in-Ok-clause-front g c =
@@ -27,9 +31,13 @@ returns-in-Ok-clause-front g c =
     let new = g.D.Desk.told c.proved_and_closed.new.desk in
     let theory = theory_of c.args.accepted.now.program in
     let start = plain_pattern c.args.accepted.now.start in
-    on_err_more c.proved_and_closed.result (PutsFront made new theory start) (MayHoldFront old new c.args.file.now theory start)
-    (λ h. created_front old made new c.args.file.now theory start c.in-Ok.ensures.creates h) c.proved_and_closed.ensures.front
+    on_err_more c.proved_and_closed.result (PutsFront made new theory start)
+    (MayHoldFront old new c.args.file.now theory start)
+    (λ h. created_front old made new c.args.file.now theory start c.in-Ok.ensures.creates h)
+    c.proved_and_closed.ensures.front
 
 pub returns-in-Ok-clause-files : goal.returns-in-Ok-clause-files
 returns-in-Ok-clause-files g c =
-    created_others (g.D.Desk.told c.args.desk.now) (g.D.Desk.told c.create_file.new.self) (g.D.Desk.told c.proved_and_closed.new.desk) c.args.file.now c.in-Ok.ensures.creates c.proved_and_closed.ensures.files
+    created_others (g.D.Desk.told c.args.desk.now) (g.D.Desk.told c.create_file.new.self)
+    (g.D.Desk.told c.proved_and_closed.new.desk) c.args.file.now c.in-Ok.ensures.creates
+    c.proved_and_closed.ensures.files

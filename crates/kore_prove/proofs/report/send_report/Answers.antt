@@ -10,16 +10,20 @@ pub returns-in-ReadFault-clause-sent : goal.returns-in-ReadFault-clause-sent
 returns-in-ReadFault-clause-sent g c = rw c.in-ReadFault.is c.send_pieces-in-ReadFault.ensures.sent
 
 pub returns-in-WriteFault-clause-sent : goal.returns-in-WriteFault-clause-sent
-returns-in-WriteFault-clause-sent g c = rw c.in-WriteFault.is c.send_pieces-in-WriteFault.ensures.sent
+returns-in-WriteFault-clause-sent g c =
+    rw c.in-WriteFault.is c.send_pieces-in-WriteFault.ensures.sent
 
 pub returns-in-NoSuchFile-clause-sent : goal.returns-in-NoSuchFile-clause-sent
-returns-in-NoSuchFile-clause-sent g c = rw c.in-NoSuchFile.is c.send_pieces-in-NoSuchFile.ensures.sent
+returns-in-NoSuchFile-clause-sent g c =
+    rw c.in-NoSuchFile.is c.send_pieces-in-NoSuchFile.ensures.sent
 
 pub returns-in-DefinitionRefused-clause-sent : goal.returns-in-DefinitionRefused-clause-sent
-returns-in-DefinitionRefused-clause-sent g c = rw c.in-DefinitionRefused.is c.send_refusal.ensures.sent
+returns-in-DefinitionRefused-clause-sent g c =
+    rw c.in-DefinitionRefused.is c.send_refusal.ensures.sent
 
 pub returns-in-TermRefused-clause-sent : goal.returns-in-TermRefused-clause-sent
-returns-in-TermRefused-clause-sent g c = rw c.in-TermRefused.is c.send_refusal-in-TermRefused.ensures.sent
+returns-in-TermRefused-clause-sent g c =
+    rw c.in-TermRefused.is c.send_refusal-in-TermRefused.ensures.sent
 
 pub returns-in-TooLarge-clause-sent : goal.returns-in-TooLarge-clause-sent
 returns-in-TooLarge-clause-sent g c = rw c.in-TooLarge.is c.send_pieces-in-TooLarge.ensures.sent

@@ -11,14 +11,16 @@ use Rattle.kore_prove.proofs.running.proved_lines_of_run.Goals as goal
 
 pub proved_run-requires-clause-names : goal.proved_run-requires-clause-names
 proved_run-requires-clause-names g c =
-    subst (λ (p : Program). HasPlainNames p.sig) (sym c.new-engine.ensures) (plain_names c.args.accepted.now.program.sig c.requires.runnable.program.names)
+    subst (λ (p : Program). HasPlainNames p.sig) (sym c.new-engine.ensures)
+    (plain_names c.args.accepted.now.program.sig c.requires.runnable.program.names)
 
 pub returns-in-Err-clause-front : goal.returns-in-Err-clause-front
 returns-in-Err-clause-front g c =
     let old = g.D.Desk.told c.args.desk.now in
     let new = g.D.Desk.told c.proved_run.new.desk in
     let start = plain_pattern c.args.accepted.now.start in
-    subst (λ (p : Program). WritesFrontOfProof old new (theory_of p) start) c.new-engine.ensures c.in-Err.ensures.front
+    subst (λ (p : Program). WritesFrontOfProof old new (theory_of p) start) c.new-engine.ensures
+    c.in-Err.ensures.front
 
 pub returns-in-Err-run_lines-clause-front : goal.returns-in-Err-run_lines-clause-front
 returns-in-Err-run_lines-clause-front g c =
@@ -26,4 +28,5 @@ returns-in-Err-run_lines-clause-front g c =
     let new = g.D.Desk.told c.proved_run.new.desk in
     let start = plain_pattern c.args.accepted.now.start in
     subst (λ (p : Program). WritesFrontOfProof old new (theory_of p) start) c.new-engine.ensures
-    (proof_written old new (theory_of c.new-engine.result) start (plain_run c.in-Ok.made.0) c.in-Ok.made.1 c.in-Ok.ensures.justified)
+    (proof_written old new (theory_of c.new-engine.result) start (plain_run c.in-Ok.made.0)
+    c.in-Ok.made.1 c.in-Ok.ensures.justified)

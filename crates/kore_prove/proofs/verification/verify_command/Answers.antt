@@ -1,9 +1,9 @@
-use Rattle.kore_prove.specs.Causes.{Course}
+use Rattle.kore_prove.specs.Causes.{IoState}
 use Rattle.kore_prove.proofs.verification.verify_command.Goals as goal
 
 pub returns-in-Err-clause-cause : goal.returns-in-Err-clause-cause
 returns-in-Err-clause-cause g c =
-    let course : Course = record {
+    let course : IoState = record {
       told = g.D.Desk.told c.args.desk.now;
       told' = g.D.Desk.told c.read_verdict.new.desk;
       reads = g.D.Desk.read_faults c.args.desk.now;

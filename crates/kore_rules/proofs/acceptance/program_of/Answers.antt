@@ -17,18 +17,29 @@ returns-clause-made c =
     let d = plain_definition c.args.definition.now in
     let sig = c.in-Ok.sig in
     let p = c.in_ok-program_under.field-0 in
-    let same : map tree_at c.deref.result.now ≡ axioms_of d = ap (map tree_at) c.deref.ensures.value ∙ c.in_ok-axioms.ensures in
-    let same_too : map tree_at c.deref-2.result.now ≡ axioms_of d = ap (map tree_at) c.deref-2.ensures.value ∙ c.in_ok-axioms.ensures in
-    let program : IsProgramUnder sig (axioms_of d) (theory_of p) = subst (λ (axioms : List AxiomDeclaration). IsProgramUnder sig axioms (theory_of p)) same_too c.in_ok-program_under.ensures.means in
+    let same : map tree_at c.deref.result.now ≡ axioms_of d =
+    ap (map tree_at) c.deref.ensures.value ∙ c.in_ok-axioms.ensures in
+    let same_too : map tree_at c.deref-2.result.now ≡ axioms_of d =
+    ap (map tree_at) c.deref-2.ensures.value ∙ c.in_ok-axioms.ensures in
+    let program : IsProgramUnder sig (axioms_of d) (theory_of p) =
+    subst (λ (axioms : List AxiomDeclaration). IsProgramUnder sig axioms (theory_of p)) same_too
+    c.in_ok-program_under.ensures.means in
     let top : IsTopOf sig (axioms_of d) (sort_of c.sort_of_rules-top.result) =
-    subst (λ (axioms : List AxiomDeclaration). IsTopOf sig axioms (sort_of c.sort_of_rules-top.result)) same (c.sort_of_rules-top.ensures (map tree_at c.deref.result.now) c.in-Ok-read_axioms.ensures.first) in
+    subst (λ (axioms : List AxiomDeclaration).
+    IsTopOf sig axioms (sort_of c.sort_of_rules-top.result)) same
+    (c.sort_of_rules-top.ensures (map tree_at c.deref.result.now)
+    c.in-Ok-read_axioms.ensures.first) in
     record {
       declared = sig;
       signature = c.in-Ok.ensures.declared;
       sorted = c.in-Ok.ensures.sorted;
       distinct = c.names_differ.ensures;
       no_fault = c.in-Ok.ensures.faultless;
-      no_axiom_fault = subst (λ (axioms : List AxiomDeclaration). FirstOfAxioms sig axioms None) same c.in-Ok-read_axioms.ensures.clear;
+      no_axiom_fault =
+          subst (λ (axioms : List AxiomDeclaration). FirstOfAxioms sig axioms None) same
+          c.in-Ok-read_axioms.ensures.clear;
       program = program;
-      sort = top_any sig p.sig (axioms_of d) _ program.sorts (subst (IsTopOf sig (axioms_of d)) (sym c.in_ok-program_under.ensures.top) top);
+      sort =
+          top_any sig p.sig (axioms_of d) _ program.sorts
+          (subst (IsTopOf sig (axioms_of d)) (sym c.in_ok-program_under.ensures.top) top);
     }

@@ -11,8 +11,10 @@ returns-in_ok-push-in-Equation c = λ axioms h.
     let sig = c.args.sig.now in
     let f = c.args.stated.now.function.now in
     let a = plain_axiom_decl c.args.decl.now in
-    read_equation sig axioms a f c.args.readings.now _ c.in-Equation.equation c.in_ok-push-in-Equation.ensures.items refl refl
-    (subst (λ (r : Reading). number_of sig.symbols f ≡ Some (function_of r)) c.in-Equation.is c.in_ok-equation.ensures.function)
+    read_equation sig axioms a f c.args.readings.now _ c.in-Equation.equation
+    c.in_ok-push-in-Equation.ensures.items refl refl
+    (subst (λ (r : Reading). number_of sig.symbols f ≡ Some (function_of r)) c.in-Equation.is
+    c.in_ok-equation.ensures.function)
     (subst (λ (r : Reading). IsReadAs sig f a r) c.in-Equation.is c.in_ok-equation.ensures.means) h
 
 pub returns-in-Unreadable : goal.returns-in-Unreadable
@@ -20,6 +22,9 @@ returns-in-Unreadable c = λ axioms h.
     let sig = c.args.sig.now in
     let f = c.args.stated.now.function.now in
     let a = plain_axiom_decl c.args.decl.now in
-    read_unreadable sig axioms a f c.in-Unreadable.function.0 c.args.readings.now _ refl refl c.mark.ensures.len c.mark.ensures.marked
-    (subst (λ (r : Reading). number_of sig.symbols f ≡ Some (function_of r)) c.in-Unreadable.is c.in_ok-equation.ensures.function)
-    (subst (λ (r : Reading). IsReadAs sig f a r) c.in-Unreadable.is c.in_ok-equation.ensures.means) h
+    read_unreadable sig axioms a f c.in-Unreadable.function.0 c.args.readings.now _ refl refl
+    c.mark.ensures.len c.mark.ensures.marked
+    (subst (λ (r : Reading). number_of sig.symbols f ≡ Some (function_of r)) c.in-Unreadable.is
+    c.in_ok-equation.ensures.function)
+    (subst (λ (r : Reading). IsReadAs sig f a r) c.in-Unreadable.is c.in_ok-equation.ensures.means)
+    h

@@ -5,4 +5,5 @@ use Rattle.kore_rules.proofs.axioms.add_rule.Goals as goal
 
 pub returns-in_ok-push-in-Ok-clause-read : goal.returns-in_ok-push-in-Ok-clause-read
 returns-in_ok-push-in-Ok-clause-read c = λ axioms h.
-    read_rule c.args.sig.now axioms (plain_axiom_decl c.args.decl.now) c.args.readings.now _ c.in-Ok.rule c.in_ok-push-in-Ok.ensures.items refl refl c.in-Ok.ensures.means h
+    read_rule c.args.sig.now axioms (plain_axiom_decl c.args.decl.now) c.args.readings.now _
+    c.in-Ok.rule c.in_ok-push-in-Ok.ensures.items refl refl c.in-Ok.ensures.means h

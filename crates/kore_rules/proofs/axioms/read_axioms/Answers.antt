@@ -1,4 +1,5 @@
-use Rattle.std.proofs.Common.{◌≡◌, ◌+◌, ◌∙◌, ap, sym, subst, List, ◌∷◌, map, take, drop, Option, Some, None}
+use Rattle.std.proofs.Common.{◌≡◌, ◌+◌, ◌∙◌, ap, sym, subst, List, ◌∷◌, map, take, drop, Option}
+use Rattle.std.proofs.Common.{Some, None}
 use Rattle.std.specs.Borrow.{Bor}
 use Rattle.kore_text.specs.Trees.{SortTree, AxiomDeclaration}
 use Rattle.kore_ast.specs.declared.tree.AxiomDecl.{AxiomDecl}
@@ -7,7 +8,8 @@ use Rattle.kore_sig.proofs.ListLaws.{map_step, drop_step}
 use Rattle.kore_axioms.specs.AxiomClasses.{AxiomClass, class_of}
 use Rattle.kore_rules.specs.AxiomsRead.{HaveRead, IsFirstSort, sort_at, tree_at}
 use Rattle.kore_rules.specs.FirstRefusal.{FirstOfClass, FirstOfAxioms, first_sort}
-use Rattle.kore_rules.proofs.FirstLaws.{FirstBehind, refuses_into, behind_clear, behind_fault, first_more}
+use Rattle.kore_rules.proofs.FirstLaws.{FirstBehind, refuses_into, behind_clear, behind_fault}
+use Rattle.kore_rules.proofs.FirstLaws.{first_more}
 use Rattle.kore_rules.proofs.axioms.read_axioms.Goals as goal
 
 pub returns-in-Err-clause-refused : goal.returns-in-Err-clause-refused
@@ -17,11 +19,15 @@ returns-in-Err-clause-refused c =
     let a = tree_at c.decl-item.result in
     let first = sort_at c.loop-decl.first in
     let left = map tree_at (drop (i + 1) c.args.axioms.now) in
-    let next : map tree_at (drop i c.args.axioms.now) ≡ a ∷ left = ap (map tree_at) (drop_step c.args.axioms.now i c.decl-item.result c.loop-decl-test.true c.decl-item.is) in
-    refuses_into _ (λ (f : Fault). FirstOfAxioms sig (map tree_at c.args.axioms.now) (Some f)) c.in-Err.refusal
+    let next : map tree_at (drop i c.args.axioms.now) ≡ a ∷ left =
+    ap (map tree_at) (drop_step c.args.axioms.now i c.decl-item.result c.loop-decl-test.true
+    c.decl-item.is) in
+    refuses_into _ (λ (f : Fault). FirstOfAxioms sig (map tree_at c.args.axioms.now) (Some f))
+    c.in-Err.refusal
     (λ f is. c.loop-decl.invariant.behind (Some f)
     (subst (λ (axioms : List AxiomDeclaration). FirstBehind sig first axioms (Some f)) (sym next)
-    (behind_fault sig first a left f (subst (λ (k : AxiomClass). FirstOfClass sig first a k (Some f)) c.class_of-class.ensures is))))
+    (behind_fault sig first a left f (subst
+    (λ (k : AxiomClass). FirstOfClass sig first a k (Some f)) c.class_of-class.ensures is))))
     c.in-Err.ensures.refused
 
 pub loop-decl-preserved : goal.loop-decl-preserved
@@ -31,14 +37,31 @@ loop-decl-preserved c =
     let a = tree_at c.decl-item.result in
     let first = sort_at c.loop-decl.first in
     let left = map tree_at (drop (i + 1) c.args.axioms.now) in
-    let next : map tree_at (drop i c.args.axioms.now) ≡ a ∷ left = ap (map tree_at) (drop_step c.args.axioms.now i c.decl-item.result c.loop-decl-test.true c.decl-item.is) in
-    let more = map_step tree_at c.args.axioms.now i c.decl-item.result c.loop-decl-test.true c.decl-item.is in
-    let clear : FirstOfClass sig first a (class_of sig a) None = subst (λ (k : AxiomClass). FirstOfClass sig first a k None) c.class_of-class.ensures c.in-Ok.ensures.clear in
-    let then : sort_at c.first_sort-first.result ≡ first_sort first (class_of sig a) = c.first_sort-first.ensures ∙ ap (first_sort first) c.class_of-class.ensures in
+    let next : map tree_at (drop i c.args.axioms.now) ≡ a ∷ left =
+    ap (map tree_at) (drop_step c.args.axioms.now i c.decl-item.result c.loop-decl-test.true
+    c.decl-item.is) in
+    let more =
+    map_step tree_at c.args.axioms.now i c.decl-item.result c.loop-decl-test.true
+    c.decl-item.is in
+    let clear : FirstOfClass sig first a (class_of sig a) None =
+    subst (λ (k : AxiomClass). FirstOfClass sig first a k None) c.class_of-class.ensures
+    c.in-Ok.ensures.clear in
+    let then : sort_at c.first_sort-first.result ≡ first_sort first (class_of sig a) =
+    c.first_sort-first.ensures ∙ ap (first_sort first) c.class_of-class.ensures in
     record {
-      read = subst (λ (axioms : List AxiomDeclaration). HaveRead sig axioms c.read_axiom.new.readings) (sym more) (c.in-Ok.ensures.read (map tree_at (take i c.args.axioms.now)) c.loop-decl.invariant.read);
-      first = subst (λ (s : Option SortTree). IsFirstSort sig (map tree_at (take (i + 1) c.args.axioms.now)) s) (sym then) (subst (λ (axioms : List AxiomDeclaration). IsFirstSort sig axioms (first_sort first (class_of sig a))) (sym more) (first_more sig (map tree_at (take i c.args.axioms.now)) first a c.loop-decl.invariant.first clear));
+      read =
+          subst (λ (axioms : List AxiomDeclaration). HaveRead sig axioms c.read_axiom.new.readings)
+          (sym more) (c.in-Ok.ensures.read (map tree_at (take i c.args.axioms.now))
+          c.loop-decl.invariant.read);
+      first =
+          subst (λ (s : Option SortTree).
+          IsFirstSort sig (map tree_at (take (i + 1) c.args.axioms.now)) s) (sym then)
+          (subst (λ (axioms : List AxiomDeclaration).
+          IsFirstSort sig axioms (first_sort first (class_of sig a))) (sym more)
+          (first_more sig (map tree_at (take i c.args.axioms.now)) first a
+          c.loop-decl.invariant.first clear));
       behind = λ r rest. c.loop-decl.invariant.behind r
           (subst (λ (axioms : List AxiomDeclaration). FirstBehind sig first axioms r) (sym next)
-          (behind_clear sig first a left r clear (subst (λ (s : Option SortTree). FirstBehind sig s left r) then rest)));
+          (behind_clear sig first a left r clear
+          (subst (λ (s : Option SortTree). FirstBehind sig s left r) then rest)));
     }

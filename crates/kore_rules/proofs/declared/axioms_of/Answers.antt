@@ -11,5 +11,10 @@ use Rattle.kore_rules.proofs.declared.axioms_of.Goals as goal
 pub loop-decl-preserved : goal.loop-decl-preserved
 loop-decl-preserved c =
     c.in_ok-add_axiom.ensures
-    ∙ ap (λ (axioms : List AxiomDeclaration). axioms ++ cons_option (axiom_declared (plain_declaration c.decl-item.result.now)) []) c.loop-decl.invariant
-    ∙ sym (kept_more (λ (d : Bor Decl). plain_declaration d.now) axiom_declared c.deref-decl-items.result.now c.loop-decl.decl-index c.decl-item.result c.loop-decl-test.true c.decl-item.is)
+    ∙ ap (λ (axioms : List AxiomDeclaration).
+    axioms ++ cons_option (axiom_declared (plain_declaration c.decl-item.result.now)) [])
+    c.loop-decl.invariant
+    ∙
+    sym (kept_more (λ (d : Bor Decl). plain_declaration
+    d.now) axiom_declared c.deref-decl-items.result.now c.loop-decl.decl-index c.decl-item.result
+    c.loop-decl-test.true c.decl-item.is)

@@ -10,4 +10,5 @@ use Rattle.kore_rules.proofs.declared.axioms_of.Given as goal
 abbrev pub invariant-loop-decl : goal.invariant-loop-decl
 invariant-loop-decl l =
     map tree_at l.axioms.items
-    ≡ filter_map axiom_declared (map (λ (d : Bor Decl). plain_declaration d.now) (take l.decl-index l.decl-items))
+    ≡ filter_map axiom_declared
+    (map (λ (d : Bor Decl). plain_declaration d.now) (take l.decl-index l.decl-items))

@@ -9,5 +9,6 @@ abbrev pub invariant-loop-decl : goal.invariant-loop-decl
 invariant-loop-decl l = record {
   len : length l.marks.items ≡ length l.fn.marks.items;
   marked : (n : ℕ) → is_marked l.marks.items n
-      ≡ (is_marked l.fn.marks.items n || list_any (states_upper l.sorts n) (map tree_at (take l.decl-index l.axioms)));
+      ≡ (is_marked l.fn.marks.items n
+      || list_any (states_upper l.sorts n) (map tree_at (take l.decl-index l.axioms)));
 }

@@ -11,4 +11,6 @@ returns c = λ n.
     let sig = c.args.sig.now in
     c.mark_uppers.ensures n
     ∙ ap (λ (b : Bool). b || list_any (states_upper sig.sorts n) (map tree_at c.args.axioms.now))
-    (none_marked (list_any (entry_makes n) sig.symbols) (is_marked c.in_ok-marks.marks.items n) (is_marked c.mark_results.new.marks.items n) (c.in_ok-marks.ensures.none n) (c.mark_results.ensures.marked n))
+    (none_marked (list_any (entry_makes n) sig.symbols) (is_marked c.in_ok-marks.marks.items n)
+    (is_marked c.mark_results.new.marks.items n) (c.in_ok-marks.ensures.none n)
+    (c.mark_results.ensures.marked n))

@@ -6,4 +6,5 @@ use Rattle.kore_show.specs.KorePatterns.{kore_sort}
 use Rattle.kore_show.proofs.names.sorts_of.Given as goal
 
 abbrev pub invariant-loop-i : goal.invariant-loop-i
-invariant-loop-i l = map (λ (s : SortId). kore_sort l.sig s.0) (take l.i l.sorts) ≡ map (λ (t : SortTree). Some t) (map plain_sort l.named.items)
+invariant-loop-i l = map (λ (s : SortId). kore_sort l.sig s.0) (take l.i l.sorts)
+    ≡ map (λ (t : SortTree). Some t) (map plain_sort l.named.items)

@@ -6,4 +6,6 @@ use Rattle.kore_sig.specs.Sets.{Knows}
 use Rattle.kore_sig.proofs.counted.add_imports.Given as goal
 
 abbrev pub invariant-loop-decl : goal.invariant-loop-decl
-invariant-loop-decl l = (names : List (List ℕ)) → Knows l.initial.imported names → Knows l.imported (names ++ filter_map import_name (map plain_declaration (take l.decl-index l.decls)))
+invariant-loop-decl l = (names : List (List ℕ)) → Knows l.initial.imported names
+    → Knows l.imported
+    (names ++ filter_map import_name (map plain_declaration (take l.decl-index l.decls)))

@@ -7,4 +7,5 @@ use Rattle.kore_sig.proofs.counted.counted_declarations.Given as goal
 
 abbrev pub invariant-loop-one : goal.invariant-loop-one
 invariant-loop-one l =
-    map (λ (d : Bor Decl). plain_declaration d.now) l.decls.items ≡ map (λ (p : Placed). plain_declaration p.decl.now) (take l.one-index l.one-items)
+    map (λ (d : Bor Decl). plain_declaration d.now) l.decls.items
+    ≡ map (λ (p : Placed). plain_declaration p.decl.now) (take l.one-index l.one-items)

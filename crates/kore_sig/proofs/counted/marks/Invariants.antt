@@ -10,7 +10,8 @@ abbrev pub invariant-loop-i : goal.invariant-loop-i
 invariant-loop-i l = record {
   within : l.i ≤ length l.modules;
   marked : reverse l.marks.items ≡ marks_of (map plain_module (drop l.i l.modules));
-  imported : Knows l.imported (flat_map imports_of (counted (map plain_module (drop l.i l.modules))));
+  imported : Knows l.imported
+      (flat_map imports_of (counted (map plain_module (drop l.i l.modules))));
 }
 
 abbrev pub decreases-loop-i : goal.decreases-loop-i

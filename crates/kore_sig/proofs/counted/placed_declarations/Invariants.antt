@@ -6,5 +6,7 @@ use Rattle.kore_sig.proofs.counted.placed_declarations.Given as goal
 
 abbrev pub invariant-loop-i : goal.invariant-loop-i
 invariant-loop-i l =
-    map (plain_placed (names_of_modules l.module-items)) l.placed.items ++ placed (take l.i (names_of_modules l.module-items)) (map plain_module (drop l.i l.module-items))
+    map (plain_placed (names_of_modules l.module-items)) l.placed.items
+    ++ placed (take l.i (names_of_modules l.module-items))
+    (map plain_module (drop l.i l.module-items))
     ≡ placed [] (map plain_module l.module-items)

@@ -1,4 +1,5 @@
-use Rattle.std.proofs.Common.{◌≡◌, ◌+◌, ◌<◌, ◌++◌, ◌∷◌, [], arith, ap, sym, ◌∙◌, List, ℕ, map, drop, length, get_or, refl, not, Bool, true, false, cond}
+use Rattle.std.proofs.Common.{◌≡◌, ◌+◌, ◌<◌, ◌++◌, ◌∷◌, [], arith, ap, sym, ◌∙◌, List, ℕ, map, drop}
+use Rattle.std.proofs.Common.{length, get_or, refl, not, Bool, true, false, cond}
 use Rattle.std.specs.Option.{option_or}
 use Rattle.std.specs.Prelude.{is_some}
 use Rattle.rule_core.specs.Named.{number_of, names_of}
@@ -22,18 +23,28 @@ free fresh true e f = absurd (let never : ⊥ = cc in never)
 free fresh false e f = refl
 
 -- the first fault of the modules from this one on
-from_here : (names : List (List ℕ)) (modules : List Module) (i : ℕ) (m : Module) → i < length modules → m ≡ get_or modules i m
-    → first_module names (map plain_module (drop i modules)) ≡ option_or (first_by_number (when (is_among names m.name) 5 m.at)) (first_module (names ++ m.name ∷ []) (map plain_module (drop (i + 1) modules)))
-from_here names modules i m lt is = ap (λ (ms : List Module). first_module names (map plain_module ms)) (drop_step modules i m lt is)
+from_here : (names : List (List ℕ)) (modules : List Module) (i : ℕ) (m : Module)
+    → i < length modules → m ≡ get_or modules i m
+    → first_module names (map plain_module (drop i modules))
+    ≡ option_or (first_by_number (when (is_among names m.name) 5 m.at))
+    (first_module (names ++ m.name ∷ []) (map plain_module (drop (i + 1) modules)))
+from_here names modules i m lt is =
+    ap (λ (ms : List Module). first_module names (map plain_module ms))
+    (drop_step modules i m lt is)
 
 pub returns-then-not-branch-clause-refused : goal.returns-then-not-branch-clause-refused
 returns-then-not-branch-clause-refused c =
     let names = names_of c.loop-module.names in
     let m = c.module-item.result in
-    let there : is_among names m.name ≡ true = sym (number_among c.loop-module.names m.name) ∙ taken c.in_ok-add_name.field-0 (is_some (number_of c.loop-module.names m.name)) c.in_ok-add_name.ensures.fresh c.if-not-branch.true in
+    let there : is_among names m.name ≡ true =
+    sym (number_among c.loop-module.names m.name)
+    ∙ taken c.in_ok-add_name.field-0 (is_some (number_of c.loop-module.names m.name))
+    c.in_ok-add_name.ensures.fresh c.if-not-branch.true in
     sym c.loop-module.invariant.first
     ∙ from_here names c.args.modules.now c.loop-module.module-index m (omega arith) c.module-item.is
-    ∙ ap (λ (b : Bool). option_or (first_by_number (when b 5 m.at)) (first_module (names ++ m.name ∷ []) (map plain_module (drop (c.loop-module.module-index + 1) c.args.modules.now)))) there
+    ∙ ap (λ (b : Bool). option_or (first_by_number (when b 5 m.at)) (first_module
+    (names ++ m.name ∷ [])
+    (map plain_module (drop (c.loop-module.module-index + 1) c.args.modules.now)))) there
 
 pub loop-module-preserved : goal.loop-module-preserved
 loop-module-preserved c =
@@ -41,11 +52,24 @@ loop-module-preserved c =
     let m = c.module-item.result in
     let lt : c.loop-module.module-index < length c.args.modules.now = omega arith in
     let left = map plain_module (drop (c.loop-module.module-index + 1) c.args.modules.now) in
-    let none : is_among names m.name ≡ false = sym (number_among c.loop-module.names m.name) ∙ free c.in_ok-add_name.field-0 (is_some (number_of c.loop-module.names m.name)) c.in_ok-add_name.ensures.fresh c.if-not-branch.false in
+    let none : is_among names m.name ≡ false =
+    sym (number_among c.loop-module.names m.name)
+    ∙ free c.in_ok-add_name.field-0 (is_some (number_of c.loop-module.names m.name))
+    c.in_ok-add_name.ensures.fresh c.if-not-branch.false in
     let named : names_of c.add_name.new.names ≡ names ++ m.name ∷ [] =
-    ap names_of (c.in_ok-add_name.ensures.entries ∙ ap (λ (b : Bool). cond b (c.loop-module.names ++ (m.name, tt) ∷ []) c.loop-module.names) c.if-not-branch.false) ∙ names_push c.loop-module.names m.name tt in record {
+    ap names_of (c.in_ok-add_name.ensures.entries
+    ∙ ap (λ (b : Bool).
+    cond b (c.loop-module.names ++ (m.name, tt) ∷ []) c.loop-module.names)
+    c.if-not-branch.false) ∙ names_push c.loop-module.names m.name tt in record {
       first = ap (λ (ns : List (List ℕ)). first_module ns left) named
-          ∙ sym (from_here names c.args.modules.now c.loop-module.module-index m lt c.module-item.is ∙ ap (λ (b : Bool). option_or (first_by_number (when b 5 m.at)) (first_module (names ++ m.name ∷ []) left)) none)
+          ∙
+          sym (from_here names c.args.modules.now c.loop-module.module-index m lt
+          c.module-item.is
+          ∙ ap (λ (b : Bool). option_or (first_by_number (when b 5 m.at))
+          (first_module (names ++ m.name ∷ []) left)) none)
           ∙ c.loop-module.invariant.first;
-      named = named ∙ ap (λ (ns : List (List ℕ)). ns ++ m.name ∷ []) c.loop-module.invariant.named ∙ sym (map_step (λ (x : Module). x.name) c.args.modules.now c.loop-module.module-index m lt c.module-item.is);
+      named = named ∙ ap (λ (ns : List (List ℕ)). ns ++ m.name ∷ []) c.loop-module.invariant.named
+          ∙
+          sym (map_step (λ (x : Module).
+          x.name) c.args.modules.now c.loop-module.module-index m lt c.module-item.is);
     }

@@ -7,6 +7,7 @@ use Rattle.kore_sig.proofs.meaning.module_names.Given as goal
 
 abbrev pub invariant-loop-module : goal.invariant-loop-module
 invariant-loop-module l = record {
-  first : first_module (names_of l.names) (map plain_module (drop l.module-index l.modules)) ≡ first_module [] (map plain_module l.modules);
+  first : first_module (names_of l.names) (map plain_module (drop l.module-index l.modules))
+      ≡ first_module [] (map plain_module l.modules);
   named : names_of l.names ≡ names_of_modules (take l.module-index l.modules);
 }

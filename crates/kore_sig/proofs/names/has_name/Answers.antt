@@ -6,4 +6,7 @@ use Rattle.kore_sig.proofs.names.has_name.Goals as goal
 
 pub returns-clause-among : goal.returns-clause-among
 returns-clause-among g c =
-    c.is_some.ensures ∙ ap is_some (c.number.ensures ∙ ap (λ (n : List ℕ). number_of c.args.names.now n) c.as_str.ensures) ∙ number_among c.args.names.now c.args.name.now
+    c.is_some.ensures
+    ∙ ap is_some
+    (c.number.ensures ∙ ap (λ (n : List ℕ). number_of c.args.names.now n) c.as_str.ensures)
+    ∙ number_among c.args.names.now c.args.name.now

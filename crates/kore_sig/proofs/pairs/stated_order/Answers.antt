@@ -1,4 +1,5 @@
-use Rattle.std.proofs.Common.{◌≡◌, ◌+◌, ◌<◌, ◌++◌, ◌∷◌, [], arith, ap, sym, ◌∙◌, List, map, take, drop, length, Option, None, subst, refl}
+use Rattle.std.proofs.Common.{◌≡◌, ◌+◌, ◌<◌, ◌++◌, ◌∷◌, [], arith, ap, sym, ◌∙◌, List, map, take}
+use Rattle.std.proofs.Common.{drop, length, Option, None, subst, refl}
 use Rattle.std.specs.List.{cons_option, AllZip}
 use Rattle.kore_sig.specs.Signatures.{IsPairOf}
 use Rattle.std.specs.Prelude.{flat_map}
@@ -23,15 +24,25 @@ loop-placed-preserved c =
     let f : Placed → Declaration = λ (p : Placed). plain_declaration p.decl.now in
     let so_far = pairs_in (map f (take i decls)) in
     let lt : i < length decls = omega arith in
-    let next : pairs_in (map f (take (i + 1) decls)) ≡ so_far ++ pairs_in (f c.placed-item.result ∷ []) =
-    ap pairs_in (map_step f decls i c.placed-item.result lt c.placed-item.is) ∙ pairs_push (map f (take i decls)) (f c.placed-item.result) in
+    let next : pairs_in (map f (take (i + 1) decls)) ≡ so_far ++ pairs_in
+    (f c.placed-item.result ∷ []) =
+    ap pairs_in (map_step f decls i c.placed-item.result lt c.placed-item.is)
+    ∙ pairs_push (map f (take i decls)) (f c.placed-item.result) in
     elim c.match-placed.branch [
       | in-Axiom+in_ok-add_pairs w ↦ let ps = pairs_of_axiom (plain_axiom_decl w.in-Axiom.decl) in
-          passes_at c.args.sorts.now [] w.add_pairs.new.subsorts c.match-placed.subsorts (so_far ++ ps) _ w.subsorts-is
-          (next ∙ ap (λ (d : Decl). so_far ++ pairs_in (plain_declaration d ∷ [])) w.in-Axiom.is ∙ ap (λ (xs : List SubsortPair). so_far ++ xs) (append-nil ps))
-          (passes_then c.args.sorts.now [] c.loop-placed.subsorts w.add_pairs.new.subsorts so_far ps c.loop-placed.invariant w.in_ok-add_pairs.ensures.passes)
-      | in_default w ↦ passes_at c.args.sorts.now [] c.loop-placed.subsorts c.match-placed.subsorts so_far _ w.subsorts-is
-          (next ∙ ap (λ (o : Option AxiomDeclaration). so_far ++ flat_map pairs_of_axiom (cons_option o [])) (no_axiom c.placed-item.result.decl.now w.in_default.not-Axiom) ∙ append-nil so_far)
+          passes_at c.args.sorts.now [] w.add_pairs.new.subsorts c.match-placed.subsorts
+          (so_far ++ ps) _ w.subsorts-is
+          (next ∙ ap (λ (d : Decl). so_far ++ pairs_in (plain_declaration d ∷ [])) w.in-Axiom.is
+          ∙ ap (λ (xs : List SubsortPair). so_far ++ xs) (append-nil ps))
+          (passes_then c.args.sorts.now [] c.loop-placed.subsorts w.add_pairs.new.subsorts so_far ps
+          c.loop-placed.invariant w.in_ok-add_pairs.ensures.passes)
+      | in_default w ↦ passes_at c.args.sorts.now [] c.loop-placed.subsorts c.match-placed.subsorts
+          so_far _ w.subsorts-is
+          (next
+          ∙ ap (λ (o : Option AxiomDeclaration).
+          so_far ++ flat_map pairs_of_axiom (cons_option o []))
+          (no_axiom c.placed-item.result.decl.now w.in_default.not-Axiom)
+          ∙ append-nil so_far)
           c.loop-placed.invariant
     ]
 
@@ -50,22 +61,30 @@ returns-in_err-add_pairs-clause-refused c =
     ∙ ap (λ (d : Decl). so_far ++ (pairs_in (plain_declaration d ∷ []) ++ left)) c.in-Axiom.is
     ∙ ap (λ (xs : List SubsortPair). so_far ++ (xs ++ left)) (append-nil ps) in
     let q = err_from_is_err_and c.from_residual.result c.from_residual.ensures.1 in
-    rw (q.1, q.2) (refuses_map (λ r. (rest : List SubsortPair) → FirstFrom sorts c.loop-placed.subsorts (ps ++ rest) r) (FirstFrom sorts [] (pairs_in (map f decls))) c.in_err-add_pairs.field-0.0
-    (λ r h. subst (λ (xs : List SubsortPair). FirstFrom sorts [] xs r) (sym all) (c.loop-placed.invariant.first (ps ++ left) r (h left)))
+    rw (q.1, q.2) (refuses_map
+    (λ r. (rest : List SubsortPair) → FirstFrom sorts c.loop-placed.subsorts (ps ++ rest) r)
+    (FirstFrom sorts [] (pairs_in (map f decls))) c.in_err-add_pairs.field-0.0
+    (λ r h. subst (λ (xs : List SubsortPair). FirstFrom sorts [] xs r) (sym all)
+    (c.loop-placed.invariant.first (ps ++ left) r (h left)))
     c.in_err-add_pairs.ensures.refused)
 
 pub returns-clause-clear : goal.returns-clause-clear
 returns-clause-clear c =
     let decls = c.args.decls.now in
     let f : Placed → Declaration = λ (p : Placed). plain_declaration p.decl.now in
-    let whole : take c.loop-placed.placed-index decls ≡ decls = take_all c.loop-placed.placed-index decls (omega arith) in
+    let whole : take c.loop-placed.placed-index decls ≡ decls =
+    take_all c.loop-placed.placed-index decls (omega arith) in
     subst (λ (xs : List SubsortPair). FirstFrom c.args.sorts.now [] xs None)
-    (append-nil (pairs_in (map f (take c.loop-placed.placed-index decls))) ∙ ap (λ (ps : List Placed). pairs_in (map f ps)) whole)
+    (append-nil (pairs_in (map f (take c.loop-placed.placed-index decls)))
+    ∙ ap (λ (ps : List Placed). pairs_in (map f ps)) whole)
     (c.loop-placed.invariant.first [] None refl)
 
 pub returns-clause-pairs : goal.returns-clause-pairs
 returns-clause-pairs c =
     let decls = c.args.decls.now in
     let f : Placed → Declaration = λ (p : Placed). plain_declaration p.decl.now in
-    let whole : take c.loop-placed.placed-index decls ≡ decls = take_all c.loop-placed.placed-index decls (omega arith) in
-    subst (λ (ps : List Placed). AllZip (IsPairOf c.args.sorts.now) (pairs_in (map f ps)) c.loop-placed.subsorts) whole (c.loop-placed.invariant.numbers [] tt)
+    let whole : take c.loop-placed.placed-index decls ≡ decls =
+    take_all c.loop-placed.placed-index decls (omega arith) in
+    subst (λ (ps : List Placed).
+    AllZip (IsPairOf c.args.sorts.now) (pairs_in (map f ps)) c.loop-placed.subsorts) whole
+    (c.loop-placed.invariant.numbers [] tt)

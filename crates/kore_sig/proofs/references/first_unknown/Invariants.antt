@@ -8,5 +8,6 @@ use Rattle.kore_sig.proofs.references.first_unknown.Given as goal
 
 abbrev pub invariant-loop-arg : goal.invariant-loop-arg
 invariant-loop-arg l =
-    noted leads_by_number (unknown_sort_at l.first) (flat_map (reference_faults l.sorts l.params) (map plain_sort (drop l.arg-index l.args)))
+    noted leads_by_number (unknown_sort_at l.first)
+    (flat_map (reference_faults l.sorts l.params) (map plain_sort (drop l.arg-index l.args)))
     ≡ first_by_number (flat_map (reference_faults l.sorts l.params) (map plain_sort l.args))

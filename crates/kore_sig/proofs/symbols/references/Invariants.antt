@@ -4,4 +4,5 @@ use Rattle.kore_sig.specs.SortReferences.{sort_reference}
 use Rattle.kore_sig.proofs.symbols.references.Given as goal
 
 abbrev pub invariant-loop-arg : goal.invariant-loop-arg
-invariant-loop-arg l = map Some l.refs.items ≡ map (sort_reference l.sorts l.params) (map plain_sort (take l.arg-index l.args))
+invariant-loop-arg l = map Some l.refs.items
+    ≡ map (sort_reference l.sorts l.params) (map plain_sort (take l.arg-index l.args))

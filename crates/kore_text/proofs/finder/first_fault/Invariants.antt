@@ -1,7 +1,7 @@
 use Rattle.std.proofs.Common.{◌≡◌, Some}
 use Rattle.kore_text.specs.TokenStream.{tokens_of}
 use Rattle.kore_text.specs.Table.{run}
-use Rattle.kore_text.specs.Left.{left, size}
+use Rattle.kore_text.specs.Remaining.{left, size}
 use Rattle.kore_text.specs.Finding.{fault_of}
 use Rattle.kore_text.proofs.finder.first_fault.Given as goal
 

@@ -7,10 +7,16 @@ pub returns-clause-stays : goal.returns-clause-stays
 returns-clause-stays c =
     if_ok c.mp-2.result
     (λ t stays s hp ht.
-    let p : IsOver s c.conclusion-p.result.now = concluded s c.args.a.now c.conclusion-p.result.now ht.0 (sym c.conclusion-p.ensures) in
-    let q : IsOver s c.conclusion-q.result.now = concluded s c.args.b.now c.conclusion-q.result.now ht.1.0 (sym c.conclusion-q.ensures) in
+    let p : IsOver s c.conclusion-p.result.now =
+    concluded s c.args.a.now c.conclusion-p.result.now ht.0 (sym c.conclusion-p.ensures) in
+    let q : IsOver s c.conclusion-q.result.now =
+    concluded s c.args.b.now c.conclusion-q.result.now ht.1.0 (sym c.conclusion-q.ensures) in
     stays s tt (
       ht.1.0,
-      (c.in_ok-open.ensures.stays s tt (ht.0, (c.in_ok-joining.ensures.stays s (p, (q, tt)) tt, tt)), tt),
+      (
+        c.in_ok-open.ensures.stays s tt
+            (ht.0, (c.in_ok-joining.ensures.stays s (p, (q, tt)) tt, tt)),
+        tt,
+      ),
     ))
     c.mp-2.ensures.stays

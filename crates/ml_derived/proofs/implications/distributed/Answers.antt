@@ -9,5 +9,6 @@ returns-clause-stays c =
     (λ t stays s hp ht.
     let parts : IsOver s (imp c.args.h.now (imp c.args.p.now c.args.q.now)) =
     concluded s c.args.b.now (imp c.args.h.now (imp c.args.p.now c.args.q.now)) ht.0 c.requires.b in
-    stays s tt (ht.0, (c.in_ok-rule.ensures.stays s (parts.0, (parts.1.0, (parts.1.1, tt))) tt, tt)))
+    stays s tt
+    (ht.0, (c.in_ok-rule.ensures.stays s (parts.0, (parts.1.0, (parts.1.1, tt))) tt, tt)))
     c.mp.ensures.stays

@@ -11,10 +11,14 @@ loop-i-init c = refl
 pub loop-i-preserved : goal.loop-i-preserved
 loop-i-preserved c =
     let one : c.loop-i.i + 1 ≡ suc c.loop-i.i = omega arith in
-    c.in_ok-made.ensures ∙ ap (λ (p : Pattern). app p c.in_ok-var.field-0) c.loop-i.invariant ∙ ap (λ (p : Pattern). app (at_variables c.args.head c.args.first c.loop-i.i) p) c.in_ok-var.ensures
-    ∙ sym (at_variables-push c.loop-i.i c.args.first c.args.head) ∙ ap (λ (n : ℕ). at_variables c.args.head c.args.first n) (sym one)
+    c.in_ok-made.ensures ∙ ap (λ (p : Pattern). app p c.in_ok-var.field-0) c.loop-i.invariant
+    ∙ ap (λ (p : Pattern). app (at_variables c.args.head c.args.first c.loop-i.i) p)
+    c.in_ok-var.ensures
+    ∙ sym (at_variables-push c.loop-i.i c.args.first c.args.head)
+    ∙ ap (λ (n : ℕ). at_variables c.args.head c.args.first n) (sym one)
 
 pub returns : goal.returns
 returns c =
-    let whole : c.loop-i.i ≡ c.args.count = omega (arith, c.loop-i-test.false, c.loop-i.auto.i-end) in
+    let whole : c.loop-i.i ≡ c.args.count =
+    omega (arith, c.loop-i-test.false, c.loop-i.auto.i-end) in
     c.loop-i.invariant ∙ ap (λ (n : ℕ). at_variables c.args.head c.args.first n) whole

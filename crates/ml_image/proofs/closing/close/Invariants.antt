@@ -6,6 +6,8 @@ use Rattle.ml_image.proofs.closing.close.Given as goal
 
 abbrev pub invariant-loop-i : goal.invariant-loop-i
 invariant-loop-i l = record {
-  images : (s : Sentence) → sentence_image l.sig l.initial.names s ≡ Some l.initial.made → sentence_image l.sig l.names (for_all l.i (drop l.i (sort_numbers l.sorts)) s) ≡ Some l.made;
+  images : (s : Sentence) → sentence_image l.sig l.initial.names s ≡ Some l.initial.made
+      → sentence_image l.sig l.names (for_all l.i (drop l.i (sort_numbers l.sorts)) s)
+      ≡ Some l.made;
   gained : HasGained l.sig l.initial.names l.names;
 }

@@ -13,4 +13,7 @@ abbrev pub decreases-applied : goal.decreases-applied
 decreases-applied l = 2 * depths (plain_patterns l.args.now) + 1
 
 abbrev pub invariant-applied-loop-arg : goal.invariant-applied-loop-arg
-invariant-applied-loop-arg l = (applied l.sig l.names (Some l.initial.made) (all_shifted l.first (plain_patterns (take l.arg-index l.args))) ≡ Some l.made) × HasGained l.sig l.initial.names l.names
+invariant-applied-loop-arg l =
+    (applied l.sig l.names (Some l.initial.made)
+    (all_shifted l.first (plain_patterns (take l.arg-index l.args))) ≡ Some l.made)
+    × HasGained l.sig l.initial.names l.names

@@ -5,4 +5,6 @@ use Rattle.ml_image.specs.Images.{is_injection, injection_symbol}
 use Rattle.ml_image.proofs.images.injection_symbol.Given as goal
 
 abbrev pub invariant-loop-symbol : goal.invariant-loop-symbol
-invariant-loop-symbol l = position_from (λ (e : List ℕ × SymInfo). is_injection e.1.kind) l.symbol (drop l.symbol l.sig.symbols) ≡ injection_symbol l.sig
+invariant-loop-symbol l =
+    position_from (λ (e : List ℕ × SymInfo). is_injection e.1.kind) l.symbol
+    (drop l.symbol l.sig.symbols) ≡ injection_symbol l.sig

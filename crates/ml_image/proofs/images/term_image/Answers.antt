@@ -7,4 +7,7 @@ use Rattle.ml_image.proofs.SentenceLaws.{shifted-zero}
 use Rattle.ml_image.proofs.images.term_image.Goals as goal
 
 pub returns-clause-image : goal.returns-clause-image
-returns-clause-image c = subst (λ (q : RulePattern). IfOk c.image.result (λ p. image_of c.args.sig.now c.image.new.names q ≡ Some p)) (shifted-zero (plain_pattern c.args.pat.now)) c.image.ensures.image
+returns-clause-image c =
+    subst (λ (q : RulePattern).
+    IfOk c.image.result (λ p. image_of c.args.sig.now c.image.new.names q ≡ Some p))
+    (shifted-zero (plain_pattern c.args.pat.now)) c.image.ensures.image

@@ -1,4 +1,5 @@
-use Rattle.ml_image.proofs.WellSortedLaws.{constructor_has_totality, equation_has_image, rule_has_image, sorted_has_image}
+use Rattle.ml_image.proofs.WellSortedLaws.{constructor_has_totality, equation_has_image}
+use Rattle.ml_image.proofs.WellSortedLaws.{rule_has_image, sorted_has_image}
 use Rattle.ml_image.proofs.laws.condition_laws.Goals as goal
 
 pub returns-clause-pattern : goal.returns-clause-pattern

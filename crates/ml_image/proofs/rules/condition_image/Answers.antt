@@ -5,4 +5,7 @@ use Rattle.ml_image.proofs.ConditionLaws.{nothing_said}
 use Rattle.ml_image.proofs.rules.condition_image.Goals as goal
 
 pub returns-in-None-clause-image : goal.returns-in-None-clause-image
-returns-in-None-clause-image c = nothing_said c.args.sig.now c.args.names.now (sorts_of c.args.vars.now) c.args.first (option_map plain_pattern c.args.condition.now) c.top.result (ap (option_map plain_pattern) c.in-None.is) c.top.ensures
+returns-in-None-clause-image c =
+    nothing_said c.args.sig.now c.args.names.now (sorts_of c.args.vars.now) c.args.first
+    (option_map plain_pattern c.args.condition.now) c.top.result
+    (ap (option_map plain_pattern) c.in-None.is) c.top.ensures

@@ -1,4 +1,5 @@
-use Rattle.std.proofs.Common.{◌≡◌, ◌<◌, ◌-◌, ◌+◌, ◌^◌, ℕ, List, Some, Option, length, drop, refl, ap, sym, ◌∙◌, subst, arith}
+use Rattle.std.proofs.Common.{◌≡◌, ◌<◌, ◌-◌, ◌+◌, ◌^◌, ℕ, List, Some, Option, length, drop, refl}
+use Rattle.std.proofs.Common.{ap, sym, ◌∙◌, subst, arith}
 use Rattle.ml_pat.specs.Patterns.{Pattern, and, member, var}
 use Rattle.term_core.specs.PatternLists.{plain_patterns}
 use Rattle.ml_image.specs.Images.{all_shifted}
@@ -11,40 +12,59 @@ use Rattle.ml_image.proofs.rules.meets_image.Goals as goal
 
 pub loop-i-init : goal.loop-i-init
 loop-i-init c = record {
-  images = ap (sentence_image c.args.sig.now c.args.names.now) (meets-none (length c.args.args.now) c.args.first c.args.args.now) ∙ ap (λ (p : Pattern). Some p) (sym c.in_ok-made.ensures);
+  images =
+      ap (sentence_image c.args.sig.now c.args.names.now)
+      (meets-none (length c.args.args.now) c.args.first c.args.args.now)
+      ∙ ap (λ (p : Pattern). Some p) (sym c.in_ok-made.ensures);
   gained = gained-nothing c.args.sig.now c.args.names.now;
 }
 
 pub image-requires : goal.image-requires
 image-requires c =
-    let low : c.loop-i.i - 1 < length c.args.args.now = omega (arith, c.loop-i-test.true, c.loop-i.auto.i) in
-    image-item c.args.sig.now (2 ^ 32 - c.args.first) c.args.args.now (c.loop-i.i - 1) c.index-args-i.result c.requires.arguments low c.index-args-i.is
+    let low : c.loop-i.i - 1 < length c.args.args.now =
+    omega (arith, c.loop-i-test.true, c.loop-i.auto.i) in
+    image-item c.args.sig.now (2 ^ 32 - c.args.first) c.args.args.now (c.loop-i.i - 1)
+    c.index-args-i.result c.requires.arguments low c.index-args-i.is
 
 pub returns-in_err-argument-clause-names : goal.returns-in_err-argument-clause-names
-returns-in_err-argument-clause-names c = gained_twice _ _ _ _ c.loop-i.invariant.gained c.image.ensures.names
+returns-in_err-argument-clause-names c =
+    gained_twice _ _ _ _ c.loop-i.invariant.gained c.image.ensures.names
 
 pub returns-in_err-parameter-clause-names : goal.returns-in_err-parameter-clause-names
-returns-in_err-parameter-clause-names c = gained_twice _ _ _ _ c.loop-i.invariant.gained c.image.ensures.names
+returns-in_err-parameter-clause-names c =
+    gained_twice _ _ _ _ c.loop-i.invariant.gained c.image.ensures.names
 
 pub returns-in_err-member-clause-names : goal.returns-in_err-member-clause-names
-returns-in_err-member-clause-names c = gained_twice _ _ _ _ c.loop-i.invariant.gained c.image.ensures.names
+returns-in_err-member-clause-names c =
+    gained_twice _ _ _ _ c.loop-i.invariant.gained c.image.ensures.names
 
 pub returns-in_err-made-2-clause-names : goal.returns-in_err-made-2-clause-names
-returns-in_err-made-2-clause-names c = gained_twice _ _ _ _ c.loop-i.invariant.gained c.image.ensures.names
+returns-in_err-made-2-clause-names c =
+    gained_twice _ _ _ _ c.loop-i.invariant.gained c.image.ensures.names
 
 pub loop-i-preserved : goal.loop-i-preserved
 loop-i-preserved c =
-    let low : c.loop-i.i - 1 < length c.args.args.now = omega (arith, c.loop-i-test.true, c.loop-i.auto.i) in
+    let low : c.loop-i.i - 1 < length c.args.args.now =
+    omega (arith, c.loop-i-test.true, c.loop-i.auto.i) in
     record {
-      images = meets-next c.args.sig.now c.loop-i.names c.image.new.names c.args.first c.args.args.now c.loop-i.i (c.loop-i.i - 1) c.index-args-i.result c.loop-i.made c.in_ok-argument.argument (omega (arith, c.loop-i-test.true)) low c.index-args-i.is c.image.ensures.names c.loop-i.invariant.images c.in_ok-argument.ensures.image
-          ∙ ap (λ (p : Pattern). Some (and (member p c.in_ok-argument.argument) c.loop-i.made)) (sym c.in_ok-parameter.ensures) ∙ ap (λ (p : Pattern). Some (and p c.loop-i.made)) (sym c.in_ok-member.ensures) ∙ ap (λ (p : Pattern). Some p) (sym c.in_ok-made-2.ensures);
+      images =
+          meets-next c.args.sig.now c.loop-i.names c.image.new.names c.args.first c.args.args.now
+          c.loop-i.i (c.loop-i.i - 1) c.index-args-i.result c.loop-i.made
+          c.in_ok-argument.argument (omega (arith, c.loop-i-test.true)) low c.index-args-i.is
+          c.image.ensures.names c.loop-i.invariant.images c.in_ok-argument.ensures.image
+          ∙ ap (λ (p : Pattern). Some (and (member p c.in_ok-argument.argument) c.loop-i.made))
+          (sym c.in_ok-parameter.ensures)
+          ∙ ap (λ (p : Pattern). Some (and p c.loop-i.made)) (sym c.in_ok-member.ensures)
+          ∙ ap (λ (p : Pattern). Some p) (sym c.in_ok-made-2.ensures);
       gained = gained_twice _ _ _ _ c.loop-i.invariant.gained c.image.ensures.names;
     }
 
 pub returns-clause-image : goal.returns-clause-image
 returns-clause-image c =
     let none : c.loop-i.i ≡ 0 = omega (arith, c.loop-i-test.false) in
-    subst (λ (i : ℕ). sentence_image c.args.sig.now c.loop-i.names (meets i (all_shifted c.args.first (plain_patterns (drop i c.args.args.now)))) ≡ Some c.loop-i.made) none c.loop-i.invariant.images
+    subst (λ (i : ℕ). sentence_image c.args.sig.now c.loop-i.names
+    (meets i (all_shifted c.args.first (plain_patterns (drop i c.args.args.now))))
+    ≡ Some c.loop-i.made) none c.loop-i.invariant.images
 
 pub returns-clause-names : goal.returns-clause-names
 returns-clause-names c = c.loop-i.invariant.gained

@@ -8,6 +8,7 @@ use Rattle.ml_image.proofs.rules.meets_image.Given as goal
 
 abbrev pub invariant-loop-i : goal.invariant-loop-i
 invariant-loop-i l = record {
-  images : sentence_image l.sig l.names (meets l.i (all_shifted l.first (plain_patterns (drop l.i l.args)))) ≡ Some l.made;
+  images : sentence_image l.sig l.names
+      (meets l.i (all_shifted l.first (plain_patterns (drop l.i l.args)))) ≡ Some l.made;
   gained : HasGained l.sig l.initial.names l.names;
 }

@@ -9,21 +9,40 @@ use Rattle.ml_image.proofs.SentenceLaws.{rule_closes}
 use Rattle.ml_image.proofs.rules.rule_image.Goals as goal
 
 pub term_image-requires : goal.term_image-requires
-term_image-requires c = HasImage-more c.args.sig.now (length (sorts_of c.args.rule.now.vars.items)) 4294967296 (plain_pattern c.args.rule.now.left) c.requires.few c.requires.left
+term_image-requires c =
+    HasImage-more c.args.sig.now (length (sorts_of c.args.rule.now.vars.items)) 4294967296
+    (plain_pattern c.args.rule.now.left) c.requires.few c.requires.left
 
 pub term_image-requires-2 : goal.term_image-requires-2
-term_image-requires-2 c = HasImage-more c.args.sig.now (length (sorts_of c.args.rule.now.vars.items)) 4294967296 (plain_pattern c.args.rule.now.right) c.requires.few c.requires.right
+term_image-requires-2 c =
+    HasImage-more c.args.sig.now (length (sorts_of c.args.rule.now.vars.items)) 4294967296
+    (plain_pattern c.args.rule.now.right) c.requires.few c.requires.right
 
 pub returns-in_err-sorts-clause-names : goal.returns-in_err-sorts-clause-names
-returns-in_err-sorts-clause-names c = gained_twice _ _ _ _ c.term_image.ensures.names (gained_twice _ _ _ _ c.condition_image.ensures.names c.term_image-2.ensures.names)
+returns-in_err-sorts-clause-names c =
+    gained_twice _ _ _ _ c.term_image.ensures.names
+    (gained_twice _ _ _ _ c.condition_image.ensures.names c.term_image-2.ensures.names)
 
 pub returns-clause-image : goal.returns-clause-image
 returns-clause-image c =
-    let sorts : sort_numbers c.deref-3.result.now ≡ sorts_of c.args.rule.now.vars.items = ap sort_numbers c.deref-3.ensures.value ∙ c.in_ok-sorts.ensures ∙ ap sorts_of c.deref-2.ensures.value in
-    let condition : IsConditionImage c.args.sig.now c.condition_image.new.names (sorts_of c.args.rule.now.vars.items) 0 (option_map plain_pattern c.args.rule.now.cond) c.in_ok-condition.condition =
-    subst (λ (vs : List VarInfo). IsConditionImage c.args.sig.now c.condition_image.new.names (sorts_of vs) 0 (option_map plain_pattern c.args.rule.now.cond) c.in_ok-condition.condition) c.deref.ensures.value c.in_ok-condition.ensures.image in
-    rule_closes c.args.sig.now c.term_image.new.names c.condition_image.new.names c.term_image-2.new.names c.close.new.names (rewrite_rule c.args.rule.now) c.in_ok-left.left c.in_ok-condition.condition c.in_ok-right.right c.in_ok-body.body (sort_numbers c.deref-3.result.now) c.close.result
-    c.condition_image.ensures.names c.term_image-2.ensures.names c.in_ok-left.ensures.image condition c.in_ok-right.ensures.image c.in_ok-body.ensures sorts c.close.ensures.image
+    let sorts : sort_numbers c.deref-3.result.now ≡ sorts_of c.args.rule.now.vars.items =
+    ap sort_numbers c.deref-3.ensures.value ∙ c.in_ok-sorts.ensures
+    ∙ ap sorts_of c.deref-2.ensures.value in
+    let condition : IsConditionImage c.args.sig.now c.condition_image.new.names
+    (sorts_of c.args.rule.now.vars.items) 0 (option_map plain_pattern c.args.rule.now.cond)
+    c.in_ok-condition.condition =
+    subst (λ (vs : List VarInfo). IsConditionImage c.args.sig.now c.condition_image.new.names
+    (sorts_of vs) 0 (option_map plain_pattern c.args.rule.now.cond)
+    c.in_ok-condition.condition) c.deref.ensures.value c.in_ok-condition.ensures.image in
+    rule_closes c.args.sig.now c.term_image.new.names c.condition_image.new.names
+    c.term_image-2.new.names c.close.new.names (rewrite_rule c.args.rule.now) c.in_ok-left.left
+    c.in_ok-condition.condition c.in_ok-right.right c.in_ok-body.body
+    (sort_numbers c.deref-3.result.now) c.close.result
+    c.condition_image.ensures.names c.term_image-2.ensures.names c.in_ok-left.ensures.image
+    condition c.in_ok-right.ensures.image c.in_ok-body.ensures sorts c.close.ensures.image
 
 pub returns-clause-names : goal.returns-clause-names
-returns-clause-names c = gained_twice _ _ _ _ (gained_twice _ _ _ _ c.term_image.ensures.names (gained_twice _ _ _ _ c.condition_image.ensures.names c.term_image-2.ensures.names)) c.close.ensures.names
+returns-clause-names c =
+    gained_twice _ _ _ _ (gained_twice _ _ _ _ c.term_image.ensures.names
+    (gained_twice _ _ _ _ c.condition_image.ensures.names c.term_image-2.ensures.names))
+    c.close.ensures.names

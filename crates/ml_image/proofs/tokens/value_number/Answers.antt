@@ -7,10 +7,19 @@ use Rattle.ml_image.proofs.tokens.value_number.Goals as goal
 
 pub returns-clause-number : goal.returns-clause-number
 returns-clause-number c =
-    let token : token_of_value c.args.sig.now c.args.sort.0 (value_of c.args.value.now) ≡ Some c.as_str.result.now = search rules in
-    ap (λ (t : Option (List ℕ)). numbered c.number.new.self t) token ∙ number_of-numbered c.args.names.now c.number.new.self c.as_str.result.now c.in_ok-number-in-Some.field-0 c.in_ok-number-in-Some.ensures.number
+    let token : token_of_value c.args.sig.now c.args.sort.0 (value_of c.args.value.now) ≡ Some
+    c.as_str.result.now =
+    search rules in
+    ap (λ (t : Option (List ℕ)). numbered c.number.new.self t) token
+    ∙ number_of-numbered c.args.names.now c.number.new.self c.as_str.result.now
+    c.in_ok-number-in-Some.field-0 c.in_ok-number-in-Some.ensures.number
 
 pub returns-clause-names : goal.returns-clause-names
 returns-clause-names c =
-    let token : token_of_value c.args.sig.now c.args.sort.0 (value_of c.args.value.now) ≡ Some c.as_str.result.now = search rules in
-    gained-numbered c.args.sig.now c.args.names.now c.number.new.self c.as_str.result.now c.in_ok-number-in-Some.field-0 (of_value c.args.sort.0 (value_of c.args.value.now) c.requires token) c.in_ok-number-in-Some.ensures.number
+    let token : token_of_value c.args.sig.now c.args.sort.0 (value_of c.args.value.now) ≡ Some
+    c.as_str.result.now =
+    search rules in
+    gained-numbered c.args.sig.now c.args.names.now c.number.new.self c.as_str.result.now
+    c.in_ok-number-in-Some.field-0
+    (of_value c.args.sort.0 (value_of c.args.value.now) c.requires token)
+    c.in_ok-number-in-Some.ensures.number

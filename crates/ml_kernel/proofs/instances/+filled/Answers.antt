@@ -1,4 +1,5 @@
-use Rattle.std.proofs.Common.{◌≡◌, ◌++◌, ◌∷◌, [], List, Bor, Some, ◌∙◌, ap, sym, subst, arith, rules}
+use Rattle.std.proofs.Common.{◌≡◌, ◌++◌, ◌∷◌, [], List, Bor, Some, ◌∙◌, ap, sym, subst, arith}
+use Rattle.std.proofs.Common.{rules}
 use Rattle.ml_pat.specs.Patterns.{Pattern}
 use Rattle.ml_pat.specs.FirstPart.{first_part}
 use Rattle.ml_pat.specs.Spines.{LeadsTo}
@@ -9,8 +10,10 @@ use Rattle.ml_kernel.proofs.instances.+filled.Goals as goal
 
 pub filled-loop-first-preserved : goal.filled-loop-first-preserved
 filled-loop-first-preserved t c =
-    subst (λ (rs : List (Bor Pattern)). LeadsTo c.args.pat.now rs c.in-Some.first.now) (sym c.in_ok-push.ensures.items)
-    (LeadsTo-push c.args.pat.now c.loop-first.above.items c.loop-first.lowest c.in-Some.first.now c.loop-first.invariant (search rules))
+    subst (λ (rs : List (Bor Pattern)). LeadsTo c.args.pat.now rs c.in-Some.first.now)
+    (sym c.in_ok-push.ensures.items)
+    (LeadsTo-push c.args.pat.now c.loop-first.above.items c.loop-first.lowest c.in-Some.first.now
+    c.loop-first.invariant (search rules))
 
 pub filled-filled_around-requires : goal.filled-filled_around-requires
 filled-filled_around-requires t c =
@@ -18,13 +21,28 @@ filled-filled_around-requires t c =
 
 pub filled-filled_around-requires-in-Some-pop : goal.filled-filled_around-requires-in-Some-pop
 filled-filled_around-requires-in-Some-pop t c =
-    let way : LeadsTo c.args.pat.now (c.pop.new.self.items ++ c.in-Some-pop.whole ∷ []) c.loop-whole.invariant.0 =
-    subst (λ (rs : List (Bor Pattern)). LeadsTo c.args.pat.now rs c.loop-whole.invariant.0) c.in-Some-pop.ensures.items c.loop-whole.invariant.1.0 in
+    let way : LeadsTo c.args.pat.now (c.pop.new.self.items ++ c.in-Some-pop.whole ∷ [])
+    c.loop-whole.invariant.0 =
+    subst (λ (rs : List (Bor Pattern)). LeadsTo c.args.pat.now rs c.loop-whole.invariant.0)
+    c.in-Some-pop.ensures.items c.loop-whole.invariant.1.0 in
     (omega (arith, LeadsTo-smaller _ _ _ (LeadsTo-pop _ _ _ _ way).0, c.decreases), tt)
 
 pub filled-loop-whole-preserved : goal.filled-loop-whole-preserved
 filled-loop-whole-preserved t c =
-    let way : LeadsTo c.args.pat.now (c.pop.new.self.items ++ c.in-Some-pop.whole ∷ []) c.loop-whole.invariant.0 =
-    subst (λ (rs : List (Bor Pattern)). LeadsTo c.args.pat.now rs c.loop-whole.invariant.0) c.in-Some-pop.ensures.items c.loop-whole.invariant.1.0 in
-    let above : LeadsTo c.args.pat.now c.pop.new.self.items c.in-Some-pop.whole.now × (first_part c.in-Some-pop.whole.now ≡ Some c.loop-whole.invariant.0) = LeadsTo-pop _ _ _ _ way in
-    (c.in-Some-pop.whole.now, (above.0, c.in_ok-made-2.ensures ∙ ap (λ (p : Pattern). around c.args.metas.now p c.in-Some-pop.whole.now) c.loop-whole.invariant.1.1 ∙ around-instance c.args.metas.now c.in-Some-pop.whole.now c.loop-whole.invariant.0 above.1))
+    let way : LeadsTo c.args.pat.now (c.pop.new.self.items ++ c.in-Some-pop.whole ∷ [])
+    c.loop-whole.invariant.0 =
+    subst (λ (rs : List (Bor Pattern)). LeadsTo c.args.pat.now rs c.loop-whole.invariant.0)
+    c.in-Some-pop.ensures.items c.loop-whole.invariant.1.0 in
+    let above : LeadsTo c.args.pat.now c.pop.new.self.items c.in-Some-pop.whole.now ×
+    (first_part c.in-Some-pop.whole.now ≡ Some c.loop-whole.invariant.0) =
+    LeadsTo-pop _ _ _ _ way in (
+      c.in-Some-pop.whole.now,
+      (
+        above.0,
+        c.in_ok-made-2.ensures
+            ∙ ap (λ (p : Pattern). around c.args.metas.now p c.in-Some-pop.whole.now)
+            c.loop-whole.invariant.1.1
+            ∙ around-instance c.args.metas.now c.in-Some-pop.whole.now c.loop-whole.invariant.0
+            above.1,
+      ),
+    )

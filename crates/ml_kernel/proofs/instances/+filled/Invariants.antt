@@ -18,7 +18,8 @@ abbrev pub decreases-filled-loop-first : goal.decreases-filled-loop-first
 decreases-filled-loop-first l = forms_in l.lowest
 
 abbrev pub invariant-filled-loop-whole : goal.invariant-filled-loop-whole
-invariant-filled-loop-whole l = (p : Pattern) × (LeadsTo l.fn.pat l.above.items p × (l.made ≡ instance l.fn.metas p))
+invariant-filled-loop-whole l =
+    (p : Pattern) × (LeadsTo l.fn.pat l.above.items p × (l.made ≡ instance l.fn.metas p))
 
 abbrev pub decreases-filled-loop-whole : goal.decreases-filled-loop-whole
 decreases-filled-loop-whole l = length l.above.items

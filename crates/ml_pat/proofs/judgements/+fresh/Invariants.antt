@@ -14,4 +14,5 @@ abbrev pub decreases-fresh-loop-answer : goal.decreases-fresh-loop-answer
 decreases-fresh-loop-answer l = forms_in l.part
 
 abbrev pub invariant-fresh-loop-answer : goal.invariant-fresh-loop-answer
-invariant-fresh-loop-answer l = (fresh l.fn.x.0 l.part ≡ fresh l.fn.x.0 l.fn.pat) × (forms_in l.part ≤ forms_in l.fn.pat)
+invariant-fresh-loop-answer l =
+    (fresh l.fn.x.0 l.part ≡ fresh l.fn.x.0 l.fn.pat) × (forms_in l.part ≤ forms_in l.fn.pat)

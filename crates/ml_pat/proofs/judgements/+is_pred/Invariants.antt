@@ -14,4 +14,5 @@ abbrev pub decreases-is_pred-loop-answer : goal.decreases-is_pred-loop-answer
 decreases-is_pred-loop-answer l = forms_in l.part
 
 abbrev pub invariant-is_pred-loop-answer : goal.invariant-is_pred-loop-answer
-invariant-is_pred-loop-answer l = (predicate l.part ≡ predicate l.fn.pat) × (forms_in l.part ≤ forms_in l.fn.pat)
+invariant-is_pred-loop-answer l =
+    (predicate l.part ≡ predicate l.fn.pat) × (forms_in l.part ≤ forms_in l.fn.pat)

@@ -1,31 +1,52 @@
-use Rattle.std.proofs.Common.{◌≡◌, ◌++◌, ◌∷◌, [], List, Bor, Some, ◌∙◌, ap, sym, subst, arith, rules}
+use Rattle.std.proofs.Common.{◌≡◌, ◌++◌, ◌∷◌, [], List, Bor, Some, ◌∙◌, ap, sym, subst, arith}
+use Rattle.std.proofs.Common.{rules}
 use Rattle.ml_pat.specs.Patterns.{Pattern}
 use Rattle.ml_pat.specs.FirstPart.{first_part}
 use Rattle.ml_pat.specs.Spines.{LeadsTo}
 use Rattle.ml_pat.specs.Replacing.{around}
-use Rattle.ml_pat.specs.declared.substitution.Outcome.{Outcome}
+use Rattle.ml_pat.specs.declared.substitution.SubstitutionResult.{SubstitutionResult}
 use Rattle.ml_pat.proofs.SpineLaws.{LeadsTo-push, LeadsTo-pop, LeadsTo-smaller}
 use Rattle.ml_pat.proofs.ReplacingLaws.{around-replaced}
 use Rattle.ml_pat.proofs.substitution.+replaced.Goals as goal
 
 pub replaced-loop-first-preserved : goal.replaced-loop-first-preserved
 replaced-loop-first-preserved t c =
-    subst (λ (rs : List (Bor Pattern)). LeadsTo c.args.pat.now rs c.in-Some.first.now) (sym c.in_ok-push.ensures.items)
-    (LeadsTo-push c.args.pat.now c.loop-first.above.items c.loop-first.lowest c.in-Some.first.now c.loop-first.invariant (search rules))
+    subst (λ (rs : List (Bor Pattern)). LeadsTo c.args.pat.now rs c.in-Some.first.now)
+    (sym c.in_ok-push.ensures.items)
+    (LeadsTo-push c.args.pat.now c.loop-first.above.items c.loop-first.lowest c.in-Some.first.now
+    c.loop-first.invariant (search rules))
 
 pub replaced-replaced_around-requires : goal.replaced-replaced_around-requires
 replaced-replaced_around-requires t c =
     (omega (arith, LeadsTo-smaller _ _ _ c.loop-first.invariant, c.decreases), tt)
 
-pub replaced-replaced_around-requires-in-Some-pop : goal.replaced-replaced_around-requires-in-Some-pop
+pub replaced-replaced_around-requires-in-Some-pop :
+    goal.replaced-replaced_around-requires-in-Some-pop
 replaced-replaced_around-requires-in-Some-pop t c =
-    let way : LeadsTo c.args.pat.now (c.pop.new.self.items ++ c.in-Some-pop.whole ∷ []) c.loop-whole.invariant.0 =
-    subst (λ (rs : List (Bor Pattern)). LeadsTo c.args.pat.now rs c.loop-whole.invariant.0) c.in-Some-pop.ensures.items c.loop-whole.invariant.1.0 in
+    let way : LeadsTo c.args.pat.now (c.pop.new.self.items ++ c.in-Some-pop.whole ∷ [])
+    c.loop-whole.invariant.0 =
+    subst (λ (rs : List (Bor Pattern)). LeadsTo c.args.pat.now rs c.loop-whole.invariant.0)
+    c.in-Some-pop.ensures.items c.loop-whole.invariant.1.0 in
     (omega (arith, LeadsTo-smaller _ _ _ (LeadsTo-pop _ _ _ _ way).0, c.decreases), tt)
 
 pub replaced-loop-whole-preserved : goal.replaced-loop-whole-preserved
 replaced-loop-whole-preserved t c =
-    let way : LeadsTo c.args.pat.now (c.pop.new.self.items ++ c.in-Some-pop.whole ∷ []) c.loop-whole.invariant.0 =
-    subst (λ (rs : List (Bor Pattern)). LeadsTo c.args.pat.now rs c.loop-whole.invariant.0) c.in-Some-pop.ensures.items c.loop-whole.invariant.1.0 in
-    let above : LeadsTo c.args.pat.now c.pop.new.self.items c.in-Some-pop.whole.now × (first_part c.in-Some-pop.whole.now ≡ Some c.loop-whole.invariant.0) = LeadsTo-pop _ _ _ _ way in
-    (c.in-Some-pop.whole.now, (above.0, c.in_ok-made-2.ensures ∙ ap (λ (p : Outcome). around c.args.x.0 c.args.by.now p c.in-Some-pop.whole.now) c.loop-whole.invariant.1.1 ∙ around-replaced c.args.x.0 c.args.by.now c.in-Some-pop.whole.now c.loop-whole.invariant.0 above.1))
+    let way : LeadsTo c.args.pat.now (c.pop.new.self.items ++ c.in-Some-pop.whole ∷ [])
+    c.loop-whole.invariant.0 =
+    subst (λ (rs : List (Bor Pattern)). LeadsTo c.args.pat.now rs c.loop-whole.invariant.0)
+    c.in-Some-pop.ensures.items c.loop-whole.invariant.1.0 in
+    let above : LeadsTo c.args.pat.now c.pop.new.self.items c.in-Some-pop.whole.now ×
+    (first_part c.in-Some-pop.whole.now ≡ Some c.loop-whole.invariant.0) =
+    LeadsTo-pop _ _ _ _ way in (
+      c.in-Some-pop.whole.now,
+      (
+        above.0,
+        c.in_ok-made-2.ensures
+            ∙ ap (λ (p : SubstitutionResult).
+            around c.args.x.0 c.args.by.now p c.in-Some-pop.whole.now)
+            c.loop-whole.invariant.1.1
+            ∙ around-replaced c.args.x.0 c.args.by.now c.in-Some-pop.whole.now
+            c.loop-whole.invariant.0
+            above.1,
+      ),
+    )

@@ -18,7 +18,8 @@ abbrev pub decreases-replaced-loop-first : goal.decreases-replaced-loop-first
 decreases-replaced-loop-first l = forms_in l.lowest
 
 abbrev pub invariant-replaced-loop-whole : goal.invariant-replaced-loop-whole
-invariant-replaced-loop-whole l = (p : Pattern) × (LeadsTo l.fn.pat l.above.items p × (l.made ≡ replaced l.fn.x.0 l.fn.by p))
+invariant-replaced-loop-whole l =
+    (p : Pattern) × (LeadsTo l.fn.pat l.above.items p × (l.made ≡ replaced l.fn.x.0 l.fn.by p))
 
 abbrev pub decreases-replaced-loop-whole : goal.decreases-replaced-loop-whole
 decreases-replaced-loop-whole l = length l.above.items

@@ -3,4 +3,5 @@ use Rattle.ml_scope.proofs.citing.assume.Goals as goal
 
 pub returns-clause-stays : goal.returns-clause-stays
 returns-clause-stays c =
-    assumption_stays c.args.hyp c.assume.result c.assume.ensures.hypotheses c.assume.ensures.conclusion c.assume.ensures.derivation
+    assumption_stays c.args.hyp c.assume.result c.assume.ensures.hypotheses
+    c.assume.ensures.conclusion c.assume.ensures.derivation

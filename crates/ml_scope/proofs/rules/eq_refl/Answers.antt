@@ -7,5 +7,6 @@ use Rattle.ml_scope.proofs.rules.eq_refl.Goals as goal
 
 pub returns-clause-stays : goal.returns-clause-stays
 returns-clause-stays c =
-    rule_stays rule.EqRefl (pattern c.args.p.now ∷ []) (c.args.p.now ∷ []) ([]) (equal c.args.p.now c.args.p.now) c.eq_refl.result
+    rule_stays rule.EqRefl (pattern c.args.p.now ∷ []) (c.args.p.now ∷ []) ([])
+    (equal c.args.p.now c.args.p.now) c.eq_refl.result
     (λ s hp ht. ((hp.0, tt), (hp.0, hp.0))) c.eq_refl.ensures

@@ -7,5 +7,6 @@ use Rattle.ml_scope.proofs.rules.ev_1.Goals as goal
 
 pub returns-clause-stays : goal.returns-clause-stays
 returns-clause-stays c =
-    rule_stays rule.Ev1 (pattern c.args.p.now ∷ []) (c.args.p.now ∷ []) ([]) (imp c.args.p.now (ev c.args.p.now)) c.ev_1.result
+    rule_stays rule.Ev1 (pattern c.args.p.now ∷ []) (c.args.p.now ∷ []) ([])
+    (imp c.args.p.now (ev c.args.p.now)) c.ev_1.result
     (λ s hp ht. ((hp.0, tt), (hp.0, hp.0))) c.ev_1.ensures

@@ -7,5 +7,12 @@ use Rattle.ml_scope.proofs.rules.inst.Goals as goal
 
 pub returns-clause-stays : goal.returns-clause-stays
 returns-clause-stays c =
-    rule_stays rule.Inst (pattern c.args.p.now ∷ pattern c.args.q.now ∷ pattern c.args.r.now ∷ variable c.args.x.0 ∷ sort c.args.s.0 ∷ []) (all c.args.x.0 c.args.s.0 c.args.p.now ∷ c.args.q.now ∷ c.args.r.now ∷ []) [] (imp (all c.args.x.0 c.args.s.0 c.args.p.now) (imp (fun c.args.q.now c.args.s.0) c.args.r.now)) c.inst.result
-    (λ s hp ht. ((hp.0.0, (hp.1.0, (hp.1.1.0, (hp.0.1.0, (hp.0.1.1, tt))))), (hp.0, ((hp.1.0, hp.0.1.1), hp.1.1.0)))) c.inst.ensures
+    rule_stays rule.Inst (pattern c.args.p.now ∷ pattern c.args.q.now ∷ pattern c.args.r.now
+    ∷ variable c.args.x.0 ∷ sort c.args.s.0 ∷ [])
+    (all c.args.x.0 c.args.s.0 c.args.p.now ∷ c.args.q.now ∷ c.args.r.now ∷ []) []
+    (imp (all c.args.x.0 c.args.s.0 c.args.p.now)
+    (imp (fun c.args.q.now c.args.s.0) c.args.r.now)) c.inst.result
+    (λ s hp ht. (
+      (hp.0.0, (hp.1.0, (hp.1.1.0, (hp.0.1.0, (hp.0.1.1, tt))))),
+      (hp.0, ((hp.1.0, hp.0.1.1), hp.1.1.0)),
+    )) c.inst.ensures

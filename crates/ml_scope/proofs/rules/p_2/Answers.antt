@@ -7,5 +7,11 @@ use Rattle.ml_scope.proofs.rules.p_2.Goals as goal
 
 pub returns-clause-stays : goal.returns-clause-stays
 returns-clause-stays c =
-    rule_stays rule.P2 (pattern c.args.p.now ∷ pattern c.args.q.now ∷ pattern c.args.r.now ∷ []) (c.args.p.now ∷ c.args.q.now ∷ c.args.r.now ∷ []) ([]) (imp (imp c.args.p.now (imp c.args.q.now c.args.r.now)) (imp (imp c.args.p.now c.args.q.now) (imp c.args.p.now c.args.r.now))) c.p_2.result
-    (λ s hp ht. ((hp.0, (hp.1.0, (hp.1.1.0, tt))), ((hp.0, (hp.1.0, hp.1.1.0)), ((hp.0, hp.1.0), (hp.0, hp.1.1.0))))) c.p_2.ensures
+    rule_stays rule.P2 (pattern c.args.p.now ∷ pattern c.args.q.now ∷ pattern c.args.r.now ∷ [])
+    (c.args.p.now ∷ c.args.q.now ∷ c.args.r.now ∷ []) ([]) (imp
+    (imp c.args.p.now (imp c.args.q.now c.args.r.now))
+    (imp (imp c.args.p.now c.args.q.now) (imp c.args.p.now c.args.r.now))) c.p_2.result
+    (λ s hp ht. (
+      (hp.0, (hp.1.0, (hp.1.1.0, tt))),
+      ((hp.0, (hp.1.0, hp.1.1.0)), ((hp.0, hp.1.0), (hp.0, hp.1.1.0))),
+    )) c.p_2.ensures

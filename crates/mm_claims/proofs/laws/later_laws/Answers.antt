@@ -1,4 +1,5 @@
-use Rattle.mm_claims.proofs.LaterLaws.{fits_later, all_declared, closed_stays, last_is_stated, stated_stays}
+use Rattle.mm_claims.proofs.LaterLaws.{fits_later, all_declared, closed_stays, last_is_stated}
+use Rattle.mm_claims.proofs.LaterLaws.{stated_stays}
 use Rattle.mm_claims.proofs.laws.later_laws.Goals as goal
 
 pub returns-clause-fits : goal.returns-clause-fits

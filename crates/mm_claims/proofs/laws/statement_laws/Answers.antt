@@ -1,4 +1,5 @@
-use Rattle.mm_claims.proofs.OpenFits.{claims_are_valid, header_fits_claims, axiom_fits, axiom_is_gained, theorem_fits, theorem_is_gained}
+use Rattle.mm_claims.proofs.OpenFits.{claims_are_valid, header_fits_claims, axiom_fits}
+use Rattle.mm_claims.proofs.OpenFits.{axiom_is_gained, theorem_fits, theorem_is_gained}
 use Rattle.mm_claims.proofs.NamedClaims.{names_fit_claims}
 use Rattle.mm_claims.proofs.laws.statement_laws.Goals as goal
 

@@ -1,5 +1,6 @@
 use Rattle.mm_database.proofs.ClosedFrames.{closed_has_none}
-use Rattle.mm_database.proofs.Continued.{leaves_is_valid, continued_leaves, axiom_is_fine, theorem_is_fine}
+use Rattle.mm_database.proofs.Continued.{leaves_is_valid, continued_leaves, axiom_is_fine}
+use Rattle.mm_database.proofs.Continued.{theorem_is_fine}
 use Rattle.mm_database.proofs.Texts.{appended_is_fine, written_is_fine}
 use Rattle.mm_database.proofs.Stated.{appended_states}
 use Rattle.mm_database.proofs.WrittenForms.{plain_tokens_say, proof_tokens_say}

@@ -3,4 +3,6 @@ use Rattle.mm_frame.proofs.Listing.{search-has}
 use Rattle.mm_frame.proofs.disjoint.is_among.Goals as goal
 
 pub returns : goal.returns
-returns c = c.is_ok.ensures.value ∙ search-has c.args.numbers.now c.args.n c.binary_search.result c.requires c.binary_search.ensures.position
+returns c = c.is_ok.ensures.value
+    ∙ search-has c.args.numbers.now c.args.n c.binary_search.result c.requires
+    c.binary_search.ensures.position

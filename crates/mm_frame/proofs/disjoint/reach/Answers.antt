@@ -5,5 +5,8 @@ use Rattle.mm_frame.proofs.disjoint.reach.Goals as goal
 
 pub loop-alloc-preserved : goal.loop-alloc-preserved
 loop-alloc-preserved c = λ n.
-    let items : c.push.new.self.items ≡ c.loop-alloc.lists.items ++ c.new.result ∷ [] = search rules in
-    ap (λ ls. list_of ls n) items ∙ list_of-more c.loop-alloc.lists.items c.new.result n (search rules) ∙ c.loop-alloc.invariant n
+    let items : c.push.new.self.items ≡ c.loop-alloc.lists.items ++ c.new.result ∷ [] =
+    search rules in
+    ap (λ ls. list_of ls n) items
+    ∙ list_of-more c.loop-alloc.lists.items c.new.result n (search rules)
+    ∙ c.loop-alloc.invariant n

@@ -12,4 +12,6 @@ returns-in-None c =
 pub returns-in-Some : goal.returns-in-Some
 returns-in-Some c =
     let found : slice_get c.args.lists.now c.args.at ≡ Some c.in-Some.list.now = search rules in
-    c.is_last.ensures ∙ ap (ends_with c.args.place) (c.deref.ensures.value ∙ sym (list_of-found c.args.lists.now c.args.at c.in-Some.list.now found))
+    c.is_last.ensures
+    ∙ ap (ends_with c.args.place) (c.deref.ensures.value
+    ∙ sym (list_of-found c.args.lists.now c.args.at c.in-Some.list.now found))

@@ -6,8 +6,11 @@ use Rattle.mm_frame.proofs.forms.split_at_dollar.Given as goal
 abbrev pub invariant-loop-at : goal.invariant-loop-at
 invariant-loop-at l = record {
   within : l.at ≤ length l.tokens;
-  front : before_dollar (words_of l.bytes l.tokens) ≡ words_of l.bytes (take l.at l.tokens) ++ before_dollar (words_of l.bytes (drop l.at l.tokens));
-  back : from_dollar (words_of l.bytes l.tokens) ≡ from_dollar (words_of l.bytes (drop l.at l.tokens));
+  front : before_dollar (words_of l.bytes l.tokens)
+      ≡ words_of l.bytes (take l.at l.tokens)
+      ++ before_dollar (words_of l.bytes (drop l.at l.tokens));
+  back : from_dollar (words_of l.bytes l.tokens)
+      ≡ from_dollar (words_of l.bytes (drop l.at l.tokens));
 }
 
 abbrev pub decreases-loop-at : goal.decreases-loop-at

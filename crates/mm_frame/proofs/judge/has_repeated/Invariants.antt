@@ -10,7 +10,9 @@ abbrev pub invariant-loop-at : goal.invariant-loop-at
 invariant-loop-at l = record {
   within : l.at ≤ length l.tokens;
   tail : has_repeated (words_of l.bytes (drop l.at l.tokens)) ≡ false;
-  kept : (q : Token) → is_some (get_by (λ k. slice_cmp nat_cmp q k.now) l.seen) ≡ has_token (words_of l.bytes (drop l.at l.tokens)) q;
+  kept : (q : Token)
+      → is_some (get_by (λ k. slice_cmp nat_cmp q k.now) l.seen)
+      ≡ has_token (words_of l.bytes (drop l.at l.tokens)) q;
 }
 
 abbrev pub decreases-loop-at : goal.decreases-loop-at

@@ -7,4 +7,6 @@ use Rattle.mm_frame.specs.Labels.{label_in}
 use Rattle.mm_frame.proofs.labels.own_labels.Given as goal
 
 abbrev pub invariant-loop-hyp : goal.invariant-loop-hyp
-invariant-loop-hyp l = (q : Token) → is_some (get_by (λ k. slice_cmp nat_cmp q k.now) l.labels) ≡ has_token (map label_in (take l.hyp-index l.hyps)) q
+invariant-loop-hyp l = (q : Token)
+    → is_some (get_by (λ k. slice_cmp nat_cmp q k.now) l.labels)
+    ≡ has_token (map label_in (take l.hyp-index l.hyps)) q

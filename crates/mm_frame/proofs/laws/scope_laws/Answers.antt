@@ -1,4 +1,5 @@
-use Rattle.mm_frame.proofs.StandSteps.{naming_exists, place_stands, hypothesis_stands, frame_cited, nothing_cited}
+use Rattle.mm_frame.proofs.StandSteps.{naming_exists, place_stands, hypothesis_stands, frame_cited}
+use Rattle.mm_frame.proofs.StandSteps.{nothing_cited}
 use Rattle.mm_frame.proofs.laws.scope_laws.Goals as goal
 
 pub returns-clause-naming : goal.returns-clause-naming

@@ -3,4 +3,5 @@ use Rattle.std.specs.List.{flat_map}
 use Rattle.mm_header.proofs.text.push.Given as goal
 
 abbrev pub invariant-loop-piece : goal.invariant-loop-piece
-invariant-loop-piece l = l.to.items ≡ l.initial.to.items ++ flat_map (λ p. p.now) (take l.piece-index l.pieces)
+invariant-loop-piece l =
+    l.to.items ≡ l.initial.to.items ++ flat_map (λ p. p.now) (take l.piece-index l.pieces)

@@ -5,4 +5,5 @@ use Rattle.mm_header.specs.HeaderText.{apart_line}
 use Rattle.mm_header.proofs.text.push_pairs.Given as goal
 
 abbrev pub invariant-loop-pair : goal.invariant-loop-pair
-invariant-loop-pair l = l.to.items ≡ l.initial.to.items ++ flat_map apart_line (map pair_of (take l.pair-index l.pairs))
+invariant-loop-pair l =
+    l.to.items ≡ l.initial.to.items ++ flat_map apart_line (map pair_of (take l.pair-index l.pairs))

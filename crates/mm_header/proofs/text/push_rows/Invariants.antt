@@ -5,4 +5,5 @@ use Rattle.mm_header.specs.HeaderText.{row_text}
 use Rattle.mm_header.proofs.text.push_rows.Given as goal
 
 abbrev pub invariant-loop-row : goal.invariant-loop-row
-invariant-loop-row l = l.to.items ≡ l.initial.to.items ++ flat_map row_text (map row_of (take l.row-index l.rows))
+invariant-loop-row l =
+    l.to.items ≡ l.initial.to.items ++ flat_map row_text (map row_of (take l.row-index l.rows))

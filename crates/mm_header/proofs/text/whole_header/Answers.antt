@@ -9,6 +9,8 @@ pub returns : goal.returns
 unfolding header_bytes
 returns c = record {
   text = c.in_ok-push_rows.ensures.text
-      ∙ ap (λ text. text ++ flat_map row_text (map row_of c.table.result.now)) (c.in_ok-push_declarations.ensures.text ∙ ap (λ text. text ++ declarations_text) c.new-text.ensures.items)
+      ∙ ap (λ text. text ++ flat_map row_text (map row_of c.table.result.now))
+      (c.in_ok-push_declarations.ensures.text
+      ∙ ap (λ text. text ++ declarations_text) c.new-text.ensures.items)
       ∙ ap (λ rows. declarations_text ++ flat_map row_text rows) c.table.ensures;
 }

@@ -1,4 +1,5 @@
-use Rattle.mm_justify.proofs.Allowing.{axiom_has_only, run_is_justified, theorem_fits_anywhere, theorem_has_only, theorem_justifies}
+use Rattle.mm_justify.proofs.Allowing.{axiom_has_only, run_is_justified, theorem_fits_anywhere}
+use Rattle.mm_justify.proofs.Allowing.{theorem_has_only, theorem_justifies}
 use Rattle.mm_justify.proofs.DeclaredStates.{declared_has_only}
 use Rattle.mm_justify.proofs.HeaderStates.{header_has_only}
 use Rattle.mm_justify.proofs.laws.justifying_laws.Goals as goal

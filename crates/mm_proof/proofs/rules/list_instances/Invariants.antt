@@ -5,4 +5,6 @@ use Rattle.mm_proof.specs.Writing.{Lists}
 use Rattle.mm_proof.proofs.rules.list_instances.Given as goal
 
 abbrev pub invariant-loop-instance : goal.invariant-loop-instance
-invariant-loop-instance l = Lists (λ names k. instance_entries k (instances_of (take l.instance-index l.instances))) l.initial.labels.items l.labels.items
+invariant-loop-instance l =
+    Lists (λ names k. instance_entries k (instances_of (take l.instance-index l.instances)))
+    l.initial.labels.items l.labels.items

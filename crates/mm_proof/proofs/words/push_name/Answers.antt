@@ -1,4 +1,5 @@
-use Rattle.std.proofs.Common.{◌≡◌, ℕ, List, [], ◌∷◌, ◌++◌, zero, suc, refl, sym, ap, ◌∙◌, append-nil, Some, None, slice_get}
+use Rattle.std.proofs.Common.{◌≡◌, ℕ, List, [], ◌∷◌, ◌++◌, zero, suc, refl, sym, ap, ◌∙◌}
+use Rattle.std.proofs.Common.{append-nil, Some, None, slice_get}
 use Rattle.mm_text.specs.Bytes.{Token}
 use Rattle.mm_proof.specs.Tokens.{name_of}
 use Rattle.mm_proof.proofs.words.push_name.Goals as goal
@@ -10,4 +11,6 @@ missing (t ∷ names) (suc i) h = missing names i h
 
 pub returns-in-None : goal.returns-in-None
 returns-in-None c =
-    sym (append-nil c.args.to.now.items) ∙ ap (λ (t : Token). c.args.to.now.items ++ t) (sym (missing c.args.names.now c.args.no (sym c.in-None.ensures)))
+    sym (append-nil c.args.to.now.items)
+    ∙ ap (λ (t : Token). c.args.to.now.items ++ t)
+    (sym (missing c.args.names.now c.args.no (sym c.in-None.ensures)))

@@ -4,7 +4,10 @@ use Rattle.mm_render.specs.Parts.{citing_at, parts_entries, parts_weight, entrie
 use Rattle.mm_render.proofs.derivations.list_derivation.Given as goal
 
 abbrev pub invariant-loop-next : goal.invariant-loop-next
-invariant-loop-next l = listed l.at.names.now l.at.serial l.labels.items ++ parts_entries l.at.names.now l.at.serial (citing_at l.at) l.stack.items ≡ listed l.at.names.now l.at.serial l.fn.labels.items ++ entries_by l.at.serial (citing_at l.at) l.derivation
+invariant-loop-next l = listed l.at.names.now l.at.serial l.labels.items
+    ++ parts_entries l.at.names.now l.at.serial (citing_at l.at) l.stack.items
+    ≡ listed l.at.names.now l.at.serial l.fn.labels.items
+    ++ entries_by l.at.serial (citing_at l.at) l.derivation
 
 abbrev pub decreases-loop-next : goal.decreases-loop-next
 decreases-loop-next l = parts_weight l.stack.items

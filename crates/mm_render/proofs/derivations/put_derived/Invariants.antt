@@ -7,7 +7,8 @@ use Rattle.mm_render.proofs.derivations.put_derived.Given as goal
 abbrev pub invariant-loop-left : goal.invariant-loop-left
 invariant-loop-left l = record {
   within : l.left ≤ length l.parts;
-  put : PutsParts (λ names k s. all_entries_by k s (derivations (drop l.left l.parts))) (3 * all_steps (derivations (drop l.left l.parts))) l.initial.stack.items l.stack.items;
+  put : PutsParts (λ names k s. all_entries_by k s (derivations (drop l.left l.parts)))
+      (3 * all_steps (derivations (drop l.left l.parts))) l.initial.stack.items l.stack.items;
 }
 
 abbrev pub decreases-loop-left : goal.decreases-loop-left

@@ -14,6 +14,14 @@ pub returns : goal.returns
 returns c =
     let at = c.args.at.now in
     on_ok c.push_labels.result (λ text. text
-    ∙ ap (λ (ls : List Label). c.args.to.now.items ++ written (labels_in (listed at.names.now at.serial ls))) c.deref.ensures.value
-    ∙ ap (λ es. c.args.to.now.items ++ written (labels_in es)) (c.in_ok-list_derivation.ensures ∙ ap (λ (ls : List Label). listed at.names.now at.serial ls ++ entries_by at.serial (citing_at at) c.args.derivation.now) c.clear.ensures.items)
-    ∙ ap (λ ts. c.args.to.now.items ++ written ts) (labels_of_tree (derivation_tree (own_labels at.serial) (citing_at at) c.args.derivation.now))) c.push_labels.ensures
+    ∙ ap (λ (ls : List Label).
+    c.args.to.now.items ++ written (labels_in (listed at.names.now at.serial ls)))
+    c.deref.ensures.value
+    ∙ ap (λ es. c.args.to.now.items ++ written (labels_in es))
+    (c.in_ok-list_derivation.ensures
+    ∙ ap (λ (ls : List Label). listed at.names.now at.serial ls
+    ++ entries_by at.serial (citing_at at) c.args.derivation.now)
+    c.clear.ensures.items)
+    ∙ ap (λ ts. c.args.to.now.items ++ written ts) (labels_of_tree
+    (derivation_tree (own_labels at.serial) (citing_at at)
+    c.args.derivation.now))) c.push_labels.ensures

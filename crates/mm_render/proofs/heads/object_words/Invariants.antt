@@ -5,4 +5,5 @@ use Rattle.mm_render.specs.VariablesView.{plain_variables}
 use Rattle.mm_render.proofs.heads.object_words.Given as goal
 
 abbrev pub invariant-loop-variable : goal.invariant-loop-variable
-invariant-loop-variable l = AreWordsOf (object_tokens (plain_variables (take l.variable-index l.variables))) l.words.items
+invariant-loop-variable l =
+    AreWordsOf (object_tokens (plain_variables (take l.variable-index l.variables))) l.words.items

@@ -10,8 +10,18 @@ loop-no-preserved c =
     let before : List Pattern = take c.loop-no.no c.args.hypotheses.now in
     let p : Pattern = c.index-hypotheses-no.result in
     let next : take (c.loop-no.no + 1) c.args.hypotheses.now ≡ before ++ p ∷ [] =
-    take_more c.args.hypotheses.now c.loop-no.no p c.loop-no-test.true ∙ ap (λ (q : Pattern). before ++ q ∷ []) (sym c.index-hypotheses-no.is) in
-    let at : 0 + length before ≡ c.loop-no.no = (let e : length before ≡ c.loop-no.no = length-take-le c.loop-no.no c.args.hypotheses.now (omega (arith, c.loop-no-test.true)) in omega (arith, e)) in
-    more_written c.args.to.now.items c.loop-no.to.items c.push_premise.new.to.items (premise_statements c.args.names.now c.args.serial 0 before) (premise_statements c.args.names.now c.args.serial c.loop-no.no (p ∷ [])) _ c.loop-no.invariant c.in_ok-push_premise.ensures
-    (ap (premise_statements c.args.names.now c.args.serial 0) next ∙ premise_statements-push c.args.names.now c.args.serial 0 before p
-    ∙ ap (λ (i : ℕ). premise_statements c.args.names.now c.args.serial 0 before ++ premise_statements c.args.names.now c.args.serial i (p ∷ [])) at)
+    take_more c.args.hypotheses.now c.loop-no.no p c.loop-no-test.true
+    ∙ ap (λ (q : Pattern). before ++ q ∷ []) (sym c.index-hypotheses-no.is) in
+    let at : 0 + length before ≡ c.loop-no.no =
+    (let e : length before ≡ c.loop-no.no =
+    length-take-le c.loop-no.no c.args.hypotheses.now
+    (omega (arith, c.loop-no-test.true)) in
+    omega (arith, e)) in
+    more_written c.args.to.now.items c.loop-no.to.items c.push_premise.new.to.items
+    (premise_statements c.args.names.now c.args.serial 0 before)
+    (premise_statements c.args.names.now c.args.serial c.loop-no.no (p ∷ [])) _
+    c.loop-no.invariant c.in_ok-push_premise.ensures
+    (ap (premise_statements c.args.names.now c.args.serial 0) next
+    ∙ premise_statements-push c.args.names.now c.args.serial 0 before p
+    ∙ ap (λ (i : ℕ). premise_statements c.args.names.now c.args.serial 0 before
+    ++ premise_statements c.args.names.now c.args.serial i (p ∷ [])) at)

@@ -9,6 +9,10 @@ use Rattle.mm_render.proofs.heads.push_variables.Goals as goal
 pub loop-variable-preserved : goal.loop-variable-preserved
 loop-variable-preserved c =
     let before : List Variable = take c.loop-variable.variable-index c.args.variables.now in
-    more_written c.args.to.now.items c.loop-variable.to.items c.push_variable.new.to.items (variable_statements c.args.serial (plain_variables before)) _ _ c.loop-variable.invariant c.in_ok-push_variable.ensures
-    (ap (λ (us : List Variable). variable_statements c.args.serial (plain_variables us)) (take_more c.args.variables.now c.loop-variable.variable-index _ c.loop-variable-test.true)
-    ∙ ap (variable_statements c.args.serial) (plain_variables-push before _) ∙ variable_statements-push c.args.serial (plain_variables before) _)
+    more_written c.args.to.now.items c.loop-variable.to.items c.push_variable.new.to.items
+    (variable_statements c.args.serial (plain_variables before)) _ _ c.loop-variable.invariant
+    c.in_ok-push_variable.ensures
+    (ap (λ (us : List Variable). variable_statements c.args.serial (plain_variables us))
+    (take_more c.args.variables.now c.loop-variable.variable-index _ c.loop-variable-test.true)
+    ∙ ap (variable_statements c.args.serial) (plain_variables-push before _)
+    ∙ variable_statements-push c.args.serial (plain_variables before) _)

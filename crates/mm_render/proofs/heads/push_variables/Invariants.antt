@@ -5,4 +5,7 @@ use Rattle.mm_database.specs.StatementTexts.{written_statements}
 use Rattle.mm_render.proofs.heads.push_variables.Given as goal
 
 abbrev pub invariant-loop-variable : goal.invariant-loop-variable
-invariant-loop-variable l = l.to.items ≡ l.initial.to.items ++ written_statements (variable_statements l.serial (plain_variables (take l.variable-index l.variables)))
+invariant-loop-variable l = l.to.items
+    ≡ l.initial.to.items
+    ++ written_statements
+    (variable_statements l.serial (plain_variables (take l.variable-index l.variables)))

@@ -6,4 +6,6 @@ use Rattle.mm_claims.specs.OpenVariables.{variables_for}
 use Rattle.mm_render.proofs.needed.add_instances.Given as goal
 
 abbrev pub invariant-loop-instance : goal.invariant-loop-instance
-invariant-loop-instance l = listed l.list ≡ added (listed l.fn.list) (flat_map variables_for (instances_of (take l.instance-index l.instances)))
+invariant-loop-instance l = listed l.list
+    ≡ added (listed l.fn.list)
+    (flat_map variables_for (instances_of (take l.instance-index l.instances)))

@@ -7,4 +7,6 @@ use Rattle.mm_render.specs.VariablesView.{plain_variables}
 use Rattle.mm_render.proofs.needed.add_values.Given as goal
 
 abbrev pub invariant-loop-variable : goal.invariant-loop-variable
-invariant-loop-variable l = listed l.list ≡ added (listed l.fn.list) (flat_map (variables_at (numbers_of l.new) l.patterns) (plain_variables (take l.variable-index l.fn.variables)))
+invariant-loop-variable l = listed l.list
+    ≡ added (listed l.fn.list) (flat_map (variables_at (numbers_of l.new) l.patterns)
+    (plain_variables (take l.variable-index l.fn.variables)))

@@ -8,7 +8,8 @@ use Rattle.mm_render.specs.VariablesView.{plain_variables}
 use Rattle.mm_render.proofs.needed.needed_variables.Given as goal
 
 abbrev pub invariant-loop-next : goal.invariant-loop-next
-invariant-loop-next l = added (listed l.list) (stack_needs (found_at l.at) l.stack.items) ≡ added (plain_variables l.variables) (variables_of (found_at l.at) l.derivation)
+invariant-loop-next l = added (listed l.list) (stack_needs (found_at l.at) l.stack.items)
+    ≡ added (plain_variables l.variables) (variables_of (found_at l.at) l.derivation)
 
 abbrev pub decreases-loop-next : goal.decreases-loop-next
 decreases-loop-next l = stack_steps l.stack.items

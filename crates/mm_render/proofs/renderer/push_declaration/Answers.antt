@@ -14,7 +14,14 @@ use Rattle.mm_render.proofs.renderer.push_declaration.Goals as goal
 pub returns : goal.returns
 returns c =
     let name : Token = name_of c.args.names.now c.args.no in
-    let typed : c.typecode_of-typecode.result.now ≡ typecode_of name = c.typecode_of-typecode.ensures ∙ ap (λ (t : Option Token). typecode_of (unwrap_or t [])) c.token.ensures ∙ ap typecode_of (unwrap-get c.args.names.now c.args.no) in
+    let typed : c.typecode_of-typecode.result.now ≡ typecode_of name =
+    c.typecode_of-typecode.ensures
+    ∙ ap (λ (t : Option Token). typecode_of (unwrap_or t [])) c.token.ensures
+    ∙ ap typecode_of (unwrap-get c.args.names.now c.args.no) in
     on_ok c.push_words.result (λ h. h
-    ∙ ap (λ (t : Token). c.args.to.now.items ++ written (plain_tokens [] declares_constants (name ∷ []) ++ plain_tokens (name_label c.args.no ∷ []) asserts (t ∷ (name ∷ [])))) typed
-    ∙ ap (λ (t : List ℕ). c.args.to.now.items ++ t) (two_statements (plain_tokens [] declares_constants (name ∷ [])) (plain_tokens (name_label c.args.no ∷ []) asserts (typecode_of name ∷ (name ∷ []))))) c.push_words.ensures
+    ∙ ap (λ (t : Token). c.args.to.now.items
+    ++ written (plain_tokens [] declares_constants (name ∷ [])
+    ++ plain_tokens (name_label c.args.no ∷ []) asserts (t ∷ (name ∷ [])))) typed
+    ∙ ap (λ (t : List ℕ). c.args.to.now.items ++ t) (two_statements
+    (plain_tokens [] declares_constants (name ∷ [])) (plain_tokens (name_label c.args.no ∷ [])
+    asserts (typecode_of name ∷ (name ∷ []))))) c.push_words.ensures

@@ -13,5 +13,7 @@ loop-at-init c = record {
 pub returns-then-before : goal.returns-then-before
 returns-then-before c =
     sym (sym c.loop-at.invariant.same
-    ∙ digit-pass c.args.letters.now c.loop-at.at c.loop-at.before c.in-Some.digit (omega arith) (sym c.leading_digit.ensures ∙ c.in-Some.is)
-    ∙ number-large (drop (c.loop-at.at + 1) c.args.letters.now) (5 * c.loop-at.before + c.in-Some.digit) (omega arith))
+    ∙ digit-pass c.args.letters.now c.loop-at.at c.loop-at.before c.in-Some.digit (omega arith)
+    (sym c.leading_digit.ensures ∙ c.in-Some.is)
+    ∙ number-large (drop (c.loop-at.at + 1) c.args.letters.now)
+    (5 * c.loop-at.before + c.in-Some.digit) (omega arith))

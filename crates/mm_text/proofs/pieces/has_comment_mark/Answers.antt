@@ -6,5 +6,7 @@ use Rattle.mm_text.proofs.pieces.has_comment_mark.Goals as goal
 pub loop-at-preserved : goal.loop-at-preserved
 loop-at-preserved c = record {
   within = omega arith;
-  same = mark-pass c.args.token.now c.loop-at.at (sym (ap mark_ahead c.behind.ensures) ∙ sym c.begins_with_mark.ensures ∙ c.if-begins_with_mark.false) ∙ c.loop-at.invariant.same;
+  same = mark-pass c.args.token.now c.loop-at.at (sym (ap mark_ahead c.behind.ensures)
+      ∙ sym c.begins_with_mark.ensures ∙ c.if-begins_with_mark.false)
+      ∙ c.loop-at.invariant.same;
 }

@@ -5,4 +5,5 @@ use Rattle.mm_verify.proofs.filling.is_filled.Given as goal
 
 abbrev pub invariant-loop-part : goal.invariant-loop-part
 invariant-loop-part l =
-    same_numbers l.rest (filled (drop l.base l.stack) (drop l.part-index l.parts)) ≡ same_numbers l.fn.entry (filled (drop l.base l.stack) l.parts)
+    same_numbers l.rest (filled (drop l.base l.stack) (drop l.part-index l.parts))
+    ≡ same_numbers l.fn.entry (filled (drop l.base l.stack) l.parts)

@@ -5,4 +5,6 @@ use Rattle.mm_verify.proofs.machine.check_steps.Given as goal
 
 abbrev pub invariant-loop-step : goal.invariant-loop-step
 invariant-loop-step g l =
-    numbered_steps (g.P.Place.place l.place) (map step_of (drop l.step-index l.steps)) (saving_of l.machine) ≡ numbered_steps (g.P.Place.place l.place) (map step_of l.steps) (saving [] [])
+    numbered_steps (g.P.Place.place l.place) (map step_of (drop l.step-index l.steps))
+    (saving_of l.machine)
+    ≡ numbered_steps (g.P.Place.place l.place) (map step_of l.steps) (saving [] [])

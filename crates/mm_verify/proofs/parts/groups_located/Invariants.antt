@@ -1,5 +1,5 @@
 use Rattle.std.specs.Prelude.{◌≡◌, map, flat_map, take}
-use Rattle.mm_frame.specs.FramesHeld.{groups_of}
+use Rattle.mm_frame.specs.PlainFrames.{groups_of}
 use Rattle.mm_verify.specs.Places.{symbols_in, parts_of}
 use Rattle.mm_verify.specs.Locating.{AreLocated}
 use Rattle.mm_verify.proofs.parts.groups_located.Given as goal

@@ -1,8 +1,8 @@
 use Rattle.std.proofs.Common.{◌∙◌, ap, sym, map, List, ℕ}
 use Rattle.std.specs.Prelude.{option_map}
 use Rattle.mm_text.specs.Reader.{words_of}
-use Rattle.mm_frame.specs.Held.{held}
-use Rattle.mm_frame.specs.FramesHeld.{hypotheses_held}
+use Rattle.mm_frame.specs.ScopeState.{scope_state}
+use Rattle.mm_frame.specs.PlainFrames.{plain_hypotheses}
 use Rattle.mm_frame.specs.StandingLaws.{place_of}
 use Rattle.mm_frame.specs.declared.labels.Mandatory.{Mandatory}
 use Rattle.mm_verify.specs.declared.machine.Step.{Step}
@@ -15,10 +15,19 @@ pub returns-in_ok-check_steps-in-Some : goal.returns-in_ok-check_steps-in-Some
 returns-in_ok-check_steps-in-Some c =
     let frame = c.args.theorem.now.frame in
     let words = words_of c.args.bytes.now c.args.theorem.now.proof.now in
-    let known = held c.new-known.result.scopes.now in
-    let named = ap (λ (m : Mandatory). steps_named known (hypotheses_held m.hyps.items) words) (sym c.deref.ensures) ∙ sym c.in_ok-read_proof.ensures ∙ ap (option_map steps_in) c.in-Some.is in
+    let known = scope_state c.new-known.result.scopes.now in
+    let named =
+    ap (λ (m : Mandatory). steps_named known (plain_hypotheses m.hyps.items) words)
+    (sym c.deref.ensures) ∙ sym c.in_ok-read_proof.ensures
+    ∙ ap (option_map steps_in) c.in-Some.is in
     let fault =
     c.in_ok-check_steps-in-Some.ensures
-    ∙ ap (λ (ss : List Step). steps_fault (place_of known) (map step_of ss) c.deref-in-Some-2.result.now) c.deref-in-Some.ensures.value
-    ∙ ap (λ (ns : List ℕ). steps_fault (place_of known) (steps_in c.in-Some.steps) ns) c.deref-in-Some-2.ensures.value in
-    kind-is (held c.args.scopes.now) known frame.statement.items (λ h. steps_named h (hypotheses_held frame.mandatory.value.hyps.items) words) (steps_in c.in-Some.steps) c.in_ok-check_steps-in-Some.field-0 c.kind.result (ap held c.new-known.ensures) named fault c.kind.ensures
+    ∙ ap (λ (ss : List Step).
+    steps_fault (place_of known) (map step_of ss) c.deref-in-Some-2.result.now)
+    c.deref-in-Some.ensures.value
+    ∙ ap (λ (ns : List ℕ). steps_fault (place_of known) (steps_in c.in-Some.steps) ns)
+    c.deref-in-Some-2.ensures.value in
+    kind-is (scope_state c.args.scopes.now) known frame.statement.items
+    (λ h. steps_named h (plain_hypotheses frame.mandatory.value.hyps.items) words)
+    (steps_in c.in-Some.steps) c.in_ok-check_steps-in-Some.field-0 c.kind.result
+    (ap scope_state c.new-known.ensures) named fault c.kind.ensures

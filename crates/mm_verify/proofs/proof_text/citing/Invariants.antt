@@ -4,4 +4,5 @@ use Rattle.mm_verify.specs.ProofSteps.{citing}
 use Rattle.mm_verify.proofs.proof_text.citing.Given as goal
 
 abbrev pub invariant-loop-citation : goal.invariant-loop-citation
-invariant-loop-citation l = map step_of l.steps.items ≡ citing (map citation_of (take l.citation-index l.citations))
+invariant-loop-citation l =
+    map step_of l.steps.items ≡ citing (map citation_of (take l.citation-index l.citations))

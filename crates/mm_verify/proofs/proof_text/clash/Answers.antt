@@ -13,7 +13,9 @@ returns-then-lists_own c =
     let words = words_of c.args.bytes.now c.args.labels.now in
     let hyps = c.args.mandatory.now.hyps.items in
     let has : list_any (has_token (map label_in hyps)) words ≡ true =
-    sym (c.lists_own.ensures ∙ ap (λ (hs : List Hyp). list_any (has_token (map label_in hs)) words) c.deref-in-Some.ensures.value) ∙ c.if-lists_own.true in
+    sym (c.lists_own.ensures ∙ ap (λ (hs : List Hyp).
+    list_any (has_token (map label_in hs)) words) c.deref-in-Some.ensures.value)
+    ∙ c.if-lists_own.true in
     clashes-own hyps words has
 
 pub returns-else-lists_own : goal.returns-else-lists_own
@@ -21,5 +23,8 @@ returns-else-lists_own c =
     let words = words_of c.args.bytes.now c.args.labels.now in
     let hyps = c.args.mandatory.now.hyps.items in
     let none : list_any (has_token (map label_in hyps)) words ≡ false =
-    sym (c.lists_own.ensures ∙ ap (λ (hs : List Hyp). list_any (has_token (map label_in hs)) words) c.deref-in-Some.ensures.value) ∙ c.if-lists_own.false in
-    subst (λ (b : Bool). IfOk c.has_clash-in-Some.result (λ r. r ≡ b)) (clashes-others hyps words none) c.has_clash-in-Some.ensures
+    sym (c.lists_own.ensures ∙ ap (λ (hs : List Hyp).
+    list_any (has_token (map label_in hs)) words) c.deref-in-Some.ensures.value)
+    ∙ c.if-lists_own.false in
+    subst (λ (b : Bool). IfOk c.has_clash-in-Some.result (λ r. r ≡ b))
+    (clashes-others hyps words none) c.has_clash-in-Some.ensures

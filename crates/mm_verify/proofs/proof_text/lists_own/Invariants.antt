@@ -6,4 +6,6 @@ use Rattle.mm_frame.specs.Labels.{label_in}
 use Rattle.mm_verify.proofs.proof_text.lists_own.Given as goal
 
 abbrev pub invariant-loop-label : goal.invariant-loop-label
-invariant-loop-label l = list_any (has_token (map label_in l.hyps)) (words_of l.bytes (take l.label-index l.labels)) ≡ false
+invariant-loop-label l =
+    list_any (has_token (map label_in l.hyps)) (words_of l.bytes (take l.label-index l.labels))
+    ≡ false

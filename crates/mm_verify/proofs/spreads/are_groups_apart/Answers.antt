@@ -6,7 +6,13 @@ pub loop-group-init : goal.loop-group-init
 loop-group-init g c =
     let p = g.P.Place.place c.args.place.now in
     let entries = drop c.args.base c.args.stack.now in
-    let size : length entries ≡ c.saturating_sub.result = omega (arith, length-drop c.args.base c.args.stack.now, c.saturating_sub.ensures, c.len.ensures) in
+    let size : length entries ≡ c.saturating_sub.result =
+    omega (
+      arith,
+      length-drop c.args.base c.args.stack.now,
+      c.saturating_sub.ensures,
+      c.len.ensures,
+    ) in
     record {
       known = c.in_ok-clear.ensures p entries size;
       all = refl;

@@ -8,5 +8,6 @@ use Rattle.mm_verify.proofs.spreads.are_groups_apart.Given as goal
 abbrev pub invariant-loop-group : goal.invariant-loop-group
 invariant-loop-group g l = record {
   known : AreKnown (g.P.Place.place l.place) (drop l.base l.stack) l.spreads;
-  all : list_all (λ i. is_group_apart (g.P.Place.place l.place) (drop l.base l.stack) (parts_of i)) (take l.group-index l.groups) ≡ true;
+  all : list_all (λ i. is_group_apart (g.P.Place.place l.place) (drop l.base l.stack) (parts_of i))
+      (take l.group-index l.groups) ≡ true;
 }

@@ -15,7 +15,8 @@ returns-in_ok-note g c entries known at there =
     ≡ texts_apart (numbers_apart p) (text_at entries c.args.i) (text_at entries c.args.j) =
     c.are_variables_apart-are_apart.ensures
     ∙ ap (λ (vs : List ℕ). are_variables_apart p vs c.list-2.result.now) c.list.ensures
-    ∙ ap (λ (ws : List ℕ). are_variables_apart p (slice_index_or s.lists c.args.x []) ws) c.list-2.ensures
+    ∙ ap (λ (ws : List ℕ). are_variables_apart p (slice_index_or s.lists c.args.x []) ws)
+    c.list-2.ensures
     ∙ lists-apart p entries s c.args.i c.args.j c.args.x c.args.y known at there in
     record {
       known = c.in_ok-note.ensures p entries known (sym is ∙ c.if-are_apart.true);
@@ -30,6 +31,7 @@ returns-else-are_apart g c entries known at there =
       known = known;
       is = c.are_variables_apart-are_apart.ensures
           ∙ ap (λ (vs : List ℕ). are_variables_apart p vs c.list-2.result.now) c.list.ensures
-          ∙ ap (λ (ws : List ℕ). are_variables_apart p (slice_index_or s.lists c.args.x []) ws) c.list-2.ensures
+          ∙ ap (λ (ws : List ℕ). are_variables_apart p (slice_index_or s.lists c.args.x []) ws)
+          c.list-2.ensures
           ∙ lists-apart p entries s c.args.i c.args.j c.args.x c.args.y known at there;
     }

@@ -10,10 +10,15 @@ returns-then-not-branch-clause-apart g c =
     let p = g.P.Place.place c.args.place.now in
     let entries = drop c.args.base c.args.stack.now in
     let group = c.args.group.now in
-    let row : list_all (are_parts_apart p entries (get_or group c.loop-i.i (record { symbol = 0; place = 0 }))) (drop (c.loop-i.i + 1) group) ≡ false =
-    ap (list_all (are_parts_apart p entries (get_or group c.loop-i.i (record { symbol = 0; place = 0 })))) (sym (take_rest group (c.loop-i.i + 1)))
+    let row : list_all
+    (are_parts_apart p entries (get_or group c.loop-i.i (record { symbol = 0; place = 0 })))
+    (drop (c.loop-i.i + 1) group) ≡ false =
+    ap (list_all (are_parts_apart p entries
+    (get_or group c.loop-i.i (record { symbol = 0; place = 0 }))))
+    (sym (take_rest group (c.loop-i.i + 1)))
     ∙ sym c.in_ok-is_part_apart.ensures.apart ∙ search rules in
-    pairs-end (are_parts_apart p entries) group c.loop-i.i (record { symbol = 0; place = 0 }) c.loop-i-test.true row c.loop-i.invariant.pairs
+    pairs-end (are_parts_apart p entries) group c.loop-i.i (record { symbol = 0; place = 0 })
+    c.loop-i-test.true row c.loop-i.invariant.pairs
     ∙ sym (group-pairs p (g.met.P.Place.turned c.args.place.now) entries group)
 
 pub returns-clause-apart : goal.returns-clause-apart
@@ -21,5 +26,6 @@ returns-clause-apart g c =
     let p = g.P.Place.place c.args.place.now in
     let entries = drop c.args.base c.args.stack.now in
     let group = c.args.group.now in
-    pairs-all (are_parts_apart p entries) group c.loop-i.i (drop_all _ group c.loop-i-test.false) c.loop-i.invariant.pairs
+    pairs-all (are_parts_apart p entries) group c.loop-i.i (drop_all _ group c.loop-i-test.false)
+    c.loop-i.invariant.pairs
     ∙ sym (group-pairs p (g.met.P.Place.turned c.args.place.now) entries group)

@@ -6,5 +6,7 @@ use Rattle.mm_verify.proofs.spreads.are_pairs_apart.Given as goal
 abbrev pub invariant-loop-i : goal.invariant-loop-i
 invariant-loop-i g l = record {
   known : AreKnown (g.P.Place.place l.place) (drop l.base l.stack) l.spreads;
-  pairs : each_pair (are_parts_apart (g.P.Place.place l.place) (drop l.base l.stack)) (drop l.i l.group) ≡ each_pair (are_parts_apart (g.P.Place.place l.place) (drop l.base l.stack)) l.group;
+  pairs : each_pair (are_parts_apart (g.P.Place.place l.place) (drop l.base l.stack))
+      (drop l.i l.group)
+      ≡ each_pair (are_parts_apart (g.P.Place.place l.place) (drop l.base l.stack)) l.group;
 }

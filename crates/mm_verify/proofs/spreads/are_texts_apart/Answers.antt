@@ -11,6 +11,7 @@ returns-else-are_long-clause-apart g c =
     let s = c.find-2.new.self in
     c.are_variables_apart.ensures
     ∙ ap (λ (vs : List ℕ). are_variables_apart p vs c.list-else-are_long.result.now) c.list.ensures
-    ∙ ap (λ (ws : List ℕ). are_variables_apart p (slice_index_or s.lists c.in_ok-x.x []) ws) c.list-else-are_long.ensures
+    ∙ ap (λ (ws : List ℕ). are_variables_apart p (slice_index_or s.lists c.in_ok-x.x []) ws)
+    c.list-else-are_long.ensures
     ∙ lists-apart p entries s c.args.i c.args.j c.in_ok-x.x c.in_ok-y.y c.in_ok-y.ensures.known
     (c.in_ok-y.ensures.keeps c.args.i c.in_ok-x.x c.in_ok-x.ensures.found) c.in_ok-y.ensures.found

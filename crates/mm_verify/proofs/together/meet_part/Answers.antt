@@ -9,7 +9,8 @@ use Rattle.mm_verify.proofs.together.meet_part.Goals as goal
 pub returns-in-None-clause-met : goal.returns-in-None-clause-met
 returns-in-None-clause-met g c = λ yes.
     let none : place_in c.args.part.now ≡ None = search rules in
-    meets-nothing (g.P.Place.place c.args.place.now) (drop c.args.base c.args.stack.now) c.args.met.now (place_in c.args.part.now) c.requires.seen none
+    meets-nothing (g.P.Place.place c.args.place.now) (drop c.args.base c.args.stack.now)
+    c.args.met.now (place_in c.args.part.now) c.requires.seen none
 
 pub returns-in-Some-clause-met : goal.returns-in-Some-clause-met
 returns-in-Some-clause-met g c =
@@ -17,5 +18,7 @@ returns-in-Some-clause-met g c =
     let entries = drop c.args.base c.args.stack.now in
     let some : place_in c.args.part.now ≡ Some c.in-Some.i = search rules in
     IfOk-weaker c.meet_text.result _ _
-    (λ r meets yes. subst (λ (o : Option ℕ). MeetsText p (text_for entries o) c.args.met.now c.meet_text.new.met) (sym some) (meets yes))
+    (λ r meets yes. subst
+    (λ (o : Option ℕ). MeetsText p (text_for entries o) c.args.met.now c.meet_text.new.met)
+    (sym some) (meets yes))
     c.meet_text.ensures.met

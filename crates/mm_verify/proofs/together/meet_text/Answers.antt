@@ -13,6 +13,7 @@ returns-clause-met g c =
     IfOk-weaker c.meet_all.result _ _
     (λ r meets yes. meets-text p entries c.args.met.now c.meet_all.new.self text c.list.result.now
     (subst (λ (vs : List ℕ). HasVariables p text vs) (sym c.list.ensures)
-    (c.in_ok-number.ensures.known.variables c.args.i c.in_ok-number.number c.in_ok-number.ensures.found))
+    (c.in_ok-number.ensures.known.variables c.args.i c.in_ok-number.number
+    c.in_ok-number.ensures.found))
     (meets yes))
     c.meet_all.ensures

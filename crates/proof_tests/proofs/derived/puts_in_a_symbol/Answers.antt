@@ -4,10 +4,14 @@ use Rattle.ml_kernel.specs.Theorems.{conclusions}
 use Rattle.ml_derived.specs.Instances.{HasInstance}
 use Rattle.proof_tests.proofs.derived.puts_in_a_symbol.Goals as goal
 
-has : (sentence : Pattern) (facts : List Pattern) → sentence ≡ all 4 9 (imp (var 4) (next (var 4))) → facts ≡ fun (constant 0) 9 ∷ [] → HasInstance sentence facts
+has : (sentence : Pattern) (facts : List Pattern) → sentence ≡ all 4 9 (imp (var 4) (next (var 4)))
+    → facts ≡ fun (constant 0) 9 ∷ [] → HasInstance sentence facts
 has sentence facts h i =
-    subst (HasInstance sentence) (sym i)
-    (imp (constant 0) (next (constant 0)), (4, (9, (constant 0, (imp (var 4) (next (var 4)), (h, (refl, (tt, refl))))))))
+    subst (HasInstance sentence) (sym i) (
+      imp (constant 0) (next (constant 0)),
+      (4, (9, (constant 0, (imp (var 4) (next (var 4)), (h, (refl, (tt, refl))))))),
+    )
 
 pub instance-requires : goal.instance-requires
-instance-requires g c = has c.in_ok-sentence.sentence.conclusion _ c.in_ok-sentence.ensures (search rules)
+instance-requires g c =
+    has c.in_ok-sentence.sentence.conclusion _ c.in_ok-sentence.ensures (search rules)

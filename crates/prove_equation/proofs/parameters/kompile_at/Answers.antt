@@ -18,7 +18,8 @@ use Rattle.prove_equation.specs.Conditions.{listed}
 use Rattle.prove_equation.specs.Parameters.{AreMemberships, CanMeet}
 use Rattle.prove_equation.proofs.FillingLaws.{all_bound}
 use Rattle.prove_equation.proofs.TurningLaws.{arguments_sorted}
-use Rattle.prove_equation.proofs.MembershipLaws.{can_meet, can_meet_grown, memberships_grown, met_terms}
+use Rattle.prove_equation.proofs.MembershipLaws.{can_meet, can_meet_grown, memberships_grown}
+use Rattle.prove_equation.proofs.MembershipLaws.{met_terms}
 use Rattle.prove_equation.proofs.KompileLaws.{IsMet, met_usable, met_says, met_stays}
 use Rattle.prove_equation.proofs.parameters.kompile_at.Goals as goal
 
@@ -26,130 +27,338 @@ pub term_elements-requires-clause-well_sorted : goal.term_elements-requires-clau
 term_elements-requires-clause-well_sorted c = c.requires.well_sorted
 
 pub term_elements-requires-clause-sorted : goal.term_elements-requires-clause-sorted
-term_elements-requires-clause-sorted c = met_terms c.args.cx.now c.args.equation.now.fun.0 (function_equation c.args.equation.now) c.args.lemma.now c.args.subst.now c.args.args.now c.args.condition.now (can_meet c.args.cx.now c.args.equation.now.fun.0 (function_equation c.args.equation.now) c.args.lemma.now c.args.subst.now c.args.args.now c.args.condition.now c.requires.well_sorted c.requires.image c.requires.own c.requires.kompile c.requires.lemma c.requires.matches c.requires.bound c.requires.condition)
+term_elements-requires-clause-sorted c =
+    met_terms c.args.cx.now c.args.equation.now.fun.0 (function_equation c.args.equation.now)
+    c.args.lemma.now c.args.subst.now c.args.args.now c.args.condition.now
+    (can_meet c.args.cx.now c.args.equation.now.fun.0 (function_equation c.args.equation.now)
+    c.args.lemma.now c.args.subst.now c.args.args.now c.args.condition.now
+    c.requires.well_sorted c.requires.image c.requires.own c.requires.kompile
+    c.requires.lemma c.requires.matches c.requires.bound c.requires.condition)
 
 pub memberships-requires-clause-signature : goal.memberships-requires-clause-signature
-memberships-requires-clause-signature c = (can_meet_grown c.args.cx.now c.term_elements.new.cx c.args.equation.now.fun.0 (function_equation c.args.equation.now) c.args.lemma.now c.args.subst.now c.args.args.now c.args.condition.now c.term_elements.ensures.grown (can_meet c.args.cx.now c.args.equation.now.fun.0 (function_equation c.args.equation.now) c.args.lemma.now c.args.subst.now c.args.args.now c.args.condition.now c.requires.well_sorted c.requires.image c.requires.own c.requires.kompile c.requires.lemma c.requires.matches c.requires.bound c.requires.condition)).well_sorted.signature
+memberships-requires-clause-signature c =
+    (can_meet_grown c.args.cx.now c.term_elements.new.cx c.args.equation.now.fun.0
+    (function_equation c.args.equation.now) c.args.lemma.now c.args.subst.now c.args.args.now
+    c.args.condition.now c.term_elements.ensures.grown
+    (can_meet c.args.cx.now c.args.equation.now.fun.0 (function_equation c.args.equation.now)
+    c.args.lemma.now c.args.subst.now c.args.args.now c.args.condition.now
+    c.requires.well_sorted c.requires.image c.requires.own c.requires.kompile
+    c.requires.lemma c.requires.matches c.requires.bound
+    c.requires.condition)).well_sorted.signature
 
 pub memberships-requires-clause-sorted : goal.memberships-requires-clause-sorted
 memberships-requires-clause-sorted c =
-    let m : CanMeet c.term_elements.new.cx c.args.equation.now.fun.0 (function_equation c.args.equation.now) c.args.lemma.now c.args.subst.now c.args.args.now c.args.condition.now = can_meet_grown c.args.cx.now c.term_elements.new.cx c.args.equation.now.fun.0 (function_equation c.args.equation.now) c.args.lemma.now c.args.subst.now c.args.args.now c.args.condition.now c.term_elements.ensures.grown (can_meet c.args.cx.now c.args.equation.now.fun.0 (function_equation c.args.equation.now) c.args.lemma.now c.args.subst.now c.args.args.now c.args.condition.now c.requires.well_sorted c.requires.image c.requires.own c.requires.kompile c.requires.lemma c.requires.matches c.requires.bound c.requires.condition) in
-    let args : (refs : List SortRef) × HaveSorts c.term_elements.new.cx.program.sig (function_equation c.args.equation.now).variables [] (function_equation c.args.equation.now).arguments refs =
-    arguments_sorted c.term_elements.new.cx c.args.equation.now.fun.0 (function_equation c.args.equation.now) m.well_sorted m.own in (
+    let m : CanMeet c.term_elements.new.cx c.args.equation.now.fun.0
+    (function_equation c.args.equation.now) c.args.lemma.now c.args.subst.now
+    c.args.args.now c.args.condition.now =
+    can_meet_grown c.args.cx.now c.term_elements.new.cx c.args.equation.now.fun.0
+    (function_equation c.args.equation.now) c.args.lemma.now c.args.subst.now
+    c.args.args.now c.args.condition.now c.term_elements.ensures.grown
+    (can_meet c.args.cx.now c.args.equation.now.fun.0
+    (function_equation c.args.equation.now) c.args.lemma.now c.args.subst.now
+    c.args.args.now c.args.condition.now c.requires.well_sorted c.requires.image
+    c.requires.own c.requires.kompile c.requires.lemma c.requires.matches
+    c.requires.bound c.requires.condition) in
+    let args : (refs : List SortRef) × HaveSorts c.term_elements.new.cx.program.sig
+    (function_equation c.args.equation.now).variables []
+    (function_equation c.args.equation.now).arguments refs =
+    arguments_sorted c.term_elements.new.cx c.args.equation.now.fun.0
+    (function_equation c.args.equation.now) m.well_sorted m.own in (
       (function_equation c.args.equation.now).variables,
       args.0,
-      subst (λ (ps : List RulePat). HaveSorts c.term_elements.new.cx.program.sig (function_equation c.args.equation.now).variables [] (plain_patterns ps) args.0) (sym c.deref.ensures.value) args.1,
+      subst (λ (ps : List RulePat). HaveSorts c.term_elements.new.cx.program.sig
+          (function_equation c.args.equation.now).variables [] (plain_patterns ps) args.0)
+          (sym c.deref.ensures.value) args.1,
       m.respects,
     )
 
 pub memberships-requires-clause-makes : goal.memberships-requires-clause-makes
 memberships-requires-clause-makes c =
-    ap (λ (ps : List RulePat). instances_of c.args.subst.now (plain_patterns ps)) c.deref.ensures.value ∙ c.requires.matches.makes
+    ap (λ (ps : List RulePat). instances_of c.args.subst.now (plain_patterns ps))
+    c.deref.ensures.value ∙ c.requires.matches.makes
 
 pub memberships-requires-clause-facts : goal.memberships-requires-clause-facts
 memberships-requires-clause-facts c =
-    subst (λ (ts : List Theorem). AllZip (IsElementOf c.term_elements.new.cx) c.args.args.now ts) (sym c.deref-2.ensures.value) c.in_ok-first.ensures.facts
+    subst (λ (ts : List Theorem). AllZip (IsElementOf c.term_elements.new.cx) c.args.args.now ts)
+    (sym c.deref-2.ensures.value) c.in_ok-first.ensures.facts
 
 pub elements-requires-clause-well_sorted : goal.elements-requires-clause-well_sorted
-elements-requires-clause-well_sorted c = (can_meet_grown c.args.cx.now c.memberships.new.cx c.args.equation.now.fun.0 (function_equation c.args.equation.now) c.args.lemma.now c.args.subst.now c.args.args.now c.args.condition.now (grown_twice c.args.cx.now c.term_elements.new.cx c.memberships.new.cx c.term_elements.ensures.grown c.memberships.ensures.grown) (can_meet c.args.cx.now c.args.equation.now.fun.0 (function_equation c.args.equation.now) c.args.lemma.now c.args.subst.now c.args.args.now c.args.condition.now c.requires.well_sorted c.requires.image c.requires.own c.requires.kompile c.requires.lemma c.requires.matches c.requires.bound c.requires.condition)).well_sorted
+elements-requires-clause-well_sorted c =
+    (can_meet_grown c.args.cx.now c.memberships.new.cx c.args.equation.now.fun.0
+    (function_equation c.args.equation.now) c.args.lemma.now c.args.subst.now c.args.args.now
+    c.args.condition.now (grown_twice c.args.cx.now c.term_elements.new.cx c.memberships.new.cx
+    c.term_elements.ensures.grown c.memberships.ensures.grown)
+    (can_meet c.args.cx.now c.args.equation.now.fun.0 (function_equation c.args.equation.now)
+    c.args.lemma.now c.args.subst.now c.args.args.now c.args.condition.now
+    c.requires.well_sorted c.requires.image c.requires.own c.requires.kompile
+    c.requires.lemma c.requires.matches c.requires.bound c.requires.condition)).well_sorted
 
 pub elements-requires-clause-few : goal.elements-requires-clause-few
 elements-requires-clause-few c = omega (arith, c.requires.matches.binds.room, c.requires.image.few)
 
 pub elements-requires-clause-bound : goal.elements-requires-clause-bound
 elements-requires-clause-bound c =
-    let m : CanMeet c.memberships.new.cx c.args.equation.now.fun.0 (function_equation c.args.equation.now) c.args.lemma.now c.args.subst.now c.args.args.now c.args.condition.now = can_meet_grown c.args.cx.now c.memberships.new.cx c.args.equation.now.fun.0 (function_equation c.args.equation.now) c.args.lemma.now c.args.subst.now c.args.args.now c.args.condition.now (grown_twice c.args.cx.now c.term_elements.new.cx c.memberships.new.cx c.term_elements.ensures.grown c.memberships.ensures.grown) (can_meet c.args.cx.now c.args.equation.now.fun.0 (function_equation c.args.equation.now) c.args.lemma.now c.args.subst.now c.args.args.now c.args.condition.now c.requires.well_sorted c.requires.image c.requires.own c.requires.kompile c.requires.lemma c.requires.matches c.requires.bound c.requires.condition) in
-    all_bound c.memberships.new.cx.program.sig (function_equation c.args.equation.now).variables c.args.subst.now m.respects m.room m.bound
+    let m : CanMeet c.memberships.new.cx c.args.equation.now.fun.0
+    (function_equation c.args.equation.now) c.args.lemma.now c.args.subst.now
+    c.args.args.now c.args.condition.now =
+    can_meet_grown c.args.cx.now c.memberships.new.cx c.args.equation.now.fun.0
+    (function_equation c.args.equation.now) c.args.lemma.now c.args.subst.now
+    c.args.args.now c.args.condition.now (grown_twice c.args.cx.now c.term_elements.new.cx
+    c.memberships.new.cx c.term_elements.ensures.grown c.memberships.ensures.grown)
+    (can_meet c.args.cx.now c.args.equation.now.fun.0
+    (function_equation c.args.equation.now) c.args.lemma.now c.args.subst.now
+    c.args.args.now c.args.condition.now c.requires.well_sorted c.requires.image
+    c.requires.own c.requires.kompile c.requires.lemma c.requires.matches
+    c.requires.bound c.requires.condition) in
+    all_bound c.memberships.new.cx.program.sig (function_equation c.args.equation.now).variables
+    c.args.subst.now m.respects m.room m.bound
 
 pub schema_at-requires : goal.schema_at-requires
 schema_at-requires c =
     let facts : c.deref-7.result.now ≡ c.in_ok-first.first.items ++ c.in_ok-rest.rest.items =
-    c.deref-7.ensures.value ∙ c.in_ok-facts.ensures ∙ ap (λ (ts : List Theorem). ts ++ c.deref-4.result.now) c.deref-3.ensures.value ∙ ap (λ (ts : List Theorem). c.in_ok-first.first.items ++ ts) c.deref-4.ensures.value in
-    let others : c.deref-8.result.now ≡ c.in_ok-members.members.items ++ listed c.args.condition.now =
-    c.deref-8.ensures.value ∙ c.in_ok-others.ensures ∙ ap (λ (ts : List Theorem). ts ++ c.deref-6.result.now) c.deref-5.ensures.value
-    ∙ ap (λ (ts : List Theorem). c.in_ok-members.members.items ++ ts) (c.deref-6.ensures.value ∙ c.in_ok-held.ensures) in
-    let w : IsMet c.elements.new.cx c.args.equation.now.fun.0 (function_equation c.args.equation.now) c.args.lemma.now c.args.subst.now c.args.args.now c.args.condition.now c.in_ok-first.first.items c.in_ok-rest.rest.items c.in_ok-members.members.items = record {
-      can = can_meet_grown c.args.cx.now c.elements.new.cx c.args.equation.now.fun.0 (function_equation c.args.equation.now) c.args.lemma.now c.args.subst.now c.args.args.now c.args.condition.now (grown_twice c.args.cx.now c.memberships.new.cx c.elements.new.cx (grown_twice c.args.cx.now c.term_elements.new.cx c.memberships.new.cx c.term_elements.ensures.grown c.memberships.ensures.grown) c.elements.ensures.grown) (can_meet c.args.cx.now c.args.equation.now.fun.0 (function_equation c.args.equation.now) c.args.lemma.now c.args.subst.now c.args.args.now c.args.condition.now c.requires.well_sorted c.requires.image c.requires.own c.requires.kompile c.requires.lemma c.requires.matches c.requires.bound c.requires.condition);
-      terms = elements_grown c.term_elements.new.cx c.elements.new.cx c.args.args.now c.in_ok-first.first.items (grown_twice c.term_elements.new.cx c.memberships.new.cx c.elements.new.cx c.memberships.ensures.grown c.elements.ensures.grown) c.in_ok-first.ensures.facts;
+    c.deref-7.ensures.value ∙ c.in_ok-facts.ensures
+    ∙ ap (λ (ts : List Theorem). ts ++ c.deref-4.result.now) c.deref-3.ensures.value
+    ∙ ap (λ (ts : List Theorem). c.in_ok-first.first.items ++ ts) c.deref-4.ensures.value in
+    let others : c.deref-8.result.now ≡ c.in_ok-members.members.items ++ listed
+    c.args.condition.now =
+    c.deref-8.ensures.value ∙ c.in_ok-others.ensures
+    ∙ ap (λ (ts : List Theorem). ts ++ c.deref-6.result.now) c.deref-5.ensures.value
+    ∙ ap (λ (ts : List Theorem). c.in_ok-members.members.items ++ ts)
+    (c.deref-6.ensures.value ∙ c.in_ok-held.ensures) in
+    let w : IsMet c.elements.new.cx c.args.equation.now.fun.0
+    (function_equation c.args.equation.now) c.args.lemma.now c.args.subst.now
+    c.args.args.now c.args.condition.now c.in_ok-first.first.items c.in_ok-rest.rest.items
+    c.in_ok-members.members.items =
+    record {
+      can =
+          can_meet_grown c.args.cx.now c.elements.new.cx c.args.equation.now.fun.0
+          (function_equation c.args.equation.now) c.args.lemma.now c.args.subst.now
+          c.args.args.now c.args.condition.now (grown_twice c.args.cx.now c.memberships.new.cx
+          c.elements.new.cx (grown_twice c.args.cx.now c.term_elements.new.cx
+          c.memberships.new.cx c.term_elements.ensures.grown
+          c.memberships.ensures.grown) c.elements.ensures.grown)
+          (can_meet c.args.cx.now c.args.equation.now.fun.0
+          (function_equation c.args.equation.now) c.args.lemma.now c.args.subst.now
+          c.args.args.now c.args.condition.now c.requires.well_sorted c.requires.image
+          c.requires.own c.requires.kompile c.requires.lemma c.requires.matches
+          c.requires.bound c.requires.condition);
+      terms =
+          elements_grown c.term_elements.new.cx c.elements.new.cx c.args.args.now
+          c.in_ok-first.first.items (grown_twice c.term_elements.new.cx c.memberships.new.cx
+          c.elements.new.cx c.memberships.ensures.grown c.elements.ensures.grown)
+          c.in_ok-first.ensures.facts;
       elements = c.in_ok-rest.ensures.facts;
-      members = memberships_grown c.memberships.new.cx c.elements.new.cx c.args.subst.now (function_equation c.args.equation.now).arguments c.args.args.now c.in_ok-members.members.items c.elements.ensures.grown
-          (subst (λ (ps : List RulePat). AreMemberships c.memberships.new.cx c.args.subst.now (plain_patterns ps) c.args.args.now c.in_ok-members.members.items) c.deref.ensures.value c.in_ok-members.ensures.members);
+      members =
+          memberships_grown c.memberships.new.cx c.elements.new.cx c.args.subst.now
+          (function_equation c.args.equation.now).arguments c.args.args.now
+          c.in_ok-members.members.items c.elements.ensures.grown
+          (subst (λ (ps : List RulePat). AreMemberships c.memberships.new.cx c.args.subst.now
+          (plain_patterns ps) c.args.args.now c.in_ok-members.members.items)
+          c.deref.ensures.value c.in_ok-members.ensures.members);
     } in
-    subst (λ (ts : List Theorem). (qs : List Pattern) × (ns : List ℕ) × IsUsable qs ns c.args.lemma.now ts c.deref-8.result.now) (sym facts)
-    (subst (λ (os : List Theorem). (qs : List Pattern) × (ns : List ℕ) × IsUsable qs ns c.args.lemma.now (c.in_ok-first.first.items ++ c.in_ok-rest.rest.items) os) (sym others)
-    (met_usable c.elements.new.cx c.args.equation.now.fun.0 (function_equation c.args.equation.now) c.args.lemma.now c.args.subst.now c.args.args.now c.args.condition.now c.in_ok-first.first.items c.in_ok-rest.rest.items c.in_ok-members.members.items w))
+    subst (λ (ts : List Theorem). (qs : List Pattern) × (ns : List ℕ)
+    × IsUsable qs ns c.args.lemma.now ts c.deref-8.result.now) (sym facts)
+    (subst (λ (os : List Theorem). (qs : List Pattern) × (ns : List ℕ)
+    × IsUsable qs ns c.args.lemma.now (c.in_ok-first.first.items ++ c.in_ok-rest.rest.items)
+    os) (sym others)
+    (met_usable c.elements.new.cx c.args.equation.now.fun.0 (function_equation c.args.equation.now)
+    c.args.lemma.now c.args.subst.now c.args.args.now c.args.condition.now
+    c.in_ok-first.first.items c.in_ok-rest.rest.items c.in_ok-members.members.items w))
 
 pub returns-clause-says : goal.returns-clause-says
 returns-clause-says c =
     let facts : c.deref-7.result.now ≡ c.in_ok-first.first.items ++ c.in_ok-rest.rest.items =
-    c.deref-7.ensures.value ∙ c.in_ok-facts.ensures ∙ ap (λ (ts : List Theorem). ts ++ c.deref-4.result.now) c.deref-3.ensures.value ∙ ap (λ (ts : List Theorem). c.in_ok-first.first.items ++ ts) c.deref-4.ensures.value in
-    let others : c.deref-8.result.now ≡ c.in_ok-members.members.items ++ listed c.args.condition.now =
-    c.deref-8.ensures.value ∙ c.in_ok-others.ensures ∙ ap (λ (ts : List Theorem). ts ++ c.deref-6.result.now) c.deref-5.ensures.value
-    ∙ ap (λ (ts : List Theorem). c.in_ok-members.members.items ++ ts) (c.deref-6.ensures.value ∙ c.in_ok-held.ensures) in
-    let w : IsMet c.elements.new.cx c.args.equation.now.fun.0 (function_equation c.args.equation.now) c.args.lemma.now c.args.subst.now c.args.args.now c.args.condition.now c.in_ok-first.first.items c.in_ok-rest.rest.items c.in_ok-members.members.items = record {
-      can = can_meet_grown c.args.cx.now c.elements.new.cx c.args.equation.now.fun.0 (function_equation c.args.equation.now) c.args.lemma.now c.args.subst.now c.args.args.now c.args.condition.now (grown_twice c.args.cx.now c.memberships.new.cx c.elements.new.cx (grown_twice c.args.cx.now c.term_elements.new.cx c.memberships.new.cx c.term_elements.ensures.grown c.memberships.ensures.grown) c.elements.ensures.grown) (can_meet c.args.cx.now c.args.equation.now.fun.0 (function_equation c.args.equation.now) c.args.lemma.now c.args.subst.now c.args.args.now c.args.condition.now c.requires.well_sorted c.requires.image c.requires.own c.requires.kompile c.requires.lemma c.requires.matches c.requires.bound c.requires.condition);
-      terms = elements_grown c.term_elements.new.cx c.elements.new.cx c.args.args.now c.in_ok-first.first.items (grown_twice c.term_elements.new.cx c.memberships.new.cx c.elements.new.cx c.memberships.ensures.grown c.elements.ensures.grown) c.in_ok-first.ensures.facts;
+    c.deref-7.ensures.value ∙ c.in_ok-facts.ensures
+    ∙ ap (λ (ts : List Theorem). ts ++ c.deref-4.result.now) c.deref-3.ensures.value
+    ∙ ap (λ (ts : List Theorem). c.in_ok-first.first.items ++ ts) c.deref-4.ensures.value in
+    let others : c.deref-8.result.now ≡ c.in_ok-members.members.items ++ listed
+    c.args.condition.now =
+    c.deref-8.ensures.value ∙ c.in_ok-others.ensures
+    ∙ ap (λ (ts : List Theorem). ts ++ c.deref-6.result.now) c.deref-5.ensures.value
+    ∙ ap (λ (ts : List Theorem). c.in_ok-members.members.items ++ ts)
+    (c.deref-6.ensures.value ∙ c.in_ok-held.ensures) in
+    let w : IsMet c.elements.new.cx c.args.equation.now.fun.0
+    (function_equation c.args.equation.now) c.args.lemma.now c.args.subst.now
+    c.args.args.now c.args.condition.now c.in_ok-first.first.items c.in_ok-rest.rest.items
+    c.in_ok-members.members.items =
+    record {
+      can =
+          can_meet_grown c.args.cx.now c.elements.new.cx c.args.equation.now.fun.0
+          (function_equation c.args.equation.now) c.args.lemma.now c.args.subst.now
+          c.args.args.now c.args.condition.now (grown_twice c.args.cx.now c.memberships.new.cx
+          c.elements.new.cx (grown_twice c.args.cx.now c.term_elements.new.cx
+          c.memberships.new.cx c.term_elements.ensures.grown
+          c.memberships.ensures.grown) c.elements.ensures.grown)
+          (can_meet c.args.cx.now c.args.equation.now.fun.0
+          (function_equation c.args.equation.now) c.args.lemma.now c.args.subst.now
+          c.args.args.now c.args.condition.now c.requires.well_sorted c.requires.image
+          c.requires.own c.requires.kompile c.requires.lemma c.requires.matches
+          c.requires.bound c.requires.condition);
+      terms =
+          elements_grown c.term_elements.new.cx c.elements.new.cx c.args.args.now
+          c.in_ok-first.first.items (grown_twice c.term_elements.new.cx c.memberships.new.cx
+          c.elements.new.cx c.memberships.ensures.grown c.elements.ensures.grown)
+          c.in_ok-first.ensures.facts;
       elements = c.in_ok-rest.ensures.facts;
-      members = memberships_grown c.memberships.new.cx c.elements.new.cx c.args.subst.now (function_equation c.args.equation.now).arguments c.args.args.now c.in_ok-members.members.items c.elements.ensures.grown
-          (subst (λ (ps : List RulePat). AreMemberships c.memberships.new.cx c.args.subst.now (plain_patterns ps) c.args.args.now c.in_ok-members.members.items) c.deref.ensures.value c.in_ok-members.ensures.members);
+      members =
+          memberships_grown c.memberships.new.cx c.elements.new.cx c.args.subst.now
+          (function_equation c.args.equation.now).arguments c.args.args.now
+          c.in_ok-members.members.items c.elements.ensures.grown
+          (subst (λ (ps : List RulePat). AreMemberships c.memberships.new.cx c.args.subst.now
+          (plain_patterns ps) c.args.args.now c.in_ok-members.members.items)
+          c.deref.ensures.value c.in_ok-members.ensures.members);
     } in
     if_ok c.schema_at.result
-    (λ t used. met_says c.elements.new.cx c.args.equation.now.fun.0 (function_equation c.args.equation.now) c.args.lemma.now c.args.subst.now c.args.args.now c.args.condition.now c.in_ok-first.first.items c.in_ok-rest.rest.items c.in_ok-members.members.items t w
-    (subst (λ (os : List Theorem). IsUsed c.args.lemma.now (c.in_ok-first.first.items ++ c.in_ok-rest.rest.items) os t) others (subst (λ (ts : List Theorem). IsUsed c.args.lemma.now ts c.deref-8.result.now t) facts used)))
+    (λ t used. met_says c.elements.new.cx c.args.equation.now.fun.0
+    (function_equation c.args.equation.now) c.args.lemma.now c.args.subst.now c.args.args.now
+    c.args.condition.now c.in_ok-first.first.items c.in_ok-rest.rest.items
+    c.in_ok-members.members.items t w
+    (subst (λ (os : List Theorem).
+    IsUsed c.args.lemma.now (c.in_ok-first.first.items ++ c.in_ok-rest.rest.items) os t)
+    others (subst (λ (ts : List Theorem). IsUsed c.args.lemma.now ts c.deref-8.result.now t)
+    facts used)))
     c.schema_at.ensures.says
 
 pub returns-clause-stays : goal.returns-clause-stays
 returns-clause-stays c =
     let facts : c.deref-7.result.now ≡ c.in_ok-first.first.items ++ c.in_ok-rest.rest.items =
-    c.deref-7.ensures.value ∙ c.in_ok-facts.ensures ∙ ap (λ (ts : List Theorem). ts ++ c.deref-4.result.now) c.deref-3.ensures.value ∙ ap (λ (ts : List Theorem). c.in_ok-first.first.items ++ ts) c.deref-4.ensures.value in
-    let others : c.deref-8.result.now ≡ c.in_ok-members.members.items ++ listed c.args.condition.now =
-    c.deref-8.ensures.value ∙ c.in_ok-others.ensures ∙ ap (λ (ts : List Theorem). ts ++ c.deref-6.result.now) c.deref-5.ensures.value
-    ∙ ap (λ (ts : List Theorem). c.in_ok-members.members.items ++ ts) (c.deref-6.ensures.value ∙ c.in_ok-held.ensures) in
-    let w : IsMet c.elements.new.cx c.args.equation.now.fun.0 (function_equation c.args.equation.now) c.args.lemma.now c.args.subst.now c.args.args.now c.args.condition.now c.in_ok-first.first.items c.in_ok-rest.rest.items c.in_ok-members.members.items = record {
-      can = can_meet_grown c.args.cx.now c.elements.new.cx c.args.equation.now.fun.0 (function_equation c.args.equation.now) c.args.lemma.now c.args.subst.now c.args.args.now c.args.condition.now (grown_twice c.args.cx.now c.memberships.new.cx c.elements.new.cx (grown_twice c.args.cx.now c.term_elements.new.cx c.memberships.new.cx c.term_elements.ensures.grown c.memberships.ensures.grown) c.elements.ensures.grown) (can_meet c.args.cx.now c.args.equation.now.fun.0 (function_equation c.args.equation.now) c.args.lemma.now c.args.subst.now c.args.args.now c.args.condition.now c.requires.well_sorted c.requires.image c.requires.own c.requires.kompile c.requires.lemma c.requires.matches c.requires.bound c.requires.condition);
-      terms = elements_grown c.term_elements.new.cx c.elements.new.cx c.args.args.now c.in_ok-first.first.items (grown_twice c.term_elements.new.cx c.memberships.new.cx c.elements.new.cx c.memberships.ensures.grown c.elements.ensures.grown) c.in_ok-first.ensures.facts;
+    c.deref-7.ensures.value ∙ c.in_ok-facts.ensures
+    ∙ ap (λ (ts : List Theorem). ts ++ c.deref-4.result.now) c.deref-3.ensures.value
+    ∙ ap (λ (ts : List Theorem). c.in_ok-first.first.items ++ ts) c.deref-4.ensures.value in
+    let others : c.deref-8.result.now ≡ c.in_ok-members.members.items ++ listed
+    c.args.condition.now =
+    c.deref-8.ensures.value ∙ c.in_ok-others.ensures
+    ∙ ap (λ (ts : List Theorem). ts ++ c.deref-6.result.now) c.deref-5.ensures.value
+    ∙ ap (λ (ts : List Theorem). c.in_ok-members.members.items ++ ts)
+    (c.deref-6.ensures.value ∙ c.in_ok-held.ensures) in
+    let w : IsMet c.elements.new.cx c.args.equation.now.fun.0
+    (function_equation c.args.equation.now) c.args.lemma.now c.args.subst.now
+    c.args.args.now c.args.condition.now c.in_ok-first.first.items c.in_ok-rest.rest.items
+    c.in_ok-members.members.items =
+    record {
+      can =
+          can_meet_grown c.args.cx.now c.elements.new.cx c.args.equation.now.fun.0
+          (function_equation c.args.equation.now) c.args.lemma.now c.args.subst.now
+          c.args.args.now c.args.condition.now (grown_twice c.args.cx.now c.memberships.new.cx
+          c.elements.new.cx (grown_twice c.args.cx.now c.term_elements.new.cx
+          c.memberships.new.cx c.term_elements.ensures.grown
+          c.memberships.ensures.grown) c.elements.ensures.grown)
+          (can_meet c.args.cx.now c.args.equation.now.fun.0
+          (function_equation c.args.equation.now) c.args.lemma.now c.args.subst.now
+          c.args.args.now c.args.condition.now c.requires.well_sorted c.requires.image
+          c.requires.own c.requires.kompile c.requires.lemma c.requires.matches
+          c.requires.bound c.requires.condition);
+      terms =
+          elements_grown c.term_elements.new.cx c.elements.new.cx c.args.args.now
+          c.in_ok-first.first.items (grown_twice c.term_elements.new.cx c.memberships.new.cx
+          c.elements.new.cx c.memberships.ensures.grown c.elements.ensures.grown)
+          c.in_ok-first.ensures.facts;
       elements = c.in_ok-rest.ensures.facts;
-      members = memberships_grown c.memberships.new.cx c.elements.new.cx c.args.subst.now (function_equation c.args.equation.now).arguments c.args.args.now c.in_ok-members.members.items c.elements.ensures.grown
-          (subst (λ (ps : List RulePat). AreMemberships c.memberships.new.cx c.args.subst.now (plain_patterns ps) c.args.args.now c.in_ok-members.members.items) c.deref.ensures.value c.in_ok-members.ensures.members);
+      members =
+          memberships_grown c.memberships.new.cx c.elements.new.cx c.args.subst.now
+          (function_equation c.args.equation.now).arguments c.args.args.now
+          c.in_ok-members.members.items c.elements.ensures.grown
+          (subst (λ (ps : List RulePat). AreMemberships c.memberships.new.cx c.args.subst.now
+          (plain_patterns ps) c.args.args.now c.in_ok-members.members.items)
+          c.deref.ensures.value c.in_ok-members.ensures.members);
     } in
     if_ok c.schema_at.result
-    (λ t used. met_stays c.elements.new.cx c.args.equation.now.fun.0 (function_equation c.args.equation.now) c.args.lemma.now c.args.subst.now c.args.args.now c.args.condition.now c.in_ok-first.first.items c.in_ok-rest.rest.items c.in_ok-members.members.items t w
-    (subst (λ (os : List Theorem). StaysUsed c.args.lemma.now (c.in_ok-first.first.items ++ c.in_ok-rest.rest.items) os t) others (subst (λ (ts : List Theorem). StaysUsed c.args.lemma.now ts c.deref-8.result.now t) facts used)))
+    (λ t used. met_stays c.elements.new.cx c.args.equation.now.fun.0
+    (function_equation c.args.equation.now) c.args.lemma.now c.args.subst.now c.args.args.now
+    c.args.condition.now c.in_ok-first.first.items c.in_ok-rest.rest.items
+    c.in_ok-members.members.items t w
+    (subst (λ (os : List Theorem).
+    StaysUsed c.args.lemma.now (c.in_ok-first.first.items ++ c.in_ok-rest.rest.items) os t)
+    others (subst (λ (ts : List Theorem). StaysUsed c.args.lemma.now ts c.deref-8.result.now t)
+    facts used)))
     c.schema_at.ensures.stays
 
 pub returns-clause-no_hypotheses : goal.returns-clause-no_hypotheses
 returns-clause-no_hypotheses c =
     let facts : c.deref-7.result.now ≡ c.in_ok-first.first.items ++ c.in_ok-rest.rest.items =
-    c.deref-7.ensures.value ∙ c.in_ok-facts.ensures ∙ ap (λ (ts : List Theorem). ts ++ c.deref-4.result.now) c.deref-3.ensures.value ∙ ap (λ (ts : List Theorem). c.in_ok-first.first.items ++ ts) c.deref-4.ensures.value in
-    let others : c.deref-8.result.now ≡ c.in_ok-members.members.items ++ listed c.args.condition.now =
-    c.deref-8.ensures.value ∙ c.in_ok-others.ensures ∙ ap (λ (ts : List Theorem). ts ++ c.deref-6.result.now) c.deref-5.ensures.value
-    ∙ ap (λ (ts : List Theorem). c.in_ok-members.members.items ++ ts) (c.deref-6.ensures.value ∙ c.in_ok-held.ensures) in
-    let w : IsMet c.elements.new.cx c.args.equation.now.fun.0 (function_equation c.args.equation.now) c.args.lemma.now c.args.subst.now c.args.args.now c.args.condition.now c.in_ok-first.first.items c.in_ok-rest.rest.items c.in_ok-members.members.items = record {
-      can = can_meet_grown c.args.cx.now c.elements.new.cx c.args.equation.now.fun.0 (function_equation c.args.equation.now) c.args.lemma.now c.args.subst.now c.args.args.now c.args.condition.now (grown_twice c.args.cx.now c.memberships.new.cx c.elements.new.cx (grown_twice c.args.cx.now c.term_elements.new.cx c.memberships.new.cx c.term_elements.ensures.grown c.memberships.ensures.grown) c.elements.ensures.grown) (can_meet c.args.cx.now c.args.equation.now.fun.0 (function_equation c.args.equation.now) c.args.lemma.now c.args.subst.now c.args.args.now c.args.condition.now c.requires.well_sorted c.requires.image c.requires.own c.requires.kompile c.requires.lemma c.requires.matches c.requires.bound c.requires.condition);
-      terms = elements_grown c.term_elements.new.cx c.elements.new.cx c.args.args.now c.in_ok-first.first.items (grown_twice c.term_elements.new.cx c.memberships.new.cx c.elements.new.cx c.memberships.ensures.grown c.elements.ensures.grown) c.in_ok-first.ensures.facts;
+    c.deref-7.ensures.value ∙ c.in_ok-facts.ensures
+    ∙ ap (λ (ts : List Theorem). ts ++ c.deref-4.result.now) c.deref-3.ensures.value
+    ∙ ap (λ (ts : List Theorem). c.in_ok-first.first.items ++ ts) c.deref-4.ensures.value in
+    let others : c.deref-8.result.now ≡ c.in_ok-members.members.items ++ listed
+    c.args.condition.now =
+    c.deref-8.ensures.value ∙ c.in_ok-others.ensures
+    ∙ ap (λ (ts : List Theorem). ts ++ c.deref-6.result.now) c.deref-5.ensures.value
+    ∙ ap (λ (ts : List Theorem). c.in_ok-members.members.items ++ ts)
+    (c.deref-6.ensures.value ∙ c.in_ok-held.ensures) in
+    let w : IsMet c.elements.new.cx c.args.equation.now.fun.0
+    (function_equation c.args.equation.now) c.args.lemma.now c.args.subst.now
+    c.args.args.now c.args.condition.now c.in_ok-first.first.items c.in_ok-rest.rest.items
+    c.in_ok-members.members.items =
+    record {
+      can =
+          can_meet_grown c.args.cx.now c.elements.new.cx c.args.equation.now.fun.0
+          (function_equation c.args.equation.now) c.args.lemma.now c.args.subst.now
+          c.args.args.now c.args.condition.now (grown_twice c.args.cx.now c.memberships.new.cx
+          c.elements.new.cx (grown_twice c.args.cx.now c.term_elements.new.cx
+          c.memberships.new.cx c.term_elements.ensures.grown
+          c.memberships.ensures.grown) c.elements.ensures.grown)
+          (can_meet c.args.cx.now c.args.equation.now.fun.0
+          (function_equation c.args.equation.now) c.args.lemma.now c.args.subst.now
+          c.args.args.now c.args.condition.now c.requires.well_sorted c.requires.image
+          c.requires.own c.requires.kompile c.requires.lemma c.requires.matches
+          c.requires.bound c.requires.condition);
+      terms =
+          elements_grown c.term_elements.new.cx c.elements.new.cx c.args.args.now
+          c.in_ok-first.first.items (grown_twice c.term_elements.new.cx c.memberships.new.cx
+          c.elements.new.cx c.memberships.ensures.grown c.elements.ensures.grown)
+          c.in_ok-first.ensures.facts;
       elements = c.in_ok-rest.ensures.facts;
-      members = memberships_grown c.memberships.new.cx c.elements.new.cx c.args.subst.now (function_equation c.args.equation.now).arguments c.args.args.now c.in_ok-members.members.items c.elements.ensures.grown
-          (subst (λ (ps : List RulePat). AreMemberships c.memberships.new.cx c.args.subst.now (plain_patterns ps) c.args.args.now c.in_ok-members.members.items) c.deref.ensures.value c.in_ok-members.ensures.members);
+      members =
+          memberships_grown c.memberships.new.cx c.elements.new.cx c.args.subst.now
+          (function_equation c.args.equation.now).arguments c.args.args.now
+          c.in_ok-members.members.items c.elements.ensures.grown
+          (subst (λ (ps : List RulePat). AreMemberships c.memberships.new.cx c.args.subst.now
+          (plain_patterns ps) c.args.args.now c.in_ok-members.members.items)
+          c.deref.ensures.value c.in_ok-members.ensures.members);
     } in
     if_ok c.schema_at.result
-    (λ t used. stays_no_hypotheses c.elements.new.cx t (met_stays c.elements.new.cx c.args.equation.now.fun.0 (function_equation c.args.equation.now) c.args.lemma.now c.args.subst.now c.args.args.now c.args.condition.now c.in_ok-first.first.items c.in_ok-rest.rest.items c.in_ok-members.members.items t w
-    (subst (λ (os : List Theorem). StaysUsed c.args.lemma.now (c.in_ok-first.first.items ++ c.in_ok-rest.rest.items) os t) others (subst (λ (ts : List Theorem). StaysUsed c.args.lemma.now ts c.deref-8.result.now t) facts used))))
+    (λ t used. stays_no_hypotheses c.elements.new.cx t
+    (met_stays c.elements.new.cx c.args.equation.now.fun.0
+    (function_equation c.args.equation.now) c.args.lemma.now c.args.subst.now
+    c.args.args.now c.args.condition.now c.in_ok-first.first.items c.in_ok-rest.rest.items
+    c.in_ok-members.members.items t w
+    (subst (λ (os : List Theorem).
+    StaysUsed c.args.lemma.now (c.in_ok-first.first.items ++ c.in_ok-rest.rest.items) os t)
+    others (subst (λ (ts : List Theorem). StaysUsed c.args.lemma.now ts c.deref-8.result.now t)
+    facts used))))
     c.schema_at.ensures.stays
 
 pub returns-clause-grown : goal.returns-clause-grown
-returns-clause-grown c = grown_twice c.args.cx.now c.memberships.new.cx c.elements.new.cx (grown_twice c.args.cx.now c.term_elements.new.cx c.memberships.new.cx c.term_elements.ensures.grown c.memberships.ensures.grown) c.elements.ensures.grown
+returns-clause-grown c =
+    grown_twice c.args.cx.now c.memberships.new.cx c.elements.new.cx
+    (grown_twice c.args.cx.now c.term_elements.new.cx c.memberships.new.cx
+    c.term_elements.ensures.grown c.memberships.ensures.grown) c.elements.ensures.grown
 
 pub returns-in_err-members-clause-grown : goal.returns-in_err-members-clause-grown
-returns-in_err-members-clause-grown c = grown_twice c.args.cx.now c.term_elements.new.cx c.memberships.new.cx c.term_elements.ensures.grown c.memberships.ensures.grown
+returns-in_err-members-clause-grown c =
+    grown_twice c.args.cx.now c.term_elements.new.cx c.memberships.new.cx
+    c.term_elements.ensures.grown c.memberships.ensures.grown
 
 pub returns-in_err-rest-clause-grown : goal.returns-in_err-rest-clause-grown
-returns-in_err-rest-clause-grown c = grown_twice c.args.cx.now c.memberships.new.cx c.elements.new.cx (grown_twice c.args.cx.now c.term_elements.new.cx c.memberships.new.cx c.term_elements.ensures.grown c.memberships.ensures.grown) c.elements.ensures.grown
+returns-in_err-rest-clause-grown c =
+    grown_twice c.args.cx.now c.memberships.new.cx c.elements.new.cx
+    (grown_twice c.args.cx.now c.term_elements.new.cx c.memberships.new.cx
+    c.term_elements.ensures.grown c.memberships.ensures.grown) c.elements.ensures.grown
 
 pub returns-in_err-facts-clause-grown : goal.returns-in_err-facts-clause-grown
-returns-in_err-facts-clause-grown c = grown_twice c.args.cx.now c.memberships.new.cx c.elements.new.cx (grown_twice c.args.cx.now c.term_elements.new.cx c.memberships.new.cx c.term_elements.ensures.grown c.memberships.ensures.grown) c.elements.ensures.grown
+returns-in_err-facts-clause-grown c =
+    grown_twice c.args.cx.now c.memberships.new.cx c.elements.new.cx
+    (grown_twice c.args.cx.now c.term_elements.new.cx c.memberships.new.cx
+    c.term_elements.ensures.grown c.memberships.ensures.grown) c.elements.ensures.grown
 
 pub returns-in_err-held-clause-grown : goal.returns-in_err-held-clause-grown
-returns-in_err-held-clause-grown c = grown_twice c.args.cx.now c.memberships.new.cx c.elements.new.cx (grown_twice c.args.cx.now c.term_elements.new.cx c.memberships.new.cx c.term_elements.ensures.grown c.memberships.ensures.grown) c.elements.ensures.grown
+returns-in_err-held-clause-grown c =
+    grown_twice c.args.cx.now c.memberships.new.cx c.elements.new.cx
+    (grown_twice c.args.cx.now c.term_elements.new.cx c.memberships.new.cx
+    c.term_elements.ensures.grown c.memberships.ensures.grown) c.elements.ensures.grown
 
 pub returns-in_err-others-clause-grown : goal.returns-in_err-others-clause-grown
-returns-in_err-others-clause-grown c = grown_twice c.args.cx.now c.memberships.new.cx c.elements.new.cx (grown_twice c.args.cx.now c.term_elements.new.cx c.memberships.new.cx c.term_elements.ensures.grown c.memberships.ensures.grown) c.elements.ensures.grown
+returns-in_err-others-clause-grown c =
+    grown_twice c.args.cx.now c.memberships.new.cx c.elements.new.cx
+    (grown_twice c.args.cx.now c.term_elements.new.cx c.memberships.new.cx
+    c.term_elements.ensures.grown c.memberships.ensures.grown) c.elements.ensures.grown

@@ -9,18 +9,26 @@ in_itself-requires c = (c.requires.fact.0.image, c.requires.fact.0.number, c.req
 
 pub in_written-requires : goal.in_written-requires
 in_written-requires c =
-    let w : IsShown c.inj_eq.new.cx c.args.subst.now (plain_pattern c.args.pat.now) c.args.term.now c.in_ok-itself.itself c.in_ok-equality.equality =
-    shown c.args.cx.now c.inj_eq.new.cx c.args.subst.now (plain_pattern c.args.pat.now) c.args.term.now c.args.fact.now c.in_ok-itself.itself c.in_ok-equality.equality
-    c.inj_eq.ensures.grown c.requires.fact c.in_ok-itself.ensures.says c.in_ok-itself.ensures.stays c.in_ok-equality.ensures.says c.in_ok-equality.ensures.stays c.requires.makes in
-    shown_enters c.inj_eq.new.cx c.args.subst.now (plain_pattern c.args.pat.now) c.args.term.now c.in_ok-itself.itself c.in_ok-equality.equality w
+    let w : IsShown c.inj_eq.new.cx c.args.subst.now (plain_pattern c.args.pat.now) c.args.term.now
+    c.in_ok-itself.itself c.in_ok-equality.equality =
+    shown c.args.cx.now c.inj_eq.new.cx c.args.subst.now (plain_pattern c.args.pat.now)
+    c.args.term.now c.args.fact.now c.in_ok-itself.itself c.in_ok-equality.equality
+    c.inj_eq.ensures.grown c.requires.fact c.in_ok-itself.ensures.says c.in_ok-itself.ensures.stays
+    c.in_ok-equality.ensures.says c.in_ok-equality.ensures.stays c.requires.makes in
+    shown_enters c.inj_eq.new.cx c.args.subst.now (plain_pattern c.args.pat.now) c.args.term.now
+    c.in_ok-itself.itself c.in_ok-equality.equality w
 
 pub returns-clause-member : goal.returns-clause-member
 returns-clause-member c =
-    let w : IsShown c.inj_eq.new.cx c.args.subst.now (plain_pattern c.args.pat.now) c.args.term.now c.in_ok-itself.itself c.in_ok-equality.equality =
-    shown c.args.cx.now c.inj_eq.new.cx c.args.subst.now (plain_pattern c.args.pat.now) c.args.term.now c.args.fact.now c.in_ok-itself.itself c.in_ok-equality.equality
-    c.inj_eq.ensures.grown c.requires.fact c.in_ok-itself.ensures.says c.in_ok-itself.ensures.stays c.in_ok-equality.ensures.says c.in_ok-equality.ensures.stays c.requires.makes in
+    let w : IsShown c.inj_eq.new.cx c.args.subst.now (plain_pattern c.args.pat.now) c.args.term.now
+    c.in_ok-itself.itself c.in_ok-equality.equality =
+    shown c.args.cx.now c.inj_eq.new.cx c.args.subst.now (plain_pattern c.args.pat.now)
+    c.args.term.now c.args.fact.now c.in_ok-itself.itself c.in_ok-equality.equality
+    c.inj_eq.ensures.grown c.requires.fact c.in_ok-itself.ensures.says c.in_ok-itself.ensures.stays
+    c.in_ok-equality.ensures.says c.in_ok-equality.ensures.stays c.requires.makes in
     if_ok_two c.in_written.result
-    (λ t is stays. shown_member c.inj_eq.new.cx c.args.subst.now (plain_pattern c.args.pat.now) c.args.term.now c.in_ok-itself.itself t c.in_ok-equality.equality w is stays)
+    (λ t is stays. shown_member c.inj_eq.new.cx c.args.subst.now (plain_pattern c.args.pat.now)
+    c.args.term.now c.in_ok-itself.itself t c.in_ok-equality.equality w is stays)
     c.in_written.ensures.says c.in_written.ensures.stays
 
 pub returns-in_err-itself-clause-grown : goal.returns-in_err-itself-clause-grown

@@ -6,4 +6,6 @@ use Rattle.prove_equation.proofs.parameters.memberships.Given as goal
 
 abbrev pub invariant-loop-i : goal.invariant-loop-i
 invariant-loop-i l =
-    HasGrown l.initial.cx l.cx × AreMemberships l.cx l.subst (plain_patterns (take l.i l.pats)) (take l.i l.terms) l.members.items
+    HasGrown l.initial.cx l.cx
+    × AreMemberships l.cx l.subst (plain_patterns (take l.i l.pats)) (take l.i l.terms)
+    l.members.items

@@ -11,5 +11,11 @@ pub returns-in-None : goal.returns-in-None
 returns-in-None c =
     if_ok_two c.eq_refl.result
     (λ t says stays. λ cx a over known.
-    record { says = says ∙ ap (λ (p : Pattern). equal p c.args.image.now) (sym (subst (Equates cx a c.args.image.now) c.in-None.is known)); stays = λ s has. stays s (over s has, tt) tt })
+    record {
+      says =
+          says
+          ∙ ap (λ (p : Pattern). equal p c.args.image.now)
+          (sym (subst (Equates cx a c.args.image.now) c.in-None.is known));
+      stays = λ s has. stays s (over s has, tt) tt;
+    })
     c.eq_refl.ensures.conclusion c.eq_refl.ensures.stays

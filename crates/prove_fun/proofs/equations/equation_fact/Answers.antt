@@ -18,62 +18,125 @@ use Rattle.prove_fun.proofs.equations.equation_fact.Goals as goal
 
 pub lemma_of-requires-clause-image : goal.lemma_of-requires-clause-image
 lemma_of-requires-clause-image c =
-    let at = subst (λ (p : Program). IsEquationAt p c.args.symbol.0 c.args.used.now.equation c.equation_of-equation.result.now) c.program.ensures c.equation_of-equation.ensures in
-    (asked c.args.cx.now.program c.args.symbol.0 _ c.args.used.now.equation c.args.used.now.subst _ _ c.equation_of-equation.result.now c.requires.ready c.requires.used.2 at).image
+    let at =
+    subst (λ (p : Program). IsEquationAt p c.args.symbol.0 c.args.used.now.equation
+    c.equation_of-equation.result.now) c.program.ensures
+    c.equation_of-equation.ensures in
+    (asked c.args.cx.now.program c.args.symbol.0 _ c.args.used.now.equation c.args.used.now.subst _
+    _ c.equation_of-equation.result.now c.requires.ready c.requires.used.2 at).image
 
 pub lemma_of-requires-clause-own : goal.lemma_of-requires-clause-own
 lemma_of-requires-clause-own c =
-    let at = subst (λ (p : Program). IsEquationAt p c.args.symbol.0 c.args.used.now.equation c.equation_of-equation.result.now) c.program.ensures c.equation_of-equation.ensures in
-    (asked c.args.cx.now.program c.args.symbol.0 _ c.args.used.now.equation c.args.used.now.subst _ _ c.equation_of-equation.result.now c.requires.ready c.requires.used.2 at).own
+    let at =
+    subst (λ (p : Program). IsEquationAt p c.args.symbol.0 c.args.used.now.equation
+    c.equation_of-equation.result.now) c.program.ensures
+    c.equation_of-equation.ensures in
+    (asked c.args.cx.now.program c.args.symbol.0 _ c.args.used.now.equation c.args.used.now.subst _
+    _ c.equation_of-equation.result.now c.requires.ready c.requires.used.2 at).own
 
 pub lemma_of-requires-clause-there : goal.lemma_of-requires-clause-there
 lemma_of-requires-clause-there c =
-    let at = subst (λ (p : Program). IsEquationAt p c.args.symbol.0 c.args.used.now.equation c.equation_of-equation.result.now) c.program.ensures c.equation_of-equation.ensures in
-    (asked c.args.cx.now.program c.args.symbol.0 _ c.args.used.now.equation c.args.used.now.subst _ _ c.equation_of-equation.result.now c.requires.ready c.requires.used.2 at).there
+    let at =
+    subst (λ (p : Program). IsEquationAt p c.args.symbol.0 c.args.used.now.equation
+    c.equation_of-equation.result.now) c.program.ensures
+    c.equation_of-equation.ensures in
+    (asked c.args.cx.now.program c.args.symbol.0 _ c.args.used.now.equation c.args.used.now.subst _
+    _ c.equation_of-equation.result.now c.requires.ready c.requires.used.2 at).there
 
 pub equation_at-requires-clause-image : goal.equation_at-requires-clause-image
 equation_at-requires-clause-image c =
-    let at = subst (λ (p : Program). IsEquationAt p c.args.symbol.0 c.args.used.now.equation c.equation_of-equation.result.now) c.program.ensures c.equation_of-equation.ensures in
-    (asked_later c.args.cx.now c.lemma_of.new.cx c.args.symbol.0 _ c.args.used.now.equation c.args.used.now.subst c.equation_of-equation.result.now c.in_ok-lemma.ensures.grown
-    (asked c.args.cx.now.program c.args.symbol.0 _ c.args.used.now.equation c.args.used.now.subst _ _ c.equation_of-equation.result.now c.requires.ready c.requires.used.2 at)).image
+    let at =
+    subst (λ (p : Program). IsEquationAt p c.args.symbol.0 c.args.used.now.equation
+    c.equation_of-equation.result.now) c.program.ensures
+    c.equation_of-equation.ensures in
+    (asked_later c.args.cx.now c.lemma_of.new.cx c.args.symbol.0 _ c.args.used.now.equation
+    c.args.used.now.subst c.equation_of-equation.result.now c.in_ok-lemma.ensures.grown
+    (asked c.args.cx.now.program c.args.symbol.0 _ c.args.used.now.equation c.args.used.now.subst _
+    _ c.equation_of-equation.result.now c.requires.ready c.requires.used.2 at)).image
 
 pub equation_at-requires-clause-own : goal.equation_at-requires-clause-own
 equation_at-requires-clause-own c =
-    let at = subst (λ (p : Program). IsEquationAt p c.args.symbol.0 c.args.used.now.equation c.equation_of-equation.result.now) c.program.ensures c.equation_of-equation.ensures in
-    (asked_later c.args.cx.now c.lemma_of.new.cx c.args.symbol.0 _ c.args.used.now.equation c.args.used.now.subst c.equation_of-equation.result.now c.in_ok-lemma.ensures.grown
-    (asked c.args.cx.now.program c.args.symbol.0 _ c.args.used.now.equation c.args.used.now.subst _ _ c.equation_of-equation.result.now c.requires.ready c.requires.used.2 at)).own
+    let at =
+    subst (λ (p : Program). IsEquationAt p c.args.symbol.0 c.args.used.now.equation
+    c.equation_of-equation.result.now) c.program.ensures
+    c.equation_of-equation.ensures in
+    (asked_later c.args.cx.now c.lemma_of.new.cx c.args.symbol.0 _ c.args.used.now.equation
+    c.args.used.now.subst c.equation_of-equation.result.now c.in_ok-lemma.ensures.grown
+    (asked c.args.cx.now.program c.args.symbol.0 _ c.args.used.now.equation c.args.used.now.subst _
+    _ c.equation_of-equation.result.now c.requires.ready c.requires.used.2 at)).own
 
 pub equation_at-requires-clause-matches : goal.equation_at-requires-clause-matches
 equation_at-requires-clause-matches c =
-    let at = subst (λ (p : Program). IsEquationAt p c.args.symbol.0 c.args.used.now.equation c.equation_of-equation.result.now) c.program.ensures c.equation_of-equation.ensures in
-    let matches = (asked_later c.args.cx.now c.lemma_of.new.cx c.args.symbol.0 _ c.args.used.now.equation c.args.used.now.subst c.equation_of-equation.result.now c.in_ok-lemma.ensures.grown
-    (asked c.args.cx.now.program c.args.symbol.0 _ c.args.used.now.equation c.args.used.now.subst _ _ c.equation_of-equation.result.now c.requires.ready c.requires.used.2 at)).matches in
-    let terms : forest c.deref.result.now ≡ results_of (children_of (plain_record c.args.evaluation.now)) = ap forest c.deref.ensures.value ∙ c.in_ok-terms.ensures in
-    subst (λ (ts : Forest). MatchAll c.lemma_of.new.cx.program.sig (sorts_of c.equation_of-equation.result.now.vars.items) (plain_patterns c.equation_of-equation.result.now.args.items) ts c.args.used.now.subst) (sym terms) matches
+    let at =
+    subst (λ (p : Program). IsEquationAt p c.args.symbol.0 c.args.used.now.equation
+    c.equation_of-equation.result.now) c.program.ensures
+    c.equation_of-equation.ensures in
+    let matches =
+    (asked_later c.args.cx.now c.lemma_of.new.cx c.args.symbol.0 _ c.args.used.now.equation
+    c.args.used.now.subst c.equation_of-equation.result.now c.in_ok-lemma.ensures.grown
+    (asked c.args.cx.now.program c.args.symbol.0 _ c.args.used.now.equation c.args.used.now.subst _
+    _ c.equation_of-equation.result.now c.requires.ready c.requires.used.2 at)).matches in
+    let terms : forest c.deref.result.now ≡ results_of
+    (children_of (plain_record c.args.evaluation.now)) =
+    ap forest c.deref.ensures.value ∙ c.in_ok-terms.ensures in
+    subst (λ (ts : Forest). MatchAll c.lemma_of.new.cx.program.sig
+    (sorts_of c.equation_of-equation.result.now.vars.items)
+    (plain_patterns c.equation_of-equation.result.now.args.items) ts c.args.used.now.subst)
+    (sym terms) matches
 
 pub equation_at-requires-clause-bound : goal.equation_at-requires-clause-bound
 equation_at-requires-clause-bound c =
-    let at = subst (λ (p : Program). IsEquationAt p c.args.symbol.0 c.args.used.now.equation c.equation_of-equation.result.now) c.program.ensures c.equation_of-equation.ensures in
-    (asked c.args.cx.now.program c.args.symbol.0 _ c.args.used.now.equation c.args.used.now.subst _ _ c.equation_of-equation.result.now c.requires.ready c.requires.used.2 at).bound
+    let at =
+    subst (λ (p : Program). IsEquationAt p c.args.symbol.0 c.args.used.now.equation
+    c.equation_of-equation.result.now) c.program.ensures
+    c.equation_of-equation.ensures in
+    (asked c.args.cx.now.program c.args.symbol.0 _ c.args.used.now.equation c.args.used.now.subst _
+    _ c.equation_of-equation.result.now c.requires.ready c.requires.used.2 at).bound
 
 pub equation_at-requires-clause-condition : goal.equation_at-requires-clause-condition
 equation_at-requires-clause-condition c =
-    let at = subst (λ (p : Program). IsEquationAt p c.args.symbol.0 c.args.used.now.equation c.equation_of-equation.result.now) c.program.ensures c.equation_of-equation.ensures in
-    condition_grown c.args.cx.now c.lemma_of.new.cx (sorts_of c.equation_of-equation.result.now.vars.items) c.args.used.now.subst (function_equation c.equation_of-equation.result.now).condition c.args.condition.now c.in_ok-lemma.ensures.grown
-    (c.requires.condition (function_equation c.equation_of-equation.result.now) (plain_there c.args.cx.now.program c.args.symbol.0 c.args.used.now.equation c.equation_of-equation.result.now at))
+    let at =
+    subst (λ (p : Program). IsEquationAt p c.args.symbol.0 c.args.used.now.equation
+    c.equation_of-equation.result.now) c.program.ensures
+    c.equation_of-equation.ensures in
+    condition_grown c.args.cx.now c.lemma_of.new.cx
+    (sorts_of c.equation_of-equation.result.now.vars.items) c.args.used.now.subst
+    (function_equation c.equation_of-equation.result.now).condition c.args.condition.now
+    c.in_ok-lemma.ensures.grown
+    (c.requires.condition (function_equation c.equation_of-equation.result.now)
+    (plain_there c.args.cx.now.program c.args.symbol.0 c.args.used.now.equation
+    c.equation_of-equation.result.now at))
 
 pub returns-clause-says : goal.returns-clause-says
 returns-clause-says c =
-    let at = subst (λ (p : Program). IsEquationAt p c.args.symbol.0 c.args.used.now.equation c.equation_of-equation.result.now) c.program.ensures c.equation_of-equation.ensures in
-    let function = (asked c.args.cx.now.program c.args.symbol.0 _ c.args.used.now.equation c.args.used.now.subst _ _ c.equation_of-equation.result.now c.requires.ready c.requires.used.2 at).function in
-    let terms : forest c.deref.result.now ≡ results_of (children_of (plain_record c.args.evaluation.now)) = ap forest c.deref.ensures.value ∙ c.in_ok-terms.ensures in
+    let at =
+    subst (λ (p : Program). IsEquationAt p c.args.symbol.0 c.args.used.now.equation
+    c.equation_of-equation.result.now) c.program.ensures
+    c.equation_of-equation.ensures in
+    let function =
+    (asked c.args.cx.now.program c.args.symbol.0 _ c.args.used.now.equation
+    c.args.used.now.subst _ _ c.equation_of-equation.result.now c.requires.ready
+    c.requires.used.2 at).function in
+    let terms : forest c.deref.result.now ≡ results_of
+    (children_of (plain_record c.args.evaluation.now)) =
+    ap forest c.deref.ensures.value ∙ c.in_ok-terms.ensures in
     if_ok c.equation_at.result
     (λ t says. λ e there.
-    let same : function_equation c.equation_of-equation.result.now ≡ e = same_equation c.args.cx.now.program c.args.symbol.0 c.args.used.now.equation c.equation_of-equation.result.now e at there in
-    subst (λ (n : ℕ). SaysEquationAt c.equation_at.new.cx n e c.args.used.now.subst (results_of (children_of (plain_record c.args.evaluation.now))) t.conclusion) function
-    (subst (λ (x : PlainEquation). SaysEquationAt c.equation_at.new.cx c.equation_of-equation.result.now.fun.0 x c.args.used.now.subst (results_of (children_of (plain_record c.args.evaluation.now))) t.conclusion) same
-    (subst (λ (ts : Forest). SaysEquationAt c.equation_at.new.cx c.equation_of-equation.result.now.fun.0 (function_equation c.equation_of-equation.result.now) c.args.used.now.subst ts t.conclusion) terms says)))
+    let same : function_equation c.equation_of-equation.result.now ≡ e =
+    same_equation c.args.cx.now.program c.args.symbol.0 c.args.used.now.equation
+    c.equation_of-equation.result.now e at there in
+    subst (λ (n : ℕ). SaysEquationAt c.equation_at.new.cx n e c.args.used.now.subst
+    (results_of (children_of (plain_record c.args.evaluation.now))) t.conclusion) function
+    (subst (λ (x : PlainEquation). SaysEquationAt c.equation_at.new.cx
+    c.equation_of-equation.result.now.fun.0 x c.args.used.now.subst
+    (results_of (children_of (plain_record c.args.evaluation.now))) t.conclusion) same
+    (subst (λ (ts : Forest). SaysEquationAt c.equation_at.new.cx
+    c.equation_of-equation.result.now.fun.0
+    (function_equation c.equation_of-equation.result.now) c.args.used.now.subst ts
+    t.conclusion) terms says)))
     c.equation_at.ensures.says
 
 pub returns-clause-kept : goal.returns-clause-kept
-returns-clause-kept c = kept_grown c.lemma_of.new.cx c.equation_at.new.cx c.lemma_of.new.kept c.equation_at.ensures.grown c.in_ok-lemma.ensures.kept
+returns-clause-kept c =
+    kept_grown c.lemma_of.new.cx c.equation_at.new.cx c.lemma_of.new.kept
+    c.equation_at.ensures.grown c.in_ok-lemma.ensures.kept

@@ -2,7 +2,8 @@ use Rattle.std.proofs.Common.{◌<◌, length, slice_get, ap, ◌∙◌, arith}
 use Rattle.rule_core.specs.Records.{Record}
 use Rattle.rule_core.specs.RecordView.{plain_record}
 use Rattle.prove_fun.specs.RecordParts.{children}
-use Rattle.prove_fun.proofs.PlainRecords.{plain-Ctor, plain-ByHook, plain-ByEquation, many_records, record_at}
+use Rattle.prove_fun.proofs.PlainRecords.{plain-Ctor, plain-ByHook, plain-ByEquation, many_records}
+use Rattle.prove_fun.proofs.PlainRecords.{record_at}
 use Rattle.prove_fun.proofs.parts.child.Goals as goal
 
 pub index-requires : goal.index-requires
@@ -15,8 +16,10 @@ pub returns-in-Ctor : goal.returns-in-Ctor
 returns-in-Ctor c =
     let is = ap plain_record c.in-Ctor.is ∙ plain-Ctor _ c.in-Ctor.records _ in
     let many = ap (λ (r : Record). length (children r)) is in
-    let low : c.args.i < length c.in-Ctor.records.items = omega (arith, c.requires, many, many_records c.in-Ctor.records.items) in
-    ap (λ (r : Record). slice_get (children r) c.args.i) is ∙ record_at c.in-Ctor.records.items c.args.i c.index.result.now low c.index.ensures
+    let low : c.args.i < length c.in-Ctor.records.items =
+    omega (arith, c.requires, many, many_records c.in-Ctor.records.items) in
+    ap (λ (r : Record). slice_get (children r) c.args.i) is
+    ∙ record_at c.in-Ctor.records.items c.args.i c.index.result.now low c.index.ensures
 
 pub index-requires-in-ByHook : goal.index-requires-in-ByHook
 index-requires-in-ByHook c =
@@ -28,8 +31,11 @@ pub returns-in-ByHook : goal.returns-in-ByHook
 returns-in-ByHook c =
     let is = ap plain_record c.in-ByHook.is ∙ plain-ByHook _ c.in-ByHook.records _ in
     let many = ap (λ (r : Record). length (children r)) is in
-    let low : c.args.i < length c.in-ByHook.records.items = omega (arith, c.requires, many, many_records c.in-ByHook.records.items) in
-    ap (λ (r : Record). slice_get (children r) c.args.i) is ∙ record_at c.in-ByHook.records.items c.args.i c.index-in-ByHook.result.now low c.index-in-ByHook.ensures
+    let low : c.args.i < length c.in-ByHook.records.items =
+    omega (arith, c.requires, many, many_records c.in-ByHook.records.items) in
+    ap (λ (r : Record). slice_get (children r) c.args.i) is
+    ∙ record_at c.in-ByHook.records.items c.args.i c.index-in-ByHook.result.now low
+    c.index-in-ByHook.ensures
 
 pub index-requires-in-ByEquation : goal.index-requires-in-ByEquation
 index-requires-in-ByEquation c =
@@ -41,5 +47,8 @@ pub returns-in-ByEquation : goal.returns-in-ByEquation
 returns-in-ByEquation c =
     let is = ap plain_record c.in-ByEquation.is ∙ plain-ByEquation c.in-ByEquation.used in
     let many = ap (λ (r : Record). length (children r)) is in
-    let low : c.args.i < length c.in-ByEquation.used.args.items = omega (arith, c.requires, many, many_records c.in-ByEquation.used.args.items) in
-    ap (λ (r : Record). slice_get (children r) c.args.i) is ∙ record_at c.in-ByEquation.used.args.items c.args.i c.index-in-ByEquation.result.now low c.index-in-ByEquation.ensures
+    let low : c.args.i < length c.in-ByEquation.used.args.items =
+    omega (arith, c.requires, many, many_records c.in-ByEquation.used.args.items) in
+    ap (λ (r : Record). slice_get (children r) c.args.i) is
+    ∙ record_at c.in-ByEquation.used.args.items c.args.i c.index-in-ByEquation.result.now low
+    c.index-in-ByEquation.ensures

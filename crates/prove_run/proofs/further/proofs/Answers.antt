@@ -1,4 +1,5 @@
-use Rattle.std.proofs.Common.{rules, ◌≡◌, ◌<◌, ◌+◌, List, [], ◌∷◌, ◌++◌, length, take, sym, subst, arith}
+use Rattle.std.proofs.Common.{rules, ◌≡◌, ◌<◌, ◌+◌, List, [], ◌∷◌, ◌++◌, length, take, sym, subst}
+use Rattle.std.proofs.Common.{arith}
 use Rattle.std.specs.List.{AllZip}
 use Rattle.ml_kernel.specs.Theorems.{Theorem}
 use Rattle.prove_run.specs.ReachLemma.{ProvesHypothesis}
@@ -12,7 +13,8 @@ pub proof_of-proof-requires : goal.proof_of-proof-requires
 proof_of-proof-requires c =
     let low : c.loop-hypothesis.hypothesis-index < length c.args.hypotheses.now =
     omega (arith, c.loop-hypothesis-test.true, c.loop-hypothesis.auto.hypothesis-index-end) in
-    hypothesis_at c.args.hypotheses.now c.loop-hypothesis.hypothesis-index c.hypothesis-item.result c.requires low c.hypothesis-item.is
+    hypothesis_at c.args.hypotheses.now c.loop-hypothesis.hypothesis-index c.hypothesis-item.result
+    c.requires low c.hypothesis-item.is
 
 pub loop-hypothesis-preserved : goal.loop-hypothesis-preserved
 loop-hypothesis-preserved c =
@@ -20,6 +22,11 @@ loop-hypothesis-preserved c =
     let items : c.push.new.self.items ≡ c.loop-hypothesis.proofs.items ++ t ∷ [] = search rules in
     let low : c.loop-hypothesis.hypothesis-index < length c.args.hypotheses.now =
     omega (arith, c.loop-hypothesis-test.true, c.loop-hypothesis.auto.hypothesis-index-end) in
-    subst (λ (ts : List Theorem). AllZip (ProvesHypothesis c.args.sofar.now c.args.step.now) (take (c.loop-hypothesis.hypothesis-index + 1) c.args.hypotheses.now) ts) (sym items)
-    (one_more_proof c.args.sofar.now c.args.step.now c.args.hypotheses.now c.loop-hypothesis.hypothesis-index c.hypothesis-item.result c.loop-hypothesis.proofs.items t low c.hypothesis-item.is
-    c.loop-hypothesis.invariant (subst (ProvesHypothesis c.args.sofar.now c.args.step.now c.hypothesis-item.result) (sym c.in_ok-share.ensures) c.proof_of-proof.ensures))
+    subst (λ (ts : List Theorem). AllZip (ProvesHypothesis c.args.sofar.now c.args.step.now)
+    (take (c.loop-hypothesis.hypothesis-index + 1) c.args.hypotheses.now) ts) (sym items)
+    (one_more_proof c.args.sofar.now c.args.step.now c.args.hypotheses.now
+    c.loop-hypothesis.hypothesis-index c.hypothesis-item.result c.loop-hypothesis.proofs.items t
+    low c.hypothesis-item.is
+    c.loop-hypothesis.invariant (subst
+    (ProvesHypothesis c.args.sofar.now c.args.step.now c.hypothesis-item.result)
+    (sym c.in_ok-share.ensures) c.proof_of-proof.ensures))

@@ -15,8 +15,10 @@ returns-in_err-lemma-clause-grown c = grown_none c.args.prover.now
 
 pub returns-in_err-add_lemma-clause-grown : goal.returns-in_err-add_lemma-clause-grown
 returns-in_err-add_lemma-clause-grown c =
-    subst (λ (cx : Context). HasGrown c.args.prover.now cx) (sym c.in_err-add_lemma.ensures.err) (grown_none c.args.prover.now)
+    subst (λ (cx : Context). HasGrown c.args.prover.now cx) (sym c.in_err-add_lemma.ensures.err)
+    (grown_none c.args.prover.now)
 
 pub returns-clause-there : goal.returns-clause-there
 returns-clause-there c =
-    kept_lemma c.args.prover.now c.add_lemma.new.self c.in_ok-thm.thm c.in_ok-lemma.lemma c.in_ok-add_lemma.ensures.ok (c.in_ok-lemma.ensures ∙ c.in_ok-shared.ensures)
+    kept_lemma c.args.prover.now c.add_lemma.new.self c.in_ok-thm.thm c.in_ok-lemma.lemma
+    c.in_ok-add_lemma.ensures.ok (c.in_ok-lemma.ensures ∙ c.in_ok-shared.ensures)

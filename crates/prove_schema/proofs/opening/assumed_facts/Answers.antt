@@ -12,13 +12,19 @@ loop-x-preserved c =
     let t : Theorem = c.in_ok-assume.field-0 in
     let items : c.push.new.self.items ≡ c.loop-x.facts.items ++ t ∷ [] = search rules in
     let whole : c.loop-x.rest.now ≡ all c.in-All.x.0 c.in-All.sort.0 c.in-All.body = search rules in
-    let front : facts_of c.loop-x.rest.now ≡ fun (meta c.in-All.x.0) c.in-All.sort.0 ∷ facts_of c.in-All.body = ap facts_of whole in
+    let front : facts_of c.loop-x.rest.now ≡ fun (meta c.in-All.x.0) c.in-All.sort.0 ∷ facts_of
+    c.in-All.body =
+    ap facts_of whole in
     let fact : t.conclusion ≡ fun (meta c.in-All.x.0) c.in-All.sort.0 =
     c.in_ok-assume.ensures.conclusion ∙ c.in_ok-fun.ensures
     ∙ ap (λ (p : Pattern). fun p c.in-All.sort.0) c.in_ok-element.ensures in
     let one : AssumesWithin t.conclusion t =
-    subst (λ (p : Pattern). AssumesWithin p t) (sym c.in_ok-assume.ensures.conclusion) c.in_ok-assume.ensures.stays in
-    subst (λ (ts : List Theorem). AreAssumptions ts × (conclusions ts ++ facts_of c.in-All.body ≡ facts_of c.args.sentence.now)) (sym items) (
+    subst (λ (p : Pattern). AssumesWithin p t) (sym c.in_ok-assume.ensures.conclusion)
+    c.in_ok-assume.ensures.stays in
+    subst (λ (ts : List Theorem). AreAssumptions ts
+    × (conclusions ts ++ facts_of c.in-All.body ≡ facts_of c.args.sentence.now)) (sym items) (
       one_more_assumption c.loop-x.facts.items t c.loop-x.invariant.0 one,
-      one_more_quantifier c.loop-x.facts.items t c.loop-x.rest.now (fun (meta c.in-All.x.0) c.in-All.sort.0) (facts_of c.in-All.body) (facts_of c.args.sentence.now) fact front c.loop-x.invariant.1,
+      one_more_quantifier c.loop-x.facts.items t c.loop-x.rest.now
+          (fun (meta c.in-All.x.0) c.in-All.sort.0) (facts_of c.in-All.body)
+          (facts_of c.args.sentence.now) fact front c.loop-x.invariant.1,
     )

@@ -6,4 +6,5 @@ use Rattle.prove_schema.proofs.opening.assumed_facts.Given as goal
 
 abbrev pub invariant-loop-x : goal.invariant-loop-x
 invariant-loop-x l =
-    AreAssumptions l.facts.items × (conclusions l.facts.items ++ facts_of l.rest ≡ facts_of l.fn.sentence)
+    AreAssumptions l.facts.items
+    × (conclusions l.facts.items ++ facts_of l.rest ≡ facts_of l.fn.sentence)

@@ -5,4 +5,5 @@ use Rattle.prove_schema.proofs.using.subjects.Given as goal
 
 abbrev pub invariant-loop-fact : goal.invariant-loop-fact
 invariant-loop-fact l =
-    (qs : List Pattern) (ns : List ℕ) → AreFacts qs ns l.facts → l.patterns.items ≡ take l.fact-index qs
+    (qs : List Pattern) (ns : List ℕ) → AreFacts qs ns l.facts
+    → l.patterns.items ≡ take l.fact-index qs

@@ -5,4 +5,5 @@ use Rattle.prove_step.proofs.meeting.+meeting.Given as goal
 
 abbrev pub invariant-meet_in_some-loop-pat : goal.invariant-meet_in_some-loop-pat
 invariant-meet_in_some-loop-pat l =
-    meet_in_some l.subst (plain_patterns (drop l.pat-index l.pats)) ≡ meet_in_some l.subst (plain_patterns l.pats)
+    meet_in_some l.subst (plain_patterns (drop l.pat-index l.pats))
+    ≡ meet_in_some l.subst (plain_patterns l.pats)

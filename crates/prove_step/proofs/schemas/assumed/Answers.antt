@@ -10,12 +10,17 @@ use Rattle.prove_step.proofs.LemmaLaws.{only_part}
 use Rattle.prove_step.proofs.schemas.assumed.Goals as goal
 
 pub returns-in-Top-clause-stays : goal.returns-in-Top-clause-stays
-returns-in-Top-clause-stays c = if_ok c.top.result (λ u stays. λ s may. stays s tt tt) c.top.ensures.stays
+returns-in-Top-clause-stays c =
+    if_ok c.top.result (λ u stays. λ s may. stays s tt tt) c.top.ensures.stays
 
 pub returns-in_ok-share-in_default-clause-stays : goal.returns-in_ok-share-in_default-clause-stays
 returns-in_ok-share-in_default-clause-stays c =
-    let one : parts_of (pattern_of c.form.result.now) ≡ pattern_of c.form.result.now ∷ [] = only_part c.form.result.now (subst IsCondition (sym c.form.ensures) c.requires) c.in_default.not-Top in
-    let is : parts_of c.args.condition.now ≡ c.args.condition.now ∷ [] = subst (λ (p : Pattern). parts_of p ≡ p ∷ []) c.form.ensures one in
+    let one : parts_of (pattern_of c.form.result.now) ≡ pattern_of c.form.result.now ∷ [] =
+    only_part c.form.result.now (subst IsCondition (sym c.form.ensures) c.requires)
+    c.in_default.not-Top in
+    let is : parts_of c.args.condition.now ≡ c.args.condition.now ∷ [] =
+    subst (λ (p : Pattern). parts_of p ≡ p ∷ []) c.form.ensures one in
     if_ok c.assume.result
-    (λ u stays. whole_held c.args.condition.now u is (subst (λ (p : Pattern). AssumesWithin p u) c.in_ok-share-in_default.ensures stays))
+    (λ u stays. whole_held c.args.condition.now u is
+    (subst (λ (p : Pattern). AssumesWithin p u) c.in_ok-share-in_default.ensures stays))
     c.assume.ensures.stays

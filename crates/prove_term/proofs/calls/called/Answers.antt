@@ -9,5 +9,7 @@ use Rattle.prove_term.proofs.calls.called.Goals as goal
 pub returns : goal.returns
 returns c =
     plain-Call c.args.function c.new-sorts.result c.in_ok-args.args
-    ∙ ap (λ (ss : List SortId). call c.args.function.0 (sort_numbers ss) (plain_patterns c.in_ok-args.args.items)) c.new-sorts.ensures.items
+    ∙ ap (λ (ss : List SortId).
+    call c.args.function.0 (sort_numbers ss) (plain_patterns c.in_ok-args.args.items))
+    c.new-sorts.ensures.items
     ∙ ap (call c.args.function.0 []) c.in_ok-args.ensures

@@ -1,4 +1,5 @@
-use Rattle.std.proofs.Common.{rules, ◌≡◌, ◌+◌, ◌≤◌, ◌<◌, [], ◌∷◌, ◌++◌, List, map, take, length, sym, ◌∙◌, ap, subst, arith}
+use Rattle.std.proofs.Common.{rules, ◌≡◌, ◌+◌, ◌≤◌, ◌<◌, [], ◌∷◌, ◌++◌, List, map, take, length}
+use Rattle.std.proofs.Common.{sym, ◌∙◌, ap, subst, arith}
 use Rattle.std.proofs.lemmas.List.{map_push, take_all, take_more}
 use Rattle.term_core.specs.Terms.{Tree, forest}
 use Rattle.term_core.specs.Patterns.{Pattern, patterns, ground_pattern}
@@ -13,15 +14,23 @@ loop-term-preserved c =
     let p : RulePat = c.in_ok-pattern_of.field-0 in
     let u : Tree = c.term-item.result in
     let items : c.push.new.self.items ≡ c.loop-term.made.items ++ p ∷ [] = search rules in
-    let low : c.loop-term.term-index < length c.args.terms.now = omega (arith, c.loop-term-test.true, c.loop-term.auto.term-index-end) in
-    let front : take (c.loop-term.term-index + 1) c.args.terms.now ≡ take c.loop-term.term-index c.args.terms.now ++ u ∷ [] =
-    take_more c.args.terms.now c.loop-term.term-index u low ∙ ap (λ (v : Tree). take c.loop-term.term-index c.args.terms.now ++ v ∷ []) (sym c.term-item.is) in
+    let low : c.loop-term.term-index < length c.args.terms.now =
+    omega (arith, c.loop-term-test.true, c.loop-term.auto.term-index-end) in
+    let front : take (c.loop-term.term-index + 1) c.args.terms.now ≡ take c.loop-term.term-index
+    c.args.terms.now ++ u ∷ [] =
+    take_more c.args.terms.now c.loop-term.term-index u low
+    ∙ ap (λ (v : Tree). take c.loop-term.term-index c.args.terms.now ++ v ∷ [])
+    (sym c.term-item.is) in
     ap (map plain_pattern) items ∙ map_push plain_pattern c.loop-term.made.items p
-    ∙ ap (λ (q : Pattern). map plain_pattern c.loop-term.made.items ++ q ∷ []) c.in_ok-pattern_of.ensures.tree
+    ∙ ap (λ (q : Pattern). map plain_pattern c.loop-term.made.items ++ q ∷ [])
+    c.in_ok-pattern_of.ensures.tree
     ∙ ap (λ (qs : List Pattern). qs ++ ground_pattern u ∷ []) c.loop-term.invariant
-    ∙ sym (map_push ground_pattern (take c.loop-term.term-index c.args.terms.now) u) ∙ ap (map ground_pattern) (sym front)
+    ∙ sym (map_push ground_pattern (take c.loop-term.term-index c.args.terms.now) u)
+    ∙ ap (map ground_pattern) (sym front)
 
 pub returns : goal.returns
 returns c =
     let enough : length c.args.terms.now ≤ c.loop-term.term-index = omega arith in
-    ap patterns (c.loop-term.invariant ∙ ap (map ground_pattern) (take_all c.loop-term.term-index c.args.terms.now enough)) ∙ patterns-map c.args.terms.now
+    ap patterns (c.loop-term.invariant
+    ∙ ap (map ground_pattern) (take_all c.loop-term.term-index c.args.terms.now enough))
+    ∙ patterns-map c.args.terms.now

@@ -11,8 +11,10 @@ returns-clause-conclusion c =
     if_ok c.use_lemma.result
     (λ made is. λ f s t u p at.
     let images : c.deref.result.now ≡ p ∷ [] =
-    c.deref.ensures.value ∙ c.in_ok-images.ensures.items ∙ ap (λ (q : Pattern). q ∷ []) (c.in_ok-subject.ensures p s at.proved) in
-    is ∙ ap (λ (ms : List Pattern). instance ms c.args.lemma.now.conclusion) images ∙ collapses_conclusion f s t u p c.args.lemma.now c.args.proof.now at)
+    c.deref.ensures.value ∙ c.in_ok-images.ensures.items
+    ∙ ap (λ (q : Pattern). q ∷ []) (c.in_ok-subject.ensures p s at.proved) in
+    is ∙ ap (λ (ms : List Pattern). instance ms c.args.lemma.now.conclusion) images
+    ∙ collapses_conclusion f s t u p c.args.lemma.now c.args.proof.now at)
     c.use_lemma.ensures.conclusion
 
 pub returns-clause-by : goal.returns-clause-by
@@ -20,7 +22,11 @@ returns-clause-by c =
     if_ok c.use_lemma.result
     (λ made by. λ f s t u p at.
     let images : c.deref.result.now ≡ p ∷ [] =
-    c.deref.ensures.value ∙ c.in_ok-images.ensures.items ∙ ap (λ (q : Pattern). q ∷ []) (c.in_ok-subject.ensures p s at.proved) in
-    let proofs : c.deref-2.result.now ≡ c.args.proof.now ∷ [] = c.deref-2.ensures.value ∙ c.in_ok-proofs.ensures.items ∙ ap (λ (x : Theorem). x ∷ []) c.in_ok-share.ensures in
-    subst (λ (ts : List Theorem). IsByLemma c.args.lemma.now (p ∷ []) ts made) proofs (subst (λ (ms : List Pattern). IsByLemma c.args.lemma.now ms c.deref-2.result.now made) images by))
+    c.deref.ensures.value ∙ c.in_ok-images.ensures.items
+    ∙ ap (λ (q : Pattern). q ∷ []) (c.in_ok-subject.ensures p s at.proved) in
+    let proofs : c.deref-2.result.now ≡ c.args.proof.now ∷ [] =
+    c.deref-2.ensures.value ∙ c.in_ok-proofs.ensures.items
+    ∙ ap (λ (x : Theorem). x ∷ []) c.in_ok-share.ensures in
+    subst (λ (ts : List Theorem). IsByLemma c.args.lemma.now (p ∷ []) ts made) proofs (subst
+    (λ (ms : List Pattern). IsByLemma c.args.lemma.now ms c.deref-2.result.now made) images by))
     c.use_lemma.ensures.lemma

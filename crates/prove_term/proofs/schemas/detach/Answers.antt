@@ -8,7 +8,9 @@ use Rattle.prove_term.proofs.schemas.detach.Goals as goal
 
 pub returns-clause-stays : goal.returns-clause-stays
 returns-clause-stays c =
-    rule_stays rule.Mp (pattern c.args.p.now ∷ pattern c.args.q.now ∷ []) ([]) (c.args.a.now ∷ c.args.b.now ∷ []) (c.args.q.now) c.mp.result
+    rule_stays rule.Mp (pattern c.args.p.now ∷ pattern c.args.q.now ∷ []) ([])
+    (c.args.a.now ∷ c.args.b.now ∷ []) (c.args.q.now) c.mp.result
     (λ s hp ht.
-    let both : IsOver s (imp c.args.p.now c.args.q.now) = subst (IsOver s) c.requires.b ht.1.0.conclusion in
+    let both : IsOver s (imp c.args.p.now c.args.q.now) =
+    subst (IsOver s) c.requires.b ht.1.0.conclusion in
     ((both.0, (both.1, tt)), both.1)) c.mp.ensures

@@ -6,42 +6,98 @@ use Rattle.rule_core.specs.Runs.{by_none}
 use Rattle.rule_core.specs.declared.rules.Program.{Program}
 use Rattle.rule_core.proofs.Trials.{rule_at}
 use Rattle.rewriter.specs.Choosing.{ChoiceSays}
-use Rattle.rewriter.proofs.Trying.{choice_stops, chosen_within, right_evaluable, right_stops, step_made}
+use Rattle.rewriter.proofs.Trying.{choice_stops, chosen_within, right_evaluable, right_stops}
+use Rattle.rewriter.proofs.Trying.{step_made}
 use Rattle.rewriter.proofs.step.advance.Goals as goal
 
 pub returns-in-Err : goal.returns-in-Err
-returns-in-Err g c = choice_stops g.R.Recording.tells (theory_of c.args.engine.now) c.args.config.now c.args.calls c.in-Err.end c.in-Err.ensures
+returns-in-Err g c =
+    choice_stops g.R.Recording.tells (theory_of c.args.engine.now) c.args.config.now c.args.calls
+    c.in-Err.end c.in-Err.ensures
 
 pub returns-in_default : goal.returns-in_default
 returns-in_default g c =
-    by_none (subst (λ o. ChoiceSays g.R.Recording.tells (theory_of c.args.engine.now) c.args.config.now c.args.calls o c.in-Ok.found.1) c.in_default.is c.in-Ok.ensures)
+    by_none (subst (λ o. ChoiceSays g.R.Recording.tells (theory_of c.args.engine.now)
+    c.args.config.now c.args.calls o c.in-Ok.found.1) c.in_default.is c.in-Ok.ensures)
 
 pub index-requires : goal.index-requires
 index-requires g c =
-    let picked : ChoiceSays g.R.Recording.tells (theory_of c.args.engine.now) c.args.config.now c.args.calls (Some c.in-Some.chosen) c.in-Ok.found.1 = subst (λ o. ChoiceSays g.R.Recording.tells (theory_of c.args.engine.now) c.args.config.now c.args.calls o c.in-Ok.found.1) c.in-Some.is c.in-Ok.ensures in
-    let within : c.in-Some.chosen.number < length c.program.result.now.rules.items = chosen_within c.args.engine.now c.program.result.now c.args.config.now c.args.calls c.in-Some.chosen.number c.in-Ok.found.1 c.in-Some.chosen.subst c.program.ensures.program picked.0 in
+    let picked : ChoiceSays g.R.Recording.tells (theory_of c.args.engine.now) c.args.config.now
+    c.args.calls (Some c.in-Some.chosen) c.in-Ok.found.1 =
+    subst (λ o. ChoiceSays g.R.Recording.tells (theory_of c.args.engine.now) c.args.config.now
+    c.args.calls o c.in-Ok.found.1) c.in-Some.is c.in-Ok.ensures in
+    let within : c.in-Some.chosen.number < length c.program.result.now.rules.items =
+    chosen_within c.args.engine.now c.program.result.now c.args.config.now c.args.calls
+    c.in-Some.chosen.number c.in-Ok.found.1 c.in-Some.chosen.subst c.program.ensures.program
+    picked.0 in
     omega arith
 
 pub eval_as-requires-clause-fits : goal.eval_as-requires-clause-fits
 eval_as-requires-clause-fits g c =
-    let picked : ChoiceSays g.R.Recording.tells (theory_of c.args.engine.now) c.args.config.now c.args.calls (Some c.in-Some.chosen) c.in-Ok.found.1 = subst (λ o. ChoiceSays g.R.Recording.tells (theory_of c.args.engine.now) c.args.config.now c.args.calls o c.in-Ok.found.1) c.in-Some.is c.in-Ok.ensures in
-    let within : c.in-Some.chosen.number < length c.program.result.now.rules.items = chosen_within c.args.engine.now c.program.result.now c.args.config.now c.args.calls c.in-Some.chosen.number c.in-Ok.found.1 c.in-Some.chosen.subst c.program.ensures.program picked.0 in
-    let there : slice_get (rewrite_rules c.args.engine.now.rules.items) c.in-Some.chosen.number ≡ Some (rewrite_rule c.index.result.now) = subst (λ (p : Program). slice_get (rewrite_rules p.rules.items) c.in-Some.chosen.number ≡ Some (rewrite_rule c.index.result.now)) c.program.ensures.program (rule_at c.program.result.now.rules.items c.in-Some.chosen.number c.index.result.now within c.index.ensures) in
-    let low : height c.args.config.now ≤ 500 = omega (arith, c.height-high.ensures.bound, c.height-high.ensures.value) in
-    right_evaluable (theory_of c.args.engine.now) c.args.config.now c.args.calls c.in-Some.chosen.number c.in-Ok.found.1 c.in-Some.chosen.subst (rewrite_rule c.index.result.now) c.requires picked.0 there low
+    let picked : ChoiceSays g.R.Recording.tells (theory_of c.args.engine.now) c.args.config.now
+    c.args.calls (Some c.in-Some.chosen) c.in-Ok.found.1 =
+    subst (λ o. ChoiceSays g.R.Recording.tells (theory_of c.args.engine.now) c.args.config.now
+    c.args.calls o c.in-Ok.found.1) c.in-Some.is c.in-Ok.ensures in
+    let within : c.in-Some.chosen.number < length c.program.result.now.rules.items =
+    chosen_within c.args.engine.now c.program.result.now c.args.config.now c.args.calls
+    c.in-Some.chosen.number c.in-Ok.found.1 c.in-Some.chosen.subst c.program.ensures.program
+    picked.0 in
+    let there : slice_get (rewrite_rules c.args.engine.now.rules.items) c.in-Some.chosen.number ≡
+    Some (rewrite_rule c.index.result.now) =
+    subst (λ (p : Program). slice_get (rewrite_rules p.rules.items) c.in-Some.chosen.number
+    ≡ Some (rewrite_rule c.index.result.now)) c.program.ensures.program
+    (rule_at c.program.result.now.rules.items c.in-Some.chosen.number c.index.result.now
+    within c.index.ensures) in
+    let low : height c.args.config.now ≤ 500 =
+    omega (arith, c.height-high.ensures.bound, c.height-high.ensures.value) in
+    right_evaluable (theory_of c.args.engine.now) c.args.config.now c.args.calls
+    c.in-Some.chosen.number c.in-Ok.found.1 c.in-Some.chosen.subst
+    (rewrite_rule c.index.result.now) c.requires picked.0 there low
 
 pub returns-in-Ok-eval_as : goal.returns-in-Ok-eval_as
 returns-in-Ok-eval_as g c =
-    let picked : ChoiceSays g.R.Recording.tells (theory_of c.args.engine.now) c.args.config.now c.args.calls (Some c.in-Some.chosen) c.in-Ok.found.1 = subst (λ o. ChoiceSays g.R.Recording.tells (theory_of c.args.engine.now) c.args.config.now c.args.calls o c.in-Ok.found.1) c.in-Some.is c.in-Ok.ensures in
-    let within : c.in-Some.chosen.number < length c.program.result.now.rules.items = chosen_within c.args.engine.now c.program.result.now c.args.config.now c.args.calls c.in-Some.chosen.number c.in-Ok.found.1 c.in-Some.chosen.subst c.program.ensures.program picked.0 in
-    let there : slice_get (rewrite_rules c.args.engine.now.rules.items) c.in-Some.chosen.number ≡ Some (rewrite_rule c.index.result.now) = subst (λ (p : Program). slice_get (rewrite_rules p.rules.items) c.in-Some.chosen.number ≡ Some (rewrite_rule c.index.result.now)) c.program.ensures.program (rule_at c.program.result.now.rules.items c.in-Some.chosen.number c.index.result.now within c.index.ensures) in
-    let low : height c.args.config.now ≤ 500 = omega (arith, c.height-high.ensures.bound, c.height-high.ensures.value) in
-    step_made g.R.Recording.tells (theory_of c.args.engine.now) c.args.config.now c.in-Ok-eval_as.answer.term c.args.calls c.in-Some.chosen.number c.in-Ok.found.1 c.eval_as.new.budget.calls c.in-Some.chosen.subst c.in-Some.chosen.cond (rewrite_rule c.index.result.now) c.in-Ok-eval_as.answer.recorded c.program.ensures.sorted c.requires low picked.0 picked.1 there c.in-Ok-eval_as.ensures.value c.in-Ok-eval_as.ensures.recorded
+    let picked : ChoiceSays g.R.Recording.tells (theory_of c.args.engine.now) c.args.config.now
+    c.args.calls (Some c.in-Some.chosen) c.in-Ok.found.1 =
+    subst (λ o. ChoiceSays g.R.Recording.tells (theory_of c.args.engine.now) c.args.config.now
+    c.args.calls o c.in-Ok.found.1) c.in-Some.is c.in-Ok.ensures in
+    let within : c.in-Some.chosen.number < length c.program.result.now.rules.items =
+    chosen_within c.args.engine.now c.program.result.now c.args.config.now c.args.calls
+    c.in-Some.chosen.number c.in-Ok.found.1 c.in-Some.chosen.subst c.program.ensures.program
+    picked.0 in
+    let there : slice_get (rewrite_rules c.args.engine.now.rules.items) c.in-Some.chosen.number ≡
+    Some (rewrite_rule c.index.result.now) =
+    subst (λ (p : Program). slice_get (rewrite_rules p.rules.items) c.in-Some.chosen.number
+    ≡ Some (rewrite_rule c.index.result.now)) c.program.ensures.program
+    (rule_at c.program.result.now.rules.items c.in-Some.chosen.number c.index.result.now
+    within c.index.ensures) in
+    let low : height c.args.config.now ≤ 500 =
+    omega (arith, c.height-high.ensures.bound, c.height-high.ensures.value) in
+    step_made g.R.Recording.tells (theory_of c.args.engine.now) c.args.config.now
+    c.in-Ok-eval_as.answer.term c.args.calls c.in-Some.chosen.number c.in-Ok.found.1
+    c.eval_as.new.budget.calls c.in-Some.chosen.subst c.in-Some.chosen.cond
+    (rewrite_rule c.index.result.now) c.in-Ok-eval_as.answer.recorded c.program.ensures.sorted
+    c.requires low picked.0 picked.1 there c.in-Ok-eval_as.ensures.value
+    c.in-Ok-eval_as.ensures.recorded
 
 pub returns-in-Err-eval_as : goal.returns-in-Err-eval_as
 returns-in-Err-eval_as g c =
-    let picked : ChoiceSays g.R.Recording.tells (theory_of c.args.engine.now) c.args.config.now c.args.calls (Some c.in-Some.chosen) c.in-Ok.found.1 = subst (λ o. ChoiceSays g.R.Recording.tells (theory_of c.args.engine.now) c.args.config.now c.args.calls o c.in-Ok.found.1) c.in-Some.is c.in-Ok.ensures in
-    let within : c.in-Some.chosen.number < length c.program.result.now.rules.items = chosen_within c.args.engine.now c.program.result.now c.args.config.now c.args.calls c.in-Some.chosen.number c.in-Ok.found.1 c.in-Some.chosen.subst c.program.ensures.program picked.0 in
-    let there : slice_get (rewrite_rules c.args.engine.now.rules.items) c.in-Some.chosen.number ≡ Some (rewrite_rule c.index.result.now) = subst (λ (p : Program). slice_get (rewrite_rules p.rules.items) c.in-Some.chosen.number ≡ Some (rewrite_rule c.index.result.now)) c.program.ensures.program (rule_at c.program.result.now.rules.items c.in-Some.chosen.number c.index.result.now within c.index.ensures) in
-    let low : height c.args.config.now ≤ 500 = omega (arith, c.height-high.ensures.bound, c.height-high.ensures.value) in
-    right_stops g.R.Recording.tells (theory_of c.args.engine.now) c.args.config.now c.args.calls c.in-Some.chosen.number c.in-Ok.found.1 c.in-Some.chosen.subst (rewrite_rule c.index.result.now) c.in-Err-eval_as.end picked.0 there c.in-Err-eval_as.ensures.blocked
+    let picked : ChoiceSays g.R.Recording.tells (theory_of c.args.engine.now) c.args.config.now
+    c.args.calls (Some c.in-Some.chosen) c.in-Ok.found.1 =
+    subst (λ o. ChoiceSays g.R.Recording.tells (theory_of c.args.engine.now) c.args.config.now
+    c.args.calls o c.in-Ok.found.1) c.in-Some.is c.in-Ok.ensures in
+    let within : c.in-Some.chosen.number < length c.program.result.now.rules.items =
+    chosen_within c.args.engine.now c.program.result.now c.args.config.now c.args.calls
+    c.in-Some.chosen.number c.in-Ok.found.1 c.in-Some.chosen.subst c.program.ensures.program
+    picked.0 in
+    let there : slice_get (rewrite_rules c.args.engine.now.rules.items) c.in-Some.chosen.number ≡
+    Some (rewrite_rule c.index.result.now) =
+    subst (λ (p : Program). slice_get (rewrite_rules p.rules.items) c.in-Some.chosen.number
+    ≡ Some (rewrite_rule c.index.result.now)) c.program.ensures.program
+    (rule_at c.program.result.now.rules.items c.in-Some.chosen.number c.index.result.now
+    within c.index.ensures) in
+    let low : height c.args.config.now ≤ 500 =
+    omega (arith, c.height-high.ensures.bound, c.height-high.ensures.value) in
+    right_stops g.R.Recording.tells (theory_of c.args.engine.now) c.args.config.now c.args.calls
+    c.in-Some.chosen.number c.in-Ok.found.1 c.in-Some.chosen.subst
+    (rewrite_rule c.index.result.now) c.in-Err-eval_as.end picked.0 there
+    c.in-Err-eval_as.ensures.blocked

@@ -1,4 +1,6 @@
-use Rattle.rule_core.proofs.Determined.{evaluation_is_unique, evaluation_has_answer, values_are_sorted, more_left_keeps_value, evaluation_calls_fall}
+use Rattle.rule_core.proofs.Determined.{evaluation_is_unique, evaluation_has_answer}
+use Rattle.rule_core.proofs.Determined.{values_are_sorted, more_left_keeps_value}
+use Rattle.rule_core.proofs.Determined.{evaluation_calls_fall}
 use Rattle.rule_core.proofs.evaluation.evaluation_laws.Goals as goal
 
 pub returns-clause-one : goal.returns-clause-one

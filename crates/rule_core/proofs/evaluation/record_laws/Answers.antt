@@ -1,4 +1,5 @@
-use Rattle.rule_core.proofs.Determined.{value_has_record, record_tells_value, record_determines, records_agree}
+use Rattle.rule_core.proofs.Determined.{value_has_record, record_tells_value, record_determines}
+use Rattle.rule_core.proofs.Determined.{records_agree}
 use Rattle.rule_core.proofs.evaluation.record_laws.Goals as goal
 
 pub returns-clause-kept : goal.returns-clause-kept

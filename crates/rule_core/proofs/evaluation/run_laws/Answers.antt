@@ -17,7 +17,9 @@ pub returns-clause-some : goal.returns-clause-some
 returns-clause-some a = has_run
 
 pub returns-clause-sorted : goal.returns-clause-sorted
-returns-clause-sorted a = λ theory calls sort n c start t good each h r. configurations_are_sorted theory good calls sort start each h r
+returns-clause-sorted a =
+    λ theory calls sort n c start t good each h r.
+    configurations_are_sorted theory good calls sort start each h r
 
 pub returns-clause-recorded : goal.returns-clause-recorded
 returns-clause-recorded a = step_record_determines

@@ -5,4 +5,13 @@ use Rattle.rule_core.proofs.TriedLists.{tried_lists}
 use Rattle.rule_core.proofs.evaluation.tried.Goals as goal
 
 pub returns : goal.returns
-returns a = record { cases = record { integers = tried_integers; bounds = tried_bounds; conditions = tried_conditions; injections = tried_injections; lists = tried_lists } }
+returns a = record {
+  cases =
+      record {
+        integers = tried_integers;
+        bounds = tried_bounds;
+        conditions = tried_conditions;
+        injections = tried_injections;
+        lists = tried_lists;
+      };
+}

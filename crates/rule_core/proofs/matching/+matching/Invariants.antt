@@ -22,6 +22,9 @@ decreases-match_injected g l = 3 * depth (plain_pattern l.pat.now) + 1
 abbrev pub invariant-match_children-loop-i : goal.invariant-match_children-loop-i
 invariant-match_children-loop-i g l = record {
   room : length l.subst ≡ length l.initial.subst;
-  rest : all_matched l.subsorts (plain_patterns (drop l.i l.pats)) (forest (drop l.i (children l.term))) l.subst ≡ all_matched l.subsorts (plain_patterns l.pats) (forest (children l.term)) l.initial.subst;
-  looks : l.steps + all_nodes (plain_patterns (drop l.i l.pats)) ≤ l.initial.steps + all_nodes (plain_patterns l.pats);
+  rest : all_matched l.subsorts (plain_patterns (drop l.i l.pats))
+      (forest (drop l.i (children l.term))) l.subst
+      ≡ all_matched l.subsorts (plain_patterns l.pats) (forest (children l.term)) l.initial.subst;
+  looks : l.steps + all_nodes (plain_patterns (drop l.i l.pats))
+      ≤ l.initial.steps + all_nodes (plain_patterns l.pats);
 }

@@ -5,4 +5,5 @@ use Rattle.rule_core.proofs.matching.bind_injected.Goals as goal
 
 pub returns-in-Some-clause-found : goal.returns-in-Some-clause-found
 returns-in-Some-clause-found c =
-    bound_known _ c.in-Some.known.now _ _ _ _ (sym c.get.ensures ∙ ap option_copied c.in-Some.is) c.same_inj.ensures
+    bound_known _ c.in-Some.known.now _ _ _ _ (sym c.get.ensures ∙ ap option_copied c.in-Some.is)
+    c.same_inj.ensures

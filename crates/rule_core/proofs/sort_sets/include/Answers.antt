@@ -13,5 +13,7 @@ loop-k-init c = record {
 
 pub returns : goal.returns
 returns c =
-    let none : (z : ℕ) → c.loop-k.k ≤ z → word_at c.args.more.now z ≡ 0 = λ z le. grind (arith, common_steps) in
-    has_joined _ _ _ (joined_words _ _ _ c.loop-k.k c.loop-k.invariant.done c.loop-k.invariant.rest none)
+    let none : (z : ℕ) → c.loop-k.k ≤ z → word_at c.args.more.now z ≡ 0 =
+    λ z le. grind (arith, common_steps) in
+    has_joined _ _ _
+    (joined_words _ _ _ c.loop-k.k c.loop-k.invariant.done c.loop-k.invariant.rest none)

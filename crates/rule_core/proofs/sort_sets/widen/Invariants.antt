@@ -7,5 +7,6 @@ abbrev pub invariant-loop-x : goal.invariant-loop-x
 invariant-loop-x l = record {
   count : vec_len l.rows ≡ vec_len l.initial.rows;
   same : (x y : ℕ) → is_in l.rows.items x y ≡ is_in l.initial.rows.items x y;
-  long : (z : ℕ) → z < l.x → IsTrue (reaches l.initial.rows.items z l.fn.a.0) → l.len ≤ length (set_at l.rows.items z);
+  long : (z : ℕ) → z < l.x → IsTrue (reaches l.initial.rows.items z l.fn.a.0)
+      → l.len ≤ length (set_at l.rows.items z);
 }

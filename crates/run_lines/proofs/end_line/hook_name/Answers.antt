@@ -8,7 +8,8 @@ pub returns-in-Some : goal.returns-in-Some
 unfolding hook_name
 returns-in-Some c =
     let found = c.in-Some.ensures in
-    row_name c.hook_rows.result.now hooks c.args.hook.0 c.in-Some.row.now c.hook_rows.ensures.rows found.lookup.3.0 found.lookup.1
+    row_name c.hook_rows.result.now hooks c.args.hook.0 c.in-Some.row.now c.hook_rows.ensures.rows
+    found.lookup.3.0 found.lookup.1
 
 pub returns-in-None : goal.returns-in-None
 unfolding hook_name

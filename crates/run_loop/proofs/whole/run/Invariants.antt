@@ -6,6 +6,7 @@ use Rattle.run_loop.proofs.whole.run.Given as goal
 
 abbrev pub invariant-loop-made : goal.invariant-loop-made
 invariant-loop-made l = record {
-  reached : Reaches (theory_of l.engine) (plain_pattern l.start) l.calls l.made l.run.config l.run.calls;
+  reached : Reaches (theory_of l.engine) (plain_pattern l.start) l.calls l.made l.run.config
+      l.run.calls;
   sorted : IsConfiguration (theory_of l.engine) l.run.config;
 }

@@ -13,7 +13,9 @@ invariant-loop-made g l = record {
   created : IsTrue (g.D.Desk.created l.desk);
   counts : g.D.Desk.write_faults l.initial.desk ≤ g.D.Desk.write_faults l.desk;
   reads : g.D.Desk.read_faults l.desk ≡ g.D.Desk.read_faults l.initial.desk;
-  reached : Reaches (theory_of l.engine) (plain_pattern l.start) l.calls l.made l.steps.run.config l.steps.run.calls;
+  reached : Reaches (theory_of l.engine) (plain_pattern l.start) l.calls l.made l.steps.run.config
+      l.steps.run.calls;
   written : (text : List ℕ) × Writes (g.D.Desk.told l.initial.desk) (g.D.Desk.told l.desk) text
-      × IsProvedRun l.engine (plain_pattern l.start) text l.steps × (l.written ≡ capped (length text));
+      × IsProvedRun l.engine (plain_pattern l.start) text l.steps
+      × (l.written ≡ capped (length text));
 }

@@ -17,9 +17,19 @@ use Rattle.run_tests.proofs.rewriting.is_stuck_without_a_rule.Goals as goal
 
 pub new-requires : goal.new-requires
 new-requires g c =
-    let has : HasIntegers c.in-Some.program.sig = c.in_ok-program.ensures.integers c.in-Some.program c.in-Some.is in
-    let none : c.in-Some.program.rules.items ≡ [] = c.in_ok-program.ensures.rules c.in-Some.program c.in-Some.is in
-    let rules_fit : All (IsRuleOf c.in-Some.program.sig 0) (rewrite_rules c.in-Some.program.rules.items) = subst (λ (rs : List Rule). All (IsRuleOf c.in-Some.program.sig 0) (rewrite_rules rs)) (sym none) (λ k d lt. absurd (omega arith)) in
-    let plain : IsStartOf (theory_of c.in-Some.program) (domain_value 0 (integer (pos 5))) = (0, rules_fit, (refl, integer_value c.in-Some.program.sig 5 (omega arith) has)) in
-    let own : IsStartOf (theory_of c.in-Some.program) (plain_pattern (form.Value (record { 0 = 0 }) (value.Int (pos 5)))) = subst (IsStartOf (theory_of c.in-Some.program)) (sym (plain-Value _ _)) plain in
-    subst (λ (p : Program). IsStartOf (theory_of p) (plain_pattern (form.Value (record { 0 = 0 }) (value.Int (pos 5))))) (sym c.new-engine.ensures) own
+    let has : HasIntegers c.in-Some.program.sig =
+    c.in_ok-program.ensures.integers c.in-Some.program c.in-Some.is in
+    let none : c.in-Some.program.rules.items ≡ [] =
+    c.in_ok-program.ensures.rules c.in-Some.program c.in-Some.is in
+    let rules_fit : All (IsRuleOf c.in-Some.program.sig 0)
+    (rewrite_rules c.in-Some.program.rules.items) =
+    subst (λ (rs : List Rule). All (IsRuleOf c.in-Some.program.sig 0) (rewrite_rules rs))
+    (sym none) (λ k d lt. absurd (omega arith)) in
+    let plain : IsStartOf (theory_of c.in-Some.program) (domain_value 0 (integer (pos 5))) =
+    (0, rules_fit, (refl, integer_value c.in-Some.program.sig 5 (omega arith) has)) in
+    let own : IsStartOf (theory_of c.in-Some.program)
+    (plain_pattern (form.Value (record { 0 = 0 }) (value.Int (pos 5)))) =
+    subst (IsStartOf (theory_of c.in-Some.program)) (sym (plain-Value _ _)) plain in
+    subst (λ (p : Program). IsStartOf (theory_of p)
+    (plain_pattern (form.Value (record { 0 = 0 }) (value.Int (pos 5)))))
+    (sym c.new-engine.ensures) own

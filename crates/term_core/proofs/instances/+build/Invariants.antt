@@ -7,5 +7,8 @@ use Rattle.term_core.proofs.instances.+build.Given as goal
 abbrev pub invariant-build_all-loop-pat : goal.invariant-build_all-loop-pat
 invariant-build_all-loop-pat l = record {
   fits : AllFitWithin 499 l.subst (plain_patterns (drop l.pat-index l.pats));
-  built : (others : Forest) → instances_of l.subst (plain_patterns (drop l.pat-index l.pats)) ≡ Some others → instances_of l.subst (plain_patterns l.pats) ≡ Some (forest (l.terms.items ++ trees others));
+  built : (others : Forest)
+      → instances_of l.subst (plain_patterns (drop l.pat-index l.pats)) ≡ Some others
+      → instances_of l.subst (plain_patterns l.pats)
+      ≡ Some (forest (l.terms.items ++ trees others));
 }

@@ -17,6 +17,9 @@ decreases-is_injected g l = 2 * depth (plain_pattern l.pat.now) + 1
 
 abbrev pub invariant-are_instances-loop-i : goal.invariant-are_instances-loop-i
 invariant-are_instances-loop-i g l = record {
-  instances : (instances_of [] (plain_patterns (drop l.i l.pats)) ≡ Some (forest (drop l.i (children l.term)))) ↔ (instances_of [] (plain_patterns l.pats) ≡ Some (forest (children l.term)));
-  looks : l.steps + sizes (forest (drop l.i (children l.term))) ≤ l.initial.steps + sizes (forest (children l.term));
+  instances : (instances_of [] (plain_patterns (drop l.i l.pats))
+      ≡ Some (forest (drop l.i (children l.term))))
+      ↔ (instances_of [] (plain_patterns l.pats) ≡ Some (forest (children l.term)));
+  looks : l.steps + sizes (forest (drop l.i (children l.term)))
+      ≤ l.initial.steps + sizes (forest (children l.term));
 }

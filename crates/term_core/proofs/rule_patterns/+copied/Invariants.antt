@@ -11,4 +11,5 @@ abbrev pub decreases-copied_children : goal.decreases-copied_children
 decreases-copied_children l = 2 * heights (forest (children l.term.now)) + 1
 
 abbrev pub invariant-copied_children-loop-i : goal.invariant-copied_children-loop-i
-invariant-copied_children-loop-i l = map plain_pattern l.pats.items ≡ map ground_pattern (take l.i (children l.term))
+invariant-copied_children-loop-i l =
+    map plain_pattern l.pats.items ≡ map ground_pattern (take l.i (children l.term))

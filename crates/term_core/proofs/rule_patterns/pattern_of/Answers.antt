@@ -11,5 +11,6 @@ returns-clause-instance c =
     IfOk-weaker c.copied.result
     (λ (p : RulePat). plain_pattern p ≡ ground_pattern c.args.term.now)
     (λ (p : RulePat). instance_of [] (plain_pattern p) ≡ Some c.args.term.now)
-    (λ p e. ap (instance_of []) e ∙ instance_of-ground_pattern [] c.args.term.now c.height-high.ensures.normal)
+    (λ p e. ap (instance_of []) e
+    ∙ instance_of-ground_pattern [] c.args.term.now c.height-high.ensures.normal)
     c.copied.ensures

@@ -8,19 +8,26 @@ pub Term::same-all_same-requires : goal.Term::same-all_same-requires
 Term::same-all_same-requires t c =
     let whole : c.args.self.now ≡ node c.in-Ctor-Ctor.sym.0 (forest c.in-Ctor-Ctor.args.items) =
     sym c.self.view_is ∙ ap node_tree (sym c.deref.ensures ∙ c.in-Ctor-Ctor.is-0) in
-    let high : height c.args.self.now ≡ heights (forest c.in-Ctor-Ctor.args.items) + 1 = ap height whole in
-    let args : heights (forest c.deref-then-eq-2.result.now) ≡ heights (forest c.in-Ctor-Ctor.args.items) = rw c.deref-then-eq-2.ensures.value refl in
+    let high : height c.args.self.now ≡ heights (forest c.in-Ctor-Ctor.args.items) + 1 =
+    ap height whole in
+    let args : heights (forest c.deref-then-eq-2.result.now) ≡ heights
+    (forest c.in-Ctor-Ctor.args.items) =
+    rw c.deref-then-eq-2.ensures.value refl in
     (omega arith, tt)
 
 pub Term::same-returns-then-eq-2 : goal.Term::same-returns-then-eq-2
 Term::same-returns-then-eq-2 t c =
     let whole : c.args.self.now ≡ node c.in-Ctor-Ctor.sym.0 (forest c.in-Ctor-Ctor.args.items) =
     sym c.self.view_is ∙ ap node_tree (sym c.deref.ensures ∙ c.in-Ctor-Ctor.is-0) in
-    let other : c.args.other.now ≡ node c.in-Ctor-Ctor.other_sym.0 (forest c.in-Ctor-Ctor.other_args.items) =
+    let other : c.args.other.now ≡ node c.in-Ctor-Ctor.other_sym.0
+    (forest c.in-Ctor-Ctor.other_args.items) =
     sym c.other.view_is ∙ ap node_tree (sym c.deref-2.ensures ∙ c.in-Ctor-Ctor.is-1) in
-    same_node _ _ _ _ _ _ _ whole other (eqb-true _ _ (sym c.if-eq-2.ensures)) (rw (← c.deref-then-eq-2.ensures.value, ← c.deref-then-eq-2-2.ensures.value) c.all_same.ensures)
+    same_node _ _ _ _ _ _ _ whole other (eqb-true _ _ (sym c.if-eq-2.ensures))
+    (rw (← c.deref-then-eq-2.ensures.value, ← c.deref-then-eq-2-2.ensures.value)
+    c.all_same.ensures)
 
 pub all_same-same-requires : goal.all_same-same-requires
 all_same-same-requires t c =
-    let low : height c.index-xs-i.result ≤ heights (forest c.args.xs.now) = height_of-item _ _ _ c.index-xs-i.is c.loop-i-test.true in
+    let low : height c.index-xs-i.result ≤ heights (forest c.args.xs.now) =
+    height_of-item _ _ _ c.index-xs-i.is c.loop-i-test.true in
     (omega arith, tt)

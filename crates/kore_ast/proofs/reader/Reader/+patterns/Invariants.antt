@@ -1,5 +1,5 @@
 use Rattle.std.proofs.Common.{◌*◌, ◌+◌, ◌≤◌, Bool, map}
-use Rattle.kore_ast.specs.Plain.{plain_pattern}
+use Rattle.kore_ast.specs.Plain.{pattern_tree}
 use Rattle.kore_text.specs.Grammar.{spell_pattern}
 use Rattle.kore_ast.specs.Reading.{left, size}
 use Rattle.kore_ast.proofs.Lists.{Keeps}
@@ -25,7 +25,9 @@ decreases-patterns l = 3 * size l.self.now + 2
 
 abbrev pub invariant-patterns-loop-self : goal.invariant-patterns-loop-self
 invariant-patterns-loop-self l = record {
-  keeps : (b : Bool) → Keeps (spell_pattern b) l.close (map plain_pattern l.patterns.items) (left l.fn.self) (left l.self);
+  keeps : (b : Bool)
+      → Keeps (spell_pattern b) l.close (map pattern_tree l.patterns.items) (left l.fn.self)
+      (left l.self);
   shorter : size l.self ≤ size l.fn.self;
 }
 

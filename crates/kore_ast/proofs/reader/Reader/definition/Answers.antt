@@ -1,7 +1,7 @@
 use Rattle.std.proofs.Common.{map, sym, ◌∙◌, []}
 use Rattle.kore_text.specs.TokenStream.{end}
 use Rattle.kore_text.specs.Grammar.{spell_module}
-use Rattle.kore_ast.specs.Plain.{plain_pattern, plain_module}
+use Rattle.kore_ast.specs.Plain.{pattern_tree, plain_module}
 use Rattle.kore_ast.specs.Reading.{left}
 use Rattle.kore_ast.proofs.Sequences.{vector-start, vector-more}
 use Rattle.kore_ast.proofs.Declared.{definition-read, not-done, apart-modules}
@@ -11,7 +11,9 @@ pub loop-self-init : goal.loop-self-init
 loop-self-init c = record {
   starts = left c.attributes.new.self;
   attributes = c.in_ok-attrs.ensures.exact;
-  modules = λ e. vector-start plain_module spell_module c.new-modules.result [] (end e) (left c.attributes.new.self) c.new-modules.ensures.items;
+  modules =
+      λ e. vector-start plain_module spell_module c.new-modules.result [] (end e)
+      (left c.attributes.new.self) c.new-modules.ensures.items;
 }
 
 pub loop-self-preserved : goal.loop-self-preserved
@@ -19,7 +21,8 @@ loop-self-preserved c = record {
   starts = c.loop-self.invariant.starts;
   attributes = c.loop-self.invariant.attributes;
   modules = λ e.
-      vector-more plain_module spell_module c.loop-self.modules c.push.new.self c.in_ok-module.module [] (end e) c.loop-self.invariant.starts (left c.loop-self.self)
+      vector-more plain_module spell_module c.loop-self.modules c.push.new.self
+      c.in_ok-module.module [] (end e) c.loop-self.invariant.starts (left c.loop-self.self)
       (left c.module.new.self) c.in_ok-push.ensures.items (c.loop-self.invariant.modules e)
       (not-done (left c.loop-self.self) e (sym c.is_done.ensures.same ∙ c.loop-self-test.true))
       (λ us. apart-modules us [] (end e) tt) c.in_ok-module.ensures.exact;
@@ -28,6 +31,8 @@ loop-self-preserved c = record {
 pub returns : goal.returns
 returns c = record {
   exact =
-      definition-read (map plain_pattern c.in_ok-attrs.attrs.items) (map plain_module c.loop-self.modules.items) (left c.args.self.now) (left c.loop-self.self)
+      definition-read (map pattern_tree c.in_ok-attrs.attrs.items)
+      (map plain_module c.loop-self.modules.items) (left c.args.self.now)
+      (left c.loop-self.self)
       c.loop-self.invariant (sym c.is_done.ensures.same ∙ c.loop-self-test.false);
 }

@@ -7,7 +7,8 @@ use Rattle.kore_ast.proofs.reader.Reader.params.Given as goal
 
 abbrev pub invariant-loop-self : goal.invariant-loop-self
 invariant-loop-self l = record {
-  keeps : Keeps spell_name 125 (map (λ (n : List ℕ). n) l.params.items) (after (left l.fn.self)) (left l.self);
+  keeps : Keeps spell_name 125 (map (λ (n : List ℕ). n) l.params.items) (after (left l.fn.self))
+      (left l.self);
   shorter : size l.self ≤ size l.fn.self - 1;
 }
 

@@ -8,5 +8,6 @@ pub returns-clause-exact : goal.returns-clause-exact
 returns-clause-exact c =
     let e = c.in_ok-at.ensures in
     rw (plain-pattern-SetVar c.in_ok-at.at c.in_ok-at.name c.in_ok-sort.sort)
-    (set-read c.in_ok-at.at c.in_ok-at.name (plain_sort c.in_ok-sort.sort) (left c.args.self.now) (left c.set_name.new.self) (left c.pass.new.self) (left c.sort.new.self)
+    (set-read c.in_ok-at.at c.in_ok-at.name (plain_sort c.in_ok-sort.sort) (left c.args.self.now)
+    (left c.set_name.new.self) (left c.pass.new.self) (left c.sort.new.self)
     c.requires e.read.0 e.read.1 e.rest c.pass.ensures.rest c.in_ok-sort.ensures.exact)

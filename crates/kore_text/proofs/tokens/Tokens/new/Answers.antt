@@ -1,6 +1,6 @@
 use Rattle.std.proofs.Common.{refl}
 use Rattle.kore_text.specs.TokenStream.{tokens_of}
-use Rattle.kore_text.specs.Left.{left}
+use Rattle.kore_text.specs.Remaining.{left}
 use Rattle.kore_text.proofs.tokens.Tokens.new.Goals as goal
 
 pub returns : goal.returns

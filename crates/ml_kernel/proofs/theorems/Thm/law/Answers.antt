@@ -7,4 +7,5 @@ use Rattle.ml_kernel.proofs.theorems.Thm.law.Goals as goal
 pub returns : goal.returns
 returns c =
     let t : Theorem = theorem_of c.self.inside in
-    subst (λ (u : Theorem). IsDerived u) c.self.view_is (Derives-Concludes t.hypotheses t.derivation t.conclusion c.self.invariant)
+    subst (λ (u : Theorem). IsDerived u) c.self.view_is
+    (Derives-Concludes t.hypotheses t.derivation t.conclusion c.self.invariant)

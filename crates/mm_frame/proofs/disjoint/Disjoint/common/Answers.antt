@@ -1,7 +1,7 @@
 use Rattle.std.proofs.Common.{rules, ◌≡◌, ap, sym, ◌∙◌}
 use Rattle.std.specs.Prelude.{◌&&◌, slice_get, Some}
 use Rattle.std.proofs.lemmas.Result.{IfOk-weaker}
-use Rattle.mm_frame.specs.FramesHeld.{has_number}
+use Rattle.mm_frame.specs.PlainFrames.{has_number}
 use Rattle.mm_frame.specs.DisjointView.{groups_in}
 use Rattle.mm_frame.specs.Listed.{group_places}
 use Rattle.mm_frame.specs.Places.{passes}
@@ -28,5 +28,6 @@ returns-else-len-numbers c =
     (λ v is n. ap (λ ms. has_number ms n) is
     ∙ has_number-filter (λ m. has_number (group_places gs m) c.args.place) c.args.numbers.now n
     ∙ and-turned (has_number c.args.numbers.now n) (has_number (group_places gs n) c.args.place)
-    ∙ ap (λ b. b && has_number c.args.numbers.now n) (places-has (λ g. has_number g n) gs c.args.place))
+    ∙ ap (λ b. b && has_number c.args.numbers.now n)
+    (places-has (λ g. has_number g n) gs c.args.place))
     c.listed_numbers.ensures

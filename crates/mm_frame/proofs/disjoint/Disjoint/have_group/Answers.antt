@@ -2,7 +2,7 @@ use Rattle.std.proofs.Common.{◌≡◌, true, false, not, ap, sym, ◌∙◌}
 use Rattle.std.specs.Prelude.{nat_eq}
 use Rattle.std.specs.List.{list_any}
 use Rattle.std.proofs.lemmas.Bool.{eq-eqb}
-use Rattle.mm_frame.specs.FramesHeld.{has_number}
+use Rattle.mm_frame.specs.PlainFrames.{has_number}
 use Rattle.mm_frame.specs.DisjointView.{groups_in}
 use Rattle.mm_frame.specs.Listed.{group_places}
 use Rattle.mm_frame.proofs.Listing.{unequal}

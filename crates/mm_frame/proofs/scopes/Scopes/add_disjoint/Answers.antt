@@ -14,10 +14,16 @@ invariant_of-self-then-spares c =
     let hs = hypotheses_in s.hyps in
     let gs = groups_in s.disjoint in
     let is : c.take-shared.result ≡ s.shared = search rules in
-    let spared : IfSome s.shared (SparesPairs c.args.variables.items) = subst (λ (g : List ℕ). IfSome s.shared (SparesPairs g)) c.deref.ensures.value (c.in_ok-spares.ensures c.if-spares.true) in
+    let spared : IfSome s.shared (SparesPairs c.args.variables.items) =
+    subst (λ (g : List ℕ). IfSome s.shared (SparesPairs g)) c.deref.ensures.value
+    (c.in_ok-spares.ensures c.if-spares.true) in
     let more : Extends gs c.args.variables.items (groups_in c.push.new.self) = search rules in
     record {
-      shared_is = shared-group s.types.items hs gs c.args.variables.items (groups_in c.push.new.self) c.take-shared.result
-          (subst (λ (o : Option Shared). IfSome o (IsShared s.types.items hs gs)) (sym is) s.shared_is)
-          (subst (λ (o : Option Shared). IfSome o (SparesPairs c.args.variables.items)) (sym is) spared) more;
+      shared_is =
+          shared-group s.types.items hs gs c.args.variables.items (groups_in c.push.new.self)
+          c.take-shared.result
+          (subst (λ (o : Option Shared). IfSome o (IsShared s.types.items hs gs)) (sym is)
+          s.shared_is)
+          (subst (λ (o : Option Shared). IfSome o (SparesPairs c.args.variables.items)) (sym is)
+          spared) more;
     }

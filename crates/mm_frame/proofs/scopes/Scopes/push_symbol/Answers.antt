@@ -15,6 +15,9 @@ invariant_of-self-2 c =
     let is : c.take-shared.result ≡ s.shared = search rules in
     let more : c.push-2.new.self.items ≡ s.types.items ++ 0 ∷ [] = search rules in
     record {
-      shared_is = subst (λ (ts : List ℕ). IfSome c.take-shared.result (IsShared ts hs gs)) (sym more)
-          (shared-symbol s.types.items hs gs c.take-shared.result (subst (λ (o : Option Shared). IfSome o (IsShared s.types.items hs gs)) (sym is) s.shared_is));
+      shared_is =
+          subst (λ (ts : List ℕ). IfSome c.take-shared.result (IsShared ts hs gs)) (sym more)
+          (shared-symbol s.types.items hs gs c.take-shared.result (subst
+          (λ (o : Option Shared). IfSome o (IsShared s.types.items hs gs)) (sym is)
+          s.shared_is));
     }

@@ -1,7 +1,8 @@
-use Rattle.std.proofs.Common.{rules, arith, ◌≡◌, ◌∙◌, ◌<◌, ℕ, List, Option, Some, length, ap, subst, sym}
+use Rattle.std.proofs.Common.{rules, arith, ◌≡◌, ◌∙◌, ◌<◌, ℕ, List, Option, Some, length, ap, subst}
+use Rattle.std.proofs.Common.{sym}
 use Rattle.std.specs.Prelude.{IfSome, filter}
 use Rattle.std.proofs.lemmas.Bool.{ltb-true}
-use Rattle.mm_frame.specs.FramesHeld.{has_number}
+use Rattle.mm_frame.specs.PlainFrames.{has_number}
 use Rattle.mm_frame.specs.Sharing.{SparesPairs}
 use Rattle.mm_frame.specs.declared.sharing.Shared.{Shared}
 use Rattle.mm_frame.proofs.SharedKept.{spared-pairs}
@@ -16,4 +17,5 @@ returns-in_ok-kept-in-Some c = λ less.
     let short : length kept < 2 = omega (arith, low, c.len.ensures) in
     subst (λ (o : Option Shared). IfSome o (SparesPairs group)) (sym found)
     (spared-pairs c.in-Some.shared.symbols.items group kept
-    (c.in_ok-kept-in-Some.ensures ∙ ap (λ (ns : List ℕ). filter (has_number ns) group) c.deref.ensures.value) short)
+    (c.in_ok-kept-in-Some.ensures
+    ∙ ap (λ (ns : List ℕ). filter (has_number ns) group) c.deref.ensures.value) short)

@@ -5,7 +5,7 @@ use Rattle.mm_claims.specs.Blocks.{Claim, Stated}
 use Rattle.mm_claims.specs.CitedAt.{ArePremises}
 use Rattle.mm_claims.specs.Claiming.{proved_statements}
 use Rattle.mm_claims.specs.ClaimVariables.{claim_of, claim_variables}
-use Rattle.mm_claims.specs.Kept.{Kept, all_stated}
+use Rattle.mm_claims.specs.Rendered.{Rendered, all_stated}
 use Rattle.mm_claims.specs.OpenVariables.{variables_of, other_variables}
 use Rattle.mm_claims.specs.Places.{Finds, lemma_statements}
 use Rattle.mm_claims.specs.Variables.{AreNumbered}
@@ -20,7 +20,9 @@ use Rattle.mm_render.proofs.renderer.Renderer.write_proof.Goals as goal
 
 -- how claims are found, and the places of hypotheses
 abbrev find_of : goal.After-drop-premises-2 → List Pattern → Pattern → Stated
-find_of c = find_by (plain_stated_all c.self.inside.stated.items) (last_of c.self.inside.run) (found_in c.self.inside.places)
+find_of c =
+    find_by (plain_stated_all c.self.inside.stated.items) (last_of c.self.inside.run)
+    (found_in c.self.inside.places)
 
 abbrev premises_of : goal.After-drop-premises-2 → Pattern → ℕ
 premises_of c = premise_place_by (found_in c.in_ok-premises.premises)
@@ -28,61 +30,95 @@ premises_of c = premise_place_by (found_in c.in_ok-premises.premises)
 count : (c : goal.After-drop-premises-2) → c.serial-serial.result ≡ c.args.self.now.count
 count c = c.serial-serial.ensures
 
-stated : (c : goal.After-drop-premises-2) → plain_claim c.in_ok-claim.claim ≡ claim_of c.args.theorem.now.hypotheses c.args.theorem.now.conclusion
+stated : (c : goal.After-drop-premises-2)
+    → plain_claim c.in_ok-claim.claim
+    ≡ claim_of c.args.theorem.now.hypotheses c.args.theorem.now.conclusion
 stated c =
-    c.in_ok-claim.ensures.claim ∙ ap (λ (hs : List Pattern). claim_of hs c.conclusion.result.now) c.hypotheses-hypotheses.ensures.value
+    c.in_ok-claim.ensures.claim
+    ∙ ap (λ (hs : List Pattern). claim_of hs c.conclusion.result.now)
+    c.hypotheses-hypotheses.ensures.value
     ∙ ap (claim_of c.args.theorem.now.hypotheses) c.conclusion.ensures
 
 -- what is written for a claim with a number and a derivation
-abbrev text_of : goal.After-drop-premises-2 → ℕ → (List Pattern → Pattern → Stated) → Claim → Derivation → List ℕ
-text_of c k find s d = written_statements (proved_statements c.args.names.now k find (premises_of c) s (other_variables s.variables (variables_of find d)) d)
+abbrev text_of : goal.After-drop-premises-2 → ℕ → (List Pattern → Pattern → Stated) → Claim
+    → Derivation → List ℕ
+text_of c k find s d =
+    written_statements (proved_statements c.args.names.now k find (premises_of c) s
+    (other_variables s.variables (variables_of find d)) d)
 
 -- how the statement finds claims
 abbrev found : goal.After-drop-premises-2 → List code.Stated → List Pattern → Pattern → Stated
-found c ss = find_by (plain_stated_all ss) (last_of c.self.inside.run) (found_in c.self.inside.places)
+found c ss =
+    find_by (plain_stated_all ss) (last_of c.self.inside.run) (found_in c.self.inside.places)
 
-text_is : (c : goal.After-drop-premises-2) → c.push_theorem.new.to.items ≡ c.args.to.now.items ++ written_statements (lemma_statements c.args.names.now c.args.self.now.count (find_of c) (premises_of c) c.args.theorem.now)
+text_is : (c : goal.After-drop-premises-2)
+    → c.push_theorem.new.to.items
+    ≡ c.args.to.now.items
+    ++ written_statements (lemma_statements c.args.names.now c.args.self.now.count
+    (find_of c) (premises_of c) c.args.theorem.now)
 text_is c =
     let s : Claim = plain_claim c.in_ok-claim.claim in
     let k : ℕ = c.args.self.now.count in
     let before : List ℕ = c.args.to.now.items in
     c.in_ok-push_theorem.ensures.text
-    ∙ ap (λ (ss : List code.Stated). before ++ text_of c c.serial-serial.result (found c ss) s c.derivation.result.now) c.deref.ensures.value
+    ∙ ap (λ (ss : List code.Stated).
+    before ++ text_of c c.serial-serial.result (found c ss) s c.derivation.result.now)
+    c.deref.ensures.value
     ∙ ap (λ (n : ℕ). before ++ text_of c n (find_of c) s c.derivation.result.now) (count c)
     ∙ ap (λ (q : Claim). before ++ text_of c k (find_of c) q c.derivation.result.now) (stated c)
-    ∙ ap (λ (d : Derivation). before ++ text_of c k (find_of c) (claim_of c.args.theorem.now.hypotheses c.args.theorem.now.conclusion) d) c.derivation.ensures
+    ∙ ap (λ (d : Derivation). before
+    ++ text_of c k (find_of c)
+    (claim_of c.args.theorem.now.hypotheses c.args.theorem.now.conclusion) d)
+    c.derivation.ensures
 
-numbered : (c : goal.After-drop-premises-2) → AreNumbered (claim_variables c.args.theorem.now.hypotheses c.args.theorem.now.conclusion)
+numbered : (c : goal.After-drop-premises-2)
+    → AreNumbered (claim_variables c.args.theorem.now.hypotheses c.args.theorem.now.conclusion)
 numbered c =
-    subst (λ (p : Pattern). AreNumbered (claim_variables c.args.theorem.now.hypotheses p)) c.conclusion.ensures
-    (subst (λ (hs : List Pattern). AreNumbered (claim_variables hs c.conclusion.result.now)) c.hypotheses-hypotheses.ensures.value c.in_ok-claim.ensures.numbered)
+    subst (λ (p : Pattern). AreNumbered (claim_variables c.args.theorem.now.hypotheses p))
+    c.conclusion.ensures
+    (subst (λ (hs : List Pattern). AreNumbered (claim_variables hs c.conclusion.result.now))
+    c.hypotheses-hypotheses.ensures.value c.in_ok-claim.ensures.numbered)
 
-needed : (c : goal.After-drop-premises-2) → AreNumbered (variables_of (find_of c) c.args.theorem.now.derivation)
+needed : (c : goal.After-drop-premises-2)
+    → AreNumbered (variables_of (find_of c) c.args.theorem.now.derivation)
 needed c =
     subst (λ (d : Derivation). AreNumbered (variables_of (find_of c) d)) c.derivation.ensures
-    (subst (λ (ss : List code.Stated). AreNumbered (variables_of (found c ss) c.derivation.result.now)) c.deref.ensures.value c.in_ok-push_theorem.ensures.numbered)
+    (subst
+    (λ (ss : List code.Stated). AreNumbered (variables_of (found c ss) c.derivation.result.now))
+    c.deref.ensures.value c.in_ok-push_theorem.ensures.numbered)
 
 finds : (c : goal.After-drop-premises-2) → Finds (all_stated c.args.self.now) (find_of c)
 finds c =
-    subst (λ (k : Kept). Finds (all_stated k) (find_of c)) c.self.view_is
-    (all_found (plain_stated_all c.self.inside.stated.items) c.self.inside.run (found_in c.self.inside.places) c.self.invariant)
+    subst (λ (k : Rendered). Finds (all_stated k) (find_of c)) c.self.view_is
+    (all_found (plain_stated_all c.self.inside.stated.items) c.self.inside.run
+    (found_in c.self.inside.places) c.self.invariant)
 
 pub returns-clause-text : goal.returns-clause-text
 returns-clause-text c =
-    let k : Kept = c.args.self.now in
+    let k : Rendered = c.args.self.now in
     let t : Theorem = c.args.theorem.now in
     let claim : Claim = claim_of t.hypotheses t.conclusion in
     let inside : c.serial-serial.result < 2 ^ 64 = search rules in
     let few : c.args.self.now.count < 2 ^ 64 = subst (λ (n : ℕ). n < 2 ^ 64) (count c) inside in
     let own : length c.hypotheses-hypotheses.result.now < 2 ^ 64 = search rules in
-    let few_hypotheses : length c.args.theorem.now.hypotheses < 2 ^ 64 = subst (λ (hs : List Pattern). length hs < 2 ^ 64) c.hypotheses-hypotheses.ensures.value own in
-    let premises : ArePremises c.args.theorem.now.hypotheses (premises_of c) = subst (λ (hs : List Pattern). ArePremises hs (premises_of c)) c.hypotheses-hypotheses.ensures.value c.in_ok-premises.ensures in
+    let few_hypotheses : length c.args.theorem.now.hypotheses < 2 ^ 64 =
+    subst (λ (hs : List Pattern). length hs < 2 ^ 64) c.hypotheses-hypotheses.ensures.value
+    own in
+    let premises : ArePremises c.args.theorem.now.hypotheses (premises_of c) =
+    subst (λ (hs : List Pattern). ArePremises hs (premises_of c))
+    c.hypotheses-hypotheses.ensures.value c.in_ok-premises.ensures in
     record {
       find = find_of c;
       premise_place = premises_of c;
       finds = finds c;
       premises = premises;
       appended = text_is c;
-      gains = λ may. lemma_gains c.args.names.now k _ (find_of c) (premises_of c) t (one_stated_more k claim) few few_hypotheses (numbered c) (needed c) c.hypotheses-hypotheses.ensures.kept (finds c) premises may;
-      gains_last = λ may. lemma_gains c.args.names.now k _ (find_of c) (premises_of c) t (one_last_more k claim) few few_hypotheses (numbered c) (needed c) c.hypotheses-hypotheses.ensures.kept (finds c) premises may;
+      gains =
+          λ may. lemma_gains c.args.names.now k _ (find_of c) (premises_of c) t
+          (one_stated_more k claim) few few_hypotheses (numbered c) (needed c)
+          c.hypotheses-hypotheses.ensures.kept (finds c) premises may;
+      gains_last =
+          λ may. lemma_gains c.args.names.now k _ (find_of c) (premises_of c) t
+          (one_last_more k claim) few few_hypotheses (numbered c) (needed c)
+          c.hypotheses-hypotheses.ensures.kept (finds c) premises may;
     }

@@ -7,7 +7,8 @@ invariant-loop-stray l = record {
   text : l.self.bytes.now ≡ l.fn.self.bytes.now;
   after : l.fn.self.at ≤ l.at;
   within : l.at ≤ length l.self.bytes.now;
-  same : tokens_from l.fn.self.at (drop l.fn.self.at l.fn.self.bytes.now) ≡ tokens_from l.at (drop l.at l.fn.self.bytes.now);
+  same : tokens_from l.fn.self.at (drop l.fn.self.at l.fn.self.bytes.now)
+      ≡ tokens_from l.at (drop l.at l.fn.self.bytes.now);
 }
 
 abbrev pub decreases-loop-stray : goal.decreases-loop-stray

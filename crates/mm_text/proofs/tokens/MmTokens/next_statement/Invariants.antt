@@ -10,7 +10,8 @@ invariant-loop-fault l = record {
   text : l.self.bytes.now ≡ l.fn.self.bytes.now;
   after : l.fn.self.at ≤ l.self.at;
   within : l.self.at ≤ length l.self.bytes.now;
-  same : statements_left l.fn.self ≡ statements_in (begun l.self.bytes.now l.tokens.items) (left l.self);
+  same : statements_left l.fn.self
+      ≡ statements_in (begun l.self.bytes.now l.tokens.items) (left l.self);
 }
 
 abbrev pub decreases-loop-fault : goal.decreases-loop-fault

@@ -14,14 +14,21 @@ use Rattle.mm_verify.proofs.assertion.Assertion.is_apart.Goals as goal
 pub are_groups_apart-requires : goal.are_groups_apart-requires
 are_groups_apart-requires g c = record {
   within =
-      subst (λ (gs : List (Vec Part)). All (GroupWithin (length (drop c.args.base c.args.stack.now))) gs) (sym c.deref.ensures.value)
-      (placed-within-each parts_of (hypotheses_of c.args.self.now.wanted.items) (length (drop c.args.base c.args.stack.now)) c.args.self.now.apart.items c.requires c.args.self.now.apart_placed);
+      subst (λ (gs : List (Vec Part)).
+      All (GroupWithin (length (drop c.args.base c.args.stack.now))) gs)
+      (sym c.deref.ensures.value)
+      (placed-within-each parts_of (hypotheses_of c.args.self.now.wanted.items)
+      (length (drop c.args.base c.args.stack.now)) c.args.self.now.apart.items c.requires
+      c.args.self.now.apart_placed);
 }
 
 pub returns : goal.returns
 returns g c =
     IfOk-weaker c.are_groups_apart.result _ _
     (λ r is. is
-    ∙ ap (λ (gs : List (Vec Part)). are_groups_apart (g.P.Place.place c.args.place.now) (drop c.args.base c.args.stack.now) gs) c.deref.ensures.value
-    ∙ groups-apart-is (g.P.Place.place c.args.place.now) (assertion_frame c.args.self.now) (drop c.args.base c.args.stack.now) c.args.self.now.apart.items c.requires c.args.self.now.apart_placed (λ a b. refl))
+    ∙ ap (λ (gs : List (Vec Part)). are_groups_apart (g.P.Place.place c.args.place.now)
+    (drop c.args.base c.args.stack.now) gs) c.deref.ensures.value
+    ∙ groups-apart-is (g.P.Place.place c.args.place.now) (assertion_frame c.args.self.now)
+    (drop c.args.base c.args.stack.now) c.args.self.now.apart.items c.requires
+    c.args.self.now.apart_placed (λ a b. refl))
     c.are_groups_apart.ensures

@@ -1,4 +1,5 @@
-use Rattle.std.proofs.Common.{rules, arith, ◌∙◌, ◌+◌, ◌*◌, ◌^◌, ◌<◌, ◌≤◌, ap, List, map, length, Option}
+use Rattle.std.proofs.Common.{rules, arith, ◌∙◌, ◌+◌, ◌*◌, ◌^◌, ◌<◌, ◌≤◌, ap, List, map, length}
+use Rattle.std.proofs.Common.{Option}
 use Rattle.mm_text.specs.Compressed.{value_before}
 use Rattle.mm_database.specs.Steps.{Step}
 use Rattle.mm_frame.specs.NumberedSteps.{Citation}
@@ -11,8 +12,15 @@ use Rattle.mm_verify.proofs.letters.ReadSteps.add_digit.Goals as goal
 
 pub returns-in-None : goal.returns-in-None
 returns-in-None c b is others =
-    let past : 2 ^ 64 ≤ 5 * value_before (before_of c.args.self.now.behind) + c.args.d = search rules in
-    let few : length (table_of c.args.self.now.hyps.now c.args.self.now.listed.items) + c.args.self.now.saved < 2 ^ 64 = few_steps c.args.self.now in
-    ap (λ (o : Option (List (Step Citation))). behind_items (map step_of c.args.self.now.steps.items) o)
-    (digit-read (table_of c.args.self.now.hyps.now c.args.self.now.listed.items) c.args.self.now.saved c.args.d b (before_of c.args.self.now.behind) others is
-    ∙ letters-past (table_of c.args.self.now.hyps.now c.args.self.now.listed.items) c.args.self.now.saved (5 * value_before (before_of c.args.self.now.behind) + c.args.d) others (omega (arith, few, past)))
+    let past : 2 ^ 64 ≤ 5 * value_before (before_of c.args.self.now.behind) + c.args.d =
+    search rules in
+    let few : length (table_of c.args.self.now.hyps.now c.args.self.now.listed.items) +
+    c.args.self.now.saved < 2 ^ 64 =
+    few_steps c.args.self.now in
+    ap (λ (o : Option (List (Step Citation))).
+    behind_items (map step_of c.args.self.now.steps.items) o)
+    (digit-read (table_of c.args.self.now.hyps.now c.args.self.now.listed.items)
+    c.args.self.now.saved c.args.d b (before_of c.args.self.now.behind) others is
+    ∙ letters-past (table_of c.args.self.now.hyps.now c.args.self.now.listed.items)
+    c.args.self.now.saved (5 * value_before (before_of c.args.self.now.behind) + c.args.d)
+    others (omega (arith, few, past)))

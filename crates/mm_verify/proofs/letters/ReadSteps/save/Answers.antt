@@ -16,5 +16,7 @@ returns c b is others =
     let table = table_of s.hyps.now s.listed.items in
     let number : before_of s.behind ≡ a_number = search rules in
     save-on (map step_of s.steps.items) table s.saved b (before_of s.behind) others number is
-    ∙ ap (λ (done : List (Step Citation)). behind_items done (left_meanings table (s.saved + 1) a_save others))
-    (sym (ap (map step_of) c.in_ok-push.ensures.items ∙ map-append step_of s.steps.items (code.Saves ∷ [])))
+    ∙ ap (λ (done : List (Step Citation)).
+    behind_items done (left_meanings table (s.saved + 1) a_save others))
+    (sym (ap (map
+    step_of) c.in_ok-push.ensures.items ∙ map-append step_of s.steps.items (code.Saves ∷ [])))

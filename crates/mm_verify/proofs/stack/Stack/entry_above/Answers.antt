@@ -4,7 +4,10 @@ use Rattle.mm_verify.proofs.stack.Stack.entry_above.Goals as goal
 
 pub piece-requires-clause-within : goal.piece-requires-clause-within
 piece-requires-clause-within c =
-    let within = above_within c.self.inside.symbols.items c.self.inside.ends.items c.args.base c.args.i (subst (λ (v : List (List ℕ)). c.args.i < length (drop c.args.base v)) (sym c.self.view_is) c.requires) in
+    let within =
+    above_within c.self.inside.symbols.items c.self.inside.ends.items c.args.base c.args.i
+    (subst (λ (v : List (List ℕ)). c.args.i < length (drop c.args.base v))
+    (sym c.self.view_is) c.requires) in
     omega (arith, within, ap (λ (l : List ℕ). length l) c.deref-2.ensures.value)
 
 pub overflow_add-base : goal.overflow_add-base

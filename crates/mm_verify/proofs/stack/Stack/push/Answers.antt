@@ -2,16 +2,22 @@ use Rattle.std.proofs.Common.{rules, ◌≡◌, List, ℕ, [], ◌∷◌, ◌++�
 use Rattle.mm_verify.proofs.Cuts.{pushed_ends, pushed_cut}
 use Rattle.mm_verify.proofs.stack.Stack.push.Goals as goal
 
-symbols : (c : goal.After-unwrap) → c.extend_from_slice.new.self.items ≡ c.self.inside.symbols.items ++ c.args.expression.now
+symbols : (c : goal.After-unwrap)
+    → c.extend_from_slice.new.self.items ≡ c.self.inside.symbols.items ++ c.args.expression.now
 symbols c = search rules
 
-ends : (c : goal.After-unwrap) → c.push.new.self.items ≡ c.self.inside.ends.items ++ length c.extend_from_slice.new.self.items ∷ []
+ends : (c : goal.After-unwrap)
+    → c.push.new.self.items
+    ≡ c.self.inside.ends.items ++ length c.extend_from_slice.new.self.items ∷ []
 ends c = search rules
 
 pub invariant_of-self-2 : goal.invariant_of-self-2
-invariant_of-self-2 c = pushed_ends c.self.inside.symbols.items c.args.expression.now _ c.self.inside.ends.items _ (symbols c) (ends c) c.self.invariant
+invariant_of-self-2 c =
+    pushed_ends c.self.inside.symbols.items c.args.expression.now _ c.self.inside.ends.items _
+    (symbols c) (ends c) c.self.invariant
 
 pub returns-clause-pushed : goal.returns-clause-pushed
 returns-clause-pushed c =
-    pushed_cut c.self.inside.symbols.items c.args.expression.now _ c.self.inside.ends.items _ (symbols c) (ends c) c.self.invariant
+    pushed_cut c.self.inside.symbols.items c.args.expression.now _ c.self.inside.ends.items _
+    (symbols c) (ends c) c.self.invariant
     ∙ ap (λ (l : List (List ℕ)). l ++ c.args.expression.now ∷ []) c.self.view_is

@@ -8,9 +8,11 @@ loop-n-init c = meets-none c.args.self.now c.requires
 
 pub loop-n-preserved : goal.loop-n-preserved
 loop-n-preserved c =
-    meets-more c.args.self.now c.loop-n.self c.meet.new.self c.args.list.now c.loop-n.n-index _ c.loop-n-test.true refl
+    meets-more c.args.self.now c.loop-n.self c.meet.new.self c.args.list.now c.loop-n.n-index _
+    c.loop-n-test.true refl
     c.loop-n.invariant (c.in_ok-meet.ensures (search rules))
 
 pub returns : goal.returns
 returns c = λ yes.
-    subst (λ (xs : List ℕ). MeetsAll c.args.self.now xs c.loop-n.self) (take-whole c.loop-n.n-index c.args.list.now c.loop-n-test.false) c.loop-n.invariant
+    subst (λ (xs : List ℕ). MeetsAll c.args.self.now xs c.loop-n.self)
+    (take-whole c.loop-n.n-index c.args.list.now c.loop-n-test.false) c.loop-n.invariant

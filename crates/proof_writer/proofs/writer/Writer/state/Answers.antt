@@ -12,15 +12,24 @@ returns-clause-text c =
       _,
       states.appended,
       λ text h. record {
-        fits = c.justifying_laws.ensures.anywhere names w.renderer c.lemma.new.self c.args.thm.now c.args.to.now.items c.lemma.new.to.items text _ states states.appended c.requires.proved h.fits;
-        only = c.justifying_laws.ensures.theorem (theory_of c.args.made.now.program.now) names w.renderer c.lemma.new.self c.args.thm.now c.args.to.now.items c.lemma.new.to.items text _ states states.appended
+        fits =
+            c.justifying_laws.ensures.anywhere names w.renderer c.lemma.new.self c.args.thm.now
+            c.args.to.now.items c.lemma.new.to.items text _ states states.appended
+            c.requires.proved h.fits;
+        only =
+            c.justifying_laws.ensures.theorem (theory_of c.args.made.now.program.now) names
+            w.renderer c.lemma.new.self c.args.thm.now c.args.to.now.items c.lemma.new.to.items
+            text _ states states.appended
             c.requires.proved h.fits h.only;
         counts = more_statements w.facts w.statements _ 1 text _ h.counts
-            (c.counting_laws.ensures.theorem names w.renderer c.lemma.new.self c.args.thm.now c.args.to.now.items c.lemma.new.to.items text _ states states.appended c.requires.proved h.fits)
+            (c.counting_laws.ensures.theorem names w.renderer c.lemma.new.self c.args.thm.now
+            c.args.to.now.items c.lemma.new.to.items text _ states states.appended
+            c.requires.proved h.fits)
             c.saturating_add-self.ensures;
       },
     )
 
 pub returns-clause-keeps : goal.returns-clause-keeps
 returns-clause-keeps c =
-    keeps_stated c.later_laws.ensures.stated c.args.self.now.renderer c.lemma.new.self (claim_of c.args.thm.now.hypotheses c.args.thm.now.conclusion) c.in_ok-lemma.ensures.kept
+    keeps_stated c.later_laws.ensures.stated c.args.self.now.renderer c.lemma.new.self
+    (claim_of c.args.thm.now.hypotheses c.args.thm.now.conclusion) c.in_ok-lemma.ensures.kept

@@ -10,11 +10,19 @@ returns-clause-text c =
       _,
       states.appended,
       λ text h. record {
-        fits = c.justifying_laws.ensures.anywhere names w.renderer c.theorem.new.self c.args.thm.now c.args.to.now.items c.theorem.new.to.items text _ states states.appended c.requires.proved h.fits;
-        only = c.justifying_laws.ensures.theorem (theory_of c.args.made.now.program.now) names w.renderer c.theorem.new.self c.args.thm.now c.args.to.now.items c.theorem.new.to.items text _ states states.appended
+        fits =
+            c.justifying_laws.ensures.anywhere names w.renderer c.theorem.new.self c.args.thm.now
+            c.args.to.now.items c.theorem.new.to.items text _ states states.appended
+            c.requires.proved h.fits;
+        only =
+            c.justifying_laws.ensures.theorem (theory_of c.args.made.now.program.now) names
+            w.renderer c.theorem.new.self c.args.thm.now c.args.to.now.items
+            c.theorem.new.to.items text _ states states.appended
             c.requires.proved h.fits h.only;
         counts = more_statements w.facts w.statements _ 1 text _ h.counts
-            (c.counting_laws.ensures.theorem names w.renderer c.theorem.new.self c.args.thm.now c.args.to.now.items c.theorem.new.to.items text _ states states.appended c.requires.proved h.fits)
+            (c.counting_laws.ensures.theorem names w.renderer c.theorem.new.self c.args.thm.now
+            c.args.to.now.items c.theorem.new.to.items text _ states states.appended
+            c.requires.proved h.fits)
             c.saturating_add-self.ensures;
       },
     )

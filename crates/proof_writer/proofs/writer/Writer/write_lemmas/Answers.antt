@@ -4,11 +4,18 @@ use Rattle.proof_writer.proofs.WritingLaws.{writes_none, writes_then}
 use Rattle.proof_writer.proofs.writer.Writer.write_lemmas.Goals as goal
 
 pub loop-place-init : goal.loop-place-init
-loop-place-init c = (writes_none (context_of c.args.made.now) c.args.self.now c.args.to.now.items c.requires.written c.requires.named, refl, c.requires.axioms)
+loop-place-init c = (
+  writes_none (context_of c.args.made.now) c.args.self.now c.args.to.now.items c.requires.written
+      c.requires.named,
+  refl,
+  c.requires.axioms,
+)
 
 pub loop-place-preserved : goal.loop-place-preserved
 loop-place-preserved c = (
-  writes_then (context_of c.args.made.now) c.args.self.now c.loop-place.self c.lemma.new.self c.args.to.now.items c.loop-place.to.items c.lemma.new.to.items c.loop-place.invariant.0 c.in_ok-lemma.ensures.writes,
+  writes_then (context_of c.args.made.now) c.args.self.now c.loop-place.self c.lemma.new.self
+      c.args.to.now.items c.loop-place.to.items c.lemma.new.to.items c.loop-place.invariant.0
+      c.in_ok-lemma.ensures.writes,
   c.in_ok-lemma.ensures.one,
   c.in_ok-lemma.ensures.axioms,
 )

@@ -8,6 +8,7 @@ use Rattle.prove_term.proofs.context.Cx.injection_along.Given as goal
 abbrev pub invariant-loop-i : goal.invariant-loop-i
 invariant-loop-i l = record {
   place : IsInjectionAt l.self l.from.0 (get_or (sort_numbers l.sorts) (l.i - 1) 0) l.place;
-  below : IsBelow l.fn.self.program.sig.subsorts l.from.0 (get_or (sort_numbers l.sorts) (l.i - 1) 0);
+  below : IsBelow l.fn.self.program.sig.subsorts l.from.0
+      (get_or (sort_numbers l.sorts) (l.i - 1) 0);
   grown : HasGrown l.fn.self l.self;
 }

@@ -13,6 +13,11 @@ invariant_of-self-2 c = record {
   theorems = c.self.invariant.theorems;
   constructors = c.self.invariant.constructors;
   injections = c.self.invariant.injections;
-  collapses = collapses_kept (context_of c.self.inside) c.self.inside.collapses c.insert.new.self c.args.from.0 c.args.through.0 c.args.to.0 c.args.place
-      (subst (λ (v : Context). IsCollapseAt v c.args.from.0 c.args.through.0 c.args.to.0 c.args.place) (sym c.self.view_is) c.requires) c.in_ok-insert.ensures.updates c.self.invariant.collapses;
+  collapses =
+      collapses_kept (context_of c.self.inside) c.self.inside.collapses c.insert.new.self
+      c.args.from.0 c.args.through.0 c.args.to.0 c.args.place
+      (subst (λ (v : Context).
+      IsCollapseAt v c.args.from.0 c.args.through.0 c.args.to.0 c.args.place)
+      (sym c.self.view_is) c.requires) c.in_ok-insert.ensures.updates
+      c.self.invariant.collapses;
 }

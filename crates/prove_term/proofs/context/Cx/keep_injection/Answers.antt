@@ -12,7 +12,11 @@ invariant_of-self-2 c = record {
   values = c.self.invariant.values;
   theorems = c.self.invariant.theorems;
   constructors = c.self.invariant.constructors;
-  injections = injections_kept (context_of c.self.inside) c.self.inside.injections c.insert.new.self c.args.from.0 c.args.to.0 c.args.place
-      (subst (λ (v : Context). IsInjectionAt v c.args.from.0 c.args.to.0 c.args.place) (sym c.self.view_is) c.requires) c.in_ok-insert.ensures.updates c.self.invariant.injections;
+  injections =
+      injections_kept (context_of c.self.inside) c.self.inside.injections c.insert.new.self
+      c.args.from.0 c.args.to.0 c.args.place
+      (subst (λ (v : Context). IsInjectionAt v c.args.from.0 c.args.to.0 c.args.place)
+      (sym c.self.view_is) c.requires) c.in_ok-insert.ensures.updates
+      c.self.invariant.injections;
   collapses = c.self.invariant.collapses;
 }

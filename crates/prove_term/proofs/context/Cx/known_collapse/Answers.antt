@@ -7,5 +7,10 @@ use Rattle.prove_term.proofs.context.Cx.known_collapse.Goals as goal
 
 pub returns : goal.returns
 returns c =
-    subst (λ (v : Context). IfSome c.copied.result (IsCollapseAt v c.args.from.0 c.args.through.0 c.args.to.0)) c.self.view_is
-    (subst (λ (o : Option ℕ). IfSome o (IsCollapseAt (context_of c.self.inside) c.args.from.0 c.args.through.0 c.args.to.0)) (sym (c.copied.ensures ∙ c.get.ensures.value)) (c.self.invariant.collapses (c.args.from.0, c.args.through.0, c.args.to.0)))
+    subst (λ (v : Context).
+    IfSome c.copied.result (IsCollapseAt v c.args.from.0 c.args.through.0 c.args.to.0))
+    c.self.view_is
+    (subst (λ (o : Option ℕ). IfSome o
+    (IsCollapseAt (context_of c.self.inside) c.args.from.0 c.args.through.0 c.args.to.0))
+    (sym (c.copied.ensures ∙ c.get.ensures.value))
+    (c.self.invariant.collapses (c.args.from.0, c.args.through.0, c.args.to.0)))

@@ -8,13 +8,18 @@ pub add-requires : goal.add-requires
 add-requires c = assumed_no_meta c.args.self.now c.args.image c.requires
 
 pub invariant_of-self : goal.invariant_of-self
-invariant_of-self c = kept_states c.add.result c.self.inside c.args.self.now c.args.image c.add.new.self c.self.view_is c.self.invariant c.requires c.add.ensures.axioms c.add.ensures.err
+invariant_of-self c =
+    kept_states c.add.result c.self.inside c.args.self.now c.args.image c.add.new.self
+    c.self.view_is c.self.invariant c.requires c.add.ensures.axioms c.add.ensures.err
 
 pub returns-clause-there : goal.returns-clause-there
 returns-clause-there c =
     on_both c.add.result
-    (λ no number axioms. subst (λ (ps : List Pattern). slice_get ps no.0 ≡ Some c.args.image) (sym axioms) (last_there c.self.inside.theory c.args.image no.0 number))
+    (λ no number axioms. subst (λ (ps : List Pattern). slice_get ps no.0 ≡ Some c.args.image)
+    (sym axioms) (last_there c.self.inside.theory c.args.image no.0 number))
     c.add.ensures.number c.add.ensures.axioms
 
 pub returns-clause-grown : goal.returns-clause-grown
-returns-clause-grown c = grown_states c.add.result c.self.inside c.args.self.now c.args.image c.add.new.self c.self.view_is c.add.ensures.axioms c.add.ensures.err
+returns-clause-grown c =
+    grown_states c.add.result c.self.inside c.args.self.now c.args.image c.add.new.self
+    c.self.view_is c.add.ensures.axioms c.add.ensures.err

@@ -4,13 +4,20 @@ use Rattle.rewriter.proofs.Started.{start_evaluable, run_started, start_sorted}
 use Rattle.rewriter.proofs.run.Run.new_as.Goals as goal
 
 pub eval_as-requires-clause-fits : goal.eval_as-requires-clause-fits
-eval_as-requires-clause-fits g c = start_evaluable (theory_of c.args.engine.now) (plain_pattern c.args.start.now) c.in_ok-subst.subst c.requires c.in_ok-subst.ensures
+eval_as-requires-clause-fits g c =
+    start_evaluable (theory_of c.args.engine.now) (plain_pattern c.args.start.now)
+    c.in_ok-subst.subst c.requires c.in_ok-subst.ensures
 
 pub returns-in-Ok-clause-starts : goal.returns-in-Ok-clause-starts
 returns-in-Ok-clause-starts g c =
-    run_started (theory_of c.args.engine.now) (plain_pattern c.args.start.now) c.in_ok-subst.subst c.args.calls c.eval_as.new.budget.calls c.in-Ok.answer.term c.in_ok-subst.ensures c.in-Ok.ensures.value
+    run_started (theory_of c.args.engine.now) (plain_pattern c.args.start.now) c.in_ok-subst.subst
+    c.args.calls c.eval_as.new.budget.calls c.in-Ok.answer.term c.in_ok-subst.ensures
+    c.in-Ok.ensures.value
 
 pub returns-in-Ok-clause-sorted : goal.returns-in-Ok-clause-sorted
 returns-in-Ok-clause-sorted g c =
-    start_sorted (theory_of c.args.engine.now) (plain_pattern c.args.start.now) c.args.calls c.eval_as.new.budget.calls c.in-Ok.answer.term c.program-program.ensures.sorted c.requires
-    (run_started (theory_of c.args.engine.now) (plain_pattern c.args.start.now) c.in_ok-subst.subst c.args.calls c.eval_as.new.budget.calls c.in-Ok.answer.term c.in_ok-subst.ensures c.in-Ok.ensures.value)
+    start_sorted (theory_of c.args.engine.now) (plain_pattern c.args.start.now) c.args.calls
+    c.eval_as.new.budget.calls c.in-Ok.answer.term c.program-program.ensures.sorted c.requires
+    (run_started (theory_of c.args.engine.now) (plain_pattern c.args.start.now) c.in_ok-subst.subst
+    c.args.calls c.eval_as.new.budget.calls c.in-Ok.answer.term c.in_ok-subst.ensures
+    c.in-Ok.ensures.value)

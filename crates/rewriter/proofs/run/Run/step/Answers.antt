@@ -4,4 +4,5 @@ use Rattle.rewriter.proofs.run.Run.step.Goals as goal
 
 pub returns-in-Ok-clause-recorded : goal.returns-in-Ok-clause-recorded
 returns-in-Ok-clause-recorded c =
-    next_recorded (theory_of c.args.engine.now) c.args.self.now.config c.step_as.new.self.config c.in-Ok.next c.with_record.result c.with_record.ensures c.in-Ok.ensures.recorded
+    next_recorded (theory_of c.args.engine.now) c.args.self.now.config c.step_as.new.self.config
+    c.in-Ok.next c.with_record.result c.with_record.ensures c.in-Ok.ensures.recorded

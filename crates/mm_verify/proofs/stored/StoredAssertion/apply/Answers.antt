@@ -1,0 +1,24 @@
+use Rattle.std.proofs.Common.{length, ap, sym, subst, ◌∙◌}
+use Rattle.std.specs.Prelude.{IfOk}
+use Rattle.mm_database.specs.Stack.{stack_with}
+use Rattle.mm_frame.specs.Numbered.{NumberedFrame}
+use Rattle.mm_frame.specs.NumberedSteps.{numbered_applied}
+use Rattle.mm_verify.specs.StoredView.{stored_frame}
+use Rattle.mm_verify.specs.Applied.{AgreesWithStep}
+use Rattle.mm_verify.proofs.stored.StoredAssertion.apply.Goals as goal
+
+pub returns-in-Built : goal.returns-in-Built
+returns-in-Built g c =
+    subst (λ (f : NumberedFrame). IfOk c.apply.result (AgreesWithStep
+    (stack_with (numbered_applied (g.P.Place.place c.args.place.now) f) (length f.hypotheses)
+    c.args.stack.now) c.args.stack.now c.apply.new.stack))
+    (ap stored_frame (sym c.in-Built.is)) c.apply.ensures.step
+
+pub returns-in_ok-assertion-in-Shared : goal.returns-in_ok-assertion-in-Shared
+returns-in_ok-assertion-in-Shared g c =
+    subst (λ (f : NumberedFrame). IfOk c.apply-in-Shared.result
+    (AgreesWithStep (stack_with (numbered_applied (g.P.Place.place c.args.place.now) f)
+    (length f.hypotheses) c.args.stack.now) c.args.stack.now
+    c.apply-in-Shared.new.stack))
+    (c.in_ok-assertion-in-Shared.ensures ∙ ap stored_frame (sym c.in-Shared.is))
+    c.apply-in-Shared.ensures.step
