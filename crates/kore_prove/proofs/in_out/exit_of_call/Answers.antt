@@ -1,4 +1,4 @@
-use Rattle.kore_prove.proofs.io.exit_of_call.Goals as goal
+use Rattle.kore_prove.proofs.in_out.exit_of_call.Goals as goal
 
 pub returns-clause-answered : goal.returns-clause-answered
 returns-clause-answered g c =
