@@ -24,7 +24,7 @@ use Rattle.kore_prove.proofs.CommandWords.{one_request, one_drill, run_good, ver
 use Rattle.kore_prove.proofs.CommandWords.{drill_good, not_both, run_no_drill, verify_no_drill}
 use Rattle.kore_prove.proofs.CommandWords.{bad_no_drill}
 use Rattle.kore_prove.proofs.Completing.{run_ends_without_memory, verify_ends_without_memory}
-use Rattle.kore_prove.proofs.Completing.{drill_ends_without_memory, ready_run, ready_verify}
+use Rattle.kore_prove.proofs.Completing.{code_of_drill, ready_run, ready_verify}
 use Rattle.kore_prove.proofs.Ending.{code_of_no_end, code_of_run, code_of_one, unwritten}
 use Rattle.kore_prove.proofs.Ending.{same_files}
 use Rattle.kore_prove.proofs.Verifying.{code_of_verdict, prints_verdict}
@@ -86,7 +86,7 @@ no_drill_front c unasked = λ asked command. absurd (unasked asked command)
 
 no_drill_completed : (c : Call) (code : ℕ) → IsNoDrill c.words
     → CompletesDrill c.words c.course code
-no_drill_completed c code unasked = λ ready _ _. absurd (unasked ready.asked ready.command)
+no_drill_completed c code unasked = λ asked command. absurd (unasked asked command)
 
 pub run_answered : (c : Call) (code : ℕ) (asked : RunRequest) (run : Run) → IsRun c.words asked
     → IsRunDone asked c.course run → code ≡ code_of run → SameBytes c.errors c.errors'
@@ -284,7 +284,7 @@ drill_answered c code asked command done is silent =
       complete_verdict =
           λ ready _ _. (let v = ready_verify c.words c.course.told ready in
           absurd (verify_no_drill c.words v.0 v.1 asked command));
-      complete_drill = λ _ _ _. inl is;
+      complete_drill = λ _ _. inl is;
       bad_words = λ bad. absurd (drill_good c.words asked command bad);
       others =
           fewer_others (IsDrillFile asked) (IsProofFile c.words) c.course.told c.course.told'
@@ -319,10 +319,7 @@ drill_ended c code asked e command ended said = record {
   complete_verdict =
       λ ready _ _. (let v = ready_verify c.words c.course.told ready in
       absurd (verify_no_drill c.words v.0 v.1 asked command));
-  complete_drill =
-      λ ready files writes. inr (code_of_one e _ _ _ _ code said
-      (drill_ends_without_memory c.words asked c.course e ready command files writes
-      ended.cause));
+  complete_drill = λ _ _. inr (code_of_drill asked.steps c.course e _ _ _ _ code said ended.cause);
   bad_words = λ bad. absurd (drill_good c.words asked command bad);
   others =
       fewer_others (IsDrillFile asked) (IsProofFile c.words) c.course.told c.course.told'
@@ -388,7 +385,7 @@ memory_answered c code output kept said =
           });
       complete = λ _ _. inr (inr (inr one));
       complete_verdict = λ _ _ _. inr (inr one);
-      complete_drill = λ _ _ _. inr one;
+      complete_drill = λ _ _. inr (inl one);
       bad_words = λ _. inr one;
       others = kept_others (IsProofFile c.words) c.course.told c.course.told' kept;
       files = λ _. kept;

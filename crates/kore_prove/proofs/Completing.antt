@@ -1,20 +1,20 @@
--- If a call can run, verify or drill, and no fault is counted, it does so or ends because memory
--- ran out.
-use Rattle.std.proofs.Common.{◌≡◌, ℕ, inl, inr, List, Option, None, Some, refl, subst}
+-- A call that can run or verify, and that nothing hinders, ends as out of memory, if it does not
+-- come to that. A call that is to drill always can.
+use Rattle.std.proofs.Common.{◌≡◌, ℕ, ◌⊎◌, inl, inr, List, Option, None, Some, refl, sym, subst}
 use Rattle.desk_io.specs.Told.{Told, Holds, Lacks, HoldsMore}
 use Rattle.desk_io.specs.Counts.{CountRose}
 use Rattle.rule_core.specs.Theories.{RewriteTheory}
 use Rattle.kore_rules.specs.Acceptance.{IsAccepted, IsRefused, IsRefusedTerm}
-use Rattle.kore_prove.specs.Words.{RunRequest, DrillRequest, IsRun, IsVerify, IsDrill}
+use Rattle.kore_prove.specs.Words.{RunRequest, IsRun, IsVerify}
 use Rattle.kore_prove.specs.Limits.{HoldsWithin, definition_limit, term_limit, database_limit}
 use Rattle.kore_prove.specs.Files.{HoldsProgram}
 use Rattle.kore_prove.specs.Reports.{Ending, out_of_memory, bad_words, read_fault, write_fault}
 use Rattle.kore_prove.specs.Reports.{no_such_file, definition_refused, term_refused, too_large}
-use Rattle.kore_prove.specs.Reports.{end_code}
+use Rattle.kore_prove.specs.Reports.{end_code, Reports}
 use Rattle.kore_prove.specs.Causes.{IoState, ReadCause, RunCause, VerifyCause, DrillCause}
-use Rattle.kore_prove.specs.Readiness.{CanRun, CanVerify, CanDrill, IsReady, IsReadyToVerify}
-use Rattle.kore_prove.specs.Readiness.{IsFaultless, IsFaultlessTerm, IsUnhindered}
-use Rattle.kore_prove.proofs.CommandWords.{one_request, one_file, one_drill}
+use Rattle.kore_prove.specs.Readiness.{CanRun, CanVerify, IsReady, IsReadyToVerify, IsFaultless}
+use Rattle.kore_prove.specs.Readiness.{IsFaultlessTerm, IsUnhindered}
+use Rattle.kore_prove.proofs.CommandWords.{one_request, one_file}
 use Rattle.kore_prove.proofs.Ending.{one_content, not_lacking, not_more}
 
 -- the files of the request can be run
@@ -121,27 +121,28 @@ verify_ends_without_memory words None file c e is ready command reads writes cau
 verify_ends_without_memory words (Some told) file c e is ready command reads writes cause =
     no_verify_cause words told ready file c e is command reads writes cause
 
-no_drill_cause : (words : List (List ℕ)) (r : CanDrill words) (c : IoState) (e : Ending)
-    → (CountRose c.files c.files' → ⊥) → (CountRose c.writes c.writes' → ⊥)
-    → DrillCause r.asked.steps c e → end_code e ≡ 1
-no_drill_cause words r c out_of_memory files writes h = refl
-no_drill_cause words r c bad_words files writes h = absurd h
-no_drill_cause words r c read_fault files writes h = absurd h
-no_drill_cause words r c write_fault files writes h =
-    absurd (elim h.0 [ inl out ↦ writes out | inr desk ↦ files desk ])
-no_drill_cause words r c (no_such_file name) files writes h = absurd h
-no_drill_cause words r c (definition_refused number byte) files writes h = absurd (r.faultless _ h)
-no_drill_cause words r c (term_refused number byte) files writes h =
-    absurd (r.faultless_term h.theory h.top h.definition _ h.refused)
-no_drill_cause words r c (too_large name) files writes h = absurd h
+-- a drill that does not come to its lines: memory ran out, or a fault was counted
+abbrev pub StopsDrill : IoState → ℕ → Type 0
+StopsDrill c code =
+    (code ≡ 1) ⊎ ((code ≡ 4) × (CountRose c.writes c.writes' ⊎ CountRose c.files c.files'))
 
-pub drill_ends_without_memory : (words : List (List ℕ)) (asked : DrillRequest) (c : IoState)
-    (e : Ending) → CanDrill words → IsDrill words asked → (CountRose c.files c.files' → ⊥)
-    → (CountRose c.writes c.writes' → ⊥) → DrillCause asked.steps c e → end_code e ≡ 1
-drill_ends_without_memory words asked c e ready command files writes cause =
-    no_drill_cause words ready c e files writes (subst
-    (λ (d : DrillRequest). DrillCause d.steps c e)
-    (one_drill words asked ready.asked command ready.command) cause)
+drill_stops : (steps : ℕ) (c : IoState) (e : Ending) → DrillCause steps c e
+    → StopsDrill c (end_code e)
+drill_stops steps c out_of_memory h = inl refl
+drill_stops steps c bad_words h = absurd h
+drill_stops steps c read_fault h = absurd h
+drill_stops steps c write_fault h = inr (refl, h.0)
+drill_stops steps c (no_such_file name) h = absurd h
+drill_stops steps c (definition_refused number byte) h = absurd h
+drill_stops steps c (term_refused number byte) h = absurd h
+drill_stops steps c (too_large name) h = absurd h
+
+pub code_of_drill : (steps : ℕ) (c : IoState) (e : Ending) (before after : Option (List ℕ))
+    (old new code : ℕ) → Reports e before after old new code → DrillCause steps c e
+    → StopsDrill c code
+code_of_drill steps c e before after old new code (inl said) cause =
+    subst (StopsDrill c) (sym said.0) (drill_stops steps c e cause)
+code_of_drill steps c e before after old new code (inr cut) cause = inl cut.0
 
 -- words that can run or verify ask for that
 pub ready_run : (words : List (List ℕ)) (told : Option Told) → IsReady words told

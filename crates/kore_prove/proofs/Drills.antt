@@ -10,7 +10,11 @@ use Rattle.term_core.specs.Patterns.{Pattern}
 use Rattle.rule_core.specs.Theories.{RewriteTheory}
 use Rattle.rule_core.specs.Runs.{Run, kept_by}
 use Rattle.drill_gen.specs.Drill.{drill_definition, drill_term}
+use Rattle.kore_axioms.specs.declared.refusals.Refusal.{Refusal}
+use Rattle.kore_axioms.specs.declared.refusals.Refusal.TheVariants as refusal
+use Rattle.kore_sig.specs.FirstFault.{Fault}
 use Rattle.kore_rules.specs.Acceptance.{IsAccepted, IsAcceptedTerm}
+use Rattle.kore_rules.specs.RefusedTexts.{RefusesFor}
 use Rattle.mm_justify.specs.Counting.{fact_count, statement_count, capped}
 use Rattle.run_proof.specs.WrittenProofs.{IsSummaryOf}
 use Rattle.run_proof.specs.declared.summaries.Summary.{Summary}
@@ -20,7 +24,7 @@ use Rattle.kore_prove.specs.ProofFiles.{HoldsCounted, MayHoldFront}
 use Rattle.kore_prove.specs.DrillProgram.{IsDrillProgram}
 use Rattle.kore_prove.specs.DrilledRun.{IsDrilled, LeavesDrill, counts_line, counts_line_of}
 use Rattle.kore_prove.specs.DrilledRun.{drill_calls}
-use Rattle.kore_prove.specs.Reports.{Ending}
+use Rattle.kore_prove.specs.Reports.{Ending, out_of_memory}
 use Rattle.kore_prove.specs.PlainEnds.{fault_end}
 use Rattle.kore_prove.specs.Causes.{IoState, DrillCause, HasDrill, Grows, KeepsOutput}
 use Rattle.kore_prove.specs.Requests.{IsDrillFile}
@@ -33,7 +37,14 @@ use Rattle.kore_prove.proofs.Performing.{fault_output, fault_files}
 pub few_bytes : (n : ℕ) → n ≤ 2 ^ 20 → n < 2 ^ 32
 few_bytes n h = omega (arith, h)
 
--- the texts of a drill were accepted
+-- what is refused for no fault was not refused
+pub refused_for_none : (P : Fault → Type 0) (r : Refusal) → ((f : Fault) → P f → ⊥) → RefusesFor P r
+    → RefusesFor (λ _. ⊥) r
+refused_for_none P (refusal.Refused number byte) none h =
+    none (record { number = number; byte = byte }) h
+refused_for_none P refusal.Memory none h = tt
+
+-- the texts of a drill that were accepted
 pub texts_accepted : (steps : ℕ) (definition term : List ℕ) (theory : RewriteTheory)
     (top : Option ℕ) (start : Pattern) → definition ≡ drill_definition steps → term ≡ drill_term
     → IsAccepted definition theory top → IsAcceptedTerm theory.sig top term start
@@ -80,20 +91,18 @@ drill_made asked c theory start run lines s program h held others grew = record 
   others = others;
 }
 
--- the texts of a drill were not accepted
-pub texts_ended : (asked : DrillRequest) (c : IoState) (e : Ending) → c.output' ≡ c.output
-    → c.told' ≡ c.told → DrillCause asked.steps c e → IsDrillEnded asked c e
-texts_ended asked c e output told cause =
+-- memory ran out before it was run
+pub texts_ended : (asked : DrillRequest) (c : IoState) → c.output' ≡ c.output → c.told' ≡ c.told
+    → IsDrillEnded asked c out_of_memory
+texts_ended asked c output told =
     let kept : KeepsFiles c.told c.told' =
-    subst (λ (o : Option Told). KeepsFiles c.told o) (sym told) (same_files c.told) in
-    record {
-      cause = cause;
-      output =
-          subst (λ (o : Option (List ℕ)). KeepsOutput e c.output o) (sym output)
-          (kept_output e c.output);
+    subst (λ (o : Option Told). KeepsFiles c.told o) (sym told) (same_files c.told) in record {
+      cause = tt;
+      output = subst (λ (o : Option (List ℕ)). KeepsOutput out_of_memory c.output o) (sym output)
+          (kept_output out_of_memory c.output);
       front = inl (kept_file c.told c.told' asked.file kept);
       others = kept_others (IsDrillFile asked) c.told c.told' kept;
-      files = files_at e c.told c.told' kept;
+      files = files_at out_of_memory c.told c.told' kept;
     }
 
 -- the drill was not written

@@ -7,8 +7,7 @@ use Rattle.desk_io.specs.Counts.{CountRose}
 use Rattle.term_core.specs.Patterns.{Pattern}
 use Rattle.rule_core.specs.Theories.{RewriteTheory}
 use Rattle.kore_sig.specs.FirstFault.{Fault}
-use Rattle.kore_rules.specs.Acceptance.{IsAccepted, IsRefused, IsRefusedTerm}
-use Rattle.drill_gen.specs.Drill.{drill_definition, drill_term}
+use Rattle.kore_rules.specs.Acceptance.{IsRefused, IsRefusedTerm}
 use Rattle.kore_prove.specs.Words.{RunRequest, DrillRequest, AreBad, IsRun, IsVerify, IsDrill}
 use Rattle.kore_prove.specs.Limits.{HoldsWithin, definition_limit, term_limit, database_limit}
 use Rattle.kore_prove.specs.Files.{HoldsProgram, HoldsRun}
@@ -99,14 +98,8 @@ VerifyCause file c (too_large name) = (name ≡ file) × HoldsMore c.told name d
 abbrev pub HasDrill : ℕ → Type 0
 HasDrill steps = (theory : RewriteTheory) × (start : Pattern) × IsDrillProgram steps theory start
 
--- the term of a drill is refused with this fault, as a term of its definition
-pub record IsDrillTermRefused (steps : ℕ) (f : Fault) : Type 0 where
-  pub theory : RewriteTheory
-  pub top : Option ℕ
-  pub definition : IsAccepted (drill_definition steps) theory top
-  pub refused : IsRefusedTerm theory.sig top drill_term f
-
--- each end of a drill command has its cause
+-- The end of a command that drills has its cause. Its texts are never refused, and it reads no
+-- file.
 abbrev pub DrillCause : ℕ → IoState → Ending → Type 0
 DrillCause steps c out_of_memory = Unit {0}
 DrillCause steps c bad_words = ⊥
@@ -114,10 +107,8 @@ DrillCause steps c read_fault = ⊥
 DrillCause steps c write_fault =
     (CountRose c.writes c.writes' ⊎ CountRose c.files c.files') × HasDrill steps
 DrillCause steps c (no_such_file name) = ⊥
-DrillCause steps c (definition_refused number byte) =
-    IsRefused (drill_definition steps) (record { number = number; byte = byte })
-DrillCause steps c (term_refused number byte) =
-    IsDrillTermRefused steps (record { number = number; byte = byte })
+DrillCause steps c (definition_refused number byte) = ⊥
+DrillCause steps c (term_refused number byte) = ⊥
 DrillCause steps c (too_large name) = ⊥
 
 -- what the output tells grew by some bytes

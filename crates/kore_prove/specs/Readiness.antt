@@ -6,7 +6,6 @@ use Rattle.rule_core.specs.Theories.{RewriteTheory}
 use Rattle.kore_sig.specs.FirstFault.{Fault}
 use Rattle.kore_rules.specs.Acceptance.{IsAccepted, IsRefused, IsRefusedTerm}
 use Rattle.kore_prove.specs.Limits.{HoldsWithin, definition_limit, term_limit, database_limit}
-use Rattle.drill_gen.specs.Drill.{drill_definition, drill_term}
 use Rattle.kore_prove.specs.Words.{RunRequest, DrillRequest, IsRun, IsVerify, IsDrill}
 use Rattle.kore_prove.specs.Causes.{IoState}
 
@@ -49,14 +48,6 @@ abbrev pub IsReadyToVerify : List (List ℕ) → Option Told → Type 0
 IsReadyToVerify words None = ⊥
 IsReadyToVerify words (Some told) = CanVerify words told
 
--- the words ask for a drill, and its texts have no fault
-pub record CanDrill (words : List (List ℕ)) : Type 0 where
-  pub asked : DrillRequest
-  pub command : IsDrill words asked
-  pub faultless : IsFaultless (drill_definition asked.steps)
-  pub faultless_term : (theory : RewriteTheory) (top : Option ℕ) →
-      IsAccepted (drill_definition asked.steps) theory top → IsFaultlessTerm theory top drill_term
-
 -- no count of faults rose
 pub record IsUnhindered (c : IoState) : Type 0 where
   pub reads : CountRose c.reads c.reads' → ⊥
@@ -75,8 +66,10 @@ CompletesVerdict words c code =
     → (CountRose c.writes c.writes' → ⊥) →
     (code ≡ 0) ⊎ (code ≡ 12) ⊎ (code ≡ 1)
 
--- the same for a drill, if no fault in writing the file or the output is counted
+-- with the words of a drill the call comes to it, or memory ran out, or a fault was counted as its
+-- file or the output was written
 abbrev pub CompletesDrill : List (List ℕ) → IoState → ℕ → Type 0
 CompletesDrill words c code =
-    CanDrill words → (CountRose c.files c.files' → ⊥) → (CountRose c.writes c.writes' → ⊥)
-    → (code ≡ 0) ⊎ (code ≡ 1)
+    (asked : DrillRequest) → IsDrill words asked →
+    (code ≡ 0) ⊎ (code ≡ 1)
+    ⊎ ((code ≡ 4) × (CountRose c.writes c.writes' ⊎ CountRose c.files c.files'))

@@ -1,17 +1,12 @@
 // The drill: a definition and a term that the program makes itself, their run, its proof and the
-// counts of the proof.
-ghost use Rattle.std.specs.Prelude.{◌≡◌, ◌≤◌, ◌++◌, ℕ, Option, IsFalse, IfOk, IfErr, OnOk, OnErr};
-ghost use Rattle.std.specs.Prelude.{IsErrOf};
+// counts of that.
+ghost use Rattle.std.specs.Prelude.{◌≡◌, ◌≤◌, ◌++◌, IsFalse, IfOk, IfErr, OnOk, OnErr, IsErrOf};
 ghost use Rattle.command_words.specs.CommandLine.{most_drilled};
 ghost use Rattle.desk_io.specs.Sent.{Appends, AppendsFront};
 ghost use Rattle.desk_io.specs.Counts.{CountRose};
-ghost use Rattle.drill_gen.specs.Drill.{drill_definition, drill_term};
-ghost use Rattle.kore_rules.specs.Acceptance.{IsAccepted, IsRefused, IsRefusedTerm};
 ghost use Rattle.kore_rules.specs.RefusedTexts.{RefusesFor};
 ghost use Rattle.rule_core.specs.ProgramView.{theory_of};
-ghost use Rattle.rule_core.specs.Theories.{RewriteTheory};
 ghost use Rattle.term_core.specs.RulePatterns.{plain_pattern};
-ghost use Rattle.kore_prove.specs.Causes.{IoState, DrillCause};
 ghost use Rattle.kore_prove.specs.DrillProgram.{IsDrillProgram};
 ghost use Rattle.kore_prove.specs.DrilledRun.{counts_line};
 ghost use Rattle.kore_prove.specs.PlainEnds.{plain_end};
@@ -25,11 +20,12 @@ use crate::report::{End, send_pieces, write_end};
 use crate::running::Bounds;
 use command_words::DrillWords;
 use desk_io::{Desk, DeskFault, Sink, send_whole};
+use drill_accepted::drill_acceptance_laws;
 use drill_gen::{drill, drill_laws};
 use itoa::Buffer;
 use kore_rules::{Refusal, accept, accept_term};
 use run_proof::Summary;
-use std::alloc::Global;
+use std::alloc::{AllocError, Global};
 
 /// The greatest number of calls of functions in a drill.
 const DRILL_CALLS: u32 = 10_000;
@@ -73,7 +69,7 @@ pub fn drill_command<'a, D: Desk, O: Sink>(
 {
     let accepted = match accepted_drill(alloc, asked.steps) {
         Ok(accepted) => accepted,
-        Err(end) => return Err(end),
+        Err(_) => return Err(End::OutOfMemory),
     };
     let bounds = Bounds {
         limit: asked.steps + 1,
@@ -89,50 +85,34 @@ pub fn drill_command<'a, D: Desk, O: Sink>(
     }
 }
 
-// The program and the initial term of the drill.
-fn accepted_drill<'a>(alloc: Global, steps: u32) -> Result<Accepted, End<'a>>
+// The program and the initial term of the drill, whose texts are never refused. `AllocError` says
+// that memory ran out.
+fn accepted_drill(alloc: Global, steps: u32) -> Result<Accepted, AllocError>
     requires { steps ≤ most_drilled }
     ensures program { IfOk result
         (λ a. IsDrillProgram steps (theory_of a.program) (plain_pattern a.start)) }
     ensures runnable { IfOk result IsRunnable }
-    ensures cause { IfErr result (λ end. (c : IoState) → DrillCause steps c (plain_end end)) }
 {
     drill_laws();
-    let texts = match drill(alloc, steps) {
-        Ok(texts) => texts,
-        Err(_) => return Err(End::OutOfMemory),
-    };
+    drill_acceptance_laws(alloc);
+    let texts = drill(alloc, steps)?;
     let program = match accept(alloc, &texts.definition) {
         Ok(program) => program,
-        Err(refusal) => return Err(refused_definition(refusal)),
+        Err(refusal) => return Err(out_of_memory(refusal)),
     };
     match accept_term(alloc, &program, &texts.term) {
         Ok(start) => Ok(Accepted { program, start }),
-        Err(refusal) => Err(refused_term(refusal)),
+        Err(refusal) => Err(out_of_memory(refusal)),
     }
 }
 
-// The end of a drill whose definition is not accepted.
-fn refused_definition<'a>(refusal: Refusal) -> End<'a>
-    ensures { (steps : ℕ) (c : IoState) → RefusesFor (IsRefused (drill_definition steps)) refusal
-        → DrillCause steps c (plain_end result) }
+// Why a text that is never refused was not accepted: memory ran out.
+fn out_of_memory(refusal: Refusal) -> AllocError
+    requires { RefusesFor (λ _. ⊥) refusal }
 {
     match refusal {
-        Refusal::Refused(number, byte) => End::DefinitionRefused(number, byte),
-        Refusal::Memory => End::OutOfMemory,
-    }
-}
-
-// The end of a drill whose term is not accepted.
-fn refused_term<'a>(refusal: Refusal) -> End<'a>
-    ensures { (steps : ℕ) (c : IoState) (theory : RewriteTheory) (top : Option ℕ)
-        → IsAccepted (drill_definition steps) theory top
-        → RefusesFor (IsRefusedTerm theory.sig top drill_term) refusal
-        → DrillCause steps c (plain_end result) }
-{
-    match refusal {
-        Refusal::Refused(number, byte) => End::TermRefused(number, byte),
-        Refusal::Memory => End::OutOfMemory,
+        Refusal::Refused(_, _) => unreachable!(),
+        Refusal::Memory => AllocError,
     }
 }
 

@@ -5,7 +5,6 @@ use Rattle.term_core.specs.RulePatterns.{plain_pattern}
 use Rattle.rule_core.specs.ProgramView.{theory_of}
 use Rattle.run_loop.specs.RunEnds.{plain_run}
 use Rattle.kore_prove.specs.Causes.{IoState}
-use Rattle.kore_prove.specs.PlainEnds.{plain_end}
 use Rattle.kore_prove.specs.Requests.{drill_request}
 use Rattle.kore_prove.proofs.Ending.{same_grows}
 use Rattle.kore_prove.proofs.FileProofs.{counted_front}
@@ -27,8 +26,7 @@ returns-in-Err-clause-ended g c =
       output = g.O.Sink.bytes c.args.out.now;
       output' = g.O.Sink.bytes c.args.out.now;
     } in
-    texts_ended (drill_request c.args.asked.now) course (plain_end c.in-Err.end) refl refl
-    (c.in-Err.ensures.cause course)
+    texts_ended (drill_request c.args.asked.now) course refl refl
 
 pub returns-in-Err-proved_lines-clause-ended : goal.returns-in-Err-proved_lines-clause-ended
 returns-in-Err-proved_lines-clause-ended g c =

@@ -1,0 +1,14 @@
+pub mod Decimals
+pub mod Parts
+pub mod Taking
+pub mod DrillTrees
+pub mod DrillLines
+pub mod DrillTexts
+pub mod SpelledLines
+pub mod Spelled
+pub mod DrillDeclared
+pub mod NoDeclarationFault
+pub mod DrillSymbols
+pub mod NoRuleFault
+pub mod DefinitionAccepted
+pub mod TermAccepted
