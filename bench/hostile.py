@@ -86,6 +86,12 @@ def empty_texts(n):
     return HEAD + rules + f"th $p t $= ( no go ) A{'AB' * (n // 8)} $.\n"
 
 
+def empty_statement(n):
+    """A statement of n symbols that are replaced by nothing, and n / 8 citations that conclude it."""
+    rules = f"no $a t $. go $a t {' '.join(['x'] * n)} $.\n"
+    return HEAD + rules + f"th $p t $= ( no go ) A{'B' * (n // 8)} $.\n"
+
+
 def proofs_under_premises(n):
     """n active `$e`, and n theorems under them, whose proofs list a label."""
     premises = "".join(f"e{i} $e t u $.\n" for i in range(n))
@@ -178,6 +184,7 @@ CASES = {
     "declarations_between": (declarations_between, 3000),
     "pair_in_many_groups": (pair_in_many_groups, 10000),
     "empty_texts": (empty_texts, 10000),
+    "empty_statement": (empty_statement, 100000),
     "proofs_under_premises": (proofs_under_premises, 5000),
     "repeated_groups": (repeated_groups, 12500),
     "repeated_groups_between": (repeated_groups_between, 6000),

@@ -10,6 +10,8 @@ mod ReadLetters
 mod ReadProofs
 mod Placing
 mod Resolving
+mod Spotting
+mod Presence
 mod StepsNamed
 mod KindsNamed
 mod CheckedStatements

@@ -13,6 +13,7 @@ use Rattle.mm_verify.specs.declared.parts.Part.{Part}
 use Rattle.mm_verify.specs.declared.parts.Wanted.{Wanted}
 use Rattle.mm_verify.specs.declared.parts.Wanted.TheVariants as wanted
 use Rattle.mm_verify.specs.Places.{place_of, place_in, symbol_of, ArePlaced}
+use Rattle.mm_verify.specs.StatementView.{statement_parts}
 use Rattle.mm_verify.specs.Resolved.{wanted_hypothesis, hypotheses_of, parts_in}
 use Rattle.mm_verify.specs.Filling.{IsWithin, AreWithin, text_at, part_text, placed_text, filled}
 use Rattle.mm_verify.specs.Filling.{is_wanted, are_wanted}
@@ -120,8 +121,9 @@ wanted-is : (hypotheses : List NumberedHypothesis) (entries : List (List ℕ)) (
     (e : List ℕ) → length hypotheses ≡ length entries → ArePlaced hypotheses (parts_in w)
     → is_wanted entries w e ≡ agrees (bound hypotheses entries) (wanted_hypothesis w) e
 wanted-is hypotheses entries (wanted.Typed label typecode variable) e long h = refl
-wanted-is hypotheses entries (wanted.Stated label parts) e long h =
-    ap (λ (t : List ℕ). same_numbers e t) (filled-is hypotheses entries parts.items long h)
+wanted-is hypotheses entries (wanted.Stated label statement) e long h =
+    ap (λ (t : List ℕ). same_numbers e t)
+    (filled-is hypotheses entries (statement_parts statement) long h)
 
 pub all-wanted-is : (hypotheses : List NumberedHypothesis) (entries : List (List ℕ))
     (ws : List Wanted) (es : List (List ℕ)) → length hypotheses ≡ length entries

@@ -7,6 +7,7 @@ use Rattle.std.specs.Global.{Vec}
 use Rattle.mm_verify.specs.declared.parts.Part.{Part}
 use Rattle.mm_verify.specs.declared.parts.Wanted.{Wanted}
 use Rattle.mm_verify.specs.declared.parts.Wanted.TheVariants as wanted
+use Rattle.mm_verify.specs.StatementView.{statement_parts}
 use Rattle.mm_verify.specs.Resolved.{parts_in}
 use Rattle.mm_verify.specs.Places.{symbol_of, place_in, parts_of}
 use Rattle.mm_database.specs.Stack.{behind_first}
@@ -49,8 +50,8 @@ GroupWithin n group = AreWithin n (parts_of group)
 -- an entry is what is wanted
 abbrev pub is_wanted : List (List ℕ) → Wanted → List ℕ → Bool
 is_wanted entries (wanted.Typed label typecode variable) entry = begins_with typecode entry
-is_wanted entries (wanted.Stated label parts) entry =
-    same_numbers entry (filled entries parts.items)
+is_wanted entries (wanted.Stated label statement) entry =
+    same_numbers entry (filled entries (statement_parts statement))
 
 -- some entries, one by one, are what is wanted
 abbrev pub are_wanted : List (List ℕ) → List Wanted → List (List ℕ) → Bool

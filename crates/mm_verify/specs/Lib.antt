@@ -3,10 +3,13 @@ pub mod Cut
 pub mod StackView
 pub mod Places
 pub mod Locating
+pub mod Spots
+pub mod StatementView
 pub mod Resolved
 pub mod AssertionView
 pub mod StoredView
 pub mod Filling
+pub mod Present
 pub mod Pairs
 pub mod Meeting
 pub mod Turned

@@ -38,12 +38,7 @@ pub(crate) fn apply<P: Place>(
         return Ok(false);
     }
     buffer.clear();
-    if assertion.may_be_long(stack, base) {
-        let length = assertion.length(stack, base);
-        stack.reserve(length)?;
-        buffer.reserve(length)?;
-    }
-    assertion.conclude(stack, base, buffer)?;
+    assertion.conclude(stack, base, buffer, &mut spreads.present)?;
     stack.truncate(base);
     stack.push(buffer)?;
     Ok(true)

@@ -1,20 +1,19 @@
 // Assertions as steps of proofs use them.
 ghost use Rattle.std.specs.Prelude.{flat_map};
 ghost use Rattle.mm_verify.specs.Places.{ArePlaced, parts_of};
+ghost use Rattle.mm_verify.specs.StatementView.{statement_parts};
 ghost use Rattle.mm_verify.specs.Resolved.{hypotheses_of, parts_in};
 
 use crate::checking::are_wanted;
-use crate::filling::{fill, filled_length};
 use crate::finding::find_places;
-use crate::parts::{Part, Wanted, all_wanted, groups_located, located};
+use crate::parts::{Part, Wanted, all_wanted, groups_located, stated};
 use crate::place::Place;
+use crate::present::Present;
 use crate::spreads::{Spreads, are_groups_apart};
 use crate::stack::Stack;
+use crate::statement::Statement;
 use mm_frame::Frame;
 use std::alloc::{AllocError, Global};
-
-/// With so many symbols an entry may be long.
-const LONG: usize = 65536;
 
 /// An assertion, each of whose variables knows which entry gives its text. `assertion_frame` is its
 /// frame.
@@ -23,11 +22,12 @@ pub(crate) struct Assertion<'a> {
     label: &'a [u8],
     wanted: Vec<Wanted<'a>>,
     apart: Vec<Vec<Part>>,
-    conclusion: Vec<Part>,
+    conclusion: Statement,
     ghost wanted_placed: { ArePlaced (hypotheses_of wanted.items)
         (flat_map parts_in wanted.items) },
     ghost apart_placed: { ArePlaced (hypotheses_of wanted.items) (flat_map parts_of apart.items) },
-    ghost conclusion_placed: { ArePlaced (hypotheses_of wanted.items) conclusion.items },
+    ghost conclusion_placed: { ArePlaced (hypotheses_of wanted.items)
+        (statement_parts conclusion) },
 }
 
 impl<'a> Assertion<'a> {
@@ -45,7 +45,7 @@ impl<'a> Assertion<'a> {
     {
         let mandatory = &*frame.mandatory;
         let places = find_places(alloc, &mandatory.hyps)?;
-        let conclusion = located(alloc, &places, &frame.statement)?;
+        let conclusion = stated(alloc, &places, &frame.statement)?;
         let apart = groups_located(alloc, &places, &mandatory.apart)?;
         let wanted = all_wanted(alloc, &places, &mandatory.hyps)?;
         Ok(Assertion {
@@ -76,7 +76,7 @@ impl<'a> Assertion<'a> {
         ensures { IfOk result
             (λ r. r ≡ met (P.place place.now) (assertion_frame self.now) (drop base stack.now)) }
     {
-        if self.agrees(stack, base) {
+        if self.agrees(stack, base, &mut spreads.present)? {
             self.is_apart(alloc, place, stack, base, spreads)
         } else {
             Ok(false)
@@ -84,12 +84,13 @@ impl<'a> Assertion<'a> {
     }
 
     /// Whether the entries are of the right typecodes and what the `$e` ask for.
-    fn agrees(&self, stack: &Stack, base: usize) -> bool
+    fn agrees(&self, stack: &Stack, base: usize, present: &mut Present) -> Result<bool, AllocError>
         requires { length (assertion_frame self.now).hypotheses ≡ length (drop base stack.now) }
-        ensures { result ≡ all_agree (bindings_in (assertion_frame self.now) (drop base stack.now))
-            (assertion_frame self.now).hypotheses (drop base stack.now) }
+        ensures { IfOk result (λ r. r
+            ≡ all_agree (bindings_in (assertion_frame self.now) (drop base stack.now))
+            (assertion_frame self.now).hypotheses (drop base stack.now)) }
     {
-        are_wanted(&self.wanted, stack, base)
+        are_wanted(&self.wanted, stack, base, present)
     }
 
     /// Whether the texts keep apart what `$d` asks for.
@@ -109,33 +110,22 @@ impl<'a> Assertion<'a> {
         are_groups_apart(alloc, place, &self.apart, stack, base, spreads)
     }
 
-    /// Whether its statement may be long, by what the entries from `base` on have all together.
-    pub(crate) fn may_be_long(&self, stack: &Stack, base: usize) -> bool
-        requires { base ≤ length stack.now }
-    {
-        self.conclusion.len().saturating_mul(stack.taken(base)) >= LONG
-    }
-
-    /// How long its statement is, with the texts that the entries from `base` on give its
-    /// variables.
-    pub(crate) fn length(&self, stack: &Stack, base: usize) -> usize
-        requires { length (assertion_frame self.now).hypotheses ≡ length (drop base stack.now) }
-    {
-        filled_length(&self.conclusion, stack, base)
-    }
-
     /// Appends its statement, with the texts that the entries from `base` on give its variables.
     pub(crate) fn conclude(
         &self,
-        stack: &Stack,
+        stack: &mut Stack,
         base: usize,
         to: &mut Vec<u32>,
+        present: &mut Present,
     ) -> Result<(), AllocError>
-        requires { length (assertion_frame self.now).hypotheses ≡ length (drop base stack.now) }
-        ensures { OnOk result (to.new.items ≡ to.old.items
-            ++ substituted (bindings_in (assertion_frame self.now) (drop base stack.now))
+        requires count { length (assertion_frame self.now).hypotheses
+            ≡ length (drop base stack.old) }
+        requires base { base ≤ length stack.old }
+        ensures filled { OnOk result (to.new.items ≡ to.old.items
+            ++ substituted (bindings_in (assertion_frame self.now) (drop base stack.old))
             (assertion_frame self.now).statement) }
+        ensures stack { stack.new ≡ stack.old }
     {
-        fill(&self.conclusion, stack, base, to)
+        self.conclusion.fill(stack, base, to, present)
     }
 }

@@ -11,6 +11,9 @@ use crate::stack::Stack;
 use std::alloc::AllocError;
 use std::slice::from_ref;
 
+/// With so many symbols an entry may be long.
+const LONG: usize = 65536;
+
 /// The text that stands for a part: the symbol itself, or what stands after the typecode of an
 /// entry from `base` on.
 pub(crate) fn text_of<'a>(part: &'a Part, stack: &'a Stack, base: usize) -> &'a [u32]
@@ -41,8 +44,26 @@ fn behind_typecode(entry: &[u32]) -> &[u32]
     }
 }
 
+/// Whether the text of an entry from `base` on is empty.
+pub(crate) fn has_empty_text(stack: &Stack, base: usize) -> bool {
+    for i in base..stack.len() {
+        if stack.entry(i).len() < 2 {
+            return true;
+        }
+    }
+    false
+}
+
+/// Whether the statement of some parts may be long, by what the entries from `base` on have all
+/// together.
+fn may_be_long(parts: &[Part], stack: &Stack, base: usize) -> bool
+    requires { base ≤ length stack.now }
+{
+    parts.len().saturating_mul(stack.taken(base)) >= LONG
+}
+
 /// How long the statement of some parts is, with the texts of the entries from `base` on.
-pub(crate) fn filled_length(parts: &[Part], stack: &Stack, base: usize) -> usize
+fn filled_length(parts: &[Part], stack: &Stack, base: usize) -> usize
     requires within { AreWithin (length (drop base stack.now)) parts.now }
 {
     let mut length: usize = 0;
@@ -52,14 +73,31 @@ pub(crate) fn filled_length(parts: &[Part], stack: &Stack, base: usize) -> usize
     length
 }
 
-/// Appends the statement of some parts, with the texts of the entries from `base` on. It takes time
-/// in the length of what is appended.
-pub(crate) fn fill(
+/// Appends the statement of some parts, as `fill` does, for an entry of the stack. If it may be
+/// long, room for all of it is asked for before any of it is written.
+pub(crate) fn fill_reserved(
     parts: &[Part],
-    stack: &Stack,
+    stack: &mut Stack,
     base: usize,
     to: &mut Vec<u32>,
 ) -> Result<(), AllocError>
+    requires within { AreWithin (length (drop base stack.old)) parts.now }
+    requires base { base ≤ length stack.old }
+    ensures filled { OnOk result
+        (to.new.items ≡ to.old.items ++ filled (drop base stack.old) parts.now) }
+    ensures stack { stack.new ≡ stack.old }
+{
+    if may_be_long(parts, stack, base) {
+        let length = filled_length(parts, stack, base);
+        stack.reserve(length)?;
+        to.reserve(length)?;
+    }
+    fill(parts, stack, base, to)
+}
+
+/// Appends the statement of some parts, with the texts of the entries from `base` on. It takes time
+/// in the number of the parts and in the length of what is appended.
+fn fill(parts: &[Part], stack: &Stack, base: usize, to: &mut Vec<u32>) -> Result<(), AllocError>
     requires within { AreWithin (length (drop base stack.now)) parts.now }
     ensures { OnOk result (to.new.items ≡ to.old.items ++ filled (drop base stack.now) parts.now) }
 {

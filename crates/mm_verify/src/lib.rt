@@ -5,12 +5,14 @@
 //! (`machine`, `applying`, `checking`). The memory for checking proofs is kept from one proof to
 //! the next (`room`). Symbols are numbers. An `Assertion` knows for each of its variables which
 //! entry of the stack gives its text (`parts`), so that a step substitutes texts without a look-up.
-//! The contract of `verify` is the definition of validity of the crate `mm_database`, in both
-//! directions.
+//! For a long `statement` it knows where each variable occurs (`by_place`), so that a step passes
+//! over empty texts (`present`). The contract of `verify` is the definition of validity of the
+//! crate `mm_database`, in both directions.
 #![tactic(auto)]
 
 mod applying;
 mod assertion;
+mod by_place;
 mod checker;
 mod checking;
 mod citable;
@@ -25,11 +27,13 @@ mod letters;
 mod machine;
 mod parts;
 mod place;
+mod present;
 mod proof_fault;
 mod proof_text;
 mod room;
 mod spreads;
 mod stack;
+mod statement;
 mod stored;
 mod together;
 mod verdicts;

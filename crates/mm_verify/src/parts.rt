@@ -3,9 +3,11 @@ ghost use Rattle.std.specs.Prelude.{◌≡◌, Some, IfOk, map, flat_map};
 ghost use Rattle.mm_frame.specs.PlainFrames.{plain_hypothesis, plain_hypotheses, groups_of};
 ghost use Rattle.mm_verify.specs.Places.{symbol_of, place_in, symbols_in, parts_of};
 ghost use Rattle.mm_verify.specs.Locating.{place_by, AreLocated};
+ghost use Rattle.mm_verify.specs.StatementView.{statement_parts};
 ghost use Rattle.mm_verify.specs.Resolved.{wanted_hypothesis, hypotheses_of, parts_in};
 
 use crate::finding::Places;
+use crate::statement::Statement;
 use mm_frame::Hyp;
 use std::alloc::{AllocError, Global};
 
@@ -18,7 +20,7 @@ const NOWHERE: u32 = u32::MAX;
 #[derive(Clone, Copy, PartialEq, Eq)]
 pub(crate) struct Part {
     pub(crate) symbol: u32,
-    place: u32,
+    pub(crate) place: u32,
 }
 
 impl Part {
@@ -40,7 +42,7 @@ pub(crate) enum Wanted<'a> {
     /// A text of this typecode, for this variable, by the `$f` of this label.
     Typed(&'a [u8], u32, u32),
     /// The statement of the `$e` of this label, with the texts in it.
-    Stated(&'a [u8], Vec<Part>),
+    Stated(&'a [u8], Statement),
 }
 
 /// The symbol with the place that its variable has.
@@ -72,11 +74,7 @@ fn placed(symbol: u32, place: usize) -> Result<Part, AllocError>
 }
 
 /// The symbols, each with its place.
-pub(crate) fn located(
-    alloc: Global,
-    places: &Places<'_, '_>,
-    symbols: &[u32],
-) -> Result<Vec<Part>, AllocError>
+fn located(alloc: Global, places: &Places<'_, '_>, symbols: &[u32]) -> Result<Vec<Part>, AllocError>
     ensures symbols { IfOk result (λ v. map symbol_of v.items ≡ symbols.now) }
     ensures places { IfOk result
         (λ v. map place_in v.items ≡ map (place_by places.now) symbols.now) }
@@ -86,6 +84,20 @@ pub(crate) fn located(
         parts.push(part_of(places, *symbol)?)?;
     }
     Ok(parts)
+}
+
+/// The statement of these symbols.
+pub(crate) fn stated(
+    alloc: Global,
+    places: &Places<'_, '_>,
+    symbols: &[u32],
+) -> Result<Statement, AllocError>
+    ensures symbols { IfOk result (λ s. map symbol_of (statement_parts s) ≡ symbols.now) }
+    ensures places { IfOk result (λ s. map place_in (statement_parts s)
+        ≡ map (place_by places.now) symbols.now) }
+{
+    let parts = located(alloc, places, symbols)?;
+    Statement::of(alloc, parts)
 }
 
 /// Groups of symbols, each with its place.
@@ -117,7 +129,7 @@ fn wanted_by<'a>(
         Hyp::Floating(label, typecode, variable) => Ok(Wanted::Typed(label, *typecode, *variable)),
         Hyp::Essential(label, statement) => Ok(Wanted::Stated(
             label,
-            located(alloc, places, statement)?,
+            stated(alloc, places, statement)?,
         )),
     }
 }

@@ -16,6 +16,7 @@ ghost use Rattle.mm_verify.specs.Pairs.{is_variable_apart as variable_apart};
 use crate::filling::text_at;
 use crate::parts::Part;
 use crate::place::Place;
+use crate::present::Present;
 use crate::stack::Stack;
 use crate::together::is_group_apart;
 use std::alloc::{AllocError, Global};
@@ -27,12 +28,14 @@ const MANY: usize = 64;
 /// The variables in the texts of entries. Each text is looked at once. The number at the place of
 /// an entry is 0 if its text was not looked at yet, and else one more than the number of its list.
 /// If two texts with many variables were found to be kept apart, the pair of their places is noted.
+/// The parts of a long statement whose texts are not empty are kept next to these.
 #[derive(Drop)]
 pub(crate) struct Spreads {
     numbers: Vec<usize>,
     lists: Stack,
     gathered: Vec<u32>,
     tested: BTreeMap<usize, (usize, usize)>,
+    pub(crate) present: Present,
 }
 
 impl Spreads {
@@ -43,6 +46,7 @@ impl Spreads {
             lists: Stack::new(alloc)?,
             gathered: Vec::with_capacity(alloc, 64)?,
             tested: BTreeMap::new(alloc),
+            present: Present::new(alloc),
         })
     }
 

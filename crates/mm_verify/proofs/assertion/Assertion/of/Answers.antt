@@ -2,6 +2,7 @@ use Rattle.std.proofs.Common.{rules, ◌≡◌, ◌∙◌, ap, sym, map, List, �
 use Rattle.mm_frame.specs.PlainFrames.{plain_hypotheses}
 use Rattle.mm_verify.specs.Places.{parts_of}
 use Rattle.mm_verify.specs.Locating.{place_by, AreLocated}
+use Rattle.mm_verify.specs.StatementView.{statement_parts}
 use Rattle.mm_verify.specs.Resolved.{hypotheses_of, parts_in}
 use Rattle.mm_verify.proofs.Placing.{placed}
 use Rattle.mm_verify.proofs.assertion.Assertion.of.Goals as goal
@@ -11,7 +12,7 @@ same : (c : goal.After-result-1)
 same c = search rules
 
 located : (c : goal.After-result-1)
-    → AreLocated c.in_ok-places.places c.in_ok-conclusion.conclusion.items
+    → AreLocated c.in_ok-places.places (statement_parts c.in_ok-conclusion.conclusion)
 located c = c.in_ok-conclusion.ensures.places
     ∙ ap (λ (s : List ℕ). map (place_by c.in_ok-places.places) s)
     (sym c.in_ok-conclusion.ensures.symbols)
@@ -25,5 +26,6 @@ invariant_of-result c = record {
       placed c.in_ok-places.places _ (flat_map parts_of c.in_ok-apart.apart.items) (same c)
       c.in_ok-apart.ensures.places;
   conclusion_placed =
-      placed c.in_ok-places.places _ c.in_ok-conclusion.conclusion.items (same c) (located c);
+      placed c.in_ok-places.places _ (statement_parts c.in_ok-conclusion.conclusion) (same c)
+      (located c);
 }

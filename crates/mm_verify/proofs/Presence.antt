@@ -1,0 +1,269 @@
+-- Laws on the parts whose texts are not empty: how they are gathered, and that they are enough.
+use Rattle.std.proofs.Common.{◌≡◌, ℕ, zero, suc, ◌+◌, ◌-◌, ◌<◌, ◌≤◌, Bool, true, false, List, []}
+use Rattle.std.proofs.Common.{◌∷◌, ◌++◌, length, take, drop, get_or, map, nat_eq, Option, Some}
+use Rattle.std.proofs.Common.{None, cond, refl, ap, ◌∙◌, sym, subst, arith, append_assoc}
+use Rattle.std.specs.Prelude.{◌&&◌, ◌||◌, ◌==◌, not, All, slice_get, option_map, filter, flat_map}
+use Rattle.std.specs.List.{list_any}
+use Rattle.std.proofs.lemmas.Bool.{eqb-true, eq-eqb}
+use Rattle.std.proofs.lemmas.List.{map-append, get_or-take, get_or-drop, length-take, length-drop}
+use Rattle.std.proofs.lemmas.List.{take_all, drop_more}
+use Rattle.std.proofs.lemmas.List.Elements.{All-head, All-tail}
+use Rattle.std.proofs.lemmas.List.Folds.{list_any-append}
+use Rattle.std.proofs.lemmas.Option.{slice_get-map}
+use Rattle.mm_frame.specs.PlainFrames.{has_number}
+use Rattle.mm_frame.specs.Places.{passes, found_at}
+use Rattle.mm_verify.specs.declared.parts.Part.{Part}
+use Rattle.mm_verify.specs.Filling.{text_at, part_text, placed_text, filled}
+use Rattle.mm_verify.specs.Spots.{number_of, place_at, position_at, IsSpot, AreSpots}
+use Rattle.mm_verify.specs.Present.{has_text}
+use Rattle.mm_verify.proofs.Spotting.{any-default, get-is, get-within}
+use Rattle.mm_verify.proofs.Spreading.{or-right}
+
+abbrev pub with_text : List (List ℕ) → List Part → List Part
+with_text entries parts = filter (has_text entries) parts
+
+-- parts whose texts are empty may be left out
+no-length : (text : List ℕ) → (length text == 0) ≡ true → text ≡ []
+no-length [] is = refl
+no-length (n ∷ ns) is = absurd (grind (arith, is))
+
+pub present-filled : (entries : List (List ℕ)) (parts : List Part)
+    → filled entries (with_text entries parts) ≡ filled entries parts
+present-filled entries [] = refl
+present-filled entries (p ∷ ps) =
+    go (length (part_text entries p) == 0) refl (present-filled entries ps)
+  where
+    go : (b : Bool) → (length (part_text entries p) == 0) ≡ b
+        → filled entries (with_text entries ps) ≡ filled entries ps
+        → filled entries (cond (not b) (p ∷ with_text entries ps) (with_text entries ps))
+        ≡ part_text entries p ++ filled entries ps
+    go true is rest = rest
+        ∙ ap (λ (t : List ℕ). t ++ filled entries ps) (sym (no-length (part_text entries p) is))
+    go false is rest = ap (λ (t : List ℕ). part_text entries p ++ t) rest
+
+has-there : (ns : List ℕ) (k d : ℕ) → k < length ns → has_number ns (get_or ns k d) ≡ true
+has-there [] k d lt = absurd (omega (arith, lt))
+has-there (n ∷ ns) zero d lt = ap (λ (b : Bool). b || has_number ns n) (eq-eqb n n refl)
+has-there (n ∷ ns) (suc k) d lt =
+    or-right (nat_eq n (get_or ns k d)) (has_number ns (get_or ns k d))
+    (has-there ns k d (omega (arith, lt)))
+
+nothing-taken : {X : Type 0} (n : ℕ) → take {A = X} n [] ≡ []
+nothing-taken zero = refl
+nothing-taken (suc n) = refl
+
+take-add : {X : Type 0} (n m : ℕ) (xs : List X) → take (n + m) xs ≡ take n xs ++ take m (drop n xs)
+take-add zero m xs = let same : 0 + m ≡ m = omega arith in ap (λ (k : ℕ). take k xs) same
+take-add (suc n) m [] = nothing-taken (suc n + m) ∙ sym (nothing-taken m)
+take-add (suc n) m (x ∷ xs) =
+    let same : suc n + m ≡ suc (n + m) = omega arith in
+    ap (λ (k : ℕ). take k (x ∷ xs)) same ∙ ap (λ l. x ∷ l) (take-add n m xs)
+
+-- whether a text stands for a part is told by the number of its place
+stands : List (List ℕ) → ℕ → Bool
+stands entries n = cond (nat_eq n 4294967295) true (not (length (text_at entries n) == 0))
+
+has-stands : (entries : List (List ℕ)) (p : Part)
+    → has_text entries p ≡ stands entries (number_of p)
+unfolding stands
+has-stands entries p = go (nat_eq p.place 4294967295)
+  where
+    go : (b : Bool)
+        → not (length (placed_text entries p.symbol (cond b None (Some p.place))) == 0)
+        ≡ cond b true (not (length (text_at entries p.place) == 0))
+    go true = refl
+    go false = refl
+
+passes-stands : (entries : List (List ℕ)) (o : Option Part) (n : ℕ)
+    → option_map number_of o ≡ Some n → passes (has_text entries) o ≡ stands entries n
+passes-stands entries None n is = absurd (cc)
+passes-stands entries (Some p) n is =
+    let same : number_of p ≡ n = cc in has-stands entries p ∙ ap (stands entries) same
+
+module _ (entries : List (List ℕ)) (parts : List Part) where
+  abbrev is_left : ℕ → Bool
+  is_left i = passes (has_text entries) (slice_get parts i)
+
+  spot-stands : (spot : ℕ) → IsSpot parts spot
+      → is_left (position_at spot) ≡ stands entries (place_at spot)
+  spot-stands spot is =
+      passes-stands entries (slice_get parts (position_at spot)) (place_at spot)
+      (sym (slice_get-map number_of parts (position_at spot)) ∙ is)
+
+  -- the part at a spot
+  spot-part : (spot : ℕ) → IsSpot parts spot → position_at spot < length parts
+  spot-part spot is =
+      there (slice_get parts (position_at spot)) refl
+      (sym (slice_get-map number_of parts (position_at spot)) ∙ is)
+    where
+      there : (o : Option Part) → slice_get parts (position_at spot) ≡ o
+          → option_map number_of o ≡ Some (place_at spot) → position_at spot < length parts
+      there None at none = absurd (cc)
+      there (Some p) at some = get-within parts (position_at spot) p at
+
+  pub present-at : (spots : List ℕ) (at spot position : ℕ) (p : Part) (text : List ℕ) (empty : Bool)
+      → AreSpots parts spots → at < length spots → spot ≡ get_or spots at spot
+      → position ≡ position_at spot → p ≡ get_or parts position p → text ≡ part_text entries p
+      → empty ≡ (length text == 0) → not empty ≡ is_left (position_at (get_or spots at 0))
+  present-at spots at spot position p text empty are lt is there part stands none =
+      let first : get_or spots at 0 ≡ spot = any-default spots at 0 spot lt ∙ sym is in
+      let place : position ≡ position_at (get_or spots at 0) = there ∙ ap position_at (sym first) in
+      let within : position < length parts =
+      subst (λ (n : ℕ). n < length parts) (sym place)
+      (spot-part (get_or spots at 0) (are.each at 0 lt)) in
+      let found : slice_get parts position ≡ Some p =
+      get-is parts position p within ∙ ap (λ (q : Part). Some q) (sym part) in
+      ap not none
+      ∙ ap (λ (t : List ℕ). not (length t == 0)) stands
+      ∙ ap (passes (has_text entries)) (sym found)
+      ∙ ap is_left place
+
+  -- the positions of a run
+  run-left : (run : List ℕ) (b : Bool) → All (λ spot. is_left (position_at spot) ≡ b) run → (i : ℕ)
+      → has_number (map position_at run) i ≡ true → is_left i ≡ b
+  run-left [] b all i has = absurd (cc)
+  run-left (spot ∷ run) b all i has =
+      go (nat_eq (position_at spot) i) refl
+      (λ h. run-left run b (All-tail (λ s. is_left (position_at s) ≡ b) spot run all) i h) has
+    where
+      go : (here : Bool) → nat_eq (position_at spot) i ≡ here
+          → (has_number (map position_at run) i ≡ true → is_left i ≡ b)
+          → (here || has_number (map position_at run) i) ≡ true → is_left i ≡ b
+      go true is later h = ap is_left (sym (eqb-true (position_at spot) i is))
+          ∙ All-head (λ s. is_left (position_at s) ≡ b) spot run all
+      go false is later h = later h
+
+  joined : (before here left b : Bool) → (here ≡ true → left ≡ b)
+      → ((before && left) || (b && here)) ≡ ((before || here) && left)
+  joined before false left true h = grind arith
+  joined before false left false h = grind arith
+  joined before true left b h = let is : left ≡ b = h refl in last before left b is
+    where
+      last : (before left b : Bool) → left ≡ b
+          → ((before && left) || (b && true)) ≡ ((before || true) && left)
+      last true true b is = refl
+      last true false b is = ap (λ (c : Bool). c && true) (sym is)
+      last false true b is = ap (λ (c : Bool). c && true) (sym is)
+      last false false b is = ap (λ (c : Bool). c && true) (sym is)
+
+  -- one run more
+  module _ (spots : List ℕ) (are : AreSpots parts spots) (at end : ℕ) (to : List ℕ) (b : Bool)
+      (from : at < end) (room : end ≤ length spots) (same : (k : ℕ) → at ≤ k → k < end
+      → place_at (get_or spots k 0) ≡ place_at (get_or spots at 0))
+      (told : b ≡ is_left (position_at (get_or spots at 0))) (gathered : (i : ℕ)
+      → has_number to i ≡ (has_number (map position_at (take at spots)) i && is_left i)) where
+    run : List ℕ
+    run = take (end - at) (drop at spots)
+
+    run-all : All (λ spot. is_left (position_at spot) ≡ b) run
+    unfolding run
+    run-all k d lt =
+        let short : k < end - at = omega (arith, lt, length-take (end - at) (drop at spots)) in
+        let where-is : get_or (take (end - at) (drop at spots)) k d ≡ get_or spots (at + k) d =
+        get_or-take (end - at) (drop at spots) k d short ∙ get_or-drop at spots k d in
+        let in-range : at + k < length spots = omega (arith, short, room) in
+        let first-spot : IsSpot parts (get_or spots at 0) =
+        are.each at 0 (omega (arith, from, room)) in
+        let this-spot : IsSpot parts (get_or spots (at + k) d) = are.each (at + k) d in-range in
+        ap (λ (s : ℕ). is_left (position_at s)) where-is
+        ∙ spot-stands (get_or spots (at + k) d) this-spot
+        ∙ ap (λ (s : ℕ). stands entries (place_at s)) (any-default spots (at + k) d 0 in-range)
+        ∙ ap (stands entries) (same (at + k) (omega arith) (omega (arith, short)))
+        ∙ sym (spot-stands (get_or spots at 0) first-spot)
+        ∙ sym told
+
+    has-more : (i : ℕ)
+        → (has_number to i || (b && has_number (map position_at run) i))
+        ≡ (has_number (map position_at (take end spots)) i && is_left i)
+    unfolding run
+    has-more i =
+        ap (λ (c : Bool). c || (b && has_number (map position_at run) i)) (gathered i)
+        ∙ joined (has_number (map position_at (take at spots)) i)
+        (has_number (map position_at run) i) (is_left i) b (run-left run b run-all i)
+        ∙ ap (λ (c : Bool). c && is_left i) (sym whole)
+      where
+        split : take end spots ≡ take at spots ++ take (end - at) (drop at spots)
+        split =
+            let same : end ≡ at + (end - at) = omega (arith, from) in
+            ap (λ (n : ℕ). take n spots) same ∙ take-add at (end - at) spots
+
+        whole : has_number (map position_at (take end spots)) i
+            ≡ (has_number (map position_at (take at spots)) i
+            || has_number (map position_at (take (end - at) (drop at spots))) i)
+        whole = ap (λ (l : List ℕ). has_number (map position_at l) i) split
+            ∙ ap (λ (l : List ℕ). has_number l i)
+            (map-append position_at (take at spots) (take (end - at) (drop at spots)))
+            ∙ list_any-append (λ m. nat_eq m i) (map position_at (take at spots))
+            (map position_at (take (end - at) (drop at spots)))
+
+    pub none-more : b ≡ false → (i : ℕ)
+        → has_number to i ≡ (has_number (map position_at (take end spots)) i && is_left i)
+    none-more out i = or-false (has_number to i)
+        ∙ ap (λ (c : Bool). has_number to i || (c && has_number (map position_at run) i)) (sym out)
+        ∙ has-more i
+      where
+        or-false : (c : Bool) → c ≡ (c || false)
+        or-false true = refl
+        or-false false = refl
+
+    pub run-more : b ≡ true → (new : List ℕ)
+        → new ≡ to ++ map position_at (take (end - at) (drop at spots)) → (i : ℕ)
+        → has_number new i ≡ (has_number (map position_at (take end spots)) i && is_left i)
+    unfolding run
+    run-more inside new is i =
+        ap (λ (l : List ℕ). has_number l i) is
+        ∙ list_any-append (λ m. nat_eq m i) to (map position_at run)
+        ∙ ap (λ (c : Bool). has_number to i || (c && has_number (map position_at run) i))
+        (sym inside)
+        ∙ has-more i
+
+  -- all runs
+  pub all-left : (spots : List ℕ) → AreSpots parts spots → (at : ℕ) (to : List ℕ)
+      → length spots ≤ at
+      → ((i : ℕ) → has_number to i ≡ (has_number (map position_at (take at spots)) i && is_left i))
+      → (i : ℕ) → has_number to i ≡ is_left i
+  all-left spots are at to done gathered i =
+      gathered i
+      ∙ ap (λ (l : List ℕ). has_number (map position_at l) i && is_left i)
+      (take_all at spots done) ∙ go (slice_get parts i) refl
+    where
+      go : (o : Option Part) → slice_get parts i ≡ o
+          → (has_number (map position_at spots) i && passes (has_text entries) o)
+          ≡ passes (has_text entries) o
+      go None at = and-false (has_number (map position_at spots) i)
+        where
+          and-false : (c : Bool) → (c && false) ≡ false
+          and-false true = refl
+          and-false false = refl
+      go (Some p) at =
+          ap (λ (c : Bool). c && has_text entries p) (are.all i (get-within parts i p at))
+
+  -- the positions are those of parts
+  pub left-within : (ns : List ℕ) → ((i : ℕ) → has_number ns i ≡ is_left i)
+      → All (λ i. i < length parts) ns
+  left-within ns has k d lt =
+      there (slice_get parts (get_or ns k d)) refl (sym (has (get_or ns k d)) ∙ has-there ns k d lt)
+    where
+      there : (o : Option Part) → slice_get parts (get_or ns k d) ≡ o
+          → passes (has_text entries) o ≡ true → get_or ns k d < length parts
+      there None at left = absurd (cc)
+      there (Some p) at left = get-within parts (get_or ns k d) p at
+
+-- the part at one position more
+pub part-more : (parts : List Part) (positions : List ℕ) (to new whole : List Part) (k d : ℕ)
+    (p : Part) → k < length positions → get_or positions k d < length parts
+    → new ≡ to ++ get_or parts (get_or positions k d) p ∷ []
+    → to ++ flat_map (λ i. found_at (slice_get parts i)) (drop k positions) ≡ whole
+    → new ++ flat_map (λ i. found_at (slice_get parts i)) (drop (k + 1) positions) ≡ whole
+part-more parts positions to new whole k d p lt within is before =
+    ap (λ (l : List Part).
+    l ++ flat_map (λ i. found_at (slice_get parts i)) (drop (k + 1) positions)) is
+    ∙ append_assoc to (get_or parts (get_or positions k d) p ∷ [])
+    (flat_map (λ i. found_at (slice_get parts i)) (drop (k + 1) positions))
+    ∙ ap (λ (o : Option Part). to
+    ++ (found_at o
+    ++ flat_map (λ i. found_at (slice_get parts i)) (drop (k + 1) positions)))
+    (sym (get-is parts (get_or positions k d) p within))
+    ∙ ap (λ (l : List ℕ). to ++ flat_map (λ i. found_at (slice_get parts i)) l)
+    (sym (drop_more positions k d lt))
+    ∙ before

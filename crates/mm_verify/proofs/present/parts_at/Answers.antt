@@ -1,0 +1,15 @@
+use Rattle.std.proofs.Common.{rules, ◌≡◌, ◌++◌, ◌∷◌, [], get_or}
+use Rattle.mm_verify.proofs.Presence.{part-more}
+use Rattle.mm_verify.proofs.present.parts_at.Goals as goal
+
+pub loop-position-preserved : goal.loop-position-preserved
+loop-position-preserved c =
+    let i = c.loop-position.position-index in
+    let at = get_or c.args.positions.now i 0 in
+    let new : c.push.new.self.items ≡ c.loop-position.to.items ++ get_or c.args.parts.now at
+    (record { symbol = 0; place = 0 }) ∷ [] =
+    search rules in
+    part-more c.args.parts.now c.args.positions.now c.loop-position.to.items c.push.new.self.items _
+    i 0 (record { symbol = 0; place = 0 })
+    c.loop-position-test.true (c.requires i 0 c.loop-position-test.true) new
+    c.loop-position.invariant

@@ -1,0 +1,9 @@
+-- The parts of a statement, however it is kept.
+use Rattle.std.specs.Prelude.{List}
+use Rattle.mm_verify.specs.declared.parts.Part.{Part}
+use Rattle.mm_verify.specs.declared.statement.Statement.{Statement}
+use Rattle.mm_verify.specs.declared.statement.Statement.TheVariants.{Short, Long}
+
+abbrev pub statement_parts : Statement → List Part
+statement_parts (Short parts) = parts.items
+statement_parts (Long long) = long.value.parts.items
