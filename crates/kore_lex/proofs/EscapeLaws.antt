@@ -1,10 +1,12 @@
 -- Escapes: their numbers digit by digit, and how many bytes they take.
 use Rattle.std.proofs.Common.{◌≡◌, ◌≤◌, ◌<◌, ◌+◌, ◌*◌, ◌-◌, ℕ, zero, suc, Bool, true, false, List}
 use Rattle.std.proofs.Common.{[], ◌∷◌, length, drop, get_or, refl, ap, sym, ◌∙◌, arith, length-drop}
-use Rattle.std.proofs.Common.{◌==◌, if◌then◌else◌, Option, Some, None}
+use Rattle.std.proofs.Common.{◌==◌, if◌then◌else◌, Option, Some, None, Result, Ok, Err, not}
 use Rattle.std.proofs.lemmas.List.{drop-drop}
 use Rattle.std.proofs.lemmas.Bool.Decides.{nat_tests}
 use Rattle.std.proofs.lemmas.Str.{IsUtf8-from_is_utf8, IsUtf8-drop, IsCharBoundary-after_ascii}
+use Rattle.std.proofs.lemmas.Str.{is_utf8-from_IsUtf8}
+use Rattle.std.specs.Result.{MatchResult, is_err}
 use Rattle.std.specs.Str.{IsUtf8, is_utf8}
 use Rattle.std.specs.Option.{SomeIff}
 use Rattle.std.specs.Char.{IsScalar}
@@ -30,8 +32,15 @@ no-text-if : (bs : List ℕ) (b : Bool) → is_utf8 bs ≡ b → (IsUtf8 bs → 
 no-text-if bs true e h = absurd (h (IsUtf8-from_is_utf8 bs e))
 no-text-if bs false e h = refl
 
-pub no-text : (bs : List ℕ) → (IsUtf8 bs → ⊥) → is_utf8 bs ≡ false
+no-text : (bs : List ℕ) → (IsUtf8 bs → ⊥) → is_utf8 bs ≡ false
 no-text bs h = no-text-if bs (is_utf8 bs) refl h
+
+-- the test of the result of `from_utf8`
+pub text-if-ok : {T E : Type 0} (P : T → Type 0) (Q : E → Type 0) (bs : List ℕ) (r : Result T E)
+    (b : Bool) → b ≡ is_err r
+    → MatchResult r (λ t. P t × IsUtf8 bs) (λ e. (IsUtf8 bs → ⊥) × Q e) → is_utf8 bs ≡ not b
+text-if-ok P Q bs (Ok t) b e h = is_utf8-from_IsUtf8 bs h.1 ∙ sym (ap not e)
+text-if-ok P Q bs (Err x) b e h = no-text bs h.0 ∙ sym (ap not e)
 
 not-scalar : (n : ℕ) (b : Bool) → scalar n ≡ b → (IsScalar n → ⊥)
     → None ≡ (if b then Some n else None)

@@ -7,35 +7,28 @@ ghost use Rattle.kore_lex.specs.Pieces.{is_space, is_letter, is_word, is_mark, w
 pub(crate) fn is_space(byte: u8) -> bool
     ensures { result ≡ is_space byte }
 {
-    byte == b' ' || byte == b'\t' || byte == b'\r' || byte == b'\n'
+    matches!(byte, b' ' | b'\t' | b'\r' | b'\n')
 }
 
 /// An ASCII letter.
 pub(crate) fn is_letter(byte: u8) -> bool
     ensures { result ≡ is_letter byte }
 {
-    (b'A' <= byte && byte <= b'Z') || (b'a' <= byte && byte <= b'z')
+    byte.is_ascii_alphabetic()
 }
 
 /// A letter, a digit, `'` or `-`.
 fn is_word(byte: u8) -> bool
     ensures { result ≡ is_word byte }
 {
-    is_letter(byte) || (b'0' <= byte && byte <= b'9') || byte == b'\'' || byte == b'-'
+    is_letter(byte) || byte.is_ascii_digit() || matches!(byte, b'\'' | b'-')
 }
 
 /// One of `{ } ( ) [ ] , :`.
 pub(crate) fn is_mark(byte: u8) -> bool
     ensures { result ≡ is_mark byte }
 {
-    byte == b'{'
-        || byte == b'}'
-        || byte == b'('
-        || byte == b')'
-        || byte == b'['
-        || byte == b']'
-        || byte == b','
-        || byte == b':'
+    matches!(byte, b'{' | b'}' | b'(' | b')' | b'[' | b']' | b',' | b':')
 }
 
 /// The bytes from `from` on.

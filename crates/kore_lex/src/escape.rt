@@ -22,14 +22,11 @@ pub(crate) struct Escape {
 fn hex_digit(byte: u8) -> Option<u32>
     ensures { result ≡ hex_digit byte }
 {
-    if b'0' <= byte && byte <= b'9' {
-        Some(u32::from(byte - b'0'))
-    } else if b'a' <= byte && byte <= b'f' {
-        Some(u32::from(byte - b'a') + 10)
-    } else if b'A' <= byte && byte <= b'F' {
-        Some(u32::from(byte - b'A') + 10)
-    } else {
-        None
+    match byte {
+        b'0'..=b'9' => Some(u32::from(byte - b'0')),
+        b'a'..=b'f' => Some(u32::from(byte - b'a') + 10),
+        b'A'..=b'F' => Some(u32::from(byte - b'A') + 10),
+        _ => None,
     }
 }
 
@@ -54,13 +51,11 @@ fn numbered(digits: usize, bytes: &[u8]) -> Option<Escape>
     ensures value { result ≡ numbered digits bytes.now }
     ensures within { IfSome result (λ e. e.len ≤ length bytes.now + 1) }
 {
-    match hex_number(digits, bytes) {
-        Some(character) => Some(Escape {
-            character,
-            len: digits + 1,
-        }),
-        None => None,
-    }
+    let character = hex_number(digits, bytes)?;
+    Some(Escape {
+        character,
+        len: digits + 1,
+    })
 }
 
 /// The escape of one letter, which stands for this character.
@@ -76,19 +71,16 @@ pub(crate) fn escape_at(bytes: &[u8]) -> Option<Escape>
     ensures value { result ≡ escape bytes.now }
     ensures within { IfSome result (λ e. (1 ≤ e.len) × (e.len ≤ length bytes.now)) }
 {
-    if bytes.is_empty() {
-        return None;
-    }
-    match bytes[0] {
-        b'n' => single('\n'),
-        b'r' => single('\r'),
-        b't' => single('\t'),
-        b'f' => single('\x0c'),
-        b'"' => single('"'),
-        b'\\' => single('\\'),
-        b'x' => numbered(2, behind(bytes, 1)),
-        b'u' => numbered(4, behind(bytes, 1)),
-        b'U' => numbered(8, behind(bytes, 1)),
+    match bytes {
+        [b'n', ..] => single('\n'),
+        [b'r', ..] => single('\r'),
+        [b't', ..] => single('\t'),
+        [b'f', ..] => single('\x0c'),
+        [b'"', ..] => single('"'),
+        [b'\\', ..] => single('\\'),
+        [b'x', digits @ ..] => numbered(2, digits),
+        [b'u', digits @ ..] => numbered(4, digits),
+        [b'U', digits @ ..] => numbered(8, digits),
         _ => None,
     }
 }
@@ -104,10 +96,8 @@ fn unit_len(bytes: &[u8]) -> Option<usize>
     if bytes[0] != b'\\' {
         return Some(1);
     }
-    match escape_at(behind(bytes, 1)) {
-        Some(escape) => Some(escape.len + 1),
-        None => None,
-    }
+    let escape = escape_at(behind(bytes, 1))?;
+    Some(escape.len + 1)
 }
 
 /// How many bytes there are before the first backslash that begins no escape, if there is one.

@@ -5,7 +5,7 @@ ghost use Rattle.std.specs.Prelude.{◌≡◌, ◌<◌, ◌^◌, ◌+◌, ◌≤
 ghost use Rattle.kore_lex.specs.Pieces.{ends_block, block_len, passed, quote_len, body_piece};
 ghost use Rattle.kore_lex.specs.Pieces.{comment, string, named, colon, piece};
 
-use crate::bytes::{behind, first, is_letter, is_mark, is_space, line_len, word_len};
+use crate::bytes::{first, is_letter, is_mark, is_space, line_len, word_len};
 use crate::escape::bad_at;
 use crate::lexer::TokenKind;
 
@@ -49,7 +49,7 @@ fn block_len(bytes: &[u8]) -> Option<usize>
 fn passed(byte: u8) -> usize
     ensures { result ≡ passed byte }
 {
-    if byte == b'\\' { 1 } else { 0 }
+    usize::from(byte == b'\\')
 }
 
 /// How many bytes there are up to and including the quote that ends a string.
@@ -73,12 +73,9 @@ fn comment(bytes: &[u8]) -> Piece
     requires { length bytes.now < 2 ^ 32 }
     ensures { result ≡ comment bytes.now }
 {
-    if bytes.is_empty() {
-        return Piece::Bad(0);
-    }
-    match bytes[0] {
-        b'/' => Piece::Gap(line_len(behind(bytes, 1)) + 2),
-        b'*' => match block_len(behind(bytes, 1)) {
+    match bytes {
+        [b'/', line @ ..] => Piece::Gap(line_len(line) + 2),
+        [b'*', block @ ..] => match block_len(block) {
             Some(len) => Piece::Gap(len + 2),
             None => Piece::Bad(0),
         },
@@ -91,12 +88,12 @@ fn body_piece(body: &[u8]) -> Piece
     requires { length body.now < 2 ^ 32 }
     ensures { result ≡ body_piece body.now }
 {
-    match str::from_utf8(body) {
-        Ok(_) => match bad_at(body) {
-            Some(at) => Piece::Bad(at + 1),
-            None => Piece::Whole(TokenKind::Text, body.len() + 2),
-        },
-        Err(_) => Piece::Bad(0),
+    if str::from_utf8(body).is_err() {
+        return Piece::Bad(0);
+    }
+    match bad_at(body) {
+        Some(at) => Piece::Bad(at + 1),
+        None => Piece::Whole(TokenKind::Text, body.len() + 2),
     }
 }
 
@@ -116,20 +113,19 @@ fn named(kind: TokenKind, bytes: &[u8]) -> Piece
     requires { length bytes.now < 2 ^ 32 }
     ensures { result ≡ named kind bytes.now }
 {
-    if bytes.is_empty() || !is_letter(bytes[0]) {
-        return Piece::Bad(0);
+    match bytes {
+        [letter, rest @ ..] if is_letter(*letter) => Piece::Whole(kind, word_len(rest) + 2),
+        _ => Piece::Bad(0),
     }
-    Piece::Whole(kind, word_len(behind(bytes, 1)) + 2)
 }
 
 /// The piece that a colon begins, by the bytes after the colon.
 fn colon(bytes: &[u8]) -> Piece
     ensures { result ≡ colon bytes.now }
 {
-    if !bytes.is_empty() && bytes[0] == b'=' {
-        Piece::Whole(TokenKind::Assign, 2)
-    } else {
-        Piece::Whole(TokenKind::Punct(b':'), 1)
+    match bytes {
+        [b'=', ..] => Piece::Whole(TokenKind::Assign, 2),
+        _ => Piece::Whole(TokenKind::Punct(b':'), 1),
     }
 }
 
@@ -139,11 +135,10 @@ pub(crate) fn piece_at(bytes: &[u8]) -> Piece
     requires { length bytes.now < 2 ^ 32 }
     ensures { result ≡ piece bytes.now }
 {
-    if bytes.is_empty() {
+    let [byte, rest @ ..] = bytes else {
         return Piece::Nothing;
-    }
-    let byte = bytes[0];
-    let rest = behind(bytes, 1);
+    };
+    let byte = *byte;
     if is_space(byte) {
         return Piece::Gap(1);
     }

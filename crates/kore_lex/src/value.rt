@@ -62,13 +62,11 @@ fn take_escape(text: &mut String, bytes: &[u8]) -> Result<usize, AllocError>
     requires inner { IsInner bytes.now }
     ensures { IfOk result (λ n. Took bytes.now (string_bytes text.old) (string_bytes text.new) n) }
 {
-    match escape_at(behind(bytes, 1)) {
-        Some(escape) => {
-            text.push(escape.character)?;
-            Ok(escape.len + 1)
-        }
-        None => unreachable!(),
-    }
+    let Some(escape) = escape_at(behind(bytes, 1)) else {
+        unreachable!()
+    };
+    text.push(escape.character)?;
+    Ok(escape.len + 1)
 }
 
 /// Appends the bytes before the first backslash. Returns how many they are.
@@ -79,11 +77,9 @@ fn take_run(text: &mut String, bytes: &[u8]) -> Result<usize, AllocError>
     ensures { IfOk result (λ n. Took bytes.now (string_bytes text.old) (string_bytes text.new) n) }
 {
     let len = run_len(bytes);
-    match str::from_utf8(first(bytes, len)) {
-        Ok(run) => {
-            text.push_str(run)?;
-            Ok(len)
-        }
-        Err(_) => unreachable!(),
-    }
+    let Ok(run) = str::from_utf8(first(bytes, len)) else {
+        unreachable!()
+    };
+    text.push_str(run)?;
+    Ok(len)
 }
