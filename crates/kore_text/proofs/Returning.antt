@@ -3,7 +3,6 @@ use Rattle.std.proofs.Common.{◌≡◌, ℕ, Bool, true, false, List, [], ◌�
 use Rattle.std.proofs.Common.{refl, ap, sym, subst, codes, if◌then◌else◌}
 use Rattle.std.specs.Str.{bytes_eq}
 use Rattle.kore_text.specs.declared.names.Op.{Op}
-use Rattle.kore_text.specs.declared.names.Op.TheVariants as op
 use Rattle.kore_text.specs.declared.names.Built.{Built}
 use Rattle.kore_text.specs.declared.names.Built.TheVariants.{Connective, Binding, Value, Fold}
 use Rattle.kore_text.specs.declared.symbols.Close.{Close}
@@ -14,7 +13,7 @@ use Rattle.kore_text.specs.declared.symbols.Symbol.{Symbol}
 use Rattle.kore_text.specs.declared.symbols.Symbol.TheVariants as symbol
 use Rattle.kore_text.specs.TokenStream.{Token, identifier, set_identifier, builtin, string_token}
 use Rattle.kore_text.specs.TokenStream.{mark, assign, Stream, token}
-use Rattle.kore_text.specs.Trees.{SortTree, no_sorts, sort_then, folded, sort_trees, ModuleTree}
+use Rattle.kore_text.specs.Trees.{SortTree, no_sorts, sort_then, sort_trees, ModuleTree}
 use Rattle.kore_text.specs.Trees.{import_declaration, sort_declaration, symbol_declaration}
 use Rattle.kore_text.specs.Trees.{alias_declaration, axiom_declaration, claim_declaration}
 use Rattle.kore_text.specs.Grammar.{Requirement, any, listed, more_listed, in_order, is_associative}
@@ -30,7 +29,7 @@ use Rattle.kore_text.specs.Faults.{of_symbol, of_connective}
 use Rattle.kore_text.proofs.Saying.{ItemTree, spell_item, Says, Pieces, along, said}
 use Rattle.kore_text.proofs.ReturningFolds.{Moved, when-back, mark-is, as-sorts, name-back}
 use Rattle.kore_text.proofs.ReturningFolds.{text-back, assign-back, sort-back, sort-tail-back}
-use Rattle.kore_text.proofs.ReturningFolds.{variable-back, built-back, pattern-back}
+use Rattle.kore_text.proofs.ReturningFolds.{variable-back, pattern-back}
 use Rattle.kore_text.proofs.ReturningFolds.{pattern-tail-back, folded-connective-back}
 use Rattle.kore_text.proofs.ReturningFolds.{folded-symbol-back}
 

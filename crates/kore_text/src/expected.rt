@@ -114,9 +114,7 @@ impl Expected {
     pub(crate) fn can_end(&self) -> bool
         ensures { result ≡ can_end (stack self.now) }
     {
-        let mut i = self.symbols.len();
-        while i > 0 {
-            i -= 1;
+        for i in (0..self.symbols.len()).rev() {
             if !self.symbols[i].is_empty() {
                 return false;
             }
@@ -150,9 +148,7 @@ impl Expected {
     fn put(&mut self, symbols: &[Symbol]) -> Result<(), AllocError>
         ensures { OnOk result (stack self.new ≡ symbols.now ++ stack self.old) }
     {
-        let mut i = symbols.len();
-        while i > 0 {
-            i -= 1;
+        for i in (0..symbols.len()).rev() {
             self.symbols.push(symbols[i])?;
         }
         Ok(())

@@ -162,13 +162,11 @@ fn is_empty_fold(alloc: Global, mut tokens: Tokens<'_>) -> Result<bool, AllocErr
 {
     let mut expected = Expected::new(alloc, &EMPTY_FOLD)?;
     while !expected.is_done() {
-        match tokens.next() {
-            Next::Token(kind, _, bytes) => {
-                if !expected.take(&LexedToken { kind, bytes })? {
-                    return Ok(false);
-                }
-            }
-            _ => return Ok(false),
+        let Next::Token(kind, _, bytes) = tokens.next() else {
+            return Ok(false);
+        };
+        if !expected.take(&LexedToken { kind, bytes })? {
+            return Ok(false);
         }
     }
     Ok(true)

@@ -124,10 +124,7 @@ impl Op {
     pub fn is_associative(self) -> bool
         ensures { result ≡ is_associative self }
     {
-        match self {
-            Op::And | Op::Or => true,
-            _ => false,
-        }
+        matches!(self, Op::And | Op::Or)
     }
 }
 
@@ -146,9 +143,6 @@ impl Binder {
     pub fn binds_sets(self) -> bool
         ensures { result ≡ binds_sets self }
     {
-        match self {
-            Binder::Exists | Binder::Forall => false,
-            Binder::Mu | Binder::Nu => true,
-        }
+        matches!(self, Binder::Mu | Binder::Nu)
     }
 }

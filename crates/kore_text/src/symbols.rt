@@ -100,10 +100,7 @@ impl Symbol {
     pub(crate) fn is_empty(self) -> bool
         ensures { result ≡ is_empty self }
     {
-        match self {
-            Symbol::SortTail | Symbol::Modules => true,
-            _ => false,
-        }
+        matches!(self, Symbol::SortTail | Symbol::Modules)
     }
 
     /// Whether the symbol may be left out and this token does not fit it.

@@ -21,50 +21,35 @@ impl<'a> LexedToken<'a> {
     pub(crate) fn is_mark(&self, byte: u8) -> bool
         ensures { result ≡ is_mark byte (token_of self.now.kind self.now.bytes.now) }
     {
-        match self.kind {
-            TokenKind::Punct(mark) => mark == byte,
-            _ => false,
-        }
+        matches!(self.kind, TokenKind::Punct(mark) if mark == byte)
     }
 
     /// Whether it is an identifier.
     pub(crate) fn is_name(&self) -> bool
         ensures { result ≡ is_name (token_of self.now.kind self.now.bytes.now) }
     {
-        match self.kind {
-            TokenKind::Ident => true,
-            _ => false,
-        }
+        matches!(self.kind, TokenKind::Ident)
     }
 
     /// Whether it is this identifier.
     pub(crate) fn is_word(&self, word: &[u8]) -> bool
         ensures { result ≡ is_word word.now (token_of self.now.kind self.now.bytes.now) }
     {
-        match self.kind {
-            TokenKind::Ident => self.bytes == word,
-            _ => false,
-        }
+        self.is_name() && self.bytes == word
     }
 
     /// Whether it is the name of a set variable.
     pub(crate) fn is_set_name(&self) -> bool
         ensures { result ≡ is_set_name (token_of self.now.kind self.now.bytes.now) }
     {
-        match self.kind {
-            TokenKind::SetIdent => true,
-            _ => false,
-        }
+        matches!(self.kind, TokenKind::SetIdent)
     }
 
     /// Whether it is a string.
     pub(crate) fn is_text(&self) -> bool
         ensures { result ≡ is_text (token_of self.now.kind self.now.bytes.now) }
     {
-        match self.kind {
-            TokenKind::Text => true,
-            _ => false,
-        }
+        matches!(self.kind, TokenKind::Text)
     }
 
     /// Whether it is `:=`.
@@ -72,33 +57,24 @@ impl<'a> LexedToken<'a> {
         requires { self.now.kind ≢ End }
         ensures { result ≡ is_assign (token_of self.now.kind self.now.bytes.now) }
     {
-        match self.kind {
-            TokenKind::Assign => true,
-            _ => false,
-        }
+        matches!(self.kind, TokenKind::Assign)
     }
 
     /// Whether it is a fold, from the left or from the right.
     pub(crate) fn is_fold(&self) -> bool
         ensures { result ≡ is_fold (token_of self.now.kind self.now.bytes.now) }
     {
-        match self.kind {
-            TokenKind::Builtin => match Built::of_name(self.behind_first()) {
-                Some(Built::Fold(_)) => true,
-                _ => false,
-            },
-            _ => false,
-        }
+        matches!(self.kind, TokenKind::Builtin)
+            && matches!(Built::of_name(self.behind_first()), Some(Built::Fold(_)))
     }
 
     /// The bytes after the first, which is `@` or `\`.
     pub(crate) fn behind_first(&self) -> &[u8]
         ensures { result.now ≡ drop 1 self.now.bytes.now }
     {
-        if self.bytes.is_empty() {
-            self.bytes
-        } else {
-            &self.bytes[1..]
+        match self.bytes {
+            [_, rest @ ..] => rest,
+            [] => &[],
         }
     }
 }
