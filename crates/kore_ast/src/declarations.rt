@@ -193,10 +193,7 @@ impl<'a> Reader<'a> {
         ensures same { result ≡ is_declared (keyword_of (seen (left self.now))) }
         ensures some { IsTrue result → 1 ≤ size self.now }
     {
-        match self.keyword() {
-            Keyword::Nothing => false,
-            _ => true,
-        }
+        !matches!(self.keyword(), Keyword::Nothing)
     }
 
     /// Declarations, up to and including the word that ends their module.

@@ -75,10 +75,7 @@ impl<'a> Reader<'a> {
         ensures same { result ≡ is_done (seen (left self.now)) }
         ensures some { result ≡ false → 1 ≤ size self.now }
     {
-        match self.next {
-            Next::Token(_, _, _) => false,
-            _ => true,
-        }
+        !matches!(self.next, Next::Token(..))
     }
 
     /// Whether the next token is this mark.
@@ -86,10 +83,7 @@ impl<'a> Reader<'a> {
         ensures same { result ≡ has_mark byte (seen (left self.now)) }
         ensures some { IsTrue result → 1 ≤ size self.now }
     {
-        match self.next {
-            Next::Token(TokenKind::Punct(mark), _, _) => mark == byte,
-            _ => false,
-        }
+        matches!(self.next, Next::Token(TokenKind::Punct(mark), _, _) if mark == byte)
     }
 
     /// The kind of pattern that the next token begins.
@@ -123,9 +117,7 @@ impl<'a> Reader<'a> {
         ensures { result ≡ byte_of_next (left self.now) }
     {
         match self.next {
-            Next::Token(_, at, _) => at,
-            Next::End(at) => at,
-            Next::Fault(at) => at,
+            Next::Token(_, at, _) | Next::End(at) | Next::Fault(at) => at,
         }
     }
 
@@ -138,7 +130,7 @@ impl<'a> Reader<'a> {
         self.next = self.tokens.next();
     }
 
-    /// Takes the next token and returns its place.
+    /// Takes the next token and returns the byte at which it begins.
     #[tactic(auto, using(crate::proofs::Steps::after_done, crate::proofs::Steps::count_after))]
     pub(crate) fn pass(&mut self) -> u32
         ensures at { result ≡ byte_of_next (left self.old) }
@@ -187,7 +179,7 @@ impl<'a> Reader<'a> {
         }
     }
 
-    /// Takes an identifier and returns its place and its name.
+    /// Takes an identifier and returns the byte at which it begins and its name.
     pub(crate) fn name(&mut self) -> Result<(u32, Text), AllocError>
         ensures read { IfOk result
             (λ x. (x.0 ≡ byte_of_next (left self.old)) × (x.1 ≡ name_of (seen (left self.old)))) }
@@ -198,7 +190,8 @@ impl<'a> Reader<'a> {
         Ok((self.pass(), name))
     }
 
-    /// Takes the identifier of a set variable and returns its place and its name after `@`.
+    /// Takes the identifier of a set variable. Returns the byte at which it begins and its name after
+    /// `@`.
     pub(crate) fn set_name(&mut self) -> Result<(u32, Text), AllocError>
         ensures read { IfOk result (λ x.
             (x.0 ≡ byte_of_next (left self.old)) × (x.1 ≡ set_name_of (seen (left self.old)))) }
@@ -209,7 +202,7 @@ impl<'a> Reader<'a> {
         Ok((self.pass(), name))
     }
 
-    /// Takes a string and returns its place and its text.
+    /// Takes a string and returns the byte at which it begins and its text.
     pub(crate) fn string(&mut self) -> Result<(u32, Text), AllocError>
         ensures read { IfOk result
             (λ x. (x.0 ≡ byte_of_next (left self.old)) × (x.1 ≡ text_of (seen (left self.old)))) }
@@ -251,7 +244,10 @@ impl<'a> Reader<'a> {
 fn behind_first(bytes: &[u8]) -> &[u8]
     ensures { result.now ≡ drop 1 bytes.now }
 {
-    if bytes.is_empty() { bytes } else { &bytes[1..] }
+    match bytes {
+        [_, rest @ ..] => rest,
+        [] => &[],
+    }
 }
 
 /// The kind of declaration that this word begins.

@@ -38,9 +38,9 @@ impl Text {
         requires { is_utf8 bytes.now ≡ true }
         ensures same { IfOk result (λ t. t ≡ bytes.now) }
     {
-        match str::from_utf8(bytes) {
-            Ok(text) => Ok(Text::new(String::from_str(alloc, text)?)),
-            Err(_) => unreachable!(),
-        }
+        let Ok(text) = str::from_utf8(bytes) else {
+            unreachable!()
+        };
+        Ok(Text::new(String::from_str(alloc, text)?))
     }
 }
