@@ -69,9 +69,9 @@ fn push_patterns(text: &mut String, patterns: &[Pat]) -> Result<(), AllocError>
         (string_bytes text.old) (string_bytes text.new)) }
 {
     text.push_str("(")?;
-    for i in 0..patterns.len() {
+    for (i, pattern) in patterns.iter().enumerate() {
         push_comma(text, i)?;
-        push_pattern(text, &patterns[i])?;
+        push_pattern(text, pattern)?;
     }
     text.push_str(")")
 }
@@ -149,9 +149,9 @@ fn push_sorts(text: &mut String, sorts: &[Sort]) -> Result<(), AllocError>
         (string_bytes text.old) (string_bytes text.new)) }
 {
     text.push_str("{")?;
-    for i in 0..sorts.len() {
+    for (i, sort) in sorts.iter().enumerate() {
         push_comma(text, i)?;
-        push_sort(text, &sorts[i])?;
+        push_sort(text, sort)?;
     }
     text.push_str("}")
 }

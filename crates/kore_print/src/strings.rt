@@ -23,7 +23,7 @@ pub(crate) fn push_string(text: &mut String, content: &str) -> Result<(), AllocE
 fn is_printable(character: char) -> bool
     ensures { result ≡ (nat_le 32 character && nat_le character 126) }
 {
-    ' ' <= character && character <= '~'
+    matches!(character, ' '..='~')
 }
 
 /// Adds a character as it is written inside a string.
