@@ -1,15 +1,13 @@
 -- Which forms occur in a pattern after its folds are read. A fold of one argument is that argument,
 -- and its head is ignored.
-use Rattle.std.specs.Prelude.{ℕ, List, [], ◌∷◌, Bool, true, false, not, ◌||◌, ◌&&◌}
+use Rattle.std.specs.Prelude.{List, [], ◌∷◌, Bool, true, false, not, ◌||◌, ◌&&◌}
 use Rattle.kore_text.specs.Trees.{PatternTree, element_variable, set_variable, string}
 use Rattle.kore_text.specs.Trees.{symbol_applied, connected}
 use Rattle.kore_text.specs.Trees.{binding, domain_value, folded, PatternTrees, no_patterns}
 use Rattle.kore_text.specs.Trees.{pattern_then}
 use Rattle.kore_text.specs.Trees.{listed_patterns}
 use Rattle.kore_text.specs.declared.names.Op.{Op}
-use Rattle.kore_text.specs.declared.names.Op.TheVariants.{Top, Bottom, Not, Next, And, Or, Implies}
-use Rattle.kore_text.specs.declared.names.Op.TheVariants.{Iff, Rewrites, Ceil}
-use Rattle.kore_text.specs.declared.names.Op.TheVariants.{Floor, Equals, Member}
+use Rattle.kore_text.specs.declared.names.Op.TheVariants.{And}
 
 abbrev pub is_and : Op → Bool
 is_and And = true

@@ -163,11 +163,7 @@ fn members<'a>(
         patterns.push(pattern)?;
         rest = next;
     }
-    if is_top_of(rest, over) {
-        Ok(Some(patterns))
-    } else {
-        Ok(None)
-    }
+    Ok(is_top_of(rest, over).then_some(patterns))
 }
 
 /// Whether an element variable of this name and sort occurs in the pattern.
@@ -256,16 +252,12 @@ fn occur_nowhere_else(variables: &[Pat], condition: &Pat, value: &Pat, patterns:
     ensures { result ≡ do_stand_apart (map pattern_tree variables.now) (pattern_tree condition.now
         ∷ (pattern_tree value.now ∷ map pattern_at patterns.now)) }
 {
-    for i in 0..variables.len() {
-        if !occurs_nowhere_else(
-            &variables[i],
-            &variables[i + 1..],
-            condition,
-            value,
-            patterns,
-        ) {
+    let mut rest = variables;
+    while let [variable, later @ ..] = rest {
+        if !occurs_nowhere_else(variable, later, condition, value, patterns) {
             return false;
         }
+        rest = later;
     }
     true
 }

@@ -27,21 +27,17 @@ pub enum SoughtForms {
 fn covers(sought: SoughtForms, op: Op) -> bool
     ensures { result ≡ does_cover (sought_forms sought) op }
 {
-    match (sought, op) {
-        (SoughtForms::Conjunctions, Op::And) => true,
-        (SoughtForms::Conjunctions, _) => false,
-        (SoughtForms::Others, Op::And) => false,
-        (SoughtForms::Others | SoughtForms::All, _) => true,
+    match sought {
+        SoughtForms::Conjunctions => matches!(op, Op::And),
+        SoughtForms::Others => !matches!(op, Op::And),
+        SoughtForms::All => true,
     }
 }
 
 fn covers_others(sought: SoughtForms) -> bool
     ensures { result ≡ does_cover_others (sought_forms sought) }
 {
-    match sought {
-        SoughtForms::Conjunctions => false,
-        SoughtForms::Others | SoughtForms::All => true,
-    }
+    matches!(sought, SoughtForms::Others | SoughtForms::All)
 }
 
 /// Whether one of these forms occurs in the pattern, at any depth. Folds are read, so the head of a
@@ -91,7 +87,7 @@ fn is_empty_fold(pats: &[Pat], sought: SoughtForms) -> bool
     ensures { result
         ≡ (there_is_none (map pattern_tree pats.now) && does_cover_others (sought_forms sought)) }
 {
-    matches!(pats, []) && covers_others(sought)
+    pats.is_empty() && covers_others(sought)
 }
 
 /// Whether the connective of a fold of these patterns counts, and is among the sought forms. It

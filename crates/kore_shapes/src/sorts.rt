@@ -30,8 +30,8 @@ fn same_sorts(sorts: &[Sort], others: &[Sort]) -> bool
     if sorts.len() != others.len() {
         return false;
     }
-    for i in 0..sorts.len() {
-        if !same_sort(&sorts[i], &others[i]) {
+    for (i, sort) in sorts.iter().enumerate() {
+        if !same_sort(sort, &others[i]) {
             return false;
         }
     }
