@@ -34,10 +34,9 @@ fn injects(symbols: &Table<SymInfo>, n: usize) -> bool
         → result
         ≡ injects info.kind }
 {
-    match symbols.value(n) {
-        Some(info) => matches!(&info.kind, SymKind::Injection),
-        None => false,
-    }
+    symbols
+        .value(n)
+        .is_some_and(|info| matches!(info.kind, SymKind::Injection))
 }
 
 // The name with this number.
@@ -49,10 +48,10 @@ pub(crate) fn name_of<V: Drop>(
     requires { IsSome (declared_name table.now n) }
     ensures { IfOk result (λ name. declared_name table.now n ≡ Some name) }
 {
-    match table.name(n) {
-        Some(name) => Ok(Text::new(String::from_str(alloc, name)?)),
-        None => unreachable!(),
-    }
+    let Some(name) = table.name(n) else {
+        unreachable!()
+    };
+    Ok(Text::new(String::from_str(alloc, name)?))
 }
 
 // A declared sort.
@@ -78,8 +77,8 @@ pub(crate) fn sorts_of(
         (λ ss. kore_sorts sig.now (sort_numbers sorts.now) ≡ Some (map plain_sort ss.items)) }
 {
     let mut named = Vec::with_capacity(alloc, sorts.len())?;
-    for i in 0..sorts.len() {
-        named.push(sort_of(alloc, sig, sorts[i])?)?;
+    for sort in sorts {
+        named.push(sort_of(alloc, sig, *sort)?)?;
     }
     Ok(named)
 }

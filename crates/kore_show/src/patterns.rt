@@ -53,9 +53,8 @@ fn shown_at(
             PatForm::App(name, Vec::new(alloc), args)
         }
         RulePat::Inj(from, to, below) => {
-            let symbol = match injection {
-                Some(symbol) => symbol,
-                None => unreachable!(),
+            let Some(symbol) = injection else {
+                unreachable!()
             };
             let name = name_of(alloc, &sig.symbols, symbol)?;
             let sorts = sorts_of(alloc, sig, &[*from, *to])?;
