@@ -38,10 +38,7 @@ pub fn send_whole<S: Sink>(sink: &mut S, bytes: &[u8]) -> Result<(), DeskFault>
 {
     let mut at = 0;
     while at < bytes.len() {
-        match sink.write(&bytes[at..]) {
-            Ok(n) => at += n,
-            Err(fault) => return Err(fault),
-        }
+        at += sink.write(&bytes[at..])?;
     }
     Ok(())
 }

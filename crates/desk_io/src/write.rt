@@ -20,10 +20,7 @@ pub fn write_whole<D: Desk>(desk: &mut D, bytes: &[u8]) -> Result<(), DeskFault>
 {
     let mut at = 0;
     while at < bytes.len() {
-        match desk.write(&bytes[at..]) {
-            Ok(n) => at += n,
-            Err(fault) => return Err(fault),
-        }
+        at += desk.write(&bytes[at..])?;
     }
     Ok(())
 }

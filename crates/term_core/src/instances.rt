@@ -12,6 +12,8 @@ use crate::rule_patterns::RulePat;
 use crate::steps::Steps;
 use crate::subst::Subst;
 use crate::terms::{MAX_HEIGHT, Term, View};
+use std::alloc::{AllocError, Global};
+use std::sync::ledger::Ledger;
 
 /// The term that `pat` becomes under `subst`: the normal form of the pattern with each variable
 /// replaced by its term. `fits_within` tests the precondition: `pat` has no call, each of its
@@ -73,10 +75,7 @@ pub fn fits_within(pat: &RulePat, subst: &Subst, limit: u32) -> bool
     ensures { IsTrue result ↔ FitsWithin limit subst.now (plain_pattern pat.now) }
 {
     match pat {
-        RulePat::Var(var) => match subst.get(*var) {
-            Some(term) => term.height() <= limit,
-            None => false,
-        },
+        RulePat::Var(var) => subst.get(*var).is_some_and(|term| term.height() <= limit),
         RulePat::Value(..) => 0 < limit,
         RulePat::Ctor(_, args) => 0 < limit && all_fit_within(args, subst, limit - 1),
         RulePat::Inj(_, _, below) => injection_fits_within(below, subst, limit),
@@ -104,17 +103,13 @@ fn injection_fits_within(pat: &RulePat, subst: &Subst, limit: u32) -> bool
         ↔ FitsWithin limit subst.now (injection a b (plain_pattern pat.now)) }
 {
     match pat {
-        RulePat::Var(var) => match subst.get(*var) {
-            Some(term) => term.height_injected() <= limit,
-            None => false,
-        },
+        RulePat::Var(var) => subst
+            .get(*var)
+            .is_some_and(|term| term.height_injected() <= limit),
         RulePat::Inj(_, _, below) => injection_fits_within(below, subst, limit),
         _ => 0 < limit && fits_within(pat, subst, limit - 1),
     }
 }
-
-use std::alloc::{AllocError, Global};
-use std::sync::ledger::Ledger;
 
 /// Whether `term` is the only instance of `pat`. A pattern with a variable or a call has no such
 /// term. It allocates no memory, and looks at each value, constructor and injection of the term at
@@ -148,8 +143,8 @@ fn are_instances<L: Ledger>(pats: &[RulePat], term: &Term, steps: &mut Steps<L>)
         ↔ (instances_of [] (plain_patterns pats.now) ≡ Some (forest (children term.now))) }
     ensures looks { steps.new ≤ steps.old + sizes (forest (children term.now)) }
 {
-    for i in 0..pats.len() {
-        if !is_instance(&pats[i], term.child(i), steps) {
+    for (i, pat) in pats.iter().enumerate() {
+        if !is_instance(pat, term.child(i), steps) {
             return false;
         }
     }

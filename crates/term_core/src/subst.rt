@@ -64,9 +64,6 @@ impl Subst {
     pub fn get(&self, var: u32) -> Option<&Term>
         ensures { option_copied result ≡ binding self.now var }
     {
-        match self.slots.get(var as usize) {
-            Some(Some(term)) => Some(term),
-            _ => None,
-        }
+        self.slots.get(var as usize)?.as_ref()
     }
 }

@@ -242,8 +242,8 @@ fn all_same(xs: &[Term], ys: &[Term]) -> bool
     if xs.len() != ys.len() {
         return false;
     }
-    for i in 0..xs.len() {
-        if !xs[i].same(&ys[i]) {
+    for (x, y) in xs.iter().zip(ys) {
+        if !x.same(y) {
             return false;
         }
     }

@@ -1,5 +1,6 @@
-use Rattle.std.proofs.Common.{ℕ, ◌∙◌, arith, length-drop, refl}
+use Rattle.std.proofs.Common.{rules, ℕ, ◌∙◌, arith, length-drop, refl}
 use Rattle.std.proofs.lemmas.List.{length-take}
+use Rattle.desk_io.specs.Told.{WritesFront}
 use Rattle.desk_io.proofs.Told.{Writes-nil, Writes-more, Writes-fault}
 use Rattle.desk_io.proofs.write.write_whole.Goals as goal
 
@@ -14,16 +15,19 @@ loop-at-init g c = record {
 
 pub loop-at-preserved : goal.loop-at-preserved
 loop-at-preserved g c = record {
-  within = omega (arith, c.in-Ok.ensures.within, length-take {A = ℕ}, length-drop {A = ℕ});
+  within = omega (arith, c.in_ok-at.ensures.within, length-take {A = ℕ}, length-drop {A = ℕ});
   writes =
-      Writes-more _ _ _ c.args.bytes.now c.loop-at.at c.in-Ok.n c.loop-at.invariant.writes
-      c.in-Ok.ensures.writes;
-  created = c.in-Ok.ensures.created;
-  counts = omega (arith, c.in-Ok.ensures.counts);
-  reads = c.in-Ok.ensures.reads ∙ c.loop-at.invariant.reads;
+      Writes-more _ _ _ c.args.bytes.now c.loop-at.at c.in_ok-at.field-0 c.loop-at.invariant.writes
+      c.in_ok-at.ensures.writes;
+  created = c.in_ok-at.ensures.created;
+  counts = omega (arith, c.in_ok-at.ensures.counts);
+  reads = c.in_ok-at.ensures.reads ∙ c.loop-at.invariant.reads;
 }
 
-pub returns-in-Err-clause-prefix : goal.returns-in-Err-clause-prefix
-returns-in-Err-clause-prefix g c =
+pub returns-in_err-at-clause-prefix : goal.returns-in_err-at-clause-prefix
+returns-in_err-at-clause-prefix g c =
+    let front : WritesFront (g.D.Desk.told c.args.desk.now) (g.D.Desk.told c.write.new.self)
+    c.args.bytes.now =
     Writes-fault _ _ _ c.args.bytes.now c.loop-at.at c.loop-at.invariant.writes
-    c.in-Err.ensures.fault
+    c.in_err-at.ensures.fault in
+    search rules

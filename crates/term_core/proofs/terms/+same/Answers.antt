@@ -1,4 +1,5 @@
-use Rattle.std.proofs.Common.{◌≡◌, ◌+◌, ◌≤◌, sym, ◌∙◌, ap, refl, eqb-true, arith}
+use Rattle.std.proofs.Common.{rules, ◌≡◌, ◌+◌, ◌≤◌, sym, ◌∙◌, ap, refl, eqb-true, arith}
+use Rattle.std.proofs.lemmas.Slice.Zip.{zip_turn}
 use Rattle.term_core.specs.Terms.{node, forest, heights, height}
 use Rattle.term_core.specs.TermView.{node_tree}
 use Rattle.term_core.proofs.Forests.{same_node, height_of-item}
@@ -28,6 +29,10 @@ Term::same-returns-then-eq-2 t c =
 
 pub all_same-same-requires : goal.all_same-same-requires
 all_same-same-requires t c =
-    let low : height c.index-xs-i.result ≤ heights (forest c.args.xs.now) =
-    height_of-item _ _ _ c.index-xs-i.is c.loop-i-test.true in
+    let turn =
+    zip_turn c.args.xs.now c.args.ys.now c.loop-x.yielded c.into_iter-x-iterator.result _
+    c.next.new.self _ (search rules) (search rules) c.loop-x.yielded_by (c.in-Some.x, c.in-Some.y) c.in-Some.is
+    c.next.ensures.steps in
+    let low : height c.in-Some.x.now ≤ heights (forest c.args.xs.now) =
+    height_of-item _ _ _ (turn.2 c.in-Some.x.now) turn.0 in
     (omega arith, tt)
