@@ -94,20 +94,11 @@ pub fn read_words<'a>(alloc: Global, words: &'a [String]) -> Result<Command<'a>,
     ensures bad { result ≡ Err WordsEnd.Bad → are_bad (map string_bytes words.entry.now) ≡ true }
 {
     if is_named("run", words) {
-        match run_words(alloc, words) {
-            Ok(run) => Ok(Command::Run(run)),
-            Err(end) => Err(end),
-        }
+        run_words(alloc, words).map(Command::Run)
     } else if is_named("verify", words) {
-        match verify_words(alloc, words) {
-            Ok(file) => Ok(Command::Verify(file)),
-            Err(end) => Err(end),
-        }
+        verify_words(alloc, words).map(Command::Verify)
     } else if is_named("drill", words) {
-        match drill_words(alloc, words) {
-            Ok(drill) => Ok(Command::Drill(drill)),
-            Err(end) => Err(end),
-        }
+        drill_words(alloc, words).map(Command::Drill)
     } else {
         Err(WordsEnd::Bad)
     }
@@ -131,22 +122,11 @@ fn run_words<'a>(alloc: Global, words: &'a [String]) -> Result<RunWords<'a>, Wor
     ensures bad { result ≡ Err WordsEnd.Bad → is_run (map string_bytes words.entry.now) ≡ false }
 {
     let command = run_definition(alloc)?;
-    let matches = match matches_for(command, words) {
-        Ok(matches) => matches,
-        Err(end) => return Err(end),
-    };
-    let Some(definition) = matches.get_str("def") else {
-        return Err(WordsEnd::Bad);
-    };
-    let Some(term) = matches.get_str("term") else {
-        return Err(WordsEnd::Bad);
-    };
-    let Some(limit) = number_in(MAX_STEPS, matches.get_str("limit")) else {
-        return Err(WordsEnd::Bad);
-    };
-    let Some(calls) = number_or(MAX_CALLS, matches.get_str("calls"), USUAL_CALLS) else {
-        return Err(WordsEnd::Bad);
-    };
+    let matches = matches_for(command, words)?;
+    let definition = matches.get_str("def").ok_or(WordsEnd::Bad)?;
+    let term = matches.get_str("term").ok_or(WordsEnd::Bad)?;
+    let limit = number_in(MAX_STEPS, matches.get_str("limit")).ok_or(WordsEnd::Bad)?;
+    let calls = number_or(MAX_CALLS, matches.get_str("calls"), USUAL_CALLS).ok_or(WordsEnd::Bad)?;
     let proof = matches.get_str("proof");
     Ok(RunWords {
         definition,
@@ -165,14 +145,8 @@ fn verify_words<'a>(alloc: Global, words: &'a [String]) -> Result<&'a str, Words
     ensures bad { result ≡ Err WordsEnd.Bad → is_verify (map string_bytes words.entry.now) ≡ false }
 {
     let command = verify_definition(alloc)?;
-    let matches = match matches_for(command, words) {
-        Ok(matches) => matches,
-        Err(end) => return Err(end),
-    };
-    match matches.get_str("file") {
-        Some(file) => Ok(file),
-        None => Err(WordsEnd::Bad),
-    }
+    let matches = matches_for(command, words)?;
+    matches.get_str("file").ok_or(WordsEnd::Bad)
 }
 
 // What a drill command asks for.
@@ -183,17 +157,10 @@ fn drill_words<'a>(alloc: Global, words: &'a [String]) -> Result<DrillWords<'a>,
     ensures bad { result ≡ Err WordsEnd.Bad → is_drill (map string_bytes words.entry.now) ≡ false }
 {
     let command = drill_definition(alloc)?;
-    let matches = match matches_for(command, words) {
-        Ok(matches) => matches,
-        Err(end) => return Err(end),
-    };
-    let Some(steps) = steps_in(matches.get_str("n")) else {
-        return Err(WordsEnd::Bad);
-    };
-    match matches.get_str("file") {
-        Some(file) => Ok(DrillWords { steps, file }),
-        None => Err(WordsEnd::Bad),
-    }
+    let matches = matches_for(command, words)?;
+    let steps = steps_in(matches.get_str("n")).ok_or(WordsEnd::Bad)?;
+    let file = matches.get_str("file").ok_or(WordsEnd::Bad)?;
+    Ok(DrillWords { steps, file })
 }
 
 // The number of steps of a drill that the word states. `None` if there is no word or a bad one.
@@ -221,10 +188,7 @@ fn number_in(most: u32, word: Option<&str>) -> Option<u32>
     ensures bad { IfNone result
         (option_map_or (is_number_to most) (option_copied word.entry) false ≡ false) }
 {
-    match word {
-        Some(word) => number_to(most, word),
-        None => None,
-    }
+    number_to(most, word?)
 }
 
 // The number that the word states, at most `most`, or `usual` if there is no word. `None` if the

@@ -24,7 +24,7 @@ pub(crate) fn number_to(most: u32, word: &str) -> Option<u32>
 fn is_number(word: &str) -> bool
     ensures { result ≡ is_number word.now }
 {
-    1 <= word.len() && word.len() <= 8 && has_only_digits(word)
+    (1..=8).contains(&word.len()) && has_only_digits(word)
 }
 
 // Whether every byte of a word is a digit.

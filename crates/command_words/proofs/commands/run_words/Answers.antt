@@ -10,40 +10,40 @@ use Rattle.command_words.specs.Plain.{IsReadBy}
 use Rattle.command_words.proofs.RunTests.{no-first, no-second, no-third, no-fourth, all-five}
 use Rattle.command_words.proofs.commands.run_words.Goals as goal
 
-pub returns-in_default-clause-bad : goal.returns-in_default-clause-bad
-returns-in_default-clause-bad c _ =
+pub returns-in_err-definition-clause-bad : goal.returns-in_err-definition-clause-bad
+returns-in_err-definition-clause-bad c _ =
     let words = map string_bytes c.args.words.now in
     let read =
-    subst (λ (a : App). IsReadBy a words c.in-Ok.matches) c.in_ok-command.ensures
-    c.in-Ok.ensures.read in
+    subst (λ (a : App). IsReadBy a words c.in_ok-matches.matches) c.in_ok-command.ensures
+    c.in_ok-matches.ensures.read in
     let definition : value_of run_app words (codes "def") ≡ option_copied c.get_str.result =
     sym (read.values (codes "def")) ∙ sym c.get_str.ensures in
     no-first (takes run_app words) (is_some (value_of run_app words (codes "def")))
     (is_some (value_of run_app words (codes "term")))
     (option_map_or (is_number_to most_steps) (value_of run_app words (codes "limit")) false)
     (option_map_or (is_number_to most_calls) (value_of run_app words (codes "calls")) true)
-    (ap is_some definition ∙ ap (λ r. is_some (option_copied r)) c.in_default.is)
+    (ap is_some definition ∙ ap (λ r. is_some (option_copied r)) c.in_err-definition.ensures.ok_part)
 
-pub returns-in_default-get_str-clause-bad : goal.returns-in_default-get_str-clause-bad
-returns-in_default-get_str-clause-bad c _ =
+pub returns-in_err-term-clause-bad : goal.returns-in_err-term-clause-bad
+returns-in_err-term-clause-bad c _ =
     let words = map string_bytes c.args.words.now in
     let read =
-    subst (λ (a : App). IsReadBy a words c.in-Ok.matches) c.in_ok-command.ensures
-    c.in-Ok.ensures.read in
+    subst (λ (a : App). IsReadBy a words c.in_ok-matches.matches) c.in_ok-command.ensures
+    c.in_ok-matches.ensures.read in
     let term : value_of run_app words (codes "term") ≡ option_copied c.get_str-2.result =
     sym (read.values (codes "term")) ∙ sym c.get_str-2.ensures in
     no-second (takes run_app words) (is_some (value_of run_app words (codes "def")))
     (is_some (value_of run_app words (codes "term")))
     (option_map_or (is_number_to most_steps) (value_of run_app words (codes "limit")) false)
     (option_map_or (is_number_to most_calls) (value_of run_app words (codes "calls")) true)
-    (ap is_some term ∙ ap (λ r. is_some (option_copied r)) c.in_default-get_str.is)
+    (ap is_some term ∙ ap (λ r. is_some (option_copied r)) c.in_err-term.ensures.ok_part)
 
-pub returns-in_default-number_in-clause-bad : goal.returns-in_default-number_in-clause-bad
-returns-in_default-number_in-clause-bad c _ =
+pub returns-in_err-limit-clause-bad : goal.returns-in_err-limit-clause-bad
+returns-in_err-limit-clause-bad c _ =
     let words = map string_bytes c.args.words.now in
     let read =
-    subst (λ (a : App). IsReadBy a words c.in-Ok.matches) c.in_ok-command.ensures
-    c.in-Ok.ensures.read in
+    subst (λ (a : App). IsReadBy a words c.in_ok-matches.matches) c.in_ok-command.ensures
+    c.in_ok-matches.ensures.read in
     let limit : value_of run_app words (codes "limit") ≡ option_copied c.get_str-3.result =
     sym (read.values (codes "limit")) ∙ sym c.get_str-3.ensures in
     no-third (takes run_app words) (is_some (value_of run_app words (codes "def")))
@@ -51,14 +51,14 @@ returns-in_default-number_in-clause-bad c _ =
     (option_map_or (is_number_to most_steps) (value_of run_app words (codes "limit")) false)
     (option_map_or (is_number_to most_calls) (value_of run_app words (codes "calls")) true)
     (ap (λ (o : Option (List ℕ)). option_map_or (is_number_to most_steps) o false) limit
-    ∙ c.in_default-number_in.ensures.bad)
+    ∙ rw c.in_err-limit.ensures.ok_part at c.number_in.ensures.bad)
 
-pub returns-in_default-number_or-clause-bad : goal.returns-in_default-number_or-clause-bad
-returns-in_default-number_or-clause-bad c _ =
+pub returns-in_err-calls-clause-bad : goal.returns-in_err-calls-clause-bad
+returns-in_err-calls-clause-bad c _ =
     let words = map string_bytes c.args.words.now in
     let read =
-    subst (λ (a : App). IsReadBy a words c.in-Ok.matches) c.in_ok-command.ensures
-    c.in-Ok.ensures.read in
+    subst (λ (a : App). IsReadBy a words c.in_ok-matches.matches) c.in_ok-command.ensures
+    c.in_ok-matches.ensures.read in
     let calls : value_of run_app words (codes "calls") ≡ option_copied c.get_str-4.result =
     sym (read.values (codes "calls")) ∙ sym c.get_str-4.ensures in
     no-fourth (takes run_app words) (is_some (value_of run_app words (codes "def")))
@@ -66,14 +66,14 @@ returns-in_default-number_or-clause-bad c _ =
     (option_map_or (is_number_to most_steps) (value_of run_app words (codes "limit")) false)
     (option_map_or (is_number_to most_calls) (value_of run_app words (codes "calls")) true)
     (ap (λ (o : Option (List ℕ)). option_map_or (is_number_to most_calls) o true) calls
-    ∙ c.in_default-number_or.ensures.bad)
+    ∙ rw c.in_err-calls.ensures.ok_part at c.number_or.ensures.bad)
 
 pub returns-clause-good : goal.returns-clause-good
 returns-clause-good c =
     let words = map string_bytes c.args.words.now in
     let read =
-    subst (λ (a : App). IsReadBy a words c.in-Ok.matches) c.in_ok-command.ensures
-    c.in-Ok.ensures.read in
+    subst (λ (a : App). IsReadBy a words c.in_ok-matches.matches) c.in_ok-command.ensures
+    c.in_ok-matches.ensures.read in
     let definition : value_of run_app words (codes "def") ≡ option_copied c.get_str.result =
     sym (read.values (codes "def")) ∙ sym c.get_str.ensures in
     let term : value_of run_app words (codes "term") ≡ option_copied c.get_str-2.result =
@@ -89,18 +89,18 @@ returns-clause-good c =
           (option_map_or (is_number_to most_steps) (value_of run_app words (codes "limit")) false)
           (option_map_or (is_number_to most_calls) (value_of run_app words (codes "calls")) true)
           read.taken
-          (ap is_some definition ∙ ap (λ r. is_some (option_copied r)) c.in-Some.is)
-          (ap is_some term ∙ ap (λ r. is_some (option_copied r)) c.in-Some-get_str.is)
+          (ap is_some definition ∙ ap (λ r. is_some (option_copied r)) c.in_ok-definition.ensures.ok_part)
+          (ap is_some term ∙ ap (λ r. is_some (option_copied r)) c.in_ok-term.ensures.ok_part)
           (ap (λ (o : Option (List ℕ)). option_map_or (is_number_to most_steps) o false) limit
-          ∙ c.in-Some-number_in.ensures.good)
+          ∙ (rw c.in_ok-limit.ensures.ok_part at c.number_in.ensures.good))
           (ap (λ (o : Option (List ℕ)). option_map_or (is_number_to most_calls) o true) calls
-          ∙ c.in-Some-number_or.ensures.good),
+          ∙ (rw c.in_ok-calls.ensures.ok_part at c.number_or.ensures.good)),
       record {
         named = c.requires;
-        definition = definition ∙ ap (λ r. option_copied r) c.in-Some.is;
-        term = term ∙ ap (λ r. option_copied r) c.in-Some-get_str.is;
-        limit = ap (option_map (digits_value 10)) limit ∙ c.in-Some-number_in.ensures.number;
-        calls = c.in-Some-number_or.ensures.number
+        definition = definition ∙ ap (λ r. option_copied r) c.in_ok-definition.ensures.ok_part;
+        term = term ∙ ap (λ r. option_copied r) c.in_ok-term.ensures.ok_part;
+        limit = ap (option_map (digits_value 10)) limit ∙ (rw c.in_ok-limit.ensures.ok_part at c.number_in.ensures.number);
+        calls = (rw c.in_ok-calls.ensures.ok_part at c.number_or.ensures.number)
             ∙ ap (λ (o : Option (List ℕ)). option_map_or (digits_value 10) o usual_calls)
             (sym calls);
         proof = sym proof;
