@@ -72,8 +72,8 @@ fn are_of_kinds(args: &[Scalar], kinds: &[ScalarKind]) -> bool
     if args.len() != kinds.len() {
         return false;
     }
-    for i in 0..args.len() {
-        if !is_of_kind(args[i], kinds[i]) {
+    for (arg, kind) in args.iter().zip(kinds) {
+        if !is_of_kind(*arg, *kind) {
             return false;
         }
     }
@@ -84,11 +84,10 @@ fn are_of_kinds(args: &[Scalar], kinds: &[ScalarKind]) -> bool
 fn is_of_kind(arg: Scalar, kind: ScalarKind) -> bool
     ensures { IsTrue result ↔ (kind_of arg ≡ plain_kind kind) }
 {
-    match (arg, kind) {
-        (Scalar::Int(_), ScalarKind::Int) => true,
-        (Scalar::Bool(_), ScalarKind::Bool) => true,
-        _ => false,
-    }
+    matches!(
+        (arg, kind),
+        (Scalar::Int(_), ScalarKind::Int) | (Scalar::Bool(_), ScalarKind::Bool)
+    )
 }
 
 // The only argument, as a whole number.
@@ -139,8 +138,5 @@ fn two_truths(args: &[Scalar]) -> (bool, bool)
 fn integer(value: Result<i128, NoValue>) -> Result<Scalar, NoValue>
     ensures { plain_outcome result ≡ outcome whole_number value }
 {
-    match value {
-        Ok(value) => Ok(Scalar::Int(value)),
-        Err(reason) => Err(reason),
-    }
+    value.map(Scalar::Int)
 }

@@ -14,10 +14,7 @@ use term_core::NoValue;
 fn ranged(value: Option<i128>) -> Result<i128, NoValue>
     ensures { (z : ℤ) → SomeIff value (FitsSigned w128 z) z → result ≡ in_range z }
 {
-    match value {
-        Some(value) => Ok(value),
-        None => Err(NoValue::Range),
-    }
+    value.ok_or(NoValue::Range)
 }
 
 // The sum.

@@ -51,10 +51,8 @@ pub fn hook_rows() -> &'static [HookRow]
 pub fn find(name: &[u8]) -> Option<HookNo>
     ensures { option_map (λ h. h.0) result ≡ hook_number name.now }
 {
-    match named_place(hook_rows(), name) {
-        Some(place) => Some(HookNo(place as u8)),
-        None => None,
-    }
+    let place = named_place(hook_rows(), name)?;
+    Some(HookNo(place as u8))
 }
 
 // The index of the first row with this name.
