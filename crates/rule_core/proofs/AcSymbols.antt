@@ -1,7 +1,7 @@
 -- Whether a look-up in the table of symbols finds a constructor that is associative, commutative or
 -- idempotent, or has a unit.
 use Rattle.std.proofs.Common.{◌≡◌, ◌<◌, ℕ, List, length, Option, Some, None, option_map, slice_get}
-use Rattle.std.proofs.Common.{refl, sym, ◌∙◌, ap, subst}
+use Rattle.std.proofs.Common.{sym, ◌∙◌, ap}
 use Rattle.std.specs.Prelude.{IsTrue}
 use Rattle.std.proofs.lemmas.Option.{slice_get_within}
 use Rattle.rule_core.specs.Sorting.{IsAcConstructor, IsSymbol}

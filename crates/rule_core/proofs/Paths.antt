@@ -1,14 +1,14 @@
 -- The walk from a sort up to a sort above it.
-use Rattle.std.proofs.Common.{◌≡◌, ◌≢◌, ℕ, zero, suc, ◌+◌, ◌<◌, ◌≤◌, ◌⊎◌, inl, inr, Contains, Bool}
-use Rattle.std.proofs.Common.{true, false, cond, List, [], ◌∷◌, ◌++◌, length, get_or, eq-eqb, refl}
+use Rattle.std.proofs.Common.{◌≡◌, ℕ, zero, suc, ◌+◌, ◌<◌, ◌≤◌, ◌⊎◌, inl, inr, Contains, Bool}
+use Rattle.std.proofs.Common.{true, false, List, [], ◌∷◌, ◌++◌, length, get_or, eq-eqb, refl}
 use Rattle.std.proofs.Common.{sym, ◌∙◌, ap, subst, arith}
-use Rattle.std.specs.Prelude.{◌==◌, ◌||◌, IsTrue, if◌then◌else◌}
+use Rattle.std.specs.Prelude.{◌==◌, ◌||◌, if◌then◌else◌}
 use Rattle.std.proofs.lemmas.Bool.{false≢true, eqb-true}
 use Rattle.rule_core.specs.Subsorts.{IsBelow, by_pair, by_chain, HasNoCycle, IsPath, is_below}
 use Rattle.rule_core.specs.SubsortFields.{sort_pairs}
 use Rattle.term_core.specs.declared.ids.SortId.{SortId}
 use Rattle.rule_core.proofs.Belows.{is_below-true, true-is_below, either_true, true_left}
-use Rattle.rule_core.proofs.Belows.{true_right, IsBelow-trans}
+use Rattle.rule_core.proofs.Belows.{true_right}
 
 -- the sort is b, or is below b
 abbrev pub Reaches : List (ℕ × ℕ) → ℕ → ℕ → Type 0

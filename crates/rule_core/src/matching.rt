@@ -65,8 +65,8 @@ pub fn find_match_all<L: Ledger>(
     let _high = Term::highest(terms);
     subsorts.has_no_cycle();
     let mut subst = Subst::new(alloc, vars)?;
-    for i in 0..pats.len() {
-        if !match_term(alloc, subsorts, &pats[i], &terms[i], &mut subst, steps)? {
+    for (pat, term) in pats.iter().zip(terms) {
+        if !match_term(alloc, subsorts, pat, term, &mut subst, steps)? {
             return Ok(None);
         }
     }
@@ -133,8 +133,8 @@ fn match_children<L: Ledger>(
         yes subst.new) }
     ensures looks { steps.new ≤ steps.old + all_nodes (plain_patterns pats.now) }
 {
-    for i in 0..pats.len() {
-        if !match_term(alloc, subsorts, &pats[i], term.child(i), subst, steps)? {
+    for (i, pat) in pats.iter().enumerate() {
+        if !match_term(alloc, subsorts, pat, term.child(i), subst, steps)? {
             return Ok(false);
         }
     }

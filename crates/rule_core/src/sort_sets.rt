@@ -30,10 +30,8 @@ pub(crate) fn is_in(rows: &[Vec<u64>], a: SortId, b: SortId) -> bool
 fn has(set: &[u64], b: SortId) -> bool
     ensures { result ≡ has set.now b.0 }
 {
-    match set.get(b.0 as usize / 64) {
-        None => false,
-        Some(word) => (*word >> (b.0 % 64)) & 1 == 1,
-    }
+    set.get(b.0 as usize / 64)
+        .is_some_and(|word| (*word >> (b.0 % 64)) & 1 == 1)
 }
 
 // Makes sure that there is a set for this sort.
@@ -42,7 +40,7 @@ pub(crate) fn grow(alloc: Global, rows: &mut Vec<Vec<u64>>, a: SortId) -> Result
     ensures same { (x y : ℕ) → is_in rows.new.items x y ≡ is_in rows.old.items x y }
     ensures there { OnOk result (a.0 < vec_len rows.new) }
 {
-    for _len in rows.len()..a.0 as usize + 1 {
+    while rows.len() <= a.0 as usize {
         rows.push(Vec::new(alloc))?;
     }
     Ok(())
@@ -130,12 +128,7 @@ fn merge(rows: &mut Vec<Vec<u64>>, a: SortId, b: SortId, more: &[u64])
 fn first_word(set: &[u64]) -> usize
     ensures { (k : ℕ) → k < result → word_at set.now k ≡ 0 }
 {
-    for (i, word) in set.iter().enumerate() {
-        if *word != 0 {
-            return i;
-        }
-    }
-    set.len()
+    set.iter().position(|word| *word != 0).unwrap_or(set.len())
 }
 
 // Whether the sort with the number x is a, or its set contains a, and its set does not contain b.

@@ -103,8 +103,7 @@ impl Subsorts {
         ensures pair { Contains self.now (from.0, result.0) }
         ensures leads { (result.0 ≡ b.0) ⊎ IsBelow self.now result.0 b.0 }
     {
-        for i in 0..self.pairs.len() {
-            let (lower, upper) = self.pairs[i];
+        for &(lower, upper) in &self.pairs {
             if lower == from && self.reaches(upper, b) {
                 return upper;
             }

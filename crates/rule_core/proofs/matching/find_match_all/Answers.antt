@@ -1,8 +1,9 @@
-use Rattle.std.proofs.Common.{◌≡◌, ◌<◌, ℕ, List, [], Some, None, length, drop, replicate, refl, sym}
+use Rattle.std.proofs.Common.{rules, length-append, ◌≡◌, ◌<◌, ℕ, min, List, [], Some, None, length, drop, replicate, refl, sym}
 use Rattle.std.proofs.Common.{◌∙◌, subst, arith}
 use Rattle.std.specs.Prelude.{slice_get}
 use Rattle.std.proofs.lemmas.List.{drop_all}
 use Rattle.std.proofs.lemmas.Option.{slice_get_read}
+use Rattle.std.proofs.lemmas.Slice.Zip.{zip_turn, zip_end}
 use Rattle.term_core.specs.Terms.{Tree, forest}
 use Rattle.term_core.specs.RulePatterns.{plain_pattern}
 use Rattle.term_core.specs.PatternLists.{plain_patterns}
@@ -16,63 +17,83 @@ use Rattle.rule_core.proofs.matching.find_match_all.Goals as goal
 
 pub match_term-requires : goal.match_term-requires
 match_term-requires g c =
-    let P : ℕ → Type 0 = λ n. (x : ℕ) → OccursIn x (plain_pattern c.index-pats-i.result) → x < n in
-    subst P (sym c.loop-i.invariant.room) (λ x stands.
-    c.requires.scoped x (stands_of-item _ _ _ x c.index-pats-i.is c.loop-i-test.true stands))
+    let turn =
+    zip_turn c.args.pats.now c.args.terms.now c.loop-pat.yielded c.into_iter-pat-iterator.result _
+    c.next.new.self _ (search rules) (search rules) c.loop-pat.yielded_by
+    (c.in-Some.pat, c.in-Some.term) c.in-Some.is c.next.ensures.steps in
+    let P : ℕ → Type 0 = λ n. (x : ℕ) → OccursIn x (plain_pattern c.in-Some.pat.now) → x < n in
+    subst P (sym c.loop-pat.invariant.room) (λ x stands.
+    c.requires.scoped x (stands_of-item _ _ _ x (turn.2 _) turn.0 stands))
 
 pub returns-then-not-branch-clause-found : goal.returns-then-not-branch-clause-found
 returns-then-not-branch-clause-found g c =
-    let item : slice_get c.args.terms.now c.loop-i.i ≡ Some c.index-terms-i.result =
-    slice_get_read _ (length c.args.terms.now) _ _ refl (omega arith) c.index-terms-i.is in
+    let turn =
+    zip_turn c.args.pats.now c.args.terms.now c.loop-pat.yielded c.into_iter-pat-iterator.result _
+    c.next.new.self _ (search rules) (search rules) c.loop-pat.yielded_by
+    (c.in-Some.pat, c.in-Some.term) c.in-Some.is c.next.ensures.steps in
+    let item : slice_get c.args.terms.now (length c.loop-pat.yielded) ≡ Some c.in-Some.term.now =
+    slice_get_read _ (length c.args.terms.now) _ _ refl turn.1 (turn.3 _) in
     search_failed c.args.subsorts.now c.args.vars (plain_patterns c.args.pats.now)
     (forest c.args.terms.now) c.has_no_cycle.ensures
-    (rest_fails _ c.args.pats.now c.args.terms.now _ c.loop-i.i _ c.index-terms-i.result _
-    c.index-pats-i.is c.loop-i-test.true item
+    (rest_fails _ c.args.pats.now c.args.terms.now _ (length c.loop-pat.yielded) _ c.in-Some.term.now _
+    (turn.2 _) turn.0 item
     (answer_none _ _ _ c.in_ok-match_term.ensures.found c.if-not-branch.true)
-    c.loop-i.invariant.rest)
+    c.loop-pat.invariant.rest)
 
-pub loop-i-preserved : goal.loop-i-preserved
-loop-i-preserved g c =
-    let item : slice_get c.args.terms.now c.loop-i.i ≡ Some c.index-terms-i.result =
-    slice_get_read _ (length c.args.terms.now) _ _ refl (omega arith) c.index-terms-i.is in
+pub loop-pat-preserved : goal.loop-pat-preserved
+loop-pat-preserved g c =
+    let turn =
+    zip_turn c.args.pats.now c.args.terms.now c.loop-pat.yielded c.into_iter-pat-iterator.result _
+    c.next.new.self _ (search rules) (search rules) c.loop-pat.yielded_by
+    (c.in-Some.pat, c.in-Some.term) c.in-Some.is c.next.ensures.steps in
+    let item : slice_get c.args.terms.now (length c.loop-pat.yielded) ≡ Some c.in-Some.term.now =
+    slice_get_read _ (length c.args.terms.now) _ _ refl turn.1 (turn.3 _) in
     record {
-      room = c.in_ok-match_term.ensures.room ∙ c.loop-i.invariant.room;
+      room = c.in_ok-match_term.ensures.room ∙ c.loop-pat.invariant.room;
       rest =
-          rest_goes_on _ c.args.pats.now c.args.terms.now _ _ c.loop-i.i _ c.index-terms-i.result _
-          c.index-pats-i.is c.loop-i-test.true item
+          simp length-append (rest_goes_on _ c.args.pats.now c.args.terms.now _ _ (length c.loop-pat.yielded) _ c.in-Some.term.now _
+          (turn.2 _) turn.0 item
           (answer_some _ _ _ c.in_ok-match_term.ensures.found c.if-not-branch.false)
-          c.loop-i.invariant.rest;
+          c.loop-pat.invariant.rest);
       looks =
-          omega (
+          simp length-append (omega (
             arith,
-            all_nodes-drop _ _ _ c.index-pats-i.is c.loop-i-test.true,
+            all_nodes-drop _ _ _ (turn.2 _) turn.0,
             c.match_term.ensures.looks,
-          );
+          ));
     }
 
 pub returns-then-not-branch-clause-looks : goal.returns-then-not-branch-clause-looks
 returns-then-not-branch-clause-looks g c =
+    let turn =
+    zip_turn c.args.pats.now c.args.terms.now c.loop-pat.yielded c.into_iter-pat-iterator.result _
+    c.next.new.self _ (search rules) (search rules) c.loop-pat.yielded_by
+    (c.in-Some.pat, c.in-Some.term) c.in-Some.is c.next.ensures.steps in
     omega (
       arith,
-      all_nodes-drop _ _ _ c.index-pats-i.is c.loop-i-test.true,
+      all_nodes-drop _ _ _ (turn.2 _) turn.0,
       c.match_term.ensures.looks,
     )
 
 pub returns-clause-found : goal.returns-clause-found
 returns-clause-found g c =
-    let no_pats : drop c.loop-i.i c.args.pats.now ≡ [] =
-    drop_all c.loop-i.i c.args.pats.now c.loop-i-test.false in
-    let no_terms : drop c.loop-i.i c.args.terms.now ≡ [] =
-    drop_all c.loop-i.i c.args.terms.now (omega arith) in
+    let all : length c.loop-pat.yielded ≡ min (length c.args.pats.now) (length c.args.terms.now) =
+    zip_end c.args.pats.now c.args.terms.now c.loop-pat.yielded c.into_iter-pat-iterator.result _
+    c.next.new.self _ (search rules) (search rules) c.loop-pat.yielded_by c.in-None.is
+    c.next.ensures.steps in
+    let no_pats : drop (length c.loop-pat.yielded) c.args.pats.now ≡ [] =
+    drop_all (length c.loop-pat.yielded) c.args.pats.now (omega arith) in
+    let no_terms : drop (length c.loop-pat.yielded) c.args.terms.now ≡ [] =
+    drop_all (length c.loop-pat.yielded) c.args.terms.now (omega arith) in
     let P : List RulePat → Type 0 =
     λ ps. all_matched c.args.subsorts.now (plain_patterns ps)
-    (forest (drop c.loop-i.i c.args.terms.now)) c.loop-i.subst
+    (forest (drop (length c.loop-pat.yielded) c.args.terms.now)) c.loop-pat.subst
     ≡ all_matched c.args.subsorts.now (plain_patterns c.args.pats.now)
     (forest c.args.terms.now) (replicate c.args.vars None) in
     let Q : List Tree → Type 0 =
-    λ ts. all_matched c.args.subsorts.now (plain_patterns []) (forest ts) c.loop-i.subst
+    λ ts. all_matched c.args.subsorts.now (plain_patterns []) (forest ts) c.loop-pat.subst
     ≡ all_matched c.args.subsorts.now (plain_patterns c.args.pats.now)
     (forest c.args.terms.now) (replicate c.args.vars None) in
     search_found c.args.subsorts.now c.args.vars (plain_patterns c.args.pats.now)
-    (forest c.args.terms.now) c.loop-i.subst c.highest-high.ensures.normal
-    (sym (subst Q no_terms (subst P no_pats c.loop-i.invariant.rest)))
+    (forest c.args.terms.now) c.loop-pat.subst c.highest-high.ensures.normal
+    (sym (subst Q no_terms (subst P no_pats c.loop-pat.invariant.rest)))

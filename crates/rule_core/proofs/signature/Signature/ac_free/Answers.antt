@@ -1,7 +1,6 @@
-use Rattle.std.proofs.Common.{rules, ◌≡◌, ◌<◌, ◌≤◌, length, refl, sym, ◌∙◌, below_more, false, true}
+use Rattle.std.proofs.Common.{◌<◌, length, refl, sym, ◌∙◌, below_more}
 use Rattle.std.proofs.Common.{arith}
 use Rattle.std.proofs.lemmas.Bool.{false≢true}
-use Rattle.rule_core.specs.Sorting.{IsAcConstructor}
 use Rattle.rule_core.proofs.AcSymbols.{ac_within}
 use Rattle.rule_core.proofs.signature.Signature.ac_free.Goals as goal
 

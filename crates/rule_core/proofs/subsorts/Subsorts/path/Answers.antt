@@ -1,8 +1,7 @@
-use Rattle.std.proofs.Common.{rules, inr, ◌≡◌, ◌++◌, ◌∷◌, [], ℕ, List, sym, ◌∙◌, ap, subst}
+use Rattle.std.proofs.Common.{rules, inr, ◌≡◌, ◌++◌, ◌∷◌, [], ℕ, List, sym, subst}
 use Rattle.std.proofs.lemmas.List.{map-append}
 use Rattle.term_core.specs.RulePatterns.{sort_numbers}
-use Rattle.rule_core.specs.Subsorts.{HasNoCycle, IsBelow, IsPath}
-use Rattle.rule_core.specs.SubsortFields.{pairs_of}
+use Rattle.rule_core.specs.Subsorts.{IsBelow}
 use Rattle.rule_core.proofs.Paths.{IsWalk, pairs_above-less, IsWalk-append, IsWalk-ends}
 use Rattle.rule_core.proofs.subsorts.Subsorts.path.Goals as goal
 
