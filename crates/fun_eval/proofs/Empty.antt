@@ -1,17 +1,17 @@
 -- A program without symbols and rules is well-sorted.
 use Rattle.std.proofs.Common.{◌≡◌, ℕ, zero, suc, ◌<◌, ◌≤◌, ◌^◌, inl, List, [], ◌∷◌, length, map}
-use Rattle.std.proofs.Common.{Option, Some, None, refl, sym, ◌∙◌, ap, subst, arith}
+use Rattle.std.proofs.Common.{Option, Some, refl, sym, ◌∙◌, ap, subst, arith}
 use Rattle.std.specs.Prelude.{ℤ, pos, All, Contains, slice_get, slice_index_or, Vec}
 use Rattle.std.specs.Global.{Global}
-use Rattle.term_core.specs.Terms.{Tree, DomainValue, integer}
-use Rattle.term_core.specs.Patterns.{Pattern, domain_value, binding}
+use Rattle.term_core.specs.Terms.{Tree, integer}
+use Rattle.term_core.specs.Patterns.{domain_value, binding}
 use Rattle.rule_core.specs.Rules.{RewriteRule}
 use Rattle.rule_core.specs.Rules as plain
-use Rattle.rule_core.specs.Theories.{RewriteTheory, equations_of}
+use Rattle.rule_core.specs.Theories.{RewriteTheory}
 use Rattle.rule_core.specs.ProgramView.{theory_of, rewrite_rules, function_equations}
 use Rattle.rule_core.specs.Subsorts.{IsBelow, by_pair, by_chain}
-use Rattle.rule_core.specs.Sorting.{IsSymbol, HasSort, HasValue, IsValueOf}
-use Rattle.rule_core.specs.WellSorted.{IsWellSorted, IsPair, AreInOrder, BindsVariablesOf}
+use Rattle.rule_core.specs.Sorting.{HasValue, IsValueOf}
+use Rattle.rule_core.specs.WellSorted.{IsWellSorted, IsPair, AreInOrder}
 use Rattle.rule_core.specs.declared.rules.Equation.{Equation}
 use Rattle.rule_core.specs.declared.rules.Program.{Program}
 use Rattle.rule_core.specs.declared.rules.Rule.{Rule}

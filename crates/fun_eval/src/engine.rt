@@ -114,10 +114,8 @@ impl<'p> Engine<'p> {
             budget.old.calls)) }
         ensures budget { OnErr result (budget.new ≡ budget.old) }
     {
-        match self.eval_as::<EvalRecord>(alloc, pat, subst, budget, nest) {
-            Ok(answer) => Ok(answer.recorded),
-            Err(end) => Err(end),
-        }
+        let answer = self.eval_as::<EvalRecord>(alloc, pat, subst, budget, nest)?;
+        Ok(answer.recorded)
     }
 
     /// The same with another recording: the value, and what is recorded of its evaluation.
@@ -143,13 +141,9 @@ impl<'p> Engine<'p> {
             budget.old.calls)) }
         ensures budget { OnErr result (budget.new ≡ budget.old) }
     {
-        match evaluate(alloc, self, pat, subst, budget.calls, nest) {
-            Ok((answer, left)) => {
-                budget.calls = left;
-                Ok(answer)
-            }
-            Err(end) => Err(end),
-        }
+        let (answer, left) = evaluate(alloc, self, pat, subst, budget.calls, nest)?;
+        budget.calls = left;
+        Ok(answer)
     }
 }
 

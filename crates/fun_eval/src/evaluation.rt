@@ -102,10 +102,8 @@ fn evaluate_ctor<R: Recording>(
     if nest == 0 {
         return Err(EvalEnd::Blocked(Blocked::Nest(sym)));
     }
-    match evaluate_all(alloc, engine, args, subst, calls, nest - 1) {
-        Ok((args, left)) => construct(alloc, sym, args, left),
-        Err(end) => Err(end),
-    }
+    let (args, left) = evaluate_all(alloc, engine, args, subst, calls, nest - 1)?;
+    construct(alloc, sym, args, left)
 }
 
 // An injection of a pattern.
@@ -133,10 +131,8 @@ fn evaluate_inj<R: Recording>(
     if nest == 0 {
         return Err(EvalEnd::Blocked(Blocked::Nest(sym)));
     }
-    match evaluate(alloc, engine, below, subst, calls, nest - 1) {
-        Ok((below, left)) => inject(alloc, sym, from, to, below, left),
-        Err(end) => Err(end),
-    }
+    let (below, left) = evaluate(alloc, engine, below, subst, calls, nest - 1)?;
+    inject(alloc, sym, from, to, below, left)
 }
 
 // A function, called at the values of patterns.
@@ -161,10 +157,8 @@ fn evaluate_call<R: Recording>(
     if nest == 0 {
         return Err(EvalEnd::Blocked(Blocked::Nest(sym)));
     }
-    match evaluate_all(alloc, engine, args, subst, calls, nest - 1) {
-        Ok((args, left)) => apply(alloc, engine, sym, args, left, nest - 1),
-        Err(end) => Err(end),
-    }
+    let (args, left) = evaluate_all(alloc, engine, args, subst, calls, nest - 1)?;
+    apply(alloc, engine, sym, args, left, nest - 1)
 }
 
 // The values of some patterns, in order.
@@ -186,14 +180,10 @@ fn evaluate_all<R: Recording>(
     let mut records = R::none(alloc);
     let mut left = calls;
     for pat in pats {
-        match evaluate::<R>(alloc, engine, pat, subst, left, nest) {
-            Ok((answer, rest)) => {
-                terms.push(answer.term)?;
-                R::push(&mut records, answer.recorded)?;
-                left = rest;
-            }
-            Err(end) => return Err(end),
-        }
+        let (answer, rest) = evaluate::<R>(alloc, engine, pat, subst, left, nest)?;
+        terms.push(answer.term)?;
+        R::push(&mut records, answer.recorded)?;
+        left = rest;
     }
     Ok((Answers { terms, records }, left))
 }
@@ -245,10 +235,7 @@ fn apply_equations<R: Recording>(
         result }
 {
     let Answers { terms, records } = args;
-    let (chosen, left) = match choose_equation(alloc, engine, sym, &terms, calls, nest) {
-        Ok(found) => found,
-        Err(end) => return Err(end),
-    };
+    let (chosen, left) = choose_equation(alloc, engine, sym, &terms, calls, nest)?;
     let Some(chosen) = chosen else {
         return Err(EvalEnd::Blocked(Blocked::NoEquation(sym)));
     };
@@ -258,14 +245,10 @@ fn apply_equations<R: Recording>(
         cond,
     } = chosen;
     let right = &equations_of(engine.program(), sym)[number as usize].right;
-    match evaluate_in::<R>(alloc, engine, sym, right, &subst, left, nest) {
-        Ok((body, rest)) => {
-            let Answer { term, recorded } = body;
-            let recorded = R::by_equation(alloc, sym, records, number, subst, cond, recorded)?;
-            Ok((Answer { term, recorded }, rest))
-        }
-        Err(end) => Err(end),
-    }
+    let (body, rest) = evaluate_in::<R>(alloc, engine, sym, right, &subst, left, nest)?;
+    let Answer { term, recorded } = body;
+    let recorded = R::by_equation(alloc, sym, records, number, subst, cond, recorded)?;
+    Ok((Answer { term, recorded }, rest))
 }
 
 // The first equation of a function that is used at terms.
@@ -284,23 +267,19 @@ fn choose_equation<R: Recording>(
 {
     let equations = equations_of(engine.program(), sym);
     let mut left = calls;
-    for i in 0..equations.len() {
-        match try_equation(alloc, engine, sym, &equations[i], terms, left, nest) {
-            Ok((trial, rest)) => match trial {
-                Trial::Unused => left = rest,
-                Trial::Used(subst, cond) => {
-                    let number = i as u32;
-                    return Ok((
-                        Some(Choice {
-                            number,
-                            subst,
-                            cond,
-                        }),
-                        rest,
-                    ));
-                }
-            },
-            Err(end) => return Err(end),
+    for (i, equation) in equations.iter().enumerate() {
+        let (trial, rest) = try_equation(alloc, engine, sym, equation, terms, left, nest)?;
+        match trial {
+            Trial::Unused => left = rest,
+            Trial::Used(subst, cond) => {
+                let number = i as u32;
+                let choice = Choice {
+                    number,
+                    subst,
+                    cond,
+                };
+                return Ok((Some(choice), rest));
+            }
         }
     }
     Ok((None, left))
@@ -330,15 +309,11 @@ fn try_equation<R: Recording>(
     let Some(cond) = &equation.cond else {
         return Ok((Trial::Used(subst, None), calls));
     };
-    match evaluate_in::<R>(alloc, engine, sym, cond, &subst, calls, nest) {
-        Ok((answer, left)) => {
-            if is_true(&answer.term) {
-                Ok((Trial::Used(subst, Some(answer.recorded)), left))
-            } else {
-                Ok((Trial::Unused, left))
-            }
-        }
-        Err(end) => Err(end),
+    let (answer, left) = evaluate_in::<R>(alloc, engine, sym, cond, &subst, calls, nest)?;
+    if is_true(&answer.term) {
+        Ok((Trial::Used(subst, Some(answer.recorded)), left))
+    } else {
+        Ok((Trial::Unused, left))
     }
 }
 

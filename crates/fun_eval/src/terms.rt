@@ -130,8 +130,8 @@ pub(crate) fn match_terms(
     ensures { IfOk result
         (FindsMatch subsorts.now vars (plain_patterns pats.now) (forest terms.now)) }
 {
-    for i in 0..pats.len() {
-        if !may_match(&pats[i], &terms[i]) {
+    for (pat, term) in pats.iter().zip(terms) {
+        if !may_match(pat, term) {
             return Ok(None);
         }
     }

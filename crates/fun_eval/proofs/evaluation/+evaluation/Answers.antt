@@ -2,6 +2,7 @@ use Rattle.std.proofs.Common.{◌≡◌, ◌<◌, ◌-◌, ◌+◌, ◌∷◌, �
 use Rattle.std.proofs.Common.{None, sym, ◌∙◌, ap, subst, inr, arith}
 use Rattle.std.specs.Prelude.{slice_get, option_map, Err}
 use Rattle.std.proofs.lemmas.Bool.{false≢true}
+use Rattle.std.proofs.lemmas.Result.{err_from_is_err_and}
 use Rattle.std.proofs.lemmas.List.{take_more, take_all}
 use Rattle.term_core.specs.Terms.{forest}
 use Rattle.term_core.specs.Patterns.{variable, domain_value, application, injection, call}
@@ -116,21 +117,22 @@ evaluate_ctor-returns-then-nest-eq0 g t c =
     (blocked (too_nested c.args.sym.0))) (sym c.if-nest-eq0.true)
     (nested_out of_constructor)
 
-pub evaluate_ctor-returns-in-Ok : goal.evaluate_ctor-returns-in-Ok
-evaluate_ctor-returns-in-Ok g t c =
+pub evaluate_ctor-returns : goal.evaluate_ctor-returns
+evaluate_ctor-returns g t c =
     let more : c.args.nest ≡ suc (c.args.nest - 1) = omega arith in
     constructed_gives g.R.Recording.tells g.R.Recording.all_tell (theory_of c.args.engine.now)
-    (c.args.nest - 1) c.args.nest c.args.sym.0 c.args.calls c.in-Ok.left c.args.subst.now
-    (plain_patterns c.args.args.now) c.in-Ok.args more c.in-Ok.ensures.0 c.in-Ok.ensures.1
+    (c.args.nest - 1) c.args.nest c.args.sym.0 c.args.calls c.in_ok-args.left c.args.subst.now
+    (plain_patterns c.args.args.now) c.in_ok-args.args more c.in_ok-args.ensures.0 c.in_ok-args.ensures.1
     c.construct.result c.construct.ensures
 
-pub evaluate_ctor-returns-in-Err : goal.evaluate_ctor-returns-in-Err
-evaluate_ctor-returns-in-Err g t c =
-    let more : c.args.nest ≡ suc (c.args.nest - 1) = omega arith in
+pub evaluate_ctor-returns-in_err-args : goal.evaluate_ctor-returns-in_err-args
+evaluate_ctor-returns-in_err-args g t c =
+    let p = err_from_is_err_and c.from_residual.result c.from_residual.ensures.1 in
+    rw (p.1, p.2) (let more : c.args.nest ≡ suc (c.args.nest - 1) = omega arith in
     arguments_stop g.R.Recording.tells g.R.Recording.all_tell (theory_of c.args.engine.now)
     (c.args.nest - 1) c.args.nest c.args.sym.0 c.args.calls c.args.subst.now
     (application c.args.sym.0 (plain_patterns c.args.args.now)) (plain_patterns c.args.args.now)
-    c.in-Err.end of_constructor more c.in-Err.ensures
+    c.in_err-args.field-0.0 of_constructor more c.in_err-args.ensures)
 
 -- ---- evaluate_inj
 
@@ -141,20 +143,21 @@ evaluate_inj-returns-then-nest-eq0 g t c =
     (blocked (too_nested c.in-Some.sym.0))) (sym c.if-nest-eq0.true)
     (nested_out (of_injection c.in-Some.ensures))
 
-pub evaluate_inj-returns-in-Ok : goal.evaluate_inj-returns-in-Ok
-evaluate_inj-returns-in-Ok g t c =
+pub evaluate_inj-returns : goal.evaluate_inj-returns
+evaluate_inj-returns g t c =
     let more : c.args.nest ≡ suc (c.args.nest - 1) = omega arith in
     injected_gives g.R.Recording.tells (theory_of c.args.engine.now) (c.args.nest - 1) c.args.nest
-    c.in-Some.sym.0 c.args.from.0 c.args.to.0 c.args.calls c.in-Ok.left c.args.subst.now
-    (plain_pattern c.args.below.now) c.in-Ok.below c.in-Some.ensures more c.in-Ok.ensures.0
-    c.in-Ok.ensures.1 c.inject.result c.inject.ensures
+    c.in-Some.sym.0 c.args.from.0 c.args.to.0 c.args.calls c.in_ok-below.left c.args.subst.now
+    (plain_pattern c.args.below.now) c.in_ok-below.below c.in-Some.ensures more c.in_ok-below.ensures.0
+    c.in_ok-below.ensures.1 c.inject.result c.inject.ensures
 
-pub evaluate_inj-returns-in-Err : goal.evaluate_inj-returns-in-Err
-evaluate_inj-returns-in-Err g t c =
-    let more : c.args.nest ≡ suc (c.args.nest - 1) = omega arith in
+pub evaluate_inj-returns-in_err-below : goal.evaluate_inj-returns-in_err-below
+evaluate_inj-returns-in_err-below g t c =
+    let p = err_from_is_err_and c.from_residual.result c.from_residual.ensures.1 in
+    rw (p.1, p.2) (let more : c.args.nest ≡ suc (c.args.nest - 1) = omega arith in
     injected_stops g.R.Recording.tells (theory_of c.args.engine.now) (c.args.nest - 1) c.args.nest
     c.in-Some.sym.0 c.args.from.0 c.args.to.0 c.args.calls c.args.subst.now
-    (plain_pattern c.args.below.now) c.in-Err.end c.in-Some.ensures more c.in-Err.ensures
+    (plain_pattern c.args.below.now) c.in_err-below.field-0.0 c.in-Some.ensures more c.in_err-below.ensures)
 
 -- ---- evaluate_call
 
@@ -180,34 +183,35 @@ evaluate_call-evaluate_all-requires g t c κs within = (
 pub evaluate_call-apply-requires : goal.evaluate_call-apply-requires
 evaluate_call-apply-requires g t c κs within =
     let are : AreArguments (theory_of c.args.engine.now) c.args.sym.0
-    (forest c.in-Ok.args.terms.items) =
+    (forest c.in_ok-args.args.terms.items) =
     record {
       nesting = c.args.nest - 1;
       calls = c.args.calls;
-      left = c.in-Ok.left;
+      left = c.in_ok-args.left;
       theta = c.args.subst.now;
       sorts = c.requires.fits.0;
       patterns = plain_patterns c.args.args.now;
       fits = c.requires.fits.1;
-      evaluated = c.in-Ok.ensures.0;
+      evaluated = c.in_ok-args.ensures.0;
     } in
     (omega arith, (within, (are, omega arith)))
 
-pub evaluate_call-returns-in-Ok : goal.evaluate_call-returns-in-Ok
-evaluate_call-returns-in-Ok g t c =
+pub evaluate_call-returns : goal.evaluate_call-returns
+evaluate_call-returns g t c =
     let more : c.args.nest ≡ suc (c.args.nest - 1) = omega arith in
     called_gives g.R.Recording.tells g.R.Recording.all_tell (theory_of c.args.engine.now)
-    (c.args.nest - 1) c.args.nest c.args.sym.0 c.args.calls c.in-Ok.left c.args.subst.now
-    (plain_patterns c.args.args.now) c.in-Ok.args more c.in-Ok.ensures.0 c.in-Ok.ensures.1
+    (c.args.nest - 1) c.args.nest c.args.sym.0 c.args.calls c.in_ok-args.left c.args.subst.now
+    (plain_patterns c.args.args.now) c.in_ok-args.args more c.in_ok-args.ensures.0 c.in_ok-args.ensures.1
     c.apply.result c.apply.ensures
 
-pub evaluate_call-returns-in-Err : goal.evaluate_call-returns-in-Err
-evaluate_call-returns-in-Err g t c = λ sorts.
-    let more : c.args.nest ≡ suc (c.args.nest - 1) = omega arith in
+pub evaluate_call-returns-in_err-args : goal.evaluate_call-returns-in_err-args
+evaluate_call-returns-in_err-args g t c = λ sorts.
+    let p = err_from_is_err_and c.from_residual.result c.from_residual.ensures.1 in
+    rw (p.1, p.2) (let more : c.args.nest ≡ suc (c.args.nest - 1) = omega arith in
     arguments_stop g.R.Recording.tells g.R.Recording.all_tell (theory_of c.args.engine.now)
     (c.args.nest - 1) c.args.nest c.args.sym.0 c.args.calls c.args.subst.now
     (call c.args.sym.0 sorts (plain_patterns c.args.args.now)) (plain_patterns c.args.args.now)
-    c.in-Err.end of_call more c.in-Err.ensures
+    c.in_err-args.field-0.0 of_call more c.in_err-args.ensures)
 
 -- ---- evaluate_all
 
@@ -225,12 +229,13 @@ evaluate_all-evaluate-requires g t c κs within = (
   ),
 )
 
-pub evaluate_all-returns-in-Err : goal.evaluate_all-returns-in-Err
-evaluate_all-returns-in-Err g t c =
-    pattern_stops g.R.Recording.tells g.R.Recording.all_tell (theory_of c.args.engine.now)
+pub evaluate_all-returns-in_err-answer : goal.evaluate_all-returns-in_err-answer
+evaluate_all-returns-in_err-answer g t c =
+    let p = err_from_is_err_and c.from_residual-in_err-answer.result c.from_residual-in_err-answer.ensures.1 in
+    rw (p.1, p.2) (pattern_stops g.R.Recording.tells g.R.Recording.all_tell (theory_of c.args.engine.now)
     c.args.nest c.args.subst.now c.args.pats.now c.args.calls c.loop-pat.pat-index
-    c.loop-pat.terms.items c.loop-pat.left c.pat-item.result c.in-Err.end
-    c.loop-pat.invariant.goes c.pat-item.is c.loop-pat-test.true c.in-Err.ensures
+    c.loop-pat.terms.items c.loop-pat.left c.pat-item.result c.in_err-answer.field-0.0
+    c.loop-pat.invariant.goes c.pat-item.is c.loop-pat-test.true c.in_err-answer.ensures)
 
 pub evaluate_all-loop-pat-preserved : goal.evaluate_all-loop-pat-preserved
 evaluate_all-loop-pat-preserved g t c =
@@ -243,17 +248,17 @@ evaluate_all-loop-pat-preserved g t c =
       goes =
           goes_on-more (theory_of c.args.engine.now) c.args.nest c.args.subst.now c.args.pats.now
           c.args.calls c.loop-pat.pat-index c.loop-pat.terms.items c.push.new.self.items
-          c.loop-pat.left c.in-Ok.rest c.pat-item.result c.in-Ok.answer.term
-          c.loop-pat.invariant.goes c.pat-item.is c.loop-pat-test.true c.in-Ok.ensures.0
-          c.in_ok-push-in-Ok.ensures.items;
+          c.loop-pat.left c.in_ok-answer.rest c.pat-item.result c.in_ok-answer.answer.term
+          c.loop-pat.invariant.goes c.pat-item.is c.loop-pat-test.true c.in_ok-answer.ensures.0
+          c.in_ok-push.ensures.items;
       recorded =
           recorded-more g.R.Recording.tells g.R.Recording.all_tell (theory_of c.args.engine.now)
           c.args.subst.now (take c.loop-pat.pat-index c.args.pats.now)
           (take (c.loop-pat.pat-index + 1) c.args.pats.now) c.loop-pat.terms.items
-          c.push.new.self.items c.loop-pat.records.items c.push-in-Ok.new.others.items
-          c.pat-item.result c.in-Ok.answer.term c.in-Ok.answer.recorded
-          c.loop-pat.invariant.recorded c.in-Ok.ensures.1 c.in_ok-push-in-Ok-2.ensures
-          c.in_ok-push-in-Ok.ensures.items next;
+          c.push.new.self.items c.loop-pat.records.items c.push-in-loop-pat.new.others.items
+          c.pat-item.result c.in_ok-answer.answer.term c.in_ok-answer.answer.recorded
+          c.loop-pat.invariant.recorded c.in_ok-answer.ensures.1 c.in_ok-push-2.ensures
+          c.in_ok-push.ensures.items next;
     }
 
 pub evaluate_all-returns : goal.evaluate_all-returns
@@ -379,14 +384,14 @@ apply_equations-evaluate_in-requires g t c κs within =
     let values_same : forest c.deref.result.now ≡ forest c.args.args.terms.items =
     ap forest c.deref.ensures.value in
     let here : ChoiceSays g.R.Recording.tells (theory_of c.args.engine.now) c.args.nest c.args.sym.0
-    (forest c.deref.result.now) c.args.calls (Some c.in-Some.chosen) c.in-Ok.found.1 =
+    (forest c.deref.result.now) c.args.calls (Some c.in-Some.chosen) c.in_ok-chosen.left =
     subst (λ o. ChoiceSays g.R.Recording.tells (theory_of c.args.engine.now) c.args.nest
-    c.args.sym.0 (forest c.deref.result.now) c.args.calls o c.in-Ok.found.1)
-    c.in-Some.is c.in-Ok.ensures in
+    c.args.sym.0 (forest c.deref.result.now) c.args.calls o c.in_ok-chosen.left)
+    c.in-Some.is c.in_ok-chosen.ensures in
     let says : ChoiceSays g.R.Recording.tells (theory_of c.args.engine.now) c.args.nest c.args.sym.0
-    (forest c.args.args.terms.items) c.args.calls (Some c.in-Some.chosen) c.in-Ok.found.1 =
+    (forest c.args.args.terms.items) c.args.calls (Some c.in-Some.chosen) c.in_ok-chosen.left =
     subst (λ ts. ChoiceSays g.R.Recording.tells (theory_of c.args.engine.now) c.args.nest
-    c.args.sym.0 ts c.args.calls (Some c.in-Some.chosen) c.in-Ok.found.1) values_same
+    c.args.sym.0 ts c.args.calls (Some c.in-Some.chosen) c.in_ok-chosen.left) values_same
     here in
     let all : map function_equation c.equations_of.result.now ≡ equations_of
     (theory_of c.args.engine.now) c.args.sym.0 =
@@ -395,7 +400,7 @@ apply_equations-evaluate_in-requires g t c κs within =
     c.equations_of.ensures in
     let within_list : c.in-Some.chosen.number < length c.equations_of.result.now =
     chosen_within (theory_of c.args.engine.now) c.args.nest c.args.sym.0
-    (forest c.args.args.terms.items) c.args.calls c.in-Some.chosen.number c.in-Ok.found.1
+    (forest c.args.args.terms.items) c.args.calls c.in-Some.chosen.number c.in_ok-chosen.left
     c.in-Some.chosen.subst c.equations_of.result.now says.0 all in
     let there : slice_get (equations_of (theory_of c.args.engine.now) c.args.sym.0)
     c.in-Some.chosen.number ≡ Some (function_equation c.index-equations_of-number.result) =
@@ -405,7 +410,7 @@ apply_equations-evaluate_in-requires g t c κs within =
     let fits : IsEvaluable (theory_of c.args.engine.now) c.in-Some.chosen.subst
     (plain_pattern c.index-equations_of-number.result.right) =
     right_evaluable (theory_of c.args.engine.now) c.args.nest c.args.sym.0
-    (forest c.args.args.terms.items) c.args.calls c.in-Some.chosen.number c.in-Ok.found.1
+    (forest c.args.args.terms.items) c.args.calls c.in-Some.chosen.number c.in_ok-chosen.left
     c.in-Some.chosen.subst (function_equation c.index-equations_of-number.result)
     c.program.ensures.sorted c.requires.fits says.0 there in (
       omega arith,
@@ -419,19 +424,19 @@ apply_equations-evaluate_in-requires g t c κs within =
       ),
     )
 
-pub apply_equations-returns-in-Ok-evaluate_in : goal.apply_equations-returns-in-Ok-evaluate_in
-apply_equations-returns-in-Ok-evaluate_in g t c =
+pub apply_equations-returns : goal.apply_equations-returns
+apply_equations-returns g t c =
     let values_same : forest c.deref.result.now ≡ forest c.args.args.terms.items =
     ap forest c.deref.ensures.value in
     let here : ChoiceSays g.R.Recording.tells (theory_of c.args.engine.now) c.args.nest c.args.sym.0
-    (forest c.deref.result.now) c.args.calls (Some c.in-Some.chosen) c.in-Ok.found.1 =
+    (forest c.deref.result.now) c.args.calls (Some c.in-Some.chosen) c.in_ok-chosen.left =
     subst (λ o. ChoiceSays g.R.Recording.tells (theory_of c.args.engine.now) c.args.nest
-    c.args.sym.0 (forest c.deref.result.now) c.args.calls o c.in-Ok.found.1)
-    c.in-Some.is c.in-Ok.ensures in
+    c.args.sym.0 (forest c.deref.result.now) c.args.calls o c.in_ok-chosen.left)
+    c.in-Some.is c.in_ok-chosen.ensures in
     let says : ChoiceSays g.R.Recording.tells (theory_of c.args.engine.now) c.args.nest c.args.sym.0
-    (forest c.args.args.terms.items) c.args.calls (Some c.in-Some.chosen) c.in-Ok.found.1 =
+    (forest c.args.args.terms.items) c.args.calls (Some c.in-Some.chosen) c.in_ok-chosen.left =
     subst (λ ts. ChoiceSays g.R.Recording.tells (theory_of c.args.engine.now) c.args.nest
-    c.args.sym.0 ts c.args.calls (Some c.in-Some.chosen) c.in-Ok.found.1) values_same
+    c.args.sym.0 ts c.args.calls (Some c.in-Some.chosen) c.in_ok-chosen.left) values_same
     here in
     let all : map function_equation c.equations_of.result.now ≡ equations_of
     (theory_of c.args.engine.now) c.args.sym.0 =
@@ -440,7 +445,7 @@ apply_equations-returns-in-Ok-evaluate_in g t c =
     c.equations_of.ensures in
     let within_list : c.in-Some.chosen.number < length c.equations_of.result.now =
     chosen_within (theory_of c.args.engine.now) c.args.nest c.args.sym.0
-    (forest c.args.args.terms.items) c.args.calls c.in-Some.chosen.number c.in-Ok.found.1
+    (forest c.args.args.terms.items) c.args.calls c.in-Some.chosen.number c.in_ok-chosen.left
     c.in-Some.chosen.subst c.equations_of.result.now says.0 all in
     let there : slice_get (equations_of (theory_of c.args.engine.now) c.args.sym.0)
     c.in-Some.chosen.number ≡ Some (function_equation c.index-equations_of-number.result) =
@@ -449,38 +454,38 @@ apply_equations-returns-in-Ok-evaluate_in g t c =
     c.index-equations_of-number.is within_list in
     let evaluated : EvaluatesIn (theory_of c.args.engine.now) c.args.nest c.args.sym.0
     c.in-Some.chosen.subst (plain_pattern c.index-equations_of-number.result.right)
-    c.in-Ok.found.1 (value c.in-Ok-evaluate_in.body.term c.in-Ok-evaluate_in.rest) =
+    c.in_ok-chosen.left (value c.in_ok-body.body.term c.in_ok-body.rest) =
     subst (λ (x : Equation). EvaluatesIn (theory_of c.args.engine.now) c.args.nest c.args.sym.0
-    c.in-Some.chosen.subst (plain_pattern x.right) c.in-Ok.found.1
-    (value c.in-Ok-evaluate_in.body.term c.in-Ok-evaluate_in.rest))
-    (sym c.index-equations_of-number.is) c.in-Ok-evaluate_in.ensures.0 in
-    let told : IsRecorded (g.R.Recording.tells c.in-Ok-evaluate_in.body.recorded)
+    c.in-Some.chosen.subst (plain_pattern x.right) c.in_ok-chosen.left
+    (value c.in_ok-body.body.term c.in_ok-body.rest))
+    (sym c.index-equations_of-number.is) c.in_ok-body.ensures.0 in
+    let told : IsRecorded (g.R.Recording.tells c.in_ok-body.body.recorded)
     (theory_of c.args.engine.now) c.in-Some.chosen.subst
-    (plain_pattern c.index-equations_of-number.result.right) c.in-Ok-evaluate_in.body.term =
-    subst (λ (x : Equation). IsRecorded (g.R.Recording.tells c.in-Ok-evaluate_in.body.recorded)
+    (plain_pattern c.index-equations_of-number.result.right) c.in_ok-body.body.term =
+    subst (λ (x : Equation). IsRecorded (g.R.Recording.tells c.in_ok-body.body.recorded)
     (theory_of c.args.engine.now) c.in-Some.chosen.subst (plain_pattern x.right)
-    c.in-Ok-evaluate_in.body.term) (sym c.index-equations_of-number.is)
-    c.in-Ok-evaluate_in.ensures.1 in
+    c.in_ok-body.body.term) (sym c.index-equations_of-number.is)
+    c.in_ok-body.ensures.1 in
     right_gives g.R.Recording.tells g.R.Recording.all_tell (theory_of c.args.engine.now) c.args.nest
-    c.args.sym.0 c.args.args c.args.calls c.in-Some.chosen.number c.in-Ok.found.1
-    c.in-Ok-evaluate_in.rest c.in-Some.chosen.subst c.in-Some.chosen.cond
-    (function_equation c.index-equations_of-number.result) c.in-Ok-evaluate_in.body
-    c.in_ok-recorded-in-Ok-evaluate_in.recorded c.requires.fits says.0 says.1 there evaluated
-    told c.in_ok-recorded-in-Ok-evaluate_in.ensures
+    c.args.sym.0 c.args.args c.args.calls c.in-Some.chosen.number c.in_ok-chosen.left
+    c.in_ok-body.rest c.in-Some.chosen.subst c.in-Some.chosen.cond
+    (function_equation c.index-equations_of-number.result) c.in_ok-body.body
+    c.in_ok-recorded.recorded c.requires.fits says.0 says.1 there evaluated
+    told c.in_ok-recorded.ensures
 
-pub apply_equations-returns : goal.apply_equations-returns
-apply_equations-returns g t c =
+pub apply_equations-returns-in_err-body : goal.apply_equations-returns-in_err-body
+apply_equations-returns-in_err-body g t c =
     let values_same : forest c.deref.result.now ≡ forest c.args.args.terms.items =
     ap forest c.deref.ensures.value in
     let here : ChoiceSays g.R.Recording.tells (theory_of c.args.engine.now) c.args.nest c.args.sym.0
-    (forest c.deref.result.now) c.args.calls (Some c.in-Some.chosen) c.in-Ok.found.1 =
+    (forest c.deref.result.now) c.args.calls (Some c.in-Some.chosen) c.in_ok-chosen.left =
     subst (λ o. ChoiceSays g.R.Recording.tells (theory_of c.args.engine.now) c.args.nest
-    c.args.sym.0 (forest c.deref.result.now) c.args.calls o c.in-Ok.found.1)
-    c.in-Some.is c.in-Ok.ensures in
+    c.args.sym.0 (forest c.deref.result.now) c.args.calls o c.in_ok-chosen.left)
+    c.in-Some.is c.in_ok-chosen.ensures in
     let says : ChoiceSays g.R.Recording.tells (theory_of c.args.engine.now) c.args.nest c.args.sym.0
-    (forest c.args.args.terms.items) c.args.calls (Some c.in-Some.chosen) c.in-Ok.found.1 =
+    (forest c.args.args.terms.items) c.args.calls (Some c.in-Some.chosen) c.in_ok-chosen.left =
     subst (λ ts. ChoiceSays g.R.Recording.tells (theory_of c.args.engine.now) c.args.nest
-    c.args.sym.0 ts c.args.calls (Some c.in-Some.chosen) c.in-Ok.found.1) values_same
+    c.args.sym.0 ts c.args.calls (Some c.in-Some.chosen) c.in_ok-chosen.left) values_same
     here in
     let all : map function_equation c.equations_of.result.now ≡ equations_of
     (theory_of c.args.engine.now) c.args.sym.0 =
@@ -489,7 +494,7 @@ apply_equations-returns g t c =
     c.equations_of.ensures in
     let within_list : c.in-Some.chosen.number < length c.equations_of.result.now =
     chosen_within (theory_of c.args.engine.now) c.args.nest c.args.sym.0
-    (forest c.args.args.terms.items) c.args.calls c.in-Some.chosen.number c.in-Ok.found.1
+    (forest c.args.args.terms.items) c.args.calls c.in-Some.chosen.number c.in_ok-chosen.left
     c.in-Some.chosen.subst c.equations_of.result.now says.0 all in
     let there : slice_get (equations_of (theory_of c.args.engine.now) c.args.sym.0)
     c.in-Some.chosen.number ≡ Some (function_equation c.index-equations_of-number.result) =
@@ -498,16 +503,17 @@ apply_equations-returns g t c =
     c.index-equations_of-number.is within_list in
     let stops : GivesWithin g.R.Recording.tells (theory_of c.args.engine.now) c.args.nest
     c.args.sym.0 c.in-Some.chosen.subst
-    (plain_pattern c.index-equations_of-number.result.right) c.in-Ok.found.1
-    (Err c.in-Err-evaluate_in.end) =
+    (plain_pattern c.index-equations_of-number.result.right) c.in_ok-chosen.left
+    (Err c.in_err-body.field-0.0) =
     subst (λ (x : Equation). GivesWithin g.R.Recording.tells (theory_of c.args.engine.now)
     c.args.nest c.args.sym.0 c.in-Some.chosen.subst (plain_pattern x.right)
-    c.in-Ok.found.1 (Err c.in-Err-evaluate_in.end)) (sym c.index-equations_of-number.is)
-    c.in-Err-evaluate_in.ensures in
-    right_stops g.R.Recording.tells g.R.Recording.all_tell (theory_of c.args.engine.now) c.args.nest
-    c.args.sym.0 c.args.args c.args.calls c.in-Some.chosen.number c.in-Ok.found.1
+    c.in_ok-chosen.left (Err c.in_err-body.field-0.0)) (sym c.index-equations_of-number.is)
+    c.in_err-body.ensures in
+    let p = err_from_is_err_and c.from_residual-in_err-body.result c.from_residual-in_err-body.ensures.1 in
+    rw (p.1, p.2) (right_stops g.R.Recording.tells g.R.Recording.all_tell (theory_of c.args.engine.now) c.args.nest
+    c.args.sym.0 c.args.args c.args.calls c.in-Some.chosen.number c.in_ok-chosen.left
     c.in-Some.chosen.subst (function_equation c.index-equations_of-number.result)
-    c.in-Err-evaluate_in.end says.0 there stops
+    c.in_err-body.field-0.0 says.0 there stops)
 
 -- ---- choose_equation
 
@@ -547,21 +553,22 @@ choose_equation-returns-in-Used g t c =
     c.loop-i.i c.index-equations-i.result all c.index-equations-i.is (omega arith) in
     let says : TrialSays g.R.Recording.tells (theory_of c.args.engine.now) c.args.nest c.args.sym.0
     (function_equation c.index-equations-i.result) (forest c.args.terms.now) c.loop-i.left
-    (Used c.in-Used.subst c.in-Used.cond) c.in-Ok.rest =
+    (Used c.in-Used.subst c.in-Used.cond) c.in_ok-trial.rest =
     subst (λ o. TrialSays g.R.Recording.tells (theory_of c.args.engine.now) c.args.nest
     c.args.sym.0 (function_equation c.index-equations-i.result)
-    (forest c.args.terms.now) c.loop-i.left o c.in-Ok.rest) c.in-Used.is
-    c.in-Ok.ensures in (
+    (forest c.args.terms.now) c.loop-i.left o c.in_ok-trial.rest) c.in-Used.is
+    c.in_ok-trial.ensures in (
       chosen (theory_of c.args.engine.now) c.args.nest c.args.sym.0 (forest c.args.terms.now)
-          c.args.calls c.loop-i.i c.loop-i.left c.in-Ok.rest
+          c.args.calls c.loop-i.i c.loop-i.left c.in_ok-trial.rest
           (function_equation c.index-equations-i.result) c.in-Used.subst c.loop-i.invariant.tried
           c.loop-i.invariant.unused there says.0 says.1,
       says.2,
     )
 
-pub choose_equation-returns-in-Err : goal.choose_equation-returns-in-Err
-choose_equation-returns-in-Err g t c =
-    let all : map function_equation c.equations_of-equations.result.now ≡ equations_of
+pub choose_equation-returns-in_err-trial : goal.choose_equation-returns-in_err-trial
+choose_equation-returns-in_err-trial g t c =
+    let p = err_from_is_err_and c.from_residual.result c.from_residual.ensures.1 in
+    rw (p.1, p.2) (let all : map function_equation c.equations_of-equations.result.now ≡ equations_of
     (theory_of c.args.engine.now) c.args.sym.0 =
     subst (λ (p : Program). map function_equation c.equations_of-equations.result.now
     ≡ equations_of (theory_of p) c.args.sym.0) c.program.ensures.program
@@ -572,8 +579,8 @@ choose_equation-returns-in-Err g t c =
     c.loop-i.i c.index-equations-i.result all c.index-equations-i.is (omega arith) in
     trial_stops g.R.Recording.tells (theory_of c.args.engine.now) c.args.nest c.args.sym.0
     (forest c.args.terms.now) c.args.calls c.loop-i.i c.loop-i.left
-    (function_equation c.index-equations-i.result) c.in-Err.end c.loop-i.invariant.tried there
-    c.in-Err.ensures
+    (function_equation c.index-equations-i.result) c.in_err-trial.field-0.0 c.loop-i.invariant.tried there
+    c.in_err-trial.ensures)
 
 pub choose_equation-loop-i-preserved : goal.choose_equation-loop-i-preserved
 choose_equation-loop-i-preserved g t c =
@@ -588,17 +595,17 @@ choose_equation-loop-i-preserved g t c =
     c.loop-i.i c.index-equations-i.result all c.index-equations-i.is (omega arith) in
     let says : TrialSays g.R.Recording.tells (theory_of c.args.engine.now) c.args.nest c.args.sym.0
     (function_equation c.index-equations-i.result) (forest c.args.terms.now) c.loop-i.left
-    Unused c.in-Ok.rest =
+    Unused c.in_ok-trial.rest =
     subst (λ o. TrialSays g.R.Recording.tells (theory_of c.args.engine.now) c.args.nest
     c.args.sym.0 (function_equation c.index-equations-i.result)
-    (forest c.args.terms.now) c.loop-i.left o c.in-Ok.rest) c.in-Unused.is
-    c.in-Ok.ensures in
+    (forest c.args.terms.now) c.loop-i.left o c.in_ok-trial.rest) c.in-Unused.is
+    c.in_ok-trial.ensures in
     record {
       tried =
           tried-more g.R.Recording.tells (theory_of c.args.engine.now) c.args.nest c.args.sym.0
           (forest c.args.terms.now) c.args.calls
           (equations_of (theory_of c.args.engine.now) c.args.sym.0) c.loop-i.i c.loop-i.left
-          c.in-Ok.rest (function_equation c.index-equations-i.result) c.loop-i.invariant.tried
+          c.in_ok-trial.rest (function_equation c.index-equations-i.result) c.loop-i.invariant.tried
           there says;
       unused =
           unused-more (theory_of c.args.engine.now) c.args.sym.0 (forest c.args.terms.now)
@@ -606,13 +613,13 @@ choose_equation-loop-i-preserved g t c =
           (function_equation c.index-equations-i.result) c.loop-i.invariant.unused there
           (is_unused g.R.Recording.tells (theory_of c.args.engine.now) c.args.nest c.args.sym.0
           (function_equation c.index-equations-i.result) (forest c.args.terms.now)
-          c.loop-i.left c.in-Ok.rest c.requires.nest (omega arith) says);
+          c.loop-i.left c.in_ok-trial.rest c.requires.nest (omega arith) says);
       fewer =
           omega (
             arith,
             trial_falls g.R.Recording.tells (theory_of c.args.engine.now) c.args.nest c.args.sym.0
                 (function_equation c.index-equations-i.result) (forest c.args.terms.now)
-                c.loop-i.left c.in-Ok.rest says,
+                c.loop-i.left c.in_ok-trial.rest says,
           );
     }
 
@@ -702,9 +709,9 @@ try_equation-returns-then-is_true g t c =
     ap (option_map plain_pattern) c.in-Some-cond.is in
     let told =
     test_holds g.R.Recording.tells (theory_of c.args.engine.now) c.args.nest c.args.sym.0
-    c.args.calls c.in-Ok.left c.in-Some.subst
+    c.args.calls c.in_ok-answer.left c.in-Some.subst
     (option_map plain_pattern c.args.equation.now.cond) (plain_pattern c.in-Some-cond.cond)
-    c.in-Ok.answer some c.in-Ok.ensures.0 c.in-Ok.ensures.1
+    c.in_ok-answer.answer some c.in_ok-answer.ensures.0 c.in_ok-answer.ensures.1
     (c.is_true.ensures.0 c.if-is_true.true) in
     (match, told.0, told.1)
 
@@ -726,15 +733,16 @@ try_equation-returns-else-is_true g t c =
     inr (
       c.in-Some.subst,
       match,
-      test_fails (theory_of c.args.engine.now) c.args.nest c.args.sym.0 c.args.calls c.in-Ok.left
+      test_fails (theory_of c.args.engine.now) c.args.nest c.args.sym.0 c.args.calls c.in_ok-answer.left
           c.in-Some.subst (option_map plain_pattern c.args.equation.now.cond)
-          (plain_pattern c.in-Some-cond.cond) c.in-Ok.answer.term some c.in-Ok.ensures.0
+          (plain_pattern c.in-Some-cond.cond) c.in_ok-answer.answer.term some c.in_ok-answer.ensures.0
           (λ is. false≢true (sym c.if-is_true.false ∙ c.is_true.ensures.1 is)),
     )
 
-pub try_equation-returns-in-Err : goal.try_equation-returns-in-Err
-try_equation-returns-in-Err g t c =
-    let found : Matches (theory_of c.args.engine.now) (function_equation c.args.equation.now)
+pub try_equation-returns-in_err-answer : goal.try_equation-returns-in_err-answer
+try_equation-returns-in_err-answer g t c =
+    let p = err_from_is_err_and c.from_residual-in_err-answer.result c.from_residual-in_err-answer.ensures.1 in
+    rw (p.1, p.2) (let found : Matches (theory_of c.args.engine.now) (function_equation c.args.equation.now)
     (forest c.args.terms.now) c.in_ok-subst.field-0 =
     subst (λ (p : Program). Matches (theory_of p) (function_equation c.args.equation.now)
     (forest c.args.terms.now) c.in_ok-subst.field-0) c.program.ensures.program
@@ -749,4 +757,4 @@ try_equation-returns-in-Err g t c =
     ap (option_map plain_pattern) c.in-Some-cond.is in
     test_stops g.R.Recording.tells (theory_of c.args.engine.now) c.args.nest c.args.sym.0
     (function_equation c.args.equation.now) (forest c.args.terms.now) c.args.calls
-    c.in-Some.subst (plain_pattern c.in-Some-cond.cond) c.in-Err.end match some c.in-Err.ensures
+    c.in-Some.subst (plain_pattern c.in-Some-cond.cond) c.in_err-answer.field-0.0 match some c.in_err-answer.ensures)
