@@ -30,23 +30,19 @@ pub(crate) fn choose_rule<R: Recording>(
 {
     let rules = &engine.program().rules;
     let mut left = calls;
-    for i in 0..rules.len() {
-        match try_rule(alloc, engine, &rules[i], term, left) {
-            Ok((trial, rest)) => match trial {
-                Trial::Unused => left = rest,
-                Trial::Used(subst, cond) => {
-                    let number = i as u32;
-                    return Ok((
-                        Some(Choice {
-                            number,
-                            subst,
-                            cond,
-                        }),
-                        rest,
-                    ));
-                }
-            },
-            Err(end) => return Err(end),
+    for (i, rule) in rules.iter().enumerate() {
+        let (trial, rest) = try_rule(alloc, engine, rule, term, left)?;
+        match trial {
+            Trial::Unused => left = rest,
+            Trial::Used(subst, cond) => {
+                let number = i as u32;
+                let choice = Choice {
+                    number,
+                    subst,
+                    cond,
+                };
+                return Ok((Some(choice), rest));
+            }
         }
     }
     Ok((None, left))
@@ -74,14 +70,10 @@ fn try_rule<R: Recording>(
     // The height of the term is at most the greatest height.
     let _high = term.height();
     let mut budget = Budget { calls };
-    match engine.eval_as::<R>(alloc, cond, &subst, &mut budget, MAX_NESTING) {
-        Ok(answer) => {
-            if is_true(&answer.term) {
-                Ok((Trial::Used(subst, Some(answer.recorded)), budget.calls))
-            } else {
-                Ok((Trial::Unused, budget.calls))
-            }
-        }
-        Err(end) => Err(end),
+    let answer = engine.eval_as::<R>(alloc, cond, &subst, &mut budget, MAX_NESTING)?;
+    if is_true(&answer.term) {
+        Ok((Trial::Used(subst, Some(answer.recorded)), budget.calls))
+    } else {
+        Ok((Trial::Unused, budget.calls))
     }
 }

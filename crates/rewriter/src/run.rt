@@ -96,17 +96,13 @@ impl Run {
         let _program = engine.program();
         let subst = Subst::new(alloc, 0)?;
         let mut budget = Budget { calls };
-        match engine.eval_as::<R>(alloc, start, &subst, &mut budget, MAX_NESTING) {
-            Ok(answer) => {
-                let Answer { term, recorded } = answer;
-                let run = Run {
-                    config: term,
-                    calls: budget.calls,
-                };
-                Ok((run, recorded))
-            }
-            Err(end) => Err(end),
-        }
+        let answer = engine.eval_as::<R>(alloc, start, &subst, &mut budget, MAX_NESTING)?;
+        let Answer { term, recorded } = answer;
+        let run = Run {
+            config: term,
+            calls: budget.calls,
+        };
+        Ok((run, recorded))
     }
 
     /// The last configuration.
@@ -140,10 +136,8 @@ impl Run {
         ensures sorted { IsConfiguration (theory_of engine.now) self.new.config }
         ensures err { OnErr result (self.new ≡ self.old) }
     {
-        match self.step_as::<EvalRecord>(alloc, engine) {
-            Ok(next) => Ok(with_record(next)),
-            Err(error) => Err(error),
-        }
+        let next = self.step_as::<EvalRecord>(alloc, engine)?;
+        Ok(with_record(next))
     }
 
     /// The same with another recording of the evaluations.
@@ -160,18 +154,14 @@ impl Run {
         ensures err { OnErr result (self.new ≡ self.old) }
     {
         match advance::<R>(alloc, engine, &self.config, self.calls) {
-            Ok(found) => match found {
-                Some(further) => {
-                    self.config = further.config;
-                    self.calls = further.calls;
-                    Ok(Next::Made(further.made))
-                }
-                None => Ok(Next::Stuck),
-            },
-            Err(end) => match end {
-                EvalEnd::Blocked(why) => Ok(Next::Blocked(why)),
-                EvalEnd::Memory => Err(AllocError),
-            },
+            Ok(Some(further)) => {
+                self.config = further.config;
+                self.calls = further.calls;
+                Ok(Next::Made(further.made))
+            }
+            Ok(None) => Ok(Next::Stuck),
+            Err(EvalEnd::Blocked(why)) => Ok(Next::Blocked(why)),
+            Err(EvalEnd::Memory) => Err(AllocError),
         }
     }
 }

@@ -40,10 +40,7 @@ pub(crate) fn advance<R: Recording>(
     requires { IsConfiguration (theory_of engine.now) config.now }
     ensures { Advances R.tells (theory_of engine.now) config.now calls result }
 {
-    let (chosen, left) = match choose_rule::<R>(alloc, engine, config, calls) {
-        Ok(found) => found,
-        Err(end) => return Err(end),
-    };
+    let (chosen, left) = choose_rule::<R>(alloc, engine, config, calls)?;
     let Some(chosen) = chosen else {
         return Ok(None);
     };
@@ -56,27 +53,18 @@ pub(crate) fn advance<R: Recording>(
     // The height of the configuration is at most the greatest height.
     let _high = config.height();
     let mut budget = Budget { calls: left };
-    match engine.eval_as::<R>(
-        alloc,
-        &rules[number as usize].right,
-        &subst,
-        &mut budget,
-        MAX_NESTING,
-    ) {
-        Ok(answer) => {
-            let Answer { term, recorded } = answer;
-            let made = Made {
-                rule: number,
-                subst,
-                cond,
-                right: recorded,
-            };
-            Ok(Some(Further {
-                made,
-                config: term,
-                calls: budget.calls,
-            }))
-        }
-        Err(end) => Err(end),
-    }
+    let right = &rules[number as usize].right;
+    let answer = engine.eval_as::<R>(alloc, right, &subst, &mut budget, MAX_NESTING)?;
+    let Answer { term, recorded } = answer;
+    let made = Made {
+        rule: number,
+        subst,
+        cond,
+        right: recorded,
+    };
+    Ok(Some(Further {
+        made,
+        config: term,
+        calls: budget.calls,
+    }))
 }

@@ -1,6 +1,7 @@
 use Rattle.std.proofs.Common.{◌≡◌, ◌≤◌, refl, Some, None, sym, ◌∙◌, ap, subst, inl, inr, arith}
 use Rattle.std.specs.Prelude.{option_map}
 use Rattle.std.proofs.lemmas.Bool.{false≢true}
+use Rattle.std.proofs.lemmas.Result.{err_from_is_err_and}
 use Rattle.term_core.specs.Terms.{no_tree, more_trees, height}
 use Rattle.term_core.specs.Patterns.{no_pattern, more_patterns}
 use Rattle.term_core.specs.RulePatterns.{plain_pattern}
@@ -90,10 +91,10 @@ returns-then-is_true g c =
     (plain_pattern c.in-Some-cond.cond) =
     ap (option_map plain_pattern) c.in-Some-cond.is in
     let told =
-    test_holds (g.R.Recording.tells c.in-Ok.answer.recorded) (theory_of c.args.engine.now)
+    test_holds (g.R.Recording.tells c.in_ok-answer.answer.recorded) (theory_of c.args.engine.now)
     c.args.calls c.eval_as.new.budget.calls c.in-Some.subst
     (option_map plain_pattern c.args.rule.now.cond) (plain_pattern c.in-Some-cond.cond)
-    c.in-Ok.answer.term some c.in-Ok.ensures.value c.in-Ok.ensures.recorded
+    c.in_ok-answer.answer.term some c.in_ok-answer.ensures.value c.in_ok-answer.ensures.recorded
     (c.is_true.ensures.0 c.if-is_true.true) in
     (match, told.0, told.1)
 
@@ -118,12 +119,12 @@ returns-else-is_true g c =
       match,
       test_fails (theory_of c.args.engine.now) c.args.calls c.eval_as.new.budget.calls
           c.in-Some.subst (option_map plain_pattern c.args.rule.now.cond)
-          (plain_pattern c.in-Some-cond.cond) c.in-Ok.answer.term some c.in-Ok.ensures.value
+          (plain_pattern c.in-Some-cond.cond) c.in_ok-answer.answer.term some c.in_ok-answer.ensures.value
           (λ is. false≢true (sym c.if-is_true.false ∙ c.is_true.ensures.1 is)),
     )
 
-pub returns-in-Err : goal.returns-in-Err
-returns-in-Err g c =
+pub returns-in_err-answer : goal.returns-in_err-answer
+returns-in_err-answer g c =
     let found : FindsMatch c.args.engine.now.sig.subsorts c.len.result
     (more_patterns (plain_pattern c.args.rule.now.left) no_pattern)
     (more_trees c.args.term.now no_tree) c.in_ok-subst.field-0 =
@@ -138,6 +139,7 @@ returns-in-Err g c =
     let some : option_map plain_pattern c.args.rule.now.cond ≡ Some
     (plain_pattern c.in-Some-cond.cond) =
     ap (option_map plain_pattern) c.in-Some-cond.is in
-    test_stops g.R.Recording.tells (theory_of c.args.engine.now) (rewrite_rule c.args.rule.now)
+    let p = err_from_is_err_and c.from_residual-in_err-answer.result c.from_residual-in_err-answer.ensures.1 in
+    rw (p.1, p.2) (test_stops g.R.Recording.tells (theory_of c.args.engine.now) (rewrite_rule c.args.rule.now)
     c.args.term.now c.args.calls c.in-Some.subst (plain_pattern c.in-Some-cond.cond)
-    c.in-Err.end match some c.in-Err.ensures.blocked
+    c.in_err-answer.field-0.0 match some c.in_err-answer.ensures.blocked)

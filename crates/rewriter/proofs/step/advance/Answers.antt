@@ -1,5 +1,6 @@
 use Rattle.std.proofs.Common.{◌≡◌, ◌<◌, ◌≤◌, length, Some, subst, arith}
 use Rattle.std.specs.Prelude.{slice_get}
+use Rattle.std.proofs.lemmas.Result.{err_from_is_err_and}
 use Rattle.term_core.specs.Terms.{height}
 use Rattle.rule_core.specs.ProgramView.{theory_of, rewrite_rule, rewrite_rules}
 use Rattle.rule_core.specs.Runs.{by_none}
@@ -10,37 +11,38 @@ use Rattle.rewriter.proofs.Trying.{choice_stops, chosen_within, right_evaluable,
 use Rattle.rewriter.proofs.Trying.{step_made}
 use Rattle.rewriter.proofs.step.advance.Goals as goal
 
-pub returns-in-Err : goal.returns-in-Err
-returns-in-Err g c =
-    choice_stops g.R.Recording.tells (theory_of c.args.engine.now) c.args.config.now c.args.calls
-    c.in-Err.end c.in-Err.ensures
+pub returns-in_err-chosen : goal.returns-in_err-chosen
+returns-in_err-chosen g c =
+    let p = err_from_is_err_and c.from_residual.result c.from_residual.ensures.1 in
+    rw (p.1, p.2) (choice_stops g.R.Recording.tells (theory_of c.args.engine.now) c.args.config.now c.args.calls
+    c.in_err-chosen.field-0.0 c.in_err-chosen.ensures)
 
 pub returns-in_default : goal.returns-in_default
 returns-in_default g c =
     by_none (subst (λ o. ChoiceSays g.R.Recording.tells (theory_of c.args.engine.now)
-    c.args.config.now c.args.calls o c.in-Ok.found.1) c.in_default.is c.in-Ok.ensures)
+    c.args.config.now c.args.calls o c.in_ok-chosen.left) c.in_default.is c.in_ok-chosen.ensures)
 
 pub index-requires : goal.index-requires
 index-requires g c =
     let picked : ChoiceSays g.R.Recording.tells (theory_of c.args.engine.now) c.args.config.now
-    c.args.calls (Some c.in-Some.chosen) c.in-Ok.found.1 =
+    c.args.calls (Some c.in-Some.chosen) c.in_ok-chosen.left =
     subst (λ o. ChoiceSays g.R.Recording.tells (theory_of c.args.engine.now) c.args.config.now
-    c.args.calls o c.in-Ok.found.1) c.in-Some.is c.in-Ok.ensures in
+    c.args.calls o c.in_ok-chosen.left) c.in-Some.is c.in_ok-chosen.ensures in
     let within : c.in-Some.chosen.number < length c.program.result.now.rules.items =
     chosen_within c.args.engine.now c.program.result.now c.args.config.now c.args.calls
-    c.in-Some.chosen.number c.in-Ok.found.1 c.in-Some.chosen.subst c.program.ensures.program
+    c.in-Some.chosen.number c.in_ok-chosen.left c.in-Some.chosen.subst c.program.ensures.program
     picked.0 in
     omega arith
 
 pub eval_as-requires-clause-fits : goal.eval_as-requires-clause-fits
 eval_as-requires-clause-fits g c =
     let picked : ChoiceSays g.R.Recording.tells (theory_of c.args.engine.now) c.args.config.now
-    c.args.calls (Some c.in-Some.chosen) c.in-Ok.found.1 =
+    c.args.calls (Some c.in-Some.chosen) c.in_ok-chosen.left =
     subst (λ o. ChoiceSays g.R.Recording.tells (theory_of c.args.engine.now) c.args.config.now
-    c.args.calls o c.in-Ok.found.1) c.in-Some.is c.in-Ok.ensures in
+    c.args.calls o c.in_ok-chosen.left) c.in-Some.is c.in_ok-chosen.ensures in
     let within : c.in-Some.chosen.number < length c.program.result.now.rules.items =
     chosen_within c.args.engine.now c.program.result.now c.args.config.now c.args.calls
-    c.in-Some.chosen.number c.in-Ok.found.1 c.in-Some.chosen.subst c.program.ensures.program
+    c.in-Some.chosen.number c.in_ok-chosen.left c.in-Some.chosen.subst c.program.ensures.program
     picked.0 in
     let there : slice_get (rewrite_rules c.args.engine.now.rules.items) c.in-Some.chosen.number ≡
     Some (rewrite_rule c.index.result.now) =
@@ -51,18 +53,18 @@ eval_as-requires-clause-fits g c =
     let low : height c.args.config.now ≤ 500 =
     omega (arith, c.height-high.ensures.bound, c.height-high.ensures.value) in
     right_evaluable (theory_of c.args.engine.now) c.args.config.now c.args.calls
-    c.in-Some.chosen.number c.in-Ok.found.1 c.in-Some.chosen.subst
+    c.in-Some.chosen.number c.in_ok-chosen.left c.in-Some.chosen.subst
     (rewrite_rule c.index.result.now) c.requires picked.0 there low
 
-pub returns-in-Ok-eval_as : goal.returns-in-Ok-eval_as
-returns-in-Ok-eval_as g c =
+pub returns : goal.returns
+returns g c =
     let picked : ChoiceSays g.R.Recording.tells (theory_of c.args.engine.now) c.args.config.now
-    c.args.calls (Some c.in-Some.chosen) c.in-Ok.found.1 =
+    c.args.calls (Some c.in-Some.chosen) c.in_ok-chosen.left =
     subst (λ o. ChoiceSays g.R.Recording.tells (theory_of c.args.engine.now) c.args.config.now
-    c.args.calls o c.in-Ok.found.1) c.in-Some.is c.in-Ok.ensures in
+    c.args.calls o c.in_ok-chosen.left) c.in-Some.is c.in_ok-chosen.ensures in
     let within : c.in-Some.chosen.number < length c.program.result.now.rules.items =
     chosen_within c.args.engine.now c.program.result.now c.args.config.now c.args.calls
-    c.in-Some.chosen.number c.in-Ok.found.1 c.in-Some.chosen.subst c.program.ensures.program
+    c.in-Some.chosen.number c.in_ok-chosen.left c.in-Some.chosen.subst c.program.ensures.program
     picked.0 in
     let there : slice_get (rewrite_rules c.args.engine.now.rules.items) c.in-Some.chosen.number ≡
     Some (rewrite_rule c.index.result.now) =
@@ -73,21 +75,21 @@ returns-in-Ok-eval_as g c =
     let low : height c.args.config.now ≤ 500 =
     omega (arith, c.height-high.ensures.bound, c.height-high.ensures.value) in
     step_made g.R.Recording.tells (theory_of c.args.engine.now) c.args.config.now
-    c.in-Ok-eval_as.answer.term c.args.calls c.in-Some.chosen.number c.in-Ok.found.1
+    c.in_ok-answer.answer.term c.args.calls c.in-Some.chosen.number c.in_ok-chosen.left
     c.eval_as.new.budget.calls c.in-Some.chosen.subst c.in-Some.chosen.cond
-    (rewrite_rule c.index.result.now) c.in-Ok-eval_as.answer.recorded c.program.ensures.sorted
-    c.requires low picked.0 picked.1 there c.in-Ok-eval_as.ensures.value
-    c.in-Ok-eval_as.ensures.recorded
+    (rewrite_rule c.index.result.now) c.in_ok-answer.answer.recorded c.program.ensures.sorted
+    c.requires low picked.0 picked.1 there c.in_ok-answer.ensures.value
+    c.in_ok-answer.ensures.recorded
 
-pub returns-in-Err-eval_as : goal.returns-in-Err-eval_as
-returns-in-Err-eval_as g c =
+pub returns-in_err-answer : goal.returns-in_err-answer
+returns-in_err-answer g c =
     let picked : ChoiceSays g.R.Recording.tells (theory_of c.args.engine.now) c.args.config.now
-    c.args.calls (Some c.in-Some.chosen) c.in-Ok.found.1 =
+    c.args.calls (Some c.in-Some.chosen) c.in_ok-chosen.left =
     subst (λ o. ChoiceSays g.R.Recording.tells (theory_of c.args.engine.now) c.args.config.now
-    c.args.calls o c.in-Ok.found.1) c.in-Some.is c.in-Ok.ensures in
+    c.args.calls o c.in_ok-chosen.left) c.in-Some.is c.in_ok-chosen.ensures in
     let within : c.in-Some.chosen.number < length c.program.result.now.rules.items =
     chosen_within c.args.engine.now c.program.result.now c.args.config.now c.args.calls
-    c.in-Some.chosen.number c.in-Ok.found.1 c.in-Some.chosen.subst c.program.ensures.program
+    c.in-Some.chosen.number c.in_ok-chosen.left c.in-Some.chosen.subst c.program.ensures.program
     picked.0 in
     let there : slice_get (rewrite_rules c.args.engine.now.rules.items) c.in-Some.chosen.number ≡
     Some (rewrite_rule c.index.result.now) =
@@ -97,7 +99,8 @@ returns-in-Err-eval_as g c =
     within c.index.ensures) in
     let low : height c.args.config.now ≤ 500 =
     omega (arith, c.height-high.ensures.bound, c.height-high.ensures.value) in
-    right_stops g.R.Recording.tells (theory_of c.args.engine.now) c.args.config.now c.args.calls
-    c.in-Some.chosen.number c.in-Ok.found.1 c.in-Some.chosen.subst
-    (rewrite_rule c.index.result.now) c.in-Err-eval_as.end picked.0 there
-    c.in-Err-eval_as.ensures.blocked
+    let p = err_from_is_err_and c.from_residual-in_err-answer.result c.from_residual-in_err-answer.ensures.1 in
+    rw (p.1, p.2) (right_stops g.R.Recording.tells (theory_of c.args.engine.now) c.args.config.now c.args.calls
+    c.in-Some.chosen.number c.in_ok-chosen.left c.in-Some.chosen.subst
+    (rewrite_rule c.index.result.now) c.in_err-answer.field-0.0 picked.0 there
+    c.in_err-answer.ensures.blocked)

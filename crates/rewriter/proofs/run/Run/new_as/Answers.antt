@@ -8,16 +8,16 @@ eval_as-requires-clause-fits g c =
     start_evaluable (theory_of c.args.engine.now) (plain_pattern c.args.start.now)
     c.in_ok-subst.subst c.requires c.in_ok-subst.ensures
 
-pub returns-in-Ok-clause-starts : goal.returns-in-Ok-clause-starts
-returns-in-Ok-clause-starts g c =
+pub returns-clause-starts : goal.returns-clause-starts
+returns-clause-starts g c =
     run_started (theory_of c.args.engine.now) (plain_pattern c.args.start.now) c.in_ok-subst.subst
-    c.args.calls c.eval_as.new.budget.calls c.in-Ok.answer.term c.in_ok-subst.ensures
-    c.in-Ok.ensures.value
+    c.args.calls c.eval_as.new.budget.calls c.in_ok-answer.answer.term c.in_ok-subst.ensures
+    c.in_ok-answer.ensures.value
 
-pub returns-in-Ok-clause-sorted : goal.returns-in-Ok-clause-sorted
-returns-in-Ok-clause-sorted g c =
+pub returns-clause-sorted : goal.returns-clause-sorted
+returns-clause-sorted g c =
     start_sorted (theory_of c.args.engine.now) (plain_pattern c.args.start.now) c.args.calls
-    c.eval_as.new.budget.calls c.in-Ok.answer.term c.program-program.ensures.sorted c.requires
+    c.eval_as.new.budget.calls c.in_ok-answer.answer.term c.program-program.ensures.sorted c.requires
     (run_started (theory_of c.args.engine.now) (plain_pattern c.args.start.now) c.in_ok-subst.subst
-    c.args.calls c.eval_as.new.budget.calls c.in-Ok.answer.term c.in_ok-subst.ensures
-    c.in-Ok.ensures.value)
+    c.args.calls c.eval_as.new.budget.calls c.in_ok-answer.answer.term c.in_ok-subst.ensures
+    c.in_ok-answer.ensures.value)

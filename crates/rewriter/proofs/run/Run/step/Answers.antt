@@ -2,7 +2,7 @@ use Rattle.rule_core.specs.ProgramView.{theory_of}
 use Rattle.rewriter.proofs.StepRecords.{next_recorded}
 use Rattle.rewriter.proofs.run.Run.step.Goals as goal
 
-pub returns-in-Ok-clause-recorded : goal.returns-in-Ok-clause-recorded
-returns-in-Ok-clause-recorded c =
+pub returns-clause-recorded : goal.returns-clause-recorded
+returns-clause-recorded c =
     next_recorded (theory_of c.args.engine.now) c.args.self.now.config c.step_as.new.self.config
-    c.in-Ok.next c.with_record.result c.with_record.ensures c.in-Ok.ensures.recorded
+    c.in_ok-next.next c.with_record.result c.with_record.ensures c.in_ok-next.ensures.recorded
