@@ -20,16 +20,14 @@ pub fn read_number(letters: &[u8]) -> Option<u64>
     ensures { result ≡ within_limit (number_of letters.now) }
 {
     let mut before = 0;
-    let mut at = 0;
-    while at < letters.len() {
-        match leading_digit(letters[at]) {
-            None => return last_number(before, behind(letters, at)),
-            Some(digit) => before = 5 * before + digit,
-        }
+    for (at, letter) in letters.iter().enumerate() {
+        let Some(digit) = leading_digit(*letter) else {
+            return last_number(before, behind(letters, at));
+        };
+        before = 5 * before + digit;
         if before > MOST / 20 {
             return None;
         }
-        at += 1;
     }
     None
 }
@@ -60,21 +58,20 @@ fn last_number(before: u64, letters: &[u8]) -> Option<u64>
     requires last { leading_value (head_letter letters.now) ≡ None }
     ensures { result ≡ number_left before letters.now }
 {
-    if letters.len() != 1 {
+    let [letter] = letters else {
         return None;
-    }
-    let n = 20 * before + last_digit(letters[0])?;
-    if n <= MOST { Some(n) } else { None }
+    };
+    let n = 20 * before + last_digit(*letter)?;
+    (n <= MOST).then_some(n)
 }
 
 /// The value of `U` to `Y`, 1 to 5.
 fn leading_digit(letter: u8) -> Option<u64>
     ensures { result ≡ leading_value (letter_of letter) }
 {
-    if b'U' <= letter && letter <= b'Y' {
-        Some((letter - b'T') as u64)
-    } else {
-        None
+    match letter {
+        b'U'..=b'Y' => Some(u64::from(letter - b'T')),
+        _ => None,
     }
 }
 
@@ -82,9 +79,8 @@ fn leading_digit(letter: u8) -> Option<u64>
 fn last_digit(letter: u8) -> Option<u64>
     ensures { result ≡ last_value (letter_of letter) }
 {
-    if b'A' <= letter && letter <= b'T' {
-        Some((letter - b'@') as u64)
-    } else {
-        None
+    match letter {
+        b'A'..=b'T' => Some(u64::from(letter - b'@')),
+        _ => None,
     }
 }

@@ -19,14 +19,14 @@ pub(crate) enum Ahead {
 fn is_white(byte: u8) -> bool
     ensures { result ≡ is_white byte }
 {
-    byte == b' ' || byte == b'\t' || byte == b'\n' || byte == 0x0c || byte == b'\r'
+    matches!(byte, b' ' | b'\t' | b'\n' | 0x0c | b'\r')
 }
 
 /// Printable ASCII without the space.
 fn is_printable(byte: u8) -> bool
     ensures { result ≡ in_run byte }
 {
-    b'!' <= byte && byte <= b'~'
+    matches!(byte, b'!'..=b'~')
 }
 
 /// How many bytes of white space the bytes begin with.
@@ -99,19 +99,17 @@ pub(crate) fn closes_comment(token: &[u8]) -> bool
 fn begins_with_mark(bytes: &[u8]) -> bool
     ensures { result ≡ mark_ahead bytes.now }
 {
-    bytes.len() >= 2 && bytes[0] == b'$' && (bytes[1] == b'(' || bytes[1] == b')')
+    matches!(bytes, [b'$', b'(' | b')', ..])
 }
 
 /// Whether the token has a comment mark in it.
 pub(crate) fn has_comment_mark(token: &[u8]) -> bool
     ensures { result ≡ has_comment_mark token.now }
 {
-    let mut at = 0;
-    while at < token.len() {
+    for at in 0..token.len() {
         if begins_with_mark(behind(token, at)) {
             return true;
         }
-        at += 1;
     }
     false
 }

@@ -41,18 +41,13 @@ impl<'a> MmTokens<'a> {
     {
         tokens.clear();
         loop {
-            match self.next() {
-                Err(fault) => return Err(MmReadEnd::Fault(fault)),
-                Ok(None) => return Ok(found_at_end(tokens)),
-                Ok(Some(token)) => {
-                    let ends = ends_here(tokens.is_empty(), token.word(self.text()));
-                    if tokens.push(token).is_err() {
-                        return Err(MmReadEnd::Memory);
-                    }
-                    if ends {
-                        return Ok(MmFound::Statement);
-                    }
-                }
+            let Some(token) = self.next().map_err(MmReadEnd::Fault)? else {
+                return Ok(found_at_end(tokens));
+            };
+            let ends = ends_here(tokens.is_empty(), token.word(self.text()));
+            tokens.push(token).map_err(|_| MmReadEnd::Memory)?;
+            if ends {
+                return Ok(MmFound::Statement);
             }
         }
     }

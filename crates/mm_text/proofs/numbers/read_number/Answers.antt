@@ -5,7 +5,6 @@ use Rattle.mm_text.proofs.numbers.read_number.Goals as goal
 
 pub loop-at-init : goal.loop-at-init
 loop-at-init c = record {
-  within = omega arith;
   small = omega arith;
   same = ap within_limit (sym (begin c.args.letters.now));
 }

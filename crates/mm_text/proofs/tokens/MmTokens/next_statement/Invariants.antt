@@ -5,8 +5,8 @@ use Rattle.mm_text.specs.Reader.{statements_left}
 use Rattle.mm_text.specs.ReaderSteps.{begun}
 use Rattle.mm_text.proofs.tokens.MmTokens.next_statement.Given as goal
 
-abbrev pub invariant-loop-fault : goal.invariant-loop-fault
-invariant-loop-fault l = record {
+abbrev pub invariant-loop-token : goal.invariant-loop-token
+invariant-loop-token l = record {
   text : l.self.bytes.now ≡ l.fn.self.bytes.now;
   after : l.fn.self.at ≤ l.self.at;
   within : l.self.at ≤ length l.self.bytes.now;
@@ -14,5 +14,5 @@ invariant-loop-fault l = record {
       ≡ statements_in (begun l.self.bytes.now l.tokens.items) (left l.self);
 }
 
-abbrev pub decreases-loop-fault : goal.decreases-loop-fault
-decreases-loop-fault l = length l.self.bytes.now - l.self.at
+abbrev pub decreases-loop-token : goal.decreases-loop-token
+decreases-loop-token l = length l.self.bytes.now - l.self.at
