@@ -85,7 +85,6 @@ impl Names {
     pub fn token(&self, no: u64) -> Option<&str>
         ensures { option_copied result ≡ slice_get self.now no }
     {
-        let token = self.tokens.get(no as usize)?;
-        Some(token.as_str())
+        self.tokens.get(no as usize).map(String::as_str)
     }
 }
