@@ -102,13 +102,9 @@ pub fn pattern_at<'a>(instances: &'a [Inst], at: usize, nothing: &'a MPat) -> &'
     requires { nothing.now ≡ bot }
     ensures { result.now ≡ pattern_at (instances_of instances.now) at }
 {
-    let Some(instance) = instances.get(at) else {
-        return nothing;
-    };
-    match instance {
-        Inst::Pat(p) => p,
-        Inst::Var(_) => nothing,
-        Inst::Sort(_) => nothing,
+    match instances.get(at) {
+        Some(Inst::Pat(p)) => p,
+        _ => nothing,
     }
 }
 
@@ -116,12 +112,8 @@ pub fn pattern_at<'a>(instances: &'a [Inst], at: usize, nothing: &'a MPat) -> &'
 pub fn variable_at(instances: &[Inst], at: usize) -> VarNo
     ensures { result.0 ≡ variable_at (instances_of instances.now) at }
 {
-    let Some(instance) = instances.get(at) else {
-        return VarNo(0);
-    };
-    match instance {
-        Inst::Pat(_) => VarNo(0),
-        Inst::Var(x) => *x,
-        Inst::Sort(_) => VarNo(0),
+    match instances.get(at) {
+        Some(Inst::Var(x)) => *x,
+        _ => VarNo(0),
     }
 }

@@ -28,24 +28,17 @@ fn is_absent_at<'a>(stack: &mut Vec<&'a MPat>, x: VarNo, pat: &'a MPat) -> Resul
         stack.old.items stack.new.items going) }
 {
     match pat.form() {
-        MForm::Bot => Ok(true),
-        MForm::Top => Ok(true),
-        MForm::Imp(p, q) => put_both(stack, x, p, q),
-        MForm::Not(p) => put_part(stack, x, p),
-        MForm::And(p, q) => put_both(stack, x, p, q),
-        MForm::Or(p, q) => put_both(stack, x, p, q),
-        MForm::Equal(p, q) => put_both(stack, x, p, q),
-        MForm::Member(p, q) => put_both(stack, x, p, q),
-        MForm::Fun(p, _) => put_part(stack, x, p),
-        MForm::Ex(y, _, p) => put_body(stack, x, *y, p),
-        MForm::All(y, _, p) => put_body(stack, x, *y, p),
-        MForm::App(p, q) => put_both(stack, x, p, q),
-        MForm::At(p, _) => put_part(stack, x, p),
-        MForm::Next(p) => put_part(stack, x, p),
-        MForm::Ev(p) => put_part(stack, x, p),
+        MForm::Bot | MForm::Top | MForm::Meta(_) | MForm::Const(_) => Ok(true),
         MForm::Var(y) => Ok(x != *y),
-        MForm::Meta(_) => Ok(true),
-        MForm::Const(_) => Ok(true),
+        MForm::Imp(p, q)
+        | MForm::And(p, q)
+        | MForm::Or(p, q)
+        | MForm::Equal(p, q)
+        | MForm::Member(p, q)
+        | MForm::App(p, q) => put_both(stack, x, p, q),
+        MForm::Not(p) | MForm::Fun(p, _) | MForm::At(p, _) | MForm::Next(p) | MForm::Ev(p) =>
+            put_part(stack, x, p),
+        MForm::Ex(y, _, p) | MForm::All(y, _, p) => put_body(stack, x, *y, p),
     }
 }
 

@@ -33,10 +33,8 @@ pub(crate) fn put_all<'a>(
     ensures { OnOk result
         (PutsMore (λ names k. works_entries names k parts.now) stack.old.items stack.new.items) }
 {
-    let mut left = parts.len();
-    while left > 0 {
-        left -= 1;
-        stack.push(parts[left])?;
+    for part in parts.iter().rev() {
+        stack.push(*part)?;
     }
     Ok(())
 }

@@ -19,19 +19,19 @@ fn first_part(pat: &MPat) -> &MPat
     ensures { result.now ≡ first_part pat.now }
 {
     match pat.form() {
-        MForm::Imp(p, _) => p,
-        MForm::And(p, _) => p,
-        MForm::Or(p, _) => p,
-        MForm::Equal(p, _) => p,
-        MForm::Member(p, _) => p,
-        MForm::App(p, _) => p,
-        MForm::Not(p) => p,
-        MForm::Next(p) => p,
-        MForm::Ev(p) => p,
-        MForm::At(p, _) => p,
-        MForm::Fun(p, _) => p,
-        MForm::Ex(_, _, p) => p,
-        MForm::All(_, _, p) => p,
+        MForm::Imp(p, _)
+        | MForm::And(p, _)
+        | MForm::Or(p, _)
+        | MForm::Equal(p, _)
+        | MForm::Member(p, _)
+        | MForm::App(p, _)
+        | MForm::Not(p)
+        | MForm::Next(p)
+        | MForm::Ev(p)
+        | MForm::At(p, _)
+        | MForm::Fun(p, _)
+        | MForm::Ex(_, _, p)
+        | MForm::All(_, _, p) => p,
         MForm::Bot | MForm::Top | MForm::Var(_) | MForm::Meta(_) | MForm::Const(_) => pat,
     }
 }
@@ -41,12 +41,12 @@ fn second_part(pat: &MPat) -> &MPat
     ensures { result.now ≡ second_part pat.now }
 {
     match pat.form() {
-        MForm::Imp(_, q) => q,
-        MForm::And(_, q) => q,
-        MForm::Or(_, q) => q,
-        MForm::Equal(_, q) => q,
-        MForm::Member(_, q) => q,
-        MForm::App(_, q) => q,
+        MForm::Imp(_, q)
+        | MForm::And(_, q)
+        | MForm::Or(_, q)
+        | MForm::Equal(_, q)
+        | MForm::Member(_, q)
+        | MForm::App(_, q) => q,
         _ => pat,
     }
 }

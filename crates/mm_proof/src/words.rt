@@ -57,8 +57,10 @@ pub fn push_word(to: &mut Vec<u8>, names: &Names, serial: u64, word: Word) -> Re
 fn white_after(token: &[u8]) -> u8
     ensures { result ≡ white_after token.now }
 {
-    let ends = token == b"${".as_slice() || token == b"$}".as_slice() || token == b"$.".as_slice();
-    if ends { b'\n' } else { b' ' }
+    match token {
+        [b'$', b'{' | b'}' | b'.'] => b'\n',
+        _ => b' ',
+    }
 }
 
 /// Adds tokens, each with white space after it.
@@ -123,10 +125,10 @@ fn push_token(to: &mut Vec<u8>, names: &Names, serial: u64, word: Word) -> Resul
 fn push_name(to: &mut Vec<u8>, names: &Names, no: u64) -> Result<(), AllocError>
     ensures { OnOk result (to.new.items ≡ to.old.items ++ name_of names.now no) }
 {
-    match names.token(no) {
-        Some(token) => to.extend_from_slice(token.as_bytes()),
-        None => Ok(()),
+    if let Some(token) = names.token(no) {
+        to.extend_from_slice(token.as_bytes())?;
     }
+    Ok(())
 }
 
 /// Adds a letter and its mark, and a number.

@@ -1,22 +1,36 @@
-use Rattle.std.proofs.Common.{◌≡◌, ◌∷◌, ◌<◌, ◌-◌, ap, drop, arith}
+use Rattle.std.proofs.Common.{◌≡◌, [], ◌∷◌, ◌++◌, ◌∙◌, ap, sym, refl, rules}
+use Rattle.std.proofs.Common.{append-nil, append_assoc, subst}
+use Rattle.std.proofs.lemmas.List.{nil_from_length}
+use Rattle.mm_proof.specs.WorkStacks.{PutsMore}
 use Rattle.mm_proof.specs.Writing.{works_entries}
-use Rattle.mm_proof.proofs.Stacking.{drop_at, put_more}
+use Rattle.mm_proof.proofs.Stacking.{put_more, put_none}
 use Rattle.mm_proof.proofs.stacks.put_all.Goals as goal
 
-pub loop-left-preserved : goal.loop-left-preserved
-loop-left-preserved c =
-    let some : 0 < c.loop-left.left = omega arith in
-    let next : drop (c.loop-left.left - 1) c.args.parts.now ≡ c.index-parts-left.result ∷ drop
-    c.loop-left.left c.args.parts.now =
-    drop_at c.args.parts.now c.loop-left.left c.index-parts-left.result some
-    c.loop-left.invariant.within c.index-parts-left.is in
-    record {
-      within = omega (arith, c.loop-left.invariant.within);
-      put =
-          put_more (λ names k. works_entries names k (drop c.loop-left.left c.args.parts.now))
-          (λ names k. works_entries names k (drop (c.loop-left.left - 1) c.args.parts.now))
-          c.index-parts-left.result
-          c.args.stack.now.items c.loop-left.stack.items c.push.new.self.items
-          c.loop-left.invariant.put c.in_ok-push.ensures.items
-          (λ names k. ap (works_entries names k) next);
-    }
+pub loop-part-init : goal.loop-part-init
+loop-part-init c =
+    let rest : c.into_iter-part-iterator.result.iter.rest.now ≡ c.args.parts.now = search rules in (
+      [],
+      sym (append-nil c.args.parts.now) ∙ ap (λ ws. ws ++ []) (sym rest),
+      put_none c.args.stack.now.items (λ names k. []) (λ names k. refl),
+    )
+
+pub loop-part-preserved : goal.loop-part-preserved
+loop-part-preserved c =
+    let put = c.loop-part.invariant.0 in (
+      c.in-Some.part.now ∷ put,
+      c.loop-part.invariant.1 ∙ ap (λ ws. ws ++ put) c.in-Some.ensures.steps
+          ∙ append_assoc c.next.new.self.iter.rest.now (c.in-Some.part.now ∷ []) put,
+      put_more (λ names k. works_entries names k put)
+          (λ names k. works_entries names k (c.in-Some.part.now ∷ put)) c.in-Some.part.now
+          c.args.stack.now.items c.loop-part.stack.items c.push.new.self.items
+          c.loop-part.invariant.2 c.in_ok-push.ensures.items (λ names k. refl),
+    )
+
+pub returns : goal.returns
+returns c =
+    let put = c.loop-part.invariant.0 in
+    let all : c.args.parts.now ≡ put =
+    c.loop-part.invariant.1
+    ∙ ap (λ ws. ws ++ put) (nil_from_length _ c.in-None.ensures.steps.0) in
+    subst (λ ws. PutsMore (λ names k. works_entries names k ws) c.args.stack.now.items
+    c.loop-part.stack.items) (sym all) c.loop-part.invariant.2

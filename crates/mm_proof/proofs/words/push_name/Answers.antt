@@ -9,8 +9,8 @@ missing [] i h = refl
 missing (t ∷ names) zero h = absurd (let no : Some t ≡ None = h in cc)
 missing (t ∷ names) (suc i) h = missing names i h
 
-pub returns-in-None : goal.returns-in-None
-returns-in-None c =
+pub returns-in_default : goal.returns-in_default
+returns-in_default c =
     sym (append-nil c.args.to.now.items)
     ∙ ap (λ (t : Token). c.args.to.now.items ++ t)
-    (sym (missing c.args.names.now c.args.no (sym c.in-None.ensures)))
+    (sym (missing c.args.names.now c.args.no (sym c.in_default.ensures)))
