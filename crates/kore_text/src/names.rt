@@ -51,48 +51,28 @@ impl Built {
     pub fn of_name(name: &[u8]) -> Option<Built>
         ensures { result ≡ built_of name.now }
     {
-        if name == b"top".as_slice() {
-            Some(Built::Connective(Op::Top))
-        } else if name == b"bottom".as_slice() {
-            Some(Built::Connective(Op::Bottom))
-        } else if name == b"not".as_slice() {
-            Some(Built::Connective(Op::Not))
-        } else if name == b"next".as_slice() {
-            Some(Built::Connective(Op::Next))
-        } else if name == b"and".as_slice() {
-            Some(Built::Connective(Op::And))
-        } else if name == b"or".as_slice() {
-            Some(Built::Connective(Op::Or))
-        } else if name == b"implies".as_slice() {
-            Some(Built::Connective(Op::Implies))
-        } else if name == b"iff".as_slice() {
-            Some(Built::Connective(Op::Iff))
-        } else if name == b"rewrites".as_slice() {
-            Some(Built::Connective(Op::Rewrites))
-        } else if name == b"ceil".as_slice() {
-            Some(Built::Connective(Op::Ceil))
-        } else if name == b"floor".as_slice() {
-            Some(Built::Connective(Op::Floor))
-        } else if name == b"equals".as_slice() {
-            Some(Built::Connective(Op::Equals))
-        } else if name == b"in".as_slice() {
-            Some(Built::Connective(Op::Member))
-        } else if name == b"exists".as_slice() {
-            Some(Built::Binding(Binder::Exists))
-        } else if name == b"forall".as_slice() {
-            Some(Built::Binding(Binder::Forall))
-        } else if name == b"mu".as_slice() {
-            Some(Built::Binding(Binder::Mu))
-        } else if name == b"nu".as_slice() {
-            Some(Built::Binding(Binder::Nu))
-        } else if name == b"dv".as_slice() {
-            Some(Built::Value)
-        } else if name == b"left-assoc".as_slice() {
-            Some(Built::Fold(true))
-        } else if name == b"right-assoc".as_slice() {
-            Some(Built::Fold(false))
-        } else {
-            None
+        match name {
+            b"top" => Some(Built::Connective(Op::Top)),
+            b"bottom" => Some(Built::Connective(Op::Bottom)),
+            b"not" => Some(Built::Connective(Op::Not)),
+            b"next" => Some(Built::Connective(Op::Next)),
+            b"and" => Some(Built::Connective(Op::And)),
+            b"or" => Some(Built::Connective(Op::Or)),
+            b"implies" => Some(Built::Connective(Op::Implies)),
+            b"iff" => Some(Built::Connective(Op::Iff)),
+            b"rewrites" => Some(Built::Connective(Op::Rewrites)),
+            b"ceil" => Some(Built::Connective(Op::Ceil)),
+            b"floor" => Some(Built::Connective(Op::Floor)),
+            b"equals" => Some(Built::Connective(Op::Equals)),
+            b"in" => Some(Built::Connective(Op::Member)),
+            b"exists" => Some(Built::Binding(Binder::Exists)),
+            b"forall" => Some(Built::Binding(Binder::Forall)),
+            b"mu" => Some(Built::Binding(Binder::Mu)),
+            b"nu" => Some(Built::Binding(Binder::Nu)),
+            b"dv" => Some(Built::Value),
+            b"left-assoc" => Some(Built::Fold(true)),
+            b"right-assoc" => Some(Built::Fold(false)),
+            _ => None,
         }
     }
 }
