@@ -254,23 +254,15 @@ fn behind_first(bytes: &[u8]) -> &[u8]
 fn keyword_at(word: &[u8]) -> Keyword
     ensures { result ≡ keyword_at word.now }
 {
-    if word == b"import".as_slice() {
-        Keyword::Import
-    } else if word == b"sort".as_slice() {
-        Keyword::Sort(false)
-    } else if word == b"hooked-sort".as_slice() {
-        Keyword::Sort(true)
-    } else if word == b"symbol".as_slice() {
-        Keyword::Symbol(false)
-    } else if word == b"hooked-symbol".as_slice() {
-        Keyword::Symbol(true)
-    } else if word == b"alias".as_slice() {
-        Keyword::Alias
-    } else if word == b"axiom".as_slice() {
-        Keyword::Axiom
-    } else if word == b"claim".as_slice() {
-        Keyword::Claim
-    } else {
-        Keyword::Nothing
+    match word {
+        b"import" => Keyword::Import,
+        b"sort" => Keyword::Sort(false),
+        b"hooked-sort" => Keyword::Sort(true),
+        b"symbol" => Keyword::Symbol(false),
+        b"hooked-symbol" => Keyword::Symbol(true),
+        b"alias" => Keyword::Alias,
+        b"axiom" => Keyword::Axiom,
+        b"claim" => Keyword::Claim,
+        _ => Keyword::Nothing,
     }
 }
