@@ -31,10 +31,8 @@ pub fn run(
 {
     let mut run = match Run::new_as::<Unrecorded>(alloc, engine, start, calls) {
         Ok((run, _)) => run,
-        Err(end) => match end {
-            EvalEnd::Blocked(why) => return Ok(RunEnd::Unstarted(why)),
-            EvalEnd::Memory => return Err(AllocError),
-        },
+        Err(EvalEnd::Blocked(why)) => return Ok(RunEnd::Unstarted(why)),
+        Err(EvalEnd::Memory) => return Err(AllocError),
     };
     for made in 0..limit {
         match run.step_as::<Unrecorded>(alloc, engine)? {
