@@ -77,10 +77,7 @@ pub(crate) fn hook_of(attrs: &[Pat]) -> Option<&str>
     ensures { option_copied result ≡ hook (map pattern_tree attrs.now) }
 {
     let attr = first_of_name(attrs, "hook")?;
-    match text_of(attr) {
-        Some(text) => Some(text.as_str()),
-        None => Some(""),
-    }
+    Some(text_of(attr).map_or("", |text| text.as_str()))
 }
 
 /// Whether some attribute says that the symbol is associative, commutative or idempotent, or has a

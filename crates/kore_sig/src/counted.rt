@@ -84,9 +84,7 @@ fn marks(alloc: Global, modules: &[Module]) -> Result<Vec<bool>, AllocError>
 {
     let mut imported = Table::new(alloc);
     let mut marks = Vec::with_capacity(alloc, modules.len())?;
-    let mut i = modules.len();
-    while i > 0 {
-        i -= 1;
+    for i in (0..modules.len()).rev() {
         let module = &modules[i];
         let counts = i + 1 == modules.len() || has_name(&imported, &module.name);
         if counts {

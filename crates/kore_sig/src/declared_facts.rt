@@ -70,10 +70,10 @@ fn injection_in<'a>(decls: &[Placed<'a>]) -> Option<&'a str>
         ≡ injection_of (symbols_in (map (λ p. plain_declaration p.decl.now) decls.now)) }
 {
     for placed in decls {
-        if let Decl::SymbolDecl(decl) = placed.decl {
-            if has_injection_form(decl) {
-                return Some(decl.name.as_str());
-            }
+        if let Decl::SymbolDecl(decl) = placed.decl
+            && has_injection_form(decl)
+        {
+            return Some(decl.name.as_str());
         }
     }
     None
@@ -85,10 +85,10 @@ fn ac_in(alloc: Global, decls: &[Placed<'_>]) -> Result<Table<()>, AllocError>
 {
     let mut names = Table::new(alloc);
     for placed in decls {
-        if let Decl::Axiom(decl) = placed.decl {
-            if let Some(name) = said_ac(decl) {
-                add_name(alloc, &mut names, name)?;
-            }
+        if let Decl::Axiom(decl) = placed.decl
+            && let Some(name) = said_ac(decl)
+        {
+            add_name(alloc, &mut names, name)?;
         }
     }
     Ok(names)

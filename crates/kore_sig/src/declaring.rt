@@ -58,10 +58,9 @@ fn import_fault(modules: &Table<()>, own: usize, decl: &ImportDecl) -> Option<Si
 fn is_earlier(modules: &Table<()>, own: usize, name: &Text) -> bool
     ensures { result ≡ is_among (take own (names_of modules.now)) name.now }
 {
-    match modules.number(name.as_str()) {
-        Some(number) => number < own,
-        None => false,
-    }
+    modules
+        .number(name.as_str())
+        .is_some_and(|number| number < own)
 }
 
 /// The first fault of a sort: its name is taken, or it has parameters.

@@ -90,10 +90,7 @@ pub(crate) fn kind_of(injection: Option<&str>, decl: &SymbolDecl) -> SymKind
 fn is_named_so(name: Option<&str>, own: &Text) -> bool
     ensures { result ≡ the_named (option_copied name.entry) own.now }
 {
-    match name {
-        Some(name) => name == own.as_str(),
-        None => false,
-    }
+    name.is_some_and(|name| name == own.as_str())
 }
 
 fn function_kind(decl: &SymbolDecl) -> SymKind

@@ -58,14 +58,14 @@ pub(crate) fn sort_reference(
     ensures { result ≡ the_reference sorts.now params.now (plain_sort sort.now) }
 {
     match &sort.form {
-        SortForm::Param(name) => match parameter_place(params, name) {
-            Some(place) => Some(SortRef::Param(place as u32)),
-            None => None,
-        },
-        SortForm::App(name, args) => match declared_number(sorts, name, args) {
-            Some(number) => Some(SortRef::Sort(SortId(number as u32))),
-            None => None,
-        },
+        SortForm::Param(name) => {
+            let place = parameter_place(params, name)?;
+            Some(SortRef::Param(place as u32))
+        }
+        SortForm::App(name, args) => {
+            let number = declared_number(sorts, name, args)?;
+            Some(SortRef::Sort(SortId(number as u32)))
+        }
     }
 }
 
@@ -73,10 +73,7 @@ pub(crate) fn sort_reference(
 pub(crate) fn sort_place(sort: &Sort) -> u32
     ensures { result ≡ the_sort_place (plain_sort sort.now) }
 {
-    match &sort.form {
-        SortForm::Param(_) => sort.at,
-        SortForm::App(..) => sort.at,
-    }
+    sort.at
 }
 
 /// The smallest byte of a sort that means nothing.

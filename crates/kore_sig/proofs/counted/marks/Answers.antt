@@ -1,4 +1,4 @@
-use Rattle.std.proofs.Common.{◌≡◌, ◌-◌, ◌+◌, arith, ◌<◌, ◌++◌, ◌∷◌, length, ap, sym, ◌∙◌, map, drop}
+use Rattle.std.proofs.Common.{◌≡◌, ◌-◌, ◌+◌, arith, ◌<◌, ◌≤◌, ◌++◌, ◌∷◌, length, ap, sym, ◌∙◌, map, drop}
 use Rattle.std.proofs.Common.{reverse, refl, eq-eqb}
 use Rattle.std.specs.Prelude.{flat_map, filter_map}
 use Rattle.std.proofs.lemmas.List.{length-drop, length-map, drop_all}
@@ -18,10 +18,10 @@ loop-i-preserved c =
     let later = map plain_module (drop c.loop-i.i modules) in
     let here = plain_module c.index-modules-i.result in
     let names = flat_map imports_of (counted later) in
-    let some : 0 < c.loop-i.i = omega arith in
+    let some : 0 < c.loop-i.i = omega (arith, c.loop-i-test.true) in
+    let within : c.loop-i.i ≤ length modules = omega (arith, c.loop-i.auto.i) in
     let whole : map plain_module (drop (c.loop-i.i - 1) modules) ≡ here ∷ later =
-    behind modules c.loop-i.i c.index-modules-i.result some c.loop-i.invariant.within
-    c.index-modules-i.is in
+    behind modules c.loop-i.i c.index-modules-i.result some within c.index-modules-i.is in
     let is : c.if-i-modules.counts ≡ counts here later (counted later) =
     elim c.if-i-modules.branch [
       | then-i-modules w ↦ counts_main here later c.if-i-modules.counts
@@ -38,7 +38,6 @@ loop-i-preserved c =
           (w.counts-is ∙ w.has_name-counts.ensures.number
           ∙ c.loop-i.invariant.imported c.index-modules-i.result.name)
     ] in record {
-      within = omega arith;
       marked = ap reverse c.in_ok-push.ensures.items
           ∙ marks_more c.loop-i.marks.items c.if-i-modules.counts here later is
           c.loop-i.invariant.marked ∙ ap marks_of (sym whole);

@@ -1,4 +1,4 @@
-use Rattle.std.proofs.Common.{◌≡◌, ◌≤◌, map, drop, reverse, length}
+use Rattle.std.proofs.Common.{◌≡◌, map, drop, reverse}
 use Rattle.std.specs.Prelude.{flat_map}
 use Rattle.kore_ast.specs.Plain.{plain_module}
 use Rattle.kore_sig.specs.CountedModules.{imports_of, counted}
@@ -8,11 +8,7 @@ use Rattle.kore_sig.proofs.counted.marks.Given as goal
 
 abbrev pub invariant-loop-i : goal.invariant-loop-i
 invariant-loop-i l = record {
-  within : l.i ≤ length l.modules;
   marked : reverse l.marks.items ≡ marks_of (map plain_module (drop l.i l.modules));
   imported : Knows l.imported
       (flat_map imports_of (counted (map plain_module (drop l.i l.modules))));
 }
-
-abbrev pub decreases-loop-i : goal.decreases-loop-i
-decreases-loop-i l = l.i

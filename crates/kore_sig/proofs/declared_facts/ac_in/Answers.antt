@@ -1,21 +1,21 @@
-use Rattle.std.proofs.Common.{◌≡◌, ◌+◌, ◌<◌, ◌++◌, ◌∷◌, [], arith, ap, sym, ◌∙◌, List, ℕ, map, take}
-use Rattle.std.proofs.Common.{length, Option}
+use Rattle.std.proofs.Common.{rules, ◌≡◌, ◌+◌, ◌<◌, ◌++◌, ◌∷◌, [], arith, ap, sym, ◌∙◌, List, ℕ, map, take}
+use Rattle.std.proofs.Common.{length, None, Option}
 use Rattle.std.specs.List.{cons_option}
-use Rattle.std.specs.Prelude.{filter_map, option_copied}
 use Rattle.std.proofs.lemmas.List.{append-nil}
-use Rattle.kore_text.specs.Trees.{Declaration, AxiomDeclaration}
-use Rattle.kore_ast.specs.Plain.{plain_declaration}
+use Rattle.kore_text.specs.Trees.{Declaration}
+use Rattle.kore_ast.specs.Plain.{plain_declaration, plain_axiom_decl}
 use Rattle.kore_ast.specs.declared.tree.Decl.{Decl}
 use Rattle.kore_sig.specs.declared.counted.Placed.{Placed}
 use Rattle.kore_sig.specs.Knowing.{ac_in}
 use Rattle.kore_sig.specs.SymbolKinds.{said_ac}
 use Rattle.kore_sig.proofs.KnowingLaws.{ac_push}
-use Rattle.kore_sig.proofs.ListLaws.{map_step, none_from}
-use Rattle.kore_sig.proofs.NotDeclared.{no_axiom}
+use Rattle.kore_sig.proofs.ListLaws.{map_step}
 use Rattle.kore_sig.proofs.SetLaws.{knows_same}
 use Rattle.kore_sig.proofs.declared_facts.ac_in.Goals as goal
 use Rattle.kore_sig.proofs.declared_facts.ac_in.Goals.{in-Axiom+in-Some+in_ok-add_name}
-use Rattle.kore_sig.proofs.declared_facts.ac_in.Goals.{in-Axiom+in_default-said_ac, in_default}
+use Rattle.kore_sig.proofs.declared_facts.ac_in.Goals.{in_default}
+use Rattle.kore_sig.proofs.declared_facts.ac_in.Goals.{in_default-via-in-Import-1}
+use Rattle.kore_sig.proofs.declared_facts.ac_in.Goals.{in_default-via-in-Axiom+in-None-1}
 
 pub loop-placed-preserved : goal.loop-placed-preserved
 loop-placed-preserved c =
@@ -33,18 +33,16 @@ loop-placed-preserved c =
           ∙ ap (λ (d : Decl). ac_in ds ++ ac_in (plain_declaration d ∷ [])) (sym w.in-Axiom.is)
           ∙ sym next)
           (w.in_ok-add_name.ensures.known (ac_in ds) c.loop-placed.invariant)
-      | in-Axiom+in_default-said_ac w ↦ knows_same c.loop-placed.names c.match-placed.names
-          (ac_in ds) _ w.names-is
-          (sym (append-nil (ac_in ds))
-          ∙ ap (λ (o : Option (List ℕ)). ac_in ds ++ cons_option o []) (sym (ap option_copied
-          (none_from w.said_ac.result w.in_default-said_ac.not-Some)) ∙ w.said_ac.ensures)
-          ∙ ap (λ (d : Decl). ac_in ds ++ ac_in (plain_declaration d ∷ [])) (sym w.in-Axiom.is)
-          ∙ sym next)
-          c.loop-placed.invariant
-      | in_default w ↦ knows_same c.loop-placed.names c.match-placed.names (ac_in ds) _ w.names-is
-          (sym (append-nil (ac_in ds))
-          ∙ ap (λ (o : Option AxiomDeclaration). ac_in ds ++ filter_map said_ac (cons_option o []))
-          (sym (no_axiom c.placed-item.result.decl.now w.in_default.not-Axiom))
-          ∙ sym next)
-          c.loop-placed.invariant
+      | in_default w ↦ elim w.in_default.branch [
+        | in_default-via-in-Import-1 v ↦ search rules
+        | in_default-via-in-Axiom+in-None-1 v ↦ let none : None ≡ said_ac
+            (plain_axiom_decl v.in-Axiom.decl) =
+            search rules in
+            knows_same c.loop-placed.names c.match-placed.names (ac_in ds) _ w.names-is
+            (sym (append-nil (ac_in ds))
+            ∙ ap (λ (o : Option (List ℕ)). ac_in ds ++ cons_option o []) none
+            ∙ ap (λ (d : Decl). ac_in ds ++ ac_in (plain_declaration d ∷ [])) (sym v.in-Axiom.is)
+            ∙ sym next)
+            c.loop-placed.invariant
+      ]
     ]

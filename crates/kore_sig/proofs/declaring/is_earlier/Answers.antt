@@ -1,16 +1,21 @@
-use Rattle.std.proofs.Common.{◌∙◌, ap, sym, ℕ, List}
-use Rattle.rule_core.specs.Named.{number_of}
+use Rattle.std.proofs.Common.{rules, ◌≡◌, ◌∙◌, ap, sym, ℕ, List, Bool, false, take, Option, Some}
+use Rattle.std.proofs.Common.{None}
+use Rattle.std.specs.Prelude.{nat_lt, MatchOption}
+use Rattle.rule_core.specs.Named.{number_of, names_of}
+use Rattle.kore_sig.specs.Names.{is_among}
 use Rattle.kore_sig.proofs.FaultLaws.{earlier_some, earlier_none}
 use Rattle.kore_sig.proofs.declaring.is_earlier.Goals as goal
 
-pub returns-in-Some : goal.returns-in-Some
-returns-in-Some c =
-    earlier_some c.args.modules.now c.args.name.now c.args.own c.in-Some.number
-    (sym (c.in-Some.ensures ∙ ap (λ (n : List ℕ).
-    number_of c.args.modules.now n) c.as_str.ensures))
+earlier_by : {V : Type 0} (es : List (List ℕ × V)) (n : List ℕ) (k : ℕ) (o : Option ℕ) (b : Bool)
+    → o ≡ number_of es n → MatchOption o (b ≡ false) (λ (j : ℕ). b ≡ nat_lt j k)
+    → b ≡ is_among (take k (names_of es)) n
+earlier_by es n k None b is h = h ∙ earlier_none es n k (sym is)
+earlier_by es n k (Some j) b is h = h ∙ earlier_some es n k j (sym is)
 
-pub returns-in-None : goal.returns-in-None
-returns-in-None c =
-    earlier_none c.args.modules.now c.args.name.now c.args.own (sym (c.in-None.ensures ∙ ap (λ (n :
-    List ℕ).
-    number_of c.args.modules.now n) c.as_str.ensures))
+pub returns : goal.returns
+returns c =
+    let tested : MatchOption c.number.result (c.is_some_and.result ≡ false)
+    (λ (j : ℕ). c.is_some_and.result ≡ nat_lt j c.args.own) =
+    search rules in
+    earlier_by c.args.modules.now c.args.name.now c.args.own c.number.result c.is_some_and.result
+    (c.number.ensures ∙ ap (number_of c.args.modules.now) c.as_str.ensures) tested

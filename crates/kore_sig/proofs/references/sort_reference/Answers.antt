@@ -1,8 +1,8 @@
-use Rattle.std.proofs.Common.{◌≡◌, ◌<◌, ◌∷◌, [], List, ℕ, length, sym, arith, Some}
+use Rattle.std.proofs.Common.{rules, ◌≡◌, ◌∙◌, ◌<◌, ◌∷◌, [], List, ℕ, length, sym, arith, Some}
 use Rattle.std.specs.Str.{bytes_eq}
 use Rattle.rule_core.specs.declared.signature.SortInfo.{SortInfo}
 use Rattle.kore_text.specs.Trees.{SortTree}
-use Rattle.kore_sig.specs.SortReferences.{declared_number}
+use Rattle.kore_sig.specs.SortReferences.{declared_number, parameter_place}
 use Rattle.kore_sig.proofs.ListLaws.{position_within, number_within}
 use Rattle.kore_sig.proofs.references.sort_reference.Goals as goal
 
@@ -13,16 +13,17 @@ declared_within sorts name (s ∷ args) n e = absurd (let never : ⊥ = cc in ne
 
 pub overflow_cast-result : goal.overflow_cast-result
 overflow_cast-result c =
+    let found : Some c.in_ok-place-in-Param.place ≡ parameter_place c.args.params.now c.in-Param.name =
+    search rules in
     let lt =
     position_within (λ (p : List ℕ). bytes_eq c.in-Param.name p) 0 c.args.params.now
-    c.in-Some.place (sym c.in-Some.ensures) in
+    c.in_ok-place-in-Param.place (sym found) in
     omega (arith, lt, c.requires.params)
 
-pub overflow_cast-result-in-Some-declared_number : goal.overflow_cast-result-in-Some-declared_number
-overflow_cast-result-in-Some-declared_number c =
-    omega (
-      arith,
-      declared_within c.args.sorts.now c.in-App.name _ c.in-Some-declared_number.number
-          c.in-Some-declared_number.ensures,
-      c.requires.sorts,
-    )
+pub overflow_cast-result-in-App : goal.overflow_cast-result-in-App
+overflow_cast-result-in-App c =
+    let found : Some c.in_ok-number-in-App.number ≡ c.declared_number.result = search rules in
+    let lt =
+    declared_within c.args.sorts.now c.in-App.name _ c.in_ok-number-in-App.number
+    (found ∙ c.declared_number.ensures) in
+    omega (arith, lt, c.requires.sorts)
