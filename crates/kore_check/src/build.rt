@@ -67,8 +67,8 @@ fn all_declared(
         ≡ sort_numbers sig.now (map plain_sort sorts.now)) }
 {
     let mut declared = Vec::with_capacity(alloc, sorts.len())?;
-    for i in 0..sorts.len() {
-        let Some(sort) = declared_sort(sig, &sorts[i]) else {
+    for sort in sorts {
+        let Some(sort) = declared_sort(sig, sort) else {
             return Ok(None);
         };
         declared.push(sort)?;
@@ -203,8 +203,8 @@ fn build_all(
     ensures grows { Extends vars.old vars.new }
 {
     let mut pats = Vec::with_capacity(alloc, args.len())?;
-    for i in 0..args.len() {
-        let Some(pat) = build(alloc, sig, &args[i], vars)? else {
+    for arg in args {
+        let Some(pat) = build(alloc, sig, arg, vars)? else {
             return Ok(None);
         };
         pats.push(pat)?;

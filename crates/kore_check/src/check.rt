@@ -73,8 +73,7 @@ fn check_arguments(
         (argument_faults sig.now (map plain_sort sorts.now) places.now
         (all_unfolded (pattern_trees (map pattern_tree args.now)))) }
 {
-    for i in 0..args.len() {
-        let arg = &args[i];
+    for (i, arg) in args.iter().enumerate() {
         let own = check(sig, arg, first);
         check_clash(arg.at, own, wanted_at(sig, sorts, places, i), first);
     }

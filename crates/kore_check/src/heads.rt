@@ -129,18 +129,14 @@ fn check_injection(
 fn is_injection(kind: SymKind) -> bool
     ensures { result ≡ is_injection kind }
 {
-    match kind {
-        SymKind::Injection => true,
-        _ => false,
-    }
+    matches!(kind, SymKind::Injection)
 }
 
 // Notes a symbol that has no kind.
 fn check_kind(at: u32, symbol: &SymInfo, first: &mut Option<PatternFault>)
     ensures { kept_fault first.new ≡ after first.old (when (has_no_kind symbol.now.kind) 25 at) }
 {
-    match symbol.kind {
-        SymKind::NoKind => note(first, FaultKind::NoKind, at),
-        _ => {}
+    if matches!(symbol.kind, SymKind::NoKind) {
+        note(first, FaultKind::NoKind, at);
     }
 }

@@ -29,8 +29,8 @@ fn highest(args: &[Pat]) -> u32
     ensures { result ≡ cut (heights (all_unfolded (pattern_trees (map pattern_tree args.now)))) }
 {
     let mut highest: u32 = 0;
-    for i in 0..args.len() {
-        highest = highest.max(height_of(&args[i]));
+    for arg in args {
+        highest = highest.max(height_of(arg));
     }
     highest
 }
@@ -93,10 +93,9 @@ fn right_height(args: &[Pat]) -> u32
         ≡ cut (height (fold_of false byte name ss
         (all_unfolded (pattern_trees (map pattern_tree args.now))))) }
 {
-    let mut i = args.len() - 1;
-    let mut height = height_of(&args[i]);
-    'leftward: while 0 < i {
-        i -= 1;
+    let last = args.len() - 1;
+    let mut height = height_of(&args[last]);
+    for i in (0..last).rev() {
         height = one_more(height.max(height_of(&args[i])));
     }
     height
@@ -106,9 +105,5 @@ fn right_height(args: &[Pat]) -> u32
 fn one_more(height: u32) -> u32
     ensures { result ≡ cut (height + 1) }
 {
-    if height > MAX_HEIGHT {
-        MAX_HEIGHT + 1
-    } else {
-        height + 1
-    }
+    height.min(MAX_HEIGHT) + 1
 }

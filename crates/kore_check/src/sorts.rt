@@ -52,8 +52,8 @@ pub(crate) fn check_sorts(sig: &Signature, sorts: &[Sort], first: &mut Option<Pa
         ≡ after first.old (flat_map (sort_faults sig.now) (map plain_sort sorts.now)) }
 {
     let mut all_declared = true;
-    for i in 0..sorts.len() {
-        if check_sort(sig, &sorts[i], first).is_none() {
+    for sort in sorts {
+        if check_sort(sig, sort, first).is_none() {
             all_declared = false;
         }
     }

@@ -56,30 +56,30 @@ build-returns-in-Fold-clause-built t c =
     c.in-Fold.inner _ _ c.build_fold.result c.in-Fold.is c.deref-in-Fold.ensures
     c.build_fold.ensures.built
 
-pub build_all-loop-i-preserved : goal.build_all-loop-i-preserved
-build_all-loop-i-preserved t c =
-    let built : Built c.args.sig.now c.loop-i.vars c.build.new.vars _ (Some c.in-Some.pat) =
-    subst (Built c.args.sig.now c.loop-i.vars c.build.new.vars _) c.in-Some.is
+pub build_all-loop-arg-preserved : goal.build_all-loop-arg-preserved
+build_all-loop-arg-preserved t c =
+    let built : Built c.args.sig.now c.loop-arg.vars c.build.new.vars _ (Some c.in-Some.pat) =
+    subst (Built c.args.sig.now c.loop-arg.vars c.build.new.vars _) c.in-Some.is
     c.in_ok-pat.ensures.built in
-    let pushed : c.push.new.self.items ≡ c.loop-i.pats.items ++ c.in-Some.pat ∷ [] = search rules in
+    let pushed : c.push.new.self.items ≡ c.loop-arg.pats.items ++ c.in-Some.pat ∷ [] = search rules in
     let means : (more : List (List ℕ × ℕ)) (qs : List Pattern) → Extends c.build.new.vars more →
-    AllMean c.args.sig.now more (reads (drop (c.loop-i.i + 1) c.args.args.now)) (patterns qs) →
+    AllMean c.args.sig.now more (reads (drop (c.loop-arg.arg-index + 1) c.args.args.now)) (patterns qs) →
     AllMean c.args.sig.now more (reads c.args.args.now)
-    (patterns (map plain_pattern (c.loop-i.pats.items ++ c.in-Some.pat ∷ []) ++ qs)) =
-    all-more c.args.sig.now c.args.vars.now c.loop-i.vars c.build.new.vars c.args.args.now
-    c.loop-i.i c.index-args-i.result c.loop-i.pats.items c.in-Some.pat c.loop-i-test.true
-    c.index-args-i.is c.build.ensures.grows built.1 c.loop-i.invariant.means in
+    (patterns (map plain_pattern (c.loop-arg.pats.items ++ c.in-Some.pat ∷ []) ++ qs)) =
+    all-more c.args.sig.now c.args.vars.now c.loop-arg.vars c.build.new.vars c.args.args.now
+    c.loop-arg.arg-index c.arg-item.result c.loop-arg.pats.items c.in-Some.pat c.loop-arg-test.true
+    c.arg-item.is c.build.ensures.grows built.1 c.loop-arg.invariant.means in
     record {
       grows =
-          extends-trans c.args.vars.now c.loop-i.vars c.build.new.vars c.loop-i.invariant.grows
+          extends-trans c.args.vars.now c.loop-arg.vars c.build.new.vars c.loop-arg.invariant.grows
           c.build.ensures.grows;
       good =
-          λ g. (good-more c.args.sig.now c.args.args.now c.loop-i.i c.index-args-i.result
-          c.loop-i-test.true c.index-args-i.is c.loop-i.invariant.good g).1;
+          λ g. (good-more c.args.sig.now c.args.args.now c.loop-arg.arg-index c.arg-item.result
+          c.loop-arg-test.true c.arg-item.is c.loop-arg.invariant.good g).1;
       vars =
-          variables-more c.args.sig.now c.args.args.now c.loop-i.i c.index-args-i.result
-          c.loop-i.vars c.build.new.vars _ c.loop-i-test.true c.index-args-i.is built.0
-          c.loop-i.invariant.vars;
+          variables-more c.args.sig.now c.args.args.now c.loop-arg.arg-index c.arg-item.result
+          c.loop-arg.vars c.build.new.vars _ c.loop-arg-test.true c.arg-item.is built.0
+          c.loop-arg.invariant.vars;
       means =
           λ more qs ext rest. subst (λ (ps : List RulePat). AllMean c.args.sig.now more
           (reads c.args.args.now) (patterns (map plain_pattern ps ++ qs))) (sym pushed)
@@ -88,8 +88,8 @@ build_all-loop-i-preserved t c =
 
 pub build_all-returns-clause-built : goal.build_all-returns-clause-built
 build_all-returns-clause-built t c =
-    all_done c.args.sig.now c.args.args.now c.loop-i.i c.args.vars.now c.loop-i.vars c.loop-i.pats
-    c.loop-i-test.false c.loop-i.invariant.vars c.loop-i.invariant.means
+    all_done c.args.sig.now c.args.args.now c.loop-arg.arg-index c.args.vars.now c.loop-arg.vars c.loop-arg.pats
+    c.loop-arg-test.false c.loop-arg.invariant.vars c.loop-arg.invariant.means
 
 pub build_only-returns-then-args-ne1-clause-built :
     goal.build_only-returns-then-args-ne1-clause-built

@@ -6,13 +6,13 @@ use Rattle.kore_check.specs.Building.{Extends, AreFaultless}
 use Rattle.kore_check.proofs.Applications.{reads}
 use Rattle.kore_check.proofs.build.+build.Given as goal
 
-abbrev pub invariant-build_all-loop-i : goal.invariant-build_all-loop-i
-invariant-build_all-loop-i l = record {
+abbrev pub invariant-build_all-loop-arg : goal.invariant-build_all-loop-arg
+invariant-build_all-loop-arg l = record {
   grows : Extends l.fn.vars l.vars;
-  good : AreFaultless l.sig (reads l.args) → AreFaultless l.sig (reads (drop l.i l.args));
-  vars : with_all_variables l.sig l.vars (reads (drop l.i l.args))
+  good : AreFaultless l.sig (reads l.args) → AreFaultless l.sig (reads (drop l.arg-index l.args));
+  vars : with_all_variables l.sig l.vars (reads (drop l.arg-index l.args))
       ≡ with_all_variables l.sig l.fn.vars (reads l.args);
   means : (more : List (List ℕ × ℕ)) (qs : List Pattern) → Extends l.vars more
-      → AllMean l.sig more (reads (drop l.i l.args)) (patterns qs)
+      → AllMean l.sig more (reads (drop l.arg-index l.args)) (patterns qs)
       → AllMean l.sig more (reads l.args) (patterns (map plain_pattern l.pats.items ++ qs));
 }

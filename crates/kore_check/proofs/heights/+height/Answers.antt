@@ -48,6 +48,6 @@ left_height-returns t c = λ byte name ss.
 
 pub right_height-returns : goal.right_height-returns
 right_height-returns t c = λ byte name ss.
-    right-end c.args.args.now c.leftward.i c.leftward.height (omega (arith, c.leftward-test.false))
-    c.leftward.invariant.whole
+    right-end c.args.args.now c.loop-i.i c.loop-i.height (omega (arith, c.loop-i-test.false))
+    c.loop-i.invariant
     ∙ ap cut (sym (right_whole byte name ss c.args.args.now c.requires))

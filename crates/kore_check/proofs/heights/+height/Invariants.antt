@@ -1,14 +1,14 @@
-use Rattle.std.proofs.Common.{◌≡◌, ◌≤◌, ◌<◌, drop, length, max}
+use Rattle.std.proofs.Common.{◌≡◌, ◌≤◌, drop, max}
 use Rattle.kore_check.specs.Folds.{heights}
 use Rattle.kore_check.specs.FoldHeights.{cut}
 use Rattle.kore_check.proofs.HeightLaws.{grown_left, grown_from}
 use Rattle.kore_check.proofs.Applications.{reads}
 use Rattle.kore_check.proofs.heights.+height.Given as goal
 
-abbrev pub invariant-highest-loop-i : goal.invariant-highest-loop-i
-invariant-highest-loop-i l = record {
+abbrev pub invariant-highest-loop-arg : goal.invariant-highest-loop-arg
+invariant-highest-loop-arg l = record {
   low : l.highest ≤ 501;
-  whole : cut (max l.highest (heights (reads (drop l.i l.args)))) ≡ cut (heights (reads l.args));
+  whole : cut (max l.highest (heights (reads (drop l.arg-index l.args)))) ≡ cut (heights (reads l.args));
 }
 
 abbrev pub invariant-left_height-loop-i : goal.invariant-left_height-loop-i
@@ -18,11 +18,5 @@ invariant-left_height-loop-i l = record {
       ≡ cut (grown_left l.initial.height (drop 1 l.args));
 }
 
-abbrev pub invariant-right_height-leftward : goal.invariant-right_height-leftward
-invariant-right_height-leftward l = record {
-  within : l.i < length l.args;
-  whole : l.height ≡ cut (grown_from (drop l.i l.args));
-}
-
-abbrev pub decreases-right_height-leftward : goal.decreases-right_height-leftward
-decreases-right_height-leftward l = l.i
+abbrev pub invariant-right_height-loop-i : goal.invariant-right_height-loop-i
+invariant-right_height-loop-i l = l.height ≡ cut (grown_from (drop l.i l.args))
