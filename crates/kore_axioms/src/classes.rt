@@ -111,10 +111,7 @@ pub(crate) fn symbol_of<'a>(sig: &'a Signature, name: &Text) -> Option<&'a SymIn
 fn takes_equations(symbol: Option<&SymInfo>) -> bool
     ensures { result ≡ does_take_equations (option_copied symbol.entry) }
 {
-    match symbol {
-        Some(symbol) => symbol.kind == SymKind::Equations && symbol.hook.is_none(),
-        None => false,
-    }
+    symbol.is_some_and(|symbol| symbol.kind == SymKind::Equations && symbol.hook.is_none())
 }
 
 /// Whether an attribute states that a sort is below another.

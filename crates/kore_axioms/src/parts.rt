@@ -67,10 +67,9 @@ fn is_bool(sig: &Signature, sort: &Sort) -> bool
     let Some(number) = sort_number(&sig.sorts, sort) else {
         return false;
     };
-    match sig.sorts.value(number) {
-        Some(info) => info.kind == SortKind::Bool,
-        None => false,
-    }
+    sig.sorts
+        .value(number)
+        .is_some_and(|info| info.kind == SortKind::Bool)
 }
 
 /// The pattern that a condition tests. Returns none if it tests none.
@@ -125,10 +124,7 @@ fn has_bad_form(parts: RuleParts<'_>) -> bool
 fn stands_in(pat: Option<&Pat>, sought: SoughtForms) -> bool
     ensures { result ≡ holds_of (has_one (sought_forms sought)) (option_map pattern_at pat.entry) }
 {
-    match pat {
-        Some(pat) => has_form(pat, sought),
-        None => false,
-    }
+    pat.is_some_and(|pat| has_form(pat, sought))
 }
 
 fn is_misshapen(side: Side<'_>) -> bool

@@ -17,10 +17,7 @@ use kore_sig::{first_of_name, has_attribute, text_of};
 pub fn has_bad_priority(attrs: &[Pat]) -> bool
     ensures { result ≡ is_bad (map pattern_tree attrs.now) }
 {
-    match first_of_name(attrs, "priority") {
-        Some(attr) => stated_number(attr).is_none(),
-        None => false,
-    }
+    first_of_name(attrs, "priority").is_some_and(|attr| stated_number(attr).is_none())
 }
 
 /// The priority. If none is stated, it is 200 with the attribute `owise` and 50 without it. A rule

@@ -75,10 +75,7 @@ fn uses(sig: &Signature, pat: Option<&Pat>, which: Symbols) -> bool
         ≡ holds_of (λ p. has_one (is_used which sig.now) (unfolded p))
         (option_map pattern_at pat.entry) }
 {
-    match pat {
-        Some(pat) => has_symbol(pat, sig, which),
-        None => false,
-    }
+    pat.is_some_and(|pat| has_symbol(pat, sig, which))
 }
 
 /// Whether there is a first rule and its sort is written differently.
@@ -86,10 +83,7 @@ fn differs_from(first: Option<&Sort>, sort: &Sort) -> bool
     ensures { result
         ≡ does_differ (option_map (λ s. plain_sort s.now) first.entry) (plain_sort sort.now) }
 {
-    match first {
-        Some(first) => !same_sort(first, sort),
-        None => false,
-    }
+    first.is_some_and(|first| !same_sort(first, sort))
 }
 
 /// The patterns of a rewrite rule with their variables. `bound` says whether the left side has all
@@ -133,10 +127,7 @@ pub fn checked_rule(
         (plain_rewriting rewriting.entry))) }
 {
     let parts = rule_parts(sig, rewriting);
-    match check_shape(sig, decl, rewriting.sort, parts) {
-        Ok(()) => {}
-        Err(refusal) => return Err(refusal),
-    }
+    check_shape(sig, decl, rewriting.sort, parts)?;
     let made = rule_patterns(alloc, sig, parts)?;
     if let Some(fault) = use_fault(sig, first, rewriting.sort, parts, made.bound) {
         return Err(Refusal::Refused(fault.number(), decl.at));
@@ -193,10 +184,10 @@ fn rule_patterns(
     };
     let mut vars = Variables::new(alloc);
     let left = build_pattern(alloc, sig, left, &mut vars)?;
-    let bound = vars.len();
+    let left_vars = vars.len();
     let cond = built_condition(alloc, sig, tested(parts.condition), &mut vars)?;
     let right = build_pattern(alloc, sig, right, &mut vars)?;
-    let bound = vars.len() == bound;
+    let bound = vars.len() == left_vars;
     Ok(RulePatterns {
         left,
         cond,

@@ -92,9 +92,8 @@ fn note_side(
         ≡ after first.old
         (side_faults sig.now (option_map sort_of_id wanted) (option_map pattern_at pat.entry)) }
 {
-    match pat {
-        Some(pat) => note_at_sort(sig, pat, wanted, first),
-        None => {}
+    if let Some(pat) = pat {
+        note_at_sort(sig, pat, wanted, first);
     }
 }
 
@@ -131,9 +130,8 @@ fn note_found_top(
         ≡ after first.old (found_top_faults sig.now (option_map sort_of_id wanted)
         (option_map pattern_at top.entry)) }
 {
-    match top {
-        Some(top) => note_top(sig, top, wanted, first),
-        None => {}
+    if let Some(top) = top {
+        note_top(sig, top, wanted, first);
     }
 }
 
@@ -142,9 +140,8 @@ fn note_top(sig: &Signature, top: &Pat, wanted: Option<SortId>, first: &mut Opti
     ensures { kept_fault first.new
         ≡ after first.old (top_faults sig.now (option_map sort_of_id wanted) (pattern_tree top.now)) }
 {
-    match &top.form {
-        PatForm::Built(_, sorts, _) => note_only_sort(sig, sorts, top.at, wanted, first),
-        _ => {}
+    if let PatForm::Built(_, sorts, _) = &top.form {
+        note_only_sort(sig, sorts, top.at, wanted, first);
     }
 }
 
@@ -160,9 +157,8 @@ fn note_only_sort(
         ≡ after first.old
         (only_sort_faults sig.now (option_map sort_of_id wanted) at (map plain_sort sorts.now)) }
 {
-    match sorts {
-        [sort] => note_sort_at(sig, sort, at, wanted, first),
-        _ => {}
+    if let [sort] = sorts {
+        note_sort_at(sig, sort, at, wanted, first);
     }
 }
 

@@ -106,10 +106,7 @@ fn is_among(sig: &Signature, name: &Text, which: Symbols) -> bool
 fn is_plain_function(symbol: Option<&SymInfo>) -> bool
     ensures { result ≡ is_the_plain_function (option_copied symbol.entry) }
 {
-    match symbol {
-        Some(symbol) => is_function(symbol.kind) && !symbol.ac,
-        None => false,
-    }
+    symbol.is_some_and(|symbol| is_function(symbol.kind) && !symbol.ac)
 }
 
 fn is_function(kind: SymKind) -> bool
@@ -124,8 +121,5 @@ fn is_function(kind: SymKind) -> bool
 fn is_ac(symbol: Option<&SymInfo>) -> bool
     ensures { result ≡ is_the_ac (option_copied symbol.entry) }
 {
-    match symbol {
-        Some(symbol) => symbol.ac,
-        None => false,
-    }
+    symbol.is_some_and(|symbol| symbol.ac)
 }

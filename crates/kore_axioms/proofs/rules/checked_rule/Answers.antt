@@ -1,6 +1,7 @@
 use Rattle.std.proofs.Common.{◌≡◌, ℕ, [], List, map, Option, Some, None, true, ap, sym, ◌∙◌, subst}
 use Rattle.std.specs.Prelude.{option_map}
 use Rattle.std.specs.Borrow.{Bor}
+use Rattle.std.proofs.lemmas.Result.{err_from_is_err_and}
 use Rattle.kore_text.specs.Trees.{SortTree}
 use Rattle.kore_ast.specs.declared.tree.Pat.{Pat}
 use Rattle.kore_ast.specs.declared.tree.Sort.{Sort}
@@ -23,15 +24,17 @@ use Rattle.kore_axioms.proofs.rules.checked_rule.Goals as goal
 abbrev sort_tree : Option (Bor Sort) → Option SortTree
 sort_tree first = option_map (λ (s : Bor Sort). plain_sort s.now) first
 
-pub returns-in-Err-clause-refused : goal.returns-in-Err-clause-refused
-returns-in-Err-clause-refused c =
+pub returns-in_err-check_shape-clause-refused : goal.returns-in_err-check_shape-clause-refused
+returns-in_err-check_shape-clause-refused c =
     let v = plain_rewriting c.args.rewriting in
     let a = plain_axiom_decl c.args.decl.now in
-    subst (λ (w : RuleParts). Refuses
-    (FirstOfParts c.args.sig.now (sort_tree c.args.first) a v.sort w) c.in-Err.refusal)
+    let q = err_from_is_err_and c.from_residual.result c.from_residual.ensures.1 in
+    rw (q.1, q.2) (subst (λ (w : RuleParts). Refuses
+    (FirstOfParts c.args.sig.now (sort_tree c.args.first) a v.sort w) c.in_err-check_shape.field-0.0)
     c.rule_parts-parts.ensures
     (shape_refused c.args.sig.now (sort_tree c.args.first) a v.sort
-    (plain_rule_parts c.rule_parts-parts.result) c.in-Err.refusal c.in-Err.ensures.refused)
+    (plain_rule_parts c.rule_parts-parts.result) c.in_err-check_shape.field-0.0
+    c.in_err-check_shape.ensures.refused))
 
 pub rule_patterns-requires-clause-fine : goal.rule_patterns-requires-clause-fine
 rule_patterns-requires-clause-fine c =
@@ -41,9 +44,9 @@ rule_patterns-requires-clause-fine c =
     subst (λ (w : RuleParts). IsFine sig w) (sym c.rule_parts-parts.ensures)
     (fine_rule sig a v c.requires.class
     (subst (λ (w : RuleParts). form_faults a w ≡ []) c.rule_parts-parts.ensures
-    c.in-Ok.ensures.form)
+    c.in_ok-check_shape.ensures.form)
     (subst (λ (w : RuleParts). sorted_faults sig v.sort w ≡ []) c.rule_parts-parts.ensures
-    c.in-Ok.ensures.sorts))
+    c.in_ok-check_shape.ensures.sorts))
 
 pub returns-in-Some-clause-refused : goal.returns-in-Some-clause-refused
 returns-in-Some-clause-refused c =
@@ -54,8 +57,8 @@ returns-in-Some-clause-refused c =
     let first = sort_tree c.args.first in
     let own : RuleParts = plain_rule_parts c.rule_parts-parts.result in
     let found : FirstOfParts sig first a v.sort own (Some (fault_at at c.in-Some.fault)) =
-    uses_first sig first a v.sort own (Some (fault_at at c.in-Some.fault)) c.in-Ok.ensures.form
-    c.in-Ok.ensures.sorts
+    uses_first sig first a v.sort own (Some (fault_at at c.in-Some.fault)) c.in_ok-check_shape.ensures.form
+    c.in_ok-check_shape.ensures.sorts
     (sym (ap (option_map (fault_at at)) c.in-Some.is) ∙ c.use_fault.ensures at) in
     subst (λ (w : RuleParts). FirstOfParts sig first a v.sort w
     (Some (record { number = c.number.result; byte = at }))) c.rule_parts-parts.ensures
@@ -72,7 +75,7 @@ returns-clause-clear c =
     let first = sort_tree c.args.first in
     let own : RuleParts = plain_rule_parts c.rule_parts-parts.result in
     subst (λ (w : RuleParts). FirstOfParts sig first a v.sort w None) c.rule_parts-parts.ensures
-    (uses_first sig first a v.sort own None c.in-Ok.ensures.form c.in-Ok.ensures.sorts
+    (uses_first sig first a v.sort own None c.in_ok-check_shape.ensures.form c.in_ok-check_shape.ensures.sorts
     (sym (ap (option_map (fault_at at)) c.in_default.is) ∙ c.use_fault.ensures at))
 
 pub returns-clause-means : goal.returns-clause-means
