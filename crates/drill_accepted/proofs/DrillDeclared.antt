@@ -18,11 +18,11 @@ use Rattle.kore_sig.specs.Declarations.{pairs_of}
 use Rattle.kore_sig.specs.SortReferences.{sort_entry, sort_entries}
 use Rattle.kore_sig.specs.SymbolKinds.{has_injection_form, injection_of, said_ac, ac_names}
 use Rattle.drill_accepted.proofs.Parts.{place_after, place-append}
-use Rattle.drill_accepted.proofs.Taking.{places_of}
+use Rattle.drill_accepted.proofs.Taking.{token_places}
 use Rattle.drill_accepted.proofs.DrillTrees.{Places, int_sort, bool_sort, plain_sort, add_symbol}
 use Rattle.drill_accepted.proofs.DrillTrees.{ge_symbol, state_symbol, step_symbol, rule_axiom}
-use Rattle.drill_accepted.proofs.DrillLines.{Line, parts_of, first_lines, step_line, rule_line}
-use Rattle.drill_accepted.proofs.DrillLines.{step_lines, rule_lines, drill_lines, step_parts}
+use Rattle.drill_accepted.proofs.DrillLines.{Line, parts_of, fixed_lines, step_line, axiom_line}
+use Rattle.drill_accepted.proofs.DrillLines.{step_lines, axiom_lines, drill_lines, step_parts}
 use Rattle.drill_accepted.proofs.DrillLines.{rule_parts}
 use Rattle.drill_accepted.proofs.SpelledLines.{declared_at, declared_from}
 
@@ -71,13 +71,13 @@ declared-append (l ∷ ls) ms at =
     (sym (place-append l.parts (parts_of ls) at)))
 
 abbrev steps_layout : ℕ → Layout
-steps_layout at i = places_of (place_after at (parts_of (step_lines i))) (step_parts i)
+steps_layout at i = token_places (place_after at (parts_of (step_lines i))) (step_parts i)
 
 abbrev rules_layout : ℕ → Layout
-rules_layout at i = places_of (place_after at (parts_of (rule_lines i))) (rule_parts i)
+rules_layout at i = token_places (place_after at (parts_of (axiom_lines i))) (rule_parts i)
 
-steps-declared : (n at : ℕ) → declared_from at (step_lines n) ≡ map symbol_declaration
-    (steps_of (steps_layout at) n)
+steps-declared : (n at : ℕ)
+    → declared_from at (step_lines n) ≡ map symbol_declaration (steps_of (steps_layout at) n)
 steps-declared zero at = refl
 steps-declared (suc n) at =
     let q : Layout = steps_layout at in
@@ -86,25 +86,25 @@ steps-declared (suc n) at =
     ∙ ap (λ (ds : List Declaration). ds ++ last) (steps-declared n at)
     ∙ sym (map-append symbol_declaration (steps_of q n) (step_symbol n (q n) ∷ []))
 
-rules-declared : (n at : ℕ) → declared_from at (rule_lines n) ≡ map axiom_declaration
-    (rules_of (rules_layout at) n)
+rules-declared : (n at : ℕ)
+    → declared_from at (axiom_lines n) ≡ map axiom_declaration (rules_of (rules_layout at) n)
 rules-declared zero at = refl
 rules-declared (suc n) at =
     let r : Layout = rules_layout at in
     let last : List Declaration = axiom_declaration (rule_axiom n (r n)) ∷ [] in
-    declared-append (rule_lines n) (rule_line n ∷ []) at
+    declared-append (axiom_lines n) (axiom_line n ∷ []) at
     ∙ ap (λ (ds : List Declaration). ds ++ last) (rules-declared n at)
     ∙ sym (map-append axiom_declaration (rules_of r n) (rule_axiom n (r n) ∷ []))
 
 -- the places of the first lines: of the line with this number
 abbrev first_layout : ℕ → List Line → Layout
 first_layout at [] k = λ i. 0
-first_layout at (l ∷ ls) zero = places_of at l.parts
+first_layout at (l ∷ ls) zero = token_places at l.parts
 first_layout at (l ∷ ls) (suc k) = first_layout (place_after at l.parts) ls k
 
-first-declared : (at : ℕ) → declared_from at first_lines
-    ≡ map sort_declaration (first_sorts (first_layout at first_lines))
-    ++ map symbol_declaration (first_symbols (first_layout at first_lines))
+first-declared : (at : ℕ) → declared_from at fixed_lines
+    ≡ map sort_declaration (first_sorts (first_layout at fixed_lines))
+    ++ map symbol_declaration (first_symbols (first_layout at fixed_lines))
 first-declared at = refl
 
 -- the lines of a drill declare so much, at some places
@@ -116,18 +116,18 @@ pub record IsLaidOut (at n : ℕ) : Type 0 where
 
 pub laid-out : (at n : ℕ) → IsLaidOut at n
 laid-out at n =
-    let i : ℕ = place_after at (parts_of first_lines) in
+    let i : ℕ = place_after at (parts_of fixed_lines) in
     let j : ℕ = place_after i (parts_of (step_lines (n + 1))) in
-    let p : Layout = first_layout at first_lines in
+    let p : Layout = first_layout at fixed_lines in
     let q : Layout = steps_layout i in
     let r : Layout = rules_layout j in record {
       first = p;
       steps = q;
       rules = r;
-      same = declared-append first_lines (step_lines (n + 1) ++ rule_lines n) at
-          ∙ ap (λ (ds : List Declaration). declared_from at first_lines ++ ds)
-          (declared-append (step_lines (n + 1)) (rule_lines n) i
-          ∙ ap (λ (ds : List Declaration). ds ++ declared_from j (rule_lines n))
+      same = declared-append fixed_lines (step_lines (n + 1) ++ axiom_lines n) at
+          ∙ ap (λ (ds : List Declaration). declared_from at fixed_lines ++ ds)
+          (declared-append (step_lines (n + 1)) (axiom_lines n) i
+          ∙ ap (λ (ds : List Declaration). ds ++ declared_from j (axiom_lines n))
           (steps-declared (n + 1) i)
           ∙ ap (λ (ds : List Declaration). map symbol_declaration (steps_of q (n + 1)) ++ ds)
           (rules-declared n j))

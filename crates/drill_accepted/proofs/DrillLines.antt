@@ -6,7 +6,7 @@ use Rattle.kore_text.specs.declared.names.Built.TheVariants.{Connective, Value}
 use Rattle.kore_text.specs.TokenStream.{identifier, builtin, mark}
 use Rattle.kore_text.specs.Trees.{Declaration, sort_declaration, symbol_declaration}
 use Rattle.kore_text.specs.Trees.{axiom_declaration}
-use Rattle.drill_accepted.proofs.Parts.{Part, blank, written, quoted, numbered, counted}
+use Rattle.drill_accepted.proofs.Parts.{Part, blank, written, quoted, named_number, quoted_number}
 use Rattle.drill_accepted.proofs.DrillTrees.{Places, int_sort, bool_sort, plain_sort, add_symbol}
 use Rattle.drill_accepted.proofs.DrillTrees.{ge_symbol, state_symbol, step_symbol, rule_axiom}
 
@@ -55,8 +55,8 @@ abbrev pub applied_writing : List ℕ → List Writing → Writing
 applied_writing n ws k = word n (in_braces [] (in_parentheses ws k))
 
 abbrev pub connected_writing : Op → List Writing → List Writing → Writing
-connected_writing o ss ws k = written (builtin (Some (Connective o))) ∷ in_braces ss
-    (in_parentheses ws k)
+connected_writing o ss ws k =
+    written (builtin (Some (Connective o))) ∷ in_braces ss (in_parentheses ws k)
 
 -- a domain value of this sort and this string
 abbrev pub value_writing : List ℕ → Part → Writing
@@ -65,86 +65,98 @@ value_writing s p k =
     (in_parentheses ((λ (l : List Part). p ∷ l) ∷ []) k)
 
 abbrev pub step_writing : ℕ → Writing
-step_writing i k = numbered i ∷ in_braces [] (in_parentheses [] k)
+step_writing i k = named_number i ∷ in_braces [] (in_parentheses [] k)
 
 abbrev pub hook_writing : List ℕ → Writing
 hook_writing n = applied_writing (codes "hook") ((λ (k : List Part). quoted n ∷ k) ∷ [])
 
 -- ---- the lines
 
--- the parts of a line, and the declaration that they spell where its tokens stand at these places
+-- the parts of a line, and the declaration that they spell if its tokens stand at these places
 pub record Line : Type 0 where
   pub parts : List Part
   pub declared : Places → Declaration
 
 abbrev pub hooked_sort_parts : List ℕ → List ℕ → List Part
 hooked_sort_parts n hook =
-    whole_line (word (codes "hooked-sort") ∷ (space ∷
-    (sort_writing n ∷ (space ∷ (in_brackets (hook_writing hook ∷ []) ∷ [])))))
+    whole_line (word (codes "hooked-sort") ∷ space ∷ sort_writing n ∷ space
+    ∷ in_brackets (hook_writing hook ∷ []) ∷ [])
 
 abbrev pub sort_parts : List ℕ → List Part
-sort_parts n = whole_line
-    (word (codes "sort") ∷ (space ∷ (sort_writing n ∷ (space ∷ (in_brackets [] ∷ [])))))
+sort_parts n =
+    whole_line (word (codes "sort") ∷ space ∷ sort_writing n ∷ space ∷ in_brackets [] ∷ [])
 
--- a symbol's name and its arguments, ` : `, its result and its attributes
-abbrev pub signature_writing : List ℕ → List Writing → List ℕ → List Writing → List Writing
-signature_writing n ss s attributes =
-    applied_writing n ss ∷
-    (space ∷ (punct 58 ∷ (space ∷ (sort_writing s ∷ (space ∷ (in_brackets attributes ∷ []))))))
+-- what a symbol is applied to in its declaration, ` : `, its result and its attributes
+abbrev pub declared_writing : Writing → List ℕ → List Writing → List Writing
+declared_writing applied result attributes =
+    space ∷ applied ∷ space ∷ punct 58 ∷ space ∷ sort_writing result ∷ space
+    ∷ in_brackets attributes ∷ []
 
-abbrev pub hooked_symbol_parts : List ℕ → List ℕ → List ℕ → List Part
-hooked_symbol_parts n result hook =
-    whole_line (word (codes "hooked-symbol") ∷ (space ∷ signature_writing n
-    (sort_writing (codes "SortInt") ∷ (sort_writing (codes "SortInt") ∷ [])) result
-    (applied_writing (codes "function") [] ∷ (hook_writing hook ∷ []))))
-
-abbrev pub state_symbol_parts : List Part
-state_symbol_parts =
-    whole_line (word (codes "symbol") ∷ (space ∷ signature_writing (codes "st")
-    (sort_writing (codes "SortC") ∷ (sort_writing (codes "SortInt") ∷ [])) (codes "SortS")
-    (applied_writing (codes "constructor") [] ∷ [])))
-
-abbrev pub step_parts : ℕ → List Part
-step_parts i =
-    whole_line (word (codes "symbol") ∷ (space ∷ (step_writing i ∷ (space ∷ (punct 58 ∷ (space
-    ∷ (sort_writing (codes "SortC") ∷
-    (space ∷ (in_brackets (applied_writing (codes "constructor") [] ∷ []) ∷ [])))))))))
+abbrev int_writing : Writing
+int_writing = sort_writing (codes "SortInt")
 
 abbrev state_writing : Writing
 state_writing = sort_writing (codes "SortS")
 
+abbrev step_sort_writing : Writing
+step_sort_writing = sort_writing (codes "SortC")
+
+abbrev constructor_writing : List Writing
+constructor_writing = applied_writing (codes "constructor") [] ∷ []
+
+abbrev pub hooked_symbol_parts : List ℕ → List ℕ → List ℕ → List Part
+hooked_symbol_parts n result hook =
+    whole_line (word (codes "hooked-symbol")
+    ∷ declared_writing (applied_writing n (int_writing ∷ int_writing ∷ [])) result
+    (applied_writing (codes "function") [] ∷ hook_writing hook ∷ []))
+
+abbrev pub state_symbol_parts : List Part
+state_symbol_parts =
+    whole_line (word (codes "symbol")
+    ∷ declared_writing (applied_writing (codes "st") (step_sort_writing ∷ int_writing ∷ []))
+    (codes "SortS") constructor_writing)
+
+abbrev pub step_parts : ℕ → List Part
+step_parts i =
+    whole_line (word (codes "symbol")
+    ∷ declared_writing (step_writing i) (codes "SortC") constructor_writing)
+
 abbrev sum_writing : Writing
-sum_writing k = word (codes "X") (punct 58 (sort_writing (codes "SortInt") k))
+sum_writing k = word (codes "X") (punct 58 (int_writing k))
+
+abbrev both_writing : Writing → Writing → Writing
+both_writing a b = connected_writing op.And (state_writing ∷ []) (a ∷ b ∷ [])
+
+abbrev condition_writing : Writing
+condition_writing =
+    connected_writing op.Equals (sort_writing (codes "SortBool") ∷ state_writing ∷ [])
+    (applied_writing (codes "ge")
+    (sum_writing ∷ value_writing (codes "SortInt") (quoted (codes "0")) ∷ [])
+    ∷ value_writing (codes "SortBool") (quoted (codes "true")) ∷ [])
 
 abbrev before_writing : ℕ → Writing
 before_writing i =
-    connected_writing op.And (state_writing ∷ [])
-    (applied_writing (codes "st") (step_writing i ∷ (sum_writing ∷ []))
-    ∷ (connected_writing op.Equals (sort_writing (codes "SortBool") ∷ (state_writing ∷ []))
-    (applied_writing (codes "ge")
-    (sum_writing ∷ (value_writing (codes "SortInt") (quoted (codes "0")) ∷ []))
-    ∷ (value_writing (codes "SortBool") (quoted (codes "true")) ∷ [])) ∷ []))
+    both_writing (applied_writing (codes "st") (step_writing i ∷ sum_writing ∷ []))
+    condition_writing
 
 abbrev after_writing : ℕ → Writing
 after_writing i =
-    connected_writing op.And (state_writing ∷ [])
-    (applied_writing (codes "st") (step_writing (i + 1)
-    ∷ (applied_writing (codes "add") (sum_writing ∷
-    (value_writing (codes "SortInt") (counted i) ∷ [])) ∷ []))
-    ∷ (connected_writing op.Top (state_writing ∷ []) [] ∷ []))
+    both_writing
+    (applied_writing (codes "st") (step_writing (i + 1) ∷ applied_writing (codes "add")
+    (sum_writing ∷ value_writing (codes "SortInt") (quoted_number i) ∷ []) ∷ []))
+    (connected_writing op.Top (state_writing ∷ []) [])
 
 abbrev pub rule_parts : ℕ → List Part
 rule_parts i =
-    whole_line (word (codes "axiom") ∷ (in_braces [] ∷ (space
-    ∷ (connected_writing op.Rewrites (state_writing ∷ [])
-    (before_writing i ∷ (after_writing i ∷ []))
-    ∷ (space ∷ (in_brackets [] ∷ []))))))
+    whole_line (word (codes "axiom") ∷ in_braces [] ∷ space
+    ∷ connected_writing op.Rewrites (state_writing ∷ []) (before_writing i ∷ after_writing i ∷ [])
+    ∷ space ∷ in_brackets [] ∷ [])
 
 abbrev pub step_line : ℕ → Line
 step_line i = record { parts = step_parts i; declared = λ q. symbol_declaration (step_symbol i q) }
 
-abbrev pub rule_line : ℕ → Line
-rule_line i = record { parts = rule_parts i; declared = λ q. axiom_declaration (rule_axiom i q) }
+abbrev pub axiom_line : ℕ → Line
+axiom_line i = record { parts = rule_parts i; declared = λ q. axiom_declaration (rule_axiom i q) }
 
 -- the lines that each drill has in front of these
 abbrev pub int_line : Line
@@ -190,8 +202,8 @@ state_line = record {
       λ q. symbol_declaration (state_symbol q);
 }
 
-abbrev pub first_lines : List Line
-first_lines =
+abbrev pub fixed_lines : List Line
+fixed_lines =
     int_line ∷ bool_line ∷ step_sort_line ∷ state_sort_line ∷ add_line ∷ ge_line ∷ state_line ∷ []
 
 -- the lines of the steps below n, and of the rules from them
@@ -199,22 +211,22 @@ abbrev pub step_lines : ℕ → List Line
 step_lines zero = []
 step_lines (suc n) = step_lines n ++ step_line n ∷ []
 
-abbrev pub rule_lines : ℕ → List Line
-rule_lines zero = []
-rule_lines (suc n) = rule_lines n ++ rule_line n ∷ []
+abbrev pub axiom_lines : ℕ → List Line
+axiom_lines zero = []
+axiom_lines (suc n) = axiom_lines n ++ axiom_line n ∷ []
 
 -- the lines of the declarations of a drill of n steps
 abbrev pub drill_lines : ℕ → List Line
-drill_lines n = first_lines ++ (step_lines (n + 1) ++ rule_lines n)
+drill_lines n = fixed_lines ++ (step_lines (n + 1) ++ axiom_lines n)
 
 -- `[]`, and `module DRILL`
 abbrev pub opening_parts : List Part
 opening_parts =
-    in_brackets [] (blank 10 ∷ whole_line (word (codes "module") ∷
-    (space ∷ (word (codes "DRILL") ∷ []))))
+    in_brackets []
+    (blank 10 ∷ whole_line (word (codes "module") ∷ space ∷ word (codes "DRILL") ∷ []))
 
 abbrev pub closing_parts : List Part
-closing_parts = whole_line (word (codes "endmodule") ∷ (space ∷ (in_brackets [] ∷ [])))
+closing_parts = whole_line (word (codes "endmodule") ∷ space ∷ in_brackets [] ∷ [])
 
 -- the parts of lines, in order
 abbrev pub parts_of : List Line → List Part
@@ -226,6 +238,6 @@ drill_parts n = opening_parts ++ (parts_of (drill_lines n) ++ closing_parts)
 
 abbrev pub term_parts : List Part
 term_parts =
-    applied_writing (codes "st") (applied_writing (codes "c0") [] ∷
-    (value_writing (codes "SortInt") (quoted (codes "0")) ∷ []))
+    applied_writing (codes "st")
+    (applied_writing (codes "c0") [] ∷ value_writing (codes "SortInt") (quoted (codes "0")) ∷ [])
     (blank 10 ∷ [])

@@ -61,34 +61,34 @@ pub record HasFunctions (sig : Signature) : Type 0 where
 
 -- ---- the declarations by number
 
-pub behind-front : {X : Type 0} (xs : List X) (y : X)
+pub last-at-length : {X : Type 0} (xs : List X) (y : X)
     → slice_get (xs ++ y ∷ []) (length xs) ≡ Some y
-behind-front [] y = refl
-behind-front (x ∷ xs) y = behind-front xs y
+last-at-length [] y = refl
+last-at-length (x ∷ xs) y = last-at-length xs y
 
-pub in-front : {X : Type 0} (xs ys : List X) (k : ℕ) (x : X) → slice_get xs k ≡ Some x
+pub kept-in-front : {X : Type 0} (xs ys : List X) (k : ℕ) (x : X) → slice_get xs k ≡ Some x
     → slice_get (xs ++ ys) k ≡ Some x
-in-front [] ys k x e = let no : ⊥ = cc in absurd no
-in-front (y ∷ xs) ys zero x e = e
-in-front (y ∷ xs) ys (suc k) x e = in-front xs ys k x e
+kept-in-front [] ys k x e = let no : ⊥ = cc in absurd no
+kept-in-front (y ∷ xs) ys zero x e = e
+kept-in-front (y ∷ xs) ys (suc k) x e = kept-in-front xs ys k x e
 
 length-steps : (q : Layout) (n : ℕ) → length (steps_of q n) ≡ n
 length-steps q zero = refl
 length-steps q (suc n) =
     omega (arith, length-append (steps_of q n) (step_symbol n (q n) ∷ []), length-steps q n)
 
-step-there : (q : Layout) (n i : ℕ) → i < n → slice_get (steps_of q n) i ≡ Some
-    (step_symbol i (q i))
+step-there : (q : Layout) (n i : ℕ) → i < n
+    → slice_get (steps_of q n) i ≡ Some (step_symbol i (q i))
 step-there q zero i less = absurd (omega arith)
 step-there q (suc n) i less = by_case (cases_lt i n) (λ lower. step-there q n i lower) where
   by_case : (i < n) ⊎ (n ≤ i) → (i < n → slice_get (steps_of q n) i ≡ Some (step_symbol i (q i)))
       → slice_get (steps_of q (suc n)) i ≡ Some (step_symbol i (q i))
   by_case (inl lower) before =
-      in-front (steps_of q n) (step_symbol n (q n) ∷ []) i (step_symbol i (q i)) (before lower)
+      kept-in-front (steps_of q n) (step_symbol n (q n) ∷ []) i (step_symbol i (q i)) (before lower)
   by_case (inr last) before =
       let same : i ≡ n = omega (arith, less, last) in
       ap (slice_get (steps_of q (suc n))) (same ∙ sym (length-steps q n))
-      ∙ behind-front (steps_of q n) (step_symbol n (q n))
+      ∙ last-at-length (steps_of q n) (step_symbol n (q n))
       ∙ ap (λ (j : ℕ). Some (step_symbol j (q j))) (sym same)
 
 -- ---- the entries of the declarations

@@ -38,7 +38,7 @@ pub after-both : {S A : Type 0} (next : S → A → S) (s : S) (xs ys : List A)
 after-both next s [] ys = refl
 after-both next s (x ∷ xs) ys = after-both next (next s x) xs ys
 
--- things have no fault where the first ones have none, and the others after these have none
+-- things have no fault if the first ones have none, and the others, after these, have none
 pub none-in-both : {S A : Type 0} (R : S → A → Option Fault → Type 0) (next : S → A → S) (s : S)
     (xs ys : List A)
     → IsFirstOfSequence R next s xs None → IsFirstOfSequence R next (state_after next s xs) ys None
@@ -90,21 +90,21 @@ abbrev Clears : Before → Placed → Option Fault → Type 0
 Clears b p = IsFirstBy ByNumber
     (Contains (declaration_faults drill_sorts b p.earlier p.declaration))
 
-abbrev behind : Before → Placed → Before
-behind b p = declared_after b p.declaration
+abbrev then_declared : Before → Placed → Before
+then_declared b p = declared_after b p.declaration
 
 abbrev NoneFrom : Before → List Declaration → Type 0
-NoneFrom b ds = IsFirstOfSequence Clears behind b (map (placed_at []) ds) None
+NoneFrom b ds = IsFirstOfSequence Clears then_declared b (map (placed_at []) ds) None
 
 abbrev after_all : Before → List Declaration → Before
-after_all b ds = state_after behind b (map (placed_at []) ds)
+after_all b ds = state_after then_declared b (map (placed_at []) ds)
 
 both-clear : (b c : Before) (ds es : List Declaration) → NoneFrom b ds → after_all b ds ≡ c
     → NoneFrom c es → NoneFrom b (ds ++ es)
 both-clear b c ds es first e later =
-    subst (λ (ps : List Placed). IsFirstOfSequence Clears behind b ps None)
+    subst (λ (ps : List Placed). IsFirstOfSequence Clears then_declared b ps None)
     (sym (map-append (placed_at []) ds es))
-    (none-in-both Clears behind b (map (placed_at []) ds) (map (placed_at []) es) first
+    (none-in-both Clears then_declared b (map (placed_at []) ds) (map (placed_at []) es) first
     (subst (λ (x : Before). NoneFrom x es) (sym e) later))
 
 abbrev sort_names : List (List ℕ)
@@ -137,8 +137,8 @@ clear-both : (b c e : Before) (ds es : List Declaration) → AreClear b c ds →
     → AreClear b e (ds ++ es)
 clear-both b c e ds es first later = record {
   none = both-clear b c ds es first.none first.after later.none;
-  after = ap (state_after behind b) (map-append (placed_at []) ds es)
-      ∙ after-both behind b (map (placed_at []) ds) (map (placed_at []) es)
+  after = ap (state_after then_declared b) (map-append (placed_at []) ds es)
+      ∙ after-both then_declared b (map (placed_at []) ds) (map (placed_at []) es)
       ∙ ap (λ (x : Before). after_all x es) first.after ∙ later.after;
 }
 

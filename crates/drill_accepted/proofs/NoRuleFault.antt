@@ -81,12 +81,12 @@ pub applied-fine : (sig : Signature) (at byte s : ℕ) (name : List ℕ) (kind :
     → HasSymbol sig name kind args (sort_no s) → is_injection kind ≡ false
     → has_no_kind kind ≡ false → length args ≡ n → count ps ≡ n
     → argument_faults sig [] args ps ≡ [] → IsFine sig (applied_symbol at byte name [] ps) s
-applied-fine sig at byte s name kind args ps n has not_injection some_kind few counted clear =
+applied-fine sig at byte s name kind args ps n has not_injection some_kind few as_many clear =
     record {
       faultless = none-of-two (symbol_faults sig byte (symbol_named sig name) [] (count ps))
           (argument_faults sig [] (places_of (symbol_named sig name)) ps)
           (ap (λ (o : Option SymInfo). symbol_faults sig byte o [] (count ps)) has.named
-          ∙ ap (λ (m : ℕ). symbol_faults sig byte (Some has.info) [] m) counted
+          ∙ ap (λ (m : ℕ). symbol_faults sig byte (Some has.info) [] m) as_many
           ∙ symbol-fine sig byte n has.info has.params (ap length has.args_are ∙ few)
           (ap is_injection has.kind_is ∙ not_injection) (ap has_no_kind has.kind_is ∙ some_kind))
           (ap (λ (o : Option SymInfo). argument_faults sig [] (places_of o) ps) has.named
@@ -220,7 +220,7 @@ not-ac : (sig : Signature) (name : List ℕ) (kind : SymKind) (args : List SortR
     → is_ac_symbol sig name ≡ false
 not-ac sig name kind args result has = ap is_ac_with has.named ∙ has.ac
 
--- the sort of the first rule, where one was before, is that of the states
+-- if a rule was before, the sort of the first one is that of the states
 abbrev IsOfStates : Option SortTree → Type 0
 IsOfStates None = Unit {0}
 IsOfStates (Some s) = (at : ℕ) → same_sort s (state_at at) ≡ true

@@ -35,9 +35,9 @@ pub data Part : Type 0 where
   -- a string, by what stands between its quotes
   quoted : List ℕ → Part
   -- the name that is `c` and a number
-  numbered : ℕ → Part
+  named_number : ℕ → Part
   -- a string that is a number
-  counted : ℕ → Part
+  quoted_number : ℕ → Part
 
 abbrev pub numbered_name : ℕ → List ℕ
 numbered_name i = 99 ∷ decimal i
@@ -45,24 +45,24 @@ numbered_name i = 99 ∷ decimal i
 abbrev pub quoted_text : List ℕ → List ℕ
 quoted_text w = 34 ∷ (w ++ (34 ∷ []))
 
-abbrev pub text_of : List Part → List ℕ
-text_of [] = []
-text_of (blank c ∷ ps) = c ∷ text_of ps
-text_of (written t ∷ ps) = token_text t ++ text_of ps
-text_of (quoted w ∷ ps) = 34 ∷ (w ++ (34 ∷ text_of ps))
-text_of (numbered i ∷ ps) = 99 ∷ (decimal i ++ text_of ps)
-text_of (counted i ∷ ps) = 34 ∷ (decimal i ++ (34 ∷ text_of ps))
+abbrev pub parts_text : List Part → List ℕ
+parts_text [] = []
+parts_text (blank c ∷ ps) = c ∷ parts_text ps
+parts_text (written t ∷ ps) = token_text t ++ parts_text ps
+parts_text (quoted w ∷ ps) = 34 ∷ (w ++ (34 ∷ parts_text ps))
+parts_text (named_number i ∷ ps) = 99 ∷ (decimal i ++ parts_text ps)
+parts_text (quoted_number i ∷ ps) = 34 ∷ (decimal i ++ (34 ∷ parts_text ps))
 
 -- the tokens of the parts from a place on, and more after them
 abbrev pub tokens_from : ℕ → List Part → (ℕ → Stream) → Stream
 tokens_from at [] more = more at
 tokens_from at (blank c ∷ ps) more = tokens_from (at + 1) ps more
 tokens_from at (written t ∷ ps) more = token t at (tokens_from (at + length (token_text t)) ps more)
-tokens_from at (quoted w ∷ ps) more = token (string_token w) at
-    (tokens_from (at + length (quoted_text w)) ps more)
-tokens_from at (numbered i ∷ ps) more =
+tokens_from at (quoted w ∷ ps) more =
+    token (string_token w) at (tokens_from (at + length (quoted_text w)) ps more)
+tokens_from at (named_number i ∷ ps) more =
     token (identifier (numbered_name i)) at (tokens_from (at + length (numbered_name i)) ps more)
-tokens_from at (counted i ∷ ps) more =
+tokens_from at (quoted_number i ∷ ps) more =
     token (string_token (decimal i)) at (tokens_from
     (at + length (quoted_text (decimal i))) ps more)
 
@@ -72,8 +72,8 @@ place_after at [] = at
 place_after at (blank c ∷ ps) = place_after (at + 1) ps
 place_after at (written t ∷ ps) = place_after (at + length (token_text t)) ps
 place_after at (quoted w ∷ ps) = place_after (at + length (quoted_text w)) ps
-place_after at (numbered i ∷ ps) = place_after (at + length (numbered_name i)) ps
-place_after at (counted i ∷ ps) = place_after (at + length (quoted_text (decimal i))) ps
+place_after at (named_number i ∷ ps) = place_after (at + length (numbered_name i)) ps
+place_after at (quoted_number i ∷ ps) = place_after (at + length (quoted_text (decimal i))) ps
 
 pub tokens-append : (ps qs : List Part) (at : ℕ) (more : ℕ → Stream)
     → tokens_from at (ps ++ qs) more ≡ tokens_from at ps (λ i. tokens_from i qs more)
@@ -83,21 +83,22 @@ tokens-append (written t ∷ ps) qs at more =
     ap (token t at) (tokens-append ps qs (at + length (token_text t)) more)
 tokens-append (quoted w ∷ ps) qs at more =
     ap (token (string_token w) at) (tokens-append ps qs (at + length (quoted_text w)) more)
-tokens-append (numbered i ∷ ps) qs at more =
+tokens-append (named_number i ∷ ps) qs at more =
     ap (token (identifier (numbered_name i)) at) (tokens-append ps qs
     (at + length (numbered_name i)) more)
-tokens-append (counted i ∷ ps) qs at more =
+tokens-append (quoted_number i ∷ ps) qs at more =
     ap (token (string_token (decimal i)) at) (tokens-append ps qs
     (at + length (quoted_text (decimal i))) more)
 
-pub place-append : (ps qs : List Part) (at : ℕ) → place_after at (ps ++ qs) ≡ place_after
-    (place_after at ps) qs
+pub place-append : (ps qs : List Part) (at : ℕ)
+    → place_after at (ps ++ qs) ≡ place_after (place_after at ps) qs
 place-append [] qs at = refl
 place-append (blank c ∷ ps) qs at = place-append ps qs (at + 1)
 place-append (written t ∷ ps) qs at = place-append ps qs (at + length (token_text t))
 place-append (quoted w ∷ ps) qs at = place-append ps qs (at + length (quoted_text w))
-place-append (numbered i ∷ ps) qs at = place-append ps qs (at + length (numbered_name i))
-place-append (counted i ∷ ps) qs at = place-append ps qs (at + length (quoted_text (decimal i)))
+place-append (named_number i ∷ ps) qs at = place-append ps qs (at + length (numbered_name i))
+place-append (quoted_number i ∷ ps) qs at = place-append ps qs
+    (at + length (quoted_text (decimal i)))
 
 -- only what comes at the place after the parts counts
 pub tokens-last : (ps : List Part) (at : ℕ) (f g : ℕ → Stream)
@@ -105,32 +106,33 @@ pub tokens-last : (ps : List Part) (at : ℕ) (f g : ℕ → Stream)
     → tokens_from at ps f ≡ tokens_from at ps g
 tokens-last [] at f g e = e
 tokens-last (blank c ∷ ps) at f g e = tokens-last ps (at + 1) f g e
-tokens-last (written t ∷ ps) at f g e = ap (token t at)
-    (tokens-last ps (at + length (token_text t)) f g e)
+tokens-last (written t ∷ ps) at f g e =
+    ap (token t at) (tokens-last ps (at + length (token_text t)) f g e)
 tokens-last (quoted w ∷ ps) at f g e =
     ap (token (string_token w) at) (tokens-last ps (at + length (quoted_text w)) f g e)
-tokens-last (numbered i ∷ ps) at f g e =
+tokens-last (named_number i ∷ ps) at f g e =
     ap (token (identifier (numbered_name i)) at) (tokens-last ps
     (at + length (numbered_name i)) f g e)
-tokens-last (counted i ∷ ps) at f g e =
+tokens-last (quoted_number i ∷ ps) at f g e =
     ap (token (string_token (decimal i)) at) (tokens-last ps
     (at + length (quoted_text (decimal i))) f g e)
 
-pub text-append : (ps qs : List Part) → text_of (ps ++ qs) ≡ text_of ps ++ text_of qs
+pub text-append : (ps qs : List Part) → parts_text (ps ++ qs) ≡ parts_text ps ++ parts_text qs
 text-append [] qs = refl
 text-append (blank c ∷ ps) qs = ap (λ (bs : List ℕ). c ∷ bs) (text-append ps qs)
 text-append (written t ∷ ps) qs =
     ap (λ (bs : List ℕ). token_text t ++ bs) (text-append ps qs)
-    ∙ sym (append_assoc (token_text t) (text_of ps) (text_of qs))
+    ∙ sym (append_assoc (token_text t) (parts_text ps) (parts_text qs))
 text-append (quoted w ∷ ps) qs =
     ap (λ (bs : List ℕ). 34 ∷ (w ++ (34 ∷ bs))) (text-append ps qs)
-    ∙ ap (λ (bs : List ℕ). 34 ∷ bs) (sym (append_assoc w (34 ∷ text_of ps) (text_of qs)))
-text-append (numbered i ∷ ps) qs =
+    ∙ ap (λ (bs : List ℕ). 34 ∷ bs) (sym (append_assoc w (34 ∷ parts_text ps) (parts_text qs)))
+text-append (named_number i ∷ ps) qs =
     ap (λ (bs : List ℕ). 99 ∷ (decimal i ++ bs)) (text-append ps qs)
-    ∙ ap (λ (bs : List ℕ). 99 ∷ bs) (sym (append_assoc (decimal i) (text_of ps) (text_of qs)))
-text-append (counted i ∷ ps) qs =
+    ∙ ap (λ (bs : List ℕ). 99 ∷ bs) (sym (append_assoc (decimal i) (parts_text ps) (parts_text qs)))
+text-append (quoted_number i ∷ ps) qs =
     ap (λ (bs : List ℕ). 34 ∷ (decimal i ++ (34 ∷ bs))) (text-append ps qs)
-    ∙ ap (λ (bs : List ℕ). 34 ∷ bs) (sym (append_assoc (decimal i) (34 ∷ text_of ps) (text_of qs)))
+    ∙ ap (λ (bs : List ℕ). 34 ∷ bs)
+    (sym (append_assoc (decimal i) (34 ∷ parts_text ps) (parts_text qs)))
 
 -- ---- parts that are told apart
 
@@ -169,10 +171,10 @@ is_plain (c ∷ cs) = not (c == 34) && (not (c == 92) && (nat_lt c 128 && is_pla
 abbrev pub are_parted : List Part → Bool
 are_parted [] = true
 are_parted (blank c ∷ ps) = is_space c && are_parted ps
-are_parted (written t ∷ ps) = may_stand t (text_of ps) && are_parted ps
+are_parted (written t ∷ ps) = may_stand t (parts_text ps) && are_parted ps
 are_parted (quoted w ∷ ps) = is_plain w && are_parted ps
-are_parted (numbered i ∷ ps) = ends_word (text_of ps) && are_parted ps
-are_parted (counted i ∷ ps) = are_parted ps
+are_parted (named_number i ∷ ps) = ends_word (parts_text ps) && are_parted ps
+are_parted (quoted_number i ∷ ps) = are_parted ps
 
 -- the numbers have 64 bits
 abbrev pub AreSmall : List Part → Type 0
@@ -180,8 +182,8 @@ AreSmall [] = Unit {0}
 AreSmall (blank c ∷ ps) = AreSmall ps
 AreSmall (written t ∷ ps) = AreSmall ps
 AreSmall (quoted w ∷ ps) = AreSmall ps
-AreSmall (numbered i ∷ ps) = (i < 2 ^ 64) × AreSmall ps
-AreSmall (counted i ∷ ps) = (i < 2 ^ 64) × AreSmall ps
+AreSmall (named_number i ∷ ps) = (i < 2 ^ 64) × AreSmall ps
+AreSmall (quoted_number i ∷ ps) = (i < 2 ^ 64) × AreSmall ps
 
 word-all : (cs : List ℕ) → all_word cs ≡ true → AllWord cs
 word-all [] h = tt
@@ -251,11 +253,11 @@ plain-ascii [] h = IsAscii-nil
 plain-ascii (c ∷ cs) h = IsAscii-cons c cs h.2 (plain-ascii cs h.3)
 
 length-quoted : (w : List ℕ) → length (quoted_text w) ≡ length w + 2
-length-quoted w = let e : length (w ++ (34 ∷ [])) ≡ length w + 1 =
-    length-append w (34 ∷ []) in omega (arith, e)
+length-quoted w =
+    let e : length (w ++ (34 ∷ [])) ≡ length w + 1 = length-append w (34 ∷ []) in omega (arith, e)
 
-quoted-piece : (w r : List ℕ) → AllPlain w → piece (quoted_text w ++ r) ≡ whole_piece kind.Text
-    (length (quoted_text w))
+quoted-piece : (w r : List ℕ) → AllPlain w
+    → piece (quoted_text w ++ r) ≡ whole_piece kind.Text (length (quoted_text w))
 quoted-piece w r h =
     ap (λ (bs : List ℕ). piece (34 ∷ bs)) (append_assoc w (34 ∷ []) r)
     ∙ string-piece w r (plain-quoted w r h) (is_utf8-from_IsUtf8 w
@@ -277,8 +279,8 @@ after-piece w r text at d =
 
 -- a string is cut off
 string-cut : (w r text : List ℕ) (at : ℕ) → AllPlain w → drop at text ≡ quoted_text w ++ r
-    → named text (lexed at (quoted_text w ++ r)) ≡ token (string_token w) at
-    (named text (lexed (at + length (quoted_text w)) r))
+    → named text (lexed at (quoted_text w ++ r))
+    ≡ token (string_token w) at (named text (lexed (at + length (quoted_text w)) r))
 string-cut w r text at h d =
     let bs : List ℕ = quoted_text w in
     let n : ℕ = length bs in
@@ -302,25 +304,26 @@ blank-cut c bs at h = lexed-is at (c ∷ bs) ∙ rw h refl
 
 -- the text of the parts, with whatever comes after it, has their tokens
 pub record Reads (ps : List Part) (at : ℕ) (text r : List ℕ) : Type 0 where
-  pub tokens : named text (lexed at (text_of ps ++ r)) ≡ tokens_from at ps
-      (λ i. named text (lexed i r))
+  pub tokens : named text (lexed at (parts_text ps ++ r))
+      ≡ tokens_from at ps (λ i. named text (lexed i r))
   pub rest : drop (place_after at ps) text ≡ r
 
 abbrev pub AreRead : List Part → Type 0
-AreRead ps = (at : ℕ) (text r : List ℕ) → drop at text ≡ text_of ps ++ r → Reads ps at text r
+AreRead ps = (at : ℕ) (text r : List ℕ) → drop at text ≡ parts_text ps ++ r → Reads ps at text r
 
 -- a token in front of parts that are read
 in-front : (w bs r text : List ℕ) (t : Token) (ps : List Part) (at : ℕ)
-    → bs ≡ w ++ (text_of ps ++ r) → drop at text ≡ bs
-    → (drop at text ≡ w ++ (text_of ps ++ r)
-    → named text (lexed at (w ++ (text_of ps ++ r))) ≡ token t at
-    (named text (lexed (at + length w) (text_of ps ++ r))))
-    → AreRead ps → (named text (lexed at bs) ≡ token t at
-    (tokens_from (at + length w) ps (λ i. named text (lexed i r)))) ×
-    (drop (place_after (at + length w) ps) text ≡ r)
+    → bs ≡ w ++ (parts_text ps ++ r) → drop at text ≡ bs
+    → (drop at text ≡ w ++ (parts_text ps ++ r)
+    → named text (lexed at (w ++ (parts_text ps ++ r)))
+    ≡ token t at (named text (lexed (at + length w) (parts_text ps ++ r))))
+    → AreRead ps
+    → (named text (lexed at bs)
+    ≡ token t at (tokens_from (at + length w) ps (λ i. named text (lexed i r))))
+    × (drop (place_after (at + length w) ps) text ≡ r)
 in-front w bs r text t ps at same d cut later =
-    let here : drop at text ≡ w ++ (text_of ps ++ r) = d ∙ same in
-    let next = later (at + length w) text r (after-piece w (text_of ps ++ r) text at here) in (
+    let here : drop at text ≡ w ++ (parts_text ps ++ r) = d ∙ same in
+    let next = later (at + length w) text r (after-piece w (parts_text ps ++ r) text at here) in (
       ap (λ (x : List ℕ). named text (lexed at x)) same ∙ cut here
           ∙ ap (token t at) next.tokens,
       next.rest,
@@ -335,50 +338,54 @@ pub are-read : (ps : List Part) → are_parted ps ≡ true → AreSmall ps → A
 are-read [] h s at text r d = record { tokens = refl; rest = d }
 are-read (blank c ∷ ps) h s at text r d =
     let p = both_true (is_space c) (are_parted ps) h in
-    let next = are-read ps p.1 s (at + 1) text r (after-piece (c ∷ []) (text_of ps ++ r) text at d)
+    let next = are-read ps p.1 s (at + 1) text r (after-piece (c ∷ [])
+    (parts_text ps ++ r) text at d)
     in record {
-      tokens = ap (named text) (blank-cut c (text_of ps ++ r) at p.0) ∙ next.tokens;
+      tokens = ap (named text) (blank-cut c (parts_text ps ++ r) at p.0) ∙ next.tokens;
       rest = next.rest;
     }
 are-read (written t ∷ ps) h s at text r d =
-    let p = both_true (may_stand t (text_of ps)) (are_parted ps) h in
-    let fit = stands t (text_of ps) r p.0 in
-    let both = in-front (token_text t) (text_of (written t ∷ ps) ++ r) r text t ps at
-    (append_assoc (token_text t) (text_of ps) r) d
-    (λ here. token-cut t (text_of ps ++ r) text at fit.0 fit.1 here) (are-read ps p.1 s) in
+    let p = both_true (may_stand t (parts_text ps)) (are_parted ps) h in
+    let fit = stands t (parts_text ps) r p.0 in
+    let both = in-front (token_text t) (parts_text (written t ∷ ps) ++ r) r text t ps at
+    (append_assoc (token_text t) (parts_text ps) r) d
+    (λ here. token-cut t (parts_text ps ++ r) text at fit.0 fit.1 here) (are-read ps p.1 s) in
     record { tokens = both.0; rest = both.1 }
 are-read (quoted w ∷ ps) h s at text r d =
     let p = both_true (is_plain w) (are_parted ps) h in
-    let both = in-front (quoted_text w) (text_of (quoted w ∷ ps) ++ r) r text (string_token w) ps at
-    (quoted-same w (text_of ps) r) d
-    (string-cut w (text_of ps ++ r) text at (plain-is w p.0)) (are-read ps p.1 s) in
+    let both = in-front (quoted_text w) (parts_text (quoted w ∷ ps) ++ r) r text
+    (string_token w) ps at
+    (quoted-same w (parts_text ps) r) d
+    (string-cut w (parts_text ps ++ r) text at (plain-is w p.0)) (are-read ps p.1 s) in
     record { tokens = both.0; rest = both.1 }
-are-read (numbered i ∷ ps) h s at text r d =
-    let p = both_true (ends_word (text_of ps)) (are_parted ps) h in
-    let same : text_of (numbered i ∷ ps) ++ r ≡ numbered_name i ++ (text_of ps ++ r) =
-    ap (λ (bs : List ℕ). 99 ∷ bs) (append_assoc (decimal i) (text_of ps) r) in
-    let both = in-front (numbered_name i) (text_of (numbered i ∷ ps) ++ r) r text
+are-read (named_number i ∷ ps) h s at text r d =
+    let p = both_true (ends_word (parts_text ps)) (are_parted ps) h in
+    let same : parts_text (named_number i ∷ ps) ++ r ≡ numbered_name i ++ (parts_text ps ++ r) =
+    ap (λ (bs : List ℕ). 99 ∷ bs) (append_assoc (decimal i) (parts_text ps) r) in
+    let both = in-front (numbered_name i) (parts_text (named_number i ∷ ps) ++ r) r text
     (identifier (numbered_name i)) ps at same d
-    (λ here. token-cut (identifier (numbered_name i)) (text_of ps ++ r) text at
-    (refl, decimal-word i s.0) (word-ended (text_of ps) r p.0) here)
+    (λ here. token-cut (identifier (numbered_name i)) (parts_text ps ++ r) text at
+    (refl, decimal-word i s.0) (word-ended (parts_text ps) r p.0) here)
     (are-read ps p.1 s.1) in
     record { tokens = both.0; rest = both.1 }
-are-read (counted i ∷ ps) h s at text r d =
-    let both = in-front (quoted_text (decimal i)) (text_of (counted i ∷ ps) ++ r) r text
+are-read (quoted_number i ∷ ps) h s at text r d =
+    let both = in-front (quoted_text (decimal i)) (parts_text (quoted_number i ∷ ps) ++ r) r text
     (string_token (decimal i)) ps at
-    (quoted-same (decimal i) (text_of ps) r) d
-    (string-cut (decimal i) (text_of ps ++ r) text at (decimal-plain i s.0)) (are-read ps h s.1) in
+    (quoted-same (decimal i) (parts_text ps) r) d
+    (string-cut (decimal i) (parts_text ps ++ r) text at (decimal-plain i s.0))
+    (are-read ps h s.1) in
     record { tokens = both.0; rest = both.1 }
 
 -- one list of parts after another
 pub read-both : (ps qs : List Part) → AreRead ps → AreRead qs → AreRead (ps ++ qs)
 read-both ps qs first second at text r d =
-    let same : text_of (ps ++ qs) ++ r ≡ text_of ps ++ (text_of qs ++ r) =
-    ap (λ (bs : List ℕ). bs ++ r) (text-append ps qs) ∙ append_assoc (text_of ps) (text_of qs) r in
-    let here = first at text (text_of qs ++ r) (d ∙ same) in
+    let same : parts_text (ps ++ qs) ++ r ≡ parts_text ps ++ (parts_text qs ++ r) =
+    ap (λ (bs : List ℕ). bs ++ r) (text-append ps qs)
+    ∙ append_assoc (parts_text ps) (parts_text qs) r in
+    let here = first at text (parts_text qs ++ r) (d ∙ same) in
     let there = second (place_after at ps) text r here.rest in record {
       tokens = ap (λ (bs : List ℕ). named text (lexed at bs)) same ∙ here.tokens
-          ∙ tokens-last ps at (λ i. named text (lexed i (text_of qs ++ r)))
+          ∙ tokens-last ps at (λ i. named text (lexed i (parts_text qs ++ r)))
           (λ i. tokens_from i qs (λ j. named text (lexed j r))) there.tokens
           ∙ sym (tokens-append ps qs at (λ j. named text (lexed j r)));
       rest = ap (λ (i : ℕ). drop i text) (place-append ps qs at) ∙ there.rest;

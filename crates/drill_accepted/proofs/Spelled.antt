@@ -11,9 +11,10 @@ use Rattle.kore_text.specs.Trees.{ModuleTree, DefinitionTree}
 use Rattle.kore_text.specs.Grammar.{TakesTokens, spell_pattern, spell_definition}
 use Rattle.kore_text.specs.Faults.{IsShallow}
 use Rattle.kore_ast.specs.KoreText.{ReadsPattern, ReadsDefinition}
-use Rattle.drill_accepted.proofs.Parts.{Part, text_of, tokens_from, place_after, AreRead, are-read}
+use Rattle.drill_accepted.proofs.Parts.{Part, parts_text, tokens_from, place_after, AreRead}
+use Rattle.drill_accepted.proofs.Parts.{are-read}
 use Rattle.drill_accepted.proofs.Parts.{read-both, tokens-append, tokens-last}
-use Rattle.drill_accepted.proofs.Taking.{places_of, takes-all, low-shallow}
+use Rattle.drill_accepted.proofs.Taking.{token_places, takes-all, low-shallow}
 use Rattle.drill_accepted.proofs.DrillTrees.{term_tree}
 use Rattle.drill_accepted.proofs.DrillLines.{parts_of, drill_lines, opening_parts, closing_parts}
 use Rattle.drill_accepted.proofs.DrillLines.{drill_parts, term_parts}
@@ -45,10 +46,10 @@ unfolding piece
 nothing-left text at = ap (named text) (lexed-is at [])
 
 -- the text of parts has their tokens, and no others
-tokens-read : (ps : List Part) → AreRead ps → tokens_of (text_of ps) ≡ tokens_from 0 ps end
+tokens-read : (ps : List Part) → AreRead ps → tokens_of (parts_text ps) ≡ tokens_from 0 ps end
 unfolding tokens_of
 tokens-read ps r =
-    let t : List ℕ = text_of ps in
+    let t : List ℕ = parts_text ps in
     let here = r 0 t [] (sym (append-nil t)) in
     ap (λ (bs : List ℕ). named t (lexed 0 bs)) (sym (append-nil t)) ∙ here.tokens
     ∙ tokens-last ps 0 (λ i. named t (lexed i [])) end (nothing-left t (place_after 0 ps))
@@ -127,7 +128,7 @@ definition-spelled n few =
 
 -- the places of its tokens
 abbrev pub term_places : ℕ → ℕ
-term_places = places_of 0 term_parts
+term_places = token_places 0 term_parts
 
 pub term-spelled : ReadsPattern drill_term (term_tree term_places)
 term-spelled =

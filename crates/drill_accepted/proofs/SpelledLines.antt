@@ -7,17 +7,17 @@ use Rattle.kore_text.specs.Grammar.{Requirement, TakesTokens, in_order, spell_de
 use Rattle.kore_text.specs.Faults.{IsShallow}
 use Rattle.drill_accepted.proofs.Parts.{Part, tokens_from, place_after, AreSmall, are_parted}
 use Rattle.drill_accepted.proofs.Parts.{AreRead, are-read, read-both, tokens-append, place-append}
-use Rattle.drill_accepted.proofs.Taking.{places_of, fulfilled, left_after, all_hold, takes-all}
+use Rattle.drill_accepted.proofs.Taking.{token_places, fulfilled, left_after, all_hold, takes-all}
 use Rattle.drill_accepted.proofs.Taking.{takes-both, open_after, is_low, low-shallow}
 use Rattle.drill_accepted.proofs.DrillTrees.{Places}
 use Rattle.drill_accepted.proofs.DrillLines.{Line, parts_of, int_line, bool_line, step_sort_line}
 use Rattle.drill_accepted.proofs.DrillLines.{state_sort_line, add_line, ge_line, state_line}
-use Rattle.drill_accepted.proofs.DrillLines.{first_lines, step_line, rule_line, step_lines}
-use Rattle.drill_accepted.proofs.DrillLines.{rule_lines, drill_lines}
+use Rattle.drill_accepted.proofs.DrillLines.{fixed_lines, step_line, axiom_line, step_lines}
+use Rattle.drill_accepted.proofs.DrillLines.{axiom_lines, drill_lines}
 
 -- the declaration of a line that begins at this place
 abbrev pub declared_at : ℕ → Line → Declaration
-declared_at at l = l.declared (places_of at l.parts)
+declared_at at l = l.declared (token_places at l.parts)
 
 abbrev pub declared_from : ℕ → List Line → List Declaration
 declared_from at [] = []
@@ -55,11 +55,12 @@ good l c small = record {
       let ws : List Requirement = spell_declaration (declared_at at l) [] in
       let s : Stream = tokens_from at l.parts more in
       let taken : TakesTokens ws s (left_after ws s) =
-      takes-all ws s (c.holds (places_of at l.parts))
+      takes-all ws s (c.holds (token_places at l.parts))
       (c.filled at more) in
       let rest : TakesTokens k (left_after ws s) e = subst (λ (x : Stream). TakesTokens k x e)
       (sym (c.left at more)) h in
-      subst (λ (vs : List Requirement). TakesTokens vs s e) (sym (c.ends (places_of at l.parts) k))
+      subst (λ (vs : List Requirement). TakesTokens vs s e)
+      (sym (c.ends (token_places at l.parts) k))
       (takes-both ws k s (left_after ws s) e taken rest);
   shallow = λ at more h.
       low-shallow l.parts 0 at more c.low
@@ -117,8 +118,8 @@ lines-shallow (l ∷ ls) g at more h =
 
 checked : (l : Line) → are_parted l.parts ≡ true → is_low 0 l.parts ≡ true
     → open_after 0 l.parts ≡ 0
-    → ((q : Places) (k : List Requirement) → spell_declaration (l.declared q) k ≡ spell_declaration
-    (l.declared q) [] ++ k)
+    → ((q : Places) (k : List Requirement) → spell_declaration (l.declared q) k
+    ≡ spell_declaration (l.declared q) [] ++ k)
     → ((q : Places) → all_hold (spell_declaration (l.declared q) []) ≡ true)
     → ((at : ℕ) (more : ℕ → Stream) →
     fulfilled (spell_declaration (declared_at at l) []) (tokens_from at l.parts more)
@@ -141,8 +142,8 @@ checked-step : (i : ℕ) → IsChecked (step_line i)
 checked-step i = checked (step_line i) refl refl refl (λ q k. refl) (λ q. refl) (λ at more. refl)
     (λ at more. refl)
 
-checked-rule : (i : ℕ) → IsChecked (rule_line i)
-checked-rule i = checked (rule_line i) refl refl refl (λ q k. refl) (λ q. refl) (λ at more. refl)
+checked-rule : (i : ℕ) → IsChecked (axiom_line i)
+checked-rule i = checked (axiom_line i) refl refl refl (λ q k. refl) (λ q. refl) (λ at more. refl)
     (λ at more. refl)
 
 checked-int : IsChecked int_line
@@ -173,7 +174,7 @@ checked-state : IsChecked state_line
 checked-state = checked state_line refl refl refl (λ q k. refl) (λ q. refl) (λ at more. refl)
     (λ at more. refl)
 
-first-good : AllGood first_lines
+first-good : AllGood fixed_lines
 first-good = (
   good int_line checked-int tt,
   (
@@ -201,15 +202,15 @@ steps-good (suc n) few =
     all-good-both (step_lines n) (step_line n ∷ []) (steps-good n small)
     (good (step_line n) (checked-step n) (small, tt), tt)
 
-rules-good : (n : ℕ) → n + 1 < 2 ^ 64 → AllGood (rule_lines n)
+rules-good : (n : ℕ) → n + 1 < 2 ^ 64 → AllGood (axiom_lines n)
 rules-good zero few = tt
 rules-good (suc n) few =
     let small : n < 2 ^ 64 = omega (arith, few) in
     let next : n + 1 < 2 ^ 64 = omega (arith, few) in
-    all-good-both (rule_lines n) (rule_line n ∷ []) (rules-good n next)
-    (good (rule_line n) (checked-rule n) (small, (next, (small, tt))), tt)
+    all-good-both (axiom_lines n) (axiom_line n ∷ []) (rules-good n next)
+    (good (axiom_line n) (checked-rule n) (small, (next, (small, tt))), tt)
 
 pub drill-good : (n : ℕ) → n + 1 < 2 ^ 64 → AllGood (drill_lines n)
 drill-good n few =
-    all-good-both first_lines (step_lines (n + 1) ++ rule_lines n) first-good
-    (all-good-both (step_lines (n + 1)) (rule_lines n) (steps-good (n + 1) few) (rules-good n few))
+    all-good-both fixed_lines (step_lines (n + 1) ++ axiom_lines n) first-good
+    (all-good-both (step_lines (n + 1)) (axiom_lines n) (steps-good (n + 1) few) (rules-good n few))

@@ -6,7 +6,7 @@ use Rattle.rule_core.proofs.Belows.{both_true}
 use Rattle.kore_text.specs.TokenStream.{Stream, end, fault, token}
 use Rattle.kore_text.specs.Grammar.{Requirement, placed, any, given, TakesTokens}
 use Rattle.kore_text.specs.Faults.{opened, IsShallow}
-use Rattle.drill_accepted.proofs.Parts.{Part, blank, written, quoted, numbered, counted}
+use Rattle.drill_accepted.proofs.Parts.{Part, blank, written, quoted, named_number, quoted_number}
 use Rattle.drill_accepted.proofs.Parts.{tokens_from, place_after}
 
 -- ---- places
@@ -19,8 +19,8 @@ place_in (token t p s) zero = p
 place_in (token t p s) (suc k) = place_in s k
 
 -- the places of the tokens of parts
-abbrev pub places_of : ℕ → List Part → ℕ → ℕ
-places_of at ps = place_in (tokens_from at ps end)
+abbrev pub token_places : ℕ → List Part → ℕ → ℕ
+token_places at ps = place_in (tokens_from at ps end)
 
 -- ---- wishes
 
@@ -86,14 +86,14 @@ takes-both (any t ∷ ws) k (token u q s) m e h g = (h.0, takes-both ws k s m e 
 
 -- ---- brackets
 
--- the brackets that are open after the parts, where so many are open before them
+-- the brackets that are open after the parts, if so many are open before them
 abbrev pub open_after : ℕ → List Part → ℕ
 open_after n [] = n
 open_after n (blank c ∷ ps) = open_after n ps
 open_after n (written t ∷ ps) = open_after (opened t n) ps
 open_after n (quoted w ∷ ps) = open_after n ps
-open_after n (numbered i ∷ ps) = open_after n ps
-open_after n (counted i ∷ ps) = open_after n ps
+open_after n (named_number i ∷ ps) = open_after n ps
+open_after n (quoted_number i ∷ ps) = open_after n ps
 
 -- at most 500 are open anywhere
 abbrev pub is_low : ℕ → List Part → Bool
@@ -101,8 +101,8 @@ is_low n [] = true
 is_low n (blank c ∷ ps) = is_low n ps
 is_low n (written t ∷ ps) = nat_le (opened t n) 500 && is_low (opened t n) ps
 is_low n (quoted w ∷ ps) = nat_le n 500 && is_low n ps
-is_low n (numbered i ∷ ps) = nat_le n 500 && is_low n ps
-is_low n (counted i ∷ ps) = nat_le n 500 && is_low n ps
+is_low n (named_number i ∷ ps) = nat_le n 500 && is_low n ps
+is_low n (quoted_number i ∷ ps) = nat_le n 500 && is_low n ps
 
 pub low-shallow : (ps : List Part) (n at : ℕ) (more : ℕ → Stream) → is_low n ps ≡ true
     → IsShallow (open_after n ps) (more (place_after at ps))
@@ -115,9 +115,9 @@ low-shallow (written t ∷ ps) n at more h s =
 low-shallow (quoted w ∷ ps) n at more h s =
     let p = both_true (nat_le n 500) (is_low n ps) h in
     (leb-true n 500 p.0, low-shallow ps n _ more p.1 s)
-low-shallow (numbered i ∷ ps) n at more h s =
+low-shallow (named_number i ∷ ps) n at more h s =
     let p = both_true (nat_le n 500) (is_low n ps) h in
     (leb-true n 500 p.0, low-shallow ps n _ more p.1 s)
-low-shallow (counted i ∷ ps) n at more h s =
+low-shallow (quoted_number i ∷ ps) n at more h s =
     let p = both_true (nat_le n 500) (is_low n ps) h in
     (leb-true n 500 p.0, low-shallow ps n _ more p.1 s)
