@@ -3,10 +3,9 @@ use Rattle.std.proofs.Common.{◌≡◌, ℕ, zero, suc, ◌+◌, ◌-◌, ◌<�
 use Rattle.std.proofs.Common.{◌∷◌, ◌++◌, length, take, drop, get_or, map, nat_eq, Option, Some}
 use Rattle.std.proofs.Common.{None, cond, refl, ap, ◌∙◌, sym, subst, arith, append_assoc}
 use Rattle.std.specs.Prelude.{◌&&◌, ◌||◌, ◌==◌, not, All, slice_get, option_map, filter, flat_map}
-use Rattle.std.specs.List.{list_any}
 use Rattle.std.proofs.lemmas.Bool.{eqb-true, eq-eqb}
-use Rattle.std.proofs.lemmas.List.{map-append, get_or-take, get_or-drop, length-take, length-drop}
-use Rattle.std.proofs.lemmas.List.{take_all, drop_more}
+use Rattle.std.proofs.lemmas.List.{map-append, get_or-take, get_or-drop, length-take, take_all}
+use Rattle.std.proofs.lemmas.List.{drop_more}
 use Rattle.std.proofs.lemmas.List.Elements.{All-head, All-tail}
 use Rattle.std.proofs.lemmas.List.Folds.{list_any-append}
 use Rattle.std.proofs.lemmas.Option.{slice_get-map}
@@ -81,11 +80,11 @@ passes-stands entries (Some p) n is =
     let same : number_of p ≡ n = cc in has-stands entries p ∙ ap (stands entries) same
 
 module _ (entries : List (List ℕ)) (parts : List Part) where
-  abbrev is_left : ℕ → Bool
-  is_left i = passes (has_text entries) (slice_get parts i)
+  abbrev is_present : ℕ → Bool
+  is_present i = passes (has_text entries) (slice_get parts i)
 
   spot-stands : (spot : ℕ) → IsSpot parts spot
-      → is_left (position_at spot) ≡ stands entries (place_at spot)
+      → is_present (position_at spot) ≡ stands entries (place_at spot)
   spot-stands spot is =
       passes-stands entries (slice_get parts (position_at spot)) (place_at spot)
       (sym (slice_get-map number_of parts (position_at spot)) ∙ is)
@@ -104,7 +103,7 @@ module _ (entries : List (List ℕ)) (parts : List Part) where
   pub present-at : (spots : List ℕ) (at spot position : ℕ) (p : Part) (text : List ℕ) (empty : Bool)
       → AreSpots parts spots → at < length spots → spot ≡ get_or spots at spot
       → position ≡ position_at spot → p ≡ get_or parts position p → text ≡ part_text entries p
-      → empty ≡ (length text == 0) → not empty ≡ is_left (position_at (get_or spots at 0))
+      → empty ≡ (length text == 0) → not empty ≡ is_present (position_at (get_or spots at 0))
   present-at spots at spot position p text empty are lt is there part stands none =
       let first : get_or spots at 0 ≡ spot = any-default spots at 0 spot lt ∙ sym is in
       let place : position ≡ position_at (get_or spots at 0) = there ∙ ap position_at (sym first) in
@@ -116,21 +115,22 @@ module _ (entries : List (List ℕ)) (parts : List Part) where
       ap not none
       ∙ ap (λ (t : List ℕ). not (length t == 0)) stands
       ∙ ap (passes (has_text entries)) (sym found)
-      ∙ ap is_left place
+      ∙ ap is_present place
 
   -- the positions of a run
-  run-left : (run : List ℕ) (b : Bool) → All (λ spot. is_left (position_at spot) ≡ b) run → (i : ℕ)
-      → has_number (map position_at run) i ≡ true → is_left i ≡ b
-  run-left [] b all i has = absurd (cc)
-  run-left (spot ∷ run) b all i has =
+  run-present : (run : List ℕ) (b : Bool) → All (λ spot. is_present (position_at spot) ≡ b) run
+      → (i : ℕ) → has_number (map position_at run) i ≡ true → is_present i ≡ b
+  run-present [] b all i has = absurd (cc)
+  run-present (spot ∷ run) b all i has =
       go (nat_eq (position_at spot) i) refl
-      (λ h. run-left run b (All-tail (λ s. is_left (position_at s) ≡ b) spot run all) i h) has
+      (λ h. run-present run b (All-tail (λ s. is_present (position_at s) ≡ b) spot run all) i h)
+      has
     where
       go : (here : Bool) → nat_eq (position_at spot) i ≡ here
-          → (has_number (map position_at run) i ≡ true → is_left i ≡ b)
-          → (here || has_number (map position_at run) i) ≡ true → is_left i ≡ b
-      go true is later h = ap is_left (sym (eqb-true (position_at spot) i is))
-          ∙ All-head (λ s. is_left (position_at s) ≡ b) spot run all
+          → (has_number (map position_at run) i ≡ true → is_present i ≡ b)
+          → (here || has_number (map position_at run) i) ≡ true → is_present i ≡ b
+      go true is later h = ap is_present (sym (eqb-true (position_at spot) i is))
+          ∙ All-head (λ s. is_present (position_at s) ≡ b) spot run all
       go false is later h = later h
 
   joined : (before here left b : Bool) → (here ≡ true → left ≡ b)
@@ -150,13 +150,12 @@ module _ (entries : List (List ℕ)) (parts : List Part) where
   module _ (spots : List ℕ) (are : AreSpots parts spots) (at end : ℕ) (to : List ℕ) (b : Bool)
       (from : at < end) (room : end ≤ length spots) (same : (k : ℕ) → at ≤ k → k < end
       → place_at (get_or spots k 0) ≡ place_at (get_or spots at 0))
-      (told : b ≡ is_left (position_at (get_or spots at 0))) (gathered : (i : ℕ)
-      → has_number to i ≡ (has_number (map position_at (take at spots)) i && is_left i)) where
-    run : List ℕ
+      (told : b ≡ is_present (position_at (get_or spots at 0))) (gathered : (i : ℕ)
+      → has_number to i ≡ (has_number (map position_at (take at spots)) i && is_present i)) where
+    abbrev run : List ℕ
     run = take (end - at) (drop at spots)
 
-    run-all : All (λ spot. is_left (position_at spot) ≡ b) run
-    unfolding run
+    run-all : All (λ spot. is_present (position_at spot) ≡ b) run
     run-all k d lt =
         let short : k < end - at = omega (arith, lt, length-take (end - at) (drop at spots)) in
         let where-is : get_or (take (end - at) (drop at spots)) k d ≡ get_or spots (at + k) d =
@@ -165,7 +164,7 @@ module _ (entries : List (List ℕ)) (parts : List Part) where
         let first-spot : IsSpot parts (get_or spots at 0) =
         are.each at 0 (omega (arith, from, room)) in
         let this-spot : IsSpot parts (get_or spots (at + k) d) = are.each (at + k) d in-range in
-        ap (λ (s : ℕ). is_left (position_at s)) where-is
+        ap (λ (s : ℕ). is_present (position_at s)) where-is
         ∙ spot-stands (get_or spots (at + k) d) this-spot
         ∙ ap (λ (s : ℕ). stands entries (place_at s)) (any-default spots (at + k) d 0 in-range)
         ∙ ap (stands entries) (same (at + k) (omega arith) (omega (arith, short)))
@@ -174,13 +173,12 @@ module _ (entries : List (List ℕ)) (parts : List Part) where
 
     has-more : (i : ℕ)
         → (has_number to i || (b && has_number (map position_at run) i))
-        ≡ (has_number (map position_at (take end spots)) i && is_left i)
-    unfolding run
+        ≡ (has_number (map position_at (take end spots)) i && is_present i)
     has-more i =
         ap (λ (c : Bool). c || (b && has_number (map position_at run) i)) (gathered i)
         ∙ joined (has_number (map position_at (take at spots)) i)
-        (has_number (map position_at run) i) (is_left i) b (run-left run b run-all i)
-        ∙ ap (λ (c : Bool). c && is_left i) (sym whole)
+        (has_number (map position_at run) i) (is_present i) b (run-present run b run-all i)
+        ∙ ap (λ (c : Bool). c && is_present i) (sym whole)
       where
         split : take end spots ≡ take at spots ++ take (end - at) (drop at spots)
         split =
@@ -196,9 +194,9 @@ module _ (entries : List (List ℕ)) (parts : List Part) where
             ∙ list_any-append (λ m. nat_eq m i) (map position_at (take at spots))
             (map position_at (take (end - at) (drop at spots)))
 
-    pub none-more : b ≡ false → (i : ℕ)
-        → has_number to i ≡ (has_number (map position_at (take end spots)) i && is_left i)
-    none-more out i = or-false (has_number to i)
+    pub run-passed : b ≡ false → (i : ℕ)
+        → has_number to i ≡ (has_number (map position_at (take end spots)) i && is_present i)
+    run-passed out i = or-false (has_number to i)
         ∙ ap (λ (c : Bool). has_number to i || (c && has_number (map position_at run) i)) (sym out)
         ∙ has-more i
       where
@@ -206,11 +204,10 @@ module _ (entries : List (List ℕ)) (parts : List Part) where
         or-false true = refl
         or-false false = refl
 
-    pub run-more : b ≡ true → (new : List ℕ)
+    pub run-pushed : b ≡ true → (new : List ℕ)
         → new ≡ to ++ map position_at (take (end - at) (drop at spots)) → (i : ℕ)
-        → has_number new i ≡ (has_number (map position_at (take end spots)) i && is_left i)
-    unfolding run
-    run-more inside new is i =
+        → has_number new i ≡ (has_number (map position_at (take end spots)) i && is_present i)
+    run-pushed inside new is i =
         ap (λ (l : List ℕ). has_number l i) is
         ∙ list_any-append (λ m. nat_eq m i) to (map position_at run)
         ∙ ap (λ (c : Bool). has_number to i || (c && has_number (map position_at run) i))
@@ -218,13 +215,14 @@ module _ (entries : List (List ℕ)) (parts : List Part) where
         ∙ has-more i
 
   -- all runs
-  pub all-left : (spots : List ℕ) → AreSpots parts spots → (at : ℕ) (to : List ℕ)
+  pub all-present : (spots : List ℕ) → AreSpots parts spots → (at : ℕ) (to : List ℕ)
       → length spots ≤ at
-      → ((i : ℕ) → has_number to i ≡ (has_number (map position_at (take at spots)) i && is_left i))
-      → (i : ℕ) → has_number to i ≡ is_left i
-  all-left spots are at to done gathered i =
+      → ((i : ℕ)
+      → has_number to i ≡ (has_number (map position_at (take at spots)) i && is_present i))
+      → (i : ℕ) → has_number to i ≡ is_present i
+  all-present spots are at to done gathered i =
       gathered i
-      ∙ ap (λ (l : List ℕ). has_number (map position_at l) i && is_left i)
+      ∙ ap (λ (l : List ℕ). has_number (map position_at l) i && is_present i)
       (take_all at spots done) ∙ go (slice_get parts i) refl
     where
       go : (o : Option Part) → slice_get parts i ≡ o
@@ -239,9 +237,9 @@ module _ (entries : List (List ℕ)) (parts : List Part) where
           ap (λ (c : Bool). c && has_text entries p) (are.all i (get-within parts i p at))
 
   -- the positions are those of parts
-  pub left-within : (ns : List ℕ) → ((i : ℕ) → has_number ns i ≡ is_left i)
+  pub present-within : (ns : List ℕ) → ((i : ℕ) → has_number ns i ≡ is_present i)
       → All (λ i. i < length parts) ns
-  left-within ns has k d lt =
+  present-within ns has k d lt =
       there (slice_get parts (get_or ns k d)) refl (sym (has (get_or ns k d)) ∙ has-there ns k d lt)
     where
       there : (o : Option Part) → slice_get parts (get_or ns k d) ≡ o

@@ -1,5 +1,5 @@
--- The parts of a long statement by their places: the place and the position of each in one number,
--- its spot.
+-- The parts of a long statement by their places: the place and the position of each in one
+-- number, its spot.
 use Rattle.std.specs.Prelude.{◌≡◌, ℕ, ◌/◌, ◌%◌, ◌<◌, true, List, map, length, slice_get, Some, All}
 use Rattle.std.specs.List.Sorted.{IsNonDecreasingBy}
 use Rattle.mm_frame.specs.PlainFrames.{has_number}

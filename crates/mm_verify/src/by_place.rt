@@ -7,7 +7,7 @@ ghost use Rattle.mm_verify.specs.Spots.{AreSpots, IsSpot, place_at, position_at}
 use crate::parts::Part;
 use std::alloc::{AllocError, Global};
 
-/// A spot is the number of a place times this, and a position.
+/// A spot is the number of a place times this, plus a position.
 const SPAN: u64 = 4294967296;
 
 /// The parts of a statement, and the place and the position of each in one number, its spot. The

@@ -17,8 +17,8 @@ pub(crate) fn are_wanted(
 ) -> Result<bool, AllocError>
     requires count { length wanted.now ≡ length (drop base stack.now) }
     requires within { All (HasWithin (length (drop base stack.now))) wanted.now }
-    ensures { IfOk result
-        (λ r. r ≡ all_wanted (drop base stack.now) wanted.now (drop base stack.now)) }
+    ensures { IfOk result (λ r. r
+        ≡ all_wanted (drop base stack.now) wanted.now (drop base stack.now)) }
 {
     for i in 0..wanted.len() {
         let one = &wanted[i];

@@ -78,8 +78,7 @@ fn gather(
 fn is_present(statement: &PartsByPlace, at: usize, stack: &Stack, base: usize) -> bool
     requires at { at < length statement.now.spots.items }
     requires within { AreWithin (length (drop base stack.now)) statement.now.parts.items }
-    ensures { result ≡ passes (has_text (drop base stack.now))
-        (slice_get statement.now.parts.items
+    ensures { result ≡ passes (has_text (drop base stack.now)) (slice_get statement.now.parts.items
         (position_at (slice_index statement.now.spots.items at))) }
 {
     let position = position_of(statement.spots[at]);
@@ -99,8 +98,8 @@ fn push_positions(spots: &[u64], to: &mut Vec<usize>) -> Result<(), AllocError>
 /// The parts at positions.
 fn parts_at(parts: &[Part], positions: &[usize], to: &mut Vec<Part>) -> Result<(), AllocError>
     requires { All (λ i. i < length parts.now) positions.now }
-    ensures { IfOk result
-        (λ _. to.new.items ≡ flat_map (λ i. found_at (slice_get parts.now i)) positions.now) }
+    ensures { IfOk result (λ _. to.new.items
+        ≡ flat_map (λ i. found_at (slice_get parts.now i)) positions.now) }
 {
     to.clear();
     for position in positions {

@@ -14,12 +14,15 @@ use std::alloc::{AllocError, Global};
 /// With so many parts a statement is long.
 const LONG: usize = 128;
 
+/// The positions of so many parts fit in 32 bits.
+const MOST: usize = 4294967296;
+
 /// The parts of a statement. `statement_parts` are these.
 #[derive(Drop)]
 pub(crate) enum Statement {
-    /// Few parts, each of which a step looks at.
+    /// Few parts: a step looks at each.
     Short(Vec<Part>),
-    /// Many parts. A step passes over those whose texts are empty.
+    /// Many parts: a step passes over those whose texts are empty.
     Long(Box<PartsByPlace>),
 }
 
@@ -28,7 +31,7 @@ impl Statement {
     pub(crate) fn of(alloc: Global, parts: Vec<Part>) -> Result<Statement, AllocError>
         ensures { IfOk result (λ s. statement_parts s ≡ parts.items) }
     {
-        if parts.len() < LONG || parts.len() > u32::MAX as usize {
+        if parts.len() < LONG || parts.len() > MOST {
             return Ok(Statement::Short(parts));
         }
         let parts = PartsByPlace::of(alloc, parts)?;
@@ -45,8 +48,11 @@ impl Statement {
         }
     }
 
-    /// Whether an entry is the statement, with the texts of the entries from `base` on. An entry
-    /// with fewer symbols than the statement has parts is one only if texts are empty.
+    /// Whether an entry is the statement, with the texts of the entries from `base` on. If it has
+    /// fewer symbols than the statement has parts, some texts have to be empty. It takes time in
+    /// the length of the entry and in the number of different places, but for a factor of the
+    /// logarithm; if it is not the statement, in the number of parts, and then no further step is
+    /// taken.
     pub(crate) fn is_filled(
         &self,
         stack: &Stack,
@@ -68,7 +74,8 @@ impl Statement {
     }
 
     /// Appends the statement, with the texts of the entries from `base` on, for an entry of the
-    /// stack.
+    /// stack. It takes time in the length of what is appended and in the number of the entries, but
+    /// for a factor of the logarithm.
     pub(crate) fn fill(
         &self,
         stack: &mut Stack,

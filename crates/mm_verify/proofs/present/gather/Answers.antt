@@ -1,13 +1,13 @@
 use Rattle.std.proofs.Common.{arith, ◌∙◌, ◌++◌, ◌-◌, ap, drop, take, map, List, ℕ}
 use Rattle.mm_verify.specs.Spots.{position_at}
-use Rattle.mm_verify.proofs.Presence.{none-more, run-more, all-left}
+use Rattle.mm_verify.proofs.Presence.{run-passed, run-pushed, all-present}
 use Rattle.mm_verify.proofs.present.gather.Goals as goal
 
 pub loop-at-preserved : goal.loop-at-preserved
 loop-at-preserved c = record {
   room = c.run_end-end.ensures.room;
   gathered =
-      none-more (drop c.args.base c.args.stack.now) c.args.statement.now.parts.items
+      run-passed (drop c.args.base c.args.stack.now) c.args.statement.now.parts.items
       c.args.statement.now.spots.items c.args.statement.now.are_spots
       c.loop-at.at c.run_end-end.result c.loop-at.to.items c.is_present.result
       c.run_end-end.ensures.more c.run_end-end.ensures.room c.run_end-end.ensures.same
@@ -19,7 +19,7 @@ pub loop-at-preserved-in_ok-push_positions : goal.loop-at-preserved-in_ok-push_p
 loop-at-preserved-in_ok-push_positions c = record {
   room = c.run_end-end.ensures.room;
   gathered =
-      run-more (drop c.args.base c.args.stack.now) c.args.statement.now.parts.items
+      run-pushed (drop c.args.base c.args.stack.now) c.args.statement.now.parts.items
       c.args.statement.now.spots.items c.args.statement.now.are_spots
       c.loop-at.at c.run_end-end.result c.loop-at.to.items c.is_present.result
       c.run_end-end.ensures.more c.run_end-end.ensures.room c.run_end-end.ensures.same
@@ -34,7 +34,7 @@ loop-at-preserved-in_ok-push_positions c = record {
 
 pub returns : goal.returns
 returns c =
-    all-left (drop c.args.base c.args.stack.now) c.args.statement.now.parts.items
+    all-present (drop c.args.base c.args.stack.now) c.args.statement.now.parts.items
     c.args.statement.now.spots.items c.args.statement.now.are_spots
     c.loop-at.at c.loop-at.to.items (omega (arith, c.loop-at-test.false, c.len.ensures))
     c.loop-at.invariant.gathered

@@ -11,7 +11,7 @@ use Rattle.mm_frame.proofs.Placing.{places-filter}
 use Rattle.mm_verify.specs.declared.parts.Part.{Part}
 use Rattle.mm_verify.specs.Filling.{IsWithin, AreWithin, filled}
 use Rattle.mm_verify.specs.Present.{has_text}
-use Rattle.mm_verify.proofs.Presence.{with_text, present-filled, left-within}
+use Rattle.mm_verify.proofs.Presence.{with_text, present-filled, present-within}
 use Rattle.mm_verify.proofs.present.Present.find.Goals as goal
 
 pub parts_at-requires : goal.parts_at-requires
@@ -20,7 +20,7 @@ parts_at-requires c =
     (sym c.deref.ensures.value)
     (subst (λ (ns : List ℕ). All (λ i. i < length c.args.statement.now.parts.items) ns)
     (sym c.deref-2.ensures.value)
-    (left-within (drop c.args.base c.args.stack.now) c.args.statement.now.parts.items
+    (present-within (drop c.args.base c.args.stack.now) c.args.statement.now.parts.items
     c.dedup.new.self.items
     (λ i. sorted-has _ _ _ c.sort_unstable.ensures.permutation
     (dedup_is _ _ _ c.dedup.ensures.filtered) i ∙ c.in_ok-gather.ensures i)))
