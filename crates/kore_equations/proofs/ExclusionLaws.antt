@@ -1,7 +1,7 @@
 -- The readings of an axiom exclude each other.
-use Rattle.std.proofs.Common.{◌≡◌, ℕ, List, Some, ap, sym, ◌∙◌, subst}
+use Rattle.std.proofs.Common.{◌≡◌, Some, sym, ◌∙◌, subst}
 use Rattle.rule_core.specs.declared.signature.SymInfo.{SymInfo}
-use Rattle.kore_axioms.specs.AxiomClasses.{AxiomClass, equates}
+use Rattle.kore_axioms.specs.AxiomClasses.{equates}
 use Rattle.kore_shapes.specs.Statements.{Statement}
 use Rattle.kore_equations.specs.ReadableEquations.{IsReadable}
 use Rattle.kore_equations.specs.ReadingLaws.{ReadingsExclude}

@@ -43,10 +43,10 @@ pub(crate) fn equation_patterns(
 {
     let mut vars = Variables::new(alloc);
     let args = built_patterns(alloc, sig, &parts.patterns, &mut vars)?;
-    let bound = vars.len();
+    let argument_vars = vars.len();
     let cond = built_condition(alloc, sig, tested(condition), &mut vars)?;
     let right = build_pattern(alloc, sig, parts.right, &mut vars)?;
-    let bound = vars.len() == bound;
+    let bound = vars.len() == argument_vars;
     Ok(EquationPatterns {
         args,
         cond,
@@ -73,8 +73,8 @@ fn built_patterns(
         (plain_patterns made.items)) }
 {
     let mut made = Vec::with_capacity(alloc, pats.len())?;
-    for i in 0..pats.len() {
-        made.push(build_pattern(alloc, sig, pats[i], vars)?)?;
+    for pat in pats {
+        made.push(build_pattern(alloc, sig, pat, vars)?)?;
     }
     Ok(made)
 }

@@ -184,10 +184,7 @@ fn has_other_form(condition: Condition<'_>, parts: &EquationParts<'_>) -> bool
 fn is_of_other_form(pat: Option<&Pat>) -> bool
     ensures { result ≡ holds_of (has_one all_forms) (option_map pattern_at pat.entry) }
 {
-    match pat {
-        Some(pat) => has_form(pat, SoughtForms::All),
-        None => false,
-    }
+    pat.is_some_and(|pat| has_form(pat, SoughtForms::All))
 }
 
 fn have_form(pats: &[&Pat]) -> bool

@@ -106,8 +106,5 @@ fn meant_equation(
 fn as_number(number: usize) -> Result<u32, AllocError>
     ensures { IfOk result (λ n. n ≡ number) }
 {
-    if number > u32::MAX as usize {
-        return Err(AllocError);
-    }
-    Ok(number as u32)
+    u32::try_from(number).map_err(|_| AllocError)
 }

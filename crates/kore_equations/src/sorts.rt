@@ -61,8 +61,8 @@ fn are_parameters(sig: &Signature, pats: &[Pat], places: &[SortRef]) -> bool
     requires { IsNumbered sig.now }
     ensures { result ≡ each_faultless sig.now places.now (all_read (map pattern_tree pats.now)) }
 {
-    for i in 0..pats.len() {
-        if !is_faultless(sig, &pats[i], wanted(places, i)) {
+    for (i, pat) in pats.iter().enumerate() {
+        if !is_faultless(sig, pat, wanted(places, i)) {
             return false;
         }
     }
@@ -74,8 +74,8 @@ fn are_arguments(sig: &Signature, pats: &[&Pat], places: &[SortRef]) -> bool
     requires { IsNumbered sig.now }
     ensures { result ≡ each_faultless sig.now places.now (all_read (map pattern_at pats.now)) }
 {
-    for i in 0..pats.len() {
-        if !is_faultless(sig, pats[i], wanted(places, i)) {
+    for (i, pat) in pats.iter().enumerate() {
+        if !is_faultless(sig, pat, wanted(places, i)) {
             return false;
         }
     }

@@ -8,13 +8,13 @@ use Rattle.kore_equations.specs.ReadableEquations.{all_read}
 use Rattle.kore_equations.specs.BuiltEquations.{AreFine}
 use Rattle.kore_equations.proofs.patterns.built_patterns.Given as goal
 
-abbrev pub invariant-loop-i : goal.invariant-loop-i
-invariant-loop-i l = record {
-  fine : AreFine l.sig (all_read (map pattern_at (drop l.i l.pats)));
-  vars : with_all_variables l.sig l.vars (all_read (map pattern_at (drop l.i l.pats)))
+abbrev pub invariant-loop-pat : goal.invariant-loop-pat
+invariant-loop-pat l = record {
+  fine : AreFine l.sig (all_read (map pattern_at (drop l.pat-index l.pats)));
+  vars : with_all_variables l.sig l.vars (all_read (map pattern_at (drop l.pat-index l.pats)))
       ≡ with_all_variables l.sig l.fn.vars (all_read (map pattern_at l.pats));
   means : (more : List (List ℕ × ℕ)) (qs : List Pattern) → Extends l.vars more
-      → AllMean l.sig more (all_read (map pattern_at (drop l.i l.pats))) (patterns qs)
+      → AllMean l.sig more (all_read (map pattern_at (drop l.pat-index l.pats))) (patterns qs)
       → AllMean l.sig more (all_read (map pattern_at l.pats))
       (patterns (map plain_pattern l.made.items ++ qs));
 }

@@ -48,12 +48,14 @@ returns c =
     ∙ ap (λ (vs : List (List ℕ × ℕ)). with_variables sig vs (unfolded right)) two in
     let kept : named_sorts c.into_infos.result.items ≡ all = c.into_infos.ensures ∙ three in
     let most : c.len.result ≡ length all = omega (arith, c.len.ensures, ap length three) in
-    let some : c.len-bound.result ≡ length first =
-    omega (arith, c.len-bound.ensures, ap length one) in
-    let counted : nat_eq c.len.result c.len-bound.result ≡ nat_eq (length all) (length first) =
-    ap (λ (n : ℕ). nat_eq n c.len-bound.result) most ∙ ap (λ (n : ℕ). nat_eq (length all) n) some in
+    let some : c.len-argument_vars.result ≡ length first =
+    omega (arith, c.len-argument_vars.ensures, ap length one) in
+    let counted : nat_eq c.len.result c.len-argument_vars.result ≡ nat_eq (length all)
+        (length first) =
+    ap (λ (n : ℕ). nat_eq n c.len-argument_vars.result) most
+        ∙ ap (λ (n : ℕ). nat_eq (length all) n) some in
     let clear : (p : PatternTree) → test ≡ Some p → _ = λ p e. (f.test p e).clear in
-    let bound : nat_eq c.len.result c.len-bound.result ≡
+    let bound : nat_eq c.len.result c.len-argument_vars.result ≡
     (is_bound qs test && is_bound qs (Some right)) =
     counted ∙ bound_counted sig qs test right clear f.right.clear in
     record {
