@@ -1,4 +1,5 @@
-use Rattle.std.proofs.Common.{◌≡◌, ◌-◌, ◌+◌, arith, ◌<◌, ◌≤◌, ◌++◌, ◌∷◌, length, ap, sym, ◌∙◌, map, drop}
+use Rattle.std.proofs.Common.{◌≡◌, ◌-◌, ◌+◌, arith, ◌<◌, ◌≤◌, ◌++◌, ◌∷◌, length, ap, sym, ◌∙◌, map}
+use Rattle.std.proofs.Common.{drop}
 use Rattle.std.proofs.Common.{reverse, refl, eq-eqb}
 use Rattle.std.specs.Prelude.{flat_map, filter_map}
 use Rattle.std.proofs.lemmas.List.{length-drop, length-map, drop_all}
