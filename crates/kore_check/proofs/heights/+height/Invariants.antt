@@ -8,7 +8,8 @@ use Rattle.kore_check.proofs.heights.+height.Given as goal
 abbrev pub invariant-highest-loop-arg : goal.invariant-highest-loop-arg
 invariant-highest-loop-arg l = record {
   low : l.highest ≤ 501;
-  whole : cut (max l.highest (heights (reads (drop l.arg-index l.args)))) ≡ cut (heights (reads l.args));
+  whole : cut (max l.highest (heights (reads (drop l.arg-index l.args))))
+      ≡ cut (heights (reads l.args));
 }
 
 abbrev pub invariant-left_height-loop-i : goal.invariant-left_height-loop-i
