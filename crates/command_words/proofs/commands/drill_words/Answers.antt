@@ -55,7 +55,8 @@ returns-clause-good c =
           (ap is_some file ∙ ap (λ r. is_some (option_copied r)) c.in_ok-file.ensures.ok_part),
       record {
         named = c.requires;
-        steps = ap (option_map (digits_value 10)) number ∙ (rw c.in_ok-steps.ensures.ok_part at c.steps_in.ensures.number);
+        steps = ap (option_map (digits_value 10)) number ∙ (rw c.in_ok-steps.ensures.ok_part at
+            c.steps_in.ensures.number);
         some_steps = (rw c.in_ok-steps.ensures.ok_part at c.steps_in.ensures.bounds).0;
         few_steps = (rw c.in_ok-steps.ensures.ok_part at c.steps_in.ensures.bounds).1;
         file = file ∙ ap (λ r. option_copied r) c.in_ok-file.ensures.ok_part;

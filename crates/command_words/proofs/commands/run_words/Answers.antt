@@ -22,7 +22,8 @@ returns-in_err-definition-clause-bad c _ =
     (is_some (value_of run_app words (codes "term")))
     (option_map_or (is_number_to most_steps) (value_of run_app words (codes "limit")) false)
     (option_map_or (is_number_to most_calls) (value_of run_app words (codes "calls")) true)
-    (ap is_some definition ∙ ap (λ r. is_some (option_copied r)) c.in_err-definition.ensures.ok_part)
+    (ap is_some definition ∙ ap (λ r. is_some (option_copied r))
+    c.in_err-definition.ensures.ok_part)
 
 pub returns-in_err-term-clause-bad : goal.returns-in_err-term-clause-bad
 returns-in_err-term-clause-bad c _ =
@@ -89,9 +90,10 @@ returns-clause-good c =
           (option_map_or (is_number_to most_steps) (value_of run_app words (codes "limit")) false)
           (option_map_or (is_number_to most_calls) (value_of run_app words (codes "calls")) true)
           read.taken
-          (ap is_some definition ∙ ap (λ r. is_some (option_copied r)) c.in_ok-definition.ensures.ok_part)
-          (ap is_some term ∙ ap (λ r. is_some (option_copied r)) c.in_ok-term.ensures.ok_part)
-          (ap (λ (o : Option (List ℕ)). option_map_or (is_number_to most_steps) o false) limit
+          (ap is_some definition ∙ ap (λ r. is_some (option_copied r))
+          c.in_ok-definition.ensures.ok_part) (ap is_some term ∙ ap (λ r. is_some (option_copied r))
+          c.in_ok-term.ensures.ok_part) (ap (λ (o : Option (List ℕ)). option_map_or (is_number_to
+          most_steps) o false) limit
           ∙ (rw c.in_ok-limit.ensures.ok_part at c.number_in.ensures.good))
           (ap (λ (o : Option (List ℕ)). option_map_or (is_number_to most_calls) o true) calls
           ∙ (rw c.in_ok-calls.ensures.ok_part at c.number_or.ensures.good)),
@@ -99,7 +101,8 @@ returns-clause-good c =
         named = c.requires;
         definition = definition ∙ ap (λ r. option_copied r) c.in_ok-definition.ensures.ok_part;
         term = term ∙ ap (λ r. option_copied r) c.in_ok-term.ensures.ok_part;
-        limit = ap (option_map (digits_value 10)) limit ∙ (rw c.in_ok-limit.ensures.ok_part at c.number_in.ensures.number);
+        limit = ap (option_map (digits_value 10)) limit ∙ (rw c.in_ok-limit.ensures.ok_part at
+            c.number_in.ensures.number);
         calls = (rw c.in_ok-calls.ensures.ok_part at c.number_or.ensures.number)
             ∙ ap (λ (o : Option (List ℕ)). option_map_or (digits_value 10) o usual_calls)
             (sym calls);

@@ -1,4 +1,5 @@
-use Rattle.std.proofs.Common.{rules, length-append, ◌≡◌, ◌<◌, ℕ, min, List, [], Some, None, length, drop, replicate, refl, sym}
+use Rattle.std.proofs.Common.{rules, length-append, ◌≡◌, ◌<◌, ℕ, min, List, [], Some, None, length}
+use Rattle.std.proofs.Common.{drop, replicate, refl, sym}
 use Rattle.std.proofs.Common.{◌∙◌, subst, arith}
 use Rattle.std.specs.Prelude.{slice_get}
 use Rattle.std.proofs.lemmas.List.{drop_all}
@@ -35,10 +36,9 @@ returns-then-not-branch-clause-found g c =
     slice_get_read _ (length c.args.terms.now) _ _ refl turn.1 (turn.3 _) in
     search_failed c.args.subsorts.now c.args.vars (plain_patterns c.args.pats.now)
     (forest c.args.terms.now) c.has_no_cycle.ensures
-    (rest_fails _ c.args.pats.now c.args.terms.now _ (length c.loop-pat.yielded) _ c.in-Some.term.now _
-    (turn.2 _) turn.0 item
-    (answer_none _ _ _ c.in_ok-match_term.ensures.found c.if-not-branch.true)
-    c.loop-pat.invariant.rest)
+    (rest_fails _ c.args.pats.now c.args.terms.now _ (length c.loop-pat.yielded) _
+    c.in-Some.term.now _ (turn.2 _) turn.0 item (answer_none _ _ _ c.in_ok-match_term.ensures.found
+    c.if-not-branch.true) c.loop-pat.invariant.rest)
 
 pub loop-pat-preserved : goal.loop-pat-preserved
 loop-pat-preserved g c =
@@ -51,10 +51,9 @@ loop-pat-preserved g c =
     record {
       room = c.in_ok-match_term.ensures.room ∙ c.loop-pat.invariant.room;
       rest =
-          simp length-append (rest_goes_on _ c.args.pats.now c.args.terms.now _ _ (length c.loop-pat.yielded) _ c.in-Some.term.now _
-          (turn.2 _) turn.0 item
-          (answer_some _ _ _ c.in_ok-match_term.ensures.found c.if-not-branch.false)
-          c.loop-pat.invariant.rest);
+          simp length-append (rest_goes_on _ c.args.pats.now c.args.terms.now _ _ (length
+          c.loop-pat.yielded) _ c.in-Some.term.now _ (turn.2 _) turn.0 item (answer_some _ _ _
+          c.in_ok-match_term.ensures.found c.if-not-branch.false) c.loop-pat.invariant.rest);
       looks =
           simp length-append (omega (
             arith,

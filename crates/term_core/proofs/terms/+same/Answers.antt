@@ -31,8 +31,8 @@ pub all_same-same-requires : goal.all_same-same-requires
 all_same-same-requires t c =
     let turn =
     zip_turn c.args.xs.now c.args.ys.now c.loop-x.yielded c.into_iter-x-iterator.result _
-    c.next.new.self _ (search rules) (search rules) c.loop-x.yielded_by (c.in-Some.x, c.in-Some.y) c.in-Some.is
-    c.next.ensures.steps in
+    c.next.new.self _ (search rules) (search rules) c.loop-x.yielded_by (c.in-Some.x, c.in-Some.y)
+    c.in-Some.is c.next.ensures.steps in
     let low : height c.in-Some.x.now ≤ heights (forest c.args.xs.now) =
     height_of-item _ _ _ (turn.2 c.in-Some.x.now) turn.0 in
     (omega arith, tt)

@@ -33,4 +33,5 @@ unreachable-requires c =
     let count : length c.args.self.now ≡ length c.self.inside.pairs.items =
     ap (λ (ps : List (ℕ × ℕ)). length ps) (sym c.self.view_is) ∙ length-map _ _ in
     let all : length c.args.self.now ≤ c.loop-lower.lower-index = omega (arith, count) in
-    some_leads c.args.self.now c.args.from.0 c.args.b.0 c.loop-lower.lower-index c.requires all c.loop-lower.invariant
+    some_leads c.args.self.now c.args.from.0 c.args.b.0 c.loop-lower.lower-index c.requires all
+    c.loop-lower.invariant
