@@ -122,8 +122,8 @@ evaluate_ctor-returns g t c =
     let more : c.args.nest ≡ suc (c.args.nest - 1) = omega arith in
     constructed_gives g.R.Recording.tells g.R.Recording.all_tell (theory_of c.args.engine.now)
     (c.args.nest - 1) c.args.nest c.args.sym.0 c.args.calls c.in_ok-args.left c.args.subst.now
-    (plain_patterns c.args.args.now) c.in_ok-args.args more c.in_ok-args.ensures.0 c.in_ok-args.ensures.1
-    c.construct.result c.construct.ensures
+    (plain_patterns c.args.args.now) c.in_ok-args.args more c.in_ok-args.ensures.0
+    c.in_ok-args.ensures.1 c.construct.result c.construct.ensures
 
 pub evaluate_ctor-returns-in_err-args : goal.evaluate_ctor-returns-in_err-args
 evaluate_ctor-returns-in_err-args g t c =
@@ -148,8 +148,8 @@ evaluate_inj-returns g t c =
     let more : c.args.nest ≡ suc (c.args.nest - 1) = omega arith in
     injected_gives g.R.Recording.tells (theory_of c.args.engine.now) (c.args.nest - 1) c.args.nest
     c.in-Some.sym.0 c.args.from.0 c.args.to.0 c.args.calls c.in_ok-below.left c.args.subst.now
-    (plain_pattern c.args.below.now) c.in_ok-below.below c.in-Some.ensures more c.in_ok-below.ensures.0
-    c.in_ok-below.ensures.1 c.inject.result c.inject.ensures
+    (plain_pattern c.args.below.now) c.in_ok-below.below c.in-Some.ensures more
+    c.in_ok-below.ensures.0 c.in_ok-below.ensures.1 c.inject.result c.inject.ensures
 
 pub evaluate_inj-returns-in_err-below : goal.evaluate_inj-returns-in_err-below
 evaluate_inj-returns-in_err-below g t c =
@@ -157,7 +157,8 @@ evaluate_inj-returns-in_err-below g t c =
     rw (p.1, p.2) (let more : c.args.nest ≡ suc (c.args.nest - 1) = omega arith in
     injected_stops g.R.Recording.tells (theory_of c.args.engine.now) (c.args.nest - 1) c.args.nest
     c.in-Some.sym.0 c.args.from.0 c.args.to.0 c.args.calls c.args.subst.now
-    (plain_pattern c.args.below.now) c.in_err-below.field-0.0 c.in-Some.ensures more c.in_err-below.ensures)
+    (plain_pattern c.args.below.now) c.in_err-below.field-0.0 c.in-Some.ensures more
+    c.in_err-below.ensures)
 
 -- ---- evaluate_call
 
@@ -201,8 +202,8 @@ evaluate_call-returns g t c =
     let more : c.args.nest ≡ suc (c.args.nest - 1) = omega arith in
     called_gives g.R.Recording.tells g.R.Recording.all_tell (theory_of c.args.engine.now)
     (c.args.nest - 1) c.args.nest c.args.sym.0 c.args.calls c.in_ok-args.left c.args.subst.now
-    (plain_patterns c.args.args.now) c.in_ok-args.args more c.in_ok-args.ensures.0 c.in_ok-args.ensures.1
-    c.apply.result c.apply.ensures
+    (plain_patterns c.args.args.now) c.in_ok-args.args more c.in_ok-args.ensures.0
+    c.in_ok-args.ensures.1 c.apply.result c.apply.ensures
 
 pub evaluate_call-returns-in_err-args : goal.evaluate_call-returns-in_err-args
 evaluate_call-returns-in_err-args g t c = λ sorts.
@@ -231,11 +232,13 @@ evaluate_all-evaluate-requires g t c κs within = (
 
 pub evaluate_all-returns-in_err-answer : goal.evaluate_all-returns-in_err-answer
 evaluate_all-returns-in_err-answer g t c =
-    let p = err_from_is_err_and c.from_residual-in_err-answer.result c.from_residual-in_err-answer.ensures.1 in
-    rw (p.1, p.2) (pattern_stops g.R.Recording.tells g.R.Recording.all_tell (theory_of c.args.engine.now)
-    c.args.nest c.args.subst.now c.args.pats.now c.args.calls c.loop-pat.pat-index
-    c.loop-pat.terms.items c.loop-pat.left c.pat-item.result c.in_err-answer.field-0.0
-    c.loop-pat.invariant.goes c.pat-item.is c.loop-pat-test.true c.in_err-answer.ensures)
+    let p = err_from_is_err_and c.from_residual-in_err-answer.result
+    c.from_residual-in_err-answer.ensures.1 in
+    rw (p.1, p.2) (pattern_stops g.R.Recording.tells g.R.Recording.all_tell (theory_of
+    c.args.engine.now) c.args.nest c.args.subst.now c.args.pats.now c.args.calls
+    c.loop-pat.pat-index c.loop-pat.terms.items c.loop-pat.left c.pat-item.result
+    c.in_err-answer.field-0.0 c.loop-pat.invariant.goes c.pat-item.is c.loop-pat-test.true
+    c.in_err-answer.ensures)
 
 pub evaluate_all-loop-pat-preserved : goal.evaluate_all-loop-pat-preserved
 evaluate_all-loop-pat-preserved g t c =
@@ -509,11 +512,12 @@ apply_equations-returns-in_err-body g t c =
     c.args.nest c.args.sym.0 c.in-Some.chosen.subst (plain_pattern x.right)
     c.in_ok-chosen.left (Err c.in_err-body.field-0.0)) (sym c.index-equations_of-number.is)
     c.in_err-body.ensures in
-    let p = err_from_is_err_and c.from_residual-in_err-body.result c.from_residual-in_err-body.ensures.1 in
-    rw (p.1, p.2) (right_stops g.R.Recording.tells g.R.Recording.all_tell (theory_of c.args.engine.now) c.args.nest
-    c.args.sym.0 c.args.args c.args.calls c.in-Some.chosen.number c.in_ok-chosen.left
-    c.in-Some.chosen.subst (function_equation c.index-equations_of-number.result)
-    c.in_err-body.field-0.0 says.0 there stops)
+    let p = err_from_is_err_and c.from_residual-in_err-body.result
+    c.from_residual-in_err-body.ensures.1 in
+    rw (p.1, p.2) (right_stops g.R.Recording.tells g.R.Recording.all_tell (theory_of
+    c.args.engine.now) c.args.nest c.args.sym.0 c.args.args c.args.calls c.in-Some.chosen.number
+    c.in_ok-chosen.left c.in-Some.chosen.subst (function_equation
+    c.index-equations_of-number.result) c.in_err-body.field-0.0 says.0 there stops)
 
 -- ---- choose_equation
 
@@ -568,8 +572,8 @@ choose_equation-returns-in-Used g t c =
 pub choose_equation-returns-in_err-trial : goal.choose_equation-returns-in_err-trial
 choose_equation-returns-in_err-trial g t c =
     let p = err_from_is_err_and c.from_residual.result c.from_residual.ensures.1 in
-    rw (p.1, p.2) (let all : map function_equation c.equations_of-equations.result.now ≡ equations_of
-    (theory_of c.args.engine.now) c.args.sym.0 =
+    rw (p.1, p.2) (let all : map function_equation c.equations_of-equations.result.now ≡
+    equations_of (theory_of c.args.engine.now) c.args.sym.0 =
     subst (λ (p : Program). map function_equation c.equations_of-equations.result.now
     ≡ equations_of (theory_of p) c.args.sym.0) c.program.ensures.program
     c.equations_of-equations.ensures in
@@ -579,8 +583,8 @@ choose_equation-returns-in_err-trial g t c =
     c.loop-i.i c.index-equations-i.result all c.index-equations-i.is (omega arith) in
     trial_stops g.R.Recording.tells (theory_of c.args.engine.now) c.args.nest c.args.sym.0
     (forest c.args.terms.now) c.args.calls c.loop-i.i c.loop-i.left
-    (function_equation c.index-equations-i.result) c.in_err-trial.field-0.0 c.loop-i.invariant.tried there
-    c.in_err-trial.ensures)
+    (function_equation c.index-equations-i.result) c.in_err-trial.field-0.0 c.loop-i.invariant.tried
+    there c.in_err-trial.ensures)
 
 pub choose_equation-loop-i-preserved : goal.choose_equation-loop-i-preserved
 choose_equation-loop-i-preserved g t c =
@@ -733,17 +737,20 @@ try_equation-returns-else-is_true g t c =
     inr (
       c.in-Some.subst,
       match,
-      test_fails (theory_of c.args.engine.now) c.args.nest c.args.sym.0 c.args.calls c.in_ok-answer.left
+      test_fails (theory_of c.args.engine.now) c.args.nest c.args.sym.0 c.args.calls
+          c.in_ok-answer.left
           c.in-Some.subst (option_map plain_pattern c.args.equation.now.cond)
-          (plain_pattern c.in-Some-cond.cond) c.in_ok-answer.answer.term some c.in_ok-answer.ensures.0
-          (λ is. false≢true (sym c.if-is_true.false ∙ c.is_true.ensures.1 is)),
+          (plain_pattern c.in-Some-cond.cond) c.in_ok-answer.answer.term some
+          c.in_ok-answer.ensures.0 (λ is. false≢true (sym c.if-is_true.false ∙ c.is_true.ensures.1
+          is)),
     )
 
 pub try_equation-returns-in_err-answer : goal.try_equation-returns-in_err-answer
 try_equation-returns-in_err-answer g t c =
-    let p = err_from_is_err_and c.from_residual-in_err-answer.result c.from_residual-in_err-answer.ensures.1 in
-    rw (p.1, p.2) (let found : Matches (theory_of c.args.engine.now) (function_equation c.args.equation.now)
-    (forest c.args.terms.now) c.in_ok-subst.field-0 =
+    let p = err_from_is_err_and c.from_residual-in_err-answer.result
+    c.from_residual-in_err-answer.ensures.1 in
+    rw (p.1, p.2) (let found : Matches (theory_of c.args.engine.now) (function_equation
+    c.args.equation.now) (forest c.args.terms.now) c.in_ok-subst.field-0 =
     subst (λ (p : Program). Matches (theory_of p) (function_equation c.args.equation.now)
     (forest c.args.terms.now) c.in_ok-subst.field-0) c.program.ensures.program
     c.in_ok-subst.ensures in
@@ -757,4 +764,5 @@ try_equation-returns-in_err-answer g t c =
     ap (option_map plain_pattern) c.in-Some-cond.is in
     test_stops g.R.Recording.tells (theory_of c.args.engine.now) c.args.nest c.args.sym.0
     (function_equation c.args.equation.now) (forest c.args.terms.now) c.args.calls
-    c.in-Some.subst (plain_pattern c.in-Some-cond.cond) c.in_err-answer.field-0.0 match some c.in_err-answer.ensures)
+    c.in-Some.subst (plain_pattern c.in-Some-cond.cond) c.in_err-answer.field-0.0 match some
+    c.in_err-answer.ensures)

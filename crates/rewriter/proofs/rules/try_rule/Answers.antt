@@ -119,8 +119,9 @@ returns-else-is_true g c =
       match,
       test_fails (theory_of c.args.engine.now) c.args.calls c.eval_as.new.budget.calls
           c.in-Some.subst (option_map plain_pattern c.args.rule.now.cond)
-          (plain_pattern c.in-Some-cond.cond) c.in_ok-answer.answer.term some c.in_ok-answer.ensures.value
-          (λ is. false≢true (sym c.if-is_true.false ∙ c.is_true.ensures.1 is)),
+          (plain_pattern c.in-Some-cond.cond) c.in_ok-answer.answer.term some
+          c.in_ok-answer.ensures.value (λ is. false≢true (sym c.if-is_true.false ∙
+          c.is_true.ensures.1 is)),
     )
 
 pub returns-in_err-answer : goal.returns-in_err-answer
@@ -139,7 +140,8 @@ returns-in_err-answer g c =
     let some : option_map plain_pattern c.args.rule.now.cond ≡ Some
     (plain_pattern c.in-Some-cond.cond) =
     ap (option_map plain_pattern) c.in-Some-cond.is in
-    let p = err_from_is_err_and c.from_residual-in_err-answer.result c.from_residual-in_err-answer.ensures.1 in
-    rw (p.1, p.2) (test_stops g.R.Recording.tells (theory_of c.args.engine.now) (rewrite_rule c.args.rule.now)
-    c.args.term.now c.args.calls c.in-Some.subst (plain_pattern c.in-Some-cond.cond)
-    c.in_err-answer.field-0.0 match some c.in_err-answer.ensures.blocked)
+    let p = err_from_is_err_and c.from_residual-in_err-answer.result
+    c.from_residual-in_err-answer.ensures.1 in
+    rw (p.1, p.2) (test_stops g.R.Recording.tells (theory_of c.args.engine.now) (rewrite_rule
+    c.args.rule.now) c.args.term.now c.args.calls c.in-Some.subst (plain_pattern
+    c.in-Some-cond.cond) c.in_err-answer.field-0.0 match some c.in_err-answer.ensures.blocked)

@@ -14,8 +14,8 @@ use Rattle.rewriter.proofs.step.advance.Goals as goal
 pub returns-in_err-chosen : goal.returns-in_err-chosen
 returns-in_err-chosen g c =
     let p = err_from_is_err_and c.from_residual.result c.from_residual.ensures.1 in
-    rw (p.1, p.2) (choice_stops g.R.Recording.tells (theory_of c.args.engine.now) c.args.config.now c.args.calls
-    c.in_err-chosen.field-0.0 c.in_err-chosen.ensures)
+    rw (p.1, p.2) (choice_stops g.R.Recording.tells (theory_of c.args.engine.now) c.args.config.now
+    c.args.calls c.in_err-chosen.field-0.0 c.in_err-chosen.ensures)
 
 pub returns-in_default : goal.returns-in_default
 returns-in_default g c =
@@ -99,8 +99,8 @@ returns-in_err-answer g c =
     within c.index.ensures) in
     let low : height c.args.config.now ≤ 500 =
     omega (arith, c.height-high.ensures.bound, c.height-high.ensures.value) in
-    let p = err_from_is_err_and c.from_residual-in_err-answer.result c.from_residual-in_err-answer.ensures.1 in
-    rw (p.1, p.2) (right_stops g.R.Recording.tells (theory_of c.args.engine.now) c.args.config.now c.args.calls
-    c.in-Some.chosen.number c.in_ok-chosen.left c.in-Some.chosen.subst
-    (rewrite_rule c.index.result.now) c.in_err-answer.field-0.0 picked.0 there
-    c.in_err-answer.ensures.blocked)
+    let p = err_from_is_err_and c.from_residual-in_err-answer.result
+    c.from_residual-in_err-answer.ensures.1 in
+    rw (p.1, p.2) (right_stops g.R.Recording.tells (theory_of c.args.engine.now) c.args.config.now
+    c.args.calls c.in-Some.chosen.number c.in_ok-chosen.left c.in-Some.chosen.subst (rewrite_rule
+    c.index.result.now) c.in_err-answer.field-0.0 picked.0 there c.in_err-answer.ensures.blocked)

@@ -17,7 +17,7 @@ returns-clause-starts g c =
 pub returns-clause-sorted : goal.returns-clause-sorted
 returns-clause-sorted g c =
     start_sorted (theory_of c.args.engine.now) (plain_pattern c.args.start.now) c.args.calls
-    c.eval_as.new.budget.calls c.in_ok-answer.answer.term c.program-program.ensures.sorted c.requires
-    (run_started (theory_of c.args.engine.now) (plain_pattern c.args.start.now) c.in_ok-subst.subst
-    c.args.calls c.eval_as.new.budget.calls c.in_ok-answer.answer.term c.in_ok-subst.ensures
-    c.in_ok-answer.ensures.value)
+    c.eval_as.new.budget.calls c.in_ok-answer.answer.term c.program-program.ensures.sorted
+    c.requires (run_started (theory_of c.args.engine.now) (plain_pattern c.args.start.now)
+    c.in_ok-subst.subst c.args.calls c.eval_as.new.budget.calls c.in_ok-answer.answer.term
+    c.in_ok-subst.ensures c.in_ok-answer.ensures.value)
