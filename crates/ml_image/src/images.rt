@@ -144,13 +144,11 @@ pub(crate) fn injection_image(
     ensures image { IfOk result (λ p. injection_image sig.now names.new from.0 to.0 ≡ Some p) }
     ensures names { HasGained sig.now names.old names.new }
 {
-    match injection_symbol(sig) {
-        Some(symbol) => {
-            let head = head_image(alloc, sig, names, symbol)?;
-            at_sorts(alloc, sig, names, head, &[from, to])
-        }
-        None => unreachable!(),
-    }
+    let Some(symbol) = injection_symbol(sig) else {
+        unreachable!()
+    };
+    let head = head_image(alloc, sig, names, symbol)?;
+    at_sorts(alloc, sig, names, head, &[from, to])
 }
 
 /// The number of the injection symbol, if there is one. It looks at the symbols up to this one.
@@ -172,15 +170,8 @@ fn is_injection(sig: &Signature, symbol: usize) -> bool
     requires { symbol < length sig.now.symbols }
     ensures { IsInjectionAt sig.now symbol result }
 {
-    match sig.symbols.value(symbol) {
-        Some(info) => match info.kind {
-            SymKind::Injection => true,
-            SymKind::Ctor
-            | SymKind::Equations
-            | SymKind::Hooked(_)
-            | SymKind::Closed
-            | SymKind::NoKind => false,
-        },
-        None => unreachable!(),
-    }
+    let Some(info) = sig.symbols.value(symbol) else {
+        unreachable!()
+    };
+    matches!(info.kind, SymKind::Injection)
 }

@@ -95,14 +95,12 @@ fn truth_image(
         (Some (plain_pattern pat.now))) }
     ensures names { HasGained sig.now names.old names.new }
 {
-    match sort_of(sig, vars, pat) {
-        Some(sort) => {
-            let held = image(alloc, sig, names, first, pat)?;
-            let truth = value_number(alloc, sig, names, sort, &Value::Bool(true))?;
-            MPat::equal(alloc, &held, &MPat::constant(alloc, truth)?)
-        }
-        None => unreachable!(),
-    }
+    let Some(sort) = sort_of(sig, vars, pat) else {
+        unreachable!()
+    };
+    let held = image(alloc, sig, names, first, pat)?;
+    let truth = value_number(alloc, sig, names, sort, &Value::Bool(true))?;
+    MPat::equal(alloc, &held, &MPat::constant(alloc, truth)?)
 }
 
 // The sort of a pattern.

@@ -29,13 +29,11 @@ pub(crate) fn sort_number(
         (λ s. numbered names.new (token_of_sort sig.now sort.0) ≡ Some s.0) }
     ensures names { HasGained sig.now names.old names.new }
 {
-    match sig.sorts.name(sort.0 as usize) {
-        Some(name) => {
-            let token = prefixed(alloc, "s:", name)?;
-            Ok(MSort(names.number(token.as_str())?))
-        }
-        None => unreachable!(),
-    }
+    let Some(name) = sig.sorts.name(sort.0 as usize) else {
+        unreachable!()
+    };
+    let token = prefixed(alloc, "s:", name)?;
+    Ok(MSort(names.number(token.as_str())?))
 }
 
 // The number of a symbol's token.
@@ -50,13 +48,11 @@ pub(crate) fn symbol_number(
         (λ c. numbered names.new (token_of_symbol sig.now symbol) ≡ Some c.0) }
     ensures names { HasGained sig.now names.old names.new }
 {
-    match sig.symbols.name(symbol) {
-        Some(name) => {
-            let token = prefixed(alloc, "f:", name)?;
-            Ok(ConstNo(names.number(token.as_str())?))
-        }
-        None => unreachable!(),
-    }
+    let Some(name) = sig.symbols.name(symbol) else {
+        unreachable!()
+    };
+    let token = prefixed(alloc, "f:", name)?;
+    Ok(ConstNo(names.number(token.as_str())?))
 }
 
 // The number of the token of a domain value that the sort has.
@@ -72,13 +68,11 @@ pub(crate) fn value_number(
         (λ c. numbered names.new (token_of_value sig.now sort.0 (value_of value.now)) ≡ Some c.0) }
     ensures names { HasGained sig.now names.old names.new }
 {
-    match sig.sorts.name(sort.0 as usize) {
-        Some(name) => {
-            let token = value_token(alloc, name, value)?;
-            Ok(ConstNo(names.number(token.as_str())?))
-        }
-        None => unreachable!(),
-    }
+    let Some(name) = sig.sorts.name(sort.0 as usize) else {
+        unreachable!()
+    };
+    let token = value_token(alloc, name, value)?;
+    Ok(ConstNo(names.number(token.as_str())?))
 }
 
 // The token of a domain value of the sort with this name.

@@ -9,11 +9,11 @@ pub returns-clause-image : goal.returns-clause-image
 returns-clause-image c =
     let found : injection_symbol c.args.sig.now ≡ Some c.in-Some.symbol = search rules in
     let head : symbol_image c.args.sig.now c.at_sorts.new.names c.in-Some.symbol ≡ Some
-    c.in_ok-head-in-Some.head =
+    c.in_ok-head.head =
     gained-symbol c.args.sig.now c.head_image.new.names c.at_sorts.new.names c.in-Some.symbol
-    c.at_sorts.ensures.names c.in_ok-head-in-Some.head c.in_ok-head-in-Some.ensures.image in
+    c.at_sorts.ensures.names c.in_ok-head.head c.in_ok-head.ensures.image in
     let whole : injection_image c.args.sig.now c.at_sorts.new.names c.args.from.0 c.args.to.0 ≡
-    at_sorts c.args.sig.now c.at_sorts.new.names (Some c.in_ok-head-in-Some.head)
+    at_sorts c.args.sig.now c.at_sorts.new.names (Some c.in_ok-head.head)
     (c.args.from.0 ∷ c.args.to.0 ∷ []) =
     ap (λ (o : Option ℕ). at_sorts c.args.sig.now c.at_sorts.new.names
     (some_symbol_image c.args.sig.now c.at_sorts.new.names o)

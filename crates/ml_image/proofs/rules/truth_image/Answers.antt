@@ -20,7 +20,7 @@ returns-clause-image c =
     Some c.in-Some.sort.0 =
     sym c.sort_of.ensures ∙ ap (option_map (λ (s : SortId). s.0)) c.in-Some.is in
     truth_said c.args.sig.now c.image.new.names c.value_number.new.names (sorts_of c.args.vars.now)
-    c.args.first (plain_pattern c.args.pat.now) c.in-Some.sort.0 c.in_ok-truth-in-Some.truth.0
-    c.in_ok-held-in-Some.held c.in_ok-constant-in-Some.field-0 c.equal.result
-    c.value_number.ensures.names sort c.in_ok-held-in-Some.ensures.image
-    c.in_ok-truth-in-Some.ensures.number c.in_ok-constant-in-Some.ensures c.equal.ensures
+    c.args.first (plain_pattern c.args.pat.now) c.in-Some.sort.0 c.in_ok-truth.truth.0
+    c.in_ok-held.held c.in_ok-constant.field-0 c.equal.result
+    c.value_number.ensures.names sort c.in_ok-held.ensures.image
+    c.in_ok-truth.ensures.number c.in_ok-constant.ensures c.equal.ensures

@@ -12,7 +12,7 @@ returns-clause-number c =
     search rules in
     ap (λ (t : Option (List ℕ)). numbered c.number.new.self t) token
     ∙ number_of-numbered c.args.names.now c.number.new.self c.as_str.result.now
-    c.in_ok-number-in-Some.field-0 c.in_ok-number-in-Some.ensures.number
+    c.in_ok-number.field-0 c.in_ok-number.ensures.number
 
 pub returns-clause-names : goal.returns-clause-names
 returns-clause-names c =
@@ -20,6 +20,6 @@ returns-clause-names c =
     c.as_str.result.now =
     search rules in
     gained-numbered c.args.sig.now c.args.names.now c.number.new.self c.as_str.result.now
-    c.in_ok-number-in-Some.field-0
+    c.in_ok-number.field-0
     (of_value c.args.sort.0 (value_of c.args.value.now) c.requires token)
-    c.in_ok-number-in-Some.ensures.number
+    c.in_ok-number.ensures.number
