@@ -61,6 +61,14 @@ def premises_between_with_variables(n):
     return HEAD + declared + "${\n" + "".join(f"e{i} $e t {v} $. a{i} $a t u $.\n" for i, v in enumerate(names)) + "$}\n"
 
 
+def variables_under_premises(n):
+    """n active `$e`, and n axioms under them, each with a typed variable of its own, every other one in a block."""
+    names, declared = variables(n)
+    premises = "".join(f"e{i} $e t u $.\n" for i in range(n))
+    axioms = (f"a{i} $a t {v} $.\n" if i % 2 else f"${{ b{i} $e t x $. a{i} $a t {v} $. $}}\n" for i, v in enumerate(names))
+    return HEAD + declared + "${\n" + premises + "".join(axioms) + "$}\n"
+
+
 def declarations_between(n):
     """n active `$e`, and n axioms, with a constant, a typed variable, a `$d` or a block before each."""
     between = ["$c c{i} $. ", "$v v{i} $. f{i} $f t v{i} $. ", "$d x y $. $d y x $. ", "${{ b{i} $a t u $. $}} "]
@@ -181,6 +189,7 @@ CASES = {
     "many_premises": (many_premises, 12500),
     "premises_between": (premises_between, 6000),
     "premises_between_with_variables": (premises_between_with_variables, 3000),
+    "variables_under_premises": (variables_under_premises, 6000),
     "declarations_between": (declarations_between, 3000),
     "pair_in_many_groups": (pair_in_many_groups, 10000),
     "empty_texts": (empty_texts, 10000),

@@ -53,7 +53,7 @@ any-from test (x ∷ xs) P found is = go (test x) refl is (any-from test xs P (�
     go true here any rest = found 0 here
     go false here any rest = rest any
 
-has-there : (f : ℕ → Bool) (ns : List ℕ) (i : ℕ) → has_number ns i ≡ true → f i ≡ true
+pub has-there : (f : ℕ → Bool) (ns : List ℕ) (i : ℕ) → has_number ns i ≡ true → f i ≡ true
     → list_any f ns ≡ true
 has-there f [] i has is = absurd (cc)
 has-there f (n ∷ ns) i has is = go (nat_eq n i) refl has (has-there f ns i)
@@ -191,7 +191,7 @@ kept-shares groups numbers kept place has a b =
         spread (not (nat_eq a b)) (has_number g a) (has_number g b) (has_number numbers a)
         (has_number numbers b)
 
-any-and : {X : Type 0} (test : X → Bool) (b : Bool) (xs : List X)
+pub any-and : {X : Type 0} (test : X → Bool) (b : Bool) (xs : List X)
     → list_any (λ x. test x && b) xs ≡ (list_any test xs && b)
 any-and test b [] = refl
 any-and test b (x ∷ xs) =

@@ -70,7 +70,7 @@ typed-append h (n ∷ ns) ms = go (is_typed_in h n) (typed-append h ns ms)
     go false rest = rest
 
 -- the hypothesis is the `$f` of one of the variables
-abbrev types_one : List ℕ → NumberedHypothesis → Bool
+abbrev pub types_one : List ℕ → NumberedHypothesis → Bool
 types_one ns (floating label typecode variable) = has_number ns variable
 types_one ns (essential label statement) = false
 
@@ -124,7 +124,7 @@ eq-turned a b = go (nat_eq a b) (nat_eq b a) refl refl
         let wrong : true ≡ false = sym (eq-eqb a b (sym same)) ∙ e in let z : ⊥ = cc in z)
     go false false e f = refl
 
-typed-has : (h : ScopeState) → ArePlaced h → (ns : List ℕ) (i : ℕ)
+pub typed-has : (h : ScopeState) → ArePlaced h → (ns : List ℕ) (i : ℕ)
     → has_number (typed_places h ns) i ≡ passes (types_one ns) (slice_get h.hypotheses i)
 typed-has h placed [] i = none (slice_get h.hypotheses i)
   where
@@ -149,6 +149,25 @@ typed-has h placed (n ∷ ns) i = go (is_typed_in h n)
     join (Some (floating l k v)) = ap (λ b. b || has_number ns v) (eq-turned v n)
     join (Some (essential l s)) = refl
 
+pub mandatory-has : (h : ScopeState) → ArePlaced h → (ns places : List ℕ)
+    → ((i : ℕ)
+    → has_number places i
+    ≡ (has_number (places_of is_essential h.hypotheses) i
+    || has_number (typed_places h ns) i)) → (i : ℕ)
+    → has_number places i ≡ passes (is_mandatory_number (has_number ns)) (slice_get h.hypotheses i)
+mandatory-has h placed ns places has i =
+    has i
+    ∙ ap (λ b. b || has_number (typed_places h ns) i) (places-has is_essential h.hypotheses i)
+    ∙ ap (λ b. passes is_essential (slice_get h.hypotheses i) || b) (typed-has h placed ns i)
+    ∙ join (slice_get h.hypotheses i)
+  where
+    join : (o : Option NumberedHypothesis)
+        → (passes is_essential o || passes (types_one ns) o)
+        ≡ passes (is_mandatory_number (has_number ns)) o
+    join None = refl
+    join (Some (floating l k v)) = refl
+    join (Some (essential l s)) = refl
+
 pub mandatory-filter : (h : ScopeState) → ArePlaced h → (ns places : List ℕ)
     → IsStrictlyIncreasing places
     → ((i : ℕ)
@@ -158,15 +177,5 @@ pub mandatory-filter : (h : ScopeState) → ArePlaced h → (ns places : List �
     → flat_map (λ i. found_at (slice_get h.hypotheses i)) places
     ≡ filter (is_mandatory_number (has_number ns)) h.hypotheses
 mandatory-filter h placed ns places up has =
-    places-filter (is_mandatory_number (has_number ns)) h.hypotheses places up (λ i.
-    has i
-    ∙ ap (λ b. b || has_number (typed_places h ns) i) (places-has is_essential h.hypotheses i)
-    ∙ ap (λ b. passes is_essential (slice_get h.hypotheses i) || b) (typed-has h placed ns i)
-    ∙ join (slice_get h.hypotheses i))
-  where
-    join : (o : Option NumberedHypothesis)
-        → (passes is_essential o || passes (types_one ns) o)
-        ≡ passes (is_mandatory_number (has_number ns)) o
-    join None = refl
-    join (Some (floating l k v)) = refl
-    join (Some (essential l s)) = refl
+    places-filter (is_mandatory_number (has_number ns)) h.hypotheses places up
+    (mandatory-has h placed ns places has)

@@ -19,9 +19,14 @@ pub mod StandStatements
 pub mod Taken
 pub mod StandReads
 pub mod StandSteps
-pub mod SharedFrames
-mod SharedKept
+mod MandatoryTrees
+mod CommonPairs
+mod CommonSteps
+mod OuterKept
 pub mod Labelled
 mod FramesKept
 mod Proposed
 mod KnownEntries
+pub mod PlacedLists
+mod Counting
+pub mod Splits

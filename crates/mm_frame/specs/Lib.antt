@@ -1,6 +1,9 @@
 -- Believed: what public clauses say, and believed definitions of other crates.
 pub mod Numbered
 pub mod FormsRead
+pub mod HypothesisHeld
+pub mod PlacedHypotheses
+pub mod TreeView
 pub mod PlainFrames
 pub mod NeededNumbers
 pub mod HypothesesView
@@ -25,6 +28,10 @@ pub mod Listed
 pub mod Grouping
 pub mod EntriesView
 pub mod ShortWords
+pub mod PlacedOrder
+pub mod TreeOrder
+pub mod Times
+pub mod CountsView
 pub mod StateTests
 pub mod StateFaults
 pub mod StateSteps

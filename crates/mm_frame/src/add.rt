@@ -36,14 +36,12 @@ impl<'a> Scopes<'a> {
         ensures { IfOk result (λ _.
             AppendsSymbol (scope_state self.old) word.now is_variable (scope_state self.new)) }
     {
-        let shared = self.shared.take();
         self.places.push(0)?;
         self.types.push(0)?;
         self.symbols.push(Symbol {
             token: word,
             is_variable,
         })?;
-        self.shared = shared;
         Ok(())
     }
 
@@ -68,28 +66,26 @@ impl<'a> Scopes<'a> {
         Ok(())
     }
 
-    /// Makes a hypothesis active.
-    pub(crate) fn add_hypothesis(&mut self, hyp: Hyp<'a>) -> Result<(), AllocError>
+    /// Makes a hypothesis active. After running out of memory nothing may be active.
+    pub(crate) fn add_hypothesis(&mut self, alloc: Global, hyp: Hyp<'a>) -> Result<(), AllocError>
         ensures { IfOk result (λ _. AddsHypothesis (scope_state self.old)
             (plain_hypothesis hyp.entry) (scope_state self.new)) }
     {
         let place = self.hyps.len();
         self.rename(hyp.label(), Name::Hypothesis(place))?;
-        let spares = self.spares(&hyp);
-        let shared = self.shared.take();
+        let common = self.common_with(alloc, &hyp)?;
         set_type(&mut self.types, &hyp, place);
         if self.hyps.push(hyp).is_err() {
+            self.common = None;
+            self.blocks.clear();
+            self.outer.clear();
             return Err(AllocError);
         }
-        if spares {
-            self.shared = shared;
-        } else {
-            self.is_stated = false;
-        }
+        self.common = common;
         Ok(())
     }
 
-    /// Keeps variables apart from each other.
+    /// Keeps variables apart from each other. After running out of memory nothing may be active.
     pub(crate) fn add_disjoint(
         &mut self,
         alloc: Global,
@@ -98,14 +94,14 @@ impl<'a> Scopes<'a> {
         ensures { IfOk result
             (λ _. AddsDisjoint (scope_state self.old) variables.items (scope_state self.new)) }
     {
-        let spares = self.spares_pairs(alloc, &variables)?;
-        let shared = self.shared.take();
-        self.disjoint.push(alloc, variables)?;
-        if spares {
-            self.shared = shared;
-        } else {
-            self.is_stated = false;
+        let common = self.common_apart(alloc, &variables)?;
+        if self.disjoint.push(alloc, variables).is_err() {
+            self.common = None;
+            self.blocks.clear();
+            self.outer.clear();
+            return Err(AllocError);
         }
+        self.common = common;
         Ok(())
     }
 
@@ -119,7 +115,7 @@ impl<'a> Scopes<'a> {
             AddsAssertion (scope_state self.old) (plain_frame frame.entry) (scope_state self.new)) }
     {
         self.push_frame(frame)?;
-        self.share(alloc)?;
+        self.keep_pairs(alloc)?;
         Ok(())
     }
 
@@ -137,15 +133,25 @@ impl<'a> Scopes<'a> {
     }
 
     /// Opens a block.
-    pub(crate) fn open_block(&mut self, at: usize) -> Result<(), AllocError>
+    pub(crate) fn open_block(&mut self, alloc: Global, at: usize) -> Result<(), AllocError>
         ensures { IfOk result (λ _. OpensBlock (scope_state self.old) at (scope_state self.new)) }
     {
+        self.keep_pairs(alloc)?;
+        self.push_block(at)
+    }
+
+    fn push_block(&mut self, at: usize) -> Result<(), AllocError>
+        ensures { IfOk result (λ _. OpensBlock (scope_state self.old) at (scope_state self.new)) }
+    {
+        let common = self.shared_common()?;
+        self.outer.reserve(1)?;
         self.blocks.push(OpenBlock {
             at,
             variables: self.variables.len(),
             hyps: self.hyps.len(),
             disjoint: self.disjoint.len(),
         })?;
+        self.outer.push(common).unwrap();
         Ok(())
     }
 
@@ -154,16 +160,10 @@ impl<'a> Scopes<'a> {
         ensures { ClosesBlock (scope_state self.old) (scope_state self.new) result }
     {
         let block = self.blocks.pop()?;
-        let spares = self.spares_end(&block);
-        let shared = self.shared.take();
+        self.common = self.outer.pop()?;
         self.variables.truncate(block.variables);
         self.hyps.truncate(block.hyps);
         self.disjoint.truncate(block.disjoint);
-        if spares {
-            self.shared = shared;
-            return Some(block);
-        }
-        self.is_stated = false;
         Some(block)
     }
 }

@@ -173,14 +173,14 @@ impl<'a> Scopes<'a> {
             (scope_state self.new)) }
     {
         match said {
-            Said::Opens => self.open_block(at),
+            Said::Opens => self.open_block(alloc, at),
             Said::Closes => {
                 self.close_block();
                 Ok(())
             }
             Said::Constants(tokens) => self.add_constants(bytes, tokens),
             Said::Variables(tokens) => self.add_variables(bytes, tokens),
-            Said::Hypothesis(hyp) => self.add_hypothesis(hyp),
+            Said::Hypothesis(hyp) => self.add_hypothesis(alloc, hyp),
             Said::Disjoint(variables) => self.add_disjoint(alloc, variables),
             Said::Assertion(stated) => {
                 let frame = self.frame(alloc, stated)?;

@@ -55,6 +55,13 @@ impl Disjoint {
         }
     }
 
+    /// The groups, in order.
+    pub(crate) fn groups(&self) -> &[Vec<u32>]
+        ensures { groups_of result.now ≡ groups_in self.now }
+    {
+        &self.groups
+    }
+
     /// How many groups there are.
     pub(crate) fn len(&self) -> usize
         ensures { result ≡ length (groups_in self.now) }
@@ -107,7 +114,7 @@ impl Disjoint {
     }
 
     /// The group at a place.
-    fn group(&self, place: usize) -> Option<&Vec<u32>>
+    pub(crate) fn group(&self, place: usize) -> Option<&Vec<u32>>
         ensures { option_map (λ g. items_of g.now) result ≡ slice_get (groups_in self.now) place }
     {
         self.groups.get(place)
@@ -325,7 +332,11 @@ impl Disjoint {
     }
 
     /// The places of the groups that have one of these numbers, ascending and each once.
-    fn places_among(&self, alloc: Global, numbers: &[u32]) -> Result<Vec<usize>, AllocError>
+    pub(crate) fn places_among(
+        &self,
+        alloc: Global,
+        numbers: &[u32],
+    ) -> Result<Vec<usize>, AllocError>
         ensures { IfOk result (λ v. (i : ℕ) → has_number v.items i
             ≡ list_any (λ n. has_number (group_places (groups_in self.now) n) i) numbers.now) }
     {
@@ -557,7 +568,7 @@ pub(crate) fn kept_numbers(
 }
 
 /// Appends the number if it is to be kept.
-fn push_if(keeps: bool, kept: &mut Vec<u32>, n: u32) -> Result<(), AllocError>
+pub(crate) fn push_if(keeps: bool, kept: &mut Vec<u32>, n: u32) -> Result<(), AllocError>
     ensures { IfOk result
         (λ _. kept.new.items ≡ (if keeps then kept.old.items ++ n ∷ [] else kept.old.items)) }
 {
@@ -568,7 +579,7 @@ fn push_if(keeps: bool, kept: &mut Vec<u32>, n: u32) -> Result<(), AllocError>
 }
 
 /// Appends the group if it has a pair.
-fn push_group(groups: &mut Vec<Vec<u32>>, group: Vec<u32>) -> Result<(), AllocError>
+pub(crate) fn push_group(groups: &mut Vec<Vec<u32>>, group: Vec<u32>) -> Result<(), AllocError>
     ensures { IfOk result (λ _. (a b : ℕ) → in_groups (groups_of groups.new.items) a b
         ≡ (in_groups (groups_of groups.old.items) a b || in_group a b group.items)) }
 {

@@ -5,7 +5,7 @@ ghost use Rattle.mm_frame.specs.PlainFrames.{types_number, plain_hypothesis};
 ghost use Rattle.mm_database.specs.Frames.{label_of};
 ghost use Rattle.mm_frame.specs.Listed.{is_essential};
 
-use crate::labels::Mandatory;
+use crate::asking::Mandatory;
 use std::rc::Rc;
 
 /// A hypothesis, whose symbols are numbers.

@@ -1,10 +1,13 @@
 // The active hypotheses.
 
-ghost use Rattle.std.specs.Prelude.{◌≡◌};
+ghost use Rattle.std.specs.Prelude.{◌≡◌, ℕ};
 ghost use Rattle.mm_frame.specs.PlainFrames.{plain_hypotheses};
 ghost use Rattle.mm_frame.specs.Places.{places_of};
 ghost use Rattle.mm_frame.specs.Listed.{is_essential};
+ghost use Rattle.mm_frame.specs.Times.{times_in};
+ghost use Rattle.mm_frame.specs.CountsView.{times_counted};
 
+use crate::counts::Counts;
 use crate::frames::Hyp;
 use std::alloc::{AllocError, Global};
 
@@ -14,19 +17,23 @@ const LONG: usize = 256;
 /// As how many symbols a hypothesis counts beside those that it has.
 const ONE: usize = 8;
 
-/// Hypotheses in the order in which they came, and the places of the `$e` among them. Appending one
-/// takes time that does not depend on how many there are, and cutting the list that of what is cut.
+/// Hypotheses in the order in which they came, the places of the `$e` among them, and which symbols
+/// these have. Appending one takes time in its length, and cutting the list that of what is cut.
 #[derive(Drop)]
 pub(crate) struct Hypotheses<'a> {
     all: Vec<Hyp<'a>>,
     essentials: Vec<usize>,
+    counts: Counts,
     ghost placed: { essentials.items ≡ places_of is_essential (plain_hypotheses all.items) },
+    ghost counted: { (n : ℕ) → times_counted counts n ≡ times_in n (plain_hypotheses all.items) },
 }
 
 impl<'a> Hypotheses<'a> {
     ghost use Rattle.std.specs.Prelude.{◌++◌, ◌∷◌, [], ◌-◌, IfOk, length, take, option_map};
     ghost use Rattle.std.specs.Prelude.{slice_get};
+    ghost use Rattle.std.specs.List.{list_any};
     ghost use Rattle.mm_frame.specs.PlainFrames.{plain_hypothesis};
+    ghost use Rattle.mm_frame.specs.NeededNumbers.{number_stands_in};
     ghost use Rattle.mm_frame.specs.HypothesesView.{hypotheses_in};
 
     /// No hypotheses. Takes no memory yet.
@@ -36,6 +43,7 @@ impl<'a> Hypotheses<'a> {
         Hypotheses {
             all: Vec::new(alloc),
             essentials: Vec::new(alloc),
+            counts: Counts::new(alloc),
         }
     }
 
@@ -61,34 +69,48 @@ impl<'a> Hypotheses<'a> {
         &self.essentials
     }
 
-    /// Whether the `$e` are long, all together. It looks at few of them.
-    pub(crate) fn is_heavy(&self) -> bool {
-        let mut weight: usize = 0;
+    /// Whether the symbol stands in one of the `$e`.
+    pub(crate) fn is_asked(&self, n: u32) -> bool
+        ensures { result ≡ list_any (number_stands_in n) (hypotheses_in self.now) }
+    {
+        self.counts.has(n)
+    }
+
+    /// Whether the `$e` are long, all together, with one more of this statement. It looks at few of
+    /// them.
+    pub(crate) fn are_heavy_with(&self, statement: &[u32]) -> bool {
+        let mut weight = statement.len().saturating_add(ONE);
         for place in &self.essentials {
-            if let Some(Hyp::Essential(_, statement)) = self.all.get(*place) {
-                weight = weight.saturating_add(statement.len()).saturating_add(ONE);
-            }
             if weight >= LONG {
                 return true;
             }
+            if let Some(Hyp::Essential(_, statement)) = self.all.get(*place) {
+                weight = weight.saturating_add(statement.len()).saturating_add(ONE);
+            }
         }
-        false
+        weight >= LONG
     }
 
-    /// Appends a hypothesis.
+    /// Appends a hypothesis. After running out of memory none may be left.
     pub(crate) fn push(&mut self, hyp: Hyp<'a>) -> Result<(), AllocError>
         ensures { IfOk result (λ _.
             hypotheses_in self.new ≡ hypotheses_in self.old ++ plain_hypothesis hyp.entry ∷ []) }
     {
-        let place = self.all.len();
-        let is_essential = hyp.is_essential();
+        self.all.reserve(1)?;
         self.essentials.reserve(1)?;
-        if self.all.push(hyp).is_err() {
+        let place = self.all.len();
+        let Hyp::Essential(_, statement) = &hyp else {
+            self.all.push(hyp).unwrap();
+            return Ok(());
+        };
+        if self.counts.add(statement).is_err() {
+            self.all.clear();
+            self.essentials.clear();
+            self.counts.clear();
             return Err(AllocError);
         }
-        if is_essential {
-            self.essentials.push(place).unwrap();
-        }
+        self.essentials.push(place).unwrap();
+        self.all.push(hyp).unwrap();
         Ok(())
     }
 
@@ -107,8 +129,9 @@ impl<'a> Hypotheses<'a> {
             ≡ take (length (hypotheses_in self.old) - 1) (hypotheses_in self.old) }
     {
         if let Some(hyp) = self.all.pop() {
-            if hyp.is_essential() {
+            if let Hyp::Essential(_, statement) = &hyp {
                 self.essentials.pop();
+                self.counts.remove(statement);
             }
         }
     }

@@ -1,12 +1,15 @@
 //! Scopes, which take the statements of a Metamath database one after another.
 //!
 //! `Standing` says when scopes stand for what a database has declared (crate `mm_database`),
-//! `TakesStatement` and `Proposing` what they do with one more statement, and `StandingLaws` what the steps
-//! of a proof may rest on. Symbols have numbers: `Numbered` says which frames of tokens those of
-//! numbers are, and `NumberedSteps` what the steps of a proof do to numbers.
+//! `TakesStatement` and `Proposing` what they do with one more statement, and `StandingLaws` what
+//! the steps of a proof may rest on. Symbols have numbers: `Numbered` says which frames of tokens
+//! those of numbers are, and `NumberedSteps` what the steps of a proof do to numbers.
 #![tactic(auto)]
 
 mod add;
+mod asking;
+mod common;
+mod counts;
 mod declare;
 mod disjoint;
 mod entries;
@@ -14,19 +17,19 @@ mod forms;
 mod frames;
 mod hypotheses;
 mod judge;
-mod labels;
 mod laws;
 mod mandatory;
 mod names;
 mod reads;
 mod scopes;
-mod sharing;
 mod theorem;
+mod tree;
 
+pub use asking::{Lists, Mandatory, Parts, own_labels};
 pub use declare::{Added, FrameEnd};
 pub use forms::{Form, Keyword, Plain, read_form};
 pub use frames::{Cited, Frame, Hyp};
-pub use labels::{Mandatory, own_labels};
 pub use laws::{number_laws, scope_laws};
 pub use scopes::Scopes;
 pub use theorem::Theorem;
+pub use tree::HypTree;

@@ -7,6 +7,7 @@ ghost use Rattle.std.specs.List.Sorted.{IsStrictlyIncreasing};
 ghost use Rattle.mm_frame.specs.ScopeState.{scope_state};
 ghost use Rattle.mm_frame.specs.PlainFrames.{has_number, in_group, in_groups, items_of, groups_of};
 ghost use Rattle.mm_frame.specs.PlainFrames.{plain_hypothesis, plain_hypotheses, plain_frame};
+ghost use Rattle.mm_frame.specs.PlainFrames.{mandatory_hypotheses, mandatory_groups};
 ghost use Rattle.mm_frame.specs.StateFaults.{plain_stated};
 ghost use Rattle.mm_frame.specs.StateFrames.{IsFrameIn};
 ghost use Rattle.mm_frame.specs.NeededNumbers.{is_needed_number, is_mandatory_number};
@@ -15,9 +16,9 @@ ghost use Rattle.mm_frame.specs.Sharing.{IsMandatory};
 ghost use Rattle.mm_frame.specs.Listed.{is_essential};
 ghost use Rattle.mm_frame.specs.StatePlaces.{premise_at, ArePlaced, typed_places};
 
+use crate::asking::{Lists, Mandatory};
 use crate::frames::{Frame, Hyp};
 use crate::judge::Stated;
-use crate::labels::Mandatory;
 use crate::scopes::Scopes;
 use std::alloc::{AllocError, Global};
 use std::rc::Rc;
@@ -28,32 +29,38 @@ impl<'a> Scopes<'a> {
         ensures { IfOk result (λ f. ArePlaced (scope_state self.now)
             → IsFrameIn (scope_state self.now) (plain_stated stated.entry) (plain_frame f)) }
     {
-        let mandatory = match self.shared_for(&stated.statement) {
-            Some(shared) => shared.clone()?,
-            None => Rc::new(alloc, self.mandatory_for(alloc, &stated.statement)?)?,
-        };
+        let mandatory = self.mandatory(alloc, &stated.statement)?;
         Ok(Frame {
             label: stated.label,
-            mandatory,
+            mandatory: Rc::new(alloc, mandatory)?,
             statement: stated.statement,
         })
     }
 
     /// What an assertion with this statement asks for.
-    pub(crate) fn mandatory_for(
-        &self,
-        alloc: Global,
-        statement: &[u32],
-    ) -> Result<Mandatory<'a>, AllocError>
+    fn mandatory(&self, alloc: Global, statement: &[u32]) -> Result<Mandatory<'a>, AllocError>
         ensures { IfOk result (λ m. ArePlaced (scope_state self.now)
             → IsMandatory (scope_state self.now).hypotheses (scope_state self.now).disjoint
-            statement.now m) }
+            statement.now
+            (mandatory_hypotheses m) (mandatory_groups m)) }
+    {
+        match &self.common {
+            None => Ok(Mandatory::Listed(self.lists(alloc, statement)?)),
+            Some(common) => Ok(Mandatory::Shared(self.parts(alloc, common, statement)?)),
+        }
+    }
+
+    /// The same as lists.
+    fn lists(&self, alloc: Global, statement: &[u32]) -> Result<Lists<'a>, AllocError>
+        ensures { IfOk result (λ l. ArePlaced (scope_state self.now)
+            → IsMandatory (scope_state self.now).hypotheses (scope_state self.now).disjoint
+            statement.now
+            (plain_hypotheses l.hyps.items) (groups_of l.apart.items)) }
     {
         let needed = self.needed(alloc, statement)?;
-        Ok(Mandatory {
-            hyps: self.mandatory(alloc, &needed)?,
+        Ok(Lists {
+            hyps: self.mandatory_hyps(alloc, &needed)?,
             apart: self.disjoint.within(alloc, &needed)?,
-            labels: None,
         })
     }
 
@@ -86,7 +93,7 @@ impl<'a> Scopes<'a> {
     }
 
     /// The active `$e`, and the active `$f` of these variables.
-    fn mandatory(&self, alloc: Global, needed: &[u32]) -> Result<Vec<Hyp<'a>>, AllocError>
+    fn mandatory_hyps(&self, alloc: Global, needed: &[u32]) -> Result<Vec<Hyp<'a>>, AllocError>
         ensures { IfOk result (λ v. ArePlaced (scope_state self.now)
             → plain_hypotheses v.items
             ≡ filter (is_mandatory_number (has_number needed.now))
@@ -98,7 +105,7 @@ impl<'a> Scopes<'a> {
 
     /// The places of the active `$e` and of the active `$f` of these variables, ascending and each
     /// once.
-    fn places(&self, alloc: Global, needed: &[u32]) -> Result<Vec<usize>, AllocError>
+    pub(crate) fn places(&self, alloc: Global, needed: &[u32]) -> Result<Vec<usize>, AllocError>
         ensures ascending { IfOk result (λ v. IsStrictlyIncreasing v.items) }
         ensures places { IfOk result (λ v. (i : ℕ) → has_number v.items i
             ≡ (has_number (places_of is_essential (scope_state self.now).hypotheses) i
@@ -114,7 +121,7 @@ impl<'a> Scopes<'a> {
     }
 
     /// Appends the place of the active `$f` of a variable, if it has one.
-    fn push_place(&self, places: &mut Vec<usize>, n: u32) -> Result<(), AllocError>
+    pub(crate) fn push_place(&self, places: &mut Vec<usize>, n: u32) -> Result<(), AllocError>
         ensures { IfOk result (λ _.
             places.new.items ≡ places.old.items ++ typed_places (scope_state self.now) (n ∷ [])) }
     {
@@ -143,7 +150,7 @@ impl<'a> Scopes<'a> {
 }
 
 impl<'a> Hyp<'a> {
-    fn copied(&self, alloc: Global) -> Result<Hyp<'a>, AllocError>
+    pub(crate) fn copied(&self, alloc: Global) -> Result<Hyp<'a>, AllocError>
         ensures { IfOk result (λ h. plain_hypothesis h ≡ plain_hypothesis self.now) }
     {
         match self {

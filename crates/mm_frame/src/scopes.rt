@@ -4,13 +4,13 @@ ghost use Rattle.std.specs.Prelude.{IfSome};
 ghost use Rattle.std.proofs.Props.{props};
 ghost use Rattle.mm_frame.specs.HypothesesView.{hypotheses_in};
 ghost use Rattle.mm_frame.specs.DisjointView.{groups_in};
-ghost use Rattle.mm_frame.specs.Sharing.{IsShared};
+ghost use Rattle.mm_frame.specs.Sharing.{IsCommon, AreOuter};
 
+use crate::common::Common;
 use crate::disjoint::Disjoint;
 use crate::frames::Frame;
 use crate::hypotheses::Hypotheses;
 use crate::names::Names;
-use crate::sharing::Shared;
 
 /// What a token names. Symbols, hypotheses and assertions have numbers in the order in which they
 /// came.
@@ -46,9 +46,8 @@ pub(crate) struct OpenBlock {
 /// active hypotheses, are kept beside it, also when they are no longer active: what stands at the
 /// place tells.
 ///
-/// Where the active `$e` are long, assertions share what they ask for. What they share is let go at
-/// each change of what it was made from, and is made where two assertions are stated after the
-/// change, so that nothing is made for one alone.
+/// Where the active `$e` are long, what they ask for is kept, for assertions to share. It grows
+/// with each `$e`, and the end of a block takes back what was kept where the block was opened.
 #[derive(Drop)]
 pub struct Scopes<'a> {
     pub(crate) names: Names<'a>,
@@ -60,10 +59,12 @@ pub struct Scopes<'a> {
     pub(crate) disjoint: Disjoint,
     pub(crate) blocks: Vec<OpenBlock>,
     pub(crate) frames: Vec<Frame<'a>>,
-    pub(crate) shared: Option<Shared<'a>>,
-    pub(crate) is_stated: bool,
-    ghost shared_is: { IfSome shared
-        (IsShared types.items (hypotheses_in hyps) (groups_in disjoint)) } by { Prim.hlevel props },
+    pub(crate) common: Option<Common<'a>>,
+    pub(crate) outer: Vec<Option<Common<'a>>>,
+    ghost common_is: { IfSome common
+        (IsCommon types.items (hypotheses_in hyps) (groups_in disjoint)) } by { Prim.hlevel props },
+    ghost outer_are: { AreOuter types.items (hypotheses_in hyps) (groups_in disjoint) blocks.items
+        outer.items } by { Prim.hlevel props },
 }
 
 /// What a symbol has to be.

@@ -12,7 +12,9 @@ use Rattle.mm_frame.specs.Labels.{label_in}
 use Rattle.mm_frame.specs.declared.frames.Hyp.{Hyp}
 use Rattle.mm_frame.proofs.Labelled.{is_some-cond, or-swap, labels-scope_state}
 use Rattle.mm_text.specs.declared.tokens.MmToken.{MmToken}
-use Rattle.mm_verify.specs.ProofSteps.{clashes, labels_in}
+use Rattle.mm_frame.specs.ScopeState.{ScopeState}
+use Rattle.mm_frame.specs.Numbered.{NumberedHypothesis}
+use Rattle.mm_verify.specs.ProofSteps.{clashes, labels_in, is_hypothesis, AreActive}
 
 or-true : (a b : Bool) → b ≡ true → (a || b) ≡ true
 or-true true b h = refl
@@ -99,23 +101,29 @@ clashes-split others (w ∷ ws) =
     go false true false d e = refl
     go false false c d e = e
 
-pub clashes-own : (hs : List Hyp) (ws : List Token)
-    → list_any (has_token (map label_in hs)) ws ≡ true
-    → true ≡ clashes (labels_in (plain_hypotheses hs)) ws
-clashes-own hs ws has =
-    let there : list_any (has_token (labels_in (plain_hypotheses hs))) ws ≡ true =
-    sym (ap (λ (ts : List Token). list_any (has_token ts) ws) (labels-scope_state hs)) ∙ has in
+pub clashes-inactive : (h : ScopeState) (hyps : List NumberedHypothesis) (ws : List Token)
+    → AreActive h hyps → list_any (is_hypothesis h) ws ≡ false
+    → clashes [] ws ≡ clashes (labels_in hyps) ws
+clashes-inactive h hyps ws active none =
     sym (clashes-split (labels_in
-    (plain_hypotheses hs)) ws ∙ ap (λ (b : Bool). b || clashes [] ws) there)
-
-pub clashes-others : (hs : List Hyp) (ws : List Token)
-    → list_any (has_token (map label_in hs)) ws ≡ false
-    → clashes [] ws ≡ clashes (labels_in (plain_hypotheses hs)) ws
-clashes-others hs ws none =
-    let there : list_any (has_token (labels_in (plain_hypotheses hs))) ws ≡ false =
-    sym (ap (λ (ts : List Token). list_any (has_token ts) ws) (labels-scope_state hs)) ∙ none in
-    sym (clashes-split (labels_in
-    (plain_hypotheses hs)) ws ∙ ap (λ (b : Bool). b || clashes [] ws) there)
+    hyps) ws ∙ ap (λ (b : Bool). b || clashes [] ws) (none-own ws none))
+  where
+    none-own : (vs : List Token) → list_any (is_hypothesis h) vs ≡ false
+        → list_any (has_token (labels_in hyps)) vs ≡ false
+    none-own [] e = refl
+    none-own (v ∷ vs) e =
+        go (is_hypothesis h v) (has_token (labels_in hyps) v) refl refl e (none-own vs)
+      where
+        go : (a b : Bool) → is_hypothesis h v ≡ a → has_token (labels_in hyps) v ≡ b
+            → (a || list_any (is_hypothesis h) vs) ≡ false
+            → (list_any (is_hypothesis h) vs ≡ false
+            → list_any (has_token (labels_in hyps)) vs ≡ false)
+            → (b || list_any (has_token (labels_in hyps)) vs) ≡ false
+        go true b f g e rest = absurd (cc)
+        go false true f g e rest =
+            absurd (let yes : is_hypothesis h v ≡ true = active v g in
+            let wrong : false ≡ true = sym f ∙ yes in cc)
+        go false false f g e rest = rest e
 
 -- one of the labels passes a test, or none does
 pub found-among : (test : Token → Bool) (bytes : List ℕ) (ts : List MmToken) (i : ℕ) (d : MmToken)

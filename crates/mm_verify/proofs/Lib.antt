@@ -17,3 +17,4 @@ mod KindsNamed
 mod CheckedStatements
 mod MoreFrames
 mod VerdictLaws
+mod ActiveHypotheses

@@ -2,7 +2,7 @@
 use Rattle.std.proofs.Common.{◌≡◌, ℕ, zero, suc, ◌+◌, ◌-◌, ◌*◌, ◌<◌, ◌≤◌, Bool, true, false, List}
 use Rattle.std.proofs.Common.{[], ◌∷◌, ◌++◌, length, get_or, Option, Some, None, refl, ap, ◌∙◌, sym}
 use Rattle.std.proofs.Common.{arith, append_assoc}
-use Rattle.std.specs.Prelude.{nat_lt, if◌then◌else◌, option_and_then}
+use Rattle.std.specs.Prelude.{nat_lt, slice_get, if◌then◌else◌, option_and_then}
 use Rattle.mm_text.specs.Compressed.{Letter, last_digit, digit, saves, no_letter, letter_of, Before}
 use Rattle.mm_text.specs.Compressed.{beginning, digits, a_number, a_save, value_before, before_next}
 use Rattle.mm_text.specs.Compressed.{CompressedStep, numbered, save, steps_of_letter, joined_steps}
@@ -14,8 +14,7 @@ use Rattle.std.specs.Prelude.{map}
 use Rattle.std.proofs.lemmas.List.{length-map}
 use Rattle.mm_database.specs.Frames.{statement_of}
 use Rattle.mm_frame.specs.NumberedSteps.{gives}
-use Rattle.mm_frame.specs.PlainFrames.{plain_hypothesis}
-use Rattle.mm_frame.specs.declared.frames.Hyp.{Hyp}
+use Rattle.mm_frame.specs.Numbered.{NumberedHypothesis}
 use Rattle.mm_verify.specs.declared.machine.Citation as code
 use Rattle.mm_verify.specs.Running.{citation_of}
 use Rattle.mm_verify.specs.Reading.{left_meanings, behind_items, table_of}
@@ -199,26 +198,30 @@ letters-past table saved v (b ∷ letters) le =
     go no_letter is rest = other-read table saved b (digits v) letters is
 
 -- how many numbers the table has, and what each of them cites
-pub table-length : (hyps : List Hyp) (listed : List code.Citation)
+pub table-length : (hyps : List NumberedHypothesis) (listed : List code.Citation)
     → length (table_of hyps listed) ≡ length hyps + length listed
 table-length [] listed = omega (arith, length-map listed citation_of)
 table-length (h ∷ hyps) listed = omega (arith, table-length hyps listed)
 
-pub step_of_number-given : (hyps : List Hyp) (listed : List code.Citation) (saved n : ℕ) (h : Hyp)
-    → n < length hyps → h ≡ get_or hyps n h
-    → Some (cites (gives (statement_of (plain_hypothesis h))))
-    ≡ step_of_number (table_of hyps listed) saved n
-step_of_number-given [] listed saved n h lt is = absurd (none n lt)
-  where
-    none : (n : ℕ) → n < 0 → ⊥
-    none n lt = omega (arith, lt)
-step_of_number-given (x ∷ hyps) listed saved zero h lt is =
-    ap (λ (k : Hyp). Some (cites (gives (statement_of (plain_hypothesis k))))) is
-step_of_number-given (x ∷ hyps) listed saved (suc n) h lt is =
-    step_of_number-given hyps listed saved n h (omega (arith, lt)) is
+pub step_of_number-given : (hyps : List NumberedHypothesis) (listed : List code.Citation)
+    (saved n : ℕ) (h : NumberedHypothesis) → slice_get hyps n ≡ Some h
+    → Some (cites (gives (statement_of h))) ≡ step_of_number (table_of hyps listed) saved n
+step_of_number-given [] listed saved n h is = absurd (cc)
+step_of_number-given (x ∷ hyps) listed saved zero h is =
+    let same : h ≡ x = cc in
+    ap (λ (k : NumberedHypothesis). Some (cites (gives (statement_of k)))) same
+step_of_number-given (x ∷ hyps) listed saved (suc n) h is =
+    step_of_number-given hyps listed saved n h is
 
-pub step_of_number-listed : (hyps : List Hyp) (listed : List code.Citation) (saved n m : ℕ)
-    → length hyps ≤ n → m ≡ n - length hyps
+-- below their number there is one
+pub some-given : (hyps : List NumberedHypothesis) (n : ℕ) → n < length hyps
+    → slice_get hyps n ≡ None → ⊥
+some-given [] n lt none = omega (arith, lt)
+some-given (x ∷ hyps) zero lt none = cc
+some-given (x ∷ hyps) (suc n) lt none = some-given hyps n (omega (arith, lt)) none
+
+pub step_of_number-listed : (hyps : List NumberedHypothesis) (listed : List code.Citation)
+    (saved n m : ℕ) → length hyps ≤ n → m ≡ n - length hyps
     → step_of_number (map citation_of listed) saved m
     ≡ step_of_number (table_of hyps listed) saved n
 step_of_number-listed [] listed saved n m le is =

@@ -24,7 +24,8 @@ use Rattle.mm_verify.specs.Running.{step_of, steps_fault}
 use Rattle.mm_verify.specs.Judging.{kind_of, proof_kind}
 use Rattle.mm_verify.specs.Digits.{before_of}
 use Rattle.mm_verify.specs.Reading.{left_meanings, behind_items, meant, table_of}
-use Rattle.mm_frame.specs.declared.frames.Hyp.{Hyp}
+use Rattle.mm_frame.specs.PlainFrames.{mandatory_hypotheses}
+use Rattle.mm_frame.specs.declared.asking.Mandatory.{Mandatory}
 use Rattle.mm_verify.specs.ProofSteps.{given_by, listed_citations, lettered, compressed_proof}
 use Rattle.mm_database.specs.ProofText.{before_close, behind_close, lettered_steps}
 
@@ -32,20 +33,25 @@ behind-nothing : (left : Option (List (steps.Step numbered.Citation))) → behin
 behind-nothing None = refl
 behind-nothing (Some others) = refl
 
-pub started : (r : ReadSteps) (hyps : List Hyp) (listed : Vec Citation) → r.hyps.now ≡ hyps
-    → r.listed ≡ listed → r.steps.items ≡ [] → r.behind ≡ Nothing → r.saved ≡ 0 → (letters : List ℕ)
-    → meant r letters ≡ lettered_steps (table_of hyps listed.items) letters
-started r hyps listed h t s b k letters =
-    ap (λ (xs : List Step). behind_items (map step_of xs) (left_meanings
-    (table_of r.hyps.now r.listed.items) r.saved (before_of r.behind) letters)) s
-    ∙ behind-nothing
-    (left_meanings (table_of r.hyps.now r.listed.items) r.saved (before_of r.behind) letters)
-    ∙ ap (λ (hs : List Hyp).
-    left_meanings (table_of hs r.listed.items) r.saved (before_of r.behind) letters) h
-    ∙ ap (λ (v : Vec Citation).
-    left_meanings (table_of hyps v.items) r.saved (before_of r.behind) letters) t
-    ∙ ap (λ (n : ℕ). left_meanings (table_of hyps listed.items) n (before_of r.behind) letters) k
-    ∙ ap (λ (x : Behind). left_meanings (table_of hyps listed.items) 0 (before_of x) letters) b
+pub started : (r : ReadSteps) (mandatory : Mandatory) (listed : Vec Citation)
+    → r.mandatory.now ≡ mandatory → r.listed ≡ listed → r.steps.items ≡ [] → r.behind ≡ Nothing
+    → r.saved ≡ 0 → (letters : List ℕ)
+    → meant r letters
+    ≡ lettered_steps (table_of (mandatory_hypotheses mandatory) listed.items) letters
+started r mandatory listed h t s b k letters =
+    ap (λ (xs : List Step). behind_items (map step_of xs)
+    (left_meanings (table_of (mandatory_hypotheses r.mandatory.now) r.listed.items) r.saved
+    (before_of r.behind) letters)) s
+    ∙ behind-nothing (left_meanings (table_of (mandatory_hypotheses r.mandatory.now) r.listed.items)
+    r.saved (before_of r.behind) letters)
+    ∙ ap (λ (m : Mandatory). left_meanings (table_of (mandatory_hypotheses m) r.listed.items)
+    r.saved (before_of r.behind) letters) h
+    ∙ ap (λ (v : Vec Citation). left_meanings (table_of (mandatory_hypotheses mandatory) v.items)
+    r.saved (before_of r.behind) letters) t
+    ∙ ap (λ (n : ℕ). left_meanings (table_of (mandatory_hypotheses mandatory) listed.items) n
+    (before_of r.behind) letters) k
+    ∙ ap (λ (x : Behind). left_meanings (table_of (mandatory_hypotheses mandatory) listed.items) 0
+    (before_of x) letters) b
 
 pub compressed-is : (h : ScopeState) (hypotheses : List NumberedHypothesis)
     (tokens labels letters : List Token) (listed : List numbered.Citation)

@@ -9,8 +9,8 @@ use Rattle.mm_database.specs.Steps.{Step}
 use Rattle.mm_database.specs.ProofText.{steps_of_numbers}
 use Rattle.mm_frame.specs.NumberedSteps.{Citation}
 use Rattle.std.specs.Global.{Vec}
-use Rattle.mm_frame.specs.PlainFrames.{plain_hypotheses}
-use Rattle.mm_frame.specs.declared.frames.Hyp.{Hyp}
+use Rattle.mm_frame.specs.Numbered.{NumberedHypothesis}
+use Rattle.mm_frame.specs.PlainFrames.{mandatory_hypotheses}
 use Rattle.mm_verify.specs.declared.letters.ReadSteps.{ReadSteps}
 use Rattle.mm_verify.specs.declared.machine.Citation as code
 use Rattle.mm_verify.specs.ProofSteps.{given_by}
@@ -31,14 +31,15 @@ abbrev pub citations_in : Vec code.Citation → List Citation
 citations_in v = map citation_of v.items
 
 -- what the first numbers cite: the hypotheses, and then what is listed
-abbrev pub table_of : List Hyp → List code.Citation → List Citation
-table_of hyps listed = given_by (plain_hypotheses hyps) ++ map citation_of listed
+abbrev pub table_of : List NumberedHypothesis → List code.Citation → List Citation
+table_of hypotheses listed = given_by hypotheses ++ map citation_of listed
 
 -- the steps that were read, and then those that the remaining letters stand for
 abbrev pub meant : ReadSteps → List ℕ → Option (List (Step Citation))
 meant r letters =
     behind_items (map step_of r.steps.items)
-    (left_meanings (table_of r.hyps.now r.listed.items) r.saved (before_of r.behind) letters)
+    (left_meanings (table_of (mandatory_hypotheses r.mandatory.now) r.listed.items) r.saved
+    (before_of r.behind) letters)
 
 -- Some letters are read. If the result is true, then these and any further letters stand for the
 -- steps that were read and those of the further letters. If it is false, the letters stand for

@@ -12,7 +12,7 @@ use crate::present::Present;
 use crate::spreads::{Spreads, are_groups_apart};
 use crate::stack::Stack;
 use crate::statement::Statement;
-use mm_frame::Frame;
+use mm_frame::{Frame, Lists, Mandatory};
 use std::alloc::{AllocError, Global};
 
 /// An assertion, each of whose variables knows which entry gives its text. `assertion_frame` is its
@@ -33,7 +33,8 @@ pub(crate) struct Assertion<'a> {
 impl<'a> Assertion<'a> {
     ghost use Rattle.std.specs.Prelude.{◌≡◌, ◌++◌, ◌≤◌, length, drop, IfOk, OnOk};
     ghost use Rattle.mm_verify.specs.Applied.{bindings_in, is_met as met};
-    ghost use Rattle.mm_frame.specs.PlainFrames.{plain_frame};
+    ghost use Rattle.mm_frame.specs.PlainFrames.{plain_frame, plain_hypotheses, in_groups};
+    ghost use Rattle.mm_frame.specs.PlainFrames.{groups_of};
     ghost use Rattle.mm_verify.specs.AssertionView.{assertion_frame};
     ghost use Rattle.mm_database.specs.Proofs.{substituted, keeps_apart};
     ghost use Rattle.mm_frame.specs.NumberedSteps.{all_agree, numbers_apart};
@@ -43,13 +44,36 @@ impl<'a> Assertion<'a> {
     pub(crate) fn of(alloc: Global, frame: &Frame<'a>) -> Result<Assertion<'a>, AllocError>
         ensures { IfOk result (λ a. assertion_frame a ≡ plain_frame frame.now) }
     {
-        let mandatory = &*frame.mandatory;
-        let places = find_places(alloc, &mandatory.hyps)?;
-        let conclusion = stated(alloc, &places, &frame.statement)?;
-        let apart = groups_located(alloc, &places, &mandatory.apart)?;
-        let wanted = all_wanted(alloc, &places, &mandatory.hyps)?;
+        match &*frame.mandatory {
+            Mandatory::Listed(lists) => {
+                Assertion::built(alloc, frame.label, lists, &frame.statement)
+            }
+            Mandatory::Shared(parts) => {
+                let lists = parts.lists(alloc)?;
+                Assertion::built(alloc, frame.label, &lists, &frame.statement)
+            }
+        }
+    }
+
+    fn built(
+        alloc: Global,
+        label: &'a [u8],
+        lists: &Lists<'a>,
+        statement: &[u32],
+    ) -> Result<Assertion<'a>, AllocError>
+        ensures label { IfOk result (λ a. (assertion_frame a).label ≡ label.now) }
+        ensures hypotheses { IfOk result
+            (λ a. (assertion_frame a).hypotheses ≡ plain_hypotheses lists.now.hyps.items) }
+        ensures apart { IfOk result
+            (λ a. (assertion_frame a).apart ≡ in_groups (groups_of lists.now.apart.items)) }
+        ensures statement { IfOk result (λ a. (assertion_frame a).statement ≡ statement.now) }
+    {
+        let places = find_places(alloc, &lists.hyps)?;
+        let conclusion = stated(alloc, &places, statement)?;
+        let apart = groups_located(alloc, &places, &lists.apart)?;
+        let wanted = all_wanted(alloc, &places, &lists.hyps)?;
         Ok(Assertion {
-            label: frame.label,
+            label,
             wanted,
             apart,
             conclusion,

@@ -21,6 +21,7 @@ impl<'s, 'a> Citable<'s, 'a> {
     ghost use Rattle.std.specs.Prelude.{option_map};
     ghost use Rattle.mm_verify.specs.Running.{citation_of};
     ghost use Rattle.mm_verify.specs.Citing.{cited_at};
+    ghost use Rattle.mm_verify.specs.ProofSteps.{is_hypothesis};
 
     /// What may be cited, from scopes and their assertions.
     pub(crate) fn new(
@@ -46,6 +47,13 @@ impl<'s, 'a> Citable<'s, 'a> {
                 Some(Citation::Applies(assertion))
             }
         }
+    }
+
+    /// Whether a label is that of an active hypothesis.
+    pub(crate) fn is_hypothesis(&self, label: &'a [u8]) -> bool
+        ensures { result ≡ is_hypothesis (scope_state self.now.scopes.now) label.now }
+    {
+        self.scopes.active(label).is_some()
     }
 }
 

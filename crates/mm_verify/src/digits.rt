@@ -2,12 +2,13 @@
 ghost use Rattle.std.specs.Prelude.{◌≡◌, ◌≤◌, ◌-◌, ◌*◌, ◌+◌, ◌^◌, option_map, MatchOption};
 ghost use Rattle.mm_text.specs.Compressed.{letter_of, value_before};
 ghost use Rattle.mm_database.specs.ProofText.{step_of_number as meaning_in};
+ghost use Rattle.mm_frame.specs.PlainFrames.{mandatory_hypotheses};
 ghost use Rattle.mm_verify.specs.Running.{step_of};
 ghost use Rattle.mm_verify.specs.Reading.{table_of};
 ghost use Rattle.mm_verify.specs.Digits.{before_of, letter_is, IsLetter};
 
 use crate::machine::{Citation, Step};
-use mm_frame::Hyp;
+use mm_frame::Mandatory;
 
 /// A letter.
 #[derive(Clone, Copy, PartialEq, Eq)]
@@ -59,19 +60,19 @@ pub(crate) fn extended(value: u64, factor: u64, digit: u8) -> Option<u64>
 /// The step that a number stands for. Numbers begin at 1. The step cites a hypothesis or what is
 /// listed, or repeats a saved entry.
 pub(crate) fn meaning<'s, 'a>(
-    hyps: &'s [Hyp<'a>],
+    mandatory: &'s Mandatory<'a>,
     listed: &[Citation<'s, 'a>],
     saved: usize,
     number: u64,
 ) -> Option<Step<'s, 'a>>
     requires { 1 ≤ number }
     ensures { option_map step_of result
-        ≡ meaning_in (table_of hyps.now listed.now) saved (number - 1) }
+        ≡ meaning_in (table_of (mandatory_hypotheses mandatory.now) listed.now) saved (number - 1) }
 {
     let place = number - 1;
-    let given = hyps.len() as u64;
+    let given = mandatory.count() as u64;
     if place < given {
-        let hyp = &hyps[place as usize];
+        let hyp = mandatory.hyp(place as usize)?;
         return Some(Step::Cites(Citation::Gives(hyp)));
     }
     let behind = place - given;

@@ -1,26 +1,27 @@
 // The letters of compressed proofs.
 ghost use Rattle.std.specs.Prelude.{◌≤◌, ◌+◌, ◌^◌, length};
+ghost use Rattle.mm_frame.specs.PlainFrames.{mandatory_hypotheses};
 
 use crate::digits::{Behind, Letter, extended, meaning, read_letter, value};
 use crate::machine::{Citation, Step};
-use mm_frame::Hyp;
+use mm_frame::Mandatory;
 use mm_text::MmToken;
 use std::alloc::{AllocError, Global};
 
 /// More hypotheses or labels than memory can hold.
 const MANY: usize = 1 << 62;
 
-/// The steps of the letters that were read so far. The first numbers stand for the hypotheses, and
-/// the next ones for what is listed.
+/// The steps of the letters that were read so far. The first numbers stand for the
+/// mandatory hypotheses, and the next ones for what is listed.
 #[derive(Drop)]
 pub(crate) struct ReadSteps<'s, 'a> {
-    hyps: &'s [Hyp<'a>],
+    mandatory: &'s Mandatory<'a>,
     listed: Vec<Citation<'s, 'a>>,
     steps: Vec<Step<'s, 'a>>,
     behind: Behind,
     saved: usize,
     ghost few: { saved ≤ length steps.items },
-    ghost given: { length hyps.now + length listed.items ≤ 2 ^ 63 },
+    ghost given: { length (mandatory_hypotheses mandatory.now) + length listed.items ≤ 2 ^ 63 },
 }
 
 impl<'s, 'a> ReadSteps<'s, 'a> {
@@ -35,21 +36,21 @@ impl<'s, 'a> ReadSteps<'s, 'a> {
     /// Nothing is read yet. There is room for `count` steps.
     pub(crate) fn new(
         alloc: Global,
-        hyps: &'s [Hyp<'a>],
+        mandatory: &'s Mandatory<'a>,
         listed: Vec<Citation<'s, 'a>>,
         count: usize,
     ) -> Result<ReadSteps<'s, 'a>, AllocError>
-        ensures hyps { IfOk result (λ r. r.hyps.now ≡ hyps.now) }
+        ensures mandatory { IfOk result (λ r. r.mandatory.now ≡ mandatory.now) }
         ensures listed { IfOk result (λ r. r.listed ≡ listed.entry) }
         ensures steps { IfOk result (λ r. r.steps.items ≡ []) }
         ensures behind { IfOk result (λ r. r.behind ≡ Nothing) }
         ensures saved { IfOk result (λ r. r.saved ≡ 0) }
     {
-        if hyps.len() > MANY || listed.len() > MANY {
+        if mandatory.count() > MANY || listed.len() > MANY {
             return Err(AllocError);
         }
         Ok(ReadSteps {
-            hyps,
+            mandatory,
             listed,
             steps: Vec::with_capacity(alloc, count)?,
             behind: Behind::Nothing,
@@ -79,7 +80,7 @@ impl<'s, 'a> ReadSteps<'s, 'a> {
         let Some(number) = extended(value(self.behind), 20, d) else {
             return Ok(false);
         };
-        match meaning(self.hyps, &self.listed, self.saved, number) {
+        match meaning(self.mandatory, &self.listed, self.saved, number) {
             None => Ok(false),
             Some(step) => {
                 self.steps.push(step)?;

@@ -6,7 +6,7 @@ ghost use Rattle.mm_frame.specs.ScopeState.{scope_state};
 ghost use Rattle.mm_frame.specs.PlainFrames.{plain_frame};
 ghost use Rattle.mm_frame.specs.StandingLaws.{place_of};
 ghost use Rattle.mm_verify.specs.StoredView.{stored_frame};
-ghost use Rattle.mm_verify.specs.ProofSteps.{steps_named};
+ghost use Rattle.mm_verify.specs.ProofSteps.{AreActive, steps_named};
 ghost use Rattle.mm_verify.specs.Judging.{kind_of, proof_kind};
 
 use crate::citable::Citable;
@@ -35,8 +35,11 @@ pub(crate) fn proof_fault<'a>(
     room: &mut Room,
 ) -> Result<Option<u8>, AllocError>
     requires same { map stored_frame assertions.now ≡ (scope_state scopes.now).frames }
-    ensures { IfOk result (λ k. k
-        ≡ proof_kind (place_of (scope_state scopes.now)) (plain_frame theorem.now.frame).statement
+    ensures { IfOk result
+        (λ k. AreActive (scope_state scopes.now) (plain_frame theorem.now.frame).hypotheses
+        → k
+        ≡ proof_kind (place_of (scope_state scopes.now))
+        (plain_frame theorem.now.frame).statement
         (steps_named (scope_state scopes.now) (plain_frame theorem.now.frame).hypotheses
         (words_of bytes.now theorem.now.proof.now))) }
 {

@@ -1,16 +1,16 @@
 // The texts of proofs, as steps.
 ghost use Rattle.std.specs.Prelude.{◌≡◌, map, IfOk, IfSome, Some, None, true, false, option_map};
 ghost use Rattle.std.specs.Prelude.{if◌then◌else◌, codes};
-ghost use Rattle.std.specs.List.{list_any};
 ghost use Rattle.mm_text.specs.Bytes.{has_token};
 ghost use Rattle.mm_text.specs.Reader.{words_of};
-ghost use Rattle.mm_frame.specs.PlainFrames.{plain_hypotheses};
+ghost use Rattle.mm_frame.specs.PlainFrames.{plain_hypotheses, mandatory_hypotheses};
 ghost use Rattle.mm_frame.specs.ScopeState.{scope_state};
 ghost use Rattle.mm_database.specs.ProofText.{lettered_steps};
 ghost use Rattle.mm_verify.specs.Running.{citation_of, step_of, steps_in};
 ghost use Rattle.mm_verify.specs.Reading.{letters_of, behind_items, citations_in, table_of};
-ghost use Rattle.mm_frame.specs.Labels.{HasLabels, label_in};
 ghost use Rattle.mm_verify.specs.Citing.{all_cited};
+ghost use Rattle.std.specs.List.{list_any};
+ghost use Rattle.mm_verify.specs.ProofSteps.{AreActive, is_hypothesis};
 ghost use Rattle.mm_verify.specs.ProofSteps.{clashes, listed_citations, compressed_proof};
 ghost use Rattle.mm_verify.specs.ProofSteps.{citing as citing_all, steps_named, labels_in};
 ghost use Rattle.mm_database.specs.ProofText.{before_close, behind_close};
@@ -22,12 +22,11 @@ use crate::machine::{Citation, Step};
 use mm_frame::{Hyp, Mandatory, own_labels};
 use mm_text::MmToken;
 use std::alloc::{AllocError, Global};
-use std::collections::BTreeMap;
 
-/// The steps of a proof of an assertion with these mandatory hypotheses. Returns `None` exactly
-/// when the text of the proof names no steps. It takes time in the number of the proof's tokens and
-/// letters, and of the mandatory hypotheses if these are not shared, times the logarithm of the
-/// number of labels.
+/// The steps of a proof of an assertion that asks for this. Returns `None` exactly when the text of
+/// the proof names no steps. It takes time in the number of the proof's tokens and letters, and of
+/// the mandatory hypotheses if it lists the label of an active one, times the logarithm of these
+/// numbers.
 pub(crate) fn read_proof<'s, 'a>(
     alloc: Global,
     known: &Citable<'s, 'a>,
@@ -36,8 +35,10 @@ pub(crate) fn read_proof<'s, 'a>(
     proof: &[MmToken],
     marks: &mut Marks,
 ) -> Result<Option<Vec<Step<'s, 'a>>>, AllocError>
-    ensures { IfOk result (λ r. option_map steps_in r
-        ≡ steps_named (scope_state known.now.scopes.now) (plain_hypotheses mandatory.now.hyps.items)
+    ensures { IfOk result
+        (λ r. AreActive (scope_state known.now.scopes.now) (mandatory_hypotheses mandatory.now)
+        → option_map steps_in r
+        ≡ steps_named (scope_state known.now.scopes.now) (mandatory_hypotheses mandatory.now)
         (words_of bytes.now proof.now)) }
 {
     match proof {
@@ -131,9 +132,11 @@ fn read_compressed<'s, 'a>(
     tokens: &[MmToken],
     marks: &mut Marks,
 ) -> Result<Option<Vec<Step<'s, 'a>>>, AllocError>
-    ensures { IfOk result (λ r. option_map steps_in r
+    ensures { IfOk result
+        (λ r. AreActive (scope_state known.now.scopes.now) (mandatory_hypotheses mandatory.now)
+        → option_map steps_in r
         ≡ compressed_proof (scope_state known.now.scopes.now)
-        (plain_hypotheses mandatory.now.hyps.items)
+        (mandatory_hypotheses mandatory.now)
         (words_of bytes.now tokens.now)) }
 {
     match split_at_close(bytes, tokens) {
@@ -142,7 +145,7 @@ fn read_compressed<'s, 'a>(
             alloc, known, bytes, mandatory, labels, marks,
         )? {
             None => Ok(None),
-            Some(listed) => read_letters(alloc, &mandatory.hyps, listed, bytes, letters),
+            Some(listed) => read_letters(alloc, mandatory, listed, bytes, letters),
         },
     }
 }
@@ -175,54 +178,55 @@ fn read_listed<'s, 'a>(
     labels: &[MmToken],
     marks: &mut Marks,
 ) -> Result<Option<Vec<Citation<'s, 'a>>>, AllocError>
-    ensures { IfOk result (λ r. option_map citations_in r
+    ensures { IfOk result
+        (λ r. AreActive (scope_state known.now.scopes.now) (mandatory_hypotheses mandatory.now)
+        → option_map citations_in r
         ≡ listed_citations (scope_state known.now.scopes.now)
-        (plain_hypotheses mandatory.now.hyps.items)
+        (mandatory_hypotheses mandatory.now)
         (words_of bytes.now labels.now)) }
 {
-    if clash(alloc, bytes, mandatory, labels, marks)? {
+    if clash(alloc, known, bytes, mandatory, labels, marks)? {
         return Ok(None);
     }
     all_cited(alloc, known, bytes, labels)
 }
 
-/// Whether a label occurs twice or is that of a mandatory hypothesis. If the hypotheses are shared,
-/// the time does not depend on their number, except by a logarithm.
+/// Whether a label occurs twice or is that of a mandatory hypothesis. If these are shared, it takes
+/// time in their number only if one of the labels is that of an active hypothesis.
 fn clash<'a>(
     alloc: Global,
+    known: &Citable<'_, 'a>,
     bytes: &'a [u8],
     mandatory: &Mandatory<'a>,
     labels: &[MmToken],
     marks: &mut Marks,
 ) -> Result<bool, AllocError>
-    ensures { IfOk result (λ r. r
-        ≡ clashes (labels_in (plain_hypotheses mandatory.now.hyps.items))
+    ensures { IfOk result
+        (λ r. AreActive (scope_state known.now.scopes.now) (mandatory_hypotheses mandatory.now)
+        → r
+        ≡ clashes (labels_in (mandatory_hypotheses mandatory.now))
         (words_of bytes.now labels.now)) }
 {
-    match mandatory.labels() {
-        None => has_clash(alloc, bytes, &mandatory.hyps, labels, marks),
-        Some(own) => {
-            if lists_own(bytes, own, &mandatory.hyps, labels) {
-                return Ok(true);
+    match mandatory {
+        Mandatory::Listed(lists) => has_clash(alloc, bytes, &lists.hyps, labels, marks),
+        Mandatory::Shared(parts) => {
+            if !cite_hypothesis(known, bytes, labels) {
+                return has_clash(alloc, bytes, &[], labels, marks);
             }
-            has_clash(alloc, bytes, &[], labels, marks)
+            let lists = parts.lists(alloc)?;
+            has_clash(alloc, bytes, &lists.hyps, labels, marks)
         }
     }
 }
 
-/// Whether a label is that of one of these hypotheses. The table has the labels of the hypotheses.
-fn lists_own<'a>(
-    bytes: &'a [u8],
-    own: &BTreeMap<&'a [u8], ()>,
-    hyps: &[Hyp<'a>],
-    labels: &[MmToken],
-) -> bool
-    requires { HasLabels own.now hyps.now }
+/// Whether a label is that of an active hypothesis.
+fn cite_hypothesis<'a>(known: &Citable<'_, 'a>, bytes: &'a [u8], labels: &[MmToken]) -> bool
     ensures { result
-        ≡ list_any (has_token (map label_in hyps.now)) (words_of bytes.now labels.now) }
+        ≡ list_any (is_hypothesis (scope_state known.now.scopes.now))
+        (words_of bytes.now labels.now) }
 {
     for label in labels {
-        if own.contains_key(&label.word(bytes)) {
+        if known.is_hypothesis(label.word(bytes)) {
             return true;
         }
     }
@@ -259,15 +263,16 @@ fn has_clash<'a>(
 /// next for the saved entries, in order. It takes time in the number of letters.
 pub(crate) fn read_letters<'s, 'a>(
     alloc: Global,
-    hyps: &'s [Hyp<'a>],
+    mandatory: &'s Mandatory<'a>,
     listed: Vec<Citation<'s, 'a>>,
     bytes: &[u8],
     tokens: &[MmToken],
 ) -> Result<Option<Vec<Step<'s, 'a>>>, AllocError>
     ensures { IfOk result (λ r. option_map steps_in r
-        ≡ lettered_steps (table_of hyps.now listed.entry.items) (letters_of bytes.now tokens.now)) }
+        ≡ lettered_steps (table_of (mandatory_hypotheses mandatory.now) listed.entry.items)
+        (letters_of bytes.now tokens.now)) }
 {
-    let mut read = ReadSteps::new(alloc, hyps, listed, count_letters(tokens))?;
+    let mut read = ReadSteps::new(alloc, mandatory, listed, count_letters(tokens))?;
     if read.take_words(bytes, tokens)? {
         Ok(read.ended())
     } else {

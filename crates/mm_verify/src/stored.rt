@@ -11,7 +11,7 @@ use crate::assertion::Assertion;
 use crate::place::Place;
 use crate::spreads::Spreads;
 use crate::stack::Stack;
-use mm_frame::{Frame, Hyp};
+use mm_frame::{Frame, Hyp, Mandatory};
 use std::alloc::{AllocError, Global};
 
 /// With so many symbols hypotheses are long, each counted as if it had some more.
@@ -35,7 +35,7 @@ impl<'a> StoredAssertion<'a> {
     pub(crate) fn of(alloc: Global, frame: &Frame<'a>) -> Result<StoredAssertion<'a>, AllocError>
         ensures { IfOk result (λ k. stored_frame k ≡ plain_frame frame.now) }
     {
-        if are_long(&frame.mandatory.hyps) {
+        if is_long(&frame.mandatory) {
             Ok(StoredAssertion::Shared(shared(alloc, frame)?))
         } else {
             Ok(StoredAssertion::Built(Assertion::of(alloc, frame)?))
@@ -79,7 +79,14 @@ fn shared<'a>(alloc: Global, frame: &Frame<'a>) -> Result<Frame<'a>, AllocError>
     })
 }
 
-/// Whether the hypotheses are long, all together. It looks at few of them.
+/// Whether the hypotheses are shared, or long, all together. It looks at few of them.
+fn is_long(mandatory: &Mandatory<'_>) -> bool {
+    match mandatory {
+        Mandatory::Listed(lists) => are_long(&lists.hyps),
+        Mandatory::Shared(_) => true,
+    }
+}
+
 fn are_long(hyps: &[Hyp<'_>]) -> bool {
     let mut weight: usize = 0;
     for hyp in hyps {

@@ -162,8 +162,11 @@ fn a_block_takes_back_what_was_active_and_keeps_its_assertions(
         None => panic!(rt; "no frame"),
         Some(frame) => {
             assert_eq!(rt; frame.statement.as_slice(), [0, 1].as_slice());
-            assert_eq!(rt; frame.mandatory.hyps.len(), 3);
-            assert_eq!(rt; frame.mandatory.apart.len(), 1);
+            assert_eq!(rt; frame.mandatory.count(), 3);
+            let Mandatory::Listed(lists) = &*frame.mandatory else {
+                panic!(rt; "not listed");
+            };
+            assert_eq!(rt; lists.apart.len(), 1);
         }
     }
     Ok(())
@@ -230,12 +233,15 @@ fn frames_have_their_own_hypotheses_in_order_and_their_own_pairs(
         let Some(frame) = scopes.assertion(label.as_bytes()) else {
             panic!(rt; "no frame: {text}");
         };
-        assert_eq!(rt; frame.mandatory.hyps.len(), hyps.len(), "{text}");
-        for (hyp, expected) in frame.mandatory.hyps.iter().zip(hyps.iter()) {
+        let Mandatory::Listed(lists) = &*frame.mandatory else {
+            panic!(rt; "not listed: {text}");
+        };
+        assert_eq!(rt; lists.hyps.len(), hyps.len(), "{text}");
+        for (hyp, expected) in lists.hyps.iter().zip(hyps.iter()) {
             assert!(rt; hyp.label() == expected.as_bytes(), "{text}");
         }
-        assert_eq!(rt; frame.mandatory.apart.len(), pairs.len(), "{text}");
-        for (group, (a, b)) in frame.mandatory.apart.iter().zip(pairs.iter()) {
+        assert_eq!(rt; lists.apart.len(), pairs.len(), "{text}");
+        for (group, (a, b)) in lists.apart.iter().zip(pairs.iter()) {
             assert_eq!(rt; group.len(), 2, "{text}");
             assert!(rt; group.contains(a) && group.contains(b), "{text}");
             assert!(rt; scopes.apart(*a, *b) && scopes.apart(*b, *a), "{text}");

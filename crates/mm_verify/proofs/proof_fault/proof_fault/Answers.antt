@@ -2,9 +2,9 @@ use Rattle.std.proofs.Common.{◌∙◌, ap, sym, map, List, ℕ}
 use Rattle.std.specs.Prelude.{option_map}
 use Rattle.mm_text.specs.Reader.{words_of}
 use Rattle.mm_frame.specs.ScopeState.{scope_state}
-use Rattle.mm_frame.specs.PlainFrames.{plain_hypotheses}
+use Rattle.mm_frame.specs.PlainFrames.{mandatory_hypotheses}
 use Rattle.mm_frame.specs.StandingLaws.{place_of}
-use Rattle.mm_frame.specs.declared.labels.Mandatory.{Mandatory}
+use Rattle.mm_frame.specs.declared.asking.Mandatory.{Mandatory}
 use Rattle.mm_verify.specs.declared.machine.Step.{Step}
 use Rattle.mm_verify.specs.Running.{step_of, steps_in, steps_fault}
 use Rattle.mm_verify.specs.ProofSteps.{steps_named}
@@ -17,7 +17,7 @@ returns-in_ok-check_steps-in-Some c =
     let words = words_of c.args.bytes.now c.args.theorem.now.proof.now in
     let known = scope_state c.new-known.result.scopes.now in
     let named =
-    ap (λ (m : Mandatory). steps_named known (plain_hypotheses m.hyps.items) words)
+    ap (λ (m : Mandatory). steps_named known (mandatory_hypotheses m) words)
     (sym c.deref.ensures) ∙ sym c.in_ok-read_proof.ensures
     ∙ ap (option_map steps_in) c.in-Some.is in
     let fault =
@@ -28,6 +28,6 @@ returns-in_ok-check_steps-in-Some c =
     ∙ ap (λ (ns : List ℕ). steps_fault (place_of known) (steps_in c.in-Some.steps) ns)
     c.deref-in-Some-2.ensures.value in
     kind-is (scope_state c.args.scopes.now) known frame.statement.items
-    (λ h. steps_named h (plain_hypotheses frame.mandatory.value.hyps.items) words)
+    (λ h. steps_named h (mandatory_hypotheses frame.mandatory.value) words)
     (steps_in c.in-Some.steps) c.in_ok-check_steps-in-Some.field-0 c.kind.result
     (ap scope_state c.new-known.ensures) named fault c.kind.ensures

@@ -1,9 +1,8 @@
 use Rattle.std.proofs.Common.{◌≡◌, ◌∙◌, ap, sym, subst, List, map, Option}
 use Rattle.std.specs.Prelude.{IfOk, option_map}
 use Rattle.mm_text.specs.Reader.{words_of}
-use Rattle.mm_frame.specs.PlainFrames.{plain_hypotheses}
+use Rattle.mm_frame.specs.PlainFrames.{mandatory_hypotheses}
 use Rattle.mm_frame.specs.ScopeState.{scope_state}
-use Rattle.mm_frame.specs.declared.frames.Hyp.{Hyp}
 use Rattle.mm_database.specs.Steps.{Step}
 use Rattle.mm_database.specs.ProofText.{lettered_steps}
 use Rattle.mm_frame.specs.NumberedSteps.{Citation}
@@ -15,22 +14,17 @@ use Rattle.mm_verify.proofs.proof_text.read_compressed.Goals as goal
 pub returns-in-None-2 : goal.returns-in-None-2
 returns-in-None-2 c =
     compressed-none (scope_state c.args.known.now.scopes.now)
-    (plain_hypotheses c.args.mandatory.now.hyps.items)
-    (words_of c.args.bytes.now c.args.tokens.now)
+    (mandatory_hypotheses c.args.mandatory.now) (words_of c.args.bytes.now c.args.tokens.now)
     (words_of c.args.bytes.now c.in-Some.labels.now)
     c.in-Some.ensures.found.0 c.in-Some.ensures.found.1
     (sym (ap (option_map citations_in) c.in-None-2.is) ∙ c.in_ok-read_listed-in-Some.ensures)
 
 pub returns-in-Some-2 : goal.returns-in-Some-2
 returns-in-Some-2 c =
-    let hyps = c.args.mandatory.now.hyps.items in
     let listed = c.in-Some-2.listed.items in
     let steps =
-    ap (λ (hs : List Hyp).
-    lettered_steps (table_of hs listed) (letters_of c.args.bytes.now c.in-Some.letters.now))
-    c.deref.ensures.value
-    ∙ compressed-is (scope_state c.args.known.now.scopes.now) (plain_hypotheses hyps)
-    (words_of c.args.bytes.now c.args.tokens.now)
+    compressed-is (scope_state c.args.known.now.scopes.now)
+    (mandatory_hypotheses c.args.mandatory.now) (words_of c.args.bytes.now c.args.tokens.now)
     (words_of c.args.bytes.now c.in-Some.labels.now)
     (words_of c.args.bytes.now c.in-Some.letters.now) (map citation_of listed)
     c.in-Some.ensures.found.0 c.in-Some.ensures.found.1 c.in-Some.ensures.found.2

@@ -11,7 +11,7 @@ returns-then-branch c =
     sym (subst (λ (b : Bool). ReadsOn c.in_ok-read.read letters c.take_words.new.self
     b) c.if-branch.true c.in_ok-take_words.ensures [])
     ∙ ap (λ (l : List ℕ). meant c.in_ok-read.read l) (append-nil letters)
-    ∙ started c.in_ok-read.read c.args.hyps.now c.args.listed c.in_ok-read.ensures.hyps
+    ∙ started c.in_ok-read.read c.args.mandatory.now c.args.listed c.in_ok-read.ensures.mandatory
     c.in_ok-read.ensures.listed c.in_ok-read.ensures.steps c.in_ok-read.ensures.behind
     c.in_ok-read.ensures.saved letters
 
@@ -21,6 +21,6 @@ returns c =
     sym (subst (λ (b : Bool). ReadsOn c.in_ok-read.read letters c.take_words.new.self
     b) c.if-branch.false c.in_ok-take_words.ensures [])
     ∙ ap (λ (l : List ℕ). meant c.in_ok-read.read l) (append-nil letters)
-    ∙ started c.in_ok-read.read c.args.hyps.now c.args.listed c.in_ok-read.ensures.hyps
+    ∙ started c.in_ok-read.read c.args.mandatory.now c.args.listed c.in_ok-read.ensures.mandatory
     c.in_ok-read.ensures.listed c.in_ok-read.ensures.steps c.in_ok-read.ensures.behind
     c.in_ok-read.ensures.saved letters

@@ -1,25 +1,41 @@
-use Rattle.std.proofs.Common.{rules, ◌≡◌, true, false}
+use Rattle.std.proofs.Common.{rules, ◌≡◌, true, false, ap, sym, ◌∙◌}
+use Rattle.mm_database.specs.Frames.{essential}
 use Rattle.mm_frame.specs.PlainFrames.{plain_hypothesis}
-use Rattle.mm_frame.proofs.HypothesesKept.{essential-popped, floating-popped}
+use Rattle.mm_frame.specs.Times.{times}
+use Rattle.mm_frame.specs.CountsView.{times_counted}
+use Rattle.mm_frame.proofs.HypothesesKept.{essential-popped, floating-popped, essential-uncounted}
+use Rattle.mm_frame.proofs.HypothesesKept.{floating-uncounted}
 use Rattle.mm_frame.specs.Listed.{is_essential}
 use Rattle.mm_frame.proofs.hypotheses.Hypotheses.pop.Goals as goal
 
 pub invariant_of-self : goal.invariant_of-self
 invariant_of-self c =
+    let s = c.args.self.now in
     let kind : is_essential (plain_hypothesis c.in-Some.hyp) ≡ true = search rules in
+    let is : plain_hypothesis c.in-Some.hyp ≡ essential c.in-Essential.field-0.now
+    c.in-Essential.statement.items =
+    ap plain_hypothesis c.in-Essential.is in
     record {
       placed =
-          essential-popped c.args.self.now.all.items c.pop.new.self.items c.in-Some.hyp
-          c.args.self.now.essentials.items _ c.args.self.now.essentials.len
-          c.in-Some.ensures.items c.args.self.now.placed kind (search rules)
-          c.pop-then-is_essential.ensures.rest;
+          essential-popped s.all.items c.pop.new.self.items c.in-Some.hyp s.essentials.items _
+          s.essentials.len c.in-Some.ensures.items s.placed kind (search rules)
+          c.pop-in-Essential.ensures.rest;
+      counted = λ n.
+          essential-uncounted n s.all.items c.pop.new.self.items c.in-Some.hyp
+          c.in-Essential.field-0.now c.in-Essential.statement.items (times_counted s.counts n)
+          (times_counted c.remove.new.self n) c.in-Some.ensures.items is (s.counted n)
+          (rw c.deref.ensures.value at (c.remove.ensures n));
     }
 
-pub invariant_of-self-else-is_essential : goal.invariant_of-self-else-is_essential
-invariant_of-self-else-is_essential c =
+pub invariant_of-self-in_default-hyp : goal.invariant_of-self-in_default-hyp
+invariant_of-self-in_default-hyp c =
+    let s = c.args.self.now in
     let kind : is_essential (plain_hypothesis c.in-Some.hyp) ≡ false = search rules in
     record {
       placed =
-          floating-popped c.args.self.now.all.items c.pop.new.self.items c.in-Some.hyp
-          c.args.self.now.essentials.items c.in-Some.ensures.items c.args.self.now.placed kind;
+          floating-popped s.all.items c.pop.new.self.items c.in-Some.hyp s.essentials.items
+          c.in-Some.ensures.items s.placed kind;
+      counted =
+          λ n. floating-uncounted n s.all.items c.pop.new.self.items c.in-Some.hyp
+          (times_counted s.counts n) c.in-Some.ensures.items kind (s.counted n);
     }

@@ -1,41 +1,40 @@
-use Rattle.std.proofs.Common.{rules, ◌≡◌, Option, subst, sym}
+use Rattle.std.proofs.Common.{rules, ◌≡◌, ◌++◌, ◌∷◌, [], List, ℕ, take, sym, subst, Option}
 use Rattle.std.specs.Prelude.{IfSome}
-use Rattle.mm_frame.specs.ScopeState.{scope_state}
+use Rattle.mm_frame.specs.Numbered.{NumberedHypothesis}
 use Rattle.mm_frame.specs.HypothesesView.{hypotheses_in}
 use Rattle.mm_frame.specs.DisjointView.{groups_in}
-use Rattle.mm_frame.specs.Sharing.{IsShared}
-use Rattle.mm_frame.specs.declared.sharing.Shared.{Shared}
-use Rattle.mm_frame.proofs.StateAdds.{cut}
-use Rattle.mm_frame.proofs.SharedKept.{shared-cut}
+use Rattle.mm_frame.specs.Sharing.{IsCommon, AreOuter}
+use Rattle.mm_frame.specs.declared.common.Common.{Common}
+use Rattle.mm_frame.specs.declared.scopes.OpenBlock.{OpenBlock}
+use Rattle.mm_frame.proofs.OuterKept.{closed-common, closed-outer}
 use Rattle.mm_frame.proofs.scopes.Scopes.close_block.Goals as goal
 
-pub returns-then-spares : goal.returns-then-spares
-returns-then-spares c = (
-  c.in_ok-block.ensures.items,
-  cut (scope_state c.args.self.now) _ _ _ _ _ _ c.pop.new.self.items _ _ _
-      c.truncate.ensures.items c.truncate-2.ensures c.truncate-3.ensures,
-)
-
-pub returns : goal.returns
-returns c = (
-  c.in_ok-block.ensures.items,
-  cut (scope_state c.args.self.now) _ _ _ _ _ _ c.pop.new.self.items _ _ _
-      c.truncate.ensures.items c.truncate-2.ensures c.truncate-3.ensures,
-)
-
-pub invariant_of-self-then-spares : goal.invariant_of-self-then-spares
-invariant_of-self-then-spares c =
+pub invariant_of-self-2 : goal.invariant_of-self-2
+invariant_of-self-2 c =
     let s = c.args.self.now in
+    let ts = s.types.items in
     let hs = hypotheses_in s.hyps in
     let gs = groups_in s.disjoint in
-    let is : c.take-shared.result ≡ s.shared = search rules in
+    let b = c.in_ok-block.block in
+    let o = c.in_ok-self.field-0 in
+    let front = c.pop.new.self.items in
+    let ofront = c.pop-2.new.self.items in
+    let are : AreOuter ts hs gs (front ++ b ∷ []) (ofront ++ o ∷ []) =
+    subst (λ (bs : List OpenBlock). AreOuter ts hs gs bs (ofront ++ o ∷ []))
+    c.in_ok-block.ensures.items
+    (subst (λ (os : List (Option Common)). AreOuter ts hs gs s.blocks.items os)
+    c.in_ok-self.ensures.items s.outer_are) in
+    let cut : hypotheses_in c.truncate-2.new.self ≡ take b.hyps hs = c.truncate-2.ensures in
+    let cut' : groups_in c.truncate-3.new.self ≡ take b.disjoint gs = c.truncate-3.ensures in
     record {
-      shared_is =
-          shared-cut s.types.items hs (hypotheses_in c.truncate-2.new.self) gs
-          (groups_in c.truncate-3.new.self) _ _ c.take-shared.result
-          c.truncate-2.ensures c.truncate-3.ensures
-          (c.spares_end-spares.ensures.hyps c.if-spares.true)
-          (c.spares_end-spares.ensures.groups c.if-spares.true)
-          (subst (λ (o : Option Shared). IfSome o (IsShared s.types.items hs gs)) (sym is)
-          s.shared_is);
+      common_is =
+          subst (λ (xs : List NumberedHypothesis).
+          IfSome o (IsCommon ts xs (groups_in c.truncate-3.new.self))) (sym cut)
+          (subst (λ (ys : List (List ℕ)). IfSome o (IsCommon ts (take b.hyps hs) ys)) (sym cut')
+          (closed-common ts hs gs front ofront b o are));
+      outer_are =
+          subst (λ (xs : List NumberedHypothesis).
+          AreOuter ts xs (groups_in c.truncate-3.new.self) front ofront) (sym cut)
+          (subst (λ (ys : List (List ℕ)). AreOuter ts (take b.hyps hs) ys front ofront) (sym cut')
+          (closed-outer ts hs gs front ofront b o are));
     }

@@ -2,11 +2,15 @@ use Rattle.std.proofs.Common.{◌∙◌, sym}
 use Rattle.mm_text.specs.Reader.{statement_of}
 use Rattle.mm_verify.proofs.KindsNamed.{Laws}
 use Rattle.mm_frame.specs.ScopeState.{scope_state}
+use Rattle.mm_verify.proofs.ActiveHypotheses.{proposed-active}
 use Rattle.mm_verify.proofs.CheckedStatements.{theorem-kind, theorem_checked}
 use Rattle.mm_verify.proofs.checker.Checker.prove.Goals as goal
 
 pub returns-in-Ok-Some : goal.returns-in-Ok-Some
 returns-in-Ok-Some c = λ d behind p.
+    let active =
+    proposed-active c.args.bytes.now (scope_state c.args.self.now.scopes) d
+    (statement_of c.args.bytes.now c.args.tokens.now) c.args.theorem behind.stands p in
     let laws : Laws =
     record {
       cited = c.number_laws.ensures.cited;
@@ -17,7 +21,7 @@ returns-in-Ok-Some c = λ d behind p.
     } in (
       theorem-kind laws c.scope_laws.ensures.naming (scope_state c.args.self.now.scopes) d
           c.args.bytes.now (statement_of c.args.bytes.now c.args.tokens.now) c.args.theorem
-          behind.stands behind.orderly p ∙ sym c.in-Ok-Some.ensures
+          behind.stands behind.orderly p ∙ sym (c.in-Ok-Some.ensures active)
           ∙ c.in-Ok-Some.field-0-is,
       c.first_byte.ensures c.args.bytes.now,
     )
@@ -25,6 +29,9 @@ returns-in-Ok-Some c = λ d behind p.
 pub returns-in-Ok-None : goal.returns-in-Ok-None
 returns-in-Ok-None c = λ d behind p.
     let s = statement_of c.args.bytes.now c.args.tokens.now in
+    let active =
+    proposed-active c.args.bytes.now (scope_state c.args.self.now.scopes) d
+    (statement_of c.args.bytes.now c.args.tokens.now) c.args.theorem behind.stands p in
     let laws : Laws =
     record {
       cited = c.number_laws.ensures.cited;
@@ -36,7 +43,7 @@ returns-in-Ok-None c = λ d behind p.
     let none =
     theorem-kind laws c.scope_laws.ensures.naming (scope_state c.args.self.now.scopes) d
     c.args.bytes.now s c.args.theorem behind.stands behind.orderly p
-    ∙ sym c.in-Ok-None.ensures ∙ c.in-Ok-None.field-0-is in
+    ∙ sym (c.in-Ok-None.ensures active) ∙ c.in-Ok-None.field-0-is in
     theorem_checked c.proof_laws.ensures.fine c.proof_laws.ensures.orderly c.args.bytes.now
     c.args.self.now d s c.args.theorem c.add.new.self c.add.result behind p none
     c.add.ensures.stated c.add.ensures.added c.add.ensures.memory

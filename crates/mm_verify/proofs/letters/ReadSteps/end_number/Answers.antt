@@ -9,6 +9,7 @@ use Rattle.mm_frame.specs.NumberedSteps.{Citation}
 use Rattle.mm_verify.specs.Running.{step_of}
 use Rattle.mm_verify.specs.Digits.{before_of}
 use Rattle.mm_database.specs.ProofText.{with_step, step_of_number}
+use Rattle.mm_frame.specs.PlainFrames.{mandatory_hypotheses}
 use Rattle.mm_verify.specs.Reading.{left_meanings, behind_items, table_of}
 use Rattle.mm_verify.proofs.ReadLetters.{last-read, step_of_number-past, number-on}
 use Rattle.mm_verify.proofs.FewSteps.{few_steps}
@@ -19,7 +20,9 @@ returns-in_default c b is others =
     let past : 2 ^ 64 ≤ 20 * value_before (before_of c.args.self.now.behind) + c.args.d =
     search rules in
     let few = few_steps c.args.self.now in
-    let table = table_of c.args.self.now.hyps.now c.args.self.now.listed.items in
+    let table =
+    table_of (mandatory_hypotheses c.args.self.now.mandatory.now)
+    c.args.self.now.listed.items in
     let none =
     step_of_number-past table c.args.self.now.saved
     (20 * value_before (before_of c.args.self.now.behind) + c.args.d - 1)
@@ -34,15 +37,15 @@ pub returns-in_ok-push-in-Some-meaning : goal.returns-in_ok-push-in-Some-meaning
 returns-in_ok-push-in-Some-meaning c b is others =
     let s = c.args.self.now in
     let before = before_of s.behind in
-    let table = table_of s.hyps.now s.listed.items in
+    let table = table_of (mandatory_hypotheses s.mandatory.now) s.listed.items in
     let step = c.in-Some-meaning.step in
     let number : c.in-Some.number ≡ 20 * value_before before + c.args.d =
     c.in-Some.ensures ∙ ap (λ (v : ℕ). 20 * v + c.args.d) c.value.ensures in
     let found : step_of_number table s.saved (20 * value_before before + c.args.d - 1) ≡ Some
     (step_of step) =
     ap (λ (n : ℕ). step_of_number table s.saved (n - 1)) (sym number)
-    ∙ ap (λ (xs : List code.Citation).
-    step_of_number (table_of s.hyps.now xs) s.saved (c.in-Some.number - 1))
+    ∙ ap (λ (xs : List code.Citation). step_of_number
+    (table_of (mandatory_hypotheses s.mandatory.now) xs) s.saved (c.in-Some.number - 1))
     (sym c.deref.ensures.value)
     ∙ sym c.meaning.ensures ∙ ap (option_map step_of) c.in-Some-meaning.is in
     number-on (map step_of s.steps.items) table s.saved c.args.d b before others (step_of step) is
