@@ -3,7 +3,7 @@ use Rattle.std.proofs.Common.{◌≡◌, ◌+◌, ℕ, zero, suc, List, [], ◌�
 use Rattle.std.proofs.Common.{append_assoc, codes}
 use Rattle.std.specs.Fmt.{decimal}
 use Rattle.std.proofs.lemmas.List.{append-nil}
-use Rattle.drill_gen.specs.Drill.{joined, line, lines, symbol_line, symbol_lines, drill_definition}
+use Rattle.drill_gen.specs.Drill.{line, lines, symbol_line, symbol_lines, drill_definition}
 use Rattle.drill_gen.specs.Drill.{drill_term, first_lines, rule_line, rule_lines}
 use Rattle.drill_accepted.proofs.Parts.{Part, parts_text, text-append}
 use Rattle.drill_accepted.proofs.DrillLines.{Line, parts_of, fixed_lines, step_line, axiom_line}
