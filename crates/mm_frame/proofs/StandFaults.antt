@@ -15,7 +15,7 @@ use Rattle.mm_database.specs.Validity.{is_active, is_typed, is_open, begins_with
 use Rattle.mm_database.specs.Validity.{has_one_label, is_typing, second_has_type, declaration_fault}
 use Rattle.mm_frame.specs.FormsRead.{keyword_read, form_read}
 use Rattle.mm_frame.specs.ScopeState.{ScopeState, symbol}
-use Rattle.mm_frame.specs.StateTests.{is_active_in, is_typed_in, constant_if, variable_if}
+use Rattle.mm_frame.specs.StateTests.{is_active_number, is_typed_in, constant_if, variable_if}
 use Rattle.mm_frame.specs.StateTests.{name_number, number_in, is_in, is_active_in, with_number}
 use Rattle.mm_frame.specs.StateTests.{numbers_in, constant_in, constant_named, label_in}
 use Rattle.mm_frame.specs.StateTests.{redeclares_variable, redeclares_constant}
@@ -59,9 +59,9 @@ constant-number need.Variable m n e = absurd (cc)
 constant-number need.Typed m n e = cc
 
 variable-number : (h : ScopeState) (need : Need) (m n : ℕ) → variable_if h need m ≡ Some n → m ≡ n
-variable-number h need.Active m n e = some-if (is_active_in h m) m n e
-variable-number h need.Variable m n e = some-if (is_active_in h m) m n e
-variable-number h need.Typed m n e = some-if (is_active_in h m && is_typed_in h m) m n e
+variable-number h need.Active m n e = some-if (is_active_number h m) m n e
+variable-number h need.Variable m n e = some-if (is_active_number h m) m n e
+variable-number h need.Typed m n e = some-if (is_active_number h m && is_typed_in h m) m n e
 
 pub number-token : (h : ScopeState) (c : Context) → Stands h c → (need : Need) (t : Token) (n : ℕ)
     → number_in h need t ≡ Some n → (b : Bool) × (slice_get h.symbols n ≡ Some (symbol t b))

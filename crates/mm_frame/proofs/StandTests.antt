@@ -13,7 +13,8 @@ use Rattle.mm_frame.specs.Numbered.{NumberedHypothesis, IsNaming, named_hypothes
 use Rattle.mm_database.specs.Validity.{has_type, is_active, is_typed, is_new_label, has_one_label}
 use Rattle.mm_frame.specs.PlainFrames.{has_number, types_number}
 use Rattle.mm_frame.specs.ScopeState.{ScopeState, symbol_name}
-use Rattle.mm_frame.specs.StateTests.{is_number, types_in, is_active_in, is_typed_in, name_number}
+use Rattle.mm_frame.specs.StateTests.{is_number, types_in, is_active_number, is_typed_in}
+use Rattle.mm_frame.specs.StateTests.{name_number}
 use Rattle.mm_frame.specs.StateTests.{number_in, is_in, is_active_in, with_number, numbers_in}
 use Rattle.mm_frame.specs.StateTests.{constant_in, constant_named, label_in, names_active}
 use Rattle.mm_frame.specs.StateTests.{redeclares_variable, redeclares_constant}
@@ -52,7 +53,7 @@ by-naming h c w =
     (naming_of-NamesSymbols h.symbols)
 
 pub scope_state-active : (h : ScopeState) (c : Context) → Stands h c → (n : ℕ)
-    → has_number h.variables n ≡ is_active_in h n
+    → has_number h.variables n ≡ is_active_number h n
 scope_state-active h c w n =
     found-at (λ m. nat_eq m n) h.variables (slice_index h.places n)
     (λ i v e t. ap (slice_index h.places) (sym (eqb-true v n t)) ∙ w.placed i v e)
@@ -95,7 +96,7 @@ token-named h t n b name names is = names n (record { token = t; is_variable = b
 
 pub variable-active : (h : ScopeState) (c : Context) → Stands h c → (t : Token) (n : ℕ)
     → slice_get h.symbols n ≡ Some (record { token = t; is_variable = true })
-    → c.scope.variables t ≡ is_active_in h n
+    → c.scope.variables t ≡ is_active_number h n
 variable-active h c w t n is =
     let ν = naming_of h.symbols in
     let named : ν n ≡ t = token-named h t n true ν (naming_of-NamesSymbols h.symbols) is in
@@ -131,7 +132,7 @@ test-variable h c w t = go (h.names t) refl (w.numbered t)
     go None is stands = not-active h c w t (ap names_variable is)
     go (Some (Constant n)) is stands = not-active h c w t (ap names_variable is)
     go (Some (Variable n)) is stands =
-        variable-active h c w t n stands ∙ sym (is_some-number (is_active_in h n) n)
+        variable-active h c w t n stands ∙ sym (is_some-number (is_active_number h n) n)
     go (Some (Hypothesis i)) is stands = not-active h c w t (ap names_variable is)
     go (Some (Assertion i)) is stands = not-active h c w t (ap names_variable is)
 
@@ -151,8 +152,8 @@ test-active h c w t = go (h.names t) refl (w.numbered t)
         or-both _ _ true false (w.constants t ∙ ap names_constant is)
         (not-active h c w t (ap names_variable is))
     go (Some (Variable n)) is stands =
-        or-both _ _ false (is_active_in h n) (w.constants t ∙ ap names_constant is)
-        (variable-active h c w t n stands) ∙ sym (is_some-number (is_active_in h n) n)
+        or-both _ _ false (is_active_number h n) (w.constants t ∙ ap names_constant is)
+        (variable-active h c w t n stands) ∙ sym (is_some-number (is_active_number h n) n)
     go (Some (Hypothesis i)) is stands =
         or-both _ _ false false (w.constants t ∙ ap names_constant is)
         (not-active h c w t (ap names_variable is))
@@ -176,10 +177,10 @@ test-typed h c w t = go (h.names t) refl (w.numbered t)
         typed-by _ _ (has_type c t) true false (has_type c t) (w.constants t ∙ ap names_constant is)
         (not-active h c w t (ap names_variable is)) refl
     go (Some (Variable n)) is stands =
-        typed-by _ _ _ false (is_active_in h n) (is_typed_in h n)
+        typed-by _ _ _ false (is_active_number h n) (is_typed_in h n)
         (w.constants t ∙ ap names_constant is) (variable-active h c w t n stands)
         (variable-typed h c w t n stands)
-        ∙ sym (is_some-number (is_active_in h n && is_typed_in h n) n)
+        ∙ sym (is_some-number (is_active_number h n && is_typed_in h n) n)
     go (Some (Hypothesis i)) is stands =
         typed-by _ _ (has_type c t) false false (has_type c t)
         (w.constants t ∙ ap names_constant is) (not-active h c w t (ap names_variable is)) refl
@@ -227,9 +228,9 @@ test-taken h c w t = go (h.names t) refl (w.numbered t)
         taken _ _ _ true false false (w.constants t ∙ ap names_constant is)
         (not-active h c w t (ap names_variable is)) (w.labels t ∙ ap names_label is)
     go (Some (Variable n)) is stands =
-        taken _ _ _ false (is_active_in h n) false (w.constants t ∙ ap names_constant is)
+        taken _ _ _ false (is_active_number h n) false (w.constants t ∙ ap names_constant is)
         (variable-active h c w t n stands) (w.labels t ∙ ap names_label is)
-        ∙ or-false (is_active_in h n)
+        ∙ or-false (is_active_number h n)
       where
         or-false : (b : Bool) → (b || false) ≡ b
         or-false true = refl

@@ -20,8 +20,8 @@ is_number n None = false
 is_number n (Some m) = nat_eq m n
 
 -- the variable is active: it is at its place among the active variables
-abbrev pub is_active_in : ScopeState → ℕ → Bool
-is_active_in h n = is_number n (slice_get h.variables (slice_index h.places n))
+abbrev pub is_active_number : ScopeState → ℕ → Bool
+is_active_number h n = is_number n (slice_get h.variables (slice_index h.places n))
 
 abbrev pub types_in : ℕ → Option NumberedHypothesis → Bool
 types_in n None = false
@@ -35,9 +35,9 @@ abbrev pub number_if : Bool → ℕ → Option ℕ
 number_if test n = if test then Some n else None
 
 abbrev pub variable_if : ScopeState → Need → ℕ → Option ℕ
-variable_if h need.Active n = number_if (is_active_in h n) n
-variable_if h need.Variable n = number_if (is_active_in h n) n
-variable_if h need.Typed n = number_if (is_active_in h n && is_typed_in h n) n
+variable_if h need.Active n = number_if (is_active_number h n) n
+variable_if h need.Variable n = number_if (is_active_number h n) n
+variable_if h need.Typed n = number_if (is_active_number h n && is_typed_in h n) n
 
 abbrev pub constant_if : Need → ℕ → Option ℕ
 constant_if need.Active n = Some n
@@ -95,7 +95,7 @@ redeclares_constant h token = is_some (h.names token)
 abbrev pub names_active : ScopeState → Option Name → Bool
 names_active h None = false
 names_active h (Some (Constant n)) = true
-names_active h (Some (Variable n)) = is_active_in h n
+names_active h (Some (Variable n)) = is_active_number h n
 names_active h (Some (Hypothesis i)) = true
 names_active h (Some (Assertion i)) = true
 

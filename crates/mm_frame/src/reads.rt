@@ -13,7 +13,7 @@ ghost use Rattle.mm_database.specs.Proofs.{active_hypothesis};
 ghost use Rattle.mm_frame.specs.Numbered.{named_hypothesis};
 ghost use Rattle.mm_frame.specs.StateReads.{frame_named, symbol_is_variable, hypothesis_at};
 ghost use Rattle.mm_frame.specs.StateReads.{hypothesis_named};
-ghost use Rattle.mm_frame.specs.StateTests.{is_active_in, is_typed_in, number_in, first_block};
+ghost use Rattle.mm_frame.specs.StateTests.{is_active_number, is_typed_in, number_in, first_block};
 
 use crate::disjoint::Disjoint;
 use crate::frames::{Cited, Frame, Hyp};
@@ -52,7 +52,7 @@ impl<'a> Scopes<'a> {
 
     /// Whether the variable with this number is active.
     pub(crate) fn is_active_variable(&self, n: u32) -> bool
-        ensures { result ≡ is_active_in (scope_state self.now) n }
+        ensures { result ≡ is_active_number (scope_state self.now) n }
     {
         let place = self.places.get(n as usize).copied().unwrap_or(0);
         match self.variables.get(place) {
