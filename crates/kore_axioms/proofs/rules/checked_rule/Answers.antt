@@ -31,7 +31,7 @@ returns-in_err-check_shape-clause-refused c =
     let q = err_from_is_err_and c.from_residual.result c.from_residual.ensures.1 in
     rw (q.1, q.2) (subst (λ (w : RuleParts). Refuses
     (FirstOfParts c.args.sig.now (sort_tree c.args.first) a v.sort w)
-        c.in_err-check_shape.field-0.0)
+    c.in_err-check_shape.field-0.0)
     c.rule_parts-parts.ensures
     (shape_refused c.args.sig.now (sort_tree c.args.first) a v.sort
     (plain_rule_parts c.rule_parts-parts.result) c.in_err-check_shape.field-0.0
@@ -59,7 +59,7 @@ returns-in-Some-clause-refused c =
     let own : RuleParts = plain_rule_parts c.rule_parts-parts.result in
     let found : FirstOfParts sig first a v.sort own (Some (fault_at at c.in-Some.fault)) =
     uses_first sig first a v.sort own (Some (fault_at at c.in-Some.fault))
-        c.in_ok-check_shape.ensures.form
+    c.in_ok-check_shape.ensures.form
     c.in_ok-check_shape.ensures.sorts
     (sym (ap (option_map (fault_at at)) c.in-Some.is) ∙ c.use_fault.ensures at) in
     subst (λ (w : RuleParts). FirstOfParts sig first a v.sort w
@@ -78,7 +78,7 @@ returns-clause-clear c =
     let own : RuleParts = plain_rule_parts c.rule_parts-parts.result in
     subst (λ (w : RuleParts). FirstOfParts sig first a v.sort w None) c.rule_parts-parts.ensures
     (uses_first sig first a v.sort own None c.in_ok-check_shape.ensures.form
-        c.in_ok-check_shape.ensures.sorts
+    c.in_ok-check_shape.ensures.sorts
     (sym (ap (option_map (fault_at at)) c.in_default.is) ∙ c.use_fault.ensures at))
 
 pub returns-clause-means : goal.returns-clause-means

@@ -60,7 +60,7 @@ returns c =
     omega (arith, c.len-left_vars.ensures, ap length one) in
     let counted : nat_eq c.len.result c.len-left_vars.result ≡ nat_eq (length all) (length first) =
     ap (λ (n : ℕ). nat_eq n c.len-left_vars.result) most
-        ∙ ap (λ (n : ℕ). nat_eq (length all) n) some in
+    ∙ ap (λ (n : ℕ). nat_eq (length all) n) some in
     let bound : nat_eq c.len.result c.len-left_vars.result ≡
     (is_bound qs test && is_bound qs (Some f.right)) =
     counted ∙ bound_counted sig qs test f.right f.test_clear f.right_clear in

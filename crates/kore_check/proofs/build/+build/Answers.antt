@@ -62,10 +62,10 @@ build_all-loop-arg-preserved t c =
     subst (Built c.args.sig.now c.loop-arg.vars c.build.new.vars _) c.in-Some.is
     c.in_ok-pat.ensures.built in
     let pushed : c.push.new.self.items ≡ c.loop-arg.pats.items ++ c.in-Some.pat ∷ [] =
-        search rules in
+    search rules in
     let means : (more : List (List ℕ × ℕ)) (qs : List Pattern) → Extends c.build.new.vars more →
     AllMean c.args.sig.now more (reads (drop (c.loop-arg.arg-index + 1) c.args.args.now))
-            (patterns qs) →
+    (patterns qs) →
     AllMean c.args.sig.now more (reads c.args.args.now)
     (patterns (map plain_pattern (c.loop-arg.pats.items ++ c.in-Some.pat ∷ []) ++ qs)) =
     all-more c.args.sig.now c.args.vars.now c.loop-arg.vars c.build.new.vars c.args.args.now
@@ -91,7 +91,7 @@ build_all-loop-arg-preserved t c =
 pub build_all-returns-clause-built : goal.build_all-returns-clause-built
 build_all-returns-clause-built t c =
     all_done c.args.sig.now c.args.args.now c.loop-arg.arg-index c.args.vars.now c.loop-arg.vars
-        c.loop-arg.pats
+    c.loop-arg.pats
     c.loop-arg-test.false c.loop-arg.invariant.vars c.loop-arg.invariant.means
 
 pub build_only-returns-then-args-ne1-clause-built :

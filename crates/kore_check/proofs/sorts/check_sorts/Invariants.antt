@@ -9,7 +9,7 @@ use Rattle.kore_check.proofs.sorts.check_sorts.Given as goal
 abbrev pub invariant-loop-sort : goal.invariant-loop-sort
 invariant-loop-sort l = record {
   all : (l.all_declared
-          && is_some (sort_numbers l.sig (map plain_sort (drop l.sort-index l.sorts))))
+      && is_some (sort_numbers l.sig (map plain_sort (drop l.sort-index l.sorts))))
       ≡ is_some (sort_numbers l.sig (map plain_sort l.sorts));
   first : after l.first (flat_map (sort_faults l.sig) (map plain_sort (drop l.sort-index l.sorts)))
       ≡ after l.initial.first (flat_map (sort_faults l.sig) (map plain_sort l.sorts));

@@ -16,7 +16,7 @@ loop-pat-preserved c =
     let p : RulePat = c.in_ok-build_pattern.field-0 in
     let pushed : c.push.new.self.items ≡ c.loop-pat.made.items ++ p ∷ [] = search rules in
     let mapped : map plain_pattern c.push.new.self.items ≡ map plain_pattern c.loop-pat.made.items
-        ++
+    ++
     plain_pattern p ∷ [] =
     ap (map plain_pattern) pushed ∙ map-append plain_pattern c.loop-pat.made.items (p ∷ []) in
     record {

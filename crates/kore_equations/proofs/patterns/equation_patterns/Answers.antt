@@ -51,9 +51,9 @@ returns c =
     let some : c.len-argument_vars.result ≡ length first =
     omega (arith, c.len-argument_vars.ensures, ap length one) in
     let counted : nat_eq c.len.result c.len-argument_vars.result ≡ nat_eq (length all)
-        (length first) =
+    (length first) =
     ap (λ (n : ℕ). nat_eq n c.len-argument_vars.result) most
-        ∙ ap (λ (n : ℕ). nat_eq (length all) n) some in
+    ∙ ap (λ (n : ℕ). nat_eq (length all) n) some in
     let clear : (p : PatternTree) → test ≡ Some p → _ = λ p e. (f.test p e).clear in
     let bound : nat_eq c.len.result c.len-argument_vars.result ≡
     (is_bound qs test && is_bound qs (Some right)) =

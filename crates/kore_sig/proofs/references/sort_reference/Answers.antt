@@ -14,7 +14,7 @@ declared_within sorts name (s ∷ args) n e = absurd (let never : ⊥ = cc in ne
 pub overflow_cast-result : goal.overflow_cast-result
 overflow_cast-result c =
     let found : Some c.in_ok-place-in-Param.place ≡ parameter_place c.args.params.now
-        c.in-Param.name =
+    c.in-Param.name =
     search rules in
     let lt =
     position_within (λ (p : List ℕ). bytes_eq c.in-Param.name p) 0 c.args.params.now
