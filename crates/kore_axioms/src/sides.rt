@@ -138,7 +138,8 @@ fn note_found_top(
 fn note_top(sig: &Signature, top: &Pat, wanted: Option<SortId>, first: &mut Option<PatternFault>)
     requires { IsNumbered sig.now }
     ensures { kept_fault first.new
-        ≡ after first.old (top_faults sig.now (option_map sort_of_id wanted) (pattern_tree top.now)) }
+        ≡ after first.old
+        (top_faults sig.now (option_map sort_of_id wanted) (pattern_tree top.now)) }
 {
     if let PatForm::Built(_, sorts, _) = &top.form {
         note_only_sort(sig, sorts, top.at, wanted, first);

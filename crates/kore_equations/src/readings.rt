@@ -48,7 +48,8 @@ pub fn read_equation(
     requires class { class_of sig.now (plain_axiom_decl decl.now)
         ≡ equates (plain_statement stated.now) }
     ensures function { IfOk result
-        (λ reading. number_of sig.now.symbols stated.now.function.now ≡ Some (function_of reading)) }
+        (λ reading.
+        number_of sig.now.symbols stated.now.function.now ≡ Some (function_of reading)) }
     ensures means { IfOk result
         (IsReadAs sig.now stated.now.function.now (plain_axiom_decl decl.now)) }
 {

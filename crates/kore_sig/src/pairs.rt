@@ -33,9 +33,11 @@ pub(crate) fn stated_order(
         (Refuses (FirstFrom sorts.now []
         (pairs_in (map (λ p. plain_declaration p.decl.now) decls.now)))) }
     ensures clear { OnOk result
-        (FirstFrom sorts.now [] (pairs_in (map (λ p. plain_declaration p.decl.now) decls.now)) None) }
+        (FirstFrom sorts.now [] (pairs_in (map (λ p. plain_declaration p.decl.now) decls.now))
+        None) }
     ensures pairs { IfOk result
-        (AllZip (IsPairOf sorts.now) (pairs_in (map (λ p. plain_declaration p.decl.now) decls.now))) }
+        (AllZip (IsPairOf sorts.now)
+        (pairs_in (map (λ p. plain_declaration p.decl.now) decls.now))) }
     ensures no_cycle { IfOk result HasNoCycle }
 {
     let mut subsorts = Subsorts::new(alloc);

@@ -39,7 +39,8 @@ impl<'a> Scopes<'a> {
         tokens: &'t [MmToken],
     ) -> Result<Option<Theorem<'a, 't>>, FrameEnd>
         ensures { (c : Context) → Stands (scope_state self.now) c
-            → Proposes bytes.now (scope_state self.now) c (statement_of bytes.now tokens.now) result }
+            → Proposes bytes.now (scope_state self.now) c (statement_of bytes.now tokens.now)
+            result }
     {
         let Some(form) = read_form(bytes, tokens) else {
             return Ok(None);

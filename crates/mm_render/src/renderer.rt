@@ -183,7 +183,8 @@ impl Renderer {
         ensures states { OnOk result
             (StatesLemma names.now self.old self.new theorem.now to.old.items to.new.items) }
         ensures kept { OnOk result
-            (self.new ≡ with_last self.old (claim_of theorem.now.hypotheses theorem.now.conclusion)) }
+            (self.new
+            ≡ with_last self.old (claim_of theorem.now.hypotheses theorem.now.conclusion)) }
         ensures unchanged { OnErr result (to.new.items ≡ to.old.items) }
         ensures as_before { OnErr result (self.new ≡ self.old) }
     {

@@ -401,7 +401,8 @@ fn at_values(
     requires recorded { AreRecorded cx.old.program subst.now (plain_patterns args.now)
         (children_of (plain_record evaluation.now)) }
     requires fact { (f : ℕ) × (right : Pattern)
-        × SaysCall cx.old f (results_of (children_of (plain_record evaluation.now))) right fact.now }
+        × SaysCall cx.old f (results_of (children_of (plain_record evaluation.now))) right
+        fact.now }
     requires kept { IsKeptIn cx.old kept.old }
     ensures says { IfOk result (λ t. (f : ℕ) (right : Pattern) →
         SaysCall cx.old f (results_of (children_of (plain_record evaluation.now))) right fact.now →

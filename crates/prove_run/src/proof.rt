@@ -76,7 +76,8 @@ impl<'p> Proof<'p> {
         requires bound { HasBoundVariables program.now }
         requires start { IsStart (theory_of program.now) (plain_pattern start.now) }
         requires value { IfSome value
-            (λ r. Records (theory_of program.now) [] (plain_pattern start.now) (plain_record r.now)) }
+            (λ r.
+            Records (theory_of program.now) [] (plain_pattern start.now) (plain_record r.now)) }
         ensures { IfOk result
             (λ proof. Begins program.now start.now (value_told (option_copied value.entry)) proof
             to.old.items to.new.items) }

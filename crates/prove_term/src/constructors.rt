@@ -71,7 +71,8 @@ impl<'p> Cx<'p> {
         requires constructs { Constructs self.old.program.sig symbol.0 }
         ensures says { IfOk result (SaysTotality self.new symbol.0) }
         ensures assumed { IfOk result
-            (IsImageOf self.new.program.sig self.new.names (IsAssumed (theory_of self.new.program))) }
+            (IsImageOf self.new.program.sig self.new.names
+            (IsAssumed (theory_of self.new.program))) }
         ensures grown { HasGrown self.old self.new }
     {
         if self.count(symbol) >= 1 << 31 {

@@ -46,7 +46,8 @@ impl<'p> Cx<'p> {
         ensures says { IfOk result (IsImageOf self.new.program.sig self.new.names
             (SaysHook self.new.program.sig symbol.0 (map scalar_value args.now))) }
         ensures assumed { IfOk result
-            (IsImageOf self.new.program.sig self.new.names (IsAssumed (theory_of self.new.program))) }
+            (IsImageOf self.new.program.sig self.new.names
+            (IsAssumed (theory_of self.new.program))) }
         ensures grown { HasGrown self.old self.new }
     {
         hook_fact(alloc, &self.program.sig, &mut self.names, symbol, args)

@@ -153,7 +153,8 @@ impl<'p> Cx<'p> {
         requires { AllowsPair self.old.program.sig from.0 to.0 }
         ensures says { IfOk result (SaysInjecting self.new from.0 to.0) }
         ensures assumed { IfOk result
-            (IsImageOf self.new.program.sig self.new.names (IsAssumed (theory_of self.new.program))) }
+            (IsImageOf self.new.program.sig self.new.names
+            (IsAssumed (theory_of self.new.program))) }
         ensures grown { HasGrown self.old self.new }
     {
         inj_total(alloc, &self.program.sig, &mut self.names, from, to)
@@ -239,7 +240,8 @@ impl<'p> Cx<'p> {
         requires above { InjectsBelow self.old.program.sig through.0 to.0 }
         ensures says { IfOk result (SaysCollapsing self.new from.0 through.0 to.0) }
         ensures assumed { IfOk result
-            (IsImageOf self.new.program.sig self.new.names (IsAssumed (theory_of self.new.program))) }
+            (IsImageOf self.new.program.sig self.new.names
+            (IsAssumed (theory_of self.new.program))) }
         ensures grown { HasGrown self.old self.new }
     {
         inj_collapse(alloc, &self.program.sig, &mut self.names, from, through, to)

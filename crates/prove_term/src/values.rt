@@ -45,7 +45,8 @@ impl<'p> Cx<'p> {
         requires { HasValue self.old.program.sig sort.0 (value_of value.now) }
         ensures says { IfOk result (SaysValueOf self.new sort.0 (value_of value.now)) }
         ensures assumed { IfOk result
-            (IsImageOf self.new.program.sig self.new.names (IsAssumed (theory_of self.new.program))) }
+            (IsImageOf self.new.program.sig self.new.names
+            (IsAssumed (theory_of self.new.program))) }
         ensures grown { HasGrown self.old self.new }
     {
         value_fact(alloc, &self.program.sig, &mut self.names, sort, value)

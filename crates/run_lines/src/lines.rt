@@ -30,7 +30,8 @@ pub fn run_lines(
 ) -> Result<Vec<u8>, AllocError>
     requires { IsSome (kept_pattern sig.now (plain_pattern start.now) (plain_run end.now)) }
     ensures { IfOk result
-        (λ lines. lines_of sig.now (plain_pattern start.now) (plain_run end.now) ≡ Some lines.items) }
+        (λ lines.
+        lines_of sig.now (plain_pattern start.now) (plain_run end.now) ≡ Some lines.items) }
 {
     let kept = kept_pattern(alloc, sig, start, end)?;
     let text = print_pattern(alloc, &kept)?;

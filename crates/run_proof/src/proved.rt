@@ -42,7 +42,8 @@ pub fn proved_run<'p, D: Desk>(
     requires bound { HasBoundVariables engine.now }
     requires names { HasPlainNames engine.now.sig }
     ensures run { IfOk result
-        (λ r. IsRunOf (theory_of engine.now) limit calls (plain_pattern start.now) (plain_run r.0)) }
+        (λ r.
+        IsRunOf (theory_of engine.now) limit calls (plain_pattern start.now) (plain_run r.0)) }
     ensures sorted { IfOk result (λ r. IsSortedEnd (theory_of engine.now) (plain_run r.0)) }
     ensures justified { IfOk result (λ r. WritesProof (D.told desk.old) (D.told desk.new)
         (theory_of engine.now) (plain_pattern start.now) (plain_run r.0) r.1) }
