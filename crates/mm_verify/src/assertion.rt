@@ -15,6 +15,9 @@ use crate::statement::Statement;
 use mm_frame::{Frame, Lists, Mandatory};
 use std::alloc::{AllocError, Global};
 
+/// A statement with at least this many parts is long.
+const LONG: usize = 128;
+
 /// An assertion, each of whose variables knows which entry gives its text. `assertion_frame` is its
 /// frame.
 #[derive(Drop)]
@@ -39,27 +42,44 @@ impl<'a> Assertion<'a> {
     ghost use Rattle.mm_database.specs.Proofs.{substituted, keeps_apart};
     ghost use Rattle.mm_frame.specs.NumberedSteps.{all_agree, numbers_apart};
 
-    /// The assertion with this frame. It takes time in the frame's size, but for a factor of the
+    /// The assertion with this frame, for one step. It takes time in the frame's size, times the
     /// logarithm of the number of its variables.
     pub(crate) fn of(alloc: Global, frame: &Frame<'a>) -> Result<Assertion<'a>, AllocError>
         ensures { IfOk result (λ a. assertion_frame a ≡ plain_frame frame.now) }
     {
+        Assertion::with_long(alloc, frame, usize::MAX)
+    }
+
+    /// The same for many steps, which pass over empty texts of long statements. It takes time in the
+    /// frame's size, times its logarithm.
+    pub(crate) fn for_steps(alloc: Global, frame: &Frame<'a>) -> Result<Assertion<'a>, AllocError>
+        ensures { IfOk result (λ a. assertion_frame a ≡ plain_frame frame.now) }
+    {
+        Assertion::with_long(alloc, frame, LONG)
+    }
+
+    /// The same. Statements of `long` symbols or more are kept by places.
+    fn with_long(alloc: Global, frame: &Frame<'a>, long: usize) -> Result<Assertion<'a>, AllocError>
+        ensures { IfOk result (λ a. assertion_frame a ≡ plain_frame frame.now) }
+    {
         match &*frame.mandatory {
             Mandatory::Listed(lists) => {
-                Assertion::built(alloc, frame.label, lists, &frame.statement)
+                Assertion::built(alloc, frame.label, lists, &frame.statement, long)
             }
             Mandatory::Shared(parts) => {
                 let lists = parts.lists(alloc)?;
-                Assertion::built(alloc, frame.label, &lists, &frame.statement)
+                Assertion::built(alloc, frame.label, &lists, &frame.statement, long)
             }
         }
     }
 
+    /// The assertion with this label and statement, which asks for these lists.
     fn built(
         alloc: Global,
         label: &'a [u8],
         lists: &Lists<'a>,
         statement: &[u32],
+        long: usize,
     ) -> Result<Assertion<'a>, AllocError>
         ensures label { IfOk result (λ a. (assertion_frame a).label ≡ label.now) }
         ensures hypotheses { IfOk result
@@ -69,9 +89,9 @@ impl<'a> Assertion<'a> {
         ensures statement { IfOk result (λ a. (assertion_frame a).statement ≡ statement.now) }
     {
         let places = find_places(alloc, &lists.hyps)?;
-        let conclusion = stated(alloc, &places, statement)?;
+        let conclusion = stated(alloc, &places, statement, long)?;
         let apart = groups_located(alloc, &places, &lists.apart)?;
-        let wanted = all_wanted(alloc, &places, &lists.hyps)?;
+        let wanted = all_wanted(alloc, &places, &lists.hyps, long)?;
         Ok(Assertion {
             label,
             wanted,

@@ -86,18 +86,19 @@ fn located(alloc: Global, places: &Places<'_, '_>, symbols: &[u32]) -> Result<Ve
     Ok(parts)
 }
 
-/// The statement of these symbols.
+/// The statement of these symbols. With `long` symbols or more it is kept by places.
 pub(crate) fn stated(
     alloc: Global,
     places: &Places<'_, '_>,
     symbols: &[u32],
+    long: usize,
 ) -> Result<Statement, AllocError>
     ensures symbols { IfOk result (λ s. map symbol_of (statement_parts s) ≡ symbols.now) }
     ensures places { IfOk result (λ s. map place_in (statement_parts s)
         ≡ map (place_by places.now) symbols.now) }
 {
     let parts = located(alloc, places, symbols)?;
-    Statement::of(alloc, parts)
+    Statement::of(alloc, parts, long)
 }
 
 /// Groups of symbols, each with its place.
@@ -121,6 +122,7 @@ fn wanted_by<'a>(
     alloc: Global,
     places: &Places<'_, '_>,
     hyp: &Hyp<'a>,
+    long: usize,
 ) -> Result<Wanted<'a>, AllocError>
     ensures hypothesis { IfOk result (λ w. wanted_hypothesis w ≡ plain_hypothesis hyp.now) }
     ensures places { IfOk result (λ w. AreLocated places.now (parts_in w)) }
@@ -129,23 +131,24 @@ fn wanted_by<'a>(
         Hyp::Floating(label, typecode, variable) => Ok(Wanted::Typed(label, *typecode, *variable)),
         Hyp::Essential(label, statement) => Ok(Wanted::Stated(
             label,
-            stated(alloc, places, statement)?,
+            stated(alloc, places, statement, long)?,
         )),
     }
 }
 
-/// What hypotheses ask for, in order.
+/// What hypotheses ask for, in order. Statements of `long` symbols or more are kept by places.
 pub(crate) fn all_wanted<'a>(
     alloc: Global,
     places: &Places<'_, '_>,
     hyps: &[Hyp<'a>],
+    long: usize,
 ) -> Result<Vec<Wanted<'a>>, AllocError>
     ensures hypotheses { IfOk result (λ v. hypotheses_of v.items ≡ plain_hypotheses hyps.now) }
     ensures places { IfOk result (λ v. AreLocated places.now (flat_map parts_in v.items)) }
 {
     let mut all = Vec::with_capacity(alloc, hyps.len())?;
     for hyp in hyps {
-        all.push(wanted_by(alloc, places, hyp)?)?;
+        all.push(wanted_by(alloc, places, hyp, long)?)?;
     }
     Ok(all)
 }

@@ -11,10 +11,7 @@ use crate::present::Present;
 use crate::stack::Stack;
 use std::alloc::{AllocError, Global};
 
-/// With so many parts a statement is long.
-const LONG: usize = 128;
-
-/// The positions of so many parts fit in 32 bits.
+/// The positions of this many parts fit in 32 bits.
 const MOST: usize = 4294967296;
 
 /// The parts of a statement. `statement_parts` are these.
@@ -27,11 +24,11 @@ pub(crate) enum Statement {
 }
 
 impl Statement {
-    /// The statement of these parts.
-    pub(crate) fn of(alloc: Global, parts: Vec<Part>) -> Result<Statement, AllocError>
+    /// The statement of these parts. With `long` parts or more it is kept by places.
+    pub(crate) fn of(alloc: Global, parts: Vec<Part>, long: usize) -> Result<Statement, AllocError>
         ensures { IfOk result (λ s. statement_parts s ≡ parts.items) }
     {
-        if parts.len() < LONG || parts.len() > MOST {
+        if parts.len() < long || parts.len() > MOST {
             return Ok(Statement::Short(parts));
         }
         let parts = PartsByPlace::of(alloc, parts)?;

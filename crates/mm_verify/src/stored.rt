@@ -38,7 +38,7 @@ impl<'a> StoredAssertion<'a> {
         if is_long(&frame.mandatory) {
             Ok(StoredAssertion::Shared(shared(alloc, frame)?))
         } else {
-            Ok(StoredAssertion::Built(Assertion::of(alloc, frame)?))
+            Ok(StoredAssertion::Built(Assertion::for_steps(alloc, frame)?))
         }
     }
 
