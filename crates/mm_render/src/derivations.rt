@@ -184,10 +184,8 @@ fn put_derived<'a>(stack: &mut Vec<Part<'a>>, parts: &'a [Deriv]) -> Result<(), 
         (3 * all_steps (derivations parts.now))
         stack.old.items stack.new.items) }
 {
-    let mut left = parts.len();
-    while left > 0 {
-        left -= 1;
-        stack.push(Part::Derived(&parts[left]))?;
+    for part in parts.iter().rev() {
+        stack.push(Part::Derived(part))?;
     }
     Ok(())
 }

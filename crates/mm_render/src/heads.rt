@@ -158,15 +158,12 @@ fn push_separations_of(
         (map (word_token names.now serial) words.old.items) (variable_of variable ∷ []))) }
     ensures words { OnOk result (words.new.items ≡ words.old.items) }
 {
-    match variable {
-        Variable::Object(_) => Ok(()),
-        Variable::Pattern(i) => {
-            words.push(Word::Meta(i))?;
-            push_separation(to, names, serial, words)?;
-            words.pop();
-            Ok(())
-        }
+    if let Variable::Pattern(i) = variable {
+        words.push(Word::Meta(i))?;
+        push_separation(to, names, serial, words)?;
+        words.pop();
     }
+    Ok(())
 }
 
 /// The tokens of the object variables among some.
@@ -186,13 +183,10 @@ fn push_object(words: &mut Vec<Word>, variable: Variable) -> Result<(), AllocErr
     ensures { OnOk result
         (AddsWordsOf (object_tokens (variable_of variable ∷ [])) words.old.items words.new.items) }
 {
-    match variable {
-        Variable::Object(x) => {
-            words.push(Word::Object(x.0))?;
-            Ok(())
-        }
-        Variable::Pattern(_) => Ok(()),
+    if let Variable::Object(x) = variable {
+        words.push(Word::Object(x.0))?;
     }
+    Ok(())
 }
 
 /// Adds that variables have to stay apart, if there are at least two.
@@ -226,8 +220,8 @@ fn push_premises(
         ≡ to.old.items
         ++ written_statements (premise_statements names.now serial 0 hypotheses.now)) }
 {
-    for no in 0..hypotheses.len() {
-        push_premise(to, labels, names, serial, no as u64, &hypotheses[no])?;
+    for (no, hypothesis) in hypotheses.iter().enumerate() {
+        push_premise(to, labels, names, serial, no as u64, hypothesis)?;
     }
     Ok(())
 }

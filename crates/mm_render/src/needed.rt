@@ -140,10 +140,8 @@ fn put_derivations<'a>(stack: &mut Vec<&'a Deriv>, parts: &'a [Deriv]) -> Result
     ensures { OnOk result
         (PutsDerivations (derivations parts.now) stack.old.items stack.new.items) }
 {
-    let mut left = parts.len();
-    while left > 0 {
-        left -= 1;
-        stack.push(&parts[left])?;
+    for part in parts.iter().rev() {
+        stack.push(part)?;
     }
     Ok(())
 }

@@ -112,10 +112,7 @@ pub(crate) fn premise_of(
 {
     let mut key = Vec::new(alloc);
     push_key(&mut key, alloc, pattern)?;
-    match at.premises.get(key.as_slice()) {
-        Some(place) => Ok(*place),
-        None => Ok(0),
-    }
+    Ok(at.premises.get(key.as_slice()).copied().unwrap_or(0))
 }
 
 /// The places of hypotheses, by their bytes.
@@ -127,9 +124,9 @@ pub(crate) fn premise_places(
         (λ places. ArePremises hypotheses.now (premise_place_by (found_in places))) }
 {
     let mut places = BTreeMap::new(alloc);
-    for no in 0..hypotheses.len() {
+    for (no, hypothesis) in hypotheses.iter().enumerate() {
         let mut key = Vec::new(alloc);
-        push_key(&mut key, alloc, &hypotheses[no])?;
+        push_key(&mut key, alloc, hypothesis)?;
         places.insert(key, no as u64)?;
     }
     Ok(places)

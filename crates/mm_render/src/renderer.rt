@@ -273,10 +273,7 @@ impl Renderer {
 fn next_number(number: u64) -> Result<u64, AllocError>
     ensures { IfOk result (λ next. next ≡ number + 1) }
 {
-    match number.checked_add(1) {
-        Some(next) => Ok(next),
-        None => Err(AllocError),
-    }
+    number.checked_add(1).ok_or(AllocError)
 }
 
 /// Adds the declarations of the names from a number on.
@@ -319,11 +316,8 @@ fn push_declaration(to: &mut Vec<u8>, names: &Names, no: u64) -> Result<(), Allo
 fn typecode_of(token: Option<&str>) -> &'static str
     ensures { result.now ≡ typecode_of (unwrap_or (option_copied token.entry) []) }
 {
-    match token {
-        Some(text) => match text.as_bytes() {
-            [b's', ..] => "#Sort",
-            _ => "#Pattern",
-        },
-        None => "#Pattern",
+    match token.map(str::as_bytes) {
+        Some([b's', ..]) => "#Sort",
+        _ => "#Pattern",
     }
 }

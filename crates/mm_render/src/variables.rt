@@ -24,14 +24,11 @@ pub(crate) enum Variable {
 }
 
 /// What an object variable becomes if `new` has the new variables by place.
-#[tactic(auto, using(crate::proofs::RenamedVariables::renamed_there, crate::proofs::RenamedVariables::renamed_not))]
+#[tactic(auto, using(crate::proofs::RenamedVariables::renamed_or))]
 pub(crate) fn renamed(new: &[VarNo], x: VarNo) -> VarNo
     ensures { result.0 ≡ by_place (numbers_of new.now) x.0 }
 {
-    match new.get(x.0 as usize) {
-        Some(y) => *y,
-        None => x,
-    }
+    new.get(x.0 as usize).copied().unwrap_or(x)
 }
 
 /// Variables in the order in which they were first added, each once.
@@ -134,24 +131,18 @@ impl VariableList {
             stack.old.items stack.new.items (listed self.old) (listed self.new)) }
     {
         match pattern.form() {
-            MForm::Bot => Ok(()),
-            MForm::Top => Ok(()),
-            MForm::Const(_) => Ok(()),
+            MForm::Bot | MForm::Top | MForm::Const(_) => Ok(()),
             MForm::Var(x) => self.add(Variable::Object(*x)),
             MForm::Meta(i) => self.add(Variable::Pattern(*i)),
-            MForm::Not(p) => put_one(stack, p),
-            MForm::Next(p) => put_one(stack, p),
-            MForm::Ev(p) => put_one(stack, p),
-            MForm::Fun(p, _) => put_one(stack, p),
-            MForm::At(p, _) => put_one(stack, p),
-            MForm::Ex(x, _, p) => self.take_quantifier(stack, *x, p),
-            MForm::All(x, _, p) => self.take_quantifier(stack, *x, p),
-            MForm::Imp(p, q) => put_two(stack, p, q),
-            MForm::And(p, q) => put_two(stack, p, q),
-            MForm::Or(p, q) => put_two(stack, p, q),
-            MForm::Equal(p, q) => put_two(stack, p, q),
-            MForm::Member(p, q) => put_two(stack, p, q),
-            MForm::App(p, q) => put_two(stack, p, q),
+            MForm::Not(p) | MForm::Next(p) | MForm::Ev(p) | MForm::Fun(p, _) | MForm::At(p, _) =>
+                put_one(stack, p),
+            MForm::Ex(x, _, p) | MForm::All(x, _, p) => self.take_quantifier(stack, *x, p),
+            MForm::Imp(p, q)
+            | MForm::And(p, q)
+            | MForm::Or(p, q)
+            | MForm::Equal(p, q)
+            | MForm::Member(p, q)
+            | MForm::App(p, q) => put_two(stack, p, q),
         }
     }
 
@@ -207,5 +198,5 @@ pub(crate) fn variables_of_claim(
     for hypothesis in hypotheses {
         list.add_all(alloc, hypothesis)?;
     }
-    Ok(list.all)
+    Ok(list.into_variables())
 }

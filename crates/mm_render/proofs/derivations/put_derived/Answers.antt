@@ -1,32 +1,41 @@
-use Rattle.std.proofs.Common.{List, ◌≡◌, ◌∷◌, ◌<◌, ◌-◌, ◌*◌, ap, drop, arith}
+use Rattle.std.proofs.Common.{List, ◌≡◌, [], ◌∷◌, ◌++◌, ◌*◌, ◌∙◌, ap, sym, refl, arith, rules}
+use Rattle.std.proofs.Common.{append-nil, append_assoc, subst}
+use Rattle.std.proofs.lemmas.List.{nil_from_length}
 use Rattle.ml_kernel.specs.StepsIn.{all_steps}
 use Rattle.ml_kernel.specs.Theorems.{Derivation, derivations}
-use Rattle.mm_render.specs.Parts.{all_entries_by}
-use Rattle.mm_proof.proofs.Stacking.{drop_at}
-use Rattle.mm_render.proofs.PartLaws.{part_more}
+use Rattle.mm_render.specs.Parts.{PutsParts, all_entries_by}
+use Rattle.mm_render.proofs.PartLaws.{part_more, part_none}
 use Rattle.mm_render.proofs.derivations.put_derived.Goals as goal
 
-pub loop-left-preserved : goal.loop-left-preserved
-loop-left-preserved c =
-    let some : 0 < c.loop-left.left = omega (arith, c.loop-left-test.true) in
-    let next : drop (c.loop-left.left - 1) c.args.parts.now ≡ c.index-parts-left.result ∷ drop
-    c.loop-left.left c.args.parts.now =
-    drop_at c.args.parts.now c.loop-left.left c.index-parts-left.result some
-    c.loop-left.invariant.within c.index-parts-left.is in
-    let steps : all_steps (derivations (drop (c.loop-left.left - 1) c.args.parts.now)) ≡ all_steps
-    (derivations (c.index-parts-left.result ∷ drop c.loop-left.left c.args.parts.now)) =
-    ap (λ (ds : List Derivation). all_steps (derivations ds)) next in
-    record {
-      within = omega (arith, c.loop-left.invariant.within);
-      put =
-          part_more (λ names k s.
-          all_entries_by k s (derivations (drop c.loop-left.left c.args.parts.now)))
-          (λ names k s.
-          all_entries_by k s (derivations (drop (c.loop-left.left - 1) c.args.parts.now)))
-          (3 * all_steps (derivations (drop c.loop-left.left c.args.parts.now)))
-          (3 * all_steps (derivations (drop (c.loop-left.left - 1) c.args.parts.now))) _
-          c.args.stack.now.items c.loop-left.stack.items c.push.new.self.items
-          c.loop-left.invariant.put c.in_ok-push.ensures.items
-          (λ names k s. ap (λ (ds : List Derivation). all_entries_by k s (derivations ds)) next)
-          (omega (arith, steps));
-    }
+pub loop-part-init : goal.loop-part-init
+loop-part-init c =
+    let rest : c.into_iter-part-iterator.result.iter.rest.now ≡ c.args.parts.now = search rules in (
+      [],
+      sym (append-nil c.args.parts.now) ∙ ap (λ (ds : List Derivation). ds ++ []) (sym rest),
+      part_none (λ names k s. []) 0 c.args.stack.now.items (λ names k s. refl),
+    )
+
+pub loop-part-preserved : goal.loop-part-preserved
+loop-part-preserved c =
+    let put = c.loop-part.invariant.0 in
+    (
+      c.in-Some.part.now ∷ put,
+      c.loop-part.invariant.1 ∙ ap (λ (ds : List Derivation). ds ++ put) c.in-Some.ensures.steps
+          ∙ append_assoc c.next.new.self.iter.rest.now (c.in-Some.part.now ∷ []) put,
+      part_more (λ names k s. all_entries_by k s (derivations put))
+          (λ names k s. all_entries_by k s (derivations (c.in-Some.part.now ∷ put)))
+          (3 * all_steps (derivations put))
+          (3 * all_steps (derivations (c.in-Some.part.now ∷ put))) _ c.args.stack.now.items
+          c.loop-part.stack.items c.push.new.self.items c.loop-part.invariant.2
+          c.in_ok-push.ensures.items (λ names k s. refl) (omega arith),
+    )
+
+pub returns : goal.returns
+returns c =
+    let put = c.loop-part.invariant.0 in
+    let all : c.args.parts.now ≡ put =
+    c.loop-part.invariant.1
+    ∙ ap (λ (ds : List Derivation). ds ++ put) (nil_from_length _ c.in-None.ensures.steps.0) in
+    subst (λ (ds : List Derivation).
+    PutsParts (λ names k s. all_entries_by k s (derivations ds)) (3 * all_steps (derivations ds))
+    c.args.stack.now.items c.loop-part.stack.items) (sym all) c.loop-part.invariant.2
