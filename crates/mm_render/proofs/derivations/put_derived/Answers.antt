@@ -17,8 +17,7 @@ loop-part-init c =
 
 pub loop-part-preserved : goal.loop-part-preserved
 loop-part-preserved c =
-    let put = c.loop-part.invariant.0 in
-    (
+    let put = c.loop-part.invariant.0 in (
       c.in-Some.part.now ∷ put,
       c.loop-part.invariant.1 ∙ ap (λ (ds : List Derivation). ds ++ put) c.in-Some.ensures.steps
           ∙ append_assoc c.next.new.self.iter.rest.now (c.in-Some.part.now ∷ []) put,
