@@ -1,7 +1,7 @@
 -- Works on a stack.
 use Rattle.std.proofs.Common.{◌≡◌, ℕ, ◌+◌, ◌*◌, ◌<◌, ◌≤◌, List, [], ◌∷◌, ◌++◌, length, refl, ap}
-use Rattle.std.proofs.Common.{◌∙◌, sym, append_assoc, length-append, arith, suc, drop, get_or}
-use Rattle.std.proofs.Common.{drop-cons, Result, Ok, Err}
+use Rattle.std.proofs.Common.{◌∙◌, sym, append_assoc, length-append, arith}
+use Rattle.std.proofs.Common.{Result, Ok, Err}
 use Rattle.std.specs.Prelude.{OnOk, ◌-◌}
 use Rattle.mm_text.specs.Bytes.{Token}
 use Rattle.mm_proof.specs.Entries.{Entry}
@@ -94,15 +94,6 @@ pub put_none : (old : List ListingTask) (f : List Token → ℕ → List Entry)
     → ((names : List Token) (k : ℕ) → f names k ≡ []) → PutsMore f old old
 put_none old f none names k =
     (ap (λ ts. ts ++ stack_entries names k old) (sym (none names k)), omega arith)
-
--- the rest of a list, from one place earlier on
-pub drop_at : {A : Type 0} (ws : List A) (i : ℕ) (w : A) → 0 < i → i ≤ length ws
-    → w ≡ get_or ws (i - 1) w → drop (i - 1) ws ≡ w ∷ drop i ws
-drop_at ws i w some within is =
-    let lt : i - 1 < length ws = omega arith in
-    let next : suc (i - 1) ≡ i = omega arith in
-    drop-cons ws (i - 1) w lt ∙ ap (λ v. v ∷ drop (suc (i - 1)) ws) (sym is)
-    ∙ ap (λ n. w ∷ drop n ws) next
 
 pub on_ok : {A E : Type 0} {P Q : Type 0} (r : Result A E) → (P → Q) → OnOk r P → OnOk r Q
 on_ok (Ok a) f h = f h
