@@ -1,24 +1,28 @@
-use Rattle.std.proofs.Common.{◌∙◌, ap, sym, map, List, ℕ}
+use Rattle.std.proofs.Common.{◌∙◌, ap, sym, subst, map, List, ℕ}
 use Rattle.std.specs.Prelude.{option_map}
 use Rattle.mm_text.specs.Reader.{words_of}
-use Rattle.mm_frame.specs.ScopeState.{scope_state}
+use Rattle.mm_frame.specs.ScopeState.{ScopeState, scope_state}
 use Rattle.mm_frame.specs.PlainFrames.{mandatory_hypotheses}
 use Rattle.mm_frame.specs.StandingLaws.{place_of}
 use Rattle.mm_frame.specs.declared.asking.Mandatory.{Mandatory}
 use Rattle.mm_verify.specs.declared.machine.Step.{Step}
 use Rattle.mm_verify.specs.Running.{step_of, steps_in, steps_fault}
-use Rattle.mm_verify.specs.ProofSteps.{steps_named}
+use Rattle.mm_verify.specs.ProofSteps.{AreActive, steps_named}
 use Rattle.mm_verify.proofs.ReadProofs.{kind-is}
 use Rattle.mm_verify.proofs.proof_fault.proof_fault.Goals as goal
 
 pub returns-in_ok-check_steps-in-Some : goal.returns-in_ok-check_steps-in-Some
-returns-in_ok-check_steps-in-Some c =
+returns-in_ok-check_steps-in-Some c = λ active.
     let frame = c.args.theorem.now.frame in
     let words = words_of c.args.bytes.now c.args.theorem.now.proof.now in
     let known = scope_state c.new-known.result.scopes.now in
+    let ready =
+    subst (λ (m : Mandatory). AreActive known (mandatory_hypotheses m)) (sym c.deref.ensures)
+    (subst (λ (h : ScopeState). AreActive h (mandatory_hypotheses frame.mandatory.value))
+    (sym (ap scope_state c.new-known.ensures)) active) in
     let named =
     ap (λ (m : Mandatory). steps_named known (mandatory_hypotheses m) words)
-    (sym c.deref.ensures) ∙ sym c.in_ok-read_proof.ensures
+    (sym c.deref.ensures) ∙ sym (c.in_ok-read_proof.ensures ready)
     ∙ ap (option_map steps_in) c.in-Some.is in
     let fault =
     c.in_ok-check_steps-in-Some.ensures

@@ -1,5 +1,6 @@
 use Rattle.std.proofs.Common.{◌≡◌, ◌∙◌, ap, sym, subst, List, map, Option}
-use Rattle.std.specs.Prelude.{IfOk, option_map}
+use Rattle.std.specs.Prelude.{option_map}
+use Rattle.std.proofs.lemmas.Result.{IfOk-weaker}
 use Rattle.mm_text.specs.Reader.{words_of}
 use Rattle.mm_frame.specs.PlainFrames.{mandatory_hypotheses}
 use Rattle.mm_frame.specs.ScopeState.{scope_state}
@@ -12,23 +13,25 @@ use Rattle.mm_verify.proofs.ReadProofs.{compressed-is, compressed-none}
 use Rattle.mm_verify.proofs.proof_text.read_compressed.Goals as goal
 
 pub returns-in-None-2 : goal.returns-in-None-2
-returns-in-None-2 c =
+returns-in-None-2 c = λ active.
     compressed-none (scope_state c.args.known.now.scopes.now)
     (mandatory_hypotheses c.args.mandatory.now) (words_of c.args.bytes.now c.args.tokens.now)
     (words_of c.args.bytes.now c.in-Some.labels.now)
     c.in-Some.ensures.found.0 c.in-Some.ensures.found.1
-    (sym (ap (option_map citations_in) c.in-None-2.is) ∙ c.in_ok-read_listed-in-Some.ensures)
+    (sym (ap (option_map citations_in) c.in-None-2.is) ∙ c.in_ok-read_listed-in-Some.ensures active)
 
 pub returns-in-Some-2 : goal.returns-in-Some-2
 returns-in-Some-2 c =
     let listed = c.in-Some-2.listed.items in
-    let steps =
-    compressed-is (scope_state c.args.known.now.scopes.now)
-    (mandatory_hypotheses c.args.mandatory.now) (words_of c.args.bytes.now c.args.tokens.now)
+    IfOk-weaker c.read_letters.result _ _
+    (λ r is active.
+    is
+    ∙ compressed-is (scope_state c.args.known.now.scopes.now)
+    (mandatory_hypotheses c.args.mandatory.now)
+    (words_of c.args.bytes.now c.args.tokens.now)
     (words_of c.args.bytes.now c.in-Some.labels.now)
     (words_of c.args.bytes.now c.in-Some.letters.now) (map citation_of listed)
     c.in-Some.ensures.found.0 c.in-Some.ensures.found.1 c.in-Some.ensures.found.2
-    (sym (ap (option_map citations_in) c.in-Some-2.is) ∙ c.in_ok-read_listed-in-Some.ensures) in
-    subst (λ (o : Option (List (Step Citation))).
-    IfOk c.read_letters.result (λ r. option_map steps_in r ≡ o)) steps
+    (sym (ap (option_map citations_in) c.in-Some-2.is)
+    ∙ c.in_ok-read_listed-in-Some.ensures active))
     c.read_letters.ensures
