@@ -62,10 +62,8 @@ pub fn accept(alloc: Global, bytes: &[u8]) -> Result<Program, Refusal>
 {
     token_laws();
     name_laws();
-    match definition_in(alloc, bytes) {
-        Ok(definition) => program_of(alloc, &definition),
-        Err(refusal) => Err(refusal),
-    }
+    let definition = definition_in(alloc, bytes)?;
+    program_of(alloc, &definition)
 }
 
 /// The program that a definition means. The error is the first fault of its declarations, or else
@@ -82,16 +80,10 @@ fn program_of(alloc: Global, definition: &Definition) -> Result<Program, Refusal
     ensures refused { IfErr result
         (RefusesFor (λ f. FirstOfDefinition (plain_definition definition.now) (Some f))) }
 {
-    let sig = match signature_of(alloc, definition) {
-        Ok(sig) => sig,
-        Err(refusal) => return Err(refusal),
-    };
+    let sig = signature_of(alloc, definition)?;
     sig.symbols.names_differ();
     let axioms = axioms_of(alloc, definition)?;
-    let (readings, first) = match read_axioms(alloc, &sig, &axioms) {
-        Ok(read) => read,
-        Err(refusal) => return Err(refusal),
-    };
+    let (readings, first) = read_axioms(alloc, &sig, &axioms)?;
     let top = sort_of_rules(&sig, first);
     Ok(program_under(alloc, sig, &axioms, readings, top)?)
 }
@@ -170,8 +162,6 @@ pub fn accept_term(alloc: Global, program: &Program, bytes: &[u8]) -> Result<Rul
     ensures refused { IfErr result
         (RefusesFor (IsRefusedTerm program.now.sig (top_of program.now) bytes.now)) }
 {
-    match pattern_in(alloc, bytes) {
-        Ok(term) => start_of(alloc, &program.sig, program.top, &term),
-        Err(refusal) => Err(refusal),
-    }
+    let term = pattern_in(alloc, bytes)?;
+    start_of(alloc, &program.sig, program.top, &term)
 }

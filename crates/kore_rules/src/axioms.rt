@@ -54,10 +54,7 @@ pub(crate) fn read_axioms<'a>(
     let mut first = None;
     for decl in axioms {
         let class = class_of(sig, decl);
-        match read_axiom(alloc, sig, first, decl, class, &mut readings) {
-            Ok(()) => {}
-            Err(refusal) => return Err(refusal),
-        }
+        read_axiom(alloc, sig, first, decl, class, &mut readings)?;
         first = first_sort(first, class);
     }
     Ok((readings, first))
@@ -151,13 +148,9 @@ fn add_rule(
         (λ f. FirstOfRule sig.now (sort_at first.entry) (plain_axiom_decl decl.now)
         (plain_rewriting rewriting.entry) (Some f))) }
 {
-    match checked_rule(alloc, sig, first, decl, rewriting) {
-        Ok(rule) => {
-            readings.rules.push(rule)?;
-            Ok(())
-        }
-        Err(refusal) => Err(refusal),
-    }
+    let rule = checked_rule(alloc, sig, first, decl, rewriting)?;
+    readings.rules.push(rule)?;
+    Ok(())
 }
 
 /// Adds the equation that an axiom is, or marks its function if the equation is not readable.

@@ -26,10 +26,7 @@ pub(crate) fn signature_of(alloc: Global, definition: &Definition) -> Result<Sig
     ensures refused { IfErr result
         (RefusesFor (λ f. FirstOfSignature (plain_definition definition.now) (Some f))) }
 {
-    match signature(alloc, definition) {
-        Ok(sig) => Ok(sig),
-        Err(fault) => Err(refusal_of(fault)),
-    }
+    signature(alloc, definition).map_err(refusal_of)
 }
 
 /// The refusal for a fault: its number and its byte.
@@ -70,11 +67,8 @@ fn add_axiom<'a>(decl: &'a Decl, axioms: &mut Vec<&'a AxiomDecl>) -> Result<(), 
         ≡ map tree_at axioms.old.items
         ++ cons_option (axiom_declared (plain_declaration decl.now)) []) }
 {
-    match decl {
-        Decl::Axiom(axiom) => {
-            axioms.push(axiom)?;
-        }
-        _ => {}
+    if let Decl::Axiom(axiom) = decl {
+        axioms.push(axiom)?;
     }
     Ok(())
 }

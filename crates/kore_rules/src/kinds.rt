@@ -79,10 +79,7 @@ fn copy_of(text: &Option<String>) -> Result<Option<String>, AllocError>
 fn is_marked(marks: &[bool], number: usize) -> bool
     ensures { result ≡ is_set marks.now number }
 {
-    match marks.get(number) {
-        Some(mark) => *mark,
-        None => false,
-    }
+    marks.get(number).copied().unwrap_or(false)
 }
 
 /// What a symbol is used for. A function without sort parameters has the values of its hook if the

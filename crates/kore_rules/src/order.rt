@@ -70,10 +70,9 @@ fn place(
 fn has_equations(symbols: &Table<SymInfo>, function: usize) -> bool
     ensures { result ≡ does_have symbols.now function }
 {
-    match symbols.value(function) {
-        Some(symbol) => symbol.kind == SymKind::Equations,
-        None => false,
-    }
+    symbols
+        .value(function)
+        .is_some_and(|symbol| symbol.kind == SymKind::Equations)
 }
 
 /// `len` empty lists.

@@ -55,9 +55,8 @@ fn mark_result(symbol: &SymInfo, marks: &mut Vec<bool>)
     ensures marked { (n : ℕ)
         → is_marked marks.new.items n ≡ (is_marked marks.old.items n || makes n symbol.now) }
 {
-    match (symbol.kind, symbol.result) {
-        (SymKind::Ctor, SortRef::Sort(sort)) => mark(marks, sort.0 as usize),
-        _ => {}
+    if let (SymKind::Ctor, SortRef::Sort(sort)) = (symbol.kind, symbol.result) {
+        mark(marks, sort.0 as usize);
     }
 }
 

@@ -43,11 +43,11 @@ pub(crate) fn start_of(
     if let Some(at) = first_not_ground(term) {
         return Err(Refusal::Refused(26, at));
     }
-    match ground_pattern(alloc, sig, term) {
-        Ok((_, sort)) if differs_from(top, sort) => Err(Refusal::Refused(19, 0)),
-        Ok((start, _)) => Ok(start),
-        Err(refusal) => Err(refusal),
+    let (start, sort) = ground_pattern(alloc, sig, term)?;
+    if differs_from(top, sort) {
+        return Err(Refusal::Refused(19, 0));
     }
+    Ok(start)
 }
 
 /// What a pattern without variables means, and its sort. The error is the first fault of its sorts.
@@ -93,8 +93,5 @@ fn refusal_of(fault: CheckFault) -> Refusal
 fn differs_from(top: Option<SortId>, sort: SortId) -> bool
     ensures { result ≡ does_differ (sort_of top) sort.0 }
 {
-    match top {
-        Some(top) => top != sort,
-        None => false,
-    }
+    top.is_some_and(|top| top != sort)
 }

@@ -16,10 +16,7 @@ pub(crate) fn definition_in(alloc: Global, bytes: &[u8]) -> Result<Definition, R
     ensures spelled { IfOk result (λ d. ReadsDefinition bytes.now (plain_definition d)) }
     ensures refused { IfErr result (RefusesFor (HasTextFault IsDefinition bytes.now)) }
 {
-    match read_definition(alloc, bytes) {
-        Ok(definition) => Ok(definition),
-        Err(fault) => Err(refusal_of(fault)),
-    }
+    read_definition(alloc, bytes).map_err(refusal_of)
 }
 
 /// The pattern that the bytes spell. The error is the first fault of the text.
@@ -28,10 +25,7 @@ pub(crate) fn pattern_in(alloc: Global, bytes: &[u8]) -> Result<Pat, Refusal>
     ensures spelled { IfOk result (λ p. ReadsPattern bytes.now (pattern_tree p)) }
     ensures refused { IfErr result (RefusesFor (HasTextFault IsPattern bytes.now)) }
 {
-    match read_pattern(alloc, bytes) {
-        Ok(pattern) => Ok(pattern),
-        Err(fault) => Err(refusal_of(fault)),
-    }
+    read_pattern(alloc, bytes).map_err(refusal_of)
 }
 
 /// The refusal for a fault: its number and its byte.

@@ -1,4 +1,5 @@
 use Rattle.std.proofs.Common.{Some}
+use Rattle.std.proofs.lemmas.Result.{err_from_is_err_and}
 use Rattle.kore_ast.specs.Plain.{plain_definition}
 use Rattle.kore_text.specs.Faults.{IsDefinition}
 use Rattle.rule_core.specs.BoundVariables.{HasBoundVariables}
@@ -21,61 +22,66 @@ use Rattle.kore_rules.proofs.acceptance.accept.Goals as goal
 
 pub program_of-requires : goal.program_of-requires
 program_of-requires c =
-    axioms_few c.token_laws.ensures.cover c.args.bytes.now (plain_definition c.in-Ok.definition)
-    c.requires c.in-Ok.ensures.spelled
+    axioms_few c.token_laws.ensures.cover c.args.bytes.now
+    (plain_definition c.in_ok-definition.definition) c.requires
+    c.in_ok-definition.ensures.spelled
 
-pub returns-in-Ok-clause-accepted : goal.returns-in-Ok-clause-accepted
-returns-in-Ok-clause-accepted c =
-    let d = plain_definition c.in-Ok.definition in
+pub returns-clause-accepted : goal.returns-clause-accepted
+returns-clause-accepted c =
+    let d = plain_definition c.in_ok-definition.definition in
     ok_into (λ (p : Program). IsMadeOf d (theory_of p) (top_of p))
     (λ (p : Program). IsAccepted c.args.bytes.now (theory_of p) (top_of p)) c.program_of.result
     (λ p made.
-    made_accepted c.args.bytes.now d (theory_of p) (top_of p) c.in-Ok.ensures.spelled made)
+    made_accepted c.args.bytes.now d (theory_of p) (top_of p)
+    c.in_ok-definition.ensures.spelled made)
     c.program_of.ensures.made
 
-pub returns-in-Ok-clause-well_sorted : goal.returns-in-Ok-clause-well_sorted
-returns-in-Ok-clause-well_sorted c =
-    let d = plain_definition c.in-Ok.definition in
+pub returns-clause-well_sorted : goal.returns-clause-well_sorted
+returns-clause-well_sorted c =
+    let d = plain_definition c.in_ok-definition.definition in
     ok_into (λ (p : Program). IsMadeOf d (theory_of p) (top_of p))
     (λ (p : Program). IsWellSorted (theory_of p)) c.program_of.result
     (λ p made. made_sorted d (theory_of p) (top_of p) made) c.program_of.ensures.made
 
-pub returns-in-Ok-clause-top : goal.returns-in-Ok-clause-top
-returns-in-Ok-clause-top c =
-    let d = plain_definition c.in-Ok.definition in
+pub returns-clause-top : goal.returns-clause-top
+returns-clause-top c =
+    let d = plain_definition c.in_ok-definition.definition in
     ok_into (λ (p : Program). IsMadeOf d (theory_of p) (top_of p))
     (λ (p : Program). IsSortOfRules (theory_of p) (top_of p)) c.program_of.result
     (λ p made. made_top d (theory_of p) (top_of p) made) c.program_of.ensures.made
 
-pub returns-in-Ok-clause-bound : goal.returns-in-Ok-clause-bound
-returns-in-Ok-clause-bound c =
-    let d = plain_definition c.in-Ok.definition in
+pub returns-clause-bound : goal.returns-clause-bound
+returns-clause-bound c =
+    let d = plain_definition c.in_ok-definition.definition in
     ok_into (λ (p : Program). IsMadeOf d (theory_of p) (top_of p) × ListsOwnEquations p)
     HasBoundVariables c.program_of.result
     (λ p h. made_bound c.token_laws.ensures.cover c.args.bytes.now d p c.requires
-    c.in-Ok.ensures.spelled h.0 h.1)
+    c.in_ok-definition.ensures.spelled h.0 h.1)
     (ok_both (λ (p : Program). IsMadeOf d (theory_of p) (top_of p)) ListsOwnEquations
     c.program_of.result c.program_of.ensures.made c.program_of.ensures.own)
 
-pub returns-in-Ok-clause-names : goal.returns-in-Ok-clause-names
-returns-in-Ok-clause-names c =
-    let d = plain_definition c.in-Ok.definition in
+pub returns-clause-names : goal.returns-clause-names
+returns-clause-names c =
+    let d = plain_definition c.in_ok-definition.definition in
     ok_into (λ (p : Program). IsMadeOf d (theory_of p) (top_of p))
     (λ (p : Program). HasIdentifierNames p.sig) c.program_of.result
     (λ p made. made_names c.name_laws.ensures.definition c.args.bytes.now d (theory_of p) (top_of p)
-    c.in-Ok.ensures.spelled made) c.program_of.ensures.made
+    c.in_ok-definition.ensures.spelled made) c.program_of.ensures.made
 
-pub returns-in-Ok-clause-refused : goal.returns-in-Ok-clause-refused
-returns-in-Ok-clause-refused c =
-    let d = plain_definition c.in-Ok.definition in
+pub returns-clause-refused : goal.returns-clause-refused
+returns-clause-refused c =
+    let d = plain_definition c.in_ok-definition.definition in
     err_into (RefusesFor (λ (f : Fault). FirstOfDefinition d (Some f)))
     (RefusesFor (IsRefused c.args.bytes.now)) c.program_of.result
     (λ (refusal : Refusal) h. refuses_into (λ (f : Fault). FirstOfDefinition d (Some f))
     (IsRefused c.args.bytes.now) refusal
-    (λ f first. definition_refused c.args.bytes.now d f c.in-Ok.ensures.spelled first) h)
+    (λ f first. definition_refused c.args.bytes.now d f c.in_ok-definition.ensures.spelled
+    first) h)
     c.program_of.ensures.refused
 
-pub returns-in-Err-clause-refused : goal.returns-in-Err-clause-refused
-returns-in-Err-clause-refused c =
-    refuses_into (HasTextFault IsDefinition c.args.bytes.now) (IsRefused c.args.bytes.now)
-    c.in-Err.refusal (λ f h. text_refused c.args.bytes.now f h) c.in-Err.ensures.refused
+pub returns-in_err-definition-clause-refused : goal.returns-in_err-definition-clause-refused
+returns-in_err-definition-clause-refused c =
+    let q = err_from_is_err_and c.from_residual.result c.from_residual.ensures.1 in
+    rw (q.1, q.2) (refuses_into (HasTextFault IsDefinition c.args.bytes.now)
+    (IsRefused c.args.bytes.now) c.in_err-definition.field-0.0
+    (λ f h. text_refused c.args.bytes.now f h) c.in_err-definition.ensures.refused)

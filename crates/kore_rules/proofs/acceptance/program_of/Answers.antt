@@ -15,7 +15,7 @@ use Rattle.kore_rules.proofs.acceptance.program_of.Goals as goal
 pub returns-clause-made : goal.returns-clause-made
 returns-clause-made c =
     let d = plain_definition c.args.definition.now in
-    let sig = c.in-Ok.sig in
+    let sig = c.in_ok-sig.sig in
     let p = c.in_ok-program_under.field-0 in
     let same : map tree_at c.deref.result.now ≡ axioms_of d =
     ap (map tree_at) c.deref.ensures.value ∙ c.in_ok-axioms.ensures in
@@ -28,16 +28,16 @@ returns-clause-made c =
     subst (λ (axioms : List AxiomDeclaration).
     IsTopOf sig axioms (sort_of c.sort_of_rules-top.result)) same
     (c.sort_of_rules-top.ensures (map tree_at c.deref.result.now)
-    c.in-Ok-read_axioms.ensures.first) in
+    c.in_ok-readings.ensures.first) in
     record {
       declared = sig;
-      signature = c.in-Ok.ensures.declared;
-      sorted = c.in-Ok.ensures.sorted;
+      signature = c.in_ok-sig.ensures.declared;
+      sorted = c.in_ok-sig.ensures.sorted;
       distinct = c.names_differ.ensures;
-      no_fault = c.in-Ok.ensures.faultless;
+      no_fault = c.in_ok-sig.ensures.faultless;
       no_axiom_fault =
           subst (λ (axioms : List AxiomDeclaration). FirstOfAxioms sig axioms None) same
-          c.in-Ok-read_axioms.ensures.clear;
+          c.in_ok-readings.ensures.clear;
       program = program;
       sort =
           top_any sig p.sig (axioms_of d) _ program.sorts

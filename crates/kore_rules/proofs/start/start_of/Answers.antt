@@ -1,4 +1,5 @@
 use Rattle.std.proofs.Common.{◌≡◌, ◌∙◌, ap, sym, [], Some, None}
+use Rattle.std.proofs.lemmas.Result.{err_from_is_err_and}
 use Rattle.kore_ast.specs.Plain.{pattern_tree as plain_tree}
 use Rattle.kore_sig.specs.FirstFault.{Fault}
 use Rattle.kore_rules.specs.FirstRefusal.{FirstOfTerm}
@@ -21,32 +22,35 @@ ground_pattern-requires-clause-ground c =
     none_noted (ground_faults (plain_tree c.args.term.now))
     (sym (ap not_ground_at c.in_default.is) ∙ c.first_not_ground.ensures)
 
-pub returns-in-Ok-clause-refused : goal.returns-in-Ok-clause-refused
-returns-in-Ok-clause-refused c =
+pub returns-then-differs_from-clause-refused : goal.returns-then-differs_from-clause-refused
+returns-then-differs_from-clause-refused c =
     let p = plain_tree c.args.term.now in
     let ground : ground_faults p ≡ [] =
     none_noted (ground_faults p)
     (sym (ap not_ground_at c.in_default.is) ∙ c.first_not_ground.ensures) in
-    other_sort_first c.args.sig.now (sort_of c.args.top) p c.in-Ok.sort.0 ground
-    c.in-Ok.ensures.faultless c.in-Ok.ensures.own_sort
+    other_sort_first c.args.sig.now (sort_of c.args.top) p c.in_ok-start.sort.0 ground
+    c.in_ok-start.ensures.faultless c.in_ok-start.ensures.own_sort
     (sym c.differs_from.ensures ∙ c.if-differs_from.true)
 
-pub returns-in-Ok-2-clause-faultless : goal.returns-in-Ok-2-clause-faultless
-returns-in-Ok-2-clause-faultless c =
+pub returns-clause-faultless : goal.returns-clause-faultless
+returns-clause-faultless c =
     let p = plain_tree c.args.term.now in
     let ground : ground_faults p ≡ [] =
     none_noted (ground_faults p)
     (sym (ap not_ground_at c.in_default.is) ∙ c.first_not_ground.ensures) in
-    no_fault c.args.sig.now (sort_of c.args.top) p c.in-Ok.sort.0 ground c.in-Ok.ensures.faultless
-    c.in-Ok.ensures.own_sort (sym c.differs_from.ensures ∙ c.if-differs_from.false)
+    no_fault c.args.sig.now (sort_of c.args.top) p c.in_ok-start.sort.0 ground
+    c.in_ok-start.ensures.faultless
+    c.in_ok-start.ensures.own_sort (sym c.differs_from.ensures ∙ c.if-differs_from.false)
 
-pub returns-in-Err-clause-refused : goal.returns-in-Err-clause-refused
-returns-in-Err-clause-refused c =
+pub returns-in_err-start-clause-refused : goal.returns-in_err-start-clause-refused
+returns-in_err-start-clause-refused c =
     let p = plain_tree c.args.term.now in
     let ground : ground_faults p ≡ [] =
     none_noted (ground_faults p)
     (sym (ap not_ground_at c.in_default.is) ∙ c.first_not_ground.ensures) in
-    refuses_into _ (λ (f : Fault). FirstOfTerm c.args.sig.now (sort_of c.args.top) p (Some f))
-    c.in-Err.refusal
+    let q = err_from_is_err_and c.from_residual.result c.from_residual.ensures.1 in
+    rw (q.1, q.2) (refuses_into _
+    (λ (f : Fault). FirstOfTerm c.args.sig.now (sort_of c.args.top) p (Some f))
+    c.in_err-start.field-0.0
     (λ f is. sort_fault_first c.args.sig.now (sort_of c.args.top) p f ground is)
-    c.in-Err.ensures.refused
+    c.in_err-start.ensures.refused)
