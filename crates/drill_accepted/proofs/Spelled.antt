@@ -12,8 +12,7 @@ use Rattle.kore_text.specs.Grammar.{TakesTokens, spell_pattern, spell_definition
 use Rattle.kore_text.specs.Faults.{IsShallow}
 use Rattle.kore_ast.specs.KoreText.{ReadsPattern, ReadsDefinition}
 use Rattle.drill_accepted.proofs.Parts.{Part, parts_text, tokens_from, place_after, AreRead}
-use Rattle.drill_accepted.proofs.Parts.{are-read}
-use Rattle.drill_accepted.proofs.Parts.{read-both, tokens-append, tokens-last}
+use Rattle.drill_accepted.proofs.Parts.{are-read, read-both, tokens-append, tokens-last}
 use Rattle.drill_accepted.proofs.Taking.{token_places, takes-all, low-shallow}
 use Rattle.drill_accepted.proofs.DrillTrees.{term_tree}
 use Rattle.drill_accepted.proofs.DrillLines.{parts_of, drill_lines, opening_parts, closing_parts}

@@ -1,11 +1,11 @@
 -- The pairs of active `$d` that assertions ask for: those of the active `$e`, and those of a
 -- statement's own symbols.
-use Rattle.std.proofs.Common.{◌≡◌, ℕ, zero, suc, ◌<◌, Bool, true, false, not, List, [], ◌∷◌, ◌++◌}
-use Rattle.std.proofs.Common.{length, refl, ap, sym, subst, ◌∙◌, arith}
+use Rattle.std.proofs.Common.{◌≡◌, ℕ, suc, ◌<◌, Bool, true, false, not, List, [], ◌∷◌, ◌++◌, length}
+use Rattle.std.proofs.Common.{refl, ap, sym, ◌∙◌, arith}
 use Rattle.std.specs.Prelude.{◌&&◌, ◌||◌, nat_eq, filter, map, slice_get, Option, Some, None}
-use Rattle.std.specs.Prelude.{IfSome, if◌then◌else◌}
+use Rattle.std.specs.Prelude.{IfSome}
 use Rattle.std.specs.List.{list_any, list_all}
-use Rattle.std.proofs.lemmas.Bool.{eqb-true, eq-eqb}
+use Rattle.std.proofs.lemmas.Bool.{eqb-true}
 use Rattle.mm_text.specs.Bytes.{Token}
 use Rattle.mm_database.specs.Frames.{floating, essential}
 use Rattle.mm_frame.specs.Numbered.{NumberedHypothesis}
@@ -17,8 +17,8 @@ use Rattle.mm_frame.specs.NeededNumbers.{number_stands_in, is_needed_number}
 use Rattle.mm_frame.specs.Sharing.{ArePairs, is_unasked_number, is_own_number, is_free_number}
 use Rattle.mm_frame.specs.Sharing.{is_wanted_number, shares_wanted, own_shares}
 use Rattle.mm_frame.proofs.Groups.{short-group, has_number-filter}
-use Rattle.mm_frame.proofs.Apartness.{and-left, and-right, both, or-left, or-right, same-bool}
-use Rattle.mm_frame.proofs.Apartness.{common-apart, any-at, any-and}
+use Rattle.mm_frame.proofs.Apartness.{and-left, and-right, both, or-left, or-right, common-apart}
+use Rattle.mm_frame.proofs.Apartness.{any-at, any-and}
 use Rattle.mm_frame.proofs.Placing.{places-has}
 use Rattle.mm_frame.proofs.Grouped.{all-at, groups-differ, groups-turned}
 use Rattle.mm_frame.proofs.MandatoryTrees.{asked-floating, asked-essential}

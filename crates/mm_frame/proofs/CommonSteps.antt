@@ -1,16 +1,15 @@
 -- What is common, as hypotheses and pairs come.
-use Rattle.std.proofs.Common.{◌≡◌, ℕ, Bool, true, false, List, [], ◌∷◌, ◌++◌, ◌<◌, length, refl, ap}
-use Rattle.std.proofs.Common.{sym, subst, ◌∙◌, arith}
-use Rattle.std.specs.Prelude.{slice_set, filter, Option, Some, None, IfSome}
+use Rattle.std.proofs.Common.{◌≡◌, ℕ, false, List, [], ◌∷◌, ◌++◌, ◌<◌, length, ap, sym, subst, ◌∙◌}
+use Rattle.std.proofs.Common.{arith}
+use Rattle.std.specs.Prelude.{slice_set, filter, Option, IfSome}
 use Rattle.std.specs.List.{list_any}
 use Rattle.mm_text.specs.Bytes.{Token}
-use Rattle.mm_database.specs.Frames.{floating, essential}
+use Rattle.mm_database.specs.Frames.{floating}
 use Rattle.mm_frame.specs.Numbered.{NumberedHypothesis}
 use Rattle.mm_frame.specs.NeededNumbers.{number_stands_in}
 use Rattle.mm_frame.specs.PlacedHypotheses.{Placed}
 use Rattle.mm_frame.specs.PlacedOrder.{find_placed}
-use Rattle.mm_frame.specs.Sharing.{ArePlacedIn, ArePairs, HasMandatory, IsCommon, pairs_in}
-use Rattle.mm_frame.specs.Sharing.{is_wanted_number}
+use Rattle.mm_frame.specs.Sharing.{ArePairs, IsCommon, pairs_in, is_wanted_number}
 use Rattle.mm_frame.specs.Grouping.{Extends}
 use Rattle.mm_frame.specs.declared.common.Common.{Common}
 use Rattle.mm_frame.proofs.MandatoryTrees.{mandatory-floating}

@@ -1,8 +1,8 @@
 -- Trees of the hypotheses that a statement asks for.
-use Rattle.std.proofs.Common.{◌≡◌, ℕ, zero, suc, ◌+◌, ◌-◌, ◌<◌, ◌≤◌, Bool, true, false, not, List}
-use Rattle.std.proofs.Common.{[], ◌∷◌, ◌++◌, length, refl, ap, sym, subst, ◌∙◌, arith}
-use Rattle.std.specs.Prelude.{◌&&◌, ◌||◌, nat_eq, filter, slice_get, slice_index, Option, Some}
-use Rattle.std.specs.Prelude.{None, if◌then◌else◌}
+use Rattle.std.proofs.Common.{◌≡◌, ℕ, zero, suc, ◌+◌, ◌-◌, ◌≤◌, Bool, true, false, not, List, []}
+use Rattle.std.proofs.Common.{◌∷◌, ◌++◌, length, refl, ap, sym, ◌∙◌, arith}
+use Rattle.std.specs.Prelude.{◌&&◌, ◌||◌, nat_eq, filter, slice_get, Option, Some, None}
+use Rattle.std.specs.Prelude.{if◌then◌else◌}
 use Rattle.std.specs.List.{list_any}
 use Rattle.std.proofs.lemmas.Bool.{eqb-true, eqb-false, eq-eqb, ne_eqb}
 use Rattle.mm_text.specs.Bytes.{Token}
@@ -17,7 +17,6 @@ use Rattle.mm_frame.specs.NeededNumbers.{number_stands_in, is_needed_number, is_
 use Rattle.mm_frame.specs.PlacedHypotheses.{Placed, hypotheses_placed}
 use Rattle.mm_frame.specs.PlacedOrder.{find_placed, IsAscending, AllFrom}
 use Rattle.mm_frame.specs.Sharing.{kept_at, HasMandatory, or_found, taken_at, is_own_number}
-use Rattle.mm_frame.specs.Sharing.{is_unasked_number}
 use Rattle.mm_frame.proofs.Groups.{list_any-append}
 use Rattle.mm_frame.proofs.FramePlaces.{types_one, typed-has, mandatory-has}
 use Rattle.mm_frame.proofs.PlacedLists.{none-from, from-weaker}

@@ -6,18 +6,14 @@ use Rattle.std.specs.Prelude.{Result, Ok, Err, IfOk, is_ok}
 use Rattle.std.proofs.lemmas.List.{take-append-le, length-take-le, length-append}
 use Rattle.std.proofs.lemmas.Bool.{cases_eq}
 use Rattle.std.proofs.Math.Seq.{take-length}
-use Rattle.mm_text.specs.Bytes.{Token}
 use Rattle.mm_database.specs.Frames.{floating, essential}
 use Rattle.mm_frame.specs.Numbered.{NumberedHypothesis}
 use Rattle.mm_frame.specs.Grouping.{Extends}
 use Rattle.mm_frame.specs.StateSteps.{types_with}
-use Rattle.mm_frame.specs.Sharing.{ArePlacedIn, ArePairs, IsCommon, IsOuter, AreOuter, pairs_in}
-use Rattle.mm_frame.specs.Sharing.{HasMandatory}
-use Rattle.mm_frame.specs.PlacedHypotheses.{Placed}
-use Rattle.mm_frame.specs.PlacedOrder.{find_placed}
+use Rattle.mm_frame.specs.Sharing.{ArePlacedIn, IsCommon, IsOuter, AreOuter}
 use Rattle.mm_frame.specs.declared.common.Common.{Common}
 use Rattle.mm_frame.specs.declared.scopes.OpenBlock.{OpenBlock}
-use Rattle.mm_frame.proofs.MandatoryTrees.{get-last, get-past, get-other}
+use Rattle.mm_frame.proofs.MandatoryTrees.{get-last, get-other}
 
 -- other places that are kept
 

@@ -1,10 +1,8 @@
 -- Lists of hypotheses with their places, appended, searched and added to.
 use Rattle.std.proofs.Common.{◌≡◌, ℕ, zero, suc, ◌+◌, ◌<◌, ◌≤◌, Bool, true, false, List, [], ◌∷◌}
 use Rattle.std.proofs.Common.{◌++◌, length, refl, ap, sym, ◌∙◌, arith}
-use Rattle.std.specs.Prelude.{nat_eq, nat_lt, ◌||◌, if◌then◌else◌, Option, Some, None, filter}
-use Rattle.std.specs.Prelude.{slice_get}
+use Rattle.std.specs.Prelude.{nat_eq, nat_lt, ◌||◌, if◌then◌else◌, Option, Some, None, slice_get}
 use Rattle.std.proofs.lemmas.Bool.{lt-ltb, le-ltb, ltb-true, ltb-false, eqb-true, eqb-false, ne_eqb}
-use Rattle.std.proofs.lemmas.Bool.{eq-eqb}
 use Rattle.mm_frame.specs.Numbered.{NumberedHypothesis}
 use Rattle.mm_frame.specs.PlacedHypotheses.{Placed, hypotheses_placed}
 use Rattle.mm_frame.specs.PlacedOrder.{placed_at, find_placed, AllBelow, AllFrom, AllUpTo, HasPlace}

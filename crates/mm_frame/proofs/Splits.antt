@@ -1,5 +1,5 @@
 -- Halving two numbers while their halves differ.
-use Rattle.std.proofs.Common.{ℕ, ◌≡◌, ◌<◌, ◌≤◌, ◌+◌, ◌*◌, ◌/◌, ◌%◌, arith}
+use Rattle.std.proofs.Common.{ℕ, ◌≡◌, ◌<◌, ◌≤◌, ◌+◌, ◌*◌, ◌/◌, arith}
 use Rattle.std.proofs.Math.Nat.{mul-le-mul_left}
 
 pub less-halves : (low high : ℕ) → low < high → (low / 2 ≡ high / 2 → ⊥) → low / 2 < high / 2

@@ -14,10 +14,9 @@ use Rattle.mm_database.specs.Validity.{has_type, is_active, is_typed, is_new_lab
 use Rattle.mm_frame.specs.PlainFrames.{has_number, types_number}
 use Rattle.mm_frame.specs.ScopeState.{ScopeState, symbol_name}
 use Rattle.mm_frame.specs.StateTests.{is_number, types_in, is_active_number, is_typed_in}
-use Rattle.mm_frame.specs.StateTests.{name_number}
-use Rattle.mm_frame.specs.StateTests.{number_in, is_in, is_active_in, with_number, numbers_in}
-use Rattle.mm_frame.specs.StateTests.{constant_in, constant_named, label_in, names_active}
-use Rattle.mm_frame.specs.StateTests.{redeclares_variable, redeclares_constant}
+use Rattle.mm_frame.specs.StateTests.{name_number, number_in, is_in, is_active_in, with_number}
+use Rattle.mm_frame.specs.StateTests.{numbers_in, constant_in, constant_named, label_in}
+use Rattle.mm_frame.specs.StateTests.{names_active, redeclares_variable, redeclares_constant}
 use Rattle.mm_frame.specs.Standing.{names_constant, names_variable, names_label, SymbolStands}
 use Rattle.mm_frame.specs.Standing.{NamesSymbols, StandsUnder, Stands}
 use Rattle.mm_frame.specs.declared.scopes.Name.{Name}

@@ -1,7 +1,7 @@
 -- What a statement adds, by its form.
 use Rattle.mm_database.specs.Forms.{Keyword, declares_constants, declares_variables, types_variable}
-use Rattle.mm_database.specs.Forms.{assumes}
-use Rattle.mm_database.specs.Forms.{separates, asserts, proves, Form, block_start, block_end, plain}
+use Rattle.mm_database.specs.Forms.{assumes, separates, asserts, proves, Form, block_start}
+use Rattle.mm_database.specs.Forms.{block_end, plain}
 use Rattle.mm_frame.specs.declared.declare.Added.{Added}
 use Rattle.mm_frame.specs.declared.declare.Added.TheVariants as added
 

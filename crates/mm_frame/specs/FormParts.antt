@@ -1,8 +1,7 @@
 -- The parts of a statement as they are read. Only clauses of private functions cite these
 -- definitions.
 use Rattle.std.specs.Prelude.{Bool, true, false, not, ◌&&◌, ◌||◌, if◌then◌else◌, List, [], ◌∷◌}
-use Rattle.std.specs.Prelude.{Option, Some}
-use Rattle.std.specs.Prelude.{None, codes, bytes_eq}
+use Rattle.std.specs.Prelude.{Option, Some, None, codes, bytes_eq}
 use Rattle.mm_text.specs.Bytes.{Token}
 use Rattle.mm_database.specs.Forms.{before_dollar, from_dollar, is_end, is_nil}
 use Rattle.mm_frame.specs.declared.forms.Keyword.{Keyword}

@@ -5,8 +5,7 @@ use Rattle.mm_database.specs.Forms as forms
 use Rattle.mm_database.specs.Forms.{plain, block_start, block_end}
 use Rattle.mm_frame.specs.declared.forms.Keyword.{Keyword}
 use Rattle.mm_frame.specs.declared.forms.Keyword.TheVariants.{Constants, Variables, Floating}
-use Rattle.mm_frame.specs.declared.forms.Keyword.TheVariants.{Essential}
-use Rattle.mm_frame.specs.declared.forms.Keyword.TheVariants.{Disjoint, Axiom, Theorem}
+use Rattle.mm_frame.specs.declared.forms.Keyword.TheVariants.{Essential, Disjoint, Axiom, Theorem}
 use Rattle.mm_frame.specs.declared.forms.Form.{Form}
 use Rattle.mm_frame.specs.declared.forms.Form.TheVariants.{BlockStart, BlockEnd, Plain}
 

@@ -8,15 +8,13 @@ use Rattle.mm_frame.specs.Numbered.{NumberedHypothesis, NumberedFrame}
 use Rattle.mm_frame.specs.PlainFrames.{plain_hypothesis}
 use Rattle.mm_frame.specs.ScopeState.{ScopeState}
 use Rattle.mm_frame.specs.StateFaults.{plain_stated, floating_in, stated_in, disjoint_in}
-use Rattle.mm_frame.specs.StateFaults.{constants_fault}
-use Rattle.mm_frame.specs.StateFaults.{variables_fault}
+use Rattle.mm_frame.specs.StateFaults.{constants_fault, variables_fault}
 use Rattle.mm_frame.specs.StateFrames.{IsFrameIn, Statement}
 use Rattle.mm_frame.specs.StateSteps.{AddsConstants, AddsVariables, AddsHypothesis, AddsDisjoint}
 use Rattle.mm_frame.specs.StateSteps.{AddsAssertion, OpensBlock, ClosesBlock}
 use Rattle.mm_frame.specs.declared.forms.Keyword.{Keyword}
 use Rattle.mm_frame.specs.declared.forms.Keyword.TheVariants.{Constants, Variables, Floating}
-use Rattle.mm_frame.specs.declared.forms.Keyword.TheVariants.{Essential}
-use Rattle.mm_frame.specs.declared.forms.Keyword.TheVariants.{Disjoint, Axiom, Theorem}
+use Rattle.mm_frame.specs.declared.forms.Keyword.TheVariants.{Essential, Disjoint, Axiom, Theorem}
 use Rattle.mm_frame.specs.declared.forms.Form.{Form}
 use Rattle.mm_frame.specs.declared.forms.Form.TheVariants.{BlockStart, BlockEnd, Plain}
 use Rattle.mm_frame.specs.declared.scopes.OpenBlock.{OpenBlock}

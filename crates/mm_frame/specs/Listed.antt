@@ -1,7 +1,7 @@
 -- For each number, the places of the groups that it is in.
 use Rattle.std.specs.Prelude.{◌≡◌, ℕ, zero, suc, ◌-◌, Bool, false, ◌&&◌, nat_eq, if◌then◌else◌}
-use Rattle.std.specs.Prelude.{List, [], ◌∷◌}
-use Rattle.std.specs.Prelude.{◌++◌, length, take, slice_get, Option, Some, None, true}
+use Rattle.std.specs.Prelude.{List, [], ◌∷◌, ◌++◌, length, take, slice_get, Option, Some, None}
+use Rattle.std.specs.Prelude.{true}
 use Rattle.std.specs.Global.{Vec}
 use Rattle.mm_frame.specs.PlainFrames.{has_number, in_group}
 use Rattle.mm_frame.specs.Places.{places_of, passes}

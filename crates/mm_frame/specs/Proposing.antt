@@ -5,9 +5,8 @@ use Rattle.mm_text.specs.Bytes.{Token}
 use Rattle.mm_text.specs.Statements.{Statement}
 use Rattle.mm_text.specs.Reader.{words_of}
 use Rattle.mm_database.specs.Forms.{Keyword, declares_constants, declares_variables, types_variable}
-use Rattle.mm_database.specs.Forms.{assumes}
-use Rattle.mm_database.specs.Forms.{separates, asserts, proves, Form, block_start, block_end, plain}
-use Rattle.mm_database.specs.Forms.{form_of}
+use Rattle.mm_database.specs.Forms.{assumes, separates, asserts, proves, Form, block_start}
+use Rattle.mm_database.specs.Forms.{block_end, plain, form_of}
 use Rattle.mm_database.specs.Frames.{frame_of}
 use Rattle.mm_database.specs.Database.{Context, first_label}
 use Rattle.mm_database.specs.Validity.{declaration_fault}

@@ -1,12 +1,12 @@
 -- What assertions of one place share: cited by the clauses of private functions alone.
-use Rattle.std.specs.Prelude.{◌≡◌, ◌≤◌, ℕ, nat_eq, Bool, true, false, not, ◌&&◌, ◌||◌, List, []}
-use Rattle.std.specs.Prelude.{filter, if◌then◌else◌, length, take}
-use Rattle.std.specs.Prelude.{slice_get, slice_index, Option, Some, None, IfSome, option_map}
+use Rattle.std.specs.Prelude.{◌≡◌, ◌≤◌, ℕ, nat_eq, Bool, not, ◌&&◌, ◌||◌, List, [], filter}
+use Rattle.std.specs.Prelude.{if◌then◌else◌, length, take, slice_get, slice_index, Option, Some}
+use Rattle.std.specs.Prelude.{None, IfSome, option_map}
 use Rattle.std.specs.Global.{Vec, Global}
 use Rattle.std.specs.declared.rc.Rc.{Rc}
 use Rattle.std.specs.List.{list_any}
 use Rattle.mm_text.specs.Bytes.{Token}
-use Rattle.mm_database.specs.Frames.{floating, essential}
+use Rattle.mm_database.specs.Frames.{floating}
 use Rattle.mm_frame.specs.Numbered.{NumberedHypothesis}
 use Rattle.mm_frame.specs.PlainFrames.{has_number, in_group, in_groups, groups_of}
 use Rattle.mm_frame.specs.NeededNumbers.{number_stands_in, is_needed_number, is_mandatory_number}

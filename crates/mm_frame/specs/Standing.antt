@@ -1,8 +1,7 @@
 -- What scopes hold stands for what a database has declared. Names stand for its symbols and labels.
 -- Numbers stand for symbols, under every naming that gives the numbers their tokens.
 use Rattle.std.specs.Prelude.{◌≡◌, ℕ, ◌≤◌, Bool, true, false, List, [], ◌∷◌, map, length, take}
-use Rattle.std.specs.Prelude.{reverse}
-use Rattle.std.specs.Prelude.{slice_get, slice_index, Option, Some, None}
+use Rattle.std.specs.Prelude.{reverse, slice_get, slice_index, Option, Some, None}
 use Rattle.mm_text.specs.Bytes.{Token}
 use Rattle.mm_database.specs.Frames.{Scope, Frame, floating, label_of}
 use Rattle.mm_database.specs.Database.{Block, Context}

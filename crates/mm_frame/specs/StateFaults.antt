@@ -1,13 +1,11 @@
 -- The fault of a statement, or what it declares, from what scopes hold. Only clauses of private
 -- functions cite these definitions. Laws say that the fault is that of the definitions of validity.
 use Rattle.std.specs.Prelude.{◌≡◌, ℕ, Bool, true, false, not, ◌||◌, if◌then◌else◌, List, [], ◌∷◌}
-use Rattle.std.specs.Prelude.{Option}
-use Rattle.std.specs.Prelude.{Some, None, is_some, Result, Ok, Err}
+use Rattle.std.specs.Prelude.{Option, Some, None, is_some, Result, Ok, Err}
 use Rattle.std.specs.List.{list_any, list_all}
 use Rattle.mm_text.specs.Bytes.{Token, has_repeated}
 use Rattle.mm_text.specs.FaultKinds.{inner_constant, redeclared, not_active, bad_typecode}
-use Rattle.mm_text.specs.FaultKinds.{second_float}
-use Rattle.mm_text.specs.FaultKinds.{bad_disjoint, bad_label}
+use Rattle.mm_text.specs.FaultKinds.{second_float, bad_disjoint, bad_label}
 use Rattle.mm_database.specs.Forms.{is_nil}
 use Rattle.mm_frame.specs.Numbered.{NumberedHypothesis}
 use Rattle.mm_database.specs.Validity.{has_two}

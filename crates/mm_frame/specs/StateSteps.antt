@@ -1,8 +1,7 @@
 -- What adding a declaration does to what scopes hold. Only clauses of private functions cite these
 -- definitions.
 use Rattle.std.specs.Prelude.{◌≡◌, ℕ, Bool, true, false, if◌then◌else◌, List, [], ◌∷◌, ◌++◌, length}
-use Rattle.std.specs.Prelude.{take}
-use Rattle.std.specs.Prelude.{slice_set, Option, Some, None, bytes_eq}
+use Rattle.std.specs.Prelude.{take, slice_set, Option, Some, None, bytes_eq}
 use Rattle.mm_text.specs.Bytes.{Token}
 use Rattle.mm_frame.specs.Numbered.{NumberedHypothesis, NumberedFrame}
 use Rattle.mm_frame.specs.ScopeState.{ScopeState, symbol, symbol_name}

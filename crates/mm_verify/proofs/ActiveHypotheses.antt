@@ -1,6 +1,6 @@
 -- The mandatory hypotheses of a theorem are active under their labels.
-use Rattle.std.proofs.Common.{◌≡◌, ℕ, zero, suc, ◌+◌, Bool, true, false, List, [], ◌∷◌, refl, ap}
-use Rattle.std.proofs.Common.{sym, subst, ◌∙◌, arith}
+use Rattle.std.proofs.Common.{◌≡◌, ℕ, suc, ◌+◌, Bool, true, false, List, [], ◌∷◌, refl, ap, sym}
+use Rattle.std.proofs.Common.{subst, ◌∙◌, arith}
 use Rattle.std.specs.Prelude.{◌||◌, filter, slice_get, Some, None, is_some, bytes_eq, if◌then◌else◌}
 use Rattle.std.proofs.lemmas.Slice.Eq.{bytes_eq-Decides}
 use Rattle.mm_text.specs.Bytes.{Token, has_token}
@@ -14,7 +14,6 @@ use Rattle.mm_frame.specs.NeededNumbers.{is_needed_number, is_mandatory_number}
 use Rattle.mm_frame.specs.Numbered.{NumberedHypothesis}
 use Rattle.mm_frame.specs.Proposing.{IsProposed}
 use Rattle.mm_frame.specs.Standing.{Stands}
-use Rattle.mm_frame.specs.declared.scopes.Name.{Name}
 use Rattle.mm_frame.specs.declared.scopes.Name.TheVariants.{Hypothesis}
 use Rattle.mm_frame.specs.declared.theorem.Theorem.{Theorem}
 use Rattle.mm_verify.specs.ProofSteps.{labels_in, is_hypothesis, AreActive}

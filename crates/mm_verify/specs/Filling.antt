@@ -1,7 +1,6 @@
 -- Statements with the texts that entries give in the places of variables.
 use Rattle.std.specs.Prelude.{ℕ, ◌<◌, Bool, true, false, ◌&&◌, ◌||◌, nat_eq, List, [], ◌∷◌}
-use Rattle.std.specs.Prelude.{flat_map}
-use Rattle.std.specs.Prelude.{slice_index_or, Option, Some, None, IfSome, All}
+use Rattle.std.specs.Prelude.{flat_map, slice_index_or, Option, Some, None, IfSome, All}
 use Rattle.std.specs.List.{list_all}
 use Rattle.std.specs.Global.{Vec}
 use Rattle.mm_verify.specs.declared.parts.Part.{Part}

@@ -1,7 +1,7 @@
 -- The steps that the text of a proof names, from what scopes hold.
 use Rattle.std.specs.Prelude.{◌≡◌, ℕ, Bool, true, false, is_some, ◌||◌, if◌then◌else◌, List, []}
-use Rattle.std.specs.Prelude.{◌∷◌, ◌++◌, map, flat_map, Option}
-use Rattle.std.specs.Prelude.{None, option_map, option_and_then, codes, bytes_eq}
+use Rattle.std.specs.Prelude.{◌∷◌, ◌++◌, map, flat_map, Option, None, option_map, option_and_then}
+use Rattle.std.specs.Prelude.{codes, bytes_eq}
 use Rattle.mm_text.specs.Bytes.{Token, has_token}
 use Rattle.mm_database.specs.Frames.{label_of, statement_of}
 use Rattle.mm_database.specs.Steps.{Step, cites}

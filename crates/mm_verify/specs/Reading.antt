@@ -1,7 +1,6 @@
 -- Reading the letters of a compressed proof.
 use Rattle.std.specs.Prelude.{◌≡◌, ℕ, Bool, true, false, List, ◌++◌, map, flat_map, Option, None}
-use Rattle.std.specs.Prelude.{option_map}
-use Rattle.std.specs.Prelude.{option_and_then}
+use Rattle.std.specs.Prelude.{option_map, option_and_then}
 use Rattle.mm_text.specs.Reader.{words_of}
 use Rattle.mm_text.specs.Compressed.{Before, steps_from}
 use Rattle.mm_text.specs.declared.tokens.MmToken.{MmToken}

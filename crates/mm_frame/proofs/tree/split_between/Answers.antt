@@ -1,4 +1,4 @@
-use Rattle.std.proofs.Common.{ℕ, ◌≡◌, ◌<◌, ◌≤◌, ◌+◌, ◌*◌, ◌/◌, ◌%◌, arith, ap, sym, ◌∙◌}
+use Rattle.std.proofs.Common.{arith}
 use Rattle.mm_frame.proofs.Splits.{less-halves, halves-after, halves-within}
 use Rattle.mm_frame.proofs.tree.split_between.Goals as goal
 

@@ -1,4 +1,4 @@
-use Rattle.std.proofs.Common.{ℕ, ◌<◌, ◌≤◌, ◌+◌, ◌*◌}
+use Rattle.std.proofs.Common.{◌<◌, ◌≤◌, ◌+◌, ◌*◌}
 use Rattle.mm_frame.proofs.tree.split_between.Given as goal
 
 abbrev pub invariant-loop-low : goal.invariant-loop-low

@@ -1,14 +1,11 @@
-use Rattle.std.proofs.Common.{◌≡◌, ◌∙◌, ap, sym, subst, List, map, Option}
+use Rattle.std.proofs.Common.{◌∙◌, ap, sym, map}
 use Rattle.std.specs.Prelude.{option_map}
 use Rattle.std.proofs.lemmas.Result.{IfOk-weaker}
 use Rattle.mm_text.specs.Reader.{words_of}
 use Rattle.mm_frame.specs.PlainFrames.{mandatory_hypotheses}
 use Rattle.mm_frame.specs.ScopeState.{scope_state}
-use Rattle.mm_database.specs.Steps.{Step}
-use Rattle.mm_database.specs.ProofText.{lettered_steps}
-use Rattle.mm_frame.specs.NumberedSteps.{Citation}
-use Rattle.mm_verify.specs.Running.{citation_of, steps_in}
-use Rattle.mm_verify.specs.Reading.{letters_of, citations_in, table_of}
+use Rattle.mm_verify.specs.Running.{citation_of}
+use Rattle.mm_verify.specs.Reading.{citations_in}
 use Rattle.mm_verify.proofs.ReadProofs.{compressed-is, compressed-none}
 use Rattle.mm_verify.proofs.proof_text.read_compressed.Goals as goal
 

@@ -1,4 +1,4 @@
-use Rattle.std.proofs.Common.{◌≡◌, ℕ, ◌+◌, ◌-◌, take}
+use Rattle.std.proofs.Common.{◌≡◌, ℕ, ◌-◌, take}
 use Rattle.mm_frame.specs.Times.{times}
 use Rattle.mm_frame.specs.CountsView.{times_counted}
 use Rattle.mm_frame.proofs.counts.Counts.remove.Given as goal

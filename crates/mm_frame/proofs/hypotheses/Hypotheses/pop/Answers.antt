@@ -1,7 +1,6 @@
-use Rattle.std.proofs.Common.{rules, ◌≡◌, true, false, ap, sym, ◌∙◌}
+use Rattle.std.proofs.Common.{rules, ◌≡◌, true, false, ap}
 use Rattle.mm_database.specs.Frames.{essential}
 use Rattle.mm_frame.specs.PlainFrames.{plain_hypothesis}
-use Rattle.mm_frame.specs.Times.{times}
 use Rattle.mm_frame.specs.CountsView.{times_counted}
 use Rattle.mm_frame.proofs.HypothesesKept.{essential-popped, floating-popped, essential-uncounted}
 use Rattle.mm_frame.proofs.HypothesesKept.{floating-uncounted}

@@ -1,10 +1,10 @@
-use Rattle.std.proofs.Common.{rules, arith, ◌≡◌, ◌<◌, ◌+◌, ℕ, suc, [], ◌∷◌, List, length, drop}
-use Rattle.std.proofs.Common.{drop-cons, get_or, ap, sym, ◌∙◌}
-use Rattle.std.specs.Prelude.{◌||◌, filter}
+use Rattle.std.proofs.Common.{rules, arith, ◌≡◌, ◌<◌, ◌+◌, ℕ, suc, [], ◌∷◌, length, drop, drop-cons}
+use Rattle.std.proofs.Common.{ap, sym, ◌∙◌}
+use Rattle.std.specs.Prelude.{filter}
 use Rattle.std.specs.Global.{Vec}
 use Rattle.std.specs.List.{list_any}
 use Rattle.std.proofs.lemmas.List.{drop_all}
-use Rattle.mm_frame.specs.PlainFrames.{in_group, in_groups, items_of, groups_of}
+use Rattle.mm_frame.specs.PlainFrames.{in_group, in_groups, groups_of}
 use Rattle.mm_frame.specs.HypothesesView.{hypotheses_in}
 use Rattle.mm_frame.specs.DisjointView.{groups_in}
 use Rattle.mm_frame.specs.Sharing.{is_wanted_number}

@@ -1,10 +1,8 @@
-use Rattle.std.proofs.Common.{◌≡◌, ℕ, drop, []}
-use Rattle.std.specs.Prelude.{◌||◌, filter}
-use Rattle.std.specs.Global.{Vec}
+use Rattle.std.proofs.Common.{◌≡◌, ℕ, drop}
+use Rattle.std.specs.Prelude.{◌||◌}
 use Rattle.std.specs.List.{list_any}
-use Rattle.mm_frame.specs.PlainFrames.{in_group, in_groups, groups_of}
+use Rattle.mm_frame.specs.PlainFrames.{in_groups, groups_of}
 use Rattle.mm_frame.specs.HypothesesView.{hypotheses_in}
-use Rattle.mm_frame.specs.Sharing.{is_wanted_number}
 use Rattle.mm_frame.proofs.CommonPairs.{wanted_pair}
 use Rattle.mm_frame.proofs.scopes.Scopes.asked_pairs.Given as goal
 

@@ -1,4 +1,4 @@
-use Rattle.std.proofs.Common.{rules, arith, ◌≡◌, ◌<◌, sym, subst, ◌∙◌, length, Option, [], vec_len}
+use Rattle.std.proofs.Common.{rules, arith, ◌≡◌, ◌<◌, subst, length, Option, []}
 use Rattle.std.specs.Prelude.{Some, IfSome, filter}
 use Rattle.mm_frame.specs.HypothesesView.{hypotheses_in}
 use Rattle.mm_frame.specs.DisjointView.{groups_in}

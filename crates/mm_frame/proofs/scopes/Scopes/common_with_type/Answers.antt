@@ -1,4 +1,4 @@
-use Rattle.std.proofs.Common.{rules, ◌≡◌, false, sym, subst, ◌∙◌, length, Option}
+use Rattle.std.proofs.Common.{rules, ◌≡◌, false, subst, Option}
 use Rattle.std.specs.Prelude.{Some, IfSome}
 use Rattle.std.specs.List.{list_any}
 use Rattle.mm_frame.specs.HypothesesView.{hypotheses_in}

@@ -1,5 +1,4 @@
-use Rattle.std.proofs.Common.{rules, ◌≡◌, ℕ, length, List, ap, sym, subst, ◌∙◌}
-use Rattle.std.specs.Prelude.{nat_eq, Some, if◌then◌else◌}
+use Rattle.std.proofs.Common.{rules, ◌≡◌, ℕ, length, List, ap, ◌∙◌}
 use Rattle.std.proofs.lemmas.Result.{IfOk-weaker}
 use Rattle.mm_database.specs.Frames.{essential}
 use Rattle.mm_frame.specs.ScopeState.{scope_state}

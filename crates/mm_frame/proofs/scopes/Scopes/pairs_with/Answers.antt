@@ -1,4 +1,4 @@
-use Rattle.std.proofs.Common.{rules, ◌≡◌, true, sym, subst, ◌∙◌, Option, List, ℕ}
+use Rattle.std.proofs.Common.{rules, ◌≡◌, true, subst, Option, ℕ}
 use Rattle.std.specs.Prelude.{Some, IfSome}
 use Rattle.std.specs.Global.{Vec, Global}
 use Rattle.std.specs.List.{list_all}

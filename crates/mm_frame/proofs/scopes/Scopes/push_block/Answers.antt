@@ -1,4 +1,4 @@
-use Rattle.std.proofs.Common.{rules, ◌≡◌, ◌++◌, ◌∷◌, [], List, Option, length, sym, subst}
+use Rattle.std.proofs.Common.{rules, ◌≡◌, ◌++◌, ◌∷◌, [], List, Option, sym, subst}
 use Rattle.mm_frame.specs.HypothesesView.{hypotheses_in}
 use Rattle.mm_frame.specs.DisjointView.{groups_in}
 use Rattle.mm_frame.specs.Sharing.{AreOuter}

@@ -1,5 +1,5 @@
-use Rattle.std.proofs.Common.{rules, ◌≡◌, ℕ, false, ap, sym, ◌∙◌, List, Bool}
-use Rattle.std.specs.Prelude.{slice_get, Some, None, Option, nat_eq, ◌||◌, if◌then◌else◌}
+use Rattle.std.proofs.Common.{rules, ◌≡◌, ap, ◌∙◌, List}
+use Rattle.std.specs.Prelude.{slice_get, Some}
 use Rattle.std.proofs.lemmas.Result.{IfOk-weaker}
 use Rattle.mm_frame.specs.Numbered.{NumberedHypothesis}
 use Rattle.mm_frame.specs.PlainFrames.{plain_hypothesis}

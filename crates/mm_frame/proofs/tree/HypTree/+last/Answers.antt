@@ -1,5 +1,4 @@
 use Rattle.std.proofs.Common.{◌≡◌, ◌++◌, ap, sym, subst, ◌∙◌}
-use Rattle.mm_frame.specs.PlacedOrder.{AllUpTo, HasPlace}
 use Rattle.mm_frame.specs.TreeView.{placed_in}
 use Rattle.mm_frame.specs.TreeOrder.{IsSplit}
 use Rattle.mm_frame.proofs.PlacedLists.{last-fork}

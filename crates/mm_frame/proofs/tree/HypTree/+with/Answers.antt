@@ -1,8 +1,8 @@
-use Rattle.std.proofs.Common.{◌≡◌, ◌++◌, ◌∷◌, [], List, ap, sym, subst, ◌∙◌, rules, arith, ◌+◌}
+use Rattle.std.proofs.Common.{◌≡◌, ◌++◌, List, ap, sym, subst, ◌∙◌, rules, arith, ◌+◌}
 use Rattle.std.proofs.lemmas.Result.{IfOk-weaker}
 use Rattle.mm_frame.specs.PlainFrames.{plain_hypothesis}
 use Rattle.mm_frame.specs.PlacedHypotheses.{Placed}
-use Rattle.mm_frame.specs.PlacedOrder.{placed_at, AllFrom, AllUpTo, AllBelow}
+use Rattle.mm_frame.specs.PlacedOrder.{placed_at}
 use Rattle.mm_frame.specs.TreeView.{placed_in}
 use Rattle.mm_frame.specs.TreeOrder.{IsSplit}
 use Rattle.mm_frame.proofs.PlacedLists.{from-weaker, up_to-below, placed-low, placed-high}

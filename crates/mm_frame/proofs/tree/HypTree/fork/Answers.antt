@@ -1,5 +1,4 @@
 use Rattle.std.proofs.Common.{rules, ◌≡◌, ◌<◌, ◌++◌, length, arith, length-append}
-use Rattle.mm_frame.specs.PlacedOrder.{IsAscending}
 use Rattle.mm_frame.proofs.PlacedLists.{ascending-append}
 use Rattle.mm_frame.proofs.tree.HypTree.fork.Goals as goal
 

@@ -1,5 +1,3 @@
-use Rattle.std.proofs.Common.{◌≡◌, ◌<◌}
-use Rattle.mm_frame.specs.PlacedOrder.{AllFrom, AllUpTo, HasPlace}
 use Rattle.mm_frame.proofs.PlacedLists.{ahead-less, up_to-below, from-weaker}
 use Rattle.mm_frame.proofs.tree.HypTree.join.Goals as goal
 

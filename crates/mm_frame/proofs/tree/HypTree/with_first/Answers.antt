@@ -2,8 +2,7 @@ use Rattle.std.proofs.Common.{◌≡◌, ◌++◌, ◌∷◌, [], List, ap, sym,
 use Rattle.std.proofs.lemmas.Result.{IfOk-weaker}
 use Rattle.mm_frame.specs.PlainFrames.{plain_hypothesis}
 use Rattle.mm_frame.specs.PlacedHypotheses.{Placed}
-use Rattle.mm_frame.specs.PlacedOrder.{placed_at}
-use Rattle.mm_frame.proofs.PlacedLists.{placed-front, first-ahead}
+use Rattle.mm_frame.proofs.PlacedLists.{placed-front}
 use Rattle.mm_frame.proofs.tree.HypTree.with_first.Goals as goal
 
 pub returns : goal.returns

@@ -1,8 +1,7 @@
-use Rattle.std.proofs.Common.{◌≡◌, ◌++◌, ◌∷◌, [], List, ap, sym, subst, ◌∙◌, rules}
+use Rattle.std.proofs.Common.{◌≡◌, ◌++◌, ◌∷◌, [], List, ap, sym, ◌∙◌, rules}
 use Rattle.std.proofs.lemmas.Result.{IfOk-weaker}
 use Rattle.mm_frame.specs.PlainFrames.{plain_hypothesis}
 use Rattle.mm_frame.specs.PlacedHypotheses.{Placed}
-use Rattle.mm_frame.specs.PlacedOrder.{placed_at, IsAhead}
 use Rattle.mm_frame.proofs.PlacedLists.{placed-back, ahead-last}
 use Rattle.mm_frame.proofs.tree.HypTree.with_last.Goals as goal
 
