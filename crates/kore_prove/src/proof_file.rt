@@ -52,14 +52,11 @@ pub fn made_lines<D: Desk>(
         calls: asked.calls,
     };
     match asked.proof {
-        Some(file) => match proved_lines(alloc, desk, accepted, bounds, file) {
-            Ok(proved) => Ok((proved.end, proved.lines)),
-            Err(fault) => Err(fault),
-        },
-        None => match lines_of_run(alloc, accepted, bounds) {
-            Ok(lines) => Ok(lines),
-            Err(_) => Err(DeskFault::Memory),
-        },
+        Some(file) => {
+            let proved = proved_lines(alloc, desk, accepted, bounds, file)?;
+            Ok((proved.end, proved.lines))
+        }
+        None => Ok(lines_of_run(alloc, accepted, bounds)?),
     }
 }
 
@@ -89,10 +86,8 @@ pub fn proved_lines<D: Desk>(
     ensures created { D.created desk.new ≡ D.created desk.old }
     ensures reads { D.read_faults desk.new ≡ D.read_faults desk.old }
 {
-    match desk.create_file(file) {
-        Ok(()) => proved_and_closed(alloc, desk, accepted, bounds),
-        Err(fault) => Err(fault),
-    }
+    desk.create_file(file)?;
+    proved_and_closed(alloc, desk, accepted, bounds)
 }
 
 // The same, with the proof in the created file. The file is closed afterwards, even after a fault.

@@ -119,10 +119,7 @@ pub fn send_pieces<E: Sink>(err: &mut E, pieces: &[&str]) -> Result<(), DeskFaul
     ensures counts { E.faults err.old ≤ E.faults err.new }
 {
     for piece in pieces {
-        match send_whole(err, piece.as_bytes()) {
-            Ok(()) => {}
-            Err(fault) => return Err(fault),
-        }
+        send_whole(err, piece.as_bytes())?;
     }
     Ok(())
 }

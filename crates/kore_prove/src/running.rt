@@ -84,16 +84,11 @@ pub fn proved_lines_of_run<D: Desk>(
     shown_laws();
     let engine = Engine::new(&accepted.program);
     let start = &accepted.start;
-    let (end, summary) = match proved_run(alloc, desk, &engine, start, bounds.limit, bounds.calls) {
-        Ok(made) => made,
-        Err(fault) => return Err(fault),
-    };
-    match run_lines(alloc, &accepted.program.sig, start, &end) {
-        Ok(lines) => Ok(Proved {
-            end,
-            lines,
-            summary,
-        }),
-        Err(_) => Err(DeskFault::Memory),
-    }
+    let (end, summary) = proved_run(alloc, desk, &engine, start, bounds.limit, bounds.calls)?;
+    let lines = run_lines(alloc, &accepted.program.sig, start, &end)?;
+    Ok(Proved {
+        end,
+        lines,
+        summary,
+    })
 }

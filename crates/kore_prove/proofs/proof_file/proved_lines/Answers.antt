@@ -11,8 +11,8 @@ if_ok : {T E : Type 0} (r : Result T E) (P Q : T → Type 0) → ((t : T) → P 
 if_ok (Ok t) P Q f h = f t h
 if_ok (Err e) P Q f h = tt
 
-pub returns-in-Ok-clause-proof : goal.returns-in-Ok-clause-proof
-returns-in-Ok-clause-proof g c =
+pub returns-clause-proof : goal.returns-clause-proof
+returns-clause-proof g c =
     let old = g.D.Desk.told c.args.desk.now in
     let made = g.D.Desk.told c.create_file.new.self in
     let new = g.D.Desk.told c.proved_and_closed.new.desk in
@@ -22,10 +22,10 @@ returns-in-Ok-clause-proof g c =
     (λ r. PutsProof made new theory start (plain_run r.end) r.summary)
     (λ r. HoldsCounted old new c.args.file.now theory start (plain_run r.end) r.summary)
     (λ r h. created_proof old made new c.args.file.now theory start (plain_run r.end) r.summary
-    c.in-Ok.ensures.creates h) c.proved_and_closed.ensures.proof
+    c.in_ok-create_file.ensures.creates h) c.proved_and_closed.ensures.proof
 
-pub returns-in-Ok-clause-front : goal.returns-in-Ok-clause-front
-returns-in-Ok-clause-front g c =
+pub returns-clause-front : goal.returns-clause-front
+returns-clause-front g c =
     let old = g.D.Desk.told c.args.desk.now in
     let made = g.D.Desk.told c.create_file.new.self in
     let new = g.D.Desk.told c.proved_and_closed.new.desk in
@@ -33,11 +33,11 @@ returns-in-Ok-clause-front g c =
     let start = plain_pattern c.args.accepted.now.start in
     on_err_more c.proved_and_closed.result (PutsFront made new theory start)
     (MayHoldFront old new c.args.file.now theory start)
-    (λ h. created_front old made new c.args.file.now theory start c.in-Ok.ensures.creates h)
+    (λ h. created_front old made new c.args.file.now theory start c.in_ok-create_file.ensures.creates h)
     c.proved_and_closed.ensures.front
 
-pub returns-in-Ok-clause-files : goal.returns-in-Ok-clause-files
-returns-in-Ok-clause-files g c =
+pub returns-clause-files : goal.returns-clause-files
+returns-clause-files g c =
     created_others (g.D.Desk.told c.args.desk.now) (g.D.Desk.told c.create_file.new.self)
-    (g.D.Desk.told c.proved_and_closed.new.desk) c.args.file.now c.in-Ok.ensures.creates
+    (g.D.Desk.told c.proved_and_closed.new.desk) c.args.file.now c.in_ok-create_file.ensures.creates
     c.proved_and_closed.ensures.files

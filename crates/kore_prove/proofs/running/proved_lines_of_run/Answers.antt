@@ -1,4 +1,5 @@
 use Rattle.std.proofs.Common.{sym, subst}
+use Rattle.std.proofs.lemmas.Result.{err_from_is_err_and}
 use Rattle.term_core.specs.RulePatterns.{plain_pattern}
 use Rattle.rule_core.specs.ProgramView.{theory_of}
 use Rattle.rule_core.specs.declared.rules.Program.{Program}
@@ -14,19 +15,21 @@ proved_run-requires-clause-names g c =
     subst (λ (p : Program). HasPlainNames p.sig) (sym c.new-engine.ensures)
     (plain_names c.args.accepted.now.program.sig c.requires.runnable.program.names)
 
-pub returns-in-Err-clause-front : goal.returns-in-Err-clause-front
-returns-in-Err-clause-front g c =
+pub returns-in_err-end-clause-front : goal.returns-in_err-end-clause-front
+returns-in_err-end-clause-front g c =
     let old = g.D.Desk.told c.args.desk.now in
     let new = g.D.Desk.told c.proved_run.new.desk in
     let start = plain_pattern c.args.accepted.now.start in
-    subst (λ (p : Program). WritesFrontOfProof old new (theory_of p) start) c.new-engine.ensures
-    c.in-Err.ensures.front
+    let p = err_from_is_err_and c.from_residual.result c.from_residual.ensures.1 in
+    rw p.1 (subst (λ (p : Program). WritesFrontOfProof old new (theory_of p) start) c.new-engine.ensures
+    c.in_err-end.ensures.front)
 
-pub returns-in-Err-run_lines-clause-front : goal.returns-in-Err-run_lines-clause-front
-returns-in-Err-run_lines-clause-front g c =
+pub returns-in_err-lines-clause-front : goal.returns-in_err-lines-clause-front
+returns-in_err-lines-clause-front g c =
     let old = g.D.Desk.told c.args.desk.now in
     let new = g.D.Desk.told c.proved_run.new.desk in
     let start = plain_pattern c.args.accepted.now.start in
-    subst (λ (p : Program). WritesFrontOfProof old new (theory_of p) start) c.new-engine.ensures
-    (proof_written old new (theory_of c.new-engine.result) start (plain_run c.in-Ok.made.0)
-    c.in-Ok.made.1 c.in-Ok.ensures.justified)
+    let p = err_from_is_err_and c.from_residual-in_err-lines.result c.from_residual-in_err-lines.ensures.1 in
+    rw p.1 (subst (λ (p : Program). WritesFrontOfProof old new (theory_of p) start) c.new-engine.ensures
+    (proof_written old new (theory_of c.new-engine.result) start (plain_run c.in_ok-end.end)
+    c.in_ok-end.summary c.in_ok-end.ensures.justified))
