@@ -42,8 +42,8 @@ AreSymbols known ds symbols =
 -- what is kept of the declarations so far, and what is kept after one more declaration
 pub record Grows (known : DeclaredFacts) (seen : List (List ℕ × Unit {0}))
     (symbols : List (List ℕ × SymInfo))
-    (seen_behind : List (List ℕ × Unit {0})) (symbols_behind : List (List ℕ × SymInfo)) (d : Declaration) :
-    Type 0 where
+    (seen_behind : List (List ℕ × Unit {0})) (symbols_behind : List (List ℕ × SymInfo))
+    (d : Declaration) : Type 0 where
   pub names : before_of seen_behind symbols_behind ≡ declared_after (before_of seen symbols) d
   pub declared : (ds : List Declaration) → AreSymbols known ds symbols
       → AreSymbols known (ds ++ d ∷ []) symbols_behind

@@ -14,8 +14,11 @@ with_axiom = declared ++ codes "ax $a t x y $. "
 -- the axioms of the Metamath book's first example
 abbrev pub book_axioms : List ℕ
 book_axioms =
-    codes
-    "$c 0 + = -> ( ) term wff |- $. $v t r s P Q $. tt $f term t $. tr $f term r $. ts $f term s $. wp $f wff P $. wq $f wff Q $. tze $a term 0 $. tpl $a term ( t + r ) $. weq $a wff t = r $. wim $a wff ( P -> Q ) $. a1 $a |- ( t = r -> ( t = s -> r = s ) ) $. a2 $a |- ( t + 0 ) = t $. ${ min $e |- P $. maj $e |- ( P -> Q ) $. mp $a |- Q $. $} "
+    codes "$c 0 + = -> ( ) term wff |- $. $v t r s P Q $. tt $f term t $. tr $f term r $. ts "
+    ++ codes "$f term s $. wp $f wff P $. wq $f wff Q $. tze $a term 0 $. tpl $a term ( t + r ) "
+    ++ codes "$. weq $a wff t = r $. wim $a wff ( P -> Q ) $. a1 $a |- ( t = r -> ( t = s -> r = "
+    ++ codes "s ) ) $. a2 $a |- ( t + 0 ) = t $. ${ min $e |- P $. maj $e |- ( P -> Q ) $. mp $a "
+    ++ codes "|- Q $. $} "
 
 pub record TriedCases : Type 0 where
   pub empty : first_fault ([]) ≡ None
@@ -29,8 +32,8 @@ pub record TriedCases : Type 0 where
       ++ codes "${ $d x y $. ax $a t x y $. $} ${ $d x y $. th $p t x y $= fx fy ax $. $}")
       ≡ None
   pub book : first_fault (book_axioms
-      ++ codes
-      "th1 $p |- t = t $= tt tze tpl tt weq tt tt weq tt a2 tt tze tpl tt weq tt tze tpl tt weq tt tt weq wim tt a2 tt tze tpl tt tt a1 mp mp $.")
+      ++ codes "th1 $p |- t = t $= tt tze tpl tt weq tt tt weq tt a2 tt tze tpl tt weq tt tze tpl "
+      ++ codes "tt weq tt tt weq wim tt a2 tt tze tpl tt tt a1 mp mp $.")
       ≡ None
   pub typed_again : first_fault (codes "$c t $. $v x $. ${ fx $f t x $. $} gx $f t x $.") ≡ None
   pub control_byte : first_fault (codes "$c t $. " ++ 1 ∷ []) ≡ Some (fault 1 8)

@@ -162,8 +162,8 @@ membership_rows =
     rule (codes "mem.no") (codes "#Pred r" ∷ codes "( \\imp r ( \\not ( \\and p q ) ) )" ∷ [])
     (codes "( \\imp r ( \\not ( \\mem p q ) ) )") ∷
     schema (codes "apart")
-    (codes
-    "( \\imp ( \\fun p s ) ( \\imp ( \\fun q v ) ( \\imp ( \\not ( \\eq p q ) ) ( \\not ( \\and p q ) ) ) ) )")
+    (codes "( \\imp ( \\fun p s ) ( \\imp ( \\fun q v ) ( \\imp ( \\not ( \\eq p q ) ) ( \\not "
+    ++ codes "( \\and p q ) ) ) ) )")
     ∷
     []
 

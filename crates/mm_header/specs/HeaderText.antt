@@ -8,8 +8,8 @@ use Rattle.mm_header.specs.Header.{Row, header_rows}
 
 abbrev pub constants_text : List ℕ
 constants_text =
-    codes
-    "( ) \\bot \\top \\imp \\not \\and \\or \\eq \\mem \\fun \\ex \\all \\app \\at \\next \\ev #Pattern #Sort #Var #Sub #Fresh #Pred |-"
+    codes "( ) \\bot \\top \\imp \\not \\and \\or \\eq \\mem \\fun \\ex \\all \\app \\at "
+    ++ codes "\\next \\ev #Pattern #Sort #Var #Sub #Fresh #Pred |-"
 
 abbrev pub variables_text : List ℕ
 variables_text = codes "p q r t u x y s v"

@@ -58,17 +58,14 @@ moves = record {
 
 pub record MovingSpelt (sig : Signature) : Type 0 where
   pub rule : IsSpelt sig moving_names (rule_sentence moves top)
-      (codes
-      "( \\all x:0 s:SortAExp ( \\imp ( \\and ( \\app f:k ( \\app ( \\at ( \\at f:inj s:SortAExp ) s:SortKItem "
-      ++ codes
-      ") x:0 ) ) \\top ) ( \\next ( \\app f:done ( \\app ( \\at ( \\at f:inj s:SortAExp ) s:SortStmt ) x:0 "
-      ++ codes ") ) ) ) )")
+      (codes "( \\all x:0 s:SortAExp ( \\imp ( \\and ( \\app f:k ( \\app ( \\at ( \\at f:inj "
+      ++ codes "s:SortAExp ) s:SortKItem ) x:0 ) ) \\top ) ( \\next ( \\app f:done ( \\app ( "
+      ++ codes "\\at ( \\at f:inj s:SortAExp ) s:SortStmt ) x:0 ) ) ) ) )")
   pub subsort : IsSpelt sig moving_names
       (for_all 0 (1 ∷ [])
       (exists 1 3 (equals (term (variable 1)) (term (injection 1 3 (variable 0))))))
-      (codes
-      "( \\all x:0 s:SortAExp ( \\ex x:1 s:SortKItem ( \\eq x:1 ( \\app ( \\at ( \\at f:inj s:SortAExp ) "
-      ++ codes "s:SortKItem ) x:0 ) ) ) )")
+      (codes "( \\all x:0 s:SortAExp ( \\ex x:1 s:SortKItem ( \\eq x:1 ( \\app ( \\at ( \\at "
+      ++ codes "f:inj s:SortAExp ) s:SortKItem ) x:0 ) ) ) )")
 
 -- ---- whole numbers: `t(N) => u(N) if gt(N,10)`, and facts
 
@@ -106,9 +103,9 @@ number n = domain_value 0 (integer (pos n))
 pub record NumbersSpelt (sig : Signature) : Type 0 where
   pub rule : IsSpelt sig number_names
       (rule_sentence above_ten (is_true (call 0 [] (two (variable 0) ten)) 1))
-      (codes
-      "( \\all x:0 s:SortInt ( \\imp ( \\and ( \\app f:t x:0 ) ( \\eq ( \\app ( \\app f:gt x:0 ) d:SortInt:3130 "
-      ++ codes ") d:SortBool:74727565 ) ) ( \\next ( \\app f:u x:0 ) ) ) )")
+      (codes "( \\all x:0 s:SortInt ( \\imp ( \\and ( \\app f:t x:0 ) ( \\eq ( \\app ( \\app "
+      ++ codes "f:gt x:0 ) d:SortInt:3130 ) d:SortBool:74727565 ) ) ( \\next ( \\app f:u x:0 ) "
+      ++ codes ") ) )")
   pub value : IsSpelt sig number_names (functional (term (number 5)) 0)
       (codes "( \\fun d:SortInt:35 s:SortInt )")
   pub sum : IsSpelt sig number_names
@@ -154,42 +151,35 @@ append_item = record {
 pub record ListsSpelt (sig : Signature) : Type 0 where
   pub nothing : IsSpelt sig list_names
       (kompile_sentence 2 2 (behind_parameters (0 ∷ 0 ∷ []) append_nothing) top)
-      (codes
-      "( \\all x:0 s:SortK ( \\all x:1 s:SortK ( \\all x:2 s:SortK ( \\imp ( \\and \\top ( \\and ( \\mem x:0 "
-      ++ codes
-      "f:dotk ) ( \\and ( \\mem x:1 x:2 ) \\top ) ) ) ( \\eq ( \\app ( \\app f:append x:0 ) x:1 ) x:2 ) ) ) "
-      ++ codes ") )")
+      (codes "( \\all x:0 s:SortK ( \\all x:1 s:SortK ( \\all x:2 s:SortK ( \\imp ( \\and "
+      ++ codes "\\top ( \\and ( \\mem x:0 f:dotk ) ( \\and ( \\mem x:1 x:2 ) \\top ) ) ) ( \\eq "
+      ++ codes "( \\app ( \\app f:append x:0 ) x:1 ) x:2 ) ) ) ) )")
   pub item : IsSpelt sig list_names
       (kompile_sentence 2 2 (behind_parameters (0 ∷ 0 ∷ []) append_item) top)
-      (codes
-      "( \\all x:0 s:SortK ( \\all x:1 s:SortK ( \\all x:2 s:SortKItem ( \\all x:3 s:SortK ( \\all x:4 s:SortK "
-      ++ codes
-      "( \\imp ( \\and \\top ( \\and ( \\mem x:0 ( \\app ( \\app f:kseq x:2 ) x:3 ) ) ( \\and ( \\mem x:1 "
-      ++ codes
-      "x:4 ) \\top ) ) ) ( \\eq ( \\app ( \\app f:append x:0 ) x:1 ) ( \\app ( \\app f:kseq x:2 ) ( \\app ( "
-      ++ codes "\\app f:append x:3 ) x:4 ) ) ) ) ) ) ) ) )")
+      (codes "( \\all x:0 s:SortK ( \\all x:1 s:SortK ( \\all x:2 s:SortKItem ( \\all x:3 "
+      ++ codes "s:SortK ( \\all x:4 s:SortK ( \\imp ( \\and \\top ( \\and ( \\mem x:0 ( \\app ( "
+      ++ codes "\\app f:kseq x:2 ) x:3 ) ) ( \\and ( \\mem x:1 x:4 ) \\top ) ) ) ( \\eq ( \\app "
+      ++ codes "( \\app f:append x:0 ) x:1 ) ( \\app ( \\app f:kseq x:2 ) ( \\app ( \\app "
+      ++ codes "f:append x:3 ) x:4 ) ) ) ) ) ) ) ) )")
   pub directly : IsSpelt sig list_names (direct_sentence 2 append_nothing top)
       (codes
       "( \\all x:0 s:SortK ( \\imp \\top ( \\eq ( \\app ( \\app f:append f:dotk ) x:0 ) x:0 ) ) )")
   pub total : IsSpelt sig list_names
       (for_all 0 (1 ∷ 0 ∷ []) (exists 2 0 (equals (term (variable 2)) (of_variables 0 0 2))))
-      (codes
-      "( \\all x:0 s:SortKItem ( \\all x:1 s:SortK ( \\ex x:2 s:SortK ( \\eq x:2 ( \\app ( \\app f:kseq x:0 ) "
-      ++ codes "x:1 ) ) ) ) )")
+      (codes "( \\all x:0 s:SortKItem ( \\all x:1 s:SortK ( \\ex x:2 s:SortK ( \\eq x:2 ( "
+      ++ codes "\\app ( \\app f:kseq x:0 ) x:1 ) ) ) ) )")
   pub apart : IsSpelt sig list_names
       (for_all 0 (1 ∷ 0 ∷ []) (not (and (of_variables 0 0 2) (of_variables 1 2 0))))
-      (codes
-      "( \\all x:0 s:SortKItem ( \\all x:1 s:SortK ( \\not ( \\and ( \\app ( \\app f:kseq x:0 ) x:1 ) f:dotk ) "
-      ++ codes ") ) )")
+      (codes "( \\all x:0 s:SortKItem ( \\all x:1 s:SortK ( \\not ( \\and ( \\app ( \\app "
+      ++ codes "f:kseq x:0 ) x:1 ) f:dotk ) ) ) )")
   pub free : IsSpelt sig list_names
       (for_all 0 (1 ∷ 0 ∷ 1 ∷ 0 ∷ [])
       (implies (and (of_variables 0 0 2) (of_variables 0 2 2))
       (apply_all (symbol 0) (conjunctions (variables 0 2) (variables 2 2)))))
-      (codes
-      "( \\all x:0 s:SortKItem ( \\all x:1 s:SortK ( \\all x:2 s:SortKItem ( \\all x:3 s:SortK ( \\imp ( \\and "
-      ++ codes
-      "( \\app ( \\app f:kseq x:0 ) x:1 ) ( \\app ( \\app f:kseq x:2 ) x:3 ) ) ( \\app ( \\app f:kseq ( "
-      ++ codes "\\and x:0 x:2 ) ) ( \\and x:1 x:3 ) ) ) ) ) ) )")
+      (codes "( \\all x:0 s:SortKItem ( \\all x:1 s:SortK ( \\all x:2 s:SortKItem ( \\all x:3 "
+      ++ codes "s:SortK ( \\imp ( \\and ( \\app ( \\app f:kseq x:0 ) x:1 ) ( \\app ( \\app "
+      ++ codes "f:kseq x:2 ) x:3 ) ) ( \\app ( \\app f:kseq ( \\and x:0 x:2 ) ) ( \\and x:1 x:3 "
+      ++ codes ") ) ) ) ) ) )")
 
 -- ---- addition, as kompile writes it: `<k>(kseq(inj{SortExp,SortKItem}(+(inj(I), inj(J))), R)) =>
 -- <k>(kseq(inj{SortInt,SortKItem}(+Int(I, J)), R))`
@@ -229,25 +219,20 @@ addition = record {
 
 pub record AdditionSpelt (sig : Signature) : Type 0 where
   pub rule : IsSpelt sig addition_names (rule_sentence addition top)
-      (codes
-      "( \\all x:0 s:SortInt ( \\all x:1 s:SortInt ( \\all x:2 s:SortK ( \\imp ( \\and ( \\app "
-      ++ codes
-      "f:Lbl'-LT-'k'-GT-' ( \\app ( \\app f:kseq ( \\app ( \\at ( \\at f:inj s:SortExp ) s:SortKItem ) ( "
-      ++ codes
-      "\\app ( \\app f:Lbl'UndsPlusUnds' ( \\app ( \\at ( \\at f:inj s:SortInt ) s:SortExp ) x:0 ) ) ( "
-      ++ codes
-      "\\app ( \\at ( \\at f:inj s:SortInt ) s:SortExp ) x:1 ) ) ) ) x:2 ) ) \\top ) ( \\next ( \\app "
-      ++ codes
-      "f:Lbl'-LT-'k'-GT-' ( \\app ( \\app f:kseq ( \\app ( \\at ( \\at f:inj s:SortInt ) s:SortKItem ) ( "
-      ++ codes "\\app ( \\app f:Lbl'UndsPlus'Int'Unds' x:0 ) x:1 ) ) ) x:2 ) ) ) ) ) ) )")
+      (codes "( \\all x:0 s:SortInt ( \\all x:1 s:SortInt ( \\all x:2 s:SortK ( \\imp ( \\and "
+      ++ codes "( \\app f:Lbl'-LT-'k'-GT-' ( \\app ( \\app f:kseq ( \\app ( \\at ( \\at f:inj "
+      ++ codes "s:SortExp ) s:SortKItem ) ( \\app ( \\app f:Lbl'UndsPlusUnds' ( \\app ( \\at ( "
+      ++ codes "\\at f:inj s:SortInt ) s:SortExp ) x:0 ) ) ( \\app ( \\at ( \\at f:inj "
+      ++ codes "s:SortInt ) s:SortExp ) x:1 ) ) ) ) x:2 ) ) \\top ) ( \\next ( \\app "
+      ++ codes "f:Lbl'-LT-'k'-GT-' ( \\app ( \\app f:kseq ( \\app ( \\at ( \\at f:inj s:SortInt "
+      ++ codes ") s:SortKItem ) ( \\app ( \\app f:Lbl'UndsPlus'Int'Unds' x:0 ) x:1 ) ) ) x:2 ) "
+      ++ codes ") ) ) ) ) )")
   pub collapse : IsSpelt sig addition_names
       (for_all 0 (0 ∷ []) (equals (term (injection 1 2 (injection 0 1 (variable 0))))
       (term (injection 0 2 (variable 0)))))
-      (codes
-      "( \\all x:0 s:SortInt ( \\eq ( \\app ( \\at ( \\at f:inj s:SortExp ) s:SortKItem ) ( \\app ( \\at ( \\at "
-      ++ codes
-      "f:inj s:SortInt ) s:SortExp ) x:0 ) ) ( \\app ( \\at ( \\at f:inj s:SortInt ) s:SortKItem ) x:0 ) ) "
-      ++ codes ")")
+      (codes "( \\all x:0 s:SortInt ( \\eq ( \\app ( \\at ( \\at f:inj s:SortExp ) "
+      ++ codes "s:SortKItem ) ( \\app ( \\at ( \\at f:inj s:SortInt ) s:SortExp ) x:0 ) ) ( "
+      ++ codes "\\app ( \\at ( \\at f:inj s:SortInt ) s:SortKItem ) x:0 ) ) )")
 
 pub record TriedImages : Type 0 where
   pub moving : (sig : Signature) → DeclaresMoves sig → MovingSpelt sig
