@@ -24,8 +24,8 @@ abbrev pub ClosedStays : Type 0
 ClosedStays = (names more : List Token) (p : Pattern) → EachLeaf (closed_over names) p
     → EachLeaf (closed_over (names ++ more)) p
 
--- a claim that was stated last was stated; a claim that was stated is still stated if its claims
--- are among others
+-- a claim that was stated last was stated; what was stated among some claims was stated among all
+-- that contain them
 abbrev pub LastIsStated : Type 0
 LastIsStated = (stated : List Stated) (s : Stated)
     → IsStated (stated ++ s ∷ []) s.claim.hypotheses s.claim.conclusion
