@@ -25,7 +25,7 @@ use Rattle.rule_core.specs.declared.signature.SortRef.{SortRef}
 use Rattle.kore_check.specs.PatternMeanings.{variable_number, with_variable, with_variables}
 use Rattle.kore_check.specs.PatternMeanings.{with_all_variables}
 use Rattle.kore_shapes.specs.SameSorts.{same_sort}
-use Rattle.kore_axioms.specs.Uses.{occurs_in, stands_in_some, is_bound_by, are_bound_by}
+use Rattle.kore_axioms.specs.Uses.{occurs_in, occurs_in_some, is_bound_by, are_bound_by}
 
 -- ---- sorts
 
@@ -193,27 +193,27 @@ mutual
   covers sig vars (other_form at) name t s h e = absurd (false≢true h)
 
   all_cover : (sig : Signature) (vars : List (List ℕ × ℕ)) (qs : Unfoldeds) (name : List ℕ)
-      (t : SortTree) (s : ℕ) → stands_in_some name t qs ≡ true
+      (t : SortTree) (s : ℕ) → occurs_in_some name t qs ≡ true
       → sort_number sig.sorts t ≡ Some s → has (with_all_variables sig vars qs) name s ≡ true
   all_cover sig vars no_more name t s h e = absurd (false≢true h)
   all_cover sig vars (and_more q qs) name t s h e =
-      either (occurs_in name t q) (stands_in_some name t qs) h
+      either (occurs_in name t q) (occurs_in_some name t qs) h
       (λ here.
       all_kept sig (with_variables sig vars q) qs name s (covers sig vars q name t s here e))
       (λ later. all_cover sig (with_variables sig vars q) qs name t s later e)
 
 -- a variable that is numbered and was not before occurs in the pattern
-abbrev StandsAs : Signature → List ℕ → ℕ → (SortTree → Bool) → Type 0
-StandsAs sig name s stands = (t : SortTree) × (stands t ≡ true) × (sort_number sig.sorts t ≡ Some s)
+abbrev OccursAs : Signature → List ℕ → ℕ → (SortTree → Bool) → Type 0
+OccursAs sig name s occurs = (t : SortTree) × (occurs t ≡ true) × (sort_number sig.sorts t ≡ Some s)
 
 added_only : (sig : Signature) (vars : List (List ℕ × ℕ)) (at : ℕ) (n : List ℕ) (u : SortTree)
     (name : List ℕ) (s : ℕ) (o : Option ℕ) → sort_number sig.sorts u ≡ o
     → has (with_variable vars n o) name s ≡ true
-    → (has vars name s ≡ true) ⊎ StandsAs sig name s (λ t. occurs_in name t (named_variable at n u))
+    → (has vars name s ≡ true) ⊎ OccursAs sig name s (λ t. occurs_in name t (named_variable at n u))
 added_only sig vars at n u name s None e h = inl h
 added_only sig vars at n u name s (Some k) e h = by_case (has vars n k) refl where
   new : is_one name s (n, k) ≡ true
-      → StandsAs sig name s (λ t. occurs_in name t (named_variable at n u))
+      → OccursAs sig name s (λ t. occurs_in name t (named_variable at n u))
   new is =
       let both = both_true _ _ is in (
         u,
@@ -224,7 +224,7 @@ added_only sig vars at n u name s (Some k) e h = by_case (has vars n k) refl whe
 
   by_case : (b : Bool) → has vars n k ≡ b
       → (has vars name s ≡ true)
-      ⊎ StandsAs sig name s (λ t. occurs_in name t (named_variable at n u))
+      ⊎ OccursAs sig name s (λ t. occurs_in name t (named_variable at n u))
   by_case true was =
       inl (ap (λ (vs : List (List ℕ × ℕ)). has vs name s) (sym (unchanged vars n k was)) ∙ h)
   by_case false was =
@@ -238,7 +238,7 @@ added_only sig vars at n u name s (Some k) e h = by_case (has vars n k) refl whe
 mutual
   only : (sig : Signature) (vars : List (List ℕ × ℕ)) (q : Unfolded) (name : List ℕ) (s : ℕ)
       → has (with_variables sig vars q) name s ≡ true
-      → (has vars name s ≡ true) ⊎ StandsAs sig name s (λ t. occurs_in name t q)
+      → (has vars name s ≡ true) ⊎ OccursAs sig name s (λ t. occurs_in name t q)
   only sig vars (named_variable at n u) name s h =
       added_only sig vars at n u name s (sort_number sig.sorts u) refl h
   only sig vars (written_value at u text byte) name s h = inl h
@@ -247,7 +247,7 @@ mutual
 
   all_only : (sig : Signature) (vars : List (List ℕ × ℕ)) (qs : Unfoldeds) (name : List ℕ) (s : ℕ)
       → has (with_all_variables sig vars qs) name s ≡ true
-      → (has vars name s ≡ true) ⊎ StandsAs sig name s (λ t. stands_in_some name t qs)
+      → (has vars name s ≡ true) ⊎ OccursAs sig name s (λ t. occurs_in_some name t qs)
   all_only sig vars no_more name s h = inl h
   all_only sig vars (and_more q qs) name s h =
       ⊎_elim
@@ -272,10 +272,10 @@ mutual
 
   all_written_so : (sig : Signature) (qs : Unfoldeds) (name : List ℕ) (t u : SortTree) (s : ℕ)
       → sort_number sig.sorts t ≡ Some s → sort_number sig.sorts u ≡ Some s
-      → stands_in_some name t qs ≡ true → stands_in_some name u qs ≡ true
+      → occurs_in_some name t qs ≡ true → occurs_in_some name u qs ≡ true
   all_written_so sig no_more name t u s e f h = absurd (false≢true h)
   all_written_so sig (and_more q qs) name t u s e f h =
-      either (occurs_in name t q) (stands_in_some name t qs) h
+      either (occurs_in name t q) (occurs_in_some name t qs) h
       (λ here. or_true _ _ (written_so sig q name t u s e f here))
       (λ later. true_or (occurs_in name u q) _ (all_written_so sig qs name t u s e f later))
 
@@ -285,17 +285,18 @@ mutual
 abbrev of : Signature → Unfoldeds → List (List ℕ × ℕ)
 of sig qs = with_all_variables sig [] qs
 
-standing : (sig : Signature) (qs : Unfoldeds) (n : List ℕ) (t : SortTree) (o : Option ℕ)
-    → sort_number sig.sorts t ≡ o → stands_in_some n t qs ≡ true
+numbered_already : (sig : Signature) (qs : Unfoldeds) (n : List ℕ) (t : SortTree) (o : Option ℕ)
+    → sort_number sig.sorts t ≡ o → occurs_in_some n t qs ≡ true
     → with_variable (of sig qs) n o ≡ of sig qs
-standing sig qs n t None e h = refl
-standing sig qs n t (Some s) e h = unchanged (of sig qs) n s (all_cover sig [] qs n t s h e)
+numbered_already sig qs n t None e h = refl
+numbered_already sig qs n t (Some s) e h = unchanged (of sig qs) n s (all_cover sig [] qs n t s h e)
 
 -- a pattern whose variables are bound adds none
 mutual
   pub bound_same : (sig : Signature) (qs : Unfoldeds) (p : Unfolded) → is_bound_by qs p ≡ true
       → with_variables sig (of sig qs) p ≡ of sig qs
-  bound_same sig qs (named_variable at n t) h = standing sig qs n t (sort_number sig.sorts t) refl h
+  bound_same sig qs (named_variable at n t) h =
+      numbered_already sig qs n t (sort_number sig.sorts t) refl h
   bound_same sig qs (written_value at t text byte) h = refl
   bound_same sig qs (applied_symbol at byte n ss ps) h = all_bound_same sig qs ps h
   bound_same sig qs (other_form at) h = refl
@@ -337,18 +338,18 @@ no_faults (f ∷ fs) gs h = absurd (let never : ⊥ = cc in never)
 
 missing : (sig : Signature) (qs : Unfoldeds) (n : List ℕ) (t : SortTree) (o : Option ℕ)
     → sort_number sig.sorts t ≡ o → unless (is_some o) 6 (sort_place t) ≡ []
-    → stands_in_some n t qs ≡ false → length (of sig qs) < length (with_variable (of sig qs) n o)
+    → occurs_in_some n t qs ≡ false → length (of sig qs) < length (with_variable (of sig qs) n o)
 missing sig qs n t None e declared h = absurd (let never : ⊥ = cc in never)
 missing sig qs n t (Some s) e declared h = by_case (has (of sig qs) n s) refl where
-  stands : has (of sig qs) n s ≡ true → stands_in_some n t qs ≡ true
-  stands there =
+  occurs : has (of sig qs) n s ≡ true → occurs_in_some n t qs ≡ true
+  occurs there =
       ⊎_elim (λ before. absurd (false≢true before))
       (λ found. all_written_so sig qs n found.0 t s found.2 e found.1)
       (all_only sig [] qs n s there)
 
   by_case : (b : Bool) → has (of sig qs) n s ≡ b
       → length (of sig qs) < length (with_variable (of sig qs) n (Some s))
-  by_case true there = absurd (false≢true (sym h ∙ stands there))
+  by_case true there = absurd (false≢true (sym h ∙ occurs there))
   by_case false new =
       omega
       (arith, ap length (changed (of sig qs) n s new), length-append (of sig qs) ((n, s) ∷ []))

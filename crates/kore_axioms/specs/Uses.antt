@@ -25,24 +25,24 @@ abbrev mutual
   have_symbol test no_more = false
   have_symbol test (and_more p ps) = has_symbol test p || have_symbol test ps
 
--- a variable of this name and sort occurs in the pattern, or (`stands_in_some`) in one of the
+-- a variable of this name and sort occurs in the pattern, or (`occurs_in_some`) in one of the
 -- patterns
 abbrev mutual
   pub occurs_in : List ℕ → SortTree → Unfolded → Bool
   occurs_in name s (named_variable at n t) = bytes_eq name n && same_sort s t
   occurs_in name s (written_value at t text byte) = false
-  occurs_in name s (applied_symbol at byte f ss ps) = stands_in_some name s ps
+  occurs_in name s (applied_symbol at byte f ss ps) = occurs_in_some name s ps
   occurs_in name s (other_form at) = false
 
-  pub stands_in_some : List ℕ → SortTree → Unfoldeds → Bool
-  stands_in_some name s no_more = false
-  stands_in_some name s (and_more p ps) = occurs_in name s p || stands_in_some name s ps
+  pub occurs_in_some : List ℕ → SortTree → Unfoldeds → Bool
+  occurs_in_some name s no_more = false
+  occurs_in_some name s (and_more p ps) = occurs_in name s p || occurs_in_some name s ps
 
 -- each variable of the pattern, or (`are_bound_by`) of the patterns, occurs in one of the patterns
 -- `qs`
 abbrev mutual
   pub is_bound_by : Unfoldeds → Unfolded → Bool
-  is_bound_by qs (named_variable at name s) = stands_in_some name s qs
+  is_bound_by qs (named_variable at name s) = occurs_in_some name s qs
   is_bound_by qs (written_value at s text byte) = true
   is_bound_by qs (applied_symbol at byte name ss ps) = are_bound_by qs ps
   is_bound_by qs (other_form at) = true

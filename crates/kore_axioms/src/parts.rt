@@ -101,7 +101,7 @@ pub(crate) fn form_fault(decl: &AxiomDecl, parts: RuleParts<'_>) -> Option<Axiom
         (is_without(parts.after), AxiomFault::Ensures),
         (ill, AxiomFault::Condition),
         (
-            stands_in(parts.before.main(), SoughtForms::Conjunctions),
+            occurs_in(parts.before.main(), SoughtForms::Conjunctions),
             AxiomFault::AsPattern,
         ),
         (has_bad_priority(&decl.attrs), AxiomFault::BadPriority),
@@ -115,13 +115,13 @@ fn has_bad_form(parts: RuleParts<'_>) -> bool
 {
     is_misshapen(parts.before)
         || is_misshapen(parts.after)
-        || stands_in(parts.before.main(), SoughtForms::Others)
-        || stands_in(tested(parts.condition), SoughtForms::All)
-        || stands_in(parts.after.main(), SoughtForms::All)
+        || occurs_in(parts.before.main(), SoughtForms::Others)
+        || occurs_in(tested(parts.condition), SoughtForms::All)
+        || occurs_in(parts.after.main(), SoughtForms::All)
 }
 
 /// Whether there is a pattern and one of these forms occurs in it.
-fn stands_in(pat: Option<&Pat>, sought: SoughtForms) -> bool
+fn occurs_in(pat: Option<&Pat>, sought: SoughtForms) -> bool
     ensures { result ≡ holds_of (has_one (sought_forms sought)) (option_map pattern_at pat.entry) }
 {
     pat.is_some_and(|pat| has_form(pat, sought))

@@ -33,7 +33,7 @@ use Rattle.kore_equations.proofs.ClassLaws.{class_equates}
 use Rattle.kore_rules.specs.MadePrograms.{ListsOwnEquations}
 use Rattle.kore_rules.specs.Programs.{IsProgramUnder}
 use Rattle.kore_rules.proofs.EquationSorts.{count_read}
-use Rattle.kore_rules.proofs.MeaningSorts.{each_stands, each_stands_in_some}
+use Rattle.kore_rules.proofs.MeaningSorts.{each_occurs, each_occurs_in_some}
 use Rattle.kore_rules.proofs.ProgramLaws.{length_mapped, contains_map, contains_at, listed_view}
 use Rattle.kore_rules.proofs.ProgramLaws.{listed_there}
 use Rattle.kore_rules.proofs.VariableCounts.{variable_count, few_variables, all_few_variables}
@@ -69,7 +69,7 @@ bound_rule sig a r is most =
     record {
       few = omega (arith, long, left, counted, numbered, most);
       each =
-          λ x lt. each_stands sig is.variables (unfolded is.left) (plain_pattern r.left) is.numbered
+          λ x lt. each_occurs sig is.variables (unfolded is.left) (plain_pattern r.left) is.numbered
           is.means_left x (omega (arith, lt, long));
     }
 
@@ -115,7 +115,7 @@ bound_equation sig f a n e own is most =
           parts.form;
       few = omega (arith, long, counted, numbered, least, given, parameters, most);
       each =
-          λ x lt. each_stands_in_some sig is.variables (all_read patterns)
+          λ x lt. each_occurs_in_some sig is.variables (all_read patterns)
           (plain_patterns e.args.items) is.numbered is.means_arguments x
           (omega (arith, lt, long));
     }

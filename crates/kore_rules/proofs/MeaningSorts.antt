@@ -42,7 +42,7 @@ use Rattle.kore_axioms.specs.RuleFaults.{faults_at_sort}
 use Rattle.kore_equations.proofs.MeaningLaws.{all_variables_extend}
 use Rattle.kore_axioms.specs.Uses.{has_symbol, have_symbol, is_plain_function}
 use Rattle.kore_axioms.specs.Uses.{is_plain_function_with, is_ac_symbol, is_ac_with}
-use Rattle.kore_axioms.specs.Uses.{is_function_kind, occurs_in, stands_in_some, is_bound_by}
+use Rattle.kore_axioms.specs.Uses.{is_function_kind, occurs_in, occurs_in_some, is_bound_by}
 use Rattle.kore_axioms.specs.Uses.{are_bound_by}
 
 some_same : {X : Type 0} (x y : X) → Some x ≡ Some y → x ≡ y
@@ -150,48 +150,48 @@ mutual
 
 injected_back : (ns : List ℕ) (ps : Patterns) (p : Pattern) (x : ℕ) → injected_only ns ps ≡ Some p
     → OccursIn x p → OccursInSome x ps
-injected_back [] ps p x made stands = absurd (let never : ⊥ = cc in never)
-injected_back (a ∷ []) ps p x made stands = absurd (let never : ⊥ = cc in never)
-injected_back (a ∷ (b ∷ (d ∷ ns))) ps p x made stands = absurd (let never : ⊥ = cc in never)
-injected_back (a ∷ (b ∷ [])) no_pattern p x made stands = absurd (let never : ⊥ = cc in never)
-injected_back (a ∷ (b ∷ [])) (more_patterns q (more_patterns r ps)) p x made stands =
+injected_back [] ps p x made occurs = absurd (let never : ⊥ = cc in never)
+injected_back (a ∷ []) ps p x made occurs = absurd (let never : ⊥ = cc in never)
+injected_back (a ∷ (b ∷ (d ∷ ns))) ps p x made occurs = absurd (let never : ⊥ = cc in never)
+injected_back (a ∷ (b ∷ [])) no_pattern p x made occurs = absurd (let never : ⊥ = cc in never)
+injected_back (a ∷ (b ∷ [])) (more_patterns q (more_patterns r ps)) p x made occurs =
     absurd (let never : ⊥ = cc in never)
-injected_back (a ∷ (b ∷ [])) (more_patterns q no_pattern) p x made stands =
-    inl (subst (OccursIn x) (sym (some_same _ _ made)) stands)
+injected_back (a ∷ (b ∷ [])) (more_patterns q no_pattern) p x made occurs =
+    inl (subst (OccursIn x) (sym (some_same _ _ made)) occurs)
 
 applied_back : (k : SymKind) (f : ℕ) (ns : List ℕ) (ps : Patterns) (p : Pattern) (x : ℕ)
     → applied_pattern k f ns ps ≡ Some p → OccursIn x p → OccursInSome x ps
-applied_back Injection f ns ps p x made stands = injected_back ns ps p x made stands
-applied_back Ctor f ns ps p x made stands = subst (OccursIn x) (sym (some_same _ _ made)) stands
-applied_back Equations f ns ps p x made stands =
-    subst (OccursIn x) (sym (some_same _ _ made)) stands
-applied_back (Hooked row) f ns ps p x made stands =
-    subst (OccursIn x) (sym (some_same _ _ made)) stands
-applied_back Closed f ns ps p x made stands = subst (OccursIn x) (sym (some_same _ _ made)) stands
-applied_back NoKind f ns ps p x made stands = absurd (let never : ⊥ = cc in never)
+applied_back Injection f ns ps p x made occurs = injected_back ns ps p x made occurs
+applied_back Ctor f ns ps p x made occurs = subst (OccursIn x) (sym (some_same _ _ made)) occurs
+applied_back Equations f ns ps p x made occurs =
+    subst (OccursIn x) (sym (some_same _ _ made)) occurs
+applied_back (Hooked row) f ns ps p x made occurs =
+    subst (OccursIn x) (sym (some_same _ _ made)) occurs
+applied_back Closed f ns ps p x made occurs = subst (OccursIn x) (sym (some_same _ _ made)) occurs
+applied_back NoKind f ns ps p x made occurs = absurd (let never : ⊥ = cc in never)
 
 only_one : (x : ℕ) (q : Pattern) → OccursInSome x (more_patterns q no_pattern) → OccursIn x q
 only_one x q h = ⊎_elim (λ here. here) (λ none. absurd none) h
 
 injected_forth : (ns : List ℕ) (ps : Patterns) (p : Pattern) (x : ℕ) → injected_only ns ps ≡ Some p
     → OccursInSome x ps → OccursIn x p
-injected_forth [] ps p x made stands = absurd (let never : ⊥ = cc in never)
-injected_forth (a ∷ []) ps p x made stands = absurd (let never : ⊥ = cc in never)
-injected_forth (a ∷ (b ∷ (d ∷ ns))) ps p x made stands = absurd (let never : ⊥ = cc in never)
-injected_forth (a ∷ (b ∷ [])) no_pattern p x made stands = absurd (let never : ⊥ = cc in never)
-injected_forth (a ∷ (b ∷ [])) (more_patterns q (more_patterns r ps)) p x made stands =
+injected_forth [] ps p x made occurs = absurd (let never : ⊥ = cc in never)
+injected_forth (a ∷ []) ps p x made occurs = absurd (let never : ⊥ = cc in never)
+injected_forth (a ∷ (b ∷ (d ∷ ns))) ps p x made occurs = absurd (let never : ⊥ = cc in never)
+injected_forth (a ∷ (b ∷ [])) no_pattern p x made occurs = absurd (let never : ⊥ = cc in never)
+injected_forth (a ∷ (b ∷ [])) (more_patterns q (more_patterns r ps)) p x made occurs =
     absurd (let never : ⊥ = cc in never)
-injected_forth (a ∷ (b ∷ [])) (more_patterns q no_pattern) p x made stands =
-    subst (OccursIn x) (some_same _ _ made) (only_one x q stands)
+injected_forth (a ∷ (b ∷ [])) (more_patterns q no_pattern) p x made occurs =
+    subst (OccursIn x) (some_same _ _ made) (only_one x q occurs)
 
 applied_forth : (k : SymKind) (f : ℕ) (ns : List ℕ) (ps : Patterns) (p : Pattern) (x : ℕ)
     → applied_pattern k f ns ps ≡ Some p → OccursInSome x ps → OccursIn x p
-applied_forth Injection f ns ps p x made stands = injected_forth ns ps p x made stands
-applied_forth Ctor f ns ps p x made stands = subst (OccursIn x) (some_same _ _ made) stands
-applied_forth Equations f ns ps p x made stands = subst (OccursIn x) (some_same _ _ made) stands
-applied_forth (Hooked row) f ns ps p x made stands = subst (OccursIn x) (some_same _ _ made) stands
-applied_forth Closed f ns ps p x made stands = subst (OccursIn x) (some_same _ _ made) stands
-applied_forth NoKind f ns ps p x made stands = absurd (let never : ⊥ = cc in never)
+applied_forth Injection f ns ps p x made occurs = injected_forth ns ps p x made occurs
+applied_forth Ctor f ns ps p x made occurs = subst (OccursIn x) (some_same _ _ made) occurs
+applied_forth Equations f ns ps p x made occurs = subst (OccursIn x) (some_same _ _ made) occurs
+applied_forth (Hooked row) f ns ps p x made occurs = subst (OccursIn x) (some_same _ _ made) occurs
+applied_forth Closed f ns ps p x made occurs = subst (OccursIn x) (some_same _ _ made) occurs
+applied_forth NoKind f ns ps p x made occurs = absurd (let never : ⊥ = cc in never)
 
 -- a variable that occurs in a pattern occurs in its meaning
 either : (a b : Bool) → (a || b) ≡ true → (a ≡ true) ⊎ (b ≡ true)
@@ -203,29 +203,29 @@ mutual
       (s x : ℕ) {u : Unfolded} {p : Pattern} → sort_number sig.sorts tree ≡ Some s
       → variable_number vars name s ≡ Some x → occurs_in name tree u ≡ true → Means sig vars u p
       → OccursIn x p
-  found_in sig vars name tree s x number var stands
+  found_in sig vars name tree s x number var occurs
       (by_variable {x = y} {s = t} {name = n} {tree = other} a b) =
-      let both = both_true _ _ stands in
+      let both = both_true _ _ occurs in
       let names : name ≡ n = (bytes_eq-Decides name n).0 both.0 in
       let sorts : s ≡ t =
       some_same s t (sym number ∙ same_number sig.sorts tree other both.1 ∙ a) in
       some_same x y (sym var ∙ ap (λ (m : List ℕ). variable_number vars m s) names
       ∙ ap (variable_number vars n) sorts ∙ b)
-  found_in sig vars name tree s x number var stands (by_value a b) = absurd (false≢true stands)
-  found_in sig vars name tree s x number var stands
+  found_in sig vars name tree s x number var occurs (by_value a b) = absurd (false≢true occurs)
+  found_in sig vars name tree s x number var occurs
       (by_symbol {f = f} {ns = ns} {ps = ps} {p = p} {info = info} named numbers all made) =
       applied_forth info.kind f ns ps p x made
-      (found_in_some sig vars name tree s x number var stands all)
+      (found_in_some sig vars name tree s x number var occurs all)
 
   found_in_some : (sig : Signature) (vars : List (List ℕ × ℕ)) (name : List ℕ) (tree : SortTree)
       (s x : ℕ) {us : Unfoldeds} {ps : Patterns} → sort_number sig.sorts tree ≡ Some s
-      → variable_number vars name s ≡ Some x → stands_in_some name tree us ≡ true
+      → variable_number vars name s ≡ Some x → occurs_in_some name tree us ≡ true
       → AllMean sig vars us ps → OccursInSome x ps
-  found_in_some sig vars name tree s x number var stands none_mean = absurd (false≢true stands)
-  found_in_some sig vars name tree s x number var stands (more_mean {u = u} {us = us} first rest) =
+  found_in_some sig vars name tree s x number var occurs none_mean = absurd (false≢true occurs)
+  found_in_some sig vars name tree s x number var occurs (more_mean {u = u} {us = us} first rest) =
       ⊎_elim (λ here. inl (found_in sig vars name tree s x number var here first))
       (λ later. inr (found_in_some sig vars name tree s x number var later rest))
-      (either (occurs_in name tree u) (stands_in_some name tree us) stands)
+      (either (occurs_in name tree u) (occurs_in_some name tree us) occurs)
 
 -- the meaning of a pattern of bound variables has only variables of these patterns
 mutual
@@ -240,17 +240,17 @@ mutual
   uses_only sig vars all bound (by_value a b) = λ x never. absurd never
   uses_only sig vars all bound
       (by_symbol {f = f} {ns = ns} {ps = args} {p = p} {info = info} named numbers rest made) =
-      λ x stands.
-      all_use_only sig vars all bound rest x (applied_back info.kind f ns args p x made stands)
+      λ x occurs.
+      all_use_only sig vars all bound rest x (applied_back info.kind f ns args p x made occurs)
 
   all_use_only : (sig : Signature) (vars : List (List ℕ × ℕ)) {qs : Unfoldeds} {ps : Patterns}
       → AllMean sig vars qs ps → {us : Unfoldeds} {rs : Patterns} → are_bound_by qs us ≡ true
       → AllMean sig vars us rs → (x : ℕ) → OccursInSome x rs → OccursInSome x ps
   all_use_only sig vars all bound none_mean = λ x never. absurd never
-  all_use_only sig vars all bound (more_mean first rest) = λ x stands.
+  all_use_only sig vars all bound (more_mean first rest) = λ x occurs.
       let both = both_true _ _ bound in
       ⊎_elim (λ here. uses_only sig vars all both.0 first x here)
-      (λ later. all_use_only sig vars all both.1 rest x later) stands
+      (λ later. all_use_only sig vars all both.1 rest x later) occurs
 
 -- ---- numbers
 
@@ -263,11 +263,11 @@ last_or_before x n lt = by_case (x == n) refl where
       inl (omega (arith, lt, other))
 
 -- the variables with a new one at the end: each is an old one, or has the number of the new one
-last_stands : (vars more : List (List ℕ × ℕ)) (name : List ℕ) (s x y : ℕ)
+last_occurs : (vars more : List (List ℕ × ℕ)) (name : List ℕ) (s x y : ℕ)
     → Extends (vars ++ (name, s) ∷ []) more → variable_number vars name s ≡ None
     → variable_number more name s ≡ Some y → x < length (vars ++ (name, s) ∷ [])
     → (x < length vars) ⊎ (x ≡ y)
-last_stands vars more name s x y extends new is lt =
+last_occurs vars more name s x y extends new is lt =
     ⊎_elim (λ before. inl before) (λ last. inr (last ∙ number))
     (last_or_before x (length vars) (omega (arith, lt, long)))
   where
@@ -279,10 +279,10 @@ last_stands vars more name s x y extends new is lt =
     long : length (vars ++ (name, s) ∷ []) ≡ length vars + 1
     long = length-append vars ((name, s) ∷ [])
 
-variable_stands : (vars more : List (List ℕ × ℕ)) (name : List ℕ) (s x y : ℕ)
+variable_occurs : (vars more : List (List ℕ × ℕ)) (name : List ℕ) (s x y : ℕ)
     → Extends (with_variable vars name (Some s)) more → variable_number more name s ≡ Some y
     → x < length (with_variable vars name (Some s)) → (x < length vars) ⊎ (x ≡ y)
-variable_stands vars more name s x y extends is lt =
+variable_occurs vars more name s x y extends is lt =
     by_case (variable_number vars name s) refl extends lt
   where
     by_case : (o : Option ℕ) → variable_number vars name s ≡ o
@@ -290,59 +290,59 @@ variable_stands vars more name s x y extends is lt =
         → x < length (if is_some o then vars else vars ++ (name, s) ∷ [])
         → (x < length vars) ⊎ (x ≡ y)
     by_case (Some k) e extends lt = inl lt
-    by_case None e extends lt = last_stands vars more name s x y extends e is lt
+    by_case None e extends lt = last_occurs vars more name s x y extends e is lt
 
 -- Each variable that numbering a pattern adds occurs in the pattern's meaning, also if more
 -- variables are numbered later.
 mutual
-  pub numbered_stand : (sig : Signature) (vars more : List (List ℕ × ℕ)) {u : Unfolded}
+  pub numbered_occur : (sig : Signature) (vars more : List (List ℕ × ℕ)) {u : Unfolded}
       {p : Pattern} → Extends (with_variables sig vars u) more → Means sig more u p → (x : ℕ)
       → x < length (with_variables sig vars u) → (x < length vars) ⊎ OccursIn x p
-  numbered_stand sig vars more extends
+  numbered_occur sig vars more extends
       (by_variable {x = y} {s = s} {name = name} {tree = tree} number is) =
       λ x lt.
-      variable_stands vars more name s x y
+      variable_occurs vars more name s x y
       (subst (λ (o : Option ℕ). Extends (with_variable vars name o) more) number extends) is
       (subst (λ (o : Option ℕ). x < length (with_variable vars name o)) number lt)
-  numbered_stand sig vars more extends (by_value a b) = λ x lt. inl lt
-  numbered_stand sig vars more extends
+  numbered_occur sig vars more extends (by_value a b) = λ x lt. inl lt
+  numbered_occur sig vars more extends
       (by_symbol {f = f} {ns = ns} {ps = ps} {p = p} {info = info} named numbers all made) =
       λ x lt.
       ⊎_elim (λ before. inl before)
-      (λ stands. inr (applied_forth info.kind f ns ps p x made stands))
-      (all_numbered_stand sig vars more extends all x lt)
+      (λ occurs. inr (applied_forth info.kind f ns ps p x made occurs))
+      (all_numbered_occur sig vars more extends all x lt)
 
-  pub all_numbered_stand : (sig : Signature) (vars more : List (List ℕ × ℕ)) {us : Unfoldeds}
+  pub all_numbered_occur : (sig : Signature) (vars more : List (List ℕ × ℕ)) {us : Unfoldeds}
       {ps : Patterns} → Extends (with_all_variables sig vars us) more → AllMean sig more us ps
       → (x : ℕ) → x < length (with_all_variables sig vars us)
       → (x < length vars) ⊎ OccursInSome x ps
-  all_numbered_stand sig vars more extends none_mean = λ x lt. inl lt
-  all_numbered_stand sig vars more extends (more_mean {u = u} {us = us} first rest) = λ x lt.
+  all_numbered_occur sig vars more extends none_mean = λ x lt. inl lt
+  all_numbered_occur sig vars more extends (more_mean {u = u} {us = us} first rest) = λ x lt.
       let mid = with_variables sig vars u in
       let shorter : Extends mid more =
       extends-trans mid (with_all_variables sig mid us) more (all_variables_extend sig mid us)
       extends in
-      ⊎_elim (λ before. ⊎_elim (λ earlier. inl earlier) (λ stands. inr (inl stands))
-      (numbered_stand sig vars more shorter first x before))
-      (λ stands. inr (inr stands)) (all_numbered_stand sig mid more extends rest x lt)
+      ⊎_elim (λ before. ⊎_elim (λ earlier. inl earlier) (λ occurs. inr (inl occurs))
+      (numbered_occur sig vars more shorter first x before))
+      (λ occurs. inr (inr occurs)) (all_numbered_occur sig mid more extends rest x lt)
 
 none_before : {P : Type 0} (x : ℕ) → (x < length {A = List ℕ × ℕ} []) ⊎ P → P
 none_before x (inl lt) = absurd (omega (arith, lt))
 none_before x (inr p) = p
 
 -- so all variables that are numbered from the start occur in the meaning
-pub each_stands : (sig : Signature) (vars : List (List ℕ × ℕ)) (u : Unfolded) (p : Pattern)
+pub each_occurs : (sig : Signature) (vars : List (List ℕ × ℕ)) (u : Unfolded) (p : Pattern)
     → vars ≡ with_variables sig [] u → Means sig vars u p → (x : ℕ) → x < length vars → OccursIn x p
-each_stands sig vars u p numbered means x lt =
-    none_before x (numbered_stand sig [] vars
+each_occurs sig vars u p numbered means x lt =
+    none_before x (numbered_occur sig [] vars
     (subst (λ (vs : List (List ℕ × ℕ)). Extends vs vars) numbered (extends-refl vars)) means x
     (subst (λ (vs : List (List ℕ × ℕ)). x < length vs) numbered lt))
 
-pub each_stands_in_some : (sig : Signature) (vars : List (List ℕ × ℕ)) (us : Unfoldeds)
+pub each_occurs_in_some : (sig : Signature) (vars : List (List ℕ × ℕ)) (us : Unfoldeds)
     (ps : Patterns) → vars ≡ with_all_variables sig [] us → AllMean sig vars us ps → (x : ℕ)
     → x < length vars → OccursInSome x ps
-each_stands_in_some sig vars us ps numbered means x lt =
-    none_before x (all_numbered_stand sig [] vars
+each_occurs_in_some sig vars us ps numbered means x lt =
+    none_before x (all_numbered_occur sig [] vars
     (subst (λ (vs : List (List ℕ × ℕ)). Extends vs vars) numbered (extends-refl vars)) means x
     (subst (λ (vs : List (List ℕ × ℕ)). x < length vs) numbered lt))
 
