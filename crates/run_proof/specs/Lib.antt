@@ -2,4 +2,4 @@
 pub mod WrittenProofs
 -- Private: what clauses of private functions cite, and how private fields are seen.
 pub mod ProvedSteps
-pub mod HandedOn
+pub mod WrittenPieces

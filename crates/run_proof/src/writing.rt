@@ -4,7 +4,7 @@ ghost use Rattle.desk_io.specs.Told.{Writes, WritesFront};
 ghost use Rattle.desk_io.specs.Counts.{CountRose};
 ghost use Rattle.rule_core.specs.Runs as the_run;
 ghost use Rattle.run_loop.specs.RunEnds.{plain_run};
-ghost use Rattle.run_proof.specs.HandedOn.{SumsUp, WritesPiece};
+ghost use Rattle.run_proof.specs.WrittenPieces.{SumsUp, WritesPiece};
 
 use crate::steps::{ProofRest, ProvedSteps};
 use crate::summaries::Summary;
