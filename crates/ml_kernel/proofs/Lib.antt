@@ -5,4 +5,4 @@ pub mod RuleLaws
 pub mod StepLaws
 pub mod SpineLaws
 pub mod RenamingLaws
-pub mod PastSteps
+pub mod ErasedSteps

@@ -11,5 +11,5 @@ abbrev pub lemma_theorem : lemma.Inside → Theorem
 lemma_theorem a = record {
   hypotheses = a.hypotheses.items;
   conclusion = a.conclusion;
-  derivation = a.past.derivation;
+  derivation = a.erased.derivation;
 }

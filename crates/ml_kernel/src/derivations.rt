@@ -56,7 +56,7 @@ pub enum DerivStep {
 pub struct Lemma {
     pub(crate) hypotheses: Vec<MPat>,
     pub(crate) conclusion: MPat,
-    pub(crate) past: ErasedDerivation,
+    pub(crate) erased: ErasedDerivation,
 }
 
 impl Model for Deriv {
@@ -179,7 +179,7 @@ impl Lemma {
         Ok(Lemma {
             hypotheses: all_shared(alloc, &self.hypotheses)?,
             conclusion: self.conclusion.share()?,
-            past: self.past.again(),
+            erased: self.erased.again(),
         })
     }
 

@@ -193,7 +193,7 @@ impl Lemma {
         Ok(Lemma {
             hypotheses: thm.hypotheses,
             conclusion: thm.conclusion,
-            past: ErasedDerivation::of(&thm.derivation),
+            erased: ErasedDerivation::of(&thm.derivation),
         })
     }
 }
