@@ -38,7 +38,7 @@ use Rattle.fun_eval.specs.declared.answer.Answer.{Answer}
 use Rattle.fun_eval.specs.declared.answer.Answers.{Answers}
 use Rattle.fun_eval.specs.declared.answer.EvalEnd.{EvalEnd}
 use Rattle.fun_eval.specs.declared.answer.EvalEnd.TheVariants.{Blocked, Memory}
-use Rattle.fun_eval.proofs.Goings.{GoesOn, goes_on-stop}
+use Rattle.fun_eval.proofs.PatternsInTurn.{GoesOn, goes_on-stop}
 use Rattle.fun_eval.proofs.Trials.{TriedUpTo, stopped_at}
 
 -- ---- if an argument stops, the node stops

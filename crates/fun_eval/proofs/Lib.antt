@@ -1,5 +1,5 @@
-pub mod Comings
-pub mod Goings
+pub mod WeakerResults
+pub mod PatternsInTurn
 pub mod Evaluable
 pub mod Values
 pub mod Recordings

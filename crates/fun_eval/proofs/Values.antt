@@ -45,7 +45,7 @@ use Rattle.fun_eval.specs.Equations.{IsDefined, CallsByEquations}
 use Rattle.fun_eval.specs.declared.answer.Answer.{Answer}
 use Rattle.fun_eval.specs.declared.answer.Answers.{Answers}
 use Rattle.fun_eval.specs.declared.answer.EvalEnd.{EvalEnd}
-use Rattle.fun_eval.proofs.Comings.{comes_over}
+use Rattle.fun_eval.proofs.WeakerResults.{comes-weaker}
 
 -- ---- arguments
 
@@ -233,7 +233,7 @@ hook_called : {R : Type 0} (tells : R → Record → Type 0) (all_tell : List R 
     → sort_at [] info.result ≡ Some sort → (r : Result (Answer R × ℕ) EvalEnd)
     → HookGives tells all_tell row sort args k r → Calls tells all_tell theory n f args (suc k) r
 hook_called {R} tells all_tell theory n f row sort k info args i hook at r h =
-    comes_over
+    comes-weaker
     (λ (a : Answer R) (left : ℕ). ((vs : List DomainValue) × (v : DomainValue)
     × AreValues (forest args.terms.items) vs × (hook_value row vs ≡ Some (Ok v))
     × (a.term ≡ leaf sort v)) × (left ≡ k)
@@ -314,7 +314,7 @@ pub equations_call : {R : Type 0} (tells : R → Record → Type 0)
     → c ≡ suc k → (r : Result (Answer R × ℕ) EvalEnd)
     → CallsByEquations tells all_tell theory n f args k r → Calls tells all_tell theory n f args c r
 equations_call {R} tells all_tell theory n f c k info args i is e r h =
-    subst (λ j. Calls tells all_tell theory n f args j r) (sym e) (comes_over
+    subst (λ j. Calls tells all_tell theory n f args j r) (sym e) (comes-weaker
     (λ (a : Answer R) (left : ℕ). Equates theory n f (equations_of theory f)
     (forest args.terms.items) k (value a.term left)
     × IsRecordedCall tells all_tell theory f args a)
@@ -335,7 +335,7 @@ pub called_gives : {R : Type 0} (tells : R → Record → Type 0)
     → (r : Result (Answer R × ℕ) EvalEnd) → Calls tells all_tell theory n f args d r
     → (sorts : List ℕ) → Gives tells theory m theta (call f sorts ps) c r
 called_gives {R} tells all_tell theory n m f c d theta ps args e all recorded r h sorts =
-    subst (λ j. Gives tells theory j theta (call f sorts ps) c r) (sym e) (comes_over
+    subst (λ j. Gives tells theory j theta (call f sorts ps) c r) (sym e) (comes-weaker
     (λ (a : Answer R) (left : ℕ). Applies theory n f (forest args.terms.items) d (value a.term left)
     × IsRecordedCall tells all_tell theory f args a)
     (λ cause. Applies theory n f (forest args.terms.items) d (blocked cause))
@@ -356,7 +356,7 @@ pub constructed_gives : {R : Type 0} (tells : R → Record → Type 0)
     → (r : Result (Answer R × ℕ) EvalEnd) → Constructs tells all_tell f args d r
     → Gives tells theory m theta (application f ps) c r
 constructed_gives {R} tells all_tell theory n m f c d theta ps args e all recorded r h =
-    subst (λ j. Gives tells theory j theta (application f ps) c r) (sym e) (comes_over
+    subst (λ j. Gives tells theory j theta (application f ps) c r) (sym e) (comes-weaker
     (λ (a : Answer R) (left : ℕ). (a.term ≡ node f (forest args.terms.items))
     × (height a.term ≤ most_height) × (left ≡ d)
     × ((rs : RecordList) → all_tell args.records.items rs
@@ -399,7 +399,7 @@ pub injected_gives : {R : Type 0} (tells : R → Record → Type 0) (theory : Re
     → (r : Result (Answer R × ℕ) EvalEnd) → InjectsTo tells f from to below d r
     → Gives tells theory m theta (injection from to p) c r
 injected_gives {R} tells theory n m f from to c d theta p below i e all recorded r h =
-    subst (λ j. Gives tells theory j theta (injection from to p) c r) (sym e) (comes_over
+    subst (λ j. Gives tells theory j theta (injection from to p) c r) (sym e) (comes-weaker
     (λ (a : Answer R) (left : ℕ). (a.term ≡ injected from to below.term)
     × (height a.term ≤ most_height) × (left ≡ d)
     × ((r : Record) → tells below.recorded r
@@ -441,7 +441,7 @@ pub within_gives : {R : Type 0} (tells : R → Record → Type 0) (theory : Rewr
     (theta : List (Option Tree)) (p : Pattern) → m ≡ suc n → (r : Result (Answer R × ℕ) EvalEnd)
     → Gives tells theory n theta p c r → GivesWithin tells theory m f theta p c r
 within_gives {R} tells theory n m f c theta p e r h =
-    subst (λ j. GivesWithin tells theory j f theta p c r) (sym e) (comes_over
+    subst (λ j. GivesWithin tells theory j f theta p c r) (sym e) (comes-weaker
     (λ (a : Answer R) (left : ℕ). Evaluates theory n theta p c (value a.term left)
     × IsRecorded (tells a.recorded) theory theta p a.term)
     (λ cause. Evaluates theory n theta p c (blocked cause))

@@ -27,7 +27,7 @@ use Rattle.fun_eval.specs.Giving.{IsDeclared}
 use Rattle.fun_eval.specs.Equations.{ChoiceSays, IsTriable, Matches, TrialSays}
 use Rattle.fun_eval.specs.declared.equations.Trial.TheVariants.{Unused, Used}
 use Rattle.fun_eval.proofs.Evaluable.{arguments_of-application, arguments_of-call, item_evaluable}
-use Rattle.fun_eval.proofs.Goings.{goes_on-more, goes_on-end}
+use Rattle.fun_eval.proofs.PatternsInTurn.{goes_on-more, goes_on-end}
 use Rattle.fun_eval.proofs.Values.{arguments_callable, defined, hooked_arguments, hooked_result}
 use Rattle.fun_eval.proofs.Values.{hook_calls, equations_call, called_gives, constructed_gives}
 use Rattle.fun_eval.proofs.Values.{injected_gives, within_gives}

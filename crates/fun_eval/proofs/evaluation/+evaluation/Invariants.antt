@@ -4,7 +4,7 @@ use Rattle.term_core.specs.PatternLists.{plain_patterns}
 use Rattle.rule_core.specs.Theories.{equations_of}
 use Rattle.rule_core.specs.ProgramView.{theory_of}
 use Rattle.fun_eval.specs.Giving.{AreRecorded}
-use Rattle.fun_eval.proofs.Goings.{GoesOn}
+use Rattle.fun_eval.proofs.PatternsInTurn.{GoesOn}
 use Rattle.fun_eval.proofs.Trials.{TriedUpTo, UnusedUpTo}
 use Rattle.fun_eval.proofs.evaluation.+evaluation.Given as goal
 

@@ -1,4 +1,4 @@
--- How the evaluation of patterns and the trial of equations continue.
+-- Patterns are evaluated in turn. What the result of the rest says of the result of all.
 use Rattle.std.proofs.Common.{◌≡◌, ℕ, ◌+◌, ◌<◌, ◌≤◌, List, [], ◌∷◌, ◌++◌, length, get_or, drop}
 use Rattle.std.proofs.Common.{Option, refl, sym, ◌∙◌, ap, subst}
 use Rattle.std.proofs.lemmas.List.{drop_more, drop_all}
