@@ -1,4 +1,4 @@
--- Wishes that the tokens of parts fulfil.
+-- Requirements that the tokens of parts meet.
 use Rattle.std.proofs.Common.{◌≡◌, ℕ, zero, suc, Bool, true, ◌&&◌, List, [], ◌∷◌, ◌++◌, refl, sym}
 use Rattle.std.proofs.Common.{subst, nat_le}
 use Rattle.std.proofs.lemmas.Bool.{leb-true}
@@ -22,7 +22,7 @@ place_in (token t p s) (suc k) = place_in s k
 abbrev pub token_places : ℕ → List Part → ℕ → ℕ
 token_places at ps = place_in (tokens_from at ps end)
 
--- ---- wishes
+-- ---- requirements
 
 abbrev first_place : Stream → ℕ
 first_place s = place_in s 0
@@ -32,7 +32,7 @@ rest_of (end n) = end n
 rest_of (fault n) = fault n
 rest_of (token t p s) = s
 
--- the stream with the wished tokens in the place of its own, those that may stand anywhere at its
+-- the stream with the required tokens in the place of its own, those that may stand anywhere at its
 -- own places
 abbrev pub fulfilled : List Requirement → Stream → Stream
 fulfilled [] s = s
@@ -40,7 +40,7 @@ fulfilled (given b ∷ ws) s = fulfilled ws s
 fulfilled (placed p t ∷ ws) s = token t p (fulfilled ws (rest_of s))
 fulfilled (any t ∷ ws) s = token t (first_place s) (fulfilled ws (rest_of s))
 
--- what is left of it after the wishes
+-- what is left of the stream behind them
 abbrev pub left_after : List Requirement → Stream → Stream
 left_after [] s = s
 left_after (given b ∷ ws) s = left_after ws s
@@ -53,7 +53,7 @@ all_hold (given b ∷ ws) = b && all_hold ws
 all_hold (placed p t ∷ ws) = all_hold ws
 all_hold (any t ∷ ws) = all_hold ws
 
--- what is its own fulfilment fulfils the wishes
+-- a stream that already has the required tokens meets the requirements
 pub takes-all : (ws : List Requirement) (s : Stream) → all_hold ws ≡ true → fulfilled ws s ≡ s
     → TakesTokens ws s (left_after ws s)
 takes-all [] s h e = refl
@@ -72,7 +72,7 @@ takes-all (any t ∷ ws) (token u q s) h e =
     let rest : fulfilled ws s ≡ s = cc in
     (same, takes-all ws s h rest)
 
--- one list of wishes after another
+-- one list of requirements after another
 pub takes-both : (ws k : List Requirement) (s m e : Stream) → TakesTokens ws s m → TakesTokens k m e
     → TakesTokens (ws ++ k) s e
 takes-both [] k s m e h g = subst (λ (x : Stream). TakesTokens k x e) (sym h) g

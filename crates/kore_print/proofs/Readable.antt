@@ -20,7 +20,7 @@ use Rattle.kore_print.proofs.TextualStreams.{AllTextual, tokens-textual}
 use Rattle.kore_print.proofs.Unplacing.{sorts-counted, patterns-counted, variable-kept}
 use Rattle.kore_print.proofs.Unplacing.{foldable-kept}
 
--- the same wants, at any places
+-- the same requirements, at any places
 abbrev bare : List Requirement → List Requirement
 bare [] = []
 bare (given b ∷ ws) = given b ∷ bare ws

@@ -1,4 +1,4 @@
--- The wanted tokens of a pattern's spelling, wherever they are, spell the pattern with the places
+-- The required tokens of a pattern's spelling, wherever they are, spell the pattern with the places
 -- of these tokens.
 use Rattle.std.proofs.Common.{◌≡◌, ℕ, Bool, ◌+◌, ◌==◌, ◌&&◌, IsTrue, List, [], ◌∷◌, length, Some}
 use Rattle.std.proofs.Common.{refl, ap, ◌∙◌}
@@ -21,7 +21,7 @@ use Rattle.kore_print.specs.PrintLaws.{CanStand}
 use Rattle.kore_print.proofs.SpelledStreams.{stream_of}
 use Rattle.kore_print.proofs.Unplacing.{sort-counts, pattern-counts, variables, foldables}
 
--- the conditions among the wants hold
+-- the conditions among the requirements hold
 abbrev pub Holds : List Requirement → Type 0
 Holds [] = Unit {0}
 Holds (given b ∷ ws) = IsTrue b × Holds ws
@@ -34,7 +34,8 @@ stand-holds (given b ∷ ws) n h = (h.0, stand-holds ws n h.1)
 stand-holds (placed p t ∷ ws) n h = stand-holds ws _ h.2
 stand-holds (any t ∷ ws) n h = stand-holds ws _ h.2
 
--- the wants of a tree, from a place and before other wants, spell the tree with other places
+-- the requirements of a tree, from a place and before other requirements, spell the tree with other
+-- places
 pub record Settled {T : Type 0} (spell : T → Spelling) (bare : T → T) (x : T) (k : List Requirement)
     (at : ℕ) : Type 0 where
   pub to : T

@@ -1,4 +1,4 @@
--- The tokens of a text that consists of wanted tokens: these tokens, each at its place.
+-- The tokens of a text that consists of required tokens: these tokens, each at its place.
 use Rattle.std.proofs.Common.{◌≡◌, ◌+◌, ℕ, Bool, true, false, List, [], ◌∷◌, ◌++◌, length, drop}
 use Rattle.std.proofs.Common.{refl, ap, ◌∙◌, arith, ◌==◌, ◌&&◌, ◌||◌, not, Some, None}
 use Rattle.std.proofs.lemmas.Bool.Decides.{nat_tests}
@@ -16,14 +16,14 @@ use Rattle.kore_print.specs.PrintLaws.{CanStand, IsTextual}
 use Rattle.kore_lex.proofs.WholePieces.{begins_word, begins_equals}
 use Rattle.kore_print.proofs.TokenPieces.{IsApart, token-cut, behind-token}
 
--- the wanted tokens from a place, each after the text of the tokens before it
+-- the required tokens from a place, each after the text of the tokens before it
 abbrev pub stream_of : ℕ → List Requirement → Stream
 stream_of at [] = end at
 stream_of at (given b ∷ ws) = stream_of at ws
 stream_of at (placed p t ∷ ws) = token t at (stream_of (at + length (token_text t)) ws)
 stream_of at (any t ∷ ws) = token t at (stream_of (at + length (token_text t)) ws)
 
--- the next want is a mark, or there is none
+-- the next required token is a mark, or there is none
 abbrev pub is_marked : List Requirement → Bool
 is_marked [] = true
 is_marked (given b ∷ ws) = is_marked ws
@@ -31,14 +31,14 @@ is_marked (placed p (mark c) ∷ ws) = true
 is_marked (any (mark c) ∷ ws) = true
 is_marked _ = false
 
--- the next want is an identifier
+-- the next required token is an identifier
 abbrev pub is_named : List Requirement → Bool
 is_named (given b ∷ ws) = is_named ws
 is_named (placed p (identifier n) ∷ ws) = true
 is_named (any (identifier n) ∷ ws) = true
 is_named _ = false
 
--- the wants may follow the token
+-- the required tokens may follow the token
 abbrev pub Suits : Token → List Requirement → Type 0
 Suits (identifier n) ws = is_marked ws ≡ true
 Suits (set_identifier n) ws = is_marked ws ≡ true
@@ -128,7 +128,7 @@ one-token t ws whole n at x h s d go =
     token-cut t (text_of ws) whole at x (suits-apart t ws n s h) d
     ∙ ap (token t at) (go i (behind-token t (text_of ws) whole at d))
 
--- the text of wants has the wanted tokens
+-- the text of requirements has the required tokens
 pub spelled-stream : (ws : List Requirement) (whole : List ℕ) (n at : ℕ) → CanStand n ws → Parted ws
     → drop at whole ≡ text_of ws → named whole (lexed at (text_of ws)) ≡ stream_of at ws
 spelled-stream [] whole n at h s d = nothing-left whole at

@@ -138,17 +138,17 @@ tokens_fine : (bytes : List ℕ) → AllFine (4 * length bytes) (tokens_of bytes
 unfolding tokens_of
 tokens_fine bytes = named_fine bytes (lexed 0 bytes) (tokens-textual bytes)
 
--- ---- wanted tokens
+-- ---- required tokens
 
--- the texts in the wanted tokens are fine
-abbrev Wished : ℕ → List Requirement → Type 0
-Wished n [] = Unit {0}
-Wished n (given b ∷ ws) = Wished n ws
-Wished n (any t ∷ ws) = IsFine n t × Wished n ws
-Wished n (placed p t ∷ ws) = IsFine n t × Wished n ws
+-- the texts in the required tokens are fine
+abbrev RequiresFine : ℕ → List Requirement → Type 0
+RequiresFine n [] = Unit {0}
+RequiresFine n (given b ∷ ws) = RequiresFine n ws
+RequiresFine n (any t ∷ ws) = IsFine n t × RequiresFine n ws
+RequiresFine n (placed p t ∷ ws) = IsFine n t × RequiresFine n ws
 
 taken : (n : ℕ) (ws : List Requirement) (s e : Stream) → TakesTokens ws s e → AllFine n s
-    → Wished n ws
+    → RequiresFine n ws
 taken n [] s e h a = tt
 taken n (given b ∷ ws) s e h a = taken n ws s e h.1 a
 taken n (any u ∷ ws) (end x) e h a = absurd h
@@ -175,26 +175,26 @@ abbrev mutual
   AllTexts n (pattern_then p ps) = Texts n p × AllTexts n ps
 
 mutual
-  sort_behind : (n : ℕ) (t : SortTree) (k : List Requirement) → Wished n (spell_sort t k)
-      → Wished n k
+  sort_behind : (n : ℕ) (t : SortTree) (k : List Requirement) → RequiresFine n (spell_sort t k)
+      → RequiresFine n k
   sort_behind n (sort_parameter at x) k h = h.1
   sort_behind n (sort_applied at x ss) k h = sorts_behind n ss 125 k h.1.1
 
   sorts_behind : (n : ℕ) (ss : SortTrees) (c : ℕ) (k : List Requirement)
-      → Wished n (listed (spell_sorts ss) c k) → Wished n k
+      → RequiresFine n (listed (spell_sorts ss) c k) → RequiresFine n k
   sorts_behind n no_sorts c k h = h.1
   sorts_behind n (sort_then s ss) c k h =
       more_sorts_behind n ss c k (sort_behind n s (more_listed (spell_sorts ss) c k) h)
 
   more_sorts_behind : (n : ℕ) (ss : SortTrees) (c : ℕ) (k : List Requirement)
-      → Wished n (more_listed (spell_sorts ss) c k) → Wished n k
+      → RequiresFine n (more_listed (spell_sorts ss) c k) → RequiresFine n k
   more_sorts_behind n no_sorts c k h = h.1
   more_sorts_behind n (sort_then s ss) c k h =
       more_sorts_behind n ss c k (sort_behind n s (more_listed (spell_sorts ss) c k) h.1)
 
 mutual
   pattern_behind : (n : ℕ) (b : Bool) (p : PatternTree) (k : List Requirement)
-      → Wished n (spell_pattern b p k) → Texts n p × Wished n k
+      → RequiresFine n (spell_pattern b p k) → Texts n p × RequiresFine n k
   pattern_behind n b (element_variable at x s) k h = (tt, sort_behind n s k h.1.1)
   pattern_behind n b (set_variable at x s) k h = (tt, sort_behind n s k h.1.1)
   pattern_behind n b (string at t) k h = (h.0, h.1)
@@ -224,14 +224,14 @@ mutual
       let body = pattern_behind n b p (any (mark 41) ∷ k) h.1.1.1.1 in (tt, body.1.1)
 
   patterns_behind : (n : ℕ) (b : Bool) (ps : PatternTrees) (k : List Requirement)
-      → Wished n (listed (spell_patterns b ps) 41 k) → AllTexts n ps × Wished n k
+      → RequiresFine n (listed (spell_patterns b ps) 41 k) → AllTexts n ps × RequiresFine n k
   patterns_behind n b no_patterns k h = (tt, h.1)
   patterns_behind n b (pattern_then p ps) k h =
       let one = pattern_behind n b p (more_listed (spell_patterns b ps) 41 k) h in
       let rest = more_patterns_behind n b ps k one.1 in ((one.0, rest.0), rest.1)
 
   more_patterns_behind : (n : ℕ) (b : Bool) (ps : PatternTrees) (k : List Requirement)
-      → Wished n (more_listed (spell_patterns b ps) 41 k) → AllTexts n ps × Wished n k
+      → RequiresFine n (more_listed (spell_patterns b ps) 41 k) → AllTexts n ps × RequiresFine n k
   more_patterns_behind n b no_patterns k h = (tt, h.1)
   more_patterns_behind n b (pattern_then p ps) k h =
       let one = pattern_behind n b p (more_listed (spell_patterns b ps) 41 k) h.1 in
@@ -245,54 +245,55 @@ AllOf P (t ∷ ts) = P t × AllOf P ts
 
 -- if the tokens that spell a thing are fine, P holds for the thing
 abbrev Tells : {T : Type 0} → ℕ → (T → Spelling) → (T → Type 0) → Type 0
-Tells {T} n spell P = (t : T) (k : List Requirement) → Wished n (spell t k) → P t × Wished n k
+Tells {T} n spell P =
+    (t : T) (k : List Requirement) → RequiresFine n (spell t k) → P t × RequiresFine n k
 
 more_tells : {T : Type 0} (n : ℕ) (spell : T → Spelling) (P : T → Type 0) → Tells n spell P
-    → (ts : List T) (c : ℕ) (k : List Requirement) → Wished n (more_listed (map spell ts) c k)
-    → AllOf P ts × Wished n k
+    → (ts : List T) (c : ℕ) (k : List Requirement) → RequiresFine n (more_listed (map spell ts) c k)
+    → AllOf P ts × RequiresFine n k
 more_tells n spell P each [] c k h = (tt, h.1)
 more_tells n spell P each (t ∷ ts) c k h =
     let one = each t (more_listed (map spell ts) c k) h.1 in
     let rest = more_tells n spell P each ts c k one.1 in ((one.0, rest.0), rest.1)
 
 list_tells : {T : Type 0} (n : ℕ) (spell : T → Spelling) (P : T → Type 0) → Tells n spell P
-    → (ts : List T) (c : ℕ) (k : List Requirement) → Wished n (listed (map spell ts) c k)
-    → AllOf P ts × Wished n k
+    → (ts : List T) (c : ℕ) (k : List Requirement) → RequiresFine n (listed (map spell ts) c k)
+    → AllOf P ts × RequiresFine n k
 list_tells n spell P each [] c k h = (tt, h.1)
 list_tells n spell P each (t ∷ ts) c k h =
     let one = each t (more_listed (map spell ts) c k) h in
     let rest = more_tells n spell P each ts c k one.1 in ((one.0, rest.0), rest.1)
 
 order_tells : {T : Type 0} (n : ℕ) (spell : T → Spelling) (P : T → Type 0) → Tells n spell P
-    → (ts : List T) (k : List Requirement) → Wished n (in_order (map spell ts) k)
-    → AllOf P ts × Wished n k
+    → (ts : List T) (k : List Requirement) → RequiresFine n (in_order (map spell ts) k)
+    → AllOf P ts × RequiresFine n k
 order_tells n spell P each [] k h = (tt, h)
 order_tells n spell P each (t ∷ ts) k h =
     let one = each t (in_order (map spell ts) k) h in
     let rest = order_tells n spell P each ts k one.1 in ((one.0, rest.0), rest.1)
 
 sort_list_behind : (n : ℕ) (ss : List SortTree) (c : ℕ) (k : List Requirement)
-    → Wished n (listed (map spell_sort ss) c k) → Wished n k
+    → RequiresFine n (listed (map spell_sort ss) c k) → RequiresFine n k
 sort_list_behind n ss c k h =
     (list_tells n spell_sort (λ (s : SortTree). Unit {0}) (λ s j w. (tt, sort_behind n s j w)) ss c
     k h).1
 
 pattern_list_behind : (n : ℕ) (b : Bool) (ps : List PatternTree) (c : ℕ) (k : List Requirement)
-    → Wished n (listed (map (spell_pattern b) ps) c k) → AllOf (Texts n) ps × Wished n k
+    → RequiresFine n (listed (map (spell_pattern b) ps) c k) → AllOf (Texts n) ps × RequiresFine n k
 pattern_list_behind n b ps c k h =
     list_tells n (spell_pattern b) (Texts n) (λ p j w. pattern_behind n b p j w) ps c k h
 
-names_behind : (n : ℕ) (ns : List (List ℕ)) (k : List Requirement) → Wished n (spell_names ns k)
-    → Wished n k
+names_behind : (n : ℕ) (ns : List (List ℕ)) (k : List Requirement)
+    → RequiresFine n (spell_names ns k) → RequiresFine n k
 names_behind n ns k h =
     (list_tells n spell_name (λ (x : List ℕ). Unit {0}) (λ x j w. (tt, w.1)) ns 125 k h.1).1
 
 attributes_behind : (n : ℕ) (ps : List PatternTree) (k : List Requirement)
-    → Wished n (spell_attributes ps k) → AllOf (Texts n) ps × Wished n k
+    → RequiresFine n (spell_attributes ps k) → AllOf (Texts n) ps × RequiresFine n k
 attributes_behind n ps k h = pattern_list_behind n true ps 93 k h.1
 
 signature_behind : (n : ℕ) (args : List SortTree) (result : SortTree) (k : List Requirement)
-    → Wished n (spell_signature args result k) → Wished n k
+    → RequiresFine n (spell_signature args result k) → RequiresFine n k
 signature_behind n args result k h =
     sort_behind n result k (sort_list_behind n args 41 (any (mark 58) ∷ spell_sort result k) h.1).1
 
@@ -308,7 +309,7 @@ IsFineDeclaration n (axiom_declaration d) = Unit {0}
 IsFineDeclaration n (claim_declaration d) = Unit {0}
 
 alias_behind : (n : ℕ) (d : AliasDeclaration) (k : List Requirement)
-    → Wished n (spell_declaration (alias_declaration d) k) → Wished n k
+    → RequiresFine n (spell_declaration (alias_declaration d) k) → RequiresFine n k
 alias_behind n d k h =
     let params = names_behind n d.params _ h.1.1 in
     let signature = signature_behind n d.args d.result _ params in
@@ -318,7 +319,7 @@ alias_behind n d k h =
     (attributes_behind n d.attributes k body.1).1
 
 statement_behind : (n : ℕ) (d : AxiomDeclaration) (k : List Requirement)
-    → Wished n (spell_statement d k) → Wished n k
+    → RequiresFine n (spell_statement d k) → RequiresFine n k
 statement_behind n d k h =
     let params =
     names_behind n d.params (spell_pattern false d.pattern (spell_attributes d.attributes k))

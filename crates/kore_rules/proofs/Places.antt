@@ -83,9 +83,9 @@ unfolding tokens_of
 tokens-stand law bytes =
     covered-stand bytes 0 (length bytes) bytes (lexed 0 bytes) (omega arith) (law bytes)
 
--- ---- wanted tokens
+-- ---- required tokens
 
--- the wanted tokens that have places are at increasing places
+-- the required tokens that have places are at increasing places
 abbrev Rising : ℕ → ℕ → List Requirement → Type 0
 Rising low high [] = low ≤ high
 Rising low high (given b ∷ ws) = Rising low high ws
@@ -471,12 +471,12 @@ pub axioms-rise : TokensCover → (bytes : List ℕ) (d : DefinitionTree) → Re
     → Rise (λ n. Unit {0}) (length bytes) 0 (axioms_of d)
 axioms-rise law bytes d reads =
     let high = length bytes in
-    let wished : Rising 0 high (spell_definition d []) =
+    let required : Rising 0 high (spell_definition d []) =
     taken 0 high (spell_definition d []) (tokens_of bytes) (end reads.1.0) reads.1.1
     (tokens-stand law bytes) in
     rise-then (λ n. Rising n high []) (λ n. Unit {0}) high 0 (axioms_of d) (λ n r. tt)
     (modules-rise d.modules 0 high [] ((attributes-skip d.attributes).skip 0 high
-    (in_order (map spell_module d.modules) []) wished))
+    (in_order (map spell_module d.modules) []) required))
 
 -- ---- what follows
 

@@ -49,13 +49,13 @@ name-goes n w s e h =
     by-token symbol.Name [] (identifier n) w w s e refl (λ k. name-step k n) h (λ q x. done w q e x)
 
 -- the first token that is required is no mark
-abbrev pub wants_plain : List Requirement → Bool
-wants_plain [] = false
-wants_plain (given b ∷ ws) = wants_plain ws
-wants_plain (any t ∷ ws) = is_plain t
-wants_plain (placed p t ∷ ws) = is_plain t
+abbrev pub requires_plain : List Requirement → Bool
+requires_plain [] = false
+requires_plain (given b ∷ ws) = requires_plain ws
+requires_plain (any t ∷ ws) = is_plain t
+requires_plain (placed p t ∷ ws) = is_plain t
 
-pub plain-first : (ws : List Requirement) (s e : Stream) → wants_plain ws ≡ true
+pub plain-first : (ws : List Requirement) (s e : Stream) → requires_plain ws ≡ true
     → TakesTokens ws s e → IsPlain s
 plain-first [] s e i h = let z : ⊥ = cc in absurd z
 plain-first (given b ∷ ws) s e i h = plain-first ws s e i h.1

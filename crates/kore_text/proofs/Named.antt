@@ -76,13 +76,13 @@ unfolding tokens_of
 tokens-named law bytes = named-are-named bytes (lexed 0 bytes) (law bytes)
 
 -- the names in the requirements are identifiers
-abbrev Wished : List Requirement → Type 0
-Wished [] = Unit {0}
-Wished (given b ∷ ws) = Wished ws
-Wished (any t ∷ ws) = IsNamed t × Wished ws
-Wished (placed p t ∷ ws) = IsNamed t × Wished ws
+abbrev RequiresNamed : List Requirement → Type 0
+RequiresNamed [] = Unit {0}
+RequiresNamed (given b ∷ ws) = RequiresNamed ws
+RequiresNamed (any t ∷ ws) = IsNamed t × RequiresNamed ws
+RequiresNamed (placed p t ∷ ws) = IsNamed t × RequiresNamed ws
 
-taken : (ws : List Requirement) (s e : Stream) → TakesTokens ws s e → AreNamed s → Wished ws
+taken : (ws : List Requirement) (s e : Stream) → TakesTokens ws s e → AreNamed s → RequiresNamed ws
 taken [] s e h a = tt
 taken (given b ∷ ws) s e h a = taken ws s e h.1 a
 taken (any u ∷ ws) (end x) e h a = absurd h
@@ -94,11 +94,13 @@ taken (placed q u ∷ ws) (token t p s) e h a = (subst IsNamed h.0 a.0, taken ws
 
 -- a thing with this spelling has names that are identifiers
 record Tells (f : Spelling) (P : Type 0) : Type 0 where
-  pub told : (k : List Requirement) → Wished (f k) → P × Wished k
+  pub told : (k : List Requirement) → RequiresNamed (f k) → P × RequiresNamed k
 
 record TellsAll (fs : List Spelling) (P : Type 0) : Type 0 where
-  pub first : (close : ℕ) (k : List Requirement) → Wished (listed fs close k) → P × Wished k
-  pub further : (close : ℕ) (k : List Requirement) → Wished (more_listed fs close k) → P × Wished k
+  pub first : (close : ℕ) (k : List Requirement) → RequiresNamed (listed fs close k)
+      → P × RequiresNamed k
+  pub further : (close : ℕ) (k : List Requirement) → RequiresNamed (more_listed fs close k)
+      → P × RequiresNamed k
 
 none-tells : {P : Type 0} → P → TellsAll [] P
 none-tells p = record { first = λ close k h. (p, h.1); further = λ close k h. (p, h.1) }
@@ -123,7 +125,7 @@ list-tells spell P each (t ∷ ts) =
 
 order-tells : {T : Type 0} (spell : T → Spelling) (P : T → Type 0)
     → ((t : T) → Tells (spell t) (P t)) → (ts : List T) (k : List Requirement)
-    → Wished (in_order (map spell ts) k) → All P ts × Wished k
+    → RequiresNamed (in_order (map spell ts) k) → All P ts × RequiresNamed k
 order-tells spell P each [] k h = (All-nil P, h)
 order-tells spell P each (t ∷ ts) k h =
     let r = (each t).told (in_order (map spell ts) k) h in
@@ -144,8 +146,8 @@ mutual
       (sorts-tell ss)
 
 applied-tells : {P : Type 0} (at : ℕ) (t : Token) (ss : SortTrees) (ps : List Spelling)
-    → TellsAll ps P → (k : List Requirement) → Wished (spell_applied at t ss ps k)
-    → IsNamed t × AreNamedSorts ss × P × Wished k
+    → TellsAll ps P → (k : List Requirement) → RequiresNamed (spell_applied at t ss ps k)
+    → IsNamed t × AreNamedSorts ss × P × RequiresNamed k
 applied-tells at t ss ps q k h =
     let sorts = (sorts-tell ss).first 125 (any (mark 40) ∷ listed ps 41 k) h.1.1 in
     let args = q.first 41 k sorts.1.1 in (h.0, sorts.0, args.0, args.1)
@@ -207,12 +209,12 @@ mutual
 name-tells : (n : List ℕ) → Tells (spell_name n) (IsName n)
 name-tells n = record { told = λ k h. (h.0, h.1) }
 
-names-tell : (ns : List (List ℕ)) (k : List Requirement) → Wished (spell_names ns k)
-    → All IsName ns × Wished k
+names-tell : (ns : List (List ℕ)) (k : List Requirement) → RequiresNamed (spell_names ns k)
+    → All IsName ns × RequiresNamed k
 names-tell ns k h = (list-tells spell_name IsName name-tells ns).first 125 k h.1
 
-attributes-tell : (ps : List PatternTree) (k : List Requirement) → Wished (spell_attributes ps k)
-    → All IsNamedPattern ps × Wished k
+attributes-tell : (ps : List PatternTree) (k : List Requirement)
+    → RequiresNamed (spell_attributes ps k) → All IsNamedPattern ps × RequiresNamed k
 attributes-tell ps k h =
     (list-tells (spell_pattern true) IsNamedPattern (pattern-tells true) ps).first 93 k h.1
 
@@ -220,13 +222,14 @@ sort-list-tells : (ss : List SortTree) → TellsAll (map spell_sort ss) (All IsN
 sort-list-tells ss = list-tells spell_sort IsNamedSort sort-tells ss
 
 signature-tells : (args : List SortTree) (result : SortTree) (k : List Requirement)
-    → Wished (spell_signature args result k) → All IsNamedSort args × IsNamedSort result × Wished k
+    → RequiresNamed (spell_signature args result k)
+    → All IsNamedSort args × IsNamedSort result × RequiresNamed k
 signature-tells args result k h =
     let a = (sort-list-tells args).first 41 (any (mark 58) ∷ spell_sort result k) h.1 in
     let r = (sort-tells result).told k a.1.1 in (a.0, r.0, r.1)
 
 alias-tells : (d : AliasDeclaration) (k : List Requirement)
-    → Wished (spell_declaration (alias_declaration d) k) → IsNamedAlias d × Wished k
+    → RequiresNamed (spell_declaration (alias_declaration d) k) → IsNamedAlias d × RequiresNamed k
 alias-tells d k h =
     let params = names-tell d.params _ h.1.1 in
     let signature = signature-tells d.args d.result _ params.1 in
@@ -250,8 +253,8 @@ alias-tells d k h =
       attributes.1,
     )
 
-statement-tells : (d : AxiomDeclaration) (k : List Requirement) → Wished (spell_statement d k)
-    → IsNamedAxiom d × Wished k
+statement-tells : (d : AxiomDeclaration) (k : List Requirement)
+    → RequiresNamed (spell_statement d k) → IsNamedAxiom d × RequiresNamed k
 statement-tells d k h =
     let params =
     names-tell d.params (spell_pattern false d.pattern (spell_attributes d.attributes k)) h in
@@ -259,8 +262,8 @@ statement-tells d k h =
     let attributes = attributes-tell d.attributes k pattern.1 in
     (record { params = params.0; pattern = pattern.0; attributes = attributes.0 }, attributes.1)
 
-declared : (d : Declaration) (k : List Requirement) → Wished (spell_declaration d k)
-    → IsNamedDeclaration d × Wished k
+declared : (d : Declaration) (k : List Requirement) → RequiresNamed (spell_declaration d k)
+    → IsNamedDeclaration d × RequiresNamed k
 declared (import_declaration d) k h =
     let attributes = attributes-tell d.attributes k h.1.1 in
     (record { name = h.1.0; attributes = attributes.0 }, attributes.1)
