@@ -1,6 +1,5 @@
 -- The trees that the lines of a drill spell, by the places of their tokens: the place of the token
--- with this number in
--- its line.
+-- with this number in its line.
 use Rattle.std.proofs.Common.{◌+◌, ℕ, true, false, List, [], ◌∷◌, codes}
 use Rattle.std.specs.Fmt.{decimal}
 use Rattle.kore_text.specs.declared.names.Op.TheVariants as op
