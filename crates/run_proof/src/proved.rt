@@ -27,8 +27,9 @@ use term_core::RulePat;
 /// database, perhaps of a shorter run, or nothing was appended.
 ///
 /// The text of a step grows with the configurations that it names, at most with the square of their
-/// sizes, and with the calls of functions that it makes. Memory holds the text of one step, less
-/// than 64 KiB of text before it, and the records of what the step evaluated.
+/// sizes, and with the calls of functions that it makes. Memory holds the text of one step, at
+/// most 64 KiB of text before it, and the records of what the step evaluated. Until the first
+/// step is proved, it holds all the text up to the value of the initial term too.
 pub fn proved_run<'p, D: Desk>(
     alloc: Global,
     desk: &mut D,
