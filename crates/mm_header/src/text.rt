@@ -10,7 +10,7 @@ use crate::declarations::{CONSTANTS, HeaderVariable, VARIABLE_NAMES, variables};
 use crate::rows::{HeaderRow, table};
 use std::alloc::{AllocError, Global};
 
-/// Adds the text of the header, 5,968 bytes, to a text. AllocError: out of memory; then the text
+/// Adds the text of the header, 5,968 bytes, to a text. `AllocError`: out of memory; then the text
 /// stays as it was.
 pub fn header_text(to: &mut Vec<u8>) -> Result<(), AllocError>
     ensures text { OnOk result (to.new.items ≡ to.old.items ++ header_bytes) }

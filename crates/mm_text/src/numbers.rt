@@ -32,8 +32,8 @@ pub fn read_number(letters: &[u8]) -> Option<u64>
     None
 }
 
-/// Appends the only spelling of a number from 1 to 2^63. AllocError: out of memory; then nothing is
-/// appended.
+/// Appends the only spelling of a number from 1 to 2^63. `AllocError`: out of memory; then nothing
+/// is appended.
 pub fn push_number(n: u64, to: &mut Vec<u8>) -> Result<(), AllocError>
     requires some { 1 ≤ n }
     requires within { n ≤ 2 ^ 63 }
