@@ -7,9 +7,9 @@ use kore_rules::acceptance_laws;
 use kore_sig::signature_laws;
 use std::alloc::Global;
 
-/// Does nothing when it runs: a caller learns by it that the definition of a drill of at most a
-/// thousand steps is accepted, and its term as a term of that, so that neither is refused. The
-/// allocator is never asked; `acceptance_laws` says why it is wanted.
+/// Has no effect at run time. It states that the definition of a drill of at most a thousand steps
+/// is accepted, and its term as a term of that, so that neither is refused. The allocator is never
+/// asked; `acceptance_laws` says why it is wanted.
 pub fn drill_acceptance_laws(alloc: Global)
     ensures definition { DrillIsAccepted }
     ensures term { DrillTermIsAccepted }
