@@ -66,8 +66,8 @@ CompletesVerdict words c code =
     → (CountRose c.writes c.writes' → ⊥) →
     (code ≡ 0) ⊎ (code ≡ 12) ⊎ (code ≡ 1)
 
--- with the words of a drill the call comes to it, or memory ran out, or a fault was counted as its
--- file or the output was written
+-- with the words of a drill the call makes the drill, or memory ran out, or a fault was counted as
+-- its file or the output was written
 abbrev pub CompletesDrill : List (List ℕ) → IoState → ℕ → Type 0
 CompletesDrill words c code =
     (asked : DrillRequest) → IsDrill words asked →

@@ -16,8 +16,8 @@ pub struct Io<D: Desk, O: Sink, E: Sink> {
     pub err: E,
 }
 
-/// Does what the words ask for on this io, as `kore_main` states, and returns the exit code of
-/// its status.
+/// Does what the words ask for with this desk and these streams, as `kore_main` states, and returns
+/// the exit code of its status.
 pub fn exit_of_call<D: Desk, O: Sink, E: Sink>(
     alloc: Global,
     words: &[String],
