@@ -1,16 +1,17 @@
 -- The answers for the arguments of a constructor, one after another.
-use Rattle.std.proofs.Common.{◌≡◌, ◌<◌, ◌≤◌, ◌+◌, ℕ, Some, None, length, drop, ap, sym, ◌∙◌, subst}
-use Rattle.std.proofs.Common.{arith}
+use Rattle.std.proofs.Common.{◌≡◌, ◌<◌, ◌≤◌, ◌+◌, ℕ, List, Some, None, length, drop, ap, sym, ◌∙◌}
+use Rattle.std.proofs.Common.{subst, arith}
 use Rattle.ml_pat.specs.Patterns.{Pattern}
 use Rattle.ml_kernel.specs.Lemmas.{HasNoVariable}
 use Rattle.term_core.specs.RulePatterns.{plain_pattern}
 use Rattle.term_core.specs.PatternLists.{plain_patterns}
+use Rattle.term_core.specs.declared.rule_patterns.RulePat.{RulePat}
 use Rattle.term_core.proofs.PatternLaws.{depth, depths, depth_of-item}
 use Rattle.rule_core.specs.WellSorted.{IsSignature}
 use Rattle.rule_core.specs.declared.rules.Program.{Program}
+use Rattle.rule_core.specs.declared.signature.Signature.{Signature}
 use Rattle.ml_image.specs.Images.{image_of}
 use Rattle.ml_image.specs.Sentences.{term}
-use Rattle.prove_term.specs.Schemas.{AreImages}
 use Rattle.prove_term.specs.Applications.{applied_to}
 use Rattle.prove_term.specs.Comparing.{IsMade, AreMade, IsOverContext}
 use Rattle.prove_term.specs.Contexts.{HasGrown}
@@ -22,6 +23,36 @@ use Rattle.prove_term.proofs.ComparingLoop.{left_applied, none_left, next_patter
 use Rattle.prove_term.proofs.ComparingLaws.{as_many_made, as_many_images, image_item}
 use Rattle.prove_term.proofs.ElementLaws.{images_grown}
 use Rattle.prove_term.proofs.comparing.+compared.Goals as goal
+use Rattle.prove_term.proofs.comparing.+compared.Goals.{all_compared-After-index-wholes-i}
+
+as_many : (sig : Signature) (args ws : List RulePat)
+    → AreMade sig (plain_patterns args) (plain_patterns ws) → length args ≡ length ws
+as_many sig args ws made = as_many_made made.1 args ws made.3 made.4.make made.5
+
+-- the term that the argument at hand becomes has this image
+image_there : (t : ℕ) (c : all_compared-After-index-wholes-i t)
+    → image_of c.loop-i.cx.program.sig c.loop-i.cx.names (plain_pattern c.index-wholes-i.result)
+    ≡ Some c.index-images-i.result
+image_there t c =
+    image_item c.loop-i.cx.program.sig c.loop-i.cx.names c.args.wholes.now c.args.images.now
+    c.loop-i.i c.index-wholes-i.result c.index-images-i.result
+    (images_grown c.args.cx.now c.loop-i.cx (plain_patterns c.args.wholes.now) c.args.images.now
+    c.loop-i.invariant.grown c.requires.images) (omega (
+      arith,
+      c.loop-i-test.true,
+      as_many c.args.cx.now.program.sig c.args.args.now c.args.wholes.now c.requires.made,
+    ))
+    c.index-wholes-i.is c.index-images-i.is
+
+one_made : (t : ℕ) (c : all_compared-After-index-wholes-i t)
+    → IsMade c.loop-i.cx.program.sig (plain_pattern c.index-args-i.result)
+    (plain_pattern c.index-wholes-i.result)
+one_made t c =
+    made_again c.args.cx.now c.loop-i.cx (plain_pattern c.index-args-i.result)
+    (plain_pattern c.index-wholes-i.result) c.loop-i.invariant.grown
+    (made_item c.args.cx.now.program.sig c.args.args.now c.args.wholes.now c.loop-i.i
+    c.index-args-i.result c.index-wholes-i.result c.requires.made c.loop-i-test.true
+    c.index-args-i.is c.index-wholes-i.is)
 
 pub all_compared-loop-i-init : goal.all_compared-loop-i-init
 all_compared-loop-i-init t c = record {
@@ -37,61 +68,35 @@ all_compared-loop-i-init t c = record {
 
 pub all_compared-bounds-images-i : goal.all_compared-bounds-images-i
 all_compared-bounds-images-i t c =
-    let made : AreMade c.args.cx.now.program.sig (plain_patterns c.args.args.now)
-    (plain_patterns c.args.wholes.now) =
-    c.requires.made in
-    let many : length c.args.args.now ≡ length c.args.wholes.now =
-    as_many_made made.1 c.args.args.now c.args.wholes.now made.3 made.4.make made.5 in
     omega (
       arith,
       c.loop-i-test.true,
-      many,
+      as_many c.args.cx.now.program.sig c.args.args.now c.args.wholes.now c.requires.made,
       as_many_images c.args.cx.now.program.sig c.args.cx.now.names c.args.wholes.now
           c.args.images.now c.requires.images,
     )
 
 pub all_compared-bounds-wholes-i : goal.all_compared-bounds-wholes-i
 all_compared-bounds-wholes-i t c =
-    let made : AreMade c.args.cx.now.program.sig (plain_patterns c.args.args.now)
-    (plain_patterns c.args.wholes.now) =
-    c.requires.made in
-    let many : length c.args.args.now ≡ length c.args.wholes.now =
-    as_many_made made.1 c.args.args.now c.args.wholes.now made.3 made.4.make made.5 in
-    omega (arith, c.loop-i-test.true, many)
+    omega (
+      arith,
+      c.loop-i-test.true,
+      as_many c.args.cx.now.program.sig c.args.args.now c.args.wholes.now c.requires.made,
+    )
 
 pub all_compared-compared-requires : goal.all_compared-compared-requires
 all_compared-compared-requires t c =
-    let low : c.loop-i.i < length c.args.args.now = c.loop-i-test.true in
-    let made : AreMade c.args.cx.now.program.sig (plain_patterns c.args.args.now)
-    (plain_patterns c.args.wholes.now) =
-    c.requires.made in
-    let many : length c.args.args.now ≡ length c.args.wholes.now =
-    as_many_made made.1 c.args.args.now c.args.wholes.now made.3 made.4.make made.5 in
-    let images : AreImages c.loop-i.cx.program.sig c.loop-i.cx.names
-    (plain_patterns c.args.wholes.now) c.args.images.now =
-    images_grown c.args.cx.now c.loop-i.cx (plain_patterns c.args.wholes.now) c.args.images.now
-    c.loop-i.invariant.grown c.requires.images in
-    let image : image_of c.loop-i.cx.program.sig c.loop-i.cx.names
-    (plain_pattern c.index-wholes-i.result) ≡ Some c.index-images-i.result =
-    image_item c.loop-i.cx.program.sig c.loop-i.cx.names c.args.wholes.now c.args.images.now
-    c.loop-i.i c.index-wholes-i.result c.index-images-i.result images (omega (arith, low, many))
-    c.index-wholes-i.is c.index-images-i.is in
-    let one : IsMade c.loop-i.cx.program.sig (plain_pattern c.index-args-i.result)
-    (plain_pattern c.index-wholes-i.result) =
-    made_again c.args.cx.now c.loop-i.cx (plain_pattern c.index-args-i.result)
-    (plain_pattern c.index-wholes-i.result) c.loop-i.invariant.grown
-    (made_item c.args.cx.now.program.sig c.args.args.now c.args.wholes.now c.loop-i.i
-    c.index-args-i.result c.index-wholes-i.result made low c.index-args-i.is
-    c.index-wholes-i.is) in
+    let at = (goal.at.all_compared-compared-requires t c).After-index-wholes-i in
     let high : depth (plain_pattern c.index-args-i.result) ≤ depths
     (plain_patterns c.args.args.now) =
-    depth_of-item c.args.args.now c.loop-i.i c.index-args-i.result c.index-args-i.is low in (
+    depth_of-item c.args.args.now c.loop-i.i c.index-args-i.result c.index-args-i.is
+    c.loop-i-test.true in (
       omega (arith, high, c.decreases),
       (
         subst (λ (program : Program). IsSignature program.sig)
             (sym c.loop-i.invariant.grown.program)
             c.requires.signature,
-        (one, image),
+        (one_made t at, image_there t at),
       ),
     )
 
@@ -107,95 +112,35 @@ all_compared-applied-requires-clause-function t c =
 pub all_compared-applied-requires-clause-argument :
     goal.all_compared-applied-requires-clause-argument
 all_compared-applied-requires-clause-argument t c =
-    let low : c.loop-i.i < length c.args.args.now = c.loop-i-test.true in
-    let made : AreMade c.args.cx.now.program.sig (plain_patterns c.args.args.now)
-    (plain_patterns c.args.wholes.now) =
-    c.requires.made in
-    let many : length c.args.args.now ≡ length c.args.wholes.now =
-    as_many_made made.1 c.args.args.now c.args.wholes.now made.3 made.4.make made.5 in
-    let images : AreImages c.loop-i.cx.program.sig c.loop-i.cx.names
-    (plain_patterns c.args.wholes.now) c.args.images.now =
-    images_grown c.args.cx.now c.loop-i.cx (plain_patterns c.args.wholes.now) c.args.images.now
-    c.loop-i.invariant.grown c.requires.images in
-    let image : image_of c.loop-i.cx.program.sig c.loop-i.cx.names
-    (plain_pattern c.index-wholes-i.result) ≡ Some c.index-images-i.result =
-    image_item c.loop-i.cx.program.sig c.loop-i.cx.names c.args.wholes.now c.args.images.now
-    c.loop-i.i c.index-wholes-i.result c.index-images-i.result images (omega (arith, low, many))
-    c.index-wholes-i.is c.index-images-i.is in
-    let one : IsMade c.loop-i.cx.program.sig (plain_pattern c.index-args-i.result)
-    (plain_pattern c.index-wholes-i.result) =
-    made_again c.args.cx.now c.loop-i.cx (plain_pattern c.index-args-i.result)
-    (plain_pattern c.index-wholes-i.result) c.loop-i.invariant.grown
-    (made_item c.args.cx.now.program.sig c.args.args.now c.args.wholes.now c.loop-i.i
-    c.index-args-i.result c.index-wholes-i.result made low c.index-args-i.is
-    c.index-wholes-i.is) in
+    let at = (goal.at.all_compared-applied-requires-clause-argument t c).After-index-wholes-i in
     compared_says c.compared.new.cx (plain_pattern c.index-args-i.result)
     (plain_pattern c.index-wholes-i.result) c.index-images-i.result c.in_ok-one.one
     (made_again c.loop-i.cx c.compared.new.cx (plain_pattern c.index-args-i.result)
-    (plain_pattern c.index-wholes-i.result) c.in_ok-one.ensures.grown one)
+    (plain_pattern c.index-wholes-i.result) c.in_ok-one.ensures.grown (one_made t at))
     c.in_ok-one.ensures.says
 
 pub all_compared-applied-requires-clause-closed : goal.all_compared-applied-requires-clause-closed
 all_compared-applied-requires-clause-closed t c =
-    let low : c.loop-i.i < length c.args.args.now = c.loop-i-test.true in
-    let made : AreMade c.args.cx.now.program.sig (plain_patterns c.args.args.now)
-    (plain_patterns c.args.wholes.now) =
-    c.requires.made in
-    let many : length c.args.args.now ≡ length c.args.wholes.now =
-    as_many_made made.1 c.args.args.now c.args.wholes.now made.3 made.4.make made.5 in
-    let images : AreImages c.loop-i.cx.program.sig c.loop-i.cx.names
-    (plain_patterns c.args.wholes.now) c.args.images.now =
-    images_grown c.args.cx.now c.loop-i.cx (plain_patterns c.args.wholes.now) c.args.images.now
-    c.loop-i.invariant.grown c.requires.images in
-    let image : image_of c.loop-i.cx.program.sig c.loop-i.cx.names
-    (plain_pattern c.index-wholes-i.result) ≡ Some c.index-images-i.result =
-    image_item c.loop-i.cx.program.sig c.loop-i.cx.names c.args.wholes.now c.args.images.now
-    c.loop-i.i c.index-wholes-i.result c.index-images-i.result images (omega (arith, low, many))
-    c.index-wholes-i.is c.index-images-i.is in
-    let one : IsMade c.loop-i.cx.program.sig (plain_pattern c.index-args-i.result)
-    (plain_pattern c.index-wholes-i.result) =
-    made_again c.args.cx.now c.loop-i.cx (plain_pattern c.index-args-i.result)
-    (plain_pattern c.index-wholes-i.result) c.loop-i.invariant.grown
-    (made_item c.args.cx.now.program.sig c.args.args.now c.args.wholes.now c.loop-i.i
-    c.index-args-i.result c.index-wholes-i.result made low c.index-args-i.is
-    c.index-wholes-i.is) in (
+    let at = (goal.at.all_compared-applied-requires-clause-closed t c).After-index-wholes-i in (
       c.loop-i.invariant.closed,
       made_closed c.loop-i.cx (plain_pattern c.index-args-i.result)
-          (plain_pattern c.index-wholes-i.result) c.index-images-i.result one image,
+          (plain_pattern c.index-wholes-i.result) c.index-images-i.result (one_made t at)
+          (image_there t at),
     )
 
 pub all_compared-loop-i-preserved : goal.all_compared-loop-i-preserved
 all_compared-loop-i-preserved t c =
+    let at = (goal.at.all_compared-loop-i-preserved t c).After-index-wholes-i in
     let low : c.loop-i.i < length c.args.args.now = c.loop-i-test.true in
-    let made : AreMade c.args.cx.now.program.sig (plain_patterns c.args.args.now)
-    (plain_patterns c.args.wholes.now) =
-    c.requires.made in
-    let many : length c.args.args.now ≡ length c.args.wholes.now =
-    as_many_made made.1 c.args.args.now c.args.wholes.now made.3 made.4.make made.5 in
-    let images : AreImages c.loop-i.cx.program.sig c.loop-i.cx.names
-    (plain_patterns c.args.wholes.now) c.args.images.now =
-    images_grown c.args.cx.now c.loop-i.cx (plain_patterns c.args.wholes.now) c.args.images.now
-    c.loop-i.invariant.grown c.requires.images in
-    let image : image_of c.loop-i.cx.program.sig c.loop-i.cx.names
-    (plain_pattern c.index-wholes-i.result) ≡ Some c.index-images-i.result =
-    image_item c.loop-i.cx.program.sig c.loop-i.cx.names c.args.wholes.now c.args.images.now
-    c.loop-i.i c.index-wholes-i.result c.index-images-i.result images (omega (arith, low, many))
-    c.index-wholes-i.is c.index-images-i.is in
-    let one : IsMade c.loop-i.cx.program.sig (plain_pattern c.index-args-i.result)
-    (plain_pattern c.index-wholes-i.result) =
-    made_again c.args.cx.now c.loop-i.cx (plain_pattern c.index-args-i.result)
-    (plain_pattern c.index-wholes-i.result) c.loop-i.invariant.grown
-    (made_item c.args.cx.now.program.sig c.args.args.now c.args.wholes.now c.loop-i.i
-    c.index-args-i.result c.index-wholes-i.result made low c.index-args-i.is
-    c.index-wholes-i.is) in
     let g : HasGrown c.loop-i.cx c.compared.new.cx = c.in_ok-one.ensures.grown in
     let later : image_of c.compared.new.cx.program.sig c.compared.new.cx.names
     (plain_pattern c.index-wholes-i.result) ≡ Some c.index-images-i.result =
     image_grown c.loop-i.cx c.compared.new.cx (term (plain_pattern c.index-wholes-i.result))
-    c.index-images-i.result g image in
+    c.index-images-i.result g (image_there t at) in
     let closed : HasNoVariable c.index-images-i.result =
     made_closed c.loop-i.cx (plain_pattern c.index-args-i.result)
-    (plain_pattern c.index-wholes-i.result) c.index-images-i.result one image in
+    (plain_pattern c.index-wholes-i.result) c.index-images-i.result (one_made t at)
+    (image_there t at) in
     record {
       done =
           subst (λ (q : Pattern). AreDoneBefore c.compared.new.cx c.args.args.now c.args.wholes.now
@@ -225,7 +170,7 @@ all_compared-loop-i-preserved t c =
           c.index-images-i.result (omega (
             arith,
             low,
-            many,
+            as_many c.args.cx.now.program.sig c.args.args.now c.args.wholes.now c.requires.made,
             as_many_images c.args.cx.now.program.sig c.args.cx.now.names
                 c.args.wholes.now c.args.images.now c.requires.images,
           ))
@@ -235,11 +180,8 @@ all_compared-loop-i-preserved t c =
 
 pub all_compared-returns-clause-says : goal.all_compared-returns-clause-says
 all_compared-returns-clause-says t c =
-    let made : AreMade c.args.cx.now.program.sig (plain_patterns c.args.args.now)
-    (plain_patterns c.args.wholes.now) =
-    c.requires.made in
     let many : length c.args.args.now ≡ length c.args.wholes.now =
-    as_many_made made.1 c.args.args.now c.args.wholes.now made.3 made.4.make made.5 in
+    as_many c.args.cx.now.program.sig c.args.args.now c.args.wholes.now c.requires.made in
     let many' : length c.args.wholes.now ≡ length c.args.images.now =
     as_many_images c.args.cx.now.program.sig c.args.cx.now.names c.args.wholes.now
     c.args.images.now c.requires.images in

@@ -12,9 +12,10 @@ use Rattle.term_core.proofs.PlainPatterns.{plain-Inj}
 use Rattle.rule_core.specs.Sorting.{HasSort}
 use Rattle.rule_core.specs.WellSorted.{IsSignature}
 use Rattle.rule_core.specs.declared.rules.Program.{Program}
+use Rattle.rule_core.specs.declared.signature.Signature.{Signature}
 use Rattle.ml_image.specs.Images.{image_of}
 use Rattle.ml_image.specs.Sentences.{term}
-use Rattle.prove_term.specs.Elements.{IsSorted, IsElement}
+use Rattle.prove_term.specs.Elements.{IsElement}
 use Rattle.prove_term.specs.Comparing.{IsMade, Compares, IsFactOn}
 use Rattle.prove_term.proofs.ComparingInjections.{HasHalves, halves_of, halves_there, stayed_made}
 use Rattle.prove_term.proofs.ComparingInjections.{base_sorted, fact_of, same_end}
@@ -25,26 +26,31 @@ use Rattle.prove_term.proofs.ComparingCalls.{beneath_compares, made_closed, made
 use Rattle.prove_term.proofs.ComparingLoop.{compared_says}
 use Rattle.prove_term.proofs.ComparingLaws.{closed-injection}
 use Rattle.prove_term.proofs.comparing.+compared.Goals as goal
+use Rattle.prove_term.proofs.comparing.+compared.Goals.{compared-After-deref-in-Inj}
+use Rattle.prove_term.proofs.comparing.+compared.Goals.{injection_compared-After-deref}
+use Rattle.prove_term.proofs.comparing.+compared.Goals.{injection_compared-After-deref-2}
+
+-- the pattern, with the one below it as it is passed on
+pattern_is : (t : ℕ) (c : compared-After-deref-in-Inj t)
+    → plain_pattern c.args.pat.now
+    ≡ injection c.in-Inj.from.0 c.in-Inj.to.0 (plain_pattern c.deref-in-Inj.result.now)
+pattern_is t c =
+    ap plain_pattern c.in-Inj.is ∙ plain-Inj _ _ _
+    ∙ ap (λ (p : RulePat). injection c.in-Inj.from.0 c.in-Inj.to.0 (plain_pattern p))
+    (sym c.deref-in-Inj.ensures)
 
 pub compared-injection_compared-requires : goal.compared-injection_compared-requires
 compared-injection_compared-requires t c =
-    let is : plain_pattern c.args.pat.now ≡ injection c.in-Inj.from.0 c.in-Inj.to.0
-    (plain_pattern c.in-Inj.below.value) =
-    ap plain_pattern c.in-Inj.is ∙ plain-Inj _ _ _ in
-    let is' : plain_pattern c.args.pat.now ≡ injection c.in-Inj.from.0 c.in-Inj.to.0
-    (plain_pattern c.deref-in-Inj.result.now) =
-    is
-    ∙ ap (λ (p : RulePat). injection c.in-Inj.from.0 c.in-Inj.to.0 (plain_pattern p))
-    (sym c.deref-in-Inj.ensures) in
+    let is = pattern_is t (goal.at.compared-injection_compared-requires t c).After-deref-in-Inj in
     let high : depth (plain_pattern c.args.pat.now) ≡ depth
     (plain_pattern c.deref-in-Inj.result.now) + 1 =
-    ap depth is' in (
+    ap depth is in (
       omega (arith, high, c.decreases),
       (
         c.requires.signature,
         (
           subst (λ (p : RulePattern).
-              IsMade c.args.cx.now.program.sig p (plain_pattern c.args.whole.now)) is'
+              IsMade c.args.cx.now.program.sig p (plain_pattern c.args.whole.now)) is
               c.requires.made,
           c.requires.image,
         ),
@@ -53,18 +59,13 @@ compared-injection_compared-requires t c =
 
 pub compared-returns-in-Inj-clause-says : goal.compared-returns-in-Inj-clause-says
 compared-returns-in-Inj-clause-says t c =
-    let is : plain_pattern c.args.pat.now ≡ injection c.in-Inj.from.0 c.in-Inj.to.0
-    (plain_pattern c.in-Inj.below.value) =
-    ap plain_pattern c.in-Inj.is ∙ plain-Inj _ _ _ in
-    let is' : plain_pattern c.args.pat.now ≡ injection c.in-Inj.from.0 c.in-Inj.to.0
-    (plain_pattern c.deref-in-Inj.result.now) =
-    is
-    ∙ ap (λ (p : RulePat). injection c.in-Inj.from.0 c.in-Inj.to.0 (plain_pattern p))
-    (sym c.deref-in-Inj.ensures) in
+    let is = pattern_is t (goal.at.compared-returns-in-Inj-clause-says t c).After-deref-in-Inj in
     if_ok c.injection_compared.result
     (λ o says. subst (λ (p : RulePattern). Compares c.injection_compared.new.cx p
-    (plain_pattern c.args.whole.now) c.args.image.now o) (sym is') says)
+    (plain_pattern c.args.whole.now) c.args.image.now o) (sym is) says)
     c.injection_compared.ensures.says
+
+-- ---- the pattern below stays
 
 pub beneath-halves-requires : goal.beneath-halves-requires
 beneath-halves-requires t c =
@@ -112,234 +113,159 @@ beneath-returns-clause-says t c =
     c.in_ok-one.ensures.says made)
     c.applied.ensures
 
-pub injection_compared-beneath-requires : goal.injection_compared-beneath-requires
-injection_compared-beneath-requires t c =
-    let w : plain_pattern c.args.whole.now ≡ injection c.in-Inj.lowest.0 c.in-Inj.field-1.0
-    (plain_pattern c.in-Inj.base.value) =
-    ap plain_pattern c.in-Inj.is ∙ plain-Inj _ _ _ in
-    let end : c.in-Inj.field-1.0 ≡ c.args.to.0 =
-    same_end c.args.cx.now.program.sig c.args.from.0 c.args.to.0 c.in-Inj.lowest.0
-    c.in-Inj.field-1.0 (plain_pattern c.args.below.now) (plain_pattern c.in-Inj.base.value)
-    (plain_pattern c.args.whole.now) c.requires.made w in
-    let whole : plain_pattern c.args.whole.now ≡ injection c.in-Inj.lowest.0 c.args.to.0
-    (plain_pattern c.in-Inj.base.value) =
-    w ∙ ap (λ (n : ℕ). injection c.in-Inj.lowest.0 n (plain_pattern c.in-Inj.base.value)) end in
-    let made : IsMade c.args.cx.now.program.sig
-    (injection c.args.from.0 c.args.to.0 (plain_pattern c.args.below.now))
-    (injection c.in-Inj.lowest.0 c.args.to.0 (plain_pattern c.in-Inj.base.value)) =
-    subst (λ (q : RulePattern). IsMade c.args.cx.now.program.sig
-    (injection c.args.from.0 c.args.to.0 (plain_pattern c.args.below.now)) q) whole
-    c.requires.made in
-    let same : c.in-Inj.lowest.0 ≡ c.args.from.0 =
-    eqb-true c.in-Inj.lowest.0 c.args.from.0 (sym c.eq.ensures ∙ c.if-eq.true) in
-    let whole' : plain_pattern c.args.whole.now ≡ injection c.args.from.0 c.args.to.0
-    (plain_pattern c.deref.result.now) =
-    whole ∙ ap (λ (n : ℕ). injection n c.args.to.0 (plain_pattern c.in-Inj.base.value)) same
-    ∙ ap (λ (p : RulePat). injection c.args.from.0 c.args.to.0 (plain_pattern p))
-    (sym c.deref.ensures) in
-    let below : IsMade c.args.cx.now.program.sig (plain_pattern c.args.below.now)
-    (plain_pattern c.deref.result.now) =
+-- ---- both injections
+
+-- the term is an injection to the sort to which the pattern is one
+same_ends : (sig : Signature) (from to lowest last : ℕ) (p : RulePattern) (whole base w : RulePat)
+    → IsMade sig (injection from to p) (plain_pattern whole)
+    → plain_pattern whole ≡ injection lowest last (plain_pattern base) → w ≡ base
+    → plain_pattern whole ≡ injection lowest to (plain_pattern w)
+same_ends sig from to lowest last p whole base w made is same =
+    is
+    ∙ ap (λ (n : ℕ). injection lowest n (plain_pattern base))
+    (same_end sig from to lowest last p (plain_pattern base) (plain_pattern whole) made is)
+    ∙ ap (λ (q : RulePat). injection lowest to (plain_pattern q)) (sym same)
+
+-- if it is one from the same sort, the pattern below stays
+whole_stays : (t : ℕ) (c : injection_compared-After-deref t)
+    → plain_pattern c.args.whole.now
+    ≡ injection c.args.from.0 c.args.to.0 (plain_pattern c.deref.result.now)
+whole_stays t c =
+    same_ends c.args.cx.now.program.sig c.args.from.0 c.args.to.0 c.in-Inj.lowest.0
+    c.in-Inj.field-1.0 (plain_pattern c.args.below.now) c.args.whole.now c.in-Inj.base.value
+    c.deref.result.now c.requires.made (ap plain_pattern c.in-Inj.is ∙ plain-Inj _ _ _)
+    c.deref.ensures
+    ∙ ap (λ (n : ℕ). injection n c.args.to.0 (plain_pattern c.deref.result.now))
+    (eqb-true c.in-Inj.lowest.0 c.args.from.0 (sym c.eq.ensures ∙ c.if-eq.true))
+
+below_made : (t : ℕ) (c : injection_compared-After-deref t)
+    → IsMade c.args.cx.now.program.sig (plain_pattern c.args.below.now)
+    (plain_pattern c.deref.result.now)
+below_made t c =
     (stayed_made c.args.cx.now.program.sig c.args.from.0 c.args.to.0 c.args.to.0
     (plain_pattern c.args.below.now) (plain_pattern c.deref.result.now) c.requires.signature
     (subst (λ (q : RulePattern). IsMade c.args.cx.now.program.sig
-    (injection c.args.from.0 c.args.to.0 (plain_pattern c.args.below.now)) q) whole'
-    c.requires.made)).1 in
-    let image : image_of c.args.cx.now.program.sig c.args.cx.now.names
-    (injection c.args.from.0 c.args.to.0 (plain_pattern c.deref.result.now)) ≡ Some
-    c.args.image.now =
-    ap (image_of c.args.cx.now.program.sig c.args.cx.now.names) (sym whole') ∙ c.requires.image in (
+    (injection c.args.from.0 c.args.to.0 (plain_pattern c.args.below.now)) q) (whole_stays t c)
+    c.requires.made)).1
+
+-- else the term is an injection from a lower sort
+whole_moves : (t : ℕ) (c : injection_compared-After-deref-2 t) (w : RulePat)
+    → w ≡ c.in-Inj.base.value
+    → plain_pattern c.args.whole.now ≡ injection c.in-Inj.lowest.0 c.args.to.0 (plain_pattern w)
+whole_moves t c w base =
+    same_ends c.args.cx.now.program.sig c.args.from.0 c.args.to.0 c.in-Inj.lowest.0
+    c.in-Inj.field-1.0 (plain_pattern c.args.below.now) c.args.whole.now c.in-Inj.base.value w
+    c.requires.made (ap plain_pattern c.in-Inj.is ∙ plain-Inj _ _ _) base
+
+whole_made : (t : ℕ) (c : injection_compared-After-deref-2 t) (w : RulePat)
+    → w ≡ c.in-Inj.base.value
+    → IsMade c.args.cx.now.program.sig
+    (injection c.args.from.0 c.args.to.0 (plain_pattern c.args.below.now))
+    (injection c.in-Inj.lowest.0 c.args.to.0 (plain_pattern w))
+whole_made t c w base =
+    subst (λ (q : RulePattern). IsMade c.args.cx.now.program.sig
+    (injection c.args.from.0 c.args.to.0 (plain_pattern c.args.below.now)) q)
+    (whole_moves t c w base) c.requires.made
+
+-- the base is the pattern of a term of the lowest sort
+base_is : (t : ℕ) (c : injection_compared-After-deref-2 t) (w : RulePat) → w ≡ c.in-Inj.base.value
+    → (v : Tree) × (plain_pattern w ≡ ground_pattern v)
+    × HasSort c.args.cx.now.program.sig [] (plain_pattern w) c.in-Inj.lowest.0
+base_is t c w base =
+    base_sorted c.args.cx.now.program.sig
+    (injection c.args.from.0 c.args.to.0 (plain_pattern c.args.below.now)) c.in-Inj.lowest.0
+    c.args.to.0 (plain_pattern w) (whole_made t c w base)
+
+pub injection_compared-beneath-requires : goal.injection_compared-beneath-requires
+injection_compared-beneath-requires t c =
+    let at = (goal.at.injection_compared-beneath-requires t c).After-deref in
+    let is = whole_stays t at in (
       omega (arith, c.decreases),
-      (c.requires.signature, (below, (c.args.from.0, c.args.to.0, image))),
+      (
+        c.requires.signature,
+        (
+          below_made t at,
+          (
+            c.args.from.0,
+            c.args.to.0,
+            ap (image_of c.args.cx.now.program.sig c.args.cx.now.names) (sym is)
+                ∙ c.requires.image,
+          ),
+        ),
+      ),
     )
 
 pub injection_compared-returns-then-eq-clause-says :
     goal.injection_compared-returns-then-eq-clause-says
 injection_compared-returns-then-eq-clause-says t c =
-    let w : plain_pattern c.args.whole.now ≡ injection c.in-Inj.lowest.0 c.in-Inj.field-1.0
-    (plain_pattern c.in-Inj.base.value) =
-    ap plain_pattern c.in-Inj.is ∙ plain-Inj _ _ _ in
-    let end : c.in-Inj.field-1.0 ≡ c.args.to.0 =
-    same_end c.args.cx.now.program.sig c.args.from.0 c.args.to.0 c.in-Inj.lowest.0
-    c.in-Inj.field-1.0 (plain_pattern c.args.below.now) (plain_pattern c.in-Inj.base.value)
-    (plain_pattern c.args.whole.now) c.requires.made w in
-    let whole : plain_pattern c.args.whole.now ≡ injection c.in-Inj.lowest.0 c.args.to.0
-    (plain_pattern c.in-Inj.base.value) =
-    w ∙ ap (λ (n : ℕ). injection c.in-Inj.lowest.0 n (plain_pattern c.in-Inj.base.value)) end in
-    let made : IsMade c.args.cx.now.program.sig
-    (injection c.args.from.0 c.args.to.0 (plain_pattern c.args.below.now))
-    (injection c.in-Inj.lowest.0 c.args.to.0 (plain_pattern c.in-Inj.base.value)) =
-    subst (λ (q : RulePattern). IsMade c.args.cx.now.program.sig
-    (injection c.args.from.0 c.args.to.0 (plain_pattern c.args.below.now)) q) whole
-    c.requires.made in
-    let same : c.in-Inj.lowest.0 ≡ c.args.from.0 =
-    eqb-true c.in-Inj.lowest.0 c.args.from.0 (sym c.eq.ensures ∙ c.if-eq.true) in
-    let whole' : plain_pattern c.args.whole.now ≡ injection c.args.from.0 c.args.to.0
-    (plain_pattern c.deref.result.now) =
-    whole ∙ ap (λ (n : ℕ). injection n c.args.to.0 (plain_pattern c.in-Inj.base.value)) same
-    ∙ ap (λ (p : RulePat). injection c.args.from.0 c.args.to.0 (plain_pattern p))
-    (sym c.deref.ensures) in
-    let below : IsMade c.args.cx.now.program.sig (plain_pattern c.args.below.now)
-    (plain_pattern c.deref.result.now) =
-    (stayed_made c.args.cx.now.program.sig c.args.from.0 c.args.to.0 c.args.to.0
-    (plain_pattern c.args.below.now) (plain_pattern c.deref.result.now) c.requires.signature
-    (subst (λ (q : RulePattern). IsMade c.args.cx.now.program.sig
-    (injection c.args.from.0 c.args.to.0 (plain_pattern c.args.below.now)) q) whole'
-    c.requires.made)).1 in
-    let image : image_of c.args.cx.now.program.sig c.args.cx.now.names
-    (injection c.args.from.0 c.args.to.0 (plain_pattern c.deref.result.now)) ≡ Some
-    c.args.image.now =
-    ap (image_of c.args.cx.now.program.sig c.args.cx.now.names) (sym whole') ∙ c.requires.image in
+    let at = (goal.at.injection_compared-returns-then-eq-clause-says t c).After-deref in
+    let is = whole_stays t at in
     if_ok c.beneath.result
     (λ o says. subst (λ (q : RulePattern). Compares c.beneath.new.cx
     (injection c.args.from.0 c.args.to.0 (plain_pattern c.args.below.now)) q
-    c.args.image.now o) (sym whole') (says c.args.from.0 c.args.to.0 image below))
+    c.args.image.now o) (sym is) (says c.args.from.0 c.args.to.0
+    (ap (image_of c.args.cx.now.program.sig c.args.cx.now.names) (sym is) ∙ c.requires.image)
+    (below_made t at)))
     c.beneath.ensures.says
 
 pub injection_compared-element-requires-clause-sorted :
     goal.injection_compared-element-requires-clause-sorted
 injection_compared-element-requires-clause-sorted t c =
-    let w : plain_pattern c.args.whole.now ≡ injection c.in-Inj.lowest.0 c.in-Inj.field-1.0
-    (plain_pattern c.in-Inj.base.value) =
-    ap plain_pattern c.in-Inj.is ∙ plain-Inj _ _ _ in
-    let end : c.in-Inj.field-1.0 ≡ c.args.to.0 =
-    same_end c.args.cx.now.program.sig c.args.from.0 c.args.to.0 c.in-Inj.lowest.0
-    c.in-Inj.field-1.0 (plain_pattern c.args.below.now) (plain_pattern c.in-Inj.base.value)
-    (plain_pattern c.args.whole.now) c.requires.made w in
-    let whole : plain_pattern c.args.whole.now ≡ injection c.in-Inj.lowest.0 c.args.to.0
-    (plain_pattern c.in-Inj.base.value) =
-    w ∙ ap (λ (n : ℕ). injection c.in-Inj.lowest.0 n (plain_pattern c.in-Inj.base.value)) end in
-    let made : IsMade c.args.cx.now.program.sig
-    (injection c.args.from.0 c.args.to.0 (plain_pattern c.args.below.now))
-    (injection c.in-Inj.lowest.0 c.args.to.0 (plain_pattern c.in-Inj.base.value)) =
-    subst (λ (q : RulePattern). IsMade c.args.cx.now.program.sig
-    (injection c.args.from.0 c.args.to.0 (plain_pattern c.args.below.now)) q) whole
-    c.requires.made in
-    let base : (v : Tree) × (plain_pattern c.in-Inj.base.value ≡ ground_pattern v) × HasSort
-    c.args.cx.now.program.sig [] (plain_pattern c.in-Inj.base.value) c.in-Inj.lowest.0 =
-    base_sorted c.args.cx.now.program.sig
-    (injection c.args.from.0 c.args.to.0 (plain_pattern c.args.below.now)) c.in-Inj.lowest.0
-    c.args.to.0 (plain_pattern c.in-Inj.base.value) made in
-    subst (λ (p : RulePat). IsSorted c.args.cx.now.program.sig (plain_pattern p))
-    (sym c.deref-2.ensures) (c.in-Inj.lowest.0, base.2)
+    let at = (goal.at.injection_compared-element-requires-clause-sorted t c).After-deref-2 in
+    (c.in-Inj.lowest.0, (base_is t at c.deref-2.result.now c.deref-2.ensures).2)
 
 pub injection_compared-element-requires-clause-ground :
     goal.injection_compared-element-requires-clause-ground
 injection_compared-element-requires-clause-ground t c =
-    let w : plain_pattern c.args.whole.now ≡ injection c.in-Inj.lowest.0 c.in-Inj.field-1.0
-    (plain_pattern c.in-Inj.base.value) =
-    ap plain_pattern c.in-Inj.is ∙ plain-Inj _ _ _ in
-    let end : c.in-Inj.field-1.0 ≡ c.args.to.0 =
-    same_end c.args.cx.now.program.sig c.args.from.0 c.args.to.0 c.in-Inj.lowest.0
-    c.in-Inj.field-1.0 (plain_pattern c.args.below.now) (plain_pattern c.in-Inj.base.value)
-    (plain_pattern c.args.whole.now) c.requires.made w in
-    let whole : plain_pattern c.args.whole.now ≡ injection c.in-Inj.lowest.0 c.args.to.0
-    (plain_pattern c.in-Inj.base.value) =
-    w ∙ ap (λ (n : ℕ). injection c.in-Inj.lowest.0 n (plain_pattern c.in-Inj.base.value)) end in
-    let made : IsMade c.args.cx.now.program.sig
-    (injection c.args.from.0 c.args.to.0 (plain_pattern c.args.below.now))
-    (injection c.in-Inj.lowest.0 c.args.to.0 (plain_pattern c.in-Inj.base.value)) =
-    subst (λ (q : RulePattern). IsMade c.args.cx.now.program.sig
-    (injection c.args.from.0 c.args.to.0 (plain_pattern c.args.below.now)) q) whole
-    c.requires.made in
-    let base : (v : Tree) × (plain_pattern c.in-Inj.base.value ≡ ground_pattern v) × HasSort
-    c.args.cx.now.program.sig [] (plain_pattern c.in-Inj.base.value) c.in-Inj.lowest.0 =
-    base_sorted c.args.cx.now.program.sig
-    (injection c.args.from.0 c.args.to.0 (plain_pattern c.args.below.now)) c.in-Inj.lowest.0
-    c.args.to.0 (plain_pattern c.in-Inj.base.value) made in
-    subst (λ (p : RulePat). IsGround (plain_pattern p)) (sym c.deref-2.ensures)
-    (subst (λ (q : RulePattern). IsGround q) (sym base.1) (IsGround-ground_pattern base.0))
+    let at = (goal.at.injection_compared-element-requires-clause-ground t c).After-deref-2 in
+    let base = base_is t at c.deref-2.result.now c.deref-2.ensures in
+    subst (λ (q : RulePattern). IsGround q) (sym base.1) (IsGround-ground_pattern base.0)
 
 pub injection_compared-joined_compared-requires : goal.injection_compared-joined_compared-requires
 injection_compared-joined_compared-requires t c =
-    let w : plain_pattern c.args.whole.now ≡ injection c.in-Inj.lowest.0 c.in-Inj.field-1.0
-    (plain_pattern c.in-Inj.base.value) =
-    ap plain_pattern c.in-Inj.is ∙ plain-Inj _ _ _ in
-    let end : c.in-Inj.field-1.0 ≡ c.args.to.0 =
-    same_end c.args.cx.now.program.sig c.args.from.0 c.args.to.0 c.in-Inj.lowest.0
-    c.in-Inj.field-1.0 (plain_pattern c.args.below.now) (plain_pattern c.in-Inj.base.value)
-    (plain_pattern c.args.whole.now) c.requires.made w in
-    let whole : plain_pattern c.args.whole.now ≡ injection c.in-Inj.lowest.0 c.args.to.0
-    (plain_pattern c.in-Inj.base.value) =
-    w ∙ ap (λ (n : ℕ). injection c.in-Inj.lowest.0 n (plain_pattern c.in-Inj.base.value)) end in
-    let made : IsMade c.args.cx.now.program.sig
-    (injection c.args.from.0 c.args.to.0 (plain_pattern c.args.below.now))
-    (injection c.in-Inj.lowest.0 c.args.to.0 (plain_pattern c.in-Inj.base.value)) =
-    subst (λ (q : RulePattern). IsMade c.args.cx.now.program.sig
-    (injection c.args.from.0 c.args.to.0 (plain_pattern c.args.below.now)) q) whole
-    c.requires.made in
-    let base : (v : Tree) × (plain_pattern c.in-Inj.base.value ≡ ground_pattern v) × HasSort
-    c.args.cx.now.program.sig [] (plain_pattern c.in-Inj.base.value) c.in-Inj.lowest.0 =
-    base_sorted c.args.cx.now.program.sig
-    (injection c.args.from.0 c.args.to.0 (plain_pattern c.args.below.now)) c.in-Inj.lowest.0
-    c.args.to.0 (plain_pattern c.in-Inj.base.value) made in
+    let at = (goal.at.injection_compared-joined_compared-requires t c).After-deref-2 in
     let g : HasGrown c.args.cx.now c.element.new.cx = c.in_ok-fact.ensures.grown in
     let apart : c.in-Inj.lowest.0 ≢ c.args.from.0 =
     λ same. false≢true (sym (sym c.eq.ensures ∙ c.if-eq.false)
     ∙ eq-eqb c.in-Inj.lowest.0 c.args.from.0 same) in
-    let fact : IsFactOn c.element.new.cx (plain_pattern c.in-Inj.base.value) c.in-Inj.lowest.0
+    let fact : IsFactOn c.element.new.cx (plain_pattern c.deref-3.result.now) c.in-Inj.lowest.0
     c.in_ok-fact.fact =
-    fact_of c.element.new.cx (plain_pattern c.in-Inj.base.value) c.in-Inj.lowest.0 c.in_ok-fact.fact
+    fact_of c.element.new.cx (plain_pattern c.deref-3.result.now) c.in-Inj.lowest.0
+    c.in_ok-fact.fact
     (subst (λ (program : Program).
-    HasSort program.sig [] (plain_pattern c.in-Inj.base.value) c.in-Inj.lowest.0)
-    (sym g.program) base.2)
+    HasSort program.sig [] (plain_pattern c.deref-3.result.now) c.in-Inj.lowest.0)
+    (sym g.program) (base_is t at c.deref-3.result.now c.deref-3.ensures).2)
     (subst (λ (p : RulePat).
     IsElement c.element.new.cx (plain_pattern p) c.in_ok-fact.fact.conclusion)
-    c.deref-2.ensures c.in_ok-fact.ensures.says) c.in_ok-fact.ensures.no_hypotheses
-    c.in_ok-fact.ensures.stays in (
+    (c.deref-2.ensures ∙ sym c.deref-3.ensures) c.in_ok-fact.ensures.says)
+    c.in_ok-fact.ensures.no_hypotheses c.in_ok-fact.ensures.stays in (
       omega (arith, c.decreases),
       (
         subst (λ (program : Program). IsSignature program.sig) (sym g.program) c.requires.signature,
         (
-          subst (λ (p : RulePat). IsMade c.element.new.cx.program.sig
+          made_again c.args.cx.now c.element.new.cx
               (injection c.args.from.0 c.args.to.0 (plain_pattern c.args.below.now))
-              (injection c.in-Inj.lowest.0 c.args.to.0 (plain_pattern p)))
-              (sym c.deref-3.ensures)
-              (made_again c.args.cx.now c.element.new.cx
-              (injection c.args.from.0 c.args.to.0 (plain_pattern c.args.below.now))
-              (injection c.in-Inj.lowest.0 c.args.to.0 (plain_pattern c.in-Inj.base.value)) g
-              made),
-          (
-            apart,
-            subst (λ (p : RulePat). IsFactOn c.element.new.cx (plain_pattern p) c.in-Inj.lowest.0
-                c.in_ok-fact.fact) (sym c.deref-3.ensures) fact,
-          ),
+              (injection c.in-Inj.lowest.0 c.args.to.0 (plain_pattern c.deref-3.result.now)) g
+              (whole_made t at c.deref-3.result.now c.deref-3.ensures),
+          (apart, fact),
         ),
       ),
     )
 
 pub injection_compared-returns-clause-says : goal.injection_compared-returns-clause-says
 injection_compared-returns-clause-says t c =
-    let w : plain_pattern c.args.whole.now ≡ injection c.in-Inj.lowest.0 c.in-Inj.field-1.0
-    (plain_pattern c.in-Inj.base.value) =
-    ap plain_pattern c.in-Inj.is ∙ plain-Inj _ _ _ in
-    let end : c.in-Inj.field-1.0 ≡ c.args.to.0 =
-    same_end c.args.cx.now.program.sig c.args.from.0 c.args.to.0 c.in-Inj.lowest.0
-    c.in-Inj.field-1.0 (plain_pattern c.args.below.now) (plain_pattern c.in-Inj.base.value)
-    (plain_pattern c.args.whole.now) c.requires.made w in
-    let whole : plain_pattern c.args.whole.now ≡ injection c.in-Inj.lowest.0 c.args.to.0
-    (plain_pattern c.in-Inj.base.value) =
-    w ∙ ap (λ (n : ℕ). injection c.in-Inj.lowest.0 n (plain_pattern c.in-Inj.base.value)) end in
-    let made : IsMade c.args.cx.now.program.sig
-    (injection c.args.from.0 c.args.to.0 (plain_pattern c.args.below.now))
-    (injection c.in-Inj.lowest.0 c.args.to.0 (plain_pattern c.in-Inj.base.value)) =
-    subst (λ (q : RulePattern). IsMade c.args.cx.now.program.sig
-    (injection c.args.from.0 c.args.to.0 (plain_pattern c.args.below.now)) q) whole
-    c.requires.made in
-    let whole' : plain_pattern c.args.whole.now ≡ injection c.in-Inj.lowest.0 c.args.to.0
-    (plain_pattern c.deref-3.result.now) =
-    whole
-    ∙ ap (λ (p : RulePat). injection c.in-Inj.lowest.0 c.args.to.0 (plain_pattern p))
-    (sym c.deref-3.ensures) in
+    let at = (goal.at.injection_compared-returns-clause-says t c).After-deref-2 in
+    let is = whole_moves t at c.deref-3.result.now c.deref-3.ensures in
     let g : HasGrown c.args.cx.now c.joined_compared.new.cx =
     grown_twice c.args.cx.now c.element.new.cx c.joined_compared.new.cx
     c.in_ok-fact.ensures.grown c.in_ok-made.ensures.grown in
     let image : image_of c.joined_compared.new.cx.program.sig c.joined_compared.new.cx.names
     (injection c.in-Inj.lowest.0 c.args.to.0 (plain_pattern c.deref-3.result.now)) ≡ Some
     c.args.image.now =
-    ap (image_of c.joined_compared.new.cx.program.sig c.joined_compared.new.cx.names) (sym whole')
+    ap (image_of c.joined_compared.new.cx.program.sig c.joined_compared.new.cx.names) (sym is)
     ∙ image_grown c.args.cx.now c.joined_compared.new.cx (term (plain_pattern c.args.whole.now))
     c.args.image.now g c.requires.image in
     subst (λ (q : RulePattern). Compares c.joined_compared.new.cx
     (injection c.args.from.0 c.args.to.0 (plain_pattern c.args.below.now)) q
-    c.args.image.now (Some c.in_ok-made.made)) (sym whole')
+    c.args.image.now (Some c.in_ok-made.made)) (sym is)
     (c.in_ok-made.ensures.says c.args.image.now image)
