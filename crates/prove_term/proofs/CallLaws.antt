@@ -1,17 +1,15 @@
 -- Calls of functions on patterns, and the same calls on the terms that the patterns become.
-use Rattle.std.proofs.Common.{◌≡◌, ◌<◌, ◌^◌, ℕ, List, [], ◌∷◌, Option, Some, None, length, sym, ◌∙◌}
-use Rattle.std.proofs.Common.{ap, subst, arith}
-use Rattle.ml_pat.specs.Patterns.{Pattern, constant, equal}
+use Rattle.std.proofs.Common.{◌≡◌, ◌<◌, ℕ, List, [], ◌∷◌, Option, Some, None, length, sym, ◌∙◌}
+use Rattle.std.proofs.Common.{ap, subst}
+use Rattle.ml_pat.specs.Patterns.{Pattern, constant}
 use Rattle.ml_kernel.specs.Lemmas.{HasNoVariable}
 use Rattle.ml_kernel.specs.Theorems.{Theorem}
 use Rattle.term_core.specs.Terms.{Tree, Forest, node, no_tree, more_trees}
 use Rattle.term_core.specs.Patterns.{Pattern as RulePattern, Patterns as RulePatterns, call}
-use Rattle.term_core.specs.Patterns.{application, instances_of, all_substituted, ground_pattern}
+use Rattle.term_core.specs.Patterns.{ground_pattern}
 use Rattle.term_core.specs.Patterns.{ground_patterns}
 use Rattle.term_core.specs.PatternLists.{plain_patterns}
 use Rattle.term_core.specs.declared.rule_patterns.RulePat.{RulePat}
-use Rattle.rule_core.specs.Sorting.{HaveSorts}
-use Rattle.rule_core.specs.Matching.{RespectsSorts}
 use Rattle.rule_core.specs.MatchLaws.{AreTermsOf}
 use Rattle.rule_core.specs.WellSorted.{IsSignature}
 use Rattle.rule_core.specs.declared.rules.Program.{Program}
@@ -25,14 +23,12 @@ use Rattle.prove_term.specs.Contexts.{Context, HasGrown}
 use Rattle.prove_term.specs.Schemas.{AreImages}
 use Rattle.prove_term.specs.Applications.{applied_to}
 use Rattle.prove_term.specs.Comparing.{AreInstances, AreMade, AreCompared, AllCompare}
-use Rattle.prove_term.specs.Comparing.{IsOverContext}
-use Rattle.prove_term.specs.EqualCalls.{SaysEqualCall, SaysEqualCalls}
+use Rattle.prove_term.specs.EqualCalls.{SaysEqualCalls}
 use Rattle.prove_term.proofs.KeptLaws.{symbol_grown}
 use Rattle.prove_term.proofs.ElementLaws.{images_grown}
 use Rattle.prove_term.proofs.ImageShapes.{applied_images}
 use Rattle.prove_term.proofs.ComparingLaws.{application_image, as_many_made, as_many_images}
 use Rattle.prove_term.proofs.ComparingLaws.{image_closed, image_among}
-use Rattle.prove_term.proofs.ComparingCalls.{head_over}
 
 -- ---- the image of a function of terms
 

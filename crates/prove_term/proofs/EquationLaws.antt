@@ -2,7 +2,6 @@
 use Rattle.std.proofs.Common.{◌≡◌, ℕ, Some, inl, slice_get, sym, ◌∙◌, subst}
 use Rattle.ml_pat.specs.Patterns.{Pattern}
 use Rattle.rule_core.specs.Rules.{Equation}
-use Rattle.rule_core.specs.Theories.{RewriteTheory}
 use Rattle.rule_core.specs.ProgramView.{theory_of}
 use Rattle.rule_core.specs.declared.rules.Program.{Program}
 use Rattle.ml_image.specs.OwnAxioms.{IsEquationFor, SaysEquation, of_equation}

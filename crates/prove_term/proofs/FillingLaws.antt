@@ -1,10 +1,10 @@
 -- Patterns with terms in place of their variables, and the terms that they become as they are
 -- written.
-use Rattle.std.proofs.Common.{◌≡◌, ℕ, List, [], Option, Some, None, option_map, refl, sym, ◌∙◌, ap}
+use Rattle.std.proofs.Common.{◌≡◌, List, [], Option, Some, None, option_map, refl, sym, ◌∙◌, ap}
 use Rattle.term_core.specs.Terms.{Tree, Forest, leaf, node, inj, no_tree, more_trees, injected}
 use Rattle.term_core.specs.Patterns.{Pattern, Patterns, variable, domain_value, application}
 use Rattle.term_core.specs.Patterns.{injection, call, no_pattern, more_patterns}
-use Rattle.term_core.specs.Patterns.{binding, with_first, substituted, all_substituted, instance_of}
+use Rattle.term_core.specs.Patterns.{with_first, substituted, all_substituted, instance_of}
 use Rattle.term_core.specs.Patterns.{instances_of, ground_pattern, ground_patterns}
 use Rattle.rule_core.proofs.SortedInstances.{mapped, both_there}
 use Rattle.prove_term.specs.Filling.{in_place, filled, all_filled}

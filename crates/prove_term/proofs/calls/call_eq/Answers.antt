@@ -1,21 +1,17 @@
-use Rattle.std.proofs.Common.{◌≡◌, ◌^◌, ℕ, [], List, Some, sym, ◌∙◌, ap, subst}
+use Rattle.std.proofs.Common.{◌≡◌, ◌^◌, List, sym, ◌∙◌, ap, subst}
 use Rattle.ml_pat.specs.Patterns.{Pattern, constant}
 use Rattle.ml_kernel.specs.Lemmas.{HasNoVariable}
 use Rattle.term_core.specs.Terms.{forest}
-use Rattle.term_core.specs.Patterns.{Pattern as RulePattern, Patterns as RulePatterns, call}
-use Rattle.term_core.specs.Patterns.{ground_patterns}
+use Rattle.term_core.specs.Patterns.{call}
 use Rattle.term_core.specs.RulePatterns.{plain_pattern, sort_numbers}
 use Rattle.term_core.specs.PatternLists.{plain_patterns}
 use Rattle.term_core.specs.declared.rule_patterns.RulePat.{RulePat}
 use Rattle.term_core.proofs.PlainPatterns.{plain-Call}
-use Rattle.rule_core.specs.WellSorted.{IsSignature}
 use Rattle.rule_core.specs.declared.rules.Program.{Program}
 use Rattle.ml_image.specs.Images.{image_of}
-use Rattle.prove_term.specs.Contexts.{HasGrown}
 use Rattle.prove_term.specs.Schemas.{AreImages}
 use Rattle.prove_term.specs.Comparing.{AreMade, AllCompare, IsOverContext}
 use Rattle.prove_term.proofs.ResultLaws.{if_ok}
-use Rattle.prove_term.proofs.ContextLaws.{grown_twice}
 use Rattle.prove_term.proofs.ComparingCalls.{head_over}
 use Rattle.prove_term.proofs.CallLaws.{AreCalled, IsSplit, called_has_image, split, called_made}
 use Rattle.prove_term.proofs.CallLaws.{split_says}

@@ -1,4 +1,4 @@
-use Rattle.std.proofs.Common.{◌≡◌, [], List, ◌∙◌, ap}
+use Rattle.std.proofs.Common.{[], List, ◌∙◌, ap}
 use Rattle.term_core.specs.Patterns.{call}
 use Rattle.term_core.specs.RulePatterns.{sort_numbers}
 use Rattle.term_core.specs.PatternLists.{plain_patterns}
