@@ -100,6 +100,21 @@ def empty_statement(n):
     return HEAD + rules + f"th $p t $= ( no go ) A{'B' * (n // 8)} $.\n"
 
 
+def empty_texts_of_many(n):
+    """An `$e` of n symbols that are replaced by nothing, and n / 16 axioms under it, each cited once."""
+    long, many = " ".join(["x"] * n), max(n // 16, 2)
+    rules = f"no $a t $. ${{ e $e t {long} $. " + "".join(f"go{i} $a t x $.\n" for i in range(many)) + "$}\n"
+    labels = " ".join(f"go{i}" for i in range(many))
+    return HEAD + rules + f"th $p t $= ( no {labels} ) A{''.join('A' + number(i + 2) for i in range(many))} $.\n"
+
+
+def empty_statement_under_premise(n):
+    """The statement of n symbols under a long `$e`."""
+    long = " ".join(["x"] * 300)
+    rules = f"no $a t $. ${{ e $e t {long} $. go $a t {' '.join(['x'] * n)} $. $}}\n"
+    return HEAD + rules + f"th $p t $= ( no go ) A{'AB' * (n // 8)} $.\n"
+
+
 def proofs_under_premises(n):
     """n active `$e`, and n theorems under them, whose proofs list a label."""
     premises = "".join(f"e{i} $e t u $.\n" for i in range(n))
@@ -192,8 +207,10 @@ CASES = {
     "variables_under_premises": (variables_under_premises, 6000),
     "declarations_between": (declarations_between, 3000),
     "pair_in_many_groups": (pair_in_many_groups, 10000),
-    "empty_texts": (empty_texts, 10000),
+    "empty_texts": (empty_texts, 100000),
+    "empty_texts_of_many": (empty_texts_of_many, 10000),
     "empty_statement": (empty_statement, 100000),
+    "empty_statement_under_premise": (empty_statement_under_premise, 100000),
     "proofs_under_premises": (proofs_under_premises, 5000),
     "repeated_groups": (repeated_groups, 12500),
     "repeated_groups_between": (repeated_groups_between, 6000),

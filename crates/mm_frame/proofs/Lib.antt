@@ -30,3 +30,4 @@ mod KnownEntries
 pub mod PlacedLists
 mod Counting
 pub mod Splits
+pub mod Spotting

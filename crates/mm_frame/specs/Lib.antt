@@ -1,7 +1,9 @@
 -- Believed: what public clauses say, and believed definitions of other crates.
 pub mod Numbered
 pub mod FormsRead
-pub mod HypothesisHeld
+pub mod NumberLists
+pub mod ExpressionView
+pub mod StateHypotheses
 pub mod PlacedHypotheses
 pub mod TreeView
 pub mod PlainFrames
@@ -18,6 +20,7 @@ pub mod Proposing
 pub mod AddedView
 pub mod CitedView
 pub mod Labels
+pub mod Spots
 -- Laws: what follows from that. Each is a clause of a function that does nothing.
 pub mod NumberedSteps
 pub mod StandingLaws

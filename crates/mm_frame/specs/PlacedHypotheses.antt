@@ -1,4 +1,4 @@
--- Hypotheses with the places at which they stand, in a list.
+-- A list of hypotheses, each with its place.
 use Rattle.std.specs.Prelude.{ℕ, List, map}
 use Rattle.mm_frame.specs.Numbered.{NumberedHypothesis}
 

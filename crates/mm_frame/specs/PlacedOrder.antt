@@ -5,7 +5,7 @@ use Rattle.std.specs.List.{list_any}
 use Rattle.mm_frame.specs.Numbered.{NumberedHypothesis}
 use Rattle.mm_frame.specs.PlacedHypotheses.{Placed}
 
--- one more at its place, in the place of what stands there
+-- one more hypothesis at its place; it replaces what is there
 abbrev pub placed_at : ℕ → NumberedHypothesis → List Placed → List Placed
 placed_at place h [] = (place, h) ∷ []
 placed_at place h (p ∷ ps) =

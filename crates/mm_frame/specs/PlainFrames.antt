@@ -1,20 +1,19 @@
 -- Frames as scopes hold them: symbols by their numbers, and the pairs that have to stay apart as
 -- one list of variables for each `$d`. Hypotheses are in a list, or in a tree that other frames
 -- share.
-pub use Rattle.mm_frame.specs.HypothesisHeld.{plain_hypothesis, plain_hypotheses}
+pub use Rattle.mm_frame.specs.NumberLists.{has_number}
+pub use Rattle.mm_frame.specs.StateHypotheses.{plain_hypothesis, plain_hypotheses}
 use Rattle.std.specs.Prelude.{ℕ, Bool, false, not, ◌&&◌, nat_eq, List, map, ◌++◌}
 use Rattle.std.specs.Global.{Vec}
 use Rattle.std.specs.List.{list_any}
 use Rattle.mm_frame.specs.Numbered.{NumberedHypothesis, NumberedFrame}
 use Rattle.mm_frame.specs.PlacedHypotheses.{hypotheses_placed}
+use Rattle.mm_frame.specs.ExpressionView.{expression_symbols}
 use Rattle.mm_frame.specs.declared.frames.Frame.{Frame}
 use Rattle.mm_frame.specs.declared.asking.Parts.{Parts}
 use Rattle.mm_frame.specs.declared.asking.Mandatory.{Mandatory}
 use Rattle.mm_frame.specs.declared.asking.Mandatory.TheVariants.{Listed, Shared}
 use Rattle.mm_database.specs.Frames.{floating, essential}
-
-abbrev pub has_number : List ℕ → ℕ → Bool
-has_number numbers n = list_any (λ m. nat_eq m n) numbers
 
 -- two different numbers of one group
 abbrev pub in_group : ℕ → ℕ → List ℕ → Bool
@@ -48,7 +47,7 @@ plain_frame f = record {
   label = f.label.now;
   hypotheses = mandatory_hypotheses f.mandatory.value;
   apart = in_groups (mandatory_groups f.mandatory.value);
-  statement = f.statement.items;
+  statement = expression_symbols f.statement.value;
 }
 
 abbrev pub plain_frames : List Frame → List NumberedFrame

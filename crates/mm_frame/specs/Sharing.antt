@@ -1,4 +1,4 @@
--- What assertions of one place share: cited by the clauses of private functions alone.
+-- What assertions of one place share. Only clauses of private functions cite these definitions.
 use Rattle.std.specs.Prelude.{◌≡◌, ◌≤◌, ℕ, nat_eq, Bool, not, ◌&&◌, ◌||◌, List, [], filter}
 use Rattle.std.specs.Prelude.{if◌then◌else◌, length, take, slice_get, slice_index, Option, Some}
 use Rattle.std.specs.Prelude.{None, IfSome, option_map}
@@ -17,7 +17,7 @@ use Rattle.mm_frame.specs.Places.{passes}
 use Rattle.mm_frame.specs.declared.common.Common.{Common}
 use Rattle.mm_frame.specs.declared.scopes.OpenBlock.{OpenBlock}
 
--- each `$f` stands at the place that is kept for its variable
+-- each `$f` is at the place that is kept for its variable
 abbrev pub ArePlacedIn : List ℕ → List NumberedHypothesis → Type 0
 ArePlacedIn types hypotheses =
     (i : ℕ) (l : Token) (k v : ℕ) → slice_get hypotheses i ≡ Some (floating l k v)
@@ -38,7 +38,7 @@ abbrev pub kept_at : (NumberedHypothesis → Bool) → Option NumberedHypothesis
 kept_at test None = None
 kept_at test (Some h) = if test h then Some h else None
 
--- at each place stands the hypothesis there that a statement asks for
+-- at each place is the hypothesis that a statement asks for there
 abbrev pub HasMandatory : List NumberedHypothesis → List ℕ → List Placed → Type 0
 HasMandatory hypotheses statement ps = (i : ℕ) →
     find_placed ps i
@@ -64,7 +64,7 @@ pub record IsCommon (types : List ℕ) (hypotheses : List NumberedHypothesis) (g
   pub tree : ArePlacedIn types hypotheses → HasMandatory hypotheses [] c.tree.value
   pub pairs : IfSome (pairs_in c) (ArePairs hypotheses groups)
 
--- what was common where a block was opened
+-- what was common when a block was opened
 pub record IsOuter (types : List ℕ) (hypotheses : List NumberedHypothesis) (groups : List (List ℕ))
     (blocks : List OpenBlock) (i : ℕ) (b : OpenBlock) (o : Option Common) : Type 0 where
   pub hyps : b.hyps ≤ length hypotheses
@@ -83,20 +83,20 @@ pub record AreOuter (types : List ℕ) (hypotheses : List NumberedHypothesis) (g
 abbrev pub is_unasked_number : List NumberedHypothesis → ℕ → Bool
 is_unasked_number hypotheses n = not (list_any (number_stands_in n) hypotheses)
 
--- it stands in the statement, and in no active `$e`
+-- it occurs in the statement, and in no active `$e`
 abbrev pub is_own_number : List NumberedHypothesis → List ℕ → ℕ → Bool
 is_own_number hypotheses statement n = has_number statement n && is_unasked_number hypotheses n
 
--- it stands in an active `$e`, or is in no group
+-- it occurs in an active `$e`, or is in no group
 abbrev pub is_free_number : List NumberedHypothesis → List (List ℕ) → ℕ → Bool
 is_free_number hypotheses groups n =
     list_any (number_stands_in n) hypotheses || nat_eq (length (group_places groups n)) 0
 
--- it stands in an active `$e`, or is one of the numbers
+-- it occurs in an active `$e`, or is one of the numbers
 abbrev pub is_wanted_number : List NumberedHypothesis → List ℕ → ℕ → Bool
 is_wanted_number hypotheses own n = list_any (number_stands_in n) hypotheses || has_number own n
 
--- what stands at a place, once the hypotheses at some places are there too
+-- what is at a place, after the hypotheses at some places were added
 abbrev pub or_found : Option NumberedHypothesis → Option NumberedHypothesis
     → Option NumberedHypothesis
 or_found None old = old

@@ -1,4 +1,4 @@
--- How often a symbol stands in lists of symbols.
+-- How often a symbol occurs in lists of symbols.
 use Rattle.std.specs.Prelude.{ℕ, ◌+◌, nat_eq, if◌then◌else◌, List, [], ◌∷◌}
 use Rattle.mm_frame.specs.Numbered.{NumberedHypothesis}
 use Rattle.mm_database.specs.Frames.{floating, essential}

@@ -6,7 +6,8 @@ use Rattle.mm_frame.specs.declared.tree.Node.{Node}
 use Rattle.mm_frame.specs.declared.tree.Node.TheVariants.{Leaf, Fork}
 use Rattle.mm_frame.specs.declared.tree.HypTree.TheInside.{Inside}
 
--- the places before the split stand in the first part, and the others in the second; none is empty
+-- the places before the split are in the first part, and the others in the second; neither part is
+-- empty
 abbrev pub IsSplit : Node → Type 0
 IsSplit (Leaf place hyp) = Unit {0}
 IsSplit (Fork split low high) =

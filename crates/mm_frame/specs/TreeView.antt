@@ -1,6 +1,6 @@
 -- What a tree of hypotheses has.
 use Rattle.std.specs.Prelude.{List, [], ◌∷◌, ◌++◌}
-use Rattle.mm_frame.specs.HypothesisHeld.{plain_hypothesis}
+use Rattle.mm_frame.specs.StateHypotheses.{plain_hypothesis}
 use Rattle.mm_frame.specs.PlacedHypotheses.{Placed}
 use Rattle.mm_frame.specs.declared.tree.Node.{Node}
 use Rattle.mm_frame.specs.declared.tree.Node.TheVariants.{Leaf, Fork}

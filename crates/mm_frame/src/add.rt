@@ -1,4 +1,4 @@
-// A statement without fault is added to what is declared.
+// Adding what a faultless statement declares.
 
 ghost use Rattle.std.specs.Prelude.{◌≡◌, ◌++◌, ◌∷◌, [], ℕ, cond, Some, IfOk, length, bytes_eq};
 ghost use Rattle.mm_text.specs.Bytes.{Token};
@@ -66,7 +66,7 @@ impl<'a> Scopes<'a> {
         Ok(())
     }
 
-    /// Makes a hypothesis active. After running out of memory nothing may be active.
+    /// Makes a hypothesis active. When out of memory, nothing may be active any more.
     pub(crate) fn add_hypothesis(&mut self, alloc: Global, hyp: Hyp<'a>) -> Result<(), AllocError>
         ensures { IfOk result (λ _. AddsHypothesis (scope_state self.old)
             (plain_hypothesis hyp.entry) (scope_state self.new)) }
@@ -85,7 +85,7 @@ impl<'a> Scopes<'a> {
         Ok(())
     }
 
-    /// Keeps variables apart from each other. After running out of memory nothing may be active.
+    /// Keeps variables apart from each other. When out of memory, nothing may be active any more.
     pub(crate) fn add_disjoint(
         &mut self,
         alloc: Global,
@@ -155,7 +155,7 @@ impl<'a> Scopes<'a> {
         Ok(())
     }
 
-    /// Closes the inmost block, and gives it; none where no block is open.
+    /// Closes the innermost block and returns it, or `None` if no block is open.
     pub(crate) fn close_block(&mut self) -> Option<OpenBlock>
         ensures { ClosesBlock (scope_state self.old) (scope_state self.new) result }
     {
@@ -168,7 +168,7 @@ impl<'a> Scopes<'a> {
     }
 }
 
-/// Keeps the place of an `$f` for its variable.
+/// Notes the place of an `$f` for its variable.
 fn set_type(types: &mut Vec<usize>, hyp: &Hyp<'_>, place: usize)
     ensures { types.new.items ≡ types_with types.old.items place (plain_hypothesis hyp.now) }
 {

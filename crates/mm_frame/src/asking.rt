@@ -36,7 +36,7 @@ pub struct Parts<'a> {
     pub(crate) own: Vec<Vec<u32>>,
 }
 
-/// The labels of hypotheses. It takes time in their number, but for a factor of its logarithm.
+/// The labels of hypotheses. It takes time in their number, times its logarithm.
 pub fn own_labels<'a>(alloc: Global, hyps: &[Hyp<'a>]) -> Result<BTreeMap<&'a [u8], ()>, AllocError>
     ensures { IfOk result (λ m. HasLabels m hyps.now) }
 {
@@ -77,14 +77,14 @@ impl<'a> Mandatory<'a> {
 impl<'a> Parts<'a> {
     ghost use Rattle.mm_frame.specs.PlainFrames.{plain_hypotheses, parts_hypotheses, parts_groups};
 
-    /// The same as lists. It takes time in their lengths.
+    /// The same as lists. It takes time in their lengths. Statements are shared.
     pub fn lists(&self, alloc: Global) -> Result<Lists<'a>, AllocError>
         ensures hyps { IfOk result
             (λ l. plain_hypotheses l.hyps.items ≡ parts_hypotheses self.now) }
         ensures apart { IfOk result (λ l. groups_of l.apart.items ≡ parts_groups self.now) }
     {
         let mut hyps = Vec::with_capacity(alloc, self.tree.len())?;
-        self.tree.push_to(alloc, &mut hyps)?;
+        self.tree.push_to(&mut hyps)?;
         let mut apart = Vec::with_capacity(alloc, self.common.len())?;
         push_copies(alloc, &mut apart, &self.common)?;
         push_copies(alloc, &mut apart, &self.own)?;

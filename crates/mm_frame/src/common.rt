@@ -11,6 +11,7 @@ ghost use Rattle.mm_frame.specs.StatePlaces.{ArePlaced, typed_places};
 ghost use Rattle.mm_frame.specs.StateSteps.{types_with};
 ghost use Rattle.mm_frame.specs.PlainFrames.{plain_hypothesis, has_number, in_groups, groups_of};
 ghost use Rattle.mm_frame.specs.PlainFrames.{parts_hypotheses, parts_groups};
+ghost use Rattle.mm_frame.specs.ExpressionView.{expression_symbols};
 ghost use Rattle.mm_frame.specs.NeededNumbers.{is_needed_number};
 ghost use Rattle.mm_frame.specs.PlacedOrder.{find_placed};
 ghost use Rattle.mm_text.specs.Bytes.{Token};
@@ -23,6 +24,7 @@ ghost use Rattle.mm_frame.specs.Sharing.{own_shares, shares_wanted};
 
 use crate::asking::Parts;
 use crate::disjoint::{is_among, push_group, push_if};
+use crate::expression::Expression;
 use crate::frames::Hyp;
 use crate::scopes::Scopes;
 use crate::tree::HypTree;
@@ -30,7 +32,7 @@ use std::alloc::{AllocError, Global};
 use std::rc::Rc;
 
 /// What each assertion of a place asks for: a tree of the active `$e` and of the active `$f` of
-/// their variables, and those pairs of active `$d` that these variables are, where they are made.
+/// their variables, and the pairs of these variables in active `$d`, if they were made already.
 #[derive(Drop)]
 pub(crate) struct Common<'a> {
     tree: Rc<HypTree<'a>>,
@@ -91,20 +93,22 @@ impl<'a> Scopes<'a> {
         }
     }
 
-    /// Made where the active `$e` are long with one more, which has this label and statement.
+    /// What is common once an `$e` with this label and statement is active too. It is made if the
+    /// active `$e` are long with this one.
     fn common_with_premise(
         &self,
         alloc: Global,
         label: &'a [u8],
-        statement: &[u32],
+        statement: &Rc<Expression>,
     ) -> Result<Option<Common<'a>>, AllocError>
         ensures { IfOk result (λ o. IfSome o (IsCommon (scope_state self.now).types
-            ((scope_state self.now).hypotheses ++ essential label.now statement.now ∷ [])
+            ((scope_state self.now).hypotheses
+            ++ essential label.now (expression_symbols statement.now.value) ∷ [])
             (scope_state self.now).disjoint)) }
     {
         match &self.common {
             None => {
-                if !self.hyps.are_heavy_with(statement) {
+                if !self.hyps.are_heavy_with(statement.symbols()) {
                     return Ok(None);
                 }
                 let tree = self.first_tree(alloc, label, statement)?;
@@ -112,14 +116,14 @@ impl<'a> Scopes<'a> {
             }
             Some(common) => {
                 let tree = self.next_tree(alloc, &common.tree, label, statement)?;
-                let pairs = self.pairs_with(common, statement)?;
+                let pairs = self.pairs_with(common, statement.symbols())?;
                 Ok(Some(Common { tree, pairs }))
             }
         }
     }
 
-    /// The common pairs stay the same with one more `$e` whose symbols are in others, or in no
-    /// `$d`.
+    /// The common pairs with one more `$e`. They stay the same if each of its symbols is in other
+    /// `$e`, or in no `$d`.
     fn pairs_with(
         &self,
         common: &Common<'a>,
@@ -157,7 +161,7 @@ impl<'a> Scopes<'a> {
         true
     }
 
-    /// What is common once these variables are kept apart too: the pairs stay the same where active
+    /// What is common once these variables are kept apart too. The pairs stay the same if active
     /// `$e` have fewer than two of the variables.
     pub(crate) fn common_apart(
         &self,
@@ -195,7 +199,7 @@ impl<'a> Scopes<'a> {
         }
     }
 
-    /// Makes the common pairs, where they are not made, for assertions to share.
+    /// Makes the common pairs for assertions to share, if they are not made yet.
     pub(crate) fn keep_pairs(&mut self, alloc: Global) -> Result<(), AllocError>
         ensures { scope_state self.new ≡ scope_state self.old }
     {
@@ -216,15 +220,15 @@ impl<'a> Scopes<'a> {
         &self,
         alloc: Global,
         label: &'a [u8],
-        statement: &[u32],
+        statement: &Rc<Expression>,
     ) -> Result<Rc<HypTree<'a>>, AllocError>
         ensures { IfOk result (λ t. ArePlaced (scope_state self.now) → HasMandatory
-            ((scope_state self.now).hypotheses ++ essential label.now statement.now ∷ []) []
-            t.value) }
+            ((scope_state self.now).hypotheses
+            ++ essential label.now (expression_symbols statement.now.value) ∷ []) [] t.value) }
     {
-        let needed = self.needed(alloc, statement)?;
+        let needed = self.needed(alloc, statement.symbols())?;
         let places = self.places(alloc, &needed)?;
-        let hyp = Hyp::Essential(label, Vec::from_slice(alloc, statement)?);
+        let hyp = Hyp::Essential(label, statement.clone()?);
         let tree = Rc::new(alloc, HypTree::leaf(self.hyps.len(), hyp))?;
         self.with_places(alloc, tree, &places)
     }
@@ -235,17 +239,17 @@ impl<'a> Scopes<'a> {
         alloc: Global,
         tree: &Rc<HypTree<'a>>,
         label: &'a [u8],
-        statement: &[u32],
+        statement: &Rc<Expression>,
     ) -> Result<Rc<HypTree<'a>>, AllocError>
         ensures { IfOk result (λ t. ArePlaced (scope_state self.now)
             → HasMandatory (scope_state self.now).hypotheses [] tree.now.value
             → HasMandatory
-            ((scope_state self.now).hypotheses ++ essential label.now statement.now ∷ []) []
-            t.value) }
+            ((scope_state self.now).hypotheses
+            ++ essential label.now (expression_symbols statement.now.value) ∷ []) [] t.value) }
     {
-        let own = self.own_symbols(alloc, statement)?;
+        let own = self.own_symbols(alloc, statement.symbols())?;
         let places = self.typed(alloc, &own)?;
-        let hyp = Hyp::Essential(label, Vec::from_slice(alloc, statement)?);
+        let hyp = Hyp::Essential(label, statement.clone()?);
         let tree = HypTree::with(tree, alloc, self.hyps.len(), hyp)?;
         self.with_places(alloc, tree, &places)
     }
@@ -280,7 +284,7 @@ impl<'a> Scopes<'a> {
     {
         match self.hyps.get(place) {
             None => Ok(tree),
-            Some(hyp) => HypTree::with(&tree, alloc, place, hyp.copied(alloc)?),
+            Some(hyp) => HypTree::with(&tree, alloc, place, hyp.share()?),
         }
     }
 
@@ -372,8 +376,8 @@ impl<'a> Scopes<'a> {
         Ok(pairs)
     }
 
-    /// The pairs of those active `$d` that have one of these symbols, which ascend: as far as a
-    /// pair's two variables are among these or stand in active `$e`.
+    /// Pairs of those active `$d` that have one of these symbols, which ascend. Each variable of a
+    /// pair is one of these symbols, or occurs in an active `$e`.
     fn own_pairs(&self, alloc: Global, own: &[u32]) -> Result<Vec<Vec<u32>>, AllocError>
         requires { IsStrictlyIncreasing own.now }
         ensures { IfOk result (λ v. (a b : ℕ) → in_groups (groups_of v.items) a b
@@ -388,7 +392,7 @@ impl<'a> Scopes<'a> {
         Ok(pairs)
     }
 
-    /// Appends what the group at a place has that is wanted.
+    /// Appends those variables of the group at a place that are wanted.
     fn push_wanted(
         &self,
         alloc: Global,
@@ -408,7 +412,8 @@ impl<'a> Scopes<'a> {
         }
     }
 
-    /// What a group has of these numbers, which ascend, and of the symbols of active `$e`.
+    /// The variables of a group that are among these numbers, which ascend, or occur in an active
+    /// `$e`.
     fn wanted(&self, alloc: Global, own: &[u32], group: &[u32]) -> Result<Vec<u32>, AllocError>
         requires { IsStrictlyIncreasing own.now }
         ensures { IfOk result (λ v. v.items

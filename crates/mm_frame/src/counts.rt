@@ -5,7 +5,7 @@ ghost use Rattle.mm_frame.specs.Times.{once, times};
 
 use std::alloc::{AllocError, Global};
 
-/// How often each symbol stands in the active `$e`.
+/// How often each symbol occurs in the active `$e`.
 #[derive(Drop)]
 pub(crate) struct Counts {
     counts: Vec<usize>,
@@ -23,7 +23,7 @@ impl Counts {
         }
     }
 
-    /// Whether the symbol stands in one of them.
+    /// Whether the symbol occurs in one of them.
     pub(crate) fn has(&self, n: u32) -> bool
         ensures { result ≡ nat_lt 0 (times_counted self.now n) }
     {

@@ -15,6 +15,7 @@ ghost use Rattle.mm_frame.specs.AddedView.{form_added};
 ghost use Rattle.mm_frame.specs.Judging.{said_by, judged_plain, judged_form, Follows, OrFault};
 ghost use Rattle.mm_frame.specs.Ending.{end_at};
 
+use crate::expression::Expression;
 use crate::forms::{Form, Keyword, Plain, read_form};
 use crate::frames::Hyp;
 use crate::judge::{Refusal, Stated};
@@ -148,7 +149,10 @@ impl<'a> Scopes<'a> {
             },
             Keyword::Essential => match self.stated(alloc, bytes, labels, symbols) {
                 Err(refusal) => Err(refusal),
-                Ok(stated) => Ok(Said::Hypothesis(Hyp::Essential(stated.label, stated.statement))),
+                Ok(stated) => match Expression::shared(alloc, stated.statement) {
+                    Err(_) => Err(Refusal::Memory),
+                    Ok(statement) => Ok(Said::Hypothesis(Hyp::Essential(stated.label, statement))),
+                },
             },
             Keyword::Disjoint => match self.separated(alloc, bytes, labels, symbols) {
                 Err(refusal) => Err(refusal),

@@ -6,6 +6,7 @@ ghost use Rattle.mm_database.specs.Frames.{label_of};
 ghost use Rattle.mm_frame.specs.Listed.{is_essential};
 
 use crate::asking::Mandatory;
+use crate::expression::Expression;
 use std::rc::Rc;
 
 /// A hypothesis, whose symbols are numbers.
@@ -14,7 +15,7 @@ pub enum Hyp<'a> {
     /// A `$f`: its label, typecode and variable.
     Floating(&'a [u8], u32, u32),
     /// An `$e`: its label and statement.
-    Essential(&'a [u8], Vec<u32>),
+    Essential(&'a [u8], Rc<Expression>),
 }
 
 /// The frame of an assertion: its label, what it asks for, and its statement. Assertions of one
@@ -23,7 +24,7 @@ pub enum Hyp<'a> {
 pub struct Frame<'a> {
     pub label: &'a [u8],
     pub mandatory: Rc<Mandatory<'a>>,
-    pub statement: Vec<u32>,
+    pub statement: Rc<Expression>,
 }
 
 /// What a label cites.

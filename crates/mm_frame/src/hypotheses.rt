@@ -11,11 +11,11 @@ use crate::counts::Counts;
 use crate::frames::Hyp;
 use std::alloc::{AllocError, Global};
 
-/// With so many symbols the active `$e` are long, each counted as if it had some more.
-const LONG: usize = 256;
+/// The active `$e` are long if they have this many symbols or more, all together.
+const LONG_FROM: usize = 256;
 
-/// As how many symbols a hypothesis counts beside those that it has.
-const ONE: usize = 8;
+/// Each `$e` counts as this many symbols more than it has.
+const COST_OF_ONE: usize = 8;
 
 /// Hypotheses in the order in which they came, the places of the `$e` among them, and which symbols
 /// these have. Appending one takes time in its length, and cutting the list that of what is cut.
@@ -69,7 +69,7 @@ impl<'a> Hypotheses<'a> {
         &self.essentials
     }
 
-    /// Whether the symbol stands in one of the `$e`.
+    /// Whether the symbol occurs in one of the `$e`.
     pub(crate) fn is_asked(&self, n: u32) -> bool
         ensures { result ≡ list_any (number_stands_in n) (hypotheses_in self.now) }
     {
@@ -79,16 +79,18 @@ impl<'a> Hypotheses<'a> {
     /// Whether the `$e` are long, all together, with one more of this statement. It looks at few of
     /// them.
     pub(crate) fn are_heavy_with(&self, statement: &[u32]) -> bool {
-        let mut weight = statement.len().saturating_add(ONE);
+        let mut weight = statement.len().saturating_add(COST_OF_ONE);
         for place in &self.essentials {
-            if weight >= LONG {
+            if weight >= LONG_FROM {
                 return true;
             }
             if let Some(Hyp::Essential(_, statement)) = self.all.get(*place) {
-                weight = weight.saturating_add(statement.len()).saturating_add(ONE);
+                weight = weight
+                    .saturating_add(statement.symbols().len())
+                    .saturating_add(COST_OF_ONE);
             }
         }
-        weight >= LONG
+        weight >= LONG_FROM
     }
 
     /// Appends a hypothesis. After running out of memory none may be left.
@@ -103,7 +105,7 @@ impl<'a> Hypotheses<'a> {
             self.all.push(hyp).unwrap();
             return Ok(());
         };
-        if self.counts.add(statement).is_err() {
+        if self.counts.add(statement.symbols()).is_err() {
             self.all.clear();
             self.essentials.clear();
             self.counts.clear();
@@ -131,7 +133,7 @@ impl<'a> Hypotheses<'a> {
         if let Some(hyp) = self.all.pop() {
             if let Hyp::Essential(_, statement) = &hyp {
                 self.essentials.pop();
-                self.counts.remove(statement);
+                self.counts.remove(statement.symbols());
             }
         }
     }

@@ -13,6 +13,7 @@ mod counts;
 mod declare;
 mod disjoint;
 mod entries;
+mod expression;
 mod forms;
 mod frames;
 mod hypotheses;
@@ -27,6 +28,7 @@ mod tree;
 
 pub use asking::{Lists, Mandatory, Parts, own_labels};
 pub use declare::{Added, FrameEnd};
+pub use expression::Expression;
 pub use forms::{Form, Keyword, Plain, read_form};
 pub use frames::{Cited, Frame, Hyp};
 pub use laws::{number_laws, scope_laws};

@@ -17,6 +17,7 @@ ghost use Rattle.mm_frame.specs.Listed.{is_essential};
 ghost use Rattle.mm_frame.specs.StatePlaces.{premise_at, ArePlaced, typed_places};
 
 use crate::asking::{Lists, Mandatory};
+use crate::expression::Expression;
 use crate::frames::{Frame, Hyp};
 use crate::judge::Stated;
 use crate::scopes::Scopes;
@@ -33,7 +34,7 @@ impl<'a> Scopes<'a> {
         Ok(Frame {
             label: stated.label,
             mandatory: Rc::new(alloc, mandatory)?,
-            statement: stated.statement,
+            statement: Expression::shared(alloc, stated.statement)?,
         })
     }
 
@@ -86,7 +87,7 @@ impl<'a> Scopes<'a> {
         let mut symbols = Vec::from_slice(alloc, statement)?;
         for place in self.hyps.essentials() {
             if let Some(Hyp::Essential(_, premise)) = self.hyps.get(*place) {
-                symbols.extend_from_slice(premise)?;
+                symbols.extend_from_slice(premise.symbols())?;
             }
         }
         Ok(symbols)
@@ -139,7 +140,7 @@ impl<'a> Scopes<'a> {
         let mut hyps = Vec::with_capacity(alloc, places.len())?;
         for place in places {
             if let Some(hyp) = self.hyps.get(*place) {
-                let hyp = hyp.copied(alloc)?;
+                let hyp = hyp.share()?;
                 if hyps.push(hyp).is_err() {
                     return Err(AllocError);
                 }
@@ -150,17 +151,15 @@ impl<'a> Scopes<'a> {
 }
 
 impl<'a> Hyp<'a> {
-    pub(crate) fn copied(&self, alloc: Global) -> Result<Hyp<'a>, AllocError>
+    /// The same once more.
+    pub(crate) fn share(&self) -> Result<Hyp<'a>, AllocError>
         ensures { IfOk result (λ h. plain_hypothesis h ≡ plain_hypothesis self.now) }
     {
         match self {
             Hyp::Floating(label, typecode, variable) => Ok(Hyp::Floating(
                 label, *typecode, *variable,
             )),
-            Hyp::Essential(label, statement) => Ok(Hyp::Essential(
-                label,
-                Vec::from_slice(alloc, statement)?,
-            )),
+            Hyp::Essential(label, statement) => Ok(Hyp::Essential(label, statement.clone()?)),
         }
     }
 }

@@ -240,21 +240,21 @@ impl<'a> HypTree<'a> {
     }
 
     /// Appends copies of the hypotheses, in order.
-    pub fn push_to(&self, alloc: Global, hyps: &mut Vec<Hyp<'a>>) -> Result<(), AllocError>
+    pub fn push_to(&self, hyps: &mut Vec<Hyp<'a>>) -> Result<(), AllocError>
         ensures { IfOk result (λ _. plain_hypotheses hyps.new.items
             ≡ plain_hypotheses hyps.old.items ++ hypotheses_placed self.now) }
     {
         match &self.node {
             Node::Leaf(_, hyp) => {
-                let hyp = hyp.copied(alloc)?;
+                let hyp = hyp.share()?;
                 if hyps.push(hyp).is_err() {
                     return Err(AllocError);
                 }
                 Ok(())
             }
             Node::Fork(_, low, high) => {
-                low.push_to(alloc, hyps)?;
-                high.push_to(alloc, hyps)
+                low.push_to(hyps)?;
+                high.push_to(hyps)
             }
         }
     }

@@ -2,7 +2,7 @@ mod Apartness
 mod Spreading
 mod Meeting
 mod Clashing
-mod Scattering
+mod LabelMarks
 mod Cuts
 mod FewSteps
 mod Fillings
@@ -10,7 +10,7 @@ mod ReadLetters
 mod ReadProofs
 mod Placing
 mod Resolving
-mod Spotting
+mod Runs
 mod Presence
 mod StepsNamed
 mod KindsNamed

@@ -1,12 +1,16 @@
 -- Laws on the places of variables.
 use Rattle.std.proofs.Common.{◌≡◌, ℕ, suc, ◌+◌, ◌<◌, Bool, true, false, List, [], ◌∷◌, ◌++◌, length}
-use Rattle.std.proofs.Common.{take, drop, get_or, map, Some, None, cond, refl, ap, ◌∙◌, sym, arith}
+use Rattle.std.proofs.Common.{take, drop, get_or, map, Option, Some, None, cond, nat_eq, refl, ap}
+use Rattle.std.proofs.Common.{◌∙◌, sym, arith, ◌≤◌}
+use Rattle.std.specs.Prelude.{IfSome}
+use Rattle.std.specs.BTreeMap.{BTreeMap}
 use Rattle.std.proofs.lemmas.List.{take_more, drop_more, length-take-le}
 use Rattle.std.specs.List.{position_from}
 use Rattle.mm_frame.specs.Numbered.{NumberedHypothesis}
 use Rattle.mm_frame.specs.PlainFrames.{types_number, plain_hypotheses}
 use Rattle.mm_verify.specs.declared.parts.Part.{Part}
-use Rattle.mm_verify.specs.Places.{first_place, place_of, symbol_of, ArePlaced}
+use Rattle.mm_verify.specs.Places.{first_place, place_of, place_in, symbol_of, ArePlaced, IsTable}
+use Rattle.mm_verify.specs.PlacedView.{number_of_place, part_by}
 use Rattle.mm_verify.specs.Locating.{AreLocated}
 use Rattle.mm_verify.specs.declared.finding.Places.{Places}
 
@@ -74,3 +78,47 @@ pub place-nowhere : (all : List NumberedHypothesis) (symbol i : ℕ) → drop i 
     → None ≡ place_of all symbol
 place-nowhere all symbol i none was =
     sym (ap (λ (hs : List NumberedHypothesis). position_from (types_number symbol) i hs) none) ∙ was
+
+-- a place is that of a hypothesis
+pub place-below : {K : Type 0} (t : K → Bool) (i : ℕ) (xs : List K)
+    → IfSome (position_from t i xs) (λ p. p < i + length xs)
+place-below t i [] = record {}
+place-below t i (x ∷ xs) = go (t x) (place-below t (i + 1) xs)
+  where
+    raised : (o : Option ℕ) → IfSome o (λ p. p < i + 1 + length xs)
+        → IfSome o (λ p. p < i + suc (length xs))
+    raised None h = record {}
+    raised (Some p) h = omega (arith, h)
+
+    go : (b : Bool) → IfSome (position_from t (i + 1) xs) (λ p. p < i + 1 + length xs)
+        → IfSome (cond b (Some i) (position_from t (i + 1) xs)) (λ p. p < i + suc (length xs))
+    go true h = omega arith
+    go false h = raised (position_from t (i + 1) xs) h
+
+-- the parts that a table gives symbols
+module _ (places : BTreeMap ℕ ℕ) (all : List NumberedHypothesis) (is : IsTable places all)
+    (few : length all ≤ 4294967295) where
+  part-placed : (symbol : ℕ) → place_in (part_by places symbol) ≡ place_of all symbol
+  part-placed symbol =
+      ap (λ (o : Option ℕ). place_in (record { symbol = symbol; place = number_of_place o }))
+      (is symbol)
+      ∙ go (place_of all symbol) (place-below (types_number symbol) 0 all)
+    where
+      go : (o : Option ℕ) → IfSome o (λ p. p < 0 + length all)
+          → place_in (record { symbol = symbol; place = number_of_place o }) ≡ o
+      go None h = refl
+      go (Some p) h =
+          let other : nat_eq p 4294967295 ≡ false = grind (arith, h, few) in
+          ap (λ (b : Bool). cond b None (Some p)) other
+
+  pub parts-placed : (symbols : List ℕ)
+      → map place_in (map (part_by places) symbols) ≡ map (place_of all) symbols
+  parts-placed [] = refl
+  parts-placed (n ∷ ns) =
+      ap (λ (o : Option ℕ). o ∷ map place_in (map (part_by places) ns)) (part-placed n)
+      ∙ ap (λ (l : List (Option ℕ)). place_of all n ∷ l) (parts-placed ns)
+
+pub parts-symbols : (places : BTreeMap ℕ ℕ) (symbols : List ℕ)
+    → map symbol_of (map (part_by places) symbols) ≡ symbols
+parts-symbols places [] = refl
+parts-symbols places (n ∷ ns) = ap (λ (l : List ℕ). n ∷ l) (parts-symbols places ns)

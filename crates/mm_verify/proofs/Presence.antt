@@ -5,17 +5,18 @@ use Rattle.std.proofs.Common.{None, cond, refl, ap, ◌∙◌, sym, subst, arith
 use Rattle.std.specs.Prelude.{◌&&◌, ◌||◌, ◌==◌, not, All, slice_get, option_map, filter, flat_map}
 use Rattle.std.proofs.lemmas.Bool.{eqb-true, eq-eqb}
 use Rattle.std.proofs.lemmas.List.{map-append, get_or-take, get_or-drop, length-take, take_all}
-use Rattle.std.proofs.lemmas.List.{drop_more}
+use Rattle.std.proofs.lemmas.List.{drop_more, take_more, length-map, get_or-map}
 use Rattle.std.proofs.lemmas.List.Elements.{All-head, All-tail}
 use Rattle.std.proofs.lemmas.List.Folds.{list_any-append}
 use Rattle.std.proofs.lemmas.Option.{slice_get-map}
 use Rattle.mm_frame.specs.PlainFrames.{has_number}
 use Rattle.mm_frame.specs.Places.{passes, found_at}
 use Rattle.mm_verify.specs.declared.parts.Part.{Part}
-use Rattle.mm_verify.specs.Filling.{text_at, part_text, placed_text, filled}
-use Rattle.mm_verify.specs.Spots.{number_of, place_at, position_at, IsSpot, AreSpots}
+use Rattle.mm_verify.specs.Filling.{part_text, filled, IsWithin, AreWithin}
+use Rattle.mm_frame.specs.Spots.{symbol_at, position_at, IsSpot, AreSpots}
 use Rattle.mm_verify.specs.Present.{has_text}
-use Rattle.mm_verify.proofs.Spotting.{any-default, get-is, get-within}
+use Rattle.mm_frame.proofs.Spotting.{get-is, get-within}
+use Rattle.mm_verify.proofs.Runs.{any-default}
 use Rattle.mm_verify.proofs.Spreading.{or-right}
 
 abbrev pub with_text : List (List ℕ) → List Part → List Part
@@ -58,64 +59,41 @@ take-add (suc n) m (x ∷ xs) =
     let same : suc n + m ≡ suc (n + m) = omega arith in
     ap (λ (k : ℕ). take k (x ∷ xs)) same ∙ ap (λ l. x ∷ l) (take-add n m xs)
 
--- whether a text stands for a part is told by the number of its place
-stands : List (List ℕ) → ℕ → Bool
-stands entries n = cond (nat_eq n 4294967295) true (not (length (text_at entries n) == 0))
+module _ (entries : List (List ℕ)) (f : ℕ → Part) (symbols : List ℕ) where
+  abbrev parts : List Part
+  parts = map f symbols
 
-has-stands : (entries : List (List ℕ)) (p : Part)
-    → has_text entries p ≡ stands entries (number_of p)
-unfolding stands
-has-stands entries p = go (nat_eq p.place 4294967295)
-  where
-    go : (b : Bool)
-        → not (length (placed_text entries p.symbol (cond b None (Some p.place))) == 0)
-        ≡ cond b true (not (length (text_at entries p.place) == 0))
-    go true = refl
-    go false = refl
-
-passes-stands : (entries : List (List ℕ)) (o : Option Part) (n : ℕ)
-    → option_map number_of o ≡ Some n → passes (has_text entries) o ≡ stands entries n
-passes-stands entries None n is = absurd (cc)
-passes-stands entries (Some p) n is =
-    let same : number_of p ≡ n = cc in has-stands entries p ∙ ap (stands entries) same
-
-module _ (entries : List (List ℕ)) (parts : List Part) where
   abbrev is_present : ℕ → Bool
-  is_present i = passes (has_text entries) (slice_get parts i)
+  is_present i = passes (has_text entries) (slice_get (map f symbols) i)
 
-  spot-stands : (spot : ℕ) → IsSpot parts spot
-      → is_present (position_at spot) ≡ stands entries (place_at spot)
+  -- a part is where its symbol is
+  symbol-within : (i : ℕ) (p : Part) → slice_get parts i ≡ Some p → i < length symbols
+  symbol-within i p at = omega (arith, get-within parts i p at, length-map symbols f)
+
+  pub spot-within : (spot : ℕ) → IsSpot symbols spot → position_at spot < length symbols
+  spot-within spot is = get-within symbols (position_at spot) (symbol_at spot) is
+
+  -- whether the text of a part is empty is told by its symbol
+  spot-stands : (spot : ℕ) → IsSpot symbols spot
+      → is_present (position_at spot) ≡ has_text entries (f (symbol_at spot))
   spot-stands spot is =
-      passes-stands entries (slice_get parts (position_at spot)) (place_at spot)
-      (sym (slice_get-map number_of parts (position_at spot)) ∙ is)
+      ap (passes (has_text entries))
+      (slice_get-map f symbols (position_at spot) ∙ ap (option_map f) is)
 
   -- the part at a spot
-  spot-part : (spot : ℕ) → IsSpot parts spot → position_at spot < length parts
-  spot-part spot is =
-      there (slice_get parts (position_at spot)) refl
-      (sym (slice_get-map number_of parts (position_at spot)) ∙ is)
-    where
-      there : (o : Option Part) → slice_get parts (position_at spot) ≡ o
-          → option_map number_of o ≡ Some (place_at spot) → position_at spot < length parts
-      there None at none = absurd (cc)
-      there (Some p) at some = get-within parts (position_at spot) p at
-
-  pub present-at : (spots : List ℕ) (at spot position : ℕ) (p : Part) (text : List ℕ) (empty : Bool)
-      → AreSpots parts spots → at < length spots → spot ≡ get_or spots at spot
-      → position ≡ position_at spot → p ≡ get_or parts position p → text ≡ part_text entries p
-      → empty ≡ (length text == 0) → not empty ≡ is_present (position_at (get_or spots at 0))
-  present-at spots at spot position p text empty are lt is there part stands none =
-      let first : get_or spots at 0 ≡ spot = any-default spots at 0 spot lt ∙ sym is in
-      let place : position ≡ position_at (get_or spots at 0) = there ∙ ap position_at (sym first) in
-      let within : position < length parts =
-      subst (λ (n : ℕ). n < length parts) (sym place)
-      (spot-part (get_or spots at 0) (are.each at 0 lt)) in
-      let found : slice_get parts position ≡ Some p =
-      get-is parts position p within ∙ ap (λ (q : Part). Some q) (sym part) in
+  pub present-at : (spot position : ℕ) (p : Part) (text : List ℕ) (empty : Bool)
+      → position_at spot < length symbols → position ≡ position_at spot
+      → p ≡ f (get_or symbols position 0) → text ≡ part_text entries p
+      → empty ≡ (length text == 0) → not empty ≡ is_present (position_at spot)
+  present-at spot position p text empty within place part stands none =
+      let found : slice_get (map f symbols) (position_at spot) ≡ Some p =
+      slice_get-map f symbols (position_at spot)
+      ∙ ap (option_map f) (get-is symbols (position_at spot) 0 within)
+      ∙ ap (λ (q : Part). Some q)
+      (ap (λ (n : ℕ). f (get_or symbols n 0)) (sym place) ∙ sym part) in
       ap not none
       ∙ ap (λ (t : List ℕ). not (length t == 0)) stands
       ∙ ap (passes (has_text entries)) (sym found)
-      ∙ ap is_present place
 
   -- the positions of a run
   run-present : (run : List ℕ) (b : Bool) → All (λ spot. is_present (position_at spot) ≡ b) run
@@ -147,9 +125,9 @@ module _ (entries : List (List ℕ)) (parts : List Part) where
       last false false b is = ap (λ (c : Bool). c && true) (sym is)
 
   -- one run more
-  module _ (spots : List ℕ) (are : AreSpots parts spots) (at end : ℕ) (to : List ℕ) (b : Bool)
+  module _ (spots : List ℕ) (are : AreSpots symbols spots) (at end : ℕ) (to : List ℕ) (b : Bool)
       (from : at < end) (room : end ≤ length spots) (same : (k : ℕ) → at ≤ k → k < end
-      → place_at (get_or spots k 0) ≡ place_at (get_or spots at 0))
+      → symbol_at (get_or spots k 0) ≡ symbol_at (get_or spots at 0))
       (told : b ≡ is_present (position_at (get_or spots at 0))) (gathered : (i : ℕ)
       → has_number to i ≡ (has_number (map position_at (take at spots)) i && is_present i)) where
     abbrev run : List ℕ
@@ -161,13 +139,13 @@ module _ (entries : List (List ℕ)) (parts : List Part) where
         let where-is : get_or (take (end - at) (drop at spots)) k d ≡ get_or spots (at + k) d =
         get_or-take (end - at) (drop at spots) k d short ∙ get_or-drop at spots k d in
         let in-range : at + k < length spots = omega (arith, short, room) in
-        let first-spot : IsSpot parts (get_or spots at 0) =
+        let first-spot : IsSpot symbols (get_or spots at 0) =
         are.each at 0 (omega (arith, from, room)) in
-        let this-spot : IsSpot parts (get_or spots (at + k) d) = are.each (at + k) d in-range in
+        let this-spot : IsSpot symbols (get_or spots (at + k) d) = are.each (at + k) d in-range in
         ap (λ (s : ℕ). is_present (position_at s)) where-is
         ∙ spot-stands (get_or spots (at + k) d) this-spot
-        ∙ ap (λ (s : ℕ). stands entries (place_at s)) (any-default spots (at + k) d 0 in-range)
-        ∙ ap (stands entries) (same (at + k) (omega arith) (omega (arith, short)))
+        ∙ ap (λ (s : ℕ). has_text entries (f (symbol_at s))) (any-default spots (at + k) d 0 in-range)
+        ∙ ap (λ (n : ℕ). has_text entries (f n)) (same (at + k) (omega arith) (omega (arith, short)))
         ∙ sym (spot-stands (get_or spots at 0) first-spot)
         ∙ sym told
 
@@ -215,7 +193,7 @@ module _ (entries : List (List ℕ)) (parts : List Part) where
         ∙ has-more i
 
   -- all runs
-  pub all-present : (spots : List ℕ) → AreSpots parts spots → (at : ℕ) (to : List ℕ)
+  pub all-present : (spots : List ℕ) → AreSpots symbols spots → (at : ℕ) (to : List ℕ)
       → length spots ≤ at
       → ((i : ℕ)
       → has_number to i ≡ (has_number (map position_at (take at spots)) i && is_present i))
@@ -234,34 +212,54 @@ module _ (entries : List (List ℕ)) (parts : List Part) where
           and-false true = refl
           and-false false = refl
       go (Some p) at =
-          ap (λ (c : Bool). c && has_text entries p) (are.all i (get-within parts i p at))
+          ap (λ (c : Bool). c && has_text entries p) (are.all i (symbol-within i p at))
 
   -- the positions are those of parts
   pub present-within : (ns : List ℕ) → ((i : ℕ) → has_number ns i ≡ is_present i)
-      → All (λ i. i < length parts) ns
+      → All (λ i. i < length symbols) ns
   present-within ns has k d lt =
       there (slice_get parts (get_or ns k d)) refl (sym (has (get_or ns k d)) ∙ has-there ns k d lt)
     where
       there : (o : Option Part) → slice_get parts (get_or ns k d) ≡ o
-          → passes (has_text entries) o ≡ true → get_or ns k d < length parts
+          → passes (has_text entries) o ≡ true → get_or ns k d < length symbols
       there None at left = absurd (cc)
-      there (Some p) at left = get-within parts (get_or ns k d) p at
+      there (Some p) at left = symbol-within (get_or ns k d) p at
 
 -- the part at one position more
-pub part-more : (parts : List Part) (positions : List ℕ) (to new whole : List Part) (k d : ℕ)
-    (p : Part) → k < length positions → get_or positions k d < length parts
-    → new ≡ to ++ get_or parts (get_or positions k d) p ∷ []
-    → to ++ flat_map (λ i. found_at (slice_get parts i)) (drop k positions) ≡ whole
-    → new ++ flat_map (λ i. found_at (slice_get parts i)) (drop (k + 1) positions) ≡ whole
-part-more parts positions to new whole k d p lt within is before =
+pub part-more : (f : ℕ → Part) (symbols positions : List ℕ) (to new whole : List Part) (k d : ℕ)
+    → k < length positions → get_or positions k d < length symbols
+    → new ≡ to ++ f (get_or symbols (get_or positions k d) 0) ∷ []
+    → to ++ flat_map (λ i. found_at (slice_get (map f symbols) i)) (drop k positions) ≡ whole
+    → new ++ flat_map (λ i. found_at (slice_get (map f symbols) i)) (drop (k + 1) positions)
+    ≡ whole
+part-more f symbols positions to new whole k d lt within is before =
+    let parts : List Part = map f symbols in
+    let at : ℕ = get_or positions k d in
     ap (λ (l : List Part).
     l ++ flat_map (λ i. found_at (slice_get parts i)) (drop (k + 1) positions)) is
-    ∙ append_assoc to (get_or parts (get_or positions k d) p ∷ [])
+    ∙ append_assoc to (f (get_or symbols at 0) ∷ [])
     (flat_map (λ i. found_at (slice_get parts i)) (drop (k + 1) positions))
     ∙ ap (λ (o : Option Part). to
     ++ (found_at o
     ++ flat_map (λ i. found_at (slice_get parts i)) (drop (k + 1) positions)))
-    (sym (get-is parts (get_or positions k d) p within))
+    (sym (slice_get-map f symbols at ∙ ap (option_map f) (get-is symbols at 0 within)))
     ∙ ap (λ (l : List ℕ). to ++ flat_map (λ i. found_at (slice_get parts i)) l)
     (sym (drop_more positions k d lt))
     ∙ before
+
+-- the parts of one symbol more
+pub all-more : (f : ℕ → Part) (symbols : List ℕ) (to new : List Part) (i : ℕ)
+    → i < length symbols → new ≡ to ++ f (get_or symbols i 0) ∷ [] → to ≡ map f (take i symbols)
+    → new ≡ map f (take (i + 1) symbols)
+all-more f symbols to new i lt is before = is
+    ∙ ap (λ (l : List Part). l ++ f (get_or symbols i 0) ∷ []) before
+    ∙ sym (ap (map f) (take_more symbols i 0 lt)
+    ∙ map-append f (take i symbols) (get_or symbols i 0 ∷ []))
+
+-- the place of a part is that of an entry
+pub part-within : (n : ℕ) (f : ℕ → Part) (symbols : List ℕ) (i : ℕ)
+    → AreWithin n (map f symbols) → i < length symbols → IsWithin n (f (get_or symbols i 0))
+part-within n f symbols i within lt =
+    let at : get_or (map f symbols) i (f 0) ≡ f (get_or symbols i 0) =
+    get_or-map f symbols i 0 (f 0) lt in
+    subst (IsWithin n) at (within i (f 0) (omega (arith, lt, length-map symbols f)))

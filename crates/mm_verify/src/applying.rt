@@ -11,12 +11,12 @@ use crate::spreads::Spreads;
 use crate::stack::Stack;
 use std::alloc::{AllocError, Global};
 
-/// Applies an assertion: the last entries of the stack, one for each mandatory hypothesis, give way
-/// to what the assertion gives from them. Returns whether it does; if not, the stack is
-/// as before. The buffer is for the new entry and the lists are for what `$d` asks for, so that a
-/// step need not ask for room of its own. Room for the whole entry is asked for before any of it is
-/// written, where it may be long. It takes time in the length of the entries and of the new one,
-/// but for what `$d` asks for.
+/// Applies an assertion. Its statement, with the texts that the last entries of the stack give its
+/// variables, takes the place of these entries, one for each mandatory hypothesis. Returns whether
+/// the entries are what the assertion asks for; if not, the stack is as before. The buffer is for
+/// the new entry and `spreads` for the tests of `$d`: they keep their memory from step to step. If
+/// the entry may be long, room for all of it is asked for before any of it is written. It takes
+/// time in the length of the entries and of the new one, and what the tests of `$d` take.
 pub(crate) fn apply<P: Place>(
     alloc: Global,
     place: &P,

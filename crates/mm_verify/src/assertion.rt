@@ -12,11 +12,9 @@ use crate::present::Present;
 use crate::spreads::{Spreads, are_groups_apart};
 use crate::stack::Stack;
 use crate::statement::Statement;
-use mm_frame::{Frame, Lists, Mandatory};
+use mm_frame::{Expression, Frame, Lists, Mandatory};
 use std::alloc::{AllocError, Global};
-
-/// A statement with at least this many parts is long.
-const LONG: usize = 128;
+use std::rc::Rc;
 
 /// An assertion, each of whose variables knows which entry gives its text. `assertion_frame` is its
 /// frame.
@@ -38,37 +36,24 @@ impl<'a> Assertion<'a> {
     ghost use Rattle.mm_verify.specs.Applied.{bindings_in, is_met as met};
     ghost use Rattle.mm_frame.specs.PlainFrames.{plain_frame, plain_hypotheses, in_groups};
     ghost use Rattle.mm_frame.specs.PlainFrames.{groups_of};
+    ghost use Rattle.mm_frame.specs.ExpressionView.{expression_symbols};
     ghost use Rattle.mm_verify.specs.AssertionView.{assertion_frame};
     ghost use Rattle.mm_database.specs.Proofs.{substituted, keeps_apart};
     ghost use Rattle.mm_frame.specs.NumberedSteps.{all_agree, numbers_apart};
 
-    /// The assertion with this frame, for one step. It takes time in the frame's size, times the
-    /// logarithm of the number of its variables.
+    /// The assertion with this frame. It takes time in the number of its hypotheses, in the lengths
+    /// of its lists for `$d` and of the statements that are not long, times the logarithm of the
+    /// number of its variables.
     pub(crate) fn of(alloc: Global, frame: &Frame<'a>) -> Result<Assertion<'a>, AllocError>
-        ensures { IfOk result (λ a. assertion_frame a ≡ plain_frame frame.now) }
-    {
-        Assertion::with_long(alloc, frame, usize::MAX)
-    }
-
-    /// The same for many steps, which pass over empty texts of long statements. It takes time in the
-    /// frame's size, times its logarithm.
-    pub(crate) fn for_steps(alloc: Global, frame: &Frame<'a>) -> Result<Assertion<'a>, AllocError>
-        ensures { IfOk result (λ a. assertion_frame a ≡ plain_frame frame.now) }
-    {
-        Assertion::with_long(alloc, frame, LONG)
-    }
-
-    /// The same. Statements of `long` symbols or more are kept by places.
-    fn with_long(alloc: Global, frame: &Frame<'a>, long: usize) -> Result<Assertion<'a>, AllocError>
         ensures { IfOk result (λ a. assertion_frame a ≡ plain_frame frame.now) }
     {
         match &*frame.mandatory {
             Mandatory::Listed(lists) => {
-                Assertion::built(alloc, frame.label, lists, &frame.statement, long)
+                Assertion::built(alloc, frame.label, lists, &frame.statement)
             }
             Mandatory::Shared(parts) => {
                 let lists = parts.lists(alloc)?;
-                Assertion::built(alloc, frame.label, &lists, &frame.statement, long)
+                Assertion::built(alloc, frame.label, &lists, &frame.statement)
             }
         }
     }
@@ -78,20 +63,20 @@ impl<'a> Assertion<'a> {
         alloc: Global,
         label: &'a [u8],
         lists: &Lists<'a>,
-        statement: &[u32],
-        long: usize,
+        statement: &Rc<Expression>,
     ) -> Result<Assertion<'a>, AllocError>
         ensures label { IfOk result (λ a. (assertion_frame a).label ≡ label.now) }
         ensures hypotheses { IfOk result
             (λ a. (assertion_frame a).hypotheses ≡ plain_hypotheses lists.now.hyps.items) }
         ensures apart { IfOk result
             (λ a. (assertion_frame a).apart ≡ in_groups (groups_of lists.now.apart.items)) }
-        ensures statement { IfOk result (λ a. (assertion_frame a).statement ≡ statement.now) }
+        ensures statement { IfOk result (λ a. (assertion_frame a).statement
+            ≡ expression_symbols statement.now.value) }
     {
         let places = find_places(alloc, &lists.hyps)?;
-        let conclusion = stated(alloc, &places, statement, long)?;
+        let conclusion = stated(alloc, &places, statement)?;
         let apart = groups_located(alloc, &places, &lists.apart)?;
-        let wanted = all_wanted(alloc, &places, &lists.hyps, long)?;
+        let wanted = all_wanted(alloc, &places, &lists.hyps)?;
         Ok(Assertion {
             label,
             wanted,

@@ -39,7 +39,7 @@ impl<'a> Checker<'a> {
         }
     }
 
-    /// Checks a statement whose tokens stand in `bytes`, and adds what it declares; else answers
+    /// Checks a statement whose tokens are in `bytes`, and adds what it declares. Otherwise returns
     /// its first fault.
     pub(crate) fn check(
         &mut self,
@@ -66,7 +66,8 @@ impl<'a> Checker<'a> {
         }
     }
 
-    /// Checks the proof of a theorem, and adds it; else answers the fault of the proof.
+    /// Checks the proof of a theorem, and adds the theorem. Otherwise returns the fault of the
+    /// proof.
     fn prove(
         &mut self,
         alloc: Global,
@@ -111,7 +112,7 @@ impl<'a> Checker<'a> {
         }
     }
 
-    /// Adds what a statement declares; else answers its first fault but for those of proofs.
+    /// Adds what a statement declares. Otherwise returns its first fault that is not one of proofs.
     fn declare(
         &mut self,
         alloc: Global,
@@ -132,7 +133,7 @@ impl<'a> Checker<'a> {
         }
     }
 
-    /// The byte of the first `${` that is not closed, none exactly where there is none.
+    /// The byte of the first `${` that is not closed. Returns `None` exactly when all are closed.
     pub(crate) fn unclosed(&self) -> Option<usize>
         ensures { (c : Context) → IsBehind self.now c → result ≡ first_open c.blocks }
     {

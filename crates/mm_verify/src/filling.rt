@@ -1,4 +1,4 @@
-// Statements of assertions with the texts of a stack's entries in the places of variables.
+// Statements of assertions, whose variables are replaced by the texts of the stack's entries.
 ghost use Rattle.std.specs.Prelude.{◌≡◌, ◌+◌, ◌-◌, ◌<◌, ◌≤◌, ◌++◌, ◌∷◌, [], ℕ, List, false, length};
 ghost use Rattle.std.specs.Prelude.{drop};
 ghost use Rattle.std.specs.Prelude.{OnOk, MatchOption};
@@ -11,11 +11,11 @@ use crate::stack::Stack;
 use std::alloc::AllocError;
 use std::slice::from_ref;
 
-/// With so many symbols an entry may be long.
+/// An entry of this many symbols or more is long.
 const LONG: usize = 65536;
 
-/// The text that stands for a part: the symbol itself, or what stands after the typecode of an
-/// entry from `base` on.
+/// The text of a part: the symbol itself, or the symbols after the typecode of an entry from `base`
+/// on.
 pub(crate) fn text_of<'a>(part: &'a Part, stack: &'a Stack, base: usize) -> &'a [u32]
     requires { IsWithin (length (drop base stack.now)) part.now }
     ensures { result.now ≡ part_text (drop base stack.now) part.now }
@@ -26,7 +26,7 @@ pub(crate) fn text_of<'a>(part: &'a Part, stack: &'a Stack, base: usize) -> &'a 
     }
 }
 
-/// The text of the entry at a place from `base` on: what stands after its typecode.
+/// The text of the entry at a place from `base` on: the symbols after its typecode.
 pub(crate) fn text_at(stack: &Stack, base: usize, place: usize) -> &[u32]
     requires { place < length (drop base stack.now) }
     ensures { result.now ≡ text_at (drop base stack.now) place }
@@ -34,7 +34,7 @@ pub(crate) fn text_at(stack: &Stack, base: usize, place: usize) -> &[u32]
     behind_typecode(stack.entry_above(base, place))
 }
 
-/// What stands after the first symbol of an entry.
+/// The symbols after the first one of an entry.
 fn behind_typecode(entry: &[u32]) -> &[u32]
     ensures { result.now ≡ behind_first entry.now }
 {
@@ -54,8 +54,8 @@ pub(crate) fn has_empty_text(stack: &Stack, base: usize) -> bool {
     false
 }
 
-/// Whether the statement of some parts may be long, by what the entries from `base` on have all
-/// together.
+/// Whether the statement of some parts may be long, by the number of all symbols of the entries from
+/// `base` on.
 fn may_be_long(parts: &[Part], stack: &Stack, base: usize) -> bool
     requires { base ≤ length stack.now }
 {
@@ -107,7 +107,7 @@ fn fill(parts: &[Part], stack: &Stack, base: usize, to: &mut Vec<u32>) -> Result
     Ok(())
 }
 
-/// Appends the text that stands for a part.
+/// Appends the text of a part.
 fn append_part(part: &Part, stack: &Stack, base: usize, to: &mut Vec<u32>) -> Result<(), AllocError>
     requires within { IsWithin (length (drop base stack.now)) part.now }
     ensures { OnOk result
@@ -135,7 +135,7 @@ pub(crate) fn is_filled(parts: &[Part], stack: &Stack, base: usize, entry: &[u32
     rest.is_empty()
 }
 
-/// What stands after the text of a part, where symbols begin with that text.
+/// The symbols after the text of a part, or `None` if they do not begin with it.
 fn behind_part<'r>(part: &Part, stack: &Stack, base: usize, symbols: &'r [u32]) -> Option<&'r [u32]>
     requires within { IsWithin (length (drop base stack.now)) part.now }
     ensures { (others : List ℕ) → MatchOption result
@@ -149,7 +149,7 @@ fn behind_part<'r>(part: &Part, stack: &Stack, base: usize, symbols: &'r [u32]) 
     }
 }
 
-/// What stands after a symbol, where symbols begin with it.
+/// The symbols after the first one if this is the given one, or else `None`.
 fn behind_symbol(symbol: u32, symbols: &[u32]) -> Option<&[u32]>
     ensures { (others : List ℕ) → MatchOption result
         (same_numbers symbols.now (symbol ∷ others) ≡ false)
@@ -161,7 +161,7 @@ fn behind_symbol(symbol: u32, symbols: &[u32]) -> Option<&[u32]>
     }
 }
 
-/// What stands after a text, where symbols begin with it.
+/// The symbols after a text, or `None` if they do not begin with it.
 fn behind_text<'r>(text: &[u32], symbols: &'r [u32]) -> Option<&'r [u32]>
     ensures { (others : List ℕ) → MatchOption result
         (same_numbers symbols.now (text.now ++ others) ≡ false)

@@ -5,14 +5,13 @@
 //! (`machine`, `applying`, `checking`). The memory for checking proofs is kept from one proof to
 //! the next (`room`). Symbols are numbers. An `Assertion` knows for each of its variables which
 //! entry of the stack gives its text (`parts`), so that a step substitutes texts without a look-up.
-//! For a long `statement` it knows where each variable occurs (`by_place`), so that a step passes
-//! over empty texts (`present`). The contract of `verify` is the definition of validity of the
-//! crate `mm_database`, in both directions.
+//! A long `statement` is shared with the frame, which lists where each symbol stands (`placed`), so
+//! that a step passes over empty texts (`present`). The contract of `verify` is the definition of
+//! validity of the crate `mm_database`, in both directions.
 #![tactic(auto)]
 
 mod applying;
 mod assertion;
-mod by_place;
 mod checker;
 mod checking;
 mod citable;
@@ -27,6 +26,7 @@ mod letters;
 mod machine;
 mod parts;
 mod place;
+mod placed;
 mod present;
 mod proof_fault;
 mod proof_text;

@@ -8,7 +8,6 @@ ghost use Rattle.mm_frame.specs.PlainFrames.{plain_hypothesis};
 ghost use Rattle.mm_verify.specs.Applied.{AgreesWithStep};
 ghost use Rattle.mm_verify.specs.Running.{step_of, saving_of, numbered_step};
 ghost use Rattle.mm_verify.specs.Running.{left_fault as left_fault_of, steps_fault};
-ghost use Rattle.mm_database.specs.Frames.{statement_of};
 
 use crate::place::Place;
 use crate::spreads::Spreads;
@@ -112,7 +111,7 @@ impl Machine {
     {
         match hyp {
             Hyp::Floating(_label, typecode, variable) => self.stack.push(&[*typecode, *variable])?,
-            Hyp::Essential(_label, statement) => self.stack.push(statement)?,
+            Hyp::Essential(_label, statement) => self.stack.push(statement.symbols())?,
         }
         Ok(true)
     }

@@ -1,18 +1,21 @@
 // The symbols of assertions, with the places of their variables.
 ghost use Rattle.std.specs.Prelude.{◌≡◌, Some, IfOk, map, flat_map};
 ghost use Rattle.mm_frame.specs.PlainFrames.{plain_hypothesis, plain_hypotheses, groups_of};
+ghost use Rattle.mm_frame.specs.ExpressionView.{expression_symbols};
 ghost use Rattle.mm_verify.specs.Places.{symbol_of, place_in, symbols_in, parts_of};
 ghost use Rattle.mm_verify.specs.Locating.{place_by, AreLocated};
 ghost use Rattle.mm_verify.specs.StatementView.{statement_parts};
 ghost use Rattle.mm_verify.specs.Resolved.{wanted_hypothesis, hypotheses_of, parts_in};
 
 use crate::finding::Places;
+use crate::placed::Placed;
 use crate::statement::Statement;
-use mm_frame::Hyp;
+use mm_frame::{Expression, Hyp};
 use std::alloc::{AllocError, Global};
+use std::rc::Rc;
 
 /// The place of a symbol that has none.
-const NOWHERE: u32 = u32::MAX;
+pub(crate) const NOWHERE: u32 = u32::MAX;
 
 /// A symbol of an assertion. A variable has the place of its `$f` among the mandatory hypotheses:
 /// the entry at that place gives its text. A step leaves another symbol as it is, which has no
@@ -86,19 +89,25 @@ fn located(alloc: Global, places: &Places<'_, '_>, symbols: &[u32]) -> Result<Ve
     Ok(parts)
 }
 
-/// The statement of these symbols. With `long` symbols or more it is kept by places.
+/// The statement of an expression. If this is long, it is shared, and a step finds the places of its
+/// symbols; else each part has its place.
 pub(crate) fn stated(
     alloc: Global,
     places: &Places<'_, '_>,
-    symbols: &[u32],
-    long: usize,
+    expression: &Rc<Expression>,
 ) -> Result<Statement, AllocError>
-    ensures symbols { IfOk result (λ s. map symbol_of (statement_parts s) ≡ symbols.now) }
+    ensures symbols { IfOk result (λ s. map symbol_of (statement_parts s)
+        ≡ expression_symbols expression.now.value) }
     ensures places { IfOk result (λ s. map place_in (statement_parts s)
-        ≡ map (place_by places.now) symbols.now) }
+        ≡ map (place_by places.now) (expression_symbols expression.now.value)) }
 {
-    let parts = located(alloc, places, symbols)?;
-    Statement::of(alloc, parts, long)
+    if expression.spots().is_none() {
+        return Ok(Statement::Short(located(alloc, places, expression.symbols())?));
+    }
+    Ok(Statement::Long(Placed {
+        expression: expression.clone()?,
+        places: places.table(alloc)?,
+    }))
 }
 
 /// Groups of symbols, each with its place.
@@ -122,7 +131,6 @@ fn wanted_by<'a>(
     alloc: Global,
     places: &Places<'_, '_>,
     hyp: &Hyp<'a>,
-    long: usize,
 ) -> Result<Wanted<'a>, AllocError>
     ensures hypothesis { IfOk result (λ w. wanted_hypothesis w ≡ plain_hypothesis hyp.now) }
     ensures places { IfOk result (λ w. AreLocated places.now (parts_in w)) }
@@ -131,24 +139,23 @@ fn wanted_by<'a>(
         Hyp::Floating(label, typecode, variable) => Ok(Wanted::Typed(label, *typecode, *variable)),
         Hyp::Essential(label, statement) => Ok(Wanted::Stated(
             label,
-            stated(alloc, places, statement, long)?,
+            stated(alloc, places, statement)?,
         )),
     }
 }
 
-/// What hypotheses ask for, in order. Statements of `long` symbols or more are kept by places.
+/// What hypotheses ask for, in order.
 pub(crate) fn all_wanted<'a>(
     alloc: Global,
     places: &Places<'_, '_>,
     hyps: &[Hyp<'a>],
-    long: usize,
 ) -> Result<Vec<Wanted<'a>>, AllocError>
     ensures hypotheses { IfOk result (λ v. hypotheses_of v.items ≡ plain_hypotheses hyps.now) }
     ensures places { IfOk result (λ v. AreLocated places.now (flat_map parts_in v.items)) }
 {
     let mut all = Vec::with_capacity(alloc, hyps.len())?;
     for hyp in hyps {
-        all.push(wanted_by(alloc, places, hyp, long)?)?;
+        all.push(wanted_by(alloc, places, hyp)?)?;
     }
     Ok(all)
 }

@@ -1,20 +1,25 @@
 // The parts of long statements whose texts are not empty. A step passes over the others.
 ghost use Rattle.std.specs.Prelude.{◌≡◌, ◌≤◌, ◌<◌, ◌++◌, ℕ, length, drop, map, flat_map, All, IfOk};
 ghost use Rattle.std.specs.Prelude.{slice_get, slice_index};
+ghost use Rattle.std.specs.List.Sorted.{IsNonDecreasingBy};
 ghost use Rattle.mm_frame.specs.PlainFrames.{has_number};
 ghost use Rattle.mm_frame.specs.Places.{passes, found_at};
+ghost use Rattle.mm_frame.specs.Spots.{AreSpots, position_at, symbol_at};
 ghost use Rattle.mm_verify.specs.Filling.{AreWithin, filled};
-ghost use Rattle.mm_verify.specs.Spots.{position_at};
+ghost use Rattle.mm_verify.specs.PlacedView.{placed_parts, placed_symbols};
 ghost use Rattle.mm_verify.specs.Present.{has_text};
 
-use crate::by_place::{PartsByPlace, position_of};
 use crate::filling::text_of;
 use crate::parts::Part;
+use crate::placed::Placed;
 use crate::stack::Stack;
 use std::alloc::{AllocError, Global};
 
-/// The parts of a statement whose texts are not empty, in order. It keeps its memory from one step
-/// to the next.
+/// A spot is a symbol times this, plus a position.
+const SPAN: u64 = 4294967296;
+
+/// Parts of a statement, in order: those whose texts are not empty, or all. It keeps its memory
+/// from one step to the next.
 #[derive(Drop)]
 pub(crate) struct Present {
     positions: Vec<usize>,
@@ -30,59 +35,117 @@ impl Present {
         }
     }
 
-    /// Finds those of a statement. It takes time in their number and in the number of different
-    /// places that the statement has, but for a factor of the logarithm.
-    pub(crate) fn find(
+    /// Takes the parts of a statement. If some texts `are_empty` and the spots are listed, takes only
+    /// the parts whose texts are not empty.
+    pub(crate) fn take(
         &mut self,
-        statement: &PartsByPlace,
+        statement: &Placed,
         stack: &Stack,
         base: usize,
+        are_empty: bool,
     ) -> Result<(), AllocError>
-        requires within { AreWithin (length (drop base stack.now)) statement.now.parts.items }
+        requires within { AreWithin (length (drop base stack.now)) (placed_parts statement.now) }
         ensures within { IfOk result
             (λ _. AreWithin (length (drop base stack.now)) self.new.parts.items) }
         ensures filled { IfOk result (λ _. filled (drop base stack.now) self.new.parts.items
-            ≡ filled (drop base stack.now) statement.now.parts.items) }
+            ≡ filled (drop base stack.now) (placed_parts statement.now)) }
     {
-        gather(statement, stack, base, &mut self.positions)?;
+        if are_empty {
+            if let Some(spots) = statement.spots() {
+                return self.find(statement, spots, stack, base);
+            }
+        }
+        all_parts(statement, &mut self.parts)
+    }
+
+    /// Takes the parts whose texts are not empty. It takes time in their number and in the number
+    /// of different symbols of the statement, times the logarithm of its length.
+    fn find(
+        &mut self,
+        statement: &Placed,
+        spots: &[u64],
+        stack: &Stack,
+        base: usize,
+    ) -> Result<(), AllocError>
+        requires spots { AreSpots (placed_symbols statement.now) spots.now }
+        requires within { AreWithin (length (drop base stack.now)) (placed_parts statement.now) }
+        ensures within { IfOk result
+            (λ _. AreWithin (length (drop base stack.now)) self.new.parts.items) }
+        ensures filled { IfOk result (λ _. filled (drop base stack.now) self.new.parts.items
+            ≡ filled (drop base stack.now) (placed_parts statement.now)) }
+    {
+        gather(statement, spots, stack, base, &mut self.positions)?;
         self.positions.sort_unstable();
         self.positions.dedup();
-        parts_at(&statement.parts, &self.positions, &mut self.parts)
+        parts_at(statement, &self.positions, &mut self.parts)
     }
+}
+
+/// All parts.
+fn all_parts(statement: &Placed, to: &mut Vec<Part>) -> Result<(), AllocError>
+    ensures { IfOk result (λ _. to.new.items ≡ placed_parts statement.now) }
+{
+    to.clear();
+    for position in 0..statement.len() {
+        to.push(statement.part(position))?;
+    }
+    Ok(())
 }
 
 /// The positions of the parts whose texts are not empty, in any order.
 fn gather(
-    statement: &PartsByPlace,
+    statement: &Placed,
+    spots: &[u64],
     stack: &Stack,
     base: usize,
     to: &mut Vec<usize>,
 ) -> Result<(), AllocError>
-    requires within { AreWithin (length (drop base stack.now)) statement.now.parts.items }
+    requires spots { AreSpots (placed_symbols statement.now) spots.now }
+    requires within { AreWithin (length (drop base stack.now)) (placed_parts statement.now) }
     ensures { IfOk result (λ _. (i : ℕ) → has_number to.new.items i
-        ≡ passes (has_text (drop base stack.now)) (slice_get statement.now.parts.items i)) }
+        ≡ passes (has_text (drop base stack.now)) (slice_get (placed_parts statement.now) i)) }
 {
     to.clear();
     let mut at = 0;
-    while at < statement.spots.len() {
-        let end = statement.run_end(at);
-        if is_present(statement, at, stack, base) {
-            push_positions(&statement.spots[at..end], to)?;
+    while at < spots.len() {
+        let end = run_end(spots, at);
+        if is_present(statement, spots[at], stack, base) {
+            push_positions(&spots[at..end], to)?;
         }
         at = end;
     }
     Ok(())
 }
 
-/// Whether the text of the part at the spot of this number is not empty.
-fn is_present(statement: &PartsByPlace, at: usize, stack: &Stack, base: usize) -> bool
-    requires at { at < length statement.now.spots.items }
-    requires within { AreWithin (length (drop base stack.now)) statement.now.parts.items }
-    ensures { result ≡ passes (has_text (drop base stack.now)) (slice_get statement.now.parts.items
-        (position_at (slice_index statement.now.spots.items at))) }
+/// The end of the run of spots of one symbol that begins with the spot of this number.
+fn run_end(spots: &[u64], at: usize) -> usize
+    requires at { at < length spots.now }
+    requires ordered { IsNonDecreasingBy symbol_at spots.now }
+    ensures room { result ≤ length spots.now }
+    ensures more { at < result }
+    ensures same { (k : ℕ) → at ≤ k → k < result
+        → symbol_at (slice_index spots.now k) ≡ symbol_at (slice_index spots.now at) }
 {
-    let position = position_of(statement.spots[at]);
-    !text_of(&statement.parts[position], stack, base).is_empty()
+    let symbol = spots[at] / SPAN;
+    spots.partition_point(|spot| *spot / SPAN <= symbol)
+}
+
+/// Whether the text of the part at a spot is not empty.
+fn is_present(statement: &Placed, spot: u64, stack: &Stack, base: usize) -> bool
+    requires at { position_at spot < length (placed_symbols statement.now) }
+    requires within { AreWithin (length (drop base stack.now)) (placed_parts statement.now) }
+    ensures { result ≡ passes (has_text (drop base stack.now))
+        (slice_get (placed_parts statement.now) (position_at spot)) }
+{
+    let part = statement.part(position_of(spot));
+    !text_of(&part, stack, base).is_empty()
+}
+
+/// The position of a spot.
+fn position_of(spot: u64) -> usize
+    ensures { result ≡ position_at spot }
+{
+    (spot % SPAN) as usize
 }
 
 /// Appends the positions of spots.
@@ -96,14 +159,14 @@ fn push_positions(spots: &[u64], to: &mut Vec<usize>) -> Result<(), AllocError>
 }
 
 /// The parts at positions.
-fn parts_at(parts: &[Part], positions: &[usize], to: &mut Vec<Part>) -> Result<(), AllocError>
-    requires { All (λ i. i < length parts.now) positions.now }
+fn parts_at(statement: &Placed, positions: &[usize], to: &mut Vec<Part>) -> Result<(), AllocError>
+    requires { All (λ i. i < length (placed_symbols statement.now)) positions.now }
     ensures { IfOk result (λ _. to.new.items
-        ≡ flat_map (λ i. found_at (slice_get parts.now i)) positions.now) }
+        ≡ flat_map (λ i. found_at (slice_get (placed_parts statement.now) i)) positions.now) }
 {
     to.clear();
     for position in positions {
-        to.push(parts[*position])?;
+        to.push(statement.part(*position))?;
     }
     Ok(())
 }

@@ -57,7 +57,7 @@ pub(crate) fn proof_fault<'a>(
             alloc,
             &known,
             &steps,
-            &theorem.frame.statement,
+            theorem.frame.statement.symbols(),
             &mut room.machine,
         )?)),
     }

@@ -161,7 +161,7 @@ fn a_block_takes_back_what_was_active_and_keeps_its_assertions(
     match scopes.assertion(b"a") {
         None => panic!(rt; "no frame"),
         Some(frame) => {
-            assert_eq!(rt; frame.statement.as_slice(), [0, 1].as_slice());
+            assert_eq!(rt; frame.statement.symbols(), [0, 1].as_slice());
             assert_eq!(rt; frame.mandatory.count(), 3);
             let Mandatory::Listed(lists) = &*frame.mandatory else {
                 panic!(rt; "not listed");

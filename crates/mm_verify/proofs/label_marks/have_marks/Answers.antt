@@ -2,7 +2,7 @@ use Rattle.std.proofs.Common.{rules, arith}
 use Rattle.mm_frame.specs.PlainFrames.{plain_hypotheses}
 use Rattle.mm_verify.specs.ProofSteps.{labels_in}
 use Rattle.mm_verify.proofs.Clashing.{no-clash}
-use Rattle.mm_verify.proofs.Scattering.{more-marked}
+use Rattle.mm_verify.proofs.LabelMarks.{more-marked}
 use Rattle.mm_verify.proofs.label_marks.have_marks.Goals as goal
 
 pub loop-at-preserved : goal.loop-at-preserved

@@ -2,7 +2,7 @@ use Rattle.std.proofs.Common.{rules, arith, ◌+◌, ◌∙◌, sym, ap, List, t
 use Rattle.mm_text.specs.Bytes.{Token, has_token}
 use Rattle.mm_frame.specs.PlainFrames.{plain_hypothesis}
 use Rattle.mm_verify.proofs.ReadProofs.{map-map}
-use Rattle.mm_verify.proofs.Scattering.{label-marked}
+use Rattle.mm_verify.proofs.LabelMarks.{label-marked}
 use Rattle.mm_database.specs.Frames.{label_of}
 use Rattle.mm_verify.proofs.label_marks.mark_hypotheses.Goals as goal
 

@@ -1,4 +1,5 @@
 use Rattle.std.proofs.Common.{rules, ◌≡◌, ◌++◌, ◌∷◌, [], get_or}
+use Rattle.mm_verify.specs.PlacedView.{part_by, placed_symbols}
 use Rattle.mm_verify.proofs.Presence.{part-more}
 use Rattle.mm_verify.proofs.present.parts_at.Goals as goal
 
@@ -6,10 +7,10 @@ pub loop-position-preserved : goal.loop-position-preserved
 loop-position-preserved c =
     let i = c.loop-position.position-index in
     let at = get_or c.args.positions.now i 0 in
-    let new : c.push.new.self.items ≡ c.loop-position.to.items ++ get_or c.args.parts.now at
-    (record { symbol = 0; place = 0 }) ∷ [] =
+    let f = part_by c.args.statement.now.places.value in
+    let symbols = placed_symbols c.args.statement.now in
+    let new : c.push.new.self.items ≡ c.loop-position.to.items ++ f (get_or symbols at 0) ∷ [] =
     search rules in
-    part-more c.args.parts.now c.args.positions.now c.loop-position.to.items c.push.new.self.items _
-    i 0 (record { symbol = 0; place = 0 })
-    c.loop-position-test.true (c.requires i 0 c.loop-position-test.true) new
+    part-more f symbols c.args.positions.now c.loop-position.to.items c.push.new.self.items _
+    i 0 c.loop-position-test.true (c.requires i 0 c.loop-position-test.true) new
     c.loop-position.invariant

@@ -1,5 +1,5 @@
 use Rattle.std.specs.Prelude.{◌≡◌, ◌++◌, map, take}
-use Rattle.mm_verify.specs.Spots.{position_at}
+use Rattle.mm_frame.specs.Spots.{position_at}
 use Rattle.mm_verify.proofs.present.push_positions.Given as goal
 
 abbrev pub invariant-loop-spot : goal.invariant-loop-spot

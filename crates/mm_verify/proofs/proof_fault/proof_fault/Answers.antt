@@ -2,6 +2,7 @@ use Rattle.std.proofs.Common.{◌∙◌, ap, sym, subst, map, List, ℕ}
 use Rattle.std.specs.Prelude.{option_map}
 use Rattle.mm_text.specs.Reader.{words_of}
 use Rattle.mm_frame.specs.ScopeState.{ScopeState, scope_state}
+use Rattle.mm_frame.specs.ExpressionView.{expression_symbols}
 use Rattle.mm_frame.specs.PlainFrames.{mandatory_hypotheses}
 use Rattle.mm_frame.specs.StandingLaws.{place_of}
 use Rattle.mm_frame.specs.declared.asking.Mandatory.{Mandatory}
@@ -27,11 +28,11 @@ returns-in_ok-check_steps-in-Some c = λ active.
     let fault =
     c.in_ok-check_steps-in-Some.ensures
     ∙ ap (λ (ss : List Step).
-    steps_fault (place_of known) (map step_of ss) c.deref-in-Some-2.result.now)
+    steps_fault (place_of known) (map step_of ss) c.symbols.result.now)
     c.deref-in-Some.ensures.value
     ∙ ap (λ (ns : List ℕ). steps_fault (place_of known) (steps_in c.in-Some.steps) ns)
-    c.deref-in-Some-2.ensures.value in
-    kind-is (scope_state c.args.scopes.now) known frame.statement.items
+    (c.symbols.ensures ∙ ap expression_symbols c.deref-in-Some-2.ensures) in
+    kind-is (scope_state c.args.scopes.now) known (expression_symbols frame.statement.value)
     (λ h. steps_named h (mandatory_hypotheses frame.mandatory.value) words)
     (steps_in c.in-Some.steps) c.in_ok-check_steps-in-Some.field-0 c.kind.result
     (ap scope_state c.new-known.ensures) named fault c.kind.ensures

@@ -1,5 +1,6 @@
-use Rattle.std.proofs.Common.{rules, ◌≡◌, true, false, ap}
+use Rattle.std.proofs.Common.{rules, ◌≡◌, true, false, ap, ◌∙◌}
 use Rattle.mm_database.specs.Frames.{essential}
+use Rattle.mm_frame.specs.ExpressionView.{expression_symbols}
 use Rattle.mm_frame.specs.PlainFrames.{plain_hypothesis}
 use Rattle.mm_frame.specs.CountsView.{times_counted}
 use Rattle.mm_frame.proofs.HypothesesKept.{essential-popped, floating-popped, essential-uncounted}
@@ -12,7 +13,7 @@ invariant_of-self c =
     let s = c.args.self.now in
     let kind : is_essential (plain_hypothesis c.in-Some.hyp) ≡ true = search rules in
     let is : plain_hypothesis c.in-Some.hyp ≡ essential c.in-Essential.field-0.now
-    c.in-Essential.statement.items =
+    (expression_symbols c.in-Essential.statement.value) =
     ap plain_hypothesis c.in-Essential.is in
     record {
       placed =
@@ -21,9 +22,9 @@ invariant_of-self c =
           c.pop-in-Essential.ensures.rest;
       counted = λ n.
           essential-uncounted n s.all.items c.pop.new.self.items c.in-Some.hyp
-          c.in-Essential.field-0.now c.in-Essential.statement.items (times_counted s.counts n)
+          c.in-Essential.field-0.now (expression_symbols c.in-Essential.statement.value) (times_counted s.counts n)
           (times_counted c.remove.new.self n) c.in-Some.ensures.items is (s.counted n)
-          (rw c.deref.ensures.value at (c.remove.ensures n));
+          (rw (c.symbols.ensures ∙ ap expression_symbols c.deref.ensures) at (c.remove.ensures n));
     }
 
 pub invariant_of-self-in_default-hyp : goal.invariant_of-self-in_default-hyp

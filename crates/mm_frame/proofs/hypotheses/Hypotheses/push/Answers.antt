@@ -2,6 +2,7 @@ use Rattle.std.proofs.Common.{rules, ◌≡◌, ℕ, ◌+◌, ◌++◌, ◌∷�
 use Rattle.std.proofs.Common.{◌∙◌}
 use Rattle.std.specs.Prelude.{is_ok, Ok, Err, IfOk, Result}
 use Rattle.mm_database.specs.Frames.{essential}
+use Rattle.mm_frame.specs.ExpressionView.{expression_symbols}
 use Rattle.mm_frame.specs.PlainFrames.{plain_hypothesis, plain_hypotheses}
 use Rattle.mm_frame.specs.Places.{places_of}
 use Rattle.mm_frame.specs.Times.{times, times_in}
@@ -40,12 +41,12 @@ invariant_of-self-2 c =
     search rules in
     let kind : is_essential (plain_hypothesis c.args.hyp) ≡ true = search rules in
     let is : plain_hypothesis c.args.hyp ≡ essential c.in-Essential.field-0.now
-    c.in-Essential.statement.items =
+    (expression_symbols c.in-Essential.statement.value) =
     ap plain_hypothesis c.in-Essential.is in
     let place : c.len-place.result ≡ length before = search rules in
     let passed : is_ok c.add.result ≡ true = search rules in
     let more : (n : ℕ) → times_counted c.add.new.self n ≡ times_counted s.counts n + times n
-    c.deref.result.now =
+    c.symbols.result.now =
     where-ok _ c.add.result passed c.add.ensures in
     record {
       placed = numbers
@@ -53,8 +54,8 @@ invariant_of-self-2 c =
           place ∙ ap (λ hs. places_of is_essential (plain_hypotheses hs)) (sym items);
       counted = λ n.
           essential-counted n before c.args.hyp c.in-Essential.field-0.now
-          c.in-Essential.statement.items (times_counted s.counts n)
+          (expression_symbols c.in-Essential.statement.value) (times_counted s.counts n)
           (times_counted c.add.new.self n) is (s.counted n)
-          (rw c.deref.ensures.value at (more n))
+          (rw (c.symbols.ensures ∙ ap expression_symbols c.deref.ensures) at (more n))
           ∙ ap (λ (hs : List Hyp). times_in n (plain_hypotheses hs)) (sym items);
     }

@@ -15,7 +15,7 @@ returns c =
     let hs = hypotheses_in c.args.self.now.hyps in
     let h = plain_hypothesis c.in-Some.hyp.now in
     let there : slice_get hs c.args.place ≡ Some h = search rules in
-    let same : plain_hypothesis c.in_ok-copied-in-Some.field-0 ≡ h = search rules in
+    let same : plain_hypothesis c.in_ok-share-in-Some.field-0 ≡ h = search rules in
     IfOk-weaker c.with.result _ _
     (λ t is i.
     ap (λ (ps : List Placed). find_placed ps i)

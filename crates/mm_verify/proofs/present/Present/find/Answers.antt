@@ -10,20 +10,19 @@ use Rattle.mm_frame.proofs.FramePlaces.{sorted-has}
 use Rattle.mm_frame.proofs.Placing.{places-filter}
 use Rattle.mm_verify.specs.declared.parts.Part.{Part}
 use Rattle.mm_verify.specs.Filling.{IsWithin, AreWithin, filled}
+use Rattle.mm_verify.specs.PlacedView.{part_by, placed_parts, placed_symbols}
 use Rattle.mm_verify.specs.Present.{has_text}
 use Rattle.mm_verify.proofs.Presence.{with_text, present-filled, present-within}
 use Rattle.mm_verify.proofs.present.Present.find.Goals as goal
 
 pub parts_at-requires : goal.parts_at-requires
 parts_at-requires c =
-    subst (λ (ps : List Part). All (λ i. i < length ps) c.deref-2.result.now)
+    subst (λ (ns : List ℕ). All (λ i. i < length (placed_symbols c.args.statement.now)) ns)
     (sym c.deref.ensures.value)
-    (subst (λ (ns : List ℕ). All (λ i. i < length c.args.statement.now.parts.items) ns)
-    (sym c.deref-2.ensures.value)
-    (present-within (drop c.args.base c.args.stack.now) c.args.statement.now.parts.items
-    c.dedup.new.self.items
+    (present-within (drop c.args.base c.args.stack.now) (part_by c.args.statement.now.places.value)
+    (placed_symbols c.args.statement.now) c.dedup.new.self.items
     (λ i. sorted-has _ _ _ c.sort_unstable.ensures.permutation
-    (dedup_is _ _ _ c.dedup.ensures.filtered) i ∙ c.in_ok-gather.ensures i)))
+    (dedup_is _ _ _ c.dedup.ensures.filtered) i ∙ c.in_ok-gather.ensures i))
 
 ascending : (c : goal.After-parts_at) → IsStrictlyIncreasing c.dedup.new.self.items
 ascending c =
@@ -31,16 +30,14 @@ ascending c =
     rw is (IsStrictlyIncreasing-dedup _ c.sort_unstable.ensures.sorted)
 
 found : (c : goal.After-parts_at)
-    → flat_map (λ i. found_at (slice_get c.deref.result.now i)) c.deref-2.result.now
-    ≡ with_text (drop c.args.base c.args.stack.now) c.args.statement.now.parts.items
+    → flat_map (λ i. found_at (slice_get (placed_parts c.args.statement.now) i)) c.deref.result.now
+    ≡ with_text (drop c.args.base c.args.stack.now) (placed_parts c.args.statement.now)
 found c =
-    ap (λ (ps : List Part). flat_map (λ i. found_at (slice_get ps i)) c.deref-2.result.now)
+    ap (λ (ns : List ℕ).
+    flat_map (λ i. found_at (slice_get (placed_parts c.args.statement.now) i)) ns)
     c.deref.ensures.value
-    ∙ ap (λ (ns : List ℕ).
-    flat_map (λ i. found_at (slice_get c.args.statement.now.parts.items i)) ns)
-    c.deref-2.ensures.value
-    ∙ places-filter (has_text (drop c.args.base c.args.stack.now)) c.args.statement.now.parts.items
-    c.dedup.new.self.items (ascending c)
+    ∙ places-filter (has_text (drop c.args.base c.args.stack.now))
+    (placed_parts c.args.statement.now) c.dedup.new.self.items (ascending c)
     (λ i. sorted-has _ _ _ c.sort_unstable.ensures.permutation
     (dedup_is _ _ _ c.dedup.ensures.filtered) i ∙ c.in_ok-gather.ensures i)
 
@@ -50,7 +47,7 @@ returns-clause-within c =
     (λ u is. subst (λ (ps : List Part). AreWithin (length (drop c.args.base c.args.stack.now)) ps)
     (sym (is ∙ found c))
     (All-filter (has_text (drop c.args.base c.args.stack.now))
-    (IsWithin (length (drop c.args.base c.args.stack.now))) c.args.statement.now.parts.items
+    (IsWithin (length (drop c.args.base c.args.stack.now))) (placed_parts c.args.statement.now)
     c.requires.within))
     c.parts_at.ensures
 
@@ -58,5 +55,5 @@ pub returns-clause-filled : goal.returns-clause-filled
 returns-clause-filled c =
     IfOk-weaker c.parts_at.result _ _
     (λ u is. ap (λ (ps : List Part). filled (drop c.args.base c.args.stack.now) ps) (is ∙ found c)
-    ∙ present-filled (drop c.args.base c.args.stack.now) c.args.statement.now.parts.items)
+    ∙ present-filled (drop c.args.base c.args.stack.now) (placed_parts c.args.statement.now))
     c.parts_at.ensures

@@ -1,0 +1,25 @@
+-- The parts of a long statement.
+use Rattle.std.specs.Prelude.{ℕ, List, map, Option, Some, None}
+use Rattle.std.specs.Ordering.{nat_cmp}
+use Rattle.std.specs.BTreeMap.{get, BTreeMap}
+use Rattle.mm_frame.specs.ExpressionView.{expression_symbols}
+use Rattle.mm_verify.specs.declared.parts.Part.{Part}
+use Rattle.mm_verify.specs.declared.placed.Placed.{Placed}
+
+-- no place is the number that stands for none
+abbrev pub number_of_place : Option ℕ → ℕ
+number_of_place None = 4294967295
+number_of_place (Some place) = place
+
+-- the symbol with the place that a table gives it
+abbrev pub part_by : BTreeMap ℕ ℕ → ℕ → Part
+part_by places symbol = record {
+  symbol = symbol;
+  place = number_of_place (get nat_cmp places symbol);
+}
+
+abbrev pub placed_symbols : Placed → List ℕ
+placed_symbols p = expression_symbols p.expression.value
+
+abbrev pub placed_parts : Placed → List Part
+placed_parts p = map (part_by p.places.value) (placed_symbols p)
