@@ -1,6 +1,7 @@
 -- Where the symbols of an expression stand: the symbol and the position of each in one number, its
 -- spot.
-use Rattle.std.specs.Prelude.{◌≡◌, ℕ, ◌/◌, ◌%◌, ◌<◌, true, List, map, length, slice_get, Some, All}
+use Rattle.std.specs.Prelude.{◌≡◌, ℕ, ◌/◌, ◌%◌, ◌<◌, Bool, true, not, ◌&&◌, nat_lt, List, map}
+use Rattle.std.specs.Prelude.{length, slice_get, Some, All}
 use Rattle.std.specs.List.Sorted.{IsNonDecreasingBy}
 use Rattle.mm_frame.specs.NumberLists.{has_number}
 
@@ -10,6 +11,10 @@ symbol_at spot = spot / 4294967296
 
 abbrev pub position_at : ℕ → ℕ
 position_at spot = spot % 4294967296
+
+-- an expression of so many symbols is long, and its positions fit in 32 bits
+abbrev pub is_long : ℕ → Bool
+is_long n = not (nat_lt n 128) && not (nat_lt 4294967296 n)
 
 -- the symbol stands at the position
 abbrev pub IsSpot : List ℕ → ℕ → Type 0

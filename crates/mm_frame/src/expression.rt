@@ -1,14 +1,15 @@
 // Expressions: the symbols of `$e`, `$a` and `$p`.
 
 ghost use Rattle.std.specs.Prelude.{◌≡◌, ◌<◌, ◌≤◌, ℕ, length, map, All, IfOk, IfSome, true};
+ghost use Rattle.std.specs.Prelude.{is_some};
 ghost use Rattle.std.proofs.Props.{props};
 ghost use Rattle.mm_frame.specs.NumberLists.{has_number};
-ghost use Rattle.mm_frame.specs.Spots.{AreSpots, IsSpot, position_at};
+ghost use Rattle.mm_frame.specs.Spots.{AreSpots, IsSpot, is_long, position_at};
 
 use std::alloc::{AllocError, Global};
 use std::rc::Rc;
 
-/// An expression of this many symbols or more is long.
+/// An expression of this many symbols or more is long, and has a list of spots.
 const LONG: usize = 128;
 
 /// The positions of this many symbols fit in 32 bits.
@@ -24,6 +25,7 @@ pub struct Expression {
     symbols: Vec<u32>,
     spots: Option<Vec<u64>>,
     ghost are_spots: { IfSome spots (λ v. AreSpots symbols.items v.items) } by { Prim.hlevel props },
+    ghost listed: { is_some spots ≡ is_long (length symbols.items) },
 }
 
 impl Expression {
@@ -58,9 +60,10 @@ impl Expression {
     }
 
     /// The spots of its symbols, ascending, so those of one symbol stand side by side. Returns
-    /// `None` if the expression is not long.
+    /// `None` exactly when the expression is not long.
     pub fn spots(&self) -> Option<&[u64]>
-        ensures { IfSome result (λ v. AreSpots (expression_symbols self.now) v.now) }
+        ensures are_spots { IfSome result (λ v. AreSpots (expression_symbols self.now) v.now) }
+        ensures listed { is_some result ≡ is_long (length (expression_symbols self.now)) }
     {
         match &self.spots {
             None => None,

@@ -1,4 +1,4 @@
-use Rattle.std.proofs.Common.{ℕ, ◌<◌, ◌≡◌, true, List, length, map, subst}
+use Rattle.std.proofs.Common.{rules, ℕ, ◌<◌, ◌≡◌, true, List, length, map, subst}
 use Rattle.std.specs.Prelude.{All}
 use Rattle.mm_frame.specs.PlainFrames.{has_number}
 use Rattle.mm_frame.specs.Spots.{IsSpot, position_at}
@@ -15,4 +15,5 @@ invariant_of-long c = record {
       → has_number (map position_at c.in_ok-spots.spots.items) i ≡ true)
       c.deref.ensures.value c.in_ok-spots.ensures.all)
       c.sort_unstable.ensures.permutation c.sort_unstable.ensures.sorted;
+  listed = search rules;
 }
