@@ -121,6 +121,12 @@ def proofs_under_premises(n):
     return HEAD + "ax $a t u $. ${\n" + premises + "".join(f"p{i} $p t u $= ( ax ) A $.\n" for i in range(n)) + "$}\n"
 
 
+def listed_types_under_premises(n):
+    """n active `$e`, and n theorems under them, whose proofs list the label of a `$f` that is not mandatory."""
+    premises = "".join(f"e{i} $e t u $.\n" for i in range(n))
+    return HEAD + "${\n" + premises + "".join(f"p{i} $p t u $= ( fx ) A $.\n" for i in range(n)) + "$}\n"
+
+
 def repeated_groups(n):
     """The same `$d` n times, and n axioms."""
     return HEAD + "$d x y $.\n" * n + "".join(f"a{i} $a t x y $.\n" for i in range(n))
@@ -212,6 +218,7 @@ CASES = {
     "empty_statement": (empty_statement, 100000),
     "empty_statement_under_premise": (empty_statement_under_premise, 100000),
     "proofs_under_premises": (proofs_under_premises, 5000),
+    "listed_types_under_premises": (listed_types_under_premises, 5000),
     "repeated_groups": (repeated_groups, 12500),
     "repeated_groups_between": (repeated_groups_between, 6000),
     "many_pairs": (many_pairs, 12500),

@@ -1,7 +1,8 @@
 -- What questions to scopes return, from what the scopes hold.
-use Rattle.std.specs.Prelude.{Bool, false, if◌then◌else◌, slice_get, Option, Some, None, bytes_eq}
+use Rattle.std.specs.Prelude.{ℕ, List, Bool, false, if◌then◌else◌, slice_get, Option, Some, None, bytes_eq}
 use Rattle.mm_text.specs.Bytes.{Token}
 use Rattle.mm_frame.specs.Numbered.{NumberedHypothesis, NumberedFrame}
+use Rattle.mm_frame.specs.NeededNumbers.{is_needed_number, is_mandatory_number}
 use Rattle.mm_frame.specs.ScopeState.{ScopeSymbol, ScopeState}
 use Rattle.mm_frame.specs.declared.scopes.Name.{Name}
 use Rattle.mm_frame.specs.declared.scopes.Name.TheVariants.{Constant, Variable, Hypothesis}
@@ -27,6 +28,16 @@ hypothesis_by_name h label (Some (Assertion i)) = None
 -- the active hypothesis with the label
 abbrev pub hypothesis_named : ScopeState → Token → Option NumberedHypothesis
 hypothesis_named h label = hypothesis_by_name h label (h.names label)
+
+-- a hypothesis that there is, and that is mandatory
+abbrev pub is_some_mandatory : (ℕ → Bool) → Option NumberedHypothesis → Bool
+is_some_mandatory needed None = false
+is_some_mandatory needed (Some x) = is_mandatory_number needed x
+
+-- the label is that of an active hypothesis, which is mandatory for a statement of these symbols
+abbrev pub is_mandatory_named : ScopeState → List ℕ → Token → Bool
+is_mandatory_named h symbols label =
+    is_some_mandatory (is_needed_number h.hypotheses symbols) (hypothesis_named h label)
 
 abbrev pub frame_by_name : ScopeState → Option Name → Option NumberedFrame
 frame_by_name h None = None

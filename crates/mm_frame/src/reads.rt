@@ -12,10 +12,11 @@ ghost use Rattle.mm_database.specs.Validity.{first_open};
 ghost use Rattle.mm_database.specs.Proofs.{active_hypothesis};
 ghost use Rattle.mm_frame.specs.Numbered.{named_hypothesis};
 ghost use Rattle.mm_frame.specs.StateReads.{frame_named, symbol_is_variable, hypothesis_at};
-ghost use Rattle.mm_frame.specs.StateReads.{hypothesis_named};
+ghost use Rattle.mm_frame.specs.StateReads.{hypothesis_named, is_mandatory_named};
+ghost use Rattle.std.specs.List.Sorted.{IsStrictlyIncreasing};
 ghost use Rattle.mm_frame.specs.StateTests.{is_active_number, is_typed_in, number_in, first_block};
 
-use crate::disjoint::Disjoint;
+use crate::disjoint::{Disjoint, is_among};
 use crate::frames::{Cited, Frame, Hyp};
 use crate::hypotheses::Hypotheses;
 use crate::names::Names;
@@ -152,6 +153,21 @@ impl<'a> Scopes<'a> {
             ≡ option_map (λ h. named_hypothesis name (plain_hypothesis h.now)) result) }
     {
         self.hypothesis(label)
+    }
+
+    /// Whether the label is that of an active hypothesis, which is mandatory for a statement of
+    /// these symbols. They ascend. Takes no memory.
+    pub fn is_mandatory(&self, label: &'a [u8], symbols: &[u32]) -> bool
+        requires { IsStrictlyIncreasing symbols.now }
+        ensures { result ≡ is_mandatory_named (scope_state self.now) symbols.now label.now }
+    {
+        match self.hypothesis(label) {
+            None => false,
+            Some(Hyp::Floating(_, _, variable)) => {
+                is_among(symbols, *variable) || self.hyps.is_asked(*variable)
+            }
+            Some(Hyp::Essential(_, _)) => true,
+        }
     }
 
     fn hypothesis(&self, label: &'a [u8]) -> Option<&Hyp<'a>>

@@ -2,19 +2,22 @@
 use Rattle.std.proofs.Common.{◌≡◌, ℕ, ◌+◌, ◌-◌, ◌<◌, ◌≤◌, zero, suc, length, drop, take, Bool, true}
 use Rattle.std.proofs.Common.{false, List, [], ◌∷◌, ◌++◌, slice_index_or, get_or, map, drop-cons}
 use Rattle.std.proofs.Common.{refl, ap, sym, ◌∙◌, arith, cond}
-use Rattle.std.specs.Prelude.{◌||◌, Option, Some, is_some, bytes_eq}
+use Rattle.std.specs.Prelude.{◌||◌, Option, Some, None, is_some, bytes_eq}
 use Rattle.std.proofs.lemmas.List.{drop-map, take_more, map-append}
 use Rattle.mm_text.specs.Bytes.{Token, has_token}
 use Rattle.mm_text.specs.Reader.{word_of, words_of}
 use Rattle.std.specs.List.{list_any}
-use Rattle.mm_frame.specs.PlainFrames.{plain_hypotheses}
+use Rattle.mm_frame.specs.PlainFrames.{plain_hypotheses, has_number}
 use Rattle.mm_frame.specs.Labels.{label_in}
 use Rattle.mm_frame.specs.declared.frames.Hyp.{Hyp}
 use Rattle.mm_frame.proofs.Labelled.{is_some-cond, or-swap, labels-scope_state}
 use Rattle.mm_text.specs.declared.tokens.MmToken.{MmToken}
 use Rattle.mm_frame.specs.ScopeState.{ScopeState}
-use Rattle.mm_frame.specs.Numbered.{NumberedHypothesis}
-use Rattle.mm_verify.specs.ProofSteps.{clashes, labels_in, is_hypothesis, AreActive}
+use Rattle.mm_frame.specs.StateReads.{hypothesis_named, is_some_mandatory, is_mandatory_named}
+use Rattle.mm_frame.specs.NeededNumbers.{is_needed_number, number_stands_in}
+use Rattle.mm_frame.specs.Numbered.{NumberedHypothesis, NumberedFrame}
+use Rattle.mm_database.specs.Frames.{floating, essential}
+use Rattle.mm_verify.specs.ProofSteps.{clashes, labels_in, IsLabelled}
 
 or-true : (a b : Bool) → b ≡ true → (a || b) ≡ true
 or-true true b h = refl
@@ -101,29 +104,43 @@ clashes-split others (w ∷ ws) =
     go false true false d e = refl
     go false false c d e = e
 
-pub clashes-inactive : (h : ScopeState) (hyps : List NumberedHypothesis) (ws : List Token)
-    → AreActive h hyps → list_any (is_hypothesis h) ws ≡ false
-    → clashes [] ws ≡ clashes (labels_in hyps) ws
-clashes-inactive h hyps ws active none =
-    sym (clashes-split (labels_in
-    hyps) ws ∙ ap (λ (b : Bool). b || clashes [] ws) (none-own ws none))
+any-same : (f g : Token → Bool) (ws : List Token) → ((w : Token) → f w ≡ g w)
+    → list_any f ws ≡ list_any g ws
+any-same f g [] same = refl
+any-same f g (w ∷ ws) same =
+    ap (λ (b : Bool). b || list_any f ws) (same w)
+    ∙ ap (λ (b : Bool). g w || b) (any-same f g ws same)
+
+-- which hypotheses are mandatory depends only on which symbols a statement has
+mandatory-same : (h : ScopeState) (symbols others : List ℕ)
+    → ((n : ℕ) → has_number symbols n ≡ has_number others n) → (w : Token)
+    → is_mandatory_named h others w ≡ is_mandatory_named h symbols w
+mandatory-same h symbols others same w = go (hypothesis_named h w)
   where
-    none-own : (vs : List Token) → list_any (is_hypothesis h) vs ≡ false
-        → list_any (has_token (labels_in hyps)) vs ≡ false
-    none-own [] e = refl
-    none-own (v ∷ vs) e =
-        go (is_hypothesis h v) (has_token (labels_in hyps) v) refl refl e (none-own vs)
-      where
-        go : (a b : Bool) → is_hypothesis h v ≡ a → has_token (labels_in hyps) v ≡ b
-            → (a || list_any (is_hypothesis h) vs) ≡ false
-            → (list_any (is_hypothesis h) vs ≡ false
-            → list_any (has_token (labels_in hyps)) vs ≡ false)
-            → (b || list_any (has_token (labels_in hyps)) vs) ≡ false
-        go true b f g e rest = absurd (cc)
-        go false true f g e rest =
-            absurd (let yes : is_hypothesis h v ≡ true = active v g in
-            let wrong : false ≡ true = sym f ∙ yes in cc)
-        go false false f g e rest = rest e
+    go : (o : Option NumberedHypothesis)
+        → is_some_mandatory (is_needed_number h.hypotheses others) o
+        ≡ is_some_mandatory (is_needed_number h.hypotheses symbols) o
+    go None = refl
+    go (Some (floating label typecode variable)) =
+        ap (λ (b : Bool). b || list_any (number_stands_in variable) h.hypotheses)
+        (sym (same variable))
+    go (Some (essential label statement)) = refl
+
+pub any-mandatory-same : (h : ScopeState) (symbols others : List ℕ) (ws : List Token)
+    → ((n : ℕ) → has_number symbols n ≡ has_number others n)
+    → list_any (is_mandatory_named h others) ws ≡ list_any (is_mandatory_named h symbols) ws
+any-mandatory-same h symbols others ws same =
+    any-same (is_mandatory_named h others) (is_mandatory_named h symbols) ws
+    (mandatory-same h symbols others same)
+
+-- a label is that of a mandatory hypothesis, or else labels clash among themselves
+pub clashes-labelled : (h : ScopeState) (f : NumberedFrame) (ws : List Token) → IsLabelled h f
+    → clashes (labels_in f.hypotheses) ws
+    ≡ (list_any (is_mandatory_named h f.statement) ws || clashes [] ws)
+clashes-labelled h f ws labelled =
+    clashes-split (labels_in f.hypotheses) ws
+    ∙ ap (λ (b : Bool). b || clashes [] ws)
+    (any-same (has_token (labels_in f.hypotheses)) (is_mandatory_named h f.statement) ws labelled)
 
 -- one of the labels passes a test, or none does
 pub found-among : (test : Token → Bool) (bytes : List ℕ) (ts : List MmToken) (i : ℕ) (d : MmToken)

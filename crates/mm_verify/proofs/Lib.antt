@@ -17,4 +17,4 @@ mod KindsNamed
 mod CheckedStatements
 mod MoreFrames
 mod VerdictLaws
-mod ActiveHypotheses
+mod MandatoryLabels

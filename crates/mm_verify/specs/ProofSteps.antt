@@ -1,15 +1,15 @@
 -- The steps that the text of a proof names, from what scopes hold.
-use Rattle.std.specs.Prelude.{◌≡◌, ℕ, Bool, true, false, is_some, ◌||◌, if◌then◌else◌, List, []}
+use Rattle.std.specs.Prelude.{◌≡◌, ℕ, Bool, false, ◌||◌, if◌then◌else◌, List, []}
 use Rattle.std.specs.Prelude.{◌∷◌, ◌++◌, map, flat_map, Option, None, option_map, option_and_then}
 use Rattle.std.specs.Prelude.{codes, bytes_eq}
 use Rattle.mm_text.specs.Bytes.{Token, has_token}
 use Rattle.mm_database.specs.Frames.{label_of, statement_of}
 use Rattle.mm_database.specs.Steps.{Step, cites}
 use Rattle.mm_database.specs.ProofText.{before_close, behind_close, lettered_steps}
-use Rattle.mm_frame.specs.Numbered.{NumberedHypothesis}
+use Rattle.mm_frame.specs.Numbered.{NumberedHypothesis, NumberedFrame}
 use Rattle.mm_frame.specs.NumberedSteps.{Citation, gives}
 use Rattle.mm_frame.specs.ScopeState.{ScopeState}
-use Rattle.mm_frame.specs.StateReads.{hypothesis_named}
+use Rattle.mm_frame.specs.StateReads.{is_mandatory_named}
 use Rattle.mm_verify.specs.Citing.{all_cited}
 
 -- what the labels of mandatory hypotheses cite, and the labels themselves
@@ -19,14 +19,11 @@ given_by hypotheses = map (λ x. gives (statement_of x)) hypotheses
 abbrev pub labels_in : List NumberedHypothesis → List Token
 labels_in hypotheses = map label_of hypotheses
 
--- an active hypothesis has the label
-abbrev pub is_hypothesis : ScopeState → Token → Bool
-is_hypothesis h label = is_some (hypothesis_named h label)
-
--- each label of these hypotheses is that of an active one
-abbrev pub AreActive : ScopeState → List NumberedHypothesis → Type 0
-AreActive h hypotheses =
-    (label : Token) → has_token (labels_in hypotheses) label ≡ true → is_hypothesis h label ≡ true
+-- the labels of a frame's hypotheses are those of the active ones that its statement makes mandatory
+abbrev pub IsLabelled : ScopeState → NumberedFrame → Type 0
+IsLabelled h f =
+    (label : Token)
+    → has_token (labels_in f.hypotheses) label ≡ is_mandatory_named h f.statement label
 
 -- one of the second labels is one of the first, or occurs twice
 abbrev pub clashes : List Token → List Token → Bool

@@ -21,7 +21,8 @@ impl<'s, 'a> Citable<'s, 'a> {
     ghost use Rattle.std.specs.Prelude.{option_map};
     ghost use Rattle.mm_verify.specs.Running.{citation_of};
     ghost use Rattle.mm_verify.specs.Citing.{cited_at};
-    ghost use Rattle.mm_verify.specs.ProofSteps.{is_hypothesis};
+    ghost use Rattle.std.specs.List.Sorted.{IsStrictlyIncreasing};
+    ghost use Rattle.mm_frame.specs.StateReads.{is_mandatory_named};
 
     /// What may be cited, from scopes and their assertions.
     pub(crate) fn new(
@@ -49,11 +50,14 @@ impl<'s, 'a> Citable<'s, 'a> {
         }
     }
 
-    /// Whether a label is that of an active hypothesis.
-    pub(crate) fn is_hypothesis(&self, label: &'a [u8]) -> bool
-        ensures { result ≡ is_hypothesis (scope_state self.now.scopes.now) label.now }
+    /// Whether a label is that of an active hypothesis that is mandatory for these symbols, which
+    /// ascend.
+    pub(crate) fn is_mandatory(&self, label: &'a [u8], symbols: &[u32]) -> bool
+        requires { IsStrictlyIncreasing symbols.now }
+        ensures { result
+            ≡ is_mandatory_named (scope_state self.now.scopes.now) symbols.now label.now }
     {
-        self.scopes.active(label).is_some()
+        self.scopes.is_mandatory(label, symbols)
     }
 }
 

@@ -6,7 +6,7 @@ ghost use Rattle.mm_frame.specs.ScopeState.{scope_state};
 ghost use Rattle.mm_frame.specs.PlainFrames.{plain_frame};
 ghost use Rattle.mm_frame.specs.StandingLaws.{place_of};
 ghost use Rattle.mm_verify.specs.StoredView.{stored_frame};
-ghost use Rattle.mm_verify.specs.ProofSteps.{AreActive, steps_named};
+ghost use Rattle.mm_verify.specs.ProofSteps.{IsLabelled, steps_named};
 ghost use Rattle.mm_verify.specs.Judging.{kind_of, proof_kind};
 
 use crate::citable::Citable;
@@ -36,7 +36,7 @@ pub(crate) fn proof_fault<'a>(
 ) -> Result<Option<u8>, AllocError>
     requires same { map stored_frame assertions.now ≡ (scope_state scopes.now).frames }
     ensures { IfOk result
-        (λ k. AreActive (scope_state scopes.now) (plain_frame theorem.now.frame).hypotheses
+        (λ k. IsLabelled (scope_state scopes.now) (plain_frame theorem.now.frame)
         → k
         ≡ proof_kind (place_of (scope_state scopes.now))
         (plain_frame theorem.now.frame).statement
@@ -48,7 +48,7 @@ pub(crate) fn proof_fault<'a>(
         alloc,
         &known,
         bytes,
-        &theorem.frame.mandatory,
+        &theorem.frame,
         theorem.proof,
         &mut room.marks,
     )? {

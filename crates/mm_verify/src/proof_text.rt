@@ -1,16 +1,20 @@
 // The texts of proofs, as steps.
-ghost use Rattle.std.specs.Prelude.{◌≡◌, map, IfOk, IfSome, Some, None, true, false, option_map};
+ghost use Rattle.std.specs.Prelude.{◌≡◌, ℕ, map, IfOk, IfSome, Some, None, true, false, option_map};
+ghost use Rattle.std.specs.Prelude.{◌||◌, []};
 ghost use Rattle.std.specs.Prelude.{if◌then◌else◌, codes};
 ghost use Rattle.mm_text.specs.Bytes.{has_token};
 ghost use Rattle.mm_text.specs.Reader.{words_of};
-ghost use Rattle.mm_frame.specs.PlainFrames.{plain_hypotheses, mandatory_hypotheses};
+ghost use Rattle.mm_frame.specs.PlainFrames.{plain_frame, plain_hypotheses};
+ghost use Rattle.mm_frame.specs.PlainFrames.{mandatory_hypotheses, has_number};
+ghost use Rattle.mm_frame.specs.StateReads.{is_mandatory_named};
 ghost use Rattle.mm_frame.specs.ScopeState.{scope_state};
 ghost use Rattle.mm_database.specs.ProofText.{lettered_steps};
 ghost use Rattle.mm_verify.specs.Running.{citation_of, step_of, steps_in};
 ghost use Rattle.mm_verify.specs.Reading.{letters_of, behind_items, citations_in, table_of};
 ghost use Rattle.mm_verify.specs.Citing.{all_cited};
 ghost use Rattle.std.specs.List.{list_any};
-ghost use Rattle.mm_verify.specs.ProofSteps.{AreActive, is_hypothesis};
+ghost use Rattle.std.specs.List.Sorted.{IsStrictlyIncreasing};
+ghost use Rattle.mm_verify.specs.ProofSteps.{IsLabelled};
 ghost use Rattle.mm_verify.specs.ProofSteps.{clashes, listed_citations, compressed_proof};
 ghost use Rattle.mm_verify.specs.ProofSteps.{citing as citing_all, steps_named, labels_in};
 ghost use Rattle.mm_database.specs.ProofText.{before_close, behind_close};
@@ -19,33 +23,33 @@ use crate::citable::Citable;
 use crate::label_marks::{Marks, are_surely_distinct};
 use crate::letters::ReadSteps;
 use crate::machine::{Citation, Step};
-use mm_frame::{Hyp, Mandatory, own_labels};
+use mm_frame::{Frame, Hyp, Mandatory, own_labels};
 use mm_text::MmToken;
 use std::alloc::{AllocError, Global};
 
-/// The steps of a proof of an assertion that asks for this. Returns `None` exactly when the text of
-/// the proof names no steps. It takes time in the number of the proof's tokens and letters, and of
-/// the mandatory hypotheses if it lists the label of an active one, times the logarithm of these
-/// numbers.
+/// The steps of a proof of an assertion with this frame. Returns `None` exactly when the text of the
+/// proof names no steps. It takes time in the number of the proof's tokens and letters and in the
+/// length of the statement, times the logarithm of these numbers. If the frame has lists, it takes
+/// time in their lengths too.
 pub(crate) fn read_proof<'s, 'a>(
     alloc: Global,
     known: &Citable<'s, 'a>,
     bytes: &'a [u8],
-    mandatory: &'s Mandatory<'a>,
+    frame: &'s Frame<'a>,
     proof: &[MmToken],
     marks: &mut Marks,
 ) -> Result<Option<Vec<Step<'s, 'a>>>, AllocError>
     ensures { IfOk result
-        (λ r. AreActive (scope_state known.now.scopes.now) (mandatory_hypotheses mandatory.now)
+        (λ r. IsLabelled (scope_state known.now.scopes.now) (plain_frame frame.now)
         → option_map steps_in r
-        ≡ steps_named (scope_state known.now.scopes.now) (mandatory_hypotheses mandatory.now)
+        ≡ steps_named (scope_state known.now.scopes.now) (plain_frame frame.now).hypotheses
         (words_of bytes.now proof.now)) }
 {
     match proof {
         [] => Ok(None),
         [first, rest @ ..] => {
             if first.word(bytes) == b"(".as_slice() {
-                read_compressed(alloc, known, bytes, mandatory, rest, marks)
+                read_compressed(alloc, known, bytes, frame, rest, marks)
             } else {
                 read_normal(alloc, known, bytes, proof)
             }
@@ -128,24 +132,21 @@ fn read_compressed<'s, 'a>(
     alloc: Global,
     known: &Citable<'s, 'a>,
     bytes: &'a [u8],
-    mandatory: &'s Mandatory<'a>,
+    frame: &'s Frame<'a>,
     tokens: &[MmToken],
     marks: &mut Marks,
 ) -> Result<Option<Vec<Step<'s, 'a>>>, AllocError>
     ensures { IfOk result
-        (λ r. AreActive (scope_state known.now.scopes.now) (mandatory_hypotheses mandatory.now)
+        (λ r. IsLabelled (scope_state known.now.scopes.now) (plain_frame frame.now)
         → option_map steps_in r
         ≡ compressed_proof (scope_state known.now.scopes.now)
-        (mandatory_hypotheses mandatory.now)
-        (words_of bytes.now tokens.now)) }
+        (plain_frame frame.now).hypotheses (words_of bytes.now tokens.now)) }
 {
     match split_at_close(bytes, tokens) {
         None => Ok(None),
-        Some((labels, letters)) => match read_listed(
-            alloc, known, bytes, mandatory, labels, marks,
-        )? {
+        Some((labels, letters)) => match read_listed(alloc, known, bytes, frame, labels, marks)? {
             None => Ok(None),
-            Some(listed) => read_letters(alloc, mandatory, listed, bytes, letters),
+            Some(listed) => read_letters(alloc, &frame.mandatory, listed, bytes, letters),
         },
     }
 }
@@ -174,59 +175,96 @@ fn read_listed<'s, 'a>(
     alloc: Global,
     known: &Citable<'s, 'a>,
     bytes: &'a [u8],
-    mandatory: &Mandatory<'a>,
+    frame: &Frame<'a>,
     labels: &[MmToken],
     marks: &mut Marks,
 ) -> Result<Option<Vec<Citation<'s, 'a>>>, AllocError>
     ensures { IfOk result
-        (λ r. AreActive (scope_state known.now.scopes.now) (mandatory_hypotheses mandatory.now)
+        (λ r. IsLabelled (scope_state known.now.scopes.now) (plain_frame frame.now)
         → option_map citations_in r
         ≡ listed_citations (scope_state known.now.scopes.now)
-        (mandatory_hypotheses mandatory.now)
-        (words_of bytes.now labels.now)) }
+        (plain_frame frame.now).hypotheses (words_of bytes.now labels.now)) }
 {
-    if clash(alloc, known, bytes, mandatory, labels, marks)? {
+    if clash(alloc, known, bytes, frame, labels, marks)? {
         return Ok(None);
     }
     all_cited(alloc, known, bytes, labels)
 }
 
-/// Whether a label occurs twice or is that of a mandatory hypothesis. If these are shared, it takes
-/// time in their number only if one of the labels is that of an active hypothesis.
+/// Whether a label occurs twice or is that of a mandatory hypothesis. If the hypotheses are shared,
+/// it takes time in the length of the statement, and not in their number.
 fn clash<'a>(
     alloc: Global,
     known: &Citable<'_, 'a>,
     bytes: &'a [u8],
-    mandatory: &Mandatory<'a>,
+    frame: &Frame<'a>,
     labels: &[MmToken],
     marks: &mut Marks,
 ) -> Result<bool, AllocError>
     ensures { IfOk result
-        (λ r. AreActive (scope_state known.now.scopes.now) (mandatory_hypotheses mandatory.now)
+        (λ r. IsLabelled (scope_state known.now.scopes.now) (plain_frame frame.now)
         → r
-        ≡ clashes (labels_in (mandatory_hypotheses mandatory.now))
+        ≡ clashes (labels_in (plain_frame frame.now).hypotheses)
         (words_of bytes.now labels.now)) }
 {
-    match mandatory {
+    match &*frame.mandatory {
         Mandatory::Listed(lists) => has_clash(alloc, bytes, &lists.hyps, labels, marks),
-        Mandatory::Shared(parts) => {
-            if !cite_hypothesis(known, bytes, labels) {
-                return has_clash(alloc, bytes, &[], labels, marks);
-            }
-            let lists = parts.lists(alloc)?;
-            has_clash(alloc, bytes, &lists.hyps, labels, marks)
+        Mandatory::Shared(_) => {
+            let symbols = frame.statement.symbols();
+            clash_with_mandatory(alloc, known, bytes, symbols, labels, marks)
         }
     }
 }
 
-/// Whether a label is that of an active hypothesis.
-fn cite_hypothesis<'a>(known: &Citable<'_, 'a>, bytes: &'a [u8], labels: &[MmToken]) -> bool
+/// Whether a label occurs twice or is that of an active hypothesis that is mandatory for a
+/// statement of these symbols.
+fn clash_with_mandatory<'a>(
+    alloc: Global,
+    known: &Citable<'_, 'a>,
+    bytes: &'a [u8],
+    symbols: &[u32],
+    labels: &[MmToken],
+    marks: &mut Marks,
+) -> Result<bool, AllocError>
+    ensures { IfOk result (λ r. r
+        ≡ (list_any (is_mandatory_named (scope_state known.now.scopes.now) symbols.now)
+        (words_of bytes.now labels.now)
+        || clashes [] (words_of bytes.now labels.now))) }
+{
+    let own = ascending(alloc, symbols)?;
+    if cite_mandatory(known, bytes, &own, labels) {
+        return Ok(true);
+    }
+    has_clash(alloc, bytes, &[], labels, marks)
+}
+
+/// The symbols of a statement, ascending and each once.
+fn ascending(alloc: Global, symbols: &[u32]) -> Result<Vec<u32>, AllocError>
+    ensures ascending { IfOk result (λ v. IsStrictlyIncreasing v.items) }
+    ensures symbols { IfOk result
+        (λ v. (n : ℕ) → has_number v.items n ≡ has_number symbols.now n) }
+{
+    let mut ascending = Vec::from_slice(alloc, symbols)?;
+    ascending.sort_unstable();
+    ascending.dedup();
+    Ok(ascending)
+}
+
+/// Whether a label is that of an active hypothesis that is mandatory for these symbols, which
+/// ascend.
+fn cite_mandatory<'a>(
+    known: &Citable<'_, 'a>,
+    bytes: &'a [u8],
+    symbols: &[u32],
+    labels: &[MmToken],
+) -> bool
+    requires { IsStrictlyIncreasing symbols.now }
     ensures { result
-        ≡ list_any (is_hypothesis (scope_state known.now.scopes.now))
+        ≡ list_any (is_mandatory_named (scope_state known.now.scopes.now) symbols.now)
         (words_of bytes.now labels.now) }
 {
     for label in labels {
-        if known.is_hypothesis(label.word(bytes)) {
+        if known.is_mandatory(label.word(bytes), symbols) {
             return true;
         }
     }

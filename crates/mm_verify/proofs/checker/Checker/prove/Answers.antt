@@ -2,14 +2,14 @@ use Rattle.std.proofs.Common.{◌∙◌, sym}
 use Rattle.mm_text.specs.Reader.{statement_of}
 use Rattle.mm_verify.proofs.KindsNamed.{Laws}
 use Rattle.mm_frame.specs.ScopeState.{scope_state}
-use Rattle.mm_verify.proofs.ActiveHypotheses.{proposed-active}
+use Rattle.mm_verify.proofs.MandatoryLabels.{proposed-labelled}
 use Rattle.mm_verify.proofs.CheckedStatements.{theorem-kind, theorem_checked}
 use Rattle.mm_verify.proofs.checker.Checker.prove.Goals as goal
 
 pub returns-in-Ok-Some : goal.returns-in-Ok-Some
 returns-in-Ok-Some c = λ d behind p.
     let active =
-    proposed-active c.args.bytes.now (scope_state c.args.self.now.scopes) d
+    proposed-labelled c.args.bytes.now (scope_state c.args.self.now.scopes) d
     (statement_of c.args.bytes.now c.args.tokens.now) c.args.theorem behind.stands p in
     let laws : Laws =
     record {
@@ -30,7 +30,7 @@ pub returns-in-Ok-None : goal.returns-in-Ok-None
 returns-in-Ok-None c = λ d behind p.
     let s = statement_of c.args.bytes.now c.args.tokens.now in
     let active =
-    proposed-active c.args.bytes.now (scope_state c.args.self.now.scopes) d
+    proposed-labelled c.args.bytes.now (scope_state c.args.self.now.scopes) d
     (statement_of c.args.bytes.now c.args.tokens.now) c.args.theorem behind.stands p in
     let laws : Laws =
     record {
