@@ -12,7 +12,7 @@ symbol_at spot = spot / 4294967296
 abbrev pub position_at : ℕ → ℕ
 position_at spot = spot % 4294967296
 
--- an expression of so many symbols is long, and its positions fit in 32 bits
+-- an expression of n symbols is long: it has 128 or more, whose positions fit in 32 bits
 abbrev pub is_long : ℕ → Bool
 is_long n = not (nat_lt n 128) && not (nat_lt 4294967296 n)
 

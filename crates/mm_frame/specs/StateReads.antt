@@ -1,5 +1,6 @@
 -- What questions to scopes return, from what the scopes hold.
-use Rattle.std.specs.Prelude.{ℕ, List, Bool, false, if◌then◌else◌, slice_get, Option, Some, None, bytes_eq}
+use Rattle.std.specs.Prelude.{ℕ, List, Bool, false, if◌then◌else◌, slice_get, Option, Some, None}
+use Rattle.std.specs.Prelude.{bytes_eq}
 use Rattle.mm_text.specs.Bytes.{Token}
 use Rattle.mm_frame.specs.Numbered.{NumberedHypothesis, NumberedFrame}
 use Rattle.mm_frame.specs.NeededNumbers.{is_needed_number, is_mandatory_number}
