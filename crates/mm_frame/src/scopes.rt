@@ -41,10 +41,10 @@ pub(crate) struct OpenBlock {
 /// What the statements of a database have declared so far, and what of it is active. Symbols have
 /// numbers.
 ///
-/// What is active is in lists, in the order of its declaration. The end of a block cuts these lists.
-/// Each variable has its place in the list of active variables, and the place of its `$f` in the
-/// list of active hypotheses. The end of a block does not clear these places: what is at the place
-/// shows whether the variable or the `$f` is still active.
+/// What is active is in lists, in the order of its declaration. The end of a block cuts these
+/// lists. Each variable has its place in the list of active variables, and the place of its `$f` in
+/// the list of active hypotheses. The end of a block does not clear these places: what is at the
+/// place shows whether the variable or the `$f` is still active.
 ///
 /// If the active `$e` are long, what they ask for is kept for assertions to share. It grows with
 /// each `$e`. The end of a block takes back what was kept when the block was opened.

@@ -144,8 +144,10 @@ module _ (entries : List (List ℕ)) (f : ℕ → Part) (symbols : List ℕ) whe
         let this-spot : IsSpot symbols (get_or spots (at + k) d) = are.each (at + k) d in-range in
         ap (λ (s : ℕ). is_present (position_at s)) where-is
         ∙ spot-stands (get_or spots (at + k) d) this-spot
-        ∙ ap (λ (s : ℕ). has_text entries (f (symbol_at s))) (any-default spots (at + k) d 0 in-range)
-        ∙ ap (λ (n : ℕ). has_text entries (f n)) (same (at + k) (omega arith) (omega (arith, short)))
+        ∙ ap (λ (s : ℕ). has_text entries (f (symbol_at s)))
+        (any-default spots (at + k) d 0 in-range)
+        ∙ ap (λ (n : ℕ). has_text entries (f n))
+        (same (at + k) (omega arith) (omega (arith, short)))
         ∙ sym (spot-stands (get_or spots at 0) first-spot)
         ∙ sym told
 

@@ -49,4 +49,10 @@ module _ (xs ys : List ℕ) (at end v : ℕ) (same : ys ≡ xs) (is : v ≡ get_
       let test : leb (symbol_at (get_or ys k 0)) (symbol_at v) ≡ true =
       point.0 k 0 (omega arith) below in
       let high : symbol_at (get_or ys k 0) ≤ symbol_at v = leb-true _ _ test in
-      omega (arith, low, high, ap (λ (l : List ℕ). symbol_at (get_or l k 0)) same, ap symbol_at here)
+      omega (
+        arith,
+        low,
+        high,
+        ap (λ (l : List ℕ). symbol_at (get_or l k 0)) same,
+        ap symbol_at here,
+      )

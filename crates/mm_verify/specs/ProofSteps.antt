@@ -19,7 +19,8 @@ given_by hypotheses = map (λ x. gives (statement_of x)) hypotheses
 abbrev pub labels_in : List NumberedHypothesis → List Token
 labels_in hypotheses = map label_of hypotheses
 
--- the labels of a frame's hypotheses are those of the active ones that its statement makes mandatory
+-- the labels of a frame's hypotheses are those of the active ones that its statement makes
+-- mandatory
 abbrev pub IsLabelled : ScopeState → NumberedFrame → Type 0
 IsLabelled h f =
     (label : Token)

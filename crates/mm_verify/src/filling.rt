@@ -54,8 +54,8 @@ pub(crate) fn has_empty_text(stack: &Stack, base: usize) -> bool {
     false
 }
 
-/// Whether the statement of some parts may be long, by the number of all symbols of the entries from
-/// `base` on.
+/// Whether the statement of some parts may be long, by the number of all symbols of the entries
+/// from `base` on.
 fn may_be_long(parts: &[Part], stack: &Stack, base: usize) -> bool
     requires { base ≤ length stack.now }
 {

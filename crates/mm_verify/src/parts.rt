@@ -89,8 +89,8 @@ fn located(alloc: Global, places: &Places<'_, '_>, symbols: &[u32]) -> Result<Ve
     Ok(parts)
 }
 
-/// The statement of an expression. If this is long, it is shared, and a step finds the places of its
-/// symbols; else each part has its place.
+/// The statement of an expression. If this is long, it is shared, and a step finds the places of
+/// its symbols; else each part has its place.
 pub(crate) fn stated(
     alloc: Global,
     places: &Places<'_, '_>,

@@ -17,8 +17,8 @@ pub(crate) trait Place {
     fn apart(&self, a: u32, b: u32) -> bool
         ensures { result ≡ (place self.now).apart a b };
 
-    /// Whether one active `$d` was found that has all these symbols, so that each two different ones
-    /// are a pair of it.
+    /// Whether one active `$d` was found that has all these symbols, so that each two different
+    /// ones are a pair of it.
     fn are_together(&self, symbols: &[u32]) -> bool
         ensures { result ≡ true → (a b : ℕ) → in_group a b symbols.now ≡ true
             → (place self.now).apart a b ≡ true };

@@ -35,8 +35,8 @@ impl Present {
         }
     }
 
-    /// Takes the parts of a statement. If some texts `are_empty` and the spots are listed, takes only
-    /// the parts whose texts are not empty.
+    /// Takes the parts of a statement. If some texts `are_empty` and the spots are listed, takes
+    /// only the parts whose texts are not empty.
     pub(crate) fn take(
         &mut self,
         statement: &Placed,

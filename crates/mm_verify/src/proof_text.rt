@@ -27,10 +27,10 @@ use mm_frame::{Frame, Hyp, Mandatory, own_labels};
 use mm_text::MmToken;
 use std::alloc::{AllocError, Global};
 
-/// The steps of a proof of an assertion with this frame. Returns `None` exactly when the text of the
-/// proof names no steps. It takes time in the number of the proof's tokens and letters and in the
-/// length of the statement, times the logarithm of these numbers. If the frame has lists, it takes
-/// time in their lengths too.
+/// The steps of a proof of an assertion with this frame. Returns `None` exactly when the text of
+/// the proof names no steps. It takes time in the number of the proof's tokens and letters and in
+/// the length of the statement, times the logarithm of these numbers. If the frame has lists, it
+/// takes time in their lengths too.
 pub(crate) fn read_proof<'s, 'a>(
     alloc: Global,
     known: &Citable<'s, 'a>,

@@ -47,8 +47,8 @@ impl Statement {
     }
 
     /// Appends the statement, with the texts of the entries from `base` on, for an entry of the
-    /// stack. It takes time in the length of what is appended and in the number of the entries, times
-    /// the logarithm of the number of parts.
+    /// stack. It takes time in the length of what is appended and in the number of the entries,
+    /// times the logarithm of the number of parts.
     pub(crate) fn fill(
         &self,
         stack: &mut Stack,

@@ -35,8 +35,8 @@ impl Met {
         }
     }
 
-    /// Meets a variable. Returns whether it is new. If it is not, the search ends, and what was met is
-    /// used no more.
+    /// Meets a variable. Returns whether it is new. If it is not, the search ends, and what was met
+    /// is used no more.
     fn meet(&mut self, n: u32) -> Result<bool, AllocError>
         requires { AreSeen self.old }
         ensures { IfOk result (λ r. r ≡ true → MeetsOne self.old n self.new) }

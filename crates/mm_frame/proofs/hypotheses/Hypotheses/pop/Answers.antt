@@ -22,7 +22,8 @@ invariant_of-self c =
           c.pop-in-Essential.ensures.rest;
       counted = λ n.
           essential-uncounted n s.all.items c.pop.new.self.items c.in-Some.hyp
-          c.in-Essential.field-0.now (expression_symbols c.in-Essential.statement.value) (times_counted s.counts n)
+          c.in-Essential.field-0.now (expression_symbols c.in-Essential.statement.value)
+          (times_counted s.counts n)
           (times_counted c.remove.new.self n) c.in-Some.ensures.items is (s.counted n)
           (rw (c.symbols.ensures ∙ ap expression_symbols c.deref.ensures) at (c.remove.ensures n));
     }
