@@ -12,7 +12,8 @@ use Rattle.kore_prove.specs.Reports.{Ending, out_of_memory, bad_words, read_faul
 use Rattle.kore_prove.specs.Reports.{no_such_file, definition_refused, term_refused, too_large}
 use Rattle.kore_prove.specs.Reports.{end_code, Reports}
 use Rattle.kore_prove.specs.Causes.{IoState, ReadCause, RunCause, VerifyCause, DrillCause}
-use Rattle.kore_prove.specs.Readiness.{CanRun, CanVerify, IsReady, IsReadyToVerify, IsFaultless}
+use Rattle.kore_prove.specs.Readiness.{CanRun, CanVerify, IsReadyToRun, IsReadyToVerify}
+use Rattle.kore_prove.specs.Readiness.{IsFaultless}
 use Rattle.kore_prove.specs.Readiness.{IsFaultlessTerm, IsUnhindered}
 use Rattle.kore_prove.proofs.CommandWords.{one_request, one_file}
 use Rattle.kore_prove.proofs.Ending.{one_content, not_lacking, not_more}
@@ -85,7 +86,7 @@ no_cause words told r asked c e is command free (inr h) =
     absurd (elim h.1.rose [ inl out ↦ free.writes out | inr desk ↦ free.files desk ])
 
 pub run_ends_without_memory : (words : List (List ℕ)) (told : Option Told) (asked : RunRequest)
-    (c : IoState) (e : Ending) → c.told ≡ told → IsReady words told → IsRun words asked
+    (c : IoState) (e : Ending) → c.told ≡ told → IsReadyToRun words told → IsRun words asked
     → IsUnhindered c → RunCause asked c e → end_code e ≡ 1
 run_ends_without_memory words None asked c e is ready command free cause = absurd ready
 run_ends_without_memory words (Some told) asked c e is ready command free cause =
@@ -145,7 +146,7 @@ code_of_drill steps c e before after old new code (inl said) cause =
 code_of_drill steps c e before after old new code (inr cut) cause = inl cut.0
 
 -- words that can run or verify ask for that
-pub ready_run : (words : List (List ℕ)) (told : Option Told) → IsReady words told
+pub ready_run : (words : List (List ℕ)) (told : Option Told) → IsReadyToRun words told
     → (asked : RunRequest) × IsRun words asked
 ready_run words None ready = absurd ready
 ready_run words (Some told) ready = (ready.asked, ready.command)

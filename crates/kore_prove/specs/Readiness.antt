@@ -32,9 +32,9 @@ pub record CanRun (words : List (List ℕ)) (told : Told) : Type 0 where
       → IsFaultlessTerm theory top term
 
 -- the desk tells its files, and the words can run on them
-abbrev pub IsReady : List (List ℕ) → Option Told → Type 0
-IsReady words None = ⊥
-IsReady words (Some told) = CanRun words told
+abbrev pub IsReadyToRun : List (List ℕ) → Option Told → Type 0
+IsReadyToRun words None = ⊥
+IsReadyToRun words (Some told) = CanRun words told
 
 -- the words ask to verify a file, which exists and is within its limit
 pub record CanVerify (words : List (List ℕ)) (told : Told) : Type 0 where
@@ -57,7 +57,7 @@ pub record IsUnhindered (c : IoState) : Type 0 where
 -- if the words can run and no fault is counted, the call prints a run or memory ran out
 abbrev pub Completes : List (List ℕ) → IoState → ℕ → Type 0
 Completes words c code =
-    IsReady words c.told → IsUnhindered c → (code ≡ 0) ⊎ (code ≡ 10) ⊎ (code ≡ 11) ⊎ (code ≡ 1)
+    IsReadyToRun words c.told → IsUnhindered c → (code ≡ 0) ⊎ (code ≡ 10) ⊎ (code ≡ 11) ⊎ (code ≡ 1)
 
 -- the same for a verdict, if no fault in reading or in writing the output is counted
 abbrev pub CompletesVerdict : List (List ℕ) → IoState → ℕ → Type 0

@@ -41,7 +41,7 @@ use Rattle.prove_schema.proofs.BindingLaws.{HasImages, elements_have, elements_w
 use Rattle.prove_schema.proofs.SentenceLaws.{schema_over_places}
 use Rattle.prove_equation.specs.EquationLemmas.{SaysEquationSchema, IsEquationLemma}
 use Rattle.prove_equation.specs.Conditions.{SaysCondition, BindsEach, listed}
-use Rattle.prove_equation.specs.Filled.{CanFill, SaysFilled}
+use Rattle.prove_equation.specs.Filled.{CanFill, SaysFilledEquation}
 use Rattle.prove_equation.proofs.ShapeLaws.{IsDirect, direct_shape, closed_same, condition_is}
 
 -- ---- sorts
@@ -373,8 +373,8 @@ pub record IsCited (cx : Context) (f : ℕ) (e : Equation) (lemma : Theorem)
   pub elements : AreElementsFor cx theta ts
 
 -- the lemma as an equality of patterns, and the facts on the terms
-record IsReady (cx : Context) (f : ℕ) (e : Equation) (lemma : Theorem) (theta : List (Option Tree))
-    (o : Option Theorem) (ts : List Theorem) : Type 0 where
+record IsReadyToFill (cx : Context) (f : ℕ) (e : Equation) (lemma : Theorem)
+    (theta : List (Option Tree)) (o : Option Theorem) (ts : List Theorem) : Type 0 where
   parts : List Pattern
   schema : IsEqualitySchema cx e.variables (call f [] e.arguments) e.right parts lemma
   images : HasImages cx theta schema.numbers ts
@@ -382,7 +382,7 @@ record IsReady (cx : Context) (f : ℕ) (e : Equation) (lemma : Theorem) (theta 
 
 ready : (cx : Context) (f : ℕ) (e : Equation) (lemma : Theorem) (theta : List (Option Tree))
     (o : Option Theorem) (ts : List Theorem) → IsCited cx f e lemma theta o ts
-    → IsReady cx f e lemma theta o ts
+    → IsReadyToFill cx f e lemma theta o ts
 unfolding direct_schema shape_of
 ready cx f e lemma theta o ts w =
     let d : IsDirect cx.program.sig cx.names f e w.can.is_lemma.says.sentence =
@@ -410,7 +410,7 @@ pub cited_usable : (cx : Context) (f : ℕ) (e : Equation) (lemma : Theorem)
     → IsCited cx f e lemma theta o ts
     → (qs : List Pattern) × (ns : List ℕ) × IsUsable qs ns lemma ts (listed o)
 cited_usable cx f e lemma theta o ts w =
-    let r : IsReady cx f e lemma theta o ts = ready cx f e lemma theta o ts w in (
+    let r : IsReadyToFill cx f e lemma theta o ts = ready cx f e lemma theta o ts w in (
       r.images.patterns,
       r.schema.numbers,
       schema_usable cx e.variables (call f [] e.arguments) e.right r.parts lemma theta ts
@@ -420,9 +420,9 @@ cited_usable cx f e lemma theta o ts w =
 pub cited_says : (cx : Context) (f : ℕ) (e : Equation) (lemma : Theorem)
     (theta : List (Option Tree)) (o : Option Theorem) (ts : List Theorem) (t : Theorem)
     → IsCited cx f e lemma theta o ts → IsUsed lemma ts (listed o) t
-    → SaysFilled cx f e theta t.conclusion
+    → SaysFilledEquation cx f e theta t.conclusion
 cited_says cx f e lemma theta o ts t w used =
-    let r : IsReady cx f e lemma theta o ts = ready cx f e lemma theta o ts w in
+    let r : IsReadyToFill cx f e lemma theta o ts = ready cx f e lemma theta o ts w in
     let usable : IsUsable r.images.patterns r.schema.numbers lemma ts (listed o) =
     schema_usable cx e.variables (call f [] e.arguments) e.right r.parts lemma theta ts
     (listed o) r.schema r.images r.proved in
@@ -443,7 +443,7 @@ pub cited_stays : (cx : Context) (f : ℕ) (e : Equation) (lemma : Theorem)
     (theta : List (Option Tree)) (o : Option Theorem) (ts : List Theorem) (t : Theorem)
     → IsCited cx f e lemma theta o ts → StaysUsed lemma ts (listed o) t → StaysIn cx t
 cited_stays cx f e lemma theta o ts t w used =
-    let r : IsReady cx f e lemma theta o ts = ready cx f e lemma theta o ts w in
+    let r : IsReadyToFill cx f e lemma theta o ts = ready cx f e lemma theta o ts w in
     schema_stays cx e.variables (call f [] e.arguments) e.right r.parts lemma theta ts (listed o) t
     r.schema w.can.is_lemma.listed w.elements
     (condition_within cx e.variables theta e.condition o w.can.condition) used

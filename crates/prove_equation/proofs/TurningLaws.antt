@@ -24,7 +24,7 @@ use Rattle.prove_term.specs.Values.{SaysEquationAt}
 use Rattle.prove_term.proofs.ContextLaws.{stays_grown}
 use Rattle.prove_term.proofs.FillingLaws.{all_filled_written}
 use Rattle.prove_schema.proofs.ElementLaws.{pattern_grown}
-use Rattle.prove_equation.specs.Filled.{SaysFilled, CanTurn, IsTurned, StaysTurned}
+use Rattle.prove_equation.specs.Filled.{SaysFilledEquation, CanTurn, IsTurned, StaysTurned}
 
 -- ---- turning an equality
 
@@ -65,12 +65,13 @@ turned_stays made turned joined (Some u) t is first second =
 -- what is known of the arguments as they are written
 pub record IsWritten (cx : Context) (f : ℕ) (e : Equation) (theta : List (Option Tree))
     (us : Forest) (made : Theorem) (normal : Option Theorem) : Type 0 where
-  pub says : SaysFilled cx f e theta made.conclusion
+  pub says : SaysFilledEquation cx f e theta made.conclusion
   pub stays : StaysIn cx made
   pub calls : SaysEqualCalls cx f theta e.arguments us normal
 
 pub filled_grown : (old new : Context) (f : ℕ) (e : Equation) (theta : List (Option Tree))
-    (p : Pattern) → HasGrown old new → SaysFilled old f e theta p → SaysFilled new f e theta p
+    (p : Pattern) → HasGrown old new → SaysFilledEquation old f e theta p
+    → SaysFilledEquation new f e theta p
 filled_grown old new f e theta p g says = record {
   left = says.left;
   left_image =
@@ -83,7 +84,7 @@ filled_grown old new f e theta p g says = record {
 
 pub written_at : (old new : Context) (f : ℕ) (e : Equation) (theta : List (Option Tree))
     (us : Forest) (made : Theorem) (normal : Option Theorem) → HasGrown old new
-    → SaysFilled old f e theta made.conclusion → StaysIn old made
+    → SaysFilledEquation old f e theta made.conclusion → StaysIn old made
     → SaysEqualCalls new f theta e.arguments us normal → IsWritten new f e theta us made normal
 written_at old new f e theta us made normal g says stays calls =
     record {

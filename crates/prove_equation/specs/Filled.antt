@@ -30,7 +30,7 @@ pub record CanFill (cx : Context) (f : ℕ) (e : Equation) (lemma : Theorem)
 
 -- The pattern says that the image of the function f of the equation's arguments equals the image of
 -- the right side. The variables of both are replaced by the terms of a substitution.
-pub record SaysFilled (cx : Context) (f : ℕ) (e : Equation) (theta : List (Option Tree))
+pub record SaysFilledEquation (cx : Context) (f : ℕ) (e : Equation) (theta : List (Option Tree))
     (p : Pattern) : Type 0 where
   pub left : Pattern
   pub left_image : image_of cx.program.sig cx.names (filled theta (call f [] e.arguments))

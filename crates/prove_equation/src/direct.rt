@@ -11,7 +11,8 @@ ghost use Rattle.prove_term.specs.Contexts.{HasGrown, StaysIn};
 ghost use Rattle.prove_term.specs.Values.{SaysEquationAt};
 ghost use Rattle.prove_equation.specs.Conditions.{BindsEach, SaysCondition};
 ghost use Rattle.prove_equation.specs.EquationLemmas.{IsEquationLemma};
-ghost use Rattle.prove_equation.specs.Filled.{CanFill, CanTurn, IsTurned, SaysFilled, StaysTurned};
+ghost use Rattle.prove_equation.specs.Filled.{CanFill, CanTurn, IsTurned, SaysFilledEquation};
+ghost use Rattle.prove_equation.specs.Filled.{StaysTurned};
 
 use crate::conditions::given;
 use ml_derived::{flip, join};
@@ -73,8 +74,8 @@ fn filled(
         subst.now
         condition.now }
     ensures says { IfOk result
-        (λ t. SaysFilled cx.new equation.now.fun.0 (function_equation equation.now) subst.now
-        t.conclusion) }
+        (λ t. SaysFilledEquation cx.new equation.now.fun.0 (function_equation equation.now)
+        subst.now t.conclusion) }
     ensures stays { IfOk result (StaysIn cx.new) }
     ensures grown { HasGrown cx.old cx.new }
 {

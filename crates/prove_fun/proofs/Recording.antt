@@ -32,7 +32,7 @@ use Rattle.rule_core.proofs.EvaluationAnswers.{serves_match}
 use Rattle.rule_core.proofs.Determined.{values_are_sorted, record_tells_value}
 use Rattle.prove_term.specs.Filling.{filled, in_place}
 use Rattle.prove_fun.specs.RecordParts.{children_of, listed, children}
-use Rattle.prove_fun.specs.Evaluating.{IsReady, IsRecorded, AreRecorded, IsHookCall}
+use Rattle.prove_fun.specs.Evaluating.{IsSortedAndBound, IsRecorded, AreRecorded, IsHookCall}
 use Rattle.prove_fun.specs.Using.{IsUse}
 
 -- ---- results
@@ -243,7 +243,7 @@ others_recorded program theta a args r rs (p, ps, is, one, rest) =
 
 item_recorded : (program : Program) (variables : List ℕ) (theta : List (Option Tree))
     (args : List RulePat) (refs : List SortRef) (rs : RecordList) (i : ℕ) (p : RulePat)
-    (r : Record) → IsReady program → i < length args → p ≡ get_or args i p
+    (r : Record) → IsSortedAndBound program → i < length args → p ≡ get_or args i p
     → slice_get (listed rs) i ≡ Some r
     → HaveSorts program.sig variables [] (plain_patterns args) refs
     → ((x : ℕ) → OccursInSome x (plain_patterns args) → IsSome (binding theta x))
@@ -297,7 +297,7 @@ record AreGood (program : Program) (ts : Forest) (refs : List SortRef) : Type 0 
   low : heights ts ≤ most_height
 
 go_good : (program : Program) (variables : List ℕ) (theta : List (Option Tree)) (ps : RulePatterns)
-    (refs : List SortRef) (rs : RecordList) → IsReady program
+    (refs : List SortRef) (rs : RecordList) → IsSortedAndBound program
     → HaveSorts program.sig variables [] ps refs
     → ((x : ℕ) → OccursInSome x ps → IsSome (binding theta x))
     → RespectsSorts program.sig variables theta
@@ -487,7 +487,7 @@ all_at P xs i x each there =
 
 pub held_record : (program : Program) (sigma : List (Option Tree)) (variables : List ℕ)
     (ps : RulePatterns) (ts : Forest) (p : RulePattern) (q : Record) (c : Option RulePattern)
-    (o : OptionalRecord) → IsReady program → IsCondition program.sig variables ps p
+    (o : OptionalRecord) → IsSortedAndBound program → IsCondition program.sig variables ps p
     → MatchAll program.sig variables ps ts sigma → heights ts ≤ most_height → c ≡ Some p
     → o ≡ conditional q → RecordsCondition (theory_of program) sigma c o
     → (h : IsRecorded program sigma p q) × (h.variables ≡ variables) × IsTrueValue (result_of q)

@@ -34,7 +34,8 @@ use Rattle.prove_term.proofs.ContextLaws.{contains_there, grown_twice, image_gro
 use Rattle.ml_image.specs.Sentences.{term}
 use Rattle.prove_equation.specs.Conditions.{BindsEach, SaysCondition}
 use Rattle.prove_fun.specs.RecordParts.{listed}
-use Rattle.prove_fun.specs.Evaluating.{IsReady, IsImage, IsRecorded, HasEqual, Equates, SaysCall}
+use Rattle.prove_fun.specs.Evaluating.{IsSortedAndBound, IsImage, IsRecorded, HasEqual, Equates}
+use Rattle.prove_fun.specs.Evaluating.{SaysCall}
 use Rattle.prove_fun.specs.Using.{IsUse, SaysConditionAt}
 use Rattle.prove_fun.proofs.Equalities.{has_equal_grown}
 use Rattle.prove_fun.proofs.Recording.{result_good}
@@ -121,7 +122,8 @@ count_patterns [] = refl
 count_patterns (p ∷ ps) = ap suc (count_patterns ps)
 
 -- the equation has an image
-has_image : (program : Program) (f : ℕ) (q : Equation) → IsReady program → IsBoundEquation f q
+has_image : (program : Program) (f : ℕ) (q : Equation) → IsSortedAndBound program
+    → IsBoundEquation f q
     → IsEquationFor (theory_of program) f (function_equation q)
     → HasEquationImage program.sig f (function_equation q)
 has_image program f q ready bound own =
@@ -219,8 +221,9 @@ pub use_later : (a b : Context) (f : ℕ) (rs : RecordList) (i : ℕ) (sigma : L
 use_later a b f rs i sigma o body g h =
     subst (λ (x : Program). IsUse x f rs i sigma o body) (sym g.program) h
 
-pub ready_later : (a b : Context) → HasGrown a b → IsReady a.program → IsReady b.program
-ready_later a b g h = subst IsReady (sym g.program) h
+pub ready_later : (a b : Context) → HasGrown a b → IsSortedAndBound a.program
+    → IsSortedAndBound b.program
+ready_later a b g h = subst IsSortedAndBound (sym g.program) h
 
 -- the requirements on an equation of the code
 pub used_matches : (program : Program) (f : ℕ) (rs : RecordList) (i : ℕ)
@@ -268,7 +271,7 @@ pub record IsAsked (program : Program) (f : ℕ) (rs : RecordList) (i : ℕ)
   pub bound : BindsEach (sorts_of q.vars.items) sigma
 
 pub asked : (program : Program) (f : ℕ) (rs : RecordList) (i : ℕ) (sigma : List (Option Tree))
-    (o : OptionalRecord) (body : Record) (q : Equation) → IsReady program
+    (o : OptionalRecord) (body : Record) (q : Equation) → IsSortedAndBound program
     → IsUse program f rs i sigma o body → IsEquationAt program f i q
     → IsAsked program f rs i sigma q
 asked program f rs i sigma o body q ready u at =

@@ -26,7 +26,7 @@ use Rattle.prove_term.specs.Contexts.{Context, StaysIn}
 use Rattle.prove_term.specs.Filling.{filled, all_filled}
 
 -- The program is well sorted, and its rules and equations bind their variables.
-pub record IsReady (program : Program) : Type 0 where
+pub record IsSortedAndBound (program : Program) : Type 0 where
   pub well_sorted : IsWellSorted (theory_of program)
   pub bound : HasBoundVariables program
 
@@ -34,7 +34,7 @@ pub record IsReady (program : Program) : Type 0 where
 -- serves the pattern.
 pub record IsRecorded (program : Program) (theta : List (Option Tree)) (p : RulePattern)
     (r : Record) : Type 0 where
-  pub ready : IsReady program
+  pub ready : IsSortedAndBound program
   pub variables : List ℕ
   pub sort : ℕ
   pub sorted : HasSort program.sig variables p sort
@@ -44,7 +44,7 @@ pub record IsRecorded (program : Program) (theta : List (Option Tree)) (p : Rule
 pub record AreRecorded (program : Program) (theta : List (Option Tree)) (ps : RulePatterns)
     (rs : RecordList)
     : Type 0 where
-  pub ready : IsReady program
+  pub ready : IsSortedAndBound program
   pub variables : List ℕ
   pub refs : List SortRef
   pub sorted : HaveSorts program.sig variables [] ps refs

@@ -11,7 +11,7 @@ ghost use Rattle.prove_term.specs.Contexts.{HasGrown, StaysIn};
 ghost use Rattle.prove_term.specs.Values.{SaysEquationAt};
 ghost use Rattle.prove_fun.specs.KeptLemmas.{IsKeptIn};
 ghost use Rattle.prove_fun.specs.RecordParts.{children, children_of};
-ghost use Rattle.prove_fun.specs.Evaluating.{IsReady};
+ghost use Rattle.prove_fun.specs.Evaluating.{IsSortedAndBound};
 ghost use Rattle.prove_fun.specs.Using.{IsUse, SaysConditionAt};
 
 use crate::lemma_places::{LemmaPlaces, lemma_of};
@@ -45,7 +45,7 @@ pub(crate) fn equation_fact(
     count: usize,
     condition: &Option<Thm>,
 ) -> Result<Thm, AllocError>
-    requires ready { IsReady cx.old.program }
+    requires ready { IsSortedAndBound cx.old.program }
     requires used { (condition : OptionalRecord) × (body : Record)
         × IsUse cx.old.program symbol.0 (children_of (plain_record evaluation.now))
         used.now.equation used.now.subst

@@ -25,7 +25,8 @@ ghost use Rattle.prove_fun.specs.KeptLemmas.{IsKeptIn};
 ghost use Rattle.prove_fun.specs.RecordParts.{children_of};
 ghost use Rattle.prove_fun.specs.Evaluating.{AreEvaluated, AreRecorded, Equates, IsEvaluated};
 ghost use Rattle.prove_fun.specs.Evaluating.{IsImage};
-ghost use Rattle.prove_fun.specs.Evaluating.{IsInjectedOnce, IsReady, IsRecorded, SaysCall};
+ghost use Rattle.prove_fun.specs.Evaluating.{IsInjectedOnce, IsSortedAndBound, IsRecorded};
+ghost use Rattle.prove_fun.specs.Evaluating.{SaysCall};
 ghost use Rattle.prove_fun.specs.Using.{IsUse, SaysConditionAt, condition_record, used_record};
 
 use crate::equating::{equality, followed, joined};
@@ -341,7 +342,7 @@ fn condition_held(
     equation: &Equation,
     used: &EqRecord,
 ) -> Result<Option<Thm>, AllocError>
-    requires ready { IsReady cx.old.program }
+    requires ready { IsSortedAndBound cx.old.program }
     requires equation { IsEquationAt cx.old.program symbol.0 used.now.equation equation.now }
     requires used { (rs : RecordList) × (body : Record)
         × IsUse cx.old.program symbol.0 rs used.now.equation used.now.subst

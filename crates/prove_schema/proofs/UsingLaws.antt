@@ -380,7 +380,7 @@ given_within s facts others (h ∷ hs) (t ∷ ts) a b given =
 -- ---- the use
 
 -- all that is known when the lemma is cited
-pub record IsReady (lemma : Theorem) (facts others : List Theorem) (patterns : List Pattern)
+pub record IsReadyToUse (lemma : Theorem) (facts others : List Theorem) (patterns : List Pattern)
     (ts : List Theorem) : Type 0 where
   pub subjects : (qs : List Pattern) (ns : List ℕ) → AreFacts qs ns facts → patterns ≡ qs
   pub given : AreGiven lemma.hypotheses facts others ts
@@ -394,7 +394,7 @@ can_prove lemma facts others hs (qs, ns, u) is =
     (qs, ns, u.are, subst (All (IsProved qs ns others)) (sym is) u.proved)
 
 pub ready_hypotheses : (lemma : Theorem) (facts others : List Theorem) (patterns : List Pattern)
-    (ts : List Theorem) → IsReady lemma facts others patterns ts → CanUse lemma facts others
+    (ts : List Theorem) → IsReadyToUse lemma facts others patterns ts → CanUse lemma facts others
     → AreMetasBelow (length patterns) lemma.hypotheses
 ready_hypotheses lemma facts others patterns ts r (qs, ns, u) =
     let many : (length qs ≡ length facts) × (length ns ≡ length facts) =
@@ -404,33 +404,33 @@ ready_hypotheses lemma facts others patterns ts r (qs, ns, u) =
     (all_below qs ns others lemma.hypotheses (many.1 ∙ sym many.0) u.proved)
 
 pub ready_conclusion : (lemma : Theorem) (facts others : List Theorem) (patterns : List Pattern)
-    (ts : List Theorem) → IsReady lemma facts others patterns ts → CanUse lemma facts others
+    (ts : List Theorem) → IsReadyToUse lemma facts others patterns ts → CanUse lemma facts others
     → IsMetaBelow (length patterns) lemma.conclusion
 ready_conclusion lemma facts others patterns ts r (qs, ns, u) =
     subst (λ (ps : List Pattern). IsMetaBelow (length ps) lemma.conclusion)
     (sym (r.subjects qs ns u.are)) u.below
 
 pub ready_closed : (lemma : Theorem) (facts others : List Theorem) (patterns : List Pattern)
-    (ts : List Theorem) → IsReady lemma facts others patterns ts → CanUse lemma facts others
+    (ts : List Theorem) → IsReadyToUse lemma facts others patterns ts → CanUse lemma facts others
     → HaveNoVariables patterns
 ready_closed lemma facts others patterns ts r (qs, ns, u) =
     subst HaveNoVariables (sym (r.subjects qs ns u.are)) (facts_closed qs ns facts u.are)
 
 pub ready_proofs : (lemma : Theorem) (facts others : List Theorem) (patterns : List Pattern)
-    (ts : List Theorem) → IsReady lemma facts others patterns ts → CanUse lemma facts others
+    (ts : List Theorem) → IsReadyToUse lemma facts others patterns ts → CanUse lemma facts others
     → conclusions ts ≡ instances patterns lemma.hypotheses
 ready_proofs lemma facts others patterns ts r (qs, ns, u) =
     all_conclude qs ns facts others lemma.hypotheses ts u.are u.proved r.given
     ∙ ap (λ (ps : List Pattern). instances ps lemma.hypotheses) (sym (r.subjects qs ns u.are))
 
 pub ready_says : (lemma : Theorem) (facts others : List Theorem) (patterns : List Pattern)
-    (ts : List Theorem) (t : Theorem) → IsReady lemma facts others patterns ts
+    (ts : List Theorem) (t : Theorem) → IsReadyToUse lemma facts others patterns ts
     → t.conclusion ≡ instance patterns lemma.conclusion → IsUsed lemma facts others t
 ready_says lemma facts others patterns ts t r is qs ns u =
     is ∙ ap (λ (ps : List Pattern). instance ps lemma.conclusion) (r.subjects qs ns u.are)
 
 pub ready_stays : (lemma : Theorem) (facts others : List Theorem) (patterns : List Pattern)
-    (ts : List Theorem) (t : Theorem) → IsReady lemma facts others patterns ts
+    (ts : List Theorem) (t : Theorem) → IsReadyToUse lemma facts others patterns ts
     → CanUse lemma facts others → CitesWithin lemma patterns ts t → StaysUsed lemma facts others t
 ready_stays lemma facts others patterns ts t r (qs, ns, u) cites s stated over a b =
     cites s stated over

@@ -1,4 +1,5 @@
 -- Sentences as schemas, with a pattern variable for each object variable.
+pub use Rattle.prove_term.specs.Schemas.{meta_facts}
 use Rattle.std.specs.Prelude.{◌≡◌, ℕ, ◌+◌, ◌<◌, ◌≤◌, List, [], ◌∷◌, ◌++◌, length}
 use Rattle.ml_pat.specs.Patterns.{Pattern, bot, top, imp, not, and, or, equal, member, fun, ex, all}
 use Rattle.ml_pat.specs.Patterns.{app, at_sort, next, ev, var, meta, constant}
@@ -52,11 +53,6 @@ IsOpenFrom k n (constant c) = Unit {0}
 abbrev pub closed : ℕ → List ℕ → Pattern → Pattern
 closed k [] p = p
 closed k (s ∷ ss) p = all k s (closed (k + 1) ss p)
-
--- the facts that each pattern variable, numbered from k on, is one element of its sort
-abbrev pub meta_facts : ℕ → List ℕ → List Pattern
-meta_facts k [] = []
-meta_facts k (s ∷ ss) = fun (meta k) s ∷ meta_facts (k + 1) ss
 
 -- the sentence p says the body for all elements of the sorts with these numbers; the body has no
 -- quantifier

@@ -23,7 +23,7 @@ use Rattle.prove_term.proofs.ContextLaws.{grown_twice, has_before}
 use Rattle.prove_term.proofs.FillingLaws.{filled_written, written_there}
 use Rattle.prove_fun.specs.Valuing.{EqualsValue}
 use Rattle.prove_fun.proofs.Recording.{result_good}
-use Rattle.prove_step.specs.Applying.{SaysFilled, SaysFilledAt}
+use Rattle.prove_step.specs.Applying.{SaysFilledStep, SaysFilledAt}
 use Rattle.prove_step.specs.Normalizing.{SaysStepOf}
 use Rattle.prove_step.specs.Turning.{Turns, CanTurn, IsTurned, StaysTurned}
 use Rattle.prove_step.specs.Steps.{IsStepFrom, SaysStep}
@@ -61,7 +61,7 @@ turned_side mid new theta p (Some e) u from g says makes image =
     )
 
 filled_grown : (old new : Context) (theta : List (Option Tree)) (l r : RulePattern) (p : Pattern)
-    → HasGrown old new → SaysFilled old theta l r p → SaysFilled new theta l r p
+    → HasGrown old new → SaysFilledStep old theta l r p → SaysFilledStep new theta l r p
 filled_grown old new theta l r p g says = record {
   from = says.from;
   from_image = pattern_grown old new (filled theta l) says.from g says.from_image;
@@ -87,7 +87,7 @@ turned_value cx theta p (Some e) u from says image =
 pub record Turning (cx : Context) (step : StepRecord) (r : Rule) (left right : Option Theorem)
     (written : Theorem) : Type 0 where
   pub facts : StepFacts cx.program step r
-  pub says : SaysFilled cx step.theta (plain_pattern r.left) (plain_pattern r.right)
+  pub says : SaysFilledStep cx step.theta (plain_pattern r.left) (plain_pattern r.right)
       written.conclusion
   pub from : Pattern
   pub from_turned : Turns left says.from from
@@ -105,7 +105,7 @@ pub turning : (old mid new : Context) (step : StepRecord) (r : Rule) (left right
 turning old mid new step r left right written g k facts said turns_left turns_right =
     let whole : HasGrown old new = grown_twice old mid new g k in
     let after : StepFacts new.program step r = facts_later old new step r whole facts in
-    let says : SaysFilled new step.theta (plain_pattern r.left) (plain_pattern r.right)
+    let says : SaysFilledStep new step.theta (plain_pattern r.left) (plain_pattern r.right)
     written.conclusion =
     filled_grown old new step.theta (plain_pattern r.left) (plain_pattern r.right)
     written.conclusion whole (said r facts.there) in

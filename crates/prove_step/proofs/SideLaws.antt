@@ -103,14 +103,14 @@ place_over Left s object other = (object, other)
 place_over Right s object other = (other, object)
 
 -- the theorem is made from the two assumed ones
-pub record IsMade (side : Side) (e step t : Theorem) : Type 0 where
+pub record IsMadeOfSides (side : Side) (e step t : Theorem) : Type 0 where
   pub equality : AssumesWithin same e
   pub moved : AssumesWithin (given side) step
   pub stays : StaysWithin (place side ∷ var 0 ∷ []) (e ∷ step ∷ []) t
 
 pub made_of : (side : Side) (e step t : Theorem) (p q context : Pattern) → p ≡ same → q ≡ given side
     → context ≡ place side → AssumesWithin p e → AssumesWithin q step
-    → StaysWithin (context ∷ var 0 ∷ []) (e ∷ step ∷ []) t → IsMade side e step t
+    → StaysWithin (context ∷ var 0 ∷ []) (e ∷ step ∷ []) t → IsMadeOfSides side e step t
 made_of side e step t p q context one two at first second stays = record {
   equality = subst (λ (h : Pattern). AssumesWithin h e) one first;
   moved = subst (λ (h : Pattern). AssumesWithin h step) two second;
@@ -118,26 +118,26 @@ made_of side e step t p q context one two at first second stays = record {
 }
 
 -- a scope of all variables has the theorem if both may be assumed
-made_within : (side : Side) (e step t : Theorem) → IsMade side e step t → (s : Scope)
+made_within : (side : Side) (e step t : Theorem) → IsMadeOfSides side e step t → (s : Scope)
     → ((x : ℕ) → IsOver s (var x)) → ((i : ℕ) → IsOver s (meta i)) → Contains s.assumed same
     → Contains s.assumed (given side) → IsWithin s t
 made_within side e step t made s objects metas one two =
     made.stays s (place_over side s (objects 0) (metas 2), (objects 0, tt))
     (made.equality s one (metas 0, metas 1), (made.moved s two (given_over side s metas), tt))
 
-made_assuming : (side : Side) (e step t : Theorem) → IsMade side e step t → (cx : Context)
+made_assuming : (side : Side) (e step t : Theorem) → IsMadeOfSides side e step t → (cx : Context)
     → StaysAssuming cx (same ∷ given side ∷ []) t
 made_assuming side e step t made cx s has may =
     made_within side e step t made s has.objects has.metas
     (may same (first_there same (given side)))
     (may (given side) (second_there same (given side)))
 
-pub made_stays : (side : Side) (e step t : Theorem) → IsMade side e step t → (cx : Context)
+pub made_stays : (side : Side) (e step t : Theorem) → IsMadeOfSides side e step t → (cx : Context)
     → IsLemmaIn cx t
 made_stays side e step t made cx =
     lemma_of cx (same ∷ given side ∷ []) t (made_assuming side e step t made cx)
 
-made_assumes : (side : Side) (e step t : Theorem) → IsMade side e step t → (p : Pattern)
+made_assumes : (side : Side) (e step t : Theorem) → IsMadeOfSides side e step t → (p : Pattern)
     → Contains t.hypotheses p → IsSideHypothesis side p
 made_assumes side e step t made p there =
     let s : Scope = everything (same ∷ given side ∷ []) in
@@ -154,7 +154,7 @@ there_at (p ∷ ps) (suc k) d low =
     let deeper : Contains ps (slice_index_or ps k d) = there_at ps k d (omega (arith, low)) in
     (suc deeper.0, omega (arith, deeper.1), deeper.2)
 
-pub made_says : (side : Side) (e step t : Theorem) (context : Pattern) → IsMade side e step t
+pub made_says : (side : Side) (e step t : Theorem) (context : Pattern) → IsMadeOfSides side e step t
     → e.conclusion ≡ same → context ≡ place side → IsCarried e.conclusion context 0 t.conclusion
     → IsSideLemma side t
 made_says side e step t context made is at carried = record {

@@ -30,7 +30,7 @@ use Rattle.prove_term.specs.RuleAxioms.{HasImageAt}
 use Rattle.prove_term.proofs.ContextLaws.{contains_there}
 use Rattle.prove_term.proofs.KeptLaws.{rule_found}
 use Rattle.prove_equation.specs.Conditions.{BindsEach, SaysCondition}
-use Rattle.prove_fun.specs.Evaluating.{IsReady, IsRecorded}
+use Rattle.prove_fun.specs.Evaluating.{IsSortedAndBound, IsRecorded}
 use Rattle.prove_fun.proofs.Recording.{all_at, held_record}
 use Rattle.prove_step.specs.Applying.{IsStepOf, SaysConditionAt}
 use Rattle.prove_step.specs.Steps.{IsStepFrom}
@@ -55,7 +55,7 @@ sorted_rule theory i r there (inr (sort, each)) =
 
 pub record StepFacts (program : Program) (step : StepRecord) (r : Rule) : Type 0 where
   pub there : slice_get program.rules.items step.rule ≡ Some r
-  pub ready : IsReady program
+  pub ready : IsSortedAndBound program
   pub sort : ℕ
   pub fits : IsRuleOf program.sig sort (rewrite_rule r)
   pub image : HasRuleImage program.sig (rewrite_rule r)
@@ -82,8 +82,8 @@ matched theory r t theta matches =
     matches.makes in
     made.1.1.1.0 ∙ ap (λ (u : Tree). Some u) (sym (first_tree t made.0 no_tree made.1.0 made.1.1.0))
 
-facts_with : (program : Program) (step : StepRecord) (r : Rule) (t : Tree) (ok : IsReady program)
-    → slice_get program.rules.items step.rule ≡ Some r
+facts_with : (program : Program) (step : StepRecord) (r : Rule) (t : Tree)
+    (ok : IsSortedAndBound program) → slice_get program.rules.items step.rule ≡ Some r
     → slice_get (theory_of program).rules step.rule ≡ Some (rewrite_rule r) → height t ≤ most_height
     → Matches (theory_of program) (rewrite_rule r) t step.theta
     → RecordsCondition (theory_of program) step.theta (rewrite_rule r).condition step.condition

@@ -27,7 +27,7 @@ use Rattle.prove_schema.proofs.UsingLaws.{as_many_facts, facts_closed}
 use Rattle.prove_schema.proofs.BindingLaws.{HasImages, elements_have, elements_within, proved_fact}
 use Rattle.prove_equation.specs.Conditions.{listed}
 use Rattle.prove_equation.proofs.FillingLaws.{all_there, part_proved, condition_within}
-use Rattle.prove_step.specs.Applying.{CanApply, SaysFilled}
+use Rattle.prove_step.specs.Applying.{CanApply, SaysFilledStep}
 
 -- ---- closed images
 
@@ -53,7 +53,7 @@ pub record IsCited (cx : Context) (r : RewriteRule) (lemma : Theorem) (theta : L
   pub elements : AreElementsFor cx theta ts
 
 -- the images of the terms, and what is proved of them
-record IsReady (cx : Context) (r : RewriteRule) (lemma : Theorem) (theta : List (Option Tree))
+record IsReadyToStep (cx : Context) (r : RewriteRule) (lemma : Theorem) (theta : List (Option Tree))
     (o : Option Theorem) (ts : List Theorem) (w : IsCited cx r lemma theta o ts) : Type 0 where
   images : HasImages cx theta w.can.schema.numbers ts
   there : AllThere theta (length r.variables)
@@ -63,7 +63,7 @@ record IsReady (cx : Context) (r : RewriteRule) (lemma : Theorem) (theta : List 
 
 ready : (cx : Context) (r : RewriteRule) (lemma : Theorem) (theta : List (Option Tree))
     (o : Option Theorem) (ts : List Theorem) (w : IsCited cx r lemma theta o ts)
-    → IsReady cx r lemma theta o ts w
+    → IsReadyToStep cx r lemma theta o ts w
 ready cx r lemma theta o ts w =
     let i : HasImages cx theta w.can.schema.numbers ts =
     elements_have cx theta r.variables w.can.schema.numbers ts w.elements w.can.schema.are
@@ -120,16 +120,16 @@ pub cited_usable : (cx : Context) (r : RewriteRule) (lemma : Theorem) (theta : L
     (o : Option Theorem) (ts : List Theorem) → IsCited cx r lemma theta o ts
     → (qs : List Pattern) × (ns : List ℕ) × IsUsable qs ns lemma ts (listed o)
 cited_usable cx r lemma theta o ts w =
-    let g : IsReady cx r lemma theta o ts w = ready cx r lemma theta o ts w in
+    let g : IsReadyToStep cx r lemma theta o ts w = ready cx r lemma theta o ts w in
     (g.images.patterns, w.can.schema.numbers, g.usable)
 
 -- The lemma says that the left side steps to the right side. The variables of both are replaced by
 -- terms.
 pub cited_says : (cx : Context) (r : RewriteRule) (lemma : Theorem) (theta : List (Option Tree))
     (o : Option Theorem) (ts : List Theorem) (t : Theorem) → IsCited cx r lemma theta o ts
-    → IsUsed lemma ts (listed o) t → SaysFilled cx theta r.left r.right t.conclusion
+    → IsUsed lemma ts (listed o) t → SaysFilledStep cx theta r.left r.right t.conclusion
 cited_says cx r lemma theta o ts t w used =
-    let g : IsReady cx r lemma theta o ts w = ready cx r lemma theta o ts w in
+    let g : IsReadyToStep cx r lemma theta o ts w = ready cx r lemma theta o ts w in
     let is : t.conclusion ≡ instance g.images.patterns lemma.conclusion =
     used g.images.patterns w.can.schema.numbers g.usable in
     let closed : HaveNoVariables g.images.patterns =

@@ -51,7 +51,7 @@ pub record CanApply (cx : Context) (r : RewriteRule) (lemma : Theorem) (theta : 
 
 -- The pattern says that the image of the left side steps to the image of the right side. The
 -- variables of both are replaced by terms. Neither image has an object variable.
-pub record SaysFilled (cx : Context) (theta : List (Option Tree)) (left right : RulePattern)
+pub record SaysFilledStep (cx : Context) (theta : List (Option Tree)) (left right : RulePattern)
     (p : Pattern) :
     Type 0 where
   pub from : Pattern
@@ -65,11 +65,11 @@ pub record SaysFilled (cx : Context) (theta : List (Option Tree)) (left right : 
 abbrev pub SaysFilledAt : Context → ℕ → List (Option Tree) → Pattern → Type 0
 SaysFilledAt cx i theta p =
     (r : Rule) → slice_get cx.program.rules.items i ≡ Some r →
-    SaysFilled cx theta (plain_pattern r.left) (plain_pattern r.right) p
+    SaysFilledStep cx theta (plain_pattern r.left) (plain_pattern r.right) p
 
 -- the theorem says this of the rule's sides, if the rule's lemma may be used with this substitution
 abbrev pub SaysApplied : Context → Theorem → List (Option Tree) → Option Theorem → Context → Theorem
     → Type 0
 SaysApplied old lemma theta o new t =
     (r : RewriteRule) → CanApply old r lemma theta o
-    → SaysFilled new theta r.left r.right t.conclusion
+    → SaysFilledStep new theta r.left r.right t.conclusion

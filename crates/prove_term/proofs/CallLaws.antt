@@ -22,7 +22,7 @@ use Rattle.ml_image.proofs.WellSortedLaws.{sorted_has_image}
 use Rattle.prove_term.specs.Contexts.{Context, HasGrown}
 use Rattle.prove_term.specs.Schemas.{AreImages}
 use Rattle.prove_term.specs.Applications.{applied_to}
-use Rattle.prove_term.specs.Comparing.{AreInstances, AreMade, AreCompared, AllCompare}
+use Rattle.prove_term.specs.Comparing.{AreInstances, MakeTerms, AreCompared, AllCompare}
 use Rattle.prove_term.specs.EqualCalls.{SaysEqualCalls}
 use Rattle.prove_term.proofs.KeptLaws.{symbol_grown}
 use Rattle.prove_term.proofs.ElementLaws.{images_grown}
@@ -106,7 +106,7 @@ split old cx f theta args ws us image g ss h grown is made =
 pub called_made : (old cx : Context) (f : ℕ) (theta : List (Option Tree)) (args ws : List RulePat)
     (us : Forest) → AreCalled old.program.sig f theta args us → HasGrown old cx
     → plain_patterns ws ≡ ground_patterns us
-    → AreMade cx.program.sig (plain_patterns args) (plain_patterns ws)
+    → MakeTerms cx.program.sig (plain_patterns args) (plain_patterns ws)
 called_made old cx f theta args ws us h grown is = (
   h.variables,
   theta,

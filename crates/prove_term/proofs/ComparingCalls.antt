@@ -25,7 +25,7 @@ use Rattle.prove_term.specs.Contexts.{Context, HasGrown, StaysIn}
 use Rattle.prove_term.specs.Schemas.{AreImages}
 use Rattle.prove_term.specs.Applications.{applied_to, IsApplication}
 use Rattle.prove_term.specs.EqualImages.{SaysEqualImages}
-use Rattle.prove_term.specs.Comparing.{IsInstance, AreInstances, IsMade, AreMade, IsJoined}
+use Rattle.prove_term.specs.Comparing.{IsInstance, AreInstances, MakesTerm, MakeTerms, IsJoined}
 use Rattle.prove_term.specs.Comparing.{IsCompared, Compares, AreCompared, AllCompare, IsOverContext}
 use Rattle.prove_term.proofs.ContextLaws.{image_grown, has_before}
 use Rattle.prove_term.proofs.KeptLaws.{symbol_grown}
@@ -47,13 +47,13 @@ pub value_compares : (cx : Context) (s : ℕ) (v : DomainValue) (w : RulePattern
 value_compares cx s v w image = λ variables theta sort u h is. h.makes
 
 pub call_makes_nothing : (sig : Signature) (f : ℕ) (ss : List ℕ) (ps : RulePatterns)
-    (w : RulePattern) → IsMade sig (call f ss ps) w → ⊥
+    (w : RulePattern) → MakesTerm sig (call f ss ps) w → ⊥
 call_makes_nothing sig f ss ps w (variables, theta, sort, u, h, is) = none_some u h.makes
 
 -- ---- constructors
 
 pub made_application : (sig : Signature) (f : ℕ) (ps : RulePatterns) (w : RulePattern)
-    → IsMade sig (application f ps) w → (us : Forest) × (w ≡ application f (ground_patterns us))
+    → MakesTerm sig (application f ps) w → (us : Forest) × (w ≡ application f (ground_patterns us))
 made_application sig f ps w (variables, theta, sort, u, h, is) =
     let parts : (refs : List SortRef) × (us : Forest) × (u ≡ node f us) × AreInstances sig variables
     theta ps refs us =
@@ -61,7 +61,7 @@ made_application sig f ps w (variables, theta, sort, u, h, is) =
     (parts.1, is ∙ ap ground_pattern parts.2)
 
 pub made_arguments : (sig : Signature) (f g : ℕ) (ps ws : RulePatterns)
-    → IsMade sig (application f ps) (application g ws) → AreMade sig ps ws
+    → MakesTerm sig (application f ps) (application g ws) → MakeTerms sig ps ws
 made_arguments sig f g ps ws (variables, theta, sort, u, h, is) =
     let parts : (refs : List SortRef) × (us : Forest) × (u ≡ node f us) × AreInstances sig variables
     theta ps refs us =
@@ -143,10 +143,10 @@ pub record IsTakenApart (cx : Context) (f g : ℕ) (args ws : List RulePat) (ima
   pub are_images : AreImages cx.program.sig cx.names (plain_patterns ws) images
   pub is : image ≡ applied_to (constant number) images
   pub many : length args ≡ length images
-  pub made : AreMade cx.program.sig (plain_patterns args) (plain_patterns ws)
+  pub made : MakeTerms cx.program.sig (plain_patterns args) (plain_patterns ws)
 
 pub taken_apart : (cx : Context) (f g : ℕ) (args ws : List RulePat) (image : Pattern)
-    → IsMade cx.program.sig (application f (plain_patterns args))
+    → MakesTerm cx.program.sig (application f (plain_patterns args))
     (application g (plain_patterns ws))
     → image_of cx.program.sig cx.names (application g (plain_patterns ws)) ≡ Some image
     → IsTakenApart cx f g args ws image
@@ -155,7 +155,7 @@ taken_apart cx f g args ws image h is =
     (symbol_image cx.program.sig cx.names g ≡ Some (constant c)) × AreImages cx.program.sig
     cx.names (plain_patterns ws) qs × (image ≡ applied_to (constant c) qs) =
     application_image cx.program.sig cx.names g (plain_patterns ws) image is in
-    let made : AreMade cx.program.sig (plain_patterns args) (plain_patterns ws) =
+    let made : MakeTerms cx.program.sig (plain_patterns args) (plain_patterns ws) =
     made_arguments cx.program.sig f g (plain_patterns args) (plain_patterns ws) h in
     record {
       number = parts.0;
@@ -271,7 +271,7 @@ sides_of head middle x e r made is =
 -- both can be joined
 pub joinable : (cx : Context) (a b d : ℕ) (p w : RulePattern) (once e : Theorem)
     (o : IsOnce cx a b d w once) (one r : Option Theorem)
-    → IsMade cx.program.sig p (injection a b w) → Compares cx p (injection a b w) o.middle one
+    → MakesTerm cx.program.sig p (injection a b w) → Compares cx p (injection a b w) o.middle one
     → IsApplication o.head o.middle None one r → r ≡ Some e
     → AreJoinable e.conclusion once.conclusion
 joinable cx a b d p w once e o None r made compared applies is =
@@ -348,10 +348,11 @@ further_compares cx a b d p w once e t o (Some x) r apart compared applies is jo
 
 -- the converse
 pub made_again : (old new : Context) (p w : RulePattern) → HasGrown old new
-    → IsMade old.program.sig p w → IsMade new.program.sig p w
-made_again old new p w g h = subst (λ (program : Program). IsMade program.sig p w) (sym g.program) h
+    → MakesTerm old.program.sig p w → MakesTerm new.program.sig p w
+made_again old new p w g h =
+    subst (λ (program : Program). MakesTerm program.sig p w) (sym g.program) h
 
-pub made_closed : (cx : Context) (p w : RulePattern) (q : Pattern) → IsMade cx.program.sig p w
+pub made_closed : (cx : Context) (p w : RulePattern) (q : Pattern) → MakesTerm cx.program.sig p w
     → image_of cx.program.sig cx.names w ≡ Some q → HasNoVariable q
 made_closed cx p w q (variables, theta, sort, u, h, ground) is =
     image_closed cx.program.sig cx.names u q
@@ -403,7 +404,7 @@ says_equal cx theta p w image variables sort u o h ground is compared =
     (compared variables theta sort u h ground)
 
 pub compared_stays : (cx : Context) (p w : RulePattern) (image : Pattern) (o : Option Theorem)
-    → IsMade cx.program.sig p w → Compares cx p w image o → IfSome o (StaysIn cx)
+    → MakesTerm cx.program.sig p w → Compares cx p w image o → IfSome o (StaysIn cx)
 compared_stays cx p w image None made compared = tt
 compared_stays cx p w image (Some t) (variables, theta, sort, u, h, ground) compared =
     let j : IsJoined cx theta p u image t = compared variables theta sort u h ground in

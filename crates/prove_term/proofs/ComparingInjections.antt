@@ -23,7 +23,7 @@ use Rattle.prove_term.specs.Injections.{inject, HasEnds, IsCollapseAt}
 use Rattle.prove_term.specs.InjectionTables.{InjectsBelow}
 use Rattle.prove_term.specs.Carrying.{Collapses, CollapsesTo, CollapsesBy}
 use Rattle.prove_term.specs.Elements.{IsElement, IsElementAt}
-use Rattle.prove_term.specs.Comparing.{IsInstance, IsMade, IsJoined, IsCompared, IsFactOn}
+use Rattle.prove_term.specs.Comparing.{IsInstance, MakesTerm, IsJoined, IsCompared, IsFactOn}
 use Rattle.prove_term.specs.Applications.{IsApplication}
 use Rattle.prove_term.proofs.ContextLaws.{image_grown, stays_grown, contains_there}
 use Rattle.prove_term.proofs.KeptLaws.{sort_grown}
@@ -273,8 +273,8 @@ joined_further cx theta a b d p v image once one e t o apart is j says stays joi
 -- ---- results of injections
 
 pub moved_made : (sig : Signature) (a b d e : ℕ) (p w : RulePattern)
-    → IsMade sig (injection b d p) (injection a e w) → a ≢ b
-    → (e ≡ d) × IsBelow sig.subsorts a b × IsMade sig p (injection a b w)
+    → MakesTerm sig (injection b d p) (injection a e w) → a ≢ b
+    → (e ≡ d) × IsBelow sig.subsorts a b × MakesTerm sig p (injection a b w)
 moved_made sig a b d e p w (variables, theta, sort, u, h, is) apart =
     let tree : (v : Tree) × (u ≡ inj a e v) × (w ≡ ground_pattern v) =
     ground_injection a e w u is in
@@ -286,7 +286,7 @@ moved_made sig a b d e p w (variables, theta, sort, u, h, is) apart =
     (m.0, m.1, (variables, theta, b, inj a b tree.0, m.2, ap (injection a b) tree.2))
 
 pub stayed_made : (sig : Signature) (b d e : ℕ) (p w : RulePattern) → IsSignature sig
-    → IsMade sig (injection b d p) (injection b e w) → (e ≡ d) × IsMade sig p w
+    → MakesTerm sig (injection b d p) (injection b e w) → (e ≡ d) × MakesTerm sig p w
 stayed_made sig b d e p w ok (variables, theta, sort, u, h, is) =
     let tree : (v : Tree) × (u ≡ inj b e v) × (w ≡ ground_pattern v) =
     ground_injection b e w u is in
@@ -297,7 +297,8 @@ stayed_made sig b d e p w ok (variables, theta, sort, u, h, is) =
 
 -- an injection becomes an injection
 pub made_injection : (sig : Signature) (b d : ℕ) (p w : RulePattern)
-    → IsMade sig (injection b d p) w → (a : ℕ) × (v : Tree) × (w ≡ injection a d (ground_pattern v))
+    → MakesTerm sig (injection b d p) w
+    → (a : ℕ) × (v : Tree) × (w ≡ injection a d (ground_pattern v))
 made_injection sig b d p w (variables, theta, sort, u, h, is) =
     let from : (t : Tree) × (injected b d t ≡ u) × IsInstance sig variables theta p b t × IsTermOf
     sig t b =
@@ -307,7 +308,7 @@ made_injection sig b d p w (variables, theta, sort, u, h, is) =
 
 -- the result goes to the same sort
 pub same_end : (sig : Signature) (b d a e : ℕ) (p base w : RulePattern)
-    → IsMade sig (injection b d p) w → w ≡ injection a e base → e ≡ d
+    → MakesTerm sig (injection b d p) w → w ≡ injection a e base → e ≡ d
 same_end sig b d a e p base w h is =
     let m : (x : ℕ) × (v : Tree) × (w ≡ injection x d (ground_pattern v)) =
     made_injection sig b d p w h in
@@ -318,7 +319,7 @@ same_end sig b d a e p base w h is =
 
 -- the signature has an injection symbol, and the sort b is below d
 pub moved_reaches : (sig : Signature) (b d : ℕ) (p w : RulePattern) → IsSignature sig
-    → IsMade sig (injection b d p) w → InjectsBelow sig b d
+    → MakesTerm sig (injection b d p) w → InjectsBelow sig b d
 moved_reaches sig b d p w ok (variables, theta, sort, u, h, is) = record {
   signature = ok;
   symbol = (sorted_has_image sig variables (injection b d p) sort ok h.sorted).0;
@@ -327,7 +328,7 @@ moved_reaches sig b d p w ok (variables, theta, sort, u, h, is) = record {
 
 -- the injected term has its sort
 pub base_sorted : (sig : Signature) (p : RulePattern) (a d : ℕ) (w : RulePattern)
-    → IsMade sig p (injection a d w) → (v : Tree) × (w ≡ ground_pattern v) × HasSort sig [] w a
+    → MakesTerm sig p (injection a d w) → (v : Tree) × (w ≡ ground_pattern v) × HasSort sig [] w a
 base_sorted sig p a d w (variables, theta, sort, u, h, is) =
     let tree : (v : Tree) × (u ≡ inj a d v) × (w ≡ ground_pattern v) =
     ground_injection a d w u is in

@@ -24,7 +24,7 @@ use Rattle.ml_image.specs.Sentences.{term}
 use Rattle.prove_term.specs.Contexts.{Context, HasGrown, StaysIn}
 use Rattle.prove_term.specs.Schemas.{AreImages}
 use Rattle.prove_term.specs.Applications.{applied_to, SaysEqualTo, IsApplication}
-use Rattle.prove_term.specs.Comparing.{IsInstance, AreInstances, IsMade, AreMade, IsJoined}
+use Rattle.prove_term.specs.Comparing.{IsInstance, AreInstances, MakesTerm, MakeTerms, IsJoined}
 use Rattle.prove_term.specs.Comparing.{IsCompared, Compares, AreCompared, AllCompare, IsOverContext}
 use Rattle.prove_term.proofs.ContextLaws.{grown_none, grown_twice, image_grown, stays_grown}
 
@@ -125,8 +125,8 @@ item_of sig variables theta args ws refs us i p w h is low at on =
     item sig variables theta args ws refs us i p w h.sorted h.respects h.make is low at on
 
 pub made_item : (sig : Signature) (args ws : List RulePat) (i : ℕ) (p w : RulePat)
-    → AreMade sig (plain_patterns args) (plain_patterns ws) → i < length args → p ≡ get_or args i p
-    → w ≡ get_or ws i w → IsMade sig (plain_pattern p) (plain_pattern w)
+    → MakeTerms sig (plain_patterns args) (plain_patterns ws) → i < length args
+    → p ≡ get_or args i p → w ≡ get_or ws i w → MakesTerm sig (plain_pattern p) (plain_pattern w)
 made_item sig args ws i p w (variables, theta, refs, us, h, is) low at on =
     let one : IsItem sig variables theta args i p w =
     item_of sig variables theta args ws refs us i p w h is low at on in
@@ -385,7 +385,7 @@ done_before_all cx args ws head function images made is done = λ variables thet
 
 -- what is known to equal the function and the argument
 pub made_says : (cx : Context) (args ws : List RulePat) (i : ℕ) (head function : Pattern)
-    (made : Option Theorem) → AreMade cx.program.sig (plain_patterns args) (plain_patterns ws)
+    (made : Option Theorem) → MakeTerms cx.program.sig (plain_patterns args) (plain_patterns ws)
     → AreDoneBefore cx args ws i head function made → SaysEqualTo function made
 made_says cx args ws i head function None made done = tt
 made_says cx args ws i head function (Some t) (variables, theta, refs, us, h, is) done =
@@ -395,7 +395,7 @@ made_says cx args ws i head function (Some t) (variables, theta, refs, us, h, is
     (m.left, m.says, m.closed)
 
 pub compared_says : (cx : Context) (p w : RulePattern) (image : Pattern) (one : Option Theorem)
-    → IsMade cx.program.sig p w → Compares cx p w image one → SaysEqualTo image one
+    → MakesTerm cx.program.sig p w → Compares cx p w image one → SaysEqualTo image one
 compared_says cx p w image None made compared = tt
 compared_says cx p w image (Some t) (variables, theta, sort, u, h, is) compared =
     let j : IsJoined cx theta p u image t = compared variables theta sort u h is in

@@ -229,7 +229,7 @@ as_many_said (more_patterns p ps) sig names (q ∷ qs) (r ∷ refs) (s ∷ sorts
     (first_of r (named s) refs (map named sorts) are).1)
 
 -- a constructor of elements, and its lemma
-pub record IsMade (cx : Context) (f k : ℕ) (ps : RulePatterns) (qs : List Pattern)
+pub record IsBuilt (cx : Context) (f k : ℕ) (ps : RulePatterns) (qs : List Pattern)
     (ts : List Theorem) : Type 0 where
   pub at : IsConstructorAt cx f k
   pub elements : AreElements cx ps qs ts
@@ -237,7 +237,7 @@ pub record IsMade (cx : Context) (f k : ℕ) (ps : RulePatterns) (qs : List Patt
 
 pub is_made : (a b d : Context) (f k : ℕ) (ps : RulePatterns) (qs : List Pattern)
     (ts : List Theorem) → HasGrown a b → HasGrown b d → IsConstructorAt b f k
-    → AreElements d ps qs ts → IsSorted a.program.sig (application f ps) → IsMade d f k ps qs ts
+    → AreElements d ps qs ts → IsSorted a.program.sig (application f ps) → IsBuilt d f k ps qs ts
 is_made a b d f k ps qs ts g h at elements sorted = record {
   at = constructor_grown b d f k h at;
   elements = elements;
@@ -252,12 +252,12 @@ lemma_found ts k t found there is = sym (get_or_from_slice_get ts k t found ther
 
 -- what the lemma and the elements agree on
 pub record Agrees (cx : Context) (f k : ℕ) (ps : RulePatterns) (qs : List Pattern)
-    (ts : List Theorem) (m : IsMade cx f k ps qs ts) : Type 0 where
+    (ts : List Theorem) (m : IsBuilt cx f k ps qs ts) : Type 0 where
   pub as_many : length qs ≡ length m.at.numbered.numbers.numbers
   pub say : conclusions ts ≡ reversed (facts qs m.at.numbered.numbers.numbers)
 
 pub agrees : (cx : Context) (f k : ℕ) (ps : RulePatterns) (qs : List Pattern) (ts : List Theorem)
-    (m : IsMade cx f k ps qs ts) → Agrees cx f k ps qs ts m
+    (m : IsBuilt cx f k ps qs ts) → Agrees cx f k ps qs ts m
 agrees cx f k ps qs ts m =
     let sig : Signature = cx.program.sig in
     let at : IsConstructorAt cx f k = m.at in
@@ -284,7 +284,7 @@ agrees cx f k ps qs ts m =
     }
 
 pub hypotheses_below : (cx : Context) (f k : ℕ) (ps : RulePatterns) (qs : List Pattern)
-    (ts : List Theorem) (m : IsMade cx f k ps qs ts)
+    (ts : List Theorem) (m : IsBuilt cx f k ps qs ts)
     → AreMetasBelow (length qs) m.at.lemma.hypotheses
 hypotheses_below cx f k ps qs ts m =
     let numbers : List ℕ = m.at.numbered.numbers.numbers in
@@ -295,7 +295,7 @@ hypotheses_below cx f k ps qs ts m =
     (below-facts (length qs) 0 m.at.numbered.numbers.numbers (omega (arith, many))))
 
 pub conclusion_below : (cx : Context) (f k : ℕ) (ps : RulePatterns) (qs : List Pattern)
-    (ts : List Theorem) (m : IsMade cx f k ps qs ts)
+    (ts : List Theorem) (m : IsBuilt cx f k ps qs ts)
     → IsMetaBelow (length qs) m.at.lemma.conclusion
 conclusion_below cx f k ps qs ts m =
     let many : length qs ≡ length m.at.numbered.numbers.numbers =
@@ -305,7 +305,7 @@ conclusion_below cx f k ps qs ts m =
     (omega (arith, many)) tt)
 
 pub proofs_fit : (cx : Context) (f k : ℕ) (ps : RulePatterns) (qs : List Pattern)
-    (ts : List Theorem) (m : IsMade cx f k ps qs ts)
+    (ts : List Theorem) (m : IsBuilt cx f k ps qs ts)
     → conclusions ts ≡ instances qs m.at.lemma.hypotheses
 proofs_fit cx f k ps qs ts m =
     let known : Agrees cx f k ps qs ts m = agrees cx f k ps qs ts m in
@@ -318,7 +318,7 @@ proofs_fit cx f k ps qs ts m =
 
 -- what the lemma says of the elements
 pub made_conclusion : (cx : Context) (f k : ℕ) (ps : RulePatterns) (qs : List Pattern)
-    (ts : List Theorem) (m : IsMade cx f k ps qs ts)
+    (ts : List Theorem) (m : IsBuilt cx f k ps qs ts)
     → instance qs m.at.lemma.conclusion
     ≡ fun (applied_to (constant m.at.numbered.numbers.head) qs) m.at.numbered.numbers.number
 made_conclusion cx f k ps qs ts m =
@@ -331,7 +331,7 @@ made_conclusion cx f k ps qs ts m =
     (instance-metas qs [] (constant m.at.numbered.numbers.head))
 
 pub made_element : (cx : Context) (f k : ℕ) (ps : RulePatterns) (qs : List Pattern)
-    (ts : List Theorem) (m : IsMade cx f k ps qs ts) (q : Pattern)
+    (ts : List Theorem) (m : IsBuilt cx f k ps qs ts) (q : Pattern)
     → q ≡ instance qs m.at.lemma.conclusion → IsElement cx (application f ps) q
 made_element cx f k ps qs ts m q is = λ sort sorted.
     let head : Pattern = constant m.at.numbered.numbers.head in
@@ -377,7 +377,7 @@ element_over cx s p sort q has at =
     (has.images (functional (term p) sort) (fun at.image at.number) image)
 
 pub made_stays : (cx : Context) (f k : ℕ) (ps : RulePatterns) (qs : List Pattern)
-    (ts : List Theorem) (m : IsMade cx f k ps qs ts) (t : Theorem)
+    (ts : List Theorem) (m : IsBuilt cx f k ps qs ts) (t : Theorem)
     → t.conclusion ≡ instance qs m.at.lemma.conclusion → IsByLemma m.at.lemma qs ts t → StaysIn cx t
 made_stays cx f k ps qs ts m t is by = λ s has.
     lemma_within s m.at.lemma qs ts t by
@@ -388,7 +388,7 @@ made_stays cx f k ps qs ts m t is by = λ s has.
     (m.elements.stay s has)
 
 pub made_assumes_nothing : (cx : Context) (f k : ℕ) (ps : RulePatterns) (qs : List Pattern)
-    (ts : List Theorem) (m : IsMade cx f k ps qs ts) (t : Theorem)
+    (ts : List Theorem) (m : IsBuilt cx f k ps qs ts) (t : Theorem)
     → IsByLemma m.at.lemma qs ts t → t.hypotheses ≡ []
 made_assumes_nothing cx f k ps qs ts m t by =
     subst (λ (hs : List Pattern). AddsNew [] hs t.hypotheses) m.elements.no_hypotheses

@@ -35,13 +35,13 @@ pub record AreInstances (sig : Signature) (variables : List ℕ) (theta : List (
   pub make : instances_of theta ps ≡ Some us
 
 -- the pattern w is the pattern of the term that p becomes under some such substitution
-abbrev pub IsMade : Signature → RulePattern → RulePattern → Type 0
-IsMade sig p w =
+abbrev pub MakesTerm : Signature → RulePattern → RulePattern → Type 0
+MakesTerm sig p w =
     (variables : List ℕ) × (theta : List (Option Tree)) × (sort : ℕ) × (u : Tree)
     × IsInstance sig variables theta p sort u × (w ≡ ground_pattern u)
 
-abbrev pub AreMade : Signature → RulePatterns → RulePatterns → Type 0
-AreMade sig ps ws =
+abbrev pub MakeTerms : Signature → RulePatterns → RulePatterns → Type 0
+MakeTerms sig ps ws =
     (variables : List ℕ) × (theta : List (Option Tree)) × (refs : List SortRef) × (us : Forest)
     × AreInstances sig variables theta ps refs us × (ws ≡ ground_patterns us)
 

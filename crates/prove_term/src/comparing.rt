@@ -14,7 +14,7 @@ ghost use Rattle.ml_image.specs.Images.{image_of};
 ghost use Rattle.prove_term.specs.Contexts.{HasGrown, StaysIn};
 ghost use Rattle.prove_term.specs.Schemas.{AreImages};
 ghost use Rattle.prove_term.specs.EqualImages.{SaysEqualImages};
-ghost use Rattle.prove_term.specs.Comparing.{AllCompare, AreMade, Compares, IsFactOn, IsMade};
+ghost use Rattle.prove_term.specs.Comparing.{AllCompare, MakeTerms, Compares, IsFactOn, MakesTerm};
 ghost use Rattle.prove_term.specs.Comparing.{IsOverContext};
 
 use crate::congruence::{applied, halves, taken_apart};
@@ -64,7 +64,7 @@ fn compared(
     image: &MPat,
 ) -> Result<Option<Thm>, AllocError>
     requires signature { IsSignature cx.old.program.sig }
-    requires made { IsMade cx.old.program.sig (plain_pattern pat.now) (plain_pattern whole.now) }
+    requires made { MakesTerm cx.old.program.sig (plain_pattern pat.now) (plain_pattern whole.now) }
     requires image { image_of cx.old.program.sig cx.old.names (plain_pattern whole.now)
         ≡ Some image.now }
     ensures says { IfOk result
@@ -92,7 +92,7 @@ fn constructor_compared(
 ) -> Result<Option<Thm>, AllocError>
     requires signature { IsSignature cx.old.program.sig }
     requires made { (f : ℕ)
-        × IsMade cx.old.program.sig (application f (plain_patterns args.now))
+        × MakesTerm cx.old.program.sig (application f (plain_patterns args.now))
         (plain_pattern whole.now) }
     requires image { image_of cx.old.program.sig cx.old.names (plain_pattern whole.now)
         ≡ Some image.now }
@@ -119,7 +119,7 @@ pub(crate) fn all_compared(
     images: &[MPat],
 ) -> Result<Option<Thm>, AllocError>
     requires signature { IsSignature cx.old.program.sig }
-    requires made { AreMade cx.old.program.sig (plain_patterns args.now)
+    requires made { MakeTerms cx.old.program.sig (plain_patterns args.now)
         (plain_patterns wholes.now) }
     requires head { HasNoVariable head.now × IsOverContext cx.old head.now }
     requires images { AreImages cx.old.program.sig cx.old.names (plain_patterns wholes.now)
@@ -152,7 +152,7 @@ fn injection_compared(
     image: &MPat,
 ) -> Result<Option<Thm>, AllocError>
     requires signature { IsSignature cx.old.program.sig }
-    requires made { IsMade cx.old.program.sig (injection from.0 to.0 (plain_pattern below.now))
+    requires made { MakesTerm cx.old.program.sig (injection from.0 to.0 (plain_pattern below.now))
         (plain_pattern whole.now) }
     requires image { image_of cx.old.program.sig cx.old.names (plain_pattern whole.now)
         ≡ Some image.now }
@@ -182,14 +182,15 @@ fn beneath(
     image: &MPat,
 ) -> Result<Option<Thm>, AllocError>
     requires signature { IsSignature cx.old.program.sig }
-    requires made { IsMade cx.old.program.sig (plain_pattern below.now) (plain_pattern base.now) }
+    requires made { MakesTerm cx.old.program.sig (plain_pattern below.now)
+        (plain_pattern base.now) }
     requires image { (a b : ℕ) ×
         (image_of cx.old.program.sig cx.old.names (injection a b (plain_pattern base.now))
         ≡ Some image.now) }
     ensures says { IfOk result (λ o. (a b : ℕ) →
         image_of cx.old.program.sig cx.old.names (injection a b (plain_pattern base.now))
         ≡ Some image.now →
-        IsMade cx.old.program.sig (plain_pattern below.now) (plain_pattern base.now) →
+        MakesTerm cx.old.program.sig (plain_pattern below.now) (plain_pattern base.now) →
         Compares cx.new (injection a b (plain_pattern below.now))
         (injection a b (plain_pattern base.now))
         image.now o) }
@@ -214,7 +215,7 @@ fn joined_compared(
     fact: &Thm,
 ) -> Result<Thm, AllocError>
     requires signature { IsSignature cx.old.program.sig }
-    requires made { IsMade cx.old.program.sig (injection from.0 to.0 (plain_pattern below.now))
+    requires made { MakesTerm cx.old.program.sig (injection from.0 to.0 (plain_pattern below.now))
         (injection lowest.0 to.0 (plain_pattern base.now)) }
     requires apart { lowest.0 ≢ from.0 }
     requires fact { IsFactOn cx.old (plain_pattern base.now) lowest.0 fact.now }
@@ -249,7 +250,7 @@ fn middle_compared(
     image: &MPat,
 ) -> Result<Option<Thm>, AllocError>
     requires signature { IsSignature cx.old.program.sig }
-    requires made { IsMade cx.old.program.sig (plain_pattern pat.now)
+    requires made { MakesTerm cx.old.program.sig (plain_pattern pat.now)
         (injection lowest.0 to.0 (plain_pattern base.now)) }
     requires fact { IsFactOn cx.old (plain_pattern base.now) lowest.0 fact.now }
     requires image { image_of cx.old.program.sig cx.old.names

@@ -26,7 +26,7 @@ use Rattle.run_proof.specs.declared.steps.StepResult.{StepResult}
 use Rattle.run_proof.specs.declared.steps.StepResult.TheVariants as going
 
 -- the run of this initial term by this program can be proved
-pub record IsReady (program : Program) (start : Pattern) : Type 0 where
+pub record CanProveRun (program : Program) (start : Pattern) : Type 0 where
   pub bound : HasBoundVariables program
   pub plain : HasPlainNames program.sig
   pub is_start : IsStart (theory_of program) start

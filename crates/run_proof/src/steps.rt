@@ -5,7 +5,7 @@ ghost use Rattle.rule_core.specs.ProgramView.{theory_of};
 ghost use Rattle.rule_core.specs.Records.{Records, result_of};
 ghost use Rattle.rule_core.specs.RecordView.{plain_record, plain_step};
 ghost use Rattle.prove_run.specs.Proving.{CanStep};
-ghost use Rattle.run_proof.specs.ProvedSteps.{BeginsAt, BeginsRun, IsReady, IsUnstarted};
+ghost use Rattle.run_proof.specs.ProvedSteps.{BeginsAt, BeginsRun, CanProveRun, IsUnstarted};
 ghost use Rattle.run_proof.specs.ProvedSteps.{ContinuesRun, IsAtStep, IsBlockedAt, IsFurther};
 ghost use Rattle.run_proof.specs.ProvedSteps.{IsLeftOf, IsStuckAt};
 
@@ -75,7 +75,7 @@ pub(crate) fn proved_beginning<'p>(
     start: &'p RulePat,
     calls: u32,
 ) -> Result<StartResult<'p>, AllocError>
-    requires { IsReady engine.now (plain_pattern start.now) }
+    requires { CanProveRun engine.now (plain_pattern start.now) }
     ensures { IfOk result (BeginsRun engine.now (plain_pattern start.now) calls) }
 {
     match Run::new(alloc, engine, start, calls) {
@@ -95,7 +95,7 @@ fn begun<'p>(
     run: Run,
     evaluation: &EvalRecord,
 ) -> Result<StartResult<'p>, AllocError>
-    requires ready { IsReady engine.now (plain_pattern start.now) }
+    requires ready { CanProveRun engine.now (plain_pattern start.now) }
     requires recorded { Records (theory_of engine.now) [] (plain_pattern start.now)
         (plain_record evaluation.now) }
     requires value { result_of (plain_record evaluation.now) ≡ run.config }
@@ -113,7 +113,7 @@ fn unstarted<'p>(
     start: &'p RulePat,
     why: Blocked,
 ) -> Result<StartResult<'p>, AllocError>
-    requires { IsReady engine.now (plain_pattern start.now) }
+    requires { CanProveRun engine.now (plain_pattern start.now) }
     ensures { IfOk result (IsUnstarted engine.now (plain_pattern start.now) why) }
 {
     let mut text = Vec::new(alloc);

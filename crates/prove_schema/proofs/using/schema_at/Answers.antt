@@ -3,7 +3,7 @@ use Rattle.ml_pat.specs.Patterns.{Pattern}
 use Rattle.ml_kernel.specs.Theorems.{Theorem}
 use Rattle.prove_schema.specs.Giving.{AreGiven}
 use Rattle.prove_schema.proofs.ResultLaws.{if_ok}
-use Rattle.prove_schema.proofs.UsingLaws.{IsReady, can_prove, ready_hypotheses, ready_closed}
+use Rattle.prove_schema.proofs.UsingLaws.{IsReadyToUse, can_prove, ready_hypotheses, ready_closed}
 use Rattle.prove_schema.proofs.UsingLaws.{ready_proofs, ready_stays}
 use Rattle.prove_schema.proofs.using.schema_at.Goals as goal
 
@@ -14,7 +14,7 @@ proofs-requires c =
 
 pub use_lemma-requires-clause-hypotheses_metas : goal.use_lemma-requires-clause-hypotheses_metas
 use_lemma-requires-clause-hypotheses_metas c =
-    let r : IsReady c.args.lemma.now c.args.facts.now c.args.others.now c.deref.result.now
+    let r : IsReadyToUse c.args.lemma.now c.args.facts.now c.args.others.now c.deref.result.now
     c.deref-2.result.now =
     record {
       subjects = λ qs ns are. c.deref.ensures.value ∙ c.in_ok-patterns.ensures qs ns are;
@@ -31,7 +31,7 @@ use_lemma-requires-clause-hypotheses_metas c =
 
 pub use_lemma-requires-clause-no_variables : goal.use_lemma-requires-clause-no_variables
 use_lemma-requires-clause-no_variables c =
-    let r : IsReady c.args.lemma.now c.args.facts.now c.args.others.now c.deref.result.now
+    let r : IsReadyToUse c.args.lemma.now c.args.facts.now c.args.others.now c.deref.result.now
     c.deref-2.result.now =
     record {
       subjects = λ qs ns are. c.deref.ensures.value ∙ c.in_ok-patterns.ensures qs ns are;
@@ -48,7 +48,7 @@ use_lemma-requires-clause-no_variables c =
 
 pub use_lemma-requires-clause-proofs : goal.use_lemma-requires-clause-proofs
 use_lemma-requires-clause-proofs c =
-    let r : IsReady c.args.lemma.now c.args.facts.now c.args.others.now c.deref.result.now
+    let r : IsReadyToUse c.args.lemma.now c.args.facts.now c.args.others.now c.deref.result.now
     c.deref-2.result.now =
     record {
       subjects = λ qs ns are. c.deref.ensures.value ∙ c.in_ok-patterns.ensures qs ns are;
@@ -65,7 +65,7 @@ use_lemma-requires-clause-proofs c =
 
 pub returns-clause-stays : goal.returns-clause-stays
 returns-clause-stays c =
-    let r : IsReady c.args.lemma.now c.args.facts.now c.args.others.now c.deref.result.now
+    let r : IsReadyToUse c.args.lemma.now c.args.facts.now c.args.others.now c.deref.result.now
     c.deref-2.result.now =
     record {
       subjects = λ qs ns are. c.deref.ensures.value ∙ c.in_ok-patterns.ensures qs ns are;

@@ -10,7 +10,7 @@ use Rattle.term_core.proofs.PlainPatterns.{plain-Call}
 use Rattle.rule_core.specs.declared.rules.Program.{Program}
 use Rattle.ml_image.specs.Images.{image_of}
 use Rattle.prove_term.specs.Schemas.{AreImages}
-use Rattle.prove_term.specs.Comparing.{AreMade, AllCompare, IsOverContext}
+use Rattle.prove_term.specs.Comparing.{MakeTerms, AllCompare, IsOverContext}
 use Rattle.prove_term.proofs.ResultLaws.{if_ok}
 use Rattle.prove_term.proofs.ComparingCalls.{head_over}
 use Rattle.prove_term.proofs.CallLaws.{AreCalled, IsSplit, called_has_image, split, called_made}
@@ -92,7 +92,7 @@ all_compared-requires-clause-made c =
     h c.in_ok-image.ensures.grown (sym w ∙ c.in_ok-whole.ensures)
     (ap (image_of c.image.new.self.program.sig c.image.new.self.names) (sym w)
     ∙ c.in_ok-image.ensures.image) in
-    subst (λ (ws : List RulePat). AreMade c.image.new.self.program.sig
+    subst (λ (ws : List RulePat). MakeTerms c.image.new.self.program.sig
     (plain_patterns c.args.args.now) (plain_patterns ws)) (sym c.deref.ensures.value)
     (called_made c.args.cx.now c.image.new.self c.args.function.0 c.args.subst.now c.args.args.now
     c.in-Call.wholes.items (forest c.args.terms.now) h c.in_ok-image.ensures.grown s.wholes)

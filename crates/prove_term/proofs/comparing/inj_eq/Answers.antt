@@ -9,7 +9,7 @@ use Rattle.ml_image.specs.Sentences.{term}
 use Rattle.ml_image.proofs.WellSortedLaws.{sorted_has_image}
 use Rattle.rule_core.specs.declared.rules.Program.{Program}
 use Rattle.prove_term.specs.Contexts.{HasGrown}
-use Rattle.prove_term.specs.Comparing.{IsInstance, IsMade}
+use Rattle.prove_term.specs.Comparing.{IsInstance, MakesTerm}
 use Rattle.prove_term.proofs.ResultLaws.{if_ok}
 use Rattle.prove_term.proofs.ContextLaws.{grown_twice, image_grown}
 use Rattle.prove_term.proofs.ComparingLaws.{image_among}
@@ -86,7 +86,7 @@ returns-clause-stays c =
     let g : HasGrown c.args.cx.now c.compared.new.cx =
     grown_twice c.args.cx.now c.image.new.self c.compared.new.cx c.in_ok-image.ensures.grown
     c.compared.ensures.grown in
-    let made : IsMade c.compared.new.cx.program.sig (plain_pattern c.args.pat.now)
+    let made : MakesTerm c.compared.new.cx.program.sig (plain_pattern c.args.pat.now)
     (plain_pattern c.in_ok-whole.whole) =
     made_again c.args.cx.now c.compared.new.cx (plain_pattern c.args.pat.now)
     (plain_pattern c.in_ok-whole.whole) g (

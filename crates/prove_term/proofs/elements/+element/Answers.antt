@@ -17,7 +17,7 @@ use Rattle.prove_term.specs.Elements.{IsSorted, IsElement, AreGathered}
 use Rattle.prove_term.proofs.ResultLaws.{if_ok, if_ok_two}
 use Rattle.prove_term.proofs.ContextLaws.{grown_none, grown_twice}
 use Rattle.prove_term.proofs.ElementLaws.{gathered_none, gathered_next, says_element, elements_of}
-use Rattle.prove_term.proofs.ElementLaws.{IsMade, is_made, lemma_found, hypotheses_below}
+use Rattle.prove_term.proofs.ElementLaws.{IsBuilt, is_made, lemma_found, hypotheses_below}
 use Rattle.prove_term.proofs.ElementLaws.{conclusion_below, proofs_fit, made_element, made_stays}
 use Rattle.prove_term.specs.Carrying.{Cites, CitedFrom, CitedBy}
 use Rattle.prove_term.proofs.InjectedElements.{injects_below, below_sorted, IsInjectedElement}
@@ -35,7 +35,8 @@ all_elements-element-requires t c =
     (plain_patterns c.args.args.now) =
     depth_of-item c.args.args.now (c.loop-i.i - 1) c.index-args-i.result c.index-args-i.is
     low in
-    let back : c.args.cx.now.program ≡ c.loop-i.cx.program = sym c.loop-i.invariant.grown.program in (
+    let back : c.args.cx.now.program ≡ c.loop-i.cx.program =
+    sym c.loop-i.invariant.grown.program in (
       omega (arith, high, c.decreases),
       (
         subst (λ (program : Program). IsSignature program.sig) back c.requires.signature,
@@ -166,7 +167,7 @@ all_elements-returns-clause-elements t c =
 pub constructed-use_lemma-requires-clause-hypotheses_metas :
     goal.constructed-use_lemma-requires-clause-hypotheses_metas
 constructed-use_lemma-requires-clause-hypotheses_metas t c =
-    let m : IsMade c.all_elements.new.cx c.args.symbol.0 c.in_ok-place.place
+    let m : IsBuilt c.all_elements.new.cx c.args.symbol.0 c.in_ok-place.place
     (plain_patterns c.args.args.now) c.in_ok-made.made.images.items
     c.in_ok-made.made.proofs.items =
     is_made c.args.cx.now c.constructor.new.self c.all_elements.new.cx c.args.symbol.0
@@ -189,7 +190,7 @@ constructed-use_lemma-requires-clause-hypotheses_metas t c =
 pub constructed-use_lemma-requires-clause-conclusion_metas :
     goal.constructed-use_lemma-requires-clause-conclusion_metas
 constructed-use_lemma-requires-clause-conclusion_metas t c =
-    let m : IsMade c.all_elements.new.cx c.args.symbol.0 c.in_ok-place.place
+    let m : IsBuilt c.all_elements.new.cx c.args.symbol.0 c.in_ok-place.place
     (plain_patterns c.args.args.now) c.in_ok-made.made.images.items
     c.in_ok-made.made.proofs.items =
     is_made c.args.cx.now c.constructor.new.self c.all_elements.new.cx c.args.symbol.0
@@ -211,7 +212,7 @@ constructed-use_lemma-requires-clause-conclusion_metas t c =
 
 pub constructed-use_lemma-requires-clause-proofs : goal.constructed-use_lemma-requires-clause-proofs
 constructed-use_lemma-requires-clause-proofs t c =
-    let m : IsMade c.all_elements.new.cx c.args.symbol.0 c.in_ok-place.place
+    let m : IsBuilt c.all_elements.new.cx c.args.symbol.0 c.in_ok-place.place
     (plain_patterns c.args.args.now) c.in_ok-made.made.images.items
     c.in_ok-made.made.proofs.items =
     is_made c.args.cx.now c.constructor.new.self c.all_elements.new.cx c.args.symbol.0
@@ -235,7 +236,7 @@ constructed-use_lemma-requires-clause-proofs t c =
 
 pub constructed-returns-clause-says : goal.constructed-returns-clause-says
 constructed-returns-clause-says t c =
-    let m : IsMade c.all_elements.new.cx c.args.symbol.0 c.in_ok-place.place
+    let m : IsBuilt c.all_elements.new.cx c.args.symbol.0 c.in_ok-place.place
     (plain_patterns c.args.args.now) c.in_ok-made.made.images.items
     c.in_ok-made.made.proofs.items =
     is_made c.args.cx.now c.constructor.new.self c.all_elements.new.cx c.args.symbol.0
@@ -260,7 +261,7 @@ constructed-returns-clause-says t c =
 
 pub constructed-returns-clause-stays : goal.constructed-returns-clause-stays
 constructed-returns-clause-stays t c =
-    let m : IsMade c.all_elements.new.cx c.args.symbol.0 c.in_ok-place.place
+    let m : IsBuilt c.all_elements.new.cx c.args.symbol.0 c.in_ok-place.place
     (plain_patterns c.args.args.now) c.in_ok-made.made.images.items
     c.in_ok-made.made.proofs.items =
     is_made c.args.cx.now c.constructor.new.self c.all_elements.new.cx c.args.symbol.0

@@ -13,7 +13,7 @@ use Rattle.rule_core.specs.declared.signature.Signature.{Signature}
 use Rattle.ml_image.specs.Images.{image_of}
 use Rattle.ml_image.specs.Sentences.{term}
 use Rattle.prove_term.specs.Applications.{applied_to}
-use Rattle.prove_term.specs.Comparing.{IsMade, AreMade, IsOverContext}
+use Rattle.prove_term.specs.Comparing.{MakesTerm, MakeTerms, IsOverContext}
 use Rattle.prove_term.specs.Contexts.{HasGrown}
 use Rattle.prove_term.proofs.ContextLaws.{grown_none, grown_twice, image_grown}
 use Rattle.prove_term.proofs.ComparingCalls.{made_closed, made_again, over_applied, over_grown}
@@ -26,7 +26,7 @@ use Rattle.prove_term.proofs.comparing.+compared.Goals as goal
 use Rattle.prove_term.proofs.comparing.+compared.Goals.{all_compared-After-index-wholes-i}
 
 as_many : (sig : Signature) (args ws : List RulePat)
-    → AreMade sig (plain_patterns args) (plain_patterns ws) → length args ≡ length ws
+    → MakeTerms sig (plain_patterns args) (plain_patterns ws) → length args ≡ length ws
 as_many sig args ws made = as_many_made made.1 args ws made.3 made.4.make made.5
 
 -- the term that the argument at hand becomes has this image
@@ -45,7 +45,7 @@ image_there t c =
     c.index-wholes-i.is c.index-images-i.is
 
 one_made : (t : ℕ) (c : all_compared-After-index-wholes-i t)
-    → IsMade c.loop-i.cx.program.sig (plain_pattern c.index-args-i.result)
+    → MakesTerm c.loop-i.cx.program.sig (plain_pattern c.index-args-i.result)
     (plain_pattern c.index-wholes-i.result)
 one_made t c =
     made_again c.args.cx.now c.loop-i.cx (plain_pattern c.index-args-i.result)
@@ -105,7 +105,7 @@ pub all_compared-applied-requires-clause-function :
 all_compared-applied-requires-clause-function t c =
     made_says c.loop-i.cx c.args.args.now c.args.wholes.now c.loop-i.i c.args.head.now
     c.loop-i.function c.loop-i.made
-    (subst (λ (program : Program). AreMade program.sig (plain_patterns c.args.args.now)
+    (subst (λ (program : Program). MakeTerms program.sig (plain_patterns c.args.args.now)
     (plain_patterns c.args.wholes.now)) (sym c.loop-i.invariant.grown.program)
     c.requires.made) c.loop-i.invariant.done
 

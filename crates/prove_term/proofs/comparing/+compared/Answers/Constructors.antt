@@ -10,7 +10,7 @@ use Rattle.term_core.proofs.PatternLaws.{depth, depths}
 use Rattle.term_core.proofs.PlainPatterns.{plain-Ctor}
 use Rattle.ml_image.specs.Images.{image_of}
 use Rattle.prove_term.specs.Schemas.{AreImages}
-use Rattle.prove_term.specs.Comparing.{IsMade, Compares, IsOverContext}
+use Rattle.prove_term.specs.Comparing.{MakesTerm, Compares, IsOverContext}
 use Rattle.prove_term.proofs.ResultLaws.{if_ok}
 use Rattle.prove_term.proofs.ComparingCalls.{IsTakenApart, taken_apart, parts_compare, head_over}
 use Rattle.prove_term.proofs.comparing.+compared.Goals as goal
@@ -39,7 +39,7 @@ compared-constructor_compared-requires t c =
           (
             c.in-Ctor.field-0.0,
             subst (λ (p : RulePattern).
-                IsMade c.args.cx.now.program.sig p (plain_pattern c.args.whole.now)) is
+                MakesTerm c.args.cx.now.program.sig p (plain_pattern c.args.whole.now)) is
                 c.requires.made,
           ),
           c.requires.image,
@@ -72,7 +72,7 @@ image_apart t c ws same =
     whole_is t c ws same in
     taken_apart c.args.cx.now c.requires.made.0 c.in-Ctor.field-0.0 c.args.args.now ws
     c.args.image.now
-    (subst (λ (q : RulePattern). IsMade c.args.cx.now.program.sig
+    (subst (λ (q : RulePattern). MakesTerm c.args.cx.now.program.sig
     (application c.requires.made.0 (plain_patterns c.args.args.now)) q) w c.requires.made.1)
     (ap (image_of c.args.cx.now.program.sig c.args.cx.now.names) (sym w) ∙ c.requires.image)
 

@@ -10,7 +10,7 @@ use Rattle.term_core.proofs.PlainPatterns.{plain-Inj}
 use Rattle.rule_core.specs.declared.signature.Signature.{Signature}
 use Rattle.ml_image.specs.Images.{image_of}
 use Rattle.ml_image.specs.Sentences.{term}
-use Rattle.prove_term.specs.Comparing.{IsMade, Compares}
+use Rattle.prove_term.specs.Comparing.{MakesTerm, Compares}
 use Rattle.prove_term.proofs.ComparingInjections.{stayed_made, same_end}
 use Rattle.prove_term.proofs.ResultLaws.{if_ok}
 use Rattle.prove_term.proofs.ContextLaws.{image_grown}
@@ -20,14 +20,14 @@ use Rattle.prove_term.proofs.comparing.+compared.Goals.{middle_compared-After-de
 
 -- the pattern is an injection to the sort to which the term is one
 same_ends : (sig : Signature) (from last lowest to : ℕ) (base : RulePattern)
-    (pat below p : RulePat) → IsMade sig (plain_pattern pat) (injection lowest to base)
+    (pat below p : RulePat) → MakesTerm sig (plain_pattern pat) (injection lowest to base)
     → plain_pattern pat ≡ injection from last (plain_pattern below) → p ≡ below
     → plain_pattern pat ≡ injection from to (plain_pattern p)
 same_ends sig from last lowest to base pat below p made is same =
     is
     ∙ ap (λ (n : ℕ). injection from n (plain_pattern below))
     (sym (same_end sig from last lowest to (plain_pattern below) base (injection lowest to base)
-    (subst (λ (q : RulePattern). IsMade sig q (injection lowest to base)) is made) refl))
+    (subst (λ (q : RulePattern). MakesTerm sig q (injection lowest to base)) is made) refl))
     ∙ ap (λ (q : RulePat). injection from to (plain_pattern q)) (sym same)
 
 -- if the term is one from the same sort, the pattern below stays
@@ -56,14 +56,14 @@ base_image t c =
     ∙ c.requires.image
 
 below_made : (t : ℕ) (c : middle_compared-After-deref t)
-    → IsMade c.args.cx.now.program.sig (plain_pattern c.deref.result.now)
+    → MakesTerm c.args.cx.now.program.sig (plain_pattern c.deref.result.now)
     (plain_pattern c.args.base.now)
 below_made t c =
     (stayed_made c.args.cx.now.program.sig c.in-Inj.from.0 c.args.to.0 c.args.to.0
     (plain_pattern c.deref.result.now) (plain_pattern c.args.base.now) c.requires.signature
-    (subst (λ (q : RulePattern). IsMade c.args.cx.now.program.sig
+    (subst (λ (q : RulePattern). MakesTerm c.args.cx.now.program.sig
     (injection c.in-Inj.from.0 c.args.to.0 (plain_pattern c.deref.result.now)) q) (base_is t c)
-    (subst (λ (q : RulePattern). IsMade c.args.cx.now.program.sig q
+    (subst (λ (q : RulePattern). MakesTerm c.args.cx.now.program.sig q
     (injection c.args.lowest.0 c.args.to.0 (plain_pattern c.args.base.now))) (pattern_stays t c)
     c.requires.made))).1
 
@@ -112,10 +112,10 @@ middle_compared-joined_compared-requires t c =
     let high : depth (plain_pattern c.args.pat.now) ≡ depth
     (plain_pattern c.deref-in-Inj.result.now) + 1 =
     ap depth (pattern_moves t at) in
-    let made : IsMade c.args.cx.now.program.sig
+    let made : MakesTerm c.args.cx.now.program.sig
     (injection c.in-Inj.from.0 c.args.to.0 (plain_pattern c.deref-in-Inj.result.now))
     (injection c.args.lowest.0 c.args.to.0 (plain_pattern c.args.base.now)) =
-    subst (λ (q : RulePattern). IsMade c.args.cx.now.program.sig q
+    subst (λ (q : RulePattern). MakesTerm c.args.cx.now.program.sig q
     (injection c.args.lowest.0 c.args.to.0 (plain_pattern c.args.base.now))) (pattern_moves t at)
     c.requires.made in
     let apart : c.args.lowest.0 ≢ c.in-Inj.from.0 =

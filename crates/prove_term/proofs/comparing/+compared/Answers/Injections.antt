@@ -16,7 +16,7 @@ use Rattle.rule_core.specs.declared.signature.Signature.{Signature}
 use Rattle.ml_image.specs.Images.{image_of}
 use Rattle.ml_image.specs.Sentences.{term}
 use Rattle.prove_term.specs.Elements.{IsElement}
-use Rattle.prove_term.specs.Comparing.{IsMade, Compares, IsFactOn}
+use Rattle.prove_term.specs.Comparing.{MakesTerm, Compares, IsFactOn}
 use Rattle.prove_term.proofs.ComparingInjections.{HasHalves, halves_of, halves_there, stayed_made}
 use Rattle.prove_term.proofs.ComparingInjections.{base_sorted, fact_of, same_end}
 use Rattle.prove_term.proofs.ResultLaws.{if_ok}
@@ -50,7 +50,7 @@ compared-injection_compared-requires t c =
         c.requires.signature,
         (
           subst (λ (p : RulePattern).
-              IsMade c.args.cx.now.program.sig p (plain_pattern c.args.whole.now)) is
+              MakesTerm c.args.cx.now.program.sig p (plain_pattern c.args.whole.now)) is
               c.requires.made,
           c.requires.image,
         ),
@@ -117,7 +117,7 @@ beneath-returns-clause-says t c =
 
 -- the term is an injection to the sort to which the pattern is one
 same_ends : (sig : Signature) (from to lowest last : ℕ) (p : RulePattern) (whole base w : RulePat)
-    → IsMade sig (injection from to p) (plain_pattern whole)
+    → MakesTerm sig (injection from to p) (plain_pattern whole)
     → plain_pattern whole ≡ injection lowest last (plain_pattern base) → w ≡ base
     → plain_pattern whole ≡ injection lowest to (plain_pattern w)
 same_ends sig from to lowest last p whole base w made is same =
@@ -139,12 +139,12 @@ whole_stays t c =
     (eqb-true c.in-Inj.lowest.0 c.args.from.0 (sym c.eq.ensures ∙ c.if-eq.true))
 
 below_made : (t : ℕ) (c : injection_compared-After-deref t)
-    → IsMade c.args.cx.now.program.sig (plain_pattern c.args.below.now)
+    → MakesTerm c.args.cx.now.program.sig (plain_pattern c.args.below.now)
     (plain_pattern c.deref.result.now)
 below_made t c =
     (stayed_made c.args.cx.now.program.sig c.args.from.0 c.args.to.0 c.args.to.0
     (plain_pattern c.args.below.now) (plain_pattern c.deref.result.now) c.requires.signature
-    (subst (λ (q : RulePattern). IsMade c.args.cx.now.program.sig
+    (subst (λ (q : RulePattern). MakesTerm c.args.cx.now.program.sig
     (injection c.args.from.0 c.args.to.0 (plain_pattern c.args.below.now)) q) (whole_stays t c)
     c.requires.made)).1
 
@@ -159,11 +159,11 @@ whole_moves t c w base =
 
 whole_made : (t : ℕ) (c : injection_compared-After-deref-2 t) (w : RulePat)
     → w ≡ c.in-Inj.base.value
-    → IsMade c.args.cx.now.program.sig
+    → MakesTerm c.args.cx.now.program.sig
     (injection c.args.from.0 c.args.to.0 (plain_pattern c.args.below.now))
     (injection c.in-Inj.lowest.0 c.args.to.0 (plain_pattern w))
 whole_made t c w base =
-    subst (λ (q : RulePattern). IsMade c.args.cx.now.program.sig
+    subst (λ (q : RulePattern). MakesTerm c.args.cx.now.program.sig
     (injection c.args.from.0 c.args.to.0 (plain_pattern c.args.below.now)) q)
     (whole_moves t c w base) c.requires.made
 

@@ -11,7 +11,7 @@ use Rattle.prove_term.specs.Contexts.{Context, HasGrown}
 use Rattle.prove_term.specs.Applications.{IsApplication}
 use Rattle.prove_term.specs.Injections.{IsCollapseAt}
 use Rattle.prove_term.specs.Carrying.{Collapses, CollapsesTo, CollapsesBy}
-use Rattle.prove_term.specs.Comparing.{IsMade, Compares, IsFactOn}
+use Rattle.prove_term.specs.Comparing.{MakesTerm, Compares, IsFactOn}
 use Rattle.prove_term.proofs.ElementLaws.{lemma_found}
 use Rattle.prove_term.proofs.ComparingInjections.{IsOnce, once_of, once_grown, fact_grown}
 use Rattle.prove_term.proofs.ComparingInjections.{fact_collapses, moved_made, moved_reaches}
@@ -65,7 +65,7 @@ once_later t c g =
 
 below_later : (t : ℕ) (c : joined_compared-After-middle_compared t)
     → HasGrown c.collapse.new.self c.middle_compared.new.cx
-    → IsMade c.middle_compared.new.cx.program.sig (plain_pattern c.args.below.now)
+    → MakesTerm c.middle_compared.new.cx.program.sig (plain_pattern c.args.below.now)
     (injection c.args.lowest.0 c.args.from.0 (plain_pattern c.args.base.now))
 below_later t c g =
     made_again c.args.cx.now c.middle_compared.new.cx (plain_pattern c.args.below.now)
