@@ -3,19 +3,13 @@ use Rattle.std.proofs.Common.{◌≡◌, ℕ, zero, suc, Bool, true, false, not,
 use Rattle.std.proofs.Common.{sym, ◌∙◌}
 use Rattle.std.specs.Prelude.{◌&&◌, ◌||◌, nat_eq, flat_map, slice_get, Option, Some, None}
 use Rattle.std.specs.List.{list_any}
+use Rattle.std.proofs.lemmas.Bool.{or_left, or_right}
 use Rattle.std.proofs.lemmas.Bool.{eqb-true, eq-eqb}
 use Rattle.std.proofs.lemmas.List.Folds.{list_any-append}
 use Rattle.mm_frame.specs.PlainFrames.{has_number, in_group, in_groups}
 use Rattle.mm_frame.specs.Listed.{group_places, shares}
 use Rattle.mm_frame.specs.Places.{passes}
 use Rattle.mm_frame.proofs.Placing.{places-has}
-
-pub or-left : (a b : Bool) → a ≡ true → (a || b) ≡ true
-or-left a b is = ap (λ x. x || b) is
-
-pub or-right : (a b : Bool) → b ≡ true → (a || b) ≡ true
-or-right true b is = refl
-or-right false b is = is
 
 pub and-left : (a b : Bool) → (a && b) ≡ true → a ≡ true
 and-left true b is = refl
@@ -40,8 +34,8 @@ same-bool false false f g = refl
 pub any-there : {X : Type 0} (test : X → Bool) (xs : List X) (i : ℕ)
     → passes test (slice_get xs i) ≡ true → list_any test xs ≡ true
 any-there test [] i is = absurd (cc)
-any-there test (x ∷ xs) zero is = or-left (test x) (list_any test xs) is
-any-there test (x ∷ xs) (suc i) is = or-right (test x) (list_any test xs) (any-there test xs i is)
+any-there test (x ∷ xs) zero is = or_left (test x) (list_any test xs) is
+any-there test (x ∷ xs) (suc i) is = or_right (test x) (list_any test xs) (any-there test xs i is)
 
 any-from : {X : Type 0} (test : X → Bool) (xs : List X) (P : Type 0)
     → ((i : ℕ) → passes test (slice_get xs i) ≡ true → P) → list_any test xs ≡ true → P
@@ -61,18 +55,18 @@ has-there f (n ∷ ns) i has is = go (nat_eq n i) refl has (has-there f ns i)
     go : (b : Bool) → nat_eq n i ≡ b → (b || has_number ns i) ≡ true
         → (has_number ns i ≡ true → f i ≡ true → list_any f ns ≡ true)
         → (f n || list_any f ns) ≡ true
-    go true same any rest = or-left (f n) (list_any f ns) (ap f (eqb-true n i same) ∙ is)
-    go false same any rest = or-right (f n) (list_any f ns) (rest any is)
+    go true same any rest = or_left (f n) (list_any f ns) (ap f (eqb-true n i same) ∙ is)
+    go false same any rest = or_right (f n) (list_any f ns) (rest any is)
 
 has-from : (f : ℕ → Bool) (ns : List ℕ) (P : Type 0)
     → ((i : ℕ) → has_number ns i ≡ true → f i ≡ true → P) → list_any f ns ≡ true → P
 has-from f [] P found is = absurd (cc)
 has-from f (n ∷ ns) P found is =
     go (f n) refl is
-    (has-from f ns P (λ i has. found i (or-right (nat_eq n i) (has_number ns i) has)))
+    (has-from f ns P (λ i has. found i (or_right (nat_eq n i) (has_number ns i) has)))
   where
     go : (b : Bool) → f n ≡ b → (b || list_any f ns) ≡ true → (list_any f ns ≡ true → P) → P
-    go true here any rest = found n (or-left (nat_eq n n) (has_number ns n) (eq-eqb n n refl)) here
+    go true here any rest = found n (or_left (nat_eq n n) (has_number ns n) (eq-eqb n n refl)) here
     go false here any rest = rest any
 
 -- an element of the list passes if and only if one of the places passes a test of places

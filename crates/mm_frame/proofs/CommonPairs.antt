@@ -5,6 +5,7 @@ use Rattle.std.proofs.Common.{refl, ap, sym, ◌∙◌, arith}
 use Rattle.std.specs.Prelude.{◌&&◌, ◌||◌, nat_eq, filter, map, slice_get, Option, Some, None}
 use Rattle.std.specs.Prelude.{IfSome}
 use Rattle.std.specs.List.{list_any, list_all}
+use Rattle.std.proofs.lemmas.Bool.{or_left, or_right}
 use Rattle.std.proofs.lemmas.Bool.{eqb-true}
 use Rattle.mm_text.specs.Bytes.{Token}
 use Rattle.mm_database.specs.Frames.{floating, essential}
@@ -17,7 +18,7 @@ use Rattle.mm_frame.specs.NeededNumbers.{number_stands_in, is_needed_number}
 use Rattle.mm_frame.specs.Sharing.{ArePairs, is_unasked_number, is_own_number, is_free_number}
 use Rattle.mm_frame.specs.Sharing.{is_wanted_number, shares_wanted, own_shares}
 use Rattle.mm_frame.proofs.Groups.{short-group, has_number-filter}
-use Rattle.mm_frame.proofs.Apartness.{and-left, and-right, both, or-left, or-right, common-apart}
+use Rattle.mm_frame.proofs.Apartness.{and-left, and-right, both, common-apart}
 use Rattle.mm_frame.proofs.Apartness.{any-at, any-and}
 use Rattle.mm_frame.proofs.Placing.{places-has}
 use Rattle.mm_frame.proofs.Grouped.{all-at, groups-differ, groups-turned}
@@ -187,16 +188,18 @@ module _ (hs : List NumberedHypothesis) (groups : List (List ℕ)) (statement ow
           → (has_number ns a ≡ true → list_any (has_number group) ns ≡ true)
           → (has_number group n || list_any (has_number group) ns) ≡ true
       go true same any rest =
-          or-left (has_number group n) (list_any (has_number group) ns)
+          or_left (has_number group n) (list_any (has_number group) ns)
           (ap (has_number group) (eqb-true n a same) ∙ inside)
       go false same any rest =
-          or-right (has_number group n) (list_any (has_number group) ns) (rest any)
+          or_right (has_number group n) (list_any (has_number group) ns) (rest any)
 
   -- a pair with an own symbol is one of a group that has an own symbol
-  own-group : (gs : List (List ℕ)) (a b : ℕ) → has_number own a ≡ true → in_groups gs a b ≡ true
+  own-group : (gs : List (List ℕ)) (a b n : ℕ) → has_number own n ≡ true
+      → ((g : List ℕ) → in_group a b g ≡ true → has_number g n ≡ true) → in_groups gs a b ≡ true
       → list_any (λ group. owns group && in_group a b group) gs ≡ true
-  own-group [] a b mine inside = absurd (cc)
-  own-group (g ∷ gs) a b mine inside = go (in_group a b g) refl inside (own-group gs a b mine)
+  own-group [] a b n mine has inside = absurd (cc)
+  own-group (g ∷ gs) a b n mine has inside =
+      go (in_group a b g) refl inside (own-group gs a b n mine has)
     where
       go : (c : Bool) → in_group a b g ≡ c → (c || in_groups gs a b) ≡ true
           → (in_groups gs a b ≡ true
@@ -204,36 +207,20 @@ module _ (hs : List NumberedHypothesis) (groups : List (List ℕ)) (statement ow
           → ((owns g && in_group a b g) || list_any (λ group. owns group && in_group a b group) gs)
           ≡ true
       go true is any rest =
-          or-left (owns g && in_group a b g)
+          or_left (owns g && in_group a b g)
           (list_any (λ group. owns group && in_group a b group) gs)
-          (both (owns g) (in_group a b g) (any-own g own a (and-left (has_number g a)
-          (has_number g b)
-          (and-right (not (nat_eq a b)) (has_number g a && has_number g b) is)) mine)
-          is)
+          (both (owns g) (in_group a b g) (any-own g own n (has g is) mine) is)
       go false is any rest =
-          or-right (owns g && in_group a b g)
+          or_right (owns g && in_group a b g)
           (list_any (λ group. owns group && in_group a b group) gs) (rest any)
 
-  own-turned : (gs : List (List ℕ)) (a b : ℕ) → has_number own b ≡ true → in_groups gs a b ≡ true
-      → list_any (λ group. owns group && in_group a b group) gs ≡ true
-  own-turned [] a b mine inside = absurd (cc)
-  own-turned (g ∷ gs) a b mine inside = go (in_group a b g) refl inside (own-turned gs a b mine)
-    where
-      go : (c : Bool) → in_group a b g ≡ c → (c || in_groups gs a b) ≡ true
-          → (in_groups gs a b ≡ true
-          → list_any (λ group. owns group && in_group a b group) gs ≡ true)
-          → ((owns g && in_group a b g) || list_any (λ group. owns group && in_group a b group) gs)
-          ≡ true
-      go true is any rest =
-          or-left (owns g && in_group a b g)
-          (list_any (λ group. owns group && in_group a b group) gs)
-          (both (owns g) (in_group a b g) (any-own g own b (and-right (has_number g a)
-          (has_number g b)
-          (and-right (not (nat_eq a b)) (has_number g a && has_number g b) is)) mine)
-          is)
-      go false is any rest =
-          or-right (owns g && in_group a b g)
-          (list_any (λ group. owns group && in_group a b group) gs) (rest any)
+  has-first : (a b : ℕ) (g : List ℕ) → in_group a b g ≡ true → has_number g a ≡ true
+  has-first a b g is = and-left (has_number g a) (has_number g b)
+      (and-right (not (nat_eq a b)) (has_number g a && has_number g b) is)
+
+  has-second : (a b : ℕ) (g : List ℕ) → in_group a b g ≡ true → has_number g b ≡ true
+  has-second a b g is = and-right (has_number g a) (has_number g b)
+      (and-right (not (nat_eq a b)) (has_number g a && has_number g b) is)
 
   own-in : (gs : List (List ℕ)) (a b : ℕ)
       → list_any (λ group. owns group && in_group a b group) gs ≡ true → in_groups gs a b ≡ true
@@ -245,8 +232,8 @@ module _ (hs : List NumberedHypothesis) (groups : List (List ℕ)) (statement ow
           → (list_any (λ group. owns group && in_group a b group) gs ≡ true
           → in_groups gs a b ≡ true) → (in_group a b g || in_groups gs a b) ≡ true
       go true is any rest =
-          or-left (in_group a b g) (in_groups gs a b) (and-right (owns g) (in_group a b g) is)
-      go false is any rest = or-right (in_group a b g) (in_groups gs a b) (rest any)
+          or_left (in_group a b g) (in_groups gs a b) (and-right (owns g) (in_group a b g) is)
+      go false is any rest = or_right (in_group a b g) (in_groups gs a b) (rest any)
 
   pub pairs-joined : (common mine : Bool) (a b : ℕ)
       → common ≡ (in_groups groups a b && (is_needed_number hs [] a && is_needed_number hs [] b))
@@ -264,10 +251,10 @@ module _ (hs : List NumberedHypothesis) (groups : List (List ℕ)) (statement ow
       ∙ go (in_groups groups a b) (list_any (λ group. owns group && in_group a b group) groups)
       (asked hs a) (asked hs b) (has_number statement a) (has_number statement b)
       (own-in groups a b)
-      (λ inside s out. own-group groups a b
-      (are a ∙ ap (λ x. x && is_unasked_number hs a) s ∙ ap not out) inside)
-      (λ inside s out. own-turned groups a b
-      (are b ∙ ap (λ x. x && is_unasked_number hs b) s ∙ ap not out) inside)
+      (λ inside s out. own-group groups a b a
+      (are a ∙ ap (λ x. x && is_unasked_number hs a) s ∙ ap not out) (has-first a b) inside)
+      (λ inside s out. own-group groups a b b
+      (are b ∙ ap (λ x. x && is_unasked_number hs b) s ∙ ap not out) (has-second a b) inside)
       refl refl refl refl refl refl
     where
       go : (g o ca cb sa sb : Bool) → (o ≡ true → g ≡ true)

@@ -3,6 +3,7 @@ use Rattle.std.proofs.Common.{◌≡◌, ℕ, Bool, true, false, not, List, [], 
 use Rattle.std.proofs.Common.{refl, ap, sym, ◌∙◌, arith}
 use Rattle.std.specs.Prelude.{◌&&◌, ◌||◌, nat_eq, slice_get, Option, Some, None}
 use Rattle.std.specs.List.{list_any, list_all}
+use Rattle.std.proofs.lemmas.Bool.{or_left, or_right}
 use Rattle.std.proofs.lemmas.List.{take-append-le, take_all}
 use Rattle.std.proofs.lemmas.Bool.{eqb-true, eq-eqb}
 use Rattle.mm_frame.specs.PlainFrames.{has_number, in_group, in_groups}
@@ -11,7 +12,7 @@ use Rattle.mm_frame.specs.Places.{passes}
 use Rattle.mm_frame.specs.Grouping.{Extends, is_apart_or_same, is_pair_of, have_pair}
 use Rattle.mm_frame.proofs.Placing.{places-has}
 use Rattle.mm_frame.proofs.Groups.{in_groups-push}
-use Rattle.mm_frame.proofs.Apartness.{or-left, or-right, and-left, and-right, both, any-there}
+use Rattle.mm_frame.proofs.Apartness.{and-left, and-right, both, any-there}
 use Rattle.mm_frame.proofs.Apartness.{same-bool}
 
 take-whole : {X : Type 0} (xs : List X) → take (length xs) xs ≡ xs
@@ -225,8 +226,8 @@ any-has f (m ∷ ns) n has is = go (nat_eq m n) refl has (any-has f ns n)
     go : (b : Bool) → nat_eq m n ≡ b → (b || has_number ns n) ≡ true
         → (has_number ns n ≡ true → f n ≡ true → list_any f ns ≡ true)
         → (f m || list_any f ns) ≡ true
-    go true same has rest = or-left (f m) (list_any f ns) (ap f (eqb-true m n same) ∙ is)
-    go false same has rest = or-right (f m) (list_any f ns) (rest has is)
+    go true same has rest = or_left (f m) (list_any f ns) (ap f (eqb-true m n same) ∙ is)
+    go false same has rest = or_right (f m) (list_any f ns) (rest has is)
 
 itself : (n : ℕ) → nat_eq n n ≡ true
 itself n = eq-eqb n n refl
@@ -236,8 +237,8 @@ two-first a b differ =
     both (not (nat_eq a b)) (has_number (a ∷ (b ∷ [])) a && has_number (a ∷ (b ∷ [])) b)
     (ap not differ)
     (both (has_number (a ∷ (b ∷ [])) a) (has_number (a ∷ (b ∷ [])) b)
-    (or-left (nat_eq a a) (nat_eq b a || false) (itself a))
-    (or-right (nat_eq a b) (nat_eq b b || false) (or-left (nat_eq b b) false (itself b))))
+    (or_left (nat_eq a a) (nat_eq b a || false) (itself a))
+    (or_right (nat_eq a b) (nat_eq b b || false) (or_left (nat_eq b b) false (itself b))))
 
 pub pair-is : (groups : List (List ℕ)) (ns : List ℕ) (a b : ℕ)
     → have_pair groups ns a b ≡ (in_groups groups a b && (has_number ns a && has_number ns b))
@@ -266,9 +267,9 @@ pair-is groups (n ∷ ns) a b =
             both (in_groups groups a b) (has_number (n ∷ ns) a && has_number (n ∷ ns) b)
             (and-left (in_groups groups a b) (has_number ns a && has_number ns b) was)
             (both (has_number (n ∷ ns) a) (has_number (n ∷ ns) b)
-            (or-right (nat_eq n a) (has_number ns a)
+            (or_right (nat_eq n a) (has_number ns a)
             (and-left (has_number ns a) (has_number ns b) has))
-            (or-right (nat_eq n b) (has_number ns b)
+            (or_right (nat_eq n b) (has_number ns b)
             (and-right (has_number ns a) (has_number ns b) has)))
 
     back : have_pair groups ns a b ≡ (in_groups groups a b && (has_number ns a && has_number ns b))
@@ -293,7 +294,7 @@ pair-is groups (n ∷ ns) a b =
             cc)
         go apart true false e f hasa hasb =
             let same : n ≡ a = eqb-true n a e in
-            or-left (list_any (is_pair_of groups n a b) ns) (have_pair groups ns a b)
+            or_left (list_any (is_pair_of groups n a b) ns) (have_pair groups ns a b)
             (any-has (is_pair_of groups n a b) ns b hasb
             (ap (λ k. is_pair_of groups k a b b) same
             ∙ both (in_groups groups a b) (in_group a b (a ∷ (b ∷ []))) apart
@@ -301,14 +302,14 @@ pair-is groups (n ∷ ns) a b =
         go apart false true e f hasa hasb =
             let same : n ≡ b = eqb-true n b f in
             let turned : in_groups groups b a ≡ true = groups-turned groups b a ∙ apart in
-            or-left (list_any (is_pair_of groups n a b) ns) (have_pair groups ns a b)
+            or_left (list_any (is_pair_of groups n a b) ns) (have_pair groups ns a b)
             (any-has (is_pair_of groups n a b) ns a hasa
             (ap (λ k. is_pair_of groups k a b a) same
             ∙ both (in_groups groups b a) (in_group a b (b ∷ (a ∷ []))) turned
             (group-turned a b (b ∷ (a ∷ []))
             ∙ two-first b a (groups-differ groups b a turned))))
         go apart false false e f hasa hasb =
-            or-right (list_any (is_pair_of groups n a b) ns) (have_pair groups ns a b)
+            or_right (list_any (is_pair_of groups n a b) ns) (have_pair groups ns a b)
             (before
             ∙ both (in_groups groups a b) (has_number ns a && has_number ns b) apart
             (both (has_number ns a) (has_number ns b) hasa hasb))

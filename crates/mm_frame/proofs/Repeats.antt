@@ -3,24 +3,18 @@ use Rattle.std.proofs.Common.{◌≡◌, ℕ, ◌-◌, ◌<◌, ◌≤◌, zero,
 use Rattle.std.proofs.Common.{List, [], ◌∷◌, slice_index_or, drop-cons, refl, ap, sym, ◌∙◌, arith}
 use Rattle.std.proofs.Common.{is_some, cond}
 use Rattle.std.specs.Prelude.{◌||◌, Option, Some, bytes_eq}
+use Rattle.std.proofs.lemmas.Bool.{or_left, or_right}
 use Rattle.std.proofs.lemmas.List.{drop-map}
 use Rattle.mm_text.specs.Bytes.{Token, has_token, has_repeated}
 use Rattle.mm_text.specs.Reader.{word_of, words_of}
 use Rattle.mm_text.specs.declared.tokens.MmToken.{MmToken}
-
-or-true : (a b : Bool) → b ≡ true → (a || b) ≡ true
-or-true true b h = refl
-or-true false b h = h
-
-first-true : (a b : Bool) → a ≡ true → (a || b) ≡ true
-first-true a b h = rw h refl
 
 has_repeated-drop : (k : ℕ) (ws : List Token) → has_repeated (drop k ws) ≡ true
     → has_repeated ws ≡ true
 has_repeated-drop zero ws h = h
 has_repeated-drop (suc k) [] h = h
 has_repeated-drop (suc k) (w ∷ ws) h =
-    or-true (has_token ws w) (has_repeated ws) (has_repeated-drop k ws h)
+    or_right (has_token ws w) (has_repeated ws) (has_repeated-drop k ws h)
 
 -- the tokens from the one before a place to the end
 pub words-before : (bytes : List ℕ) (ts : List MmToken) (at : ℕ) (d : MmToken) → 0 < at
@@ -39,7 +33,7 @@ pub repeated-found : (bytes : List ℕ) (ts : List MmToken) (at : ℕ) (d : MmTo
 repeated-found bytes ts at d w some within is found =
     let here : has_repeated (words_of bytes (drop (at - 1) ts)) ≡ true =
     ap has_repeated (words-before bytes ts at d some within)
-    ∙ first-true _ (has_repeated (words_of bytes (drop at ts)))
+    ∙ or_left _ (has_repeated (words_of bytes (drop at ts)))
     (ap (λ u. has_token (words_of bytes (drop at ts)) u) (sym is) ∙ found) in
     has_repeated-drop (at - 1) (words_of bytes ts)
     (ap has_repeated (drop-map (word_of bytes) (at - 1) ts) ∙ here)

@@ -5,6 +5,7 @@ use Rattle.std.proofs.Common.{refl, ap, ◌∙◌, sym, arith}
 use Rattle.std.specs.Prelude.{◌||◌, All, slice_get}
 use Rattle.std.specs.List.Sorted.{IsPermutation, IsSortedByKey}
 use Rattle.std.specs.Ordering.{nat_cmp}
+use Rattle.std.proofs.lemmas.Bool.{or_left, or_right}
 use Rattle.std.proofs.lemmas.Bool.{eq-eqb}
 use Rattle.std.proofs.lemmas.List.{map-append}
 use Rattle.std.proofs.lemmas.List.Folds.{list_any-append}
@@ -13,14 +14,6 @@ use Rattle.std.proofs.lemmas.List.Sorted.{All-permutation, IsNonDecreasingBy-fro
 use Rattle.std.proofs.lemmas.Nat.{div-mul-add, mod-mul-add}
 use Rattle.mm_frame.specs.PlainFrames.{has_number}
 use Rattle.mm_frame.specs.Spots.{position_at, IsSpot, AreSpots}
-
-or-right : (a b : Bool) → b ≡ true → (a || b) ≡ true
-or-right true b is = refl
-or-right false b is = is
-
-or-left : (a b : Bool) → a ≡ true → (a || b) ≡ true
-or-left true b is = refl
-or-left false b is = absurd (cc)
 
 -- what stands at a position that there is
 pub get-is : {X : Type 0} (xs : List X) (i : ℕ) (d : X) → i < length xs
@@ -55,13 +48,13 @@ positions-more spots spot n at before i lt =
   where
     go : (b : Bool) → nat_eq (position_at spot) i ≡ b
         → (has_number (map position_at spots) i || (b || false)) ≡ true
-    go true is = or-right (has_number (map position_at spots) i) true refl
+    go true is = or_right (has_number (map position_at spots) i) true refl
     go false is =
         let other : (n ≡ i) → ⊥ =
         λ e. (let same : nat_eq (position_at spot) i ≡ true =
         eq-eqb (position_at spot) i (at ∙ e) in
         let wrong : true ≡ false = sym same ∙ is in let z : ⊥ = cc in z) in
-        or-left (has_number (map position_at spots) i) false (before i (omega (arith, lt, other)))
+        or_left (has_number (map position_at spots) i) false (before i (omega (arith, lt, other)))
 
 -- sorted spots
 div-up : (a b w : ℕ) → 0 < w → a ≤ b → a / w ≤ b / w

@@ -26,6 +26,7 @@ use crate::asking::Parts;
 use crate::disjoint::{is_among, push_group, push_if};
 use crate::expression::Expression;
 use crate::frames::Hyp;
+use crate::numbers::ascending;
 use crate::scopes::Scopes;
 use crate::tree::HypTree;
 use std::alloc::{AllocError, Global};
@@ -294,10 +295,8 @@ impl<'a> Scopes<'a> {
         ensures symbols { IfOk result (λ v. (n : ℕ) → has_number v.items n
             ≡ is_own_number (scope_state self.now).hypotheses statement.now n) }
     {
-        let mut own = self.symbols_left(alloc, statement)?;
-        own.sort_unstable();
-        own.dedup();
-        Ok(own)
+        let symbols = self.symbols_left(alloc, statement)?;
+        Ok(ascending(symbols))
     }
 
     fn symbols_left(&self, alloc: Global, statement: &[u32]) -> Result<Vec<u32>, AllocError>

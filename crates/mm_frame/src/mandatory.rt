@@ -20,6 +20,7 @@ use crate::asking::{Lists, Mandatory};
 use crate::expression::Expression;
 use crate::frames::{Frame, Hyp};
 use crate::judge::Stated;
+use crate::numbers::ascending;
 use crate::scopes::Scopes;
 use std::alloc::{AllocError, Global};
 use std::rc::Rc;
@@ -71,10 +72,8 @@ impl<'a> Scopes<'a> {
         ensures symbols { IfOk result (λ v. (n : ℕ) → has_number v.items n
             ≡ is_needed_number (scope_state self.now).hypotheses statement.now n) }
     {
-        let mut symbols = self.stated_symbols(alloc, statement)?;
-        symbols.sort_unstable();
-        symbols.dedup();
-        Ok(symbols)
+        let symbols = self.stated_symbols(alloc, statement)?;
+        Ok(ascending(symbols))
     }
 
     /// The symbols of a statement, and those of the active `$e` after them.

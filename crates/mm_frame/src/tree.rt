@@ -15,7 +15,8 @@ use std::rc::Rc;
 
 /// Hypotheses by their places, ascending. One more hypothesis makes a tree of its own, which shares
 /// all but a path with the first: so it takes time and memory in the logarithm of the greatest
-/// place.
+/// place. Along a path, the lowest bit of each split is below that of the split before it. So a
+/// path has at most 64 forks, and the recursion here is not deeper.
 #[cycle(tree)]
 #[derive(Drop)]
 pub struct HypTree<'a> {

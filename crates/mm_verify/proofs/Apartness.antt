@@ -4,6 +4,7 @@ use Rattle.std.proofs.Common.{nat_eq, Option, Some, None, cond, refl, ap, ◌∙
 use Rattle.std.specs.Prelude.{not, ◌&&◌, ◌||◌, is_some}
 use Rattle.std.specs.List.{position_from, list_any, list_all}
 use Rattle.std.specs.Global.{Vec}
+use Rattle.std.proofs.lemmas.Bool.{or_left, or_right}
 use Rattle.mm_frame.specs.Numbered.{NumberedHypothesis, NumberedFrame}
 use Rattle.mm_frame.specs.PlainFrames.{types_number, has_number, in_group, in_groups}
 use Rattle.mm_verify.specs.declared.parts.Part.{Part}
@@ -20,13 +21,6 @@ eq-from a b h = grind (arith, h)
 
 eq-same : (a : ℕ) → nat_eq a a ≡ true
 eq-same a = grind arith
-
-or-left : (a b : Bool) → a ≡ true → (a || b) ≡ true
-or-left a b h = ap (λ (c : Bool). c || b) h
-
-or-right : (a b : Bool) → b ≡ true → (a || b) ≡ true
-or-right true b h = refl
-or-right false b h = h
 
 -- the parts of a group, and groups
 
@@ -87,10 +81,10 @@ parts-from : (hypotheses : List NumberedHypothesis) (f : Part → Bool) (ps : Li
 parts-from hypotheses f [] placed k = refl
 parts-from hypotheses f (p ∷ ps) placed k =
     and-true (f p) (list_all f ps)
-    (k p (first-placed hypotheses p ps placed) (or-left (nat_eq (symbol_of p) (symbol_of p))
+    (k p (first-placed hypotheses p ps placed) (or_left (nat_eq (symbol_of p) (symbol_of p))
     (has_number (map symbol_of ps) (symbol_of p)) (eq-same (symbol_of p))))
     (parts-from hypotheses f ps (others-placed hypotheses p ps placed) (λ q at has. k q at
-    (or-right (nat_eq (symbol_of p) (symbol_of q)) (has_number (map symbol_of ps) (symbol_of q))
+    (or_right (nat_eq (symbol_of p) (symbol_of q)) (has_number (map symbol_of ps) (symbol_of q))
     has)))
 
 groups-from : (hypotheses : List NumberedHypothesis) (f : Vec Part → Bool) (gs : List (Vec Part))
@@ -102,10 +96,10 @@ groups-from hypotheses f [] placed k = refl
 groups-from hypotheses f (g ∷ gs) placed k =
     and-true (f g) (list_all f gs)
     (k g (placed-front hypotheses (parts_of g) (flat_map parts_of gs) placed)
-    (λ u v h. or-left (in_group u v (symbols_in g)) (in_groups (map symbols_in gs) u v) h))
+    (λ u v h. or_left (in_group u v (symbols_in g)) (in_groups (map symbols_in gs) u v) h))
     (groups-from hypotheses f gs
     (placed-behind hypotheses (parts_of g) (flat_map parts_of gs) placed) (λ i at inside. k i at
-    (λ u v h. or-right (in_group u v (symbols_in g)) (in_groups (map symbols_in gs) u v)
+    (λ u v h. or_right (in_group u v (symbols_in g)) (in_groups (map symbols_in gs) u v)
     (inside u v h))))
 
 -- the variables of hypotheses are those that they type
@@ -128,8 +122,8 @@ variables-from : (f : ℕ → Bool) (hs : List NumberedHypothesis)
 variables-from f [] k = refl
 variables-from f (floating label typecode v ∷ hs) k =
     and-true (f v) (list_all f (typed_variables hs))
-    (k v (or-left (nat_eq v v) (is_typed hs v) (eq-same v)))
-    (variables-from f hs (λ u h. k u (or-right (nat_eq v u) (is_typed hs u) h)))
+    (k v (or_left (nat_eq v v) (is_typed hs v) (eq-same v)))
+    (variables-from f hs (λ u h. k u (or_right (nat_eq v u) (is_typed hs u) h)))
 variables-from f (essential label statement ∷ hs) k = variables-from f hs k
 
 variables-at : (f : ℕ → Bool) (u : ℕ) (hs : List NumberedHypothesis)

@@ -3,6 +3,7 @@ use Rattle.std.proofs.Common.{◌≡◌, ℕ, ◌+◌, ◌-◌, ◌<◌, ◌≤�
 use Rattle.std.proofs.Common.{false, List, [], ◌∷◌, ◌++◌, slice_index_or, get_or, map, drop-cons}
 use Rattle.std.proofs.Common.{refl, ap, sym, ◌∙◌, arith, cond}
 use Rattle.std.specs.Prelude.{◌||◌, Option, Some, None, is_some, bytes_eq}
+use Rattle.std.proofs.lemmas.Bool.{or_left, or_right}
 use Rattle.std.proofs.lemmas.List.{drop-map, take_more, map-append}
 use Rattle.mm_text.specs.Bytes.{Token, has_token}
 use Rattle.mm_text.specs.Reader.{word_of, words_of}
@@ -19,13 +20,6 @@ use Rattle.mm_frame.specs.Numbered.{NumberedHypothesis, NumberedFrame}
 use Rattle.mm_database.specs.Frames.{floating, essential}
 use Rattle.mm_verify.specs.ProofSteps.{clashes, labels_in, IsLabelled}
 
-or-true : (a b : Bool) → b ≡ true → (a || b) ≡ true
-or-true true b h = refl
-or-true false b h = h
-
-first-true : (a b : Bool) → a ≡ true → (a || b) ≡ true
-first-true a b h = rw h refl
-
 both-false : (a b : Bool) → a ≡ false → b ≡ false → (a || b) ≡ false
 both-false a b h k = rw (h, k) refl
 
@@ -34,7 +28,7 @@ clashes-drop : (others : List Token) (k : ℕ) (ws : List Token) → clashes oth
 clashes-drop others zero ws h = h
 clashes-drop others (suc k) [] h = h
 clashes-drop others (suc k) (w ∷ ws) h =
-    or-true (has_token others w || has_token ws w) (clashes others ws) (clashes-drop others k ws h)
+    or_right (has_token others w || has_token ws w) (clashes others ws) (clashes-drop others k ws h)
 
 -- the tokens from the one before a place to the end
 pub words-before : (bytes : List ℕ) (ts : List MmToken) (at : ℕ) (d : MmToken) → 0 < at
@@ -54,7 +48,7 @@ pub clash-found : (others : List Token) (bytes : List ℕ) (ts : List MmToken) (
 clash-found others bytes ts at d w some within is found =
     let here : clashes others (words_of bytes (drop (at - 1) ts)) ≡ true =
     ap (clashes others) (words-before bytes ts at d some within)
-    ∙ first-true _ (clashes others (words_of bytes (drop at ts))) (ap
+    ∙ or_left _ (clashes others (words_of bytes (drop at ts))) (ap
     (λ u. has_token others u || has_token (words_of bytes (drop at ts)) u) (sym is)
     ∙ found) in
     clashes-drop others (at - 1) (words_of bytes ts)
@@ -151,10 +145,10 @@ found-among test bytes [] i d w lt is found = absurd (none i lt)
     none : (i : ℕ) → i < 0 → ⊥
     none i lt = omega (arith, lt)
 found-among test bytes (t ∷ ts) zero d w lt is found =
-    sym (first-true (test
+    sym (or_left (test
     (word_of bytes t)) (list_any test (words_of bytes ts)) (ap test (sym is) ∙ found))
 found-among test bytes (t ∷ ts) (suc i) d w lt is found =
-    sym (or-true (test (word_of bytes
+    sym (or_right (test (word_of bytes
     t)) (list_any test (words_of bytes ts)) (sym (found-among test bytes ts i d w
     (omega (arith, lt)) is found)))
 

@@ -2,6 +2,7 @@
 use Rattle.std.proofs.Common.{◌≡◌, ℕ, zero, suc, ◌+◌, Bool, true, false, List, [], ◌∷◌, refl, ap}
 use Rattle.std.proofs.Common.{sym, ◌∙◌, arith, Option}
 use Rattle.std.specs.Prelude.{◌||◌, filter, slice_get, Some, None, bytes_eq, if◌then◌else◌}
+use Rattle.std.proofs.lemmas.Bool.{or_right}
 use Rattle.std.proofs.lemmas.Slice.Eq.{bytes_eq-Decides}
 use Rattle.mm_text.specs.Bytes.{Token, has_token}
 use Rattle.mm_text.specs.Statements.{Statement}
@@ -89,14 +90,10 @@ module _ (h : ScopeState) (c : Context) (stands : Stands h c) (needed : ℕ → 
       go false is it = absurd (cc)
   kept-there (y ∷ hs) (suc k) x at passed same = go (test y) (kept-there hs k x at passed same)
     where
-      or-right : (a b : Bool) → b ≡ true → (a || b) ≡ true
-      or-right true b is = refl
-      or-right false b is = is
-
       go : (b : Bool) → has_token (labels_in (filter test hs)) label ≡ true
           → has_token (labels_in (if b then y ∷ filter test hs else filter test hs)) label ≡ true
       go true rest =
-          or-right (bytes_eq (label_of y) label) (has_token (labels_in (filter test hs)) label) rest
+          or_right (bytes_eq (label_of y) label) (has_token (labels_in (filter test hs)) label) rest
       go false rest = rest
 
   named-kept : is_named ≡ true → has_token (labels_in (filter test h.hypotheses)) label ≡ true

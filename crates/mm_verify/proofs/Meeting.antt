@@ -6,6 +6,7 @@ use Rattle.std.specs.Prelude.{◌&&◌, ◌||◌, filter, is_some}
 use Rattle.std.specs.List.{list_all}
 use Rattle.std.specs.Ordering.{nat_cmp}
 use Rattle.std.specs.BTreeMap.{get}
+use Rattle.std.proofs.lemmas.Bool.{or_left, or_right}
 use Rattle.std.proofs.lemmas.List.{take_more}
 use Rattle.mm_frame.proofs.Groups.{list_any-append, has_number-filter}
 use Rattle.mm_frame.specs.PlainFrames.{has_number}
@@ -18,7 +19,7 @@ use Rattle.mm_verify.specs.Pairs.{each_pair, HasVariables, is_variable_apart}
 use Rattle.mm_verify.specs.Meeting.{AreSeen, MeetsOne, MeetsAll, StandsIn, MeetsText, HaveMet}
 use Rattle.mm_verify.specs.Meeting.{Together, AreMet}
 use Rattle.mm_verify.proofs.Resolving.{both-true, and-true}
-use Rattle.mm_verify.proofs.Spreading.{all-from, eq-from, or-left, or-right, apart-variables}
+use Rattle.mm_verify.proofs.Spreading.{all-from, eq-from, apart-variables}
 use Rattle.mm_verify.proofs.Spreading.{places-texts}
 
 -- lists that are appended
@@ -148,11 +149,11 @@ module _ (p : NumberedPlace) (entries : List (List ℕ)) where
     keeps =
         λ n had. ap (λ (xs : List ℕ). has_number xs n) all.all
         ∙ has-append old.variables.items list n
-        ∙ or-left (has_number old.variables.items n) (has_number list n) had;
+        ∙ or_left (has_number old.variables.items n) (has_number list n) had;
     all =
         λ n stands. ap (λ (xs : List ℕ). has_number xs n) all.all
         ∙ has-append old.variables.items list n
-        ∙ or-right (has_number old.variables.items n) (has_number list n) (listed n stands);
+        ∙ or_right (has_number old.variables.items n) (has_number list n) (listed n stands);
     fresh = λ n stands. all.fresh n (listed n stands);
   }
     where
@@ -193,7 +194,7 @@ module _ (p : NumberedPlace) (entries : List (List ℕ)) where
       → has_number old.variables.items n ≡ true) → Together p new
       → are_parts_apart p entries q r ≡ true
   two-apart old new q r meets met together =
-      or-right (nat_eq (symbol_of q) (symbol_of r))
+      or_right (nat_eq (symbol_of q) (symbol_of r))
       (places_apart p entries (place_in q) (place_in r))
       (places-texts p entries (place_in q) (place_in r)
       ∙ apart-variables p xs ys (variables_of xs) (variables_of ys) (has-variables xs)

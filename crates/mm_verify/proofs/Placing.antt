@@ -10,7 +10,7 @@ use Rattle.mm_frame.specs.Numbered.{NumberedHypothesis}
 use Rattle.mm_frame.specs.PlainFrames.{types_number, plain_hypotheses}
 use Rattle.mm_verify.specs.declared.parts.Part.{Part}
 use Rattle.mm_verify.specs.Places.{first_place, place_of, place_in, symbol_of, ArePlaced, IsTable}
-use Rattle.mm_verify.specs.PlacedView.{number_of_place, part_by}
+use Rattle.mm_verify.specs.LongStatementView.{number_of_place, part_by}
 use Rattle.mm_verify.specs.Locating.{AreLocated}
 use Rattle.mm_verify.specs.declared.finding.Places.{Places}
 

@@ -3,6 +3,7 @@ use Rattle.std.proofs.Common.{◌≡◌, ℕ, zero, suc, ◌+◌, ◌-◌, ◌<�
 use Rattle.std.proofs.Common.{◌∷◌, ◌++◌, length, take, drop, get_or, map, nat_eq, Option, Some}
 use Rattle.std.proofs.Common.{None, cond, refl, ap, ◌∙◌, sym, subst, arith, append_assoc}
 use Rattle.std.specs.Prelude.{◌&&◌, ◌||◌, ◌==◌, not, All, slice_get, option_map, filter, flat_map}
+use Rattle.std.proofs.lemmas.Bool.{or_right}
 use Rattle.std.proofs.lemmas.Bool.{eqb-true, eq-eqb}
 use Rattle.std.proofs.lemmas.List.{map-append, get_or-take, get_or-drop, length-take, take_all}
 use Rattle.std.proofs.lemmas.List.{drop_more, take_more, length-map, get_or-map}
@@ -17,7 +18,6 @@ use Rattle.mm_frame.specs.Spots.{symbol_at, position_at, IsSpot, AreSpots}
 use Rattle.mm_verify.specs.Present.{has_text}
 use Rattle.mm_frame.proofs.Spotting.{get-is, get-within}
 use Rattle.mm_verify.proofs.Runs.{any-default}
-use Rattle.mm_verify.proofs.Spreading.{or-right}
 
 abbrev pub with_text : List (List ℕ) → List Part → List Part
 with_text entries parts = filter (has_text entries) parts
@@ -45,7 +45,7 @@ has-there : (ns : List ℕ) (k d : ℕ) → k < length ns → has_number ns (get
 has-there [] k d lt = absurd (omega (arith, lt))
 has-there (n ∷ ns) zero d lt = ap (λ (b : Bool). b || has_number ns n) (eq-eqb n n refl)
 has-there (n ∷ ns) (suc k) d lt =
-    or-right (nat_eq n (get_or ns k d)) (has_number ns (get_or ns k d))
+    or_right (nat_eq n (get_or ns k d)) (has_number ns (get_or ns k d))
     (has-there ns k d (omega (arith, lt)))
 
 nothing-taken : {X : Type 0} (n : ℕ) → take {A = X} n [] ≡ []

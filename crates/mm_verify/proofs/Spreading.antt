@@ -7,6 +7,7 @@ use Rattle.std.specs.List.{list_all, dedup}
 use Rattle.std.specs.Ordering.{nat_cmp}
 use Rattle.std.specs.BTreeMap.{get}
 use Rattle.std.specs.List.Sorted.{IsPermutation}
+use Rattle.std.proofs.lemmas.Bool.{or_left, or_right}
 use Rattle.std.proofs.lemmas.List.{length-append, length-set, length-replicate, get_or_append_left}
 use Rattle.std.proofs.lemmas.List.{get_or_push}
 use Rattle.mm_frame.proofs.FramePlaces.{sorted-has}
@@ -87,13 +88,6 @@ eq-from a b h = grind (arith, h)
 eq-same : (a : ℕ) → nat_eq a a ≡ true
 eq-same a = grind arith
 
-pub or-left : (a b : Bool) → a ≡ true → (a || b) ≡ true
-or-left a b h = ap (λ (c : Bool). c || b) h
-
-pub or-right : (a b : Bool) → b ≡ true → (a || b) ≡ true
-or-right true b h = refl
-or-right false b h = h
-
 all-at : (f : ℕ → Bool) (xs : List ℕ) (n : ℕ) → list_all f xs ≡ true → has_number xs n ≡ true
     → f n ≡ true
 all-at f [] n h k = absurd (cc)
@@ -109,8 +103,8 @@ pub all-from : (f : ℕ → Bool) (xs : List ℕ) → ((n : ℕ) → has_number 
     → list_all f xs ≡ true
 all-from f [] h = refl
 all-from f (x ∷ xs) h =
-    and-true (f x) (list_all f xs) (h x (or-left (nat_eq x x) (has_number xs x) (eq-same x)))
-    (all-from f xs (λ n k. h n (or-right (nat_eq x n) (has_number xs n) k)))
+    and-true (f x) (list_all f xs) (h x (or_left (nat_eq x x) (has_number xs x) (eq-same x)))
+    (all-from f xs (λ n k. h n (or_right (nat_eq x n) (has_number xs n) k)))
 
 module _ (p : NumberedPlace) where
   -- the texts of a place and their variables
@@ -194,7 +188,7 @@ module _ (p : NumberedPlace) where
       → (entries : List (List ℕ)) (parts : List Part)
       → is_group_apart p entries parts ≡ each_pair (are_parts_apart p entries) parts
   group-pairs turned entries parts =
-      pairs-is (are_parts_apart p entries) parts (λ a. or-left (nat_eq (symbol_of a) (symbol_of a))
+      pairs-is (are_parts_apart p entries) parts (λ a. or_left (nat_eq (symbol_of a) (symbol_of a))
       (places_apart p entries (place_in a) (place_in a)) (eq-same (symbol_of a)))
       (parts-turned turned entries)
 

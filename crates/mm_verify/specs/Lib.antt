@@ -3,7 +3,7 @@ pub mod Cut
 pub mod StackView
 pub mod Places
 pub mod Locating
-pub mod PlacedView
+pub mod LongStatementView
 pub mod StatementView
 pub mod Resolved
 pub mod AssertionView

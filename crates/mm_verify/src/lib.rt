@@ -5,9 +5,9 @@
 //! (`machine`, `applying`, `checking`). The memory for checking proofs is kept from one proof to
 //! the next (`room`). Symbols are numbers. An `Assertion` knows for each of its variables which
 //! entry of the stack gives its text (`parts`), so that a step substitutes texts without a look-up.
-//! A long `statement` is shared with the frame, which lists where each symbol stands (`placed`), so
-//! that a step passes over empty texts (`present`). The contract of `verify` is the definition of
-//! validity of the crate `mm_database`, in both directions.
+//! A long statement is shared with the frame, which lists where each symbol stands
+//! (`long_statement`), so that a step passes over empty texts (`present`). The contract of `verify`
+//! is the definition of validity of the crate `mm_database`, in both directions.
 #![tactic(auto)]
 
 mod applying;
@@ -23,10 +23,10 @@ mod filling;
 mod finding;
 mod label_marks;
 mod letters;
+mod long_statement;
 mod machine;
 mod parts;
 mod place;
-mod placed;
 mod present;
 mod proof_fault;
 mod proof_text;

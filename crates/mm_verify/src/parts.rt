@@ -8,7 +8,7 @@ ghost use Rattle.mm_verify.specs.StatementView.{statement_parts};
 ghost use Rattle.mm_verify.specs.Resolved.{wanted_hypothesis, hypotheses_of, parts_in};
 
 use crate::finding::Places;
-use crate::placed::Placed;
+use crate::long_statement::LongStatement;
 use crate::statement::Statement;
 use mm_frame::{Expression, Hyp};
 use std::alloc::{AllocError, Global};
@@ -104,7 +104,7 @@ pub(crate) fn stated(
     if expression.spots().is_none() {
         return Ok(Statement::Short(located(alloc, places, expression.symbols())?));
     }
-    Ok(Statement::Long(Placed {
+    Ok(Statement::Long(LongStatement {
         expression: expression.clone()?,
         places: places.table(alloc)?,
     }))

@@ -6,12 +6,12 @@ ghost use Rattle.mm_frame.specs.PlainFrames.{has_number};
 ghost use Rattle.mm_frame.specs.Places.{passes, found_at};
 ghost use Rattle.mm_frame.specs.Spots.{AreSpots, position_at, symbol_at};
 ghost use Rattle.mm_verify.specs.Filling.{AreWithin, filled};
-ghost use Rattle.mm_verify.specs.PlacedView.{placed_parts, placed_symbols};
+ghost use Rattle.mm_verify.specs.LongStatementView.{long_parts, long_symbols};
 ghost use Rattle.mm_verify.specs.Present.{has_text};
 
 use crate::filling::text_of;
+use crate::long_statement::LongStatement;
 use crate::parts::Part;
-use crate::placed::Placed;
 use crate::stack::Stack;
 use std::alloc::{AllocError, Global};
 
@@ -39,16 +39,16 @@ impl Present {
     /// only the parts whose texts are not empty.
     pub(crate) fn take(
         &mut self,
-        statement: &Placed,
+        statement: &LongStatement,
         stack: &Stack,
         base: usize,
         are_empty: bool,
     ) -> Result<(), AllocError>
-        requires within { AreWithin (length (drop base stack.now)) (placed_parts statement.now) }
+        requires within { AreWithin (length (drop base stack.now)) (long_parts statement.now) }
         ensures within { IfOk result
             (λ _. AreWithin (length (drop base stack.now)) self.new.parts.items) }
         ensures filled { IfOk result (λ _. filled (drop base stack.now) self.new.parts.items
-            ≡ filled (drop base stack.now) (placed_parts statement.now)) }
+            ≡ filled (drop base stack.now) (long_parts statement.now)) }
     {
         if are_empty {
             if let Some(spots) = statement.spots() {
@@ -62,17 +62,17 @@ impl Present {
     /// of different symbols of the statement, times the logarithm of its length.
     fn find(
         &mut self,
-        statement: &Placed,
+        statement: &LongStatement,
         spots: &[u64],
         stack: &Stack,
         base: usize,
     ) -> Result<(), AllocError>
-        requires spots { AreSpots (placed_symbols statement.now) spots.now }
-        requires within { AreWithin (length (drop base stack.now)) (placed_parts statement.now) }
+        requires spots { AreSpots (long_symbols statement.now) spots.now }
+        requires within { AreWithin (length (drop base stack.now)) (long_parts statement.now) }
         ensures within { IfOk result
             (λ _. AreWithin (length (drop base stack.now)) self.new.parts.items) }
         ensures filled { IfOk result (λ _. filled (drop base stack.now) self.new.parts.items
-            ≡ filled (drop base stack.now) (placed_parts statement.now)) }
+            ≡ filled (drop base stack.now) (long_parts statement.now)) }
     {
         gather(statement, spots, stack, base, &mut self.positions)?;
         self.positions.sort_unstable();
@@ -82,8 +82,8 @@ impl Present {
 }
 
 /// All parts.
-fn all_parts(statement: &Placed, to: &mut Vec<Part>) -> Result<(), AllocError>
-    ensures { IfOk result (λ _. to.new.items ≡ placed_parts statement.now) }
+fn all_parts(statement: &LongStatement, to: &mut Vec<Part>) -> Result<(), AllocError>
+    ensures { IfOk result (λ _. to.new.items ≡ long_parts statement.now) }
 {
     to.clear();
     for position in 0..statement.len() {
@@ -94,16 +94,16 @@ fn all_parts(statement: &Placed, to: &mut Vec<Part>) -> Result<(), AllocError>
 
 /// The positions of the parts whose texts are not empty, in any order.
 fn gather(
-    statement: &Placed,
+    statement: &LongStatement,
     spots: &[u64],
     stack: &Stack,
     base: usize,
     to: &mut Vec<usize>,
 ) -> Result<(), AllocError>
-    requires spots { AreSpots (placed_symbols statement.now) spots.now }
-    requires within { AreWithin (length (drop base stack.now)) (placed_parts statement.now) }
+    requires spots { AreSpots (long_symbols statement.now) spots.now }
+    requires within { AreWithin (length (drop base stack.now)) (long_parts statement.now) }
     ensures { IfOk result (λ _. (i : ℕ) → has_number to.new.items i
-        ≡ passes (has_text (drop base stack.now)) (slice_get (placed_parts statement.now) i)) }
+        ≡ passes (has_text (drop base stack.now)) (slice_get (long_parts statement.now) i)) }
 {
     to.clear();
     let mut at = 0;
@@ -131,11 +131,11 @@ fn run_end(spots: &[u64], at: usize) -> usize
 }
 
 /// Whether the text of the part at a spot is not empty.
-fn is_present(statement: &Placed, spot: u64, stack: &Stack, base: usize) -> bool
-    requires at { position_at spot < length (placed_symbols statement.now) }
-    requires within { AreWithin (length (drop base stack.now)) (placed_parts statement.now) }
+fn is_present(statement: &LongStatement, spot: u64, stack: &Stack, base: usize) -> bool
+    requires at { position_at spot < length (long_symbols statement.now) }
+    requires within { AreWithin (length (drop base stack.now)) (long_parts statement.now) }
     ensures { result ≡ passes (has_text (drop base stack.now))
-        (slice_get (placed_parts statement.now) (position_at spot)) }
+        (slice_get (long_parts statement.now) (position_at spot)) }
 {
     let part = statement.part(position_of(spot));
     !text_of(&part, stack, base).is_empty()
@@ -159,10 +159,14 @@ fn push_positions(spots: &[u64], to: &mut Vec<usize>) -> Result<(), AllocError>
 }
 
 /// The parts at positions.
-fn parts_at(statement: &Placed, positions: &[usize], to: &mut Vec<Part>) -> Result<(), AllocError>
-    requires { All (λ i. i < length (placed_symbols statement.now)) positions.now }
+fn parts_at(
+    statement: &LongStatement,
+    positions: &[usize],
+    to: &mut Vec<Part>,
+) -> Result<(), AllocError>
+    requires { All (λ i. i < length (long_symbols statement.now)) positions.now }
     ensures { IfOk result (λ _. to.new.items
-        ≡ flat_map (λ i. found_at (slice_get (placed_parts statement.now) i)) positions.now) }
+        ≡ flat_map (λ i. found_at (slice_get (long_parts statement.now) i)) positions.now) }
 {
     to.clear();
     for position in positions {

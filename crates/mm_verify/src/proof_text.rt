@@ -5,7 +5,7 @@ ghost use Rattle.std.specs.Prelude.{if◌then◌else◌, codes};
 ghost use Rattle.mm_text.specs.Bytes.{has_token};
 ghost use Rattle.mm_text.specs.Reader.{words_of};
 ghost use Rattle.mm_frame.specs.PlainFrames.{plain_frame, plain_hypotheses};
-ghost use Rattle.mm_frame.specs.PlainFrames.{mandatory_hypotheses, has_number};
+ghost use Rattle.mm_frame.specs.PlainFrames.{mandatory_hypotheses};
 ghost use Rattle.mm_frame.specs.StateReads.{is_mandatory_named};
 ghost use Rattle.mm_frame.specs.ScopeState.{scope_state};
 ghost use Rattle.mm_database.specs.ProofText.{lettered_steps};
@@ -23,7 +23,7 @@ use crate::citable::Citable;
 use crate::label_marks::{Marks, are_surely_distinct};
 use crate::letters::ReadSteps;
 use crate::machine::{Citation, Step};
-use mm_frame::{Frame, Hyp, Mandatory, own_labels};
+use mm_frame::{Frame, Hyp, Mandatory, ascending, own_labels};
 use mm_text::MmToken;
 use std::alloc::{AllocError, Global};
 
@@ -231,23 +231,12 @@ fn clash_with_mandatory<'a>(
         (words_of bytes.now labels.now)
         || clashes [] (words_of bytes.now labels.now))) }
 {
-    let own = ascending(alloc, symbols)?;
+    let copy = Vec::from_slice(alloc, symbols)?;
+    let own = ascending(copy);
     if cite_mandatory(known, bytes, &own, labels) {
         return Ok(true);
     }
     has_clash(alloc, bytes, &[], labels, marks)
-}
-
-/// The symbols of a statement, ascending and each once.
-fn ascending(alloc: Global, symbols: &[u32]) -> Result<Vec<u32>, AllocError>
-    ensures ascending { IfOk result (λ v. IsStrictlyIncreasing v.items) }
-    ensures symbols { IfOk result
-        (λ v. (n : ℕ) → has_number v.items n ≡ has_number symbols.now n) }
-{
-    let mut ascending = Vec::from_slice(alloc, symbols)?;
-    ascending.sort_unstable();
-    ascending.dedup();
-    Ok(ascending)
 }
 
 /// Whether a label is that of an active hypothesis that is mandatory for these symbols, which

@@ -5,8 +5,8 @@ ghost use Rattle.mm_verify.specs.Filling.{filled, AreWithin};
 ghost use Rattle.mm_verify.specs.StatementView.{statement_parts};
 
 use crate::filling::{fill_reserved, has_empty_text, is_filled};
+use crate::long_statement::LongStatement;
 use crate::parts::Part;
-use crate::placed::Placed;
 use crate::present::Present;
 use crate::stack::Stack;
 use std::alloc::AllocError;
@@ -17,7 +17,7 @@ pub(crate) enum Statement {
     /// Few parts: a step looks at each.
     Short(Vec<Part>),
     /// Many parts: a step passes over those whose texts are empty.
-    Long(Placed),
+    Long(LongStatement),
 }
 
 impl Statement {
@@ -38,9 +38,9 @@ impl Statement {
     {
         match self {
             Statement::Short(parts) => Ok(is_filled(parts, stack, base, entry)),
-            Statement::Long(placed) => {
-                let are_empty = entry.len() < placed.len();
-                present.take(placed, stack, base, are_empty)?;
+            Statement::Long(long) => {
+                let are_empty = entry.len() < long.len();
+                present.take(long, stack, base, are_empty)?;
                 Ok(is_filled(&present.parts, stack, base, entry))
             }
         }
@@ -64,9 +64,9 @@ impl Statement {
     {
         match self {
             Statement::Short(parts) => fill_reserved(parts, stack, base, to),
-            Statement::Long(placed) => {
+            Statement::Long(long) => {
                 let are_empty = has_empty_text(stack, base);
-                present.take(placed, stack, base, are_empty)?;
+                present.take(long, stack, base, are_empty)?;
                 fill_reserved(&present.parts, stack, base, to)
             }
         }

@@ -1,5 +1,5 @@
 use Rattle.std.proofs.Common.{rules, ◌≡◌, ◌++◌, ◌∷◌, [], get_or}
-use Rattle.mm_verify.specs.PlacedView.{part_by, placed_symbols}
+use Rattle.mm_verify.specs.LongStatementView.{part_by, long_symbols}
 use Rattle.mm_verify.proofs.Presence.{part-more}
 use Rattle.mm_verify.proofs.present.parts_at.Goals as goal
 
@@ -8,7 +8,7 @@ loop-position-preserved c =
     let i = c.loop-position.position-index in
     let at = get_or c.args.positions.now i 0 in
     let f = part_by c.args.statement.now.places.value in
-    let symbols = placed_symbols c.args.statement.now in
+    let symbols = long_symbols c.args.statement.now in
     let new : c.push.new.self.items ≡ c.loop-position.to.items ++ f (get_or symbols at 0) ∷ [] =
     search rules in
     part-more f symbols c.args.positions.now c.loop-position.to.items c.push.new.self.items _

@@ -1,18 +1,11 @@
 use Rattle.std.proofs.Common.{ap, ◌∙◌}
-use Rattle.std.proofs.lemmas.List.Filters.{dedup_is}
-use Rattle.std.proofs.lemmas.Map.Keys.{IsStrictlyIncreasing-dedup}
 use Rattle.mm_frame.specs.PlainFrames.{has_number}
 use Rattle.mm_frame.specs.ScopeState.{scope_state}
-use Rattle.mm_frame.proofs.FramePlaces.{sorted-has, needed-has}
+use Rattle.mm_frame.proofs.FramePlaces.{needed-has}
 use Rattle.mm_frame.proofs.scopes.Scopes.needed.Goals as goal
-
-pub returns-clause-ascending : goal.returns-clause-ascending
-returns-clause-ascending c =
-    let is = dedup_is _ _ _ c.dedup.ensures.filtered in
-    rw is (IsStrictlyIncreasing-dedup _ c.sort_unstable.ensures.sorted)
 
 pub returns-clause-symbols : goal.returns-clause-symbols
 returns-clause-symbols c = λ n.
-    sorted-has _ _ _ c.sort_unstable.ensures.permutation (dedup_is _ _ _ c.dedup.ensures.filtered) n
+    c.ascending.ensures.numbers n
     ∙ ap (λ ms. has_number ms n) c.in_ok-symbols.ensures
     ∙ needed-has (scope_state c.args.self.now).hypotheses c.args.statement.now n

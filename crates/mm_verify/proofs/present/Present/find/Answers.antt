@@ -10,17 +10,17 @@ use Rattle.mm_frame.proofs.FramePlaces.{sorted-has}
 use Rattle.mm_frame.proofs.Placing.{places-filter}
 use Rattle.mm_verify.specs.declared.parts.Part.{Part}
 use Rattle.mm_verify.specs.Filling.{IsWithin, AreWithin, filled}
-use Rattle.mm_verify.specs.PlacedView.{part_by, placed_parts, placed_symbols}
+use Rattle.mm_verify.specs.LongStatementView.{part_by, long_parts, long_symbols}
 use Rattle.mm_verify.specs.Present.{has_text}
 use Rattle.mm_verify.proofs.Presence.{with_text, present-filled, present-within}
 use Rattle.mm_verify.proofs.present.Present.find.Goals as goal
 
 pub parts_at-requires : goal.parts_at-requires
 parts_at-requires c =
-    subst (λ (ns : List ℕ). All (λ i. i < length (placed_symbols c.args.statement.now)) ns)
+    subst (λ (ns : List ℕ). All (λ i. i < length (long_symbols c.args.statement.now)) ns)
     (sym c.deref.ensures.value)
     (present-within (drop c.args.base c.args.stack.now) (part_by c.args.statement.now.places.value)
-    (placed_symbols c.args.statement.now) c.dedup.new.self.items
+    (long_symbols c.args.statement.now) c.dedup.new.self.items
     (λ i. sorted-has _ _ _ c.sort_unstable.ensures.permutation
     (dedup_is _ _ _ c.dedup.ensures.filtered) i ∙ c.in_ok-gather.ensures i))
 
@@ -30,14 +30,14 @@ ascending c =
     rw is (IsStrictlyIncreasing-dedup _ c.sort_unstable.ensures.sorted)
 
 found : (c : goal.After-parts_at)
-    → flat_map (λ i. found_at (slice_get (placed_parts c.args.statement.now) i)) c.deref.result.now
-    ≡ with_text (drop c.args.base c.args.stack.now) (placed_parts c.args.statement.now)
+    → flat_map (λ i. found_at (slice_get (long_parts c.args.statement.now) i)) c.deref.result.now
+    ≡ with_text (drop c.args.base c.args.stack.now) (long_parts c.args.statement.now)
 found c =
     ap (λ (ns : List ℕ).
-    flat_map (λ i. found_at (slice_get (placed_parts c.args.statement.now) i)) ns)
+    flat_map (λ i. found_at (slice_get (long_parts c.args.statement.now) i)) ns)
     c.deref.ensures.value
     ∙ places-filter (has_text (drop c.args.base c.args.stack.now))
-    (placed_parts c.args.statement.now) c.dedup.new.self.items (ascending c)
+    (long_parts c.args.statement.now) c.dedup.new.self.items (ascending c)
     (λ i. sorted-has _ _ _ c.sort_unstable.ensures.permutation
     (dedup_is _ _ _ c.dedup.ensures.filtered) i ∙ c.in_ok-gather.ensures i)
 
@@ -47,7 +47,7 @@ returns-clause-within c =
     (λ u is. subst (λ (ps : List Part). AreWithin (length (drop c.args.base c.args.stack.now)) ps)
     (sym (is ∙ found c))
     (All-filter (has_text (drop c.args.base c.args.stack.now))
-    (IsWithin (length (drop c.args.base c.args.stack.now))) (placed_parts c.args.statement.now)
+    (IsWithin (length (drop c.args.base c.args.stack.now))) (long_parts c.args.statement.now)
     c.requires.within))
     c.parts_at.ensures
 
@@ -55,5 +55,5 @@ pub returns-clause-filled : goal.returns-clause-filled
 returns-clause-filled c =
     IfOk-weaker c.parts_at.result _ _
     (λ u is. ap (λ (ps : List Part). filled (drop c.args.base c.args.stack.now) ps) (is ∙ found c)
-    ∙ present-filled (drop c.args.base c.args.stack.now) (placed_parts c.args.statement.now))
+    ∙ present-filled (drop c.args.base c.args.stack.now) (long_parts c.args.statement.now))
     c.parts_at.ensures

@@ -8,35 +8,35 @@ use std::collections::BTreeMap;
 use std::rc::Rc;
 
 /// A long statement, which all assertions that have it share, and the places of the variables of
-/// one assertion. `placed_parts` are its parts.
+/// one assertion. `long_parts` are its parts.
 #[derive(Drop)]
-pub(crate) struct Placed {
+pub(crate) struct LongStatement {
     pub(crate) expression: Rc<Expression>,
     pub(crate) places: Rc<BTreeMap<u32, u32>>,
 }
 
-impl Placed {
-    ghost use Rattle.mm_verify.specs.PlacedView.{placed_symbols, part_by};
+impl LongStatement {
+    ghost use Rattle.mm_verify.specs.LongStatementView.{long_symbols, part_by};
 
     /// How many parts it has.
     pub(crate) fn len(&self) -> usize
-        ensures { result ≡ length (placed_symbols self.now) }
+        ensures { result ≡ length (long_symbols self.now) }
     {
         self.expression.symbols().len()
     }
 
     /// The spots of its symbols, if they are listed.
     pub(crate) fn spots(&self) -> Option<&[u64]>
-        ensures { IfSome result (λ v. AreSpots (placed_symbols self.now) v.now) }
+        ensures { IfSome result (λ v. AreSpots (long_symbols self.now) v.now) }
     {
         self.expression.spots()
     }
 
     /// The part at a position.
     pub(crate) fn part(&self, position: usize) -> Part
-        requires { position < length (placed_symbols self.now) }
+        requires { position < length (long_symbols self.now) }
         ensures { result
-            ≡ part_by self.now.places.value (slice_index (placed_symbols self.now) position) }
+            ≡ part_by self.now.places.value (slice_index (long_symbols self.now) position) }
     {
         let symbol = self.expression.symbols()[position];
         match self.places.get(&symbol) {

@@ -4,7 +4,7 @@ use Rattle.std.specs.Ordering.{nat_cmp}
 use Rattle.std.specs.BTreeMap.{get, BTreeMap}
 use Rattle.mm_frame.specs.ExpressionView.{expression_symbols}
 use Rattle.mm_verify.specs.declared.parts.Part.{Part}
-use Rattle.mm_verify.specs.declared.placed.Placed.{Placed}
+use Rattle.mm_verify.specs.declared.long_statement.LongStatement.{LongStatement}
 
 -- no place is the number that stands for none
 abbrev pub number_of_place : Option ℕ → ℕ
@@ -18,8 +18,8 @@ part_by places symbol = record {
   place = number_of_place (get nat_cmp places symbol);
 }
 
-abbrev pub placed_symbols : Placed → List ℕ
-placed_symbols p = expression_symbols p.expression.value
+abbrev pub long_symbols : LongStatement → List ℕ
+long_symbols s = expression_symbols s.expression.value
 
-abbrev pub placed_parts : Placed → List Part
-placed_parts p = map (part_by p.places.value) (placed_symbols p)
+abbrev pub long_parts : LongStatement → List Part
+long_parts s = map (part_by s.places.value) (long_symbols s)
