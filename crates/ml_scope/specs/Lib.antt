@@ -1,2 +1,2 @@
--- Believed: what public clauses say, and believed definitions of other crates.
+-- Public: what public clauses say, and public definitions of other crates.
 pub mod Scopes

@@ -29,7 +29,7 @@ pub(crate) enum Behind {
     /// Nothing.
     Nothing,
     /// Digits with this value that are not yet a whole number.
-    Digits(u64),
+    Digits(u128),
     /// The last digit of a number.
     Number,
     /// A `Z`.
@@ -37,7 +37,7 @@ pub(crate) enum Behind {
 }
 
 /// The value of the digits before a letter.
-pub(crate) fn value(behind: Behind) -> u64
+pub(crate) fn value(behind: Behind) -> u128
     ensures { result ≡ value_before (before_of behind) }
 {
     match behind {
@@ -46,13 +46,14 @@ pub(crate) fn value(behind: Behind) -> u64
     }
 }
 
-/// `factor * value + digit`, or `None` if this is more than 2^64 - 1.
-pub(crate) fn extended(value: u64, factor: u64, digit: u8) -> Option<u64>
-    ensures { MatchOption result (2 ^ 64 ≤ factor * value + digit)
+/// `factor * value + digit`, or `None` if this is more than 2^128 - 1. No number above that can stand
+/// for a step, since there are fewer than 2^64 hypotheses, labels and saved entries each.
+pub(crate) fn extended(value: u128, factor: u128, digit: u8) -> Option<u128>
+    ensures { MatchOption result (2 ^ 128 ≤ factor * value + digit)
         (λ n. n ≡ factor * value + digit) }
 {
     match value.checked_mul(factor) {
-        Some(product) => product.checked_add(digit as u64),
+        Some(product) => product.checked_add(digit as u128),
         None => None,
     }
 }
@@ -63,23 +64,23 @@ pub(crate) fn meaning<'s, 'a>(
     mandatory: &'s Mandatory<'a>,
     listed: &[Citation<'s, 'a>],
     saved: usize,
-    number: u64,
+    number: u128,
 ) -> Option<Step<'s, 'a>>
     requires { 1 ≤ number }
     ensures { option_map step_of result
         ≡ meaning_in (table_of (mandatory_hypotheses mandatory.now) listed.now) saved (number - 1) }
 {
     let place = number - 1;
-    let given = mandatory.count() as u64;
+    let given = mandatory.count() as u128;
     if place < given {
         let hyp = mandatory.hyp(place as usize)?;
         return Some(Step::Cites(Citation::Gives(hyp)));
     }
     let behind = place - given;
-    let count = listed.len() as u64;
+    let count = listed.len() as u128;
     if behind < count {
         Some(Step::Cites(listed[behind as usize]))
-    } else if behind - count < saved as u64 {
+    } else if behind - count < saved as u128 {
         Some(Step::Repeats((behind - count) as usize))
     } else {
         None

@@ -1,5 +1,5 @@
 // The letters of compressed proofs.
-ghost use Rattle.std.specs.Prelude.{◌≤◌, ◌+◌, ◌^◌, length};
+ghost use Rattle.std.specs.Prelude.{◌≤◌, ◌<◌, ◌^◌, length};
 ghost use Rattle.mm_frame.specs.PlainFrames.{mandatory_hypotheses};
 
 use crate::digits::{Behind, Letter, extended, meaning, read_letter, value};
@@ -7,9 +7,6 @@ use crate::machine::{Citation, Step};
 use mm_frame::Mandatory;
 use mm_text::MmToken;
 use std::alloc::{AllocError, Global};
-
-/// More hypotheses or labels than memory can hold.
-const MANY: usize = 1 << 62;
 
 /// The steps of the letters that were read so far. The first numbers stand for the
 /// mandatory hypotheses, and the next ones for what is listed.
@@ -21,7 +18,7 @@ pub(crate) struct ReadSteps<'s, 'a> {
     behind: Behind,
     saved: usize,
     ghost few: { saved ≤ length steps.items },
-    ghost given: { length (mandatory_hypotheses mandatory.now) + length listed.items ≤ 2 ^ 63 },
+    ghost counted: { length (mandatory_hypotheses mandatory.now) < 2 ^ 64 },
 }
 
 impl<'s, 'a> ReadSteps<'s, 'a> {
@@ -46,9 +43,7 @@ impl<'s, 'a> ReadSteps<'s, 'a> {
         ensures behind { IfOk result (λ r. r.behind ≡ Nothing) }
         ensures saved { IfOk result (λ r. r.saved ≡ 0) }
     {
-        if mandatory.count() > MANY || listed.len() > MANY {
-            return Err(AllocError);
-        }
+        let _count = mandatory.count();
         Ok(ReadSteps {
             mandatory,
             listed,

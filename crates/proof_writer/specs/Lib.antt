@@ -1,4 +1,4 @@
--- Believed: what public clauses say, and believed definitions of other crates.
+-- Public: what public clauses say, and public definitions of other crates.
 pub mod PlainNames
 pub mod Writing
 -- Private: what clauses of private functions cite, and how private fields are seen.

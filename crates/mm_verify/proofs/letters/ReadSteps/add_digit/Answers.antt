@@ -13,10 +13,10 @@ use Rattle.mm_verify.proofs.letters.ReadSteps.add_digit.Goals as goal
 
 pub returns-in-None : goal.returns-in-None
 returns-in-None c b is others =
-    let past : 2 ^ 64 ≤ 5 * value_before (before_of c.args.self.now.behind) + c.args.d =
+    let past : 2 ^ 128 ≤ 5 * value_before (before_of c.args.self.now.behind) + c.args.d =
     search rules in
     let few : length (table_of (mandatory_hypotheses c.args.self.now.mandatory.now)
-    c.args.self.now.listed.items) + c.args.self.now.saved < 2 ^ 64 =
+    c.args.self.now.listed.items) + c.args.self.now.saved < 2 ^ 128 =
     few_steps c.args.self.now in
     ap (λ (o : Option (List (Step Citation))).
     behind_items (map step_of c.args.self.now.steps.items) o)

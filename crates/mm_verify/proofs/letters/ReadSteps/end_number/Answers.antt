@@ -17,7 +17,7 @@ use Rattle.mm_verify.proofs.letters.ReadSteps.end_number.Goals as goal
 
 pub returns-in_default : goal.returns-in_default
 returns-in_default c b is others =
-    let past : 2 ^ 64 ≤ 20 * value_before (before_of c.args.self.now.behind) + c.args.d =
+    let past : 2 ^ 128 ≤ 20 * value_before (before_of c.args.self.now.behind) + c.args.d =
     search rules in
     let few = few_steps c.args.self.now in
     let table =
