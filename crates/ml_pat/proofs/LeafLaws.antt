@@ -3,8 +3,8 @@ use Rattle.std.proofs.Common.{◌≡◌, ℕ, Bool, true, false, refl}
 use Rattle.std.proofs.Common as std
 use Rattle.std.specs.Prelude.{◌==◌, ◌&&◌}
 use Rattle.std.proofs.lemmas.Bool.{false≢true}
-use Rattle.ml_pat.specs.Patterns.{Pattern, bot, top, imp, not, and, or, equal, member, fun, ex, all}
-use Rattle.ml_pat.specs.Patterns.{app, at_sort, next, ev, var, meta, constant}
+use Rattle.ml_pat.specs.Patterns.{Pattern, nullary, unary, binary, sorted, quantified, var, meta}
+use Rattle.ml_pat.specs.Patterns.{constant}
 use Rattle.ml_pat.specs.Judgements.{absent}
 use Rattle.ml_pat.specs.Leaves.{LeafFacts, EachLeaf}
 
@@ -27,22 +27,12 @@ pub record Implies (f g : LeafFacts) : Type 0 where
   pub meta : (i : ℕ) → f.meta i → g.meta i
 
 pub EachLeaf-implied : (f g : LeafFacts) (p : Pattern) → Implies f g → EachLeaf f p → EachLeaf g p
-EachLeaf-implied f g bot w h = tt
-EachLeaf-implied f g top w h = tt
-EachLeaf-implied f g (imp p q) w h = (EachLeaf-implied f g p w h.0, EachLeaf-implied f g q w h.1)
-EachLeaf-implied f g (and p q) w h = (EachLeaf-implied f g p w h.0, EachLeaf-implied f g q w h.1)
-EachLeaf-implied f g (or p q) w h = (EachLeaf-implied f g p w h.0, EachLeaf-implied f g q w h.1)
-EachLeaf-implied f g (equal p q) w h = (EachLeaf-implied f g p w h.0, EachLeaf-implied f g q w h.1)
-EachLeaf-implied f g (member p q) w h = (EachLeaf-implied f g p w h.0, EachLeaf-implied f g q w h.1)
-EachLeaf-implied f g (app p q) w h = (EachLeaf-implied f g p w h.0, EachLeaf-implied f g q w h.1)
-EachLeaf-implied f g (not p) w h = EachLeaf-implied f g p w h
-EachLeaf-implied f g (next p) w h = EachLeaf-implied f g p w h
-EachLeaf-implied f g (ev p) w h = EachLeaf-implied f g p w h
-EachLeaf-implied f g (at_sort p s) w h = (EachLeaf-implied f g p w h.0, w.sort s h.1)
-EachLeaf-implied f g (fun p s) w h = (EachLeaf-implied f g p w h.0, w.sort s h.1)
-EachLeaf-implied f g (ex x s p) w h =
-    (EachLeaf-implied f g p w h.0, (w.object x h.1.0, w.sort s h.1.1))
-EachLeaf-implied f g (all x s p) w h =
+EachLeaf-implied f g (nullary c) w h = tt
+EachLeaf-implied f g (binary c p q) w h =
+    (EachLeaf-implied f g p w h.0, EachLeaf-implied f g q w h.1)
+EachLeaf-implied f g (unary c p) w h = EachLeaf-implied f g p w h
+EachLeaf-implied f g (sorted c p s) w h = (EachLeaf-implied f g p w h.0, w.sort s h.1)
+EachLeaf-implied f g (quantified c x s p) w h =
     (EachLeaf-implied f g p w h.0, (w.object x h.1.0, w.sort s h.1.1))
 EachLeaf-implied f g (var x) w h = w.object x h
 EachLeaf-implied f g (meta i) w h = w.meta i h
@@ -59,36 +49,13 @@ other_leaves x f = record {
 
 pub EachLeaf-absent : (f : LeafFacts) (x : ℕ) (p : Pattern) → absent x p ≡ true → EachLeaf f p
     → EachLeaf (other_leaves x f) p
-EachLeaf-absent f x bot a h = tt
-EachLeaf-absent f x top a h = tt
-EachLeaf-absent f x (imp p q) a h =
+EachLeaf-absent f x (nullary c) a h = tt
+EachLeaf-absent f x (binary c p q) a h =
     let b : (absent x p ≡ true) × (absent x q ≡ true) = split_true (absent x p) (absent x q) a in
     (EachLeaf-absent f x p b.0 h.0, EachLeaf-absent f x q b.1 h.1)
-EachLeaf-absent f x (and p q) a h =
-    let b : (absent x p ≡ true) × (absent x q ≡ true) = split_true (absent x p) (absent x q) a in
-    (EachLeaf-absent f x p b.0 h.0, EachLeaf-absent f x q b.1 h.1)
-EachLeaf-absent f x (or p q) a h =
-    let b : (absent x p ≡ true) × (absent x q ≡ true) = split_true (absent x p) (absent x q) a in
-    (EachLeaf-absent f x p b.0 h.0, EachLeaf-absent f x q b.1 h.1)
-EachLeaf-absent f x (equal p q) a h =
-    let b : (absent x p ≡ true) × (absent x q ≡ true) = split_true (absent x p) (absent x q) a in
-    (EachLeaf-absent f x p b.0 h.0, EachLeaf-absent f x q b.1 h.1)
-EachLeaf-absent f x (member p q) a h =
-    let b : (absent x p ≡ true) × (absent x q ≡ true) = split_true (absent x p) (absent x q) a in
-    (EachLeaf-absent f x p b.0 h.0, EachLeaf-absent f x q b.1 h.1)
-EachLeaf-absent f x (app p q) a h =
-    let b : (absent x p ≡ true) × (absent x q ≡ true) = split_true (absent x p) (absent x q) a in
-    (EachLeaf-absent f x p b.0 h.0, EachLeaf-absent f x q b.1 h.1)
-EachLeaf-absent f x (not p) a h = EachLeaf-absent f x p a h
-EachLeaf-absent f x (next p) a h = EachLeaf-absent f x p a h
-EachLeaf-absent f x (ev p) a h = EachLeaf-absent f x p a h
-EachLeaf-absent f x (at_sort p s) a h = (EachLeaf-absent f x p a h.0, h.1)
-EachLeaf-absent f x (fun p s) a h = (EachLeaf-absent f x p a h.0, h.1)
-EachLeaf-absent f x (ex y s p) a h =
-    let b : (std.not (x == y) ≡ true) × (absent x p ≡ true) =
-    split_true (std.not (x == y)) (absent x p) a in
-    (EachLeaf-absent f x p b.1 h.0, ((h.1.0, not_true (x == y) b.0), h.1.1))
-EachLeaf-absent f x (all y s p) a h =
+EachLeaf-absent f x (unary c p) a h = EachLeaf-absent f x p a h
+EachLeaf-absent f x (sorted c p s) a h = (EachLeaf-absent f x p a h.0, h.1)
+EachLeaf-absent f x (quantified c y s p) a h =
     let b : (std.not (x == y) ≡ true) × (absent x p ≡ true) =
     split_true (std.not (x == y)) (absent x p) a in
     (EachLeaf-absent f x p b.1 h.0, ((h.1.0, not_true (x == y) b.0), h.1.1))

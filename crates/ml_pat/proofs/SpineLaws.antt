@@ -2,8 +2,7 @@
 use Rattle.std.proofs.Common.{◌≡◌, ◌≤◌, ◌<◌, List, [], ◌∷◌, ◌++◌, Some, None, refl, sym, ◌∙◌, ap}
 use Rattle.std.proofs.Common.{arith}
 use Rattle.std.specs.Borrow.{Bor}
-use Rattle.ml_pat.specs.Patterns.{Pattern, bot, top, imp, not, and, or, equal, member, fun, ex, all}
-use Rattle.ml_pat.specs.Patterns.{app, at_sort, next, ev, var, meta, constant}
+use Rattle.ml_pat.specs.Patterns.{Pattern, unary, binary, sorted, quantified}
 use Rattle.ml_pat.specs.FormsIn.{forms_in}
 use Rattle.ml_pat.specs.FirstPart.{first_part}
 use Rattle.ml_pat.specs.Spines.{LeadsTo}
@@ -15,37 +14,15 @@ pub none_some : (p : Pattern) → None ≡ Some p → ⊥
 none_some p h = cc
 
 pub first_part-smaller : (r p : Pattern) → first_part r ≡ Some p → forms_in p < forms_in r
-first_part-smaller bot p h = absurd (none_some p h)
-first_part-smaller top p h = absurd (none_some p h)
-first_part-smaller (imp t q) p h =
+first_part-smaller (binary c t q) p h =
     let same : forms_in t ≡ forms_in p = ap forms_in (some_same t p h) in omega (arith, same)
-first_part-smaller (not t) p h =
+first_part-smaller (unary c t) p h =
     let same : forms_in t ≡ forms_in p = ap forms_in (some_same t p h) in omega (arith, same)
-first_part-smaller (and t q) p h =
+first_part-smaller (sorted c t s) p h =
     let same : forms_in t ≡ forms_in p = ap forms_in (some_same t p h) in omega (arith, same)
-first_part-smaller (or t q) p h =
+first_part-smaller (quantified c x s t) p h =
     let same : forms_in t ≡ forms_in p = ap forms_in (some_same t p h) in omega (arith, same)
-first_part-smaller (equal t q) p h =
-    let same : forms_in t ≡ forms_in p = ap forms_in (some_same t p h) in omega (arith, same)
-first_part-smaller (member t q) p h =
-    let same : forms_in t ≡ forms_in p = ap forms_in (some_same t p h) in omega (arith, same)
-first_part-smaller (fun t s) p h =
-    let same : forms_in t ≡ forms_in p = ap forms_in (some_same t p h) in omega (arith, same)
-first_part-smaller (ex x s t) p h =
-    let same : forms_in t ≡ forms_in p = ap forms_in (some_same t p h) in omega (arith, same)
-first_part-smaller (all x s t) p h =
-    let same : forms_in t ≡ forms_in p = ap forms_in (some_same t p h) in omega (arith, same)
-first_part-smaller (app t q) p h =
-    let same : forms_in t ≡ forms_in p = ap forms_in (some_same t p h) in omega (arith, same)
-first_part-smaller (at_sort t s) p h =
-    let same : forms_in t ≡ forms_in p = ap forms_in (some_same t p h) in omega (arith, same)
-first_part-smaller (next t) p h =
-    let same : forms_in t ≡ forms_in p = ap forms_in (some_same t p h) in omega (arith, same)
-first_part-smaller (ev t) p h =
-    let same : forms_in t ≡ forms_in p = ap forms_in (some_same t p h) in omega (arith, same)
-first_part-smaller (var x) p h = absurd (none_some p h)
-first_part-smaller (meta i) p h = absurd (none_some p h)
-first_part-smaller (constant c) p h = absurd (none_some p h)
+first_part-smaller r p h = absurd (none_some p h)
 
 -- the path down to a pattern, and one part further
 pub LeadsTo-push : (p : Pattern) (rs : List (Bor Pattern)) (r : Bor Pattern) (q : Pattern)

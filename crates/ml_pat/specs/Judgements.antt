@@ -5,26 +5,16 @@
 use Rattle.std.specs.Prelude.{ℕ, ◌==◌, ◌||◌, ◌&&◌, Bool, true, false, IsTrue, if◌then◌else◌, Option}
 use Rattle.std.specs.Prelude.{Some, None, option_map}
 use Rattle.std.specs.Prelude as std
-use Rattle.ml_pat.specs.Patterns.{Pattern, bot, top, imp, not, and, or, equal, member, fun, ex, all}
-use Rattle.ml_pat.specs.Patterns.{app, at_sort, next, ev, var, meta, constant}
+use Rattle.ml_pat.specs.Patterns.{Pattern, nullary, unary, binary, sorted, quantified, imp, not}
+use Rattle.ml_pat.specs.Patterns.{and, or, equal, member, fun, var, meta, constant}
 
 -- whether x is not free in the pattern
 abbrev pub fresh : ℕ → Pattern → Bool
-fresh x bot = true
-fresh x top = true
-fresh x (imp p q) = fresh x p && fresh x q
-fresh x (not p) = fresh x p
-fresh x (and p q) = fresh x p && fresh x q
-fresh x (or p q) = fresh x p && fresh x q
-fresh x (equal p q) = fresh x p && fresh x q
-fresh x (member p q) = fresh x p && fresh x q
-fresh x (fun p s) = fresh x p
-fresh x (ex y s p) = (x == y) || fresh x p
-fresh x (all y s p) = (x == y) || fresh x p
-fresh x (app p q) = fresh x p && fresh x q
-fresh x (at_sort p s) = fresh x p
-fresh x (next p) = fresh x p
-fresh x (ev p) = fresh x p
+fresh x (nullary c) = true
+fresh x (binary c p q) = fresh x p && fresh x q
+fresh x (unary c p) = fresh x p
+fresh x (sorted c p s) = fresh x p
+fresh x (quantified c y s p) = (x == y) || fresh x p
 fresh x (var y) = std.not (x == y)
 fresh x (meta i) = true
 fresh x (constant c) = true
@@ -35,21 +25,11 @@ IsFresh x p = IsTrue (fresh x p)
 
 -- whether x does not occur in the pattern, bound or free
 abbrev pub absent : ℕ → Pattern → Bool
-absent x bot = true
-absent x top = true
-absent x (imp p q) = absent x p && absent x q
-absent x (not p) = absent x p
-absent x (and p q) = absent x p && absent x q
-absent x (or p q) = absent x p && absent x q
-absent x (equal p q) = absent x p && absent x q
-absent x (member p q) = absent x p && absent x q
-absent x (fun p s) = absent x p
-absent x (ex y s p) = std.not (x == y) && absent x p
-absent x (all y s p) = std.not (x == y) && absent x p
-absent x (app p q) = absent x p && absent x q
-absent x (at_sort p s) = absent x p
-absent x (next p) = absent x p
-absent x (ev p) = absent x p
+absent x (nullary c) = true
+absent x (binary c p q) = absent x p && absent x q
+absent x (unary c p) = absent x p
+absent x (sorted c p s) = absent x p
+absent x (quantified c y s p) = std.not (x == y) && absent x p
 absent x (var y) = std.not (x == y)
 absent x (meta i) = true
 absent x (constant c) = true
@@ -76,29 +56,19 @@ under_quantifier f x y u p p' =
 -- The pattern with u substituted for each free x. There is none if a free variable of u would be
 -- captured.
 abbrev pub substituted : Pattern → ℕ → Pattern → Option Pattern
-substituted bot x u = Some bot
-substituted top x u = Some top
-substituted (imp p q) x u = both_parts imp (substituted p x u) (substituted q x u)
-substituted (not p) x u = option_map not (substituted p x u)
-substituted (and p q) x u = both_parts and (substituted p x u) (substituted q x u)
-substituted (or p q) x u = both_parts or (substituted p x u) (substituted q x u)
-substituted (equal p q) x u = both_parts equal (substituted p x u) (substituted q x u)
-substituted (member p q) x u = both_parts member (substituted p x u) (substituted q x u)
-substituted (fun p s) x u = option_map (λ p'. fun p' s) (substituted p x u)
-substituted (ex y s p) x u = under_quantifier (ex y s) x y u p (substituted p x u)
-substituted (all y s p) x u = under_quantifier (all y s) x y u p (substituted p x u)
-substituted (app p q) x u = both_parts app (substituted p x u) (substituted q x u)
-substituted (at_sort p s) x u = option_map (λ p'. at_sort p' s) (substituted p x u)
-substituted (next p) x u = option_map next (substituted p x u)
-substituted (ev p) x u = option_map ev (substituted p x u)
+substituted (nullary c) x u = Some (nullary c)
+substituted (binary c p q) x u = both_parts (binary c) (substituted p x u) (substituted q x u)
+substituted (unary c p) x u = option_map (unary c) (substituted p x u)
+substituted (sorted c p s) x u = option_map (λ p'. sorted c p' s) (substituted p x u)
+substituted (quantified c y s p) x u =
+    under_quantifier (quantified c y s) x y u p (substituted p x u)
 substituted (var y) x u = if x == y then Some u else Some (var y)
 substituted (meta i) x u = Some (meta i)
 substituted (constant c) x u = Some (constant c)
 
--- whether the form of the pattern makes it everything or nothing
+-- whether the form of the pattern makes it everything or nothing; no other forms do
 abbrev pub predicate : Pattern → Bool
-predicate bot = true
-predicate top = true
+predicate (nullary c) = true
 predicate (imp p q) = predicate p && predicate q
 predicate (not p) = predicate p
 predicate (and p q) = predicate p && predicate q
@@ -106,15 +76,8 @@ predicate (or p q) = predicate p && predicate q
 predicate (equal p q) = true
 predicate (member p q) = true
 predicate (fun p s) = true
-predicate (ex y s p) = predicate p
-predicate (all y s p) = predicate p
-predicate (app p q) = false
-predicate (at_sort p s) = false
-predicate (next p) = false
-predicate (ev p) = false
-predicate (var y) = false
-predicate (meta i) = false
-predicate (constant c) = false
+predicate (quantified c y s p) = predicate p
+predicate p = false
 
 -- the pattern is everything or nothing
 abbrev pub IsPredicate : Pattern → Type 0
