@@ -1,7 +1,6 @@
 -- Axioms whose bound variables are not renamed.
 use Rattle.std.proofs.Common.{◌≡◌, ℕ, List, [], refl, sym, ap}
-use Rattle.ml_pat.specs.Patterns.{Pattern, bot, top, imp, not, and, or, equal, member, fun, ex, all}
-use Rattle.ml_pat.specs.Patterns.{app, at_sort, next, ev, var, meta, constant}
+use Rattle.ml_pat.specs.Patterns.{Pattern, unary, binary, sorted, quantified}
 use Rattle.ml_kernel.specs.Renamings.{renamed, Renames, by_place}
 use Rattle.ml_kernel.specs.Lemmas.{HasNoMeta}
 use Rattle.ml_kernel.specs.Theorems.{own_axiom}
@@ -9,24 +8,11 @@ use Rattle.ml_kernel.specs.Concluding.{Concludes}
 
 -- if no variable is renamed, the pattern does not change
 pub renamed-none : (p : Pattern) → renamed (by_place []) p ≡ p
-renamed-none bot = refl
-renamed-none top = refl
-renamed-none (imp p q) = rw (renamed-none p, renamed-none q) refl
-renamed-none (not p) = ap not (renamed-none p)
-renamed-none (and p q) = rw (renamed-none p, renamed-none q) refl
-renamed-none (or p q) = rw (renamed-none p, renamed-none q) refl
-renamed-none (equal p q) = rw (renamed-none p, renamed-none q) refl
-renamed-none (member p q) = rw (renamed-none p, renamed-none q) refl
-renamed-none (fun p s) = ap (λ (q : Pattern). fun q s) (renamed-none p)
-renamed-none (ex x s p) = ap (ex x s) (renamed-none p)
-renamed-none (all x s p) = ap (all x s) (renamed-none p)
-renamed-none (app p q) = rw (renamed-none p, renamed-none q) refl
-renamed-none (at_sort p s) = ap (λ (q : Pattern). at_sort q s) (renamed-none p)
-renamed-none (next p) = ap next (renamed-none p)
-renamed-none (ev p) = ap ev (renamed-none p)
-renamed-none (var x) = refl
-renamed-none (meta i) = refl
-renamed-none (constant c) = refl
+renamed-none (binary c p q) = rw (renamed-none p, renamed-none q) refl
+renamed-none (unary c p) = ap (unary c) (renamed-none p)
+renamed-none (sorted c p s) = ap (λ (q : Pattern). sorted c q s) (renamed-none p)
+renamed-none (quantified c x s p) = ap (quantified c x s) (renamed-none p)
+renamed-none p = refl
 
 pub renames-none : (p : Pattern) → Renames (by_place []) p p
 renames-none p = record {

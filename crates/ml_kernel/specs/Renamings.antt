@@ -1,26 +1,16 @@
 -- Axioms with renamed bound variables.
 use Rattle.std.specs.Prelude.{◌≡◌, ℕ, false, List, slice_index_or}
-use Rattle.ml_pat.specs.Patterns.{Pattern, bot, top, imp, not, and, or, equal, member, fun, ex, all}
-use Rattle.ml_pat.specs.Patterns.{app, at_sort, next, ev, var, meta, constant}
+use Rattle.ml_pat.specs.Patterns.{Pattern, nullary, unary, binary, sorted, quantified, var, meta}
+use Rattle.ml_pat.specs.Patterns.{constant}
 use Rattle.ml_pat.specs.Judgements.{fresh, absent}
 
 -- the pattern with each of its variables replaced by another
 abbrev pub renamed : (ℕ → ℕ) → Pattern → Pattern
-renamed f bot = bot
-renamed f top = top
-renamed f (imp p q) = imp (renamed f p) (renamed f q)
-renamed f (not p) = not (renamed f p)
-renamed f (and p q) = and (renamed f p) (renamed f q)
-renamed f (or p q) = or (renamed f p) (renamed f q)
-renamed f (equal p q) = equal (renamed f p) (renamed f q)
-renamed f (member p q) = member (renamed f p) (renamed f q)
-renamed f (fun p s) = fun (renamed f p) s
-renamed f (ex x s p) = ex (f x) s (renamed f p)
-renamed f (all x s p) = all (f x) s (renamed f p)
-renamed f (app p q) = app (renamed f p) (renamed f q)
-renamed f (at_sort p s) = at_sort (renamed f p) s
-renamed f (next p) = next (renamed f p)
-renamed f (ev p) = ev (renamed f p)
+renamed f (nullary c) = nullary c
+renamed f (binary c p q) = binary c (renamed f p) (renamed f q)
+renamed f (unary c p) = unary c (renamed f p)
+renamed f (sorted c p s) = sorted c (renamed f p) s
+renamed f (quantified c x s p) = quantified c (f x) s (renamed f p)
 renamed f (var x) = var (f x)
 renamed f (meta i) = meta i
 renamed f (constant c) = constant c

@@ -54,5 +54,4 @@ around x u first (unary c p) = one_replaced (with_parts (unary c p)) first
 around x u first (sorted c p s) = one_replaced (with_parts (sorted c p s)) first
 around x u first (quantified c y s p) =
     if x == y then Kept else under_replaced (with_parts (quantified c y s p)) (fresh y u) first
-around x u first (var y) = if x == y then New u else Kept
-around x u first p = Kept
+around x u first p = replaced x u p
