@@ -2,9 +2,10 @@
 use Rattle.std.proofs.Common.{◌≡◌, List, [], ◌∷◌, ◌++◌, refl, ap, ◌∙◌}
 use Rattle.std.specs.Prelude.{codes}
 use Rattle.mm_text.specs.Bytes.{Token}
-use Rattle.ml_pat.specs.Patterns.{Pattern, bot, top, imp, not, and, or, equal, member, fun, ex, all}
-use Rattle.ml_pat.specs.Patterns.{app, at_sort, next, ev, var, meta, constant}
+use Rattle.ml_pat.specs.Patterns.{Pattern, nullary, unary, binary, sorted, quantified, var, meta}
+use Rattle.ml_pat.specs.Patterns.{constant}
 use Rattle.mm_proof.specs.Tokens.{Naming, letters_of, bracketed, bracket, text_by}
+use Rattle.mm_proof.specs.Tokens.{unary_name, binary_name, sorted_name, quantifier_name}
 use Rattle.ml_pat.specs.Leaves.{LeafFacts, EachLeaf}
 
 -- two namings agree
@@ -18,81 +19,35 @@ agreeing n m = record {
 
 pub text-agrees : (n m : Naming) (p : Pattern) → EachLeaf (agreeing n m) p
     → text_by (letters_of n) p ≡ text_by (letters_of m) p
-text-agrees n m bot h = refl
-text-agrees n m top h = refl
-text-agrees n m (imp p q) h =
+text-agrees n m (nullary c) h = refl
+text-agrees n m (binary c p q) h =
     ap (λ (ts : List Token).
-    bracketed (codes "\\imp") (ts ++ (text_by (letters_of n) q ++ bracket)))
+    bracketed (codes "\\" ++ binary_name c) (ts ++ (text_by (letters_of n) q ++ bracket)))
     (text-agrees n m p h.0)
     ∙ ap (λ (ts : List Token).
-    bracketed (codes "\\imp") (text_by (letters_of m) p ++ (ts ++ bracket)))
+    bracketed (codes "\\" ++ binary_name c) (text_by (letters_of m) p ++ (ts ++ bracket)))
     (text-agrees n m q h.1)
-text-agrees n m (and p q) h =
-    ap (λ (ts : List Token).
-    bracketed (codes "\\and") (ts ++ (text_by (letters_of n) q ++ bracket)))
+text-agrees n m (unary c p) h =
+    ap (λ (ts : List Token). bracketed (codes "\\" ++ unary_name c) (ts ++ bracket))
+    (text-agrees n m p h)
+text-agrees n m (sorted c p s) h =
+    ap (λ (ts : List Token). bracketed (codes "\\" ++ sorted_name c) (ts ++ (n.sort s ∷ bracket)))
     (text-agrees n m p h.0)
-    ∙ ap (λ (ts : List Token).
-    bracketed (codes "\\and") (text_by (letters_of m) p ++ (ts ++ bracket)))
-    (text-agrees n m q h.1)
-text-agrees n m (or p q) h =
-    ap (λ (ts : List Token). bracketed (codes "\\or") (ts ++ (text_by (letters_of n) q ++ bracket)))
-    (text-agrees n m p h.0)
-    ∙ ap (λ (ts : List Token).
-    bracketed (codes "\\or") (text_by (letters_of m) p ++ (ts ++ bracket)))
-    (text-agrees n m q h.1)
-text-agrees n m (equal p q) h =
-    ap (λ (ts : List Token). bracketed (codes "\\eq") (ts ++ (text_by (letters_of n) q ++ bracket)))
-    (text-agrees n m p h.0)
-    ∙ ap (λ (ts : List Token).
-    bracketed (codes "\\eq") (text_by (letters_of m) p ++ (ts ++ bracket)))
-    (text-agrees n m q h.1)
-text-agrees n m (member p q) h =
-    ap (λ (ts : List Token).
-    bracketed (codes "\\mem") (ts ++ (text_by (letters_of n) q ++ bracket)))
-    (text-agrees n m p h.0)
-    ∙ ap (λ (ts : List Token).
-    bracketed (codes "\\mem") (text_by (letters_of m) p ++ (ts ++ bracket)))
-    (text-agrees n m q h.1)
-text-agrees n m (app p q) h =
-    ap (λ (ts : List Token).
-    bracketed (codes "\\app") (ts ++ (text_by (letters_of n) q ++ bracket)))
-    (text-agrees n m p h.0)
-    ∙ ap (λ (ts : List Token).
-    bracketed (codes "\\app") (text_by (letters_of m) p ++ (ts ++ bracket)))
-    (text-agrees n m q h.1)
-text-agrees n m (not p) h =
-    ap (λ (ts : List Token). bracketed (codes "\\not") (ts ++ bracket)) (text-agrees n m p h)
-text-agrees n m (next p) h =
-    ap (λ (ts : List Token). bracketed (codes "\\next") (ts ++ bracket)) (text-agrees n m p h)
-text-agrees n m (ev p) h =
-    ap (λ (ts : List Token). bracketed (codes "\\ev") (ts ++ bracket)) (text-agrees n m p h)
-text-agrees n m (at_sort p s) h =
-    ap (λ (ts : List Token). bracketed (codes "\\at") (ts ++ (n.sort s ∷ bracket)))
-    (text-agrees n m p h.0)
-    ∙ ap (λ (t : Token). bracketed (codes "\\at") (text_by (letters_of m) p ++ (t ∷ bracket)))
+    ∙ ap (λ (t : Token). bracketed (codes "\\" ++ sorted_name c)
+    (text_by (letters_of m) p ++ (t ∷ bracket)))
     h.1
-text-agrees n m (fun p s) h =
-    ap (λ (ts : List Token). bracketed (codes "\\fun") (ts ++ (n.sort s ∷ bracket)))
-    (text-agrees n m p h.0)
-    ∙ ap (λ (t : Token). bracketed (codes "\\fun") (text_by (letters_of m) p ++ (t ∷ bracket)))
-    h.1
-text-agrees n m (ex x s p) h =
-    ap (λ (ts : List Token). bracketed (codes "\\ex") (n.object x ∷ (n.sort s ∷ (ts ++ bracket))))
+text-agrees n m (quantified c x s p) h =
+    ap (λ (ts : List Token). bracketed (codes "\\" ++ quantifier_name c)
+    (n.object x ∷ (n.sort s ∷ (ts ++ bracket))))
     (text-agrees n m p h.0)
     ∙ ap (λ (t : Token).
-    bracketed (codes "\\ex") (t ∷ (n.sort s ∷ (text_by (letters_of m) p ++ bracket))))
+    bracketed (codes "\\" ++ quantifier_name c)
+    (t ∷ (n.sort s ∷ (text_by (letters_of m) p ++ bracket))))
     h.1.0
     ∙ ap (λ (t : Token).
-    bracketed (codes "\\ex") (m.object x ∷ (t ∷ (text_by (letters_of m) p ++ bracket))))
+    bracketed (codes "\\" ++ quantifier_name c)
+    (m.object x ∷ (t ∷ (text_by (letters_of m) p ++ bracket))))
     h.1.1
-text-agrees n m (all x s p) h =
-    ap (λ (ts : List Token). bracketed (codes "\\all") (n.object x ∷ (n.sort s ∷ (ts ++ bracket))))
-    (text-agrees n m p h.0)
-    ∙ ap (λ (t : Token).
-    bracketed (codes "\\all") (t ∷ (n.sort s ∷ (text_by (letters_of m) p ++ bracket))))
-    h.1.0
-    ∙ ap (λ (t : Token). bracketed (codes "\\all")
-    (m.object x ∷ (t ∷ (text_by (letters_of m) p ++ bracket)))) h.1.1
 text-agrees n m (var x) h = ap (λ (t : Token). t ∷ []) h
 text-agrees n m (meta i) h = ap (λ (t : Token). t ∷ []) h
 text-agrees n m (constant i) h = ap (λ (t : Token). t ∷ []) h

@@ -5,8 +5,8 @@ use Rattle.std.proofs.lemmas.Grind.{flat_map-append}
 use Rattle.mm_text.specs.Bytes.{Token}
 use Rattle.mm_database.specs.Proofs.{ProofTree, proof_node, ProofForest, no_proof, more_proofs}
 use Rattle.mm_database.specs.Proofs.{postorder, all_postorder}
-use Rattle.ml_pat.specs.Patterns.{Pattern, bot, top, imp, not, and, or, equal, member, fun, ex, all}
-use Rattle.ml_pat.specs.Patterns.{app, at_sort, next, ev, var, meta, constant}
+use Rattle.ml_pat.specs.Patterns.{Pattern, nullary, unary, binary, sorted, quantified, var, meta}
+use Rattle.ml_pat.specs.Patterns.{constant}
 use Rattle.ml_kernel.specs.Rules.{Instance, label}
 use Rattle.ml_kernel.specs.declared.rules.Rule.{Rule}
 use Rattle.mm_proof.specs.Tokens.{Naming, bracketed, bracket, tokens_of, name_of, object_token}
@@ -168,27 +168,12 @@ bound_part names connective x s p h =
 
 pub labels_of_text : (names : List Token) (p : Pattern)
     → labels_in (text_entries names p) ≡ tokens_of names p
-labels_of_text names bot = refl
-labels_of_text names top = refl
-labels_of_text names (imp p q) =
+labels_of_text names (nullary c) = refl
+labels_of_text names (binary c p q) =
     two_parts names _ p q (labels_of_text names p) (labels_of_text names q)
-labels_of_text names (not p) = one_part names _ p (labels_of_text names p)
-labels_of_text names (and p q) =
-    two_parts names _ p q (labels_of_text names p) (labels_of_text names q)
-labels_of_text names (or p q) =
-    two_parts names _ p q (labels_of_text names p) (labels_of_text names q)
-labels_of_text names (equal p q) =
-    two_parts names _ p q (labels_of_text names p) (labels_of_text names q)
-labels_of_text names (member p q) =
-    two_parts names _ p q (labels_of_text names p) (labels_of_text names q)
-labels_of_text names (fun p s) = sorted_part names _ p s (labels_of_text names p)
-labels_of_text names (ex x s p) = bound_part names _ x s p (labels_of_text names p)
-labels_of_text names (all x s p) = bound_part names _ x s p (labels_of_text names p)
-labels_of_text names (app p q) =
-    two_parts names _ p q (labels_of_text names p) (labels_of_text names q)
-labels_of_text names (at_sort p s) = sorted_part names _ p s (labels_of_text names p)
-labels_of_text names (next p) = one_part names _ p (labels_of_text names p)
-labels_of_text names (ev p) = one_part names _ p (labels_of_text names p)
+labels_of_text names (unary c p) = one_part names _ p (labels_of_text names p)
+labels_of_text names (sorted c p s) = sorted_part names _ p s (labels_of_text names p)
+labels_of_text names (quantified c x s p) = bound_part names _ x s p (labels_of_text names p)
 labels_of_text names (var x) = refl
 labels_of_text names (meta i) = refl
 labels_of_text names (constant c) = refl

@@ -1,14 +1,16 @@
 -- The proofs that a variable is not free in a pattern.
-use Rattle.std.proofs.Common.{◌≡◌, ℕ, Bool, true, false, [], ◌∷◌, refl, sym, subst, eqb-true}
+use Rattle.std.proofs.Common.{◌≡◌, ℕ, Bool, true, false, [], ◌∷◌, ◌++◌, refl, sym, subst}
+use Rattle.std.proofs.Common.{eqb-true}
 use Rattle.std.specs.Prelude.{◌==◌, ◌&&◌, ◌||◌, if◌then◌else◌, codes}
 use Rattle.std.proofs.lemmas.Bool.{false≢true}
 use Rattle.mm_text.specs.Bytes.{Token}
 use Rattle.mm_database.specs.Database.{Context}
 use Rattle.mm_database.specs.Proofs.{Expression, Proves, texts_apart, symbols_apart}
-use Rattle.ml_pat.specs.Patterns.{Pattern, bot, top, imp, not, and, or, equal, member, fun, ex, all}
-use Rattle.ml_pat.specs.Patterns.{app, at_sort, next, ev, var, meta, constant}
+use Rattle.ml_pat.specs.Patterns.{Pattern, nullary, unary, binary, sorted, quantified, var, meta}
+use Rattle.ml_pat.specs.Patterns.{constant}
 use Rattle.ml_pat.specs.Judgements.{absent, fresh}
-use Rattle.mm_proof.specs.Tokens.{Naming, letters_of, text_by, is_fresh, judgement_by}
+use Rattle.mm_proof.specs.Tokens.{Naming, letters_of, text_by, is_fresh, judgement_by, unary_name}
+use Rattle.mm_proof.specs.Tokens.{binary_name, sorted_name, quantifier_name}
 use Rattle.ml_pat.specs.Leaves.{LeafFacts, EachLeaf}
 use Rattle.mm_proof.specs.Serving.{Serves}
 use Rattle.mm_proof.specs.Trees.{cite, syntax_tree, absent_tree, fresh_tree, fresh_by_form}
@@ -19,8 +21,8 @@ use Rattle.mm_proof.proofs.SyntaxLaws.{object_proves, syntax_proves}
 use Rattle.ml_pat.proofs.LeafLaws.{split_true, not_true, other_leaves, EachLeaf-absent}
 use Rattle.mm_proof.proofs.ApartLaws.{text_apart, apart_text}
 use Rattle.mm_proof.proofs.Rows.{header_naming, no_pair, pair_of, IsRow, P, Q, fp, fq, fx, fy, fs}
-use Rattle.mm_proof.proofs.Rows.{fr_d, fr_imp, fr_and, fr_or, fr_eq, fr_mem, fr_app, fr_not}
-use Rattle.mm_proof.proofs.Rows.{fr_next, fr_ev, fr_at, fr_fun, fr_ex, fr_all, fr_exb, fr_allb}
+use Rattle.mm_proof.proofs.Rows.{fr_d, fr_binary, fr_unary, fr_sorted, fr_quantified}
+use Rattle.mm_proof.proofs.Rows.{fr_quantified_bound}
 
 abbrev pub fresh_text : Naming → ℕ → Pattern → Expression
 fresh_text n x p = judgement_by (letters_of n) (is_fresh x p)
@@ -239,64 +241,29 @@ whole_or_form c l n known x p w hx h below = go (absent x p) refl
 pub fresh_proves : (c : Context) (l n : Naming) (known : LeafFacts) (x : ℕ) (p : Pattern)
     → Serves c l n known → known.object x → EachLeaf known p → fresh x p ≡ true
     → Proves c (fresh_tree l x p) (fresh_text n x p)
-fresh_proves c l n known x bot w hx h f = absent_proves c l n known x bot w hx tt tt
-fresh_proves c l n known x top w hx h f = absent_proves c l n known x top w hx tt tt
-fresh_proves c l n known x (imp p q) w hx h f =
+fresh_proves c l n known x (nullary o) w hx h f = absent_proves c l n known x (nullary o) w hx tt tt
+fresh_proves c l n known x (binary o p q) w hx h f =
     let b : (fresh x p ≡ true) × (fresh x q ≡ true) = split_true (fresh x p) (fresh x q) f in
-    whole_or_form c l n known x (imp p q) w hx h (fresh_two c l n (codes "fr.imp") imp x p q
-    known w fr_imp refl hx h.0 h.1 (fresh_proves c l n known x p w hx h.0 b.0)
+    whole_or_form c l n known x (binary o p q) w hx h
+    (fresh_two c l n (codes "fr." ++ binary_name o) (binary o) x p q
+    known w (fr_binary o) refl hx h.0 h.1 (fresh_proves c l n known x p w hx h.0 b.0)
     (fresh_proves c l n known x q w hx h.1 b.1))
-fresh_proves c l n known x (and p q) w hx h f =
-    let b : (fresh x p ≡ true) × (fresh x q ≡ true) = split_true (fresh x p) (fresh x q) f in
-    whole_or_form c l n known x (and p q) w hx h (fresh_two c l n (codes "fr.and") and x p q
-    known w fr_and refl hx h.0 h.1 (fresh_proves c l n known x p w hx h.0 b.0)
-    (fresh_proves c l n known x q w hx h.1 b.1))
-fresh_proves c l n known x (or p q) w hx h f =
-    let b : (fresh x p ≡ true) × (fresh x q ≡ true) = split_true (fresh x p) (fresh x q) f in
-    whole_or_form c l n known x (or p q) w hx h (fresh_two c l n (codes "fr.or") or x p q known
-    w fr_or refl hx h.0 h.1 (fresh_proves c l n known x p w hx h.0 b.0)
-    (fresh_proves c l n known x q w hx h.1 b.1))
-fresh_proves c l n known x (equal p q) w hx h f =
-    let b : (fresh x p ≡ true) × (fresh x q ≡ true) = split_true (fresh x p) (fresh x q) f in
-    whole_or_form c l n known x (equal p q) w hx h (fresh_two c l n (codes "fr.eq") equal x p q
-    known w fr_eq refl hx h.0 h.1 (fresh_proves c l n known x p w hx h.0 b.0)
-    (fresh_proves c l n known x q w hx h.1 b.1))
-fresh_proves c l n known x (member p q) w hx h f =
-    let b : (fresh x p ≡ true) × (fresh x q ≡ true) = split_true (fresh x p) (fresh x q) f in
-    whole_or_form c l n known x (member p q) w hx h (fresh_two c l n (codes "fr.mem") member x p
-    q known w fr_mem refl hx h.0 h.1 (fresh_proves c l n known x p w hx h.0 b.0)
-    (fresh_proves c l n known x q w hx h.1 b.1))
-fresh_proves c l n known x (app p q) w hx h f =
-    let b : (fresh x p ≡ true) × (fresh x q ≡ true) = split_true (fresh x p) (fresh x q) f in
-    whole_or_form c l n known x (app p q) w hx h (fresh_two c l n (codes "fr.app") app x p q
-    known w fr_app refl hx h.0 h.1 (fresh_proves c l n known x p w hx h.0 b.0)
-    (fresh_proves c l n known x q w hx h.1 b.1))
-fresh_proves c l n known x (not p) w hx h f =
-    whole_or_form c l n known x (not p) w hx h (fresh_one c l n (codes "fr.not") not x p known w
-    fr_not refl hx h (fresh_proves c l n known x p w hx h f))
-fresh_proves c l n known x (next p) w hx h f =
-    whole_or_form c l n known x (next p) w hx h (fresh_one c l n (codes "fr.next") next x p known w
-    fr_next refl hx h (fresh_proves c l n known x p w hx h f))
-fresh_proves c l n known x (ev p) w hx h f =
-    whole_or_form c l n known x (ev p) w hx h (fresh_one c l n (codes "fr.ev") ev x p known w fr_ev
-    refl hx h (fresh_proves c l n known x p w hx h f))
-fresh_proves c l n known x (at_sort p s) w hx h f =
-    whole_or_form c l n known x (at_sort p s) w hx h (fresh_sort c l n (codes "fr.at") at_sort x p s
-    known w fr_at refl hx h.0 h.1 (fresh_proves c l n known x p w hx h.0 f))
-fresh_proves c l n known x (fun p s) w hx h f =
-    whole_or_form c l n known x (fun p s) w hx h (fresh_sort c l n (codes "fr.fun") fun x p s known
-    w fr_fun refl hx h.0 h.1 (fresh_proves c l n known x p w hx h.0 f))
-fresh_proves c l n known x (ex y s p) w hx h f =
-    whole_or_form c l n known x (ex y s p) w hx h
-    (fresh_quantified c l n (codes "fr.exb") (codes "fr.ex") ex x y s p
-    (fresh_bound c l n (codes "fr.exb") ex x s p known w fr_exb refl hx h.0 h.1.1)
-    (λ differ. fresh_under c l n (codes "fr.ex") ex x y s p known w fr_ex refl hx h.1.0 h.0 h.1.1
-    (fresh_proves c l n known x p w hx h.0 (second_holds (x == y) (fresh x p) differ f))))
-fresh_proves c l n known x (all y s p) w hx h f =
-    whole_or_form c l n known x (all y s p) w hx h
-    (fresh_quantified c l n (codes "fr.allb") (codes "fr.all") all x y s p
-    (fresh_bound c l n (codes "fr.allb") all x s p known w fr_allb refl hx h.0 h.1.1)
-    (λ differ. fresh_under c l n (codes "fr.all") all x y s p known w fr_all refl hx h.1.0 h.0 h.1.1
+fresh_proves c l n known x (unary o p) w hx h f =
+    whole_or_form c l n known x (unary o p) w hx h
+    (fresh_one c l n (codes "fr." ++ unary_name o) (unary o) x p known w
+    (fr_unary o) refl hx h (fresh_proves c l n known x p w hx h f))
+fresh_proves c l n known x (sorted o p s) w hx h f =
+    whole_or_form c l n known x (sorted o p s) w hx h
+    (fresh_sort c l n (codes "fr." ++ sorted_name o) (sorted o) x p s
+    known w (fr_sorted o) refl hx h.0 h.1 (fresh_proves c l n known x p w hx h.0 f))
+fresh_proves c l n known x (quantified o y s p) w hx h f =
+    whole_or_form c l n known x (quantified o y s p) w hx h
+    (fresh_quantified c l n (codes "fr." ++ (quantifier_name o ++ codes "b"))
+    (codes "fr." ++ quantifier_name o) (quantified o) x y s p
+    (fresh_bound c l n (codes "fr." ++ (quantifier_name o ++ codes "b")) (quantified o) x s p known
+    w (fr_quantified_bound o) refl hx h.0 h.1.1)
+    (λ differ. fresh_under c l n (codes "fr." ++ quantifier_name o) (quantified o) x y s p known w
+    (fr_quantified o) refl hx h.1.0 h.0 h.1.1
     (fresh_proves c l n known x p w hx h.0 (second_holds (x == y) (fresh x p) differ f))))
 fresh_proves c l n known x (var y) w hx h f =
     whole_or_form c l n known x (var y) w hx h

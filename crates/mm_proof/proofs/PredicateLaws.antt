@@ -1,14 +1,15 @@
 -- The proofs that a pattern is everything or nothing.
-use Rattle.std.proofs.Common.{◌≡◌, ℕ, true, [], ◌∷◌, refl}
+use Rattle.std.proofs.Common.{◌≡◌, ℕ, true, [], ◌∷◌, ◌++◌, refl}
 use Rattle.std.specs.Prelude.{codes}
 use Rattle.std.proofs.lemmas.Bool.{false≢true}
 use Rattle.mm_text.specs.Bytes.{Token}
 use Rattle.mm_database.specs.Database.{Context}
 use Rattle.mm_database.specs.Proofs.{Expression, Proves}
-use Rattle.ml_pat.specs.Patterns.{Pattern, bot, top, imp, not, and, or, equal, member, fun, ex, all}
-use Rattle.ml_pat.specs.Patterns.{app, at_sort, next, ev, var, meta, constant}
+use Rattle.ml_pat.specs.Patterns.{Pattern, nullary, quantified, imp, not, and, or, equal, member}
+use Rattle.ml_pat.specs.Patterns.{fun}
 use Rattle.ml_pat.specs.Judgements.{predicate}
-use Rattle.mm_proof.specs.Tokens.{Naming, letters_of, is_predicate, judgement_by}
+use Rattle.mm_proof.specs.Tokens.{Naming, letters_of, is_predicate, judgement_by, nullary_name}
+use Rattle.mm_proof.specs.Tokens.{quantifier_name}
 use Rattle.ml_pat.specs.Leaves.{LeafFacts, EachLeaf}
 use Rattle.mm_proof.specs.Serving.{Serves}
 use Rattle.mm_proof.specs.Trees.{cite, syntax_tree, predicate_tree}
@@ -17,9 +18,9 @@ use Rattle.mm_proof.proofs.RowProofs.{sigma_of, row_proves}
 use Rattle.mm_proof.proofs.SyntaxLaws.{pattern_text, sort_text, object_text, sort_proves}
 use Rattle.mm_proof.proofs.SyntaxLaws.{object_proves, syntax_proves}
 use Rattle.ml_pat.proofs.LeafLaws.{split_true}
-use Rattle.mm_proof.proofs.Rows.{header_naming, no_pair, IsRow, P, Q, fp, fq, fx, fs, pr_bot}
-use Rattle.mm_proof.proofs.Rows.{pr_top, pr_imp, pr_and, pr_or, pr_eq, pr_mem, pr_not, pr_fun}
-use Rattle.mm_proof.proofs.Rows.{pr_ex, pr_all}
+use Rattle.mm_proof.proofs.Rows.{header_naming, no_pair, IsRow, P, Q, fp, fq, fx, fs, pr_nullary}
+use Rattle.mm_proof.proofs.Rows.{pr_imp, pr_and, pr_or, pr_eq, pr_mem, pr_not, pr_fun}
+use Rattle.mm_proof.proofs.Rows.{pr_quantified}
 
 abbrev pub predicate_text : Naming → Pattern → Expression
 predicate_text n p = judgement_by (letters_of n) (is_predicate p)
@@ -106,11 +107,9 @@ predicate_quantified c l n name k x s p known w row same hx hp hs below =
 pub predicate_proves : (c : Context) (l n : Naming) (known : LeafFacts) (p : Pattern)
     → Serves c l n known → EachLeaf known p → predicate p ≡ true
     → Proves c (predicate_tree l p) (predicate_text n p)
-predicate_proves c l n known bot w h t =
-    row_proves c (codes "pr.bot") no_pair [] [] (is_predicate bot) [] _ [] w.header pr_bot refl refl
-    refl refl refl
-predicate_proves c l n known top w h t =
-    row_proves c (codes "pr.top") no_pair [] [] (is_predicate top) [] _ [] w.header pr_top refl refl
+predicate_proves c l n known (nullary o) w h t =
+    row_proves c (codes "pr." ++ nullary_name o) no_pair [] [] (is_predicate (nullary o)) [] _ []
+    w.header (pr_nullary o) refl refl
     refl refl refl
 predicate_proves c l n known (imp p q) w h t =
     let b : (predicate p ≡ true) × (predicate q ≡ true) =
@@ -151,16 +150,8 @@ predicate_proves c l n known (fun p s) w h t =
       syntax_proves c l n p known w h.0,
       (_, _, refl, sort_proves c l n s (w.sort s h.1), refl),
     )
-predicate_proves c l n known (ex x s p) w h t =
-    predicate_quantified c l n (codes "pr.ex") ex x s p known w pr_ex refl h.1.0 h.0 h.1.1
+predicate_proves c l n known (quantified o x s p) w h t =
+    predicate_quantified c l n (codes "pr." ++ quantifier_name o) (quantified o) x s p known w
+    (pr_quantified o) refl h.1.0 h.0 h.1.1
     (predicate_proves c l n known p w h.0 t)
-predicate_proves c l n known (all x s p) w h t =
-    predicate_quantified c l n (codes "pr.all") all x s p known w pr_all refl h.1.0 h.0 h.1.1
-    (predicate_proves c l n known p w h.0 t)
-predicate_proves c l n known (app p q) w h t = absurd (false≢true t)
-predicate_proves c l n known (at_sort p s) w h t = absurd (false≢true t)
-predicate_proves c l n known (next p) w h t = absurd (false≢true t)
-predicate_proves c l n known (ev p) w h t = absurd (false≢true t)
-predicate_proves c l n known (var x) w h t = absurd (false≢true t)
-predicate_proves c l n known (meta i) w h t = absurd (false≢true t)
-predicate_proves c l n known (constant i) w h t = absurd (false≢true t)
+predicate_proves c l n known p w h t = absurd (false≢true t)

@@ -5,10 +5,13 @@ use Rattle.mm_text.specs.Bytes.{Token}
 use Rattle.mm_database.specs.Frames.{Hypothesis, floating, essential, Frame}
 use Rattle.mm_header.specs.Header.{header_rows, rule_apart}
 use Rattle.mm_header.specs.HeaderContext.{header_context, header_labels, frame_of_row}
-use Rattle.ml_pat.specs.Patterns.{Pattern, bot, top, imp, not, and, or, equal, member, fun, ex, all}
-use Rattle.ml_pat.specs.Patterns.{app, at_sort, next, ev, var, meta}
+use Rattle.ml_pat.specs.Patterns.{Nullary, Bot, Top, Unary, Not, Binary, Imp, Sorted, Fun, AtSort}
+use Rattle.ml_pat.specs.Patterns.{Quantifier, Ex, All, Pattern, nullary, unary, binary, sorted}
+use Rattle.ml_pat.specs.Patterns.{quantified, imp, not, and, or, equal, member, fun, var, meta}
+use Rattle.ml_pat.specs.Patterns.{constant}
 use Rattle.mm_proof.specs.Tokens.{Naming, letters_of, Judgement, is_pattern, is_fresh}
-use Rattle.mm_proof.specs.Tokens.{is_substituted, is_predicate, judgement_by}
+use Rattle.mm_proof.specs.Tokens.{is_substituted, is_predicate, judgement_by, nullary_name}
+use Rattle.mm_proof.specs.Tokens.{unary_name, binary_name, sorted_name, quantifier_name}
 
 -- the variables of the header: `p q r t u` are pattern variables, `x y` object variables and `s v`
 -- sorts
@@ -102,65 +105,36 @@ pub w_var : IsRow (codes "w.var") no_pair (fx ∷ []) ([]) (is_pattern (var 0))
 unfolding header_context header_rows header_labels
 w_var = refl
 
-pub w_bot : IsRow (codes "w.bot") no_pair ([]) ([]) (is_pattern bot)
+pub w_nullary : (o : Nullary) → IsRow (codes "w." ++ nullary_name o) no_pair [] []
+    (is_pattern (nullary o))
 unfolding header_context header_rows header_labels
-w_bot = refl
+w_nullary Bot = refl
+w_nullary Top = refl
 
-pub w_top : IsRow (codes "w.top") no_pair ([]) ([]) (is_pattern top)
+pub w_binary : (o : Binary) → IsRow (codes "w." ++ binary_name o) no_pair (fp ∷ fq ∷ []) []
+    (is_pattern (binary o P Q))
 unfolding header_context header_rows header_labels
-w_top = refl
+w_binary Imp = refl
+w_binary o = refl
 
-pub w_imp : IsRow (codes "w.imp") no_pair (fp ∷ fq ∷ []) ([]) (is_pattern (imp P Q))
+pub w_unary : (o : Unary) → IsRow (codes "w." ++ unary_name o) no_pair (fp ∷ []) []
+    (is_pattern (unary o P))
 unfolding header_context header_rows header_labels
-w_imp = refl
+w_unary Not = refl
+w_unary o = refl
 
-pub w_and : IsRow (codes "w.and") no_pair (fp ∷ fq ∷ []) ([]) (is_pattern (and P Q))
+pub w_sorted : (o : Sorted) → IsRow (codes "w." ++ sorted_name o) no_pair (fp ∷ fs ∷ []) []
+    (is_pattern (sorted o P 0))
 unfolding header_context header_rows header_labels
-w_and = refl
+w_sorted Fun = refl
+w_sorted AtSort = refl
 
-pub w_or : IsRow (codes "w.or") no_pair (fp ∷ fq ∷ []) ([]) (is_pattern (or P Q))
+pub w_quantified : (o : Quantifier) → IsRow (codes "w." ++ quantifier_name o) no_pair
+    (fp ∷ fx ∷ fs ∷ []) []
+    (is_pattern (quantified o 0 0 P))
 unfolding header_context header_rows header_labels
-w_or = refl
-
-pub w_eq : IsRow (codes "w.eq") no_pair (fp ∷ fq ∷ []) ([]) (is_pattern (equal P Q))
-unfolding header_context header_rows header_labels
-w_eq = refl
-
-pub w_mem : IsRow (codes "w.mem") no_pair (fp ∷ fq ∷ []) ([]) (is_pattern (member P Q))
-unfolding header_context header_rows header_labels
-w_mem = refl
-
-pub w_app : IsRow (codes "w.app") no_pair (fp ∷ fq ∷ []) ([]) (is_pattern (app P Q))
-unfolding header_context header_rows header_labels
-w_app = refl
-
-pub w_not : IsRow (codes "w.not") no_pair (fp ∷ []) ([]) (is_pattern (not P))
-unfolding header_context header_rows header_labels
-w_not = refl
-
-pub w_next : IsRow (codes "w.next") no_pair (fp ∷ []) ([]) (is_pattern (next P))
-unfolding header_context header_rows header_labels
-w_next = refl
-
-pub w_ev : IsRow (codes "w.ev") no_pair (fp ∷ []) ([]) (is_pattern (ev P))
-unfolding header_context header_rows header_labels
-w_ev = refl
-
-pub w_at : IsRow (codes "w.at") no_pair (fp ∷ fs ∷ []) ([]) (is_pattern (at_sort P 0))
-unfolding header_context header_rows header_labels
-w_at = refl
-
-pub w_fun : IsRow (codes "w.fun") no_pair (fp ∷ fs ∷ []) ([]) (is_pattern (fun P 0))
-unfolding header_context header_rows header_labels
-w_fun = refl
-
-pub w_ex : IsRow (codes "w.ex") no_pair (fp ∷ fx ∷ fs ∷ []) ([]) (is_pattern (ex 0 0 P))
-unfolding header_context header_rows header_labels
-w_ex = refl
-
-pub w_all : IsRow (codes "w.all") no_pair (fp ∷ fx ∷ fs ∷ []) ([]) (is_pattern (all 0 0 P))
-unfolding header_context header_rows header_labels
-w_all = refl
+w_quantified Ex = refl
+w_quantified All = refl
 
 -- freshness
 
@@ -170,76 +144,37 @@ pub fr_d : IsRow (codes "fr.d")
 unfolding header_context header_rows header_labels
 fr_d = refl
 
-pub fr_imp : IsRow (codes "fr.imp") no_pair (fp ∷ fq ∷ fx ∷ []) (is_fresh 0 P ∷ is_fresh 0 Q ∷ [])
-    (is_fresh 0 (imp P Q))
+pub fr_binary : (o : Binary) → IsRow (codes "fr." ++ binary_name o) no_pair (fp ∷ fq ∷ fx ∷ [])
+    (is_fresh 0 P ∷ is_fresh 0 Q ∷ []) (is_fresh 0 (binary o P Q))
 unfolding header_context header_rows header_labels
-fr_imp = refl
+fr_binary Imp = refl
+fr_binary o = refl
 
-pub fr_and : IsRow (codes "fr.and") no_pair (fp ∷ fq ∷ fx ∷ []) (is_fresh 0 P ∷ is_fresh 0 Q ∷ [])
-    (is_fresh 0 (and P Q))
+pub fr_unary : (o : Unary) → IsRow (codes "fr." ++ unary_name o) no_pair (fp ∷ fx ∷ [])
+    (is_fresh 0 P ∷ [])
+    (is_fresh 0 (unary o P))
 unfolding header_context header_rows header_labels
-fr_and = refl
+fr_unary Not = refl
+fr_unary o = refl
 
-pub fr_or : IsRow (codes "fr.or") no_pair (fp ∷ fq ∷ fx ∷ []) (is_fresh 0 P ∷ is_fresh 0 Q ∷ [])
-    (is_fresh 0 (or P Q))
+pub fr_sorted : (o : Sorted) → IsRow (codes "fr." ++ sorted_name o) no_pair (fp ∷ fx ∷ fs ∷ [])
+    (is_fresh 0 P ∷ []) (is_fresh 0 (sorted o P 0))
 unfolding header_context header_rows header_labels
-fr_or = refl
+fr_sorted Fun = refl
+fr_sorted AtSort = refl
 
-pub fr_eq : IsRow (codes "fr.eq") no_pair (fp ∷ fq ∷ fx ∷ []) (is_fresh 0 P ∷ is_fresh 0 Q ∷ [])
-    (is_fresh 0 (equal P Q))
+pub fr_quantified : (o : Quantifier) → IsRow (codes "fr." ++ quantifier_name o) no_pair
+    (fp ∷ fx ∷ fy ∷ fs ∷ []) (is_fresh 0 P ∷ []) (is_fresh 0 (quantified o 1 0 P))
 unfolding header_context header_rows header_labels
-fr_eq = refl
+fr_quantified Ex = refl
+fr_quantified All = refl
 
-pub fr_mem : IsRow (codes "fr.mem") no_pair (fp ∷ fq ∷ fx ∷ []) (is_fresh 0 P ∷ is_fresh 0 Q ∷ [])
-    (is_fresh 0 (member P Q))
+pub fr_quantified_bound : (o : Quantifier)
+    → IsRow (codes "fr." ++ (quantifier_name o ++ codes "b")) no_pair
+    (fp ∷ fx ∷ fs ∷ []) [] (is_fresh 0 (quantified o 0 0 P))
 unfolding header_context header_rows header_labels
-fr_mem = refl
-
-pub fr_app : IsRow (codes "fr.app") no_pair (fp ∷ fq ∷ fx ∷ []) (is_fresh 0 P ∷ is_fresh 0 Q ∷ [])
-    (is_fresh 0 (app P Q))
-unfolding header_context header_rows header_labels
-fr_app = refl
-
-pub fr_not : IsRow (codes "fr.not") no_pair (fp ∷ fx ∷ []) (is_fresh 0 P ∷ []) (is_fresh 0 (not P))
-unfolding header_context header_rows header_labels
-fr_not = refl
-
-pub fr_next : IsRow (codes "fr.next") no_pair (fp ∷ fx ∷ []) (is_fresh 0 P ∷ [])
-    (is_fresh 0 (next P))
-unfolding header_context header_rows header_labels
-fr_next = refl
-
-pub fr_ev : IsRow (codes "fr.ev") no_pair (fp ∷ fx ∷ []) (is_fresh 0 P ∷ []) (is_fresh 0 (ev P))
-unfolding header_context header_rows header_labels
-fr_ev = refl
-
-pub fr_at : IsRow (codes "fr.at") no_pair (fp ∷ fx ∷ fs ∷ []) (is_fresh 0 P ∷ [])
-    (is_fresh 0 (at_sort P 0))
-unfolding header_context header_rows header_labels
-fr_at = refl
-
-pub fr_fun : IsRow (codes "fr.fun") no_pair (fp ∷ fx ∷ fs ∷ []) (is_fresh 0 P ∷ [])
-    (is_fresh 0 (fun P 0))
-unfolding header_context header_rows header_labels
-fr_fun = refl
-
-pub fr_ex : IsRow (codes "fr.ex") no_pair (fp ∷ fx ∷ fy ∷ fs ∷ []) (is_fresh 0 P ∷ [])
-    (is_fresh 0 (ex 1 0 P))
-unfolding header_context header_rows header_labels
-fr_ex = refl
-
-pub fr_all : IsRow (codes "fr.all") no_pair (fp ∷ fx ∷ fy ∷ fs ∷ []) (is_fresh 0 P ∷ [])
-    (is_fresh 0 (all 1 0 P))
-unfolding header_context header_rows header_labels
-fr_all = refl
-
-pub fr_exb : IsRow (codes "fr.exb") no_pair (fp ∷ fx ∷ fs ∷ []) ([]) (is_fresh 0 (ex 0 0 P))
-unfolding header_context header_rows header_labels
-fr_exb = refl
-
-pub fr_allb : IsRow (codes "fr.allb") no_pair (fp ∷ fx ∷ fs ∷ []) ([]) (is_fresh 0 (all 0 0 P))
-unfolding header_context header_rows header_labels
-fr_allb = refl
+fr_quantified_bound Ex = refl
+fr_quantified_bound All = refl
 
 -- substitution
 
@@ -252,86 +187,48 @@ pub su_f : IsRow (codes "su.f") no_pair (fp ∷ fu ∷ fx ∷ []) (is_fresh 0 P 
 unfolding header_context header_rows header_labels
 su_f = refl
 
-pub su_imp : IsRow (codes "su.imp") no_pair (fp ∷ fq ∷ fr ∷ ft ∷ fu ∷ fx ∷ [])
-    (is_substituted T P U 0 ∷ is_substituted R Q U 0 ∷ []) (is_substituted (imp T R) (imp P Q) U 0)
+pub su_binary : (o : Binary) → IsRow (codes "su." ++ binary_name o) no_pair
+    (fp ∷ fq ∷ fr ∷ ft ∷ fu ∷ fx ∷ []) (is_substituted T P U 0 ∷ is_substituted R Q U 0 ∷ [])
+    (is_substituted (binary o T R) (binary o P Q) U 0)
 unfolding header_context header_rows header_labels
-su_imp = refl
+su_binary Imp = refl
+su_binary o = refl
 
-pub su_and : IsRow (codes "su.and") no_pair (fp ∷ fq ∷ fr ∷ ft ∷ fu ∷ fx ∷ [])
-    (is_substituted T P U 0 ∷ is_substituted R Q U 0 ∷ []) (is_substituted (and T R) (and P Q) U 0)
+pub su_unary : (o : Unary) → IsRow (codes "su." ++ unary_name o) no_pair (fp ∷ ft ∷ fu ∷ fx ∷ [])
+    (is_substituted T P U 0 ∷ []) (is_substituted (unary o T) (unary o P) U 0)
 unfolding header_context header_rows header_labels
-su_and = refl
+su_unary Not = refl
+su_unary o = refl
 
-pub su_or : IsRow (codes "su.or") no_pair (fp ∷ fq ∷ fr ∷ ft ∷ fu ∷ fx ∷ [])
-    (is_substituted T P U 0 ∷ is_substituted R Q U 0 ∷ []) (is_substituted (or T R) (or P Q) U 0)
+pub su_sorted : (o : Sorted) → IsRow (codes "su." ++ sorted_name o) no_pair
+    (fp ∷ ft ∷ fu ∷ fx ∷ fs ∷ []) (is_substituted T P U 0 ∷ [])
+    (is_substituted (sorted o T 0) (sorted o P 0) U 0)
 unfolding header_context header_rows header_labels
-su_or = refl
+su_sorted Fun = refl
+su_sorted AtSort = refl
 
-pub su_eq : IsRow (codes "su.eq") no_pair (fp ∷ fq ∷ fr ∷ ft ∷ fu ∷ fx ∷ [])
-    (is_substituted T P U 0 ∷ is_substituted R Q U 0 ∷ [])
-    (is_substituted (equal T R) (equal P Q) U 0)
-unfolding header_context header_rows header_labels
-su_eq = refl
-
-pub su_mem : IsRow (codes "su.mem") no_pair (fp ∷ fq ∷ fr ∷ ft ∷ fu ∷ fx ∷ [])
-    (is_substituted T P U 0 ∷ is_substituted R Q U 0 ∷ [])
-    (is_substituted (member T R) (member P Q) U 0)
-unfolding header_context header_rows header_labels
-su_mem = refl
-
-pub su_app : IsRow (codes "su.app") no_pair (fp ∷ fq ∷ fr ∷ ft ∷ fu ∷ fx ∷ [])
-    (is_substituted T P U 0 ∷ is_substituted R Q U 0 ∷ []) (is_substituted (app T R) (app P Q) U 0)
-unfolding header_context header_rows header_labels
-su_app = refl
-
-pub su_not : IsRow (codes "su.not") no_pair (fp ∷ ft ∷ fu ∷ fx ∷ []) (is_substituted T P U 0 ∷ [])
-    (is_substituted (not T) (not P) U 0)
-unfolding header_context header_rows header_labels
-su_not = refl
-
-pub su_next : IsRow (codes "su.next") no_pair (fp ∷ ft ∷ fu ∷ fx ∷ []) (is_substituted T P U 0 ∷ [])
-    (is_substituted (next T) (next P) U 0)
-unfolding header_context header_rows header_labels
-su_next = refl
-
-pub su_ev : IsRow (codes "su.ev") no_pair (fp ∷ ft ∷ fu ∷ fx ∷ []) (is_substituted T P U 0 ∷ [])
-    (is_substituted (ev T) (ev P) U 0)
-unfolding header_context header_rows header_labels
-su_ev = refl
-
-pub su_at : IsRow (codes "su.at") no_pair (fp ∷ ft ∷ fu ∷ fx ∷ fs ∷ [])
-    (is_substituted T P U 0 ∷ []) (is_substituted (at_sort T 0) (at_sort P 0) U 0)
-unfolding header_context header_rows header_labels
-su_at = refl
-
-pub su_fun : IsRow (codes "su.fun") no_pair (fp ∷ ft ∷ fu ∷ fx ∷ fs ∷ [])
-    (is_substituted T P U 0 ∷ []) (is_substituted (fun T 0) (fun P 0) U 0)
-unfolding header_context header_rows header_labels
-su_fun = refl
-
-pub su_ex : IsRow (codes "su.ex") (pair_of (codes "x") (codes "y") (codes "su.ex")
+-- under a quantifier: its variable and the variable that is replaced have to stay apart
+abbrev pub su_pair : Quantifier → Token → Token → Bool
+su_pair o =
+    pair_of (codes "x") (codes "y") (codes "su." ++ quantifier_name o)
     (codes "#Fresh y u" ∷ codes "#Sub t p u x" ∷ [])
-    (codes "#Sub ( \\ex y s t ) ( \\ex y s p ) u x")) (fp ∷ ft ∷ fu ∷ fx ∷ fy ∷ fs ∷ [])
-    (is_fresh 1 U ∷ is_substituted T P U 0 ∷ []) (is_substituted (ex 1 0 T) (ex 1 0 P) U 0)
-unfolding header_context header_rows header_labels
-su_ex = refl
+    (codes "#Sub ( \\" ++ (quantifier_name o ++ (codes " y s t ) ( \\" ++ (quantifier_name o
+    ++ codes " y s p ) u x"))))
 
-pub su_all : IsRow (codes "su.all") (pair_of (codes "x") (codes "y") (codes "su.all")
-    (codes "#Fresh y u" ∷ codes "#Sub t p u x" ∷ [])
-    (codes "#Sub ( \\all y s t ) ( \\all y s p ) u x")) (fp ∷ ft ∷ fu ∷ fx ∷ fy ∷ fs ∷ [])
-    (is_fresh 1 U ∷ is_substituted T P U 0 ∷ []) (is_substituted (all 1 0 T) (all 1 0 P) U 0)
+pub su_quantified : (o : Quantifier) → IsRow (codes "su." ++ quantifier_name o) (su_pair o)
+    (fp ∷ ft ∷ fu ∷ fx ∷ fy ∷ fs ∷ []) (is_fresh 1 U ∷ is_substituted T P U 0 ∷ [])
+    (is_substituted (quantified o 1 0 T) (quantified o 1 0 P) U 0)
 unfolding header_context header_rows header_labels
-su_all = refl
+su_quantified Ex = refl
+su_quantified All = refl
 
 -- predicates
 
-pub pr_bot : IsRow (codes "pr.bot") no_pair ([]) ([]) (is_predicate bot)
+pub pr_nullary : (o : Nullary) → IsRow (codes "pr." ++ nullary_name o) no_pair [] []
+    (is_predicate (nullary o))
 unfolding header_context header_rows header_labels
-pr_bot = refl
-
-pub pr_top : IsRow (codes "pr.top") no_pair ([]) ([]) (is_predicate top)
-unfolding header_context header_rows header_labels
-pr_top = refl
+pr_nullary Bot = refl
+pr_nullary Top = refl
 
 pub pr_imp : IsRow (codes "pr.imp") no_pair (fp ∷ fq ∷ []) (is_predicate P ∷ is_predicate Q ∷ [])
     (is_predicate (imp P Q))
@@ -364,12 +261,9 @@ pub pr_fun : IsRow (codes "pr.fun") no_pair (fp ∷ fs ∷ []) ([]) (is_predicat
 unfolding header_context header_rows header_labels
 pr_fun = refl
 
-pub pr_ex : IsRow (codes "pr.ex") no_pair (fp ∷ fx ∷ fs ∷ []) (is_predicate P ∷ [])
-    (is_predicate (ex 0 0 P))
+pub pr_quantified : (o : Quantifier) → IsRow (codes "pr." ++ quantifier_name o) no_pair
+    (fp ∷ fx ∷ fs ∷ [])
+    (is_predicate P ∷ []) (is_predicate (quantified o 0 0 P))
 unfolding header_context header_rows header_labels
-pr_ex = refl
-
-pub pr_all : IsRow (codes "pr.all") no_pair (fp ∷ fx ∷ fs ∷ []) (is_predicate P ∷ [])
-    (is_predicate (all 0 0 P))
-unfolding header_context header_rows header_labels
-pr_all = refl
+pr_quantified Ex = refl
+pr_quantified All = refl

@@ -9,12 +9,15 @@ use Rattle.mm_database.specs.Database.{Context}
 use Rattle.mm_database.specs.Proofs.{Expression, substituted, instance_of, keeps_apart, Leads}
 use Rattle.mm_database.specs.Proofs.{by_assertion, symbols_apart}
 use Rattle.mm_database.specs.Stack.{behind_first, bindings_of, text_of}
-use Rattle.ml_pat.specs.Patterns.{Pattern, bot, top, imp, not, and, or, equal, member, fun, ex, all}
-use Rattle.ml_pat.specs.Patterns.{app, at_sort, next, ev, var, meta, constant}
+use Rattle.ml_pat.specs.Patterns.{Pattern, nullary, unary, binary, sorted, quantified, var, meta}
+use Rattle.ml_pat.specs.Patterns.{constant}
 use Rattle.mm_proof.specs.Tokens.{Naming, Letters, letters_of, bracket, text_by, Judgement}
 use Rattle.mm_proof.specs.Tokens.{is_pattern, holds, is_fresh, is_substituted, is_predicate}
-use Rattle.mm_proof.specs.Tokens.{judgement_by}
+use Rattle.mm_proof.specs.Tokens.{judgement_by, unary_name, binary_name, sorted_name}
+use Rattle.mm_proof.specs.Tokens.{quantifier_name}
 use Rattle.mm_proof.specs.Serving.{IsAssertion, punctuation}
+use Rattle.mm_proof.proofs.LeafLaws.{agree_at, agree_nullary, agree_unary, agree_binary}
+use Rattle.mm_proof.proofs.LeafLaws.{agree_sorted, agree_quantifier}
 
 -- a substitution does not change the constants of the header
 abbrev pub Leaves : (Token → Expression) → Type 0
@@ -33,7 +36,7 @@ under sigma n = record {
 left : (sigma : Token → Expression) → Leaves sigma → (i : ℕ)
     → slice_index_or (map sigma punctuation) i []
     ≡ slice_index_or (map (λ t. t ∷ []) punctuation) i []
-left sigma h i = ap (λ (es : List Expression). slice_index_or es i []) h
+left sigma h i = agree_at sigma (λ t. t ∷ []) [] h i
 
 substituted-append : (sigma : Token → Expression) (xs ys : Expression)
     → substituted sigma (xs ++ ys) ≡ substituted sigma xs ++ substituted sigma ys
@@ -75,67 +78,29 @@ single sigma t = append-nil-of (sigma t)
 -- substitution gives them
 pub text-under : (sigma : Token → Expression) (n : Naming) → Leaves sigma → (p : Pattern)
     → substituted sigma (text_by (letters_of n) p) ≡ text_by (under sigma n) p
-text-under sigma n h bot = ap (λ e. e ++ []) (left sigma h 2)
-text-under sigma n h top = ap (λ e. e ++ []) (left sigma h 3)
-text-under sigma n h (imp p q) =
-    bracket_law sigma (codes "\\imp") _ _ h (left sigma h 4) (behind sigma
-    (text_by (letters_of n) p) (text_by (letters_of n) q ++ bracket) _ _
-    (text-under sigma n h p) (behind sigma (text_by (letters_of n) q) bracket _ _
-    (text-under sigma n h q) (closing sigma h)))
-text-under sigma n h (not p) =
-    bracket_law sigma (codes "\\not") _ _ h (left sigma h 5) (behind sigma
-    (text_by (letters_of n) p) bracket _ _ (text-under sigma n h p) (closing sigma h))
-text-under sigma n h (and p q) =
-    bracket_law sigma (codes "\\and") _ _ h (left sigma h 6) (behind sigma
-    (text_by (letters_of n) p) (text_by (letters_of n) q ++ bracket) _ _
-    (text-under sigma n h p) (behind sigma (text_by (letters_of n) q) bracket _ _
-    (text-under sigma n h q) (closing sigma h)))
-text-under sigma n h (or p q) =
-    bracket_law sigma (codes "\\or") _ _ h (left sigma h 7) (behind sigma (text_by (letters_of n) p)
+text-under sigma n h (nullary c) =
+    ap (λ e. e ++ []) (agree_nullary sigma (λ t. t ∷ []) [] h c)
+text-under sigma n h (binary c p q) =
+    bracket_law sigma (codes "\\" ++ binary_name c) _ _ h
+    (agree_binary sigma (λ t. t ∷ []) [] h c) (behind sigma (text_by (letters_of n) p)
     (text_by (letters_of n) q ++ bracket) _ _ (text-under sigma n h p) (behind sigma
     (text_by (letters_of n) q) bracket _ _ (text-under sigma n h q) (closing sigma h)))
-text-under sigma n h (equal p q) =
-    bracket_law sigma (codes "\\eq") _ _ h (left sigma h 8) (behind sigma (text_by (letters_of n) p)
-    (text_by (letters_of n) q ++ bracket) _ _ (text-under sigma n h p) (behind sigma
-    (text_by (letters_of n) q) bracket _ _ (text-under sigma n h q) (closing sigma h)))
-text-under sigma n h (member p q) =
-    bracket_law sigma (codes "\\mem") _ _ h (left sigma h 9) (behind sigma
-    (text_by (letters_of n) p) (text_by (letters_of n) q ++ bracket) _ _
-    (text-under sigma n h p) (behind sigma (text_by (letters_of n) q) bracket _ _
-    (text-under sigma n h q) (closing sigma h)))
-text-under sigma n h (fun p s) =
-    bracket_law sigma (codes "\\fun") _ _ h (left sigma h 10) (behind sigma
-    (text_by (letters_of n) p) ((n.sort s ∷ []) ++ bracket) _ _ (text-under sigma n h p)
+text-under sigma n h (unary c p) =
+    bracket_law sigma (codes "\\" ++ unary_name c) _ _ h (agree_unary sigma (λ t. t ∷ []) [] h c)
+    (behind sigma (text_by (letters_of n) p) bracket _ _ (text-under sigma n h p)
+    (closing sigma h))
+text-under sigma n h (sorted c p s) =
+    bracket_law sigma (codes "\\" ++ sorted_name c) _ _ h
+    (agree_sorted sigma (λ t. t ∷ []) [] h c) (behind sigma (text_by (letters_of n) p)
+    ((n.sort s ∷ []) ++ bracket) _ _ (text-under sigma n h p)
     (leaf sigma (n.sort s) bracket _ (closing sigma h)))
-text-under sigma n h (ex x s p) =
-    bracket_law sigma (codes "\\ex")
+text-under sigma n h (quantified c x s p) =
+    bracket_law sigma (codes "\\" ++ quantifier_name c)
     ((n.object x ∷ []) ++ ((n.sort s ∷ []) ++ (text_by (letters_of n) p ++ bracket))) _ h
-    (left sigma h 11) (leaf sigma (n.object x)
+    (agree_quantifier sigma (λ t. t ∷ []) [] h c) (leaf sigma (n.object x)
     ((n.sort s ∷ []) ++ (text_by (letters_of n) p ++ bracket)) _ (leaf sigma (n.sort s)
     (text_by (letters_of n) p ++ bracket) _ (behind sigma (text_by (letters_of n) p) bracket _ _
     (text-under sigma n h p) (closing sigma h))))
-text-under sigma n h (all x s p) =
-    bracket_law sigma (codes "\\all")
-    ((n.object x ∷ []) ++ ((n.sort s ∷ []) ++ (text_by (letters_of n) p ++ bracket))) _ h
-    (left sigma h 12) (leaf sigma (n.object x)
-    ((n.sort s ∷ []) ++ (text_by (letters_of n) p ++ bracket)) _ (leaf sigma (n.sort s)
-    (text_by (letters_of n) p ++ bracket) _ (behind sigma (text_by (letters_of n) p) bracket _ _
-    (text-under sigma n h p) (closing sigma h))))
-text-under sigma n h (app p q) =
-    bracket_law sigma (codes "\\app") _ _ h (left sigma h 13) (behind sigma
-    (text_by (letters_of n) p) (text_by (letters_of n) q ++ bracket) _ _
-    (text-under sigma n h p) (behind sigma (text_by (letters_of n) q) bracket _ _
-    (text-under sigma n h q) (closing sigma h)))
-text-under sigma n h (at_sort p s) =
-    bracket_law sigma (codes "\\at") _ _ h (left sigma h 14) (behind sigma
-    (text_by (letters_of n) p) ((n.sort s ∷ []) ++ bracket) _ _ (text-under sigma n h p)
-    (leaf sigma (n.sort s) bracket _ (closing sigma h)))
-text-under sigma n h (next p) =
-    bracket_law sigma (codes "\\next") _ _ h (left sigma h 15) (behind sigma
-    (text_by (letters_of n) p) bracket _ _ (text-under sigma n h p) (closing sigma h))
-text-under sigma n h (ev p) =
-    bracket_law sigma (codes "\\ev") _ _ h (left sigma h 16) (behind sigma
-    (text_by (letters_of n) p) bracket _ _ (text-under sigma n h p) (closing sigma h))
 text-under sigma n h (var x) = single sigma (n.object x)
 text-under sigma n h (meta i) = single sigma (n.meta i)
 text-under sigma n h (constant c) = single sigma (n.constant c)

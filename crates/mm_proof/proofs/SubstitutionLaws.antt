@@ -2,15 +2,18 @@
 use Rattle.std.proofs.Common.{◌≡◌, ℕ, Bool, true, false, List, [], ◌∷◌, ◌++◌, refl, ap, ◌∙◌, sym}
 use Rattle.std.proofs.Common.{Option, Some, None, subst, eqb-true}
 use Rattle.std.proofs.Common as std
-use Rattle.std.specs.Prelude.{◌==◌, ◌||◌, if◌then◌else◌, codes, option_map}
+use Rattle.std.specs.Prelude.{◌==◌, ◌||◌, ◌&&◌, if◌then◌else◌, codes, option_map}
 use Rattle.std.proofs.lemmas.Bool.{false≢true}
 use Rattle.mm_text.specs.Bytes.{Token}
 use Rattle.mm_database.specs.Database.{Context}
-use Rattle.mm_database.specs.Proofs.{Expression, Proves, symbols_apart, texts_apart}
-use Rattle.ml_pat.specs.Patterns.{Pattern, bot, top, imp, not, and, or, equal, member, fun, ex, all}
-use Rattle.ml_pat.specs.Patterns.{app, at_sort, next, ev, var, meta, constant}
+use Rattle.mm_database.specs.Proofs.{Expression, Proves, symbols_apart, texts_apart, keeps_apart}
+use Rattle.mm_database.specs.Frames.{Hypothesis}
+use Rattle.ml_pat.specs.Patterns.{Quantifier, Ex, All, Pattern, nullary, unary, binary, sorted}
+use Rattle.ml_pat.specs.Patterns.{quantified, var, meta, constant}
 use Rattle.ml_pat.specs.Judgements.{fresh, substituted, both_parts}
-use Rattle.mm_proof.specs.Tokens.{Naming, letters_of, is_fresh, is_substituted, judgement_by}
+use Rattle.mm_proof.specs.Tokens.{Naming, letters_of, Judgement, is_fresh, is_substituted}
+use Rattle.mm_proof.specs.Tokens.{judgement_by, unary_name, binary_name, sorted_name}
+use Rattle.mm_proof.specs.Tokens.{quantifier_name}
 use Rattle.ml_pat.specs.Leaves.{LeafFacts, EachLeaf}
 use Rattle.mm_proof.specs.Serving.{Serves}
 use Rattle.mm_proof.specs.Trees.{cite, syntax_tree, fresh_tree, unchanged_tree, substitution_tree}
@@ -19,13 +22,12 @@ use Rattle.mm_proof.proofs.Schemes.{under}
 use Rattle.mm_proof.proofs.RowProofs.{sigma_of, row_proves}
 use Rattle.mm_proof.proofs.SyntaxLaws.{pattern_text, sort_text, object_text, sort_proves}
 use Rattle.mm_proof.proofs.SyntaxLaws.{object_proves, syntax_proves}
-use Rattle.ml_pat.proofs.LeafLaws.{split_true, not_true}
+use Rattle.ml_pat.proofs.ReplacingLaws.{substituted-fresh}
 use Rattle.mm_proof.proofs.ApartLaws.{turned}
 use Rattle.mm_proof.proofs.FreshLaws.{fresh_text, fresh_proves, two_apart}
-use Rattle.mm_proof.proofs.Rows.{header_naming, no_pair, pair_of, IsRow, P, Q, R, T, U, fp, fq, fr}
-use Rattle.mm_proof.proofs.Rows.{ft, fu, fx, fy, fs, su_v, su_f, su_imp, su_and, su_or, su_eq}
-use Rattle.mm_proof.proofs.Rows.{su_mem, su_app, su_not, su_next, su_ev, su_at, su_fun, su_ex}
-use Rattle.mm_proof.proofs.Rows.{su_all}
+use Rattle.mm_proof.proofs.Rows.{header_naming, no_pair, frame, IsRow, P, Q, R, T, U, fp, fq, fr}
+use Rattle.mm_proof.proofs.Rows.{ft, fu, fx, fy, fs, su_v, su_f, su_binary, su_unary, su_sorted}
+use Rattle.mm_proof.proofs.Rows.{su_pair, su_quantified}
 
 -- t is p with u substituted for x
 abbrev pub substitution_text : Naming → Pattern → Pattern → Pattern → ℕ → Expression
@@ -225,87 +227,35 @@ parted_texts : (c : Context) (a b : Token) → symbols_apart c a b ≡ true
     → texts_apart (symbols_apart c) (a ∷ []) (b ∷ []) ≡ true
 parted_texts c a b h = rw h refl
 
-substituted_ex : (c : Context) (l n : Naming) (known : LeafFacts) (x y s : ℕ) (u p t : Pattern)
+substituted_under : (c : Context) (l n : Naming) (o : Quantifier) (known : LeafFacts) (x y s : ℕ)
+    (u p t : Pattern)
     → Serves c l n known → known.object x → known.object y → known.sort s → EachLeaf known u
     → EachLeaf known p → EachLeaf known t → (x == y) ≡ false → fresh y u ≡ true
     → Proves c (substitution_tree l x u p t) (substitution_text n t p u x)
-    → Proves c (cite (codes "su.ex") (syntax_tree l p ∷ syntax_tree l t ∷ syntax_tree l u
+    → Proves c (cite (codes "su." ++ quantifier_name o)
+    (syntax_tree l p ∷ syntax_tree l t ∷ syntax_tree l u
     ∷ cite (l.object x) [] ∷ cite (l.object y) [] ∷ cite (l.sort s) [] ∷ fresh_tree l y u
-    ∷ substitution_tree l x u p t ∷ [])) (substitution_text n (ex y s t) (ex y s p) u x)
-substituted_ex c l n known x y s u p t w hx hy hs hu hp ht differ f below =
-    row_proves c (codes "su.ex") (pair_of (codes "x") (codes "y") (codes "su.ex")
-    (codes "#Fresh y u" ∷ codes "#Sub t p u x" ∷ [])
-    (codes "#Sub ( \\ex y s t ) ( \\ex y s p ) u x")) (fp ∷ ft ∷ fu ∷ fx ∷ fy ∷ fs ∷ [])
-    (is_fresh 1 U ∷ is_substituted T P U 0 ∷ []) (is_substituted (ex 1 0 T) (ex 1 0 P) U 0)
-    (pattern_text n p ∷ pattern_text n t ∷ pattern_text n u ∷ object_text n x ∷ object_text n y
-    ∷ sort_text n s ∷ fresh_text n y u ∷ substitution_text n t p u x ∷ []) _
+    ∷ substitution_tree l x u p t ∷ []))
+    (substitution_text n (quantified o y s t) (quantified o y s p) u x)
+substituted_under c l n o known x y s u p t w hx hy hs hu hp ht differ f below =
+    let name : Token = codes "su." ++ quantifier_name o in
+    let floats : List Hypothesis = fp ∷ ft ∷ fu ∷ fx ∷ fy ∷ fs ∷ [] in
+    let js : List Judgement = is_fresh 1 U ∷ is_substituted T P U 0 ∷ [] in
+    let j : Judgement = is_substituted (quantified o 1 0 T) (quantified o 1 0 P) U 0 in
+    let es : List Expression = pattern_text n p ∷ pattern_text n t ∷ pattern_text n u
+    ∷ object_text n x ∷ object_text n y ∷ sort_text n s ∷ fresh_text n y u
+    ∷ substitution_text n t p u x ∷ [] in
+    let a : Bool = texts_apart (symbols_apart c) (n.object x ∷ []) (n.object y ∷ []) in
+    let b : Bool = texts_apart (symbols_apart c) (n.object y ∷ []) (n.object x ∷ []) in
+    let apart : ((a && true) && ((b && true) && true)) ≡ true = two_apart a b
+    (parted_texts c (n.object x) (n.object y) (w.objects_apart x y hx hy differ))
+    (parted_texts c (n.object y) (n.object x) (w.objects_apart y x hy hx (turned x y differ))) in
+    row_proves c name (su_pair o) floats js j es _
     (syntax_tree l p ∷ syntax_tree l t ∷ syntax_tree l u ∷ cite (l.object x) []
     ∷ cite (l.object y) [] ∷ cite (l.sort s) [] ∷ fresh_tree l y u
-    ∷ substitution_tree l x u p t ∷ []) w.header su_ex refl
-    (two_apart (texts_apart (symbols_apart c) (n.object x ∷ []) (n.object y ∷ []))
-    (texts_apart (symbols_apart c) (n.object y ∷ []) (n.object x ∷ []))
-    (parted_texts c (n.object x) (n.object y) (w.objects_apart x y hx hy differ))
-    (parted_texts c (n.object y) (n.object x) (w.objects_apart y x hy hx (turned x y differ))))
-    refl refl (
-      _,
-      _,
-      refl,
-      syntax_proves c l n p known w hp,
-      (
-        _,
-        _,
-        refl,
-        syntax_proves c l n t known w ht,
-        (
-          _,
-          _,
-          refl,
-          syntax_proves c l n u known w hu,
-          (
-            _,
-            _,
-            refl,
-            object_proves c l n x (w.object x hx),
-            (
-              _,
-              _,
-              refl,
-              object_proves c l n y (w.object y hy),
-              (
-                _,
-                _,
-                refl,
-                sort_proves c l n s (w.sort s hs),
-                (_, _, refl, fresh_proves c l n known y u w hy hu f, (_, _, refl, below, refl)),
-              ),
-            ),
-          ),
-        ),
-      ),
-    )
-
-substituted_all : (c : Context) (l n : Naming) (known : LeafFacts) (x y s : ℕ) (u p t : Pattern)
-    → Serves c l n known → known.object x → known.object y → known.sort s → EachLeaf known u
-    → EachLeaf known p → EachLeaf known t → (x == y) ≡ false → fresh y u ≡ true
-    → Proves c (substitution_tree l x u p t) (substitution_text n t p u x)
-    → Proves c (cite (codes "su.all") (syntax_tree l p ∷ syntax_tree l t ∷ syntax_tree l u
-    ∷ cite (l.object x) [] ∷ cite (l.object y) [] ∷ cite (l.sort s) [] ∷ fresh_tree l y u
-    ∷ substitution_tree l x u p t ∷ [])) (substitution_text n (all y s t) (all y s p) u x)
-substituted_all c l n known x y s u p t w hx hy hs hu hp ht differ f below =
-    row_proves c (codes "su.all") (pair_of (codes "x") (codes "y") (codes "su.all")
-    (codes "#Fresh y u" ∷ codes "#Sub t p u x" ∷ [])
-    (codes "#Sub ( \\all y s t ) ( \\all y s p ) u x")) (fp ∷ ft ∷ fu ∷ fx ∷ fy ∷ fs ∷ [])
-    (is_fresh 1 U ∷ is_substituted T P U 0 ∷ []) (is_substituted (all 1 0 T) (all 1 0 P) U 0)
-    (pattern_text n p ∷ pattern_text n t ∷ pattern_text n u ∷ object_text n x ∷ object_text n y
-    ∷ sort_text n s ∷ fresh_text n y u ∷ substitution_text n t p u x ∷ []) _
-    (syntax_tree l p ∷ syntax_tree l t ∷ syntax_tree l u ∷ cite (l.object x) []
-    ∷ cite (l.object y) [] ∷ cite (l.sort s) [] ∷ fresh_tree l y u
-    ∷ substitution_tree l x u p t ∷ []) w.header su_all refl
-    (two_apart (texts_apart (symbols_apart c) (n.object x ∷ []) (n.object y ∷ []))
-    (texts_apart (symbols_apart c) (n.object y ∷ []) (n.object x ∷ []))
-    (parted_texts c (n.object x) (n.object y) (w.objects_apart x y hx hy differ))
-    (parted_texts c (n.object y) (n.object x) (w.objects_apart y x hy hx (turned x y differ))))
-    refl refl (
+    ∷ substitution_tree l x u p t ∷ []) w.header (su_quantified o) refl
+    (elim o as (λ k. keeps_apart (symbols_apart c) (frame name (su_pair k) floats js j)
+    (sigma_of name floats js es) ≡ true) [ Ex ↦ apart | All ↦ apart ]) refl refl (
       _,
       _,
       refl,
@@ -381,58 +331,6 @@ none_some r h = cc
 some_same : (p r : Pattern) → Some p ≡ Some r → p ≡ r
 some_same p r h = cc
 
--- if x is not free, nothing changes
-
-joined : (k : Pattern → Pattern → Pattern) (p q : Pattern) (a b : Option Pattern) → a ≡ Some p
-    → b ≡ Some q → both_parts k a b ≡ Some (k p q)
-joined k p q a b e g = rw (e, g) refl
-
-pub substituted-fresh : (p : Pattern) (x : ℕ) (u : Pattern) → fresh x p ≡ true
-    → substituted p x u ≡ Some p
-substituted-fresh bot x u f = refl
-substituted-fresh top x u f = refl
-substituted-fresh (meta i) x u f = refl
-substituted-fresh (constant i) x u f = refl
-substituted-fresh (imp p q) x u f =
-    let b : (fresh x p ≡ true) × (fresh x q ≡ true) = split_true (fresh x p) (fresh x q) f in
-    joined imp p q (substituted p x u) (substituted q x u) (substituted-fresh p x u b.0)
-    (substituted-fresh q x u b.1)
-substituted-fresh (and p q) x u f =
-    let b : (fresh x p ≡ true) × (fresh x q ≡ true) = split_true (fresh x p) (fresh x q) f in
-    joined and p q (substituted p x u) (substituted q x u) (substituted-fresh p x u b.0)
-    (substituted-fresh q x u b.1)
-substituted-fresh (or p q) x u f =
-    let b : (fresh x p ≡ true) × (fresh x q ≡ true) = split_true (fresh x p) (fresh x q) f in
-    joined or p q (substituted p x u) (substituted q x u) (substituted-fresh p x u b.0)
-    (substituted-fresh q x u b.1)
-substituted-fresh (equal p q) x u f =
-    let b : (fresh x p ≡ true) × (fresh x q ≡ true) = split_true (fresh x p) (fresh x q) f in
-    joined equal p q (substituted p x u) (substituted q x u) (substituted-fresh p x u b.0)
-    (substituted-fresh q x u b.1)
-substituted-fresh (member p q) x u f =
-    let b : (fresh x p ≡ true) × (fresh x q ≡ true) = split_true (fresh x p) (fresh x q) f in
-    joined member p q (substituted p x u) (substituted q x u) (substituted-fresh p x u b.0)
-    (substituted-fresh q x u b.1)
-substituted-fresh (app p q) x u f =
-    let b : (fresh x p ≡ true) × (fresh x q ≡ true) = split_true (fresh x p) (fresh x q) f in
-    joined app p q (substituted p x u) (substituted q x u) (substituted-fresh p x u b.0)
-    (substituted-fresh q x u b.1)
-substituted-fresh (not p) x u f = ap (option_map not) (substituted-fresh p x u f)
-substituted-fresh (next p) x u f = ap (option_map next) (substituted-fresh p x u f)
-substituted-fresh (ev p) x u f = ap (option_map ev) (substituted-fresh p x u f)
-substituted-fresh (at_sort p s) x u f =
-    ap (option_map (λ (t : Pattern). at_sort t s)) (substituted-fresh p x u f)
-substituted-fresh (fun p s) x u f =
-    ap (option_map (λ (t : Pattern). fun t s)) (substituted-fresh p x u f)
-substituted-fresh (ex y s p) x u f =
-    ap (λ (b : Bool). if b then Some (ex y s p)
-    else (if fresh y u then option_map (ex y s) (substituted p x u) else None)) f
-substituted-fresh (all y s p) x u f =
-    ap (λ (b : Bool). if b then Some (all y s p)
-    else (if fresh y u then option_map (all y s) (substituted p x u) else None)) f
-substituted-fresh (var y) x u f =
-    ap (λ (b : Bool). if b then Some u else Some (var y)) (not_true (x == y) f)
-
 -- a pattern with u substituted for x, if it stays the same
 unchanged_law : (c : Context) (l n : Naming) (known : LeafFacts) (x : ℕ) (u p r : Pattern)
     → Serves c l n known → known.object x → EachLeaf known u → EachLeaf known p → fresh x p ≡ true
@@ -453,7 +351,7 @@ whole_or_form c l n known x u p r w hx hu hp h below = go (fresh x p) refl
         → Proves c (if b then unchanged_tree l x u p else substitution_by_form l x u p r)
         (substitution_text n r p u x)
     go true is =
-        unchanged_law c l n known x u p r w hx hu hp is (sym (substituted-fresh p x u is) ∙ h)
+        unchanged_law c l n known x u p r w hx hu hp is (sym (substituted-fresh x u p is) ∙ h)
     go false is = below is
 
 variable_law : (c : Context) (l n : Naming) (known : LeafFacts) (x y : ℕ) (u r : Pattern)
@@ -480,56 +378,34 @@ variable_law c l n known x y u r w hx hu h free = go (x == y) refl h free
         (substitution_text n r (var z) u x)) (eqb-true x y is) found
     go false is same here = absurd (false≢true (sym here))
 
-ex_law : (c : Context) (l n : Naming) (known : LeafFacts) (x y s : ℕ) (u p r : Pattern)
-    → Serves c l n known → known.object x → EachLeaf known u → EachLeaf known (ex y s p)
-    → EachLeaf known r → substituted (ex y s p) x u ≡ Some r → fresh x (ex y s p) ≡ false
+under_law : (c : Context) (l n : Naming) (o : Quantifier) (known : LeafFacts) (x y s : ℕ)
+    (u p r : Pattern)
+    → Serves c l n known → known.object x → EachLeaf known u → EachLeaf known (quantified o y s p)
+    → EachLeaf known r → substituted (quantified o y s p) x u ≡ Some r → fresh x
+    (quantified o y s p) ≡ false
     → ((t : Pattern) → EachLeaf known t → substituted p x u ≡ Some t
     → Proves c (substitution_tree l x u p t) (substitution_text n t p u x))
-    → Proves c (substitution_by_form l x u (ex y s p) r) (substitution_text n r (ex y s p) u x)
-ex_law c l n known x y s u p r w hx hu hp hr h free below =
+    → Proves c (substitution_by_form l x u (quantified o y s p) r)
+    (substitution_text n r (quantified o y s p) u x)
+under_law c l n o known x y s u p r w hx hu hp hr h free below =
     go (x == y) (fresh x p) (fresh y u) refl refl h free
   where
     go : (a b f : Bool) → (x == y) ≡ a → fresh y u ≡ f
-        → (if a || b then Some (ex y s p)
-        else (if f then option_map (ex y s) (substituted p x u) else None)) ≡ Some r
+        → (if a || b then Some (quantified o y s p)
+        else (if f then option_map (quantified o y s) (substituted p x u) else None)) ≡ Some r
         → (a || b) ≡ false
-        → Proves c (substitution_by_form l x u (ex y s p) r) (substitution_text n r (ex y s p) u x)
+        → Proves c (substitution_by_form l x u (quantified o y s p) r)
+        (substitution_text n r (quantified o y s p) u x)
     go true b f same captured made is = absurd (false≢true (sym is))
     go false true f differ captured made is = absurd (false≢true (sym is))
     go false false true differ captured made is =
-        let w' : OnePart (ex y s) (substituted p x u) r =
-        one_part_some (ex y s) (substituted p x u) r made in
+        let w' : OnePart (quantified o y s) (substituted p x u) r =
+        one_part_some (quantified o y s) (substituted p x u) r made in
         subst (λ (r : Pattern). EachLeaf known r
-        → Proves c (substitution_by_form l x u (ex y s p) r)
-        (substitution_text n r (ex y s p) u x)) w'.whole
-        (λ ht. substituted_ex c l n known x y s u p w'.part w hx hp.1.0 hp.1.1 hu hp.0 ht.0 differ
-        captured (below w'.part ht.0 w'.part_is)) hr
-    go false false false differ captured made is = absurd (none_some r made)
-
-all_law : (c : Context) (l n : Naming) (known : LeafFacts) (x y s : ℕ) (u p r : Pattern)
-    → Serves c l n known → known.object x → EachLeaf known u → EachLeaf known (all y s p)
-    → EachLeaf known r → substituted (all y s p) x u ≡ Some r → fresh x (all y s p) ≡ false
-    → ((t : Pattern) → EachLeaf known t → substituted p x u ≡ Some t
-    → Proves c (substitution_tree l x u p t) (substitution_text n t p u x))
-    → Proves c (substitution_by_form l x u (all y s p) r) (substitution_text n r (all y s p) u x)
-all_law c l n known x y s u p r w hx hu hp hr h free below =
-    go (x == y) (fresh x p) (fresh y u) refl refl h free
-  where
-    go : (a b f : Bool) → (x == y) ≡ a → fresh y u ≡ f
-        → (if a || b then Some (all y s p)
-        else (if f then option_map (all y s) (substituted p x u) else None)) ≡ Some r
-        → (a || b) ≡ false
-        → Proves c (substitution_by_form l x u (all y s p) r)
-        (substitution_text n r (all y s p) u x)
-    go true b f same captured made is = absurd (false≢true (sym is))
-    go false true f differ captured made is = absurd (false≢true (sym is))
-    go false false true differ captured made is =
-        let w' : OnePart (all y s) (substituted p x u) r =
-        one_part_some (all y s) (substituted p x u) r made in
-        subst (λ (r : Pattern). EachLeaf known r
-        → Proves c (substitution_by_form l x u (all y s p) r)
-        (substitution_text n r (all y s p) u x)) w'.whole
-        (λ ht. substituted_all c l n known x y s u p w'.part w hx hp.1.0 hp.1.1 hu hp.0 ht.0 differ
+        → Proves c (substitution_by_form l x u (quantified o y s p) r)
+        (substitution_text n r (quantified o y s p) u x)) w'.whole
+        (λ ht. substituted_under c l n o known x y s u p w'.part w hx hp.1.0 hp.1.1 hu hp.0 ht.0
+        differ
         captured (below w'.part ht.0 w'.part_is)) hr
     go false false false differ captured made is = absurd (none_some r made)
 
@@ -537,10 +413,8 @@ pub substitution_proves : (c : Context) (l n : Naming) (known : LeafFacts) (x : 
     → Serves c l n known → known.object x → EachLeaf known u → EachLeaf known p → EachLeaf known r
     → substituted p x u ≡ Some r
     → Proves c (substitution_tree l x u p r) (substitution_text n r p u x)
-substitution_proves c l n known x u bot r w hx hu hp hr h =
-    unchanged_law c l n known x u bot r w hx hu tt refl h
-substitution_proves c l n known x u top r w hx hu hp hr h =
-    unchanged_law c l n known x u top r w hx hu tt refl h
+substitution_proves c l n known x u (nullary o) r w hx hu hp hr h =
+    unchanged_law c l n known x u (nullary o) r w hx hu tt refl h
 substitution_proves c l n known x u (meta i) r w hx hu hp hr h =
     unchanged_law c l n known x u (meta i) r w hx hu hp refl h
 substitution_proves c l n known x u (constant i) r w hx hu hp hr h =
@@ -548,127 +422,42 @@ substitution_proves c l n known x u (constant i) r w hx hu hp hr h =
 substitution_proves c l n known x u (var y) r w hx hu hp hr h =
     whole_or_form c l n known x u (var y) r w hx hu hp h
     (variable_law c l n known x y u r w hx hu h)
-substitution_proves c l n known x u (imp p q) r w hx hu hp hr h =
-    let made : BothParts imp (substituted p x u) (substituted q x u) r =
-    both_parts_some imp (substituted p x u) (substituted q x u) r h in
-    whole_or_form c l n known x u (imp p q) r w hx hu hp h (λ free.
+substitution_proves c l n known x u (binary o p q) r w hx hu hp hr h =
+    let made : BothParts (binary o) (substituted p x u) (substituted q x u) r =
+    both_parts_some (binary o) (substituted p x u) (substituted q x u) r h in
+    whole_or_form c l n known x u (binary o p q) r w hx hu hp h (λ free.
     subst (λ (r : Pattern). EachLeaf known r
-    → Proves c (substitution_by_form l x u (imp p q) r)
-    (substitution_text n r (imp p q) u x)) made.whole
-    (λ ht. substituted_two c l n (codes "su.imp") imp x u p q made.first made.second known w su_imp
+    → Proves c (substitution_by_form l x u (binary o p q) r)
+    (substitution_text n r (binary o p q) u x)) made.whole
+    (λ ht. substituted_two c l n (codes "su." ++ binary_name o) (binary o) x u p q made.first
+    made.second known w (su_binary o)
     refl hx hu hp.0 hp.1 ht.0 ht.1
     (substitution_proves c l n known x u p made.first w hx hu hp.0 ht.0 made.first_is)
     (substitution_proves c l n known x u q made.second w hx hu hp.1 ht.1 made.second_is))
     hr)
-substitution_proves c l n known x u (and p q) r w hx hu hp hr h =
-    let made : BothParts and (substituted p x u) (substituted q x u) r =
-    both_parts_some and (substituted p x u) (substituted q x u) r h in
-    whole_or_form c l n known x u (and p q) r w hx hu hp h (λ free.
+substitution_proves c l n known x u (unary o p) r w hx hu hp hr h =
+    let made : OnePart (unary o) (substituted p x u) r = one_part_some (unary o) (substituted p x u)
+    r h in
+    whole_or_form c l n known x u (unary o p) r w hx hu hp h (λ free.
     subst (λ (r : Pattern). EachLeaf known r
-    → Proves c (substitution_by_form l x u (and p q) r)
-    (substitution_text n r (and p q) u x)) made.whole
-    (λ ht. substituted_two c l n (codes "su.and") and x u p q made.first made.second known w su_and
-    refl hx hu hp.0 hp.1 ht.0 ht.1
-    (substitution_proves c l n known x u p made.first w hx hu hp.0 ht.0 made.first_is)
-    (substitution_proves c l n known x u q made.second w hx hu hp.1 ht.1 made.second_is))
-    hr)
-substitution_proves c l n known x u (or p q) r w hx hu hp hr h =
-    let made : BothParts or (substituted p x u) (substituted q x u) r =
-    both_parts_some or (substituted p x u) (substituted q x u) r h in
-    whole_or_form c l n known x u (or p q) r w hx hu hp h (λ free.
-    subst (λ (r : Pattern). EachLeaf known r
-    → Proves c (substitution_by_form l x u (or p q) r) (substitution_text n r (or p q) u x))
+    → Proves c (substitution_by_form l x u (unary o p) r) (substitution_text n r (unary o p) u x))
     made.whole
-    (λ ht. substituted_two c l n (codes "su.or") or x u p q made.first made.second known w su_or
-    refl hx hu hp.0 hp.1 ht.0 ht.1
-    (substitution_proves c l n known x u p made.first w hx hu hp.0 ht.0 made.first_is)
-    (substitution_proves c l n known x u q made.second w hx hu hp.1 ht.1 made.second_is))
-    hr)
-substitution_proves c l n known x u (equal p q) r w hx hu hp hr h =
-    let made : BothParts equal (substituted p x u) (substituted q x u) r =
-    both_parts_some equal (substituted p x u) (substituted q x u) r h in
-    whole_or_form c l n known x u (equal p q) r w hx hu hp h (λ free.
-    subst (λ (r : Pattern). EachLeaf known r
-    → Proves c (substitution_by_form l x u (equal p q) r)
-    (substitution_text n r (equal p q) u x)) made.whole
-    (λ ht. substituted_two c l n (codes "su.eq") equal x u p q made.first made.second known w su_eq
-    refl hx hu hp.0 hp.1 ht.0 ht.1
-    (substitution_proves c l n known x u p made.first w hx hu hp.0 ht.0 made.first_is)
-    (substitution_proves c l n known x u q made.second w hx hu hp.1 ht.1 made.second_is))
-    hr)
-substitution_proves c l n known x u (member p q) r w hx hu hp hr h =
-    let made : BothParts member (substituted p x u) (substituted q x u) r =
-    both_parts_some member (substituted p x u) (substituted q x u) r h in
-    whole_or_form c l n known x u (member p q) r w hx hu hp h (λ free.
-    subst (λ (r : Pattern). EachLeaf known r
-    → Proves c (substitution_by_form l x u (member p q) r)
-    (substitution_text n r (member p q) u x)) made.whole
-    (λ ht. substituted_two c l n (codes "su.mem") member x u p q made.first made.second known w
-    su_mem refl hx hu hp.0 hp.1 ht.0 ht.1
-    (substitution_proves c l n known x u p made.first w hx hu hp.0 ht.0 made.first_is)
-    (substitution_proves c l n known x u q made.second w hx hu hp.1 ht.1 made.second_is))
-    hr)
-substitution_proves c l n known x u (app p q) r w hx hu hp hr h =
-    let made : BothParts app (substituted p x u) (substituted q x u) r =
-    both_parts_some app (substituted p x u) (substituted q x u) r h in
-    whole_or_form c l n known x u (app p q) r w hx hu hp h (λ free.
-    subst (λ (r : Pattern). EachLeaf known r
-    → Proves c (substitution_by_form l x u (app p q) r)
-    (substitution_text n r (app p q) u x)) made.whole
-    (λ ht. substituted_two c l n (codes "su.app") app x u p q made.first made.second known w su_app
-    refl hx hu hp.0 hp.1 ht.0 ht.1
-    (substitution_proves c l n known x u p made.first w hx hu hp.0 ht.0 made.first_is)
-    (substitution_proves c l n known x u q made.second w hx hu hp.1 ht.1 made.second_is))
-    hr)
-substitution_proves c l n known x u (not p) r w hx hu hp hr h =
-    let made : OnePart not (substituted p x u) r = one_part_some not (substituted p x u) r h in
-    whole_or_form c l n known x u (not p) r w hx hu hp h (λ free.
-    subst (λ (r : Pattern). EachLeaf known r
-    → Proves c (substitution_by_form l x u (not p) r) (substitution_text n r (not p) u x))
-    made.whole
-    (λ ht. substituted_one c l n (codes "su.not") not x u p made.part known w su_not refl hx hu hp
+    (λ ht. substituted_one c l n (codes "su." ++ unary_name o) (unary o) x u p made.part known w
+    (su_unary o) refl hx hu hp
     ht (substitution_proves c l n known x u p made.part w hx hu hp ht made.part_is)) hr)
-substitution_proves c l n known x u (next p) r w hx hu hp hr h =
-    let made : OnePart next (substituted p x u) r = one_part_some next (substituted p x u) r h in
-    whole_or_form c l n known x u (next p) r w hx hu hp h (λ free.
+substitution_proves c l n known x u (sorted o p s) r w hx hu hp hr h =
+    let made : OnePart (λ t. sorted o t s) (substituted p x u) r =
+    one_part_some (λ t. sorted o t s) (substituted p x u) r h in
+    whole_or_form c l n known x u (sorted o p s) r w hx hu hp h (λ free.
     subst (λ (r : Pattern). EachLeaf known r
-    → Proves c (substitution_by_form l x u (next p) r) (substitution_text n r (next p) u x))
-    made.whole
-    (λ ht. substituted_one c l n (codes "su.next") next x u p made.part known w su_next refl hx hu
-    hp ht (substitution_proves c l n known x u p made.part w hx hu hp ht made.part_is)) hr)
-substitution_proves c l n known x u (ev p) r w hx hu hp hr h =
-    let made : OnePart ev (substituted p x u) r = one_part_some ev (substituted p x u) r h in
-    whole_or_form c l n known x u (ev p) r w hx hu hp h (λ free.
-    subst (λ (r : Pattern). EachLeaf known r
-    → Proves c (substitution_by_form l x u (ev p) r) (substitution_text n r (ev p) u x))
-    made.whole
-    (λ ht. substituted_one c l n (codes "su.ev") ev x u p made.part known w su_ev refl hx hu hp ht
-    (substitution_proves c l n known x u p made.part w hx hu hp ht made.part_is)) hr)
-substitution_proves c l n known x u (at_sort p s) r w hx hu hp hr h =
-    let made : OnePart (λ t. at_sort t s) (substituted p x u) r =
-    one_part_some (λ t. at_sort t s) (substituted p x u) r h in
-    whole_or_form c l n known x u (at_sort p s) r w hx hu hp h (λ free.
-    subst (λ (r : Pattern). EachLeaf known r
-    → Proves c (substitution_by_form l x u (at_sort p s) r)
-    (substitution_text n r (at_sort p s) u x)) made.whole
-    (λ ht. substituted_sort c l n (codes "su.at") at_sort x u p made.part s known w su_at refl hx hu
+    → Proves c (substitution_by_form l x u (sorted o p s) r)
+    (substitution_text n r (sorted o p s) u x)) made.whole
+    (λ ht. substituted_sort c l n (codes "su." ++ sorted_name o) (sorted o) x u p made.part s known
+    w (su_sorted o) refl hx hu
     hp.0 ht.0 hp.1
     (substitution_proves c l n known x u p made.part w hx hu hp.0 ht.0 made.part_is)) hr)
-substitution_proves c l n known x u (fun p s) r w hx hu hp hr h =
-    let made : OnePart (λ t. fun t s) (substituted p x u) r =
-    one_part_some (λ t. fun t s) (substituted p x u) r h in
-    whole_or_form c l n known x u (fun p s) r w hx hu hp h (λ free.
-    subst (λ (r : Pattern). EachLeaf known r
-    → Proves c (substitution_by_form l x u (fun p s) r)
-    (substitution_text n r (fun p s) u x)) made.whole
-    (λ ht. substituted_sort c l n (codes "su.fun") fun x u p made.part s known w su_fun refl hx hu
-    hp.0 ht.0 hp.1
-    (substitution_proves c l n known x u p made.part w hx hu hp.0 ht.0 made.part_is)) hr)
-substitution_proves c l n known x u (ex y s p) r w hx hu hp hr h =
-    whole_or_form c l n known x u (ex y s p) r w hx hu hp h (λ free. ex_law c l n known x y s u p r
+substitution_proves c l n known x u (quantified o y s p) r w hx hu hp hr h =
+    whole_or_form c l n known x u (quantified o y s p) r w hx hu hp h
+    (λ free. under_law c l n o known x y s u p r
     w hx hu hp hr h free
-    (λ t ht is. substitution_proves c l n known x u p t w hx hu hp.0 ht is))
-substitution_proves c l n known x u (all y s p) r w hx hu hp hr h =
-    whole_or_form c l n known x u (all y s p) r w hx hu hp h (λ free. all_law c l n known x y s u p
-    r w hx hu hp hr h free
     (λ t ht is. substitution_proves c l n known x u p t w hx hu hp.0 ht is))

@@ -1,21 +1,21 @@
 -- The syntax tree of a pattern proves that it is one.
-use Rattle.std.proofs.Common.{◌≡◌, ℕ, [], ◌∷◌, refl}
+use Rattle.std.proofs.Common.{◌≡◌, ℕ, [], ◌∷◌, ◌++◌, refl}
 use Rattle.std.specs.Prelude.{codes}
 use Rattle.mm_text.specs.Bytes.{Token}
 use Rattle.mm_database.specs.Frames.{floating}
 use Rattle.mm_database.specs.Database.{Context}
 use Rattle.mm_database.specs.Proofs.{Expression, by_hypothesis, Proves}
-use Rattle.ml_pat.specs.Patterns.{Pattern, bot, top, imp, not, and, or, equal, member, fun, ex, all}
-use Rattle.ml_pat.specs.Patterns.{app, at_sort, next, ev, var, meta, constant}
-use Rattle.mm_proof.specs.Tokens.{Naming, letters_of, is_pattern, judgement_by}
+use Rattle.ml_pat.specs.Patterns.{Pattern, nullary, unary, binary, sorted, quantified, var, meta}
+use Rattle.ml_pat.specs.Patterns.{constant}
+use Rattle.mm_proof.specs.Tokens.{Naming, letters_of, is_pattern, judgement_by, nullary_name}
+use Rattle.mm_proof.specs.Tokens.{unary_name, binary_name, sorted_name, quantifier_name}
 use Rattle.mm_proof.specs.Trees.{cite, syntax_tree}
 use Rattle.mm_proof.specs.Serving.{HasHeader, Declares, Types, Serves}
 use Rattle.mm_proof.specs.ClosedFrames.{closed_frame}
 use Rattle.ml_pat.specs.Leaves.{LeafFacts, EachLeaf}
 use Rattle.mm_proof.proofs.Schemes.{leads-by, under}
-use Rattle.mm_proof.proofs.Rows.{header_naming, no_pair, IsRow, P, Q, fp, fq, fx, fs, w_var, w_bot}
-use Rattle.mm_proof.proofs.Rows.{w_top, w_imp, w_and, w_or, w_eq, w_mem, w_app, w_not, w_next, w_ev}
-use Rattle.mm_proof.proofs.Rows.{w_at, w_fun, w_ex, w_all}
+use Rattle.mm_proof.proofs.Rows.{header_naming, no_pair, IsRow, P, Q, fp, fq, fx, fs, w_var}
+use Rattle.mm_proof.proofs.Rows.{w_nullary, w_binary, w_unary, w_sorted, w_quantified}
 use Rattle.mm_proof.proofs.RowProofs.{sigma_of, row_proves}
 
 -- what is written for the parts of a statement
@@ -90,7 +90,8 @@ sort_part c l n name k p s header row same hp hs =
     row refl refl refl same
     (_, _, refl, hp, (_, _, refl, sort_proves c l n s hs, refl))
 
-quantified : (c : Context) (l n : Naming) (name : Token) (k : ℕ → ℕ → Pattern → Pattern) (x s : ℕ)
+quantifier_part : (c : Context) (l n : Naming) (name : Token) (k : ℕ → ℕ → Pattern → Pattern)
+    (x s : ℕ)
     (p : Pattern) → HasHeader c
     → IsRow name no_pair (fp ∷ fx ∷ fs ∷ []) [] (is_pattern (k 0 0 P))
     → judgement_by (under (sigma_of name (fp ∷ fx ∷ fs ∷ []) []
@@ -101,7 +102,7 @@ quantified : (c : Context) (l n : Naming) (name : Token) (k : ℕ → ℕ → Pa
     → Declares c (codes "#Sort") (l.sort s) (n.sort s)
     → Proves c (cite name (syntax_tree l p ∷ cite (l.object x) [] ∷ cite (l.sort s) [] ∷ []))
     (pattern_text n (k x s p))
-quantified c l n name k x s p header row same hp hx hs =
+quantifier_part c l n name k x s p header row same hp hx hs =
     row_proves c name no_pair (fp ∷ fx ∷ fs ∷ []) [] (is_pattern (k 0 0 P))
     (pattern_text n p ∷ object_text n x ∷ sort_text n s ∷ []) _
     (syntax_tree l p ∷ cite (l.object x) [] ∷ cite (l.sort s) [] ∷ []) header row refl refl refl
@@ -116,48 +117,24 @@ quantified c l n name k x s p header row same hp hx hs =
 -- the tokens of a pattern parse as its syntax tree
 pub syntax_proves : (c : Context) (l n : Naming) (p : Pattern) (known : LeafFacts)
     → Serves c l n known → EachLeaf known p → Proves c (syntax_tree l p) (pattern_text n p)
-syntax_proves c l n bot known w h =
-    row_proves c (codes "w.bot") no_pair [] [] (is_pattern bot) [] _ [] w.header w_bot refl refl
+syntax_proves c l n (nullary o) known w h =
+    row_proves c (codes "w." ++ nullary_name o) no_pair [] [] (is_pattern (nullary o)) [] _ []
+    w.header (w_nullary o) refl refl
     refl refl refl
-syntax_proves c l n top known w h =
-    row_proves c (codes "w.top") no_pair [] [] (is_pattern top) [] _ [] w.header w_top refl refl
-    refl refl refl
-syntax_proves c l n (imp p q) known w h =
-    two_part c l n (codes "w.imp") imp p q w.header w_imp refl (syntax_proves c l n p known w h.0)
+syntax_proves c l n (binary o p q) known w h =
+    two_part c l n (codes "w." ++ binary_name o) (binary o) p q w.header (w_binary o) refl
+    (syntax_proves c l n p known w h.0)
     (syntax_proves c l n q known w h.1)
-syntax_proves c l n (and p q) known w h =
-    two_part c l n (codes "w.and") and p q w.header w_and refl (syntax_proves c l n p known w h.0)
-    (syntax_proves c l n q known w h.1)
-syntax_proves c l n (or p q) known w h =
-    two_part c l n (codes "w.or") or p q w.header w_or refl (syntax_proves c l n p known w h.0)
-    (syntax_proves c l n q known w h.1)
-syntax_proves c l n (equal p q) known w h =
-    two_part c l n (codes "w.eq") equal p q w.header w_eq refl (syntax_proves c l n p known w h.0)
-    (syntax_proves c l n q known w h.1)
-syntax_proves c l n (member p q) known w h =
-    two_part c l n (codes "w.mem") member p q w.header w_mem refl
-    (syntax_proves c l n p known w h.0) (syntax_proves c l n q known w h.1)
-syntax_proves c l n (app p q) known w h =
-    two_part c l n (codes "w.app") app p q w.header w_app refl (syntax_proves c l n p known w h.0)
-    (syntax_proves c l n q known w h.1)
-syntax_proves c l n (not p) known w h =
-    one_part c l n (codes "w.not") not p w.header w_not refl (syntax_proves c l n p known w h)
-syntax_proves c l n (next p) known w h =
-    one_part c l n (codes "w.next") next p w.header w_next refl (syntax_proves c l n p known w h)
-syntax_proves c l n (ev p) known w h =
-    one_part c l n (codes "w.ev") ev p w.header w_ev refl (syntax_proves c l n p known w h)
-syntax_proves c l n (at_sort p s) known w h =
-    sort_part c l n (codes "w.at") at_sort p s w.header w_at refl
+syntax_proves c l n (unary o p) known w h =
+    one_part c l n (codes "w." ++ unary_name o) (unary o) p w.header (w_unary o) refl
+    (syntax_proves c l n p known w h)
+syntax_proves c l n (sorted o p s) known w h =
+    sort_part c l n (codes "w." ++ sorted_name o) (sorted o) p s w.header (w_sorted o) refl
     (syntax_proves c l n p known w h.0) (w.sort s h.1)
-syntax_proves c l n (fun p s) known w h =
-    sort_part c l n (codes "w.fun") fun p s w.header w_fun refl (syntax_proves c l n p known w h.0)
-    (w.sort s h.1)
-syntax_proves c l n (ex x s p) known w h =
-    quantified c l n (codes "w.ex") ex x s p w.header w_ex refl (syntax_proves c l n p known w h.0)
+syntax_proves c l n (quantified o x s p) known w h =
+    quantifier_part c l n (codes "w." ++ quantifier_name o) (quantified o) x s p w.header
+    (w_quantified o) refl (syntax_proves c l n p known w h.0)
     (w.object x h.1.0) (w.sort s h.1.1)
-syntax_proves c l n (all x s p) known w h =
-    quantified c l n (codes "w.all") all x s p w.header w_all refl
-    (syntax_proves c l n p known w h.0) (w.object x h.1.0) (w.sort s h.1.1)
 syntax_proves c l n (var x) known w h =
     row_proves c (codes "w.var") no_pair (fx ∷ []) [] (is_pattern (var 0)) (object_text n x ∷ []) _
     (cite (l.object x) [] ∷ []) w.header w_var refl refl refl refl

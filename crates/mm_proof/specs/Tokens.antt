@@ -1,8 +1,10 @@
 -- The tokens of a pattern in a proof file: a connective in brackets before its parts.
 use Rattle.std.specs.Prelude.{ℕ, List, [], ◌∷◌, ◌++◌, codes, decimal, slice_index_or}
 use Rattle.mm_text.specs.Bytes.{Token}
-use Rattle.ml_pat.specs.Patterns.{Pattern, bot, top, imp, not, and, or, equal, member, fun, ex, all}
-use Rattle.ml_pat.specs.Patterns.{app, at_sort, next, ev, var, meta, constant}
+use Rattle.ml_pat.specs.Patterns.{Nullary, Bot, Top, Unary, Not, Next, Ev, Binary, Imp, And, Or}
+use Rattle.ml_pat.specs.Patterns.{Equal, Member, App, Sorted, Fun, AtSort, Quantifier, Ex, All}
+use Rattle.ml_pat.specs.Patterns.{Pattern, nullary, unary, binary, sorted, quantified, var, meta}
+use Rattle.ml_pat.specs.Patterns.{constant}
 
 -- a token for each sort, constant, object variable and pattern variable
 pub record Naming : Type 0 where
@@ -33,25 +35,44 @@ bracketed k arguments = codes "(" ∷ (k ∷ arguments)
 abbrev pub bracket : List Token
 bracket = codes ")" ∷ []
 
+-- The names of the connectives. The token of a connective is its name after a backslash, and the
+-- labels of the header's rows about it are its name after a prefix.
+abbrev pub nullary_name : Nullary → Token
+nullary_name Bot = codes "bot"
+nullary_name Top = codes "top"
+
+abbrev pub unary_name : Unary → Token
+unary_name Not = codes "not"
+unary_name Next = codes "next"
+unary_name Ev = codes "ev"
+
+abbrev pub binary_name : Binary → Token
+binary_name Imp = codes "imp"
+binary_name And = codes "and"
+binary_name Or = codes "or"
+binary_name Equal = codes "eq"
+binary_name Member = codes "mem"
+binary_name App = codes "app"
+
+abbrev pub sorted_name : Sorted → Token
+sorted_name Fun = codes "fun"
+sorted_name AtSort = codes "at"
+
+abbrev pub quantifier_name : Quantifier → Token
+quantifier_name Ex = codes "ex"
+quantifier_name All = codes "all"
+
 -- the tokens of a pattern whose leaves have these tokens
 abbrev pub text_by : Letters → Pattern → List Token
-text_by l bot = codes "\\bot" ∷ []
-text_by l top = codes "\\top" ∷ []
-text_by l (imp p q) = bracketed (codes "\\imp") (text_by l p ++ (text_by l q ++ bracket))
-text_by l (not p) = bracketed (codes "\\not") (text_by l p ++ bracket)
-text_by l (and p q) = bracketed (codes "\\and") (text_by l p ++ (text_by l q ++ bracket))
-text_by l (or p q) = bracketed (codes "\\or") (text_by l p ++ (text_by l q ++ bracket))
-text_by l (equal p q) = bracketed (codes "\\eq") (text_by l p ++ (text_by l q ++ bracket))
-text_by l (member p q) = bracketed (codes "\\mem") (text_by l p ++ (text_by l q ++ bracket))
-text_by l (fun p s) = bracketed (codes "\\fun") (text_by l p ++ (l.sort s ++ bracket))
-text_by l (ex x s p) =
-    bracketed (codes "\\ex") (l.object x ++ (l.sort s ++ (text_by l p ++ bracket)))
-text_by l (all x s p) =
-    bracketed (codes "\\all") (l.object x ++ (l.sort s ++ (text_by l p ++ bracket)))
-text_by l (app p q) = bracketed (codes "\\app") (text_by l p ++ (text_by l q ++ bracket))
-text_by l (at_sort p s) = bracketed (codes "\\at") (text_by l p ++ (l.sort s ++ bracket))
-text_by l (next p) = bracketed (codes "\\next") (text_by l p ++ bracket)
-text_by l (ev p) = bracketed (codes "\\ev") (text_by l p ++ bracket)
+text_by l (nullary c) = (codes "\\" ++ nullary_name c) ∷ []
+text_by l (binary c p q) =
+    bracketed (codes "\\" ++ binary_name c) (text_by l p ++ (text_by l q ++ bracket))
+text_by l (unary c p) = bracketed (codes "\\" ++ unary_name c) (text_by l p ++ bracket)
+text_by l (sorted c p s) =
+    bracketed (codes "\\" ++ sorted_name c) (text_by l p ++ (l.sort s ++ bracket))
+text_by l (quantified c x s p) =
+    bracketed (codes "\\" ++ quantifier_name c)
+    (l.object x ++ (l.sort s ++ (text_by l p ++ bracket)))
 text_by l (var x) = l.object x
 text_by l (meta i) = l.meta i
 text_by l (constant c) = l.constant c

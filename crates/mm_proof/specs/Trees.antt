@@ -3,13 +3,14 @@ use Rattle.std.specs.Prelude.{ℕ, ◌==◌, if◌then◌else◌, List, [], ◌�
 use Rattle.std.specs.Prelude.{codes}
 use Rattle.mm_text.specs.Bytes.{Token}
 use Rattle.mm_database.specs.Proofs.{ProofTree, proof_node, ProofForest, no_proof, more_proofs}
-use Rattle.ml_pat.specs.Patterns.{Pattern, bot, top, imp, not, and, or, equal, member, fun, ex, all}
-use Rattle.ml_pat.specs.Patterns.{app, at_sort, next, ev, var, meta, constant}
+use Rattle.ml_pat.specs.Patterns.{Pattern, nullary, unary, binary, sorted, quantified, bot, imp}
+use Rattle.ml_pat.specs.Patterns.{not, and, or, equal, member, fun, var, meta, constant}
 use Rattle.ml_pat.specs.Judgements.{absent, fresh}
 use Rattle.ml_kernel.specs.Rules.{Instance, pattern, variable, sort, label}
 use Rattle.ml_kernel.specs.declared.rules.Rule.{Rule}
 use Rattle.ml_kernel.specs.declared.rules.Rule.TheVariants as rule
-use Rattle.mm_proof.specs.Tokens.{Naming}
+use Rattle.mm_proof.specs.Tokens.{Naming, nullary_name, unary_name, binary_name, sorted_name}
+use Rattle.mm_proof.specs.Tokens.{quantifier_name}
 
 abbrev pub trees_of : List ProofTree → ProofForest
 trees_of [] = no_proof
@@ -23,23 +24,15 @@ cite label trees = proof_node label (trees_of trees)
 -- constants, and of the `$f`s of variables. The trees below a label are in the order of the
 -- header's variables: `p q r t u x y s v`.
 abbrev pub syntax_tree : Naming → Pattern → ProofTree
-syntax_tree l bot = cite (codes "w.bot") []
-syntax_tree l top = cite (codes "w.top") []
-syntax_tree l (imp p q) = cite (codes "w.imp") (syntax_tree l p ∷ syntax_tree l q ∷ [])
-syntax_tree l (and p q) = cite (codes "w.and") (syntax_tree l p ∷ syntax_tree l q ∷ [])
-syntax_tree l (or p q) = cite (codes "w.or") (syntax_tree l p ∷ syntax_tree l q ∷ [])
-syntax_tree l (equal p q) = cite (codes "w.eq") (syntax_tree l p ∷ syntax_tree l q ∷ [])
-syntax_tree l (member p q) = cite (codes "w.mem") (syntax_tree l p ∷ syntax_tree l q ∷ [])
-syntax_tree l (app p q) = cite (codes "w.app") (syntax_tree l p ∷ syntax_tree l q ∷ [])
-syntax_tree l (not p) = cite (codes "w.not") (syntax_tree l p ∷ [])
-syntax_tree l (next p) = cite (codes "w.next") (syntax_tree l p ∷ [])
-syntax_tree l (ev p) = cite (codes "w.ev") (syntax_tree l p ∷ [])
-syntax_tree l (at_sort p s) = cite (codes "w.at") (syntax_tree l p ∷ cite (l.sort s) [] ∷ [])
-syntax_tree l (fun p s) = cite (codes "w.fun") (syntax_tree l p ∷ cite (l.sort s) [] ∷ [])
-syntax_tree l (ex x s p) =
-    cite (codes "w.ex") (syntax_tree l p ∷ cite (l.object x) [] ∷ cite (l.sort s) [] ∷ [])
-syntax_tree l (all x s p) =
-    cite (codes "w.all") (syntax_tree l p ∷ cite (l.object x) [] ∷ cite (l.sort s) [] ∷ [])
+syntax_tree l (nullary c) = cite (codes "w." ++ nullary_name c) []
+syntax_tree l (binary c p q) =
+    cite (codes "w." ++ binary_name c) (syntax_tree l p ∷ syntax_tree l q ∷ [])
+syntax_tree l (unary c p) = cite (codes "w." ++ unary_name c) (syntax_tree l p ∷ [])
+syntax_tree l (sorted c p s) =
+    cite (codes "w." ++ sorted_name c) (syntax_tree l p ∷ cite (l.sort s) [] ∷ [])
+syntax_tree l (quantified c x s p) =
+    cite (codes "w." ++ quantifier_name c)
+    (syntax_tree l p ∷ cite (l.object x) [] ∷ cite (l.sort s) [] ∷ [])
 syntax_tree l (var x) = cite (codes "w.var") (cite (l.object x) [] ∷ [])
 syntax_tree l (meta i) = cite (l.meta i) []
 syntax_tree l (constant c) = cite (l.constant c) []
@@ -54,57 +47,22 @@ absent_or l x p other = if absent x p then absent_tree l x p else other
 
 -- the proof that x is not free in a pattern, by its form
 abbrev pub fresh_by_form : Naming → ℕ → Pattern → ProofTree
-fresh_by_form l x (imp p q) =
-    cite (codes "fr.imp")
+fresh_by_form l x (binary c p q) =
+    cite (codes "fr." ++ binary_name c)
     (syntax_tree l p ∷ syntax_tree l q ∷ cite (l.object x) [] ∷
     absent_or l x p (fresh_by_form l x p) ∷ absent_or l x q (fresh_by_form l x q) ∷ [])
-fresh_by_form l x (and p q) =
-    cite (codes "fr.and")
-    (syntax_tree l p ∷ syntax_tree l q ∷ cite (l.object x) [] ∷
-    absent_or l x p (fresh_by_form l x p) ∷ absent_or l x q (fresh_by_form l x q) ∷ [])
-fresh_by_form l x (or p q) =
-    cite (codes "fr.or")
-    (syntax_tree l p ∷ syntax_tree l q ∷ cite (l.object x) [] ∷
-    absent_or l x p (fresh_by_form l x p) ∷ absent_or l x q (fresh_by_form l x q) ∷ [])
-fresh_by_form l x (equal p q) =
-    cite (codes "fr.eq")
-    (syntax_tree l p ∷ syntax_tree l q ∷ cite (l.object x) [] ∷
-    absent_or l x p (fresh_by_form l x p) ∷ absent_or l x q (fresh_by_form l x q) ∷ [])
-fresh_by_form l x (member p q) =
-    cite (codes "fr.mem")
-    (syntax_tree l p ∷ syntax_tree l q ∷ cite (l.object x) [] ∷
-    absent_or l x p (fresh_by_form l x p) ∷ absent_or l x q (fresh_by_form l x q) ∷ [])
-fresh_by_form l x (app p q) =
-    cite (codes "fr.app")
-    (syntax_tree l p ∷ syntax_tree l q ∷ cite (l.object x) [] ∷
-    absent_or l x p (fresh_by_form l x p) ∷ absent_or l x q (fresh_by_form l x q) ∷ [])
-fresh_by_form l x (not p) =
-    cite (codes "fr.not")
+fresh_by_form l x (unary c p) =
+    cite (codes "fr." ++ unary_name c)
     (syntax_tree l p ∷ cite (l.object x) [] ∷ absent_or l x p (fresh_by_form l x p) ∷ [])
-fresh_by_form l x (next p) =
-    cite (codes "fr.next")
-    (syntax_tree l p ∷ cite (l.object x) [] ∷ absent_or l x p (fresh_by_form l x p) ∷ [])
-fresh_by_form l x (ev p) =
-    cite (codes "fr.ev")
-    (syntax_tree l p ∷ cite (l.object x) [] ∷ absent_or l x p (fresh_by_form l x p) ∷ [])
-fresh_by_form l x (at_sort p s) =
-    cite (codes "fr.at")
+fresh_by_form l x (sorted c p s) =
+    cite (codes "fr." ++ sorted_name c)
     (syntax_tree l p ∷ cite (l.object x) [] ∷ cite (l.sort s) []
     ∷ absent_or l x p (fresh_by_form l x p) ∷ [])
-fresh_by_form l x (fun p s) =
-    cite (codes "fr.fun")
-    (syntax_tree l p ∷ cite (l.object x) [] ∷ cite (l.sort s) []
-    ∷ absent_or l x p (fresh_by_form l x p) ∷ [])
-fresh_by_form l x (ex y s p) =
+fresh_by_form l x (quantified c y s p) =
     if x == y
-    then cite (codes "fr.exb") (syntax_tree l p ∷ cite (l.object x) [] ∷ cite (l.sort s) [] ∷ [])
-    else cite (codes "fr.ex")
-    (syntax_tree l p ∷ cite (l.object x) [] ∷ cite (l.object y) [] ∷ cite (l.sort s) [] ∷
-    absent_or l x p (fresh_by_form l x p) ∷ [])
-fresh_by_form l x (all y s p) =
-    if x == y
-    then cite (codes "fr.allb") (syntax_tree l p ∷ cite (l.object x) [] ∷ cite (l.sort s) [] ∷ [])
-    else cite (codes "fr.all")
+    then cite (codes "fr." ++ (quantifier_name c ++ codes "b"))
+    (syntax_tree l p ∷ cite (l.object x) [] ∷ cite (l.sort s) [] ∷ [])
+    else cite (codes "fr." ++ quantifier_name c)
     (syntax_tree l p ∷ cite (l.object x) [] ∷ cite (l.object y) [] ∷ cite (l.sort s) [] ∷
     absent_or l x p (fresh_by_form l x p) ∷ [])
 fresh_by_form l x p = absent_tree l x p
@@ -115,28 +73,14 @@ fresh_tree l x p = absent_or l x p (fresh_by_form l x p)
 
 -- the first part and the second part of a pattern
 abbrev pub first_part : Pattern → Pattern
-first_part (imp p q) = p
-first_part (and p q) = p
-first_part (or p q) = p
-first_part (equal p q) = p
-first_part (member p q) = p
-first_part (app p q) = p
-first_part (not p) = p
-first_part (next p) = p
-first_part (ev p) = p
-first_part (at_sort p s) = p
-first_part (fun p s) = p
-first_part (ex x s p) = p
-first_part (all x s p) = p
+first_part (binary c p q) = p
+first_part (unary c p) = p
+first_part (sorted c p s) = p
+first_part (quantified c x s p) = p
 first_part p = p
 
 abbrev pub second_part : Pattern → Pattern
-second_part (imp p q) = q
-second_part (and p q) = q
-second_part (or p q) = q
-second_part (equal p q) = q
-second_part (member p q) = q
-second_part (app p q) = q
+second_part (binary c p q) = q
 second_part p = p
 
 -- the proof that a pattern in which x is not free stays the same with u substituted for x
@@ -155,78 +99,24 @@ unchanged_or l x u p other = if fresh x p then unchanged_tree l x u p else other
 abbrev pub substitution_by_form : Naming → ℕ → Pattern → Pattern → Pattern → ProofTree
 substitution_by_form l x u (var y) r =
     cite (codes "su.v") (syntax_tree l u ∷ cite (l.object x) [] ∷ [])
-substitution_by_form l x u (imp p q) r =
-    cite (codes "su.imp")
+substitution_by_form l x u (binary c p q) r =
+    cite (codes "su." ++ binary_name c)
     (syntax_tree l p ∷ syntax_tree l q ∷ syntax_tree l (second_part r)
     ∷ syntax_tree l (first_part r) ∷
     syntax_tree l u ∷ cite (l.object x) [] ∷
     unchanged_or l x u p (substitution_by_form l x u p (first_part r)) ∷
     unchanged_or l x u q (substitution_by_form l x u q (second_part r)) ∷ [])
-substitution_by_form l x u (and p q) r =
-    cite (codes "su.and")
-    (syntax_tree l p ∷ syntax_tree l q ∷ syntax_tree l (second_part r)
-    ∷ syntax_tree l (first_part r) ∷
-    syntax_tree l u ∷ cite (l.object x) [] ∷
-    unchanged_or l x u p (substitution_by_form l x u p (first_part r)) ∷
-    unchanged_or l x u q (substitution_by_form l x u q (second_part r)) ∷ [])
-substitution_by_form l x u (or p q) r =
-    cite (codes "su.or")
-    (syntax_tree l p ∷ syntax_tree l q ∷ syntax_tree l (second_part r)
-    ∷ syntax_tree l (first_part r) ∷
-    syntax_tree l u ∷ cite (l.object x) [] ∷
-    unchanged_or l x u p (substitution_by_form l x u p (first_part r)) ∷
-    unchanged_or l x u q (substitution_by_form l x u q (second_part r)) ∷ [])
-substitution_by_form l x u (equal p q) r =
-    cite (codes "su.eq")
-    (syntax_tree l p ∷ syntax_tree l q ∷ syntax_tree l (second_part r)
-    ∷ syntax_tree l (first_part r) ∷
-    syntax_tree l u ∷ cite (l.object x) [] ∷
-    unchanged_or l x u p (substitution_by_form l x u p (first_part r)) ∷
-    unchanged_or l x u q (substitution_by_form l x u q (second_part r)) ∷ [])
-substitution_by_form l x u (member p q) r =
-    cite (codes "su.mem")
-    (syntax_tree l p ∷ syntax_tree l q ∷ syntax_tree l (second_part r)
-    ∷ syntax_tree l (first_part r) ∷
-    syntax_tree l u ∷ cite (l.object x) [] ∷
-    unchanged_or l x u p (substitution_by_form l x u p (first_part r)) ∷
-    unchanged_or l x u q (substitution_by_form l x u q (second_part r)) ∷ [])
-substitution_by_form l x u (app p q) r =
-    cite (codes "su.app")
-    (syntax_tree l p ∷ syntax_tree l q ∷ syntax_tree l (second_part r)
-    ∷ syntax_tree l (first_part r) ∷
-    syntax_tree l u ∷ cite (l.object x) [] ∷
-    unchanged_or l x u p (substitution_by_form l x u p (first_part r)) ∷
-    unchanged_or l x u q (substitution_by_form l x u q (second_part r)) ∷ [])
-substitution_by_form l x u (not p) r =
-    cite (codes "su.not")
+substitution_by_form l x u (unary c p) r =
+    cite (codes "su." ++ unary_name c)
     (syntax_tree l p ∷ syntax_tree l (first_part r) ∷ syntax_tree l u ∷ cite (l.object x) [] ∷
     unchanged_or l x u p (substitution_by_form l x u p (first_part r)) ∷ [])
-substitution_by_form l x u (next p) r =
-    cite (codes "su.next")
-    (syntax_tree l p ∷ syntax_tree l (first_part r) ∷ syntax_tree l u ∷ cite (l.object x) [] ∷
-    unchanged_or l x u p (substitution_by_form l x u p (first_part r)) ∷ [])
-substitution_by_form l x u (ev p) r =
-    cite (codes "su.ev")
-    (syntax_tree l p ∷ syntax_tree l (first_part r) ∷ syntax_tree l u ∷ cite (l.object x) [] ∷
-    unchanged_or l x u p (substitution_by_form l x u p (first_part r)) ∷ [])
-substitution_by_form l x u (at_sort p s) r =
-    cite (codes "su.at")
+substitution_by_form l x u (sorted c p s) r =
+    cite (codes "su." ++ sorted_name c)
     (syntax_tree l p ∷ syntax_tree l (first_part r) ∷ syntax_tree l u ∷ cite (l.object x) []
     ∷ cite (l.sort s) [] ∷
     unchanged_or l x u p (substitution_by_form l x u p (first_part r)) ∷ [])
-substitution_by_form l x u (fun p s) r =
-    cite (codes "su.fun")
-    (syntax_tree l p ∷ syntax_tree l (first_part r) ∷ syntax_tree l u ∷ cite (l.object x) []
-    ∷ cite (l.sort s) [] ∷
-    unchanged_or l x u p (substitution_by_form l x u p (first_part r)) ∷ [])
-substitution_by_form l x u (ex y s p) r =
-    cite (codes "su.ex")
-    (syntax_tree l p ∷ syntax_tree l (first_part r) ∷ syntax_tree l u ∷ cite (l.object x) []
-    ∷ cite (l.object y) [] ∷
-    cite (l.sort s) [] ∷ fresh_tree l y u ∷
-    unchanged_or l x u p (substitution_by_form l x u p (first_part r)) ∷ [])
-substitution_by_form l x u (all y s p) r =
-    cite (codes "su.all")
+substitution_by_form l x u (quantified c y s p) r =
+    cite (codes "su." ++ quantifier_name c)
     (syntax_tree l p ∷ syntax_tree l (first_part r) ∷ syntax_tree l u ∷ cite (l.object x) []
     ∷ cite (l.object y) [] ∷
     cite (l.sort s) [] ∷ fresh_tree l y u ∷
@@ -239,8 +129,7 @@ substitution_tree l x u p r = unchanged_or l x u p (substitution_by_form l x u p
 
 -- the proof that a pattern is everything or nothing, if its form shows this
 abbrev pub predicate_tree : Naming → Pattern → ProofTree
-predicate_tree l bot = cite (codes "pr.bot") []
-predicate_tree l top = cite (codes "pr.top") []
+predicate_tree l (nullary c) = cite (codes "pr." ++ nullary_name c) []
 predicate_tree l (imp p q) =
     cite (codes "pr.imp")
     (syntax_tree l p ∷ syntax_tree l q ∷ predicate_tree l p ∷ predicate_tree l q ∷ [])
@@ -254,11 +143,8 @@ predicate_tree l (equal p q) = cite (codes "pr.eq") (syntax_tree l p ∷ syntax_
 predicate_tree l (member p q) = cite (codes "pr.mem") (syntax_tree l p ∷ syntax_tree l q ∷ [])
 predicate_tree l (not p) = cite (codes "pr.not") (syntax_tree l p ∷ predicate_tree l p ∷ [])
 predicate_tree l (fun p s) = cite (codes "pr.fun") (syntax_tree l p ∷ cite (l.sort s) [] ∷ [])
-predicate_tree l (ex x s p) =
-    cite (codes "pr.ex")
-    (syntax_tree l p ∷ cite (l.object x) [] ∷ cite (l.sort s) [] ∷ predicate_tree l p ∷ [])
-predicate_tree l (all x s p) =
-    cite (codes "pr.all")
+predicate_tree l (quantified c x s p) =
+    cite (codes "pr." ++ quantifier_name c)
     (syntax_tree l p ∷ cite (l.object x) [] ∷ cite (l.sort s) [] ∷ predicate_tree l p ∷ [])
 predicate_tree l p = syntax_tree l p
 

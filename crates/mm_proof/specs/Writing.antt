@@ -2,10 +2,10 @@
 use Rattle.std.specs.Prelude.{◌≡◌, ℕ, List, [], ◌∷◌, ◌++◌, flat_map, map, codes}
 use Rattle.mm_text.specs.Bytes.{Token}
 use Rattle.mm_database.specs.Proofs.{postorder}
-use Rattle.ml_pat.specs.Patterns.{Pattern, bot, top, imp, not, and, or, equal, member, fun, ex, all}
-use Rattle.ml_pat.specs.Patterns.{app, at_sort}
-use Rattle.ml_pat.specs.Patterns.{next, ev, var, meta, constant}
-use Rattle.mm_proof.specs.Tokens.{tokens_of, name_of, object_token, meta_token}
+use Rattle.ml_pat.specs.Patterns.{Pattern, nullary, unary, binary, sorted, quantified, var, meta}
+use Rattle.ml_pat.specs.Patterns.{constant}
+use Rattle.mm_proof.specs.Tokens.{tokens_of, name_of, object_token, meta_token, nullary_name}
+use Rattle.mm_proof.specs.Tokens.{unary_name, binary_name, sorted_name, quantifier_name}
 use Rattle.mm_proof.specs.Labels.{name_label, statement_label, object_label, meta_label}
 use Rattle.mm_proof.specs.Labels.{premise_label, own_labels}
 use Rattle.mm_proof.specs.Trees.{syntax_tree, fresh_tree, unchanged_tree, substitution_tree}
@@ -69,32 +69,16 @@ abbrev pub plain_bracket : List Entry
 plain_bracket = plain (codes ")") ∷ []
 
 abbrev pub text_entries : List Token → Pattern → List Entry
-text_entries names bot = plain (codes "\\bot") ∷ []
-text_entries names top = plain (codes "\\top") ∷ []
-text_entries names (imp p q) = plain_bracketed (codes "\\imp")
+text_entries names (nullary c) = plain (codes "\\" ++ nullary_name c) ∷ []
+text_entries names (binary c p q) = plain_bracketed (codes "\\" ++ binary_name c)
     (text_entries names p ++ (text_entries names q ++ plain_bracket))
-text_entries names (not p) = plain_bracketed (codes "\\not") (text_entries names p ++ plain_bracket)
-text_entries names (and p q) = plain_bracketed (codes "\\and")
-    (text_entries names p ++ (text_entries names q ++ plain_bracket))
-text_entries names (or p q) = plain_bracketed (codes "\\or")
-    (text_entries names p ++ (text_entries names q ++ plain_bracket))
-text_entries names (equal p q) = plain_bracketed (codes "\\eq")
-    (text_entries names p ++ (text_entries names q ++ plain_bracket))
-text_entries names (member p q) = plain_bracketed (codes "\\mem")
-    (text_entries names p ++ (text_entries names q ++ plain_bracket))
-text_entries names (fun p s) = plain_bracketed (codes "\\fun")
+text_entries names (unary c p) =
+    plain_bracketed (codes "\\" ++ unary_name c) (text_entries names p ++ plain_bracket)
+text_entries names (sorted c p s) = plain_bracketed (codes "\\" ++ sorted_name c)
     (text_entries names p ++ (plain (name_of names s) ∷ plain_bracket))
-text_entries names (ex x s p) = plain_bracketed (codes "\\ex") (plain (object_token x) ∷
+text_entries names (quantified c x s p) =
+    plain_bracketed (codes "\\" ++ quantifier_name c) (plain (object_token x) ∷
     (plain (name_of names s) ∷ (text_entries names p ++ plain_bracket)))
-text_entries names (all x s p) = plain_bracketed (codes "\\all") (plain (object_token x) ∷
-    (plain (name_of names s) ∷ (text_entries names p ++ plain_bracket)))
-text_entries names (app p q) = plain_bracketed (codes "\\app")
-    (text_entries names p ++ (text_entries names q ++ plain_bracket))
-text_entries names (at_sort p s) = plain_bracketed (codes "\\at")
-    (text_entries names p ++ (plain (name_of names s) ∷ plain_bracket))
-text_entries names (next p) =
-    plain_bracketed (codes "\\next") (text_entries names p ++ plain_bracket)
-text_entries names (ev p) = plain_bracketed (codes "\\ev") (text_entries names p ++ plain_bracket)
 text_entries names (var x) = plain (object_token x) ∷ []
 text_entries names (meta i) = plain (meta_token i) ∷ []
 text_entries names (constant c) = plain (name_of names c) ∷ []
