@@ -3,8 +3,7 @@ use Rattle.std.proofs.Common.{◌≡◌, Bool, true, List, [], ◌∷◌, refl, 
 use Rattle.std.specs.Prelude.{◌||◌, flat_map}
 use Rattle.std.specs.List.{list_any, list_all}
 use Rattle.mm_text.specs.Bytes.{Token}
-use Rattle.ml_pat.specs.Patterns.{Pattern, bot, top, imp, not, and, or, equal, member, fun, ex, all}
-use Rattle.ml_pat.specs.Patterns.{app, at_sort, next, ev, var, meta, constant}
+use Rattle.ml_pat.specs.Patterns.{Pattern, unary, binary, sorted, quantified, var, meta}
 use Rattle.ml_pat.specs.Leaves.{EachLeaf}
 use Rattle.ml_pat.proofs.LeafLaws.{both_true}
 use Rattle.mm_claims.specs.Variables.{Variable, object_variable, pattern_variable, same_variable}
@@ -21,48 +20,18 @@ use Rattle.mm_claims.proofs.VariableLaws.{has_append}
 
 -- a variable occurs in a pattern if and only if it is one of the pattern's variables
 stands-in : (v : Variable) (p : Pattern) → occurs_in v p ≡ has_variable (variables_in p) v
-stands-in v bot = refl
-stands-in v top = refl
-stands-in v (imp p q) =
+stands-in v (binary c p q) =
     sym (has_append (variables_in
     p) (variables_in q) v ∙ ap (λ b. b
     || has_variable (variables_in q) v) (sym (stands-in v p)) ∙ ap (λ b. occurs_in v p
     || b) (sym (stands-in v q)))
-stands-in v (and p q) =
-    sym (has_append (variables_in
-    p) (variables_in q) v ∙ ap (λ b. b
-    || has_variable (variables_in q) v) (sym (stands-in v p)) ∙ ap (λ b. occurs_in v p
-    || b) (sym (stands-in v q)))
-stands-in v (or p q) =
-    sym (has_append (variables_in
-    p) (variables_in q) v ∙ ap (λ b. b
-    || has_variable (variables_in q) v) (sym (stands-in v p)) ∙ ap (λ b. occurs_in v p
-    || b) (sym (stands-in v q)))
-stands-in v (equal p q) =
-    sym (has_append (variables_in
-    p) (variables_in q) v ∙ ap (λ b. b
-    || has_variable (variables_in q) v) (sym (stands-in v p)) ∙ ap (λ b. occurs_in v p
-    || b) (sym (stands-in v q)))
-stands-in v (member p q) =
-    sym (has_append (variables_in
-    p) (variables_in q) v ∙ ap (λ b. b
-    || has_variable (variables_in q) v) (sym (stands-in v p)) ∙ ap (λ b. occurs_in v p
-    || b) (sym (stands-in v q)))
-stands-in v (app p q) =
-    sym (has_append (variables_in
-    p) (variables_in q) v ∙ ap (λ b. b
-    || has_variable (variables_in q) v) (sym (stands-in v p)) ∙ ap (λ b. occurs_in v p
-    || b) (sym (stands-in v q)))
-stands-in v (not p) = stands-in v p
-stands-in v (next p) = stands-in v p
-stands-in v (ev p) = stands-in v p
-stands-in v (fun p s) = stands-in v p
-stands-in v (at_sort p s) = stands-in v p
-stands-in v (ex x s p) = ap (λ b. same_variable (object_variable x) v || b) (stands-in v p)
-stands-in v (all x s p) = ap (λ b. same_variable (object_variable x) v || b) (stands-in v p)
+stands-in v (unary c p) = stands-in v p
+stands-in v (sorted c p s) = stands-in v p
+stands-in v (quantified c x s p) =
+    ap (λ b. same_variable (object_variable x) v || b) (stands-in v p)
 stands-in v (var x) = sym (or_false (same_variable (object_variable x) v))
 stands-in v (meta i) = sym (or_false (same_variable (pattern_variable i) v))
-stands-in v (constant c) = refl
+stands-in v p = refl
 
 stands-any : (v : Variable) (ps : List Pattern)
     → list_any (occurs_in v) ps ≡ has_variable (flat_map variables_in ps) v

@@ -1,8 +1,7 @@
 -- No variable occurs in a closed pattern.
 use Rattle.std.proofs.Common.{◌≡◌, ℕ, List, [], ◌++◌, map, refl, ap}
 use Rattle.mm_text.specs.Bytes.{Token}
-use Rattle.ml_pat.specs.Patterns.{Pattern, bot, top, imp, not, and, or, equal, member, fun, ex, all}
-use Rattle.ml_pat.specs.Patterns.{app, at_sort, next, ev, var, meta, constant}
+use Rattle.ml_pat.specs.Patterns.{Pattern, unary, binary, sorted, quantified, var, meta, constant}
 use Rattle.ml_pat.specs.Leaves.{EachLeaf}
 use Rattle.ml_pat.proofs.LeafLaws.{EachLeaf-implied}
 use Rattle.mm_claims.specs.OverNames.{closed_over, over_names}
@@ -19,36 +18,15 @@ none_in_both us vs h k = rw (h, k) refl
 
 closed_variables : (names : List Token) (p : Pattern) → EachLeaf (closed_over names) p
     → variables_in p ≡ []
-closed_variables names bot h = refl
-closed_variables names top h = refl
 closed_variables names (var x) h = absurd h
 closed_variables names (meta i) h = absurd h
-closed_variables names (constant c) h = refl
-closed_variables names (not p) h = closed_variables names p h
-closed_variables names (next p) h = closed_variables names p h
-closed_variables names (ev p) h = closed_variables names p h
-closed_variables names (fun p s) h = closed_variables names p h.0
-closed_variables names (at_sort p s) h = closed_variables names p h.0
-closed_variables names (ex x s p) h = absurd h.1.0
-closed_variables names (all x s p) h = absurd h.1.0
-closed_variables names (imp p q) h =
+closed_variables names (unary c p) h = closed_variables names p h
+closed_variables names (sorted c p s) h = closed_variables names p h.0
+closed_variables names (quantified c x s p) h = absurd h.1.0
+closed_variables names (binary c p q) h =
     none_in_both (variables_in p) (variables_in q) (closed_variables names p h.0)
     (closed_variables names q h.1)
-closed_variables names (and p q) h =
-    none_in_both (variables_in p) (variables_in q) (closed_variables names p h.0)
-    (closed_variables names q h.1)
-closed_variables names (or p q) h =
-    none_in_both (variables_in p) (variables_in q) (closed_variables names p h.0)
-    (closed_variables names q h.1)
-closed_variables names (equal p q) h =
-    none_in_both (variables_in p) (variables_in q) (closed_variables names p h.0)
-    (closed_variables names q h.1)
-closed_variables names (member p q) h =
-    none_in_both (variables_in p) (variables_in q) (closed_variables names p h.0)
-    (closed_variables names q h.1)
-closed_variables names (app p q) h =
-    none_in_both (variables_in p) (variables_in q) (closed_variables names p h.0)
-    (closed_variables names q h.1)
+closed_variables names p h = refl
 
 pub closed_claims : ClosedClaims
 closed_claims names p h =
@@ -63,30 +41,13 @@ closed_is_over names p h = EachLeaf-implied (closed_over names) (over_names name
 }) h
 
 pub closed_has_no_meta : ClosedHasNoMeta
-closed_has_no_meta names bot h = tt
-closed_has_no_meta names top h = tt
-closed_has_no_meta names (var x) h = tt
 closed_has_no_meta names (meta i) h = absurd h
-closed_has_no_meta names (constant c) h = tt
-closed_has_no_meta names (not p) h = closed_has_no_meta names p h
-closed_has_no_meta names (next p) h = closed_has_no_meta names p h
-closed_has_no_meta names (ev p) h = closed_has_no_meta names p h
-closed_has_no_meta names (fun p s) h = closed_has_no_meta names p h.0
-closed_has_no_meta names (at_sort p s) h = closed_has_no_meta names p h.0
-closed_has_no_meta names (ex x s p) h = closed_has_no_meta names p h.0
-closed_has_no_meta names (all x s p) h = closed_has_no_meta names p h.0
-closed_has_no_meta names (imp p q) h =
+closed_has_no_meta names (unary c p) h = closed_has_no_meta names p h
+closed_has_no_meta names (sorted c p s) h = closed_has_no_meta names p h.0
+closed_has_no_meta names (quantified c x s p) h = closed_has_no_meta names p h.0
+closed_has_no_meta names (binary c p q) h =
     (closed_has_no_meta names p h.0, closed_has_no_meta names q h.1)
-closed_has_no_meta names (and p q) h =
-    (closed_has_no_meta names p h.0, closed_has_no_meta names q h.1)
-closed_has_no_meta names (or p q) h =
-    (closed_has_no_meta names p h.0, closed_has_no_meta names q h.1)
-closed_has_no_meta names (equal p q) h =
-    (closed_has_no_meta names p h.0, closed_has_no_meta names q h.1)
-closed_has_no_meta names (member p q) h =
-    (closed_has_no_meta names p h.0, closed_has_no_meta names q h.1)
-closed_has_no_meta names (app p q) h =
-    (closed_has_no_meta names p h.0, closed_has_no_meta names q h.1)
+closed_has_no_meta names p h = tt
 
 -- so the frame of its claim has no hypotheses
 pub closed_frame_has_none : (names : List Token) (k : ℕ) (p : Pattern)

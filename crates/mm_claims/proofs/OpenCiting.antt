@@ -13,9 +13,7 @@ use Rattle.mm_database.specs.Database.{Context}
 use Rattle.mm_database.specs.Proofs.{Expression, instance_of, typed_variables, texts_apart}
 use Rattle.mm_database.specs.Proofs.{pair_apart, keeps_apart, by_hypothesis, ProofTree, Proves}
 use Rattle.mm_database.specs.Proofs.{AllProve, symbols_apart}
-use Rattle.ml_pat.specs.Patterns.{Pattern, bot, top, imp, and, or, equal, member, fun, ex, all, app}
-use Rattle.ml_pat.specs.Patterns.{at_sort, next, ev, var, meta, constant}
-use Rattle.ml_pat.specs.Patterns as logic
+use Rattle.ml_pat.specs.Patterns.{Pattern, unary, binary, sorted, quantified, var, meta}
 use Rattle.ml_kernel.specs.Lemmas.{instance, instances, HaveNoVariables}
 use Rattle.ml_kernel.specs.Renamings.{renamed, Renames, by_place}
 use Rattle.ml_kernel.proofs.RenamingLaws.{renamed-none}
@@ -325,24 +323,12 @@ same_number x y h =
     ap (λ (z : ℕ). not (x == z)) (eqb-true y x h) ∙ ap not (itself_same (object_variable x))
 
 stands-absent : (x : ℕ) (p : Pattern) → occurs_in (object_variable x) p ≡ true → absent x p ≡ false
-stands-absent x bot h = absurd (false≢true h)
-stands-absent x top h = absurd (false≢true h)
-stands-absent x (imp p q) h = or_absent _ _ _ _ h (stands-absent x p) (stands-absent x q)
-stands-absent x (logic.not p) h = stands-absent x p h
-stands-absent x (and p q) h = or_absent _ _ _ _ h (stands-absent x p) (stands-absent x q)
-stands-absent x (or p q) h = or_absent _ _ _ _ h (stands-absent x p) (stands-absent x q)
-stands-absent x (equal p q) h = or_absent _ _ _ _ h (stands-absent x p) (stands-absent x q)
-stands-absent x (member p q) h = or_absent _ _ _ _ h (stands-absent x p) (stands-absent x q)
-stands-absent x (fun p s) h = stands-absent x p h
-stands-absent x (ex y s p) h = or_absent _ _ _ _ h (same_number x y) (stands-absent x p)
-stands-absent x (all y s p) h = or_absent _ _ _ _ h (same_number x y) (stands-absent x p)
-stands-absent x (app p q) h = or_absent _ _ _ _ h (stands-absent x p) (stands-absent x q)
-stands-absent x (at_sort p s) h = stands-absent x p h
-stands-absent x (next p) h = stands-absent x p h
-stands-absent x (ev p) h = stands-absent x p h
+stands-absent x (binary c p q) h = or_absent _ _ _ _ h (stands-absent x p) (stands-absent x q)
+stands-absent x (unary c p) h = stands-absent x p h
+stands-absent x (sorted c p s) h = stands-absent x p h
+stands-absent x (quantified c y s p) h = or_absent _ _ _ _ h (same_number x y) (stands-absent x p)
 stands-absent x (var y) h = same_number x y h
-stands-absent x (meta i) h = absurd (false≢true h)
-stands-absent x (constant d) h = absurd (false≢true h)
+stands-absent x p h = absurd (false≢true h)
 
 passes_at : (test : Variable → Bool) (vs : List Variable) (v : Variable) → list_all test vs ≡ true
     → has_variable vs v ≡ true → test v ≡ true

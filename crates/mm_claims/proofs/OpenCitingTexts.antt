@@ -9,12 +9,13 @@ use Rattle.mm_text.specs.Bytes.{Token}
 use Rattle.mm_database.specs.Frames.{Hypothesis}
 use Rattle.mm_database.specs.Proofs.{Expression, instance_of, substituted}
 use Rattle.mm_database.specs.Stack.{bindings_of, text_of}
-use Rattle.ml_pat.specs.Patterns.{Pattern, bot, top, imp, not, and, or, equal, member, fun, ex, all}
-use Rattle.ml_pat.specs.Patterns.{app, at_sort, next, ev, var, meta, constant}
+use Rattle.ml_pat.specs.Patterns.{Pattern, nullary, unary, binary, sorted, quantified, meta}
+use Rattle.ml_pat.specs.Patterns.{constant}
 use Rattle.ml_kernel.specs.Lemmas.{instance, instances, HasNoVariable, HaveNoVariables}
 use Rattle.ml_kernel.specs.Renamings.{renamed, by_place}
 use Rattle.mm_proof.specs.Tokens.{Naming, letters_of, bracket, bracketed, text_by, object_token}
 use Rattle.mm_proof.specs.Tokens.{meta_token, own_naming, name_of, holds}
+use Rattle.mm_proof.specs.Tokens.{unary_name, binary_name, sorted_name, quantifier_name}
 use Rattle.ml_pat.specs.Leaves.{LeafFacts, EachLeaf}
 use Rattle.mm_proof.specs.Derivations.{holds_text}
 use Rattle.mm_proof.specs.Serving.{punctuation}
@@ -179,43 +180,18 @@ bound_same k x x' s s' a a' h l m = rw (h, l, m) refl
 pub text-instance : (sigma : Token → Expression) (n : Naming) (new : List ℕ) (ms : List Pattern)
     (p : Pattern) → EachLeaf (gives_instances sigma n new ms) p
     → text_by (under sigma n) p ≡ text_by (letters_of n) (instance ms (renamed (by_place new) p))
-text-instance sigma n new ms bot h = refl
-text-instance sigma n new ms top h = refl
-text-instance sigma n new ms (imp p q) h =
-    two_same (codes "\\imp") _ _ _ _ (text-instance sigma n new ms p h.0)
+text-instance sigma n new ms (nullary c) h = refl
+text-instance sigma n new ms (binary c p q) h =
+    two_same (codes "\\" ++ binary_name c) _ _ _ _ (text-instance sigma n new ms p h.0)
     (text-instance sigma n new ms q h.1)
-text-instance sigma n new ms (and p q) h =
-    two_same (codes "\\and") _ _ _ _ (text-instance sigma n new ms p h.0)
-    (text-instance sigma n new ms q h.1)
-text-instance sigma n new ms (or p q) h =
-    two_same (codes "\\or") _ _ _ _ (text-instance sigma n new ms p h.0)
-    (text-instance sigma n new ms q h.1)
-text-instance sigma n new ms (equal p q) h =
-    two_same (codes "\\eq") _ _ _ _ (text-instance sigma n new ms p h.0)
-    (text-instance sigma n new ms q h.1)
-text-instance sigma n new ms (member p q) h =
-    two_same (codes "\\mem") _ _ _ _ (text-instance sigma n new ms p h.0)
-    (text-instance sigma n new ms q h.1)
-text-instance sigma n new ms (app p q) h =
-    two_same (codes "\\app") _ _ _ _ (text-instance sigma n new ms p h.0)
-    (text-instance sigma n new ms q h.1)
-text-instance sigma n new ms (not p) h =
-    one_same (codes "\\not") _ _ (text-instance sigma n new ms p h)
-text-instance sigma n new ms (next p) h =
-    one_same (codes "\\next") _ _ (text-instance sigma n new ms p h)
-text-instance sigma n new ms (ev p) h =
-    one_same (codes "\\ev") _ _ (text-instance sigma n new ms p h)
-text-instance sigma n new ms (at_sort p s) h =
-    two_same (codes "\\at") _ _ _ _ (text-instance sigma n new ms p h.0) h.1
-text-instance sigma n new ms (fun p s) h =
-    two_same (codes "\\fun") _ _ _ _ (text-instance sigma n new ms p h.0) h.1
-text-instance sigma n new ms (ex x s p) h =
-    bound_same (codes "\\ex") _ _ _ _ _ _ h.1.0 h.1.1 (text-instance sigma n new ms p h.0)
-text-instance sigma n new ms (all x s p) h =
-    bound_same (codes "\\all") _ _ _ _ _ _ h.1.0 h.1.1 (text-instance sigma n new ms p h.0)
-text-instance sigma n new ms (var x) h = h
-text-instance sigma n new ms (meta i) h = h
-text-instance sigma n new ms (constant c) h = h
+text-instance sigma n new ms (unary c p) h =
+    one_same (codes "\\" ++ unary_name c) _ _ (text-instance sigma n new ms p h)
+text-instance sigma n new ms (sorted c p s) h =
+    two_same (codes "\\" ++ sorted_name c) _ _ _ _ (text-instance sigma n new ms p h.0) h.1
+text-instance sigma n new ms (quantified c x s p) h =
+    bound_same (codes "\\" ++ quantifier_name c) _ _ _ _ _ _ h.1.0 h.1.1
+    (text-instance sigma n new ms p h.0)
+text-instance sigma n new ms p h = h
 
 -- What a substitution gives the variables of a claim over declared names, and what it gives
 -- everything that is not a variable.
@@ -277,42 +253,18 @@ no_variables_at (m ∷ ms) (suc i) p h k = no_variables_at ms i p h.1 k
 -- such a pattern has no object variable, so it does not have x
 pub other_than : (f : LeafFacts) (x : ℕ) (p : Pattern) → HasNoVariable p → EachLeaf f p
     → EachLeaf (other_leaves x f) p
-other_than f x bot n h = tt
-other_than f x top n h = tt
-other_than f x (imp p q) n h = (other_than f x p n.0 h.0, other_than f x q n.1 h.1)
-other_than f x (and p q) n h = (other_than f x p n.0 h.0, other_than f x q n.1 h.1)
-other_than f x (or p q) n h = (other_than f x p n.0 h.0, other_than f x q n.1 h.1)
-other_than f x (equal p q) n h = (other_than f x p n.0 h.0, other_than f x q n.1 h.1)
-other_than f x (member p q) n h = (other_than f x p n.0 h.0, other_than f x q n.1 h.1)
-other_than f x (app p q) n h = (other_than f x p n.0 h.0, other_than f x q n.1 h.1)
-other_than f x (not p) n h = other_than f x p n h
-other_than f x (next p) n h = other_than f x p n h
-other_than f x (ev p) n h = other_than f x p n h
-other_than f x (at_sort p s) n h = (other_than f x p n h.0, h.1)
-other_than f x (fun p s) n h = (other_than f x p n h.0, h.1)
-other_than f x (ex y s p) n h = absurd n
-other_than f x (all y s p) n h = absurd n
-other_than f x (var y) n h = absurd n
+other_than f x (nullary c) n h = tt
+other_than f x (binary c p q) n h = (other_than f x p n.0 h.0, other_than f x q n.1 h.1)
+other_than f x (unary c p) n h = other_than f x p n h
+other_than f x (sorted c p s) n h = (other_than f x p n h.0, h.1)
 other_than f x (meta i) n h = h
 other_than f x (constant c) n h = h
+other_than f x p n h = absurd n
 
 -- a pattern is its own instance if no patterns are given
 pub instance-none : (p : Pattern) → instance [] p ≡ p
-instance-none bot = refl
-instance-none top = refl
-instance-none (imp p q) = rw (instance-none p, instance-none q) refl
-instance-none (and p q) = rw (instance-none p, instance-none q) refl
-instance-none (or p q) = rw (instance-none p, instance-none q) refl
-instance-none (equal p q) = rw (instance-none p, instance-none q) refl
-instance-none (member p q) = rw (instance-none p, instance-none q) refl
-instance-none (app p q) = rw (instance-none p, instance-none q) refl
-instance-none (not p) = ap not (instance-none p)
-instance-none (next p) = ap next (instance-none p)
-instance-none (ev p) = ap ev (instance-none p)
-instance-none (at_sort p s) = rw (instance-none p) refl
-instance-none (fun p s) = rw (instance-none p) refl
-instance-none (ex x s p) = rw (instance-none p) refl
-instance-none (all x s p) = rw (instance-none p) refl
-instance-none (var x) = refl
-instance-none (meta i) = refl
-instance-none (constant c) = refl
+instance-none (binary c p q) = rw (instance-none p, instance-none q) refl
+instance-none (unary c p) = ap (unary c) (instance-none p)
+instance-none (sorted c p s) = rw (instance-none p) refl
+instance-none (quantified c x s p) = rw (instance-none p) refl
+instance-none p = refl

@@ -13,9 +13,9 @@ use Rattle.mm_database.specs.Frames.{Hypothesis, floating, essential, Scope, Fra
 use Rattle.mm_database.specs.Frames.{is_mandatory, frame_of}
 use Rattle.mm_database.specs.Database.{Context, are_different_tokens}
 use Rattle.mm_header.specs.HeaderContext.{header_context}
-use Rattle.ml_pat.specs.Patterns.{Pattern, bot, top, imp, not, and, or, equal, member, fun, ex, all}
-use Rattle.ml_pat.specs.Patterns.{app, at_sort, next, ev, var, meta, constant}
+use Rattle.ml_pat.specs.Patterns.{Pattern, unary, binary, sorted, quantified, var, meta}
 use Rattle.mm_proof.specs.Tokens.{letters_of, text_by, bracket, name_of, own_naming}
+use Rattle.mm_proof.specs.Tokens.{unary_name, binary_name, sorted_name, quantifier_name}
 use Rattle.mm_proof.specs.Labels.{statement_label}
 use Rattle.ml_pat.specs.Leaves.{EachLeaf}
 use Rattle.mm_proof.specs.Derivations.{holds_text}
@@ -78,68 +78,22 @@ two_have k xs ys t a b h f g =
 
 pub stands_token : (declared : List Token) (v : Variable) (p : Pattern) → occurs_in v p ≡ true
     → has_token (text_by (letters_of (own_naming declared)) p) (variable_token v) ≡ true
-stands_token declared v bot h = absurd (false≢true h)
-stands_token declared v top h = absurd (false≢true h)
-stands_token declared v (imp p q) h =
-    two_have (codes "\\imp") (text_by (letters_of (own_naming declared)) p)
+stands_token declared v (binary c p q) h =
+    two_have (codes "\\" ++ binary_name c) (text_by (letters_of (own_naming declared)) p)
     (text_by (letters_of (own_naming declared)) q) (variable_token v) (occurs_in v p)
     (occurs_in v q) h (stands_token declared v p) (stands_token declared v q)
-stands_token declared v (and p q) h =
-    two_have (codes "\\and") (text_by (letters_of (own_naming declared)) p)
-    (text_by (letters_of (own_naming declared)) q) (variable_token v) (occurs_in v p)
-    (occurs_in v q) h (stands_token declared v p) (stands_token declared v q)
-stands_token declared v (or p q) h =
-    two_have (codes "\\or") (text_by (letters_of (own_naming declared)) p)
-    (text_by (letters_of (own_naming declared)) q) (variable_token v) (occurs_in v p)
-    (occurs_in v q) h (stands_token declared v p) (stands_token declared v q)
-stands_token declared v (equal p q) h =
-    two_have (codes "\\eq") (text_by (letters_of (own_naming declared)) p)
-    (text_by (letters_of (own_naming declared)) q) (variable_token v) (occurs_in v p)
-    (occurs_in v q) h (stands_token declared v p) (stands_token declared v q)
-stands_token declared v (member p q) h =
-    two_have (codes "\\mem") (text_by (letters_of (own_naming declared)) p)
-    (text_by (letters_of (own_naming declared)) q) (variable_token v) (occurs_in v p)
-    (occurs_in v q) h (stands_token declared v p) (stands_token declared v q)
-stands_token declared v (app p q) h =
-    two_have (codes "\\app") (text_by (letters_of (own_naming declared)) p)
-    (text_by (letters_of (own_naming declared)) q) (variable_token v) (occurs_in v p)
-    (occurs_in v q) h (stands_token declared v p) (stands_token declared v q)
-stands_token declared v (not p) h =
-    bracketed_has (codes "\\not") (text_by (letters_of (own_naming declared)) p ++ bracket)
+stands_token declared v (unary c p) h =
+    bracketed_has (codes "\\" ++ unary_name c)
+    (text_by (letters_of (own_naming declared)) p ++ bracket)
     (variable_token v) (in_first (text_by (letters_of (own_naming declared)) p) bracket
     (variable_token v) (stands_token declared v p h))
-stands_token declared v (next p) h =
-    bracketed_has (codes "\\next") (text_by (letters_of (own_naming declared)) p ++ bracket)
-    (variable_token v) (in_first (text_by (letters_of (own_naming declared)) p) bracket
-    (variable_token v) (stands_token declared v p h))
-stands_token declared v (ev p) h =
-    bracketed_has (codes "\\ev") (text_by (letters_of (own_naming declared)) p ++ bracket)
-    (variable_token v) (in_first (text_by (letters_of (own_naming declared)) p) bracket
-    (variable_token v) (stands_token declared v p h))
-stands_token declared v (at_sort p s) h =
-    bracketed_has (codes "\\at")
+stands_token declared v (sorted c p s) h =
+    bracketed_has (codes "\\" ++ sorted_name c)
     (text_by (letters_of (own_naming declared)) p ++ (name_of declared s ∷ bracket))
     (variable_token v) (in_first (text_by (letters_of (own_naming declared)) p)
     (name_of declared s ∷ bracket) (variable_token v) (stands_token declared v p h))
-stands_token declared v (fun p s) h =
-    bracketed_has (codes "\\fun")
-    (text_by (letters_of (own_naming declared)) p ++ (name_of declared s ∷ bracket))
-    (variable_token v) (in_first (text_by (letters_of (own_naming declared)) p)
-    (name_of declared s ∷ bracket) (variable_token v) (stands_token declared v p h))
-stands_token declared v (ex x s p) h =
-    bracketed_has (codes "\\ex") (variable_token (object_variable x)
-    ∷ (name_of declared s ∷ (text_by (letters_of (own_naming declared)) p ++ bracket)))
-    (variable_token v)
-    (either (same_variable (object_variable x) v) (occurs_in v p) h (same_token (object_variable x)
-    v (name_of declared s ∷ (text_by (letters_of (own_naming declared)) p ++ bracket)))
-    (λ r. behind_one (variable_token (object_variable x))
-    (name_of declared s ∷ (text_by (letters_of (own_naming declared)) p ++ bracket))
-    (variable_token v) (behind_one (name_of declared s)
-    (text_by (letters_of (own_naming declared)) p ++ bracket) (variable_token v)
-    (in_first (text_by (letters_of (own_naming declared)) p) bracket (variable_token v)
-    (stands_token declared v p r)))))
-stands_token declared v (all x s p) h =
-    bracketed_has (codes "\\all") (variable_token (object_variable x)
+stands_token declared v (quantified c x s p) h =
+    bracketed_has (codes "\\" ++ quantifier_name c) (variable_token (object_variable x)
     ∷ (name_of declared s ∷ (text_by (letters_of (own_naming declared)) p ++ bracket)))
     (variable_token v)
     (either (same_variable (object_variable x) v) (occurs_in v p) h (same_token (object_variable x)
@@ -152,7 +106,7 @@ stands_token declared v (all x s p) h =
     (stands_token declared v p r)))))
 stands_token declared v (var x) h = same_token (object_variable x) v [] h
 stands_token declared v (meta i) h = same_token (pattern_variable i) v [] h
-stands_token declared v (constant c) h = absurd (false≢true h)
+stands_token declared v p h = absurd (false≢true h)
 
 -- another variable does not occur in it
 

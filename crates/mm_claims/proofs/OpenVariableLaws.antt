@@ -5,8 +5,8 @@ use Rattle.std.proofs.Common.{append_assoc, append-nil}
 use Rattle.std.specs.Prelude.{if◌then◌else◌, flat_map}
 use Rattle.std.proofs.lemmas.Bool.{false≢true}
 use Rattle.mm_text.specs.Bytes.{Token}
-use Rattle.ml_pat.specs.Patterns.{Pattern, bot, top, imp, not, and, or, equal, member, fun, ex, all}
-use Rattle.ml_pat.specs.Patterns.{app, at_sort, next, ev, var, meta, constant}
+use Rattle.ml_pat.specs.Patterns.{Pattern, nullary, unary, binary, sorted, quantified, var, meta}
+use Rattle.ml_pat.specs.Patterns.{constant}
 use Rattle.ml_kernel.specs.Lemmas.{instance}
 use Rattle.ml_kernel.specs.Renamings.{by_place}
 use Rattle.ml_kernel.specs.Rules.{Instance, pattern, variable, sort}
@@ -49,43 +49,14 @@ among_behind us ws vs h v there = h v (behind us ws v there)
 pub leaves_among : (declared : List Token) (vs : List Variable) (p : Pattern)
     → Among (variables_in p) vs → EachLeaf (over_names declared) p
     → EachLeaf (open_over declared vs) p
-leaves_among declared vs bot w h = tt
-leaves_among declared vs top w h = tt
-leaves_among declared vs (imp p q) w h = (
+leaves_among declared vs (nullary c) w h = tt
+leaves_among declared vs (binary c p q) w h = (
   leaves_among declared vs p (among_front (variables_in p) (variables_in q) vs w) h.0,
   leaves_among declared vs q (among_behind (variables_in p) (variables_in q) vs w) h.1,
 )
-leaves_among declared vs (and p q) w h = (
-  leaves_among declared vs p (among_front (variables_in p) (variables_in q) vs w) h.0,
-  leaves_among declared vs q (among_behind (variables_in p) (variables_in q) vs w) h.1,
-)
-leaves_among declared vs (or p q) w h = (
-  leaves_among declared vs p (among_front (variables_in p) (variables_in q) vs w) h.0,
-  leaves_among declared vs q (among_behind (variables_in p) (variables_in q) vs w) h.1,
-)
-leaves_among declared vs (equal p q) w h = (
-  leaves_among declared vs p (among_front (variables_in p) (variables_in q) vs w) h.0,
-  leaves_among declared vs q (among_behind (variables_in p) (variables_in q) vs w) h.1,
-)
-leaves_among declared vs (member p q) w h = (
-  leaves_among declared vs p (among_front (variables_in p) (variables_in q) vs w) h.0,
-  leaves_among declared vs q (among_behind (variables_in p) (variables_in q) vs w) h.1,
-)
-leaves_among declared vs (app p q) w h = (
-  leaves_among declared vs p (among_front (variables_in p) (variables_in q) vs w) h.0,
-  leaves_among declared vs q (among_behind (variables_in p) (variables_in q) vs w) h.1,
-)
-leaves_among declared vs (not p) w h = leaves_among declared vs p w h
-leaves_among declared vs (next p) w h = leaves_among declared vs p w h
-leaves_among declared vs (ev p) w h = leaves_among declared vs p w h
-leaves_among declared vs (at_sort p s) w h = (leaves_among declared vs p w h.0, h.1)
-leaves_among declared vs (fun p s) w h = (leaves_among declared vs p w h.0, h.1)
-leaves_among declared vs (ex x s p) w h = (
-  leaves_among declared vs p
-      (λ v there. w v (later_there (object_variable x) (variables_in p) v there)) h.0,
-  (w (object_variable x) (first_there (object_variable x) (variables_in p)), h.1.1),
-)
-leaves_among declared vs (all x s p) w h = (
+leaves_among declared vs (unary c p) w h = leaves_among declared vs p w h
+leaves_among declared vs (sorted c p s) w h = (leaves_among declared vs p w h.0, h.1)
+leaves_among declared vs (quantified c x s p) w h = (
   leaves_among declared vs p
       (λ v there. w v (later_there (object_variable x) (variables_in p) v there)) h.0,
   (w (object_variable x) (first_there (object_variable x) (variables_in p)), h.1.1),

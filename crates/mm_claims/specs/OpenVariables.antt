@@ -2,8 +2,8 @@
 -- With these variables it can be written after a text that fits, if all that it uses besides them
 -- is declared names.
 use Rattle.std.specs.Prelude.{ℕ, if◌then◌else◌, List, [], ◌∷◌, ◌++◌, flat_map}
-use Rattle.ml_pat.specs.Patterns.{Pattern, bot, top, imp, not, and, or, equal, member, fun, ex, all}
-use Rattle.ml_pat.specs.Patterns.{app, at_sort, next, ev, var, meta, constant}
+use Rattle.ml_pat.specs.Patterns.{Pattern, nullary, unary, binary, sorted, quantified, var, meta}
+use Rattle.ml_pat.specs.Patterns.{constant}
 use Rattle.ml_kernel.specs.Lemmas.{instance}
 use Rattle.ml_kernel.specs.Renamings.{by_place}
 use Rattle.ml_kernel.specs.Rules.{Instance, pattern, variable, sort}
@@ -14,21 +14,11 @@ use Rattle.mm_claims.specs.Blocks.{Stated}
 
 -- the variables that occur in a pattern, bound or free, one after another
 abbrev pub variables_in : Pattern → List Variable
-variables_in bot = []
-variables_in top = []
-variables_in (imp p q) = variables_in p ++ variables_in q
-variables_in (not p) = variables_in p
-variables_in (and p q) = variables_in p ++ variables_in q
-variables_in (or p q) = variables_in p ++ variables_in q
-variables_in (equal p q) = variables_in p ++ variables_in q
-variables_in (member p q) = variables_in p ++ variables_in q
-variables_in (fun p s) = variables_in p
-variables_in (ex x s p) = object_variable x ∷ variables_in p
-variables_in (all x s p) = object_variable x ∷ variables_in p
-variables_in (app p q) = variables_in p ++ variables_in q
-variables_in (at_sort p s) = variables_in p
-variables_in (next p) = variables_in p
-variables_in (ev p) = variables_in p
+variables_in (nullary c) = []
+variables_in (binary c p q) = variables_in p ++ variables_in q
+variables_in (unary c p) = variables_in p
+variables_in (sorted c p s) = variables_in p
+variables_in (quantified c x s p) = object_variable x ∷ variables_in p
 variables_in (var x) = object_variable x ∷ []
 variables_in (meta i) = pattern_variable i ∷ []
 variables_in (constant c) = []

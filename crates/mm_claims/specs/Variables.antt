@@ -4,8 +4,8 @@ use Rattle.std.specs.Prelude.{filter, codes}
 use Rattle.std.specs.Prelude as std
 use Rattle.std.specs.List.{list_any}
 use Rattle.mm_text.specs.Bytes.{Token}
-use Rattle.ml_pat.specs.Patterns.{Pattern, bot, top, imp, not, and, or, equal, member, fun, ex, all}
-use Rattle.ml_pat.specs.Patterns.{app, at_sort, next, ev, var, meta, constant}
+use Rattle.ml_pat.specs.Patterns.{Pattern, nullary, unary, binary, sorted, quantified, var, meta}
+use Rattle.ml_pat.specs.Patterns.{constant}
 use Rattle.mm_proof.specs.Tokens.{object_token, meta_token}
 use Rattle.mm_proof.specs.Labels.{object_label, meta_label}
 
@@ -42,21 +42,11 @@ AreNumbered (v ∷ vs) = (number_of v < 2 ^ 64) × AreNumbered vs
 
 -- the variable occurs in the pattern, bound or free
 abbrev pub occurs_in : Variable → Pattern → Bool
-occurs_in v bot = false
-occurs_in v top = false
-occurs_in v (imp p q) = occurs_in v p || occurs_in v q
-occurs_in v (not p) = occurs_in v p
-occurs_in v (and p q) = occurs_in v p || occurs_in v q
-occurs_in v (or p q) = occurs_in v p || occurs_in v q
-occurs_in v (equal p q) = occurs_in v p || occurs_in v q
-occurs_in v (member p q) = occurs_in v p || occurs_in v q
-occurs_in v (fun p s) = occurs_in v p
-occurs_in v (ex x s p) = same_variable (object_variable x) v || occurs_in v p
-occurs_in v (all x s p) = same_variable (object_variable x) v || occurs_in v p
-occurs_in v (app p q) = occurs_in v p || occurs_in v q
-occurs_in v (at_sort p s) = occurs_in v p
-occurs_in v (next p) = occurs_in v p
-occurs_in v (ev p) = occurs_in v p
+occurs_in v (nullary c) = false
+occurs_in v (binary c p q) = occurs_in v p || occurs_in v q
+occurs_in v (unary c p) = occurs_in v p
+occurs_in v (sorted c p s) = occurs_in v p
+occurs_in v (quantified c x s p) = same_variable (object_variable x) v || occurs_in v p
 occurs_in v (var x) = same_variable (object_variable x) v
 occurs_in v (meta i) = same_variable (pattern_variable i) v
 occurs_in v (constant c) = false
