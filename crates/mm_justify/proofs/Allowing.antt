@@ -1,7 +1,6 @@
 -- Texts that gain allowed assertions, and what stays true when names and statements are added.
 use Rattle.std.proofs.Common.{◌≡◌, ℕ, Bool, true, false, List, [], ◌∷◌, ◌++◌, map, Some, length}
-use Rattle.std.proofs.Common.{take, drop, zero, suc, Option, append-nil, refl, ap, sym, ◌∙◌, subst}
-use Rattle.std.specs.Prelude.{if◌then◌else◌, bytes_eq}
+use Rattle.std.proofs.Common.{take, drop, zero, suc, refl, ap, sym, ◌∙◌, subst}
 use Rattle.ml_pat.specs.Named.{AreDistinct, IsNoneOf}
 use Rattle.mm_claims.specs.Fitting.{AreNames}
 use Rattle.std.proofs.lemmas.Bool.{false≢true}
@@ -14,22 +13,21 @@ use Rattle.mm_database.proofs.Faults.{faultless_valid}
 use Rattle.ml_pat.specs.Patterns.{Pattern, imp, ev}
 use Rattle.rule_core.specs.Theories.{RewriteTheory}
 use Rattle.ml_pat.specs.Leaves.{EachLeaf}
-use Rattle.mm_proof.specs.Tokens.{own_naming}
-use Rattle.mm_proof.specs.Derivations.{holds_text}
 use Rattle.mm_claims.specs.Rendered.{Rendered, all_stated}
 use Rattle.mm_claims.specs.OverNames.{closed_over}
-use Rattle.mm_claims.specs.Variables.{Variable, object_variable, pattern_variable, variable_token}
-use Rattle.mm_claims.specs.Variables.{variable_type}
+use Rattle.mm_claims.specs.Variables.{Variable, object_variable, pattern_variable}
 use Rattle.mm_claims.specs.Blocks.{Claim, variable_float, open_frame, open_assertion}
 use Rattle.mm_claims.specs.Claiming.{GainsExactly}
 use Rattle.mm_claims.specs.ClaimVariables.{claim_of, claim_variables}
 use Rattle.mm_claims.specs.Keeping.{FitsWhen, Fits, Gains}
 use Rattle.mm_claims.specs.Places.{lemma_statements, more_variables}
-use Rattle.mm_justify.specs.Justifying.{typecode_in, premises_in, SaysNoMore, holds_frame}
+use Rattle.mm_justify.specs.Stating.{holds_text}
 use Rattle.mm_justify.specs.Justifying.{assumption_of, AreAllowed, AreTypings, HasOnlyAxiomsOf}
 use Rattle.mm_justify.specs.Justifying.{Justifies}
 use Rattle.mm_justify.specs.JustifyingLaws.{AxiomHasOnly, TheoremHasOnly, TheoremFitsAnywhere}
 use Rattle.mm_justify.specs.JustifyingLaws.{TheoremJustifies, RunIsJustified}
+use Rattle.mm_justify.proofs.ImageLeaves.{sentence_has_no_meta}
+use Rattle.mm_justify.proofs.StatedFrames.{claim_says_no_more, all_names}
 use Rattle.mm_claims.proofs.OpenFits.{claims_are_valid}
 use Rattle.mm_claims.proofs.ClosedPatterns.{closed_frame_has_none}
 use Rattle.mm_database.specs.StatementTexts.{written_statements}
@@ -77,41 +75,15 @@ has_only_just theory bytes appended k vs a only allowed just =
     has_only_more theory bytes appended (a ∷ []) (map (variable_float k) vs) only allowed
     (floats_typed k vs) just.assertions just.typings
 
--- the frame of a claim says no more than the frame of the same claim with another number
-same_types : (k : ℕ) (vs : List Variable) (v : Token)
-    → typecode_in (map (variable_float k) vs) v ≡ typecode_in (map (variable_float 0) vs) v
-same_types k [] v = refl
-same_types k (u ∷ vs) v =
-    ap (λ (o : Option Token). if bytes_eq (variable_token u) v then Some (variable_type u) else o)
-    (same_types k vs v)
-
-no_premises_in : (k : ℕ) (vs : List Variable) → premises_in (map (variable_float k) vs) ≡ []
-no_premises_in k [] = refl
-no_premises_in k (v ∷ vs) = no_premises_in k vs
-
-pub claim_says_no_more : (names : List Token) (k : ℕ) (p : Pattern)
-    → SaysNoMore (open_frame names k (claim_of [] p)) (holds_frame names p)
-claim_says_no_more names k p =
-    let vs : List Variable = claim_variables [] p in
-    let all : (j : ℕ) → map (variable_float j) (claim_variables [] p) ++ [] ≡ map (variable_float j)
-    (claim_variables [] p) =
-    λ j. append-nil (map (variable_float j) (claim_variables [] p)) in
-    record {
-      statement = refl;
-      premises = ap premises_in (all k) ∙ no_premises_in k vs
-          ∙ sym (ap premises_in (all 0) ∙ no_premises_in 0 vs);
-      types =
-          λ v. ap (λ (hs : List Hypothesis). typecode_in hs v) (all k) ∙ same_types k vs v
-          ∙ sym (ap (λ (hs : List Hypothesis). typecode_in hs v) (all 0));
-      apart = λ x y h. h;
-    }
-
 pub axiom_has_only : AxiomHasOnly
 axiom_has_only theory names old new s p bytes appended assumed image gains fits only =
     let declared : List Token = take old.named names in
     has_only_just theory bytes appended old.count (claim_variables [] p)
-    (open_assertion false declared old.count (claim_of [] p)) only
-    (λ is. assumption_of declared s p assumed image (claim_says_no_more declared old.count p), tt)
+    (open_assertion false declared old.count (claim_of [] p)) only (
+      λ is. assumption_of declared s p assumed image (claim_says_no_more declared old.count p
+          (sentence_has_no_meta theory.sig declared s p image)),
+      tt,
+    )
     (gains.just bytes fits)
 
 theorem_behind : (theory : RewriteTheory) (names : List Token) (old new : Rendered) (s : Claim)
@@ -191,10 +163,10 @@ justifies_behind theory names old new c vs text appended a b gains closed fits o
       no_hypotheses =
           closed_frame_has_none (take old.named names) old.count c
           (subst (EachLeaf (closed_over (take old.named names))) (sym concludes) closed);
-      are_names = AreNames-take old.named names tokens;
+      are_names = all_names (take old.named names) (AreNames-take old.named names tokens);
       distinct = AreDistinct-take old.named names distinct;
       closed = closed;
-      says = ap (holds_text (own_naming (take old.named names))) concludes;
+      says = ap (holds_text (take old.named names)) concludes;
     }
 
 pub theorem_justifies : TheoremJustifies

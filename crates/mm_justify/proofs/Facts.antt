@@ -29,20 +29,21 @@ use Rattle.ml_image.specs.OwnAxioms.{direct, kompile, behind_parameters, meets, 
 use Rattle.ml_image.specs.OwnAxioms.{IsOwnAxiom, of_rule, of_equation, total, apart, free, subsort}
 use Rattle.ml_image.specs.OwnAxioms.{collapse}
 use Rattle.ml_image.specs.TrueFacts.{value_patterns, IsTrueFact, of_value, of_hook}
-use Rattle.mm_proof.specs.Tokens.{own_naming}
-use Rattle.mm_proof.specs.Derivations.{holds_text}
 use Rattle.mm_claims.specs.OverNames.{closed_over}
 use Rattle.mm_claims.specs.Blocks.{open_frame, open_assertion}
 use Rattle.mm_claims.specs.ClaimVariables.{claim_of, claim_variables}
 use Rattle.mm_claims.specs.Rendered.{Rendered}
 use Rattle.mm_claims.specs.Keeping.{Fits, Gains}
 use Rattle.mm_claims.proofs.ClosedPatterns.{closed_frame_has_none}
-use Rattle.mm_justify.specs.Justifying.{typecode_in, premises_in, SaysNoMore, holds_frame}
+use Rattle.mm_justify.specs.Stating.{holds_text, holds_frame}
+use Rattle.mm_justify.specs.Justifying.{typecode_in, premises_in, SaysNoMore}
 use Rattle.mm_justify.specs.Justifying.{header_row, declaration, assumption_of, IsAssumed}
 use Rattle.mm_justify.specs.Counting.{begins_as_fact, has_none, is_fact}
 use Rattle.mm_justify.specs.CountingLaws.{FactsAreTrue, TrueFactsAreFacts, IsFrameOfFact}
 use Rattle.mm_justify.specs.CountingLaws.{is_fact_form, AddsCounts, AxiomCounts}
 use Rattle.mm_justify.proofs.ImageLeaves.{Known, two_leaves, sorted_leaves, sort_fact, term_leaves}
+use Rattle.mm_justify.proofs.ImageLeaves.{sentence_has_no_meta}
+use Rattle.mm_justify.proofs.StatedFrames.{claim_says_no_more}
 use Rattle.mm_justify.proofs.SmallTexts.{both_there, map_there}
 use Rattle.mm_justify.proofs.CountedTexts.{one_if, counts_one}
 
@@ -77,7 +78,7 @@ none_above f other says none =
 -- ---- statements
 
 begins_by_form : (names : List Token) (p : Pattern)
-    → begins_as_fact (holds_text (own_naming names) p) ≡ is_fact_form p
+    → begins_as_fact (holds_text names p) ≡ is_fact_form p
 begins_by_form names logic.bot = refl
 begins_by_form names logic.top = refl
 begins_by_form names (logic.imp p q) = refl
@@ -281,7 +282,10 @@ true_facts_are_facts theory a unproved frame =
     let both =
     fact_image theory.sig frame.names frame.sentence frame.image frame.fact frame.image_is in
     counted a unproved (none_above a.frame (holds_frame frame.names frame.image) frame.says
-    (closed_frame_has_none frame.names 0 frame.image both.1))
+    (none_below (open_frame frame.names 0 (claim_of [] frame.image))
+    (holds_frame frame.names frame.image) (claim_says_no_more frame.names 0 frame.image
+    (sentence_has_no_meta theory.sig frame.names frame.sentence frame.image frame.image_is))
+    (closed_frame_has_none frame.names 0 frame.image both.1)))
     (ap begins_as_fact frame.says.statement ∙ begins_by_form frame.names frame.image ∙ both.0)
 
 pub axiom_counts : AxiomCounts
@@ -292,7 +296,7 @@ axiom_counts theory names old new s p bytes appended assumed image gains fits =
     (counts_one bytes appended old.count (claim_variables [] p) a (gains.just bytes fits))
   where
     uncounted : (b : Bool) → is_fact_form p ≡ false
-        → (b && begins_as_fact (holds_text (own_naming (take old.named names)) p)) ≡ is_fact_form p
+        → (b && begins_as_fact (holds_text (take old.named names) p)) ≡ is_fact_form p
     uncounted true lacks = begins_by_form (take old.named names) p
     uncounted false lacks = sym lacks
 

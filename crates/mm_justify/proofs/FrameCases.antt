@@ -7,7 +7,7 @@ use Rattle.std.proofs.lemmas.Fmt.{decimal_by_steps}
 use Rattle.std.proofs.lemmas.Slice.Eq.{bytes_eq-Decides}
 use Rattle.mm_text.specs.Bytes.{Token}
 use Rattle.mm_proof.specs.Tokens.{object_token}
-use Rattle.mm_justify.specs.Justifying.{holds_frame}
+use Rattle.mm_justify.specs.Stating.{holds_frame}
 use Rattle.mm_justify.specs.JustifyingCases.{sorts, two_variables, TriedFrames}
 
 -- the digits of 0 and of 1
@@ -32,10 +32,22 @@ differ_back : bytes_eq (object_token 1) (object_token 0) ≡ false
 differ_back = ap (λ (ds : List ℕ). bytes_eq (codes "x:" ++ ds) (object_token 0)) one_digits
     ∙ ap (λ (ds : List ℕ). bytes_eq (codes "x:" ++ codes "1") (codes "x:" ++ ds)) zero_digits
 
--- the order of two variables of the same type does not matter
+-- the type of two variables of the same type, each named twice
+abbrev twice : Bool → Bool → Token → Option Token
+twice p q t =
+    if p then Some t else
+    if q then Some t else
+    if p then Some t else
+    if q then Some t else None
+
+once : (p q : Bool) (t : Token) → (if p then Some t else (if q then Some t else None)) ≡ twice p q t
+once true q t = refl
+once false true t = refl
+once false false t = refl
+
+-- their order does not matter
 either : (p q : Bool) (t : Token)
-    → (if q then Some t else (if p then Some t else None))
-    ≡ (if p then Some t else (if q then Some t else None))
+    → (if q then Some t else (if p then Some t else None)) ≡ twice p q t
 either true true t = refl
 either true false t = refl
 either false true t = refl
@@ -61,7 +73,12 @@ apart_there = rw (zero_digits, one_digits) refl
 
 pub tried_frames : TriedFrames
 tried_frames = record {
-  taken = record { statement = refl; premises = refl; types = λ v. refl; apart = λ x y h. refl };
+  taken = record {
+    statement = refl;
+    premises = refl;
+    types = λ v. once (bytes_eq (object_token 0) v) (bytes_eq (object_token 1) v) (codes "#Var");
+    apart = λ x y h. refl;
+  };
   other_order = record {
     statement = refl;
     premises = refl;

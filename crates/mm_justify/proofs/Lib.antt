@@ -7,3 +7,4 @@ pub mod HeaderStates
 pub mod ImageLeaves
 pub mod ImageTexts
 pub mod SmallTexts
+pub mod StatedFrames

@@ -36,8 +36,9 @@ use Rattle.ml_image.specs.TrueFacts.{value_patterns, IsTrueFact, of_value, of_ho
 use Rattle.ml_image.specs.Gained.{of_symbol}
 use Rattle.ml_image.proofs.ImageLaws.{none_some, some_same}
 use Rattle.ml_pat.specs.Leaves.{EachLeaf}
-use Rattle.mm_proof.specs.Tokens.{name_of, own_naming}
-use Rattle.mm_proof.specs.Derivations.{holds_text}
+use Rattle.mm_proof.specs.Tokens.{name_of}
+use Rattle.mm_justify.specs.Stating.{holds_text}
+use Rattle.mm_justify.proofs.StatedFrames.{all_names}
 use Rattle.mm_claims.specs.Statements.{symbol_name, typecode_of, all_name_statements}
 use Rattle.mm_claims.specs.Fitting.{AreNames}
 use Rattle.mm_claims.specs.OverNames.{closed_over}
@@ -134,7 +135,7 @@ spelt_with digits =
     ∷ plain_tokens ((codes "n." ++ digits) ∷ []) asserts (codes "#Pattern" ∷ codes "f:a" ∷ [])
     ∷ [])
     ++ written_statements (proof_tokens ((codes "t." ++ digits) ∷ [])
-    (holds_text (own_naming names) reached) ((codes "n." ++ digits) ∷ codes "ev.1" ∷ [])
+    (holds_text names reached) ((codes "n." ++ digits) ∷ codes "ev.1" ∷ [])
     ∷ [])
 
 spelt_behind : declarations ++ theorem ≡ spelt_with (decimal 0)
@@ -175,7 +176,7 @@ small_text_justifies theory f there =
       last = open_frame names 0 claim;
       assertions = just.assertions;
       no_hypotheses = refl;
-      are_names = are_names;
+      are_names = all_names names are_names;
       distinct = (tt, tt);
       closed = (closed_constant, closed_constant);
       says = refl;
@@ -241,11 +242,11 @@ map_there f (Some x) b is = (x, refl, some_same b (f x) (sym is))
 -- the text of the pattern differs from the conclusion: in its connective, or in the first token
 -- after it
 abbrev IsOther : List Token → Pattern → Type 0
-IsOther ts p = (bytes_eq (name_of (holds_text (own_naming ts) p) 2) (codes "\\imp") ≡ false)
-    ⊎ (bytes_eq (name_of (holds_text (own_naming ts) p) 3) (codes "f:a") ≡ false)
+IsOther ts p = (bytes_eq (name_of (holds_text ts p) 2) (codes "\\imp") ≡ false)
+    ⊎ (bytes_eq (name_of (holds_text ts p) 3) (codes "f:a") ≡ false)
 
 other_text : (ts : List Token) (p : Pattern) → IsOther ts p
-    → holds_text (own_naming ts) p ≡ conclusion → ⊥
+    → holds_text ts p ≡ conclusion → ⊥
 other_text ts p (inl other) same =
     false≢true
     (sym other ∙ ap (λ (text : List Token). bytes_eq (name_of text 2) (codes "\\imp")) same)

@@ -2,8 +2,7 @@
 -- logic, what the program's definition says, and true facts on built-ins. Its last theorem says
 -- exactly that (Chen and Rosu 2019).
 use Rattle.std.specs.Prelude.{◌≡◌, ℕ, true, false, IsTrue, if◌then◌else◌, List, [], ◌∷◌, ◌++◌, ◌⊎◌}
-use Rattle.std.specs.Prelude.{Contains, Option}
-use Rattle.std.specs.Prelude.{Some, None, bytes_eq, codes}
+use Rattle.std.specs.Prelude.{All, Contains, Option, Some, None, bytes_eq, codes}
 use Rattle.mm_text.specs.Bytes.{Token, has_token}
 use Rattle.mm_database.specs.Frames.{Hypothesis, floating, essential, Frame}
 use Rattle.mm_database.specs.Assertions.{Assertion, assertions_of, typings_of}
@@ -20,12 +19,7 @@ use Rattle.ml_image.specs.Sentences.{Sentence, sentence_image}
 use Rattle.ml_image.specs.OwnAxioms.{IsOwnAxiom}
 use Rattle.ml_image.specs.TrueFacts.{IsTrueFact}
 use Rattle.ml_image.specs.Gained.{IsOwnToken}
-use Rattle.mm_proof.specs.Tokens.{own_naming}
-use Rattle.mm_proof.specs.Derivations.{holds_text}
-use Rattle.mm_claims.specs.Fitting.{AreNames, name_frame}
-use Rattle.mm_claims.specs.OverNames.{closed_over}
-use Rattle.mm_claims.specs.Blocks.{open_frame}
-use Rattle.mm_claims.specs.ClaimVariables.{claim_of}
+use Rattle.mm_justify.specs.Stating.{IsName, name_frame, holds_text, holds_frame, closed_over}
 
 -- ---- frames
 
@@ -51,12 +45,6 @@ pub record SaysNoMore (f other : Frame) : Type 0 where
       → typecode_in f.hypotheses variable ≡ typecode_in other.hypotheses variable
   pub apart : (x y : Token) → IsTrue (other.apart x y) → IsTrue (f.apart x y)
 
--- The frame of the statement that a pattern holds, with the tokens of names. It has no `$e`. Its
--- variables are those of the pattern, `x:i` of the type `#Var`, and any two of them have to stay
--- apart.
-abbrev pub holds_frame : List Token → Pattern → Frame
-holds_frame names p = open_frame names 0 (claim_of [] p)
-
 -- ---- axioms
 
 -- what the program's definition says, or a true fact on its built-ins
@@ -68,7 +56,7 @@ IsAssumed theory s = IsOwnAxiom theory s ⊎ IsTrueFact theory.sig s
 pub data IsAxiomOf (theory : RewriteTheory) (f : Frame) : Type 0 where
   header_row : (r : Row) (other : Frame) → Contains header_rows r → IsFrameOfRow r other
       → SaysNoMore f other → IsAxiomOf theory f
-  declaration : (token : Token) → IsOwnToken theory.sig token → SaysNoMore f (name_frame 0 token)
+  declaration : (token : Token) → IsOwnToken theory.sig token → SaysNoMore f (name_frame token)
       → IsAxiomOf theory f
   assumption_of : (names : List Token) (s : Sentence) (p : Pattern) → IsAssumed theory s →
       sentence_image theory.sig names s ≡ Some p → SaysNoMore f (holds_frame names p)
@@ -112,10 +100,10 @@ pub record Justifies (bytes : List ℕ) (theory : RewriteTheory) (names : List T
   pub last : Frame
   pub assertions : assertions_of bytes ≡ before ++ record { is_proved = true; frame = last } ∷ []
   pub no_hypotheses : last.hypotheses ≡ []
-  pub are_names : AreNames names
+  pub are_names : All IsName names
   pub distinct : AreDistinct names
   pub closed : EachLeaf (closed_over names) (imp a (ev b))
-  pub says : last.statement ≡ holds_text (own_naming names) (imp a (ev b))
+  pub says : last.statement ≡ holds_text names (imp a (ev b))
 
 -- A database justifies a run: it justifies that the image of the start reaches the image of the
 -- end.
@@ -127,3 +115,8 @@ pub record JustifiesRun (bytes : List ℕ) (theory : RewriteTheory) (start end :
   pub from_image : image_of theory.sig names start ≡ Some from
   pub to_image : image_of theory.sig names end ≡ Some to
   pub justifies : Justifies bytes theory names from to
+
+-- the bytes are the front of a database that justifies a run from the start to some end
+abbrev pub IsFrontOfProof : RewriteTheory → RulePattern → List ℕ → Type 0
+IsFrontOfProof theory start bytes =
+    (end : RulePattern) × ((rest : List ℕ) × JustifiesRun (bytes ++ rest) theory start end)

@@ -7,9 +7,9 @@ use Rattle.ml_pat.specs.Patterns.{Pattern, equal, all, var}
 use Rattle.term_core.specs.Patterns.{Pattern as RulePattern, application, no_pattern}
 use Rattle.rule_core.specs.Theories.{RewriteTheory}
 use Rattle.ml_image.specs.Tokens.{token_of_symbol}
-use Rattle.mm_proof.specs.Tokens.{object_token, own_naming}
-use Rattle.mm_proof.specs.Derivations.{holds_text}
-use Rattle.mm_justify.specs.Justifying.{SaysNoMore, holds_frame, IsAxiomOf, JustifiesRun}
+use Rattle.mm_proof.specs.Tokens.{object_token}
+use Rattle.mm_justify.specs.Stating.{holds_text, holds_frame}
+use Rattle.mm_justify.specs.Justifying.{SaysNoMore, IsAxiomOf, JustifiesRun}
 
 -- the header, the declaration of a symbol, and a theorem on it
 abbrev pub small_text : List ℕ
@@ -52,7 +52,7 @@ stated hypotheses pairs = record {
   label = codes "ax";
   hypotheses = hypotheses;
   apart = pairs;
-  statement = holds_text (own_naming sorts) two_variables;
+  statement = holds_text sorts two_variables;
 }
 
 -- `fa $f #Var x:0 $.`, `fb $f #Var x:1 $.`

@@ -1,7 +1,10 @@
 -- Public: what public clauses say, and public definitions of other crates.
+-- Believed: what public clauses say, and believed definitions of other crates.
+pub mod Stating
 pub mod Justifying
 pub mod Counting
 -- Laws: what follows from that. Each is a clause of a function that does nothing.
+pub mod StatingLaws
 pub mod JustifyingLaws
 pub mod CountingLaws
 pub mod JustifyingCases

@@ -10,6 +10,7 @@ ghost use Rattle.mm_justify.specs.JustifyingLaws.{AxiomHasOnly, DeclaredHasOnly,
 ghost use Rattle.mm_justify.specs.JustifyingLaws.{RunIsJustified};
 ghost use Rattle.mm_justify.specs.JustifyingLaws.{TheoremFitsAnywhere, TheoremHasOnly};
 ghost use Rattle.mm_justify.specs.JustifyingLaws.{TheoremJustifies};
+ghost use Rattle.mm_justify.specs.StatingLaws.{ClaimsAreHolds, NamesAreNames};
 
 /// By the definition, a small text justifies a run, and no program has an axiom that one symbol
 /// reaches another. Frames of an axiom with two variables are accepted or not, as they should be.
@@ -19,6 +20,13 @@ pub fn tried()
     ensures refuses { ConclusionIsNoAxiom }
     ensures frames { TriedFrames }
     ensures images { TriedImages }
+{}
+
+/// What a writer of proof files states, it states in the words of what justifies a run: its tokens
+/// of names are names, and its frame of the claim that a pattern holds says just that.
+pub fn stating_laws()
+    ensures names { NamesAreNames }
+    ensures claims { ClaimsAreHolds }
 {}
 
 /// Take a text that fits, whose axioms are rows of the header, declarations and what a program may

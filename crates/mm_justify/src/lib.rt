@@ -6,10 +6,10 @@
 //! This crate uses claims and the texts that they fit (crate `mm_claims`), and the images of what a
 //! definition says (crate `ml_image`). It does not depend on who writes a text. `justifying_laws`
 //! says how a text that fits comes to justify a run by the statements that it gains. `image_laws`
-//! says which names a text has to declare for an image. The laws are clauses of functions that do
-//! nothing.
+//! says which names a text has to declare for an image. `stating_laws` says that the definitions of
+//! statements here are those of `mm_claims`. The laws are clauses of functions that do nothing.
 #![tactic(auto)]
 
 mod laws;
 
-pub use laws::{counting_laws, image_laws, justifying_laws, tried};
+pub use laws::{counting_laws, image_laws, justifying_laws, stating_laws, tried};
