@@ -1,5 +1,5 @@
 -- The result of the table is the first fault.
-use Rattle.std.proofs.Common.{◌≡◌, ℕ, suc, Bool, true, false, ◌&&◌, List, [], ◌∷◌, map, Option}
+use Rattle.std.proofs.Common.{◌≡◌, ℕ, Bool, true, false, ◌&&◌, List, [], ◌∷◌, ◌++◌, map, Option}
 use Rattle.std.proofs.Common.{Some, None, refl, ap, sym, ◌∙◌, subst, arith, inl, inr, if◌then◌else◌}
 use Rattle.std.proofs.Common.{◌≤◌, ◌<◌, nat_lt}
 use Rattle.std.proofs.lemmas.Bool.Decides.{nat_tests}
@@ -9,22 +9,36 @@ use Rattle.kore_text.specs.TokenStream.{Token, Stream, end, fault, token}
 use Rattle.kore_text.specs.Grammar.{in_order, spell_module}
 use Rattle.kore_text.specs.Table.{is_fold, step, passes, run, empty_fold, can_end, onward}
 use Rattle.kore_text.specs.Table.{pattern_symbols, definition_symbols}
-use Rattle.kore_text.specs.Faults.{IsPattern, IsDefinition, opened, IsShallow, IsEmptyFold, Same}
-use Rattle.kore_text.specs.Faults.{Begins, behind, IsGood, Stops, GoesDeep, IsFirstFault}
+use Rattle.kore_text.specs.Faults.{IsPattern, IsDefinition, opened, IsShallow, IsEmptyFold}
+use Rattle.kore_text.specs.Faults.{PlacedToken, followed_by, open_after, Begins, IsGood, Stops}
+use Rattle.kore_text.specs.Faults.{GoesDeep, Follows, IsFirstFault}
 use Rattle.kore_text.specs.declared.faults.TextFault.{TextFault}
 use Rattle.kore_text.specs.declared.faults.TextFault.TheVariants.{Lex, Syntax, Deep}
 use Rattle.kore_text.proofs.AcceptedDefinitions.{accepts-pattern, accepts-definition}
 use Rattle.kore_text.proofs.Saying.{Pieces}
 use Rattle.kore_text.proofs.Completing.{completes, ends-back, step-back, is-empty-fold, fold-found}
 
--- what a result says; `In` has the texts that go on, and `Out` has the texts that would be accepted
+-- what follows the good tokens; `In` has the texts that go on, and `Out` has the texts that would
+-- be accepted
+abbrev Standing : (Stream → Type 0) → (Stream → Type 0) → ℕ → List PlacedToken → Stream → TextFault
+    → Type 0
+Standing In Out n good rest (Lex at) = rest ≡ fault at
+Standing In Out n good rest (Syntax at) = Stops Out good rest at
+Standing In Out n good rest (Deep at) = GoesDeep In n good rest at
+
+pub record HasFaultIn (In Out : Stream → Type 0) (n : ℕ) (s : Stream) (f : TextFault) :
+    Type 0 where
+  pub good : List PlacedToken
+  pub rest : Stream
+  pub is : s ≡ followed_by good rest
+  pub are_good : IsGood In n good rest
+  pub next : Standing In Out n good rest f
+
+-- what a result says
 abbrev pub Explained : (Stream → Type 0) → (Stream → Type 0) → ℕ → Stream → Option TextFault
     → Type 0
 Explained In Out n s None = In s × IsShallow n s
-Explained In Out n s (Some (Lex at)) = (m : ℕ) × IsGood In m n s × (behind m s ≡ fault at)
-Explained In Out n s (Some (Syntax at)) = (m : ℕ) × IsGood In m n s × Stops Out m s (behind m s) at
-Explained In Out n s (Some (Deep at)) =
-    (m : ℕ) × IsGood In m n s × GoesDeep In m n s (behind m s) at
+Explained In Out n s (Some f) = HasFaultIn In Out n s f
 
 abbrev pub Fits : List Symbol → Stream → Type 0
 Fits k s = (e : ℕ) × Pieces k s (end e)
@@ -32,50 +46,88 @@ Fits k s = (e : ℕ) × Pieces k s (end e)
 abbrev pub Accepts : List Symbol → Stream → Type 0
 Accepts k s = run s None k ≡ None
 
-begins-cons : (In In' : Stream → Type 0) (t : Token) (p : ℕ) (m : ℕ) (s : Stream)
-    → ((r : Stream) → In' r → In (token t p r)) → Begins In' m s → Begins In (suc m) (token t p s)
-begins-cons In In' t p m s inn b = (token t p b.0, (refl, refl, b.1), inn b.0 b.2)
+begins-cons : (In In' : Stream → Type 0) (t : Token) (p : ℕ) (good : List PlacedToken)
+    → ((r : Stream) → In' r → In (token t p r)) → Begins In' good → Begins In ((t, p) ∷ good)
+begins-cons In In' t p good inn b = (b.0, inn (followed_by good b.0) b.1)
 
-begins-tail : (Out Out' : Stream → Type 0) (t : Token) (p : ℕ) (m : ℕ) (s r : Stream)
-    → ((r : Stream) → Out (token t p r) → Out' r) → Same (suc m) (token t p s) r → Out r
-    → Begins Out' m s
-begins-tail Out Out' t p m s (end e) out h o = absurd h
-begins-tail Out Out' t p m s (fault e) out h o = absurd h
-begins-tail Out Out' t p m s (token u q r) out h o =
-    let i : token u q r ≡ token t p r =
-    ap (λ x. token x q r) (sym h.0) ∙ ap (λ x. token t x r) (sym h.1) in
-    (r, h.2, out r (subst Out i o))
+begins-tail : (Out Out' : Stream → Type 0) (t : Token) (p : ℕ) (good : List PlacedToken)
+    → ((r : Stream) → Out (token t p r) → Out' r) → Begins Out ((t, p) ∷ good) → Begins Out' good
+begins-tail Out Out' t p good out b = (b.0, out (followed_by good b.0) b.1)
 
-stops-step : (Out Out' : Stream → Type 0) (t : Token) (p : ℕ) (m : ℕ) (s x : Stream) (at : ℕ)
-    → ((r : Stream) → Out (token t p r) → Out' r) → Stops Out' m s x at
-    → Stops Out (suc m) (token t p s) x at
-stops-step Out Out' t p m s (end e) at out h = (h.0, λ o. h.1 (out s o))
-stops-step Out Out' t p m s (fault e) at out h = absurd h
-stops-step Out Out' t p m s (token u q r) at out h = (
+stops-step : (Out Out' : Stream → Type 0) (t : Token) (p : ℕ) (good : List PlacedToken)
+    (rest : Stream) (at : ℕ) → ((r : Stream) → Out (token t p r) → Out' r) → Stops Out' good rest at
+    → Stops Out ((t, p) ∷ good) rest at
+stops-step Out Out' t p good (end e) at out h =
+    (h.0, λ o. h.1 (out (followed_by good (end e)) o))
+stops-step Out Out' t p good (fault e) at out h = absurd h
+stops-step Out Out' t p good (token u q r) at out h = (
   h.0,
   elim h.1 [
-    | inl f ↦ inl (λ b. f (begins-tail Out Out' t p (suc m) s b.0 out b.1 b.2))
+    | inl f ↦ inl (λ b. f (begins-tail Out Out' t p (good ++ (u, q) ∷ []) out b))
     | inr g ↦ inr g
   ],
 )
 
-deep-step : (In In' : Stream → Type 0) (t : Token) (p : ℕ) (m n : ℕ) (s x : Stream) (at : ℕ)
-    → ((r : Stream) → In' r → In (token t p r)) → GoesDeep In' m (opened t n) s x at
-    → GoesDeep In (suc m) n (token t p s) x at
-deep-step In In' t p m n s (end e) at inn h = absurd h
-deep-step In In' t p m n s (fault e) at inn h = absurd h
-deep-step In In' t p m n s (token u q r) at inn h =
-    (h.0, begins-cons In In' t p (suc m) s inn h.1, h.2)
+deep-step : (In In' : Stream → Type 0) (t : Token) (p n : ℕ) (good : List PlacedToken)
+    (rest : Stream) (at : ℕ) → ((r : Stream) → In' r → In (token t p r))
+    → GoesDeep In' (opened t n) good rest at → GoesDeep In n ((t, p) ∷ good) rest at
+deep-step In In' t p n good (end e) at inn h = absurd h
+deep-step In In' t p n good (fault e) at inn h = absurd h
+deep-step In In' t p n good (token u q r) at inn h =
+    (h.0, begins-cons In In' t p (good ++ (u, q) ∷ []) inn h.1, h.2)
 
-good-step : (In In' : Stream → Type 0) (t : Token) (p : ℕ) (m n : ℕ) (s : Stream)
-    → ((r : Stream) → In' r → In (token t p r)) → opened t n ≤ 500 → (IsEmptyFold t s → ⊥)
-    → IsGood In' m (opened t n) s → IsGood In (suc m) n (token t p s)
-good-step In In' t p m n s inn l f g =
+heads : (t u : PlacedToken) (ts us : List PlacedToken) → t ∷ ts ≡ u ∷ us → t ≡ u
+heads t u ts us e = cc
+
+tails : (t u : PlacedToken) (ts us : List PlacedToken) → t ∷ ts ≡ u ∷ us → ts ≡ us
+tails t u ts us e = cc
+
+shallow-step : (t : PlacedToken) (good : List PlacedToken) (n : ℕ) → opened t.0 n ≤ 500
+    → ((before : List PlacedToken) (u : PlacedToken) (after : List PlacedToken)
+    → good ≡ before ++ u ∷ after → opened u.0 (open_after before (opened t.0 n)) ≤ 500)
+    → (before : List PlacedToken) (u : PlacedToken) (after : List PlacedToken)
+    → t ∷ good ≡ before ++ u ∷ after → opened u.0 (open_after before n) ≤ 500
+shallow-step t good n l others [] u after e =
+    subst (λ (x : PlacedToken). opened x.0 n ≤ 500) (heads t u good after e) l
+shallow-step t good n l others (b ∷ before) u after e =
+    subst (λ (x : PlacedToken). opened u.0 (open_after before (opened x.0 n)) ≤ 500)
+    (heads t b good (before ++ u ∷ after) e)
+    (others before u after (tails t b good (before ++ u ∷ after) e))
+
+filled-step : (t : PlacedToken) (good : List PlacedToken) (rest : Stream)
+    → (IsEmptyFold t.0 (followed_by good rest) → ⊥)
+    → ((before : List PlacedToken) (u : PlacedToken) (after : List PlacedToken)
+    → good ≡ before ++ u ∷ after → IsEmptyFold u.0 (followed_by after rest) → ⊥)
+    → (before : List PlacedToken) (u : PlacedToken) (after : List PlacedToken)
+    → t ∷ good ≡ before ++ u ∷ after → IsEmptyFold u.0 (followed_by after rest) → ⊥
+filled-step t good rest f others [] u after e empty =
+    f (subst (λ (x : PlacedToken). IsEmptyFold x.0 (followed_by good rest))
+    (sym (heads t u good after e))
+    (subst (λ (ts : List PlacedToken). IsEmptyFold u.0 (followed_by ts rest))
+    (sym (tails t u good after e)) empty))
+filled-step t good rest f others (b ∷ before) u after e empty =
+    others before u after (tails t b good (before ++ u ∷ after) e) empty
+
+good-step : (In In' : Stream → Type 0) (t : Token) (p n : ℕ) (good : List PlacedToken)
+    (rest : Stream) → ((r : Stream) → In' r → In (token t p r)) → opened t n ≤ 500
+    → (IsEmptyFold t (followed_by good rest) → ⊥) → IsGood In' (opened t n) good rest
+    → IsGood In n ((t, p) ∷ good) rest
+good-step In In' t p n good rest inn l f g =
     record {
-      begins = begins-cons In In' t p m s inn g.begins;
-      shallow = (l, g.shallow);
-      filled = (f, g.filled);
+      begins = begins-cons In In' t p good inn g.begins;
+      shallow = shallow-step (t, p) good n l g.shallow;
+      filled = filled-step (t, p) good rest f g.filled;
     }
+
+standing-step : (In In' Out Out' : Stream → Type 0) (t : Token) (p n : ℕ)
+    (good : List PlacedToken) (rest : Stream) (f : TextFault)
+    → ((r : Stream) → In' r → In (token t p r)) → ((r : Stream) → Out (token t p r) → Out' r)
+    → Standing In' Out' (opened t n) good rest f → Standing In Out n ((t, p) ∷ good) rest f
+standing-step In In' Out Out' t p n good rest (Lex at) inn out h = h
+standing-step In In' Out Out' t p n good rest (Syntax at) inn out h =
+    stops-step Out Out' t p good rest at out h
+standing-step In In' Out Out' t p n good rest (Deep at) inn out h =
+    deep-step In In' t p n good rest at inn h
 
 -- a good token before the others
 onwards : (In In' Out Out' : Stream → Type 0) (t : Token) (p n : ℕ) (s : Stream)
@@ -83,23 +135,35 @@ onwards : (In In' Out Out' : Stream → Type 0) (t : Token) (p n : ℕ) (s : Str
     → ((r : Stream) → Out (token t p r) → Out' r) → opened t n ≤ 500 → (IsEmptyFold t s → ⊥)
     → Explained In' Out' (opened t n) s v → Explained In Out n (token t p s) v
 onwards In In' Out Out' t p n s None inn out l f h = (inn s h.0, (l, h.1))
-onwards In In' Out Out' t p n s (Some (Lex at)) inn out l f h =
-    (suc h.0, good-step In In' t p h.0 n s inn l f h.1, h.2)
-onwards In In' Out Out' t p n s (Some (Syntax at)) inn out l f h = (
-  suc h.0,
-  good-step In In' t p h.0 n s inn l f h.1,
-  stops-step Out Out' t p h.0 s (behind h.0 s) at out h.2,
-)
-onwards In In' Out Out' t p n s (Some (Deep at)) inn out l f h = (
-  suc h.0,
-  good-step In In' t p h.0 n s inn l f h.1,
-  deep-step In In' t p h.0 n s (behind h.0 s) at inn h.2,
-)
+onwards In In' Out Out' t p n s (Some v) inn out l f h = record {
+  good = (t, p) ∷ h.good;
+  rest = h.rest;
+  is = ap (token t p) h.is;
+  are_good =
+      good-step In In' t p n h.good h.rest inn l
+      (λ empty. f (subst (IsEmptyFold t) (sym h.is) empty)) h.are_good;
+  next = standing-step In In' Out Out' t p n h.good h.rest v inn out h.next;
+}
 
-good-start : (k : List Symbol) (n : ℕ) (s : Stream) → IsGood (Fits k) 0 n s
+none-before : (before : List PlacedToken) (u : PlacedToken) (after : List PlacedToken)
+    → [] ≡ before ++ u ∷ after → ⊥
+none-before [] u after e = let z : ⊥ = cc in z
+none-before (b ∷ before) u after e = let z : ⊥ = cc in z
+
+good-start : (k : List Symbol) (n : ℕ) (s : Stream) → IsGood (Fits k) n [] s
 good-start k n s =
     let c = completes k (end 0) in
-    record { begins = (c.0, tt, (0, c.1)); shallow = tt; filled = tt }
+    record {
+      begins = (c.0, (0, c.1));
+      shallow = λ before u after e. absurd (none-before before u after e);
+      filled = λ before u after e empty. none-before before u after e;
+    }
+
+-- the fault comes at once
+at-once : (Out : Stream → Type 0) (k : List Symbol) (n : ℕ) (s : Stream) (f : TextFault)
+    → Standing (Fits k) Out n [] s f → Explained (Fits k) Out n s (Some f)
+at-once Out k n s f h =
+    record { good = []; rest = s; is = refl; are_good = good-start k n s; next = h }
 
 end-run : (e : ℕ) (k : List Symbol) → can_end k ≡ false → run (end e) None k ≡ Some (Syntax e)
 unfolding run
@@ -109,15 +173,13 @@ end-case : (e n : ℕ) (k : List Symbol) (v : Option TextFault) (x : Bool) → x
     → (if x then None else Some (Syntax e)) ≡ v → Explained (Fits k) (Accepts k) n (end e) v
 end-case e n k v true i h =
     subst (Explained (Fits k) (Accepts k) n (end e)) h ((e, ends-back k (end e) (sym i)), tt)
-end-case e n k v false i h = subst (Explained (Fits k) (Accepts k) n (end e)) h (
-  0,
-  good-start k n (end e),
-  (
-    refl,
-    λ o.
-        (let z : Some (Syntax e) ≡ None = sym (end-run e k (sym i)) ∙ o in let y : ⊥ = cc in y),
-  ),
-)
+end-case e n k v false i h =
+    subst (Explained (Fits k) (Accepts k) n (end e)) h
+    (at-once (Accepts k) k n (end e) (Syntax e) (
+      refl,
+      λ o.
+          (let z : Some (Syntax e) ≡ None = sym (end-run e k (sym i)) ∙ o in let y : ⊥ = cc in y),
+    ))
 
 stuck-case : (t : Token) (p : ℕ) (r : Stream) (k : List Symbol) (x : Bool)
     → (if x then Some (Syntax p) else onward (run r) p None None) ≡ None → ⊥
@@ -143,11 +205,9 @@ on-run t p r k k' m h =
     on-case t p r k' (is_fold t && passes r empty_fold) (subst (λ mv. (if is_fold t && passes r
     empty_fold then Some (Syntax p) else onward (run r) p None mv) ≡ None) m h)
 
-no-start : (t : Token) (p : ℕ) (s r : Stream) (k : List Symbol) → step k t ≡ None
-    → Same 1 (token t p s) r → Accepts k r → ⊥
-no-start t p s (end e) k m h o = absurd h
-no-start t p s (fault e) k m h o = absurd h
-no-start t p s (token u q r) k m h o = stuck-run u q r k (subst (λ x. step k x ≡ None) h.0 m) o
+no-start : (t : Token) (p : ℕ) (k : List Symbol) → step k t ≡ None
+    → Begins (Accepts k) ((t, p) ∷ []) → ⊥
+no-start t p k m b = stuck-run t p b.0 k m b.1
 
 above : (n : ℕ) → nat_lt 500 n ≡ true → 500 < n
 above n h = grind (arith, nat_tests)
@@ -183,20 +243,17 @@ token-case : (t : Token) (p : ℕ) (s : Stream) (n : ℕ) (k : List Symbol) (v :
     → Explained (Fits k) (Accepts k) n (token t p s) v
 token-case t p s n k v true mv d i m l h rec =
     subst (Explained (Fits k) (Accepts k) n (token t p s)) h
-    (0, good-start k n (token t p s), (refl, inr (is-empty-fold t s i)))
+    (at-once (Accepts k) k n (token t p s) (Syntax p) (refl, inr (is-empty-fold t s i)))
 token-case t p s n k v false None d i m l h rec =
     subst (Explained (Fits k) (Accepts k) n (token t p s)) h
-    (0, good-start k n (token t p s), (refl, inl (λ b. no-start t p s b.0 k m b.1 b.2)))
+    (at-once (Accepts k) k n (token t p s) (Syntax p) (refl, inl (no-start t p k m)))
 token-case t p s n k v false (Some k') true i m l h rec =
-    subst (Explained (Fits k) (Accepts k) n (token t p s)) h (
-      0,
-      good-start k n (token t p s),
-      (
-        refl,
-        begins-cons (Fits k) (Fits k') t p 0 s (fits-more k k' t p m) (good-start k' n s).begins,
-        above (opened t n) l,
-      ),
-    )
+    subst (Explained (Fits k) (Accepts k) n (token t p s)) h
+    (at-once (Accepts k) k n (token t p s) (Deep p) (
+      refl,
+      begins-cons (Fits k) (Fits k') t p [] (fits-more k k' t p m) (good-start k' n s).begins,
+      above (opened t n) l,
+    ))
 token-case t p s n k v false (Some k') false i m l h rec =
     onwards (Fits k) (Fits k') (Accepts k) (Accepts k') t p n s v (fits-more k k' t p m)
     (λ r o. on-run t p r k k' m o) (not-above (opened t n) l)
@@ -207,44 +264,64 @@ pub explain : (s : Stream) (n : ℕ) (k : List Symbol) (v : Option TextFault) �
 unfolding run
 explain (end e) n k v h = end-case e n k v (can_end k) refl h
 explain (fault e) n k v h =
-    subst (Explained (Fits k) (Accepts k) n (fault e)) h (0, good-start k n (fault e), refl)
+    subst (Explained (Fits k) (Accepts k) n (fault e)) h
+    (at-once (Accepts k) k n (fault e) (Lex e) refl)
 explain (token t p s) n k v h =
     token-case t p s n k v (is_fold t && passes s empty_fold) (step k t) (nat_lt 500 (opened t n))
     refl refl refl
     (onward-is (is_fold t && passes s empty_fold) (step k t) (run s) p (opened t n) v h)
     (λ k' v' h'. explain s (opened t n) k' v' h')
 
-in-language : (L : Stream → Type 0) (k : List Symbol) (n m : ℕ) (s : Stream)
-    → ((r : Stream) → Fits k r → L r) → IsGood (Fits k) m n s → IsGood L m n s
-in-language L k n m s inn g =
+in-language : (L : Stream → Type 0) (k : List Symbol) (n : ℕ) (good : List PlacedToken)
+    (rest : Stream) → ((r : Stream) → Fits k r → L r) → IsGood (Fits k) n good rest
+    → IsGood L n good rest
+in-language L k n good rest inn g =
     record {
-      begins = (g.begins.0, g.begins.1, inn g.begins.0 g.begins.2);
+      begins = (g.begins.0, inn (followed_by good g.begins.0) g.begins.1);
       shallow = g.shallow;
       filled = g.filled;
     }
 
-stops-in : (L : Stream → Type 0) (k : List Symbol) (m : ℕ) (s x : Stream) (at : ℕ)
-    → ((r : Stream) → L r → Accepts k r) → Stops (Accepts k) m s x at → Stops L m s x at
-stops-in L k m s (end e) at out h = (h.0, λ o. h.1 (out s o))
-stops-in L k m s (fault e) at out h = absurd h
-stops-in L k m s (token t p r) at out h =
-    (h.0, elim h.1 [ inl f ↦ inl (λ b. f (b.0, b.1, out b.0 b.2)) | inr g ↦ inr g ])
+stops-in : (L : Stream → Type 0) (k : List Symbol) (good : List PlacedToken) (rest : Stream)
+    (at : ℕ) → ((r : Stream) → L r → Accepts k r) → Stops (Accepts k) good rest at
+    → Stops L good rest at
+stops-in L k good (end e) at out h = (h.0, λ o. h.1 (out (followed_by good (end e)) o))
+stops-in L k good (fault e) at out h = absurd h
+stops-in L k good (token t p r) at out h = (
+  h.0,
+  elim h.1 [
+    | inl f ↦ inl (λ b. f (b.0, out (followed_by (good ++ (t, p) ∷ []) b.0) b.1))
+    | inr g ↦ inr g
+  ],
+)
 
-deep-in : (L : Stream → Type 0) (k : List Symbol) (m n : ℕ) (s x : Stream) (at : ℕ)
-    → ((r : Stream) → Fits k r → L r) → GoesDeep (Fits k) m n s x at → GoesDeep L m n s x at
-deep-in L k m n s (end e) at inn h = absurd h
-deep-in L k m n s (fault e) at inn h = absurd h
-deep-in L k m n s (token t p r) at inn h = (h.0, (h.1.0, h.1.1, inn h.1.0 h.1.2), h.2)
+deep-in : (L : Stream → Type 0) (k : List Symbol) (n : ℕ) (good : List PlacedToken)
+    (rest : Stream) (at : ℕ) → ((r : Stream) → Fits k r → L r) → GoesDeep (Fits k) n good rest at
+    → GoesDeep L n good rest at
+deep-in L k n good (end e) at inn h = absurd h
+deep-in L k n good (fault e) at inn h = absurd h
+deep-in L k n good (token t p r) at inn h =
+    (h.0, (h.1.0, inn (followed_by (good ++ (t, p) ∷ []) h.1.0) h.1.1), h.2)
+
+follows-in : (L : Stream → Type 0) (k : List Symbol) (n : ℕ) (good : List PlacedToken)
+    (rest : Stream) (f : TextFault) → ((r : Stream) → Fits k r → L r)
+    → ((r : Stream) → L r → Accepts k r) → Standing (Fits k) (Accepts k) n good rest f
+    → Follows L n good rest f
+follows-in L k n good rest (Lex at) inn out h = h
+follows-in L k n good rest (Syntax at) inn out h = stops-in L k good rest at out h
+follows-in L k n good rest (Deep at) inn out h = deep-in L k n good rest at inn h
 
 first-fault : (L : Stream → Type 0) (k : List Symbol) (n : ℕ) (s : Stream) (v : Option TextFault)
     → ((r : Stream) → Fits k r → L r) → ((r : Stream) → L r → Accepts k r)
     → Explained (Fits k) (Accepts k) n s v → IsFirstFault L n s v
 first-fault L k n s None inn out h = (inn s h.0, h.1)
-first-fault L k n s (Some (Lex at)) inn out h = (h.0, in-language L k n h.0 s inn h.1, h.2)
-first-fault L k n s (Some (Syntax at)) inn out h =
-    (h.0, in-language L k n h.0 s inn h.1, stops-in L k h.0 s (behind h.0 s) at out h.2)
-first-fault L k n s (Some (Deep at)) inn out h =
-    (h.0, in-language L k n h.0 s inn h.1, deep-in L k h.0 n s (behind h.0 s) at inn h.2)
+first-fault L k n s (Some f) inn out h = record {
+  good = h.good;
+  rest = h.rest;
+  is = h.is;
+  are_good = in-language L k n h.good h.rest inn h.are_good;
+  next = follows-in L k n h.good h.rest f inn out h.next;
+}
 
 fits-pattern : (r : Stream) → Fits pattern_symbols r → IsPattern r
 fits-pattern r f = (f.1.1.0, f.0, f.1.1.1 [] (end f.0) f.1.2)

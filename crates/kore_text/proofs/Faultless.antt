@@ -1,6 +1,6 @@
 -- A text of the language in which at most 500 brackets are open has no fault.
-use Rattle.std.proofs.Common.{◌≡◌, ℕ, zero, suc, Bool, true, false, ◌&&◌, List, Option, Some, None}
-use Rattle.std.proofs.Common.{refl, subst, arith, inl, inr, if◌then◌else◌}
+use Rattle.std.proofs.Common.{◌≡◌, ℕ, Bool, true, false, ◌&&◌, List, [], ◌∷◌, Option, Some, None}
+use Rattle.std.proofs.Common.{refl, sym, subst, arith, inl, inr, if◌then◌else◌}
 use Rattle.kore_text.specs.declared.symbols.Symbol.{Symbol}
 use Rattle.kore_text.specs.declared.faults.TextFault.{TextFault}
 use Rattle.kore_text.specs.declared.faults.TextFault.TheVariants.{Lex, Syntax, Deep}
@@ -8,11 +8,12 @@ use Rattle.kore_text.specs.TokenStream.{Token, Stream, end, fault, token, tokens
 use Rattle.kore_text.specs.TextLaws.{PatternHasNoFault, DefinitionHasNoFault}
 use Rattle.kore_text.specs.Table.{is_fold, step, passes, run, empty_fold, onward, pattern_symbols}
 use Rattle.kore_text.specs.Table.{definition_symbols}
-use Rattle.kore_text.specs.Faults.{opened, IsShallow, Same, Stops, GoesDeep, IsFirstFault}
-use Rattle.kore_text.specs.Faults.{open_behind, behind, IsPattern, IsDefinition}
+use Rattle.kore_text.specs.Faults.{opened, IsShallow, PlacedToken, followed_by, open_after, Stops}
+use Rattle.kore_text.specs.Faults.{GoesDeep, Follows, IsFirstFault, IsPattern, IsDefinition}
 use Rattle.kore_text.proofs.AcceptedDefinitions.{accepts-pattern, accepts-definition}
 use Rattle.kore_text.proofs.Completing.{fold-found}
 use Rattle.kore_text.proofs.Explaining.{Accepts, stuck-run, on-run}
+use Rattle.kore_text.proofs.Unique.{followed_by-append}
 
 -- after an accepted token, some stack accepts what follows
 accepted-on : (t : Token) (p : ℕ) (r : Stream) (k : List Symbol) (m : Option (List Symbol))
@@ -20,13 +21,12 @@ accepted-on : (t : Token) (p : ℕ) (r : Stream) (k : List Symbol) (m : Option (
 accepted-on t p r k None e h = absurd (stuck-run t p r k e h)
 accepted-on t p r k (Some k') e h = (k', on-run t p r k k' e h)
 
-accepted-behind : (m : ℕ) (s : Stream) (k : List Symbol) → Accepts k s
-    → (k' : List Symbol) × Accepts k' (behind m s)
-accepted-behind zero s k h = (k, h)
-accepted-behind (suc m) (end e) k h = (k, h)
-accepted-behind (suc m) (fault e) k h = (k, h)
-accepted-behind (suc m) (token t p s) k h =
-    let o = accepted-on t p s k (step k t) refl h in accepted-behind m s o.0 o.1
+accepted-after : (good : List PlacedToken) (rest : Stream) (k : List Symbol)
+    → Accepts k (followed_by good rest) → (k' : List Symbol) × Accepts k' rest
+accepted-after [] rest k h = (k, h)
+accepted-after (t ∷ good) rest k h =
+    let o = accepted-on t.0 t.1 (followed_by good rest) k (step k t.0) refl h in
+    accepted-after good rest o.0 o.1
 
 no-fault : (e : ℕ) (k : List Symbol) → Accepts k (fault e) → ⊥
 unfolding run
@@ -43,47 +43,40 @@ unfolding run
 no-empty-fold t p r k e h =
     fold-case p (is_fold t && passes r empty_fold) (onward (run r) p None (step k t)) e h
 
-same-self : (m : ℕ) (s : Stream) (t : Token) (p : ℕ) (r : Stream) → behind m s ≡ token t p r
-    → Same (suc m) s s
-same-self zero (end e) t p r h = absurd (let z : ⊥ = cc in z)
-same-self zero (fault e) t p r h = absurd (let z : ⊥ = cc in z)
-same-self zero (token u q s) t p r h = (refl, refl, tt)
-same-self (suc m) (end e) t p r h = absurd (let z : ⊥ = cc in z)
-same-self (suc m) (fault e) t p r h = absurd (let z : ⊥ = cc in z)
-same-self (suc m) (token u q s) t p r h = (refl, refl, same-self m s t p r h)
+shallow-after : (good : List PlacedToken) (n : ℕ) (rest : Stream)
+    → IsShallow n (followed_by good rest) → IsShallow (open_after good n) rest
+shallow-after [] n rest h = h
+shallow-after (t ∷ good) n rest h = shallow-after good (opened t.0 n) rest h.1
 
-shallow-behind : (m n : ℕ) (s : Stream) → IsShallow n s → IsShallow (open_behind m n s) (behind m s)
-shallow-behind zero n s h = h
-shallow-behind (suc m) n (end e) h = h
-shallow-behind (suc m) n (fault e) h = h
-shallow-behind (suc m) n (token t p s) h = shallow-behind m (opened t n) s h.1
-
-not-stopped : (L : Stream → Type 0) (m : ℕ) (s x : Stream) (k : List Symbol) (at : ℕ)
-    → behind m s ≡ x → L s → Accepts k x → Stops L m s x at → ⊥
-not-stopped L m s (end e) k at i l h stops = stops.1 l
-not-stopped L m s (fault e) k at i l h stops = stops
-not-stopped L m s (token t p r) k at i l h stops =
+not-stopped : (L : Stream → Type 0) (good : List PlacedToken) (rest : Stream) (k : List Symbol)
+    (at : ℕ) → L (followed_by good rest) → Accepts k rest → Stops L good rest at → ⊥
+not-stopped L good (end e) k at l h stops = stops.1 l
+not-stopped L good (fault e) k at l h stops = stops
+not-stopped L good (token t p r) k at l h stops =
     elim stops.1 [
-      | inl never ↦ never (s, same-self m s t p r i, l)
+      | inl never ↦ never (r, subst L (sym (followed_by-append good ((t, p) ∷ []) r)) l)
       | inr empty ↦ no-empty-fold t p r k (fold-found t r empty) h
     ]
 
-not-deep : (L : Stream → Type 0) (m n : ℕ) (s x : Stream) (at : ℕ) → IsShallow (open_behind m n s) x
-    → GoesDeep L m n s x at → ⊥
-not-deep L m n s (end e) at h deep = deep
-not-deep L m n s (fault e) at h deep = deep
-not-deep L m n s (token t p r) at h deep = absurd (omega (arith, h.0, deep.2))
+not-deep : (L : Stream → Type 0) (n : ℕ) (good : List PlacedToken) (rest : Stream) (at : ℕ)
+    → IsShallow (open_after good n) rest → GoesDeep L n good rest at → ⊥
+not-deep L n good (end e) at h deep = deep
+not-deep L n good (fault e) at h deep = deep
+not-deep L n good (token t p r) at h deep = absurd (omega (arith, h.0, deep.2))
+
+not-there : (L : Stream → Type 0) (k : List Symbol) (n : ℕ) (good : List PlacedToken)
+    (rest : Stream) (f : TextFault) → L (followed_by good rest) → Accepts k rest
+    → IsShallow (open_after good n) rest → Follows L n good rest f → ⊥
+not-there L k n good rest (Lex at) l h d next = no-fault at k (subst (Accepts k) next h)
+not-there L k n good rest (Syntax at) l h d next = not-stopped L good rest k at l h next
+not-there L k n good rest (Deep at) l h d next = not-deep L n good rest at d next
 
 faultless : (L : Stream → Type 0) (k : List Symbol) (n : ℕ) (s : Stream) (f : TextFault)
     → (L s → Accepts k s) → IsFirstFault L n s None → IsFirstFault L n s (Some f) → ⊥
-faultless L k n s (Lex at) accepts fine h =
-    let o = accepted-behind h.0 s k (accepts fine.0) in
-    no-fault at o.0 (subst (Accepts o.0) h.2 o.1)
-faultless L k n s (Syntax at) accepts fine h =
-    let o = accepted-behind h.0 s k (accepts fine.0) in
-    not-stopped L h.0 s (behind h.0 s) o.0 at refl fine.0 o.1 h.2
-faultless L k n s (Deep at) accepts fine h =
-    not-deep L h.0 n s (behind h.0 s) at (shallow-behind h.0 n s fine.1) h.2
+faultless L k n s f accepts fine h =
+    let o = accepted-after h.good h.rest k (subst (Accepts k) h.is (accepts fine.0)) in
+    not-there L o.0 n h.good h.rest f (subst L h.is fine.0) o.1
+    (shallow-after h.good n h.rest (subst (IsShallow n) h.is fine.1)) h.next
 
 pub pattern-faultless : PatternHasNoFault
 pattern-faultless bytes f =

@@ -1,165 +1,170 @@
 -- The first fault of a text is unique.
-use Rattle.std.proofs.Common.{◌≡◌, ◌≤◌, ◌<◌, ℕ, zero, suc, Bool, true, false, nat_lt, Some, refl}
-use Rattle.std.proofs.Common.{ap, sym, ◌∙◌, subst, arith, inl, inr}
-use Rattle.std.proofs.lemmas.Bool.Decides.{nat_tests}
+use Rattle.std.proofs.Common.{◌≡◌, ◌≤◌, ◌<◌, ℕ, List, [], ◌∷◌, ◌++◌, ◌⊎◌, Some, refl, ap, sym, ◌∙◌}
+use Rattle.std.proofs.Common.{subst, arith, inl, inr}
 use Rattle.kore_text.specs.declared.faults.TextFault.{TextFault}
 use Rattle.kore_text.specs.declared.faults.TextFault.TheVariants.{Lex, Syntax, Deep}
 use Rattle.kore_text.specs.TokenStream.{Token, Stream, end, fault, token, tokens_of}
-use Rattle.kore_text.specs.Faults.{opened, IsEmptyFold, Same, Begins, ShallowTo, FilledTo}
-use Rattle.kore_text.specs.Faults.{open_behind, behind, IsGood, Stops, GoesDeep, IsFirstFault}
+use Rattle.kore_text.specs.Faults.{opened, IsEmptyFold, PlacedToken, followed_by, open_after}
+use Rattle.kore_text.specs.Faults.{Begins, IsGood, Stops, GoesDeep, Follows, HasFault, IsFirstFault}
 use Rattle.kore_text.specs.Faults.{IsPattern, IsDefinition}
 use Rattle.kore_text.specs.TextLaws.{DefinitionFaultIsUnique, PatternFaultIsUnique}
 
--- what follows `m` good tokens is this fault
-abbrev Stands : (Stream → Type 0) → ℕ → Stream → ℕ → TextFault → Type 0
-Stands L n s m (Lex at) = behind m s ≡ fault at
-Stands L n s m (Syntax at) = Stops L m s (behind m s) at
-Stands L n s m (Deep at) = GoesDeep L m n s (behind m s) at
+pub followed_by-append : (ts us : List PlacedToken) (s : Stream)
+    → followed_by (ts ++ us) s ≡ followed_by ts (followed_by us s)
+followed_by-append [] us s = refl
+followed_by-append (t ∷ ts) us s = ap (token t.0 t.1) (followed_by-append ts us s)
 
-pub record Found (L : Stream → Type 0) (n : ℕ) (s : Stream) (f : TextFault) : Type 0 where
-  pub count : ℕ
-  pub good : IsGood L count n s
-  pub stands : Stands L n s count f
+append-once : (ts : List PlacedToken) (t : PlacedToken) (us : List PlacedToken) (s : Stream)
+    → followed_by (ts ++ t ∷ us) s ≡ followed_by (ts ++ t ∷ []) (followed_by us s)
+append-once ts t us s =
+    followed_by-append ts (t ∷ us) s ∙ sym (followed_by-append ts (t ∷ []) (followed_by us s))
 
-found : (L : Stream → Type 0) (n : ℕ) (s : Stream) (f : TextFault) → IsFirstFault L n s (Some f)
-    → Found L n s f
-found L n s (Lex at) h = record { count = h.0; good = h.1; stands = h.2 }
-found L n s (Syntax at) h = record { count = h.0; good = h.1; stands = h.2 }
-found L n s (Deep at) h = record { count = h.0; good = h.1; stands = h.2 }
+-- ---- two ways to part a stream
 
--- no fault is among good tokens
+-- the second part of the stream begins with a token that is among the other tokens
+pub record Longer (ts : List PlacedToken) (r : Stream) (us : List PlacedToken) (q : Stream) :
+    Type 0 where
+  pub next : PlacedToken
+  pub more : List PlacedToken
+  pub tokens : us ≡ ts ++ next ∷ more
+  pub rest : r ≡ token next.0 next.1 (followed_by more q)
 
-pub record Behind (L : Stream → Type 0) (n : ℕ) (s : Stream) (m : ℕ) : Type 0 where
-  pub first : Token
-  pub at : ℕ
-  pub rest : Stream
-  pub is : behind m s ≡ token first at rest
-  pub shallow : opened first (open_behind m n s) ≤ 500
-  pub filled : IsEmptyFold first rest → ⊥
-
-token-behind : (L : Stream → Type 0) (m k n : ℕ) (s r : Stream) → m < k → Same k s r
-    → ShallowTo k n s → FilledTo k s → Behind L n s m
-token-behind L m zero n s r l e h f = absurd (omega arith)
-token-behind L m (suc k) n (end x) r l e h f = absurd h
-token-behind L m (suc k) n (fault x) r l e h f = absurd h
-token-behind L zero (suc k) n (token t p s) r l e h f = record {
-  first = t;
-  at = p;
-  rest = s;
-  is = refl;
-  shallow = h.0;
-  filled = f.0;
-}
-token-behind L (suc m) (suc k) n (token t p s) (end x) l e h f = absurd e
-token-behind L (suc m) (suc k) n (token t p s) (fault x) l e h f = absurd e
-token-behind L (suc m) (suc k) n (token t p s) (token u q r) l e h f =
-    let b = token-behind L m k (opened t n) s r (omega arith) e.2 h.1 f.1 in
+longer-cons : (t u : PlacedToken) (ts : List PlacedToken) (r : Stream) (us : List PlacedToken)
+    (q : Stream) → t ≡ u → Longer ts r us q → Longer (t ∷ ts) r (u ∷ us) q
+longer-cons t u ts r us q same l =
     record {
-      first = b.first;
-      at = b.at;
-      rest = b.rest;
-      is = b.is;
-      shallow = b.shallow;
-      filled = b.filled;
+      next = l.next;
+      more = l.more;
+      tokens = ap (λ (x : PlacedToken). x ∷ us) (sym same) ∙ ap (λ xs. t ∷ xs) l.tokens;
+      rest = l.rest;
     }
 
-same-less : (m k : ℕ) (s r : Stream) → m ≤ k → Same k s r → Same m s r
-same-less zero k s r l e = tt
-same-less (suc m) zero s r l e = absurd (omega arith)
-same-less (suc m) (suc k) (end x) r l e = absurd e
-same-less (suc m) (suc k) (fault x) r l e = absurd e
-same-less (suc m) (suc k) (token t p s) (end x) l e = absurd e
-same-less (suc m) (suc k) (token t p s) (fault x) l e = absurd e
-same-less (suc m) (suc k) (token t p s) (token u q r) l e =
-    (e.0, e.1, same-less m k s r (omega arith) e.2)
+abbrev Compared : List PlacedToken → Stream → List PlacedToken → Stream → Type 0
+Compared ts r us q = ((ts ≡ us) × (r ≡ q)) ⊎ (Longer ts r us q ⊎ Longer us q ts r)
 
-no-fault-at : (L : Stream → Type 0) (n m : ℕ) (s : Stream) (f : TextFault) → Begins L (suc m) s
-    → Behind L n s m → Stands L n s m f → ⊥
-no-fault-at L n m s (Lex at) g b h =
-    let z : token b.first b.at b.rest ≡ fault at = sym b.is ∙ h in absurd (let z : ⊥ = cc in z)
-no-fault-at L n m s (Syntax at) g b h =
-    let z : Stops L m s (token b.first b.at b.rest) at =
-    subst (λ (x : Stream). Stops L m s x at) b.is h in
-    elim z.1 [ inl never ↦ never g | inr empty ↦ b.filled empty ]
-no-fault-at L n m s (Deep at) g b h =
-    let z : GoesDeep L m n s (token b.first b.at b.rest) at =
-    subst (λ (x : Stream). GoesDeep L m n s x at) b.is h in
-    absurd (omega (arith, z.2, b.shallow))
+token-is : (t u : Token) (p q : ℕ) (r s : Stream) → token t p r ≡ token u q s → t ≡ u
+token-is t u p q r s e = cc
 
-never-before : (L : Stream → Type 0) (n m k : ℕ) (s : Stream) (f : TextFault) → m < k
-    → IsGood L k n s → Stands L n s m f → ⊥
-never-before L n m k s f l g h =
-    let r : Stream = g.begins.0 in
-    let e : Same k s r = g.begins.1 in
-    no-fault-at L n m s f (r, same-less (suc m) k s r (omega arith) e, g.begins.2)
-    (token-behind L m k n s r l e g.shallow g.filled) h
+place-is : (t u : Token) (p q : ℕ) (r s : Stream) → token t p r ≡ token u q s → p ≡ q
+place-is t u p q r s e = cc
 
--- there is only one fault at a place
+rest-is : (t u : Token) (p q : ℕ) (r s : Stream) → token t p r ≡ token u q s → r ≡ s
+rest-is t u p q r s e = cc
 
-open-few : (m n : ℕ) (s : Stream) → n ≤ 500 → ShallowTo m n s → open_behind m n s ≤ 500
-open-few zero n s l h = l
-open-few (suc m) n (end e) l h = l
-open-few (suc m) n (fault e) l h = l
-open-few (suc m) n (token t p s) l h = open-few m (opened t n) s h.0 h.1
+placed-is : (t u : PlacedToken) → t.0 ≡ u.0 → t.1 ≡ u.1 → t ≡ u
+placed-is t u e f =
+    let first : (t.0, t.1) ≡ (u.0, t.1) = ap (λ (x : Token). (x, t.1)) e in
+    let second : (u.0, t.1) ≡ (u.0, u.1) = ap (λ (x : ℕ). (u.0, x)) f in first ∙ second
 
-deep-or-stops : (L : Stream → Type 0) (m n : ℕ) (s x : Stream) (a b : ℕ) → open_behind m n s ≤ 500
-    → Stops L m s x a → GoesDeep L m n s x b → ⊥
-deep-or-stops L m n s (end e) a b l h d = d
-deep-or-stops L m n s (fault e) a b l h d = d
-deep-or-stops L m n s (token t p r) a b l h d = elim h.1 [
+compared-cons : (t u : PlacedToken) (ts : List PlacedToken) (r : Stream) (us : List PlacedToken)
+    (q : Stream) → t ≡ u → Compared ts r us q → Compared (t ∷ ts) r (u ∷ us) q
+compared-cons t u ts r us q same c = elim c [
+  | inl e ↦ inl (ap (λ (x : PlacedToken). x ∷ ts) same ∙ ap (λ xs. u ∷ xs) e.0, e.1)
+  | inr l ↦ inr (elim l [
+    | inl more ↦ inl (longer-cons t u ts r us q same more)
+    | inr less ↦ inr (longer-cons u t us q ts r (sym same) less)
+  ])
+]
+
+compared : (ts us : List PlacedToken) (r q : Stream) → followed_by ts r ≡ followed_by us q
+    → Compared ts r us q
+compared [] [] r q e = inl (refl, e)
+compared [] (u ∷ us) r q e = inr (inl (record { next = u; more = us; tokens = refl; rest = e }))
+compared (t ∷ ts) [] r q e =
+    inr (inr (record { next = t; more = ts; tokens = refl; rest = sym e }))
+compared (t ∷ ts) (u ∷ us) r q e =
+    compared-cons t u ts r us q
+    (placed-is t u (token-is t.0 u.0 t.1 u.1 (followed_by ts r) (followed_by us q) e)
+    (place-is t.0 u.0 t.1 u.1 (followed_by ts r) (followed_by us q) e))
+    (compared ts us r q (rest-is t.0 u.0 t.1 u.1 (followed_by ts r) (followed_by us q) e))
+
+-- ---- no fault is among good tokens
+
+no-fault-at : (L : Stream → Type 0) (n : ℕ) (ts : List PlacedToken) (t : PlacedToken)
+    (after : Stream) (f : TextFault) → Begins L (ts ++ t ∷ [])
+    → opened t.0 (open_after ts n) ≤ 500 → (IsEmptyFold t.0 after → ⊥)
+    → Follows L n ts (token t.0 t.1 after) f → ⊥
+no-fault-at L n ts t after (Lex at) b l filled h = absurd (let z : ⊥ = cc in z)
+no-fault-at L n ts t after (Syntax at) b l filled h =
+    elim h.1 [ inl never ↦ never b | inr empty ↦ filled empty ]
+no-fault-at L n ts t after (Deep at) b l filled h = absurd (omega (arith, h.2, l))
+
+never-before : (L : Stream → Type 0) (n : ℕ) (ts us : List PlacedToken) (r q : Stream)
+    (f : TextFault) → IsGood L n us q → Follows L n ts r f → Longer ts r us q → ⊥
+never-before L n ts us r q f g h l =
+    no-fault-at L n ts l.next (followed_by l.more q) f (
+      followed_by l.more g.begins.0,
+      subst L (append-once ts l.next l.more g.begins.0)
+          (subst (λ (xs : List PlacedToken). L (followed_by xs g.begins.0)) l.tokens g.begins.1),
+    ) (g.shallow ts l.next l.more l.tokens) (g.filled ts l.next l.more l.tokens)
+    (subst (λ (x : Stream). Follows L n ts x f) l.rest h)
+
+-- ---- there is only one fault at a place
+
+open-few : (ts : List PlacedToken) (n : ℕ) → n ≤ 500
+    → ((before : List PlacedToken) (t : PlacedToken) (after : List PlacedToken)
+    → ts ≡ before ++ t ∷ after → opened t.0 (open_after before n) ≤ 500)
+    → open_after ts n ≤ 500
+open-few [] n l h = l
+open-few (t ∷ ts) n l h =
+    open-few ts (opened t.0 n) (h [] t ts refl)
+    (λ before u after e. h (t ∷ before) u after (ap (λ xs. t ∷ xs) e))
+
+deep-or-stops : (L : Stream → Type 0) (n : ℕ) (ts : List PlacedToken) (r : Stream) (a b : ℕ)
+    → open_after ts n ≤ 500 → Stops L ts r a → GoesDeep L n ts r b → ⊥
+deep-or-stops L n ts (end e) a b l h d = d
+deep-or-stops L n ts (fault e) a b l h d = d
+deep-or-stops L n ts (token t p r) a b l h d = elim h.1 [
   | inl never ↦ never d.1
   | inr empty ↦
-      let z : opened t (open_behind m n s) ≡ open_behind m n s =
-      ap (λ (u : Token). opened u (open_behind m n s)) empty.1 in
+      let z : opened t (open_after ts n) ≡ open_after ts n =
+      ap (λ (u : Token). opened u (open_after ts n)) empty.1 in
       absurd (omega (arith, z, d.2, l))
 ]
 
-same-stop : (L : Stream → Type 0) (m : ℕ) (s x : Stream) (a b : ℕ) → Stops L m s x a
-    → Stops L m s x b → a ≡ b
-same-stop L m s (end e) a b g h = g.0 ∙ sym h.0
-same-stop L m s (fault e) a b g h = absurd g
-same-stop L m s (token t p r) a b g h = g.0 ∙ sym h.0
+same-stop : (L : Stream → Type 0) (ts : List PlacedToken) (r : Stream) (a b : ℕ) → Stops L ts r a
+    → Stops L ts r b → a ≡ b
+same-stop L ts (end e) a b g h = g.0 ∙ sym h.0
+same-stop L ts (fault e) a b g h = absurd g
+same-stop L ts (token t p r) a b g h = g.0 ∙ sym h.0
 
-same-deep : (L : Stream → Type 0) (m n : ℕ) (s x : Stream) (a b : ℕ) → GoesDeep L m n s x a
-    → GoesDeep L m n s x b → a ≡ b
-same-deep L m n s (end e) a b g h = absurd g
-same-deep L m n s (fault e) a b g h = absurd g
-same-deep L m n s (token t p r) a b g h = g.0 ∙ sym h.0
+same-deep : (L : Stream → Type 0) (n : ℕ) (ts : List PlacedToken) (r : Stream) (a b : ℕ)
+    → GoesDeep L n ts r a → GoesDeep L n ts r b → a ≡ b
+same-deep L n ts (end e) a b g h = absurd g
+same-deep L n ts (fault e) a b g h = absurd g
+same-deep L n ts (token t p r) a b g h = g.0 ∙ sym h.0
 
-one-fault : (L : Stream → Type 0) (n m : ℕ) (s : Stream) (f g : TextFault) → open_behind m n s ≤ 500
-    → Stands L n s m f → Stands L n s m g → f ≡ g
-one-fault L n m s (Lex a) (Lex b) l h k =
+one-fault : (L : Stream → Type 0) (n : ℕ) (ts : List PlacedToken) (r : Stream) (f g : TextFault)
+    → open_after ts n ≤ 500 → Follows L n ts r f → Follows L n ts r g → f ≡ g
+one-fault L n ts r (Lex a) (Lex b) l h k =
     let z : fault a ≡ fault b = sym h ∙ k in ap Lex (let q : a ≡ b = cc in q)
-one-fault L n m s (Lex a) (Syntax b) l h k = absurd (subst (λ (x : Stream). Stops L m s x b) h k)
-one-fault L n m s (Lex a) (Deep b) l h k = absurd (subst (λ (x : Stream). GoesDeep L m n s x b) h k)
-one-fault L n m s (Syntax a) (Lex b) l h k = absurd (subst (λ (x : Stream). Stops L m s x a) k h)
-one-fault L n m s (Syntax a) (Syntax b) l h k = ap Syntax (same-stop L m s (behind m s) a b h k)
-one-fault L n m s (Syntax a) (Deep b) l h k = absurd (deep-or-stops L m n s (behind m s) a b l h k)
-one-fault L n m s (Deep a) (Lex b) l h k = absurd (subst (λ (x : Stream). GoesDeep L m n s x a) k h)
-one-fault L n m s (Deep a) (Syntax b) l h k = absurd (deep-or-stops L m n s (behind m s) b a l k h)
-one-fault L n m s (Deep a) (Deep b) l h k = ap Deep (same-deep L m n s (behind m s) a b h k)
+one-fault L n ts r (Lex a) (Syntax b) l h k =
+    absurd (subst (λ (x : Stream). Stops L ts x b) h k)
+one-fault L n ts r (Lex a) (Deep b) l h k =
+    absurd (subst (λ (x : Stream). GoesDeep L n ts x b) h k)
+one-fault L n ts r (Syntax a) (Lex b) l h k =
+    absurd (subst (λ (x : Stream). Stops L ts x a) k h)
+one-fault L n ts r (Syntax a) (Syntax b) l h k = ap Syntax (same-stop L ts r a b h k)
+one-fault L n ts r (Syntax a) (Deep b) l h k = absurd (deep-or-stops L n ts r a b l h k)
+one-fault L n ts r (Deep a) (Lex b) l h k =
+    absurd (subst (λ (x : Stream). GoesDeep L n ts x a) k h)
+one-fault L n ts r (Deep a) (Syntax b) l h k = absurd (deep-or-stops L n ts r b a l k h)
+one-fault L n ts r (Deep a) (Deep b) l h k = ap Deep (same-deep L n ts r a b h k)
 
-by-counts : (L : Stream → Type 0) (n : ℕ) (s : Stream) (f g : TextFault) → n ≤ 500
-    → (a : Found L n s f) (b : Found L n s g) (less more : Bool) → nat_lt a.count b.count ≡ less
-    → nat_lt b.count a.count ≡ more → f ≡ g
-by-counts L n s f g l a b true more x y =
-    absurd (never-before L n a.count b.count s f
-    (let z : a.count < b.count = grind (arith, nat_tests) in z) b.good a.stands)
-by-counts L n s f g l a b false true x y =
-    absurd (never-before L n b.count a.count s g
-    (let z : b.count < a.count = grind (arith, nat_tests) in z) a.good b.stands)
-by-counts L n s f g l a b false false x y =
-    let z : b.count ≡ a.count = grind (arith, nat_tests) in
-    one-fault L n a.count s f g (open-few a.count n s l a.good.shallow) a.stands
-    (subst (λ (m : ℕ). Stands L n s m g) z b.stands)
-
-unique : (L : Stream → Type 0) (s : Stream) (f g : TextFault) → IsFirstFault L 0 s (Some f)
-    → IsFirstFault L 0 s (Some g) → f ≡ g
-unique L s f g h k =
-    let a : Found L 0 s f = found L 0 s f h in
-    let b : Found L 0 s g = found L 0 s g k in
-    by-counts L 0 s f g (omega arith) a b (nat_lt a.count b.count) (nat_lt b.count a.count) refl
-    refl
+unique : (L : Stream → Type 0) (s : Stream) (f g : TextFault) → HasFault L 0 s f
+    → HasFault L 0 s g → f ≡ g
+unique L s f g h k = elim (compared h.good k.good h.rest k.rest (sym h.is ∙ k.is)) [
+  | inl same ↦
+      let there : Follows L 0 h.good h.rest g =
+      subst (λ (r : Stream). Follows L 0 h.good r g) (sym same.1)
+      (subst (λ (ts : List PlacedToken). Follows L 0 ts k.rest g) (sym same.0) k.next) in
+      one-fault L 0 h.good h.rest f g
+      (open-few h.good 0 (omega arith) h.are_good.shallow) h.next there
+  | inr other ↦ absurd (elim other [
+    | inl more ↦ never-before L 0 h.good k.good h.rest k.rest f k.are_good h.next more
+    | inr less ↦ never-before L 0 k.good h.good k.rest h.rest g h.are_good k.next less
+  ])
+]
 
 pub definition-unique : DefinitionFaultIsUnique
 definition-unique bytes f g = unique IsDefinition (tokens_of bytes) f g

@@ -1,8 +1,8 @@
 -- The first fault of a text. The tokens before it are good: they begin a text of the language, at
 -- most 500 brackets are open among them, and none of them begins a fold without an argument. The
 -- fault is what comes after the good tokens.
-use Rattle.std.specs.Prelude.{◌≡◌, ◌≤◌, ◌<◌, ℕ, zero, suc, ◌+◌, ◌-◌, Bool, false, ◌==◌, ◌||◌, List}
-use Rattle.std.specs.Prelude.{[], ◌∷◌, ◌⊎◌, if◌then◌else◌, Option, Some, None}
+use Rattle.std.specs.Prelude.{◌≡◌, ◌≤◌, ◌<◌, ℕ, ◌+◌, ◌-◌, Bool, false, ◌==◌, ◌||◌, List, []}
+use Rattle.std.specs.Prelude.{◌∷◌, ◌++◌, ◌⊎◌, if◌then◌else◌, Option, Some, None}
 use Rattle.kore_text.specs.declared.names.Op.{Op}
 use Rattle.kore_text.specs.declared.names.Built.TheVariants.{Connective, Fold}
 use Rattle.kore_text.specs.declared.faults.TextFault.{TextFault}
@@ -50,68 +50,72 @@ IsEmptyFold t s =
     × (h : FoldHead) × (r : Stream)
     × TakesTokens (any (mark 123) ∷ any (mark 125) ∷ any (mark 40) ∷ spell_unfilled h []) s r
 
--- the first `m` tokens of the two streams are the same, with their places
-abbrev pub Same : ℕ → Stream → Stream → Type 0
-Same zero s r = Unit {0}
-Same (suc m) (token t p s) (token u q r) = (t ≡ u) × (p ≡ q) × Same m s r
-Same (suc m) _ _ = ⊥
+-- ---- good tokens, and what follows them
 
--- some text of the language begins with the first `m` tokens of the stream
-abbrev pub Begins : (Stream → Type 0) → ℕ → Stream → Type 0
-Begins L m s = (r : Stream) × Same m s r × L r
+-- a token with the byte at which it begins
+abbrev pub PlacedToken : Type 0
+PlacedToken = Token × ℕ
 
--- at most 500 brackets are open among the first `m` tokens, if `n` are open at the head
-abbrev pub ShallowTo : ℕ → ℕ → Stream → Type 0
-ShallowTo zero n s = Unit {0}
-ShallowTo (suc m) n (token t p s) = (opened t n ≤ 500) × ShallowTo m (opened t n) s
-ShallowTo (suc m) n _ = ⊥
+-- the stream that begins with these tokens and goes on with this rest
+abbrev pub followed_by : List PlacedToken → Stream → Stream
+followed_by [] rest = rest
+followed_by (t ∷ ts) rest = token t.0 t.1 (followed_by ts rest)
 
--- none of the first `m` tokens begins a fold without an argument
-abbrev pub FilledTo : ℕ → Stream → Type 0
-FilledTo zero s = Unit {0}
-FilledTo (suc m) (token t p s) = (IsEmptyFold t s → ⊥) × FilledTo m s
-FilledTo (suc m) _ = ⊥
+-- how many brackets are open after the tokens, if `n` are open before them
+abbrev pub open_after : List PlacedToken → ℕ → ℕ
+open_after [] n = n
+open_after (t ∷ ts) n = open_after ts (opened t.0 n)
 
--- how many brackets are open after the first `m` tokens, if `n` are open at the head
-abbrev pub open_behind : ℕ → ℕ → Stream → ℕ
-open_behind zero n s = n
-open_behind (suc m) n (token t p s) = open_behind m (opened t n) s
-open_behind (suc m) n _ = n
+-- some text of the language begins with the tokens
+abbrev pub Begins : (Stream → Type 0) → List PlacedToken → Type 0
+Begins L good = (r : Stream) × L (followed_by good r)
 
--- what comes after the first `m` tokens
-abbrev pub behind : ℕ → Stream → Stream
-behind zero s = s
-behind (suc m) (token t p s) = behind m s
-behind (suc m) s = s
-
--- the first `m` tokens are good, if `n` brackets are open at the head
-pub record IsGood (L : Stream → Type 0) (m : ℕ) (n : ℕ) (s : Stream) : Type 0 where
-  pub begins : Begins L m s
-  pub shallow : ShallowTo m n s
-  pub filled : FilledTo m s
+-- The tokens before this rest are good, if `n` brackets are open before them. They begin a text of
+-- the language, at most 500 brackets are open after each of them, and none of them begins a fold
+-- without an argument.
+pub record IsGood (L : Stream → Type 0) (n : ℕ) (good : List PlacedToken) (rest : Stream) :
+    Type 0 where
+  pub begins : Begins L good
+  pub shallow : (before : List PlacedToken) (t : PlacedToken) (after : List PlacedToken)
+      → good ≡ before ++ t ∷ after → opened t.0 (open_after before n) ≤ 500
+  pub filled : (before : List PlacedToken) (t : PlacedToken) (after : List PlacedToken)
+      → good ≡ before ++ t ∷ after → IsEmptyFold t.0 (followed_by after rest) → ⊥
 
 -- the good tokens cannot go on: the text ends after them and is not of the language, or no text of
 -- the language begins with them and the next token, or the next token begins a fold without an
 -- argument
-abbrev pub Stops : (Stream → Type 0) → ℕ → Stream → Stream → ℕ → Type 0
-Stops L m s (end e) at = (at ≡ e) × (L s → ⊥)
-Stops L m s (fault e) at = ⊥
-Stops L m s (token t p r) at = (at ≡ p) × ((Begins L (suc m) s → ⊥) ⊎ IsEmptyFold t r)
+abbrev pub Stops : (Stream → Type 0) → List PlacedToken → Stream → ℕ → Type 0
+Stops L good (end e) at = (at ≡ e) × (L (followed_by good (end e)) → ⊥)
+Stops L good (fault e) at = ⊥
+Stops L good (token t p rest) at =
+    (at ≡ p) × ((Begins L (good ++ (t, p) ∷ []) → ⊥) ⊎ IsEmptyFold t rest)
 
 -- the token after the good ones goes on a text of the language, but opens one bracket too many
-abbrev pub GoesDeep : (Stream → Type 0) → ℕ → ℕ → Stream → Stream → ℕ → Type 0
-GoesDeep L m n s (end e) at = ⊥
-GoesDeep L m n s (fault e) at = ⊥
-GoesDeep L m n s (token t p r) at =
-    (at ≡ p) × Begins L (suc m) s × (500 < opened t (open_behind m n s))
+abbrev pub GoesDeep : (Stream → Type 0) → ℕ → List PlacedToken → Stream → ℕ → Type 0
+GoesDeep L n good (end e) at = ⊥
+GoesDeep L n good (fault e) at = ⊥
+GoesDeep L n good (token t p rest) at =
+    (at ≡ p) × Begins L (good ++ (t, p) ∷ []) × (500 < opened t (open_after good n))
+
+-- what follows the good tokens is this fault
+abbrev pub Follows : (Stream → Type 0) → ℕ → List PlacedToken → Stream → TextFault → Type 0
+Follows L n good rest (Lex at) = rest ≡ fault at
+Follows L n good rest (Syntax at) = Stops L good rest at
+Follows L n good rest (Deep at) = GoesDeep L n good rest at
+
+-- the stream has good tokens and then this fault, if `n` brackets are open at its head
+pub record HasFault (L : Stream → Type 0) (n : ℕ) (s : Stream) (f : TextFault) : Type 0 where
+  pub good : List PlacedToken
+  pub rest : Stream
+  pub is : s ≡ followed_by good rest
+  pub are_good : IsGood L n good rest
+  pub next : Follows L n good rest f
 
 -- what the first fault of a text is, if `n` brackets are open at its head; it has none if it is a
 -- text of the language in which at most 500 brackets are open
 abbrev pub IsFirstFault : (Stream → Type 0) → ℕ → Stream → Option TextFault → Type 0
 IsFirstFault L n s None = L s × IsShallow n s
-IsFirstFault L n s (Some (Lex at)) = (m : ℕ) × IsGood L m n s × (behind m s ≡ fault at)
-IsFirstFault L n s (Some (Syntax at)) = (m : ℕ) × IsGood L m n s × Stops L m s (behind m s) at
-IsFirstFault L n s (Some (Deep at)) = (m : ℕ) × IsGood L m n s × GoesDeep L m n s (behind m s) at
+IsFirstFault L n s (Some f) = HasFault L n s f
 
 -- the tokens spell a pattern
 abbrev pub IsPattern : Stream → Type 0
