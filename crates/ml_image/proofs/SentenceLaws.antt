@@ -1,8 +1,8 @@
 -- The images of sentences, composed of the images of their parts, which were made under names that
 -- gained tokens later.
-use Rattle.std.proofs.Common.{◌≡◌, ◌≢◌, ℕ, ◌+◌, ◌<◌, ◌⊎◌, inl, inr, zero, suc, List, [], ◌∷◌, ◌++◌}
+use Rattle.std.proofs.Common.{◌≡◌, ◌≢◌, ℕ, ◌+◌, ◌⊎◌, inl, inr, suc, List, [], ◌∷◌, ◌++◌}
 use Rattle.std.proofs.Common.{Option, Some, None, option_map, Result, IfOk, refl, sym, ◌∙◌, ap}
-use Rattle.std.proofs.Common.{subst, length, slice_get, map, false, Contains, arith}
+use Rattle.std.proofs.Common.{length, slice_get, map, Contains, arith}
 use Rattle.ml_pat.specs.Patterns.{Pattern}
 use Rattle.ml_pat.specs.Patterns as logic
 use Rattle.term_core.specs.Patterns.{Pattern as RulePattern, Patterns as RulePatterns, variable}
@@ -17,18 +17,19 @@ use Rattle.rule_core.specs.Subsorts.{IsBelow}
 use Rattle.rule_core.specs.Sorting.{IsSymbol}
 use Rattle.ml_image.specs.Images.{both, image_of, applied, symbol_image, sort_image}
 use Rattle.ml_image.specs.Images.{injection_image, shifted, all_shifted}
-use Rattle.ml_image.specs.Sentences.{Sentence, term, symbol, apply, top, not, and, implies, equals}
-use Rattle.ml_image.specs.Sentences.{is_in, functional, exists, forall, next, sentence_image}
-use Rattle.ml_image.specs.Sentences.{for_all, variables, apply_all, conjunctions, IsImageOf}
-use Rattle.ml_image.specs.OwnAxioms.{sort_of, is_true, condition_of, rule_sentence, SaysRule}
-use Rattle.ml_image.specs.OwnAxioms.{direct_sentence, behind_parameters, meets, kompile_sentence}
+use Rattle.ml_image.specs.Sentences.{Sentence, term, and, implies, equals}
+use Rattle.ml_image.specs.Sentences.{exists, next, sentence_image}
+use Rattle.ml_image.specs.Sentences.{for_all, variables, IsImageOf}
+use Rattle.ml_image.specs.OwnAxioms.{sort_of, is_true, condition_of, SaysRule}
+use Rattle.ml_image.specs.OwnAxioms.{meets}
 use Rattle.ml_image.specs.OwnAxioms.{named, Declares, SaysEquation, direct, kompile, IsConstructor}
-use Rattle.ml_image.specs.OwnAxioms.{of_variables, SaysTotal, SaysApart, SaysFree, SaysSubsort}
+use Rattle.ml_image.specs.OwnAxioms.{of_variables, SaysTotal, SaysSubsort}
 use Rattle.ml_image.specs.OwnAxioms.{SaysCollapse}
 use Rattle.term_core.specs.Terms.{DomainValue}
 use Rattle.ml_image.specs.Tokens.{token_of_value, numbered}
 use Rattle.ml_image.specs.TrueFacts.{SaysHook, value_patterns}
-use Rattle.ml_image.specs.Counted.{condition_at, IsConditionImage, at_variables, at_pairs}
+use Rattle.ml_image.specs.Closing.{Closes}
+use Rattle.ml_image.specs.Counted.{condition_at, IsConditionImage}
 use Rattle.ml_image.specs.Gained.{HasGained}
 use Rattle.ml_image.proofs.ImageLaws.{some_same, if_ok, gained_twice, gained-injection}
 use Rattle.ml_image.proofs.NamingLaws.{gained-sentence}
@@ -99,13 +100,7 @@ one_symbol sig f a b ha hb =
 
 -- ---- closed sentences
 
--- the result of `close`: the image of each sentence with this body, quantified over all variables
--- of the sorts
-abbrev pub Closes : Signature → List (List ℕ) → List (List ℕ) → List ℕ → Pattern → Pattern → Type 0
-Closes sig old new sorts body p = (s : Sentence) → sentence_image sig old s ≡ Some body
-    → sentence_image sig new (for_all 0 sorts s) ≡ Some p
-
--- so a sentence with a property has its image
+-- a sentence with a property has its image, if its body has one and is closed
 pub closed_image : {E : Type 0} (sig : Signature) (old new : List (List ℕ)) (sorts : List ℕ)
     (body : Pattern) (P : Sentence → Type 0) (s : Sentence) (result : Result Pattern E)
     → P (for_all 0 sorts s) → sentence_image sig old s ≡ Some body
@@ -243,91 +238,6 @@ total_closes sig n1 n2 n3 f info sorts sort s m body result g2 constructs made a
     (equals (term (variable (length sorts))) (of_variables f 0 (length sorts)))) result
     (record { info = info; sorts = sorts; sort = sort; constructs = constructs; says = refl })
     (whole ∙ ap (λ (p : Pattern). Some p) (sym is)) closes
-
-pub apart_closes : {E : Type 0} (sig : Signature) (n1 n2 n3 : List (List ℕ)) (f g : ℕ)
-    (info other : SymInfo) (sorts others : List ℕ) (sort : ℕ) (l u body : Pattern)
-    (result : Result Pattern E) → HasGained sig n1 n2 → f ≢ g
-    → IsConstructor sig f info sorts sort → IsConstructor sig g other others sort
-    → (info.ac ≡ false) × (other.ac ≡ false)
-    → sentence_image sig n1 (of_variables f 0 (length sorts)) ≡ Some l
-    → sentence_image sig n2 (of_variables g (length sorts) (length others)) ≡ Some u
-    → body ≡ logic.not (logic.and l u) → IfOk result (Closes sig n2 n3 (sorts ++ others) body)
-    → IfOk result (IsImageOf sig n3 (SaysApart sig f g))
-apart_closes sig n1 n2 n3 f g info other sorts others sort l u body result g2 differ first second
-    no_ac left right is closes =
-    let left' : sentence_image sig n2 (of_variables f 0 (length sorts)) ≡ Some l =
-    gained-sentence sig n1 n2 (of_variables f 0 (length sorts)) g2 l left in
-    let whole : option_map logic.not (both logic.and
-    (sentence_image sig n2 (of_variables f 0 (length sorts)))
-    (sentence_image sig n2 (of_variables g (length sorts) (length others)))) ≡ Some
-    (logic.not (logic.and l u)) =
-    ap (λ (o : Option Pattern). option_map logic.not (both logic.and o
-    (sentence_image sig n2 (of_variables g (length sorts) (length others))))) left'
-    ∙ ap (λ (o : Option Pattern). option_map logic.not (both logic.and (Some l) o)) right in
-    closed_image sig n2 n3 (sorts ++ others) body (SaysApart sig f g) (not (and (of_variables f 0
-    (length sorts)) (of_variables g (length sorts) (length others)))) result
-    (record {
-      differ = differ;
-      info = info;
-      other = other;
-      sorts = sorts;
-      others = others;
-      sort = sort;
-      first = first;
-      second = second;
-      no_ac = no_ac;
-      says = refl;
-    })
-    (whole ∙ ap (λ (p : Pattern). Some p) (sym is)) closes
-
-pub free_closes : {E : Type 0} (sig : Signature) (n1 n2 n3 n4 : List (List ℕ)) (f : ℕ)
-    (info : SymInfo) (sorts : List ℕ) (sort : ℕ) (l u h body : Pattern)
-    (result : Result Pattern E) → HasGained sig n1 n2 → HasGained sig n2 n3
-    → IsConstructor sig f info sorts sort → info.ac ≡ false → 0 < length sorts
-    → sentence_image sig n1 (of_variables f 0 (length sorts)) ≡ Some l
-    → sentence_image sig n2 (of_variables f (length sorts) (length sorts)) ≡ Some u
-    → sentence_image sig n3 (apply_all (symbol f)
-    (conjunctions (variables 0 (length sorts)) (variables (length sorts) (length sorts))))
-    ≡ Some h → body ≡ logic.imp (logic.and l u) h
-    → IfOk result (Closes sig n3 n4 (sorts ++ sorts) body)
-    → IfOk result (IsImageOf sig n4 (SaysFree sig f))
-free_closes sig n1 n2 n3 n4 f info sorts sort l u h body result g2 g3 constructs no_ac some left
-    right joined is closes =
-    let n : ℕ = length sorts in
-    let js : Sentence =
-    apply_all (symbol f)
-    (conjunctions (variables 0 (length sorts)) (variables (length sorts) (length sorts))) in
-    let left' : sentence_image sig n3 (of_variables f 0 (length sorts)) ≡ Some l =
-    gained-sentence sig n1 n3 (of_variables f 0 (length sorts))
-    (gained_twice sig n1 n2 n3 g2 g3) l left in
-    let right' : sentence_image sig n3 (of_variables f (length sorts) (length sorts)) ≡ Some u =
-    gained-sentence sig n2 n3 (of_variables f (length sorts) (length sorts)) g3 u right in
-    let whole : both logic.imp (both logic.and
-    (sentence_image sig n3 (of_variables f 0 (length sorts)))
-    (sentence_image sig n3 (of_variables f (length sorts) (length sorts))))
-    (sentence_image sig n3 (apply_all (symbol f)
-    (conjunctions (variables 0 (length sorts)) (variables (length sorts) (length sorts)))))
-    ≡ Some (logic.imp (logic.and l u) h) =
-    ap (λ (o : Option Pattern). both logic.imp (both logic.and o
-    (sentence_image sig n3 (of_variables f (length sorts) (length sorts))))
-    (sentence_image sig n3 (apply_all (symbol f) (conjunctions (variables 0 (length sorts))
-    (variables (length sorts) (length sorts)))))) left'
-    ∙ ap (λ (o : Option Pattern). both logic.imp (both logic.and (Some l) o) (sentence_image sig n3
-    (apply_all (symbol f) (conjunctions (variables 0 (length sorts))
-    (variables (length sorts) (length sorts)))))) right'
-    ∙ ap (λ (o : Option Pattern). both logic.imp (both logic.and (Some l) (Some u)) o) joined in
-    closed_image sig n3 n4 (sorts ++ sorts) body (SaysFree sig f) (implies
-    (and (of_variables f 0 (length sorts)) (of_variables f (length sorts) (length sorts)))
-    js) result
-    (record {
-      info = info;
-      sorts = sorts;
-      sort = sort;
-      constructs = constructs;
-      no_ac = no_ac;
-      some = some;
-      says = refl;
-    }) (whole ∙ ap (λ (p : Pattern). Some p) (sym is)) closes
 
 pub subsort_closes : {E : Type 0} (sig : Signature) (n1 n2 n3 : List (List ℕ)) (a b t : ℕ)
     (j body : Pattern) (result : Result Pattern E) → HasGained sig n1 n2

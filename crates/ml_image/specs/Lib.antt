@@ -12,3 +12,4 @@ pub mod ConditionLaws
 -- Private: what clauses of private functions cite, and how private fields are seen.
 pub mod Injecting
 pub mod Counted
+pub mod Closing

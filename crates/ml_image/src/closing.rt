@@ -1,11 +1,11 @@
 // The quantifiers in front of a pattern, and the variables that they bind.
-ghost use Rattle.std.specs.Prelude.{◌≡◌, ◌≤◌, ◌+◌, ◌^◌, ℕ, List, length, map, IfOk, Some};
+ghost use Rattle.std.specs.Prelude.{◌≡◌, ◌≤◌, ◌+◌, ◌++◌, ◌^◌, ℕ, List, length, map, IfOk};
 ghost use Rattle.ml_pat.specs.Patterns.{and, var};
 ghost use Rattle.term_core.specs.RulePatterns.{sort_numbers};
 ghost use Rattle.rule_core.specs.Sorting.{AreSorts};
 ghost use Rattle.rule_core.specs.ProgramView.{sorts_of};
-ghost use Rattle.ml_image.specs.Sentences.{Sentence, sentence_image, for_all};
 ghost use Rattle.ml_image.specs.OwnAxioms.{named};
+ghost use Rattle.ml_image.specs.Closing.{Closes};
 ghost use Rattle.ml_image.specs.Counted.{at_variables, at_pairs};
 ghost use Rattle.ml_image.specs.Gained.{HasGained};
 
@@ -27,8 +27,7 @@ pub(crate) fn close(
     requires sorts { AreSorts sig.now (sort_numbers sorts.now) }
     requires few { length sorts.now ≤ 2 ^ 32 }
     ensures image { IfOk result
-        (λ p. (s : Sentence) → sentence_image sig.now names.old s ≡ Some body
-        → sentence_image sig.now names.new (for_all 0 (sort_numbers sorts.now) s) ≡ Some p) }
+        (Closes sig.now names.old names.new (sort_numbers sorts.now) body) }
     ensures names { HasGained sig.now names.old names.new }
 {
     let mut made = body;
@@ -37,6 +36,29 @@ pub(crate) fn close(
         made = MPat::all(alloc, VarNo(i as u32), sort, &made)?;
     }
     Ok(made)
+}
+
+// The pattern, universally quantified over variables of the first sorts, and then over variables of
+// the other sorts.
+pub(crate) fn close_both(
+    alloc: Global,
+    sig: &Signature,
+    names: &mut Names,
+    first: Vec<SortId>,
+    others: &[SortId],
+    body: MPat,
+) -> Result<MPat, AllocError>
+    requires first { AreSorts sig.now (sort_numbers first.items) }
+    requires others { AreSorts sig.now (sort_numbers others.now) }
+    requires few { length first.items + length others.now ≤ 2 ^ 32 }
+    ensures image { IfOk result
+        (Closes sig.now names.old names.new
+        (sort_numbers first.items ++ sort_numbers others.now) body) }
+    ensures names { HasGained sig.now names.old names.new }
+{
+    let mut sorts = first;
+    sorts.extend_from_slice(others)?;
+    close(alloc, sig, names, &sorts, body)
 }
 
 // The sorts of variables, in order.

@@ -5,10 +5,11 @@ ghost use Rattle.term_core.specs.RulePatterns.{sort_numbers};
 ghost use Rattle.rule_core.specs.Sorting.{IsSymbol};
 ghost use Rattle.ml_image.specs.Sentences.{IsImageOf, sentence_image};
 ghost use Rattle.ml_image.specs.OwnAxioms.{SaysTotal, SaysApart, SaysFree, of_variables, named};
-ghost use Rattle.ml_image.specs.HasImages.{HasTotality, HasDifference, HasFreedom, MakesTerms};
+ghost use Rattle.ml_image.specs.Closing.{TakesSorts, apart_body, of_pairs, free_body};
+ghost use Rattle.ml_image.specs.HasImages.{HasTotality, HasDifference, HasFreedom};
 ghost use Rattle.ml_image.specs.Gained.{HasGained};
 
-use crate::closing::{at_pairs, at_variables, close, named_sorts};
+use crate::closing::{at_pairs, at_variables, close, close_both, named_sorts};
 use crate::images::head_image;
 use crate::tokens::sort_number;
 use ml_pat::{MPat, MSort, Names, VarNo};
@@ -52,14 +53,12 @@ pub fn ctor_apart(
     ensures image { IfOk result (IsImageOf sig.now names.new (SaysApart sig.now first.0 second.0)) }
     ensures names { HasGained sig.now names.old names.new }
 {
-    let mut sorts = named_sorts(alloc, &declaration(sig, first).args)?;
-    let others = named_sorts(alloc, &declaration(sig, second).args)?;
-    let count = sorts.len() as u32;
-    let left = of_variables(alloc, sig, names, first, 0, count)?;
-    let right = of_variables(alloc, sig, names, second, count, others.len() as u32)?;
-    let body = MPat::not(alloc, &MPat::and(alloc, &left, &right)?)?;
-    sorts.extend_from_slice(&others)?;
-    close(alloc, sig, names, &sorts, body)
+    let sorts = argument_sorts(alloc, sig, first)?;
+    let others = argument_sorts(alloc, sig, second)?;
+    let one = (first, sorts.len() as u32);
+    let other = (second, others.len() as u32);
+    let body = difference(alloc, sig, names, one, other)?;
+    close_both(alloc, sig, names, sorts, &others, body)
 }
 
 /// The axiom that a constructor is free (K framework, attribute `constructor`): equal results have
@@ -76,16 +75,78 @@ pub fn ctor_free(
     ensures image { IfOk result (IsImageOf sig.now names.new (SaysFree sig.now symbol.0)) }
     ensures names { HasGained sig.now names.old names.new }
 {
-    let mut sorts = named_sorts(alloc, &declaration(sig, symbol).args)?;
-    let again = named_sorts(alloc, &declaration(sig, symbol).args)?;
-    let count = sorts.len() as u32;
+    let sorts = argument_sorts(alloc, sig, symbol)?;
+    let again = argument_sorts(alloc, sig, symbol)?;
+    let body = freedom(alloc, sig, names, symbol, sorts.len() as u32)?;
+    close_both(alloc, sig, names, sorts, &again, body)
+}
+
+// The argument sorts of a constructor, as its declaration lists them.
+fn argument_sorts(alloc: Global, sig: &Signature, symbol: SymId) -> Result<Vec<SortId>, AllocError>
+    requires { HasTotality sig.now symbol.0 }
+    ensures { IfOk result (λ v. TakesSorts sig.now symbol.0 (sort_numbers v.items)) }
+{
+    named_sorts(alloc, &declaration(sig, symbol).args)
+}
+
+// The statement that two constructors have different results, without its quantifiers. Each
+// constructor comes with the number of its arguments.
+fn difference(
+    alloc: Global,
+    sig: &Signature,
+    names: &mut Names,
+    first: (SymId, u32),
+    second: (SymId, u32),
+) -> Result<MPat, AllocError>
+    requires first { first.0.0 < length sig.now.symbols }
+    requires second { second.0.0 < length sig.now.symbols }
+    requires few { first.1 + second.1 ≤ 2 ^ 32 }
+    ensures image { IfOk result
+        (λ p. sentence_image sig.now names.new
+        (apart_body first.0.0 first.1 second.0.0 second.1) ≡ Some p) }
+    ensures names { HasGained sig.now names.old names.new }
+{
+    let left = of_variables(alloc, sig, names, first.0, 0, first.1)?;
+    let right = of_variables(alloc, sig, names, second.0, first.1, second.1)?;
+    MPat::not(alloc, &MPat::and(alloc, &left, &right)?)
+}
+
+// The statement that a constructor of `count` arguments is free, without its quantifiers.
+fn freedom(
+    alloc: Global,
+    sig: &Signature,
+    names: &mut Names,
+    symbol: SymId,
+    count: u32,
+) -> Result<MPat, AllocError>
+    requires symbol { symbol.0 < length sig.now.symbols }
+    requires few { count + count ≤ 2 ^ 32 }
+    ensures image { IfOk result
+        (λ p. sentence_image sig.now names.new (free_body symbol.0 count) ≡ Some p) }
+    ensures names { HasGained sig.now names.old names.new }
+{
     let first = of_variables(alloc, sig, names, symbol, 0, count)?;
     let second = of_variables(alloc, sig, names, symbol, count, count)?;
+    let joined = of_pairs(alloc, sig, names, symbol, count)?;
+    MPat::imp(alloc, &MPat::and(alloc, &first, &second)?, &joined)
+}
+
+// A symbol applied to `count` conjunctions: of the variables 0 and `count`, and so on.
+fn of_pairs(
+    alloc: Global,
+    sig: &Signature,
+    names: &mut Names,
+    symbol: SymId,
+    count: u32,
+) -> Result<MPat, AllocError>
+    requires symbol { symbol.0 < length sig.now.symbols }
+    requires few { count + count ≤ 2 ^ 32 }
+    ensures image { IfOk result
+        (λ p. sentence_image sig.now names.new (of_pairs symbol.0 count) ≡ Some p) }
+    ensures names { HasGained sig.now names.old names.new }
+{
     let head = head_image(alloc, sig, names, symbol.0 as usize)?;
-    let joined = at_pairs(alloc, head, 0, count, count)?;
-    let body = MPat::imp(alloc, &MPat::and(alloc, &first, &second)?, &joined)?;
-    sorts.extend_from_slice(&again)?;
-    close(alloc, sig, names, &sorts, body)
+    at_pairs(alloc, head, 0, count, count)
 }
 
 // The declaration of a symbol.

@@ -1,10 +1,8 @@
-use Rattle.std.proofs.Common.{◌≡◌, ℕ, ◌+◌, ◌++◌, List, Some, length, map, refl, ap, sym, ◌∙◌, subst}
-use Rattle.std.proofs.Common.{arith}
-use Rattle.ml_pat.specs.Patterns.{Pattern, ex, equal, var}
+use Rattle.std.proofs.Common.{◌≡◌, ℕ, List, Some, length, map, ap, sym, ◌∙◌, subst}
+use Rattle.ml_pat.specs.Patterns.{ex, equal, var}
 use Rattle.term_core.specs.RulePatterns.{sort_numbers}
 use Rattle.term_core.specs.declared.ids.SortId.{SortId}
 use Rattle.rule_core.specs.Sorting.{AreSorts}
-use Rattle.rule_core.specs.declared.signature.SymInfo.{SymInfo}
 use Rattle.ml_image.specs.Images.{sort_image}
 use Rattle.ml_image.specs.Sentences.{sentence_image}
 use Rattle.ml_image.specs.OwnAxioms.{named, of_variables}
@@ -12,7 +10,7 @@ use Rattle.ml_image.specs.HasImages.{MakesTerms}
 use Rattle.ml_image.proofs.ImageLaws.{gained_twice}
 use Rattle.ml_image.proofs.ListedLaws.{length-numbers}
 use Rattle.ml_image.proofs.ConstructorLaws.{read_maker, one_sort}
-use Rattle.ml_image.proofs.SentenceLaws.{total_closes, one_symbol}
+use Rattle.ml_image.proofs.SentenceLaws.{total_closes}
 use Rattle.ml_image.proofs.constructors.ctor_total.Goals as goal
 
 pub close-requires-clause-sorts : goal.close-requires-clause-sorts

@@ -1,7 +1,5 @@
-use Rattle.std.proofs.Common.{◌≡◌, ℕ, List, Option, Some, None, option_map, slice_get, refl, sym}
-use Rattle.std.proofs.Common.{◌∙◌, ap}
-use Rattle.rule_core.specs.Sorting.{IsSymbol}
-use Rattle.rule_core.specs.declared.signature.Signature.{Signature}
+use Rattle.std.proofs.Common.{◌≡◌, ℕ, List, Option, Some, None, option_map, slice_get, sym}
+use Rattle.std.proofs.Common.{ap}
 use Rattle.rule_core.specs.declared.signature.SymInfo.{SymInfo}
 use Rattle.ml_image.proofs.ImageLaws.{none_some, some_same}
 use Rattle.ml_image.proofs.constructors.declaration.Goals as goal
