@@ -8,5 +8,7 @@ mod rules;
 
 pub use citing::{assume, use_lemma};
 pub use rules::{
-    and_3, eq_el, eq_refl, ev_1, ev_2, ev_kt, fun_ex, inst, mp, next_in, p_1, p_2, top,
+    and_1, and_2, and_3, apart, app_l, app_r, bot_l, bot_r, eq_el, eq_in, eq_refl, ev_1, ev_2,
+    ev_kt, ex_el, fun_ex, inst, mem_in, mem_no, mp, next_in, not_1, not_2, or_1, or_2, or_3, p_1,
+    p_2, p_3, top,
 };
