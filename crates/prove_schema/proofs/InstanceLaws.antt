@@ -2,8 +2,8 @@
 use Rattle.std.proofs.Common.{◌≡◌, ◌<◌, ℕ, List, [], ◌∷◌, Option, Some, None, option_map, slice_get}
 use Rattle.std.proofs.Common.{slice_index_or, zero, suc, refl, sym, ◌∙◌, ap}
 use Rattle.std.proofs.lemmas.Option.{get_or_from_slice_get}
-use Rattle.ml_pat.specs.Patterns.{Pattern, bot, top, imp, not, and, or, equal, member, fun, ex, all}
-use Rattle.ml_pat.specs.Patterns.{app, at_sort, next, ev, var, meta, constant}
+use Rattle.ml_pat.specs.Patterns.{Pattern, unary, binary, sorted, quantified, app, at_sort, var}
+use Rattle.ml_pat.specs.Patterns.{meta, constant}
 use Rattle.ml_kernel.specs.Lemmas.{instance, HasNoVariable, HaveNoVariables}
 use Rattle.term_core.specs.Terms.{Tree}
 use Rattle.term_core.specs.Patterns.{Pattern as RulePattern, Patterns as RulePatterns, variable}
@@ -122,21 +122,10 @@ mutual
 -- patterns without object variables bring none in
 pub instance_closed : (qs : List Pattern) (p : Pattern) → HaveNoVariables qs → HasNoVariable p
     → HasNoVariable (instance qs p)
-instance_closed qs bot h k = tt
-instance_closed qs top h k = tt
-instance_closed qs (imp p q) h k = (instance_closed qs p h k.0, instance_closed qs q h k.1)
-instance_closed qs (not p) h k = instance_closed qs p h k
-instance_closed qs (and p q) h k = (instance_closed qs p h k.0, instance_closed qs q h k.1)
-instance_closed qs (or p q) h k = (instance_closed qs p h k.0, instance_closed qs q h k.1)
-instance_closed qs (equal p q) h k = (instance_closed qs p h k.0, instance_closed qs q h k.1)
-instance_closed qs (member p q) h k = (instance_closed qs p h k.0, instance_closed qs q h k.1)
-instance_closed qs (fun p s) h k = instance_closed qs p h k
-instance_closed qs (ex x s p) h k = absurd k
-instance_closed qs (all x s p) h k = absurd k
-instance_closed qs (app p q) h k = (instance_closed qs p h k.0, instance_closed qs q h k.1)
-instance_closed qs (at_sort p s) h k = instance_closed qs p h k
-instance_closed qs (next p) h k = instance_closed qs p h k
-instance_closed qs (ev p) h k = instance_closed qs p h k
+instance_closed qs (binary c p q) h k = (instance_closed qs p h k.0, instance_closed qs q h k.1)
+instance_closed qs (unary c p) h k = instance_closed qs p h k
+instance_closed qs (sorted c p s) h k = instance_closed qs p h k
+instance_closed qs (quantified c x s p) h k = absurd k
 instance_closed qs (var x) h k = absurd k
 instance_closed qs (meta i) h k = one_closed qs i (meta i) h tt
   where
@@ -145,4 +134,4 @@ instance_closed qs (meta i) h k = one_closed qs i (meta i) h tt
     one_closed [] i d h k = k
     one_closed (q ∷ qs) zero d h k = h.0
     one_closed (q ∷ qs) (suc i) d h k = one_closed qs i d h.1 k
-instance_closed qs (constant c) h k = tt
+instance_closed qs p h k = tt

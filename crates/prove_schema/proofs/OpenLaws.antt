@@ -2,8 +2,8 @@
 use Rattle.std.proofs.Common.{◌≡◌, ℕ, List, [], ◌∷◌, Option, Some, None, option_map, refl, ap}
 use Rattle.std.proofs.Common.{subst, arith}
 use Rattle.std.specs.Prelude.{IsTrue}
-use Rattle.ml_pat.specs.Patterns.{Pattern, bot, top, imp, not, and, or, equal, member, fun, ex, all}
-use Rattle.ml_pat.specs.Patterns.{app, at_sort, next, ev, var, meta, constant}
+use Rattle.ml_pat.specs.Patterns.{Pattern, nullary, unary, binary, sorted, quantified, app, at_sort}
+use Rattle.ml_pat.specs.Patterns.{var, meta, constant}
 use Rattle.ml_pat.specs.Leaves.{LeafFacts, EachLeaf}
 use Rattle.ml_kernel.specs.Lemmas.{IsMetaBelow, HasNoVariable}
 use Rattle.ml_scope.specs.Scopes.{Scope, IsOver}
@@ -21,87 +21,40 @@ use Rattle.prove_schema.specs.Schemas.{with_metas, IsOpenFrom}
 -- ---- what occurs in a schema
 
 pub open_no_variable : (k n : ℕ) (p : Pattern) → IsOpenFrom k n p → HasNoVariable (with_metas p)
-open_no_variable k n bot h = tt
-open_no_variable k n top h = tt
-open_no_variable k n (imp p q) h = (open_no_variable k n p h.0, open_no_variable k n q h.1)
-open_no_variable k n (not p) h = open_no_variable k n p h
-open_no_variable k n (and p q) h = (open_no_variable k n p h.0, open_no_variable k n q h.1)
-open_no_variable k n (or p q) h = (open_no_variable k n p h.0, open_no_variable k n q h.1)
-open_no_variable k n (equal p q) h = (open_no_variable k n p h.0, open_no_variable k n q h.1)
-open_no_variable k n (member p q) h = (open_no_variable k n p h.0, open_no_variable k n q h.1)
-open_no_variable k n (fun p s) h = open_no_variable k n p h
-open_no_variable k n (ex x s p) h = absurd h
-open_no_variable k n (all x s p) h = absurd h
-open_no_variable k n (app p q) h = (open_no_variable k n p h.0, open_no_variable k n q h.1)
-open_no_variable k n (at_sort p s) h = open_no_variable k n p h
-open_no_variable k n (next p) h = open_no_variable k n p h
-open_no_variable k n (ev p) h = open_no_variable k n p h
-open_no_variable k n (var x) h = tt
-open_no_variable k n (meta i) h = tt
-open_no_variable k n (constant c) h = tt
+open_no_variable k n (binary c p q) h = (open_no_variable k n p h.0, open_no_variable k n q h.1)
+open_no_variable k n (unary c p) h = open_no_variable k n p h
+open_no_variable k n (sorted c p s) h = open_no_variable k n p h
+open_no_variable k n (quantified c x s p) h = absurd h
+open_no_variable k n p h = tt
 
 pub open_metas : (k n : ℕ) (p : Pattern) → IsOpenFrom k n p → IsMetaBelow n (with_metas p)
-open_metas k n bot h = tt
-open_metas k n top h = tt
-open_metas k n (imp p q) h = (open_metas k n p h.0, open_metas k n q h.1)
-open_metas k n (not p) h = open_metas k n p h
-open_metas k n (and p q) h = (open_metas k n p h.0, open_metas k n q h.1)
-open_metas k n (or p q) h = (open_metas k n p h.0, open_metas k n q h.1)
-open_metas k n (equal p q) h = (open_metas k n p h.0, open_metas k n q h.1)
-open_metas k n (member p q) h = (open_metas k n p h.0, open_metas k n q h.1)
-open_metas k n (fun p s) h = open_metas k n p h
-open_metas k n (ex x s p) h = absurd h
-open_metas k n (all x s p) h = absurd h
-open_metas k n (app p q) h = (open_metas k n p h.0, open_metas k n q h.1)
-open_metas k n (at_sort p s) h = open_metas k n p h
-open_metas k n (next p) h = open_metas k n p h
-open_metas k n (ev p) h = open_metas k n p h
+open_metas k n (binary c p q) h = (open_metas k n p h.0, open_metas k n q h.1)
+open_metas k n (unary c p) h = open_metas k n p h
+open_metas k n (sorted c p s) h = open_metas k n p h
+open_metas k n (quantified c x s p) h = absurd h
 open_metas k n (var x) h = h.1
 open_metas k n (meta i) h = h
-open_metas k n (constant c) h = tt
+open_metas k n p h = tt
 
 -- a pattern without object variables is its own schema
 pub open_closed : (n : ℕ) (p : Pattern) → IsOpenFrom n n p → with_metas p ≡ p
-open_closed n bot h = refl
-open_closed n top h = refl
-open_closed n (imp p q) h = rw (open_closed n p h.0, open_closed n q h.1) refl
-open_closed n (not p) h = ap not (open_closed n p h)
-open_closed n (and p q) h = rw (open_closed n p h.0, open_closed n q h.1) refl
-open_closed n (or p q) h = rw (open_closed n p h.0, open_closed n q h.1) refl
-open_closed n (equal p q) h = rw (open_closed n p h.0, open_closed n q h.1) refl
-open_closed n (member p q) h = rw (open_closed n p h.0, open_closed n q h.1) refl
-open_closed n (fun p s) h = ap (λ (r : Pattern). fun r s) (open_closed n p h)
-open_closed n (ex x s p) h = absurd h
-open_closed n (all x s p) h = absurd h
-open_closed n (app p q) h = rw (open_closed n p h.0, open_closed n q h.1) refl
-open_closed n (at_sort p s) h = ap (λ (r : Pattern). at_sort r s) (open_closed n p h)
-open_closed n (next p) h = ap next (open_closed n p h)
-open_closed n (ev p) h = ap ev (open_closed n p h)
+open_closed n (binary c p q) h = rw (open_closed n p h.0, open_closed n q h.1) refl
+open_closed n (unary c p) h = ap (unary c) (open_closed n p h)
+open_closed n (sorted c p s) h = ap (λ (r : Pattern). sorted c r s) (open_closed n p h)
+open_closed n (quantified c x s p) h = absurd h
 open_closed n (var x) h = absurd (omega (arith, h.0, h.1))
-open_closed n (meta i) h = refl
-open_closed n (constant c) h = refl
+open_closed n p h = refl
 
 -- the leaves of a schema are leaves of the pattern, or pattern variables
 pub schema_leaves : (f : LeafFacts) (p : Pattern) → ((i : ℕ) → f.meta i) → EachLeaf f p
     → EachLeaf f (with_metas p)
-schema_leaves f bot m h = tt
-schema_leaves f top m h = tt
-schema_leaves f (imp p q) m h = (schema_leaves f p m h.0, schema_leaves f q m h.1)
-schema_leaves f (not p) m h = schema_leaves f p m h
-schema_leaves f (and p q) m h = (schema_leaves f p m h.0, schema_leaves f q m h.1)
-schema_leaves f (or p q) m h = (schema_leaves f p m h.0, schema_leaves f q m h.1)
-schema_leaves f (equal p q) m h = (schema_leaves f p m h.0, schema_leaves f q m h.1)
-schema_leaves f (member p q) m h = (schema_leaves f p m h.0, schema_leaves f q m h.1)
-schema_leaves f (fun p s) m h = (schema_leaves f p m h.0, h.1)
-schema_leaves f (ex x s p) m h = (schema_leaves f p m h.0, h.1)
-schema_leaves f (all x s p) m h = (schema_leaves f p m h.0, h.1)
-schema_leaves f (app p q) m h = (schema_leaves f p m h.0, schema_leaves f q m h.1)
-schema_leaves f (at_sort p s) m h = (schema_leaves f p m h.0, h.1)
-schema_leaves f (next p) m h = schema_leaves f p m h
-schema_leaves f (ev p) m h = schema_leaves f p m h
+schema_leaves f (nullary c) m h = tt
+schema_leaves f (binary c p q) m h = (schema_leaves f p m h.0, schema_leaves f q m h.1)
+schema_leaves f (unary c p) m h = schema_leaves f p m h
+schema_leaves f (sorted c p s) m h = (schema_leaves f p m h.0, h.1)
+schema_leaves f (quantified c x s p) m h = (schema_leaves f p m h.0, h.1)
 schema_leaves f (var x) m h = m x
-schema_leaves f (meta i) m h = h
-schema_leaves f (constant c) m h = h
+schema_leaves f p m h = h
 
 pub schema_over : (s : Scope) (p : Pattern) → ((i : ℕ) → IsTrue (s.meta i)) → IsOver s p
     → IsOver s (with_metas p)

@@ -3,8 +3,7 @@ use Rattle.std.proofs.Common.{◌≡◌, ◌+◌, ℕ, zero, suc, List, [], ◌�
 use Rattle.std.proofs.Common.{ap, subst, arith, append_assoc}
 use Rattle.std.specs.Prelude.{Contains}
 use Rattle.std.proofs.lemmas.List.Elements.{Contains-append_left, Contains-append_right}
-use Rattle.ml_pat.specs.Patterns.{Pattern, bot, top, imp, not, and, or, equal, member, fun, ex, all}
-use Rattle.ml_pat.specs.Patterns.{app, at_sort, next, ev, var, meta, constant}
+use Rattle.ml_pat.specs.Patterns.{Pattern, imp, and, fun, all, meta}
 use Rattle.ml_pat.specs.PatternView.{pattern_of}
 use Rattle.ml_pat.specs.declared.patterns.MForm.{MForm}
 use Rattle.ml_pat.specs.declared.patterns.MForm.TheVariants as form
@@ -62,24 +61,8 @@ one_more_quantifier ts t p fact rest all_facts is front before =
 -- ---- the sentence at pattern variables
 
 open_no_facts : (k n : ℕ) (p : Pattern) → IsOpenFrom k n p → facts_of p ≡ []
-open_no_facts k n bot h = refl
-open_no_facts k n top h = refl
-open_no_facts k n (imp p q) h = refl
-open_no_facts k n (not p) h = refl
-open_no_facts k n (and p q) h = refl
-open_no_facts k n (or p q) h = refl
-open_no_facts k n (equal p q) h = refl
-open_no_facts k n (member p q) h = refl
-open_no_facts k n (fun p s) h = refl
-open_no_facts k n (ex x s p) h = refl
 open_no_facts k n (all x s p) h = absurd h
-open_no_facts k n (app p q) h = refl
-open_no_facts k n (at_sort p s) h = refl
-open_no_facts k n (next p) h = refl
-open_no_facts k n (ev p) h = refl
-open_no_facts k n (var x) h = refl
-open_no_facts k n (meta i) h = refl
-open_no_facts k n (constant c) h = refl
+open_no_facts k n p h = refl
 
 closed_facts : (k : ℕ) (ns : List ℕ) (p : Pattern) → facts_of p ≡ []
     → facts_of (closed k ns p) ≡ meta_facts k ns

@@ -2,8 +2,8 @@
 use Rattle.std.proofs.Common.{◌≡◌, ℕ, true, List, [], ◌∷◌, ◌++◌, map, zero, suc, refl, ap, arith}
 use Rattle.std.specs.Prelude.{Contains}
 use Rattle.std.proofs.lemmas.List.Elements.{Contains-append_left, Contains-append_right}
-use Rattle.ml_pat.specs.Patterns.{Pattern, bot, top, imp, not, and, or, equal, member, fun, ex, all}
-use Rattle.ml_pat.specs.Patterns.{app, at_sort, next, ev, var, meta, constant}
+use Rattle.ml_pat.specs.Patterns.{Pattern, nullary, unary, binary, sorted, quantified, var, meta}
+use Rattle.ml_pat.specs.Patterns.{constant}
 use Rattle.ml_pat.specs.Leaves.{LeafFacts, EachLeaf}
 use Rattle.ml_kernel.specs.Theorems.{Theorem}
 use Rattle.ml_scope.specs.Scopes.{Scope, IsWithin}
@@ -18,21 +18,11 @@ pub record HaveAll (f : LeafFacts) : Type 0 where
   pub meta : (i : ℕ) → f.meta i
 
 all_leaves : (f : LeafFacts) (p : Pattern) → HaveAll f → EachLeaf f p
-all_leaves f bot h = tt
-all_leaves f top h = tt
-all_leaves f (imp p q) h = (all_leaves f p h, all_leaves f q h)
-all_leaves f (not p) h = all_leaves f p h
-all_leaves f (and p q) h = (all_leaves f p h, all_leaves f q h)
-all_leaves f (or p q) h = (all_leaves f p h, all_leaves f q h)
-all_leaves f (equal p q) h = (all_leaves f p h, all_leaves f q h)
-all_leaves f (member p q) h = (all_leaves f p h, all_leaves f q h)
-all_leaves f (fun p s) h = (all_leaves f p h, h.sort s)
-all_leaves f (ex x s p) h = (all_leaves f p h, (h.object x, h.sort s))
-all_leaves f (all x s p) h = (all_leaves f p h, (h.object x, h.sort s))
-all_leaves f (app p q) h = (all_leaves f p h, all_leaves f q h)
-all_leaves f (at_sort p s) h = (all_leaves f p h, h.sort s)
-all_leaves f (next p) h = all_leaves f p h
-all_leaves f (ev p) h = all_leaves f p h
+all_leaves f (nullary c) h = tt
+all_leaves f (binary c p q) h = (all_leaves f p h, all_leaves f q h)
+all_leaves f (unary c p) h = all_leaves f p h
+all_leaves f (sorted c p s) h = (all_leaves f p h, h.sort s)
+all_leaves f (quantified c x s p) h = (all_leaves f p h, (h.object x, h.sort s))
 all_leaves f (var x) h = h.object x
 all_leaves f (meta i) h = h.meta i
 all_leaves f (constant c) h = h.constant c

@@ -7,8 +7,7 @@ use Rattle.std.specs.List.{AllZip}
 use Rattle.std.proofs.lemmas.List.{take_more, take_all}
 use Rattle.std.proofs.lemmas.Option.{slice_get_within, get_or_from_slice_get}
 use Rattle.std.proofs.lemmas.List.Elements.{All-head, All-tail}
-use Rattle.ml_pat.specs.Patterns.{Pattern, bot, top, imp, not, and, or, equal, member, fun, ex, all}
-use Rattle.ml_pat.specs.Patterns.{app, at_sort, next, ev, var, meta, constant}
+use Rattle.ml_pat.specs.Patterns.{Pattern, equal, member, fun, meta}
 use Rattle.ml_pat.specs.PatternView.{pattern_of}
 use Rattle.ml_pat.specs.declared.patterns.MForm.{MForm}
 use Rattle.ml_pat.specs.declared.patterns.MForm.TheVariants as form
@@ -176,24 +175,10 @@ proved_equal qs ns others h p q (by_condition x r u t at last is below says) e =
 
 -- the three forms of hypotheses; no other form has a proof
 abbrev HasForm : Pattern → Type 0
-HasForm bot = ⊥
-HasForm top = ⊥
-HasForm (imp p q) = ⊥
-HasForm (not p) = ⊥
-HasForm (and p q) = ⊥
-HasForm (or p q) = ⊥
 HasForm (equal p q) = Unit {0}
 HasForm (member p q) = Unit {0}
 HasForm (fun p s) = Unit {0}
-HasForm (ex x s p) = ⊥
-HasForm (all x s p) = ⊥
-HasForm (app p q) = ⊥
-HasForm (at_sort p s) = ⊥
-HasForm (next p) = ⊥
-HasForm (ev p) = ⊥
-HasForm (var x) = ⊥
-HasForm (meta i) = ⊥
-HasForm (constant c) = ⊥
+HasForm p = ⊥
 
 has_form : (qs : List Pattern) (ns : List ℕ) (others : List Theorem) (h : Pattern)
     → IsProved qs ns others h → HasForm h
@@ -204,24 +189,10 @@ has_form qs ns others h (by_condition x p q t at last is below says) = subst Has
 only_forms : (f : MForm) → HasForm (pattern_of f) → ((p q : Pattern) → f ≡ form.Equal p q → ⊥)
     → ((p q : Pattern) → f ≡ form.Member p q → ⊥)
     → ((p : Pattern) (s : MSort) → f ≡ form.Fun p s → ⊥) → ⊥
-only_forms form.Bot h a b c = h
-only_forms form.Top h a b c = h
-only_forms (form.Imp p q) h a b c = h
-only_forms (form.Not p) h a b c = h
-only_forms (form.And p q) h a b c = h
-only_forms (form.Or p q) h a b c = h
 only_forms (form.Equal p q) h a b c = a p q refl
 only_forms (form.Member p q) h a b c = b p q refl
 only_forms (form.Fun p s) h a b c = c p s refl
-only_forms (form.Ex x s p) h a b c = h
-only_forms (form.All x s p) h a b c = h
-only_forms (form.App p q) h a b c = h
-only_forms (form.At p s) h a b c = h
-only_forms (form.Next p) h a b c = h
-only_forms (form.Ev p) h a b c = h
-only_forms (form.Var x) h a b c = h
-only_forms (form.Meta i) h a b c = h
-only_forms (form.Const x) h a b c = h
+only_forms f h a b c = h
 
 pub no_other_form : (qs : List Pattern) (ns : List ℕ) (others : List Theorem) (h : Pattern)
     (f : MForm) → IsProved qs ns others h → h ≡ pattern_of f

@@ -1,7 +1,6 @@
 -- Theorems that say only what they assume.
 use Rattle.std.specs.Prelude.{List, [], ◌∷◌}
-use Rattle.ml_pat.specs.Patterns.{Pattern, bot, top, imp, not, and, or, equal, member, fun, ex, all}
-use Rattle.ml_pat.specs.Patterns.{app, at_sort, next, ev, var, meta, constant}
+use Rattle.ml_pat.specs.Patterns.{Pattern, fun, all, meta}
 use Rattle.ml_kernel.specs.Theorems.{Theorem}
 use Rattle.ml_scope.specs.Scopes.{Scope, AssumesWithin, AreAssumed, IsWithin}
 use Rattle.prove_schema.specs.Schemas.{parts_of}
@@ -14,24 +13,8 @@ AreAssumptions (t ∷ ts) = AssumesWithin t.conclusion t × AreAssumptions ts
 -- the facts of the leading quantifiers of a pattern: each bound variable's pattern variable is one
 -- element of its sort
 abbrev pub facts_of : Pattern → List Pattern
-facts_of bot = []
-facts_of top = []
-facts_of (imp p q) = []
-facts_of (not p) = []
-facts_of (and p q) = []
-facts_of (or p q) = []
-facts_of (equal p q) = []
-facts_of (member p q) = []
-facts_of (fun p s) = []
-facts_of (ex x s p) = []
 facts_of (all x s p) = fun (meta x) s ∷ facts_of p
-facts_of (app p q) = []
-facts_of (at_sort p s) = []
-facts_of (next p) = []
-facts_of (ev p) = []
-facts_of (var x) = []
-facts_of (meta i) = []
-facts_of (constant c) = []
+facts_of p = []
 
 -- a scope in which each part of p may be assumed has the theorem
 abbrev pub HoldsByParts : Pattern → Theorem → Type 0
