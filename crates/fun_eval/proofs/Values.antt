@@ -18,7 +18,8 @@ use Rattle.hook_table.specs.Scalars.{kind_of}
 use Rattle.rule_core.specs.Theories.{RewriteTheory, equations_of}
 use Rattle.rule_core.specs.HookCalls.{AreValues, HookAnswers, HookFails}
 use Rattle.rule_core.specs.Sorting.{HaveSorts, IsSymbol, IsFunction, sort_at, HasValue}
-use Rattle.rule_core.specs.WellSorted.{IsWellSorted, FitsHook}
+use Rattle.rule_core.specs.WellSorted.{IsWellSorted}
+use Rattle.rule_core.specs.HookSorts.{FitsHook}
 use Rattle.rule_core.specs.Evaluation.{value, blocked, values, no_value, too_high, most_height}
 use Rattle.rule_core.specs.Evaluation.{IsInjectionSymbol, of_constructor, of_injection, Evaluates}
 use Rattle.rule_core.specs.Evaluation.{bound, itself, made, made_too_high, called, EvaluateAll}

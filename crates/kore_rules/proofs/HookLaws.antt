@@ -14,7 +14,7 @@ use Rattle.term_core.specs.HookValues.{Hook, hooks, signature}
 use Rattle.term_core.specs.HookValues as hook
 use Rattle.hook_table.specs.Names.{hook_number, NamesDiffer}
 use Rattle.kore_text.specs.Trees.{AxiomDeclaration}
-use Rattle.rule_core.specs.WellSorted.{FitsHook}
+use Rattle.rule_core.specs.HookSorts.{FitsHook}
 use Rattle.rule_core.specs.declared.signature.Signature.{Signature}
 use Rattle.rule_core.specs.declared.signature.SymInfo.{SymInfo}
 use Rattle.rule_core.specs.declared.signature.SymKind.{SymKind}

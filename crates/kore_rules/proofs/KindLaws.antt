@@ -14,7 +14,7 @@ use Rattle.term_core.specs.HookValues.{argument_kinds, result_kind}
 use Rattle.kore_text.specs.Trees.{SortTree, PatternTree, AxiomDeclaration}
 use Rattle.rule_core.specs.Subsorts.{IsBelow, by_pair, by_chain}
 use Rattle.rule_core.specs.Sorting.{IsSymbol}
-use Rattle.rule_core.specs.WellSorted.{IsOfKind, IsSortOf, RefersTo, ReferTo, FitsHook}
+use Rattle.rule_core.specs.HookSorts.{IsOfKind, IsSortOf, RefersTo, ReferTo, FitsHook}
 use Rattle.rule_core.specs.declared.signature.Signature.{Signature}
 use Rattle.rule_core.specs.declared.signature.SortInfo.{SortInfo}
 use Rattle.rule_core.specs.declared.signature.SortKind.{SortKind}

@@ -17,7 +17,7 @@ use Rattle.rule_core.specs.Named.{number_of, names_of, AreDistinct}
 use Rattle.rule_core.specs.ProgramView.{rewrite_rule, function_equation, function_equations}
 use Rattle.rule_core.specs.Rules.{RewriteRule, ComesBefore}
 use Rattle.rule_core.specs.Rules as plain
-use Rattle.rule_core.specs.WellSorted.{AreInOrder}
+use Rattle.rule_core.specs.TrialOrder.{AreInOrder}
 use Rattle.rule_core.specs.declared.rules.Equation.{Equation}
 use Rattle.rule_core.specs.declared.rules.Rule.{Rule}
 use Rattle.rule_core.specs.declared.signature.Signature.{Signature}

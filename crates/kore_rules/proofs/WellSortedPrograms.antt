@@ -11,8 +11,11 @@ use Rattle.rule_core.specs.Rules.{RewriteRule, Equation}
 use Rattle.rule_core.specs.Sorting.{IsSymbol, IsFunction}
 use Rattle.rule_core.specs.Subsorts.{IsBelow}
 use Rattle.rule_core.specs.Theories.{RewriteTheory, equations_of}
-use Rattle.rule_core.specs.WellSorted.{IsSignature, IsWellSorted, IsSortOf, RefersTo, ReferTo}
-use Rattle.rule_core.specs.WellSorted.{FitsHook, AreInOrder, IsReference, IsRuleOf as IsSortedRule}
+use Rattle.rule_core.specs.WellSorted.{IsSignature, IsWellSorted}
+use Rattle.rule_core.specs.HookSorts.{IsSortOf, RefersTo, ReferTo}
+use Rattle.rule_core.specs.WellSorted.{IsReference, IsRuleOf as IsSortedRule}
+use Rattle.rule_core.specs.HookSorts.{FitsHook}
+use Rattle.rule_core.specs.TrialOrder.{AreInOrder}
 use Rattle.rule_core.specs.WellSorted.{IsEquationOf as IsSortedEquation}
 use Rattle.rule_core.specs.declared.signature.Signature.{Signature}
 use Rattle.rule_core.specs.declared.signature.SortInfo.{SortInfo}

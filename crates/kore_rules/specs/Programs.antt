@@ -9,7 +9,8 @@ use Rattle.term_core.specs.HookValues.{Hook, hooks}
 use Rattle.term_core.specs.Patterns.{Pattern}
 use Rattle.rule_core.specs.Rules.{RewriteRule, Equation}
 use Rattle.rule_core.specs.Theories.{RewriteTheory, equations_of}
-use Rattle.rule_core.specs.WellSorted.{AreInOrder, FitsHook}
+use Rattle.rule_core.specs.TrialOrder.{AreInOrder}
+use Rattle.rule_core.specs.HookSorts.{FitsHook}
 use Rattle.rule_core.specs.declared.signature.Signature.{Signature}
 use Rattle.rule_core.specs.declared.signature.SymInfo.{SymInfo}
 use Rattle.rule_core.specs.declared.signature.SymKind.{SymKind}

@@ -19,7 +19,7 @@ use Rattle.term_core.specs.declared.values.Scalar.TheVariants as scalar
 use Rattle.rule_core.specs.HookCalls.{AreValues}
 use Rattle.rule_core.specs.Sorting.{sort_at, HasValue}
 use Rattle.rule_core.specs.MatchLaws.{AreTermsOf}
-use Rattle.rule_core.specs.WellSorted.{ReferTo}
+use Rattle.rule_core.specs.HookSorts.{ReferTo}
 use Rattle.rule_core.specs.Records.{Record, RecordList, no_record, more_records, result_of}
 use Rattle.rule_core.specs.Records.{results_of}
 use Rattle.rule_core.specs.declared.signature.Signature.{Signature}

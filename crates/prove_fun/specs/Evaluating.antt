@@ -13,7 +13,8 @@ use Rattle.rule_core.specs.declared.rules.Program.{Program}
 use Rattle.rule_core.specs.Sorting.{HasSort, HaveSorts, HasValue, IsSymbol, sort_at}
 use Rattle.rule_core.specs.MatchLaws.{AreTermsOf}
 use Rattle.rule_core.specs.HookCalls.{HookAnswers}
-use Rattle.rule_core.specs.WellSorted.{FitsHook, IsWellSorted, BindsVariablesOf}
+use Rattle.rule_core.specs.WellSorted.{IsWellSorted, BindsVariablesOf}
+use Rattle.rule_core.specs.HookSorts.{FitsHook}
 use Rattle.rule_core.specs.BoundVariables.{HasBoundVariables}
 use Rattle.rule_core.specs.Matching.{OccursInSome, RespectsSorts}
 use Rattle.rule_core.specs.Evaluation.{most_height}

@@ -34,7 +34,8 @@ use Rattle.rule_core.specs.Evaluation.{EvaluatesIn, no_nesting, inside}
 use Rattle.rule_core.specs.HookCalls.{HookAnswers, HookFails}
 use Rattle.term_core.specs.declared.values.NoValue.{NoValue}
 use Rattle.rule_core.specs.WellSorted.{IsWellSorted, BindsVariablesOf, IsEquationOf, IsCondition}
-use Rattle.rule_core.specs.WellSorted.{UsesOnly, FitsHook}
+use Rattle.rule_core.specs.WellSorted.{UsesOnly}
+use Rattle.rule_core.specs.HookSorts.{FitsHook}
 use Rattle.rule_core.specs.declared.signature.Signature.{Signature}
 use Rattle.rule_core.specs.declared.signature.SortRef.{SortRef}
 use Rattle.rule_core.specs.declared.signature.SymInfo.{SymInfo}

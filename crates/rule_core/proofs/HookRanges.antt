@@ -25,7 +25,7 @@ use Rattle.term_core.specs.declared.values.NoValue.TheVariants.{ZeroDivisor, Neg
 use Rattle.rule_core.specs.Subsorts.{IsBelow}
 use Rattle.rule_core.specs.Sorting.{IsInRange, IsValueOf, HasValue, IsTermOf, sort_at}
 use Rattle.rule_core.specs.MatchLaws.{AreTermsOf}
-use Rattle.rule_core.specs.WellSorted.{FitsHook, IsOfKind, IsSortOf, RefersTo, ReferTo}
+use Rattle.rule_core.specs.HookSorts.{FitsHook, IsOfKind, IsSortOf, RefersTo, ReferTo}
 use Rattle.rule_core.specs.HookCalls.{AreValues, HookAnswers, HookFails}
 use Rattle.rule_core.specs.declared.signature.Signature.{Signature}
 use Rattle.rule_core.specs.declared.signature.SortInfo.{SortInfo}

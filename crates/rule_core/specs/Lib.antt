@@ -2,6 +2,7 @@
 -- Public: what public clauses say, and what public definitions of other crates use.
 pub mod Named
 pub mod Rules
+pub mod TrialOrder
 pub mod Matching
 pub mod MatchSearch
 pub mod FirstRule
@@ -10,6 +11,7 @@ pub mod Sorting
 pub mod Theories
 pub mod HookCalls
 pub mod Evaluation
+pub mod HookSorts
 pub mod WellSorted
 pub mod Records
 pub mod Runs

@@ -5,11 +5,11 @@ use Rattle.std.specs.Prelude.{IsSome, IfSome, All, ◌⊎◌, map}
 use Rattle.term_core.specs.Terms.{Tree, height}
 use Rattle.term_core.specs.Patterns.{Pattern, Patterns, variable, domain_value, application}
 use Rattle.term_core.specs.Patterns.{injection, call, no_pattern, more_patterns, binding}
-use Rattle.term_core.specs.HookValues.{Hook, Kind, integers, truths, hooks, argument_kinds}
-use Rattle.term_core.specs.HookValues.{result_kind}
-use Rattle.rule_core.specs.Rules.{RewriteRule, Equation, ComesBefore}
+use Rattle.rule_core.specs.Rules.{RewriteRule, Equation}
+use Rattle.rule_core.specs.TrialOrder.{AreInOrder}
+use Rattle.rule_core.specs.HookSorts.{FitsHook}
 use Rattle.rule_core.specs.Theories.{RewriteTheory, equations_of}
-use Rattle.rule_core.specs.Subsorts.{IsBelow, HasNoCycle}
+use Rattle.rule_core.specs.Subsorts.{HasNoCycle}
 use Rattle.rule_core.specs.Matching.{OccursIn, OccursInSome, RespectsSorts}
 use Rattle.rule_core.specs.Evaluation.{most_height}
 use Rattle.rule_core.specs.Sorting.{HasSort, HaveSorts, IsSymbol, sort_at}
@@ -64,41 +64,6 @@ pub record IsSignature (sig : Signature) : Type 0 where
   pub pairs : All (IsPair sig) sig.subsorts
   pub no_cycle : HasNoCycle sig.subsorts
 
--- the sort is of this kind, by its hook
-abbrev pub IsOfKind : Kind → SortInfo → Type 0
-IsOfKind integers info = info.kind ≡ kind.Int
-IsOfKind truths info = info.kind ≡ kind.Bool
-
--- a sort of whole numbers or of truth values whose only terms are values: no constructor has it as
--- its result sort, and no sort is below it
-pub record IsSortOf (sig : Signature) (k : Kind) (sort : ℕ) : Type 0 where
-  pub name : List ℕ
-  pub info : SortInfo
-  pub there : slice_get sig.sorts sort ≡ Some (name, info)
-  pub of_kind : IsOfKind k info
-  pub no_constructor : (f : ℕ) (made : SymInfo) → IsSymbol sig f made → made.kind ≡ Ctor →
-      (made.result ≡ Sort (record { 0 = sort }) → ⊥)
-  pub lowest : (a : ℕ) → IsBelow sig.subsorts a sort → ⊥
-
--- the reference of a declaration is to such a sort
-abbrev pub RefersTo : Signature → Kind → SortRef → Type 0
-RefersTo sig k of = (sort : ℕ) × (of ≡ Sort (record { 0 = sort })) × IsSortOf sig k sort
-
--- the references are to such sorts, in order
-abbrev pub ReferTo : Signature → List Kind → List SortRef → Type 0
-ReferTo sig [] [] = Unit {0}
-ReferTo sig [] (of ∷ refs) = ⊥
-ReferTo sig (k ∷ ks) [] = ⊥
-ReferTo sig (k ∷ ks) (of ∷ refs) = RefersTo sig k of × ReferTo sig ks refs
-
--- the declaration has the sorts of the hook with this number
-pub record FitsHook (sig : Signature) (row : ℕ) (info : SymInfo) : Type 0 where
-  pub hook : Hook
-  pub there : slice_get hooks row ≡ Some hook
-  pub plain : info.params ≡ 0
-  pub arguments : ReferTo sig (argument_kinds hook.operation) info.args.items
-  pub result : RefersTo sig (result_kind hook.operation) info.result
-
 -- each variable that occurs in the pattern occurs in one of these
 abbrev pub UsesOnly : Patterns → Pattern → Type 0
 UsesOnly ps p = (x : ℕ) → OccursIn x p → OccursInSome x ps
@@ -130,11 +95,6 @@ pub record IsEquationOf (sig : Signature) (info : SymInfo) (e : Equation) : Type
   pub result : sort_at [] info.result ≡ Some sort
   pub right : HasSort sig e.variables e.right sort
   pub bound : UsesOnly e.arguments e.right
-
--- each comes before those that are listed after it, in the order of trial
-abbrev pub AreInOrder : List (ℕ × ℕ) → Type 0
-AreInOrder [] = Unit {0}
-AreInOrder (first ∷ later) = All (ComesBefore first) later × AreInOrder later
 
 pub record IsWellSorted (theory : RewriteTheory) : Type 0 where
   pub signature : IsSignature theory.sig
