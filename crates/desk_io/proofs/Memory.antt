@@ -10,7 +10,8 @@ use Rattle.std.specs.List.{position, position_from}
 use Rattle.std.proofs.lemmas.Iterator.Adapters.{position_from-zero}
 use Rattle.std.specs.Cmp.Lexicographic.{pointwise, bytes_decides}
 use Rattle.std.specs.Global.{Vec, Global}
-use Rattle.desk_io.specs.Told.{Told, file_of, PutsFile, Creates, Writes}
+use Rattle.desk_io.specs.Told.{Told, file_of}
+use Rattle.desk_io.specs.Changes.{PutsFile, Creates, Writes}
 use Rattle.desk_io.specs.Memory.{named_bytes, content_of, passed_of, end_of, unread_part}
 use Rattle.desk_io.specs.Memory.{created_name}
 use Rattle.desk_io.specs.MemoryChanges.{without, grown}

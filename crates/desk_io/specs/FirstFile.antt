@@ -5,7 +5,7 @@ use Rattle.std.specs.Prelude.{refl, IsTrue, String, string_bytes, vec_len}
 use Rattle.std.proofs.Common.{arith}
 use Rattle.std.specs.Cmp.Lexicographic.{pointwise, bytes_decides}
 use Rattle.std.specs.Global.{Vec, Global}
-use Rattle.desk_io.specs.Told.{TellsCreated}
+use Rattle.desk_io.specs.Changes.{TellsCreated}
 use Rattle.desk_io.specs.Memory.{named_bytes, created_name}
 
 -- a name is equal to itself

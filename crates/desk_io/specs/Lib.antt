@@ -6,6 +6,8 @@ pub mod MemSink
 pub mod Memory
 pub mod Sent
 pub mod Told
+pub mod Changes
+pub mod States
 -- Private: what clauses of private functions cite, and how private fields are seen.
 pub mod End
 pub mod FirstFile

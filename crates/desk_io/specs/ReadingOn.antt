@@ -1,6 +1,7 @@
 -- How the parts of a reading change the unread bytes of the opened file.
 use Rattle.std.specs.Prelude.{◌≡◌, ℕ, ◌≤◌, List, [], ◌++◌, length, drop, Option, Some, None}
-use Rattle.desk_io.specs.Told.{Told, Passed}
+use Rattle.desk_io.specs.Told.{Told}
+use Rattle.desk_io.specs.Changes.{Passed}
 
 -- these bytes were all that was unread, and nothing is unread now
 abbrev pub Drains : Option Told → Option Told → List ℕ → Type 0

@@ -1,9 +1,8 @@
--- What a desk tells of itself, and how its calls change that. If a desk tells nothing, a clause on
--- it says nothing.
-use Rattle.std.specs.Prelude.{◌≡◌, ◌≢◌, ℕ, ◌<◌, Bool, true, false, if◌then◌else◌, List, [], ◌∷◌}
-use Rattle.std.specs.Prelude.{◌++◌, length, drop, Option, Some, None, Result, Ok, Err, nat_eq}
+-- What a desk tells of its files, and which of them stay as they are. If a desk tells nothing, a
+-- clause on it says nothing.
+use Rattle.std.specs.Prelude.{◌≡◌, ℕ, ◌<◌, if◌then◌else◌, List, [], ◌∷◌, length, Option, Some, None}
+use Rattle.std.specs.Prelude.{nat_eq}
 use Rattle.std.specs.Cmp.Lexicographic.{pointwise}
-use Rattle.desk_io.specs.declared.desk.DeskFault.{DeskFault}
 
 -- The files, each as the bytes of its name and its content. The unread bytes of the opened file:
 -- none if no file is open. The name of the created file, if one is created: it is the name of one
@@ -18,42 +17,6 @@ abbrev pub file_of : List (List ℕ × List ℕ) → List ℕ → Option (List �
 file_of [] name = None
 file_of (file ∷ files) name =
     if pointwise nat_eq file.0 name then Some file.1 else file_of files name
-
--- no two files have the same name
-abbrev pub NamesDiffer : List (List ℕ × List ℕ) → Type 0
-NamesDiffer [] = Unit {0}
-NamesDiffer (file ∷ files) = (file_of files file.0 ≡ None) × NamesDiffer files
-
--- it tells the same as before
-abbrev pub Same : Option Told → Option Told → Type 0
-Same None new = Unit {0}
-Same (Some old) new = new ≡ Some old
-
--- it tells the same as before, except for what is unread
-abbrev pub KeepsFiles : Option Told → Option Told → Type 0
-KeepsFiles None new = Unit {0}
-KeepsFiles (Some old) new = (unread : List ℕ) × (new ≡ Some (record old { unread = unread }))
-
--- what a result of opening the file of this name says: with true, the whole file is unread; with
--- false, there is no such file and nothing is unread; with a fault, nothing is unread
-abbrev pub Opens : Option Told → Option Told → List ℕ → Result Bool DeskFault → Type 0
-Opens None new name answer = Unit {0}
-Opens (Some old) new name (Ok true) = (content : List ℕ) × (file_of old.files name ≡ Some content)
-    × (new ≡ Some (record old { unread = content }))
-Opens (Some old) new name (Ok false) =
-    (file_of old.files name ≡ None) × (new ≡ Some (record old { unread = [] }))
-Opens (Some old) new name (Err fault) = new ≡ Some (record old { unread = [] })
-
--- these bytes were the first unread ones, and have now been read
-abbrev pub Passed : Option Told → Option Told → List ℕ → Type 0
-Passed None new bytes = Unit {0}
-Passed (Some old) new bytes =
-    (rest : List ℕ) × (old.unread ≡ bytes ++ rest) × (new ≡ Some (record old { unread = rest }))
-
--- nothing is unread
-abbrev pub AtEnd : Option Told → Type 0
-AtEnd None = Unit {0}
-AtEnd (Some told) = told.unread ≡ []
 
 -- there is a file of that name, with this content
 abbrev pub Holds : Option Told → List ℕ → List ℕ → Type 0
@@ -71,45 +34,30 @@ HoldsMore None name limit = Unit {0}
 HoldsMore (Some told) name limit =
     (content : List ℕ) × (file_of told.files name ≡ Some content) × (limit < length content)
 
--- the file of that name is open, and all but its first n bytes are unread
-abbrev pub Leaves : Option Told → Option Told → List ℕ → ℕ → Type 0
-Leaves None new name n = Unit {0}
-Leaves (Some old) new name n = (content : List ℕ) × (file_of old.files name ≡ Some content)
-    × (new ≡ Some (record old { unread = drop n content }))
+-- there is a file of that name now, with this content
+abbrev pub Tells : Option Told → List ℕ → List ℕ → Type 0
+Tells None file bytes = ⊥
+Tells (Some told) file bytes = file_of told.files file ≡ Some bytes
 
--- it tells a created file exactly when one is created, and this is the name of one of its files
-abbrev pub TellsCreated : Bool → Option Told → Type 0
-TellsCreated created None = Unit {0}
-TellsCreated false (Some told) = told.created ≡ None
-TellsCreated true (Some told) = (name : List ℕ) × (content : List ℕ) × (told.created ≡ Some name)
-    × (file_of told.files name ≡ Some content)
+-- the desk told its files before, and tells now that there is a file of that name with this content
+abbrev pub TellsNow : Option Told → Option Told → List ℕ → List ℕ → Type 0
+TellsNow None told' file bytes = Unit {0}
+TellsNow (Some told) told' file bytes = Tells told' file bytes
 
--- the file of that name has this content now, and every other file is as before
-abbrev pub PutsFile : List (List ℕ × List ℕ) → List (List ℕ × List ℕ) → List ℕ → List ℕ → Type 0
-PutsFile old new name content = (file_of new name ≡ Some content)
-    × ((other : List ℕ) → other ≢ name → file_of new other ≡ file_of old other)
+-- it tells the same as before, except for what is unread
+abbrev pub KeepsFiles : Option Told → Option Told → Type 0
+KeepsFiles None new = Unit {0}
+KeepsFiles (Some old) new = (unread : List ℕ) × (new ≡ Some (record old { unread = unread }))
 
--- the file of that name is now empty and the created one, and nothing is unread
-abbrev pub Creates : Option Told → Option Told → List ℕ → Type 0
-Creates None new name = Unit {0}
-Creates (Some old) new name = (files : List (List ℕ × List ℕ)) × PutsFile old.files files name []
-    × (new ≡ Some (record { files = files; unread = []; created = Some name }))
+-- the file is as before
+abbrev pub KeepsFile : Option Told → Option Told → List ℕ → Type 0
+KeepsFile None new file = Unit {0}
+KeepsFile (Some old) new file =
+    (now : Told) × (new ≡ Some now) × (file_of now.files file ≡ file_of old.files file)
 
--- the created file grew by these bytes
-abbrev pub Writes : Option Told → Option Told → List ℕ → Type 0
-Writes None new bytes = Unit {0}
-Writes (Some old) new bytes =
-    (name : List ℕ) × (content : List ℕ) × (files : List (List ℕ × List ℕ))
-    × (old.created ≡ Some name) × (file_of old.files name ≡ Some content)
-    × PutsFile old.files files name (content ++ bytes) × (new ≡ Some (record old { files = files }))
-
--- the created file grew by some of these bytes, taken from their front
-abbrev pub WritesFront : Option Told → Option Told → List ℕ → Type 0
-WritesFront None new bytes = Unit {0}
-WritesFront (Some old) new bytes =
-    (front : List ℕ) × (rest : List ℕ) × (bytes ≡ front ++ rest) × Writes (Some old) new front
-
--- no file is the created one any more
-abbrev pub Closes : Option Told → Option Told → Type 0
-Closes None new = Unit {0}
-Closes (Some old) new = new ≡ Some (record old { created = None })
+-- each file that is not written is as before
+abbrev pub KeepsOthers : (List ℕ → Type 0) → Option Told → Option Told → Type 0
+KeepsOthers IsWritten None new = Unit {0}
+KeepsOthers IsWritten (Some old) new =
+    (now : Told) × (new ≡ Some now)
+    × ((name : List ℕ) → (IsWritten name → ⊥) → file_of now.files name ≡ file_of old.files name)

@@ -4,7 +4,8 @@ ghost use Rattle.std.specs.Prelude.{string_bytes, option_copied, nat_eq, IsTrue,
 ghost use Rattle.std.specs.Prelude.{OnErr};
 ghost use Rattle.std.specs.List.{position};
 ghost use Rattle.std.specs.Cmp.Lexicographic.{pointwise};
-ghost use Rattle.desk_io.specs.Told.{file_of, NamesDiffer};
+ghost use Rattle.desk_io.specs.Told.{file_of};
+ghost use Rattle.desk_io.specs.Changes.{NamesDiffer};
 ghost use Rattle.desk_io.specs.Memory.{named_bytes, content_of, passed_of, end_of};
 ghost use Rattle.desk_io.specs.MemoryChanges.{files_needed, without, grown};
 ghost use Rattle.desk_io.specs.FirstFile.{tells_first};
@@ -52,8 +53,8 @@ impl MemDesk {
         ensures files { files_of result ≡ named_bytes files.items }
         ensures unread { unread_of result ≡ [] }
         ensures created { IsFalse (⟦<MemDesk as Desk>⟧.created result) }
-        ensures faults { ⟦<MemDesk as Desk>⟧.read_faults result ≡ 0 }
-        ensures write_faults { ⟦<MemDesk as Desk>⟧.write_faults result ≡ 0 }
+        ensures faults { (⟦<MemDesk as Desk>⟧.state result).read_faults ≡ 0 }
+        ensures write_faults { (⟦<MemDesk as Desk>⟧.state result).write_faults ≡ 0 }
     {
         MemDesk {
             files,
@@ -80,15 +81,16 @@ impl MemDesk {
 impl Desk for MemDesk {
     ghost use Rattle.desk_io.specs.MemDesk.{told_of, files_of, unread_of};
 
-    ghost told = { told_of };
+    ghost state = { λ desk. record {
+      told = told_of desk;
+      read_faults = desk.read_faults;
+      write_faults = desk.write_faults;
+    } };
 
     ghost created = { λ desk. desk.created };
 
-    ghost read_faults = { λ desk. desk.read_faults };
-
-    ghost write_faults = { λ desk. desk.write_faults };
-
-    ghost tells_created = { λ desk. tells_first desk.files (unread_of desk) desk.created desk.first };
+    ghost tells_created = { λ desk.
+        tells_first desk.files (unread_of desk) desk.created desk.first };
 
     fn open_file(&mut self, name: &str) -> Result<bool, DeskFault> {
         self.reading = None;

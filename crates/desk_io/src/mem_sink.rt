@@ -25,7 +25,7 @@ impl MemSink {
     pub fn new(alloc: Global, most: usize, fail_at: Vec<u64>) -> MemSink
         requires { 0 < most }
         ensures bytes { bytes_of result ≡ [] }
-        ensures faults { ⟦<MemSink as Sink>⟧.faults result ≡ 0 }
+        ensures faults { (⟦<MemSink as Sink>⟧.state result).faults ≡ 0 }
     {
         MemSink {
             taken: Vec::new(alloc),
@@ -46,9 +46,7 @@ impl MemSink {
 impl Sink for MemSink {
     ghost use Rattle.desk_io.specs.MemSink.{told_bytes};
 
-    ghost bytes = { told_bytes };
-
-    ghost faults = { λ sink. sink.faults };
+    ghost state = { λ sink. record { bytes = told_bytes sink; faults = sink.faults } };
 
     fn write(&mut self, piece: &[u8]) -> Result<usize, DeskFault> {
         if self.plan.is_to_fail() {

@@ -1,6 +1,7 @@
 // Reading a whole file.
 ghost use Rattle.std.specs.Prelude.{◌≡◌, ◌<◌, ◌≤◌, ◌+◌, ◌⊎◌, length, IfOk, IsOk, IsErrOf, vec_len};
-ghost use Rattle.desk_io.specs.Told.{KeepsFiles, Holds, Lacks, HoldsMore, Leaves, AtEnd};
+ghost use Rattle.desk_io.specs.Told.{KeepsFiles, Holds, Lacks, HoldsMore};
+ghost use Rattle.desk_io.specs.Changes.{Leaves, AtEnd};
 ghost use Rattle.desk_io.specs.ReadingOn.{Drains, PassedMany, PassedTo};
 ghost use Rattle.desk_io.specs.Counts.{CountRose};
 ghost use Rattle.desk_io.specs.End.{end_by};
@@ -56,22 +57,22 @@ pub fn read_file<D: Desk>(
     limit: usize,
 ) -> Result<Vec<u8>, ReadEnd>
     requires { limit ≤ 268435456 }
-    ensures found { IfOk result (λ v. Holds (D.told desk.old) name.now v.items) }
+    ensures found { IfOk result (λ v. Holds (D.state desk.old).told name.now v.items) }
     ensures within { IfOk result (λ v. vec_len v ≤ limit) }
-    ensures no_file { IsErrOf result ReadEnd.NoFile → Lacks (D.told desk.old) name.now }
+    ensures no_file { IsErrOf result ReadEnd.NoFile → Lacks (D.state desk.old).told name.now }
     ensures too_large { IsErrOf result ReadEnd.TooLarge
-        → HoldsMore (D.told desk.old) name.now limit }
+        → HoldsMore (D.state desk.old).told name.now limit }
     ensures failed { IsErrOf result ReadEnd.Failed
-        → CountRose (D.read_faults desk.old) (D.read_faults desk.new) }
+        → CountRose (D.state desk.old).read_faults (D.state desk.new).read_faults }
 
     // What the call did to the desk.
     ensures taken { IfOk result
-        (λ v. Leaves (D.told desk.old) (D.told desk.new) name.now (vec_len v)) }
+        (λ v. Leaves (D.state desk.old).told (D.state desk.new).told name.now (vec_len v)) }
     ensures taken_more { IsErrOf result ReadEnd.TooLarge
-        → Leaves (D.told desk.old) (D.told desk.new) name.now (limit + 1) }
-    ensures files { KeepsFiles (D.told desk.old) (D.told desk.new) }
-    ensures counts { D.read_faults desk.old ≤ D.read_faults desk.new }
-    ensures writes { D.write_faults desk.new ≡ D.write_faults desk.old }
+        → Leaves (D.state desk.old).told (D.state desk.new).told name.now (limit + 1) }
+    ensures files { KeepsFiles (D.state desk.old).told (D.state desk.new).told }
+    ensures counts { (D.state desk.old).read_faults ≤ (D.state desk.new).read_faults }
+    ensures writes { (D.state desk.new).write_faults ≡ (D.state desk.old).write_faults }
     ensures created { D.created desk.new ≡ D.created desk.old }
 {
     match desk.open_file(name) {
@@ -84,16 +85,17 @@ pub fn read_file<D: Desk>(
 /// All unread bytes, if they are at most `limit`.
 fn read_rest<D: Desk>(alloc: Global, desk: &mut D, limit: usize) -> Result<Vec<u8>, ReadEnd>
     requires { limit ≤ 268435456 }
-    ensures drained { IfOk result (λ v. Drains (D.told desk.old) (D.told desk.new) v.items) }
+    ensures drained { IfOk result
+        (λ v. Drains (D.state desk.old).told (D.state desk.new).told v.items) }
     ensures within { IfOk result (λ v. vec_len v ≤ limit) }
     ensures too_large { IsErrOf result ReadEnd.TooLarge
-        → PassedMany (D.told desk.old) (D.told desk.new) (limit + 1) }
+        → PassedMany (D.state desk.old).told (D.state desk.new).told (limit + 1) }
     ensures some_file { ¬ (IsErrOf result ReadEnd.NoFile) }
     ensures failed { IsErrOf result ReadEnd.Failed
-        → CountRose (D.read_faults desk.old) (D.read_faults desk.new) }
-    ensures files { KeepsFiles (D.told desk.old) (D.told desk.new) }
-    ensures counts { D.read_faults desk.old ≤ D.read_faults desk.new }
-    ensures writes { D.write_faults desk.new ≡ D.write_faults desk.old }
+        → CountRose (D.state desk.old).read_faults (D.state desk.new).read_faults }
+    ensures files { KeepsFiles (D.state desk.old).told (D.state desk.new).told }
+    ensures counts { (D.state desk.old).read_faults ≤ (D.state desk.new).read_faults }
+    ensures writes { (D.state desk.new).write_faults ≡ (D.state desk.old).write_faults }
     ensures created { D.created desk.new ≡ D.created desk.old }
 {
     let mut bytes = Vec::new(alloc);
@@ -118,16 +120,16 @@ fn read_more<D: Desk>(
     requires { 0 < length buffer.old }
     ensures within { IfOk result (λ n. n ≤ length buffer.old) }
     ensures length { IfOk result (λ n. vec_len bytes.new ≡ vec_len bytes.old + n) }
-    ensures passed { IfOk result
-        (λ n. PassedTo (D.told desk.old) (D.told desk.new) bytes.old.items bytes.new.items) }
-    ensures end { IfOk result (λ n. n ≡ 0 → AtEnd (D.told desk.old)) }
+    ensures passed { IfOk result (λ n. PassedTo
+        (D.state desk.old).told (D.state desk.new).told bytes.old.items bytes.new.items) }
+    ensures end { IfOk result (λ n. n ≡ 0 → AtEnd (D.state desk.old).told) }
     ensures fault { (IsErrOf result ReadEnd.Failed) ⊎ (IsErrOf result ReadEnd.Memory)
         ⊎ IsOk result }
     ensures failed { IsErrOf result ReadEnd.Failed
-        → CountRose (D.read_faults desk.old) (D.read_faults desk.new) }
-    ensures files { KeepsFiles (D.told desk.old) (D.told desk.new) }
-    ensures counts { D.read_faults desk.old ≤ D.read_faults desk.new }
-    ensures writes { D.write_faults desk.new ≡ D.write_faults desk.old }
+        → CountRose (D.state desk.old).read_faults (D.state desk.new).read_faults }
+    ensures files { KeepsFiles (D.state desk.old).told (D.state desk.new).told }
+    ensures counts { (D.state desk.old).read_faults ≤ (D.state desk.new).read_faults }
+    ensures writes { (D.state desk.new).write_faults ≡ (D.state desk.old).write_faults }
     ensures created { D.created desk.new ≡ D.created desk.old }
 {
     match desk.read(buffer) {

@@ -28,8 +28,8 @@ pub struct RealDesk<R: Files> {
 impl<R: Files> RealDesk<R> {
     /// The system's desk, with no file open or created and no fault counted.
     pub fn new(files: R) -> RealDesk<R>
-        ensures faults { ⟦<RealDesk<R> as Desk>⟧.read_faults result ≡ 0 }
-        ensures write_faults { ⟦<RealDesk<R> as Desk>⟧.write_faults result ≡ 0 }
+        ensures faults { (⟦<RealDesk<R> as Desk>⟧.state result).read_faults ≡ 0 }
+        ensures write_faults { (⟦<RealDesk<R> as Desk>⟧.state result).write_faults ≡ 0 }
         ensures created { IsFalse (⟦<RealDesk<R> as Desk>⟧.created result) }
     {
         RealDesk {
@@ -43,13 +43,13 @@ impl<R: Files> RealDesk<R> {
 }
 
 impl<R: Files> Desk for RealDesk<R> {
-    ghost told = { λ _. None };
+    ghost state = { λ desk. record {
+      told = None;
+      read_faults = desk.read_faults;
+      write_faults = desk.write_faults;
+    } };
 
     ghost created = { λ desk. is_some desk.created };
-
-    ghost read_faults = { λ desk. desk.read_faults };
-
-    ghost write_faults = { λ desk. desk.write_faults };
 
     ghost tells_created = { λ _. tt };
 

@@ -18,16 +18,14 @@ pub struct RealSink<W: Write> {
 impl<W: Write> RealSink<W> {
     /// A sink over this writer, with no fault counted.
     pub fn new(writer: W) -> RealSink<W>
-        ensures { ⟦<RealSink<W> as Sink>⟧.faults result ≡ 0 }
+        ensures { (⟦<RealSink<W> as Sink>⟧.state result).faults ≡ 0 }
     {
         RealSink { writer, faults: 0 }
     }
 }
 
 impl<W: Write> Sink for RealSink<W> {
-    ghost bytes = { λ sink. W.contents sink.writer };
-
-    ghost faults = { λ sink. sink.faults };
+    ghost state = { λ sink. record { bytes = W.contents sink.writer; faults = sink.faults } };
 
     fn write(&mut self, piece: &[u8]) -> Result<usize, DeskFault> {
         write_some(&mut self.writer, piece, &mut self.faults)

@@ -2,17 +2,16 @@
 ghost use Rattle.std.specs.Prelude.{◌≡◌, ℕ, List, ◌<◌, ◌≤◌, Option, length, take, IfOk, OnOk};
 ghost use Rattle.std.specs.Prelude.{OnErr, IsErrOf};
 ghost use Rattle.desk_io.specs.Sent.{Appends, AppendsFront, SameBytes};
+ghost use Rattle.desk_io.specs.States.{SinkState};
 ghost use Rattle.desk_io.specs.Counts.{CountRose};
 
 use crate::desk::DeskFault;
 
 /// A stream to which bytes are written.
 pub trait Sink {
-    // All bytes that it has taken, if it tells them.
-    ghost bytes: { Self → Option (List ℕ) };
-
-    // How many faults `write` has had. It stops at 2^64 - 1.
-    ghost faults: { Self → ℕ };
+    // All bytes that it has taken, if it tells them, and how many faults `write` has had. This
+    // count stops at 2^64 - 1.
+    ghost state: { Self → SinkState };
 
     /// Appends the first bytes of `piece`, and returns how many. It returns 0 only if the piece is
     /// empty. After a fault nothing is appended.
@@ -20,21 +19,23 @@ pub trait Sink {
         ensures within { IfOk result (λ n. n ≤ length piece.now) }
         ensures some { IfOk result (λ n. 0 < length piece.now → 0 < n) }
         ensures appends { IfOk result
-            (λ n. Appends (bytes self.old) (bytes self.new) (take n piece.now)) }
-        ensures fault { OnErr result (SameBytes (bytes self.old) (bytes self.new)) }
+            (λ n. Appends (state self.old).bytes (state self.new).bytes (take n piece.now)) }
+        ensures fault { OnErr result (SameBytes (state self.old).bytes (state self.new).bytes) }
         ensures failed { IsErrOf result DeskFault.Failed
-            → CountRose (faults self.old) (faults self.new) }
-        ensures counts { faults self.old ≤ faults self.new };
+            → CountRose (state self.old).faults (state self.new).faults }
+        ensures counts { (state self.old).faults ≤ (state self.new).faults };
 }
 
 /// Appends all of `bytes`, in as many writes as the sink needs. After an error some bytes from the
 /// front of `bytes`, perhaps none, are appended.
 pub fn send_whole<S: Sink>(sink: &mut S, bytes: &[u8]) -> Result<(), DeskFault>
-    ensures sent { OnOk result (Appends (S.bytes sink.old) (S.bytes sink.new) bytes.now) }
-    ensures prefix { OnErr result (AppendsFront (S.bytes sink.old) (S.bytes sink.new) bytes.now) }
+    ensures sent { OnOk result
+        (Appends (S.state sink.old).bytes (S.state sink.new).bytes bytes.now) }
+    ensures prefix { OnErr result
+        (AppendsFront (S.state sink.old).bytes (S.state sink.new).bytes bytes.now) }
     ensures failed { IsErrOf result DeskFault.Failed
-        → CountRose (S.faults sink.old) (S.faults sink.new) }
-    ensures counts { S.faults sink.old ≤ S.faults sink.new }
+        → CountRose (S.state sink.old).faults (S.state sink.new).faults }
+    ensures counts { (S.state sink.old).faults ≤ (S.state sink.new).faults }
 {
     let mut at = 0;
     while at < bytes.len() {

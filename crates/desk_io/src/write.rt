@@ -1,6 +1,6 @@
 // Writing all bytes to the created file.
 ghost use Rattle.std.specs.Prelude.{◌≡◌, ◌≤◌, IsTrue, OnOk, OnErr, IsErrOf};
-ghost use Rattle.desk_io.specs.Told.{Writes, WritesFront};
+ghost use Rattle.desk_io.specs.Changes.{Writes, WritesFront};
 ghost use Rattle.desk_io.specs.Counts.{CountRose};
 
 use crate::desk::{Desk, DeskFault};
@@ -10,13 +10,15 @@ use crate::desk::{Desk, DeskFault};
 /// bytes and the choice of the created file stay as they were.
 pub fn write_whole<D: Desk>(desk: &mut D, bytes: &[u8]) -> Result<(), DeskFault>
     requires { IsTrue (D.created desk.old) }
-    ensures written { OnOk result (Writes (D.told desk.old) (D.told desk.new) bytes.now) }
-    ensures prefix { OnErr result (WritesFront (D.told desk.old) (D.told desk.new) bytes.now) }
+    ensures written { OnOk result
+        (Writes (D.state desk.old).told (D.state desk.new).told bytes.now) }
+    ensures prefix { OnErr result
+        (WritesFront (D.state desk.old).told (D.state desk.new).told bytes.now) }
     ensures created { IsTrue (D.created desk.new) }
     ensures failed { IsErrOf result DeskFault.Failed
-        → CountRose (D.write_faults desk.old) (D.write_faults desk.new) }
-    ensures counts { D.write_faults desk.old ≤ D.write_faults desk.new }
-    ensures reads { D.read_faults desk.new ≡ D.read_faults desk.old }
+        → CountRose (D.state desk.old).write_faults (D.state desk.new).write_faults }
+    ensures counts { (D.state desk.old).write_faults ≤ (D.state desk.new).write_faults }
+    ensures reads { (D.state desk.new).read_faults ≡ (D.state desk.old).read_faults }
 {
     let mut at = 0;
     while at < bytes.len() {

@@ -8,15 +8,17 @@ use Rattle.kore_prove.specs.Words.{RunRequest, DrillRequest, AreBad, IsRun, IsVe
 use Rattle.kore_prove.specs.Words.{IsNoVerify, IsNoDrill, IsProofFile}
 use Rattle.kore_prove.specs.PrintedRun.{code_of, IsCodeOfRun, IsPrinted}
 use Rattle.kore_prove.specs.ProvedRun.{HoldsProof, HasWantedProof, LeavesFront}
-use Rattle.kore_prove.specs.Verdicts.{PrintsVerdict}
+use Rattle.kore_prove.specs.Verdicts.{PrintsVerdictOf}
 use Rattle.kore_prove.specs.DrilledRun.{IsDrilled, Drills, LeavesDrill, LeavesFrontOfDrill}
 use Rattle.kore_prove.specs.DatabaseVerdicts.{PrintsVerdictOn, verdict_code}
 use Rattle.kore_prove.specs.declared.verification.Verdict.{Verdict}
 use Rattle.kore_prove.specs.Reports.{Ending, out_of_memory, bad_words, Reports}
-use Rattle.kore_prove.specs.Causes.{IoState, Call, VerifyCause, KeepsOutput, IsUnwritten}
+use Rattle.kore_prove.specs.Causes.{VerifyCause, KeepsOutput}
+use Rattle.kore_prove.specs.Courses.{Course, Call}
+use Rattle.kore_prove.specs.Unwritten.{IsUnwritten}
 use Rattle.kore_prove.specs.Causes.{without_memory, with_bad_words, of_run, of_verify, of_drill}
 use Rattle.kore_prove.specs.Causes.{run_done, verify_done, drill_done}
-use Rattle.kore_prove.specs.Readiness.{CompletesDrill}
+use Rattle.kore_prove.specs.CompleteDrills.{CompletesDrill}
 use Rattle.kore_prove.specs.Requests.{IsWanted, IsDrillFile}
 use Rattle.kore_prove.specs.RunsDone.{IsRunDone, IsRunEnded, IsDrillDone, IsDrillEnded}
 use Rattle.kore_prove.specs.Calls.{IsAnswered}
@@ -50,49 +52,54 @@ more_code code (inl h) = inl h
 more_code code (inr (inl h)) = inr (inl h)
 more_code code (inr (inr h)) = inr (inr (inl h))
 
-wanted_proof : (proof : Option (List ℕ)) (file : List ℕ) (c : IoState) (asked : RunRequest)
+wanted_proof : (proof : Option (List ℕ)) (file : List ℕ) (c : Course) (asked : RunRequest)
     (run : Run) (done : IsRunDone asked c run) → asked.proof ≡ Some file
-    → HoldsProof c.told c.told' file done.theory done.start run
+    → HoldsProof c.desk.told c.desk'.told file done.theory done.start run
 wanted_proof proof file c asked run done is =
-    subst (λ (p : Option (List ℕ)). HasWantedProof p c.told c.told' done.theory done.start run) is
+    subst
+    (λ (p : Option (List ℕ)). HasWantedProof p c.desk.told c.desk'.told done.theory done.start run)
+    is
     done.proof
 
 -- a file that holds the front of a proof holds it for every reading of the words
-same_front : (asked asked' : RunRequest) (c : IoState) → asked ≡ asked'
-    → LeavesFront asked c.told c.told' → LeavesFront asked' c.told c.told'
-same_front asked asked' c same h = subst (λ (r : RunRequest). LeavesFront r c.told c.told') same h
+same_front : (asked asked' : RunRequest) (c : Course) → asked ≡ asked'
+    → LeavesFront asked c.desk.told c.desk'.told → LeavesFront asked' c.desk.told c.desk'.told
+same_front asked asked' c same h =
+    subst (λ (r : RunRequest). LeavesFront r c.desk.told c.desk'.told) same h
 
-front_of_run : (asked : RunRequest) (c : IoState) (run : Run) → IsRunDone asked c run
-    → LeavesFront asked c.told c.told'
+front_of_run : (asked : RunRequest) (c : Course) (run : Run) → IsRunDone asked c run
+    → LeavesFront asked c.desk.told c.desk'.told
 front_of_run asked c run done =
     let files = done.printed.of_files.files in
-    left_front asked c.told c.told c.told' done.theory done.start files (same_files c.told)
-    (proof_is_front asked.proof c.told c.told' done.theory done.start run done.proof)
+    left_front asked c.desk.told c.desk.told c.desk'.told done.theory done.start files
+    (same_files c.desk.told)
+    (proof_is_front asked.proof c.desk.told c.desk'.told done.theory done.start run done.proof)
 
 -- words that do not ask for a verdict get no verdict
 no_verdict : (words : List (List ℕ)) (told : Option Told) (before after : Option (List ℕ))
-    (code : ℕ) → IsNoVerify words → PrintsVerdict words told before after code
+    (code : ℕ) → IsNoVerify words → PrintsVerdictOf words told before after code
 no_verdict words None before after code unasked = tt
 no_verdict words (Some told) before after code unasked = λ file verify. absurd (unasked file verify)
 
 -- words that do not ask for a drill get no drill
 no_drilled : (c : Call) (code : ℕ) → IsNoDrill c.words
-    → Drills c.words c.course.told c.course.told' c.course.output c.course.output' code
+    → Drills c code
 no_drilled c code unasked = λ _ asked command. absurd (unasked asked command)
 
 no_drill_front : (c : Call) → IsNoDrill c.words
-    → LeavesFrontOfDrill c.words c.course.told c.course.told'
+    → LeavesFrontOfDrill c
 no_drill_front c unasked = λ asked command. absurd (unasked asked command)
 
 no_drill_completed : (c : Call) (code : ℕ) → IsNoDrill c.words
-    → CompletesDrill c.words c.course code
+    → CompletesDrill c code
 no_drill_completed c code unasked = λ asked command. absurd (unasked asked command)
 
 pub run_answered : (c : Call) (code : ℕ) (asked : RunRequest) (run : Run) → IsRun c.words asked
-    → IsRunDone asked c.course run → code ≡ code_of run → SameBytes c.errors c.errors'
+    → IsRunDone asked c.course run → code ≡ code_of run → SameBytes c.err.bytes c.err'.bytes
     → IsAnswered c code
 run_answered c code asked run command done is silent =
-    let printed : IsPrinted c.words c.course.told c.course.output c.course.output' code = record {
+    let printed : IsPrinted c.words c.course.desk.told c.course.out.bytes c.course.out'.bytes code =
+    record {
       asked = asked;
       command = command;
       theory = done.theory;
@@ -117,25 +124,26 @@ run_answered c code asked run command done is silent =
           (one_request c.words asked asked' command command')
           (front_of_run asked c.course run done);
       verdict =
-          no_verdict c.words c.course.told c.course.output c.course.output' code
+          no_verdict c.words c.course.desk.told c.course.out.bytes c.course.out'.bytes code
           (λ file verify. not_both c.words asked file command verify);
       drilled = no_drilled c code (run_no_drill c.words asked command);
       drill_front = no_drill_front c (run_no_drill c.words asked command);
       ends = inl (record { done = run_done command codes; silent = silent });
       complete = λ _ _. more_code code codes;
       complete_verdict =
-          λ ready _ _. (let v = ready_verify c.words c.course.told ready in
+          λ ready _ _. (let v = ready_verify c.words c.course.desk.told ready in
           absurd (not_both c.words asked v.0 command v.1));
       complete_drill = no_drill_completed c code (run_no_drill c.words asked command);
       bad_words = λ bad. absurd (run_good c.words asked command bad);
       others =
-          fewer_others (IsWanted asked) (IsProofFile c.words) c.course.told c.course.told'
+          fewer_others (IsWanted asked) (IsProofFile c.words) c.course.desk.told c.course.desk'.told
           (λ file wanted. inl (asked, command, wanted)) done.others;
       files = run_writes code _ codes;
     }
 
 pub run_ended : (c : Call) (code : ℕ) (asked : RunRequest) (e : Ending) → IsRun c.words asked
-    → IsRunEnded asked c.course e → Reports e c.errors c.errors' c.complaints c.complaints' code
+    → IsRunEnded asked c.course e → Reports e c.err.bytes c.err'.bytes c.err.faults c.err'.faults
+    code
     → IsAnswered c code
 run_ended c code asked e command ended said = record {
   printed_run = λ h. absurd (code_of_no_end e _ _ _ _ code said (code_of_run c.words code h));
@@ -144,7 +152,7 @@ run_ended c code asked e command ended said = record {
       λ asked' command'. same_front asked asked' c.course
       (one_request c.words asked asked' command command') ended.front;
   verdict =
-      no_verdict c.words c.course.told c.course.output c.course.output' code
+      no_verdict c.words c.course.desk.told c.course.out.bytes c.course.out'.bytes code
       (λ file verify. not_both c.words asked file command verify);
   drilled = no_drilled c code (run_no_drill c.words asked command);
   drill_front = no_drill_front c (run_no_drill c.words asked command);
@@ -157,17 +165,17 @@ run_ended c code asked e command ended said = record {
       });
   complete =
       λ ready free. inr (inr (inr (code_of_one e _ _ _ _ code said
-      (run_ends_without_memory c.words c.course.told asked c.course e refl ready command free
+      (run_ends_without_memory c.words c.course.desk.told asked c.course e refl ready command free
       ended.cause))));
   complete_verdict =
-      λ ready _ _. (let v = ready_verify c.words c.course.told ready in
+      λ ready _ _. (let v = ready_verify c.words c.course.desk.told ready in
       absurd (not_both c.words asked v.0 command v.1));
   complete_drill = no_drill_completed c code (run_no_drill c.words asked command);
   bad_words = λ bad. absurd (run_good c.words asked command bad);
   others =
-      fewer_others (IsWanted asked) (IsProofFile c.words) c.course.told c.course.told'
+      fewer_others (IsWanted asked) (IsProofFile c.words) c.course.desk.told c.course.desk'.told
       (λ file wanted. inl (asked, command, wanted)) ended.others;
-  files = unwritten e _ _ _ _ code c.course.told c.course.told' said ended.files;
+  files = unwritten e _ _ _ _ code c.course.desk.told c.course.desk'.told said ended.files;
 }
 
 -- the code of a verdict is not the code of a run
@@ -186,33 +194,35 @@ verdict_codes code (inl h) = inl h
 verdict_codes code (inr h) = inr (inl h)
 
 pub verify_answered : (c : Call) (code : ℕ) (file : List ℕ) (v : Verdict) → IsVerify c.words file
-    → PrintsVerdictOn file c.course.told c.course.output c.course.output' v
-    → KeepsFiles c.course.told c.course.told' → code ≡ verdict_code v → SameBytes c.errors c.errors'
+    → PrintsVerdictOn file c.course.desk.told c.course.out.bytes c.course.out'.bytes v
+    → KeepsFiles c.course.desk.told c.course.desk'.told → code ≡ verdict_code v
+    → SameBytes c.err.bytes c.err'.bytes
     → IsAnswered c code
 verify_answered c code file v command printed kept is silent = record {
   printed_run = λ h. verdict_no_run c.words file v code _ command is h;
   proved_run = λ h _ _. verdict_no_run c.words file v code _ command is h;
-  proof_front = λ _ _ name _. inl (kept_file c.course.told c.course.told' name kept);
+  proof_front = λ _ _ name _. inl (kept_file c.course.desk.told c.course.desk'.told name kept);
   verdict =
-      prints_verdict c.words c.course.told c.course.output c.course.output' file v code command
+      prints_verdict c.words c.course.desk.told c.course.out.bytes c.course.out'.bytes file v code
+      command
       printed is;
   drilled = no_drilled c code (verify_no_drill c.words file command);
   drill_front = no_drill_front c (verify_no_drill c.words file command);
   ends = inl (record { done = verify_done command (code_of_verdict v code is); silent = silent });
   complete =
-      λ ready _. (let r = ready_run c.words c.course.told ready in
+      λ ready _. (let r = ready_run c.words c.course.desk.told ready in
       absurd (not_both c.words r.0 file r.1 command));
   complete_verdict = λ _ _ _. verdict_codes code (code_of_verdict v code is);
   complete_drill = no_drill_completed c code (verify_no_drill c.words file command);
   bad_words = λ bad. absurd (verify_good c.words file command bad);
-  others = kept_others (IsProofFile c.words) c.course.told c.course.told' kept;
+  others = kept_others (IsProofFile c.words) c.course.desk.told c.course.desk'.told kept;
   files = λ _. kept;
 }
 
 -- the code of an end is not the code of a verdict
 ended_no_verdict : (words : List (List ℕ)) (told : Option Told) (output output' : Option (List ℕ))
     (e : Ending) (before after : Option (List ℕ)) (old new code : ℕ)
-    → Reports e before after old new code → PrintsVerdict words told output output' code
+    → Reports e before after old new code → PrintsVerdictOf words told output output' code
 ended_no_verdict words None output output' e before after old new code said = tt
 ended_no_verdict words (Some told) output output' e before after old new code said =
     λ file verify. (
@@ -221,28 +231,30 @@ ended_no_verdict words (Some told) output output' e before after old new code sa
     )
 
 pub verify_ended : (c : Call) (code : ℕ) (file : List ℕ) (e : Ending) → IsVerify c.words file
-    → VerifyCause file c.course e → KeepsOutput e c.course.output c.course.output'
-    → KeepsFiles c.course.told c.course.told'
-    → Reports e c.errors c.errors' c.complaints c.complaints' code → IsAnswered c code
+    → VerifyCause file c.course e → KeepsOutput e c.course.out.bytes c.course.out'.bytes
+    → KeepsFiles c.course.desk.told c.course.desk'.told
+    → Reports e c.err.bytes c.err'.bytes c.err.faults c.err'.faults code → IsAnswered c code
 verify_ended c code file e command cause output kept said = record {
   printed_run = λ h. absurd (code_of_no_end e _ _ _ _ code said (code_of_run c.words code h));
   proved_run = λ h _ _. absurd (code_of_no_end e _ _ _ _ code said (code_of_run c.words code h));
-  proof_front = λ _ _ name _. inl (kept_file c.course.told c.course.told' name kept);
+  proof_front = λ _ _ name _. inl (kept_file c.course.desk.told c.course.desk'.told name kept);
   verdict =
-      ended_no_verdict c.words c.course.told c.course.output c.course.output' e _ _ _ _ code said;
+      ended_no_verdict c.words c.course.desk.told c.course.out.bytes c.course.out'.bytes e _ _ _ _
+      code said;
   drilled = no_drilled c code (verify_no_drill c.words file command);
   drill_front = no_drill_front c (verify_no_drill c.words file command);
   ends = inr (record { end = e; cause = of_verify command cause; output = output; said = said });
   complete =
-      λ ready _. (let r = ready_run c.words c.course.told ready in
+      λ ready _. (let r = ready_run c.words c.course.desk.told ready in
       absurd (not_both c.words r.0 file r.1 command));
   complete_verdict =
       λ ready reads writes. inr (inr (code_of_one e _ _ _ _ code said
-      (verify_ends_without_memory c.words c.course.told file c.course e refl ready command reads
+      (verify_ends_without_memory c.words c.course.desk.told file c.course e refl ready command
+      reads
       writes cause)));
   complete_drill = no_drill_completed c code (verify_no_drill c.words file command);
   bad_words = λ bad. absurd (verify_good c.words file command bad);
-  others = kept_others (IsProofFile c.words) c.course.told c.course.told' kept;
+  others = kept_others (IsProofFile c.words) c.course.desk.told c.course.desk'.told kept;
   files = λ _. kept;
 }
 
@@ -253,54 +265,58 @@ drill_no_run words asked code P command is (inl ten) = absurd (omega (arith, ten
 drill_no_run words asked code P command is (inr (inl eleven)) = absurd (omega (arith, eleven, is))
 drill_no_run words asked code P command is (inr (inr zero)) = absurd (zero.2 asked command)
 
-same_drill : (asked asked' : DrillRequest) (c : IoState) → asked ≡ asked'
-    → LeavesDrill asked c.told c.told' → LeavesDrill asked' c.told c.told'
-same_drill asked asked' c same h = subst (λ (d : DrillRequest). LeavesDrill d c.told c.told') same h
+same_drill : (asked asked' : DrillRequest) (c : Course) → asked ≡ asked'
+    → LeavesDrill asked c.desk.told c.desk'.told → LeavesDrill asked' c.desk.told c.desk'.told
+same_drill asked asked' c same h =
+    subst (λ (d : DrillRequest). LeavesDrill d c.desk.told c.desk'.told) same h
 
 pub drill_answered : (c : Call) (code : ℕ) (asked : DrillRequest) → IsDrill c.words asked
-    → IsDrillDone asked c.course → code ≡ 0 → SameBytes c.errors c.errors' → IsAnswered c code
+    → IsDrillDone asked c.course → code ≡ 0 → SameBytes c.err.bytes c.err'.bytes → IsAnswered c code
 drill_answered c code asked command done is silent =
-    let made : IsDrilled asked c.course.told c.course.told' c.course.output c.course.output' =
+    let made : IsDrilled asked c.course.desk.told c.course.desk'.told c.course.out.bytes
+    c.course.out'.bytes =
     done.drilled in
     record {
       printed_run = λ h. drill_no_run c.words asked code _ command is h;
       proved_run = λ h _ _. drill_no_run c.words asked code _ command is h;
       proof_front = λ run ran. absurd (run_no_drill c.words run ran asked command);
       verdict =
-          no_verdict c.words c.course.told c.course.output c.course.output' code
+          no_verdict c.words c.course.desk.told c.course.out.bytes c.course.out'.bytes code
           (λ file verify. verify_no_drill c.words file verify asked command);
       drilled =
           λ _ asked' command'. subst (λ (d : DrillRequest).
-          IsDrilled d c.course.told c.course.told' c.course.output c.course.output')
+          IsDrilled d c.course.desk.told c.course.desk'.told c.course.out.bytes c.course.out'.bytes)
           (one_drill c.words asked asked' command command') made;
       drill_front =
           λ asked' command'. same_drill asked asked' c.course
-          (one_drill c.words asked asked' command command') (drilled_front asked c.course.told
-          c.course.told' c.course.output c.course.output' made);
+          (one_drill c.words asked asked' command command') (drilled_front asked c.course.desk.told
+          c.course.desk'.told c.course.out.bytes c.course.out'.bytes made);
       ends = inl (record { done = drill_done command is; silent = silent });
       complete =
-          λ ready _. (let r = ready_run c.words c.course.told ready in
+          λ ready _. (let r = ready_run c.words c.course.desk.told ready in
           absurd (run_no_drill c.words r.0 r.1 asked command));
       complete_verdict =
-          λ ready _ _. (let v = ready_verify c.words c.course.told ready in
+          λ ready _ _. (let v = ready_verify c.words c.course.desk.told ready in
           absurd (verify_no_drill c.words v.0 v.1 asked command));
       complete_drill = λ _ _. inl is;
       bad_words = λ bad. absurd (drill_good c.words asked command bad);
       others =
-          fewer_others (IsDrillFile asked) (IsProofFile c.words) c.course.told c.course.told'
+          fewer_others (IsDrillFile asked) (IsProofFile c.words) c.course.desk.told
+          c.course.desk'.told
           (λ file wanted. inr (asked, command, some_same asked.file file wanted)) done.others;
       files = λ un. absurd (un.0 is);
     }
 
 pub drill_ended : (c : Call) (code : ℕ) (asked : DrillRequest) (e : Ending) → IsDrill c.words asked
-    → IsDrillEnded asked c.course e → Reports e c.errors c.errors' c.complaints c.complaints' code
+    → IsDrillEnded asked c.course e → Reports e c.err.bytes c.err'.bytes c.err.faults c.err'.faults
+    code
     → IsAnswered c code
 drill_ended c code asked e command ended said = record {
   printed_run = λ h. absurd (code_of_no_end e _ _ _ _ code said (code_of_run c.words code h));
   proved_run = λ h _ _. absurd (code_of_no_end e _ _ _ _ code said (code_of_run c.words code h));
   proof_front = λ run ran. absurd (run_no_drill c.words run ran asked command);
   verdict =
-      no_verdict c.words c.course.told c.course.output c.course.output' code
+      no_verdict c.words c.course.desk.told c.course.out.bytes c.course.out'.bytes code
       (λ file verify. verify_no_drill c.words file verify asked command);
   drilled = λ zero _ _. absurd (code_of_no_end e _ _ _ _ code said (inl zero));
   drill_front =
@@ -314,17 +330,17 @@ drill_ended c code asked e command ended said = record {
         said = said;
       });
   complete =
-      λ ready _. (let r = ready_run c.words c.course.told ready in
+      λ ready _. (let r = ready_run c.words c.course.desk.told ready in
       absurd (run_no_drill c.words r.0 r.1 asked command));
   complete_verdict =
-      λ ready _ _. (let v = ready_verify c.words c.course.told ready in
+      λ ready _ _. (let v = ready_verify c.words c.course.desk.told ready in
       absurd (verify_no_drill c.words v.0 v.1 asked command));
   complete_drill = λ _ _. inr (code_of_drill asked.steps c.course e _ _ _ _ code said ended.cause);
   bad_words = λ bad. absurd (drill_good c.words asked command bad);
   others =
-      fewer_others (IsDrillFile asked) (IsProofFile c.words) c.course.told c.course.told'
+      fewer_others (IsDrillFile asked) (IsProofFile c.words) c.course.desk.told c.course.desk'.told
       (λ file wanted. inr (asked, command, some_same asked.file file wanted)) ended.others;
-  files = unwritten e _ _ _ _ code c.course.told c.course.told' said ended.files;
+  files = unwritten e _ _ _ _ code c.course.desk.told c.course.desk'.told said ended.files;
 }
 
 bad_code : (code : ℕ) (before after : Option (List ℕ)) (old new : ℕ)
@@ -333,36 +349,39 @@ bad_code code before after old new (inl said) = inl said.0
 bad_code code before after old new (inr cut) = inr cut.0
 
 pub bad_answered : (c : Call) (code : ℕ) → AreBad c.words
-    → SameBytes c.course.output c.course.output' → KeepsFiles c.course.told c.course.told'
-    → Reports bad_words c.errors c.errors' c.complaints c.complaints' code → IsAnswered c code
+    → SameBytes c.course.out.bytes c.course.out'.bytes → KeepsFiles c.course.desk.told
+    c.course.desk'.told
+    → Reports bad_words c.err.bytes c.err'.bytes c.err.faults c.err'.faults code → IsAnswered c code
 bad_answered c code bad output kept said = record {
   printed_run =
       λ h. absurd (code_of_no_end bad_words _ _ _ _ code said (code_of_run c.words code h));
   proved_run =
       λ h _ _. absurd (code_of_no_end bad_words _ _ _ _ code said (code_of_run c.words code h));
-  proof_front = λ _ _ name _. inl (kept_file c.course.told c.course.told' name kept);
+  proof_front = λ _ _ name _. inl (kept_file c.course.desk.told c.course.desk'.told name kept);
   verdict =
-      ended_no_verdict c.words c.course.told c.course.output c.course.output' bad_words _ _ _ _ code
+      ended_no_verdict c.words c.course.desk.told c.course.out.bytes c.course.out'.bytes bad_words _
+      _ _ _ code
       said;
   drilled = no_drilled c code (bad_no_drill c.words bad);
   drill_front = no_drill_front c (bad_no_drill c.words bad);
   ends = inr (record { end = bad_words; cause = with_bad_words bad; output = output; said = said });
   complete =
       λ ready _.
-      (let r = ready_run c.words c.course.told ready in absurd (run_good c.words r.0 r.1 bad));
+      (let r = ready_run c.words c.course.desk.told ready in absurd (run_good c.words r.0 r.1 bad));
   complete_verdict =
-      λ ready _ _. (let v = ready_verify c.words c.course.told ready in
+      λ ready _ _. (let v = ready_verify c.words c.course.desk.told ready in
       absurd (verify_good c.words v.0 v.1 bad));
   complete_drill = no_drill_completed c code (bad_no_drill c.words bad);
   bad_words = λ _. bad_code code _ _ _ _ said;
-  others = kept_others (IsProofFile c.words) c.course.told c.course.told' kept;
+  others = kept_others (IsProofFile c.words) c.course.desk.told c.course.desk'.told kept;
   files = λ _. kept;
 }
 
 pub memory_answered : (c : Call) (code : ℕ)
-    → KeepsOutput out_of_memory c.course.output c.course.output'
-    → KeepsFiles c.course.told c.course.told'
-    → Reports out_of_memory c.errors c.errors' c.complaints c.complaints' code → IsAnswered c code
+    → KeepsOutput out_of_memory c.course.out.bytes c.course.out'.bytes
+    → KeepsFiles c.course.desk.told c.course.desk'.told
+    → Reports out_of_memory c.err.bytes c.err'.bytes c.err.faults c.err'.faults code
+    → IsAnswered c code
 memory_answered c code output kept said =
     let one : code ≡ 1 = code_of_one out_of_memory _ _ _ _ code said refl in record {
       printed_run =
@@ -370,12 +389,14 @@ memory_answered c code output kept said =
       proved_run =
           λ h _ _.
           absurd (code_of_no_end out_of_memory _ _ _ _ code said (code_of_run c.words code h));
-      proof_front = λ _ _ name _. inl (kept_file c.course.told c.course.told' name kept);
+      proof_front = λ _ _ name _. inl (kept_file c.course.desk.told c.course.desk'.told name kept);
       verdict =
-          ended_no_verdict c.words c.course.told c.course.output c.course.output' out_of_memory _ _
+          ended_no_verdict c.words c.course.desk.told c.course.out.bytes c.course.out'.bytes
+          out_of_memory _ _
           _ _ code said;
       drilled = λ zero _ _. absurd (code_of_no_end out_of_memory _ _ _ _ code said (inl zero));
-      drill_front = λ asked _. inl (kept_file c.course.told c.course.told' asked.file kept);
+      drill_front = λ asked _. inl (kept_file c.course.desk.told c.course.desk'.told asked.file
+          kept);
       ends =
           inr (record {
             end = out_of_memory;
@@ -387,6 +408,6 @@ memory_answered c code output kept said =
       complete_verdict = λ _ _ _. inr (inr one);
       complete_drill = λ _ _. inr (inl one);
       bad_words = λ _. inr one;
-      others = kept_others (IsProofFile c.words) c.course.told c.course.told' kept;
+      others = kept_others (IsProofFile c.words) c.course.desk.told c.course.desk'.told kept;
       files = λ _. kept;
     }

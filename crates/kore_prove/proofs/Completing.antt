@@ -11,10 +11,12 @@ use Rattle.kore_prove.specs.Files.{HoldsProgram}
 use Rattle.kore_prove.specs.Reports.{Ending, out_of_memory, bad_words, read_fault, write_fault}
 use Rattle.kore_prove.specs.Reports.{no_such_file, definition_refused, term_refused, too_large}
 use Rattle.kore_prove.specs.Reports.{end_code, Reports}
-use Rattle.kore_prove.specs.Causes.{IoState, ReadCause, RunCause, VerifyCause, DrillCause}
-use Rattle.kore_prove.specs.Readiness.{CanRun, CanVerify, IsReadyToRun, IsReadyToVerify}
-use Rattle.kore_prove.specs.Readiness.{IsFaultless}
-use Rattle.kore_prove.specs.Readiness.{IsFaultlessTerm, IsUnhindered}
+use Rattle.kore_prove.specs.Causes.{ReadCause, RunCause, VerifyCause, DrillCause}
+use Rattle.kore_prove.specs.Courses.{Course}
+use Rattle.kore_prove.specs.CountedFaults.{CountsReadFault, CountsWriteFault, CountsOutputFault}
+use Rattle.kore_prove.specs.CompleteRuns.{CanRun, IsReadyToRun, IsFaultless, IsFaultlessTerm}
+use Rattle.kore_prove.specs.CompleteRuns.{IsUnhindered}
+use Rattle.kore_prove.specs.CompleteVerdicts.{CanVerify, IsReadyToVerify}
 use Rattle.kore_prove.proofs.CommandWords.{one_request, one_file}
 use Rattle.kore_prove.proofs.Ending.{one_content, not_lacking, not_more}
 
@@ -77,24 +79,25 @@ no_read_cause told asked s reads reads' (too_large name) free (inr h) =
 
 -- such a call can end only because memory ran out
 no_cause : (words : List (List ℕ)) (told : Told) (r : CanRun words told) (asked : RunRequest)
-    (c : IoState) (e : Ending) → c.told ≡ Some told → IsRun words asked → IsUnhindered c
+    (c : Course) (e : Ending) → c.desk.told ≡ Some told → IsRun words asked → IsUnhindered c
     → RunCause asked c e → end_code e ≡ 1
 no_cause words told r asked c e is command free (inl h) =
-    no_read_cause told asked (stands words told r asked command) c.reads c.reads' e free.reads
-    (subst (λ (o : Option Told). ReadCause asked o c.reads c.reads' e) is h)
+    no_read_cause told asked (stands words told r asked command) c.desk.read_faults
+    c.desk'.read_faults e free.reads
+    (subst (λ (o : Option Told). ReadCause asked o c.desk.read_faults c.desk'.read_faults e) is h)
 no_cause words told r asked c e is command free (inr h) =
     absurd (elim h.1.rose [ inl out ↦ free.writes out | inr desk ↦ free.files desk ])
 
 pub run_ends_without_memory : (words : List (List ℕ)) (told : Option Told) (asked : RunRequest)
-    (c : IoState) (e : Ending) → c.told ≡ told → IsReadyToRun words told → IsRun words asked
+    (c : Course) (e : Ending) → c.desk.told ≡ told → IsReadyToRun words told → IsRun words asked
     → IsUnhindered c → RunCause asked c e → end_code e ≡ 1
 run_ends_without_memory words None asked c e is ready command free cause = absurd ready
 run_ends_without_memory words (Some told) asked c e is ready command free cause =
     no_cause words told ready asked c e is command free cause
 
 no_verify_cause : (words : List (List ℕ)) (told : Told) (r : CanVerify words told) (file : List ℕ)
-    (c : IoState) (e : Ending) → c.told ≡ Some told → IsVerify words file
-    → (CountRose c.reads c.reads' → ⊥) → (CountRose c.writes c.writes' → ⊥) → VerifyCause file c e
+    (c : Course) (e : Ending) → c.desk.told ≡ Some told → IsVerify words file
+    → (CountsReadFault c → ⊥) → (CountsOutputFault c → ⊥) → VerifyCause file c e
     → end_code e ≡ 1
 no_verify_cause words told r file c out_of_memory is command reads writes h = refl
 no_verify_cause words told r file c bad_words is command reads writes h = absurd h
@@ -115,19 +118,19 @@ no_verify_cause words told r file c (too_large name) is command reads writes h =
     (subst (λ (o : Option Told). HoldsMore o name database_limit) is h.1))
 
 pub verify_ends_without_memory : (words : List (List ℕ)) (told : Option Told) (file : List ℕ)
-    (c : IoState) (e : Ending) → c.told ≡ told → IsReadyToVerify words told
-    → IsVerify words file → (CountRose c.reads c.reads' → ⊥) → (CountRose c.writes c.writes' → ⊥)
+    (c : Course) (e : Ending) → c.desk.told ≡ told → IsReadyToVerify words told
+    → IsVerify words file → (CountsReadFault c → ⊥) → (CountsOutputFault c → ⊥)
     → VerifyCause file c e → end_code e ≡ 1
 verify_ends_without_memory words None file c e is ready command reads writes cause = absurd ready
 verify_ends_without_memory words (Some told) file c e is ready command reads writes cause =
     no_verify_cause words told ready file c e is command reads writes cause
 
 -- a drill that does not come to its lines: memory ran out, or a fault was counted
-abbrev pub StopsDrill : IoState → ℕ → Type 0
+abbrev pub StopsDrill : Course → ℕ → Type 0
 StopsDrill c code =
-    (code ≡ 1) ⊎ ((code ≡ 4) × (CountRose c.writes c.writes' ⊎ CountRose c.files c.files'))
+    (code ≡ 1) ⊎ ((code ≡ 4) × (CountsOutputFault c ⊎ CountsWriteFault c))
 
-drill_stops : (steps : ℕ) (c : IoState) (e : Ending) → DrillCause steps c e
+drill_stops : (steps : ℕ) (c : Course) (e : Ending) → DrillCause steps c e
     → StopsDrill c (end_code e)
 drill_stops steps c out_of_memory h = inl refl
 drill_stops steps c bad_words h = absurd h
@@ -138,7 +141,7 @@ drill_stops steps c (definition_refused number byte) h = absurd h
 drill_stops steps c (term_refused number byte) h = absurd h
 drill_stops steps c (too_large name) h = absurd h
 
-pub code_of_drill : (steps : ℕ) (c : IoState) (e : Ending) (before after : Option (List ℕ))
+pub code_of_drill : (steps : ℕ) (c : Course) (e : Ending) (before after : Option (List ℕ))
     (old new code : ℕ) → Reports e before after old new code → DrillCause steps c e
     → StopsDrill c code
 code_of_drill steps c e before after old new code (inl said) cause =

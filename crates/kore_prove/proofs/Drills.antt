@@ -1,8 +1,7 @@
 -- From the parts of a drill to its result.
 use Rattle.std.proofs.Common.{◌≡◌, ℕ, ◌+◌, ◌≤◌, ◌<◌, ◌^◌, arith, ◌⊎◌, inl, inr, List, ◌++◌, Option}
 use Rattle.std.proofs.Common.{refl, sym, ◌∙◌, ap, subst}
-use Rattle.desk_io.specs.Told.{Told, KeepsFiles}
-use Rattle.desk_io.specs.Counts.{CountRose}
+use Rattle.desk_io.specs.Told.{Told, KeepsFiles, KeepsOthers}
 use Rattle.desk_io.specs.Sent.{Appends}
 use Rattle.desk_io.specs.declared.desk.DeskFault.{DeskFault}
 use Rattle.desk_io.specs.declared.desk.DeskFault.TheVariants as fault
@@ -19,14 +18,15 @@ use Rattle.mm_justify.specs.Counting.{fact_count, statement_count, capped}
 use Rattle.run_proof.specs.WrittenProofs.{IsSummaryOf}
 use Rattle.run_proof.specs.declared.summaries.Summary.{Summary}
 use Rattle.kore_prove.specs.Words.{DrillRequest}
-use Rattle.kore_prove.specs.ProvedRun.{KeepsOthers}
 use Rattle.kore_prove.specs.ProofFiles.{HoldsCounted, MayHoldFront}
 use Rattle.kore_prove.specs.DrillProgram.{IsDrillProgram}
 use Rattle.kore_prove.specs.DrilledRun.{IsDrilled, LeavesDrill, counts_line, counts_line_of}
 use Rattle.kore_prove.specs.DrilledRun.{drill_calls}
 use Rattle.kore_prove.specs.Reports.{Ending, out_of_memory}
 use Rattle.kore_prove.specs.PlainEnds.{fault_end}
-use Rattle.kore_prove.specs.Causes.{IoState, DrillCause, HasDrill, Grows, KeepsOutput}
+use Rattle.kore_prove.specs.Causes.{DrillCause, HasDrill, Grows, KeepsOutput}
+use Rattle.kore_prove.specs.Courses.{Course}
+use Rattle.kore_prove.specs.CountedFaults.{CountsWriteFault, CountsOutputFault}
 use Rattle.kore_prove.specs.Requests.{IsDrillFile}
 use Rattle.kore_prove.specs.RunsDone.{HasLines, IsDrillDone, IsDrillEnded}
 use Rattle.kore_prove.proofs.Ending.{same_files, kept_output, files_at}
@@ -67,12 +67,12 @@ counts_are database s h =
     h.bytes_are
 
 -- the drill was made and printed
-pub drill_made : (asked : DrillRequest) (c : IoState) (theory : RewriteTheory) (start : Pattern)
+pub drill_made : (asked : DrillRequest) (c : Course) (theory : RewriteTheory) (start : Pattern)
     (run : Run) (lines : List ℕ) (s : Summary) → IsDrillProgram asked.steps theory start
     → HasLines (record { limit = asked.steps + 1; calls = drill_calls }) theory start run lines
-    → HoldsCounted c.told c.told' asked.file theory start run s
-    → KeepsOthers (IsDrillFile asked) c.told c.told'
-    → Appends c.output c.output' (lines ++ counts_line s.facts s.statements s.bytes)
+    → HoldsCounted c.desk.told c.desk'.told asked.file theory start run s
+    → KeepsOthers (IsDrillFile asked) c.desk.told c.desk'.told
+    → Appends c.out.bytes c.out'.bytes (lines ++ counts_line s.facts s.statements s.bytes)
     → IsDrillDone asked c
 drill_made asked c theory start run lines s program h held others grew = record {
   drilled = record {
@@ -85,29 +85,31 @@ drill_made asked c theory start run lines s program h held others grew = record 
     lines = lines;
     lines_are = h.lines_are;
     grew =
-        subst (λ (line : List ℕ). Appends c.output c.output' (lines ++ line))
+        subst (λ (line : List ℕ). Appends c.out.bytes c.out'.bytes (lines ++ line))
         (counts_are held.proof.bytes s held.counted) grew;
   };
   others = others;
 }
 
 -- memory ran out before it was run
-pub texts_ended : (asked : DrillRequest) (c : IoState) → c.output' ≡ c.output → c.told' ≡ c.told
+pub texts_ended : (asked : DrillRequest) (c : Course) → c.out'.bytes ≡ c.out.bytes
+    → c.desk'.told ≡ c.desk.told
     → IsDrillEnded asked c out_of_memory
 texts_ended asked c output told =
-    let kept : KeepsFiles c.told c.told' =
-    subst (λ (o : Option Told). KeepsFiles c.told o) (sym told) (same_files c.told) in record {
+    let kept : KeepsFiles c.desk.told c.desk'.told =
+    subst (λ (o : Option Told). KeepsFiles c.desk.told o) (sym told) (same_files c.desk.told) in
+    record {
       cause = tt;
-      output = subst (λ (o : Option (List ℕ)). KeepsOutput out_of_memory c.output o) (sym output)
-          (kept_output out_of_memory c.output);
-      front = inl (kept_file c.told c.told' asked.file kept);
-      others = kept_others (IsDrillFile asked) c.told c.told' kept;
-      files = files_at out_of_memory c.told c.told' kept;
+      output = subst (λ (o : Option (List ℕ)). KeepsOutput out_of_memory c.out.bytes o) (sym output)
+          (kept_output out_of_memory c.out.bytes);
+      front = inl (kept_file c.desk.told c.desk'.told asked.file kept);
+      others = kept_others (IsDrillFile asked) c.desk.told c.desk'.told kept;
+      files = files_at out_of_memory c.desk.told c.desk'.told kept;
     }
 
 -- the drill was not written
-unwritten_cause : (steps : ℕ) (c : IoState) (f : DeskFault) → HasDrill steps
-    → (f ≡ fault.Failed → CountRose c.writes c.writes' ⊎ CountRose c.files c.files')
+unwritten_cause : (steps : ℕ) (c : Course) (f : DeskFault) → HasDrill steps
+    → (f ≡ fault.Failed → CountsOutputFault c ⊎ CountsWriteFault c)
     → DrillCause steps c (fault_end f)
 unwritten_cause steps c fault.Failed drill rose = (rose refl, drill)
 unwritten_cause steps c fault.Memory drill rose = tt
@@ -119,19 +121,20 @@ left_drill asked told told' theory start program (inl same) = inl same
 left_drill asked told told' theory start program (inr made) =
     inr (record { theory = theory; start = start; program = program; holds = made })
 
-pub drill_unwritten : (asked : DrillRequest) (c : IoState) (e : Ending) (f : DeskFault)
+pub drill_unwritten : (asked : DrillRequest) (c : Course) (e : Ending) (f : DeskFault)
     (theory : RewriteTheory) (start : Pattern) → e ≡ fault_end f
-    → IsDrillProgram asked.steps theory start → MayHoldFront c.told c.told' asked.file theory start
-    → KeepsOthers (IsDrillFile asked) c.told c.told'
-    → (f ≡ fault.Failed → CountRose c.writes c.writes' ⊎ CountRose c.files c.files')
-    → Grows c.output c.output' → IsDrillEnded asked c e
+    → IsDrillProgram asked.steps theory start → MayHoldFront c.desk.told c.desk'.told asked.file
+    theory start
+    → KeepsOthers (IsDrillFile asked) c.desk.told c.desk'.told
+    → (f ≡ fault.Failed → CountsOutputFault c ⊎ CountsWriteFault c)
+    → Grows c.out.bytes c.out'.bytes → IsDrillEnded asked c e
 drill_unwritten asked c e f theory start is program front others rose grows =
     subst (λ (end : Ending). IsDrillEnded asked c end) (sym is) (record {
       cause = unwritten_cause asked.steps c f (theory, start, program) rose;
-      output = fault_output f c.output c.output' grows;
-      front = left_drill asked c.told c.told' theory start program front;
+      output = fault_output f c.out.bytes c.out'.bytes grows;
+      front = left_drill asked c.desk.told c.desk'.told theory start program front;
       others = others;
-      files = fault_files f c.told c.told';
+      files = fault_files f c.desk.told c.desk'.told;
     })
 
 -- after a drill its file holds the front of a proof

@@ -17,7 +17,8 @@ use Rattle.kore_prove.specs.PrintedRun.{IsCodeOfRun}
 use Rattle.kore_prove.specs.Reports.{Ending, out_of_memory, bad_words, read_fault, write_fault}
 use Rattle.kore_prove.specs.Reports.{no_such_file, definition_refused, term_refused, too_large}
 use Rattle.kore_prove.specs.Reports.{end_code, Reports}
-use Rattle.kore_prove.specs.Causes.{Grows, KeepsOutput, IsUnwritten}
+use Rattle.kore_prove.specs.Causes.{Grows, KeepsOutput}
+use Rattle.kore_prove.specs.Unwritten.{IsUnwritten}
 use Rattle.kore_prove.specs.FileCauses.{FileCause, KeepsFilesAt}
 
 pub same_bytes : (told : Option (List ℕ)) → SameBytes told told

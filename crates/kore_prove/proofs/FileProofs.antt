@@ -3,15 +3,14 @@ use Rattle.std.proofs.Common.{◌≡◌, ◌≢◌, ℕ, inl, inr, List, [], ◌
 use Rattle.std.proofs.Common.{Err, true, refl, sym, ◌∙◌, ap, subst}
 use Rattle.std.specs.Prelude.{OnErr}
 use Rattle.std.proofs.lemmas.List.{append-nil}
-use Rattle.desk_io.specs.Told.{Told, KeepsFiles, Same, TellsCreated, Creates, Writes, Closes}
-use Rattle.desk_io.specs.Told.{PutsFile, file_of}
+use Rattle.desk_io.specs.Told.{Told, KeepsFiles, file_of, Tells, TellsNow, KeepsFile, KeepsOthers}
+use Rattle.desk_io.specs.Changes.{Same, TellsCreated, Creates, Writes, Closes, PutsFile}
 use Rattle.term_core.specs.Patterns.{Pattern}
 use Rattle.rule_core.specs.Theories.{RewriteTheory}
 use Rattle.rule_core.specs.Runs.{Run, kept_by}
-use Rattle.mm_justify.specs.Justifying.{JustifiesRun}
-use Rattle.run_proof.specs.WrittenProofs.{WritesProof, WritesFrontOfProof, IsFrontOfProof}
+use Rattle.mm_justify.specs.Justifying.{JustifiesRun, IsFrontOfProof}
+use Rattle.run_proof.specs.WrittenProofs.{WritesProof, WritesFrontOfProof}
 use Rattle.run_proof.specs.declared.summaries.Summary.{Summary}
-use Rattle.kore_prove.specs.ProvedRun.{Tells, TellsNow, KeepsFile, KeepsOthers}
 use Rattle.kore_prove.specs.ProofFiles.{PutsCreated, PutsProof, PutsFront, HoldsCounted}
 use Rattle.kore_prove.specs.ProofFiles.{MayHoldFront, KeepsOthersNow}
 

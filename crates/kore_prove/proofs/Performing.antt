@@ -1,7 +1,7 @@
 -- From the parts of a run command to its result.
 use Rattle.std.proofs.Common.{◌≡◌, ℕ, ◌⊎◌, inl, inr, List, Option, Some, None, IsSome, refl, sym}
 use Rattle.std.proofs.Common.{subst}
-use Rattle.desk_io.specs.Told.{Told, KeepsFiles, Holds}
+use Rattle.desk_io.specs.Told.{Told, KeepsFiles, Holds, TellsNow, KeepsOthers}
 use Rattle.desk_io.specs.Counts.{CountRose}
 use Rattle.desk_io.specs.Sent.{Appends, AppendsFront}
 use Rattle.desk_io.specs.declared.desk.DeskFault.{DeskFault}
@@ -16,9 +16,11 @@ use Rattle.kore_show.specs.ShownLaws.{SortedIsShown}
 use Rattle.run_lines.specs.Lines.{kept_pattern}
 use Rattle.kore_prove.specs.Words.{RunRequest}
 use Rattle.kore_prove.specs.Files.{HoldsStart, HoldsRun}
-use Rattle.kore_prove.specs.ProvedRun.{TellsNow, HasWantedProof, LeavesFront, KeepsOthers}
+use Rattle.kore_prove.specs.ProvedRun.{HasWantedProof, LeavesFront}
 use Rattle.kore_prove.specs.ProofFiles.{HasWantedFront}
-use Rattle.kore_prove.specs.Causes.{IoState, HasRun, RunCause, ReadCause, Grows, KeepsOutput}
+use Rattle.kore_prove.specs.Causes.{HasRun, RunCause, ReadCause, Grows, KeepsOutput}
+use Rattle.kore_prove.specs.Courses.{Course}
+use Rattle.kore_prove.specs.CountedFaults.{CountsWriteFault, CountsOutputFault}
 use Rattle.kore_prove.specs.FileCauses.{KeepsFilesAt}
 use Rattle.kore_prove.specs.PlainEnds.{fault_end}
 use Rattle.kore_prove.specs.Reports.{Ending}
@@ -109,11 +111,11 @@ proof_is_front (Some file) told told' theory start run h =
     })
 
 -- the run was printed
-pub run_done : (asked : RunRequest) (c : IoState) (read : Option Told) (theory : RewriteTheory)
-    (start : Pattern) (run : Run) (lines : List ℕ) → HoldsRun asked c.told theory start
-    → KeepsFiles c.told read → HasLines (bounds_of asked) theory start run lines
-    → HasWantedProof asked.proof read c.told' theory start run
-    → KeepsOthers (IsWanted asked) read c.told' → Appends c.output c.output' lines
+pub run_done : (asked : RunRequest) (c : Course) (read : Option Told) (theory : RewriteTheory)
+    (start : Pattern) (run : Run) (lines : List ℕ) → HoldsRun asked c.desk.told theory start
+    → KeepsFiles c.desk.told read → HasLines (bounds_of asked) theory start run lines
+    → HasWantedProof asked.proof read c.desk'.told theory start run
+    → KeepsOthers (IsWanted asked) read c.desk'.told → Appends c.out.bytes c.out'.bytes lines
     → IsRunDone asked c run
 run_done asked c read theory start run lines held kept h proof others grew = record {
   theory = theory;
@@ -124,27 +126,28 @@ run_done asked c read theory start run lines held kept h proof others grew = rec
     lines_are = h.lines_are;
     grew = grew;
   };
-  proof = proof_kept asked.proof c.told read c.told' theory start run kept proof;
-  others = then_others (IsWanted asked) c.told read c.told' kept others;
+  proof = proof_kept asked.proof c.desk.told read c.desk'.told theory start run kept proof;
+  others = then_others (IsWanted asked) c.desk.told read c.desk'.told kept others;
 }
 
 -- the files do not give a run
-pub read_ended : (asked : RunRequest) (c : IoState) (e : Ending) (bytes : Option (List ℕ))
-    → c.output ≡ bytes → c.output' ≡ bytes → ReadCause asked c.told c.reads c.reads' e
-    → KeepsFiles c.told c.told' → IsRunEnded asked c e
+pub read_ended : (asked : RunRequest) (c : Course) (e : Ending) (bytes : Option (List ℕ))
+    → c.out.bytes ≡ bytes → c.out'.bytes ≡ bytes → ReadCause asked c.desk.told c.desk.read_faults
+    c.desk'.read_faults e
+    → KeepsFiles c.desk.told c.desk'.told → IsRunEnded asked c e
 read_ended asked c e bytes before after cause kept = record {
   cause = inl cause;
   output =
-      subst (λ (o : Option (List ℕ)). KeepsOutput e o c.output') (sym before) (subst
+      subst (λ (o : Option (List ℕ)). KeepsOutput e o c.out'.bytes) (sym before) (subst
       (λ (o : Option (List ℕ)). KeepsOutput e bytes o) (sym after) (kept_output e bytes));
-  front = λ file wanted. inl (kept_file c.told c.told' file kept);
-  others = kept_others (IsWanted asked) c.told c.told' kept;
-  files = files_at e c.told c.told' kept;
+  front = λ file wanted. inl (kept_file c.desk.told c.desk'.told file kept);
+  others = kept_others (IsWanted asked) c.desk.told c.desk'.told kept;
+  files = files_at e c.desk.told c.desk'.told kept;
 }
 
 -- the run was not written
-fault_cause : (asked : RunRequest) (c : IoState) (f : DeskFault) → HasRun asked c.told
-    → (f ≡ fault.Failed → CountRose c.writes c.writes' ⊎ CountRose c.files c.files')
+fault_cause : (asked : RunRequest) (c : Course) (f : DeskFault) → HasRun asked c.desk.told
+    → (f ≡ fault.Failed → CountsOutputFault c ⊎ CountsWriteFault c)
     → RunCause asked c (fault_end f)
 fault_cause asked c fault.Failed run h = inr (refl, record { rose = h refl; accepted = run })
 fault_cause asked c fault.Memory run h = inl tt
@@ -158,20 +161,20 @@ pub fault_files : (f : DeskFault) (old new : Option Told) → KeepsFilesAt (faul
 fault_files fault.Failed old new = tt
 fault_files fault.Memory old new = tt
 
-pub write_ended : (asked : RunRequest) (c : IoState) (e : Ending) (f : DeskFault)
+pub write_ended : (asked : RunRequest) (c : Course) (e : Ending) (f : DeskFault)
     (read : Option Told) (theory : RewriteTheory) (start : Pattern) → e ≡ fault_end f
-    → HoldsRun asked c.told theory start → KeepsFiles c.told read
-    → HasWantedFront asked.proof read c.told' theory start
-    → KeepsOthers (IsWanted asked) read c.told'
-    → (f ≡ fault.Failed → CountRose c.writes c.writes' ⊎ CountRose c.files c.files')
-    → Grows c.output c.output' → IsRunEnded asked c e
+    → HoldsRun asked c.desk.told theory start → KeepsFiles c.desk.told read
+    → HasWantedFront asked.proof read c.desk'.told theory start
+    → KeepsOthers (IsWanted asked) read c.desk'.told
+    → (f ≡ fault.Failed → CountsOutputFault c ⊎ CountsWriteFault c)
+    → Grows c.out.bytes c.out'.bytes → IsRunEnded asked c e
 write_ended asked c e f read theory start is held kept front others rose grows =
     subst (λ (end : Ending). IsRunEnded asked c end) (sym is) (record {
       cause = fault_cause asked c f (theory, start, held) rose;
-      output = fault_output f c.output c.output' grows;
-      front = left_front asked c.told read c.told' theory start held kept front;
-      others = then_others (IsWanted asked) c.told read c.told' kept others;
-      files = fault_files f c.told c.told';
+      output = fault_output f c.out.bytes c.out'.bytes grows;
+      front = left_front asked c.desk.told read c.desk'.told theory start held kept front;
+      others = then_others (IsWanted asked) c.desk.told read c.desk'.told kept others;
+      files = fault_files f c.desk.told c.desk'.told;
     })
 
 -- a count of faults in writing, compared with the count before the files were read

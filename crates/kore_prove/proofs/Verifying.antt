@@ -13,7 +13,7 @@ use Rattle.kore_prove.specs.declared.verification.Verdict.TheVariants as verdict
 use Rattle.kore_prove.specs.Words.{IsVerify}
 use Rattle.kore_prove.specs.DatabaseVerdicts.{IsInvalidBy, HoldsDatabase, PrintsVerdictOn}
 use Rattle.kore_prove.specs.DatabaseVerdicts.{verdict_line, verdict_code}
-use Rattle.kore_prove.specs.Verdicts.{SaysValid, SaysInvalid, PrintsVerdict, valid_line}
+use Rattle.kore_prove.specs.Verdicts.{SaysValid, SaysInvalid, PrintsVerdictOf, valid_line}
 use Rattle.kore_prove.proofs.CommandWords.{one_file}
 use Rattle.mm_database.specs.ComputedFault.{first_fault}
 
@@ -61,7 +61,7 @@ code_of_verdict (verdict.Invalid fault) code is = inr is
 pub prints_verdict : (words : List (List ℕ)) (told : Option Told) (before after : Option (List ℕ))
     (file : List ℕ) (v : Verdict) (code : ℕ) → IsVerify words file
     → PrintsVerdictOn file told before after v → code ≡ verdict_code v
-    → PrintsVerdict words told before after code
+    → PrintsVerdictOf words told before after code
 prints_verdict words None before after file v code command p is = tt
 prints_verdict words (Some told) before after file (verdict.Valid report) code command p is =
     λ file' command'. (

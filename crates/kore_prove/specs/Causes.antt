@@ -1,6 +1,6 @@
 -- The cause of each end of a call that did not print its lines. For a desk that tells nothing, only
 -- its counts say something.
-use Rattle.std.specs.Prelude.{◌≡◌, ◌≢◌, ℕ, ◌⊎◌, List, ◌++◌, Option, None, Some}
+use Rattle.std.specs.Prelude.{◌≡◌, ℕ, ◌⊎◌, List, ◌++◌, Option, None, Some}
 use Rattle.desk_io.specs.Told.{Told, Lacks, HoldsMore}
 use Rattle.desk_io.specs.Sent.{SameBytes}
 use Rattle.desk_io.specs.Counts.{CountRose}
@@ -9,6 +9,9 @@ use Rattle.rule_core.specs.Theories.{RewriteTheory}
 use Rattle.kore_sig.specs.FirstFault.{Fault}
 use Rattle.kore_rules.specs.Acceptance.{IsRefused, IsRefusedTerm}
 use Rattle.kore_prove.specs.Words.{RunRequest, DrillRequest, AreBad, IsRun, IsVerify, IsDrill}
+use Rattle.kore_prove.specs.Courses.{Course, Call}
+use Rattle.kore_prove.specs.CountedFaults.{CountsReadFault, CountsWriteFault}
+use Rattle.kore_prove.specs.CountedFaults.{CountsOutputFault}
 use Rattle.kore_prove.specs.Limits.{HoldsWithin, definition_limit, term_limit, database_limit}
 use Rattle.kore_prove.specs.Files.{HoldsProgram, HoldsRun}
 use Rattle.kore_prove.specs.DrillProgram.{IsDrillProgram}
@@ -58,41 +61,28 @@ ReadCause asked told reads reads' (too_large name) =
     ((name ≡ asked.definition) × HoldsMore told name definition_limit)
     ⊎ ((name ≡ asked.term) × HasProgram asked told × HoldsMore told name term_limit)
 
--- What is known of a desk and an output: what they told before and after, and their counts of
--- faults before and after: in reading, in writing files and in writing the output.
-pub record IoState : Type 0 where
-  pub told : Option Told
-  pub told' : Option Told
-  pub reads : ℕ
-  pub reads' : ℕ
-  pub files : ℕ
-  pub files' : ℕ
-  pub writes : ℕ
-  pub writes' : ℕ
-  pub output : Option (List ℕ)
-  pub output' : Option (List ℕ)
-
 -- a write failed because a count of faults rose, and both files were accepted
-pub record WriteCause (asked : RunRequest) (c : IoState) : Type 0 where
-  pub rose : CountRose c.writes c.writes' ⊎ CountRose c.files c.files'
-  pub accepted : HasRun asked c.told
+pub record WriteCause (asked : RunRequest) (c : Course) : Type 0 where
+  pub rose : CountsOutputFault c ⊎ CountsWriteFault c
+  pub accepted : HasRun asked c.desk.told
 
 -- each end of a run command has its cause
-abbrev pub RunCause : RunRequest → IoState → Ending → Type 0
+abbrev pub RunCause : RunRequest → Course → Ending → Type 0
 RunCause asked c e =
-    ReadCause asked c.told c.reads c.reads' e ⊎ ((e ≡ write_fault) × WriteCause asked c)
+    ReadCause asked c.desk.told c.desk.read_faults c.desk'.read_faults e ⊎ ((e ≡ write_fault)
+    × WriteCause asked c)
 
 -- each end of a verify command has its cause
-abbrev pub VerifyCause : List ℕ → IoState → Ending → Type 0
+abbrev pub VerifyCause : List ℕ → Course → Ending → Type 0
 VerifyCause file c out_of_memory = Unit {0}
 VerifyCause file c bad_words = ⊥
-VerifyCause file c read_fault = CountRose c.reads c.reads'
+VerifyCause file c read_fault = CountsReadFault c
 VerifyCause file c write_fault =
-    CountRose c.writes c.writes' × ((bytes : List ℕ) × HoldsWithin c.told file database_limit bytes)
-VerifyCause file c (no_such_file name) = (name ≡ file) × Lacks c.told name
+    CountsOutputFault c × ((bytes : List ℕ) × HoldsWithin c.desk.told file database_limit bytes)
+VerifyCause file c (no_such_file name) = (name ≡ file) × Lacks c.desk.told name
 VerifyCause file c (definition_refused number byte) = ⊥
 VerifyCause file c (term_refused number byte) = ⊥
-VerifyCause file c (too_large name) = (name ≡ file) × HoldsMore c.told name database_limit
+VerifyCause file c (too_large name) = (name ≡ file) × HoldsMore c.desk.told name database_limit
 
 -- the texts of a drill were accepted
 abbrev pub HasDrill : ℕ → Type 0
@@ -100,12 +90,12 @@ HasDrill steps = (theory : RewriteTheory) × (start : Pattern) × IsDrillProgram
 
 -- The end of a command that drills has its cause. Its texts are never refused, and it reads no
 -- file.
-abbrev pub DrillCause : ℕ → IoState → Ending → Type 0
+abbrev pub DrillCause : ℕ → Course → Ending → Type 0
 DrillCause steps c out_of_memory = Unit {0}
 DrillCause steps c bad_words = ⊥
 DrillCause steps c read_fault = ⊥
 DrillCause steps c write_fault =
-    (CountRose c.writes c.writes' ⊎ CountRose c.files c.files') × HasDrill steps
+    (CountsOutputFault c ⊎ CountsWriteFault c) × HasDrill steps
 DrillCause steps c (no_such_file name) = ⊥
 DrillCause steps c (definition_refused number byte) = ⊥
 DrillCause steps c (term_refused number byte) = ⊥
@@ -126,20 +116,6 @@ KeepsOutput (no_such_file name) before after = SameBytes before after
 KeepsOutput (definition_refused number byte) before after = SameBytes before after
 KeepsOutput (term_refused number byte) before after = SameBytes before after
 KeepsOutput (too_large name) before after = SameBytes before after
-
--- the exit codes with which no file is written
-abbrev pub IsUnwritten : ℕ → Type 0
-IsUnwritten code = (code ≢ 0) × (code ≢ 1) × (code ≢ 4) × (code ≢ 10) × (code ≢ 11)
-
--- What is known of a call: its words; what the desk and the output told and counted; what the error
--- stream told and counted.
-pub record Call : Type 0 where
-  pub words : List (List ℕ)
-  pub course : IoState
-  pub complaints : ℕ
-  pub complaints' : ℕ
-  pub errors : Option (List ℕ)
-  pub errors' : Option (List ℕ)
 
 -- why a call did not print its lines; memory may run out before the words are read
 pub data HasCause (c : Call) : Ending → Type 0 where
@@ -162,14 +138,14 @@ pub data IsDone (words : List (List ℕ)) (code : ℕ) : Type 0 where
 -- the call printed its lines, and wrote nothing to the error stream
 pub record EndsInLines (c : Call) (code : ℕ) : Type 0 where
   pub done : IsDone c.words code
-  pub silent : SameBytes c.errors c.errors'
+  pub silent : SameBytes c.err.bytes c.err'.bytes
 
 -- the call had another end, with a cause, kept the output, and reported the reason
 pub record EndsOtherwise (c : Call) (code : ℕ) : Type 0 where
   pub end : Ending
   pub cause : HasCause c end
-  pub output : KeepsOutput end c.course.output c.course.output'
-  pub said : Reports end c.errors c.errors' c.complaints c.complaints' code
+  pub output : KeepsOutput end c.course.out.bytes c.course.out'.bytes
+  pub said : Reports end c.err.bytes c.err'.bytes c.err.faults c.err'.faults code
 
 abbrev pub Ends : Call → ℕ → Type 0
 Ends c code = EndsInLines c code ⊎ EndsOtherwise c code

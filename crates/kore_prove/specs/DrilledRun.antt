@@ -2,7 +2,7 @@
 -- file.
 use Rattle.std.specs.Prelude.{◌≡◌, ℕ, ◌+◌, ◌⊎◌, List, [], ◌∷◌, ◌++◌, length, Option, Some, codes}
 use Rattle.std.specs.Prelude.{decimal}
-use Rattle.desk_io.specs.Told.{Told}
+use Rattle.desk_io.specs.Told.{Told, KeepsFile}
 use Rattle.desk_io.specs.Sent.{Appends}
 use Rattle.term_core.specs.Patterns.{Pattern}
 use Rattle.rule_core.specs.Theories.{RewriteTheory}
@@ -10,8 +10,9 @@ use Rattle.rule_core.specs.Runs.{Run, IsRunOf}
 use Rattle.run_lines.specs.Lines.{lines_of}
 use Rattle.mm_justify.specs.Counting.{fact_count, statement_count, capped}
 use Rattle.kore_prove.specs.Words.{DrillRequest, IsDrill}
+use Rattle.kore_prove.specs.Courses.{Call}
 use Rattle.kore_prove.specs.DrillProgram.{IsDrillProgram}
-use Rattle.kore_prove.specs.ProvedRun.{HoldsProof, HoldsFront, KeepsFile}
+use Rattle.kore_prove.specs.ProvedRun.{HoldsProof, HoldsFront}
 
 -- the greatest number of calls of functions in a drill
 abbrev pub drill_calls : ℕ
@@ -46,11 +47,10 @@ pub record IsDrilled (asked : DrillRequest) (told told' : Option Told)
   pub grew : Appends before after (lines ++ counts_line_of proof.bytes)
 
 -- if the words ask for a drill, the exit code 0 says that it was made
-abbrev pub Drills : List (List ℕ) → Option Told → Option Told → Option (List ℕ) → Option (List ℕ)
-    → ℕ → Type 0
-Drills words told told' before after code =
-    code ≡ 0 → (asked : DrillRequest) → IsDrill words asked
-    → IsDrilled asked told told' before after
+abbrev pub Drills : Call → ℕ → Type 0
+Drills c code =
+    code ≡ 0 → (asked : DrillRequest) → IsDrill c.words asked
+    → IsDrilled asked c.course.desk.told c.course.desk'.told c.course.out.bytes c.course.out'.bytes
 
 -- the file of a drill is empty, or holds the front of a database that justifies a run of the
 -- drill's program
@@ -65,6 +65,7 @@ abbrev pub LeavesDrill : DrillRequest → Option Told → Option Told → Type 0
 LeavesDrill asked told told' = KeepsFile told told' asked.file ⊎ HoldsFrontOfDrill asked told told'
 
 -- the same if the words ask for a drill, for every exit code
-abbrev pub LeavesFrontOfDrill : List (List ℕ) → Option Told → Option Told → Type 0
-LeavesFrontOfDrill words told told' =
-    (asked : DrillRequest) → IsDrill words asked → LeavesDrill asked told told'
+abbrev pub LeavesFrontOfDrill : Call → Type 0
+LeavesFrontOfDrill c =
+    (asked : DrillRequest) → IsDrill c.words asked
+    → LeavesDrill asked c.course.desk.told c.course.desk'.told

@@ -2,6 +2,8 @@
 -- Public: what public clauses say, and what public definitions of other crates use.
 pub mod Limits
 pub mod Words
+pub mod Courses
+pub mod CountedFaults
 pub mod Files
 pub mod AcceptedRuns
 pub mod PrintedRun
@@ -10,7 +12,10 @@ pub mod DrillProgram
 pub mod DrilledRun
 pub mod Reports
 pub mod Causes
-pub mod Readiness
+pub mod CompleteRuns
+pub mod CompleteVerdicts
+pub mod CompleteDrills
+pub mod Unwritten
 pub mod Verdicts
 pub mod Calls
 -- Private: what clauses of private functions cite, and how private fields are seen.

@@ -7,6 +7,7 @@ use Rattle.rule_core.specs.Theories.{RewriteTheory}
 use Rattle.rule_core.specs.Runs.{Run, stuck, limited, stopped, unstarted}
 use Rattle.run_lines.specs.Lines.{lines_of}
 use Rattle.kore_prove.specs.Words.{RunRequest, IsRun, IsNoVerify, IsNoDrill}
+use Rattle.kore_prove.specs.Courses.{Call}
 use Rattle.kore_prove.specs.AcceptedRuns.{IsRunOfFiles}
 
 -- the exit code of a run
@@ -44,6 +45,7 @@ IsCodeOfRun words code =
 
 -- With the exit code of a run, a run was printed. If the output tells nothing, nothing is said of
 -- the lines. If the desk tells nothing, nothing is said of the contents of its files.
-abbrev pub PrintsRun : List (List ℕ) → Option Told → Option (List ℕ) → Option (List ℕ) → ℕ → Type 0
-PrintsRun words told before after code =
-    IsCodeOfRun words code → IsPrinted words told before after code
+abbrev pub PrintsRun : Call → ℕ → Type 0
+PrintsRun c code =
+    IsCodeOfRun c.words code
+    → IsPrinted c.words c.course.desk.told c.course.out.bytes c.course.out'.bytes code

@@ -1,13 +1,14 @@
 -- The created file of a desk, after it was written and closed.
 use Rattle.std.specs.Prelude.{◌≡◌, ◌≢◌, ℕ, ◌⊎◌, List, [], ◌++◌, Option, Some, None}
-use Rattle.desk_io.specs.Told.{Told, PutsFile, file_of}
+use Rattle.desk_io.specs.Told.{Told, file_of, KeepsFile}
+use Rattle.desk_io.specs.Changes.{PutsFile}
 use Rattle.term_core.specs.Patterns.{Pattern}
 use Rattle.rule_core.specs.Theories.{RewriteTheory}
 use Rattle.rule_core.specs.Runs.{Run, kept_by}
-use Rattle.mm_justify.specs.Justifying.{JustifiesRun}
-use Rattle.run_proof.specs.WrittenProofs.{IsFrontOfProof, IsSummaryOf}
+use Rattle.mm_justify.specs.Justifying.{JustifiesRun, IsFrontOfProof}
+use Rattle.run_proof.specs.WrittenProofs.{IsSummaryOf}
 use Rattle.run_proof.specs.declared.summaries.Summary.{Summary}
-use Rattle.kore_prove.specs.ProvedRun.{KeepsFile, HoldsProof, HoldsFront}
+use Rattle.kore_prove.specs.ProvedRun.{HoldsProof, HoldsFront}
 
 -- the created file grew by these bytes and is no longer created, and the others are as before
 abbrev pub PutsCreated : Option Told → Option Told → List ℕ → Type 0

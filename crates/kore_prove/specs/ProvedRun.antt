@@ -1,24 +1,14 @@
 -- What the file of a proof holds: a database that justifies the printed run, or the front of one.
 use Rattle.std.specs.Prelude.{◌≡◌, ℕ, ◌⊎◌, List, [], Option, Some, None}
-use Rattle.desk_io.specs.Told.{Told, file_of}
+use Rattle.desk_io.specs.Told.{Told, TellsNow, KeepsFile}
 use Rattle.term_core.specs.Patterns.{Pattern}
 use Rattle.rule_core.specs.Theories.{RewriteTheory}
 use Rattle.rule_core.specs.Runs.{Run, kept_by}
-use Rattle.mm_justify.specs.Justifying.{JustifiesRun}
-use Rattle.run_proof.specs.WrittenProofs.{IsFrontOfProof}
+use Rattle.mm_justify.specs.Justifying.{JustifiesRun, IsFrontOfProof}
 use Rattle.kore_prove.specs.Words.{RunRequest, IsRun, IsProofRun}
+use Rattle.kore_prove.specs.Courses.{Call}
 use Rattle.kore_prove.specs.Files.{HoldsRun}
 use Rattle.kore_prove.specs.PrintedRun.{IsCodeOfRun, IsPrinted}
-
--- the desk tells a file of that name with this content
-abbrev pub Tells : Option Told → List ℕ → List ℕ → Type 0
-Tells None file bytes = ⊥
-Tells (Some told) file bytes = file_of told.files file ≡ Some bytes
-
--- the same, if the desk told its files before
-abbrev pub TellsNow : Option Told → Option Told → List ℕ → List ℕ → Type 0
-TellsNow None told' file bytes = Unit {0}
-TellsNow (Some told) told' file bytes = Tells told' file bytes
 
 -- the file holds a database that justifies the run, from the initial term to what the run keeps
 pub record HoldsProof (told told' : Option Told) (file : List ℕ) (theory : RewriteTheory)
@@ -43,11 +33,11 @@ pub record IsProved (words : List (List ℕ)) (told told' : Option Told)
   pub proof : HoldsProof told told' file printed.theory printed.start printed.run
 
 -- if the exit code is one of a run and the words name a file for its proof, the run is proved there
-abbrev pub ProvesRun : List (List ℕ) → Option Told → Option Told → Option (List ℕ) → Option (List ℕ)
-    → ℕ → Type 0
-ProvesRun words told told' before after code =
-    IsCodeOfRun words code → (file : List ℕ) → IsProofRun words file
-    → IsProved words told told' before after code file
+abbrev pub ProvesRun : Call → ℕ → Type 0
+ProvesRun c code =
+    IsCodeOfRun c.words code → (file : List ℕ) → IsProofRun c.words file
+    → IsProved c.words c.course.desk.told c.course.desk'.told c.course.out.bytes c.course.out'.bytes
+    code file
 
 -- the file is empty, or holds the front of a database that justifies a run from the initial term to
 -- some configuration
@@ -66,12 +56,6 @@ pub record HoldsFrontOfRun (asked : RunRequest) (told told' : Option Told) (file
   pub of_files : HoldsRun asked told theory start
   pub holds : HoldsFront told told' file theory start
 
--- the file is as before
-abbrev pub KeepsFile : Option Told → Option Told → List ℕ → Type 0
-KeepsFile None new file = Unit {0}
-KeepsFile (Some old) new file =
-    (now : Told) × (new ≡ Some now) × (file_of now.files file ≡ file_of old.files file)
-
 -- if a proof is wanted, its file is as before, or it was created and holds the front of one
 abbrev pub LeavesFront : RunRequest → Option Told → Option Told → Type 0
 LeavesFront asked told told' =
@@ -79,13 +63,7 @@ LeavesFront asked told told' =
     → KeepsFile told told' file ⊎ HoldsFrontOfRun asked told told' file
 
 -- the same if the words ask for a run, for every exit code
-abbrev pub LeavesFrontOfRun : List (List ℕ) → Option Told → Option Told → Type 0
-LeavesFrontOfRun words told told' =
-    (asked : RunRequest) → IsRun words asked → LeavesFront asked told told'
-
--- each file that is not written is as before
-abbrev pub KeepsOthers : (List ℕ → Type 0) → Option Told → Option Told → Type 0
-KeepsOthers IsWritten None new = Unit {0}
-KeepsOthers IsWritten (Some old) new =
-    (now : Told) × (new ≡ Some now)
-    × ((name : List ℕ) → (IsWritten name → ⊥) → file_of now.files name ≡ file_of old.files name)
+abbrev pub LeavesFrontOfRun : Call → Type 0
+LeavesFrontOfRun c =
+    (asked : RunRequest) → IsRun c.words asked
+    → LeavesFront asked c.course.desk.told c.course.desk'.told

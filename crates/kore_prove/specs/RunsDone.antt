@@ -5,10 +5,12 @@ use Rattle.rule_core.specs.Theories.{RewriteTheory}
 use Rattle.rule_core.specs.Runs.{Run, IsRunOf}
 use Rattle.run_lines.specs.Lines.{lines_of}
 use Rattle.kore_prove.specs.Words.{RunRequest, DrillRequest}
-use Rattle.kore_prove.specs.Causes.{IoState, RunCause, DrillCause, KeepsOutput}
+use Rattle.kore_prove.specs.Causes.{RunCause, DrillCause, KeepsOutput}
+use Rattle.kore_prove.specs.Courses.{Course}
 use Rattle.kore_prove.specs.FileCauses.{KeepsFilesAt}
 use Rattle.kore_prove.specs.PrintedRun.{PrintsLines}
-use Rattle.kore_prove.specs.ProvedRun.{HasWantedProof, LeavesFront, KeepsOthers}
+use Rattle.kore_prove.specs.ProvedRun.{HasWantedProof, LeavesFront}
+use Rattle.desk_io.specs.Told.{KeepsOthers}
 use Rattle.kore_prove.specs.DrilledRun.{IsDrilled, LeavesDrill}
 use Rattle.kore_prove.specs.Reports.{Ending}
 use Rattle.kore_prove.specs.declared.running.Bounds.{Bounds}
@@ -22,30 +24,30 @@ pub record HasLines (bounds : Bounds) (theory : RewriteTheory) (start : Pattern)
   pub lines_are : lines_of theory.sig start run ≡ Some lines
 
 -- the run was printed, and proved if that is wanted
-pub record IsRunDone (asked : RunRequest) (c : IoState) (run : Run) : Type 0 where
+pub record IsRunDone (asked : RunRequest) (c : Course) (run : Run) : Type 0 where
   pub theory : RewriteTheory
   pub start : Pattern
-  pub printed : PrintsLines c.told asked c.output c.output' theory start run
-  pub proof : HasWantedProof asked.proof c.told c.told' theory start run
-  pub others : KeepsOthers (IsWanted asked) c.told c.told'
+  pub printed : PrintsLines c.desk.told asked c.out.bytes c.out'.bytes theory start run
+  pub proof : HasWantedProof asked.proof c.desk.told c.desk'.told theory start run
+  pub others : KeepsOthers (IsWanted asked) c.desk.told c.desk'.told
 
 -- no run was printed
-pub record IsRunEnded (asked : RunRequest) (c : IoState) (e : Ending) : Type 0 where
+pub record IsRunEnded (asked : RunRequest) (c : Course) (e : Ending) : Type 0 where
   pub cause : RunCause asked c e
-  pub output : KeepsOutput e c.output c.output'
-  pub front : LeavesFront asked c.told c.told'
-  pub others : KeepsOthers (IsWanted asked) c.told c.told'
-  pub files : KeepsFilesAt e c.told c.told'
+  pub output : KeepsOutput e c.out.bytes c.out'.bytes
+  pub front : LeavesFront asked c.desk.told c.desk'.told
+  pub others : KeepsOthers (IsWanted asked) c.desk.told c.desk'.told
+  pub files : KeepsFilesAt e c.desk.told c.desk'.told
 
 -- the drill was made and printed
-pub record IsDrillDone (asked : DrillRequest) (c : IoState) : Type 0 where
-  pub drilled : IsDrilled asked c.told c.told' c.output c.output'
-  pub others : KeepsOthers (IsDrillFile asked) c.told c.told'
+pub record IsDrillDone (asked : DrillRequest) (c : Course) : Type 0 where
+  pub drilled : IsDrilled asked c.desk.told c.desk'.told c.out.bytes c.out'.bytes
+  pub others : KeepsOthers (IsDrillFile asked) c.desk.told c.desk'.told
 
 -- the drill was not made
-pub record IsDrillEnded (asked : DrillRequest) (c : IoState) (e : Ending) : Type 0 where
+pub record IsDrillEnded (asked : DrillRequest) (c : Course) (e : Ending) : Type 0 where
   pub cause : DrillCause asked.steps c e
-  pub output : KeepsOutput e c.output c.output'
-  pub front : LeavesDrill asked c.told c.told'
-  pub others : KeepsOthers (IsDrillFile asked) c.told c.told'
-  pub files : KeepsFilesAt e c.told c.told'
+  pub output : KeepsOutput e c.out.bytes c.out'.bytes
+  pub front : LeavesDrill asked c.desk.told c.desk'.told
+  pub others : KeepsOthers (IsDrillFile asked) c.desk.told c.desk'.told
+  pub files : KeepsFilesAt e c.desk.told c.desk'.told

@@ -8,6 +8,7 @@ use Rattle.desk_io.specs.Told.{Told, file_of}
 use Rattle.desk_io.specs.Sent.{Appends}
 use Rattle.kore_prove.specs.Limits.{database_limit}
 use Rattle.kore_prove.specs.Words.{IsVerify}
+use Rattle.kore_prove.specs.Courses.{Call}
 
 -- `valid A P`, followed by a newline
 abbrev pub valid_line : ℕ → ℕ → List ℕ
@@ -41,10 +42,14 @@ pub record SaysInvalid (told : Told) (file : List ℕ) (before after : Option (L
 
 -- If the words ask to verify a database, the exit code 0 says that it is valid, and 12 that it is
 -- not. In both cases the output has its line. If the desk tells nothing, nothing is said.
-abbrev pub PrintsVerdict : List (List ℕ) → Option Told → Option (List ℕ) → Option (List ℕ) → ℕ
+abbrev pub PrintsVerdictOf : List (List ℕ) → Option Told → Option (List ℕ) → Option (List ℕ) → ℕ
     → Type 0
-PrintsVerdict words None before after code = Unit {0}
-PrintsVerdict words (Some told) before after code =
+PrintsVerdictOf words None before after code = Unit {0}
+PrintsVerdictOf words (Some told) before after code =
     (file : List ℕ) → IsVerify words file
     → (code ≡ 0 → SaysValid told file before after)
     × (code ≡ 12 → SaysInvalid told file before after)
+
+abbrev pub PrintsVerdict : Call → ℕ → Type 0
+PrintsVerdict c code =
+    PrintsVerdictOf c.words c.course.desk.told c.course.out.bytes c.course.out'.bytes code

@@ -1,17 +1,21 @@
 // The top call: words, files, the run and its lines, the verdict, the drill.
 ghost use Rattle.std.specs.Prelude.{◌≡◌, ◌⊎◌, IsFalse, IfOk, IfErr, Err, map, string_bytes};
-ghost use Rattle.desk_io.specs.Told.{KeepsFiles};
+ghost use Rattle.desk_io.specs.Told.{KeepsFiles, KeepsOthers};
 ghost use Rattle.run_loop.specs.RunEnds.{plain_run};
 ghost use Rattle.kore_prove.specs.Calls.{IsAnswered};
-ghost use Rattle.kore_prove.specs.Causes.{Ends, IsUnwritten};
+ghost use Rattle.kore_prove.specs.Causes.{Ends};
+ghost use Rattle.kore_prove.specs.CompleteDrills.{CompletesDrill};
+ghost use Rattle.kore_prove.specs.CompleteRuns.{Completes};
+ghost use Rattle.kore_prove.specs.CompleteVerdicts.{CompletesVerdict};
+ghost use Rattle.kore_prove.specs.Courses.{call_of, course_of};
 ghost use Rattle.kore_prove.specs.DrilledRun.{Drills, LeavesFrontOfDrill};
 ghost use Rattle.kore_prove.specs.PlainEnds.{plain_end};
 ghost use Rattle.kore_prove.specs.PrintedRun.{PrintsRun, code_of};
-ghost use Rattle.kore_prove.specs.ProvedRun.{ProvesRun, LeavesFrontOfRun, KeepsOthers};
-ghost use Rattle.kore_prove.specs.Readiness.{Completes, CompletesVerdict, CompletesDrill};
+ghost use Rattle.kore_prove.specs.ProvedRun.{ProvesRun, LeavesFrontOfRun};
 ghost use Rattle.kore_prove.specs.Reports.{Reports};
 ghost use Rattle.kore_prove.specs.Requests.{AsksFor, request};
 ghost use Rattle.kore_prove.specs.RunsDone.{IsRunDone, IsRunEnded};
+ghost use Rattle.kore_prove.specs.Unwritten.{IsUnwritten};
 ghost use Rattle.kore_prove.specs.Verdicts.{PrintsVerdict};
 ghost use Rattle.kore_prove.specs.Words.{AreBad, IsProofFile};
 
@@ -49,84 +53,42 @@ pub fn kore_main<D: Desk, O: Sink, E: Sink>(
     err: &mut E,
 ) -> Status
     requires none_created { IsFalse (D.created desk.old) }
-    ensures printed_run { PrintsRun
-        (map string_bytes words.now) (D.told desk.old) (O.bytes out.old) (O.bytes out.new)
-        result.code }
-    ensures proved_run { ProvesRun
-        (map string_bytes words.now) (D.told desk.old) (D.told desk.new) (O.bytes out.old)
-        (O.bytes out.new)
-        result.code }
-    ensures proof_front { LeavesFrontOfRun (map string_bytes words.now) (D.told desk.old)
-        (D.told desk.new) }
-    ensures verdict { PrintsVerdict
-        (map string_bytes words.now) (D.told desk.old) (O.bytes out.old) (O.bytes out.new)
-        result.code }
-    ensures drilled { Drills
-        (map string_bytes words.now) (D.told desk.old) (D.told desk.new) (O.bytes out.old)
-        (O.bytes out.new)
-        result.code }
-    ensures drill_front { LeavesFrontOfDrill (map string_bytes words.now) (D.told desk.old)
-        (D.told desk.new) }
-    ensures ends { Ends (record {
-      words = map string_bytes words.now;
-      course = record {
-        told = D.told desk.old;
-        told' = D.told desk.new;
-        reads = D.read_faults desk.old;
-        reads' = D.read_faults desk.new;
-        files = D.write_faults desk.old;
-        files' = D.write_faults desk.new;
-        writes = O.faults out.old;
-        writes' = O.faults out.new;
-        output = O.bytes out.old;
-        output' = O.bytes out.new;
-      };
-      complaints = E.faults err.old;
-      complaints' = E.faults err.new;
-      errors = E.bytes err.old;
-      errors' = E.bytes err.new;
-    }) result.code }
-    ensures complete { Completes (map string_bytes words.now) (record {
-      told = D.told desk.old;
-      told' = D.told desk.new;
-      reads = D.read_faults desk.old;
-      reads' = D.read_faults desk.new;
-      files = D.write_faults desk.old;
-      files' = D.write_faults desk.new;
-      writes = O.faults out.old;
-      writes' = O.faults out.new;
-      output = O.bytes out.old;
-      output' = O.bytes out.new;
-    }) result.code }
-    ensures complete_verdict { CompletesVerdict (map string_bytes words.now) (record {
-      told = D.told desk.old;
-      told' = D.told desk.new;
-      reads = D.read_faults desk.old;
-      reads' = D.read_faults desk.new;
-      files = D.write_faults desk.old;
-      files' = D.write_faults desk.new;
-      writes = O.faults out.old;
-      writes' = O.faults out.new;
-      output = O.bytes out.old;
-      output' = O.bytes out.new;
-    }) result.code }
-    ensures complete_drill { CompletesDrill (map string_bytes words.now) (record {
-      told = D.told desk.old;
-      told' = D.told desk.new;
-      reads = D.read_faults desk.old;
-      reads' = D.read_faults desk.new;
-      files = D.write_faults desk.old;
-      files' = D.write_faults desk.new;
-      writes = O.faults out.old;
-      writes' = O.faults out.new;
-      output = O.bytes out.old;
-      output' = O.bytes out.new;
-    }) result.code }
+    ensures printed_run { PrintsRun (call_of
+        (map string_bytes words.now) (D.state desk.old) (D.state desk.new) (O.state out.old)
+        (O.state out.new) (E.state err.old) (E.state err.new)) result.code }
+    ensures proved_run { ProvesRun (call_of
+        (map string_bytes words.now) (D.state desk.old) (D.state desk.new) (O.state out.old)
+        (O.state out.new) (E.state err.old) (E.state err.new)) result.code }
+    ensures proof_front { LeavesFrontOfRun (call_of
+        (map string_bytes words.now) (D.state desk.old) (D.state desk.new) (O.state out.old)
+        (O.state out.new) (E.state err.old) (E.state err.new)) }
+    ensures verdict { PrintsVerdict (call_of
+        (map string_bytes words.now) (D.state desk.old) (D.state desk.new) (O.state out.old)
+        (O.state out.new) (E.state err.old) (E.state err.new)) result.code }
+    ensures drilled { Drills (call_of
+        (map string_bytes words.now) (D.state desk.old) (D.state desk.new) (O.state out.old)
+        (O.state out.new) (E.state err.old) (E.state err.new)) result.code }
+    ensures drill_front { LeavesFrontOfDrill (call_of
+        (map string_bytes words.now) (D.state desk.old) (D.state desk.new) (O.state out.old)
+        (O.state out.new) (E.state err.old) (E.state err.new)) }
+    ensures ends { Ends (call_of
+        (map string_bytes words.now) (D.state desk.old) (D.state desk.new) (O.state out.old)
+        (O.state out.new) (E.state err.old) (E.state err.new)) result.code }
+    ensures complete { Completes (call_of
+        (map string_bytes words.now) (D.state desk.old) (D.state desk.new) (O.state out.old)
+        (O.state out.new) (E.state err.old) (E.state err.new)) result.code }
+    ensures complete_verdict { CompletesVerdict (call_of
+        (map string_bytes words.now) (D.state desk.old) (D.state desk.new) (O.state out.old)
+        (O.state out.new) (E.state err.old) (E.state err.new)) result.code }
+    ensures complete_drill { CompletesDrill (call_of
+        (map string_bytes words.now) (D.state desk.old) (D.state desk.new) (O.state out.old)
+        (O.state out.new) (E.state err.old) (E.state err.new)) result.code }
     ensures bad_words { AreBad (map string_bytes words.now)
         → (result.code ≡ 2) ⊎ (result.code ≡ 1) }
-    ensures others { KeepsOthers (IsProofFile (map string_bytes words.now)) (D.told desk.old)
-        (D.told desk.new) }
-    ensures files { IsUnwritten result.code → KeepsFiles (D.told desk.old) (D.told desk.new) }
+    ensures others { KeepsOthers (IsProofFile (map string_bytes words.now)) (D.state desk.old).told
+        (D.state desk.new).told }
+    ensures files { IsUnwritten result.code
+        → KeepsFiles (D.state desk.old).told (D.state desk.new).told }
     ensures created { D.created desk.new ≡ D.created desk.old }
 {
     answered(alloc, words, desk, out, err)
@@ -141,25 +103,9 @@ fn answered<D: Desk, O: Sink, E: Sink>(
     err: &mut E,
 ) -> Status
     requires none_created { IsFalse (D.created desk.old) }
-    ensures answered { IsAnswered (record {
-      words = map string_bytes words.now;
-      course = record {
-        told = D.told desk.old;
-        told' = D.told desk.new;
-        reads = D.read_faults desk.old;
-        reads' = D.read_faults desk.new;
-        files = D.write_faults desk.old;
-        files' = D.write_faults desk.new;
-        writes = O.faults out.old;
-        writes' = O.faults out.new;
-        output = O.bytes out.old;
-        output' = O.bytes out.new;
-      };
-      complaints = E.faults err.old;
-      complaints' = E.faults err.new;
-      errors = E.bytes err.old;
-      errors' = E.bytes err.new;
-    }) result.code }
+    ensures answered { IsAnswered (call_of
+        (map string_bytes words.now) (D.state desk.old) (D.state desk.new) (O.state out.old)
+        (O.state out.new) (E.state err.old) (E.state err.new)) result.code }
     ensures created { D.created desk.new ≡ D.created desk.old }
 {
     match named_command(alloc, words) {
@@ -207,11 +153,12 @@ fn exit_code(end: &RunEnd) -> u8
     }
 }
 
-// Reports on `err` why the call did not print its lines. If memory runs out in this too, the status
-// is the one for out of memory.
-fn report<E: Sink>(err: &mut E, end: &End) -> Status
+/// Reports on `err` why the call did not print its lines. If memory runs out in this too, the
+/// status is the one for out of memory.
+pub fn report<E: Sink>(err: &mut E, end: &End) -> Status
     ensures { Reports (plain_end end.now)
-        (E.bytes err.old) (E.bytes err.new) (E.faults err.old) (E.faults err.new) result.code }
+        (E.state err.old).bytes (E.state err.new).bytes (E.state err.old).faults
+        (E.state err.new).faults result.code }
 {
     match send_report(err, end) {
         Err(DeskFault::Memory) => Status {
@@ -230,30 +177,12 @@ fn run_command<'a, D: Desk, O: Sink>(
     out: &mut O,
 ) -> Result<RunEnd, End<'a>>
     requires none_created { IsFalse (D.created desk.old) }
-    ensures done { IfOk result (λ end. IsRunDone (request asked.now) (record {
-      told = D.told desk.old;
-      told' = D.told desk.new;
-      reads = D.read_faults desk.old;
-      reads' = D.read_faults desk.new;
-      files = D.write_faults desk.old;
-      files' = D.write_faults desk.new;
-      writes = O.faults out.old;
-      writes' = O.faults out.new;
-      output = O.bytes out.old;
-      output' = O.bytes out.new;
-    }) (plain_run end)) }
-    ensures ended { IfErr result (λ end. IsRunEnded (request asked.now) (record {
-      told = D.told desk.old;
-      told' = D.told desk.new;
-      reads = D.read_faults desk.old;
-      reads' = D.read_faults desk.new;
-      files = D.write_faults desk.old;
-      files' = D.write_faults desk.new;
-      writes = O.faults out.old;
-      writes' = O.faults out.new;
-      output = O.bytes out.old;
-      output' = O.bytes out.new;
-    }) (plain_end end)) }
+    ensures done { IfOk result (λ end. IsRunDone (request asked.now) (course_of
+        (D.state desk.old) (D.state desk.new) (O.state out.old) (O.state out.new))
+        (plain_run end)) }
+    ensures ended { IfErr result (λ end. IsRunEnded (request asked.now) (course_of
+        (D.state desk.old) (D.state desk.new) (O.state out.old) (O.state out.new))
+        (plain_end end)) }
     ensures created { D.created desk.new ≡ D.created desk.old }
 {
     let accepted = match read_run(alloc, desk, asked) {

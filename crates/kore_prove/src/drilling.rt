@@ -7,6 +7,7 @@ ghost use Rattle.desk_io.specs.Counts.{CountRose};
 ghost use Rattle.kore_rules.specs.RefusedTexts.{RefusesFor};
 ghost use Rattle.rule_core.specs.ProgramView.{theory_of};
 ghost use Rattle.term_core.specs.RulePatterns.{plain_pattern};
+ghost use Rattle.kore_prove.specs.Courses.{course_of};
 ghost use Rattle.kore_prove.specs.DrillProgram.{IsDrillProgram};
 ghost use Rattle.kore_prove.specs.DrilledRun.{counts_line};
 ghost use Rattle.kore_prove.specs.PlainEnds.{plain_end};
@@ -41,30 +42,11 @@ pub fn drill_command<'a, D: Desk, O: Sink>(
 ) -> Result<(), End<'a>>
     requires none_created { IsFalse (D.created desk.old) }
     requires few { asked.now.steps ≤ most_drilled }
-    ensures done { IfOk result (λ _. IsDrillDone (drill_request asked.now) (record {
-      told = D.told desk.old;
-      told' = D.told desk.new;
-      reads = D.read_faults desk.old;
-      reads' = D.read_faults desk.new;
-      files = D.write_faults desk.old;
-      files' = D.write_faults desk.new;
-      writes = O.faults out.old;
-      writes' = O.faults out.new;
-      output = O.bytes out.old;
-      output' = O.bytes out.new;
-    })) }
-    ensures ended { IfErr result (λ end. IsDrillEnded (drill_request asked.now) (record {
-      told = D.told desk.old;
-      told' = D.told desk.new;
-      reads = D.read_faults desk.old;
-      reads' = D.read_faults desk.new;
-      files = D.write_faults desk.old;
-      files' = D.write_faults desk.new;
-      writes = O.faults out.old;
-      writes' = O.faults out.new;
-      output = O.bytes out.old;
-      output' = O.bytes out.new;
-    }) (plain_end end)) }
+    ensures done { IfOk result (λ _. IsDrillDone (drill_request asked.now) (course_of
+        (D.state desk.old) (D.state desk.new) (O.state out.old) (O.state out.new))) }
+    ensures ended { IfErr result (λ end. IsDrillEnded (drill_request asked.now) (course_of
+        (D.state desk.old) (D.state desk.new) (O.state out.old) (O.state out.new))
+        (plain_end end)) }
     ensures created { D.created desk.new ≡ D.created desk.old }
 {
     let accepted = match accepted_drill(alloc, asked.steps) {
@@ -119,12 +101,12 @@ fn out_of_memory(refusal: Refusal) -> AllocError
 // Sends the lines of a run and the line of the counts. After an error some bytes from their front,
 // perhaps none, are sent. It fails with `Failed` only if the sink counted a fault.
 fn send_lines<O: Sink>(out: &mut O, lines: &[u8], summary: Summary) -> Result<(), DeskFault>
-    ensures sent { OnOk result (Appends (O.bytes out.old) (O.bytes out.new)
+    ensures sent { OnOk result (Appends (O.state out.old).bytes (O.state out.new).bytes
         (lines.now ++ counts_line summary.facts summary.statements summary.bytes)) }
-    ensures prefix { OnErr result (AppendsFront (O.bytes out.old) (O.bytes out.new)
+    ensures prefix { OnErr result (AppendsFront (O.state out.old).bytes (O.state out.new).bytes
         (lines.now ++ counts_line summary.facts summary.statements summary.bytes)) }
     ensures failed { IsErrOf result DeskFault.Failed
-        → CountRose (O.faults out.old) (O.faults out.new) }
+        → CountRose (O.state out.old).faults (O.state out.new).faults }
 {
     match send_whole(out, lines) {
         Ok(()) => send_counts(out, summary),
@@ -135,13 +117,13 @@ fn send_lines<O: Sink>(out: &mut O, lines: &[u8], summary: Summary) -> Result<()
 // Sends the line of the counts, with the same errors.
 fn send_counts<O: Sink>(out: &mut O, summary: Summary) -> Result<(), DeskFault>
     ensures sent { OnOk result (Appends
-        (O.bytes out.old) (O.bytes out.new)
+        (O.state out.old).bytes (O.state out.new).bytes
         (counts_line summary.facts summary.statements summary.bytes)) }
     ensures prefix { OnErr result (AppendsFront
-        (O.bytes out.old) (O.bytes out.new)
+        (O.state out.old).bytes (O.state out.new).bytes
         (counts_line summary.facts summary.statements summary.bytes)) }
     ensures failed { IsErrOf result DeskFault.Failed
-        → CountRose (O.faults out.old) (O.faults out.new) }
+        → CountRose (O.state out.old).faults (O.state out.new).faults }
 {
     let mut facts = Buffer::new();
     let mut statements = Buffer::new();

@@ -41,14 +41,14 @@ pub struct Accepted {
 /// The program in the file of that name.
 pub fn read_program<D: Desk>(alloc: Global, desk: &mut D, name: &str) -> Result<Program, FileEnd>
     ensures found { IfOk result
-        (λ p. HoldsProgram (D.told desk.old) name.now (theory_of p) (top_of p)) }
+        (λ p. HoldsProgram (D.state desk.old).told name.now (theory_of p) (top_of p)) }
     ensures program { IfOk result IsProgram }
     ensures cause { IfErr result (FileCause IsRefused
-        (D.told desk.old) name.now DEFINITION_LIMIT (D.read_faults desk.old)
-        (D.read_faults desk.new)) }
-    ensures counts { D.read_faults desk.old ≤ D.read_faults desk.new }
-    ensures writes { D.write_faults desk.new ≡ D.write_faults desk.old }
-    ensures files { KeepsFiles (D.told desk.old) (D.told desk.new) }
+        (D.state desk.old).told name.now DEFINITION_LIMIT (D.state desk.old).read_faults
+        (D.state desk.new).read_faults) }
+    ensures counts { (D.state desk.old).read_faults ≤ (D.state desk.new).read_faults }
+    ensures writes { (D.state desk.new).write_faults ≡ (D.state desk.old).write_faults }
+    ensures files { KeepsFiles (D.state desk.old).told (D.state desk.new).told }
     ensures created { D.created desk.new ≡ D.created desk.old }
 {
     match read_file(alloc, desk, name, DEFINITION_LIMIT) {
@@ -69,14 +69,15 @@ pub fn read_start<D: Desk>(
 ) -> Result<RulePat, FileEnd>
     requires { IsProgram program.now }
     ensures found { IfOk result (λ start. HoldsStart
-        (D.told desk.old) name.now (theory_of program.now) (top_of program.now)
+        (D.state desk.old).told name.now (theory_of program.now) (top_of program.now)
         (plain_pattern start)) }
     ensures start { IfOk result (λ start. IsStart (theory_of program.now) (plain_pattern start)) }
     ensures cause { IfErr result (FileCause (IsRefusedTerm program.now.sig (top_of program.now))
-        (D.told desk.old) name.now TERM_LIMIT (D.read_faults desk.old) (D.read_faults desk.new)) }
-    ensures counts { D.read_faults desk.old ≤ D.read_faults desk.new }
-    ensures writes { D.write_faults desk.new ≡ D.write_faults desk.old }
-    ensures files { KeepsFiles (D.told desk.old) (D.told desk.new) }
+        (D.state desk.old).told name.now TERM_LIMIT (D.state desk.old).read_faults
+        (D.state desk.new).read_faults) }
+    ensures counts { (D.state desk.old).read_faults ≤ (D.state desk.new).read_faults }
+    ensures writes { (D.state desk.new).write_faults ≡ (D.state desk.old).write_faults }
+    ensures files { KeepsFiles (D.state desk.old).told (D.state desk.new).told }
     ensures created { D.created desk.new ≡ D.created desk.old }
 {
     match read_file(alloc, desk, name, TERM_LIMIT) {

@@ -7,7 +7,8 @@ ghost use Rattle.run_loop.specs.RunEnds.{plain_run};
 ghost use Rattle.kore_prove.specs.ProofFiles.{PutsProof, PutsFront, HoldsCounted, MayHoldFront};
 ghost use Rattle.kore_prove.specs.ProofFiles.{HasWantedFront};
 ghost use Rattle.kore_prove.specs.ProofFiles.{KeepsOthersNow};
-ghost use Rattle.kore_prove.specs.ProvedRun.{HasWantedProof, KeepsOthers};
+ghost use Rattle.kore_prove.specs.ProvedRun.{HasWantedProof};
+ghost use Rattle.desk_io.specs.Told.{KeepsOthers};
 ghost use Rattle.kore_prove.specs.Requests.{request, bounds_of, IsWanted};
 ghost use Rattle.kore_prove.specs.Runnable.{IsRunnable};
 ghost use Rattle.kore_prove.specs.RunsDone.{HasLines};
@@ -35,17 +36,18 @@ pub fn made_lines<D: Desk>(
     ensures run { IfOk result (λ r. HasLines (bounds_of (request asked.now))
         (theory_of accepted.now.program) (plain_pattern accepted.now.start) (plain_run r.0)
         r.1.items) }
-    ensures proof { IfOk result
-        (λ r. HasWantedProof (request asked.now).proof (D.told desk.old) (D.told desk.new)
+    ensures proof { IfOk result (λ r. HasWantedProof (request asked.now).proof
+        (D.state desk.old).told (D.state desk.new).told
         (theory_of accepted.now.program) (plain_pattern accepted.now.start) (plain_run r.0)) }
     ensures front { OnErr result
-        (HasWantedFront (request asked.now).proof (D.told desk.old) (D.told desk.new)
+        (HasWantedFront (request asked.now).proof (D.state desk.old).told (D.state desk.new).told
         (theory_of accepted.now.program) (plain_pattern accepted.now.start)) }
     ensures failed { IsErrOf result DeskFault.Failed
-        → CountRose (D.write_faults desk.old) (D.write_faults desk.new) }
-    ensures files { KeepsOthers (IsWanted (request asked.now)) (D.told desk.old) (D.told desk.new) }
+        → CountRose (D.state desk.old).write_faults (D.state desk.new).write_faults }
+    ensures files { KeepsOthers (IsWanted (request asked.now)) (D.state desk.old).told
+        (D.state desk.new).told }
     ensures created { D.created desk.new ≡ D.created desk.old }
-    ensures reads { D.read_faults desk.new ≡ D.read_faults desk.old }
+    ensures reads { (D.state desk.new).read_faults ≡ (D.state desk.old).read_faults }
 {
     let bounds = Bounds {
         limit: asked.limit,
@@ -74,17 +76,19 @@ pub fn proved_lines<D: Desk>(
     ensures run { IfOk result (λ r. HasLines bounds
         (theory_of accepted.now.program) (plain_pattern accepted.now.start) (plain_run r.end)
         r.lines.items) }
-    ensures proof { IfOk result (λ r. HoldsCounted (D.told desk.old) (D.told desk.new) file.now
+    ensures proof { IfOk result (λ r. HoldsCounted
+        (D.state desk.old).told (D.state desk.new).told file.now
         (theory_of accepted.now.program) (plain_pattern accepted.now.start) (plain_run r.end)
         r.summary) }
-    ensures front { OnErr result (MayHoldFront (D.told desk.old) (D.told desk.new) file.now
+    ensures front { OnErr result (MayHoldFront
+        (D.state desk.old).told (D.state desk.new).told file.now
         (theory_of accepted.now.program) (plain_pattern accepted.now.start)) }
     ensures failed { IsErrOf result DeskFault.Failed
-        → CountRose (D.write_faults desk.old) (D.write_faults desk.new) }
-    ensures files { KeepsOthers (λ other. Some file.now ≡ Some other) (D.told desk.old)
-        (D.told desk.new) }
+        → CountRose (D.state desk.old).write_faults (D.state desk.new).write_faults }
+    ensures files { KeepsOthers (λ other. Some file.now ≡ Some other) (D.state desk.old).told
+        (D.state desk.new).told }
     ensures created { D.created desk.new ≡ D.created desk.old }
-    ensures reads { D.read_faults desk.new ≡ D.read_faults desk.old }
+    ensures reads { (D.state desk.new).read_faults ≡ (D.state desk.old).read_faults }
 {
     desk.create_file(file)?;
     proved_and_closed(alloc, desk, accepted, bounds)
@@ -102,17 +106,17 @@ fn proved_and_closed<D: Desk>(
     ensures run { IfOk result (λ r. HasLines bounds
         (theory_of accepted.now.program) (plain_pattern accepted.now.start) (plain_run r.end)
         r.lines.items) }
-    ensures proof { IfOk result (λ r. PutsProof (D.told desk.old) (D.told desk.new)
+    ensures proof { IfOk result (λ r. PutsProof (D.state desk.old).told (D.state desk.new).told
         (theory_of accepted.now.program) (plain_pattern accepted.now.start) (plain_run r.end)
         r.summary) }
-    ensures front { OnErr result (PutsFront (D.told desk.old) (D.told desk.new)
+    ensures front { OnErr result (PutsFront (D.state desk.old).told (D.state desk.new).told
         (theory_of accepted.now.program) (plain_pattern accepted.now.start)) }
-    ensures files { KeepsOthersNow (D.told desk.old) (D.told desk.new) }
+    ensures files { KeepsOthersNow (D.state desk.old).told (D.state desk.new).told }
     ensures failed { IsErrOf result DeskFault.Failed
-        → CountRose (D.write_faults desk.old) (D.write_faults desk.new) }
-    ensures counts { D.write_faults desk.old ≤ D.write_faults desk.new }
+        → CountRose (D.state desk.old).write_faults (D.state desk.new).write_faults }
+    ensures counts { (D.state desk.old).write_faults ≤ (D.state desk.new).write_faults }
     ensures created { IsFalse (D.created desk.new) }
-    ensures reads { D.read_faults desk.new ≡ D.read_faults desk.old }
+    ensures reads { (D.state desk.new).read_faults ≡ (D.state desk.old).read_faults }
 {
     let proved = proved_lines_of_run(alloc, desk, accepted, bounds);
     let closed = desk.close_file();

@@ -28,12 +28,13 @@ pub fn read_run<'a, D: Desk>(
     asked: &RunWords<'a>,
 ) -> Result<Accepted, End<'a>>
     ensures found { IfOk result (λ a. HoldsRun
-        (request asked.now) (D.told desk.old) (theory_of a.program) (plain_pattern a.start)) }
+        (request asked.now) (D.state desk.old).told (theory_of a.program) (plain_pattern a.start)) }
     ensures runnable { IfOk result IsRunnable }
     ensures cause { IfErr result (λ end. ReadCause (request asked.now)
-        (D.told desk.old) (D.read_faults desk.old) (D.read_faults desk.new) (plain_end end)) }
-    ensures writes { D.write_faults desk.new ≡ D.write_faults desk.old }
-    ensures files { KeepsFiles (D.told desk.old) (D.told desk.new) }
+        (D.state desk.old).told (D.state desk.old).read_faults (D.state desk.new).read_faults
+        (plain_end end)) }
+    ensures writes { (D.state desk.new).write_faults ≡ (D.state desk.old).write_faults }
+    ensures files { KeepsFiles (D.state desk.old).told (D.state desk.new).told }
     ensures created { D.created desk.new ≡ D.created desk.old }
 {
     let program = match read_program(alloc, desk, asked.definition) {

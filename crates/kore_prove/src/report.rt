@@ -62,13 +62,13 @@ pub fn write_end<'a>(fault: DeskFault) -> End<'a>
 /// Sends the line that states why a call ended. After an error some bytes from its front, perhaps
 /// none, are sent. It fails with `Failed` only if the sink counted a fault.
 pub fn send_report<E: Sink>(err: &mut E, end: &End<'_>) -> Result<(), DeskFault>
-    ensures sent { OnOk result
-        (Appends (E.bytes err.old) (E.bytes err.new) (report_line (plain_end end.now))) }
-    ensures prefix { OnErr result
-        (AppendsFront (E.bytes err.old) (E.bytes err.new) (report_line (plain_end end.now))) }
+    ensures sent { OnOk result (Appends
+        (E.state err.old).bytes (E.state err.new).bytes (report_line (plain_end end.now))) }
+    ensures prefix { OnErr result (AppendsFront
+        (E.state err.old).bytes (E.state err.new).bytes (report_line (plain_end end.now))) }
     ensures failed { IsErrOf result DeskFault.Failed
-        → CountRose (E.faults err.old) (E.faults err.new) }
-    ensures counts { E.faults err.old ≤ E.faults err.new }
+        → CountRose (E.state err.old).faults (E.state err.new).faults }
+    ensures counts { (E.state err.old).faults ≤ (E.state err.new).faults }
 {
     match end {
         End::OutOfMemory => send_pieces(err, &["kore_prove: out of memory\n"]),
@@ -86,13 +86,15 @@ pub fn send_report<E: Sink>(err: &mut E, end: &End<'_>) -> Result<(), DeskFault>
 
 /// Sends what was refused, the number of the refusal and the byte at which it is.
 fn send_refusal<E: Sink>(err: &mut E, what: &str, number: u8, byte: u32) -> Result<(), DeskFault>
-    ensures sent { OnOk result
-        (Appends (E.bytes err.old) (E.bytes err.new) (what.now ++ refusal number byte ++ 10 ∷ [])) }
+    ensures sent { OnOk result (Appends
+        (E.state err.old).bytes (E.state err.new).bytes
+        (what.now ++ refusal number byte ++ 10 ∷ [])) }
     ensures prefix { OnErr result (AppendsFront
-        (E.bytes err.old) (E.bytes err.new) (what.now ++ refusal number byte ++ 10 ∷ [])) }
+        (E.state err.old).bytes (E.state err.new).bytes
+        (what.now ++ refusal number byte ++ 10 ∷ [])) }
     ensures failed { IsErrOf result DeskFault.Failed
-        → CountRose (E.faults err.old) (E.faults err.new) }
-    ensures counts { E.faults err.old ≤ E.faults err.new }
+        → CountRose (E.state err.old).faults (E.state err.new).faults }
+    ensures counts { (E.state err.old).faults ≤ (E.state err.new).faults }
 {
     let mut numbers = Buffer::new();
     let mut bytes = Buffer::new();
@@ -111,12 +113,14 @@ fn send_refusal<E: Sink>(err: &mut E, what: &str, number: u8, byte: u32) -> Resu
 /// sent.
 pub fn send_pieces<E: Sink>(err: &mut E, pieces: &[&str]) -> Result<(), DeskFault>
     ensures sent { OnOk result (Appends
-        (E.bytes err.old) (E.bytes err.new) (flat_map (λ (p : Bor (List ℕ)). p.now) pieces.now)) }
+        (E.state err.old).bytes (E.state err.new).bytes
+        (flat_map (λ (p : Bor (List ℕ)). p.now) pieces.now)) }
     ensures prefix { OnErr result (AppendsFront
-        (E.bytes err.old) (E.bytes err.new) (flat_map (λ (p : Bor (List ℕ)). p.now) pieces.now)) }
+        (E.state err.old).bytes (E.state err.new).bytes
+        (flat_map (λ (p : Bor (List ℕ)). p.now) pieces.now)) }
     ensures failed { IsErrOf result DeskFault.Failed
-        → CountRose (E.faults err.old) (E.faults err.new) }
-    ensures counts { E.faults err.old ≤ E.faults err.new }
+        → CountRose (E.state err.old).faults (E.state err.new).faults }
+    ensures counts { (E.state err.old).faults ≤ (E.state err.new).faults }
 {
     for piece in pieces {
         send_whole(err, piece.as_bytes())?;

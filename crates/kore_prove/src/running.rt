@@ -70,16 +70,17 @@ pub fn proved_lines_of_run<D: Desk>(
     ensures run { IfOk result (λ r. HasLines bounds
         (theory_of accepted.now.program) (plain_pattern accepted.now.start) (plain_run r.end)
         r.lines.items) }
-    ensures justified { IfOk result (λ r. WritesProof (D.told desk.old) (D.told desk.new)
+    ensures justified { IfOk result (λ r. WritesProof
+        (D.state desk.old).told (D.state desk.new).told
         (theory_of accepted.now.program) (plain_pattern accepted.now.start) (plain_run r.end)
         r.summary) }
-    ensures front { OnErr result (WritesFrontOfProof (D.told desk.old) (D.told desk.new)
+    ensures front { OnErr result (WritesFrontOfProof (D.state desk.old).told (D.state desk.new).told
         (theory_of accepted.now.program) (plain_pattern accepted.now.start)) }
     ensures created { IsTrue (D.created desk.new) }
     ensures failed { IsErrOf result DeskFault.Failed
-        → CountRose (D.write_faults desk.old) (D.write_faults desk.new) }
-    ensures counts { D.write_faults desk.old ≤ D.write_faults desk.new }
-    ensures reads { D.read_faults desk.new ≡ D.read_faults desk.old }
+        → CountRose (D.state desk.old).write_faults (D.state desk.new).write_faults }
+    ensures counts { (D.state desk.old).write_faults ≤ (D.state desk.new).write_faults }
+    ensures reads { (D.state desk.new).read_faults ≡ (D.state desk.old).read_faults }
 {
     shown_laws();
     let engine = Engine::new(&accepted.program);

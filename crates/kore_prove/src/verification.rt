@@ -4,7 +4,8 @@ ghost use Rattle.desk_io.specs.Told.{KeepsFiles};
 ghost use Rattle.desk_io.specs.Sent.{Appends, AppendsFront};
 ghost use Rattle.desk_io.specs.Counts.{CountRose};
 ghost use Rattle.kore_prove.specs.FileCauses.{UnreadCause};
-ghost use Rattle.kore_prove.specs.Causes.{IoState, VerifyCause, KeepsOutput};
+ghost use Rattle.kore_prove.specs.Causes.{VerifyCause, KeepsOutput};
+ghost use Rattle.kore_prove.specs.Courses.{Course, course_of};
 ghost use Rattle.kore_prove.specs.Limits.{database_limit};
 ghost use Rattle.kore_prove.specs.PlainEnds.{plain_end};
 ghost use Rattle.kore_prove.specs.DatabaseVerdicts.{IsVerdictOn, HoldsDatabase, PrintsVerdictOn};
@@ -50,22 +51,13 @@ pub fn verify_command<'a, D: Desk, O: Sink>(
     out: &mut O,
 ) -> Result<Verdict, End<'a>>
     ensures printed { IfOk result (PrintsVerdictOn
-        file.now (D.told desk.old) (O.bytes out.old) (O.bytes out.new)) }
-    ensures cause { IfErr result (λ end. VerifyCause file.now (record {
-      told = D.told desk.old;
-      told' = D.told desk.new;
-      reads = D.read_faults desk.old;
-      reads' = D.read_faults desk.new;
-      files = D.write_faults desk.old;
-      files' = D.write_faults desk.new;
-      writes = O.faults out.old;
-      writes' = O.faults out.new;
-      output = O.bytes out.old;
-      output' = O.bytes out.new;
-    }) (plain_end end)) }
+        file.now (D.state desk.old).told (O.state out.old).bytes (O.state out.new).bytes) }
+    ensures cause { IfErr result (λ end. VerifyCause file.now (course_of
+        (D.state desk.old) (D.state desk.new) (O.state out.old) (O.state out.new))
+        (plain_end end)) }
     ensures output { IfErr result (λ end.
-        KeepsOutput (plain_end end) (O.bytes out.old) (O.bytes out.new)) }
-    ensures files { KeepsFiles (D.told desk.old) (D.told desk.new) }
+        KeepsOutput (plain_end end) (O.state out.old).bytes (O.state out.new).bytes) }
+    ensures files { KeepsFiles (D.state desk.old).told (D.state desk.new).told }
     ensures created { D.created desk.new ≡ D.created desk.old }
 {
     let verdict = match read_verdict(alloc, desk, file) {
@@ -81,11 +73,11 @@ pub fn verify_command<'a, D: Desk, O: Sink>(
 
 /// The verdict on the database in the file of that name.
 fn read_verdict<D: Desk>(alloc: Global, desk: &mut D, name: &str) -> Result<Verdict, ReadEnd>
-    ensures found { IfOk result (HoldsDatabase (D.told desk.old) name.now) }
+    ensures found { IfOk result (HoldsDatabase (D.state desk.old).told name.now) }
     ensures cause { IfErr result (UnreadCause
-        (D.told desk.old) name.now DATABASE_LIMIT (D.read_faults desk.old)
-        (D.read_faults desk.new)) }
-    ensures files { KeepsFiles (D.told desk.old) (D.told desk.new) }
+        (D.state desk.old).told name.now DATABASE_LIMIT (D.state desk.old).read_faults
+        (D.state desk.new).read_faults) }
+    ensures files { KeepsFiles (D.state desk.old).told (D.state desk.new).told }
     ensures created { D.created desk.new ≡ D.created desk.old }
 {
     match read_file(alloc, desk, name, DATABASE_LIMIT) {
@@ -112,7 +104,8 @@ fn verdict_on(alloc: Global, bytes: &[u8]) -> Result<Verdict, AllocError>
 
 /// The end of a call whose file was not read as a whole.
 fn unread_end(end: ReadEnd, name: &str) -> End<'_>
-    ensures cause { (c : IoState) → UnreadCause c.told name.now database_limit c.reads c.reads' end
+    ensures cause { (c : Course) → UnreadCause c.desk.told name.now database_limit
+        c.desk.read_faults c.desk'.read_faults end
         → VerifyCause name.now c (plain_end result) }
     ensures output { (output : Option (List ℕ)) → KeepsOutput (plain_end result) output output }
 {
@@ -128,11 +121,11 @@ fn unread_end(end: ReadEnd, name: &str) -> End<'_>
 /// It fails with `Failed` only if the sink counted a fault.
 fn send_verdict<O: Sink>(out: &mut O, verdict: &Verdict) -> Result<(), DeskFault>
     ensures sent { OnOk result
-        (Appends (O.bytes out.old) (O.bytes out.new) (verdict_line verdict.now)) }
+        (Appends (O.state out.old).bytes (O.state out.new).bytes (verdict_line verdict.now)) }
     ensures prefix { OnErr result
-        (AppendsFront (O.bytes out.old) (O.bytes out.new) (verdict_line verdict.now)) }
+        (AppendsFront (O.state out.old).bytes (O.state out.new).bytes (verdict_line verdict.now)) }
     ensures failed { IsErrOf result DeskFault.Failed
-        → CountRose (O.faults out.old) (O.faults out.new) }
+        → CountRose (O.state out.old).faults (O.state out.new).faults }
 {
     match verdict {
         Verdict::Valid(report) => send_valid(out, report.axioms, report.theorems),
@@ -143,11 +136,11 @@ fn send_verdict<O: Sink>(out: &mut O, verdict: &Verdict) -> Result<(), DeskFault
 /// Sends the line of a valid database.
 fn send_valid<O: Sink>(out: &mut O, axioms: u64, theorems: u64) -> Result<(), DeskFault>
     ensures sent { OnOk result
-        (Appends (O.bytes out.old) (O.bytes out.new) (valid_line axioms theorems)) }
+        (Appends (O.state out.old).bytes (O.state out.new).bytes (valid_line axioms theorems)) }
     ensures prefix { OnErr result
-        (AppendsFront (O.bytes out.old) (O.bytes out.new) (valid_line axioms theorems)) }
+        (AppendsFront (O.state out.old).bytes (O.state out.new).bytes (valid_line axioms theorems)) }
     ensures failed { IsErrOf result DeskFault.Failed
-        → CountRose (O.faults out.old) (O.faults out.new) }
+        → CountRose (O.state out.old).faults (O.state out.new).faults }
 {
     let mut first = Buffer::new();
     let mut second = Buffer::new();
@@ -164,11 +157,11 @@ fn send_valid<O: Sink>(out: &mut O, axioms: u64, theorems: u64) -> Result<(), De
 /// Sends the line of a database with this first fault.
 fn send_invalid<O: Sink>(out: &mut O, kind: u8, byte: usize) -> Result<(), DeskFault>
     ensures sent { OnOk result
-        (Appends (O.bytes out.old) (O.bytes out.new) (invalid_line kind byte)) }
+        (Appends (O.state out.old).bytes (O.state out.new).bytes (invalid_line kind byte)) }
     ensures prefix { OnErr result
-        (AppendsFront (O.bytes out.old) (O.bytes out.new) (invalid_line kind byte)) }
+        (AppendsFront (O.state out.old).bytes (O.state out.new).bytes (invalid_line kind byte)) }
     ensures failed { IsErrOf result DeskFault.Failed
-        → CountRose (O.faults out.old) (O.faults out.new) }
+        → CountRose (O.state out.old).faults (O.state out.new).faults }
 {
     let mut first = Buffer::new();
     let mut second = Buffer::new();

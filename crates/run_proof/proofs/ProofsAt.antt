@@ -29,7 +29,8 @@ use Rattle.run_proof.specs.declared.steps.StepResult.TheVariants as going
 use Rattle.run_proof.specs.ProvedSteps.{IsProofAt, IsProvedRun, IsLeftOf, JustifiesNoStep, BeginsAt}
 use Rattle.run_proof.specs.ProvedSteps.{BeginsRun, ContinuesRun, IsFurther}
 use Rattle.run_proof.specs.WrittenPieces.{SumsUp}
-use Rattle.desk_io.specs.Told.{Told, TellsCreated, Writes, WritesFront}
+use Rattle.desk_io.specs.Told.{Told}
+use Rattle.desk_io.specs.Changes.{TellsCreated, Writes, WritesFront}
 use Rattle.desk_io.proofs.Told.{Writes-nil, Writes-then}
 use Rattle.rule_core.specs.Runs.{Run, kept_by}
 use Rattle.run_proof.specs.WrittenProofs.{IsSummaryOf, WritesFrontOfProof, WritesProof}

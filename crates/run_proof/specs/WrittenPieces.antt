@@ -1,6 +1,7 @@
 -- The text of a proof, piece by piece. Only clauses of private functions cite it.
 use Rattle.std.specs.Prelude.{◌≡◌, ℕ, ◌+◌, List, ◌++◌, length, Option}
-use Rattle.desk_io.specs.Told.{Told, Writes}
+use Rattle.desk_io.specs.Told.{Told}
+use Rattle.desk_io.specs.Changes.{Writes}
 use Rattle.mm_justify.specs.Counting.{capped}
 use Rattle.run_proof.specs.declared.summaries.Summary.{Summary}
 

@@ -1,10 +1,11 @@
 -- What a proved run writes to the created file of a desk.
 use Rattle.std.specs.Prelude.{◌≡◌, ℕ, List, [], ◌++◌, length, ◌⊎◌, Option}
-use Rattle.desk_io.specs.Told.{Told, Writes}
+use Rattle.desk_io.specs.Told.{Told}
+use Rattle.desk_io.specs.Changes.{Writes}
 use Rattle.term_core.specs.Patterns.{Pattern}
 use Rattle.rule_core.specs.Theories.{RewriteTheory}
 use Rattle.rule_core.specs.Runs.{Run, kept_by}
-use Rattle.mm_justify.specs.Justifying.{JustifiesRun}
+use Rattle.mm_justify.specs.Justifying.{JustifiesRun, IsFrontOfProof}
 use Rattle.mm_justify.specs.Counting.{HasCounts, capped}
 use Rattle.run_proof.specs.declared.summaries.Summary.{Summary}
 
@@ -21,13 +22,7 @@ WritesProof old new theory start run summary =
     (text : List ℕ) × Writes old new text × JustifiesRun text theory start (kept_by start run)
     × IsSummaryOf text summary
 
--- the bytes are the front of a database that justifies a run from the initial term to some
--- configuration
-abbrev pub IsFrontOfProof : RewriteTheory → Pattern → List ℕ → Type 0
-IsFrontOfProof theory start bytes =
-    (end : Pattern) × ((rest : List ℕ) × JustifiesRun (bytes ++ rest) theory start end)
-
--- the created file grew by such bytes, or by nothing
+-- the created file grew by the front of a database that justifies a run, or by nothing
 abbrev pub WritesFrontOfProof : Option Told → Option Told → RewriteTheory → Pattern → Type 0
 WritesFrontOfProof old new theory start =
     (bytes : List ℕ) × Writes old new bytes × ((bytes ≡ []) ⊎ IsFrontOfProof theory start bytes)

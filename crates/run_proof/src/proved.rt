@@ -46,15 +46,16 @@ pub fn proved_run<'p, D: Desk>(
         (λ r.
         IsRunOf (theory_of engine.now) limit calls (plain_pattern start.now) (plain_run r.0)) }
     ensures sorted { IfOk result (λ r. IsSortedEnd (theory_of engine.now) (plain_run r.0)) }
-    ensures justified { IfOk result (λ r. WritesProof (D.told desk.old) (D.told desk.new)
+    ensures justified { IfOk result (λ r. WritesProof
+        (D.state desk.old).told (D.state desk.new).told
         (theory_of engine.now) (plain_pattern start.now) (plain_run r.0) r.1) }
-    ensures front { OnErr result (WritesFrontOfProof (D.told desk.old) (D.told desk.new)
+    ensures front { OnErr result (WritesFrontOfProof (D.state desk.old).told (D.state desk.new).told
         (theory_of engine.now) (plain_pattern start.now)) }
     ensures created { IsTrue (D.created desk.new) }
     ensures failed { IsErrOf result DeskFault.Failed
-        → CountRose (D.write_faults desk.old) (D.write_faults desk.new) }
-    ensures counts { D.write_faults desk.old ≤ D.write_faults desk.new }
-    ensures reads { D.read_faults desk.new ≡ D.read_faults desk.old }
+        → CountRose (D.state desk.old).write_faults (D.state desk.new).write_faults }
+    ensures counts { (D.state desk.old).write_faults ≤ (D.state desk.new).write_faults }
+    ensures reads { (D.state desk.new).read_faults ≡ (D.state desk.old).read_faults }
 {
     let mut steps = match proved_beginning(alloc, engine, start, calls)? {
         StartResult::Begun(steps) => steps,

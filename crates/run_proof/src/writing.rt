@@ -1,6 +1,6 @@
 // The text of a proof, appended to the created file.
 ghost use Rattle.std.specs.Prelude.{◌≡◌, ◌≤◌, IsTrue, IfOk, OnOk, OnErr, IsErrOf};
-ghost use Rattle.desk_io.specs.Told.{Writes, WritesFront};
+ghost use Rattle.desk_io.specs.Changes.{Writes, WritesFront};
 ghost use Rattle.desk_io.specs.Counts.{CountRose};
 ghost use Rattle.rule_core.specs.Runs as the_run;
 ghost use Rattle.run_loop.specs.RunEnds.{plain_run};
@@ -17,14 +17,15 @@ const PIECE: usize = 65_536;
 /// Writes the text if it is long, and then empties it. Returns how many bytes were written.
 pub(crate) fn hand_on<D: Desk>(desk: &mut D, text: &mut Vec<u8>) -> Result<u64, DeskFault>
     requires file { IsTrue (D.created desk.old) }
-    ensures piece { IfOk result
-        (WritesPiece (D.told desk.old) (D.told desk.new) text.old.items text.new.items) }
-    ensures front { OnErr result (WritesFront (D.told desk.old) (D.told desk.new) text.old.items) }
+    ensures piece { IfOk result (WritesPiece
+        (D.state desk.old).told (D.state desk.new).told text.old.items text.new.items) }
+    ensures front { OnErr result
+        (WritesFront (D.state desk.old).told (D.state desk.new).told text.old.items) }
     ensures created { IsTrue (D.created desk.new) }
     ensures failed { IsErrOf result DeskFault.Failed
-        → CountRose (D.write_faults desk.old) (D.write_faults desk.new) }
-    ensures counts { D.write_faults desk.old ≤ D.write_faults desk.new }
-    ensures reads { D.read_faults desk.new ≡ D.read_faults desk.old }
+        → CountRose (D.state desk.old).write_faults (D.state desk.new).write_faults }
+    ensures counts { (D.state desk.old).write_faults ≤ (D.state desk.new).write_faults }
+    ensures reads { (D.state desk.new).read_faults ≡ (D.state desk.old).read_faults }
 {
     let length = text.len();
     if length < PIECE {
@@ -46,14 +47,15 @@ pub(crate) fn ended<D: Desk>(
     ensures end { IfOk result (λ r. r.0 ≡ end) }
     ensures sums { IfOk result
         (λ r. SumsUp left.now.facts left.now.statements written left.now.text.items r.1) }
-    ensures text { OnOk result (Writes (D.told desk.old) (D.told desk.new) left.now.text.items) }
+    ensures text { OnOk result
+        (Writes (D.state desk.old).told (D.state desk.new).told left.now.text.items) }
     ensures front { OnErr result
-        (WritesFront (D.told desk.old) (D.told desk.new) left.now.text.items) }
+        (WritesFront (D.state desk.old).told (D.state desk.new).told left.now.text.items) }
     ensures created { IsTrue (D.created desk.new) }
     ensures failed { IsErrOf result DeskFault.Failed
-        → CountRose (D.write_faults desk.old) (D.write_faults desk.new) }
-    ensures counts { D.write_faults desk.old ≤ D.write_faults desk.new }
-    ensures reads { D.read_faults desk.new ≡ D.read_faults desk.old }
+        → CountRose (D.state desk.old).write_faults (D.state desk.new).write_faults }
+    ensures counts { (D.state desk.old).write_faults ≤ (D.state desk.new).write_faults }
+    ensures reads { (D.state desk.new).read_faults ≡ (D.state desk.old).read_faults }
 {
     write_whole(desk, &left.text)?;
     let summary = Summary {
@@ -76,14 +78,15 @@ pub(crate) fn at_limit<D: Desk>(
     ensures sums { IfOk result (λ r.
         SumsUp steps.entry.proof.facts steps.entry.proof.statements written steps.entry.text.items
         r.1) }
-    ensures text { OnOk result (Writes (D.told desk.old) (D.told desk.new) steps.entry.text.items) }
+    ensures text { OnOk result
+        (Writes (D.state desk.old).told (D.state desk.new).told steps.entry.text.items) }
     ensures front { OnErr result
-        (WritesFront (D.told desk.old) (D.told desk.new) steps.entry.text.items) }
+        (WritesFront (D.state desk.old).told (D.state desk.new).told steps.entry.text.items) }
     ensures created { IsTrue (D.created desk.new) }
     ensures failed { IsErrOf result DeskFault.Failed
-        → CountRose (D.write_faults desk.old) (D.write_faults desk.new) }
-    ensures counts { D.write_faults desk.old ≤ D.write_faults desk.new }
-    ensures reads { D.read_faults desk.new ≡ D.read_faults desk.old }
+        → CountRose (D.state desk.old).write_faults (D.state desk.new).write_faults }
+    ensures counts { (D.state desk.old).write_faults ≤ (D.state desk.new).write_faults }
+    ensures reads { (D.state desk.new).read_faults ≡ (D.state desk.old).read_faults }
 {
     let ProvedSteps { run, proof, text } = steps;
     let last = run.config().share()?;

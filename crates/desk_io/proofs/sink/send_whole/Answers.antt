@@ -15,7 +15,8 @@ loop-at-preserved g c = record {
 
 pub returns-in_err-at-clause-prefix : goal.returns-in_err-at-clause-prefix
 returns-in_err-at-clause-prefix g c =
-    let front : AppendsFront (g.S.Sink.bytes c.args.sink.now) (g.S.Sink.bytes c.write.new.self)
+    let front : AppendsFront (g.S.Sink.state c.args.sink.now).bytes
+    (g.S.Sink.state c.write.new.self).bytes
     c.args.bytes.now =
     Appends-fault _ _ _ c.args.bytes.now c.loop-at.at c.loop-at.invariant.appends
     c.in_err-at.ensures.fault in

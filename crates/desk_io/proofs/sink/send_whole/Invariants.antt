@@ -5,8 +5,9 @@ use Rattle.desk_io.proofs.sink.send_whole.Given as goal
 abbrev pub invariant-loop-at : goal.invariant-loop-at
 invariant-loop-at g l = record {
   within : l.at ≤ length l.bytes;
-  appends : Appends (g.S.Sink.bytes l.initial.sink) (g.S.Sink.bytes l.sink) (take l.at l.bytes);
-  counts : g.S.Sink.faults l.initial.sink ≤ g.S.Sink.faults l.sink;
+  appends : Appends (g.S.Sink.state l.initial.sink).bytes (g.S.Sink.state l.sink).bytes
+      (take l.at l.bytes);
+  counts : (g.S.Sink.state l.initial.sink).faults ≤ (g.S.Sink.state l.sink).faults;
 }
 
 abbrev pub decreases-loop-at : goal.decreases-loop-at

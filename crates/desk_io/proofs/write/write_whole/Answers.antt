@@ -1,6 +1,6 @@
 use Rattle.std.proofs.Common.{rules, ℕ, ◌∙◌, arith, length-drop, refl}
 use Rattle.std.proofs.lemmas.List.{length-take}
-use Rattle.desk_io.specs.Told.{WritesFront}
+use Rattle.desk_io.specs.Changes.{WritesFront}
 use Rattle.desk_io.proofs.Told.{Writes-nil, Writes-more, Writes-fault}
 use Rattle.desk_io.proofs.write.write_whole.Goals as goal
 
@@ -26,7 +26,8 @@ loop-at-preserved g c = record {
 
 pub returns-in_err-at-clause-prefix : goal.returns-in_err-at-clause-prefix
 returns-in_err-at-clause-prefix g c =
-    let front : WritesFront (g.D.Desk.told c.args.desk.now) (g.D.Desk.told c.write.new.self)
+    let front : WritesFront (g.D.Desk.state c.args.desk.now).told
+    (g.D.Desk.state c.write.new.self).told
     c.args.bytes.now =
     Writes-fault _ _ _ c.args.bytes.now c.loop-at.at c.loop-at.invariant.writes
     c.in_err-at.ensures.fault in

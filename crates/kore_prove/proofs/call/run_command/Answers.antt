@@ -13,17 +13,17 @@ use Rattle.kore_prove.proofs.call.run_command.Goals as goal
 pub returns-in-Err-made_lines-clause-ended : goal.returns-in-Err-made_lines-clause-ended
 returns-in-Err-made_lines-clause-ended g c =
     write_ended (request c.args.asked.now) _ _ c.in-Err-made_lines.fault
-    (g.D.Desk.told c.read_run.new.desk) (theory_of c.in-Ok.accepted.program)
+    (g.D.Desk.state c.read_run.new.desk).told (theory_of c.in-Ok.accepted.program)
     (plain_pattern c.in-Ok.accepted.start)
     c.write_end.ensures c.in-Ok.ensures.found c.in-Ok.ensures.files
     c.in-Err-made_lines.ensures.front c.in-Err-made_lines.ensures.files
     (λ is. inr (rose_files _ _ _ c.in-Ok.ensures.writes
     (c.in-Err-made_lines.ensures.failed (ap (λ (f : DeskFault). Err f) is))))
-    (same_grows (g.O.Sink.bytes c.args.out.now))
+    (same_grows (g.O.Sink.state c.args.out.now).bytes)
 
 pub returns-in-Ok-send_whole-clause-done : goal.returns-in-Ok-send_whole-clause-done
 returns-in-Ok-send_whole-clause-done g c =
-    run_done (request c.args.asked.now) _ (g.D.Desk.told c.read_run.new.desk)
+    run_done (request c.args.asked.now) _ (g.D.Desk.state c.read_run.new.desk).told
     (theory_of c.in-Ok.accepted.program) (plain_pattern c.in-Ok.accepted.start)
     (plain_run c.in-Ok-made_lines.made.0) c.in-Ok-made_lines.made.1.items
     c.in-Ok.ensures.found c.in-Ok.ensures.files c.in-Ok-made_lines.ensures.run
@@ -33,7 +33,7 @@ returns-in-Ok-send_whole-clause-done g c =
 pub returns-clause-ended : goal.returns-clause-ended
 returns-clause-ended g c =
     write_ended (request c.args.asked.now) _ _ c.in-Err-send_whole.fault
-    (g.D.Desk.told c.read_run.new.desk) (theory_of c.in-Ok.accepted.program)
+    (g.D.Desk.state c.read_run.new.desk).told (theory_of c.in-Ok.accepted.program)
     (plain_pattern c.in-Ok.accepted.start)
     c.write_end-in-Err-send_whole.ensures c.in-Ok.ensures.found c.in-Ok.ensures.files
     (proof_is_front (request c.args.asked.now).proof _ _ (theory_of c.in-Ok.accepted.program)

@@ -4,7 +4,7 @@ use Rattle.desk_io.specs.declared.desk.DeskFault.{DeskFault}
 use Rattle.term_core.specs.RulePatterns.{plain_pattern}
 use Rattle.rule_core.specs.ProgramView.{theory_of}
 use Rattle.run_loop.specs.RunEnds.{plain_run}
-use Rattle.kore_prove.specs.Causes.{IoState}
+use Rattle.kore_prove.specs.Courses.{Course, course_of}
 use Rattle.kore_prove.specs.Requests.{drill_request}
 use Rattle.kore_prove.proofs.Ending.{same_grows}
 use Rattle.kore_prove.proofs.FileProofs.{counted_front}
@@ -14,18 +14,9 @@ use Rattle.kore_prove.proofs.drilling.drill_command.Goals as goal
 
 pub returns-in-Err-clause-ended : goal.returns-in-Err-clause-ended
 returns-in-Err-clause-ended g c =
-    let course : IoState = record {
-      told = g.D.Desk.told c.args.desk.now;
-      told' = g.D.Desk.told c.args.desk.now;
-      reads = g.D.Desk.read_faults c.args.desk.now;
-      reads' = g.D.Desk.read_faults c.args.desk.now;
-      files = g.D.Desk.write_faults c.args.desk.now;
-      files' = g.D.Desk.write_faults c.args.desk.now;
-      writes = g.O.Sink.faults c.args.out.now;
-      writes' = g.O.Sink.faults c.args.out.now;
-      output = g.O.Sink.bytes c.args.out.now;
-      output' = g.O.Sink.bytes c.args.out.now;
-    } in
+    let course : Course =
+    course_of (g.D.Desk.state c.args.desk.now) (g.D.Desk.state c.args.desk.now)
+    (g.O.Sink.state c.args.out.now) (g.O.Sink.state c.args.out.now) in
     texts_ended (drill_request c.args.asked.now) course refl refl
 
 pub returns-in-Err-proved_lines-clause-ended : goal.returns-in-Err-proved_lines-clause-ended
@@ -35,7 +26,7 @@ returns-in-Err-proved_lines-clause-ended g c =
     c.write_end.ensures c.in-Ok.ensures.program c.in-Err-proved_lines.ensures.front
     c.in-Err-proved_lines.ensures.files
     (λ is. inr (c.in-Err-proved_lines.ensures.failed (ap (λ (f : DeskFault). Err f) is)))
-    (same_grows (g.O.Sink.bytes c.args.out.now))
+    (same_grows (g.O.Sink.state c.args.out.now).bytes)
 
 pub returns-in-Ok-send_lines-clause-done : goal.returns-in-Ok-send_lines-clause-done
 returns-in-Ok-send_lines-clause-done g c =

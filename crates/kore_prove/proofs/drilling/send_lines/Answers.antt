@@ -14,9 +14,9 @@ on_ok_more (Err e) P Q f h = tt
 
 pub returns-in-Ok-clause-sent : goal.returns-in-Ok-clause-sent
 returns-in-Ok-clause-sent g c =
-    let old = g.O.Sink.bytes c.args.out.now in
-    let mid = g.O.Sink.bytes c.send_whole.new.sink in
-    let new = g.O.Sink.bytes c.send_counts.new.out in
+    let old = (g.O.Sink.state c.args.out.now).bytes in
+    let mid = (g.O.Sink.state c.send_whole.new.sink).bytes in
+    let new = (g.O.Sink.state c.send_counts.new.out).bytes in
     let s = c.args.summary in
     let line : List ℕ = counts_line s.facts s.statements s.bytes in
     on_ok_more c.send_counts.result (Appends mid new line)
@@ -26,9 +26,9 @@ returns-in-Ok-clause-sent g c =
 
 pub returns-in-Ok-clause-prefix : goal.returns-in-Ok-clause-prefix
 returns-in-Ok-clause-prefix g c =
-    let old = g.O.Sink.bytes c.args.out.now in
-    let mid = g.O.Sink.bytes c.send_whole.new.sink in
-    let new = g.O.Sink.bytes c.send_counts.new.out in
+    let old = (g.O.Sink.state c.args.out.now).bytes in
+    let mid = (g.O.Sink.state c.send_whole.new.sink).bytes in
+    let new = (g.O.Sink.state c.send_counts.new.out).bytes in
     let s = c.args.summary in
     let line : List ℕ = counts_line s.facts s.statements s.bytes in
     on_err_more c.send_counts.result (AppendsFront mid new line)

@@ -1,9 +1,11 @@
+use Rattle.kore_prove.proofs.Ending.{same_files, same_grows}
+use Rattle.kore_prove.proofs.Answering.{memory_answered}
 use Rattle.kore_prove.proofs.in_out.exit_of_call.Goals as goal
 
-pub returns-clause-answered : goal.returns-clause-answered
-returns-clause-answered g c =
-    let main = c.kore_main-status.ensures in
-    rw c.from.ensures (record {
+pub returns-in-Ok-clause-answered : goal.returns-in-Ok-clause-answered
+returns-in-Ok-clause-answered g c =
+    let main = c.kore_main.ensures in
+    rw c.exit.ensures (record {
       printed_run = main.printed_run;
       proved_run = main.proved_run;
       proof_front = main.proof_front;
@@ -18,3 +20,8 @@ returns-clause-answered g c =
       others = main.others;
       files = main.files;
     })
+
+pub returns-in-Err-Memory-clause-unknown : goal.returns-in-Err-Memory-clause-unknown
+returns-in-Err-Memory-clause-unknown g c = λ is given.
+    rw c.exit-in-Err-Memory.ensures
+    (memory_answered _ _ (same_grows _) (same_files _) c.report.ensures)

@@ -13,9 +13,9 @@ if_ok (Err e) P Q f h = tt
 
 pub returns-clause-proof : goal.returns-clause-proof
 returns-clause-proof g c =
-    let old = g.D.Desk.told c.args.desk.now in
-    let made = g.D.Desk.told c.create_file.new.self in
-    let new = g.D.Desk.told c.proved_and_closed.new.desk in
+    let old = (g.D.Desk.state c.args.desk.now).told in
+    let made = (g.D.Desk.state c.create_file.new.self).told in
+    let new = (g.D.Desk.state c.proved_and_closed.new.desk).told in
     let theory = theory_of c.args.accepted.now.program in
     let start = plain_pattern c.args.accepted.now.start in
     if_ok c.proved_and_closed.result
@@ -26,18 +26,21 @@ returns-clause-proof g c =
 
 pub returns-clause-front : goal.returns-clause-front
 returns-clause-front g c =
-    let old = g.D.Desk.told c.args.desk.now in
-    let made = g.D.Desk.told c.create_file.new.self in
-    let new = g.D.Desk.told c.proved_and_closed.new.desk in
+    let old = (g.D.Desk.state c.args.desk.now).told in
+    let made = (g.D.Desk.state c.create_file.new.self).told in
+    let new = (g.D.Desk.state c.proved_and_closed.new.desk).told in
     let theory = theory_of c.args.accepted.now.program in
     let start = plain_pattern c.args.accepted.now.start in
     on_err_more c.proved_and_closed.result (PutsFront made new theory start)
     (MayHoldFront old new c.args.file.now theory start)
-    (λ h. created_front old made new c.args.file.now theory start c.in_ok-create_file.ensures.creates h)
+    (λ h. created_front old made new c.args.file.now theory start
+    c.in_ok-create_file.ensures.creates h)
     c.proved_and_closed.ensures.front
 
 pub returns-clause-files : goal.returns-clause-files
 returns-clause-files g c =
-    created_others (g.D.Desk.told c.args.desk.now) (g.D.Desk.told c.create_file.new.self)
-    (g.D.Desk.told c.proved_and_closed.new.desk) c.args.file.now c.in_ok-create_file.ensures.creates
+    created_others (g.D.Desk.state c.args.desk.now).told
+    (g.D.Desk.state c.create_file.new.self).told
+    (g.D.Desk.state c.proved_and_closed.new.desk).told c.args.file.now
+    c.in_ok-create_file.ensures.creates
     c.proved_and_closed.ensures.files

@@ -8,19 +8,21 @@ use Rattle.kore_prove.proofs.reading.read_run.Goals as goal
 
 pub returns-in-Err-clause-cause : goal.returns-in-Err-clause-cause
 returns-in-Err-clause-cause g c =
-    c.definition_end.ensures (request c.args.asked.now) (g.D.Desk.told c.args.desk.now)
-    (g.D.Desk.read_faults c.args.desk.now) (g.D.Desk.read_faults c.read_program.new.desk) refl
+    c.definition_end.ensures (request c.args.asked.now) (g.D.Desk.state c.args.desk.now).told
+    (g.D.Desk.state c.args.desk.now).read_faults
+    (g.D.Desk.state c.read_program.new.desk).read_faults refl
     c.in-Err.ensures.cause
 
 pub returns-in-Err-read_start-clause-cause : goal.returns-in-Err-read_start-clause-cause
 returns-in-Err-read_start-clause-cause g c =
     let theory = theory_of c.in-Ok.program in
     let top = top_of c.in-Ok.program in
-    let told = g.D.Desk.told c.args.desk.now in
-    let between = g.D.Desk.told c.read_program.new.desk in
-    c.term_end.ensures (request c.args.asked.now) told (g.D.Desk.read_faults c.args.desk.now)
-    (g.D.Desk.read_faults c.read_start.new.desk) theory top refl c.in-Ok.ensures.found
+    let told = (g.D.Desk.state c.args.desk.now).told in
+    let between = (g.D.Desk.state c.read_program.new.desk).told in
+    c.term_end.ensures (request c.args.asked.now) told (g.D.Desk.state c.args.desk.now).read_faults
+    (g.D.Desk.state c.read_start.new.desk).read_faults theory top refl c.in-Ok.ensures.found
     (FileCause-kept (IsRefusedTerm theory.sig top) told between _ _
-    (g.D.Desk.read_faults c.args.desk.now) (g.D.Desk.read_faults c.read_program.new.desk)
-    (g.D.Desk.read_faults c.read_start.new.desk) c.in-Err-read_start.end c.in-Ok.ensures.files
+    (g.D.Desk.state c.args.desk.now).read_faults
+    (g.D.Desk.state c.read_program.new.desk).read_faults
+    (g.D.Desk.state c.read_start.new.desk).read_faults c.in-Err-read_start.end c.in-Ok.ensures.files
     c.in-Ok.ensures.counts c.in-Err-read_start.ensures.cause)

@@ -6,7 +6,7 @@ use Rattle.kore_prove.proofs.report.send_pieces.Given as goal
 
 abbrev pub invariant-loop-piece : goal.invariant-loop-piece
 invariant-loop-piece g l = record {
-  appends : Appends (g.E.Sink.bytes l.initial.err) (g.E.Sink.bytes l.err)
+  appends : Appends (g.E.Sink.state l.initial.err).bytes (g.E.Sink.state l.err).bytes
       (flat_map (λ (piece : Bor (List ℕ)). piece.now) (take l.piece-index l.pieces));
-  counts : g.E.Sink.faults l.initial.err ≤ g.E.Sink.faults l.err;
+  counts : (g.E.Sink.state l.initial.err).faults ≤ (g.E.Sink.state l.err).faults;
 }

@@ -17,19 +17,22 @@ proved_run-requires-clause-names g c =
 
 pub returns-in_err-end-clause-front : goal.returns-in_err-end-clause-front
 returns-in_err-end-clause-front g c =
-    let old = g.D.Desk.told c.args.desk.now in
-    let new = g.D.Desk.told c.proved_run.new.desk in
+    let old = (g.D.Desk.state c.args.desk.now).told in
+    let new = (g.D.Desk.state c.proved_run.new.desk).told in
     let start = plain_pattern c.args.accepted.now.start in
     let p = err_from_is_err_and c.from_residual.result c.from_residual.ensures.1 in
-    rw p.1 (subst (λ (p : Program). WritesFrontOfProof old new (theory_of p) start) c.new-engine.ensures
+    rw p.1 (subst (λ (p : Program). WritesFrontOfProof old new (theory_of p) start)
+    c.new-engine.ensures
     c.in_err-end.ensures.front)
 
 pub returns-in_err-lines-clause-front : goal.returns-in_err-lines-clause-front
 returns-in_err-lines-clause-front g c =
-    let old = g.D.Desk.told c.args.desk.now in
-    let new = g.D.Desk.told c.proved_run.new.desk in
+    let old = (g.D.Desk.state c.args.desk.now).told in
+    let new = (g.D.Desk.state c.proved_run.new.desk).told in
     let start = plain_pattern c.args.accepted.now.start in
-    let p = err_from_is_err_and c.from_residual-in_err-lines.result c.from_residual-in_err-lines.ensures.1 in
-    rw p.1 (subst (λ (p : Program). WritesFrontOfProof old new (theory_of p) start) c.new-engine.ensures
+    let p = err_from_is_err_and c.from_residual-in_err-lines.result
+    c.from_residual-in_err-lines.ensures.1 in
+    rw p.1 (subst (λ (p : Program). WritesFrontOfProof old new (theory_of p) start)
+    c.new-engine.ensures
     (proof_written old new (theory_of c.new-engine.result) start (plain_run c.in_ok-end.end)
     c.in_ok-end.summary c.in_ok-end.ensures.justified))

@@ -1,6 +1,6 @@
 use Rattle.std.proofs.Common.{◌≡◌, ℕ, ◌+◌, [], ◌++◌, Result, Ok, Err, IfOk, refl, sym, ◌∙◌, ap}
 use Rattle.std.proofs.Common.{subst, arith, add-one}
-use Rattle.desk_io.specs.Told.{WritesFront}
+use Rattle.desk_io.specs.Changes.{WritesFront}
 use Rattle.desk_io.proofs.Told.{Writes-nil, Writes-then}
 use Rattle.term_core.specs.Terms.{Tree}
 use Rattle.term_core.specs.Patterns.{Pattern, ground_pattern}
@@ -35,7 +35,7 @@ proved_beginning-requires g c = record {
 
 pub returns-in_err-steps-clause-front : goal.returns-in_err-steps-clause-front
 returns-in_err-steps-clause-front g c =
-    let told = g.D.Desk.told c.args.desk.now in
+    let told = (g.D.Desk.state c.args.desk.now).told in
     on_err c.from_residual.result (WritesFrontOfProof told told (theory_of c.args.engine.now)
     (plain_pattern c.args.start.now)) (no_proof_written told (theory_of c.args.engine.now)
     (plain_pattern c.args.start.now)
@@ -44,23 +44,24 @@ returns-in_err-steps-clause-front g c =
 pub returns-in-Unstarted-clause-justified : goal.returns-in-Unstarted-clause-justified
 returns-in-Unstarted-clause-justified g c =
     let begun = rw c.in-Unstarted.is at c.in_ok-steps.ensures in
-    unstarted_proof plain_run c.ended.result _ (g.D.Desk.told c.args.desk.now)
-    (g.D.Desk.told c.ended.new.desk) c.args.engine.now (plain_pattern c.args.start.now)
+    unstarted_proof plain_run c.ended.result _ (g.D.Desk.state c.args.desk.now).told
+    (g.D.Desk.state c.ended.new.desk).told c.args.engine.now (plain_pattern c.args.start.now)
     c.in-Unstarted.left begun.1 refl c.ended.ensures.end c.ended.ensures.sums
     c.ended.ensures.text
 
 pub returns-in-Unstarted-clause-front : goal.returns-in-Unstarted-clause-front
 returns-in-Unstarted-clause-front g c =
     let begun = rw c.in-Unstarted.is at c.in_ok-steps.ensures in
-    let new = g.D.Desk.told c.ended.new.desk in
+    let new = (g.D.Desk.state c.ended.new.desk).told in
     on_err_more c.ended.result
-    (WritesFront (g.D.Desk.told c.args.desk.now) new c.in-Unstarted.left.text.items)
-    (WritesFrontOfProof (g.D.Desk.told c.args.desk.now) new (theory_of c.args.engine.now)
+    (WritesFront (g.D.Desk.state c.args.desk.now).told new c.in-Unstarted.left.text.items)
+    (WritesFrontOfProof (g.D.Desk.state c.args.desk.now).told new (theory_of c.args.engine.now)
     (plain_pattern c.args.start.now))
-    (λ front. front_of_proof (g.D.Desk.told c.args.desk.now) (g.D.Desk.told c.args.desk.now) new
+    (λ front. front_of_proof (g.D.Desk.state c.args.desk.now).told
+    (g.D.Desk.state c.args.desk.now).told new
     (theory_of c.args.engine.now) (plain_pattern c.args.start.now)
     (plain_pattern c.args.start.now) [] c.in-Unstarted.left.text.items
-    (Writes-nil (g.D.Desk.told c.args.desk.now)
+    (Writes-nil (g.D.Desk.state c.args.desk.now).told
     (rw c.requires.file at (g.met.D.Desk.tells_created c.args.desk.now)))
     front begun.1.justifies) c.ended.ensures.front
 
@@ -69,12 +70,12 @@ returns-in_err-further-clause-front g c =
     let before = c.loop-made.invariant.written in
     let s = c.loop-made.steps in
     on_err c.from_residual-in_err-further.result
-    (WritesFrontOfProof (g.D.Desk.told c.args.desk.now) (g.D.Desk.told c.loop-made.desk)
+    (WritesFrontOfProof (g.D.Desk.state c.args.desk.now).told (g.D.Desk.state c.loop-made.desk).told
     (theory_of c.args.engine.now) (plain_pattern c.args.start.now))
-    (front_of_proof (g.D.Desk.told c.args.desk.now) (g.D.Desk.told c.loop-made.desk)
-    (g.D.Desk.told c.loop-made.desk) (theory_of c.args.engine.now)
+    (front_of_proof (g.D.Desk.state c.args.desk.now).told (g.D.Desk.state c.loop-made.desk).told
+    (g.D.Desk.state c.loop-made.desk).told (theory_of c.args.engine.now)
     (plain_pattern c.args.start.now) (ground_pattern s.run.config) before.0 s.text.items
-    before.1 (none_front (g.D.Desk.told c.loop-made.desk) s.text.items
+    before.1 (none_front (g.D.Desk.state c.loop-made.desk).told s.text.items
     (rw c.loop-made.invariant.created at (g.met.D.Desk.tells_created c.loop-made.desk)))
     (justified c.args.engine.now (plain_pattern c.args.start.now) (ground_pattern s.run.config)
     (ground_pattern s.run.config) s.proof (before.0 ++ s.text.items) before.2.1 refl))
@@ -88,7 +89,7 @@ loop-made-init g c =
       reached = begun.0;
       written = (
         [],
-        Writes-nil (g.D.Desk.told c.args.desk.now)
+        Writes-nil (g.D.Desk.state c.args.desk.now).told
             (rw c.requires.file at (g.met.D.Desk.tells_created c.args.desk.now)),
         begun.1,
         refl,
@@ -106,8 +107,9 @@ loop-made-preserved g c =
       reached = one_more _ _ _ _ _ _ _ _ before.reached made.0;
       written = (
         before.written.0 ++ piece.0,
-        Writes-then (g.D.Desk.told c.args.desk.now) (g.D.Desk.told c.loop-made.desk)
-            (g.D.Desk.told c.hand_on.new.desk) before.written.0 piece.0 before.written.1 piece.1,
+        Writes-then (g.D.Desk.state c.args.desk.now).told (g.D.Desk.state c.loop-made.desk).told
+            (g.D.Desk.state c.hand_on.new.desk).told before.written.0 piece.0 before.written.1
+            piece.1,
         handed_on c.args.engine.now (plain_pattern c.args.start.now) before.written.0 piece.0
             c.in-Further.further (record c.in-Further.further { text = c.hand_on.new.text }) refl
             refl piece.2
@@ -122,8 +124,9 @@ pub returns-in-Stuck-clause-justified : goal.returns-in-Stuck-clause-justified
 returns-in-Stuck-clause-justified g c =
     let going = rw c.in-Stuck.is at c.in_ok-further.ensures in
     let before = c.loop-made.invariant.written in
-    left_proof plain_run c.ended-in-Stuck.result _ (g.D.Desk.told c.args.desk.now)
-    (g.D.Desk.told c.loop-made.desk) (g.D.Desk.told c.ended-in-Stuck.new.desk) c.args.engine.now
+    left_proof plain_run c.ended-in-Stuck.result _ (g.D.Desk.state c.args.desk.now).told
+    (g.D.Desk.state c.loop-made.desk).told (g.D.Desk.state c.ended-in-Stuck.new.desk).told
+    c.args.engine.now
     (plain_pattern c.args.start.now)
     before.0 c.loop-made.written c.loop-made.steps c.in-Stuck.left before.1 before.2 before.3
     going.2 (ap ground_pattern (sym going.1)) c.ended-in-Stuck.ensures.end
@@ -133,8 +136,9 @@ pub returns-in-Stuck-clause-front : goal.returns-in-Stuck-clause-front
 returns-in-Stuck-clause-front g c =
     let going = rw c.in-Stuck.is at c.in_ok-further.ensures in
     let before = c.loop-made.invariant.written in
-    on_err_front c.ended-in-Stuck.result (g.D.Desk.told c.args.desk.now)
-    (g.D.Desk.told c.loop-made.desk) (g.D.Desk.told c.ended-in-Stuck.new.desk) c.args.engine.now
+    on_err_front c.ended-in-Stuck.result (g.D.Desk.state c.args.desk.now).told
+    (g.D.Desk.state c.loop-made.desk).told (g.D.Desk.state c.ended-in-Stuck.new.desk).told
+    c.args.engine.now
     (plain_pattern c.args.start.now) before.0 c.in-Stuck.left.text.items c.loop-made.steps
     before.1 before.2 going.2.same_text c.ended-in-Stuck.ensures.front
 
@@ -142,8 +146,8 @@ pub returns-in-Blocked-clause-justified : goal.returns-in-Blocked-clause-justifi
 returns-in-Blocked-clause-justified g c =
     let going = rw c.in-Blocked.is at c.in_ok-further.ensures in
     let before = c.loop-made.invariant.written in
-    left_proof plain_run c.ended-in-Blocked.result _ (g.D.Desk.told c.args.desk.now)
-    (g.D.Desk.told c.loop-made.desk) (g.D.Desk.told c.ended-in-Blocked.new.desk)
+    left_proof plain_run c.ended-in-Blocked.result _ (g.D.Desk.state c.args.desk.now).told
+    (g.D.Desk.state c.loop-made.desk).told (g.D.Desk.state c.ended-in-Blocked.new.desk).told
     c.args.engine.now (plain_pattern c.args.start.now)
     before.0 c.loop-made.written c.loop-made.steps c.in-Blocked.left before.1 before.2 before.3
     going.2 (ap ground_pattern (sym going.1)) c.ended-in-Blocked.ensures.end
@@ -153,8 +157,8 @@ pub returns-in-Blocked-clause-front : goal.returns-in-Blocked-clause-front
 returns-in-Blocked-clause-front g c =
     let going = rw c.in-Blocked.is at c.in_ok-further.ensures in
     let before = c.loop-made.invariant.written in
-    on_err_front c.ended-in-Blocked.result (g.D.Desk.told c.args.desk.now)
-    (g.D.Desk.told c.loop-made.desk) (g.D.Desk.told c.ended-in-Blocked.new.desk)
+    on_err_front c.ended-in-Blocked.result (g.D.Desk.state c.args.desk.now).told
+    (g.D.Desk.state c.loop-made.desk).told (g.D.Desk.state c.ended-in-Blocked.new.desk).told
     c.args.engine.now (plain_pattern c.args.start.now) before.0 c.in-Blocked.left.text.items
     c.loop-made.steps before.1 before.2 going.2.same_text c.ended-in-Blocked.ensures.front
 
@@ -163,11 +167,12 @@ returns-in_err-handed-clause-front g c =
     let before = c.loop-made.invariant.written in
     let made = rw c.in-Further.is at c.in_ok-further.ensures in
     let s = c.in-Further.further in
-    on_err c.from_residual-in_err-handed.result (WritesFrontOfProof (g.D.Desk.told c.args.desk.now)
-    (g.D.Desk.told c.hand_on.new.desk) (theory_of c.args.engine.now)
+    on_err c.from_residual-in_err-handed.result (WritesFrontOfProof
+    (g.D.Desk.state c.args.desk.now).told
+    (g.D.Desk.state c.hand_on.new.desk).told (theory_of c.args.engine.now)
     (plain_pattern c.args.start.now))
-    (front_of_proof (g.D.Desk.told c.args.desk.now) (g.D.Desk.told c.loop-made.desk)
-    (g.D.Desk.told c.hand_on.new.desk) (theory_of c.args.engine.now)
+    (front_of_proof (g.D.Desk.state c.args.desk.now).told (g.D.Desk.state c.loop-made.desk).told
+    (g.D.Desk.state c.hand_on.new.desk).told (theory_of c.args.engine.now)
     (plain_pattern c.args.start.now) (ground_pattern s.run.config) before.0 s.text.items
     before.1 c.in_err-handed.ensures.front
     (justified c.args.engine.now (plain_pattern c.args.start.now) (ground_pattern s.run.config)
@@ -196,15 +201,16 @@ pub returns-clause-justified : goal.returns-clause-justified
 returns-clause-justified g c =
     let before = c.loop-made.invariant.written in
     ended_proof plain_run c.at_limit.result (limited c.args.limit c.loop-made.steps.run.config)
-    (g.D.Desk.told c.args.desk.now) (g.D.Desk.told c.loop-made.desk)
-    (g.D.Desk.told c.at_limit.new.desk) c.args.engine.now (plain_pattern c.args.start.now)
+    (g.D.Desk.state c.args.desk.now).told (g.D.Desk.state c.loop-made.desk).told
+    (g.D.Desk.state c.at_limit.new.desk).told c.args.engine.now (plain_pattern c.args.start.now)
     before.0 c.loop-made.written c.loop-made.steps before.1 before.2 before.3 refl
     c.at_limit.ensures.end c.at_limit.ensures.sums c.at_limit.ensures.text
 
 pub returns-clause-front : goal.returns-clause-front
 returns-clause-front g c =
     let before = c.loop-made.invariant.written in
-    on_err_front c.at_limit.result (g.D.Desk.told c.args.desk.now) (g.D.Desk.told c.loop-made.desk)
-    (g.D.Desk.told c.at_limit.new.desk) c.args.engine.now (plain_pattern c.args.start.now)
+    on_err_front c.at_limit.result (g.D.Desk.state c.args.desk.now).told
+    (g.D.Desk.state c.loop-made.desk).told
+    (g.D.Desk.state c.at_limit.new.desk).told c.args.engine.now (plain_pattern c.args.start.now)
     before.0 c.loop-made.steps.text.items c.loop-made.steps before.1 before.2 refl
     c.at_limit.ensures.front
