@@ -5,7 +5,7 @@ use Rattle.kore_prove.proofs.in_out.exit_of_call.Goals as goal
 pub returns-in-Ok-clause-answered : goal.returns-in-Ok-clause-answered
 returns-in-Ok-clause-answered g c =
     let main = c.kore_main.ensures in
-    rw c.exit.ensures (record {
+    rw (c.in-Ok.is, c.exit.ensures, ← c.deref.ensures.value) (record {
       printed_run = main.printed_run;
       proved_run = main.proved_run;
       proof_front = main.proof_front;
