@@ -35,10 +35,11 @@ macro_rules! row_table {
     };
 }
 
-/// The hooks, in order. The number of a hook is its index here.
-pub const HOOKS: [HookRow; 31] = table_rows!(row_table!());
+// The hooks, in order. Other crates read them by `hook_rows`.
+const HOOKS: [HookRow; 31] = table_rows!(row_table!());
 
-/// The rows of `HOOKS`. They are the rows of the definition, in its order.
+/// The hooks: the rows of the definition, in its order. The number of a hook is its index here. No
+/// two have the same name.
 pub fn hook_rows() -> &'static [HookRow]
     ensures rows { map plain_row result.now ≡ map signature hooks }
     ensures names { NamesDiffer }

@@ -1,5 +1,5 @@
 // Values at the ends of the range, and names.
-use hook_table::{HOOKS, ScalarKind, apply, find, fits};
+use hook_table::{ScalarKind, apply, find, fits, hook_rows};
 use std::test::Fail;
 use term_core::{HookNo, NoValue, Scalar};
 
@@ -181,7 +181,7 @@ fn refuses_what_is_no_row(rt: HostRuntime) -> Result<(), Fail> {
     ] {
         assert_eq!(rt; find(name.as_bytes()).map(|hook| hook.0), number, "{name}");
     }
-    assert_eq!(rt; HOOKS[7].result, ScalarKind::Bool);
+    assert_eq!(rt; hook_rows()[7].result, ScalarKind::Bool);
     assert!(rt; !fits(HookNo(0), &[Scalar::Int(1)]));
     assert!(rt; !fits(HookNo(22), &[Scalar::Int(1), Scalar::Int(1)]));
     assert!(rt; !fits(HookNo(31), &[Scalar::Int(1), Scalar::Int(1)]));
