@@ -17,7 +17,8 @@ use Rattle.kore_check.specs.Folds.{Unfolded, applied_symbol, Unfoldeds, no_more,
 use Rattle.kore_check.specs.Folds.{unfolded_byte, height, unfolded}
 use Rattle.kore_check.specs.PatternSorts.{symbol_named, result_sort, sort_of, places_of}
 use Rattle.kore_check.specs.PatternFaults.{clash_faults, has_no_kind, is_injection, symbol_faults}
-use Rattle.kore_check.specs.PatternFaults.{pattern_faults, argument_faults, most_height, all_faults}
+use Rattle.rule_core.specs.Evaluation.{most_height}
+use Rattle.kore_check.specs.PatternFaults.{pattern_faults, argument_faults, all_faults}
 use Rattle.kore_check.specs.ValueTexts.{integer_of_text}
 use Rattle.kore_axioms.specs.AxiomClasses.{class_of}
 use Rattle.kore_axioms.specs.RuleFaults.{faults_at_sort, sorted_faults, use_faults, FirstOfParts}

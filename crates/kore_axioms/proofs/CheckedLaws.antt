@@ -4,7 +4,6 @@ use Rattle.std.proofs.Common.{None, ⊎_elim, inl, inr, refl, ap, sym, ◌∙◌
 use Rattle.std.specs.Prelude.{Contains, not, option_map}
 use Rattle.kore_text.specs.Trees.{SortTree, AxiomDeclaration}
 use Rattle.term_core.specs.RulePatterns.{plain_pattern}
-use Rattle.rule_core.specs.Rules.{RewriteRule}
 use Rattle.rule_core.specs.ProgramView.{sorts_of}
 use Rattle.rule_core.specs.declared.rules.VarInfo.{VarInfo}
 use Rattle.rule_core.specs.declared.signature.Signature.{Signature}
@@ -12,7 +11,7 @@ use Rattle.kore_check.specs.Folds.{unfolded}
 use Rattle.kore_check.specs.PatternMeanings.{named_sorts, with_variables, Means}
 use Rattle.kore_shapes.specs.Shapes.{Rewriting}
 use Rattle.kore_axioms.specs.AxiomClasses.{rewrites, class_of}
-use Rattle.kore_axioms.specs.AxiomMeanings.{MeansTest, IsRuleOf}
+use Rattle.kore_axioms.specs.AxiomMeanings.{MeansTest, MeansNamedRule}
 use Rattle.kore_axioms.specs.Conditions.{tested}
 use Rattle.kore_axioms.specs.Priorities.{priority_of}
 use Rattle.kore_sig.specs.FirstFault.{Fault}
@@ -85,41 +84,41 @@ sorts_named (v ∷ vars) = ap (λ (ss : List ℕ). v.sort.0 ∷ ss) (sorts_named
 
 -- the patterns that are built of bound parts are the rule that the axiom means
 pub rule_meant : (sig : Signature) (a : AxiomDeclaration) (v : Rewriting) (made : RulePatterns)
-    (rule : RewriteRule) → class_of sig a ≡ rewrites v → IsBuiltOf sig (rule_parts sig v) made
-    → made.bound ≡ true
-    → rule
-    ≡ record {
-      left = plain_pattern made.left;
-      condition = option_map plain_pattern made.cond;
-      right = plain_pattern made.right;
-      variables = sorts_of made.vars.items;
-      priority = priority_of a.attributes;
-      place = a.at;
-    } → IsRuleOf sig a rule
-rule_meant sig a v made rule class b bound is =
-    subst (λ (r : RewriteRule). IsRuleOf sig a r) (sym is) (record {
-      shape = v;
-      class = class;
-      left = b.left;
-      is_left = b.is_left;
-      right = b.right;
-      is_right = b.is_right;
-      variables = with_variables sig [] (unfolded b.left);
-      numbered = refl;
-      means_left =
-          subst
-          (λ (vs : List (List ℕ × ℕ)). Means sig vs (unfolded b.left) (plain_pattern made.left))
-          (b.numbered bound) (b.means_left bound);
-      means_condition =
-          subst (λ (vs : List (List ℕ × ℕ)). MeansTest sig vs (tested (rule_parts sig v).condition)
-          (option_map plain_pattern made.cond)) (b.numbered bound)
-          (b.means_condition bound);
-      means_right =
-          subst (λ (vs : List (List ℕ × ℕ)).
-          Means sig vs (unfolded b.right) (plain_pattern made.right)) (b.numbered bound)
-          (b.means_right bound);
-      sorts =
-          sym (sorts_named made.vars.items) ∙ ap (map (λ (v : List ℕ × ℕ). v.1)) (b.numbered bound);
-      priority = refl;
-      place = refl;
+    (n : ℕ) → class_of sig a ≡ rewrites v → IsBuiltOf sig (rule_parts sig v) made
+    → made.bound ≡ true → n ≡ priority_of a.attributes
+    → MeansNamedRule sig a (record {
+      at = a.at;
+      left = made.left;
+      cond = made.cond;
+      right = made.right;
+      vars = made.vars;
+      priority = n;
     })
+rule_meant sig a v made n class b bound stated = record {
+  means = record {
+    shape = v;
+    class = class;
+    left = b.left;
+    is_left = b.is_left;
+    right = b.right;
+    is_right = b.is_right;
+    variables = with_variables sig [] (unfolded b.left);
+    numbered = refl;
+    means_left =
+        subst (λ (vs : List (List ℕ × ℕ)). Means sig vs (unfolded b.left) (plain_pattern made.left))
+        (b.numbered bound) (b.means_left bound);
+    means_condition =
+        subst (λ (vs : List (List ℕ × ℕ)). MeansTest sig vs (tested (rule_parts sig v).condition)
+        (option_map plain_pattern made.cond)) (b.numbered bound)
+        (b.means_condition bound);
+    means_right =
+        subst (λ (vs : List (List ℕ × ℕ)).
+        Means sig vs (unfolded b.right) (plain_pattern made.right)) (b.numbered bound)
+        (b.means_right bound);
+    sorts =
+        sym (sorts_named made.vars.items) ∙ ap (map (λ (v : List ℕ × ℕ). v.1)) (b.numbered bound);
+    priority = stated;
+    place = refl;
+  };
+  names = b.numbered bound;
+}

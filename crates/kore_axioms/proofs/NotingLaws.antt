@@ -7,7 +7,7 @@ use Rattle.kore_sig.specs.Noted.{noted, leads_by_byte}
 use Rattle.kore_check.specs.FaultNumbers.{plain_fault, IsFirstOf}
 use Rattle.kore_check.specs.declared.faults.PatternFault.{PatternFault}
 use Rattle.kore_check.proofs.NotedLaws.{left, noted-append, noted-first, first-one}
-use Rattle.kore_axioms.specs.Noting.{kept_fault, after}
+use Rattle.kore_check.specs.Notes.{kept_fault, after}
 use Rattle.kore_axioms.specs.RuleFaults.{is_empty}
 
 -- what the check of sorts says about the faults that it notes

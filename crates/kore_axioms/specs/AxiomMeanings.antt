@@ -2,10 +2,12 @@
 use Rattle.std.specs.Prelude.{◌≡◌, ℕ, List, [], map, Option, Some, None}
 use Rattle.kore_text.specs.Trees.{PatternTree, AxiomDeclaration}
 use Rattle.term_core.specs.Patterns.{Pattern}
+use Rattle.rule_core.specs.ProgramView.{rewrite_rule}
 use Rattle.rule_core.specs.Rules.{RewriteRule}
+use Rattle.rule_core.specs.declared.rules.Rule.{Rule}
 use Rattle.rule_core.specs.declared.signature.Signature.{Signature}
 use Rattle.kore_check.specs.Folds.{unfolded}
-use Rattle.kore_check.specs.PatternMeanings.{with_variables, Means}
+use Rattle.kore_check.specs.PatternMeanings.{named_sorts, with_variables, Means}
 use Rattle.kore_shapes.specs.Shapes.{Rewriting}
 use Rattle.kore_axioms.specs.AxiomClasses.{rewrites, class_of}
 use Rattle.kore_axioms.specs.Conditions.{tested}
@@ -27,7 +29,7 @@ MeansTest sig vars (Some b) (Some p) = Means sig vars (unfolded b) p
 
 -- The axiom is this rewrite rule. Its variables are those of the left side, in the order of their
 -- first occurrence.
-pub record IsRuleOf (sig : Signature) (a : AxiomDeclaration) (rule : RewriteRule) : Type 0 where
+pub record MeansRule (sig : Signature) (a : AxiomDeclaration) (rule : RewriteRule) : Type 0 where
   pub shape : Rewriting
   pub class : class_of sig a ≡ rewrites shape
   pub left : PatternTree
@@ -43,3 +45,8 @@ pub record IsRuleOf (sig : Signature) (a : AxiomDeclaration) (rule : RewriteRule
   pub sorts : rule.variables ≡ map (λ (v : List ℕ × ℕ). v.1) variables
   pub priority : rule.priority ≡ priority_of a.attributes
   pub place : rule.place ≡ a.at
+
+-- The axiom is this rule of a program. The rule's variables have their names in the axiom.
+pub record MeansNamedRule (sig : Signature) (a : AxiomDeclaration) (r : Rule) : Type 0 where
+  pub means : MeansRule sig a (rewrite_rule r)
+  pub names : named_sorts r.vars.items ≡ means.variables

@@ -15,5 +15,4 @@ pub mod ClassViews
 pub mod UsedSymbols
 -- Private: what clauses of private functions cite, and how private fields are seen.
 pub mod FoldUses
-pub mod Noting
 pub mod BuiltRules

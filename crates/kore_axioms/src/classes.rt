@@ -1,7 +1,7 @@
 // What an axiom is read as.
 ghost use Rattle.std.specs.Prelude.{◌≡◌, map, option_map, option_copied, is_some};
 ghost use Rattle.kore_ast.specs.Plain.{plain_sort, pattern_tree, plain_axiom_decl};
-ghost use Rattle.kore_sig.specs.Attributes.{is_said_ac as is_ac, subsort_sorts, stated_pair};
+ghost use Rattle.kore_sig.specs.Attributes.{subsort_sorts, stated_pair};
 ghost use Rattle.kore_check.specs.PatternSorts.{symbol_named};
 ghost use Rattle.kore_shapes.specs.Shapes.{rewriting as the_rewriting};
 ghost use Rattle.kore_shapes.specs.StatementViews.{plain_statement};
@@ -17,7 +17,7 @@ ghost use Rattle.kore_axioms.specs.ClassViews.{plain_class};
 use crate::faults::AxiomFault;
 use kore_ast::{AxiomDecl, Pat, PatForm, Sort, Text};
 use kore_shapes::{Rewriting, Statement, rewriting_at, statement_at};
-use kore_sig::has_attribute;
+use kore_sig::{has_attribute, is_said_ac};
 use rule_core::{Signature, SymInfo, SymKind};
 
 /// What an axiom is read as.
@@ -88,15 +88,6 @@ fn is_no_equation(attrs: &[Pat]) -> bool
     ensures { result ≡ is_surely_none (map pattern_tree attrs.now) }
 {
     has_attribute(attrs, "simplification") || is_said_ac(attrs)
-}
-
-fn is_said_ac(attrs: &[Pat]) -> bool
-    ensures { result ≡ is_ac (map pattern_tree attrs.now) }
-{
-    has_attribute(attrs, "assoc")
-        || has_attribute(attrs, "comm")
-        || has_attribute(attrs, "unit")
-        || has_attribute(attrs, "idem")
 }
 
 /// The declared symbol of this name. Returns none if no symbol of this name is declared.

@@ -3,7 +3,6 @@ ghost use Rattle.std.specs.Prelude.{◌≡◌, ◌&&◌, [], ℕ, None, map, opt
 ghost use Rattle.std.specs.Prelude.{IfSome};
 ghost use Rattle.kore_ast.specs.Plain.{plain_sort, plain_axiom_decl};
 ghost use Rattle.term_core.specs.RulePatterns.{plain_pattern};
-ghost use Rattle.rule_core.specs.ProgramView.{rewrite_rule};
 ghost use Rattle.rule_core.specs.WellSorted.{IsSignature};
 ghost use Rattle.kore_sig.specs.Signatures.{IsNumbered};
 ghost use Rattle.kore_check.specs.PatternFaults.{pattern_faults};
@@ -11,7 +10,8 @@ ghost use Rattle.kore_sig.specs.Noted.{first_by_number};
 ghost use Rattle.kore_check.specs.Folds.{unfolded, IsApplicative};
 ghost use Rattle.kore_shapes.specs.Views.{pattern_at, plain_rewriting};
 ghost use Rattle.kore_axioms.specs.AxiomClasses.{rewrites, class_of};
-ghost use Rattle.kore_axioms.specs.AxiomMeanings.{with_some_variables, MeansTest, IsRuleOf};
+ghost use Rattle.kore_axioms.specs.AxiomMeanings.{with_some_variables, MeansTest};
+ghost use Rattle.kore_axioms.specs.AxiomMeanings.{MeansNamedRule};
 ghost use Rattle.kore_axioms.specs.BuiltRules.{IsFine, IsBuiltOf, FirstOfShape};
 ghost use Rattle.kore_axioms.specs.Refusals.{Refuses};
 ghost use Rattle.kore_axioms.specs.Conditions.{tested as the_tested};
@@ -99,7 +99,7 @@ struct RulePatterns {
 
 /// The rewrite rule that an axiom of this shape means. `first` is the sort of the first rule of the
 /// definition, if there is one before this. The variables of the rule are those of its left side,
-/// in the order of their first occurrence.
+/// with their names, in the order of their first occurrence.
 ///
 /// Errors: the first fault of the form, or else of the sorts, or else of the uses of symbols and
 /// variables; or out of memory. It goes through the axiom a few times, with a look-up for each sort
@@ -119,8 +119,7 @@ pub fn checked_rule(
         (FirstOfRule sig.now (option_map (λ s. plain_sort s.now) first.entry)
         (plain_axiom_decl decl.now)
         (plain_rewriting rewriting.entry) None) }
-    ensures means { IfOk result
-        (λ rule. IsRuleOf sig.now (plain_axiom_decl decl.now) (rewrite_rule rule)) }
+    ensures means { IfOk result (MeansNamedRule sig.now (plain_axiom_decl decl.now)) }
     ensures refused { IfErr result
         (Refuses (FirstOfRule sig.now (option_map (λ s. plain_sort s.now) first.entry)
         (plain_axiom_decl decl.now)

@@ -14,7 +14,7 @@ ghost use Rattle.kore_axioms.specs.RuleFaults.{only_sort_faults};
 ghost use Rattle.kore_axioms.specs.RuleFaults.{is_empty, top_faults, found_top_faults};
 ghost use Rattle.kore_axioms.specs.RuleFaults.{sorted_faults};
 ghost use Rattle.kore_axioms.specs.Views.{plain_rule_parts};
-ghost use Rattle.kore_axioms.specs.Noting.{kept_fault, after, sort_of_id};
+ghost use Rattle.kore_check.specs.Notes.{kept_fault, after, sort_no};
 
 use crate::parts::RuleParts;
 use kore_ast::{Pat, PatForm, Sort};
@@ -50,7 +50,7 @@ fn note_at_sort(
 )
     requires { IsNumbered sig.now }
     ensures { kept_fault first.new
-        ≡ after first.old (faults_at_sort sig.now (option_map sort_of_id wanted)
+        ≡ after first.old (faults_at_sort sig.now (option_map sort_no wanted)
         (unfolded (pattern_tree pat.now))) }
 {
     let own = note_pattern(sig, pat, first);
@@ -90,7 +90,7 @@ fn note_side(
     requires { IsNumbered sig.now }
     ensures { kept_fault first.new
         ≡ after first.old
-        (side_faults sig.now (option_map sort_of_id wanted) (option_map pattern_at pat.entry)) }
+        (side_faults sig.now (option_map sort_no wanted) (option_map pattern_at pat.entry)) }
 {
     if let Some(pat) = pat {
         note_at_sort(sig, pat, wanted, first);
@@ -112,7 +112,7 @@ fn note_condition(sig: &Signature, condition: Condition<'_>, first: &mut Option<
 /// The number of a declared sort. Returns none for any other sort.
 fn sort_id(sig: &Signature, sort: &Sort) -> Option<SortId>
     requires { IsNumbered sig.now }
-    ensures { option_map sort_of_id result ≡ the_number sig.now.sorts (plain_sort sort.now) }
+    ensures { option_map sort_no result ≡ the_number sig.now.sorts (plain_sort sort.now) }
 {
     let number = sort_number(&sig.sorts, sort)?;
     Some(SortId(number as u32))
@@ -127,7 +127,7 @@ fn note_found_top(
 )
     requires { IsNumbered sig.now }
     ensures { kept_fault first.new
-        ≡ after first.old (found_top_faults sig.now (option_map sort_of_id wanted)
+        ≡ after first.old (found_top_faults sig.now (option_map sort_no wanted)
         (option_map pattern_at top.entry)) }
 {
     if let Some(top) = top {
@@ -139,7 +139,7 @@ fn note_top(sig: &Signature, top: &Pat, wanted: Option<SortId>, first: &mut Opti
     requires { IsNumbered sig.now }
     ensures { kept_fault first.new
         ≡ after first.old
-        (top_faults sig.now (option_map sort_of_id wanted) (pattern_tree top.now)) }
+        (top_faults sig.now (option_map sort_no wanted) (pattern_tree top.now)) }
 {
     if let PatForm::Built(_, sorts, _) = &top.form {
         note_only_sort(sig, sorts, top.at, wanted, first);
@@ -156,7 +156,7 @@ fn note_only_sort(
     requires { IsNumbered sig.now }
     ensures { kept_fault first.new
         ≡ after first.old
-        (only_sort_faults sig.now (option_map sort_of_id wanted) at (map plain_sort sorts.now)) }
+        (only_sort_faults sig.now (option_map sort_no wanted) at (map plain_sort sorts.now)) }
 {
     if let [sort] = sorts {
         note_sort_at(sig, sort, at, wanted, first);
@@ -175,7 +175,7 @@ fn note_sort_at(
     ensures { kept_fault first.new ≡ after first.old
         (sort_faults sig.now (plain_sort sort.now)
         ++ clash_faults at (the_number sig.now.sorts (plain_sort sort.now))
-        (option_map sort_of_id wanted)) }
+        (option_map sort_no wanted)) }
 {
     let own = noted_sort(sig, sort, first);
     note_clash(at, own, wanted, first);
@@ -184,7 +184,7 @@ fn note_sort_at(
 /// Notes that a sort is not declared. Returns the number of a declared sort.
 fn noted_sort(sig: &Signature, sort: &Sort, first: &mut Option<PatternFault>) -> Option<SortId>
     requires { IsNumbered sig.now }
-    ensures sort { option_map sort_of_id result ≡ the_number sig.now.sorts (plain_sort sort.now) }
+    ensures sort { option_map sort_no result ≡ the_number sig.now.sorts (plain_sort sort.now) }
     ensures first { kept_fault first.new
         ≡ after first.old (sort_faults sig.now (plain_sort sort.now)) }
 {

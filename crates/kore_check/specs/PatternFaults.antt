@@ -4,6 +4,7 @@ use Rattle.std.specs.Prelude.{drop, Option, Some}
 use Rattle.std.specs.Prelude.{None, is_some, flat_map, nat_lt}
 use Rattle.std.specs.Option.{option_and_then}
 use Rattle.kore_text.specs.Trees.{SortTree}
+use Rattle.rule_core.specs.Evaluation.{most_height}
 use Rattle.rule_core.specs.Subsorts.{is_below}
 use Rattle.rule_core.specs.declared.signature.Signature.{Signature}
 use Rattle.rule_core.specs.declared.signature.SortKind.{SortKind}
@@ -95,10 +96,6 @@ abbrev mutual
       ++ (clash_faults (unfolded_byte p) (sort_of sig p) (first_wanted sig ss refs)
       ++ argument_faults sig ss (drop 1 refs) ps)
 
--- the greatest height that is allowed for a pattern of a rule and for an initial term
-abbrev pub most_height : ℕ
-most_height = 500
-
--- all faults of a pattern: those above, and 3 at the pattern if it is too high
+-- all faults of a pattern: those above, and 3 at the pattern if it is higher than a value may be
 abbrev pub all_faults : Signature → Unfolded → List Fault
 all_faults sig p = when (nat_lt most_height (height p)) 3 (unfolded_byte p) ++ pattern_faults sig p

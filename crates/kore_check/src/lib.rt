@@ -19,4 +19,4 @@ pub use faults::{CheckFault, FaultKind, PatternFault};
 pub use heights::height_of;
 pub use laws::sort_laws;
 pub use patterns::{note_clash, note_pattern, note_sort};
-pub use variables::Variables;
+pub use variables::{Variables, as_number};

@@ -7,7 +7,7 @@ ghost use Rattle.kore_sig.specs.SortReferences.{sort_number};
 ghost use Rattle.kore_check.specs.Folds.{unfolded, height, unfolded_byte};
 ghost use Rattle.kore_check.specs.PatternSorts.{sort_of};
 ghost use Rattle.kore_check.specs.PatternFaults.{all_faults, sort_faults, clash_faults};
-ghost use Rattle.kore_check.specs.PatternFaults.{most_height};
+ghost use Rattle.rule_core.specs.Evaluation.{most_height};
 ghost use Rattle.kore_check.specs.FaultNumbers.{IsFirstOf};
 ghost use Rattle.kore_check.specs.Notes.{kept_fault, after};
 

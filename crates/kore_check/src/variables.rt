@@ -1,6 +1,6 @@
 // The variables of a rule or of an equation, numbered by name and sort.
 ghost use Rattle.std.specs.Prelude.{◌≡◌, ◌-◌, ◌++◌, ◌∷◌, [], length, take, IfOk, OnOk, OnErr, Some};
-ghost use Rattle.std.specs.Prelude.{None};
+ghost use Rattle.std.specs.Prelude.{None, ◌≤◌, ◌^◌, IfSome, IfNone};
 ghost use Rattle.kore_check.specs.PatternMeanings.{named_sorts, variable_number, with_variable};
 ghost use Rattle.kore_check.specs.VariableKeys.{key_cmp, key_cmp_total, key_cmp-below, key_of};
 
@@ -120,7 +120,7 @@ impl Variables {
         ensures number { IfOk result (λ x. variable_number self.new name.now sort.0 ≡ Some x) }
         ensures err { OnErr result (self.new ≡ self.old) }
     {
-        let number = as_number(self.infos.len())?;
+        let number = as_number(self.infos.len()).ok_or(AllocError)?;
         let info = VarInfo {
             name: String::from_str(alloc, name)?,
             sort,
@@ -157,9 +157,10 @@ impl Variables {
     }
 }
 
-// The number in 32 bits. The error is that it does not fit.
-fn as_number(number: usize) -> Result<u32, AllocError>
-    ensures { IfOk result (λ x. x ≡ number) }
+/// The number in 32 bits. `None` exactly if it does not fit.
+pub fn as_number(number: usize) -> Option<u32>
+    ensures fits { IfSome result (λ n. n ≡ number) }
+    ensures too_great { IfNone result (2 ^ 32 ≤ number) }
 {
-    u32::try_from(number).map_err(|_| AllocError)
+    u32::try_from(number).ok()
 }

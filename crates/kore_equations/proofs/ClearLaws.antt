@@ -17,7 +17,8 @@ use Rattle.kore_sig.specs.FirstFault.{Fault}
 use Rattle.kore_check.specs.Folds.{Unfolded, Unfoldeds, no_more, and_more, unfolded_byte, unfolded}
 use Rattle.kore_check.specs.Folds.{height, heights}
 use Rattle.kore_check.specs.PatternFaults.{pattern_faults, argument_faults, clash_faults}
-use Rattle.kore_check.specs.PatternFaults.{all_faults, first_wanted, most_height}
+use Rattle.rule_core.specs.Evaluation.{most_height}
+use Rattle.kore_check.specs.PatternFaults.{all_faults, first_wanted}
 use Rattle.kore_check.specs.PatternSorts.{sort_of}
 use Rattle.kore_shapes.specs.Statements.{Statement}
 use Rattle.kore_shapes.specs.EquationForms.{EquationParts, conjuncts, members, stands_alone}

@@ -30,7 +30,7 @@ use Rattle.kore_axioms.proofs.BinderLaws.{AllBindNone, test_binds_none}
 use Rattle.kore_axioms.proofs.BoundLaws.{no_faults}
 use Rattle.kore_axioms.proofs.RuleLaws.{held, clear_test}
 use Rattle.kore_equations.specs.ReadableEquations.{all_read, condition_of_equation, has_other_form}
-use Rattle.kore_equations.specs.EquationMeanings.{IsEquationOf}
+use Rattle.kore_equations.specs.EquationMeanings.{MeansNamedEquation}
 use Rattle.kore_equations.specs.ClearEquations.{each_faultless, clear_parts}
 use Rattle.kore_equations.specs.BuiltEquations.{IsFine, AreFine, IsFineEquation, IsBuiltOf}
 use Rattle.kore_equations.specs.declared.patterns.EquationPatterns.{EquationPatterns}
@@ -99,45 +99,49 @@ sorts_named (v ∷ vars) = ap (λ (ss : List ℕ). v.sort.0 ∷ ss) (sorts_named
 
 -- the patterns that are built of bound parts are the equation that the axiom means
 pub equation_meant : (sig : Signature) (a : AxiomDeclaration) (info : SymInfo) (e : Statement)
-    (q : EquationParts) (made : EquationPatterns) (n : ℕ) → class_of sig a ≡ equates e
+    (q : EquationParts) (made : EquationPatterns) (f n p : ℕ) → class_of sig a ≡ equates e
     → symbol_named sig e.function ≡ Some info → clear_parts sig a info e ≡ Some q
     → IsBuiltOf sig (condition_of_equation sig e q) q made → made.bound ≡ true
-    → n ≡ length q.parameters
-    → IsEquationOf sig e.function a (record {
-      parameters = n;
-      arguments = plain_patterns made.args.items;
-      condition = option_map plain_pattern made.cond;
-      right = plain_pattern made.right;
-      variables = sorts_of made.vars.items;
-      priority = priority_of a.attributes;
-      place = a.at;
+    → n ≡ length q.parameters → p ≡ priority_of a.attributes
+    → MeansNamedEquation sig e.function a (record {
+      at = a.at;
+      fun = record { 0 = f };
+      params = n;
+      args = made.args;
+      cond = made.cond;
+      right = made.right;
+      vars = made.vars;
+      priority = p;
     })
-equation_meant sig a info e q made n class declared clear b bound count =
+equation_meant sig a info e q made f n p class declared clear b bound count stated =
     let numbered = b.numbered bound in
     record {
-      stated = e;
-      class = class;
-      function = refl;
-      info = info;
-      declared = declared;
-      parts = q;
-      readable = is_readable sig a info e q clear (sym b.bound ∙ bound);
-      variables = with_all_variables sig [] (all_read q.patterns);
-      numbered = refl;
-      parameters = count;
-      means_arguments =
-          subst (λ (vs : List (List ℕ × ℕ)).
-          AllMean sig vs (all_read q.patterns) (plain_patterns made.args.items)) numbered
-          (b.means_arguments bound);
-      means_condition =
-          subst (λ (vs : List (List ℕ × ℕ)). MeansTest sig vs
-          (tested (condition_of_equation sig e q)) (option_map plain_pattern made.cond))
-          numbered (b.means_condition bound);
-      means_right =
-          subst (λ (vs : List (List ℕ × ℕ)).
-          Means sig vs (unfolded q.right) (plain_pattern made.right)) numbered
-          (b.means_right bound);
-      sorts = sorts_named made.vars.items ∙ ap (map (λ (v : List ℕ × ℕ). v.1)) numbered;
-      priority = refl;
-      place = refl;
+      means = record {
+        stated = e;
+        class = class;
+        function = refl;
+        info = info;
+        declared = declared;
+        parts = q;
+        readable = is_readable sig a info e q clear (sym b.bound ∙ bound);
+        variables = with_all_variables sig [] (all_read q.patterns);
+        numbered = refl;
+        parameters = count;
+        means_arguments =
+            subst (λ (vs : List (List ℕ × ℕ)).
+            AllMean sig vs (all_read q.patterns) (plain_patterns made.args.items)) numbered
+            (b.means_arguments bound);
+        means_condition =
+            subst (λ (vs : List (List ℕ × ℕ)). MeansTest sig vs
+            (tested (condition_of_equation sig e q)) (option_map plain_pattern made.cond))
+            numbered (b.means_condition bound);
+        means_right =
+            subst (λ (vs : List (List ℕ × ℕ)).
+            Means sig vs (unfolded q.right) (plain_pattern made.right)) numbered
+            (b.means_right bound);
+        sorts = sorts_named made.vars.items ∙ ap (map (λ (v : List ℕ × ℕ). v.1)) numbered;
+        priority = stated;
+        place = refl;
+      };
+      names = numbered;
     }

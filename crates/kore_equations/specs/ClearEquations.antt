@@ -9,7 +9,8 @@ use Rattle.rule_core.specs.declared.signature.SortRef.{SortRef}
 use Rattle.rule_core.specs.declared.signature.SymInfo.{SymInfo}
 use Rattle.kore_sig.specs.Attributes.{has_attribute}
 use Rattle.kore_check.specs.Folds.{Unfoldeds, no_more, and_more, unfolded, heights}
-use Rattle.kore_check.specs.PatternFaults.{first_wanted, most_height}
+use Rattle.rule_core.specs.Evaluation.{most_height}
+use Rattle.kore_check.specs.PatternFaults.{first_wanted}
 use Rattle.kore_shapes.specs.Shapes.{Condition}
 use Rattle.kore_shapes.specs.Statements.{Statement}
 use Rattle.kore_shapes.specs.EquationForms.{EquationParts, equation_parts}

@@ -1,18 +1,17 @@
 -- What is returned for the equation of a declared function.
 use Rattle.std.specs.Prelude.{◌≡◌, ℕ, List, Option, Some, None}
 use Rattle.kore_text.specs.Trees.{AxiomDeclaration}
-use Rattle.rule_core.specs.ProgramView.{function_equation}
 use Rattle.rule_core.specs.declared.rules.Equation.{Equation}
 use Rattle.rule_core.specs.declared.signature.Signature.{Signature}
 use Rattle.rule_core.specs.declared.signature.SymInfo.{SymInfo}
 use Rattle.kore_shapes.specs.Statements.{Statement}
 use Rattle.kore_shapes.specs.EquationForms.{EquationParts}
 use Rattle.kore_equations.specs.ReadableEquations.{IsReadable}
-use Rattle.kore_equations.specs.EquationMeanings.{IsEquationOf}
+use Rattle.kore_equations.specs.EquationMeanings.{MeansNamedEquation}
 
 -- the equation of the function of this name, number and declaration; none if it is not readable
 abbrev pub IsMeant : Signature → List ℕ → ℕ → SymInfo → AxiomDeclaration → Statement
     → Option Equation → Type 0
 IsMeant sig f n info a e None = (q : EquationParts) → IsReadable sig a info e q → ⊥
 IsMeant sig f n info a e (Some made) =
-    (made.fun.0 ≡ n) × IsEquationOf sig f a (function_equation made)
+    (made.fun.0 ≡ n) × MeansNamedEquation sig f a made

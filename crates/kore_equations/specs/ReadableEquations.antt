@@ -15,7 +15,8 @@ use Rattle.kore_sig.specs.FirstFault.{Fault}
 use Rattle.kore_sig.specs.Attributes.{has_attribute}
 use Rattle.kore_sig.specs.SortReferences.{sort_number}
 use Rattle.kore_check.specs.Folds.{Unfoldeds, unfolded, all_unfolded, heights}
-use Rattle.kore_check.specs.PatternFaults.{argument_faults, most_height}
+use Rattle.rule_core.specs.Evaluation.{most_height}
+use Rattle.kore_check.specs.PatternFaults.{argument_faults}
 use Rattle.kore_shapes.specs.Forms.{all_forms, has_form, has_binder}
 use Rattle.kore_shapes.specs.Shapes.{Condition, given_condition}
 use Rattle.kore_shapes.specs.Statements.{Statement}

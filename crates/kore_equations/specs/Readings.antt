@@ -1,9 +1,8 @@
 -- What an axiom that states an equation is read as.
 use Rattle.std.specs.Prelude.{ℕ, List}
 use Rattle.kore_text.specs.Trees.{AxiomDeclaration}
-use Rattle.rule_core.specs.ProgramView.{function_equation}
 use Rattle.rule_core.specs.declared.signature.Signature.{Signature}
-use Rattle.kore_equations.specs.EquationMeanings.{IsEquationOf, IsUnreadable}
+use Rattle.kore_equations.specs.EquationMeanings.{MeansNamedEquation, IsUnreadable}
 use Rattle.kore_equations.specs.declared.readings.Reading.{Reading}
 use Rattle.kore_equations.specs.declared.readings.Reading.TheVariants as reading
 
@@ -14,5 +13,5 @@ function_of (reading.Unreadable f) = f.0
 
 -- the axiom is this equation of the function of this name, or states one that is not readable
 abbrev pub IsReadAs : Signature → List ℕ → AxiomDeclaration → Reading → Type 0
-IsReadAs sig f a (reading.Equation e) = IsEquationOf sig f a (function_equation e)
+IsReadAs sig f a (reading.Equation e) = MeansNamedEquation sig f a e
 IsReadAs sig f a (reading.Unreadable g) = IsUnreadable sig f a

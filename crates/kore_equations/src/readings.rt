@@ -14,6 +14,7 @@ use crate::patterns::equation_patterns;
 use crate::readable::{clear_parts, condition_of};
 use kore_ast::AxiomDecl;
 use kore_axioms::priority_of;
+use kore_check::as_number;
 use kore_shapes::Statement;
 use rule_core::{Equation, Signature, SymInfo};
 use std::alloc::{AllocError, Global};
@@ -94,18 +95,11 @@ fn meant_equation(
     Ok(Some(Equation {
         at: decl.at,
         fun: function,
-        params: as_number(parts.parameters.len())?,
+        params: as_number(parts.parameters.len()).ok_or(AllocError)?,
         args: made.args,
         cond: made.cond,
         right: made.right,
         vars: made.vars,
         priority: priority_of(&decl.attrs),
     }))
-}
-
-/// The number in 32 bits. Returns an error if it does not fit.
-fn as_number(number: usize) -> Result<u32, AllocError>
-    ensures { IfOk result (λ n. n ≡ number) }
-{
-    u32::try_from(number).map_err(|_| AllocError)
 }

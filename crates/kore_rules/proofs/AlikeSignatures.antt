@@ -25,7 +25,8 @@ use Rattle.kore_check.specs.Folds.{height, unfolded}
 use Rattle.kore_check.specs.PatternSorts.{symbol_named, sort_numbers, number_then, result_sort}
 use Rattle.kore_check.specs.PatternSorts.{sort_of, places_of}
 use Rattle.kore_check.specs.PatternFaults.{sort_faults, clash_faults, symbol_faults, first_wanted}
-use Rattle.kore_check.specs.PatternFaults.{pattern_faults, argument_faults, most_height, all_faults}
+use Rattle.rule_core.specs.Evaluation.{most_height}
+use Rattle.kore_check.specs.PatternFaults.{pattern_faults, argument_faults, all_faults}
 use Rattle.kore_check.specs.PatternFaults.{is_injection, is_bad_injection, has_no_kind}
 use Rattle.kore_shapes.specs.Shapes.{Rewriting, rewriting, Condition, always, tests, ill}
 use Rattle.kore_shapes.specs.Shapes.{found_part}

@@ -16,12 +16,14 @@ use Rattle.rule_core.specs.declared.signature.Signature.{Signature}
 use Rattle.kore_shapes.specs.Shapes.{Rewriting}
 use Rattle.kore_shapes.specs.Statements.{Statement}
 use Rattle.kore_axioms.specs.AxiomClasses.{AxiomClass, rewrites, equates, class_of}
-use Rattle.kore_axioms.specs.AxiomMeanings.{IsRuleOf}
-use Rattle.kore_equations.specs.EquationMeanings.{IsEquationOf, IsUnreadable}
+use Rattle.kore_axioms.specs.AxiomMeanings.{MeansRule, MeansNamedRule}
+use Rattle.kore_equations.specs.EquationMeanings.{MeansEquation, MeansNamedEquation, IsUnreadable}
 use Rattle.kore_rules.specs.AxiomsRead.{AreRead, HaveRead, HasUnreadable, IsNumberedEquation}
 use Rattle.kore_rules.specs.AxiomsRead.{numbered_equation, is_marked}
+use Rattle.kore_rules.specs.Programs.{AreOf, IsSomeEquation}
 use Rattle.kore_rules.specs.declared.axioms.Readings.{Readings}
 use Rattle.kore_rules.proofs.AxiomSteps.{some_more, some_last, some_cases, read_more, read_same}
+use Rattle.kore_rules.proofs.AxiomSteps.{of_more, of_same}
 use Rattle.kore_rules.proofs.MeaningsAreOne.{rule_one, equation_one, readable_or_not}
 use Rattle.kore_rules.proofs.MeaningsAreOne.{rule_not_equation, rule_not_unreadable, equates_one}
 
@@ -36,23 +38,23 @@ pair_same a b x y e f = ap (λ (n : ℕ). pair_of n x) e ∙ ap (pair_of b) f
 
 -- an axiom is an equation of at most one function
 function_one : (sig : Signature) (f g : List ℕ) (a : AxiomDeclaration) (x y : plain.Equation)
-    → IsEquationOf sig f a x → IsEquationOf sig g a y → f ≡ g
+    → MeansEquation sig f a x → MeansEquation sig g a y → f ≡ g
 function_one sig f g a x y r s = sym r.function
     ∙ ap (λ (e : Statement). e.function) (equates_one r.stated s.stated (sym r.class ∙ s.class))
     ∙ s.function
 
 numbered_one : (sig : Signature) (f : List ℕ) (a : AxiomDeclaration) (n : ℕ) (x : plain.Equation)
-    → number_of sig.symbols f ≡ Some n → IsEquationOf sig f a x → (y : ℕ × plain.Equation)
+    → number_of sig.symbols f ≡ Some n → MeansEquation sig f a x → (y : ℕ × plain.Equation)
     → IsNumberedEquation sig a y → pair_of n x ≡ y
 numbered_one sig f a n x number is y (g, its, same) =
     let functions : f ≡ g = function_one sig f g a x y.1 is same in
     pair_same n y.0 x y.1
     (some_same n y.0 (sym number ∙ ap (number_of sig.symbols) functions ∙ its))
     (equation_one sig f a x y.1 is
-    (subst (λ (h : List ℕ). IsEquationOf sig h a y.1) (sym functions) same))
+    (subst (λ (h : List ℕ). MeansEquation sig h a y.1) (sym functions) same))
 
 equation_not_unreadable : (sig : Signature) (f g : List ℕ) (a : AxiomDeclaration)
-    (x : plain.Equation) → IsEquationOf sig f a x → IsUnreadable sig g a → ⊥
+    (x : plain.Equation) → MeansEquation sig f a x → IsUnreadable sig g a → ⊥
 equation_not_unreadable sig f g a x r s =
     let functions : g ≡ f =
     sym s.function
@@ -116,7 +118,7 @@ one_mark sig axioms a f k old new number is set before n =
     )
 
 abbrev IsRule : Signature → AxiomDeclaration → RewriteRule → Type 0
-IsRule sig = IsRuleOf sig
+IsRule sig = MeansRule sig
 
 abbrev place_of : RewriteRule → ℕ
 place_of r = r.place
@@ -128,25 +130,32 @@ numbered_place e = e.1.place
 pub read_rule : (sig : Signature) (axioms : List AxiomDeclaration) (a : AxiomDeclaration)
     (old new : Readings) (rule : Rule) → new.rules.items ≡ old.rules.items ++ rule ∷ []
     → new.equations.items ≡ old.equations.items → new.unreadable.items ≡ old.unreadable.items
-    → IsRuleOf sig a (rewrite_rule rule) → HaveRead sig axioms old
+    → MeansNamedRule sig a rule → HaveRead sig axioms old
     → HaveRead sig (axioms ++ a ∷ []) new
 read_rule sig axioms a old new rule grown equations marks is before = record {
   rules =
-      subst (AreRead (IsRuleOf sig) place_of (axioms ++ a ∷ []))
+      subst (AreRead (MeansRule sig) place_of (axioms ++ a ∷ []))
       (sym (ap (map rewrite_rule) grown ∙ map-append rewrite_rule old.rules.items (rule ∷ [])))
-      (read_more (IsRuleOf sig) place_of axioms (map rewrite_rule old.rules.items) a
-      (rewrite_rule rule) is (λ y s. rule_one sig a (rewrite_rule rule) y is s) is.place
+      (read_more (MeansRule sig) place_of axioms (map rewrite_rule old.rules.items) a
+      (rewrite_rule rule) is.means (λ y s. rule_one sig a (rewrite_rule rule) y is.means s)
+      is.means.place
       before.rules);
   equations =
       subst (AreRead (IsNumberedEquation sig) numbered_place (axioms ++ a ∷ []))
       (ap (map numbered_equation) (sym equations))
       (read_same (IsNumberedEquation sig) numbered_place axioms
       (map numbered_equation old.equations.items) a
-      (λ y h. rule_not_equation sig h.0 a (rewrite_rule rule) y.1 is h.2) before.equations);
+      (λ y h. rule_not_equation sig h.0 a (rewrite_rule rule) y.1 is.means h.2) before.equations);
+  named_rules =
+      subst (AreOf (MeansNamedRule sig) (axioms ++ a ∷ [])) (sym grown)
+      (of_more (MeansNamedRule sig) axioms old.rules.items a rule is before.named_rules);
+  named_equations =
+      subst (AreOf (IsSomeEquation sig) (axioms ++ a ∷ [])) (sym equations)
+      (of_same (IsSomeEquation sig) axioms old.equations.items a before.named_equations);
   marked = ap length marks ∙ before.marked;
   unreadable =
       same_marks sig axioms a old.unreadable.items new.unreadable.items marks
-      (λ f h. rule_not_unreadable sig f a (rewrite_rule rule) is h) before.unreadable;
+      (λ f h. rule_not_unreadable sig f a (rewrite_rule rule) is.means h) before.unreadable;
 }
 
 -- the new axiom is an equation
@@ -154,23 +163,30 @@ pub read_equation : (sig : Signature) (axioms : List AxiomDeclaration) (a : Axio
     (f : List ℕ) (old new : Readings) (e : Equation)
     → new.equations.items ≡ old.equations.items ++ e ∷ [] → new.rules.items ≡ old.rules.items
     → new.unreadable.items ≡ old.unreadable.items → number_of sig.symbols f ≡ Some e.fun.0
-    → IsEquationOf sig f a (function_equation e) → HaveRead sig axioms old
+    → MeansNamedEquation sig f a e → HaveRead sig axioms old
     → HaveRead sig (axioms ++ a ∷ []) new
 read_equation sig axioms a f old new e grown rules marks number is before = record {
   rules =
-      subst (AreRead (IsRuleOf sig) place_of (axioms ++ a ∷ [])) (ap (map rewrite_rule) (sym rules))
-      (read_same (IsRuleOf sig) place_of axioms (map rewrite_rule old.rules.items) a
-      (λ y h. rule_not_equation sig f a y (function_equation e) h is) before.rules);
+      subst (AreRead (MeansRule sig) place_of (axioms ++ a ∷ [])) (ap (map rewrite_rule) (sym rules))
+      (read_same (MeansRule sig) place_of axioms (map rewrite_rule old.rules.items) a
+      (λ y h. rule_not_equation sig f a y (function_equation e) h is.means) before.rules);
   equations =
       subst (AreRead (IsNumberedEquation sig) numbered_place (axioms ++ a ∷ [])) (sym (ap (map
       numbered_equation) grown ∙ map-append numbered_equation old.equations.items (e ∷ [])))
       (read_more (IsNumberedEquation sig) numbered_place axioms
-      (map numbered_equation old.equations.items) a (numbered_equation e) (f, number, is)
-      (numbered_one sig f a e.fun.0 (function_equation e) number is) is.place before.equations);
+      (map numbered_equation old.equations.items) a (numbered_equation e) (f, number, is.means)
+      (numbered_one sig f a e.fun.0 (function_equation e) number is.means) is.means.place
+      before.equations);
+  named_rules =
+      subst (AreOf (MeansNamedRule sig) (axioms ++ a ∷ [])) (sym rules)
+      (of_same (MeansNamedRule sig) axioms old.rules.items a before.named_rules);
+  named_equations =
+      subst (AreOf (IsSomeEquation sig) (axioms ++ a ∷ [])) (sym grown)
+      (of_more (IsSomeEquation sig) axioms old.equations.items a e (f, is) before.named_equations);
   marked = ap length marks ∙ before.marked;
   unreadable =
       same_marks sig axioms a old.unreadable.items new.unreadable.items marks
-      (λ g h. equation_not_unreadable sig f g a (function_equation e) is h) before.unreadable;
+      (λ g h. equation_not_unreadable sig f g a (function_equation e) is.means h) before.unreadable;
 }
 
 -- the new axiom is an equation that is not readable
@@ -183,8 +199,8 @@ pub read_unreadable : (sig : Signature) (axioms : List AxiomDeclaration) (a : Ax
     → HaveRead sig (axioms ++ a ∷ []) new
 read_unreadable sig axioms a f k old new rules equations len set number is before = record {
   rules =
-      subst (AreRead (IsRuleOf sig) place_of (axioms ++ a ∷ [])) (ap (map rewrite_rule) (sym rules))
-      (read_same (IsRuleOf sig) place_of axioms (map rewrite_rule old.rules.items) a
+      subst (AreRead (MeansRule sig) place_of (axioms ++ a ∷ [])) (ap (map rewrite_rule) (sym rules))
+      (read_same (MeansRule sig) place_of axioms (map rewrite_rule old.rules.items) a
       (λ y h. rule_not_unreadable sig f a y h is) before.rules);
   equations =
       subst (AreRead (IsNumberedEquation sig) numbered_place (axioms ++ a ∷ []))
@@ -192,6 +208,12 @@ read_unreadable sig axioms a f k old new rules equations len set number is befor
       (read_same (IsNumberedEquation sig) numbered_place axioms
       (map numbered_equation old.equations.items) a
       (λ y h. equation_not_unreadable sig h.0 f a y.1 h.2 is) before.equations);
+  named_rules =
+      subst (AreOf (MeansNamedRule sig) (axioms ++ a ∷ [])) (sym rules)
+      (of_same (MeansNamedRule sig) axioms old.rules.items a before.named_rules);
+  named_equations =
+      subst (AreOf (IsSomeEquation sig) (axioms ++ a ∷ [])) (sym equations)
+      (of_same (IsSomeEquation sig) axioms old.equations.items a before.named_equations);
   marked = len ∙ before.marked;
   unreadable =
       one_mark sig axioms a f k old.unreadable.items new.unreadable.items number is set
@@ -205,12 +227,15 @@ pub read_nothing : (sig : Signature) (axioms : List AxiomDeclaration) (a : Axiom
     → HaveRead sig (axioms ++ a ∷ []) old
 read_nothing sig axioms a old no_rule no_equation before = record {
   rules =
-      read_same (IsRuleOf sig) place_of axioms (map rewrite_rule old.rules.items) a
+      read_same (MeansRule sig) place_of axioms (map rewrite_rule old.rules.items) a
       (λ y h. no_rule h.shape h.class) before.rules;
   equations =
       read_same (IsNumberedEquation sig) numbered_place axioms
       (map numbered_equation old.equations.items) a
       (λ y h. let is = h.2 in no_equation is.stated is.class) before.equations;
+  named_rules = of_same (MeansNamedRule sig) axioms old.rules.items a before.named_rules;
+  named_equations =
+      of_same (IsSomeEquation sig) axioms old.equations.items a before.named_equations;
   marked = before.marked;
   unreadable =
       same_marks sig axioms a old.unreadable.items old.unreadable.items refl

@@ -8,6 +8,7 @@ use Rattle.std.proofs.lemmas.List.Elements.{Contains-push_cases}
 use Rattle.std.proofs.lemmas.List.Sums.{sum_by_push}
 use Rattle.kore_text.specs.Trees.{AxiomDeclaration}
 use Rattle.kore_rules.specs.AxiomsRead.{AreRead}
+use Rattle.kore_rules.specs.Programs.{AreOf}
 
 -- P holds for some axiom
 abbrev pub Some_is : (AxiomDeclaration → Type 0) → List AxiomDeclaration → Type 0
@@ -81,3 +82,17 @@ read_same {X} Is place axioms xs a none before = record {
       let m = count_push (λ (b : AxiomDeclaration). b.at == p) axioms a in
       omega (arith, le, m);
 }
+
+-- the new axiom is the last thing
+pub of_more : {X : Type 0} (Is : AxiomDeclaration → X → Type 0) (axioms : List AxiomDeclaration)
+    (xs : List X) (a : AxiomDeclaration) (x : X) → Is a x → AreOf Is axioms xs
+    → AreOf Is (axioms ++ a ∷ []) (xs ++ x ∷ [])
+of_more {X} Is axioms xs a x is before = λ y has. elim (Contains-push_cases xs x y has) [
+  | inl old ↦ some_more (λ b. Is b y) axioms a (before y old)
+  | inr same ↦ some_last (λ b. Is b y) axioms a (subst (Is a) same is)
+]
+
+-- there is one more axiom, and nothing more
+pub of_same : {X : Type 0} (Is : AxiomDeclaration → X → Type 0) (axioms : List AxiomDeclaration)
+    (xs : List X) (a : AxiomDeclaration) → AreOf Is axioms xs → AreOf Is (axioms ++ a ∷ []) xs
+of_same {X} Is axioms xs a before = λ y has. some_more (λ b. Is b y) axioms a (before y has)

@@ -25,9 +25,9 @@ use Rattle.kore_check.specs.PatternMeanings.{with_variables, with_all_variables,
 use Rattle.kore_check.specs.PatternMeanings.{more_mean}
 use Rattle.kore_check.proofs.BuildLaws.{some_there}
 use Rattle.kore_shapes.specs.Shapes.{side, heads_condition}
-use Rattle.kore_axioms.specs.AxiomMeanings.{IsRuleOf}
+use Rattle.kore_axioms.specs.AxiomMeanings.{MeansRule}
 use Rattle.kore_axioms.proofs.RuleLaws.{class_rewrites}
-use Rattle.kore_equations.specs.EquationMeanings.{IsEquationOf}
+use Rattle.kore_equations.specs.EquationMeanings.{MeansEquation}
 use Rattle.kore_equations.specs.ReadableEquations.{all_read}
 use Rattle.kore_equations.proofs.ClassLaws.{class_equates}
 use Rattle.kore_rules.specs.MadePrograms.{ListsOwnEquations}
@@ -47,7 +47,7 @@ HasFewVariables a = variable_count a.pattern * 2 < 4294967296
 -- ---- rules
 
 left_count : (sig : Signature) (a : AxiomDeclaration) (rule : plain.RewriteRule)
-    → (is : IsRuleOf sig a rule) → variable_count is.left ≤ variable_count a.pattern
+    → (is : MeansRule sig a rule) → variable_count is.left ≤ variable_count a.pattern
 left_count sig a rule is =
     let before = before_count a.pattern is.shape (class_rewrites sig a is.shape is.class) in
     let left =
@@ -56,7 +56,7 @@ left_count sig a rule is =
     (side_count heads_condition is.shape.sort is.shape.before) is.is_left in
     omega (arith, before, left)
 
-bound_rule : (sig : Signature) (a : AxiomDeclaration) (r : Rule) → IsRuleOf sig a (rewrite_rule r)
+bound_rule : (sig : Signature) (a : AxiomDeclaration) (r : Rule) → MeansRule sig a (rewrite_rule r)
     → HasFewVariables a → IsBoundRule r
 bound_rule sig a r is most =
     let long : length r.vars.items ≡ length is.variables =
@@ -89,7 +89,7 @@ plain_number [] = refl
 plain_number (p ∷ ps) = ap (λ (n : ℕ). n + 1) (plain_number ps) ∙ omega arith
 
 bound_equation : (sig : Signature) (f : List ℕ) (a : AxiomDeclaration) (n : ℕ) (e : Equation)
-    → e.fun.0 ≡ n → IsEquationOf sig f a (function_equation e) → HasFewVariables a
+    → e.fun.0 ≡ n → MeansEquation sig f a (function_equation e) → HasFewVariables a
     → IsBoundEquation n e
 bound_equation sig f a n e own is most =
     let patterns = is.parts.patterns in

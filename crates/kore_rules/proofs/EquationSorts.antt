@@ -29,7 +29,7 @@ use Rattle.kore_axioms.proofs.ApplicativeLaws.{neither}
 use Rattle.kore_axioms.proofs.BoundLaws.{no_faults}
 use Rattle.kore_equations.specs.ReadableEquations.{all_read, condition_of_equation, equation_faults}
 use Rattle.kore_equations.specs.ReadableEquations.{is_one_sort, is_sort_over}
-use Rattle.kore_equations.specs.EquationMeanings.{IsEquationOf}
+use Rattle.kore_equations.specs.EquationMeanings.{MeansEquation}
 use Rattle.kore_equations.proofs.ClearLaws.{empty_is}
 use Rattle.kore_rules.proofs.KeptSorts.{IsKept, sort_kept, all_sorts_kept}
 use Rattle.kore_rules.proofs.MeaningSorts.{sorted_at, sorted_side, all_no_call, uses_only}
@@ -73,7 +73,7 @@ not_true true h = sym h
 
 pub sorted_equation : (declared final : Signature) (axioms : List AxiomDeclaration) (f : List ℕ)
     (a : AxiomDeclaration) (e : Equation) (info : SymInfo) → IsKept declared final axioms
-    → IsSignature declared → (r : IsEquationOf declared f a e) → r.info.params ≡ 0
+    → IsSignature declared → (r : MeansEquation declared f a e) → r.info.params ≡ 0
     → All (IsReference declared r.info.params) r.info.args.items
     → info.args.items ≡ r.info.args.items → info.result ≡ r.info.result
     → IsSortedEquation final info e

@@ -8,13 +8,16 @@ use Rattle.kore_sig.specs.SignatureFaults.{FirstOfSignature}
 use Rattle.kore_sig.specs.SignatureLaws.{FirstIsOne, SignatureIsOne}
 use Rattle.kore_sig.specs.Signatures.{IsSignatureOf}
 use Rattle.kore_sig.proofs.UniqueLaws.{then_one}
+use Rattle.kore_check.specs.Folds.{unfolded}
+use Rattle.kore_check.specs.PatternMeanings.{Means}
 use Rattle.kore_rules.specs.AcceptanceLaws.{DefinitionIsOne, PatternIsOne, DefinitionFaultIsOne}
 use Rattle.kore_rules.specs.AcceptanceLaws.{TextFaultIsOne, TermTextFaultIsOne}
 use Rattle.kore_rules.specs.AcceptanceLaws.{SpelledDefinitionIsFaultless, SpelledPatternIsFaultless}
 use Rattle.kore_rules.specs.AcceptanceLaws.{AcceptedIsNotRefused, RefusalIsOne}
-use Rattle.kore_rules.specs.AcceptanceLaws.{AcceptedTermIsNotRefused, TermRefusalIsOne}
+use Rattle.kore_rules.specs.AcceptanceLaws.{AcceptedTermIsNotRefused, TermRefusalIsOne, StartIsOne}
 use Rattle.kore_rules.specs.FirstRefusal.{FirstOfAxioms, FirstOfDefinition, FirstOfTerm}
 use Rattle.kore_rules.proofs.AlikeSignatures.{axioms_alike}
+use Rattle.kore_rules.proofs.MeaningsAreOne.{means_one}
 use Rattle.kore_rules.proofs.OneFault.{term_is_one, axioms_are_one}
 
 -- the first fault of the axioms, by any signature that the declarations give
@@ -76,3 +79,8 @@ term_refusal_is_one one spelled text sig top bytes f g (inr h) (inr k) =
     let same : k.0 ≡ h.0 = one bytes k.0 h.0 k.1 h.1 in
     faults_same f g (term_is_one sig top h.0 (Some f) (Some g) h.2
     (subst (λ (p : PatternTree). FirstOfTerm sig top p (Some g)) same k.2))
+
+pub start_is_one : PatternIsOne → StartIsOne
+start_is_one one sig top bytes p q a b =
+    let same : b.term ≡ a.term = one bytes b.term a.term b.spelled a.spelled in
+    means_one sig [] a.means (subst (λ (t : PatternTree). Means sig [] (unfolded t) q) same b.means)

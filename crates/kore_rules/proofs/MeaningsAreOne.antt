@@ -15,10 +15,10 @@ use Rattle.kore_shapes.specs.Statements.{Statement}
 use Rattle.kore_shapes.specs.EquationForms.{EquationParts, equation_parts}
 use Rattle.kore_axioms.specs.AxiomClasses.{AxiomClass, rewrites, equates, refused, orders_sorts}
 use Rattle.kore_axioms.specs.AxiomClasses.{passed_over, class_of}
-use Rattle.kore_axioms.specs.AxiomMeanings.{MeansTest, IsRuleOf}
+use Rattle.kore_axioms.specs.AxiomMeanings.{MeansTest, MeansRule}
 use Rattle.kore_axioms.specs.Conditions.{tested}
 use Rattle.kore_axioms.specs.RuleParts.{rule_parts, left_of, right_of}
-use Rattle.kore_equations.specs.EquationMeanings.{IsEquationOf, IsUnreadable}
+use Rattle.kore_equations.specs.EquationMeanings.{MeansEquation, IsUnreadable}
 use Rattle.kore_equations.specs.ReadableEquations.{IsReadable, condition_of_equation, all_read}
 
 some_same : {A : Type 0} (x y : A) → Some x ≡ Some y → x ≡ y
@@ -80,8 +80,8 @@ same_rule x y a b c d e f =
     ∙ ap (λ (n : ℕ). rule_with y.left y.condition y.right y.variables n x.place) e
     ∙ ap (λ (n : ℕ). rule_with y.left y.condition y.right y.variables y.priority n) f
 
-pub rule_one : (sig : Signature) (a : AxiomDeclaration) (x y : RewriteRule) → IsRuleOf sig a x
-    → IsRuleOf sig a y → x ≡ y
+pub rule_one : (sig : Signature) (a : AxiomDeclaration) (x y : RewriteRule) → MeansRule sig a x
+    → MeansRule sig a y → x ≡ y
 rule_one sig a x y r s =
     let shapes : r.shape ≡ s.shape = rewrites_one r.shape s.shape (sym r.class ∙ s.class) in
     let lefts : r.left ≡ s.left =
@@ -147,7 +147,7 @@ same_equation x y a b c d e f g =
     equation_with y.parameters y.arguments y.condition y.right y.variables y.priority n) g
 
 pub equation_one : (sig : Signature) (f : List ℕ) (a : AxiomDeclaration) (x y : Equation)
-    → IsEquationOf sig f a x → IsEquationOf sig f a y → x ≡ y
+    → MeansEquation sig f a x → MeansEquation sig f a y → x ≡ y
 equation_one sig f a x y r s =
     let stated : r.stated ≡ s.stated = equates_one r.stated s.stated (sym r.class ∙ s.class) in
     let parts : r.parts ≡ s.parts =
@@ -188,7 +188,7 @@ equation_one sig f a x y r s =
 
 -- a readable equation is not unreadable
 pub readable_or_not : (sig : Signature) (f : List ℕ) (a : AxiomDeclaration) (x : Equation)
-    → IsEquationOf sig f a x → IsUnreadable sig f a → ⊥
+    → MeansEquation sig f a x → IsUnreadable sig f a → ⊥
 readable_or_not sig f a x r s =
     let stated : r.stated ≡ s.stated = equates_one r.stated s.stated (sym r.class ∙ s.class) in
     let info : r.info ≡ s.info = some_same r.info s.info (sym r.declared ∙ s.declared) in
@@ -198,13 +198,13 @@ readable_or_not sig f a x r s =
 -- ---- classes
 
 pub rule_not_equation : (sig : Signature) (f : List ℕ) (a : AxiomDeclaration) (x : RewriteRule)
-    (y : Equation) → IsRuleOf sig a x → IsEquationOf sig f a y → ⊥
+    (y : Equation) → MeansRule sig a x → MeansEquation sig f a y → ⊥
 rule_not_equation sig f a x y r s =
     let both : rewrites r.shape ≡ equates s.stated = sym r.class ∙ s.class in
     let never : ⊥ = cc in never
 
 pub rule_not_unreadable : (sig : Signature) (f : List ℕ) (a : AxiomDeclaration) (x : RewriteRule)
-    → IsRuleOf sig a x → IsUnreadable sig f a → ⊥
+    → MeansRule sig a x → IsUnreadable sig f a → ⊥
 rule_not_unreadable sig f a x r s =
     let both : rewrites r.shape ≡ equates s.stated = sym r.class ∙ s.class in
     let never : ⊥ = cc in never

@@ -29,11 +29,12 @@ use Rattle.kore_sig.proofs.ListLaws.{number_within}
 use Rattle.kore_sig.proofs.FirstLaws.{contains_here, contains_there, contains_cases, contains_none}
 use Rattle.kore_check.specs.PatternSorts.{symbol_named}
 use Rattle.kore_axioms.specs.AxiomClasses.{is_defined_kind}
-use Rattle.kore_axioms.specs.AxiomMeanings.{IsRuleOf}
-use Rattle.kore_equations.specs.EquationMeanings.{IsEquationOf, IsUnreadable}
+use Rattle.kore_axioms.specs.AxiomMeanings.{MeansRule, MeansNamedRule}
+use Rattle.kore_equations.specs.EquationMeanings.{MeansEquation, IsUnreadable}
 use Rattle.kore_rules.specs.AxiomsRead.{AreRead, AreApart, AreFew, HasUnreadable}
 use Rattle.kore_rules.specs.AxiomsRead.{IsNumberedEquation, numbered_equation, is_marked}
 use Rattle.kore_rules.specs.Programs.{HasKind, IsSymbolOf, AreRulesOf, AreEquationsOf}
+use Rattle.kore_rules.specs.Programs.{AreOf, IsSomeEquation}
 use Rattle.kore_rules.specs.ScalarSorts.{MarksTerms, IsFinal, final_kind, is_marked_at}
 use Rattle.kore_rules.specs.TrialOrder.{rule_key, equation_key, belongs_to, has_equations}
 use Rattle.kore_rules.specs.TrialOrder.{is_by_equations, listed_at}
@@ -181,7 +182,7 @@ equation_keys (e ∷ es) = ap (λ (ks : List (ℕ × ℕ)). equation_key e ∷ k
 -- ---- rules
 
 pub rules_are : (sig : Signature) (axioms : List AxiomDeclaration) (old new : List Rule)
-    → AreRead (IsRuleOf sig) (λ (r : RewriteRule). r.place) axioms (map rewrite_rule old)
+    → AreRead (MeansRule sig) (λ (r : RewriteRule). r.place) axioms (map rewrite_rule old)
     → IsPermutation old new → AreInOrder (map rule_key new)
     → AreRulesOf sig axioms (map rewrite_rule new)
 rules_are sig axioms old new read moved in_order = record {
@@ -329,8 +330,8 @@ equations_are sig axioms made old new lists n f info distinct symbols read moved
               (
                 some.0,
                 some.1,
-                subst (λ (y : plain.Equation). IsEquationOf sig f some.0 y) found.2 (subst
-                    (λ (h : List ℕ). IsEquationOf sig h some.0 (function_equation x)) same
+                subst (λ (y : plain.Equation). MeansEquation sig f some.0 y) found.2 (subst
+                    (λ (h : List ℕ). MeansEquation sig h some.0 (function_equation x)) same
                     named.2),
               ),
             ),
@@ -367,11 +368,36 @@ listed_own made new lists f i es e listed there at =
     (subst (λ (xs : List Equation). Contains xs e) same (contains_at es.items i e at)) in
     eqb-true e.fun.0 f (both_true (e.fun.0 == f) (has_equations made e.fun.0) kept.1).0
 
+-- ---- names
+
+-- rules that were moved are still what axioms are
+pub moved_rules : (sig : Signature) (axioms : List AxiomDeclaration) (old new : List Rule)
+    → AreOf (MeansNamedRule sig) axioms old → IsPermutation old new
+    → AreOf (MeansNamedRule sig) axioms new
+moved_rules sig axioms old new of moved = λ r has.
+    of r (Contains-permutation new old r (IsPermutation-sym old new moved) has)
+
+-- an equation that is listed for a function is still what an axiom is
+pub listed_of : (sig : Signature) (axioms : List AxiomDeclaration)
+    (made : List (List ℕ × SymInfo)) (old new : List Equation)
+    (lists : List (Vec Equation Global)) (f i : ℕ) (es : Vec Equation Global) (e : Equation)
+    → AreOf (IsSomeEquation sig) axioms old → IsPermutation old new
+    → listed_at lists f ≡ filter (belongs_to made f) new → slice_get lists f ≡ Some es
+    → slice_get es.items i ≡ Some e
+    → (a : AxiomDeclaration) × Contains axioms a × IsSomeEquation sig a e
+listed_of sig axioms made old new lists f i es e of moved listed there at =
+    let test : Equation → Bool = belongs_to made f in
+    let same : es.items ≡ filter test new = sym (listed_there lists f es there) ∙ listed in
+    let kept =
+    contains_filtered test new e
+    (subst (λ (xs : List Equation). Contains xs e) same (contains_at es.items i e at)) in
+    of e (Contains-permutation new old e (IsPermutation-sym old new moved) kept.0)
+
 -- ---- how many rules and equations
 
 pub few_rules : (sig : Signature) (axioms : List AxiomDeclaration) (old new : List Rule)
     → AreFew axioms
-    → AreRead (IsRuleOf sig) (λ (r : RewriteRule). r.place) axioms (map rewrite_rule old)
+    → AreRead (MeansRule sig) (λ (r : RewriteRule). r.place) axioms (map rewrite_rule old)
     → IsPermutation old new → length new ≤ 4294967296
 few_rules sig axioms old new few read moved =
     let a = few.short in

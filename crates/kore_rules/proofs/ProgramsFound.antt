@@ -28,9 +28,9 @@ use Rattle.kore_sig.proofs.ListLaws.{number_within}
 use Rattle.kore_shapes.specs.Shapes.{Rewriting}
 use Rattle.kore_axioms.specs.AxiomClasses.{AxiomClass, refused, orders_sorts, rewrites, equates}
 use Rattle.kore_axioms.specs.AxiomClasses.{passed_over, class_of, is_defined_kind}
-use Rattle.kore_axioms.specs.AxiomMeanings.{IsRuleOf}
+use Rattle.kore_axioms.specs.AxiomMeanings.{MeansRule}
 use Rattle.kore_axioms.specs.RuleFaults.{FirstOfRule}
-use Rattle.kore_equations.specs.EquationMeanings.{IsEquationOf, IsUnreadable}
+use Rattle.kore_equations.specs.EquationMeanings.{MeansEquation, IsUnreadable}
 use Rattle.kore_rules.specs.Acceptance.{IsAccepted, IsRefused, HasTextFault}
 use Rattle.kore_rules.specs.AcceptanceLaws.{EachTextIsDecided}
 use Rattle.kore_rules.specs.AxiomsRead.{AreFew, is_marked}
@@ -150,7 +150,7 @@ abbrev rule_key : RewriteRule → ℕ × ℕ
 rule_key r = (r.priority, r.place)
 
 equations_are_one : (sig : Signature) (f : List ℕ)
-    → AreOne (IsEquationOf sig f) (λ (e : Equation). e.place)
+    → AreOne (MeansEquation sig f) (λ (e : Equation). e.place)
 equations_are_one sig f = record {
   one = λ a x y is other. equation_one sig f a x y is other;
   there = λ a x is. is.place;
@@ -159,9 +159,9 @@ equations_are_one sig f = record {
 equations_found : (sig : Signature) (axioms : List AxiomDeclaration) (f : List ℕ) (kind : SymKind)
     → IsSignature sig → AreFew axioms → (es : List Equation) × AreEquationsOf sig axioms f kind es
 equations_found sig axioms f kind sorted few = by_case (is_defined_kind kind) refl where
-  all : AreListed (IsEquationOf sig f) equation_key axioms
+  all : AreListed (MeansEquation sig f) equation_key axioms
   all =
-      listed (IsEquationOf sig f) equation_key (equations_are_one sig f) axioms few
+      listed (MeansEquation sig f) equation_key (equations_are_one sig f) axioms few
       (λ a has. equation_decided sig f a sorted)
 
   by_case : (b : Bool) → is_defined_kind kind ≡ b
@@ -301,7 +301,7 @@ top_found sig (a ∷ axioms) each =
 
 -- ---- the program
 
-rules_are_one : (sig : Signature) → AreOne (IsRuleOf sig) (λ (r : RewriteRule). r.place)
+rules_are_one : (sig : Signature) → AreOne (MeansRule sig) (λ (r : RewriteRule). r.place)
 rules_are_one sig = record {
   one = λ a x y is other. rule_one sig a x y is other;
   there = λ a x is. is.place;
@@ -317,8 +317,8 @@ program_found bytes d sig reads few clear is none =
     let rule : (a : AxiomDeclaration) → Contains axioms a → (w : Rewriting) → class_of sig a ≡
     rewrites w → (first : Option SortTree) × FirstOfRule sig first a w None =
     λ a has w class. rule_clear sig None axioms a w none has class in
-    let rules : AreListed (IsRuleOf sig) rule_key axioms =
-    listed (IsRuleOf sig) rule_key (rules_are_one sig) axioms few
+    let rules : AreListed (MeansRule sig) rule_key axioms =
+    listed (MeansRule sig) rule_key (rules_are_one sig) axioms few
     (λ a has. rule_decided sig a sorted (rule a has)) in
     let marks = marks_found sig axioms sorted in
     let all : AreMade sig axioms sig.symbols =

@@ -21,7 +21,7 @@ use Rattle.kore_check.specs.PatternMeanings.{AllMean, none_mean, more_mean}
 use Rattle.kore_check.specs.PatternSorts.{sort_kind}
 use Rattle.kore_check.specs.SortedMeanings.{variable_sorts}
 use Rattle.kore_shapes.specs.Shapes.{Condition, always, tests, ill}
-use Rattle.kore_axioms.specs.AxiomMeanings.{MeansTest, IsRuleOf}
+use Rattle.kore_axioms.specs.AxiomMeanings.{MeansTest, MeansRule}
 use Rattle.kore_axioms.specs.Conditions.{is_bool_kind, is_some_bool, is_bool, over_bool, tested}
 use Rattle.kore_axioms.specs.RuleForms.{holds_of}
 use Rattle.kore_axioms.specs.RuleFaults.{side_faults, condition_faults, sorted_faults, use_faults}
@@ -113,7 +113,7 @@ side_at sig wanted o p e h = sym (ap (side_faults sig wanted) e) ∙ h
 
 pub sorted_rule : (declared final : Signature) (axioms : List AxiomDeclaration)
     (a : AxiomDeclaration) (rule : RewriteRule) (first : Option SortTree) (s : ℕ)
-    → IsKept declared final axioms → IsSignature declared → (r : IsRuleOf declared a rule)
+    → IsKept declared final axioms → IsSignature declared → (r : MeansRule declared a rule)
     → FirstOfRule declared first a r.shape None → sort_number declared.sorts r.shape.sort ≡ Some s
     → IsSortedRule final s rule
 sorted_rule declared final axioms a rule first s kept good r clear number =

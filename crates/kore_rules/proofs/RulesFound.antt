@@ -23,7 +23,7 @@ use Rattle.kore_shapes.specs.Statements.{Statement}
 use Rattle.kore_shapes.specs.EquationForms.{EquationParts}
 use Rattle.kore_axioms.specs.AxiomClasses.{AxiomClass, refused, orders_sorts, rewrites, equates}
 use Rattle.kore_axioms.specs.AxiomClasses.{passed_over, class_of}
-use Rattle.kore_axioms.specs.AxiomMeanings.{with_some_variables, MeansTest, IsRuleOf}
+use Rattle.kore_axioms.specs.AxiomMeanings.{with_some_variables, MeansTest, MeansRule}
 use Rattle.kore_axioms.specs.BuiltRules.{IsFine}
 use Rattle.kore_axioms.specs.Conditions.{tested}
 use Rattle.kore_axioms.specs.Priorities.{priority_of}
@@ -36,7 +36,7 @@ use Rattle.kore_axioms.proofs.FirstLaws.{none_by_byte}
 use Rattle.kore_axioms.proofs.RuleLaws.{fine_rule}
 use Rattle.kore_equations.specs.BuiltEquations.{AreFine, IsFineEquation}
 use Rattle.kore_equations.specs.ClearEquations.{clear_parts, are_bound}
-use Rattle.kore_equations.specs.EquationMeanings.{IsEquationOf, IsUnreadable}
+use Rattle.kore_equations.specs.EquationMeanings.{MeansEquation, IsUnreadable}
 use Rattle.kore_equations.specs.ReadableEquations.{IsReadable, all_read, condition_of_equation}
 use Rattle.kore_equations.proofs.ClassLaws.{function_declared}
 use Rattle.kore_equations.proofs.ClearLaws.{is_readable, none_unreadable, unbound_unreadable}
@@ -89,7 +89,7 @@ are_meant sig sorted qs test right good fine bound =
 
 pub rule_found : (sig : Signature) (first : Option SortTree) (a : AxiomDeclaration) (w : Rewriting)
     → IsSignature sig → class_of sig a ≡ rewrites w → FirstOfRule sig first a w None
-    → (rule : RewriteRule) × IsRuleOf sig a rule
+    → (rule : RewriteRule) × MeansRule sig a rule
 rule_found sig first a w sorted class clear =
     let parts : RuleParts = rule_parts sig w in
     let f : IsFine sig parts =
@@ -146,12 +146,12 @@ are_faultless sig (and_more u us) h = ((h.0.clear, h.0.form), are_faultless sig 
 
 -- the axiom is an equation of its function, or is not readable
 abbrev IsRead : Signature → AxiomDeclaration → List ℕ → Type 0
-IsRead sig a f = ((e : Equation) × IsEquationOf sig f a e) ⊎ IsUnreadable sig f a
+IsRead sig a f = ((e : Equation) × MeansEquation sig f a e) ⊎ IsUnreadable sig f a
 
 equation_of_parts : (sig : Signature) (a : AxiomDeclaration) (e : Statement) (info : SymInfo)
     (q : EquationParts) → IsSignature sig → class_of sig a ≡ equates e
     → symbol_named sig e.function ≡ Some info → clear_parts sig a info e ≡ Some q
-    → are_bound sig e q ≡ true → (x : Equation) × IsEquationOf sig e.function a x
+    → are_bound sig e q ≡ true → (x : Equation) × MeansEquation sig e.function a x
 equation_of_parts sig a e info q sorted class declared clear bound =
     let c = condition_of_equation sig e q in
     let qs : Unfoldeds = all_read q.patterns in
@@ -227,7 +227,7 @@ Decided {X} P = ((x : X) × P x) ⊎ ((x : X) → P x → ⊥)
 
 -- an axiom of another class or of another function is not an equation of this one, readable or not
 abbrev IsNoOf : Signature → List ℕ → AxiomDeclaration → Type 0
-IsNoOf sig f a = ((e : Equation) → IsEquationOf sig f a e → ⊥) × (IsUnreadable sig f a → ⊥)
+IsNoOf sig f a = ((e : Equation) → MeansEquation sig f a e → ⊥) × (IsUnreadable sig f a → ⊥)
 
 other_class : (sig : Signature) (f : List ℕ) (a : AxiomDeclaration) (k : AxiomClass)
     → class_of sig a ≡ k → ((e : Statement) → k ≡ equates e → ⊥) → IsNoOf sig f a
@@ -267,9 +267,9 @@ read_or_not sig f a sorted = by_class (class_of sig a) refl where
       inr (other_class sig f a passed_over class (λ e h. let never : ⊥ = cc in never))
 
 pub equation_decided : (sig : Signature) (f : List ℕ) (a : AxiomDeclaration) → IsSignature sig
-    → Decided (IsEquationOf sig f a)
+    → Decided (MeansEquation sig f a)
 equation_decided sig f a sorted = by_reading (read_or_not sig f a sorted) where
-  by_reading : IsRead sig a f ⊎ IsNoOf sig f a → Decided (IsEquationOf sig f a)
+  by_reading : IsRead sig a f ⊎ IsNoOf sig f a → Decided (MeansEquation sig f a)
   by_reading (inl (inl found)) = inl found
   by_reading (inl (inr bad)) = inr (λ e is. readable_or_not sig f a e is bad)
   by_reading (inr none) = inr none.0
@@ -285,13 +285,13 @@ unreadable_decided sig f a sorted = by_reading (read_or_not sig f a sorted) wher
 -- an axiom without faults is decided to be a rule or not
 pub rule_decided : (sig : Signature) (a : AxiomDeclaration) → IsSignature sig
     → ((w : Rewriting) → class_of sig a ≡ rewrites w
-    → (first : Option SortTree) × FirstOfRule sig first a w None) → Decided (IsRuleOf sig a)
+    → (first : Option SortTree) × FirstOfRule sig first a w None) → Decided (MeansRule sig a)
 rule_decided sig a sorted clear = by_class (class_of sig a) refl where
   none : (k : AxiomClass) → class_of sig a ≡ k → ((w : Rewriting) → k ≡ rewrites w → ⊥)
-      → Decided (IsRuleOf sig a)
+      → Decided (MeansRule sig a)
   none k class other = inr (λ rule is. other is.shape (sym class ∙ is.class))
 
-  by_class : (k : AxiomClass) → class_of sig a ≡ k → Decided (IsRuleOf sig a)
+  by_class : (k : AxiomClass) → class_of sig a ≡ k → Decided (MeansRule sig a)
   by_class (refused n) class = none (refused n) class (λ w h. let never : ⊥ = cc in never)
   by_class orders_sorts class = none orders_sorts class (λ w h. let never : ⊥ = cc in never)
   by_class (rewrites w) class =

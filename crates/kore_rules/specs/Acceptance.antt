@@ -8,6 +8,7 @@ use Rattle.kore_text.specs.declared.faults.TextFault.TheVariants as text_fault
 use Rattle.kore_ast.specs.KoreText.{ReadsPattern, ReadsDefinition}
 use Rattle.term_core.specs.Patterns.{Pattern}
 use Rattle.rule_core.specs.Theories.{RewriteTheory}
+use Rattle.rule_core.specs.declared.rules.Program.{Program}
 use Rattle.rule_core.specs.declared.signature.Signature.{Signature}
 use Rattle.kore_sig.specs.FirstFault.{Fault}
 use Rattle.kore_sig.specs.Declarations.{axioms_of}
@@ -16,7 +17,7 @@ use Rattle.kore_sig.specs.Signatures.{IsSignatureOf}
 use Rattle.kore_check.specs.Folds.{unfolded}
 use Rattle.kore_check.specs.PatternMeanings.{Means}
 use Rattle.kore_rules.specs.FirstRefusal.{FirstOfAxioms, FirstOfDefinition, FirstOfTerm}
-use Rattle.kore_rules.specs.Programs.{IsProgramUnder, IsTopOf}
+use Rattle.kore_rules.specs.Programs.{IsProgramUnder, IsTopOf, KeepsNames}
 
 -- a fault of the text: 1 for its tokens, 2 for its grammar, 3 for too many open brackets
 abbrev pub fault_of_text : TextFault → Fault
@@ -40,6 +41,14 @@ pub record IsAccepted (bytes : List ℕ) (theory : RewriteTheory) (top : Option 
   pub no_axiom_fault : FirstOfAxioms declared (axioms_of definition) None
   pub program : IsProgramUnder declared (axioms_of definition) theory
   pub sort : IsTopOf theory.sig (axioms_of definition) top
+
+-- The bytes spell a definition, and its axioms name the variables of the program.
+pub record NamesVariables (bytes : List ℕ) (p : Program) : Type 0 where
+  pub definition : DefinitionTree
+  pub spelled : ReadsDefinition bytes definition
+  pub declared : Signature
+  pub signature : IsSignatureOf definition declared
+  pub named : KeepsNames declared (axioms_of definition) p
 
 -- The bytes are refused as a definition for this fault.
 abbrev pub IsRefused : List ℕ → Fault → Type 0

@@ -52,6 +52,13 @@ EachTermIsDecided =
     ((start : Pattern) × IsAcceptedTerm sig top bytes start)
     ⊎ ((f : Fault) × IsRefusedTerm sig top bytes f)
 
+-- a text means one start at most
+abbrev pub StartIsOne : Type 0
+StartIsOne =
+    (sig : Signature) (top : Option ℕ) (bytes : List ℕ) (p q : Pattern)
+    → IsAcceptedTerm sig top bytes p →
+    IsAcceptedTerm sig top bytes q → p ≡ q
+
 -- ---- trees
 
 -- a text spells at most one definition and at most one pattern

@@ -17,8 +17,9 @@ use Rattle.rule_core.specs.declared.signature.Signature.{Signature}
 use Rattle.kore_sig.specs.SortReferences.{sort_number}
 use Rattle.kore_shapes.specs.Shapes.{Rewriting}
 use Rattle.kore_axioms.specs.AxiomClasses.{rewrites, class_of}
-use Rattle.kore_axioms.specs.AxiomMeanings.{IsRuleOf}
-use Rattle.kore_equations.specs.EquationMeanings.{IsEquationOf, IsUnreadable}
+use Rattle.kore_axioms.specs.AxiomMeanings.{MeansRule, MeansNamedRule}
+use Rattle.kore_equations.specs.EquationMeanings.{MeansEquation, IsUnreadable}
+use Rattle.kore_rules.specs.Programs.{AreOf, IsSomeEquation}
 use Rattle.kore_rules.specs.declared.axioms.Readings.{Readings}
 
 abbrev pub tree_at : Bor AxiomDecl → AxiomDeclaration
@@ -40,7 +41,7 @@ pub record AreRead {X : Type 0} (Is : AxiomDeclaration → X → Type 0) (place 
 -- the axiom is this equation of the function with this number
 abbrev pub IsNumberedEquation : Signature → AxiomDeclaration → ℕ × plain.Equation → Type 0
 IsNumberedEquation sig a e =
-    (f : List ℕ) × (number_of sig.symbols f ≡ Some e.0) × IsEquationOf sig f a e.1
+    (f : List ℕ) × (number_of sig.symbols f ≡ Some e.0) × MeansEquation sig f a e.1
 
 abbrev pub numbered_equation : Equation → ℕ × plain.Equation
 numbered_equation e = (e.fun.0, function_equation e)
@@ -67,10 +68,12 @@ IsFirstSort sig axioms (Some s) =
 -- what is read of these axioms
 pub record HaveRead (sig : Signature) (axioms : List AxiomDeclaration) (read : Readings) :
     Type 0 where
-  pub rules : AreRead (IsRuleOf sig) (λ (r : RewriteRule). r.place) axioms
+  pub rules : AreRead (MeansRule sig) (λ (r : RewriteRule). r.place) axioms
       (map rewrite_rule read.rules.items)
   pub equations : AreRead (IsNumberedEquation sig) (λ (e : ℕ × plain.Equation). e.1.place) axioms
       (map numbered_equation read.equations.items)
+  pub named_rules : AreOf (MeansNamedRule sig) axioms read.rules.items
+  pub named_equations : AreOf (IsSomeEquation sig) axioms read.equations.items
   pub marked : length read.unreadable.items ≡ length sig.symbols
   pub unreadable : (n : ℕ) → IsTrue (is_marked read.unreadable.items n) ↔ HasUnreadable sig axioms n
 

@@ -12,7 +12,7 @@ use Rattle.kore_sig.specs.Declarations.{axioms_of}
 use Rattle.kore_sig.specs.SignatureFaults.{FirstOfSignature}
 use Rattle.kore_sig.specs.Signatures.{IsSignatureOf}
 use Rattle.kore_rules.specs.FirstRefusal.{FirstOfAxioms}
-use Rattle.kore_rules.specs.Programs.{IsProgramUnder, IsTopOf}
+use Rattle.kore_rules.specs.Programs.{IsProgramUnder, IsTopOf, KeepsNames}
 
 -- the definition has no fault and means this program, and the rules have this sort
 pub record IsMadeOf (d : DefinitionTree) (theory : RewriteTheory) (top : Option ℕ) : Type 0 where
@@ -28,3 +28,8 @@ pub record IsMadeOf (d : DefinitionTree) (theory : RewriteTheory) (top : Option 
 -- each equation is listed for its own function
 abbrev pub ListsOwnEquations : Program → Type 0
 ListsOwnEquations program = (f i : ℕ) (e : Equation) → IsEquationAt program f i e → e.fun.0 ≡ f
+
+-- the axioms of the definition name the variables of the program
+abbrev pub HasNamesOf : DefinitionTree → Program → Type 0
+HasNamesOf d p =
+    (declared : Signature) × IsSignatureOf d declared × KeepsNames declared (axioms_of d) p

@@ -13,12 +13,12 @@ abbrev pub RefusesFor : (Fault → Type 0) → Refusal → Type 0
 RefusesFor P (Refused number byte) = P (record { number = number; byte = byte })
 RefusesFor P Memory = Unit {0}
 
-abbrev pub sort_of : Option SortId → Option ℕ
-sort_of sort = option_map (λ (s : SortId). s.0) sort
+abbrev pub number_of_sort : Option SortId → Option ℕ
+number_of_sort sort = option_map (λ (s : SortId). s.0) sort
 
 -- the sort of the rules that the program states, if there is one
 abbrev pub top_of : Program → Option ℕ
-top_of program = sort_of program.top
+top_of program = number_of_sort program.top
 
 -- all rules have this sort; None if there are no rules
 abbrev pub IsSortOfRules : RewriteTheory → Option ℕ → Type 0

@@ -15,12 +15,13 @@ ghost use Rattle.rule_core.specs.WellSorted.{IsSignature, IsWellSorted, IsStart}
 ghost use Rattle.kore_sig.specs.Declarations.{axioms_of as the_axioms, pairs_of_axiom};
 ghost use Rattle.kore_sig.specs.Signatures.{IsNumbered, IsPairOf};
 ghost use Rattle.kore_rules.specs.Acceptance.{IsAccepted, IsAcceptedTerm, IsRefused, IsRefusedTerm};
+ghost use Rattle.kore_rules.specs.Acceptance.{NamesVariables};
 ghost use Rattle.kore_rules.specs.AxiomsRead.{HaveRead, IsFirstSort, AreFew, sort_at, tree_at};
 ghost use Rattle.kore_rules.specs.FirstRefusal.{FirstOfDefinition};
 ghost use Rattle.kore_rules.specs.Names.{HasIdentifierNames};
-ghost use Rattle.kore_rules.specs.MadePrograms.{IsMadeOf, ListsOwnEquations};
-ghost use Rattle.kore_rules.specs.Programs.{IsProgramUnder, IsTopOf};
-ghost use Rattle.kore_rules.specs.RefusedTexts.{RefusesFor, top_of, sort_of, IsSortOfRules};
+ghost use Rattle.kore_rules.specs.MadePrograms.{IsMadeOf, ListsOwnEquations, HasNamesOf};
+ghost use Rattle.kore_rules.specs.Programs.{IsProgramUnder, IsTopOf, KeepsNames};
+ghost use Rattle.kore_rules.specs.RefusedTexts.{RefusesFor, top_of, number_of_sort, IsSortOfRules};
 
 use crate::axioms::{Readings, read_axioms};
 use crate::declared::{axioms_of, signature_of};
@@ -34,12 +35,12 @@ use kore_axioms::Refusal;
 use kore_lex::token_laws;
 use kore_sig::sort_number;
 use kore_text::name_laws;
-use rule_core::{Program, Signature};
+use rule_core::{Program, Signature, TextHasher};
 use std::alloc::{AllocError, Global};
 use term_core::{RulePat, SortId};
 
 /// Returns the program that a definition means. Each variable of a rule occurs in its left side,
-/// and each variable of an equation occurs in its arguments.
+/// and each variable of an equation occurs in its arguments. A variable has its name in the text.
 ///
 /// The error is the first fault of the text, or else that of its declarations, or else that of its
 /// axioms in the order of the file, or that memory ran out.
@@ -58,20 +59,26 @@ pub fn accept(alloc: Global, bytes: &[u8]) -> Result<Program, Refusal>
         (λ p. (f : ℕ) → length (equations_of (theory_of p) f) ≤ 2 ^ 32) }
     ensures bound { IfOk result HasBoundVariables }
     ensures names { IfOk result (λ p. HasIdentifierNames p.sig) }
+    ensures variables { IfOk result (NamesVariables bytes.now) }
     ensures refused { IfErr result (RefusesFor (IsRefused bytes.now)) }
 {
     token_laws();
     name_laws();
     let definition = definition_in(alloc, bytes)?;
-    program_of(alloc, &definition)
+    program_of(alloc, TextHasher::of_text(bytes), &definition)
 }
 
-/// The program that a definition means. The error is the first fault of its declarations, or else
-/// of its axioms.
-fn program_of(alloc: Global, definition: &Definition) -> Result<Program, Refusal>
+/// The program that a definition means. `hasher` hashes its names. The error is the first fault of
+/// its declarations, or else of its axioms.
+fn program_of(
+    alloc: Global,
+    hasher: TextHasher,
+    definition: &Definition,
+) -> Result<Program, Refusal>
     requires { AreFew (the_axioms (plain_definition definition.now)) }
     ensures made { IfOk result
         (λ p. IsMadeOf (plain_definition definition.now) (theory_of p) (top_of p)) }
+    ensures named { IfOk result (HasNamesOf (plain_definition definition.now)) }
     ensures numbered { IfOk result (λ p. IsNumbered p.sig) }
     ensures rules { IfOk result (λ p. length p.rules.items ≤ 2 ^ 32) }
     ensures equations { IfOk result
@@ -80,19 +87,19 @@ fn program_of(alloc: Global, definition: &Definition) -> Result<Program, Refusal
     ensures refused { IfErr result
         (RefusesFor (λ f. FirstOfDefinition (plain_definition definition.now) (Some f))) }
 {
-    let sig = signature_of(alloc, definition)?;
+    let sig = signature_of(alloc, hasher, definition)?;
     sig.symbols.names_differ();
-    let axioms = axioms_of(alloc, definition)?;
+    let axioms = axioms_of(alloc, hasher, definition)?;
     let (readings, first) = read_axioms(alloc, &sig, &axioms)?;
     let top = sort_of_rules(&sig, first);
-    Ok(program_under(alloc, sig, &axioms, readings, top)?)
+    Ok(program_under(alloc, hasher, sig, &axioms, readings, top)?)
 }
 
 /// The number of the sort of the rules, if there are rules.
 fn sort_of_rules(sig: &Signature, first: Option<&Sort>) -> Option<SortId>
     requires numbered { IsNumbered sig.now }
     ensures { (axioms : List AxiomDeclaration) → IsFirstSort sig.now axioms (sort_at first.entry) →
-        IsTopOf sig.now axioms (sort_of result) }
+        IsTopOf sig.now axioms (number_of_sort result) }
 {
     let number = sort_number(&sig.sorts, first?)?;
     Some(SortId(number as u32))
@@ -102,6 +109,7 @@ fn sort_of_rules(sig: &Signature, first: Option<&Sort>) -> Option<SortId>
 /// the axioms, and `top` is the sort of the rules.
 fn program_under(
     alloc: Global,
+    hasher: TextHasher,
     sig: Signature,
     axioms: &[&AxiomDecl],
     readings: Readings,
@@ -115,7 +123,8 @@ fn program_under(
     requires few { AreFew (map tree_at axioms.now) }
     requires read { HaveRead sig (map tree_at axioms.now) readings }
     ensures means { IfOk result (λ p. IsProgramUnder sig (map tree_at axioms.now) (theory_of p)) }
-    ensures top { IfOk result (λ p. top_of p ≡ sort_of top) }
+    ensures named { IfOk result (KeepsNames sig (map tree_at axioms.now)) }
+    ensures top { IfOk result (λ p. top_of p ≡ number_of_sort top) }
     ensures numbered { IfOk result (λ p. IsNumbered p.sig) }
     ensures rules { IfOk result (λ p. length p.rules.items ≤ 2 ^ 32) }
     ensures equations { IfOk result
@@ -123,7 +132,7 @@ fn program_under(
     ensures own { IfOk result ListsOwnEquations }
 {
     let with_terms = sorts_with_terms(alloc, &sig, axioms)?;
-    let symbols = final_symbols(alloc, &sig, &with_terms, &readings.unreadable)?;
+    let symbols = final_symbols(alloc, hasher, &sig, &with_terms, &readings.unreadable)?;
     let mut rules = readings.rules;
     put_rules_in_order(&mut rules)?;
     let mut equations = readings.equations;

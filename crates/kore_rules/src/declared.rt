@@ -14,11 +14,15 @@ ghost use Rattle.kore_rules.specs.RefusedTexts.{RefusesFor};
 use kore_ast::{AxiomDecl, Decl, Definition};
 use kore_axioms::Refusal;
 use kore_sig::{SigFault, counted_declarations, signature};
-use rule_core::Signature;
+use rule_core::{Signature, TextHasher};
 use std::alloc::{AllocError, Global};
 
 /// The signature that a definition declares. The error is the first fault of its declarations.
-pub(crate) fn signature_of(alloc: Global, definition: &Definition) -> Result<Signature, Refusal>
+pub(crate) fn signature_of(
+    alloc: Global,
+    hasher: TextHasher,
+    definition: &Definition,
+) -> Result<Signature, Refusal>
     ensures declared { IfOk result (IsSignatureOf (plain_definition definition.now)) }
     ensures faultless { OnOk result (FirstOfSignature (plain_definition definition.now) None) }
     ensures sorted { IfOk result IsSignature }
@@ -26,7 +30,7 @@ pub(crate) fn signature_of(alloc: Global, definition: &Definition) -> Result<Sig
     ensures refused { IfErr result
         (RefusesFor (λ f. FirstOfSignature (plain_definition definition.now) (Some f))) }
 {
-    signature(alloc, definition).map_err(refusal_of)
+    signature(alloc, hasher, definition).map_err(refusal_of)
 }
 
 /// The refusal for a fault: its number and its byte.
@@ -48,12 +52,13 @@ fn refusal_of(fault: SigFault) -> Refusal
 /// The axioms of the modules that count, in the order of the file.
 pub(crate) fn axioms_of(
     alloc: Global,
+    hasher: TextHasher,
     definition: &Definition,
 ) -> Result<Vec<&AxiomDecl>, AllocError>
     ensures { IfOk result
         (λ decls. map tree_at decls.items ≡ the_axioms (plain_definition definition.now)) }
 {
-    let decls = counted_declarations(alloc, definition)?;
+    let decls = counted_declarations(alloc, hasher, definition)?;
     let mut axioms = Vec::new(alloc);
     for decl in &decls {
         add_axiom(decl, &mut axioms)?;

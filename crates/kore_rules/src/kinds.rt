@@ -16,7 +16,7 @@ ghost use Rattle.kore_rules.specs.ScalarSorts.{final_kind as the_final_kind};
 ghost use Rattle.kore_rules.specs.ScalarSorts.{kind_of_function as the_kind_of_function, IsFinal};
 
 use hook_table::{HookRow, ScalarKind, find, hook_rows};
-use rule_core::{Signature, SortKind, SortRef, SymInfo, SymKind, Table};
+use rule_core::{Signature, SortKind, SortRef, SymInfo, SymKind, Table, TextHasher};
 use std::alloc::{AllocError, Global};
 use term_core::HookNo;
 
@@ -25,6 +25,7 @@ use term_core::HookNo;
 /// symbol once, and copies it.
 pub(crate) fn final_symbols(
     alloc: Global,
+    hasher: TextHasher,
     sig: &Signature,
     with_terms: &[bool],
     unreadable: &[bool],
@@ -32,7 +33,7 @@ pub(crate) fn final_symbols(
     ensures { IfOk result (AllZip (IsFinal sig.now with_terms.now unreadable.now) sig.now.symbols) }
 {
     sig.symbols.names_differ();
-    let mut symbols = Table::new(alloc);
+    let mut symbols = Table::hashed_by(alloc, hasher);
     for number in 0..sig.symbols.len() {
         let (Some(name), Some(symbol)) = (sig.symbols.name(number), sig.symbols.value(number))
         else {

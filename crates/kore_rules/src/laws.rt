@@ -2,7 +2,7 @@
 ghost use Rattle.kore_rules.specs.AcceptanceLaws.{AcceptedIsNotRefused, RefusalIsOne};
 ghost use Rattle.kore_rules.specs.AcceptanceLaws.{EachTextIsDecided};
 ghost use Rattle.kore_rules.specs.AcceptanceLaws.{AcceptedTermIsNotRefused, TermRefusalIsOne};
-ghost use Rattle.kore_rules.specs.AcceptanceLaws.{EachTermIsDecided};
+ghost use Rattle.kore_rules.specs.AcceptanceLaws.{EachTermIsDecided, StartIsOne};
 ghost use Rattle.kore_rules.specs.AcceptanceLaws.{DefinitionIsOne, PatternIsOne};
 ghost use Rattle.kore_rules.specs.AcceptanceLaws.{DefinitionFaultIsOne, TermFaultIsOne};
 ghost use Rattle.kore_rules.specs.AcceptanceLaws.{AxiomFaultIsOne, TextFaultIsOne};
@@ -17,7 +17,7 @@ use std::alloc::Global;
 
 /// Does nothing at run time. It gives its caller these laws, for definitions and for terms. Each
 /// text is accepted or refused, and none is both. A refused text is refused for one fault only. A
-/// text spells at most one tree. First faults are unique.
+/// term means one start only. A text spells at most one tree. First faults are unique.
 ///
 /// The allocator is never used. It is a parameter because the program that a text means has lists
 /// and names, and their values need an allocator.
@@ -28,6 +28,7 @@ pub fn acceptance_laws(_alloc: Global)
     ensures exclusive_term { AcceptedTermIsNotRefused }
     ensures refusal_term { TermRefusalIsOne }
     ensures decided_term { EachTermIsDecided }
+    ensures start { StartIsOne }
     ensures tree { DefinitionIsOne }
     ensures tree_term { PatternIsOne }
     ensures definition { DefinitionFaultIsOne }

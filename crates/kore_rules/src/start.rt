@@ -13,7 +13,7 @@ ghost use Rattle.kore_check.specs.PatternMeanings.{Means};
 ghost use Rattle.kore_check.specs.PatternSorts.{sort_of as the_sort};
 ghost use Rattle.kore_rules.specs.FirstRefusal.{FirstOfTerm};
 ghost use Rattle.kore_rules.specs.GroundTerms.{ground_faults};
-ghost use Rattle.kore_rules.specs.RefusedTexts.{RefusesFor, sort_of};
+ghost use Rattle.kore_rules.specs.RefusedTexts.{RefusesFor, number_of_sort};
 ghost use Rattle.kore_rules.specs.Starts.{HasStartSort, differs_from as does_differ};
 
 use crate::ground::first_not_ground;
@@ -33,12 +33,12 @@ pub(crate) fn start_of(
 ) -> Result<RulePat, Refusal>
     requires numbered { IsNumbered sig.now }
     requires signature { IsSignature sig.now }
-    ensures faultless { OnOk result (FirstOfTerm sig.now (sort_of top) (plain_tree term.now) None) }
+    ensures faultless { OnOk result (FirstOfTerm sig.now (number_of_sort top) (plain_tree term.now) None) }
     ensures means { IfOk result
         (λ p. Means sig.now [] (unfolded (plain_tree term.now)) (plain_pattern p)) }
-    ensures sort { IfOk result (λ p. HasStartSort sig.now (sort_of top) (plain_pattern p)) }
+    ensures sort { IfOk result (λ p. HasStartSort sig.now (number_of_sort top) (plain_pattern p)) }
     ensures refused { IfErr result
-        (RefusesFor (λ f. FirstOfTerm sig.now (sort_of top) (plain_tree term.now) (Some f))) }
+        (RefusesFor (λ f. FirstOfTerm sig.now (number_of_sort top) (plain_tree term.now) (Some f))) }
 {
     if let Some(at) = first_not_ground(term) {
         return Err(Refusal::Refused(26, at));
@@ -91,7 +91,7 @@ fn refusal_of(fault: CheckFault) -> Refusal
 
 /// Whether the rules have a sort and it is not this one.
 fn differs_from(top: Option<SortId>, sort: SortId) -> bool
-    ensures { result ≡ does_differ (sort_of top) sort.0 }
+    ensures { result ≡ does_differ (number_of_sort top) sort.0 }
 {
     top.is_some_and(|top| top != sort)
 }

@@ -82,7 +82,7 @@ pub(crate) fn hook_of(attrs: &[Pat]) -> Option<&str>
 
 /// Whether some attribute says that the symbol is associative, commutative or idempotent, or has a
 /// unit.
-pub(crate) fn is_said_ac(attrs: &[Pat]) -> bool
+pub fn is_said_ac(attrs: &[Pat]) -> bool
     ensures { result ≡ is_ac (map pattern_tree attrs.now) }
 {
     has_attribute(attrs, "assoc")

@@ -8,7 +8,7 @@ ghost use Rattle.kore_sig.specs.Sets.{Knows};
 
 use crate::names::{add_name, has_name};
 use kore_ast::{Decl, Definition, Module};
-use rule_core::Table;
+use rule_core::{Table, TextHasher};
 use std::alloc::{AllocError, Global};
 
 /// A declaration of a module that counts.
@@ -26,12 +26,13 @@ pub(crate) struct Placed<'a> {
 /// in the number of these names. The error is `AllocError`: out of memory.
 pub fn counted_declarations(
     alloc: Global,
+    hasher: TextHasher,
     definition: &Definition,
 ) -> Result<Vec<&Decl>, AllocError>
     ensures { IfOk result (λ ds. map (λ d. plain_declaration d.now) ds.items
         ≡ the_counted (plain_definition definition.now)) }
 {
-    let placed = placed_declarations(alloc, definition)?;
+    let placed = placed_declarations(alloc, hasher, definition)?;
     let mut decls = Vec::with_capacity(alloc, placed.len())?;
     for one in &placed {
         decls.push(one.decl)?;
@@ -42,6 +43,7 @@ pub fn counted_declarations(
 /// The same declarations, each with the number of its module.
 pub(crate) fn placed_declarations(
     alloc: Global,
+    hasher: TextHasher,
     definition: &Definition,
 ) -> Result<Vec<Placed<'_>>, AllocError>
     ensures counted { IfOk result (λ ps. map (λ p. plain_declaration p.decl.now) ps.items
@@ -51,7 +53,7 @@ pub(crate) fn placed_declarations(
         ≡ the_placed [] (plain_definition definition.now).modules) }
 {
     let modules = &definition.modules;
-    let counted = marks(alloc, modules)?;
+    let counted = marks(alloc, hasher, modules)?;
     let mut placed = Vec::new(alloc);
     for (i, module) in modules.iter().enumerate() {
         if counted[i] {
@@ -79,10 +81,10 @@ fn place<'a>(
 }
 
 /// Whether each module counts. It goes from the last module to the first.
-fn marks(alloc: Global, modules: &[Module]) -> Result<Vec<bool>, AllocError>
+fn marks(alloc: Global, hasher: TextHasher, modules: &[Module]) -> Result<Vec<bool>, AllocError>
     ensures { IfOk result (λ marks. marks.items ≡ marks_of (map plain_module modules.now)) }
 {
-    let mut imported = Table::new(alloc);
+    let mut imported = Table::hashed_by(alloc, hasher);
     let mut marks = Vec::with_capacity(alloc, modules.len())?;
     for i in (0..modules.len()).rev() {
         let module = &modules[i];

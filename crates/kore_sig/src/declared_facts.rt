@@ -13,7 +13,7 @@ use crate::counted::Placed;
 use crate::kinds::{has_injection_form, kind_of_hook, said_ac};
 use crate::names::add_name;
 use kore_ast::{AxiomDecl, Decl, SortDecl};
-use rule_core::{SortInfo, Table};
+use rule_core::{SortInfo, Table, TextHasher};
 use std::alloc::{AllocError, Global};
 
 /// The declared sorts, the name of the injection symbol, and the symbols that axioms say to be
@@ -29,21 +29,26 @@ pub(crate) struct DeclaredFacts<'a> {
 /// is kept.
 pub(crate) fn learn<'a>(
     alloc: Global,
+    hasher: TextHasher,
     decls: &[Placed<'a>],
 ) -> Result<DeclaredFacts<'a>, AllocError>
     ensures { IfOk result (IsKnown (map (λ p. plain_declaration p.decl.now) decls.now)) }
 {
     Ok(DeclaredFacts {
-        sorts: sorts_in(alloc, decls)?,
+        sorts: sorts_in(alloc, hasher, decls)?,
         injection: injection_in(decls),
-        ac: ac_in(alloc, decls)?,
+        ac: ac_in(alloc, hasher, decls)?,
     })
 }
 
-fn sorts_in(alloc: Global, decls: &[Placed<'_>]) -> Result<Table<SortInfo>, AllocError>
+fn sorts_in(
+    alloc: Global,
+    hasher: TextHasher,
+    decls: &[Placed<'_>],
+) -> Result<Table<SortInfo>, AllocError>
     ensures { IfOk result (IsSortTable (map (λ p. plain_declaration p.decl.now) decls.now)) }
 {
-    let mut sorts = Table::new(alloc);
+    let mut sorts = Table::hashed_by(alloc, hasher);
     for placed in decls {
         if let Decl::SortDecl(decl) = placed.decl {
             add_sort(alloc, &mut sorts, decl)?;
@@ -79,11 +84,11 @@ fn injection_in<'a>(decls: &[Placed<'a>]) -> Option<&'a str>
     None
 }
 
-fn ac_in(alloc: Global, decls: &[Placed<'_>]) -> Result<Table<()>, AllocError>
+fn ac_in(alloc: Global, hasher: TextHasher, decls: &[Placed<'_>]) -> Result<Table<()>, AllocError>
     ensures { IfOk result
         (λ names. Knows names (the_ac_in (map (λ p. plain_declaration p.decl.now) decls.now))) }
 {
-    let mut names = Table::new(alloc);
+    let mut names = Table::hashed_by(alloc, hasher);
     for placed in decls {
         if let Decl::Axiom(decl) = placed.decl
             && let Some(name) = said_ac(decl)

@@ -24,7 +24,7 @@ mod pairs;
 mod references;
 mod symbols;
 
-pub use attributes::{first_of_name, has_attribute, text_of};
+pub use attributes::{first_of_name, has_attribute, is_said_ac, text_of};
 pub use counted::counted_declarations;
 pub use faults::SigFault;
 pub use laws::signature_laws;

@@ -16,10 +16,13 @@ use crate::names::add_name;
 use crate::pairs::stated_order;
 use crate::symbols::declared_symbols;
 use kore_ast::{Definition, Module};
-use rule_core::{Signature, Table};
+use rule_core::{Signature, Table, TextHasher};
 use std::alloc::Global;
 
-/// Returns the signature that a definition declares. A function has the kind `Closed` if it has
+/// The greatest number of sorts, and of symbols: their numbers and the count fit in 32 bits.
+const MOST_NAMES: usize = 0xFFFF_FFFF;
+
+/// Returns the signature that a definition declares. `hasher` hashes its names. A function has the kind `Closed` if it has
 /// sort parameters, and `Equations` otherwise, whatever its hook.
 ///
 /// The error is the first fault of the declarations. The names of all modules come first, then the
@@ -28,23 +31,27 @@ use std::alloc::Global;
 /// first, and for the same number the first byte. The error is `SigFault::Memory` if memory runs
 /// out, or if there are 2^32 or more sorts, symbols, or parameters of one symbol.
 ///
-/// It looks at each declaration a few times. It looks up each name, in a time logarithmic in the
-/// number of names. See `Subsorts` for the cost of the pairs. It does not recurse.
-pub fn signature(alloc: Global, definition: &Definition) -> Result<Signature, SigFault>
+/// It looks at each declaration a few times, with a look-up in a hash table for each name. See
+/// `Subsorts` for the cost of the pairs. It does not recurse.
+pub fn signature(
+    alloc: Global,
+    hasher: TextHasher,
+    definition: &Definition,
+) -> Result<Signature, SigFault>
     ensures declared { IfOk result (IsSignatureOf (plain_definition definition.now)) }
     ensures faultless { OnOk result (FirstOfSignature (plain_definition definition.now) None) }
     ensures sorted { IfOk result IsSignature }
     ensures numbered { IfOk result IsNumbered }
     ensures refused { IfErr result (IsRefusal (plain_definition definition.now)) }
 {
-    let modules = module_names(alloc, &definition.modules)?;
-    let decls = placed_declarations(alloc, definition)?;
-    let known = learn(alloc, &decls)?;
-    if u32::try_from(known.sorts.len()).is_err() {
+    let modules = module_names(alloc, hasher, &definition.modules)?;
+    let decls = placed_declarations(alloc, hasher, definition)?;
+    let known = learn(alloc, hasher, &decls)?;
+    if known.sorts.len() > MOST_NAMES {
         return Err(SigFault::Memory);
     }
-    let symbols = declared_symbols(alloc, &modules, &known, &decls)?;
-    if u32::try_from(symbols.len()).is_err() {
+    let symbols = declared_symbols(alloc, hasher, &modules, &known, &decls)?;
+    if symbols.len() > MOST_NAMES {
         return Err(SigFault::Memory);
     }
     let subsorts = stated_order(alloc, &known.sorts, &decls)?;
@@ -58,13 +65,17 @@ pub fn signature(alloc: Global, definition: &Definition) -> Result<Signature, Si
 
 /// The names of the modules, in the order of the file. The error is the first name that occurs
 /// twice.
-fn module_names(alloc: Global, modules: &[Module]) -> Result<Table<()>, SigFault>
+fn module_names(
+    alloc: Global,
+    hasher: TextHasher,
+    modules: &[Module],
+) -> Result<Table<()>, SigFault>
     ensures refused { IfErr result
         (Refuses (λ r. first_module [] (map plain_module modules.now) ≡ r)) }
     ensures clear { OnOk result (first_module [] (map plain_module modules.now) ≡ None) }
     ensures names { IfOk result (λ names. names_of names ≡ names_of_modules modules.now) }
 {
-    let mut names = Table::new(alloc);
+    let mut names = Table::hashed_by(alloc, hasher);
     for module in modules {
         if !add_name(alloc, &mut names, &module.name)? {
             return Err(SigFault::Duplicate(module.at));

@@ -25,13 +25,14 @@ use crate::kinds::kind_of;
 use crate::names::{add_name, has_name};
 use crate::references::sort_reference;
 use kore_ast::{Decl, Pat, Sort, SymbolDecl, Text};
-use rule_core::{SortInfo, SortRef, SymInfo, Table};
+use rule_core::{SortInfo, SortRef, SymInfo, Table, TextHasher};
 use std::alloc::{AllocError, Global};
 
 /// The declared symbols. `modules` has all modules by number. The error is the first fault of the
 /// declarations.
 pub(crate) fn declared_symbols(
     alloc: Global,
+    hasher: TextHasher,
     modules: &Table<()>,
     known: &DeclaredFacts<'_>,
     decls: &[Placed<'_>],
@@ -48,8 +49,8 @@ pub(crate) fn declared_symbols(
     ensures symbols { IfOk result
         (AreSymbols known.now (map (λ p. plain_declaration p.decl.now) decls.now)) }
 {
-    let mut seen = Table::new(alloc);
-    let mut symbols = Table::new(alloc);
+    let mut seen = Table::hashed_by(alloc, hasher);
+    let mut symbols = Table::hashed_by(alloc, hasher);
     for placed in decls {
         if let Some(fault) = declaration_fault(modules, &known.sorts, &seen, &symbols, placed) {
             return Err(fault);

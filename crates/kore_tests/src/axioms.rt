@@ -5,7 +5,7 @@ ghost use Rattle.kore_sig.specs.Signatures.{IsNumbered};
 use kore_ast::{AxiomDecl, Decl, Sort, read_definition};
 use kore_axioms::{AxiomClass, Refusal, checked_rule, class_of, priority_of};
 use kore_sig::{counted_declarations, signature};
-use rule_core::Signature;
+use rule_core::{Signature, TextHasher};
 use std::alloc::Global;
 use std::test::Fail;
 
@@ -31,11 +31,11 @@ fn first_fault(alloc: Global, axioms: &str) -> Result<Option<(u8, u32)>, Fail> {
     let Ok(definition) = read_definition(alloc, text.as_bytes()) else {
         return Err(Fail::from("unreadable"));
     };
-    let Ok(sig) = signature(alloc, &definition) else {
+    let Ok(sig) = signature(alloc, TextHasher::without_text(), &definition) else {
         return Err(Fail::from("no signature"));
     };
     let mut first = None;
-    for decl in counted_declarations(alloc, &definition)?.iter() {
+    for decl in counted_declarations(alloc, TextHasher::without_text(), &definition)?.iter() {
         if let Decl::Axiom(decl) = decl {
             match fault_of(alloc, &sig, &mut first, decl) {
                 Ok(()) => {}

@@ -6,7 +6,7 @@ ghost use Rattle.kore_sig.specs.Signatures.{IsNumbered};
 use kore_ast::{read_definition, read_pattern};
 use kore_check::note_pattern;
 use kore_sig::signature;
-use rule_core::Signature;
+use rule_core::{Signature, TextHasher};
 use std::alloc::Global;
 use std::process::Abort;
 use std::test::Fail;
@@ -36,7 +36,7 @@ pub(crate) fn small_signature(rt: &impl Abort, alloc: Global) -> Result<Signatur
     let bytes = DEFINITION.as_bytes();
     assert!(rt; bytes.len() < 10_000);
     let definition = read_definition(alloc, bytes)?;
-    let sig = signature(alloc, &definition)?;
+    let sig = signature(alloc, TextHasher::without_text(), &definition)?;
     Ok(sig)
 }
 

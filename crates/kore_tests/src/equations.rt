@@ -6,7 +6,7 @@ use kore_ast::{AxiomDecl, Decl, read_definition};
 use kore_axioms::{AxiomClass, class_of};
 use kore_equations::{Reading, read_equation};
 use kore_sig::{counted_declarations, signature};
-use rule_core::{Equation, Signature};
+use rule_core::{Equation, Signature, TextHasher};
 use std::alloc::Global;
 use std::test::Fail;
 
@@ -45,10 +45,10 @@ fn counts_in(alloc: Global, axiom: &str) -> Result<Option<Counts>, Fail> {
     let Ok(definition) = read_definition(alloc, text.as_bytes()) else {
         return Err(Fail::from("unreadable"));
     };
-    let Ok(sig) = signature(alloc, &definition) else {
+    let Ok(sig) = signature(alloc, TextHasher::without_text(), &definition) else {
         return Err(Fail::from("no signature"));
     };
-    for decl in counted_declarations(alloc, &definition)?.iter() {
+    for decl in counted_declarations(alloc, TextHasher::without_text(), &definition)?.iter() {
         if let Decl::Axiom(decl) = decl {
             return counts_at(alloc, &sig, decl);
         }

@@ -3,6 +3,7 @@
 // caret.
 use kore_ast::read_definition;
 use kore_sig::{SigFault, signature};
+use rule_core::TextHasher;
 use std::alloc::Global;
 use std::test::Fail;
 
@@ -215,7 +216,7 @@ fn first_fault(alloc: Global, text: &str) -> (u32, u32) {
         return (1_001, 0);
     }
     match read_definition(alloc, text.as_bytes()) {
-        Ok(definition) => match signature(alloc, &definition) {
+        Ok(definition) => match signature(alloc, TextHasher::without_text(), &definition) {
             Ok(_) => (0, 0),
             Err(fault) => number_and_byte(fault),
         },

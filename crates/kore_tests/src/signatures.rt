@@ -4,7 +4,7 @@ use kore_sig::{
     counted_declarations, first_of_name, has_attribute, signature, signature_laws, sort_number,
     text_of,
 };
-use rule_core::{Signature, SortInfo, SortRef, SymInfo, Table};
+use rule_core::{Signature, SortInfo, SortRef, SymInfo, Table, TextHasher};
 use std::alloc::Global;
 use std::test::Fail;
 use term_core::SortId;
@@ -135,7 +135,7 @@ fn shown(alloc: Global, text: &str) -> Result<String, Fail> {
         return Ok(String::from_str(alloc, "long")?);
     }
     match read_definition(alloc, text.as_bytes()) {
-        Ok(definition) => match signature(alloc, &definition) {
+        Ok(definition) => match signature(alloc, TextHasher::without_text(), &definition) {
             Ok(sig) => shown_signature(alloc, &sig),
             Err(fault) => Ok(format!(in alloc; "{fault}")?),
         },
@@ -202,7 +202,7 @@ fn declarations_attributes_and_sorts(rt: HostRuntime) -> Result<(), Fail> {
     let Ok(definition) = read_definition(alloc, text.as_bytes()) else {
         return Err(Fail::from("unreadable"));
     };
-    let decls = counted_declarations(alloc, &definition)?;
+    let decls = counted_declarations(alloc, TextHasher::without_text(), &definition)?;
     assert_eq!(rt; decls.len(), 4);
     let Some(Decl::Axiom(stated)) = decls.last() else {
         return Err(Fail::from("no axiom"));
@@ -212,7 +212,9 @@ fn declarations_attributes_and_sorts(rt: HostRuntime) -> Result<(), Fail> {
         return Err(Fail::from("no attribute"));
     };
     assert_eq!(rt; text_of(first).map(|text| text.as_str()), Some("x"));
-    let sig = signature(alloc, &definition).map_err(|_| Fail::from("no signature"))?;
+    let sig = signature(alloc, TextHasher::without_text(), &definition).map_err(|_| Fail::from(
+        "no signature",
+    ))?;
     let Some(Decl::SymbolDecl(symbol)) = decls.get(1) else {
         return Err(Fail::from("no symbol"));
     };

@@ -1,34 +1,25 @@
--- The numbers and the names of a table after a new name is added, and the entry with a number.
+-- The names and the entries of a table after a new name is added, the number of a name, and the
+-- entry with a number.
 use Rattle.std.proofs.Common.{◌≡◌, ℕ, ◌+◌, List, [], ◌∷◌, ◌++◌, length, Bool, true, false, cond}
 use Rattle.std.proofs.Common.{is_some, Option, Some, None, refl, sym, slice_get, suc, ◌∙◌, ap, ◌≢◌}
-use Rattle.std.proofs.Common.{arith, add-zero}
-use Rattle.std.specs.List.{position_from}
+use Rattle.std.proofs.Common.{arith, String, map, string_bytes}
+use Rattle.std.specs.List.{position, position_from}
+use Rattle.std.specs.Map.{keys_of, lookup}
+use Rattle.std.specs.Global.{Global}
+use Rattle.std.specs.String.{string_eq}
+use Rattle.indexmap.specs.IndexMap.{IndexMap, insert_entry}
+use Rattle.indexmap.proofs.CallerLemmas.{insert_entry-new}
+use Rattle.std.proofs.lemmas.Iterator.Adapters.{position_from-zero}
 use Rattle.std.specs.Str.{bytes_eq}
 use Rattle.std.proofs.lemmas.Bool.{false≢true}
-use Rattle.std.proofs.lemmas.Bool.Decides.{same_from_decides}
 use Rattle.std.proofs.lemmas.List.{map-append}
 use Rattle.std.proofs.lemmas.Slice.Eq.{bytes_eq-Decides}
 use Rattle.rule_core.specs.Named.{number_of, names_of, IsNoneOf, AreDistinct}
-
--- whether two names are the same does not depend on their order
-pub bytes_eq-comm : (a b : List ℕ) → bytes_eq a b ≡ bytes_eq b a
-bytes_eq-comm a b =
-    let d = bytes_eq-Decides b a in
-    same_from_decides _ _ (bytes_eq-Decides a b) (λ e. sym (d.0 e), λ p. d.1 (sym p))
 
 only_none : (b : Bool) (i : ℕ) (rest : Option ℕ) → cond b (Some i) rest ≡ None
     → (b ≡ false) × (rest ≡ None)
 only_none true i rest h = absurd (let z : ⊥ = cc in z)
 only_none false i rest h = (refl, h)
-
-step : {V : Type 0} (e : List ℕ × V) (k q : List ℕ) (i n : ℕ) (rest old : Option ℕ) (b same : Bool)
-    → bytes_eq k q ≡ same → bytes_eq q e.0 ≡ b → (bytes_eq k e.0 ≡ false)
-    → rest ≡ cond same (Some n) old
-    → cond b (Some i) rest ≡ cond same (Some n) (cond b (Some i) old)
-step e k q i n rest old true true es eb kb h =
-    absurd (false≢true (sym kb ∙ ap (λ x. bytes_eq x e.0) ((bytes_eq-Decides k q).0 es) ∙ eb))
-step e k q i n rest old true false es eb kb h = refl
-step e k q i n rest old false same es eb kb h = h
 
 -- a name that is not found differs from the first one, and is not found among the others
 not_found : {V : Type 0} (e : List ℕ × V) (es : List (List ℕ × V)) (i : ℕ) (k : List ℕ)
@@ -37,41 +28,9 @@ not_found : {V : Type 0} (e : List ℕ × V) (es : List (List ℕ × V)) (i : �
     × (position_from (λ (e' : List ℕ × V). bytes_eq k e'.0) (i + 1) es ≡ None)
 not_found e es i k h = only_none (bytes_eq k e.0) i _ h
 
-from : {V : Type 0} (es : List (List ℕ × V)) (i : ℕ) (k : List ℕ) (v : V) (q : List ℕ)
-    → position_from (λ (e : List ℕ × V). bytes_eq k e.0) i es ≡ None
-    → position_from (λ (e : List ℕ × V). bytes_eq q e.0) i (es ++ (k, v) ∷ [])
-    ≡ cond (bytes_eq k q) (Some (i + length es))
-    (position_from (λ (e : List ℕ × V). bytes_eq q e.0) i es)
-from [] i k v q h = rw (bytes_eq-comm q k, add-zero) refl
-from {V = V} (e ∷ es) i k v q h =
-    let o = not_found e es i k h in
-    step e k q i (i + length (e ∷ es)) _ _ (bytes_eq q e.0) (bytes_eq k q) refl refl o.0
-    (from es (i + 1) k v q o.1
-    ∙ ap (λ n. cond (bytes_eq k q) (Some n)
-    (position_from (λ (e' : List ℕ × V). bytes_eq q e'.0) (i + 1) es))
-    (omega arith))
-
--- the number of each name after a new name is added
-pub number_of-push : {V : Type 0} (es : List (List ℕ × V)) (k : List ℕ) (v : V) (q : List ℕ)
-    → number_of es k ≡ None
-    → number_of (es ++ (k, v) ∷ []) q ≡ cond (bytes_eq k q) (Some (length es)) (number_of es q)
-number_of-push es k v q h =
-    from es 0 k v q h ∙ ap (λ n. cond (bytes_eq k q) (Some n) (number_of es q)) (omega arith)
-
 none_is : (o : Option ℕ) → is_some o ≡ false → o ≡ None
 none_is None h = refl
 none_is (Some n) h = absurd (false≢true (sym h))
-
--- if a map has exactly the numbers of the old names, then with the new name's number it has exactly
--- the numbers of all names
-pub indexed-push : {V : Type 0} (f g : List ℕ → Option ℕ) (es new : List (List ℕ × V)) (k : List ℕ)
-    (v : V) (n : ℕ) → ((q : List ℕ) → f q ≡ number_of es q) → is_some (number_of es k) ≡ false
-    → n ≡ length es → ((q : List ℕ) → g q ≡ cond (bytes_eq k q) (Some n) (f q))
-    → new ≡ es ++ (k, v) ∷ [] → (q : List ℕ) → g q ≡ number_of new q
-indexed-push f g es new k v n had absent size got grown q =
-    got q ∙ ap (λ o. cond (bytes_eq k q) (Some n) o) (had q)
-    ∙ ap (λ m. cond (bytes_eq k q) (Some m) (number_of es q)) size
-    ∙ sym (number_of-push es k v q (none_is _ absent)) ∙ ap (λ xs. number_of xs q) (sym grown)
 
 -- different names stay different when a name is added that is none of them
 IsNoneOf-push : (name : List ℕ) (others : List (List ℕ)) (new : List ℕ) → IsNoneOf name others
@@ -120,3 +79,46 @@ pub number_of-entry : {V : Type 0} (es : List (List ℕ × V)) (k : List ℕ) (i
 number_of-entry es k i h = let p = found es 0 k i h in
     let same : i ≡ p.0 = omega (arith, p.1.0) in
     (p.1.1.0, ap (λ n. slice_get es n) same ∙ p.1.1.1)
+
+-- ---- names in a map
+
+-- the names, each with its value
+abbrev pub plain_entries : {V : Type 0} → List (String Global × V) → List (List ℕ × V)
+plain_entries es = map (λ e. (string_bytes e.0, e.1)) es
+
+-- a map finds a name at its number
+pub position-named : {V : Type 0} (name : List ℕ) (i : ℕ) (es : List (String Global × V))
+    → position_from (λ (k : String Global). bytes_eq name (string_bytes k)) i (keys_of es)
+    ≡ position_from (λ (e : List ℕ × V). bytes_eq name e.0) i (plain_entries es)
+position-named name i [] = refl
+position-named name i (e ∷ es) =
+    ap (cond (bytes_eq name (string_bytes e.0)) (Some i)) (position-named name (i + 1) es)
+
+pub index-named : {V : Type 0} (name : List ℕ) (es : List (String Global × V))
+    → position (λ (k : String Global). bytes_eq name (string_bytes k)) (keys_of es)
+    ≡ number_of (plain_entries es) name
+index-named name es =
+    position_from-zero (λ (k : String Global). bytes_eq name (string_bytes k)) (keys_of es)
+    ∙ position-named name 0 es
+
+-- a name without a number has no value
+absent_value : {V : Type 0} (name : List ℕ) (i : ℕ) (es : List (String Global × V))
+    → position_from (λ (e : List ℕ × V). bytes_eq name e.0) i (plain_entries es) ≡ None
+    → lookup (λ (k : String Global). bytes_eq name (string_bytes k)) es ≡ None
+absent_value name i [] h = refl
+absent_value name i (e ∷ es) h =
+    let o = only_none (bytes_eq name (string_bytes e.0)) i _ h in
+    ap (λ b. cond b (Some e.1) (lookup (λ (k : String Global). bytes_eq name (string_bytes k)) es))
+    o.0
+    ∙ absent_value name (i + 1) es o.1
+
+-- the entries after a new name is added
+pub entries-added : {V S : Type 0} (old : IndexMap (String Global) V S) (k : String Global) (v : V)
+    (new : List (String Global × V))
+    → is_some (number_of (plain_entries old.entries) (string_bytes k)) ≡ false
+    → new ≡ insert_entry string_eq old.entries k v
+    → plain_entries new ≡ plain_entries old.entries ++ (string_bytes k, v) ∷ []
+entries-added old k v new absent is =
+    ap plain_entries (is ∙ insert_entry-new string_eq old k v
+    (absent_value (string_bytes k) 0 old.entries (none_is _ absent)))
+    ∙ map-append _ _ _

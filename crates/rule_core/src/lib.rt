@@ -6,7 +6,7 @@
 // instances of well-sorted patterns are well-sorted. `first_match` returns the first rule, from a
 // given position on, that matches a term, and its substitution. It returns none exactly when no
 // rule from there on matches. A `Table` numbers names from 0 without a gap, and no name occurs in
-// it twice.
+// it twice. It hashes the names, each after the whole text that it comes from (`TextHasher`).
 //
 // The definitions that other crates cite are also here: matching by substitution
 // (specs/Matching.antt), the order in which rules are tried (specs/Rules.antt, specs/Trial.antt),
@@ -14,6 +14,7 @@
 #![tactic(auto)]
 
 mod evaluation;
+mod hashing;
 mod laws;
 mod matching;
 mod records;
@@ -25,6 +26,7 @@ mod table;
 mod trial;
 
 pub use evaluation::{evaluation_laws, record_laws, run_laws, tried};
+pub use hashing::TextHasher;
 pub use laws::{match_laws, subsort_laws, trial_laws};
 pub use matching::{find_match, find_match_all};
 pub use records::{EqRecord, EvalRecord, StepRecord};

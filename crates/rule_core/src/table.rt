@@ -1,11 +1,12 @@
 // Names with their numbers and values.
-ghost use Rattle.std.specs.Prelude.{◌≡◌, ◌+◌, ◌^◌, ◌<◌, [], ◌∷◌, ◌++◌, length, OnErr, IfOk, IsNone};
-ghost use Rattle.std.specs.Prelude.{slice_get, option_copied, option_map, string_bytes, is_none};
+ghost use Rattle.std.specs.Prelude.{◌≡◌, [], ◌∷◌, ◌++◌, length, OnErr, IfOk, slice_get};
+ghost use Rattle.std.specs.Prelude.{option_copied, option_map, string_bytes, is_none};
 ghost use Rattle.std.specs.Prelude.{if◌then◌else◌, ◌==◌};
 ghost use Rattle.rule_core.specs.Named.{number_of, names_of, AreDistinct};
 
+use crate::hashing::TextHasher;
+use indexmap::IndexMap;
 use std::alloc::{AllocError, Global};
-use std::collections::BTreeMap;
 use std::marker::Model;
 
 /// Values by name. Each name has a number, from 0 without a gap, in the order in which the names
@@ -13,8 +14,7 @@ use std::marker::Model;
 /// The index of an entry is its number.
 #[derive(Drop)]
 pub struct Table<V> {
-    entries: Vec<(String, V)>,
-    numbers: BTreeMap<String, usize>,
+    entries: IndexMap<String, V, TextHasher>,
 }
 
 impl<V> Model for Table<V> {
@@ -22,21 +22,27 @@ impl<V> Model for Table<V> {
 
     ghost Value = { List (List ℕ × V) };
 
-    ghost use Rattle.rule_core.specs.TableFields.{entries_of, IsIndexed};
+    ghost use Rattle.rule_core.specs.TableFields.{entries_of, HasDistinctNames};
 
     ghost view = { entries_of };
 
-    ghost invariant = { IsIndexed };
+    ghost invariant = { HasDistinctNames };
 }
 
 impl<V: Drop> Table<V> {
-    /// A table without names. It allocates no memory yet.
+    /// A table without names, for names that come from no text. It allocates no memory yet.
     pub fn new(alloc: Global) -> Self
         ensures { result ≡ [] }
     {
+        Table::hashed_by(alloc, TextHasher::without_text())
+    }
+
+    /// A table without names, whose names will be hashed in this way. It allocates no memory yet.
+    pub fn hashed_by(alloc: Global, hasher: TextHasher) -> Self
+        ensures { result ≡ [] }
+    {
         Table {
-            entries: Vec::new(alloc),
-            numbers: BTreeMap::new(alloc),
+            entries: IndexMap::with_hasher(alloc, hasher),
         }
     }
 
@@ -61,20 +67,20 @@ impl<V: Drop> Table<V> {
         self.entries.is_empty()
     }
 
-    /// The number of a name, or None if the table does not have it. The number of comparisons of
-    /// names is logarithmic in the number of names.
+    /// The number of a name, or None if the table does not have it. It costs one hash of the name,
+    /// and mostly one comparison.
     pub fn number(&self, name: &str) -> Option<usize>
         ensures { result ≡ number_of self.now name.now }
     {
-        self.numbers.get(name).copied()
+        self.entries.get_index_of(name)
     }
 
     /// The name with this number, or None if the number is not below `len`. It looks at one entry.
     pub fn name(&self, number: usize) -> Option<&str>
         ensures { option_copied result ≡ option_map (λ e. e.0) (slice_get self.now number) }
     {
-        let entry = self.entries.get(number)?;
-        Some(entry.0.as_str())
+        let (name, _) = self.entries.get_index(number)?;
+        Some(name.as_str())
     }
 
     /// The value of the name with this number, or None if the number is not below `len`. It looks
@@ -82,14 +88,13 @@ impl<V: Drop> Table<V> {
     pub fn value(&self, number: usize) -> Option<&V>
         ensures { option_copied result ≡ option_map (λ e. e.1) (slice_get self.now number) }
     {
-        let entry = self.entries.get(number)?;
-        Some(&entry.1)
+        let (_, value) = self.entries.get_index(number)?;
+        Some(value)
     }
 
     /// Gives a new name the next number and a value, and returns true. If the table already has the
     /// name, it returns false and changes nothing. `AllocError`: out of memory. Then nothing
-    /// changes either. It costs a look-up and a copy of the name, and sometimes a move of all
-    /// entries to larger memory.
+    /// changes either. It costs two look-ups, and sometimes a move of all entries to larger memory.
     pub fn insert(&mut self, name: String, value: V) -> Result<bool, AllocError>
         ensures fresh { IfOk result
             (λ added. added ≡ is_none (number_of self.old (string_bytes name))) }
@@ -100,9 +105,7 @@ impl<V: Drop> Table<V> {
         if self.number(name.as_str()).is_some() {
             return Ok(false);
         }
-        self.entries.reserve(1)?;
-        self.numbers.insert(name.clone()?, self.entries.len())?;
-        self.entries.push((name, value)).unwrap();
+        self.entries.insert(name, value)?;
         Ok(true)
     }
 }

@@ -6,8 +6,6 @@ use Rattle.kore_text.specs.Trees.{SortTree}
 use Rattle.kore_ast.specs.declared.tree.Pat.{Pat}
 use Rattle.kore_ast.specs.declared.tree.Sort.{Sort}
 use Rattle.kore_ast.specs.Plain.{plain_sort, plain_axiom_decl, pattern_tree as plain_tree}
-use Rattle.term_core.specs.RulePatterns.{plain_pattern}
-use Rattle.rule_core.specs.ProgramView.{sorts_of}
 use Rattle.kore_shapes.specs.Views.{plain_rewriting}
 use Rattle.kore_axioms.specs.BuiltRules.{IsFine, IsBuiltOf}
 use Rattle.kore_axioms.specs.Priorities.{priority_of}
@@ -97,13 +95,6 @@ returns-clause-means c =
     let priority : c.priority_of.result ≡ priority_of a.attributes =
     c.priority_of.ensures
     ∙ ap (λ (attrs : List Pat). priority_of (map plain_tree attrs)) c.deref.ensures.value in
-    rule_meant sig a v made _ c.requires.class (subst (λ (w : RuleParts). IsBuiltOf sig w made)
-    c.rule_parts-parts.ensures c.in_ok-made.ensures) yes
-    (ap (λ (n : ℕ). record {
-      left = plain_pattern made.left;
-      condition = option_map plain_pattern made.cond;
-      right = plain_pattern made.right;
-      variables = sorts_of made.vars.items;
-      priority = n;
-      place = at;
-    }) priority)
+    rule_meant sig a v made c.priority_of.result c.requires.class
+    (subst (λ (w : RuleParts). IsBuiltOf sig w made) c.rule_parts-parts.ensures
+    c.in_ok-made.ensures) yes priority

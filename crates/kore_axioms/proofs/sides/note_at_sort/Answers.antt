@@ -5,7 +5,7 @@ use Rattle.kore_check.specs.Folds.{unfolded, unfolded_byte}
 use Rattle.kore_check.specs.PatternSorts.{sort_of}
 use Rattle.kore_check.specs.PatternFaults.{all_faults, clash_faults}
 use Rattle.kore_check.proofs.Places.{byte_of_next-unfolded}
-use Rattle.kore_axioms.specs.Noting.{kept_fault, after, sort_of_id}
+use Rattle.kore_check.specs.Notes.{kept_fault, after, sort_no}
 use Rattle.kore_axioms.proofs.NotingLaws.{as_noted, noted_both}
 use Rattle.kore_axioms.proofs.sides.note_at_sort.Goals as goal
 
@@ -13,8 +13,8 @@ pub returns : goal.returns
 returns c =
     let sig = c.args.sig.now in
     let u = unfolded (pattern_tree c.args.pat.now) in
-    let wanted : Option ℕ = option_map sort_of_id c.args.wanted in
-    let own : Option ℕ = option_map sort_of_id c.note_pattern-own.result in
+    let wanted : Option ℕ = option_map sort_no c.args.wanted in
+    let own : Option ℕ = option_map sort_no c.note_pattern-own.result in
     let clash : kept_fault c.note_clash.new.first ≡ after c.note_pattern-own.new.first
     (clash_faults c.args.pat.now.at own wanted) =
     as_noted _ _ _ c.note_clash.ensures in

@@ -7,7 +7,7 @@ use Rattle.kore_check.specs.PatternFaults.{sort_faults}
 use Rattle.kore_check.specs.declared.faults.PatternFault.{PatternFault}
 use Rattle.kore_shapes.specs.Shapes.{found_part}
 use Rattle.kore_shapes.specs.Views.{pattern_at}
-use Rattle.kore_axioms.specs.Noting.{kept_fault, after, sort_of_id}
+use Rattle.kore_check.specs.Notes.{kept_fault, after, sort_no}
 use Rattle.kore_axioms.specs.RuleParts.{RuleParts, left_of, right_of}
 use Rattle.kore_axioms.specs.RuleFaults.{side_faults, condition_faults, found_top_faults}
 use Rattle.kore_axioms.specs.RuleFaults.{sorted_faults}
@@ -21,7 +21,7 @@ returns c =
     let s = plain_sort c.args.sort.now in
     let w : RuleParts = plain_rule_parts c.args.parts in
     let wanted : Option ℕ = sort_number sig.sorts s in
-    let known : option_map sort_of_id c.noted_sort-wanted.result ≡ wanted =
+    let known : option_map sort_no c.noted_sort-wanted.result ≡ wanted =
     c.noted_sort-wanted.ensures.sort in
     let none : Option PatternFault = None in
     let one = c.noted_sort-wanted.new.first in

@@ -5,7 +5,8 @@ use Rattle.kore_sig.specs.FirstFault.{when}
 use Rattle.kore_check.specs.FaultNumbers.{IsRefusal}
 use Rattle.kore_check.specs.Folds.{unfolded, height, unfolded_byte}
 use Rattle.kore_check.specs.PatternSorts.{sort_of}
-use Rattle.kore_check.specs.PatternFaults.{pattern_faults, all_faults, most_height}
+use Rattle.rule_core.specs.Evaluation.{most_height}
+use Rattle.kore_check.specs.PatternFaults.{pattern_faults, all_faults}
 use Rattle.kore_check.proofs.BuildLaws.{parts_empty}
 use Rattle.kore_check.proofs.CheckLaws.{nothing_noted, something_noted, faultless_sorted}
 use Rattle.term_core.specs.RulePatterns.{plain_pattern}

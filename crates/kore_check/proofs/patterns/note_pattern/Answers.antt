@@ -2,7 +2,8 @@ use Rattle.std.specs.Prelude.{nat_lt}
 use Rattle.kore_ast.specs.Plain.{pattern_tree}
 use Rattle.kore_sig.specs.FirstFault.{when}
 use Rattle.kore_check.specs.Folds.{unfolded, height, unfolded_byte}
-use Rattle.kore_check.specs.PatternFaults.{pattern_faults, all_faults, most_height}
+use Rattle.rule_core.specs.Evaluation.{most_height}
+use Rattle.kore_check.specs.PatternFaults.{pattern_faults, all_faults}
 use Rattle.kore_check.proofs.NotedLaws.{first-kept}
 use Rattle.kore_check.proofs.Applications.{after-append}
 use Rattle.kore_check.proofs.patterns.note_pattern.Goals as goal

@@ -3,9 +3,6 @@ use Rattle.std.specs.Prelude.{option_map}
 use Rattle.std.proofs.lemmas.List.{length-map}
 use Rattle.kore_ast.specs.declared.tree.Pat.{Pat}
 use Rattle.kore_ast.specs.Plain.{pattern_tree as plain_tree, plain_axiom_decl}
-use Rattle.term_core.specs.RulePatterns.{plain_pattern}
-use Rattle.term_core.specs.PatternLists.{plain_patterns}
-use Rattle.rule_core.specs.ProgramView.{sorts_of}
 use Rattle.kore_shapes.specs.Shapes.{Condition}
 use Rattle.kore_shapes.specs.Statements.{Statement}
 use Rattle.kore_shapes.specs.StatementViews.{plain_statement}
@@ -13,7 +10,6 @@ use Rattle.kore_shapes.specs.EquationForms.{EquationParts}
 use Rattle.kore_shapes.specs.PartViews.{plain_parts}
 use Rattle.kore_axioms.specs.Priorities.{priority_of}
 use Rattle.kore_equations.specs.ReadableEquations.{condition_of_equation}
-use Rattle.kore_equations.specs.EquationMeanings.{IsEquationOf}
 use Rattle.kore_equations.specs.ClearEquations.{clear_parts}
 use Rattle.kore_equations.specs.BuiltEquations.{IsFineEquation, IsBuiltOf}
 use Rattle.kore_equations.proofs.ClearLaws.{none_unreadable, unbound_unreadable}
@@ -58,28 +54,18 @@ returns c =
     let e : Statement = plain_statement c.args.stated.now in
     let q : EquationParts = plain_parts c.in-Some.parts in
     let made = c.in_ok-made.made in
-    let n : ℕ = c.in_ok-as_number.field-0 in
+    let n : ℕ = c.in_ok-ok_or.field-0 in
     let clear : clear_parts sig a c.args.symbol.now e ≡ Some q =
     sym c.in_ok-parts.ensures ∙ ap (option_map plain_parts) c.in-Some.is in
     let built : IsBuiltOf sig (condition_of_equation sig e q) q made =
     subst (λ (k : Condition). IsBuiltOf sig k q made) c.condition_of.ensures
     c.in_ok-made.ensures in
     let count : n ≡ length q.parameters =
-    c.in_ok-as_number.ensures ∙ sym (length-map c.in-Some.parts.parameters.now plain_tree) in
+    (rw c.in_ok-ok_or.ensures.ok_part at c.as_number.ensures.fits) ∙ sym (length-map c.in-Some.parts.parameters.now plain_tree) in
     let priority : c.priority_of.result ≡ priority_of a.attributes =
     c.priority_of.ensures
     ∙ ap (λ (attrs : List Pat). priority_of (map plain_tree attrs)) c.deref.ensures.value in (
       refl,
-      subst
-          (λ (p : ℕ). IsEquationOf sig e.function a (record {
-            parameters = n;
-            arguments = plain_patterns made.args.items;
-            condition = option_map plain_pattern made.cond;
-            right = plain_pattern made.right;
-            variables = sorts_of made.vars.items;
-            priority = p;
-            place = a.at;
-          }))
-          (sym priority) (equation_meant sig a c.args.symbol.now e q made n c.requires.class
-          c.requires.declared clear built c.if-not-made.false count),
+      equation_meant sig a c.args.symbol.now e q made c.args.function.0 n c.priority_of.result
+          c.requires.class c.requires.declared clear built c.if-not-made.false count priority,
     )

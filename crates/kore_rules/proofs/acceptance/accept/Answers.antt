@@ -8,9 +8,9 @@ use Rattle.rule_core.specs.WellSorted.{IsWellSorted}
 use Rattle.rule_core.specs.declared.rules.Program.{Program}
 use Rattle.kore_axioms.specs.declared.refusals.Refusal.{Refusal}
 use Rattle.kore_sig.specs.FirstFault.{Fault}
-use Rattle.kore_rules.specs.Acceptance.{IsAccepted, IsRefused, HasTextFault}
+use Rattle.kore_rules.specs.Acceptance.{IsAccepted, IsRefused, HasTextFault, NamesVariables}
 use Rattle.kore_rules.specs.FirstRefusal.{FirstOfDefinition}
-use Rattle.kore_rules.specs.MadePrograms.{IsMadeOf, ListsOwnEquations}
+use Rattle.kore_rules.specs.MadePrograms.{IsMadeOf, ListsOwnEquations, HasNamesOf}
 use Rattle.kore_rules.specs.Names.{HasIdentifierNames}
 use Rattle.kore_rules.specs.RefusedTexts.{top_of, IsSortOfRules, RefusesFor}
 use Rattle.kore_rules.proofs.AcceptedLaws.{axioms_few, made_accepted, text_refused}
@@ -67,6 +67,18 @@ returns-clause-names c =
     (λ (p : Program). HasIdentifierNames p.sig) c.program_of.result
     (λ p made. made_names c.name_laws.ensures.definition c.args.bytes.now d (theory_of p) (top_of p)
     c.in_ok-definition.ensures.spelled made) c.program_of.ensures.made
+
+pub returns-clause-variables : goal.returns-clause-variables
+returns-clause-variables c =
+    let d = plain_definition c.in_ok-definition.definition in
+    ok_into (HasNamesOf d) (NamesVariables c.args.bytes.now) c.program_of.result
+    (λ p named. record {
+      definition = d;
+      spelled = c.in_ok-definition.ensures.spelled;
+      declared = named.0;
+      signature = named.1;
+      named = named.2;
+    }) c.program_of.ensures.named
 
 pub returns-clause-refused : goal.returns-clause-refused
 returns-clause-refused c =

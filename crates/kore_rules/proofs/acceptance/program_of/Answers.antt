@@ -6,8 +6,8 @@ use Rattle.kore_sig.specs.Declarations.{axioms_of}
 use Rattle.kore_sig.specs.FirstFault.{Fault}
 use Rattle.kore_rules.specs.AxiomsRead.{tree_at}
 use Rattle.kore_rules.specs.FirstRefusal.{FirstOfAxioms, FirstOfDefinition}
-use Rattle.kore_rules.specs.Programs.{IsProgramUnder, IsTopOf}
-use Rattle.kore_rules.specs.RefusedTexts.{sort_of}
+use Rattle.kore_rules.specs.Programs.{IsProgramUnder, IsTopOf, KeepsNames}
+use Rattle.kore_rules.specs.RefusedTexts.{number_of_sort}
 use Rattle.kore_rules.proofs.AcceptedLaws.{top_any, axioms_refused}
 use Rattle.kore_rules.proofs.FirstLaws.{refuses_into}
 use Rattle.kore_rules.proofs.acceptance.program_of.Goals as goal
@@ -24,9 +24,9 @@ returns-clause-made c =
     let program : IsProgramUnder sig (axioms_of d) (theory_of p) =
     subst (λ (axioms : List AxiomDeclaration). IsProgramUnder sig axioms (theory_of p)) same_too
     c.in_ok-program_under.ensures.means in
-    let top : IsTopOf sig (axioms_of d) (sort_of c.sort_of_rules-top.result) =
+    let top : IsTopOf sig (axioms_of d) (number_of_sort c.sort_of_rules-top.result) =
     subst (λ (axioms : List AxiomDeclaration).
-    IsTopOf sig axioms (sort_of c.sort_of_rules-top.result)) same
+    IsTopOf sig axioms (number_of_sort c.sort_of_rules-top.result)) same
     (c.sort_of_rules-top.ensures (map tree_at c.deref.result.now)
     c.in_ok-readings.ensures.first) in
     record {
@@ -43,3 +43,16 @@ returns-clause-made c =
           top_any sig p.sig (axioms_of d) _ program.sorts
           (subst (IsTopOf sig (axioms_of d)) (sym c.in_ok-program_under.ensures.top) top);
     }
+
+pub returns-clause-named : goal.returns-clause-named
+returns-clause-named c =
+    let d = plain_definition c.args.definition.now in
+    let sig = c.in_ok-sig.sig in
+    let p = c.in_ok-program_under.field-0 in
+    let same : map tree_at c.deref-2.result.now ≡ axioms_of d =
+    ap (map tree_at) c.deref-2.ensures.value ∙ c.in_ok-axioms.ensures in (
+      sig,
+      c.in_ok-sig.ensures.declared,
+      subst (λ (axioms : List AxiomDeclaration). KeepsNames sig axioms p) same
+          c.in_ok-program_under.ensures.named,
+    )

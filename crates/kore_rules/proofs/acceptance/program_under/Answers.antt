@@ -9,14 +9,14 @@ use Rattle.rule_core.specs.Rules.{RewriteRule}
 use Rattle.rule_core.specs.Rules as plain
 use Rattle.rule_core.specs.declared.rules.Equation.{Equation}
 use Rattle.rule_core.specs.declared.rules.Rule.{Rule}
-use Rattle.kore_axioms.specs.AxiomMeanings.{IsRuleOf}
+use Rattle.kore_axioms.specs.AxiomMeanings.{MeansRule}
 use Rattle.kore_rules.specs.AxiomsRead.{IsNumberedEquation, numbered_equation, tree_at}
 use Rattle.kore_rules.specs.Programs.{IsSymbolOf}
 use Rattle.kore_rules.specs.ScalarSorts.{IsFinal}
 use Rattle.kore_rules.specs.TrialOrder.{rule_key, equation_key}
 use Rattle.kore_rules.proofs.ProgramLaws.{length_mapped, read_apart, rules_are, symbols_are}
 use Rattle.kore_rules.proofs.ProgramLaws.{equations_are, few_rules, few_equations, functions_there}
-use Rattle.kore_rules.proofs.ProgramLaws.{listed_own}
+use Rattle.kore_rules.proofs.ProgramLaws.{listed_own, moved_rules, listed_of}
 use Rattle.kore_rules.proofs.acceptance.program_under.Goals as goal
 
 pub by_function-requires : goal.by_function-requires
@@ -50,7 +50,7 @@ returns c =
     symbols_are sig axioms marks unreadable made c.requires.pairs c.in_ok-with_terms.ensures
     c.requires.read.unreadable final in
     let apart =
-    read_apart (IsRuleOf sig) (λ (r : RewriteRule). r.place) rewrite_rule rule_key axioms
+    read_apart (MeansRule sig) (λ (r : RewriteRule). r.place) rewrite_rule rule_key axioms
     old_rules (λ (r : Rule). refl) c.requires.few c.requires.read.rules in
     let equations_apart =
     read_apart (IsNumberedEquation sig) (λ (e : ℕ × plain.Equation). e.1.place)
@@ -72,6 +72,15 @@ returns c =
             equations_are sig axioms made old new lists n f info c.requires.distinct symbols
             c.requires.read.equations c.in_ok-put_equations_in_order.ensures.permutation
             in_order (c.in_ok-equations.ensures.listed n) there;
+      };
+      named = record {
+        rules =
+            moved_rules sig axioms old_rules rules c.requires.read.named_rules
+            c.in_ok-put_rules_in_order.ensures.permutation;
+        equations = λ f i e at.
+            listed_of sig axioms made old new lists f i at.0 e c.requires.read.named_equations
+            c.in_ok-put_equations_in_order.ensures.permutation
+            (c.in_ok-equations.ensures.listed f) at.1 at.2;
       };
       top = refl;
       numbered =

@@ -1,6 +1,6 @@
 use Rattle.kore_rules.proofs.Exclusion.{definition_fault_is_one, accepted_not_refused}
 use Rattle.kore_rules.proofs.Exclusion.{refusal_is_one, accepted_term_not_refused}
-use Rattle.kore_rules.proofs.Exclusion.{term_refusal_is_one}
+use Rattle.kore_rules.proofs.Exclusion.{term_refusal_is_one, start_is_one}
 use Rattle.kore_rules.proofs.MeaningsFound.{each_term_is_decided}
 use Rattle.kore_rules.proofs.OneFault.{term_is_one, axioms_are_one, spelled_faultless}
 use Rattle.kore_rules.proofs.OneFault.{spelled_pattern_faultless, text_one, term_text_one}
@@ -27,6 +27,7 @@ returns c =
       exclusive_term = accepted_term_not_refused pattern_is_one spelled_pattern;
       refusal_term = term_refusal_is_one pattern_is_one spelled_pattern term_text;
       decided_term = each_term_is_decided;
+      start = start_is_one pattern_is_one;
       tree = definition_is_one;
       tree_term = pattern_is_one;
       definition = definition;

@@ -5,7 +5,7 @@ use Rattle.kore_sig.specs.FirstFault.{Fault}
 use Rattle.kore_rules.specs.FirstRefusal.{FirstOfTerm}
 use Rattle.kore_rules.specs.GroundNotes.{not_ground_at}
 use Rattle.kore_rules.specs.GroundTerms.{ground_faults}
-use Rattle.kore_rules.specs.RefusedTexts.{sort_of}
+use Rattle.kore_rules.specs.RefusedTexts.{number_of_sort}
 use Rattle.kore_rules.proofs.FirstLaws.{refuses_into}
 use Rattle.kore_rules.proofs.StartLaws.{none_noted, not_ground_first, sort_fault_first}
 use Rattle.kore_rules.proofs.StartLaws.{other_sort_first, no_fault}
@@ -13,7 +13,7 @@ use Rattle.kore_rules.proofs.start.start_of.Goals as goal
 
 pub returns-in-Some-clause-refused : goal.returns-in-Some-clause-refused
 returns-in-Some-clause-refused c =
-    not_ground_first c.args.sig.now (sort_of c.args.top) (plain_tree c.args.term.now)
+    not_ground_first c.args.sig.now (number_of_sort c.args.top) (plain_tree c.args.term.now)
     (record { number = 26; byte = c.in-Some.at })
     (sym (ap not_ground_at c.in-Some.is) ∙ c.first_not_ground.ensures)
 
@@ -28,7 +28,7 @@ returns-then-differs_from-clause-refused c =
     let ground : ground_faults p ≡ [] =
     none_noted (ground_faults p)
     (sym (ap not_ground_at c.in_default.is) ∙ c.first_not_ground.ensures) in
-    other_sort_first c.args.sig.now (sort_of c.args.top) p c.in_ok-start.sort.0 ground
+    other_sort_first c.args.sig.now (number_of_sort c.args.top) p c.in_ok-start.sort.0 ground
     c.in_ok-start.ensures.faultless c.in_ok-start.ensures.own_sort
     (sym c.differs_from.ensures ∙ c.if-differs_from.true)
 
@@ -38,7 +38,7 @@ returns-clause-faultless c =
     let ground : ground_faults p ≡ [] =
     none_noted (ground_faults p)
     (sym (ap not_ground_at c.in_default.is) ∙ c.first_not_ground.ensures) in
-    no_fault c.args.sig.now (sort_of c.args.top) p c.in_ok-start.sort.0 ground
+    no_fault c.args.sig.now (number_of_sort c.args.top) p c.in_ok-start.sort.0 ground
     c.in_ok-start.ensures.faultless
     c.in_ok-start.ensures.own_sort (sym c.differs_from.ensures ∙ c.if-differs_from.false)
 
@@ -50,7 +50,7 @@ returns-in_err-start-clause-refused c =
     (sym (ap not_ground_at c.in_default.is) ∙ c.first_not_ground.ensures) in
     let q = err_from_is_err_and c.from_residual.result c.from_residual.ensures.1 in
     rw (q.1, q.2) (refuses_into _
-    (λ (f : Fault). FirstOfTerm c.args.sig.now (sort_of c.args.top) p (Some f))
+    (λ (f : Fault). FirstOfTerm c.args.sig.now (number_of_sort c.args.top) p (Some f))
     c.in_err-start.field-0.0
-    (λ f is. sort_fault_first c.args.sig.now (sort_of c.args.top) p f ground is)
+    (λ f is. sort_fault_first c.args.sig.now (number_of_sort c.args.top) p f ground is)
     c.in_err-start.ensures.refused)

@@ -3,7 +3,8 @@ use Rattle.std.specs.Prelude.{nat_lt}
 use Rattle.kore_ast.specs.Plain.{pattern_tree}
 use Rattle.kore_sig.specs.FirstFault.{when}
 use Rattle.kore_check.specs.Folds.{unfolded, height, unfolded_byte}
-use Rattle.kore_check.specs.PatternFaults.{pattern_faults, all_faults, most_height}
+use Rattle.rule_core.specs.Evaluation.{most_height}
+use Rattle.kore_check.specs.PatternFaults.{pattern_faults, all_faults}
 use Rattle.kore_check.proofs.BuildLaws.{parts_empty}
 use Rattle.kore_check.proofs.CheckLaws.{nothing_noted}
 use Rattle.kore_tests.proofs.build.builds_a_pattern.Goals as goal

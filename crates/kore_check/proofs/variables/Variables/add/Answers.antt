@@ -18,7 +18,8 @@ invariant_of-self-2 c =
     let many : c.in_ok-number.number ≡ length (variables_of c.self.inside) =
     let same_length : length (variables_of c.self.inside) ≡ length c.self.inside.infos.items =
     length-map _ _ in
-    omega (arith, same_length, c.in_ok-number.ensures, c.len.ensures) in
+    let fits = rw c.in_ok-number.ensures.ok_part at c.as_number.ensures.fits in
+    omega (arith, same_length, fits, c.len.ensures) in
     record {
       distinct =
           rw grown (AreNumbered-added (variables_of c.self.inside) (c.args.name.now, c.args.sort.0)
@@ -48,7 +49,8 @@ returns-clause-number c =
     let many : c.in_ok-number.number ≡ length (variables_of c.self.inside) =
     let same_length : length (variables_of c.self.inside) ≡ length c.self.inside.infos.items =
     length-map _ _ in
-    omega (arith, same_length, c.in_ok-number.ensures, c.len.ensures) in
+    let fits = rw c.in_ok-number.ensures.ok_part at c.as_number.ensures.fits in
+    omega (arith, same_length, fits, c.len.ensures) in
     ap (λ (vs : List (List ℕ × ℕ)). variable_number vs c.args.name.now c.args.sort.0) grown
     ∙ number-added (variables_of c.self.inside) c.args.name.now c.args.sort.0 none
     ∙ ap (λ (k : ℕ). Some k) (sym many)
