@@ -3,7 +3,8 @@ use Rattle.std.proofs.Common.{◌≡◌, ℕ, ◌+◌, ◌-◌, true, List, [], 
 use Rattle.std.proofs.Common.{Some, None, refl, sym, ◌∙◌, ap, append_assoc}
 use Rattle.std.proofs.lemmas.List.{append-nil, take-append-drop, take_rest}
 use Rattle.std.proofs.Math.Seq.{take-add}
-use Rattle.desk_io.specs.Told.{Told, file_of, KeepsFiles}
+use Rattle.desk_io.specs.Told.{Told, file_of}
+use Rattle.desk_io.specs.KeptFiles.{KeepsFiles}
 use Rattle.desk_io.specs.Changes.{Same, Passed, TellsCreated, PutsFile, Writes, WritesFront}
 
 pub Same-keeps : (a b : Option Told) → Same a b → KeepsFiles a b

@@ -5,6 +5,8 @@ pub mod MemDesk
 pub mod MemSink
 pub mod Memory
 pub mod Sent
+pub mod HeldFiles
+pub mod KeptFiles
 pub mod Told
 pub mod Changes
 pub mod States

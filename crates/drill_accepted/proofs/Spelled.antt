@@ -9,7 +9,7 @@ use Rattle.kore_lex.proofs.Lexing.{lexed-is}
 use Rattle.kore_text.specs.TokenStream.{Stream, end, named, tokens_of}
 use Rattle.kore_text.specs.Trees.{ModuleTree, DefinitionTree}
 use Rattle.kore_text.specs.Grammar.{TakesTokens, spell_pattern, spell_definition}
-use Rattle.kore_text.specs.Faults.{IsShallow}
+use Rattle.kore_text.specs.Depth.{IsShallow}
 use Rattle.kore_ast.specs.KoreText.{ReadsPattern, ReadsDefinition}
 use Rattle.drill_accepted.proofs.Parts.{Part, parts_text, tokens_from, place_after, AreRead}
 use Rattle.drill_accepted.proofs.Parts.{are-read, read-both, tokens-append, tokens-last}

@@ -4,7 +4,7 @@ use Rattle.std.proofs.Common.{refl, sym, subst, arith}
 use Rattle.kore_text.specs.TokenStream.{Stream}
 use Rattle.kore_text.specs.Trees.{Declaration}
 use Rattle.kore_text.specs.Grammar.{Requirement, TakesTokens, in_order, spell_declaration}
-use Rattle.kore_text.specs.Faults.{IsShallow}
+use Rattle.kore_text.specs.Depth.{IsShallow}
 use Rattle.drill_accepted.proofs.Parts.{Part, tokens_from, place_after, AreSmall, are_parted}
 use Rattle.drill_accepted.proofs.Parts.{AreRead, are-read, read-both, tokens-append, place-append}
 use Rattle.drill_accepted.proofs.Taking.{token_places, fulfilled, left_after, all_hold, takes-all}

@@ -5,7 +5,7 @@ use Rattle.std.proofs.lemmas.Bool.{leb-true}
 use Rattle.rule_core.proofs.Belows.{both_true}
 use Rattle.kore_text.specs.TokenStream.{Stream, end, fault, token}
 use Rattle.kore_text.specs.Grammar.{Requirement, placed, any, given, TakesTokens}
-use Rattle.kore_text.specs.Faults.{opened, IsShallow}
+use Rattle.kore_text.specs.Depth.{opened, IsShallow}
 use Rattle.drill_accepted.proofs.Parts.{Part, blank, written, quoted, named_number, quoted_number}
 use Rattle.drill_accepted.proofs.Parts.{tokens_from, place_after}
 

@@ -3,7 +3,8 @@ use Rattle.std.specs.Prelude.{ℕ, ◌≤◌, Option}
 use Rattle.term_core.specs.Patterns.{Pattern}
 use Rattle.rule_core.specs.Theories.{RewriteTheory}
 use Rattle.kore_sig.specs.FirstFault.{Fault}
-use Rattle.kore_rules.specs.Acceptance.{IsAccepted, IsRefused, IsAcceptedTerm, IsRefusedTerm}
+use Rattle.kore_rules.specs.Acceptance.{IsAccepted, IsAcceptedTerm}
+use Rattle.kore_rules.specs.Refused.{IsRefused, IsRefusedTerm}
 use Rattle.drill_gen.specs.Drill.{drill_definition, drill_term}
 
 -- the definition of a drill of at most a thousand steps is accepted, as some program

@@ -6,7 +6,8 @@ use Rattle.kore_text.specs.Grammar.{TakesTokens, spell_pattern, spell_definition
 use Rattle.kore_text.specs.Faults.{IsFirstFault, IsPattern, IsDefinition}
 use Rattle.kore_text.specs.declared.faults.TextFault.{TextFault}
 use Rattle.kore_text.specs.declared.faults.TextFault.TheVariants as text_fault
-use Rattle.kore_ast.specs.KoreText.{ReadsPattern, ReadsDefinition, IsFault}
+use Rattle.kore_ast.specs.KoreText.{ReadsPattern, ReadsDefinition}
+use Rattle.kore_ast.specs.TextFaults.{IsFault}
 use Rattle.kore_ast.specs.Told.{told}
 use Rattle.kore_ast.specs.Reading.{Has, Reads}
 

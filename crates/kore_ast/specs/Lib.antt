@@ -1,6 +1,7 @@
 -- Public: what public clauses say, and public definitions of other crates.
 -- Public: what public clauses say, and what public definitions of other crates use.
 pub mod Plain
+pub mod TextFaults
 pub mod KoreText
 -- Private: what clauses of private functions cite, and how private fields are seen.
 pub mod Told

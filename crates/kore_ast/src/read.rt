@@ -3,8 +3,9 @@
 ghost use Rattle.std.specs.Prelude.{◌≡◌, ◌<◌, ◌^◌, length, IfOk};
 ghost use Rattle.kore_text.specs.Trees.{PatternTree, DefinitionTree};
 ghost use Rattle.kore_ast.specs.Plain.{pattern_tree, plain_definition};
-ghost use Rattle.kore_ast.specs.KoreText.{ReadsPattern, ReadsDefinition, PatternFault};
-ghost use Rattle.kore_ast.specs.KoreText.{DefinitionFault};
+ghost use Rattle.kore_ast.specs.KoreText.{ReadsPattern, ReadsDefinition};
+ghost use Rattle.kore_ast.specs.TextFaults.{PatternFault};
+ghost use Rattle.kore_ast.specs.TextFaults.{DefinitionFault};
 
 use crate::reader::Reader;
 use crate::tree::{Definition, Pat, ReadFault};

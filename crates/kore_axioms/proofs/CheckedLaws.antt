@@ -11,7 +11,8 @@ use Rattle.kore_check.specs.Folds.{unfolded}
 use Rattle.kore_check.specs.PatternMeanings.{named_sorts, with_variables, Means}
 use Rattle.kore_shapes.specs.Shapes.{Rewriting}
 use Rattle.kore_axioms.specs.AxiomClasses.{rewrites, class_of}
-use Rattle.kore_axioms.specs.AxiomMeanings.{MeansTest, MeansNamedRule}
+use Rattle.kore_axioms.specs.AxiomMeanings.{MeansTest}
+use Rattle.kore_axioms.specs.NamedRules.{MeansNamedRule}
 use Rattle.kore_axioms.specs.Conditions.{tested}
 use Rattle.kore_axioms.specs.Priorities.{priority_of}
 use Rattle.kore_sig.specs.FirstFault.{Fault}

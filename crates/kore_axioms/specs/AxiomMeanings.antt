@@ -2,12 +2,10 @@
 use Rattle.std.specs.Prelude.{◌≡◌, ℕ, List, [], map, Option, Some, None}
 use Rattle.kore_text.specs.Trees.{PatternTree, AxiomDeclaration}
 use Rattle.term_core.specs.Patterns.{Pattern}
-use Rattle.rule_core.specs.ProgramView.{rewrite_rule}
 use Rattle.rule_core.specs.Rules.{RewriteRule}
-use Rattle.rule_core.specs.declared.rules.Rule.{Rule}
 use Rattle.rule_core.specs.declared.signature.Signature.{Signature}
 use Rattle.kore_check.specs.Folds.{unfolded}
-use Rattle.kore_check.specs.PatternMeanings.{named_sorts, with_variables, Means}
+use Rattle.kore_check.specs.PatternMeanings.{with_variables, Means}
 use Rattle.kore_shapes.specs.Shapes.{Rewriting}
 use Rattle.kore_axioms.specs.AxiomClasses.{rewrites, class_of}
 use Rattle.kore_axioms.specs.Conditions.{tested}
@@ -45,8 +43,3 @@ pub record MeansRule (sig : Signature) (a : AxiomDeclaration) (rule : RewriteRul
   pub sorts : rule.variables ≡ map (λ (v : List ℕ × ℕ). v.1) variables
   pub priority : rule.priority ≡ priority_of a.attributes
   pub place : rule.place ≡ a.at
-
--- The axiom is this rule of a program. The rule's variables have their names in the axiom.
-pub record MeansNamedRule (sig : Signature) (a : AxiomDeclaration) (r : Rule) : Type 0 where
-  pub means : MeansRule sig a (rewrite_rule r)
-  pub names : named_sorts r.vars.items ≡ means.variables

@@ -8,6 +8,7 @@ pub mod RuleParts
 pub mod RuleForms
 pub mod RuleFaults
 pub mod AxiomClasses
+pub mod NamedRules
 pub mod AxiomMeanings
 pub mod Refusals
 pub mod Views

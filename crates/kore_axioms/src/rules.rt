@@ -11,7 +11,7 @@ ghost use Rattle.kore_check.specs.Folds.{unfolded, IsApplicative};
 ghost use Rattle.kore_shapes.specs.Views.{pattern_at, plain_rewriting};
 ghost use Rattle.kore_axioms.specs.AxiomClasses.{rewrites, class_of};
 ghost use Rattle.kore_axioms.specs.AxiomMeanings.{with_some_variables, MeansTest};
-ghost use Rattle.kore_axioms.specs.AxiomMeanings.{MeansNamedRule};
+ghost use Rattle.kore_axioms.specs.NamedRules.{MeansNamedRule};
 ghost use Rattle.kore_axioms.specs.BuiltRules.{IsFine, IsBuiltOf, FirstOfShape};
 ghost use Rattle.kore_axioms.specs.Refusals.{Refuses};
 ghost use Rattle.kore_axioms.specs.Conditions.{tested as the_tested};

@@ -30,7 +30,7 @@ use Rattle.kore_axioms.proofs.BinderLaws.{AllBindNone, test_binds_none}
 use Rattle.kore_axioms.proofs.BoundLaws.{no_faults}
 use Rattle.kore_axioms.proofs.RuleLaws.{held, clear_test}
 use Rattle.kore_equations.specs.ReadableEquations.{all_read, condition_of_equation, has_other_form}
-use Rattle.kore_equations.specs.EquationMeanings.{MeansNamedEquation}
+use Rattle.kore_equations.specs.NamedEquations.{MeansNamedEquation}
 use Rattle.kore_equations.specs.ClearEquations.{each_faultless, clear_parts}
 use Rattle.kore_equations.specs.BuiltEquations.{IsFine, AreFine, IsFineEquation, IsBuiltOf}
 use Rattle.kore_equations.specs.declared.patterns.EquationPatterns.{EquationPatterns}

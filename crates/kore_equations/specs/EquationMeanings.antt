@@ -1,13 +1,11 @@
 -- The equations that axioms mean.
 use Rattle.std.specs.Prelude.{◌≡◌, ℕ, List, [], map, length, Some}
 use Rattle.kore_text.specs.Trees.{AxiomDeclaration}
-use Rattle.rule_core.specs.ProgramView.{function_equation}
 use Rattle.rule_core.specs.Rules.{Equation}
-use Rattle.rule_core.specs.declared.rules.Equation.{Equation as ListedEquation}
 use Rattle.rule_core.specs.declared.signature.Signature.{Signature}
 use Rattle.rule_core.specs.declared.signature.SymInfo.{SymInfo}
 use Rattle.kore_check.specs.Folds.{unfolded}
-use Rattle.kore_check.specs.PatternMeanings.{named_sorts, with_all_variables, Means}
+use Rattle.kore_check.specs.PatternMeanings.{with_all_variables, Means}
 use Rattle.kore_check.specs.PatternMeanings.{AllMean}
 use Rattle.kore_check.specs.PatternSorts.{symbol_named}
 use Rattle.kore_shapes.specs.Statements.{Statement}
@@ -39,12 +37,6 @@ pub record MeansEquation (sig : Signature) (f : List ℕ) (a : AxiomDeclaration)
   pub sorts : e.variables ≡ map (λ (v : List ℕ × ℕ). v.1) variables
   pub priority : e.priority ≡ priority_of a.attributes
   pub place : e.place ≡ a.at
-
--- The axiom is this equation of a program. The equation's variables have their names in the axiom.
-pub record MeansNamedEquation (sig : Signature) (f : List ℕ) (a : AxiomDeclaration)
-    (e : ListedEquation) : Type 0 where
-  pub means : MeansEquation sig f a (function_equation e)
-  pub names : named_sorts e.vars.items ≡ means.variables
 
 -- the axiom states an equation of the function of this name, and it is not readable
 pub record IsUnreadable (sig : Signature) (f : List ℕ) (a : AxiomDeclaration) : Type 0 where

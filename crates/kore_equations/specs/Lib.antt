@@ -1,6 +1,7 @@
 -- Public: what public clauses say, and public definitions of other crates.
 -- Public: what public clauses say, and what public definitions of other crates use.
 pub mod ReadableEquations
+pub mod NamedEquations
 pub mod EquationMeanings
 pub mod Readings
 -- Laws: what follows from that. Each is a clause of a function that does nothing.

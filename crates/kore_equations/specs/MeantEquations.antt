@@ -7,7 +7,7 @@ use Rattle.rule_core.specs.declared.signature.SymInfo.{SymInfo}
 use Rattle.kore_shapes.specs.Statements.{Statement}
 use Rattle.kore_shapes.specs.EquationForms.{EquationParts}
 use Rattle.kore_equations.specs.ReadableEquations.{IsReadable}
-use Rattle.kore_equations.specs.EquationMeanings.{MeansNamedEquation}
+use Rattle.kore_equations.specs.NamedEquations.{MeansNamedEquation}
 
 -- the equation of the function of this name, number and declaration; none if it is not readable
 abbrev pub IsMeant : Signature → List ℕ → ℕ → SymInfo → AxiomDeclaration → Statement

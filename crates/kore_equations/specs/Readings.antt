@@ -2,7 +2,8 @@
 use Rattle.std.specs.Prelude.{ℕ, List}
 use Rattle.kore_text.specs.Trees.{AxiomDeclaration}
 use Rattle.rule_core.specs.declared.signature.Signature.{Signature}
-use Rattle.kore_equations.specs.EquationMeanings.{MeansNamedEquation, IsUnreadable}
+use Rattle.kore_equations.specs.EquationMeanings.{IsUnreadable}
+use Rattle.kore_equations.specs.NamedEquations.{MeansNamedEquation}
 use Rattle.kore_equations.specs.declared.readings.Reading.{Reading}
 use Rattle.kore_equations.specs.declared.readings.Reading.TheVariants as reading
 

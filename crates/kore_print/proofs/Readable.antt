@@ -13,7 +13,7 @@ use Rattle.kore_text.specs.TokenStream.{mark, Stream, end, fault, token, tokens_
 use Rattle.kore_text.specs.Grammar.{Requirement, placed, any, given, TakesTokens, listed}
 use Rattle.kore_text.specs.Grammar.{more_listed, takes, binder_sorts, binds_sets, is_variable}
 use Rattle.kore_text.specs.Grammar.{spell_sort, spell_sorts, spell_pattern, spell_patterns}
-use Rattle.kore_text.specs.Faults.{opened, IsShallow}
+use Rattle.kore_text.specs.Depth.{opened, IsShallow}
 use Rattle.kore_print.specs.Reading.{unplaced_sort, unplaced_sorts, unplaced, unplaced_patterns}
 use Rattle.kore_print.specs.PrintLaws.{ReadIsReadable, IsReadable, CanStand, IsTextual}
 use Rattle.kore_print.proofs.TextualStreams.{AllTextual, tokens-textual}

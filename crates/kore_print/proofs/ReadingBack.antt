@@ -2,7 +2,7 @@
 use Rattle.std.proofs.Common.{◌≡◌, false, List, [], refl, sym, subst}
 use Rattle.kore_text.specs.TokenStream.{Stream, end, tokens_of}
 use Rattle.kore_text.specs.Grammar.{Requirement, TakesTokens, spell_pattern}
-use Rattle.kore_text.specs.Faults.{IsShallow}
+use Rattle.kore_text.specs.Depth.{IsShallow}
 use Rattle.kore_print.specs.CanonicalText.{canonical_text}
 use Rattle.kore_print.specs.Reading.{unplaced}
 use Rattle.kore_print.specs.PrintLaws.{ReadableReadsBack}

@@ -9,7 +9,7 @@ use Rattle.kore_lex.proofs.Lexing.{lexed-is}
 use Rattle.kore_text.specs.TokenStream.{Token, identifier, set_identifier, builtin, string_token}
 use Rattle.kore_text.specs.TokenStream.{mark, assign, Stream, end, token, named, tokens_of}
 use Rattle.kore_text.specs.Grammar.{Requirement, placed, any, given}
-use Rattle.kore_text.specs.Faults.{opened, IsShallow}
+use Rattle.kore_text.specs.Depth.{opened, IsShallow}
 use Rattle.kore_print.specs.TokenText.{token_text}
 use Rattle.kore_print.specs.CanonicalText.{text_of}
 use Rattle.kore_print.specs.PrintLaws.{CanStand, IsTextual}

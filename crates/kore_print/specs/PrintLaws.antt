@@ -8,7 +8,7 @@ use Rattle.kore_text.specs.TokenStream.{Token, identifier, set_identifier, built
 use Rattle.kore_text.specs.TokenStream.{mark, assign}
 use Rattle.kore_text.specs.Trees.{PatternTree}
 use Rattle.kore_text.specs.Grammar.{Requirement, placed, any, given, spell_pattern}
-use Rattle.kore_text.specs.Faults.{opened}
+use Rattle.kore_text.specs.Depth.{opened}
 use Rattle.kore_print.specs.CanonicalText.{canonical_text}
 use Rattle.kore_print.specs.Reading.{ReadsAs}
 

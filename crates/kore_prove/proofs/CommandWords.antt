@@ -5,8 +5,11 @@ use Rattle.std.proofs.lemmas.Slice.Eq.{bytes_eq-Decides}
 use Rattle.std.specs.Prelude.{codes}
 use Rattle.std.specs.Str.{bytes_eq}
 use Rattle.command_words.specs.CommandLine.{is_named}
-use Rattle.kore_prove.specs.Words.{RunRequest, DrillRequest, AreBad, IsRun, IsVerify, IsDrill}
-use Rattle.kore_prove.specs.Words.{IsNoDrill}
+use Rattle.kore_prove.specs.DrillWords.{DrillRequest, IsDrill}
+use Rattle.kore_prove.specs.RunWords.{RunRequest, IsRun}
+use Rattle.kore_prove.specs.VerifyWords.{IsVerify}
+use Rattle.kore_prove.specs.BadWords.{AreBad}
+use Rattle.kore_prove.specs.DrillWords.{IsNoDrill}
 
 some_same : {A : Type 0} (o : Option A) (a b : A) → o ≡ Some a → o ≡ Some b → a ≡ b
 some_same o a b h k = cc

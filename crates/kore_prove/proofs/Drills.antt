@@ -1,7 +1,8 @@
 -- From the parts of a drill to its result.
 use Rattle.std.proofs.Common.{◌≡◌, ℕ, ◌+◌, ◌≤◌, ◌<◌, ◌^◌, arith, ◌⊎◌, inl, inr, List, ◌++◌, Option}
 use Rattle.std.proofs.Common.{refl, sym, ◌∙◌, ap, subst}
-use Rattle.desk_io.specs.Told.{Told, KeepsFiles, KeepsOthers}
+use Rattle.desk_io.specs.Told.{Told}
+use Rattle.desk_io.specs.KeptFiles.{KeepsFiles, KeepsOthers}
 use Rattle.desk_io.specs.Sent.{Appends}
 use Rattle.desk_io.specs.declared.desk.DeskFault.{DeskFault}
 use Rattle.desk_io.specs.declared.desk.DeskFault.TheVariants as fault
@@ -17,7 +18,7 @@ use Rattle.kore_rules.specs.RefusedTexts.{RefusesFor}
 use Rattle.mm_justify.specs.Counting.{fact_count, statement_count, capped}
 use Rattle.run_proof.specs.WrittenProofs.{IsSummaryOf}
 use Rattle.run_proof.specs.declared.summaries.Summary.{Summary}
-use Rattle.kore_prove.specs.Words.{DrillRequest}
+use Rattle.kore_prove.specs.DrillWords.{DrillRequest}
 use Rattle.kore_prove.specs.ProofFiles.{HoldsCounted, MayHoldFront}
 use Rattle.kore_prove.specs.DrillProgram.{IsDrillProgram}
 use Rattle.kore_prove.specs.DrilledRun.{IsDrilled, LeavesDrill, counts_line, counts_line_of}

@@ -2,7 +2,9 @@
 use Rattle.std.proofs.Common.{◌≡◌, ℕ, ◌≤◌, ◌⊎◌, inl, inr, List, [], length, Option, None, Some}
 use Rattle.std.proofs.Common.{refl, sym, ◌∙◌, ap, subst, arith}
 use Rattle.std.proofs.lemmas.List.{append-nil}
-use Rattle.desk_io.specs.Told.{Told, Holds, Lacks, HoldsMore, KeepsFiles, file_of}
+use Rattle.desk_io.specs.Told.{Told, Holds, file_of}
+use Rattle.desk_io.specs.KeptFiles.{KeepsFiles}
+use Rattle.desk_io.specs.HeldFiles.{Lacks, HoldsMore}
 use Rattle.desk_io.specs.Sent.{SameBytes}
 use Rattle.desk_io.specs.declared.read.ReadEnd.TheVariants as read
 use Rattle.desk_io.proofs.Counts.{CountRose-later}

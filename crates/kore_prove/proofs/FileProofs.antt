@@ -3,7 +3,9 @@ use Rattle.std.proofs.Common.{◌≡◌, ◌≢◌, ℕ, inl, inr, List, [], ◌
 use Rattle.std.proofs.Common.{Err, true, refl, sym, ◌∙◌, ap, subst}
 use Rattle.std.specs.Prelude.{OnErr}
 use Rattle.std.proofs.lemmas.List.{append-nil}
-use Rattle.desk_io.specs.Told.{Told, KeepsFiles, file_of, Tells, TellsNow, KeepsFile, KeepsOthers}
+use Rattle.desk_io.specs.Told.{Told, file_of}
+use Rattle.desk_io.specs.KeptFiles.{KeepsFiles, KeepsFile, KeepsOthers}
+use Rattle.desk_io.specs.HeldFiles.{Tells, TellsNow}
 use Rattle.desk_io.specs.Changes.{Same, TellsCreated, Creates, Writes, Closes, PutsFile}
 use Rattle.term_core.specs.Patterns.{Pattern}
 use Rattle.rule_core.specs.Theories.{RewriteTheory}

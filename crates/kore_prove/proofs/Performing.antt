@@ -1,7 +1,9 @@
 -- From the parts of a run command to its result.
 use Rattle.std.proofs.Common.{◌≡◌, ℕ, ◌⊎◌, inl, inr, List, Option, Some, None, IsSome, refl, sym}
 use Rattle.std.proofs.Common.{subst}
-use Rattle.desk_io.specs.Told.{Told, KeepsFiles, Holds, TellsNow, KeepsOthers}
+use Rattle.desk_io.specs.Told.{Told, Holds}
+use Rattle.desk_io.specs.KeptFiles.{KeepsFiles, KeepsOthers}
+use Rattle.desk_io.specs.HeldFiles.{TellsNow}
 use Rattle.desk_io.specs.Counts.{CountRose}
 use Rattle.desk_io.specs.Sent.{Appends, AppendsFront}
 use Rattle.desk_io.specs.declared.desk.DeskFault.{DeskFault}
@@ -14,7 +16,7 @@ use Rattle.rewriter.specs.Configurations.{IsStartOf}
 use Rattle.run_loop.specs.RunEnds.{IsSortedEnd}
 use Rattle.kore_show.specs.ShownLaws.{SortedIsShown}
 use Rattle.run_lines.specs.Lines.{kept_pattern}
-use Rattle.kore_prove.specs.Words.{RunRequest}
+use Rattle.kore_prove.specs.RunWords.{RunRequest}
 use Rattle.kore_prove.specs.Files.{HoldsStart, HoldsRun}
 use Rattle.kore_prove.specs.ProvedRun.{HasWantedProof, LeavesFront}
 use Rattle.kore_prove.specs.ProofFiles.{HasWantedFront}

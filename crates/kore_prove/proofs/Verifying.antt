@@ -10,7 +10,7 @@ use Rattle.mm_database.specs.Validity.{IsFirstFault}
 use Rattle.mm_database.proofs.Faults.{valid_faultless, computed-IsFirstFaultIn}
 use Rattle.kore_prove.specs.declared.verification.Verdict.{Verdict}
 use Rattle.kore_prove.specs.declared.verification.Verdict.TheVariants as verdict
-use Rattle.kore_prove.specs.Words.{IsVerify}
+use Rattle.kore_prove.specs.VerifyWords.{IsVerify}
 use Rattle.kore_prove.specs.DatabaseVerdicts.{IsInvalidBy, HoldsDatabase, PrintsVerdictOn}
 use Rattle.kore_prove.specs.DatabaseVerdicts.{verdict_line, verdict_code}
 use Rattle.kore_prove.specs.Verdicts.{SaysValid, SaysInvalid, PrintsVerdictOf, valid_line}

@@ -4,7 +4,7 @@ use Rattle.desk_io.specs.Told.{Told}
 use Rattle.term_core.specs.Patterns.{Pattern}
 use Rattle.rule_core.specs.Theories.{RewriteTheory}
 use Rattle.rule_core.specs.Runs.{Run, IsRunOf}
-use Rattle.kore_prove.specs.Words.{RunRequest}
+use Rattle.kore_prove.specs.RunWords.{RunRequest}
 use Rattle.kore_prove.specs.Files.{HoldsRun}
 
 -- The files of the request mean this program and this initial term. This is the run of the program

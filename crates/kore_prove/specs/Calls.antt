@@ -1,7 +1,8 @@
 -- All that a call of the program does, as one fact.
 use Rattle.std.specs.Prelude.{◌≡◌, ℕ, ◌⊎◌}
-use Rattle.desk_io.specs.Told.{KeepsFiles, KeepsOthers}
-use Rattle.kore_prove.specs.Words.{AreBad, IsProofFile}
+use Rattle.desk_io.specs.KeptFiles.{KeepsFiles, KeepsOthers}
+use Rattle.kore_prove.specs.Words.{IsProofFile}
+use Rattle.kore_prove.specs.BadWords.{AreBad}
 use Rattle.kore_prove.specs.Courses.{Call}
 use Rattle.kore_prove.specs.PrintedRun.{PrintsRun}
 use Rattle.kore_prove.specs.ProvedRun.{ProvesRun, LeavesFrontOfRun}

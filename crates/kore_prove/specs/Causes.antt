@@ -1,14 +1,18 @@
 -- The cause of each end of a call that did not print its lines. For a desk that tells nothing, only
 -- its counts say something.
 use Rattle.std.specs.Prelude.{◌≡◌, ℕ, ◌⊎◌, List, ◌++◌, Option, None, Some}
-use Rattle.desk_io.specs.Told.{Told, Lacks, HoldsMore}
+use Rattle.desk_io.specs.Told.{Told}
+use Rattle.desk_io.specs.HeldFiles.{Lacks, HoldsMore}
 use Rattle.desk_io.specs.Sent.{SameBytes}
 use Rattle.desk_io.specs.Counts.{CountRose}
 use Rattle.term_core.specs.Patterns.{Pattern}
 use Rattle.rule_core.specs.Theories.{RewriteTheory}
 use Rattle.kore_sig.specs.FirstFault.{Fault}
-use Rattle.kore_rules.specs.Acceptance.{IsRefused, IsRefusedTerm}
-use Rattle.kore_prove.specs.Words.{RunRequest, DrillRequest, AreBad, IsRun, IsVerify, IsDrill}
+use Rattle.kore_rules.specs.Refused.{IsRefused, IsRefusedTerm}
+use Rattle.kore_prove.specs.DrillWords.{DrillRequest, IsDrill}
+use Rattle.kore_prove.specs.RunWords.{RunRequest, IsRun}
+use Rattle.kore_prove.specs.VerifyWords.{IsVerify}
+use Rattle.kore_prove.specs.BadWords.{AreBad}
 use Rattle.kore_prove.specs.Courses.{Course, Call}
 use Rattle.kore_prove.specs.CountedFaults.{CountsReadFault, CountsWriteFault}
 use Rattle.kore_prove.specs.CountedFaults.{CountsOutputFault}

@@ -1,6 +1,6 @@
 -- Which calls make a drill, unless a fault is counted or memory runs out.
 use Rattle.std.specs.Prelude.{◌≡◌, ◌⊎◌, ℕ}
-use Rattle.kore_prove.specs.Words.{DrillRequest, IsDrill}
+use Rattle.kore_prove.specs.DrillWords.{DrillRequest, IsDrill}
 use Rattle.kore_prove.specs.Courses.{Call}
 use Rattle.kore_prove.specs.CountedFaults.{CountsWriteFault, CountsOutputFault}
 

@@ -2,7 +2,7 @@
 use Rattle.std.specs.Prelude.{◌≡◌, ◌⊎◌, ℕ, List, Option, Some, None}
 use Rattle.desk_io.specs.Told.{Told}
 use Rattle.kore_prove.specs.Limits.{HoldsWithin, database_limit}
-use Rattle.kore_prove.specs.Words.{IsVerify}
+use Rattle.kore_prove.specs.VerifyWords.{IsVerify}
 use Rattle.kore_prove.specs.Courses.{Call}
 use Rattle.kore_prove.specs.CountedFaults.{CountsReadFault, CountsOutputFault}
 

@@ -2,14 +2,15 @@
 -- file.
 use Rattle.std.specs.Prelude.{◌≡◌, ℕ, ◌+◌, ◌⊎◌, List, [], ◌∷◌, ◌++◌, length, Option, Some, codes}
 use Rattle.std.specs.Prelude.{decimal}
-use Rattle.desk_io.specs.Told.{Told, KeepsFile}
+use Rattle.desk_io.specs.Told.{Told}
+use Rattle.desk_io.specs.KeptFiles.{KeepsFile}
 use Rattle.desk_io.specs.Sent.{Appends}
 use Rattle.term_core.specs.Patterns.{Pattern}
 use Rattle.rule_core.specs.Theories.{RewriteTheory}
 use Rattle.rule_core.specs.Runs.{Run, IsRunOf}
 use Rattle.run_lines.specs.Lines.{lines_of}
 use Rattle.mm_justify.specs.Counting.{fact_count, statement_count, capped}
-use Rattle.kore_prove.specs.Words.{DrillRequest, IsDrill}
+use Rattle.kore_prove.specs.DrillWords.{DrillRequest, IsDrill}
 use Rattle.kore_prove.specs.Courses.{Call}
 use Rattle.kore_prove.specs.DrillProgram.{IsDrillProgram}
 use Rattle.kore_prove.specs.ProvedRun.{HoldsProof, HoldsFront}

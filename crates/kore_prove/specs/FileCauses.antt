@@ -1,6 +1,8 @@
 -- The cause of each error in reading a file, and how the desk's files changed.
 use Rattle.std.specs.Prelude.{ℕ, List, Option}
-use Rattle.desk_io.specs.Told.{Told, Lacks, HoldsMore, KeepsFiles}
+use Rattle.desk_io.specs.Told.{Told}
+use Rattle.desk_io.specs.KeptFiles.{KeepsFiles}
+use Rattle.desk_io.specs.HeldFiles.{Lacks, HoldsMore}
 use Rattle.desk_io.specs.Counts.{CountRose}
 use Rattle.desk_io.specs.declared.read.ReadEnd.{ReadEnd}
 use Rattle.desk_io.specs.declared.read.ReadEnd.TheVariants as read

@@ -5,7 +5,7 @@ use Rattle.term_core.specs.Patterns.{Pattern}
 use Rattle.rule_core.specs.Theories.{RewriteTheory}
 use Rattle.kore_rules.specs.Acceptance.{IsAccepted, IsAcceptedTerm}
 use Rattle.kore_prove.specs.Limits.{HoldsWithin, definition_limit, term_limit}
-use Rattle.kore_prove.specs.Words.{RunRequest}
+use Rattle.kore_prove.specs.RunWords.{RunRequest}
 
 -- the file of that name is within its limit and is accepted as a definition, which means this
 -- program, whose rules have this sort

@@ -1,6 +1,10 @@
 -- Public: what public clauses say, and public definitions of other crates.
 -- Public: what public clauses say, and what public definitions of other crates use.
 pub mod Limits
+pub mod BadWords
+pub mod VerifyWords
+pub mod RunWords
+pub mod DrillWords
 pub mod Words
 pub mod Courses
 pub mod CountedFaults

@@ -6,7 +6,9 @@ use Rattle.term_core.specs.Patterns.{Pattern}
 use Rattle.rule_core.specs.Theories.{RewriteTheory}
 use Rattle.rule_core.specs.Runs.{Run, stuck, limited, stopped, unstarted}
 use Rattle.run_lines.specs.Lines.{lines_of}
-use Rattle.kore_prove.specs.Words.{RunRequest, IsRun, IsNoVerify, IsNoDrill}
+use Rattle.kore_prove.specs.DrillWords.{IsNoDrill}
+use Rattle.kore_prove.specs.RunWords.{RunRequest, IsRun}
+use Rattle.kore_prove.specs.VerifyWords.{IsNoVerify}
 use Rattle.kore_prove.specs.Courses.{Call}
 use Rattle.kore_prove.specs.AcceptedRuns.{IsRunOfFiles}
 

@@ -1,6 +1,7 @@
 -- The created file of a desk, after it was written and closed.
 use Rattle.std.specs.Prelude.{◌≡◌, ◌≢◌, ℕ, ◌⊎◌, List, [], ◌++◌, Option, Some, None}
-use Rattle.desk_io.specs.Told.{Told, file_of, KeepsFile}
+use Rattle.desk_io.specs.Told.{Told, file_of}
+use Rattle.desk_io.specs.KeptFiles.{KeepsFile}
 use Rattle.desk_io.specs.Changes.{PutsFile}
 use Rattle.term_core.specs.Patterns.{Pattern}
 use Rattle.rule_core.specs.Theories.{RewriteTheory}

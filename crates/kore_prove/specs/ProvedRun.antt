@@ -1,11 +1,13 @@
 -- What the file of a proof holds: a database that justifies the printed run, or the front of one.
 use Rattle.std.specs.Prelude.{◌≡◌, ℕ, ◌⊎◌, List, [], Option, Some, None}
-use Rattle.desk_io.specs.Told.{Told, TellsNow, KeepsFile}
+use Rattle.desk_io.specs.Told.{Told}
+use Rattle.desk_io.specs.KeptFiles.{KeepsFile}
+use Rattle.desk_io.specs.HeldFiles.{TellsNow}
 use Rattle.term_core.specs.Patterns.{Pattern}
 use Rattle.rule_core.specs.Theories.{RewriteTheory}
 use Rattle.rule_core.specs.Runs.{Run, kept_by}
 use Rattle.mm_justify.specs.Justifying.{JustifiesRun, IsFrontOfProof}
-use Rattle.kore_prove.specs.Words.{RunRequest, IsRun, IsProofRun}
+use Rattle.kore_prove.specs.RunWords.{RunRequest, IsRun, IsProofRun}
 use Rattle.kore_prove.specs.Courses.{Call}
 use Rattle.kore_prove.specs.Files.{HoldsRun}
 use Rattle.kore_prove.specs.PrintedRun.{IsCodeOfRun, IsPrinted}

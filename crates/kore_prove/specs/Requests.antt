@@ -5,7 +5,9 @@ use Rattle.command_words.specs.declared.commands.RunWords.{RunWords}
 use Rattle.command_words.specs.declared.commands.DrillWords.{DrillWords}
 use Rattle.command_words.specs.declared.commands.Command.{Command}
 use Rattle.command_words.specs.declared.commands.Command.TheVariants as command
-use Rattle.kore_prove.specs.Words.{RunRequest, DrillRequest, IsRun, IsVerify, IsDrill}
+use Rattle.kore_prove.specs.DrillWords.{DrillRequest, IsDrill}
+use Rattle.kore_prove.specs.RunWords.{RunRequest, IsRun}
+use Rattle.kore_prove.specs.VerifyWords.{IsVerify}
 use Rattle.kore_prove.specs.declared.running.Bounds.{Bounds}
 
 -- the run of the request

@@ -4,13 +4,14 @@ use Rattle.term_core.specs.Patterns.{Pattern}
 use Rattle.rule_core.specs.Theories.{RewriteTheory}
 use Rattle.rule_core.specs.Runs.{Run, IsRunOf}
 use Rattle.run_lines.specs.Lines.{lines_of}
-use Rattle.kore_prove.specs.Words.{RunRequest, DrillRequest}
+use Rattle.kore_prove.specs.DrillWords.{DrillRequest}
+use Rattle.kore_prove.specs.RunWords.{RunRequest}
 use Rattle.kore_prove.specs.Causes.{RunCause, DrillCause, KeepsOutput}
 use Rattle.kore_prove.specs.Courses.{Course}
 use Rattle.kore_prove.specs.FileCauses.{KeepsFilesAt}
 use Rattle.kore_prove.specs.PrintedRun.{PrintsLines}
 use Rattle.kore_prove.specs.ProvedRun.{HasWantedProof, LeavesFront}
-use Rattle.desk_io.specs.Told.{KeepsOthers}
+use Rattle.desk_io.specs.KeptFiles.{KeepsOthers}
 use Rattle.kore_prove.specs.DrilledRun.{IsDrilled, LeavesDrill}
 use Rattle.kore_prove.specs.Reports.{Ending}
 use Rattle.kore_prove.specs.declared.running.Bounds.{Bounds}

@@ -7,7 +7,7 @@ use Rattle.mm_database.specs.Assertions.{axiom_count, theorem_count}
 use Rattle.desk_io.specs.Told.{Told, file_of}
 use Rattle.desk_io.specs.Sent.{Appends}
 use Rattle.kore_prove.specs.Limits.{database_limit}
-use Rattle.kore_prove.specs.Words.{IsVerify}
+use Rattle.kore_prove.specs.VerifyWords.{IsVerify}
 use Rattle.kore_prove.specs.Courses.{Call}
 
 -- `valid A P`, followed by a newline

@@ -1,6 +1,6 @@
 // The top call: words, files, the run and its lines, the verdict, the drill.
 ghost use Rattle.std.specs.Prelude.{◌≡◌, ◌⊎◌, IsFalse, IfOk, IfErr, Err, map, string_bytes};
-ghost use Rattle.desk_io.specs.Told.{KeepsFiles, KeepsOthers};
+ghost use Rattle.desk_io.specs.KeptFiles.{KeepsFiles, KeepsOthers};
 ghost use Rattle.run_loop.specs.RunEnds.{plain_run};
 ghost use Rattle.kore_prove.specs.Calls.{IsAnswered};
 ghost use Rattle.kore_prove.specs.Causes.{Ends};
@@ -17,7 +17,8 @@ ghost use Rattle.kore_prove.specs.Requests.{AsksFor, request};
 ghost use Rattle.kore_prove.specs.RunsDone.{IsRunDone, IsRunEnded};
 ghost use Rattle.kore_prove.specs.Unwritten.{IsUnwritten};
 ghost use Rattle.kore_prove.specs.Verdicts.{PrintsVerdict};
-ghost use Rattle.kore_prove.specs.Words.{AreBad, IsProofFile};
+ghost use Rattle.kore_prove.specs.Words.{IsProofFile};
+ghost use Rattle.kore_prove.specs.BadWords.{AreBad};
 
 use crate::drilling::drill_command;
 use crate::proof_file::made_lines;

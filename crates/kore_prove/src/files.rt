@@ -1,10 +1,10 @@
 // The files of a run: the definition and the term.
 ghost use Rattle.std.specs.Prelude.{◌≡◌, ◌≤◌, IfOk, IfErr};
-ghost use Rattle.desk_io.specs.Told.{KeepsFiles};
+ghost use Rattle.desk_io.specs.KeptFiles.{KeepsFiles};
 ghost use Rattle.term_core.specs.RulePatterns.{plain_pattern};
 ghost use Rattle.rule_core.specs.ProgramView.{theory_of};
 ghost use Rattle.rule_core.specs.WellSorted.{IsStart};
-ghost use Rattle.kore_rules.specs.Acceptance.{IsRefused, IsRefusedTerm};
+ghost use Rattle.kore_rules.specs.Refused.{IsRefused, IsRefusedTerm};
 ghost use Rattle.kore_rules.specs.RefusedTexts.{top_of};
 ghost use Rattle.kore_prove.specs.FileCauses.{FileCause};
 ghost use Rattle.kore_prove.specs.Files.{HoldsProgram, HoldsStart};

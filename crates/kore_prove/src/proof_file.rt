@@ -8,7 +8,7 @@ ghost use Rattle.kore_prove.specs.ProofFiles.{PutsProof, PutsFront, HoldsCounted
 ghost use Rattle.kore_prove.specs.ProofFiles.{HasWantedFront};
 ghost use Rattle.kore_prove.specs.ProofFiles.{KeepsOthersNow};
 ghost use Rattle.kore_prove.specs.ProvedRun.{HasWantedProof};
-ghost use Rattle.desk_io.specs.Told.{KeepsOthers};
+ghost use Rattle.desk_io.specs.KeptFiles.{KeepsOthers};
 ghost use Rattle.kore_prove.specs.Requests.{request, bounds_of, IsWanted};
 ghost use Rattle.kore_prove.specs.Runnable.{IsRunnable};
 ghost use Rattle.kore_prove.specs.RunsDone.{HasLines};

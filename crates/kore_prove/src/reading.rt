@@ -1,10 +1,11 @@
 // What a run needs: the accepted definition and the accepted term.
 ghost use Rattle.std.specs.Prelude.{◌≡◌, ℕ, Option, IfOk, IfErr};
-ghost use Rattle.desk_io.specs.Told.{Told, KeepsFiles};
+ghost use Rattle.desk_io.specs.Told.{Told};
+ghost use Rattle.desk_io.specs.KeptFiles.{KeepsFiles};
 ghost use Rattle.term_core.specs.RulePatterns.{plain_pattern};
 ghost use Rattle.rule_core.specs.Theories.{RewriteTheory};
 ghost use Rattle.rule_core.specs.ProgramView.{theory_of};
-ghost use Rattle.kore_rules.specs.Acceptance.{IsRefused, IsRefusedTerm};
+ghost use Rattle.kore_rules.specs.Refused.{IsRefused, IsRefusedTerm};
 ghost use Rattle.kore_prove.specs.Causes.{ReadCause};
 ghost use Rattle.kore_prove.specs.FileCauses.{FileCause};
 ghost use Rattle.kore_prove.specs.Files.{HoldsProgram, HoldsRun};
@@ -12,7 +13,7 @@ ghost use Rattle.kore_prove.specs.Limits.{definition_limit, term_limit};
 ghost use Rattle.kore_prove.specs.PlainEnds.{plain_end};
 ghost use Rattle.kore_prove.specs.Requests.{request};
 ghost use Rattle.kore_prove.specs.Runnable.{IsRunnable};
-ghost use Rattle.kore_prove.specs.Words.{RunRequest};
+ghost use Rattle.kore_prove.specs.RunWords.{RunRequest};
 
 use crate::files::{Accepted, FileEnd, read_program, read_start};
 use crate::report::End;

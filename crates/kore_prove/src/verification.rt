@@ -1,6 +1,6 @@
 // The verdict on a database, and its line.
 ghost use Rattle.std.specs.Prelude.{◌≡◌, ◌≤◌, List, ℕ, Option, IfOk, IfErr, OnOk, OnErr, IsErrOf};
-ghost use Rattle.desk_io.specs.Told.{KeepsFiles};
+ghost use Rattle.desk_io.specs.KeptFiles.{KeepsFiles};
 ghost use Rattle.desk_io.specs.Sent.{Appends, AppendsFront};
 ghost use Rattle.desk_io.specs.Counts.{CountRose};
 ghost use Rattle.kore_prove.specs.FileCauses.{UnreadCause};

@@ -23,7 +23,8 @@ use Rattle.kore_axioms.specs.AxiomClasses.{passed_over, class_of, class_of_patte
 use Rattle.kore_axioms.specs.AxiomClasses.{class_of_statement, is_no_equation, takes_equations}
 use Rattle.kore_axioms.specs.AxiomClasses.{states_pairs}
 use Rattle.kore_rules.specs.Programs.{IsTopOf}
-use Rattle.kore_rules.specs.Acceptance.{IsAccepted, IsRefused, IsRefusedTerm, HasTextFault}
+use Rattle.kore_rules.specs.Acceptance.{IsAccepted}
+use Rattle.kore_rules.specs.Refused.{IsRefused, IsRefusedTerm, HasTextFault}
 use Rattle.kore_rules.specs.AxiomsRead.{AreFew}
 use Rattle.kore_rules.specs.FirstRefusal.{FirstOfAxioms, FirstOfDefinition, FirstOfTerm}
 use Rattle.kore_rules.specs.MadePrograms.{IsMadeOf, ListsOwnEquations}

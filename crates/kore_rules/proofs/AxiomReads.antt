@@ -16,11 +16,13 @@ use Rattle.rule_core.specs.declared.signature.Signature.{Signature}
 use Rattle.kore_shapes.specs.Shapes.{Rewriting}
 use Rattle.kore_shapes.specs.Statements.{Statement}
 use Rattle.kore_axioms.specs.AxiomClasses.{AxiomClass, rewrites, equates, class_of}
-use Rattle.kore_axioms.specs.AxiomMeanings.{MeansRule, MeansNamedRule}
-use Rattle.kore_equations.specs.EquationMeanings.{MeansEquation, MeansNamedEquation, IsUnreadable}
+use Rattle.kore_axioms.specs.AxiomMeanings.{MeansRule}
+use Rattle.kore_axioms.specs.NamedRules.{MeansNamedRule}
+use Rattle.kore_equations.specs.EquationMeanings.{MeansEquation, IsUnreadable}
+use Rattle.kore_equations.specs.NamedEquations.{MeansNamedEquation}
 use Rattle.kore_rules.specs.AxiomsRead.{AreRead, HaveRead, HasUnreadable, IsNumberedEquation}
 use Rattle.kore_rules.specs.AxiomsRead.{numbered_equation, is_marked}
-use Rattle.kore_rules.specs.Programs.{AreOf, IsSomeEquation}
+use Rattle.kore_rules.specs.KeptNames.{AreOf, IsSomeEquation}
 use Rattle.kore_rules.specs.declared.axioms.Readings.{Readings}
 use Rattle.kore_rules.proofs.AxiomSteps.{some_more, some_last, some_cases, read_more, read_same}
 use Rattle.kore_rules.proofs.AxiomSteps.{of_more, of_same}

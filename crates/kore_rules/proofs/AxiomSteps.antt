@@ -8,7 +8,7 @@ use Rattle.std.proofs.lemmas.List.Elements.{Contains-push_cases}
 use Rattle.std.proofs.lemmas.List.Sums.{sum_by_push}
 use Rattle.kore_text.specs.Trees.{AxiomDeclaration}
 use Rattle.kore_rules.specs.AxiomsRead.{AreRead}
-use Rattle.kore_rules.specs.Programs.{AreOf}
+use Rattle.kore_rules.specs.KeptNames.{AreOf}
 
 -- P holds for some axiom
 abbrev pub Some_is : (AxiomDeclaration → Type 0) → List AxiomDeclaration → Type 0

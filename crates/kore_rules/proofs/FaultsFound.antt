@@ -34,7 +34,7 @@ use Rattle.kore_axioms.specs.AxiomClasses.{passed_over, class_of}
 use Rattle.kore_axioms.specs.RuleFaults.{FirstOfRule, sorted_faults, use_faults}
 use Rattle.kore_axioms.specs.RuleForms.{form_faults}
 use Rattle.kore_axioms.specs.RuleParts.{rule_parts}
-use Rattle.kore_rules.specs.Acceptance.{HasTextFault, fault_of_text}
+use Rattle.kore_rules.specs.Refused.{HasTextFault, fault_of_text}
 use Rattle.kore_rules.specs.FirstRefusal.{FirstOfClass, FirstOfAxioms, FirstOfTerm, first_sort}
 use Rattle.kore_rules.specs.FirstRefusal.{start_faults}
 use Rattle.kore_rules.specs.GroundTerms.{ground_faults}

@@ -42,7 +42,8 @@ use Rattle.kore_check.proofs.SortLaws.{sort_numbers-length}
 use Rattle.kore_check.proofs.VariableLaws.{with_variable-extends}
 use Rattle.kore_axioms.proofs.BoundLaws.{no_faults}
 use Rattle.kore_axioms.proofs.FirstLaws.{none_by_byte}
-use Rattle.kore_rules.specs.Acceptance.{IsAcceptedTerm, IsRefusedTerm, HasTextFault}
+use Rattle.kore_rules.specs.Acceptance.{IsAcceptedTerm}
+use Rattle.kore_rules.specs.Refused.{IsRefusedTerm, HasTextFault}
 use Rattle.kore_rules.specs.AcceptanceLaws.{EachTermIsDecided}
 use Rattle.kore_rules.specs.FirstRefusal.{FirstOfTerm}
 use Rattle.kore_rules.specs.GroundTerms.{ground_faults}

@@ -21,7 +21,7 @@ use Rattle.kore_shapes.specs.Shapes.{Rewriting}
 use Rattle.kore_rules.specs.AcceptanceLaws.{TermFaultIsOne, AxiomFaultIsOne}
 use Rattle.kore_rules.specs.AcceptanceLaws.{SpelledDefinitionIsFaultless, SpelledPatternIsFaultless}
 use Rattle.kore_rules.specs.AcceptanceLaws.{TextFaultIsOne, TermTextFaultIsOne}
-use Rattle.kore_rules.specs.Acceptance.{HasTextFault, fault_of_text}
+use Rattle.kore_rules.specs.Refused.{HasTextFault, fault_of_text}
 use Rattle.kore_rules.specs.FirstRefusal.{FirstOfClass, first_sort, start_faults}
 use Rattle.kore_rules.specs.GroundTerms.{ground_faults}
 

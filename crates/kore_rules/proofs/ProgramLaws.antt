@@ -29,12 +29,13 @@ use Rattle.kore_sig.proofs.ListLaws.{number_within}
 use Rattle.kore_sig.proofs.FirstLaws.{contains_here, contains_there, contains_cases, contains_none}
 use Rattle.kore_check.specs.PatternSorts.{symbol_named}
 use Rattle.kore_axioms.specs.AxiomClasses.{is_defined_kind}
-use Rattle.kore_axioms.specs.AxiomMeanings.{MeansRule, MeansNamedRule}
+use Rattle.kore_axioms.specs.AxiomMeanings.{MeansRule}
+use Rattle.kore_axioms.specs.NamedRules.{MeansNamedRule}
 use Rattle.kore_equations.specs.EquationMeanings.{MeansEquation, IsUnreadable}
 use Rattle.kore_rules.specs.AxiomsRead.{AreRead, AreApart, AreFew, HasUnreadable}
 use Rattle.kore_rules.specs.AxiomsRead.{IsNumberedEquation, numbered_equation, is_marked}
 use Rattle.kore_rules.specs.Programs.{HasKind, IsSymbolOf, AreRulesOf, AreEquationsOf}
-use Rattle.kore_rules.specs.Programs.{AreOf, IsSomeEquation}
+use Rattle.kore_rules.specs.KeptNames.{AreOf, IsSomeEquation}
 use Rattle.kore_rules.specs.ScalarSorts.{MarksTerms, IsFinal, final_kind, is_marked_at}
 use Rattle.kore_rules.specs.TrialOrder.{rule_key, equation_key, belongs_to, has_equations}
 use Rattle.kore_rules.specs.TrialOrder.{is_by_equations, listed_at}

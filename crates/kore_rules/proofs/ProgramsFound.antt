@@ -31,7 +31,8 @@ use Rattle.kore_axioms.specs.AxiomClasses.{passed_over, class_of, is_defined_kin
 use Rattle.kore_axioms.specs.AxiomMeanings.{MeansRule}
 use Rattle.kore_axioms.specs.RuleFaults.{FirstOfRule}
 use Rattle.kore_equations.specs.EquationMeanings.{MeansEquation, IsUnreadable}
-use Rattle.kore_rules.specs.Acceptance.{IsAccepted, IsRefused, HasTextFault}
+use Rattle.kore_rules.specs.Acceptance.{IsAccepted}
+use Rattle.kore_rules.specs.Refused.{IsRefused, HasTextFault}
 use Rattle.kore_rules.specs.AcceptanceLaws.{EachTextIsDecided}
 use Rattle.kore_rules.specs.AxiomsRead.{AreFew, is_marked}
 use Rattle.kore_rules.specs.FirstRefusal.{FirstOfAxioms}

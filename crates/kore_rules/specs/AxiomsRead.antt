@@ -17,9 +17,10 @@ use Rattle.rule_core.specs.declared.signature.Signature.{Signature}
 use Rattle.kore_sig.specs.SortReferences.{sort_number}
 use Rattle.kore_shapes.specs.Shapes.{Rewriting}
 use Rattle.kore_axioms.specs.AxiomClasses.{rewrites, class_of}
-use Rattle.kore_axioms.specs.AxiomMeanings.{MeansRule, MeansNamedRule}
+use Rattle.kore_axioms.specs.AxiomMeanings.{MeansRule}
+use Rattle.kore_axioms.specs.NamedRules.{MeansNamedRule}
 use Rattle.kore_equations.specs.EquationMeanings.{MeansEquation, IsUnreadable}
-use Rattle.kore_rules.specs.Programs.{AreOf, IsSomeEquation}
+use Rattle.kore_rules.specs.KeptNames.{AreOf, IsSomeEquation}
 use Rattle.kore_rules.specs.declared.axioms.Readings.{Readings}
 
 abbrev pub tree_at : Bor AxiomDecl → AxiomDeclaration

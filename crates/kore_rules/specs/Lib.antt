@@ -2,7 +2,10 @@
 -- Public: what public clauses say, and what public definitions of other crates use.
 pub mod GroundTerms
 pub mod FirstRefusal
+pub mod KeptNames
 pub mod Programs
+pub mod Refused
+pub mod NamedVariables
 pub mod Acceptance
 pub mod Names
 pub mod RefusedTexts

@@ -12,7 +12,8 @@ use Rattle.kore_sig.specs.Declarations.{axioms_of}
 use Rattle.kore_sig.specs.SignatureFaults.{FirstOfSignature}
 use Rattle.kore_sig.specs.Signatures.{IsSignatureOf}
 use Rattle.kore_rules.specs.FirstRefusal.{FirstOfAxioms}
-use Rattle.kore_rules.specs.Programs.{IsProgramUnder, IsTopOf, KeepsNames}
+use Rattle.kore_rules.specs.Programs.{IsProgramUnder, IsTopOf}
+use Rattle.kore_rules.specs.KeptNames.{KeepsNames}
 
 -- the definition has no fault and means this program, and the rules have this sort
 pub record IsMadeOf (d : DefinitionTree) (theory : RewriteTheory) (top : Option ℕ) : Type 0 where

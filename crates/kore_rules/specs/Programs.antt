@@ -1,38 +1,24 @@
 -- The program that a definition means: its signature, its rewrite rules and the equations of its
 -- functions.
-use Rattle.std.specs.Prelude.{◌≡◌, ℕ, List, [], map, Option, Some, None, option_map, Contains, ◌↔◌}
+use Rattle.std.specs.Prelude.{◌≡◌, ℕ, List, map, Option, Some, None, option_map, Contains, ◌↔◌}
 use Rattle.std.specs.Prelude.{length, slice_get}
 use Rattle.std.specs.Prelude.{string_bytes}
 use Rattle.std.specs.List.{AllZip}
-use Rattle.kore_text.specs.Trees.{PatternTree, AxiomDeclaration, DefinitionTree}
+use Rattle.kore_text.specs.Trees.{AxiomDeclaration}
 use Rattle.term_core.specs.HookValues.{Hook, hooks}
-use Rattle.term_core.specs.Patterns.{Pattern}
-use Rattle.rule_core.specs.BoundVariables.{IsEquationAt}
 use Rattle.rule_core.specs.Rules.{RewriteRule, Equation}
 use Rattle.rule_core.specs.Theories.{RewriteTheory, equations_of}
 use Rattle.rule_core.specs.TrialOrder.{AreInOrder}
 use Rattle.rule_core.specs.HookSorts.{FitsHook}
-use Rattle.rule_core.specs.declared.rules.Equation.{Equation as ListedEquation}
-use Rattle.rule_core.specs.declared.rules.Program.{Program}
-use Rattle.rule_core.specs.declared.rules.Rule.{Rule}
 use Rattle.rule_core.specs.declared.signature.Signature.{Signature}
 use Rattle.rule_core.specs.declared.signature.SymInfo.{SymInfo}
 use Rattle.rule_core.specs.declared.signature.SymKind.{SymKind}
 use Rattle.rule_core.specs.declared.signature.SymKind.TheVariants.{Equations, Hooked, Closed}
-use Rattle.kore_sig.specs.Declarations.{axioms_of}
-use Rattle.kore_sig.specs.Signatures.{IsSignatureOf}
 use Rattle.kore_sig.specs.SortReferences.{sort_number}
-use Rattle.kore_check.specs.Folds.{unfolded}
-use Rattle.kore_check.specs.PatternMeanings.{with_variables, with_all_variables, Means, AllMean}
-use Rattle.kore_check.specs.PatternSorts.{symbol_named}
 use Rattle.kore_shapes.specs.Shapes.{Rewriting}
-use Rattle.kore_axioms.specs.Conditions.{tested}
-use Rattle.kore_shapes.specs.Statements.{Statement}
-use Rattle.kore_shapes.specs.EquationForms.{EquationParts}
-use Rattle.kore_axioms.specs.AxiomClasses.{rewrites, equates, class_of}
-use Rattle.kore_axioms.specs.RuleParts.{rule_parts, left_of, right_of}
-use Rattle.kore_axioms.specs.AxiomMeanings.{MeansRule, MeansNamedRule}
-use Rattle.kore_equations.specs.EquationMeanings.{MeansEquation, MeansNamedEquation, IsUnreadable}
+use Rattle.kore_axioms.specs.AxiomClasses.{rewrites, class_of}
+use Rattle.kore_axioms.specs.AxiomMeanings.{MeansRule}
+use Rattle.kore_equations.specs.EquationMeanings.{MeansEquation, IsUnreadable}
 
 -- a hook has this name and this number, and the declaration fits it
 abbrev pub HasFittingHook : Signature → SymInfo → List ℕ → ℕ → Type 0
@@ -97,23 +83,6 @@ pub record IsProgramUnder (declared : Signature) (axioms : List AxiomDeclaration
     pub equations : (n : ℕ) (f : List ℕ) (info : SymInfo)
         → slice_get theory.sig.symbols n ≡ Some (f, info)
         → AreEquationsOf declared axioms f info.kind (equations_of theory n)
-
--- the axiom is this equation of a program, of a function of some name
-abbrev pub IsSomeEquation : Signature → AxiomDeclaration → ListedEquation → Type 0
-IsSomeEquation sig a e = (f : List ℕ) × MeansNamedEquation sig f a e
-
--- each of these things is what one of the axioms is
-abbrev pub AreOf : {X : Type 0} → (AxiomDeclaration → X → Type 0) → List AxiomDeclaration → List X
-    → Type 0
-AreOf {X} Is axioms xs =
-    (x : X) → Contains xs x → (a : AxiomDeclaration) × Contains axioms a × Is a x
-
--- The variables of the rules and equations of a program have their names in the axioms.
-pub record KeepsNames (declared : Signature) (axioms : List AxiomDeclaration) (p : Program) :
-    Type 0 where
-  pub rules : AreOf (MeansNamedRule declared) axioms p.rules.items
-  pub equations : (f i : ℕ) (e : ListedEquation) → IsEquationAt p f i e
-      → (a : AxiomDeclaration) × Contains axioms a × IsSomeEquation declared a e
 
 -- the sort of a rule; None if there are no rules
 abbrev pub IsTopOf : Signature → List AxiomDeclaration → Option ℕ → Type 0

@@ -14,13 +14,15 @@ ghost use Rattle.rule_core.specs.Theories.{equations_of};
 ghost use Rattle.rule_core.specs.WellSorted.{IsSignature, IsWellSorted, IsStart};
 ghost use Rattle.kore_sig.specs.Declarations.{axioms_of as the_axioms, pairs_of_axiom};
 ghost use Rattle.kore_sig.specs.Signatures.{IsNumbered, IsPairOf};
-ghost use Rattle.kore_rules.specs.Acceptance.{IsAccepted, IsAcceptedTerm, IsRefused, IsRefusedTerm};
-ghost use Rattle.kore_rules.specs.Acceptance.{NamesVariables};
+ghost use Rattle.kore_rules.specs.Acceptance.{IsAccepted, IsAcceptedTerm};
+ghost use Rattle.kore_rules.specs.Refused.{IsRefused, IsRefusedTerm};
+ghost use Rattle.kore_rules.specs.NamedVariables.{NamesVariables};
 ghost use Rattle.kore_rules.specs.AxiomsRead.{HaveRead, IsFirstSort, AreFew, sort_at, tree_at};
 ghost use Rattle.kore_rules.specs.FirstRefusal.{FirstOfDefinition};
 ghost use Rattle.kore_rules.specs.Names.{HasIdentifierNames};
 ghost use Rattle.kore_rules.specs.MadePrograms.{IsMadeOf, ListsOwnEquations, HasNamesOf};
-ghost use Rattle.kore_rules.specs.Programs.{IsProgramUnder, IsTopOf, KeepsNames};
+ghost use Rattle.kore_rules.specs.Programs.{IsProgramUnder, IsTopOf};
+ghost use Rattle.kore_rules.specs.KeptNames.{KeepsNames};
 ghost use Rattle.kore_rules.specs.RefusedTexts.{RefusesFor, top_of, number_of_sort, IsSortOfRules};
 
 use crate::axioms::{Readings, read_axioms};

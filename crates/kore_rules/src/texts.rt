@@ -1,9 +1,10 @@
 // The texts of definitions and of terms.
 ghost use Rattle.std.specs.Prelude.{◌≡◌, ◌<◌, ◌^◌, ℕ, List, length, IfOk, IfErr};
 ghost use Rattle.kore_text.specs.Faults.{IsPattern, IsDefinition};
-ghost use Rattle.kore_ast.specs.KoreText.{ReadsPattern, ReadsDefinition, IsFault};
+ghost use Rattle.kore_ast.specs.KoreText.{ReadsPattern, ReadsDefinition};
+ghost use Rattle.kore_ast.specs.TextFaults.{IsFault};
 ghost use Rattle.kore_ast.specs.Plain.{pattern_tree, plain_definition};
-ghost use Rattle.kore_rules.specs.Acceptance.{HasTextFault};
+ghost use Rattle.kore_rules.specs.Refused.{HasTextFault};
 ghost use Rattle.kore_rules.specs.RefusedTexts.{RefusesFor};
 
 use kore_ast::{Definition, Pat, ReadFault, read_definition, read_pattern};

@@ -9,7 +9,8 @@ use Rattle.kore_text.specs.TokenStream.{Token, Stream, end, fault, token}
 use Rattle.kore_text.specs.Grammar.{in_order, spell_module}
 use Rattle.kore_text.specs.Table.{is_fold, step, passes, run, empty_fold, can_end, onward}
 use Rattle.kore_text.specs.Table.{pattern_symbols, definition_symbols}
-use Rattle.kore_text.specs.Faults.{IsPattern, IsDefinition, opened, IsShallow, IsEmptyFold}
+use Rattle.kore_text.specs.Faults.{IsPattern, IsDefinition, IsEmptyFold}
+use Rattle.kore_text.specs.Depth.{opened, IsShallow}
 use Rattle.kore_text.specs.Faults.{PlacedToken, followed_by, open_after, Begins, IsGood, Stops}
 use Rattle.kore_text.specs.Faults.{GoesDeep, Follows, IsFirstFault}
 use Rattle.kore_text.specs.declared.faults.TextFault.{TextFault}

@@ -8,7 +8,8 @@ use Rattle.kore_text.specs.TokenStream.{Token, Stream, end, fault, token, tokens
 use Rattle.kore_text.specs.TextLaws.{PatternHasNoFault, DefinitionHasNoFault}
 use Rattle.kore_text.specs.Table.{is_fold, step, passes, run, empty_fold, onward, pattern_symbols}
 use Rattle.kore_text.specs.Table.{definition_symbols}
-use Rattle.kore_text.specs.Faults.{opened, IsShallow, PlacedToken, followed_by, open_after, Stops}
+use Rattle.kore_text.specs.Faults.{PlacedToken, followed_by, open_after, Stops}
+use Rattle.kore_text.specs.Depth.{opened, IsShallow}
 use Rattle.kore_text.specs.Faults.{GoesDeep, Follows, IsFirstFault, IsPattern, IsDefinition}
 use Rattle.kore_text.proofs.AcceptedDefinitions.{accepts-pattern, accepts-definition}
 use Rattle.kore_text.proofs.Completing.{fold-found}

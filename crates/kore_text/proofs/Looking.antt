@@ -5,7 +5,7 @@ use Rattle.std.proofs.lemmas.Bool.Decides.{nat_tests}
 use Rattle.kore_text.specs.declared.faults.TextFault.TheVariants.{Lex, Syntax, Deep}
 use Rattle.kore_text.specs.declared.symbols.Symbol.{Symbol}
 use Rattle.kore_text.specs.TokenStream.{Token, Stream, end, fault, token}
-use Rattle.kore_text.specs.Faults.{opened}
+use Rattle.kore_text.specs.Depth.{opened}
 use Rattle.kore_text.specs.Remaining.{size}
 use Rattle.kore_text.specs.Stacks.{Steps, is_nil}
 use Rattle.kore_text.specs.Table.{step, passes, passes_on, run, empty_fold, is_fold, can_end}

@@ -4,7 +4,8 @@ use Rattle.std.proofs.Common.{subst, arith, inl, inr}
 use Rattle.kore_text.specs.declared.faults.TextFault.{TextFault}
 use Rattle.kore_text.specs.declared.faults.TextFault.TheVariants.{Lex, Syntax, Deep}
 use Rattle.kore_text.specs.TokenStream.{Token, Stream, end, fault, token, tokens_of}
-use Rattle.kore_text.specs.Faults.{opened, IsEmptyFold, PlacedToken, followed_by, open_after}
+use Rattle.kore_text.specs.Faults.{IsEmptyFold, PlacedToken, followed_by, open_after}
+use Rattle.kore_text.specs.Depth.{opened}
 use Rattle.kore_text.specs.Faults.{Begins, IsGood, Stops, GoesDeep, Follows, HasFault, IsFirstFault}
 use Rattle.kore_text.specs.Faults.{IsPattern, IsDefinition}
 use Rattle.kore_text.specs.TextLaws.{DefinitionFaultIsUnique, PatternFaultIsUnique}

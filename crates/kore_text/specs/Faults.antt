@@ -1,8 +1,8 @@
 -- The first fault of a text. The tokens before it are good: they begin a text of the language, at
 -- most 500 brackets are open among them, and none of them begins a fold without an argument. The
 -- fault is what comes after the good tokens.
-use Rattle.std.specs.Prelude.{◌≡◌, ◌≤◌, ◌<◌, ℕ, ◌+◌, ◌-◌, Bool, false, ◌==◌, ◌||◌, List, []}
-use Rattle.std.specs.Prelude.{◌∷◌, ◌++◌, ◌⊎◌, if◌then◌else◌, Option, Some, None}
+use Rattle.std.specs.Prelude.{◌≡◌, ◌≤◌, ◌<◌, ℕ, ◌+◌, Bool, false, ◌==◌, List, []}
+use Rattle.std.specs.Prelude.{◌∷◌, ◌++◌, ◌⊎◌, Option, Some, None}
 use Rattle.kore_text.specs.declared.names.Op.{Op}
 use Rattle.kore_text.specs.declared.names.Built.TheVariants.{Connective, Fold}
 use Rattle.kore_text.specs.declared.faults.TextFault.{TextFault}
@@ -11,18 +11,7 @@ use Rattle.kore_text.specs.TokenStream.{Token, identifier, builtin, mark, Stream
 use Rattle.kore_text.specs.Trees.{PatternTree, SortTrees, sort_count, DefinitionTree}
 use Rattle.kore_text.specs.Grammar.{Requirement, any, given, TakesTokens, listed, spell_sorts}
 use Rattle.kore_text.specs.Grammar.{spell_pattern, spell_definition, is_associative}
-
--- how many brackets `(` and `{` are open after a token, if `n` are open before it
-abbrev pub opened : Token → ℕ → ℕ
-opened (mark c) n =
-    if (c == 40) || (c == 123) then n + 1 else (if (c == 41) || (c == 125) then n - 1 else n)
-opened _ n = n
-
--- at most 500 brackets are open at each place, if `n` are open at the head
-abbrev pub IsShallow : ℕ → Stream → Type 0
-IsShallow n (end e) = Unit {0}
-IsShallow n (fault e) = Unit {0}
-IsShallow n (token t p s) = (opened t n ≤ 500) × IsShallow (opened t n) s
+use Rattle.kore_text.specs.Depth.{opened, IsShallow}
 
 -- there is exactly one sort
 abbrev pub is_single : SortTrees → Bool

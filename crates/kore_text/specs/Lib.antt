@@ -3,6 +3,7 @@
 pub mod TokenStream
 pub mod Trees
 pub mod Grammar
+pub mod Depth
 pub mod Faults
 pub mod Remaining
 pub mod TextLaws

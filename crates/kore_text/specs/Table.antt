@@ -18,7 +18,7 @@ use Rattle.kore_text.specs.TokenStream.{Token, identifier, set_identifier, built
 use Rattle.kore_text.specs.TokenStream.{mark, assign, Stream, end, fault, token}
 use Rattle.kore_text.specs.Grammar.{sorts_of, arguments_of, binder_sorts, binds_sets}
 use Rattle.kore_text.specs.Grammar.{is_associative}
-use Rattle.kore_text.specs.Faults.{opened}
+use Rattle.kore_text.specs.Depth.{opened}
 use Rattle.kore_text.specs.Apart.{is_mark}
 
 abbrev pub byte_of : Close → ℕ

@@ -5,7 +5,8 @@ ghost use Rattle.kore_text.specs.TokenStream.{tokens_of, token_of};
 ghost use Rattle.kore_text.specs.Remaining.{left, size};
 ghost use Rattle.kore_text.specs.Table.{run, is_fold, passes, empty_fold, pattern_symbols};
 ghost use Rattle.kore_text.specs.Table.{definition_symbols};
-ghost use Rattle.kore_text.specs.Faults.{IsFirstFault, IsPattern, IsDefinition, opened};
+ghost use Rattle.kore_text.specs.Faults.{IsFirstFault, IsPattern, IsDefinition};
+ghost use Rattle.kore_text.specs.Depth.{opened};
 
 use crate::expected::Expected;
 use crate::faults::TextFault;

@@ -2,7 +2,8 @@ use Rattle.std.proofs.Common.{◌≡◌, ◌∙◌, List, ℕ, subst}
 use Rattle.term_core.specs.RulePatterns.{plain_pattern}
 use Rattle.rule_core.specs.ProgramView.{theory_of}
 use Rattle.drill_gen.specs.Drill.{drill_definition, drill_term}
-use Rattle.kore_rules.specs.Acceptance.{IsAccepted, IsRefused, IsRefusedTerm}
+use Rattle.kore_rules.specs.Acceptance.{IsAccepted}
+use Rattle.kore_rules.specs.Refused.{IsRefused, IsRefusedTerm}
 use Rattle.kore_rules.specs.RefusedTexts.{RefusesFor, top_of}
 use Rattle.kore_prove.proofs.Drills.{few_bytes, texts_accepted, refused_for_none}
 use Rattle.kore_prove.proofs.drilling.accepted_drill.Goals as goal

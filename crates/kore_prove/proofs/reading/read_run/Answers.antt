@@ -1,6 +1,6 @@
 use Rattle.std.proofs.Common.{refl}
 use Rattle.rule_core.specs.ProgramView.{theory_of}
-use Rattle.kore_rules.specs.Acceptance.{IsRefusedTerm}
+use Rattle.kore_rules.specs.Refused.{IsRefusedTerm}
 use Rattle.kore_rules.specs.RefusedTexts.{top_of}
 use Rattle.kore_prove.specs.Requests.{request}
 use Rattle.kore_prove.proofs.Ending.{FileCause-kept}

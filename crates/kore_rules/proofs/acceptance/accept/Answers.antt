@@ -8,7 +8,9 @@ use Rattle.rule_core.specs.WellSorted.{IsWellSorted}
 use Rattle.rule_core.specs.declared.rules.Program.{Program}
 use Rattle.kore_axioms.specs.declared.refusals.Refusal.{Refusal}
 use Rattle.kore_sig.specs.FirstFault.{Fault}
-use Rattle.kore_rules.specs.Acceptance.{IsAccepted, IsRefused, HasTextFault, NamesVariables}
+use Rattle.kore_rules.specs.Acceptance.{IsAccepted}
+use Rattle.kore_rules.specs.NamedVariables.{NamesVariables}
+use Rattle.kore_rules.specs.Refused.{IsRefused, HasTextFault}
 use Rattle.kore_rules.specs.FirstRefusal.{FirstOfDefinition}
 use Rattle.kore_rules.specs.MadePrograms.{IsMadeOf, ListsOwnEquations, HasNamesOf}
 use Rattle.kore_rules.specs.Names.{HasIdentifierNames}

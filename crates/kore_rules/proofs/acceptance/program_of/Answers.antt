@@ -6,7 +6,8 @@ use Rattle.kore_sig.specs.Declarations.{axioms_of}
 use Rattle.kore_sig.specs.FirstFault.{Fault}
 use Rattle.kore_rules.specs.AxiomsRead.{tree_at}
 use Rattle.kore_rules.specs.FirstRefusal.{FirstOfAxioms, FirstOfDefinition}
-use Rattle.kore_rules.specs.Programs.{IsProgramUnder, IsTopOf, KeepsNames}
+use Rattle.kore_rules.specs.Programs.{IsProgramUnder, IsTopOf}
+use Rattle.kore_rules.specs.KeptNames.{KeepsNames}
 use Rattle.kore_rules.specs.RefusedTexts.{number_of_sort}
 use Rattle.kore_rules.proofs.AcceptedLaws.{top_any, axioms_refused}
 use Rattle.kore_rules.proofs.FirstLaws.{refuses_into}

@@ -1,0 +1,14 @@
+-- Equations with the names of their variables.
+use Rattle.std.specs.Prelude.{◌≡◌, ℕ, List}
+use Rattle.kore_text.specs.Trees.{AxiomDeclaration}
+use Rattle.rule_core.specs.ProgramView.{function_equation}
+use Rattle.rule_core.specs.declared.rules.Equation.{Equation as ListedEquation}
+use Rattle.rule_core.specs.declared.signature.Signature.{Signature}
+use Rattle.kore_check.specs.PatternMeanings.{named_sorts}
+use Rattle.kore_equations.specs.EquationMeanings.{MeansEquation}
+
+-- The axiom is this equation of a program. The equation's variables have their names in the axiom.
+pub record MeansNamedEquation (sig : Signature) (f : List ℕ) (a : AxiomDeclaration)
+    (e : ListedEquation) : Type 0 where
+  pub means : MeansEquation sig f a (function_equation e)
+  pub names : named_sorts e.vars.items ≡ means.variables
