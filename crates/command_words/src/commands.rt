@@ -1,6 +1,6 @@
 // What the words of the command line ask for.
 ghost use Rattle.std.specs.Prelude.{◌≡◌, ◌≤◌, map, IfOk, IfSome, IfNone, Err, true, false, codes};
-ghost use Rattle.std.specs.Prelude.{string_bytes, option_copied, option_map, Some};
+ghost use Rattle.std.specs.Prelude.{string_bytes, option_copied, option_map, Some, ◌↔◌};
 ghost use Rattle.std.specs.Option.{option_map_or};
 ghost use Rattle.std.specs.Str.Parse.{digits_value};
 ghost use Rattle.command_words.specs.CommandLine.{is_named, is_run, is_verify, is_drill, are_bad};
@@ -221,9 +221,17 @@ fn matches_for<'a>(
 {
     match command.try_get_matches_from(words) {
         Ok(matches) => Ok(matches),
-        Err(error) => match error.kind() {
-            ErrorKind::OutOfMemory => Err(WordsEnd::Memory),
-            _ => Err(WordsEnd::Bad),
-        },
+        Err(error) => Err(end_of(error.kind())),
+    }
+}
+
+// Why words were not parsed: `Memory` exactly if memory ran out.
+fn end_of(kind: ErrorKind) -> WordsEnd
+    ensures memory { result ≡ WordsEnd.Memory ↔ kind ≡ ErrorKind.OutOfMemory }
+    ensures bad { result ≡ WordsEnd.Bad ↔ (kind ≡ ErrorKind.OutOfMemory → ⊥) }
+{
+    match kind {
+        ErrorKind::OutOfMemory => WordsEnd::Memory,
+        _ => WordsEnd::Bad,
     }
 }

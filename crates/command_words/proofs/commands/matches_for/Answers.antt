@@ -1,11 +1,17 @@
-use Rattle.std.proofs.Common.{◌∙◌, ap, List, ℕ, map, string_bytes}
+use Rattle.std.proofs.Common.{◌≡◌, ◌∙◌, ap, List, ℕ, map, string_bytes, Some}
+use Rattle.std.specs.Result.{result_err}
 use Rattle.std.proofs.lemmas.Bool.{false_from_ne_true}
 use Rattle.clap.specs.Walk.{first_of}
 use Rattle.clap.specs.Matches.{found_of}
 use Rattle.clap.specs.Simple.{app_of}
 use Rattle.clap.proofs.WalkLemmas.{first_value-rows}
+use Rattle.command_words.specs.declared.commands.WordsEnd.{WordsEnd}
+use Rattle.command_words.specs.declared.commands.WordsEnd.TheVariants.{Bad}
 use Rattle.command_words.proofs.Taken.{is-taken, plain-free, plain-simple}
 use Rattle.command_words.proofs.commands.matches_for.Goals as goal
+
+some_same : (x y : WordsEnd) → Some x ≡ Some y → x ≡ y
+some_same x y e = cc
 
 pub returns-in-Ok-clause-read : goal.returns-in-Ok-clause-read
 returns-in-Ok-clause-read c =
@@ -23,6 +29,7 @@ pub returns : goal.returns
 returns c = record {
   read = tt;
   bad =
-      λ _. false_from_ne_true _
-      (λ taken. c.in_default.not-OutOfMemory (c.kind.ensures ∙ c.in-Err.ensures.passes taken));
+      λ is. false_from_ne_true _
+      (λ taken. c.end_of.ensures.bad.0 (some_same c.end_of.result Bad (ap result_err is))
+      (c.kind.ensures ∙ c.in-Err.ensures.passes taken));
 }
