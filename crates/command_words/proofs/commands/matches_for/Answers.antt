@@ -25,11 +25,8 @@ returns-in-Ok-clause-read c =
           λ (id : List ℕ). first_value-rows (found_of c.in-Ok.matches) id ∙ ap (first_of id) rows;
     }
 
-pub returns : goal.returns
-returns c = record {
-  read = tt;
-  bad =
-      λ is. false_from_ne_true _
-      (λ taken. c.end_of.ensures.bad.0 (some_same c.end_of.result Bad (ap result_err is))
-      (c.kind.ensures ∙ c.in-Err.ensures.passes taken));
-}
+pub returns-in-Err-clause-bad : goal.returns-in-Err-clause-bad
+returns-in-Err-clause-bad c is =
+    false_from_ne_true _
+    (λ taken. c.end_of.ensures.bad.0 (some_same c.end_of.result Bad (ap result_err is))
+    (c.kind.ensures ∙ c.in-Err.ensures.passes taken))
