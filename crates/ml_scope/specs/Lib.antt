@@ -1,3 +1,2 @@
 -- Public: what public clauses say, and public definitions of other crates.
--- Public: what public clauses say, and what public definitions of other crates use.
 pub mod Scopes

@@ -1,6 +1,5 @@
 -- Public: what public clauses say, and public definitions of other crates.
 -- Believed: what public clauses say, and believed definitions of other crates.
--- Public: what public clauses say, and what public definitions of other crates use.
 pub mod Stating
 pub mod Justifying
 pub mod Counting
