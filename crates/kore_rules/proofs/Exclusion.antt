@@ -1,5 +1,5 @@
 -- No bytes are both accepted and refused, and refused bytes have only one fault.
-use Rattle.std.proofs.Common.{◌≡◌, Option, Some, None, subst, inl, inr}
+use Rattle.std.proofs.Common.{◌≡◌, [], Option, Some, None, subst, inl, inr}
 use Rattle.kore_text.specs.Trees.{PatternTree, DefinitionTree}
 use Rattle.rule_core.specs.declared.signature.Signature.{Signature}
 use Rattle.kore_sig.specs.Declarations.{axioms_of}

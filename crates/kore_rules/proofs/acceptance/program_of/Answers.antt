@@ -1,4 +1,5 @@
 use Rattle.std.proofs.Common.{◌≡◌, ◌∙◌, ap, sym, subst, List, Option, ℕ, None, Some, map}
+use Rattle.std.proofs.lemmas.Result.{err_from_is_err_and}
 use Rattle.kore_text.specs.Trees.{AxiomDeclaration}
 use Rattle.kore_ast.specs.Plain.{plain_definition}
 use Rattle.rule_core.specs.ProgramView.{theory_of}
@@ -57,3 +58,19 @@ returns-clause-named c =
       subst (λ (axioms : List AxiomDeclaration). KeepsNames sig axioms p) same
           c.in_ok-program_under.ensures.named,
     )
+
+pub returns-in_err-readings-clause-refused : goal.returns-in_err-readings-clause-refused
+returns-in_err-readings-clause-refused c =
+    let d = plain_definition c.args.definition.now in
+    let sig = c.in_ok-sig.sig in
+    let same : map tree_at c.deref.result.now ≡ axioms_of d =
+    ap (map tree_at) c.deref.ensures.value ∙ c.in_ok-axioms.ensures in
+    let q =
+    err_from_is_err_and c.from_residual-in_err-readings.result
+    c.from_residual-in_err-readings.ensures.1 in
+    rw (q.1, q.2) (refuses_into
+    (λ (f : Fault). FirstOfAxioms sig (map tree_at c.deref.result.now) (Some f))
+    (λ (f : Fault). FirstOfDefinition d (Some f)) c.in_err-readings.field-0.0
+    (λ f is. axioms_refused d sig f c.in_ok-sig.ensures.faultless c.in_ok-sig.ensures.declared
+    (subst (λ (axioms : List AxiomDeclaration). FirstOfAxioms sig axioms (Some f)) same is))
+    c.in_err-readings.ensures.refused)
