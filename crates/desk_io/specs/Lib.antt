@@ -4,7 +4,9 @@ pub mod MemDesk
 pub mod MemSink
 pub mod Memory
 pub mod Sent
+pub mod SinkChanges
 pub mod HeldFiles
+pub mod MissingFiles
 pub mod KeptFiles
 pub mod Told
 pub mod Changes

@@ -2,8 +2,8 @@
 ghost use Rattle.std.specs.Prelude.{◌≡◌, ◌<◌, ◌≤◌, ◌+◌, ◌⊎◌, length, IfOk, IsOk, IsErrOf, vec_len};
 ghost use Rattle.desk_io.specs.Told.{Holds};
 ghost use Rattle.desk_io.specs.KeptFiles.{KeepsFiles};
-ghost use Rattle.desk_io.specs.HeldFiles.{Lacks, HoldsMore};
 ghost use Rattle.desk_io.specs.Changes.{Leaves, AtEnd};
+ghost use Rattle.desk_io.specs.MissingFiles.{Lacks, HoldsMore};
 ghost use Rattle.desk_io.specs.ReadingOn.{Drains, PassedMany, PassedTo};
 ghost use Rattle.desk_io.specs.Counts.{CountRose};
 ghost use Rattle.desk_io.specs.End.{end_by};

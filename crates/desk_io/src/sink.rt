@@ -1,7 +1,8 @@
 // Where text goes.
 ghost use Rattle.std.specs.Prelude.{◌≡◌, ℕ, List, ◌<◌, ◌≤◌, Option, length, take, IfOk, OnOk};
 ghost use Rattle.std.specs.Prelude.{OnErr, IsErrOf};
-ghost use Rattle.desk_io.specs.Sent.{Appends, AppendsFront, SameBytes};
+ghost use Rattle.desk_io.specs.Sent.{Appends};
+ghost use Rattle.desk_io.specs.SinkChanges.{AppendsFront, SameBytes};
 ghost use Rattle.desk_io.specs.States.{SinkState};
 ghost use Rattle.desk_io.specs.Counts.{CountRose};
 

@@ -10,7 +10,8 @@ use Rattle.kore_sig.specs.SignatureLaws.{FirstIsOne}
 use Rattle.kore_sig.specs.Signatures.{IsSignatureOf}
 use Rattle.kore_rules.specs.AcceptanceLaws.{EachTextIsDecided, DefinitionIsOne, AxiomFaultIsOne}
 use Rattle.kore_rules.specs.AcceptanceLaws.{SpelledDefinitionIsFaultless}
-use Rattle.kore_rules.specs.FirstRefusal.{FirstOfAxioms, FirstOfDefinition}
+use Rattle.kore_rules.specs.FirstRefusal.{FirstOfAxioms}
+use Rattle.kore_rules.specs.Refused.{FirstOfDefinition}
 use Rattle.drill_gen.specs.Drill.{drill_definition}
 use Rattle.drill_gen.specs.DrillLaws.{DrillIsShort}
 use Rattle.drill_accepted.specs.DrillAcceptance.{DrillIsAccepted, DrillIsNotRefused}

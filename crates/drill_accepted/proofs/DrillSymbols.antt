@@ -7,7 +7,7 @@ use Rattle.std.specs.List.{AllZip}
 use Rattle.std.proofs.lemmas.Bool.{cases_lt}
 use Rattle.std.proofs.lemmas.List.{length-append}
 use Rattle.kore_text.specs.Trees.{SymbolDeclaration, DefinitionTree}
-use Rattle.rule_core.specs.Named.{names_of, AreDistinct}
+use Rattle.rule_core.specs.DistinctNames.{names_of, AreDistinct}
 use Rattle.rule_core.specs.declared.signature.Signature.{Signature}
 use Rattle.rule_core.specs.declared.signature.SortInfo.{SortInfo}
 use Rattle.rule_core.specs.declared.signature.SymInfo.{SymInfo}

@@ -14,7 +14,7 @@ use Rattle.kore_text.specs.Trees.{symbol_declaration, axiom_declaration, Definit
 use Rattle.rule_core.specs.declared.signature.SortInfo.{SortInfo}
 use Rattle.kore_sig.specs.Declarations.{SubsortPair, pairs_of}
 use Rattle.kore_sig.specs.FirstFault.{Fault, ByNumber, IsFirstBy, IsFirstOfSequence}
-use Rattle.kore_sig.specs.Names.{is_among}
+use Rattle.rule_core.specs.Named.{is_among}
 use Rattle.kore_sig.specs.SignatureFaults.{Placed, placed_at, placed, Before, nothing_declared}
 use Rattle.kore_sig.specs.SignatureFaults.{declared_after, declaration_faults, FirstOfModules}
 use Rattle.kore_sig.specs.SignatureFaults.{FirstOfDeclarations, FirstOfPairs, FirstOfSignature}

@@ -7,7 +7,7 @@ use Rattle.std.proofs.lemmas.Fmt.{decimal_digit}
 use Rattle.std.proofs.lemmas.List.Elements.{All-nil, All-push, All-contains}
 use Rattle.kore_text.specs.Trees.{PatternTree, symbol_applied, domain_value, no_sorts, no_patterns}
 use Rattle.kore_text.specs.Trees.{AxiomDeclaration, DefinitionTree}
-use Rattle.rule_core.specs.Named.{names_of, AreDistinct}
+use Rattle.rule_core.specs.DistinctNames.{names_of, AreDistinct}
 use Rattle.rule_core.specs.Theories.{RewriteTheory}
 use Rattle.rule_core.specs.declared.signature.Signature.{Signature}
 use Rattle.rule_core.specs.declared.signature.SymInfo.{SymInfo}

@@ -12,7 +12,7 @@ use Rattle.rule_core.specs.ProgramView.{theory_of, rewrite_rules, function_equat
 use Rattle.rule_core.specs.Subsorts.{IsBelow, by_pair, by_chain}
 use Rattle.rule_core.specs.Sorting.{HasValue, IsValueOf}
 use Rattle.rule_core.specs.WellSorted.{IsWellSorted, IsPair}
-use Rattle.rule_core.specs.TrialOrder.{AreInOrder}
+use Rattle.rule_core.specs.Rules.{AreInOrder}
 use Rattle.rule_core.specs.declared.rules.Equation.{Equation}
 use Rattle.rule_core.specs.declared.rules.Program.{Program}
 use Rattle.rule_core.specs.declared.rules.Rule.{Rule}

@@ -2,7 +2,8 @@
 use Rattle.std.proofs.Common.{◌≡◌, ℕ, ◌+◌, ◌<◌, ◌≤◌, List, [], ◌∷◌, ◌++◌, length, get_or, drop}
 use Rattle.std.proofs.Common.{Option, refl, sym, ◌∙◌, ap, subst}
 use Rattle.std.proofs.lemmas.List.{drop_more, drop_all}
-use Rattle.term_core.specs.Terms.{Tree, no_tree, more_trees, forest}
+use Rattle.term_core.specs.Terms.{Tree, no_tree, more_trees}
+use Rattle.term_core.specs.Forests.{forest}
 use Rattle.term_core.specs.Patterns.{Pattern, Patterns, more_patterns}
 use Rattle.term_core.specs.RulePatterns.{plain_pattern}
 use Rattle.term_core.specs.PatternLists.{plain_patterns}

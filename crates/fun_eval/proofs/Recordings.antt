@@ -1,6 +1,7 @@
 -- Recordings of lists.
 use Rattle.std.proofs.Common.{◌≡◌, List, [], ◌∷◌, ◌++◌, map, Option, refl, sym, ◌∙◌, ap, subst}
-use Rattle.term_core.specs.Terms.{Tree, no_tree, more_trees, forest}
+use Rattle.term_core.specs.Terms.{Tree, no_tree, more_trees}
+use Rattle.term_core.specs.Forests.{forest}
 use Rattle.term_core.specs.Patterns.{no_pattern, more_patterns}
 use Rattle.term_core.specs.RulePatterns.{plain_pattern}
 use Rattle.term_core.specs.PatternLists.{plain_patterns}

@@ -2,10 +2,12 @@
 use Rattle.std.proofs.Common.{◌≡◌, ℕ, suc, zero, ◌<◌, ◌≤◌, List, [], ◌∷◌, length, map, get_or}
 use Rattle.std.proofs.Common.{Option, Some, None, refl, sym, ◌∙◌, ap, subst, arith}
 use Rattle.std.specs.Prelude.{Bool, true, false, slice_get, option_map}
-use Rattle.term_core.specs.Terms.{integer, truth, Tree, leaf, node, inj, more_trees, forest}
+use Rattle.term_core.specs.Terms.{integer, truth, Tree, leaf, node, inj, more_trees}
+use Rattle.term_core.specs.Forests.{forest}
 use Rattle.term_core.specs.Patterns.{Pattern, instance_of, instances_of}
 use Rattle.term_core.specs.HookValues.{Hook, Kind, Operation, on_integer, on_integers, compares}
-use Rattle.term_core.specs.HookValues.{on_truth, on_truths, argument_kinds, hooks, hook_arguments}
+use Rattle.term_core.specs.HookValues.{on_truth, on_truths, argument_kinds, hooks}
+use Rattle.term_core.specs.HookSignatures.{hook_arguments}
 use Rattle.term_core.specs.Values.{scalar_value}
 use Rattle.term_core.specs.RulePatterns.{plain_pattern}
 use Rattle.term_core.specs.PatternLists.{plain_patterns}

@@ -1,7 +1,8 @@
 -- What the private functions that try equations return.
 use Rattle.std.specs.Prelude.{◌≡◌, ◌⊎◌, ◌<◌, ℕ, List, [], Option, Some, None, slice_get}
 use Rattle.std.specs.Prelude.{MatchOption, Result}
-use Rattle.term_core.specs.Terms.{Tree, Forest, forest}
+use Rattle.term_core.specs.Terms.{Tree, Forest}
+use Rattle.term_core.specs.Forests.{forest}
 use Rattle.term_core.specs.Patterns.{Pattern}
 use Rattle.rule_core.specs.Rules.{Equation}
 use Rattle.rule_core.specs.Theories.{RewriteTheory, equations_of}
@@ -9,8 +10,7 @@ use Rattle.rule_core.specs.Matching.{MatchAll}
 use Rattle.rule_core.specs.Sorting.{IsSymbol}
 use Rattle.rule_core.specs.WellSorted.{IsEquationOf}
 use Rattle.rule_core.specs.Evaluation.{Evaluated, value, blocked, no_equation, holds, fails}
-use Rattle.rule_core.specs.Evaluation.{untested, IsUnmatchedBy}
-use Rattle.rule_core.specs.Evaluation.{Equates, Tests, EvaluatesIn}
+use Rattle.rule_core.specs.Evaluation.{untested, IsUnmatchedBy, Equates, Tests, EvaluatesIn}
 use Rattle.rule_core.specs.Records.{IsUnused, Record, RecordList, OptionalRecord, RecordsCondition}
 use Rattle.rule_core.specs.declared.signature.SymInfo.{SymInfo}
 use Rattle.rule_core.specs.declared.signature.SymKind.TheVariants.{Equations}

@@ -1,6 +1,7 @@
 -- What the private functions of evaluation return.
 use Rattle.std.specs.Prelude.{◌≡◌, ◌<◌, ◌≤◌, ℕ, List, length, Option, Some, IsSome, Result, Ok, Err}
-use Rattle.term_core.specs.Terms.{DomainValue, Tree, leaf, node, Forest, forest, height, heights}
+use Rattle.term_core.specs.Terms.{DomainValue, Tree, leaf, node, Forest, height, heights}
+use Rattle.term_core.specs.Forests.{forest}
 use Rattle.term_core.specs.Terms.{injected, AreNormal}
 use Rattle.term_core.specs.Patterns.{Pattern, Patterns, call, binding}
 use Rattle.term_core.specs.HookValues.{hook_value}
@@ -11,11 +12,9 @@ use Rattle.rule_core.specs.Sorting.{HaveSorts, IsSymbol, IsFunction, sort_at}
 use Rattle.rule_core.specs.MatchLaws.{AreTermsOf}
 use Rattle.rule_core.specs.Matching.{OccursInSome, RespectsSorts}
 use Rattle.rule_core.specs.Evaluation.{Cause, value, blocked, values, stopped, no_value, too_high}
-use Rattle.rule_core.specs.Evaluation.{most_height}
-use Rattle.rule_core.specs.Evaluation.{Evaluates, EvaluateAll, Applies, EvaluatesIn}
+use Rattle.rule_core.specs.Evaluation.{most_height, Evaluates, EvaluateAll, Applies, EvaluatesIn}
 use Rattle.rule_core.specs.Records.{Record, RecordList, no_record, more_records, made, by_hook}
-use Rattle.rule_core.specs.Records.{Records, RecordAll}
-use Rattle.rule_core.specs.Records.{results_of, result_of}
+use Rattle.rule_core.specs.Records.{Records, RecordAll, results_of, result_of}
 use Rattle.rule_core.specs.RunView.{cause_of}
 use Rattle.rule_core.specs.declared.signature.Signature.{Signature}
 use Rattle.rule_core.specs.declared.signature.SortRef.{SortRef}

@@ -1,8 +1,7 @@
 -- How lists of records are built.
 use Rattle.std.specs.Prelude.{◌≡◌, Option, Some, None}
 use Rattle.rule_core.specs.Records.{Record, RecordList, no_record, more_records, OptionalRecord}
-use Rattle.rule_core.specs.Records.{unconditional}
-use Rattle.rule_core.specs.Records.{conditional}
+use Rattle.rule_core.specs.Records.{unconditional, conditional}
 
 -- one more record, after the others
 abbrev pub at_end : RecordList → Record → RecordList

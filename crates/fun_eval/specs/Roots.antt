@@ -2,7 +2,8 @@
 use Rattle.std.specs.Prelude.{◌≡◌, ℕ, List, Some, Option, map, Result, Bool, true, false}
 use Rattle.term_core.specs.Terms.{Tree, leaf, DomainValue, Forest}
 use Rattle.term_core.specs.Patterns.{Pattern, instance_of}
-use Rattle.term_core.specs.HookValues.{hook_arguments, hook_value}
+use Rattle.term_core.specs.HookValues.{hook_value}
+use Rattle.term_core.specs.HookSignatures.{hook_arguments}
 use Rattle.term_core.specs.Values.{scalar_value}
 use Rattle.term_core.specs.declared.values.Scalar.{Scalar}
 use Rattle.rule_core.specs.HookCalls.{AreValues}

@@ -1,6 +1,6 @@
 // Matching of equations with terms.
 ghost use Rattle.std.specs.Prelude.{◌≡◌, ◌<◌, length, map, IfOk};
-ghost use Rattle.term_core.specs.Terms.{forest};
+ghost use Rattle.term_core.specs.Forests.{forest};
 ghost use Rattle.rule_core.specs.Theories.{equations_of};
 ghost use Rattle.rule_core.specs.ProgramView.{theory_of, function_equation};
 ghost use Rattle.rule_core.specs.WellSorted.{IsWellSorted};

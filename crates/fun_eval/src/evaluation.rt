@@ -4,7 +4,7 @@
 // It recurses on the nesting: a node uses one level, and so does a condition or a right side of an
 // equation.
 ghost use Rattle.std.specs.Prelude.{◌≡◌, ◌≢◌, ◌≤◌, ℕ, List};
-ghost use Rattle.term_core.specs.Terms.{forest};
+ghost use Rattle.term_core.specs.Forests.{forest};
 ghost use Rattle.term_core.specs.Patterns.{variable, domain_value, application, injection, call};
 ghost use Rattle.term_core.specs.Values.{value_of};
 ghost use Rattle.rule_core.specs.Sorting.{HasInjection};
@@ -14,8 +14,7 @@ ghost use Rattle.rule_core.specs.FirstRule.{most_nesting};
 ghost use Rattle.rule_core.specs.ProgramView.{theory_of, function_equation};
 ghost use Rattle.fun_eval.specs.Evaluable.{IsEvaluable};
 ghost use Rattle.fun_eval.specs.Giving.{Gives, GivesWithin, AllGive, AreEvaluable, AreArguments};
-ghost use Rattle.fun_eval.specs.Giving.{IsBound};
-ghost use Rattle.fun_eval.specs.Giving.{IsCallEvaluable, Calls};
+ghost use Rattle.fun_eval.specs.Giving.{IsBound, IsCallEvaluable, Calls};
 ghost use Rattle.fun_eval.specs.Equations.{CallsByEquations, Chooses, IsDefined, IsTriable, Tries};
 
 use crate::answer::{Answer, Answers, EvalEnd};

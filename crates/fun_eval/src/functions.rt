@@ -1,6 +1,6 @@
 // The values of constructors, injections and hooks, from the values of their arguments.
 ghost use Rattle.std.specs.Prelude.{◌≡◌, [], IsSome, Some};
-ghost use Rattle.term_core.specs.Terms.{forest};
+ghost use Rattle.term_core.specs.Forests.{forest};
 ghost use Rattle.term_core.specs.Values.{scalar_value, value_of};
 ghost use Rattle.rule_core.specs.Sorting.{IsSymbol, sort_at};
 ghost use Rattle.fun_eval.specs.Giving.{Constructs, HookGives, InjectsTo, IsDeclared};

@@ -1,14 +1,14 @@
 // Looks at terms, and matching, without a count of the looks.
 ghost use Rattle.std.specs.Prelude.{◌≡◌, ◌<◌, ◌↔◌, length, IsTrue, IfOk, Some};
-ghost use Rattle.term_core.specs.Terms.{leaf, forest, no_tree, more_trees};
+ghost use Rattle.term_core.specs.Terms.{leaf, no_tree, more_trees};
+ghost use Rattle.term_core.specs.Forests.{forest};
 ghost use Rattle.term_core.specs.Heads.{Shows};
 ghost use Rattle.term_core.specs.Values.{scalar_value, value_of};
 ghost use Rattle.term_core.specs.Patterns.{no_pattern, more_patterns};
 ghost use Rattle.term_core.specs.RulePatterns.{plain_pattern};
 ghost use Rattle.term_core.specs.PatternLists.{plain_patterns};
 ghost use Rattle.rule_core.specs.Evaluation.{IsTrueValue};
-ghost use Rattle.rule_core.specs.MatchSearch.{FindsMatch};
-ghost use Rattle.rule_core.specs.Matching.{UseFirst};
+ghost use Rattle.rule_core.specs.MatchSearch.{FindsMatch, UseFirst};
 ghost use Rattle.fun_eval.specs.Roots.{IsScalar, MayMatch};
 
 use rule_core::{Subsorts, find_match, find_match_all};

@@ -5,8 +5,8 @@ use Rattle.std.specs.Prelude.{slice_get, option_map, cond, nat_lt, not}
 use Rattle.std.specs.List.{position, position_or_len}
 use Rattle.std.specs.Str.{bytes_eq}
 use Rattle.std.proofs.lemmas.Option.{slice_get_within}
-use Rattle.term_core.specs.HookValues.{Kind, Hook, hooks, argument_kinds, hook_arguments, Signature}
-use Rattle.term_core.specs.HookValues.{signature}
+use Rattle.term_core.specs.HookValues.{Kind, Hook, hooks, argument_kinds}
+use Rattle.term_core.specs.HookSignatures.{hook_arguments, Signature, signature}
 use Rattle.hook_table.specs.Names.{hook_number}
 use Rattle.hook_table.specs.Rows.{plain_kind, plain_row}
 use Rattle.hook_table.specs.declared.table.HookRow.{HookRow}

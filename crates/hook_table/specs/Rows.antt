@@ -1,6 +1,7 @@
 -- The rows of the code's table as plain values.
 use Rattle.std.specs.Prelude.{map}
-use Rattle.term_core.specs.HookValues.{Kind, integers, truths, Signature}
+use Rattle.term_core.specs.HookValues.{Kind, integers, truths}
+use Rattle.term_core.specs.HookSignatures.{Signature}
 use Rattle.hook_table.specs.declared.table.HookRow.{HookRow}
 use Rattle.hook_table.specs.declared.table.ScalarKind.{ScalarKind}
 use Rattle.hook_table.specs.declared.table.ScalarKind.TheVariants.{Int, Bool}

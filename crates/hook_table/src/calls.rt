@@ -2,7 +2,8 @@
 ghost use Rattle.std.specs.Prelude.{◌≡◌, ◌↔◌, [], ◌∷◌, IsTrue, Some, map};
 ghost use Rattle.term_core.specs.Terms.{integer as whole_number, truth};
 ghost use Rattle.term_core.specs.Values.{scalar_value};
-ghost use Rattle.term_core.specs.HookValues.{integers as whole, truths as logical, hook_arguments};
+ghost use Rattle.term_core.specs.HookValues.{integers as whole, truths as logical};
+ghost use Rattle.term_core.specs.HookSignatures.{hook_arguments};
 ghost use Rattle.term_core.specs.HookValues.{hook_value, outcome};
 ghost use Rattle.hook_table.specs.Rows.{plain_kind};
 ghost use Rattle.hook_table.specs.Scalars.{kind_of, plain_outcome};

@@ -2,7 +2,8 @@
 ghost use Rattle.std.specs.Prelude.{◌≡◌, map, option_map, position};
 ghost use Rattle.std.specs.Str.{bytes_eq};
 ghost use Rattle.hook_table.specs.declared.table.HookRow.{HookRow};
-ghost use Rattle.term_core.specs.HookValues.{hooks, signature};
+ghost use Rattle.term_core.specs.HookValues.{hooks};
+ghost use Rattle.term_core.specs.HookSignatures.{signature};
 ghost use Rattle.hook_table.specs.Names.{hook_number, NamesDiffer};
 ghost use Rattle.hook_table.specs.Rows.{plain_row};
 

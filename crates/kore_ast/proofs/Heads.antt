@@ -8,8 +8,7 @@ use Rattle.kore_lex.specs.declared.lexer.TokenKind.TheVariants.{Ident, SetIdent,
 use Rattle.kore_lex.specs.declared.lexer.TokenKind.TheVariants.{Punct, Assign, End}
 use Rattle.kore_lex.specs.Pieces.{is_letter, is_word, piece, quote_len}
 use Rattle.kore_lex.specs.Escapes.{bad_at}
-use Rattle.kore_lex.specs.Tokens.{IsToken, IsName, AllWord}
-use Rattle.kore_lex.specs.Value.{IsString}
+use Rattle.kore_lex.specs.Tokens.{IsToken, IsName, AllWord, IsString}
 use Rattle.kore_text.specs.declared.tokens.Next.{Next}
 use Rattle.kore_text.specs.declared.tokens.Next.TheVariants as next
 use Rattle.kore_text.specs.TokenStream.{Stream}

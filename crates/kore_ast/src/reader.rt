@@ -4,7 +4,7 @@
 ghost use Rattle.std.specs.Prelude.{◌≡◌, true, false, ◌<◌, ◌≤◌, ◌-◌, IsTrue, ◌^◌, length, not};
 ghost use Rattle.std.specs.Prelude.{IfOk, OnOk, drop};
 ghost use Rattle.std.specs.Str.{is_utf8};
-ghost use Rattle.kore_lex.specs.Value.{IsString};
+ghost use Rattle.kore_lex.specs.Tokens.{IsString};
 ghost use Rattle.kore_ast.specs.Known.{name_bytes, set_name_bytes, string_bytes_of};
 ghost use Rattle.kore_text.specs.TokenStream.{tokens_of};
 ghost use Rattle.kore_ast.specs.Keywords.{keyword_at};

@@ -9,8 +9,8 @@ use Rattle.kore_text.specs.Trees.{PatternTrees, no_patterns, pattern_then, liste
 use Rattle.kore_check.specs.Folds.{Unfolded, Unfoldeds, no_more, and_more, named_variable}
 use Rattle.kore_check.specs.Folds.{written_value, applied_symbol, other_form, standing_at}
 use Rattle.kore_check.specs.Folds.{applied_to_two, folded_left, folded_right, fold_of, only_of}
-use Rattle.kore_check.specs.Folds.{unfolded, inner_fold, all_unfolded, IsApplicative}
-use Rattle.kore_check.specs.Folds.{AreApplicative}
+use Rattle.kore_check.specs.Folds.{unfolded, inner_fold, all_unfolded}
+use Rattle.kore_check.specs.Applicative.{IsApplicative, AreApplicative}
 use Rattle.kore_shapes.specs.Forms.{conjunctions, others, all_forms, covers, has_form, have_form}
 use Rattle.kore_shapes.specs.Forms.{fold_has_form, is_one, is_none, has_binder, have_binder}
 

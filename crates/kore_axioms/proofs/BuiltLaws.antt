@@ -8,7 +8,7 @@ use Rattle.rule_core.specs.declared.signature.Signature.{Signature}
 use Rattle.kore_check.specs.Folds.{Unfoldeds, unfolded}
 use Rattle.kore_check.specs.PatternFaults.{pattern_faults}
 use Rattle.kore_check.specs.PatternMeanings.{with_variables, with_all_variables}
-use Rattle.kore_axioms.specs.AxiomMeanings.{with_some_variables}
+use Rattle.kore_axioms.specs.NamedRules.{with_some_variables}
 use Rattle.kore_axioms.specs.RuleFaults.{is_bound}
 use Rattle.kore_axioms.specs.Uses.{is_bound_by}
 use Rattle.kore_axioms.proofs.BoundLaws.{bound_same, unbound_more, not_less}

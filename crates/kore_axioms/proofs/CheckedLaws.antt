@@ -8,7 +8,8 @@ use Rattle.rule_core.specs.ProgramView.{sorts_of}
 use Rattle.rule_core.specs.declared.rules.VarInfo.{VarInfo}
 use Rattle.rule_core.specs.declared.signature.Signature.{Signature}
 use Rattle.kore_check.specs.Folds.{unfolded}
-use Rattle.kore_check.specs.PatternMeanings.{named_sorts, with_variables, Means}
+use Rattle.kore_check.specs.PatternMeanings.{with_variables, Means}
+use Rattle.kore_check.specs.VariableNames.{named_sorts}
 use Rattle.kore_shapes.specs.Shapes.{Rewriting}
 use Rattle.kore_axioms.specs.AxiomClasses.{rewrites, class_of}
 use Rattle.kore_axioms.specs.AxiomMeanings.{MeansTest}

@@ -5,7 +5,7 @@ use Rattle.std.proofs.lemmas.List.{append-nil, append_assoc}
 use Rattle.kore_sig.specs.FirstFault.{Fault, when}
 use Rattle.kore_sig.specs.Noted.{noted, leads_by_number, first_by_number}
 use Rattle.kore_sig.proofs.NotedLaws.{noted_append}
-use Rattle.kore_axioms.specs.Raised.{faults_of_tests}
+use Rattle.kore_sig.specs.FirstFault.{faults_of_tests}
 
 raised_append : (at : ℕ) (ts us : List (Bool × ℕ))
     → faults_of_tests at (ts ++ us) ≡ faults_of_tests at ts ++ faults_of_tests at us

@@ -1,15 +1,12 @@
 -- What an axiom is read as: the first class that fits. The axiom is in a module that counts: the
 -- main module, or a module that it reaches by imports.
 use Rattle.std.specs.Prelude.{ℕ, List, Bool, true, false, not, ◌||◌, ◌&&◌, Option, Some, None}
-use Rattle.std.specs.Prelude.{is_none, is_some}
-use Rattle.std.specs.Prelude.{if◌then◌else◌, codes}
+use Rattle.std.specs.Prelude.{is_none, is_some, if◌then◌else◌, codes}
 use Rattle.std.specs.List.{list_any}
 use Rattle.kore_text.specs.Trees.{PatternTree, AxiomDeclaration}
 use Rattle.rule_core.specs.declared.signature.Signature.{Signature}
 use Rattle.rule_core.specs.declared.signature.SymInfo.{SymInfo}
-use Rattle.rule_core.specs.declared.signature.SymKind.{SymKind}
-use Rattle.rule_core.specs.declared.signature.SymKind.TheVariants.{Injection, Ctor, Equations}
-use Rattle.rule_core.specs.declared.signature.SymKind.TheVariants.{Hooked, Closed, NoKind}
+use Rattle.rule_core.specs.KindTests.{is_defined_kind}
 use Rattle.kore_sig.specs.Attributes.{has_attribute, is_said_ac, subsort_sorts}
 use Rattle.kore_check.specs.PatternSorts.{symbol_named}
 use Rattle.kore_shapes.specs.Shapes.{Rewriting, rewriting}
@@ -23,15 +20,6 @@ pub data AxiomClass : Type 0 where
   rewrites : Rewriting → AxiomClass
   equates : Statement → AxiomClass
   passed_over : AxiomClass
-
--- the kind is that of a function that has neither a hook nor sort parameters
-abbrev pub is_defined_kind : SymKind → Bool
-is_defined_kind Injection = false
-is_defined_kind Ctor = false
-is_defined_kind Equations = true
-is_defined_kind (Hooked row) = false
-is_defined_kind Closed = false
-is_defined_kind NoKind = false
 
 -- the symbol is declared as a function without a hook and without sort parameters
 abbrev pub takes_equations : Option SymInfo → Bool

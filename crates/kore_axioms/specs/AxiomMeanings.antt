@@ -12,18 +12,11 @@ use Rattle.kore_axioms.specs.Conditions.{tested}
 use Rattle.kore_axioms.specs.RuleParts.{rule_parts, left_of, right_of}
 use Rattle.kore_axioms.specs.Priorities.{priority_of}
 
--- the variables, and then the new variables of the pattern, if there is one
-abbrev pub with_some_variables : Signature → List (List ℕ × ℕ) → Option PatternTree
-    → List (List ℕ × ℕ)
-with_some_variables sig vars None = vars
-with_some_variables sig vars (Some p) = with_variables sig vars (unfolded p)
-
 -- what the tested pattern means, if there is one; there is no meaning without one
 abbrev pub MeansTest : Signature → List (List ℕ × ℕ) → Option PatternTree → Option Pattern → Type 0
 MeansTest sig vars None None = Unit {0}
-MeansTest sig vars None (Some p) = ⊥
-MeansTest sig vars (Some b) None = ⊥
 MeansTest sig vars (Some b) (Some p) = Means sig vars (unfolded b) p
+MeansTest _ _ _ _ = ⊥
 
 -- The axiom is this rewrite rule. Its variables are those of the left side, in the order of their
 -- first occurrence.

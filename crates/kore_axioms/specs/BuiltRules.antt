@@ -4,9 +4,11 @@ use Rattle.kore_text.specs.Trees.{SortTree, PatternTree, AxiomDeclaration}
 use Rattle.term_core.specs.RulePatterns.{plain_pattern}
 use Rattle.rule_core.specs.declared.signature.Signature.{Signature}
 use Rattle.kore_sig.specs.FirstFault.{Fault, ByByte, ByNumber, IsFirstBy, Then}
-use Rattle.kore_check.specs.Folds.{unfolded, IsApplicative}
+use Rattle.kore_check.specs.Folds.{unfolded}
+use Rattle.kore_check.specs.Applicative.{IsApplicative}
 use Rattle.kore_check.specs.PatternFaults.{pattern_faults}
-use Rattle.kore_check.specs.PatternMeanings.{named_sorts, with_variables, Means}
+use Rattle.kore_check.specs.PatternMeanings.{with_variables, Means}
+use Rattle.kore_check.specs.VariableNames.{named_sorts}
 use Rattle.kore_axioms.specs.AxiomMeanings.{MeansTest}
 use Rattle.kore_axioms.specs.Conditions.{tested}
 use Rattle.kore_axioms.specs.RuleParts.{RuleParts, left_of, right_of}

@@ -2,8 +2,7 @@
 use Rattle.kore_shapes.specs.Views.{plain_rewriting}
 use Rattle.kore_shapes.specs.StatementViews.{plain_statement}
 use Rattle.kore_axioms.specs.AxiomClasses.{AxiomClass as ClassOfTree, refused, orders_sorts}
-use Rattle.kore_axioms.specs.AxiomClasses.{rewrites, equates}
-use Rattle.kore_axioms.specs.AxiomClasses.{passed_over}
+use Rattle.kore_axioms.specs.AxiomClasses.{rewrites, equates, passed_over}
 use Rattle.kore_axioms.specs.declared.classes.AxiomClass.{AxiomClass}
 use Rattle.kore_axioms.specs.declared.classes.AxiomClass.TheVariants as class
 use Rattle.kore_axioms.specs.Views.{fault_number}

@@ -7,13 +7,11 @@ use Rattle.rule_core.specs.declared.signature.SortKind.{SortKind}
 use Rattle.rule_core.specs.declared.signature.SortKind.TheVariants as kind
 use Rattle.kore_sig.specs.SortReferences.{sort_number}
 use Rattle.kore_check.specs.PatternSorts.{sort_kind}
-use Rattle.kore_shapes.specs.Shapes.{Condition, always, tests, ill}
+use Rattle.kore_shapes.specs.Shapes.{Condition, tests, ill}
 
 abbrev pub is_bool_kind : SortKind → Bool
-is_bool_kind kind.Int = false
 is_bool_kind kind.Bool = true
-is_bool_kind kind.Map = false
-is_bool_kind kind.Other = false
+is_bool_kind _ = false
 
 abbrev pub is_some_bool : Option SortKind → Bool
 is_some_bool None = false
@@ -25,17 +23,14 @@ is_bool sig s = is_some_bool (option_and_then (sort_kind sig) (sort_number sig.s
 
 -- the condition; it is ill if the pattern that it tests is not of a sort of truth values
 abbrev pub over_bool : Signature → Condition → Condition
-over_bool sig always = always
 over_bool sig (tests t b) = if is_bool sig t then tests t b else ill
-over_bool sig ill = ill
+over_bool sig c = c
 
 -- the pattern that a condition tests, if it tests one
 abbrev pub tested : Condition → Option PatternTree
-tested always = None
 tested (tests t b) = Some b
-tested ill = None
+tested _ = None
 
 abbrev pub is_ill : Condition → Bool
-is_ill always = false
-is_ill (tests t b) = false
 is_ill ill = true
+is_ill _ = false

@@ -2,7 +2,6 @@
 pub mod Conditions
 pub mod Priorities
 pub mod Uses
-pub mod Raised
 pub mod RuleParts
 pub mod RuleForms
 pub mod RuleFaults

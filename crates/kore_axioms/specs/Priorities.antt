@@ -1,8 +1,7 @@
 -- The priority of a rule or an equation (K framework, attribute `priority`). The rule with the
 -- smaller number is tried first.
 use Rattle.std.specs.Prelude.{ℕ, List, Bool, ◌&&◌, length, Option, Some, None, if◌then◌else◌, codes}
-use Rattle.std.specs.Prelude.{nat_le, is_some}
-use Rattle.std.specs.Prelude.{is_none}
+use Rattle.std.specs.Prelude.{nat_le, is_some, is_none}
 use Rattle.kore_text.specs.Trees.{PatternTree}
 use Rattle.kore_sig.specs.Attributes.{has_attribute, first_of_name, text_of}
 use Rattle.kore_check.specs.ValueTexts.{number_of_digits}

@@ -2,10 +2,7 @@
 -- use symbols and variables.
 use Rattle.std.specs.Prelude.{ℕ, List, [], ◌∷◌, ◌++◌, Bool, false, true, not, ◌&&◌, Option, Some}
 use Rattle.std.specs.Prelude.{None, Contains}
-use Rattle.kore_text.specs.Trees.{SortTree, listed_sorts, PatternTree, element_variable}
-use Rattle.kore_text.specs.Trees.{set_variable, string}
-use Rattle.kore_text.specs.Trees.{symbol_applied, connected, binding, domain_value, folded}
-use Rattle.kore_text.specs.Trees.{AxiomDeclaration}
+use Rattle.kore_text.specs.Trees.{SortTree, listed_sorts, PatternTree, connected, AxiomDeclaration}
 use Rattle.rule_core.specs.declared.signature.Signature.{Signature}
 use Rattle.kore_sig.specs.FirstFault.{Fault, ByByte, ByNumber, IsFirstBy, Then}
 use Rattle.kore_sig.specs.SortReferences.{sort_number}
@@ -18,7 +15,7 @@ use Rattle.kore_axioms.specs.Conditions.{tested}
 use Rattle.kore_axioms.specs.RuleParts.{RuleParts, rule_parts, left_of, right_of}
 use Rattle.kore_axioms.specs.RuleForms.{holds_of, form_faults}
 use Rattle.kore_axioms.specs.Uses.{has_symbol, is_bound_by, is_plain_function, is_ac_symbol}
-use Rattle.kore_axioms.specs.Raised.{faults_of_tests}
+use Rattle.kore_sig.specs.FirstFault.{faults_of_tests}
 
 -- there is no fault
 abbrev pub is_empty : List Fault → Bool
@@ -46,21 +43,14 @@ condition_faults sig ill = []
 
 -- the faults of the only sort of a connective at this byte; it should be the sort of the rule
 abbrev pub only_sort_faults : Signature → Option ℕ → ℕ → List SortTree → List Fault
-only_sort_faults sig wanted at [] = []
 only_sort_faults sig wanted at (t ∷ []) =
     sort_faults sig t ++ clash_faults at (sort_number sig.sorts t) wanted
-only_sort_faults sig wanted at (t ∷ (u ∷ ts)) = []
+only_sort_faults sig wanted at ts = []
 
 -- the faults of the sort of the `\top{T}()` next to a right side
 abbrev pub top_faults : Signature → Option ℕ → PatternTree → List Fault
-top_faults sig wanted (element_variable at n s) = []
-top_faults sig wanted (set_variable at n s) = []
-top_faults sig wanted (string at text) = []
-top_faults sig wanted (symbol_applied at n ss ps) = []
 top_faults sig wanted (connected at op ss ps) = only_sort_faults sig wanted at (listed_sorts ss)
-top_faults sig wanted (binding at b ss x p) = []
-top_faults sig wanted (domain_value at s text byte) = []
-top_faults sig wanted (folded at left p) = []
+top_faults sig wanted p = []
 
 abbrev pub found_top_faults : Signature → Option ℕ → Option PatternTree → List Fault
 found_top_faults sig wanted None = []

@@ -3,11 +3,11 @@ use Rattle.std.specs.Prelude.{ℕ, List, [], ◌∷◌, Bool, true, false, ◌||
 use Rattle.kore_text.specs.Trees.{PatternTree, AxiomDeclaration}
 use Rattle.kore_sig.specs.FirstFault.{Fault}
 use Rattle.kore_shapes.specs.Forms.{conjunctions, others, all_forms, has_form, has_binder}
-use Rattle.kore_shapes.specs.Shapes.{Side, alone, beside, without, misshapen}
+use Rattle.kore_shapes.specs.Shapes.{Side, without, misshapen}
 use Rattle.kore_axioms.specs.Conditions.{tested, is_ill}
 use Rattle.kore_axioms.specs.RuleParts.{RuleParts, left_of, right_of}
 use Rattle.kore_axioms.specs.Priorities.{has_bad_priority}
-use Rattle.kore_axioms.specs.Raised.{faults_of_tests}
+use Rattle.kore_sig.specs.FirstFault.{faults_of_tests}
 
 -- there is a pattern, and the test holds of it
 abbrev pub holds_of : (PatternTree → Bool) → Option PatternTree → Bool
@@ -15,16 +15,12 @@ holds_of test None = false
 holds_of test (Some p) = test p
 
 abbrev pub is_misshapen : Side → Bool
-is_misshapen (alone p) = false
-is_misshapen (beside p q) = false
-is_misshapen without = false
 is_misshapen misshapen = true
+is_misshapen _ = false
 
 abbrev pub is_without : Side → Bool
-is_without (alone p) = false
-is_without (beside p q) = false
 is_without without = true
-is_without misshapen = false
+is_without _ = false
 
 -- a side is an `\and` of another sort or of another number of patterns, or a side or the tested
 -- pattern contains a form that no rule has; an `\and` inside the left side is a separate fault

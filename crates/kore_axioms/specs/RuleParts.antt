@@ -3,8 +3,7 @@ use Rattle.std.specs.Prelude.{Option}
 use Rattle.kore_text.specs.Trees.{PatternTree}
 use Rattle.rule_core.specs.declared.signature.Signature.{Signature}
 use Rattle.kore_shapes.specs.Shapes.{Rewriting, Side, side, found_part, main_part, heads_condition}
-use Rattle.kore_shapes.specs.Shapes.{is_top, Condition}
-use Rattle.kore_shapes.specs.Shapes.{given_condition}
+use Rattle.kore_shapes.specs.Shapes.{is_top, Condition, given_condition}
 use Rattle.kore_axioms.specs.Conditions.{over_bool}
 
 -- both sides, and the condition next to the left one

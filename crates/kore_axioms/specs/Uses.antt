@@ -4,22 +4,17 @@ use Rattle.std.specs.Str.{bytes_eq}
 use Rattle.kore_text.specs.Trees.{SortTree}
 use Rattle.rule_core.specs.declared.signature.Signature.{Signature}
 use Rattle.rule_core.specs.declared.signature.SymInfo.{SymInfo}
-use Rattle.rule_core.specs.declared.signature.SymKind.{SymKind}
-use Rattle.rule_core.specs.declared.signature.SymKind.TheVariants.{Injection, Ctor, Equations}
-use Rattle.rule_core.specs.declared.signature.SymKind.TheVariants.{Hooked, Closed, NoKind}
+use Rattle.rule_core.specs.KindTests.{is_function_kind}
 use Rattle.kore_check.specs.Folds.{Unfolded, named_variable, written_value, applied_symbol}
-use Rattle.kore_check.specs.Folds.{other_form, Unfoldeds}
-use Rattle.kore_check.specs.Folds.{no_more, and_more}
+use Rattle.kore_check.specs.Folds.{other_form, Unfoldeds, no_more, and_more}
 use Rattle.kore_check.specs.PatternSorts.{symbol_named}
 use Rattle.kore_shapes.specs.SameSorts.{same_sort}
 
 -- a symbol that passes the test occurs in the pattern
 abbrev mutual
   pub has_symbol : (List ℕ → Bool) → Unfolded → Bool
-  has_symbol test (named_variable at name s) = false
-  has_symbol test (written_value at s text byte) = false
   has_symbol test (applied_symbol at byte name ss ps) = test name || have_symbol test ps
-  has_symbol test (other_form at) = false
+  has_symbol test p = false
 
   pub have_symbol : (List ℕ → Bool) → Unfoldeds → Bool
   have_symbol test no_more = false
@@ -30,9 +25,8 @@ abbrev mutual
 abbrev mutual
   pub occurs_in : List ℕ → SortTree → Unfolded → Bool
   occurs_in name s (named_variable at n t) = bytes_eq name n && same_sort s t
-  occurs_in name s (written_value at t text byte) = false
   occurs_in name s (applied_symbol at byte f ss ps) = occurs_in_some name s ps
-  occurs_in name s (other_form at) = false
+  occurs_in name s p = false
 
   pub occurs_in_some : List ℕ → SortTree → Unfoldeds → Bool
   occurs_in_some name s no_more = false
@@ -43,21 +37,12 @@ abbrev mutual
 abbrev mutual
   pub is_bound_by : Unfoldeds → Unfolded → Bool
   is_bound_by qs (named_variable at name s) = occurs_in_some name s qs
-  is_bound_by qs (written_value at s text byte) = true
   is_bound_by qs (applied_symbol at byte name ss ps) = are_bound_by qs ps
-  is_bound_by qs (other_form at) = true
+  is_bound_by qs p = true
 
   pub are_bound_by : Unfoldeds → Unfoldeds → Bool
   are_bound_by qs no_more = true
   are_bound_by qs (and_more p ps) = is_bound_by qs p && are_bound_by qs ps
-
-abbrev pub is_function_kind : SymKind → Bool
-is_function_kind Injection = false
-is_function_kind Ctor = false
-is_function_kind Equations = true
-is_function_kind (Hooked row) = true
-is_function_kind Closed = true
-is_function_kind NoKind = false
 
 -- a function that is not AC
 abbrev pub is_plain_function_with : Option SymInfo → Bool

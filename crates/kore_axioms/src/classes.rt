@@ -5,7 +5,7 @@ ghost use Rattle.kore_sig.specs.Attributes.{subsort_sorts, stated_pair};
 ghost use Rattle.kore_check.specs.PatternSorts.{symbol_named};
 ghost use Rattle.kore_shapes.specs.Shapes.{rewriting as the_rewriting};
 ghost use Rattle.kore_shapes.specs.StatementViews.{plain_statement};
-ghost use Rattle.kore_axioms.specs.AxiomClasses.{is_defined_kind as is_defined};
+ghost use Rattle.rule_core.specs.KindTests.{is_defined_kind as is_defined};
 ghost use Rattle.kore_axioms.specs.AxiomClasses.{takes_equations as does_take_equations};
 ghost use Rattle.kore_axioms.specs.AxiomClasses.{is_no_equation as is_surely_none};
 ghost use Rattle.kore_axioms.specs.AxiomClasses.{class_of_statement as the_class_of_statement};

@@ -4,7 +4,7 @@ ghost use Rattle.std.specs.Prelude.{◌≡◌, ◌++◌, List, map, option_map};
 ghost use Rattle.kore_ast.specs.Plain.{plain_sort, pattern_tree};
 ghost use Rattle.kore_sig.specs.FirstFault.{Fault};
 ghost use Rattle.kore_sig.specs.SortReferences.{sort_number as the_number};
-ghost use Rattle.kore_sig.specs.Signatures.{IsNumbered};
+ghost use Rattle.kore_sig.specs.Numbered.{IsNumbered};
 ghost use Rattle.kore_check.specs.Folds.{unfolded};
 ghost use Rattle.kore_check.specs.PatternFaults.{sort_faults, clash_faults};
 ghost use Rattle.kore_check.specs.FaultNumbers.{IsFirstOf};

@@ -2,15 +2,14 @@
 use Rattle.std.proofs.Common.{◌≡◌, ◌≤◌, ◌<◌, inl, inr, ℕ, zero, suc, ◌+◌, Bool, true, false, List}
 use Rattle.std.proofs.Common.{[], ◌∷◌, ◌++◌, length, map, drop, take, reverse, get_or, Option, Some}
 use Rattle.std.proofs.Common.{None, option_map, slice_get, append_assoc, append-nil, eq-eqb, refl}
-use Rattle.std.proofs.Common.{sym, ◌∙◌, ap, subst, arith}
-use Rattle.std.specs.Prelude.{is_some, ◌&&◌, ◌==◌}
+use Rattle.std.proofs.Common.{sym, ◌∙◌, ap, subst, arith, Vec}
+use Rattle.std.specs.Prelude.{is_some, ◌&&◌, ◌==◌, flat_map}
 use Rattle.std.proofs.lemmas.List.{map-append, reverse-append}
 use Rattle.std.specs.Option.{option_and_then}
 use Rattle.std.specs.List.{position_from}
 use Rattle.std.specs.Str.{bytes_eq}
-use Rattle.std.specs.Prelude.{flat_map}
 use Rattle.std.proofs.lemmas.Bool.{false≢true, eqb-true}
-use Rattle.rule_core.proofs.Belows.{both_true}
+use Rattle.rule_core.proofs.Belows.{both_true, true_both}
 use Rattle.rule_core.proofs.AcSymbols.{symbol_found}
 use Rattle.rule_core.specs.WellSorted.{IsSignature, IsInjectionDeclaration}
 use Rattle.rule_core.specs.declared.signature.SortKind.{SortKind}
@@ -19,32 +18,31 @@ use Rattle.rule_core.specs.declared.signature.SortRef.{SortRef}
 use Rattle.rule_core.specs.declared.signature.SymKind.TheVariants.{Injection, Ctor, Equations}
 use Rattle.rule_core.specs.declared.signature.SymKind.TheVariants.{Hooked, Closed, NoKind}
 use Rattle.kore_sig.specs.FirstFault.{Fault, when, unless}
-use Rattle.kore_sig.specs.SortReferences.{sort_place}
+use Rattle.kore_sig.specs.SortReferences.{sort_place, sort_number}
 use Rattle.kore_check.specs.Folds.{Unfolded, named_variable, written_value, applied_symbol}
 use Rattle.kore_check.specs.Folds.{other_form, Unfoldeds, no_more, and_more, standing_at}
 use Rattle.kore_check.specs.Folds.{applied_to_two, folded_left, folded_right, fold_of, count}
-use Rattle.kore_check.specs.Folds.{unfolded, AreApplicative}
+use Rattle.kore_check.specs.Folds.{unfolded}
+use Rattle.kore_check.specs.Applicative.{AreApplicative}
 use Rattle.kore_check.specs.ValueTexts.{value_of_text}
 use Rattle.kore_check.specs.PatternFaults.{pattern_faults, argument_faults, sort_faults}
-use Rattle.kore_check.specs.PatternFaults.{text_faults, symbol_faults, has_no_kind}
+use Rattle.kore_check.specs.PatternFaults.{text_faults, symbol_faults}
+use Rattle.rule_core.specs.KindTests.{has_no_kind}
 use Rattle.kore_check.specs.declared.build.Head.{Head}
 use Rattle.kore_ast.specs.declared.tree.Pat.{Pat}
 use Rattle.kore_ast.specs.Plain.{pattern_tree as plain_tree}
 use Rattle.kore_check.proofs.Applications.{reads}
 use Rattle.kore_check.proofs.Items.{drop-item}
 use Rattle.std.specs.Global.{Global}
-use Rattle.std.proofs.Common.{Vec}
 use Rattle.kore_text.specs.Trees.{SortTree, sort_parameter, sort_applied, no_sorts, sort_then}
 use Rattle.term_core.specs.Patterns.{Pattern, Patterns, injection, no_pattern, more_patterns}
-use Rattle.term_core.specs.Patterns.{patterns}
+use Rattle.term_core.specs.Instances.{patterns}
 use Rattle.term_core.specs.RulePatterns.{plain_pattern, sort_numbers as numbers_of}
 use Rattle.term_core.specs.PatternLists.{plain_patterns}
 use Rattle.term_core.specs.declared.ids.SortId.{SortId}
 use Rattle.term_core.specs.declared.rule_patterns.RulePat.{RulePat}
 use Rattle.rule_core.specs.declared.signature.Signature.{Signature}
 use Rattle.rule_core.specs.declared.signature.SymKind.{SymKind}
-use Rattle.rule_core.proofs.Belows.{true_both}
-use Rattle.kore_sig.specs.SortReferences.{sort_number}
 use Rattle.kore_check.specs.PatternSorts.{sort_kind, symbol_named, symbol_info, sort_numbers}
 use Rattle.kore_check.specs.PatternSorts.{number_then, places_of}
 use Rattle.kore_check.specs.PatternMeanings.{variable_number, injected_only, applied_pattern}

@@ -9,7 +9,8 @@ use Rattle.kore_ast.specs.declared.tree.Sort.{Sort}
 use Rattle.kore_ast.specs.declared.tree.Pat.{Pat}
 use Rattle.kore_ast.specs.declared.tree.PatForm.TheVariants as form
 use Rattle.kore_ast.specs.Plain.{plain_sort, pattern_tree as plain_tree}
-use Rattle.term_core.specs.Patterns.{Pattern, patterns, no_pattern}
+use Rattle.term_core.specs.Patterns.{Pattern, no_pattern}
+use Rattle.term_core.specs.Instances.{patterns}
 use Rattle.term_core.specs.RulePatterns.{plain_pattern, sort_numbers as numbers_of}
 use Rattle.term_core.specs.PatternLists.{plain_patterns}
 use Rattle.term_core.specs.declared.rule_patterns.RulePat.{RulePat}

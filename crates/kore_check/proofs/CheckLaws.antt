@@ -18,7 +18,8 @@ use Rattle.kore_check.specs.declared.faults.FaultKind.TheVariants as kind
 use Rattle.kore_check.specs.FaultNumbers.{IsFirstOf, IsRefusal, as_refusal, refusal_of}
 use Rattle.kore_check.specs.FaultNumbers.{fault_number}
 use Rattle.kore_check.specs.Folds.{Unfolded, named_variable, written_value, applied_symbol}
-use Rattle.kore_check.specs.Folds.{other_form, IsApplicative}
+use Rattle.kore_check.specs.Folds.{other_form}
+use Rattle.kore_check.specs.Applicative.{IsApplicative}
 use Rattle.kore_check.specs.PatternSorts.{sort_of, symbol_named, symbol_info, sort_numbers}
 use Rattle.kore_check.specs.PatternSorts.{result_sort}
 use Rattle.kore_check.specs.PatternFaults.{pattern_faults}

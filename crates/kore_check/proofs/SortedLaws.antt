@@ -31,14 +31,15 @@ use Rattle.rule_core.specs.declared.signature.SortRef.TheVariants.{Param, Sort}
 use Rattle.rule_core.proofs.AcSymbols.{symbol_found}
 use Rattle.rule_core.proofs.Belows.{both_true, is_below-true}
 use Rattle.kore_sig.specs.SortReferences.{sort_number}
-use Rattle.kore_check.specs.Folds.{Unfolded, Unfoldeds, unfolded_byte, count, IsApplicative}
-use Rattle.kore_check.specs.Folds.{AreApplicative}
+use Rattle.kore_check.specs.Folds.{Unfolded, Unfoldeds, unfolded_byte, count}
+use Rattle.kore_check.specs.Applicative.{IsApplicative, AreApplicative}
 use Rattle.kore_check.specs.ValueTexts.{value_of_text, value_of_words, truth_of_text}
 use Rattle.kore_check.specs.ValueTexts.{integer_of_text, not_negative, negated, number_of_digits}
 use Rattle.kore_check.specs.PatternSorts.{sort_of, symbol_named, sort_numbers, number_then}
 use Rattle.kore_check.specs.PatternSorts.{result_sort, wanted_sort, places_of}
 use Rattle.kore_check.specs.PatternFaults.{pattern_faults, argument_faults, clash_faults}
-use Rattle.kore_check.specs.PatternFaults.{sort_faults, symbol_faults, is_injection}
+use Rattle.kore_check.specs.PatternFaults.{sort_faults, symbol_faults}
+use Rattle.rule_core.specs.KindTests.{is_injection}
 use Rattle.kore_check.specs.PatternFaults.{is_bad_injection}
 use Rattle.kore_check.specs.PatternMeanings.{Means, by_variable, by_value, by_symbol, AllMean}
 use Rattle.kore_check.specs.PatternMeanings.{none_mean, more_mean, applied_pattern, injected_only}

@@ -4,11 +4,11 @@ use Rattle.std.specs.Option.{option_and_then}
 use Rattle.term_core.specs.Patterns.{Pattern, Patterns, no_pattern, more_patterns}
 use Rattle.rule_core.specs.declared.signature.Signature.{Signature}
 use Rattle.rule_core.specs.declared.signature.SymKind.{SymKind}
-use Rattle.kore_check.specs.Folds.{Unfolded, Unfoldeds, no_more, and_more, IsApplicative}
+use Rattle.kore_check.specs.Folds.{Unfolded, Unfoldeds, no_more, and_more}
+use Rattle.kore_check.specs.Applicative.{IsApplicative}
 use Rattle.kore_check.specs.PatternFaults.{pattern_faults}
 use Rattle.kore_check.specs.PatternMeanings.{Means, AllMean, applied_pattern, with_variables}
-use Rattle.kore_check.specs.PatternMeanings.{with_all_variables}
-use Rattle.kore_check.specs.PatternMeanings.{IsNamed}
+use Rattle.kore_check.specs.PatternMeanings.{with_all_variables, IsNamed}
 use Rattle.kore_check.specs.PatternSorts.{symbol_named, sort_numbers}
 use Rattle.kore_check.specs.declared.build.Head.{Head}
 use Rattle.kore_text.specs.Trees.{SortTree}

@@ -3,10 +3,8 @@
 -- is that argument.
 use Rattle.std.specs.Prelude.{◌+◌, ℕ, Bool, true, false, List, max}
 use Rattle.kore_text.specs.Trees.{SortTree, PatternTree, element_variable, set_variable, string}
-use Rattle.kore_text.specs.Trees.{symbol_applied}
-use Rattle.kore_text.specs.Trees.{connected, binding, domain_value, folded, PatternTrees}
-use Rattle.kore_text.specs.Trees.{no_patterns, pattern_then}
-use Rattle.kore_text.specs.Trees.{listed_sorts}
+use Rattle.kore_text.specs.Trees.{symbol_applied, connected, binding, domain_value, folded}
+use Rattle.kore_text.specs.Trees.{PatternTrees, no_patterns, pattern_then, listed_sorts}
 
 mutual
   -- A pattern of variables, domain values and applications. The first number is its byte.
@@ -62,9 +60,8 @@ fold_of false byte name ss (and_more p ps) = folded_right byte name ss p ps
 
 -- the only pattern of a list; another form if there is not exactly one
 abbrev pub only_of : ℕ → Unfoldeds → Unfolded
-only_of at no_more = other_form at
 only_of at (and_more p no_more) = p
-only_of at (and_more p (and_more q ps)) = other_form at
+only_of at ps = other_form at
 
 -- a pattern with its folds expanded; the byte of a fold is its own first byte
 abbrev mutual
@@ -103,25 +100,10 @@ count (and_more p ps) = count ps + 1
 -- the height; a variable, a value and a symbol without arguments have the height 1
 abbrev mutual
   pub height : Unfolded → ℕ
-  height (named_variable at name s) = 1
-  height (written_value at s text byte) = 1
   height (applied_symbol at byte name ss ps) = heights ps + 1
-  height (other_form at) = 1
+  height p = 1
 
   -- the greatest of these heights, 0 if there are none
   pub heights : Unfoldeds → ℕ
   heights no_more = 0
   heights (and_more p ps) = max (height p) (heights ps)
-
--- the pattern has only variables, applications, domain values and folds, and each fold has an
--- argument
-abbrev mutual
-  pub IsApplicative : Unfolded → Type 0
-  IsApplicative (named_variable at name s) = Unit {0}
-  IsApplicative (written_value at s text byte) = Unit {0}
-  IsApplicative (applied_symbol at byte name ss ps) = AreApplicative ps
-  IsApplicative (other_form at) = ⊥
-
-  pub AreApplicative : Unfoldeds → Type 0
-  AreApplicative no_more = Unit {0}
-  AreApplicative (and_more p ps) = IsApplicative p × AreApplicative ps

@@ -1,10 +1,12 @@
 -- Public: what public clauses say, and public definitions of other crates.
 pub mod Folds
+pub mod Applicative
 pub mod FoldHeights
 pub mod ValueTexts
 pub mod PatternSorts
 pub mod PatternFaults
 pub mod PatternMeanings
+pub mod VariableNames
 pub mod FaultNumbers
 -- Laws: what follows from that. Each is a clause of a function that does nothing.
 pub mod SortedMeanings

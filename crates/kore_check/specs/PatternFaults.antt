@@ -1,7 +1,6 @@
 -- All the faults of a pattern. `IsFirstOf` says which of them is the first.
 use Rattle.std.specs.Prelude.{◌==◌, ◌&&◌, not, ℕ, Bool, true, false, List, [], ◌∷◌, ◌++◌, length}
-use Rattle.std.specs.Prelude.{drop, Option, Some}
-use Rattle.std.specs.Prelude.{None, is_some, flat_map, nat_lt}
+use Rattle.std.specs.Prelude.{drop, Option, Some, None, is_some, flat_map, nat_lt}
 use Rattle.std.specs.Option.{option_and_then}
 use Rattle.kore_text.specs.Trees.{SortTree}
 use Rattle.rule_core.specs.Evaluation.{most_height}
@@ -9,15 +8,13 @@ use Rattle.rule_core.specs.Subsorts.{is_below}
 use Rattle.rule_core.specs.declared.signature.Signature.{Signature}
 use Rattle.rule_core.specs.declared.signature.SortKind.{SortKind}
 use Rattle.rule_core.specs.declared.signature.SymInfo.{SymInfo}
-use Rattle.rule_core.specs.declared.signature.SymKind.{SymKind}
-use Rattle.rule_core.specs.declared.signature.SymKind.TheVariants.{Injection, Ctor, Equations}
-use Rattle.rule_core.specs.declared.signature.SymKind.TheVariants.{Hooked, Closed, NoKind}
+use Rattle.rule_core.specs.KindTests.{is_injection, has_no_kind}
 use Rattle.rule_core.specs.declared.signature.SortRef.{SortRef}
 use Rattle.kore_sig.specs.FirstFault.{Fault, when, unless}
 use Rattle.kore_sig.specs.SortReferences.{sort_number, sort_place}
 use Rattle.kore_check.specs.Folds.{Unfolded, named_variable, written_value, applied_symbol}
-use Rattle.kore_check.specs.Folds.{other_form, Unfoldeds}
-use Rattle.kore_check.specs.Folds.{no_more, and_more, unfolded_byte, count, height}
+use Rattle.kore_check.specs.Folds.{other_form, Unfoldeds, no_more, and_more, unfolded_byte, count}
+use Rattle.kore_check.specs.Folds.{height}
 use Rattle.kore_check.specs.ValueTexts.{value_of_text}
 use Rattle.kore_check.specs.PatternSorts.{sort_kind, symbol_named, sort_numbers, sort_of}
 use Rattle.kore_check.specs.PatternSorts.{wanted_sort, places_of}
@@ -36,24 +33,6 @@ abbrev pub clash_faults : ℕ → Option ℕ → Option ℕ → List Fault
 clash_faults byte None wanted = []
 clash_faults byte (Some s) None = []
 clash_faults byte (Some s) (Some wanted) = unless (s == wanted) 9 byte
-
--- the symbol has no kind
-abbrev pub has_no_kind : SymKind → Bool
-has_no_kind Injection = false
-has_no_kind Ctor = false
-has_no_kind Equations = false
-has_no_kind (Hooked row) = false
-has_no_kind Closed = false
-has_no_kind NoKind = true
-
--- the symbol is the injection
-abbrev pub is_injection : SymKind → Bool
-is_injection Injection = true
-is_injection Ctor = false
-is_injection Equations = false
-is_injection (Hooked row) = false
-is_injection Closed = false
-is_injection NoKind = false
 
 -- the first sort of an injection is not below the second
 abbrev pub is_bad_injection : Signature → Option (List ℕ) → Bool

@@ -1,33 +1,24 @@
 -- The rule pattern that a Kore pattern means, and the pattern's variables. Variables are numbered
 -- by name and sort, in the order of their first occurrence.
 use Rattle.std.specs.Prelude.{◌≡◌, ◌==◌, ◌&&◌, ◌++◌, ℕ, List, [], ◌∷◌, Option, Some, None, is_some}
-use Rattle.std.specs.Prelude.{map, if◌then◌else◌}
-use Rattle.std.specs.Prelude.{string_bytes}
+use Rattle.std.specs.Prelude.{if◌then◌else◌}
 use Rattle.std.specs.List.{position_from}
 use Rattle.std.specs.Str.{bytes_eq}
 use Rattle.std.specs.Option.{option_and_then}
 use Rattle.kore_text.specs.Trees.{SortTree}
 use Rattle.term_core.specs.Patterns.{Pattern, Patterns, variable, domain_value, application}
-use Rattle.term_core.specs.Patterns.{injection, call}
-use Rattle.term_core.specs.Patterns.{no_pattern, more_patterns}
+use Rattle.term_core.specs.Patterns.{injection, call, no_pattern, more_patterns}
 use Rattle.rule_core.specs.Named.{number_of}
-use Rattle.rule_core.specs.declared.rules.VarInfo.{VarInfo}
 use Rattle.rule_core.specs.declared.signature.Signature.{Signature}
 use Rattle.rule_core.specs.declared.signature.SymInfo.{SymInfo}
 use Rattle.rule_core.specs.declared.signature.SymKind.{SymKind}
-use Rattle.rule_core.specs.declared.signature.SymKind.TheVariants.{Injection, Ctor, Equations}
-use Rattle.rule_core.specs.declared.signature.SymKind.TheVariants.{Hooked, Closed, NoKind}
+use Rattle.rule_core.specs.declared.signature.SymKind.TheVariants.{Injection, Ctor, NoKind}
 use Rattle.term_core.specs.Terms.{DomainValue}
 use Rattle.kore_sig.specs.SortReferences.{sort_number}
 use Rattle.kore_check.specs.Folds.{Unfolded, named_variable, written_value, applied_symbol}
-use Rattle.kore_check.specs.Folds.{other_form, Unfoldeds}
-use Rattle.kore_check.specs.Folds.{no_more, and_more}
+use Rattle.kore_check.specs.Folds.{other_form, Unfoldeds, no_more, and_more}
 use Rattle.kore_check.specs.ValueTexts.{value_of_text}
 use Rattle.kore_check.specs.PatternSorts.{sort_kind, symbol_info, sort_numbers}
-
--- the names and sorts of variables, in the order of their numbers
-abbrev pub named_sorts : List VarInfo → List (List ℕ × ℕ)
-named_sorts vars = map (λ (v : VarInfo). (string_bytes v.name, v.sort.0)) vars
 
 -- the number of the variable with this name and this sort, if there is one
 abbrev pub variable_number : List (List ℕ × ℕ) → List ℕ → ℕ → Option ℕ
@@ -45,9 +36,8 @@ abbrev mutual
   pub with_variables : Signature → List (List ℕ × ℕ) → Unfolded → List (List ℕ × ℕ)
   with_variables sig vars (named_variable at name s) =
       with_variable vars name (sort_number sig.sorts s)
-  with_variables sig vars (written_value at s text byte) = vars
   with_variables sig vars (applied_symbol at byte name ss ps) = with_all_variables sig vars ps
-  with_variables sig vars (other_form at) = vars
+  with_variables sig vars p = vars
 
   pub with_all_variables : Signature → List (List ℕ × ℕ) → Unfoldeds → List (List ℕ × ℕ)
   with_all_variables sig vars no_more = vars
@@ -68,10 +58,8 @@ injected_only ns ps = None
 abbrev pub applied_pattern : SymKind → ℕ → List ℕ → Patterns → Option Pattern
 applied_pattern Injection f ns ps = injected_only ns ps
 applied_pattern Ctor f ns ps = Some (application f ps)
-applied_pattern Equations f ns ps = Some (call f ns ps)
-applied_pattern (Hooked row) f ns ps = Some (call f ns ps)
-applied_pattern Closed f ns ps = Some (call f ns ps)
 applied_pattern NoKind f ns ps = None
+applied_pattern kind f ns ps = Some (call f ns ps)
 
 mutual
   -- The rule pattern that a pattern means if the variables have these names and sorts. A variable

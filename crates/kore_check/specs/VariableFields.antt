@@ -2,7 +2,8 @@
 use Rattle.std.specs.Prelude.{◌≡◌, ℕ, List, Option, Some, String, slice_get}
 use Rattle.std.specs.BTreeMap.{BTreeMap, get_by}
 use Rattle.std.specs.Global.{Global}
-use Rattle.kore_check.specs.PatternMeanings.{named_sorts, variable_number}
+use Rattle.kore_check.specs.PatternMeanings.{variable_number}
+use Rattle.kore_check.specs.VariableNames.{named_sorts}
 use Rattle.kore_check.specs.VariableKeys.{key_of, key_cmp}
 use Rattle.kore_check.specs.declared.variables.Variables.TheInside.{Inside}
 

@@ -9,7 +9,7 @@ ghost use Rattle.kore_check.specs.Folds.{named_variable, written_value, unfolded
 ghost use Rattle.kore_check.specs.Folds.{inner_fold, only_of};
 ghost use Rattle.kore_check.specs.PatternSorts.{sort_numbers};
 ghost use Rattle.kore_check.specs.PatternMeanings.{applied_pattern, injected_only};
-ghost use Rattle.kore_sig.specs.Signatures.{IsNumbered};
+ghost use Rattle.kore_sig.specs.Numbered.{IsNumbered};
 ghost use Rattle.kore_check.specs.Building.{Built, AllBuilt, Extends, IsHead, left_pattern};
 ghost use Rattle.kore_check.specs.Building.{right_pattern};
 

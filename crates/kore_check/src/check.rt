@@ -6,7 +6,7 @@ ghost use Rattle.kore_check.specs.Folds.{unfolded, inner_fold, only_of, all_unfo
 ghost use Rattle.kore_check.specs.PatternSorts.{sort_of, places_of};
 ghost use Rattle.kore_check.specs.PatternFaults.{pattern_faults, argument_faults, first_wanted};
 ghost use Rattle.kore_check.specs.Notes.{kept_fault, after, sort_no};
-ghost use Rattle.kore_sig.specs.Signatures.{IsNumbered};
+ghost use Rattle.kore_sig.specs.Numbered.{IsNumbered};
 ghost use Rattle.kore_check.specs.FoldFaults.{folded_faults, next_faults};
 
 use crate::PatternFault;

@@ -1,12 +1,13 @@
 // The sort of a pattern and the rule pattern that it means, or its first fault.
 ghost use Rattle.std.specs.Prelude.{◌≡◌, List, [], ℕ, IfOk, OnOk, IfErr, OnErr, Some};
 ghost use Rattle.kore_ast.specs.Plain.{pattern_tree as plain_tree};
-ghost use Rattle.kore_sig.specs.Signatures.{IsNumbered};
+ghost use Rattle.kore_sig.specs.Numbered.{IsNumbered};
 ghost use Rattle.term_core.specs.RulePatterns.{plain_pattern};
 ghost use Rattle.rule_core.specs.Sorting.{HasSort};
 ghost use Rattle.rule_core.specs.WellSorted.{IsSignature};
 ghost use Rattle.kore_check.specs.SortedMeanings.{variable_sorts};
-ghost use Rattle.kore_check.specs.Folds.{unfolded, IsApplicative};
+ghost use Rattle.kore_check.specs.Folds.{unfolded};
+ghost use Rattle.kore_check.specs.Applicative.{IsApplicative};
 ghost use Rattle.kore_check.specs.PatternSorts.{sort_of};
 ghost use Rattle.kore_check.specs.PatternFaults.{pattern_faults, all_faults};
 ghost use Rattle.kore_check.specs.PatternMeanings.{with_variables, Means};

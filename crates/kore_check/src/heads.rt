@@ -5,9 +5,9 @@ ghost use Rattle.kore_ast.specs.Plain.{plain_sort};
 ghost use Rattle.kore_sig.specs.FirstFault.{when, unless};
 ghost use Rattle.kore_check.specs.PatternSorts.{sort_numbers, result_sort, symbol_named};
 ghost use Rattle.kore_check.specs.PatternFaults.{sort_faults, symbol_faults, is_bad_injection};
-ghost use Rattle.kore_check.specs.PatternFaults.{is_injection, has_no_kind};
+ghost use Rattle.rule_core.specs.KindTests.{is_injection, has_no_kind};
 ghost use Rattle.kore_check.specs.Notes.{kept_fault, after, sort_no};
-ghost use Rattle.kore_sig.specs.Signatures.{IsNumbered};
+ghost use Rattle.kore_sig.specs.Numbered.{IsNumbered};
 
 use crate::notes::note;
 use crate::sorts::{check_sorts, declared_sort, sort_of_symbol};

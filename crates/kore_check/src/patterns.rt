@@ -2,7 +2,7 @@
 ghost use Rattle.std.specs.Prelude.{◌≡◌, ◌++◌, List, option_map, nat_lt};
 ghost use Rattle.kore_ast.specs.Plain.{plain_sort, pattern_tree};
 ghost use Rattle.kore_sig.specs.FirstFault.{Fault, when};
-ghost use Rattle.kore_sig.specs.Signatures.{IsNumbered};
+ghost use Rattle.kore_sig.specs.Numbered.{IsNumbered};
 ghost use Rattle.kore_sig.specs.SortReferences.{sort_number};
 ghost use Rattle.kore_check.specs.Folds.{unfolded, height, unfolded_byte};
 ghost use Rattle.kore_check.specs.PatternSorts.{sort_of};

@@ -1,14 +1,13 @@
 // The declared sorts that the sorts in patterns name.
 ghost use Rattle.std.specs.Prelude.{◌≡◌, IsTrue, map, flat_map, is_some, length, slice_get};
-ghost use Rattle.std.specs.Prelude.{option_map, option_copied};
-ghost use Rattle.std.specs.Prelude.{Some, None};
+ghost use Rattle.std.specs.Prelude.{option_map, option_copied, Some, None};
 ghost use Rattle.std.specs.Option.{option_and_then};
 ghost use Rattle.kore_ast.specs.Plain.{plain_sort};
 ghost use Rattle.kore_sig.specs.SortReferences.{sort_number as number_of_sort};
 ghost use Rattle.kore_check.specs.PatternSorts.{sort_numbers, result_sort, wanted_sort};
 ghost use Rattle.kore_check.specs.PatternFaults.{sort_faults, clash_faults};
 ghost use Rattle.kore_check.specs.Notes.{kept_fault, after, sort_no};
-ghost use Rattle.kore_sig.specs.Signatures.{IsNumbered};
+ghost use Rattle.kore_sig.specs.Numbered.{IsNumbered};
 
 use crate::notes::note;
 use crate::{FaultKind, PatternFault};

@@ -9,7 +9,7 @@ ghost use Rattle.kore_check.specs.ValueTexts.{value_of_text};
 ghost use Rattle.kore_check.specs.PatternSorts.{sort_kind};
 ghost use Rattle.kore_check.specs.PatternFaults.{sort_faults, text_faults};
 ghost use Rattle.kore_check.specs.Notes.{kept_fault, after, sort_no};
-ghost use Rattle.kore_sig.specs.Signatures.{IsNumbered};
+ghost use Rattle.kore_sig.specs.Numbered.{IsNumbered};
 
 use crate::notes::note;
 use crate::sorts::check_sort;

@@ -1,7 +1,8 @@
 // The variables of a rule or of an equation, numbered by name and sort.
 ghost use Rattle.std.specs.Prelude.{◌≡◌, ◌-◌, ◌++◌, ◌∷◌, [], length, take, IfOk, OnOk, OnErr, Some};
 ghost use Rattle.std.specs.Prelude.{None, ◌≤◌, ◌^◌, IfSome, IfNone};
-ghost use Rattle.kore_check.specs.PatternMeanings.{named_sorts, variable_number, with_variable};
+ghost use Rattle.kore_check.specs.PatternMeanings.{variable_number, with_variable};
+ghost use Rattle.kore_check.specs.VariableNames.{named_sorts};
 ghost use Rattle.kore_check.specs.VariableKeys.{key_cmp, key_cmp_total, key_cmp-below, key_of};
 
 use rule_core::VarInfo;

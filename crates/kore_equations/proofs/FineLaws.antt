@@ -15,7 +15,8 @@ use Rattle.term_core.specs.RulePatterns.{plain_pattern}
 use Rattle.term_core.specs.PatternLists.{plain_patterns}
 use Rattle.kore_check.specs.Folds.{unfolded}
 use Rattle.kore_check.specs.PatternFaults.{first_wanted}
-use Rattle.kore_check.specs.PatternMeanings.{named_sorts, with_all_variables, Means, AllMean}
+use Rattle.kore_check.specs.PatternMeanings.{with_all_variables, Means, AllMean}
+use Rattle.kore_check.specs.VariableNames.{named_sorts}
 use Rattle.kore_check.specs.PatternSorts.{symbol_named}
 use Rattle.kore_shapes.specs.Forms.{all_forms, has_form, has_binder}
 use Rattle.kore_shapes.specs.Statements.{Statement}

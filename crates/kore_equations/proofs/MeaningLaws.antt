@@ -3,7 +3,8 @@ use Rattle.std.proofs.Common.{◌≡◌, ◌<◌, ◌≤◌, ℕ, ◌+◌, List,
 use Rattle.std.proofs.Common.{append_assoc, ap, sym, ◌∙◌, subst}
 use Rattle.std.proofs.lemmas.List.{append-nil, drop_all}
 use Rattle.kore_text.specs.Trees.{PatternTree}
-use Rattle.term_core.specs.Patterns.{Pattern, patterns, no_pattern}
+use Rattle.term_core.specs.Patterns.{Pattern, no_pattern}
+use Rattle.term_core.specs.Instances.{patterns}
 use Rattle.rule_core.specs.declared.signature.Signature.{Signature}
 use Rattle.kore_sig.specs.SortReferences.{sort_number}
 use Rattle.kore_check.specs.Building.{Extends}

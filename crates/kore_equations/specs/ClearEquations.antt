@@ -1,7 +1,6 @@
 -- What makes an equation readable, except that its variables are bound.
 use Rattle.std.specs.Prelude.{◌+◌, List, [], Bool, true, not, ◌&&◌, drop, Option, Some, None, codes}
-use Rattle.std.specs.Prelude.{nat_le}
-use Rattle.std.specs.Prelude.{if◌then◌else◌}
+use Rattle.std.specs.Prelude.{nat_le, if◌then◌else◌}
 use Rattle.kore_text.specs.Trees.{AxiomDeclaration}
 use Rattle.rule_core.specs.Sorting.{sort_at}
 use Rattle.rule_core.specs.declared.signature.Signature.{Signature}

@@ -5,8 +5,7 @@ use Rattle.rule_core.specs.Rules.{Equation}
 use Rattle.rule_core.specs.declared.signature.Signature.{Signature}
 use Rattle.rule_core.specs.declared.signature.SymInfo.{SymInfo}
 use Rattle.kore_check.specs.Folds.{unfolded}
-use Rattle.kore_check.specs.PatternMeanings.{with_all_variables, Means}
-use Rattle.kore_check.specs.PatternMeanings.{AllMean}
+use Rattle.kore_check.specs.PatternMeanings.{with_all_variables, Means, AllMean}
 use Rattle.kore_check.specs.PatternSorts.{symbol_named}
 use Rattle.kore_shapes.specs.Statements.{Statement}
 use Rattle.kore_shapes.specs.EquationForms.{EquationParts}

@@ -4,7 +4,7 @@ use Rattle.kore_text.specs.Trees.{AxiomDeclaration}
 use Rattle.rule_core.specs.ProgramView.{function_equation}
 use Rattle.rule_core.specs.declared.rules.Equation.{Equation as ListedEquation}
 use Rattle.rule_core.specs.declared.signature.Signature.{Signature}
-use Rattle.kore_check.specs.PatternMeanings.{named_sorts}
+use Rattle.kore_check.specs.VariableNames.{named_sorts}
 use Rattle.kore_equations.specs.EquationMeanings.{MeansEquation}
 
 -- The axiom is this equation of a program. The equation's variables have their names in the axiom.

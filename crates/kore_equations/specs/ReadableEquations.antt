@@ -2,8 +2,7 @@
 -- fault of the definition, so it only matters whether the equation has a fault, not which fault is
 -- the first.
 use Rattle.std.specs.Prelude.{◌≡◌, ◌==◌, ◌+◌, ℕ, List, [], ◌++◌, Bool, true, false, not, ◌||◌, ◌&&◌}
-use Rattle.std.specs.Prelude.{Option, Some}
-use Rattle.std.specs.Prelude.{None, is_some, length, codes, nat_le}
+use Rattle.std.specs.Prelude.{Option, Some, None, is_some, length, codes, nat_le}
 use Rattle.std.specs.List.{list_any}
 use Rattle.std.specs.Str.{bytes_eq}
 use Rattle.kore_text.specs.Trees.{SortTree, sort_parameter, sort_applied, PatternTree}
@@ -44,9 +43,8 @@ is_sort_over sig params (sort_applied at name ss) =
 
 -- both sorts are declared, and they are the same
 abbrev pub is_one_sort : Option ℕ → Option ℕ → Bool
-is_one_sort None s = false
-is_one_sort (Some n) None = false
 is_one_sort (Some n) (Some m) = n == m
+is_one_sort _ _ = false
 
 -- the equation is over such a sort, has its function's result sort, and has as many patterns as its
 -- function has arguments

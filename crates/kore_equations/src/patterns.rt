@@ -2,7 +2,7 @@
 ghost use Rattle.std.specs.Prelude.{◌≡◌, map, option_map, IfOk, OnOk};
 ghost use Rattle.term_core.specs.PatternLists.{plain_patterns};
 ghost use Rattle.rule_core.specs.WellSorted.{IsSignature};
-ghost use Rattle.kore_sig.specs.Signatures.{IsNumbered};
+ghost use Rattle.kore_sig.specs.Numbered.{IsNumbered};
 ghost use Rattle.kore_check.specs.PatternMeanings.{with_all_variables, AllMean};
 ghost use Rattle.kore_shapes.specs.Views.{pattern_at, plain_condition};
 ghost use Rattle.kore_shapes.specs.PartViews.{plain_parts};

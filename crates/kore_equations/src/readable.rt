@@ -5,7 +5,7 @@ ghost use Rattle.std.specs.Str.{bytes_eq};
 ghost use Rattle.kore_text.specs.Trees.{pattern_trees};
 ghost use Rattle.kore_ast.specs.Plain.{plain_sort, plain_axiom_decl};
 ghost use Rattle.rule_core.specs.Sorting.{sort_at as the_sort_at};
-ghost use Rattle.kore_sig.specs.Signatures.{IsNumbered};
+ghost use Rattle.kore_sig.specs.Numbered.{IsNumbered};
 ghost use Rattle.kore_check.specs.Folds.{all_unfolded};
 ghost use Rattle.kore_shapes.specs.Forms.{has_form as has_one, all_forms};
 ghost use Rattle.kore_shapes.specs.Views.{pattern_at, plain_condition};

@@ -3,7 +3,7 @@ ghost use Rattle.std.specs.Prelude.{◌≡◌, IfOk, Some};
 ghost use Rattle.kore_ast.specs.Plain.{plain_axiom_decl};
 ghost use Rattle.rule_core.specs.Named.{number_of};
 ghost use Rattle.rule_core.specs.WellSorted.{IsSignature};
-ghost use Rattle.kore_sig.specs.Signatures.{IsNumbered};
+ghost use Rattle.kore_sig.specs.Numbered.{IsNumbered};
 ghost use Rattle.kore_shapes.specs.StatementViews.{plain_statement};
 ghost use Rattle.kore_axioms.specs.AxiomClasses.{equates, class_of};
 ghost use Rattle.kore_check.specs.PatternSorts.{symbol_named};

@@ -2,7 +2,7 @@
 ghost use Rattle.std.specs.Prelude.{◌≡◌, ◌+◌, [], drop, map, option_map, nat_le};
 ghost use Rattle.kore_ast.specs.Plain.{pattern_tree};
 ghost use Rattle.rule_core.specs.Sorting.{sort_at as the_sort_at};
-ghost use Rattle.kore_sig.specs.Signatures.{IsNumbered};
+ghost use Rattle.kore_sig.specs.Numbered.{IsNumbered};
 ghost use Rattle.kore_check.specs.Folds.{heights};
 ghost use Rattle.kore_check.specs.FoldHeights.{cut};
 ghost use Rattle.rule_core.specs.Evaluation.{most_height};

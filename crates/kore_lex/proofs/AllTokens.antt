@@ -14,11 +14,11 @@ use Rattle.kore_lex.specs.declared.lexer.TokenKind.TheVariants.{Text}
 use Rattle.kore_lex.specs.declared.escape.Escape.{Escape}
 use Rattle.kore_lex.specs.declared.piece.Piece.{Piece}
 use Rattle.kore_lex.specs.declared.piece.Piece.TheVariants.{Nothing, Gap, Whole, Bad}
-use Rattle.kore_lex.specs.Escapes.{hex_digit, bind, hex_number, by_number, escape, IsInner}
+use Rattle.kore_lex.specs.Escapes.{hex_digit, bind, hex_number, by_number, escape}
+use Rattle.kore_lex.specs.Tokens.{IsInner, IsToken, IsString}
 use Rattle.kore_lex.specs.Pieces.{piece}
 use Rattle.kore_lex.specs.Lexed.{Stream, end, fault, token, lexed, onward}
-use Rattle.kore_lex.specs.Tokens.{IsToken}
-use Rattle.kore_lex.specs.Value.{IsString, plain, value}
+use Rattle.kore_lex.specs.Value.{plain, value}
 use Rattle.kore_lex.specs.Steps.{Took, run_len}
 use Rattle.kore_lex.proofs.Lexing.{Within, lexed-is, piece-within}
 use Rattle.kore_lex.proofs.Longest.{piece-longest}

@@ -12,12 +12,12 @@ use Rattle.kore_lex.specs.declared.lexer.TokenKind.TheVariants.{Ident, SetIdent,
 use Rattle.kore_lex.specs.declared.lexer.TokenKind.TheVariants.{Punct, Assign, End}
 use Rattle.kore_lex.specs.declared.piece.Piece.{Piece}
 use Rattle.kore_lex.specs.declared.piece.Piece.TheVariants.{Nothing, Gap, Whole, Bad}
-use Rattle.kore_lex.specs.Escapes.{IsInner, bad_at}
+use Rattle.kore_lex.specs.Escapes.{bad_at}
+use Rattle.kore_lex.specs.Tokens.{IsInner, IsName, IsToken, IsLongest}
 use Rattle.kore_lex.specs.Pieces.{is_space, is_letter, is_mark, word_len, line_len, block_len}
 use Rattle.kore_lex.specs.Pieces.{quote_len, block, comment, by_escapes, body_piece, by_end, string}
 use Rattle.kore_lex.specs.Pieces.{named, colon, piece}
 use Rattle.kore_lex.specs.Lexed.{Stream, end, fault, token, onward, lexed}
-use Rattle.kore_lex.specs.Tokens.{IsName, IsToken, IsLongest}
 use Rattle.kore_lex.specs.TokenLaws.{IsBlank, white, line_comment, block_comment, IsGap, nothing}
 use Rattle.kore_lex.specs.TokenLaws.{blank_then, HasBadEscape, bad_escape, IsFault, Covers}
 use Rattle.kore_lex.specs.TokenLaws.{TokensCover, fault_of, NoTokenAtFault}

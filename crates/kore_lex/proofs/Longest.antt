@@ -13,11 +13,11 @@ use Rattle.kore_lex.specs.declared.lexer.TokenKind.TheVariants.{Ident, SetIdent,
 use Rattle.kore_lex.specs.declared.lexer.TokenKind.TheVariants.{Punct, Assign, End}
 use Rattle.kore_lex.specs.declared.piece.Piece.{Piece}
 use Rattle.kore_lex.specs.declared.piece.Piece.TheVariants.{Gap, Whole, Bad}
-use Rattle.kore_lex.specs.Escapes.{further, bad_at, IsInner}
+use Rattle.kore_lex.specs.Escapes.{further, bad_at}
+use Rattle.kore_lex.specs.Tokens.{IsInner, AllWord, IsName, IsToken, IsLongest}
 use Rattle.kore_lex.specs.Pieces.{is_space, is_letter, is_word, is_mark, word_len, line_len}
 use Rattle.kore_lex.specs.Pieces.{block_len, passed, quote_len, block, comment, by_escapes}
 use Rattle.kore_lex.specs.Pieces.{body_piece, by_end, string, named, colon, piece}
-use Rattle.kore_lex.specs.Tokens.{AllWord, IsName, IsToken, IsLongest}
 use Rattle.std.proofs.lemmas.Str.{IsUtf8-from_is_utf8}
 use Rattle.kore_lex.specs.declared.lexer.Token.{Token}
 use Rattle.kore_lex.proofs.StringLaws.{no-block, quote-take}

@@ -14,11 +14,11 @@ use Rattle.kore_lex.specs.declared.lexer.TokenKind.TheVariants.{Punct, Assign}
 use Rattle.kore_lex.specs.declared.lexer.Token.{Token}
 use Rattle.kore_lex.specs.declared.piece.Piece.{Piece}
 use Rattle.kore_lex.specs.declared.piece.Piece.TheVariants.{Gap, Whole, Bad}
-use Rattle.kore_lex.specs.Escapes.{further, bad_at, IsInner}
+use Rattle.kore_lex.specs.Escapes.{further, bad_at}
+use Rattle.kore_lex.specs.Tokens.{IsInner, IsString}
 use Rattle.kore_lex.specs.Pieces.{is_space, is_letter, is_mark, word_len, line_len, block_len}
 use Rattle.kore_lex.specs.Pieces.{passed, quote_len, block, comment, by_escapes, body_piece, by_end}
 use Rattle.kore_lex.specs.Pieces.{string, named, colon, piece}
-use Rattle.kore_lex.specs.Value.{IsString}
 use Rattle.kore_lex.proofs.Lexing.{quote-within}
 
 -- a whole string has two quotes and the bytes between them

@@ -14,7 +14,7 @@ use Rattle.std.specs.Option.{IfSome}
 use lib.Utf8.{scalar}
 use Rattle.kore_lex.specs.declared.escape.Escape.{Escape}
 use Rattle.kore_lex.specs.Escapes.{hex_digit, bind, hex_number, by_number, escape, further, bad_at}
-use Rattle.kore_lex.specs.Escapes.{IsInner}
+use Rattle.kore_lex.specs.Tokens.{IsInner}
 use Rattle.kore_lex.specs.Value.{plain}
 use Rattle.kore_lex.specs.Steps.{run_len, Took, unit_len}
 use Rattle.kore_lex.proofs.Runs.{drop-past}

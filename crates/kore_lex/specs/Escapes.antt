@@ -1,7 +1,6 @@
 -- The escapes in strings (Kore language document, lexical structure).
-use Rattle.std.specs.Prelude.{◌≡◌, ℕ, zero, suc, ◌+◌, ◌*◌, ◌-◌, ◌&&◌, List, [], ◌∷◌, nat_le, ◌==◌}
+use Rattle.std.specs.Prelude.{ℕ, zero, suc, ◌+◌, ◌*◌, ◌-◌, ◌&&◌, List, [], ◌∷◌, nat_le, ◌==◌}
 use Rattle.std.specs.Prelude.{if◌then◌else◌, Option, Some, None}
-use Rattle.std.specs.Str.{IsUtf8}
 use lib.Utf8.{scalar}
 use Rattle.kore_lex.specs.declared.escape.Escape.{Escape}
 
@@ -68,8 +67,3 @@ bad_at (suc n) (c ∷ cs) = further 1 (bad_at n cs)
 bad_at zero (c ∷ cs) =
     if c == 92 then on_escape (Some 0) (λ n. further 1 (bad_at n cs)) (escape cs)
     else further 1 (bad_at 0 cs)
-
--- the bytes may be between quotes: they are UTF-8, and each backslash begins an escape
-pub record IsInner (bs : List ℕ) : Type 0 where
-  pub utf8 : IsUtf8 bs
-  pub escapes : bad_at 0 bs ≡ None

@@ -1,10 +1,7 @@
 -- The tokens of a text. At each place the piece at the head is cut off, and the rest is cut in the
 -- same way.
-use Rattle.std.specs.Prelude.{ℕ, ◌+◌, zero, suc, List, length, drop, Result, Ok, Err}
+use Rattle.std.specs.Prelude.{ℕ, ◌+◌, zero, suc, List, length, drop}
 use Rattle.kore_lex.specs.declared.lexer.TokenKind.{TokenKind}
-use Rattle.kore_lex.specs.declared.lexer.TokenKind.TheVariants.{End}
-use Rattle.kore_lex.specs.declared.lexer.Token.{Token}
-use Rattle.kore_lex.specs.declared.lexer.LexFault.{LexFault}
 use Rattle.kore_lex.specs.declared.piece.Piece.{Piece}
 use Rattle.kore_lex.specs.declared.piece.Piece.TheVariants.{Nothing, Gap, Whole, Bad}
 use Rattle.kore_lex.specs.Pieces.{piece}
@@ -31,24 +28,3 @@ lexed_by (suc n) at bs = onward (lexed_by n) at bs (piece bs)
 -- the tokens of bytes at place `at`; there are no more pieces than bytes
 unfoldable pub lexed : ℕ → List ℕ → Stream
 lexed at bs = lexed_by (length bs) at bs
-
--- the first token, the end or the fault
-abbrev pub head : Stream → Result Token LexFault
-head (end n) = Ok (record { kind = End; from = n; to = n })
-head (fault n) = Err (record { at = n })
-head (token k from to s) = Ok (record { kind = k; from = from; to = to })
-
--- the stream after the first token; an end or a fault stays
-abbrev pub tail : Stream → Stream
-tail (end n) = end n
-tail (fault n) = fault n
-tail (token k from to s) = s
-
--- a text, and the byte up to which its tokens were taken
-pub record Unread : Type 0 where
-  pub text : List ℕ
-  pub at : ℕ
-
--- the tokens that are left
-abbrev pub left : Unread → Stream
-left u = lexed u.at (drop u.at u.text)

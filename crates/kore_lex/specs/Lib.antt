@@ -2,6 +2,7 @@
 pub mod Escapes
 pub mod Pieces
 pub mod Lexed
+pub mod Unread
 pub mod Tokens
 pub mod Value
 -- Laws: what follows from that. Each is a clause of a function that does nothing.

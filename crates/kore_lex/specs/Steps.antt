@@ -1,7 +1,8 @@
 -- What the private functions that read a string say about the bytes between its quotes.
 use Rattle.std.specs.Prelude.{◌≡◌, ◌≤◌, ◌+◌, ℕ, not, List, [], ◌∷◌, ◌++◌, length, drop, take_while}
 use Rattle.std.specs.Prelude.{◌==◌, if◌then◌else◌, Option, Some, None}
-use Rattle.kore_lex.specs.Escapes.{IsInner, escape, on_escape}
+use Rattle.kore_lex.specs.Escapes.{escape, on_escape}
+use Rattle.kore_lex.specs.Tokens.{IsInner}
 use Rattle.kore_lex.specs.Value.{plain}
 
 -- how many bytes there are before the first backslash

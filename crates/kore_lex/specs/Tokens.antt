@@ -1,11 +1,13 @@
 -- Which bytes as a whole are a token of a kind, and that a token is the longest at its place (Kore
 -- language document, lexical structure).
-use Rattle.std.specs.Prelude.{◌≡◌, ◌≤◌, ◌-◌, ℕ, true, List, [], ◌∷◌, length, take, Some}
+use Rattle.std.specs.Prelude.{◌≡◌, ◌≤◌, ◌-◌, ℕ, true, List, [], ◌∷◌, length, take, Some, None}
 use Rattle.kore_lex.specs.declared.lexer.TokenKind.{TokenKind}
 use Rattle.kore_lex.specs.declared.lexer.TokenKind.TheVariants.{Ident, SetIdent, Builtin, Text}
 use Rattle.kore_lex.specs.declared.lexer.TokenKind.TheVariants.{Punct, Assign, End}
-use Rattle.kore_lex.specs.Pieces.{is_letter, is_word, is_mark, quote_len}
-use Rattle.kore_lex.specs.Escapes.{IsInner}
+use Rattle.kore_lex.specs.Pieces.{is_letter, is_word, is_mark, quote_len, piece}
+use Rattle.std.specs.Str.{IsUtf8}
+use Rattle.kore_lex.specs.Escapes.{bad_at}
+use Rattle.kore_lex.specs.declared.piece.Piece.TheVariants.{Whole}
 
 -- each byte is a letter, a digit, `'` or `-`
 abbrev pub AllWord : List ℕ → Type 0
@@ -33,3 +35,12 @@ IsToken End (c ∷ cs) = ⊥
 abbrev pub IsLongest : TokenKind → ℕ → List ℕ → Type 0
 IsLongest k n bs = IsToken k (take n bs)
     × ((j : TokenKind) (m : ℕ) → m ≤ length bs → IsToken j (take m bs) → m ≤ n)
+
+-- the bytes may be between quotes: they are UTF-8, and each backslash begins an escape
+pub record IsInner (bs : List ℕ) : Type 0 where
+  pub utf8 : IsUtf8 bs
+  pub escapes : bad_at 0 bs ≡ None
+
+-- the bytes are one whole string
+abbrev pub IsString : List ℕ → Type 0
+IsString bs = piece bs ≡ Whole Text (length bs)

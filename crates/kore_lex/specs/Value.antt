@@ -1,16 +1,9 @@
 -- The text that a string stands for.
-use Rattle.std.specs.Prelude.{◌≡◌, ℕ, zero, suc, ◌-◌, List, [], ◌∷◌, ◌++◌, length, take, drop, ◌==◌}
+use Rattle.std.specs.Prelude.{ℕ, zero, suc, ◌-◌, List, [], ◌∷◌, ◌++◌, length, take, drop, ◌==◌}
 use Rattle.std.specs.Prelude.{if◌then◌else◌, Option, Some, None}
 use Rattle.std.specs.Char.{encode_utf8}
 use Rattle.kore_lex.specs.declared.escape.Escape.{Escape}
-use Rattle.kore_lex.specs.declared.lexer.TokenKind.TheVariants.{Text}
-use Rattle.kore_lex.specs.declared.piece.Piece.TheVariants.{Whole}
 use Rattle.kore_lex.specs.Escapes.{escape}
-use Rattle.kore_lex.specs.Pieces.{piece}
-
--- the bytes are one whole string
-abbrev pub IsString : List ℕ → Type 0
-IsString bs = piece bs ≡ Whole Text (length bs)
 
 -- what an escape stands for, and then the rest; a bad escape is left out
 abbrev pub unescaped : (ℕ → List ℕ) → Option Escape → List ℕ

@@ -1,9 +1,8 @@
 // The lexer: it takes the tokens of a text one after the other.
 
 ghost use Rattle.std.specs.Prelude.{◌≡◌, ◌≢◌, ◌≤◌, ◌<◌, ◌+◌, ◌-◌, ◌^◌, length, take, drop, IfOk};
-ghost use Rattle.kore_lex.specs.Lexed.{left, head, tail};
-ghost use Rattle.kore_lex.specs.Value.{IsString};
-ghost use Rattle.kore_lex.specs.Tokens.{IsLongest};
+ghost use Rattle.kore_lex.specs.Unread.{left, head, tail};
+ghost use Rattle.kore_lex.specs.Tokens.{IsString, IsLongest};
 ghost use Rattle.kore_lex.specs.declared.lexer.TokenKind.TheVariants.{Text, End};
 
 use crate::bytes::behind;
@@ -58,7 +57,7 @@ pub struct Lexer<'a> {
 
 impl<'a> Model for Lexer<'a> {
     ghost use Rattle.std.specs.Prelude.{◌≤◌, ◌<◌, ◌^◌, length};
-    ghost use Rattle.kore_lex.specs.Lexed.{Unread};
+    ghost use Rattle.kore_lex.specs.Unread.{Unread};
 
     ghost Value = { Unread };
 

@@ -2,9 +2,9 @@
 
 ghost use Rattle.std.specs.Prelude.{◌≡◌, ◌≢◌, ◌<◌, ◌-◌, length, take, drop, slice_index, IfOk};
 ghost use Rattle.std.specs.Prelude.{string_bytes};
-ghost use Rattle.kore_lex.specs.Value.{IsString, value};
+ghost use Rattle.kore_lex.specs.Value.{value};
+ghost use Rattle.kore_lex.specs.Tokens.{IsString, IsInner};
 ghost use Rattle.kore_lex.specs.Steps.{Took, run_len};
-ghost use Rattle.kore_lex.specs.Escapes.{IsInner};
 
 use crate::bytes::{behind, first};
 use crate::escape::escape_at;

@@ -5,8 +5,7 @@ use Rattle.kore_lex.specs.declared.lexer.TokenKind.TheVariants as kind
 use Rattle.kore_lex.specs.Pieces.{is_mark}
 use Rattle.kore_lex.specs.Lexed.{lexed, Stream as Cut, end as cut_end, fault as cut_fault}
 use Rattle.kore_lex.specs.Lexed.{token as cut_token}
-use Rattle.kore_lex.specs.Tokens.{IsToken}
-use Rattle.kore_lex.specs.Value.{IsString}
+use Rattle.kore_lex.specs.Tokens.{IsToken, IsString}
 use Rattle.kore_lex.proofs.AllTokens.{AllRead, all-read, string-utf8}
 use Rattle.kore_text.specs.TokenStream.{Stream, end, fault, token, token_of, named, tokens_of}
 use Rattle.kore_print.specs.PrintLaws.{IsTextual}

@@ -3,15 +3,13 @@ use Rattle.std.proofs.Common.{◌≡◌, ℕ, ◌⊎◌, inl, inr, List, Option,
 use Rattle.std.proofs.Common.{arith}
 use Rattle.desk_io.specs.Told.{Told}
 use Rattle.desk_io.specs.KeptFiles.{KeepsFiles}
-use Rattle.desk_io.specs.Sent.{SameBytes}
+use Rattle.desk_io.specs.SinkChanges.{SameBytes}
 use Rattle.rule_core.specs.Runs.{Run, stuck, limited, stopped, unstarted}
-use Rattle.kore_prove.specs.DrillWords.{DrillRequest, IsDrill}
+use Rattle.kore_prove.specs.DrillWords.{DrillRequest, IsDrill, IsNoDrill}
 use Rattle.kore_prove.specs.RunWords.{RunRequest, IsRun}
-use Rattle.kore_prove.specs.VerifyWords.{IsVerify}
+use Rattle.kore_prove.specs.VerifyWords.{IsVerify, IsNoVerify}
 use Rattle.kore_prove.specs.BadWords.{AreBad}
 use Rattle.kore_prove.specs.Words.{IsProofFile}
-use Rattle.kore_prove.specs.DrillWords.{IsNoDrill}
-use Rattle.kore_prove.specs.VerifyWords.{IsNoVerify}
 use Rattle.kore_prove.specs.PrintedRun.{code_of, IsCodeOfRun, IsPrinted}
 use Rattle.kore_prove.specs.ProvedRun.{HoldsProof, HasWantedProof, LeavesFront}
 use Rattle.kore_prove.specs.Verdicts.{PrintsVerdictOf}

@@ -2,14 +2,15 @@
 -- come to that. A call that is to drill always can.
 use Rattle.std.proofs.Common.{◌≡◌, ℕ, ◌⊎◌, inl, inr, List, Option, None, Some, refl, sym, subst}
 use Rattle.desk_io.specs.Told.{Told, Holds}
-use Rattle.desk_io.specs.HeldFiles.{Lacks, HoldsMore}
+use Rattle.desk_io.specs.MissingFiles.{Lacks, HoldsMore}
 use Rattle.desk_io.specs.Counts.{CountRose}
 use Rattle.rule_core.specs.Theories.{RewriteTheory}
 use Rattle.kore_rules.specs.Acceptance.{IsAccepted}
 use Rattle.kore_rules.specs.Refused.{IsRefused, IsRefusedTerm}
 use Rattle.kore_prove.specs.RunWords.{RunRequest, IsRun}
 use Rattle.kore_prove.specs.VerifyWords.{IsVerify}
-use Rattle.kore_prove.specs.Limits.{HoldsWithin, definition_limit, term_limit, database_limit}
+use Rattle.kore_prove.specs.Limits.{HoldsWithin, definition_limit, term_limit}
+use Rattle.kore_prove.specs.Verdicts.{database_limit}
 use Rattle.kore_prove.specs.Files.{HoldsProgram}
 use Rattle.kore_prove.specs.Reports.{Ending, out_of_memory, bad_words, read_fault, write_fault}
 use Rattle.kore_prove.specs.Reports.{no_such_file, definition_refused, term_refused, too_large}

@@ -4,8 +4,8 @@ use Rattle.std.proofs.Common.{refl, sym, ◌∙◌, ap, subst, arith}
 use Rattle.std.proofs.lemmas.List.{append-nil}
 use Rattle.desk_io.specs.Told.{Told, Holds, file_of}
 use Rattle.desk_io.specs.KeptFiles.{KeepsFiles}
-use Rattle.desk_io.specs.HeldFiles.{Lacks, HoldsMore}
-use Rattle.desk_io.specs.Sent.{SameBytes}
+use Rattle.desk_io.specs.MissingFiles.{Lacks, HoldsMore}
+use Rattle.desk_io.specs.SinkChanges.{SameBytes}
 use Rattle.desk_io.specs.declared.read.ReadEnd.TheVariants as read
 use Rattle.desk_io.proofs.Counts.{CountRose-later}
 use Rattle.kore_axioms.specs.declared.refusals.Refusal.TheVariants as refusal

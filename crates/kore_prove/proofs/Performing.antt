@@ -5,7 +5,8 @@ use Rattle.desk_io.specs.Told.{Told, Holds}
 use Rattle.desk_io.specs.KeptFiles.{KeepsFiles, KeepsOthers}
 use Rattle.desk_io.specs.HeldFiles.{TellsNow}
 use Rattle.desk_io.specs.Counts.{CountRose}
-use Rattle.desk_io.specs.Sent.{Appends, AppendsFront}
+use Rattle.desk_io.specs.Sent.{Appends}
+use Rattle.desk_io.specs.SinkChanges.{AppendsFront}
 use Rattle.desk_io.specs.declared.desk.DeskFault.{DeskFault}
 use Rattle.desk_io.specs.declared.desk.DeskFault.TheVariants as fault
 use Rattle.term_core.specs.Patterns.{Pattern, ground_pattern}

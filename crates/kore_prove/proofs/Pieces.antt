@@ -5,7 +5,8 @@ use Rattle.std.specs.List.{flat_map}
 use Rattle.std.specs.Borrow.{Bor}
 use Rattle.std.proofs.lemmas.List.{take_more, take-append-drop, append-nil}
 use Rattle.std.proofs.lemmas.List.Concat.{flat_map-append}
-use Rattle.desk_io.specs.Sent.{Appends, AppendsFront}
+use Rattle.desk_io.specs.Sent.{Appends}
+use Rattle.desk_io.specs.SinkChanges.{AppendsFront}
 
 -- the concatenation of the pieces
 abbrev pub joined : List (Bor (List ℕ)) → List ℕ

@@ -2,8 +2,8 @@
 -- its counts say something.
 use Rattle.std.specs.Prelude.{◌≡◌, ℕ, ◌⊎◌, List, ◌++◌, Option, None, Some}
 use Rattle.desk_io.specs.Told.{Told}
-use Rattle.desk_io.specs.HeldFiles.{Lacks, HoldsMore}
-use Rattle.desk_io.specs.Sent.{SameBytes}
+use Rattle.desk_io.specs.MissingFiles.{Lacks, HoldsMore}
+use Rattle.desk_io.specs.SinkChanges.{SameBytes}
 use Rattle.desk_io.specs.Counts.{CountRose}
 use Rattle.term_core.specs.Patterns.{Pattern}
 use Rattle.rule_core.specs.Theories.{RewriteTheory}
@@ -14,14 +14,14 @@ use Rattle.kore_prove.specs.RunWords.{RunRequest, IsRun}
 use Rattle.kore_prove.specs.VerifyWords.{IsVerify}
 use Rattle.kore_prove.specs.BadWords.{AreBad}
 use Rattle.kore_prove.specs.Courses.{Course, Call}
-use Rattle.kore_prove.specs.CountedFaults.{CountsReadFault, CountsWriteFault}
-use Rattle.kore_prove.specs.CountedFaults.{CountsOutputFault}
-use Rattle.kore_prove.specs.Limits.{HoldsWithin, definition_limit, term_limit, database_limit}
+use Rattle.kore_prove.specs.CountedFaults.{CountsReadFault, CountsWriteFault, CountsOutputFault}
+use Rattle.kore_prove.specs.Limits.{HoldsWithin, definition_limit, term_limit}
+use Rattle.kore_prove.specs.Verdicts.{database_limit}
 use Rattle.kore_prove.specs.Files.{HoldsProgram, HoldsRun}
 use Rattle.kore_prove.specs.DrillProgram.{IsDrillProgram}
 use Rattle.kore_prove.specs.Reports.{Ending, out_of_memory, bad_words, read_fault, write_fault}
-use Rattle.kore_prove.specs.Reports.{no_such_file}
-use Rattle.kore_prove.specs.Reports.{definition_refused, term_refused, too_large, Reports}
+use Rattle.kore_prove.specs.Reports.{no_such_file, definition_refused, term_refused, too_large}
+use Rattle.kore_prove.specs.Reports.{Reports}
 
 -- the definition was read and accepted
 abbrev pub HasProgram : RunRequest → Option Told → Type 0

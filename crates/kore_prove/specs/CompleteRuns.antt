@@ -8,8 +8,7 @@ use Rattle.kore_rules.specs.Refused.{IsRefused, IsRefusedTerm}
 use Rattle.kore_prove.specs.Limits.{HoldsWithin, definition_limit, term_limit}
 use Rattle.kore_prove.specs.RunWords.{RunRequest, IsRun}
 use Rattle.kore_prove.specs.Courses.{Course, Call}
-use Rattle.kore_prove.specs.CountedFaults.{CountsReadFault, CountsWriteFault}
-use Rattle.kore_prove.specs.CountedFaults.{CountsOutputFault}
+use Rattle.kore_prove.specs.CountedFaults.{CountsReadFault, CountsWriteFault, CountsOutputFault}
 
 -- the bytes have no first fault of a definition
 abbrev pub IsFaultless : List ℕ → Type 0

@@ -1,7 +1,8 @@
 -- Which calls print a verdict, unless a fault is counted or memory runs out.
 use Rattle.std.specs.Prelude.{◌≡◌, ◌⊎◌, ℕ, List, Option, Some, None}
 use Rattle.desk_io.specs.Told.{Told}
-use Rattle.kore_prove.specs.Limits.{HoldsWithin, database_limit}
+use Rattle.kore_prove.specs.Limits.{HoldsWithin}
+use Rattle.kore_prove.specs.Verdicts.{database_limit}
 use Rattle.kore_prove.specs.VerifyWords.{IsVerify}
 use Rattle.kore_prove.specs.Courses.{Call}
 use Rattle.kore_prove.specs.CountedFaults.{CountsReadFault, CountsOutputFault}

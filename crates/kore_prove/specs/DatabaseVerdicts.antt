@@ -6,8 +6,9 @@ use Rattle.mm_database.specs.Assertions.{axiom_count, theorem_count}
 use Rattle.desk_io.specs.Told.{Told}
 use Rattle.kore_prove.specs.declared.verification.Verdict.{Verdict}
 use Rattle.kore_prove.specs.declared.verification.Verdict.TheVariants as verdict
-use Rattle.kore_prove.specs.Limits.{HoldsWithin, database_limit}
-use Rattle.kore_prove.specs.Verdicts.{valid_line, invalid_line, SaysValid, SaysInvalid}
+use Rattle.kore_prove.specs.Limits.{HoldsWithin}
+use Rattle.kore_prove.specs.Verdicts.{database_limit, valid_line, invalid_line, SaysValid}
+use Rattle.kore_prove.specs.Verdicts.{SaysInvalid}
 
 -- the bytes are not a valid database, and this is their first fault
 pub record IsInvalidBy (bytes : List ℕ) (fault : MmFault) : Type 0 where

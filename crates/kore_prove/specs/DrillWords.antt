@@ -1,8 +1,7 @@
 -- Words that ask for a drill, as clap's definition of the command takes them.
 use Rattle.std.specs.Prelude.{◌≡◌, ℕ, List, true, false, Some, option_map, codes}
 use Rattle.std.specs.Str.Parse.{digits_value}
-use Rattle.command_words.specs.CommandLine.{drill_app, value_of}
-use Rattle.command_words.specs.CommandLine.{is_named, are_bad}
+use Rattle.command_words.specs.CommandLine.{drill_app, value_of, is_named, are_bad}
 
 -- a request for a drill: the number of its steps, and the name of the file for the proof
 pub record DrillRequest : Type 0 where

@@ -2,7 +2,7 @@
 use Rattle.std.specs.Prelude.{ℕ, List, Option}
 use Rattle.desk_io.specs.Told.{Told}
 use Rattle.desk_io.specs.KeptFiles.{KeepsFiles}
-use Rattle.desk_io.specs.HeldFiles.{Lacks, HoldsMore}
+use Rattle.desk_io.specs.MissingFiles.{Lacks, HoldsMore}
 use Rattle.desk_io.specs.Counts.{CountRose}
 use Rattle.desk_io.specs.declared.read.ReadEnd.{ReadEnd}
 use Rattle.desk_io.specs.declared.read.ReadEnd.TheVariants as read
@@ -12,8 +12,7 @@ use Rattle.kore_prove.specs.declared.files.FileEnd.{FileEnd}
 use Rattle.kore_prove.specs.declared.files.FileEnd.TheVariants as file
 use Rattle.kore_prove.specs.Limits.{HoldsWithin}
 use Rattle.kore_prove.specs.Reports.{Ending, out_of_memory, bad_words, read_fault, write_fault}
-use Rattle.kore_prove.specs.Reports.{no_such_file}
-use Rattle.kore_prove.specs.Reports.{definition_refused, term_refused, too_large}
+use Rattle.kore_prove.specs.Reports.{no_such_file, definition_refused, term_refused, too_large}
 
 -- the file of that name holds bytes within the limit that are refused with this fault
 abbrev pub HoldsWhat : (List ℕ → Fault → Type 0) → Option Told → List ℕ → ℕ → Fault → Type 0

@@ -9,9 +9,6 @@ definition_limit = 33554432
 abbrev pub term_limit : ℕ
 term_limit = 1048576
 
-abbrev pub database_limit : ℕ
-database_limit = 268435456
-
 -- the file of that name holds these bytes, and they are within the limit
 abbrev pub HoldsWithin : Option Told → List ℕ → ℕ → List ℕ → Type 0
 HoldsWithin told name limit bytes = Holds told name bytes × (length bytes ≤ limit)

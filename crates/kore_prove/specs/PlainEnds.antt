@@ -4,8 +4,7 @@ use Rattle.desk_io.specs.declared.desk.DeskFault.TheVariants as fault
 use Rattle.kore_prove.specs.declared.report.End.{End}
 use Rattle.kore_prove.specs.declared.report.End.TheVariants as end
 use Rattle.kore_prove.specs.Reports.{Ending, out_of_memory, bad_words, read_fault, write_fault}
-use Rattle.kore_prove.specs.Reports.{no_such_file}
-use Rattle.kore_prove.specs.Reports.{definition_refused, term_refused, too_large}
+use Rattle.kore_prove.specs.Reports.{no_such_file, definition_refused, term_refused, too_large}
 
 -- the end in the terms of the definitions
 abbrev pub plain_end : End → Ending

@@ -7,7 +7,7 @@ use Rattle.term_core.specs.Patterns.{Pattern}
 use Rattle.rule_core.specs.Theories.{RewriteTheory}
 use Rattle.rule_core.specs.Runs.{Run, kept_by}
 use Rattle.mm_justify.specs.Justifying.{JustifiesRun, IsFrontOfProof}
-use Rattle.kore_prove.specs.RunWords.{RunRequest, IsRun, IsProofRun}
+use Rattle.kore_prove.specs.RunWords.{RunRequest, IsRun, proof}
 use Rattle.kore_prove.specs.Courses.{Call}
 use Rattle.kore_prove.specs.Files.{HoldsRun}
 use Rattle.kore_prove.specs.PrintedRun.{IsCodeOfRun, IsPrinted}
@@ -69,3 +69,7 @@ abbrev pub LeavesFrontOfRun : Call → Type 0
 LeavesFrontOfRun c =
     (asked : RunRequest) → IsRun c.words asked
     → LeavesFront asked c.course.desk.told c.course.desk'.told
+
+-- the words are good, and ask for a run whose proof goes to this file
+abbrev pub IsProofRun : List (List ℕ) → List ℕ → Type 0
+IsProofRun words file = (asked : RunRequest) × IsRun words asked × (asked.proof ≡ Some file)

@@ -1,7 +1,8 @@
 -- How a call that prints no run ends: its exit code, and the line on the error stream that states
 -- the reason.
 use Rattle.std.specs.Prelude.{◌≡◌, ℕ, ◌⊎◌, List, [], ◌∷◌, ◌++◌, Option, codes, decimal}
-use Rattle.desk_io.specs.Sent.{Appends, AppendsFront}
+use Rattle.desk_io.specs.Sent.{Appends}
+use Rattle.desk_io.specs.SinkChanges.{AppendsFront}
 use Rattle.desk_io.specs.Counts.{CountRose}
 
 -- why a call ended; the names are names of files; the numbers are the number of a refusal and the

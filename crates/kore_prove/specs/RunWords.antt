@@ -2,8 +2,7 @@
 use Rattle.std.specs.Prelude.{◌≡◌, ℕ, List, true, false, Option, Some, option_map, codes}
 use Rattle.std.specs.Option.{option_map_or}
 use Rattle.std.specs.Str.Parse.{digits_value}
-use Rattle.command_words.specs.CommandLine.{run_app, value_of, usual_calls}
-use Rattle.command_words.specs.CommandLine.{is_named, are_bad}
+use Rattle.command_words.specs.CommandLine.{run_app, value_of, usual_calls, is_named, are_bad}
 
 -- a request for a run: the names of the files with the definition and the term, the greatest
 -- numbers of steps and of calls of functions, and the name of the file for the proof, if one is
@@ -26,7 +25,3 @@ pub record IsRun (words : List (List ℕ)) (asked : RunRequest) : Type 0 where
   pub calls : asked.calls
       ≡ option_map_or (digits_value 10) (value_of run_app words (codes "calls")) usual_calls
   pub proof : asked.proof ≡ value_of run_app words (codes "proof")
-
--- the words are good, and ask for a run whose proof goes to this file
-abbrev pub IsProofRun : List (List ℕ) → List ℕ → Type 0
-IsProofRun words file = (asked : RunRequest) × IsRun words asked × (asked.proof ≡ Some file)

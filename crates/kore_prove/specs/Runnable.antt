@@ -5,7 +5,7 @@ use Rattle.rule_core.specs.WellSorted.{IsWellSorted, IsStart}
 use Rattle.rule_core.specs.BoundVariables.{HasBoundVariables}
 use Rattle.rule_core.specs.declared.rules.Program.{Program}
 use Rattle.fun_eval.specs.Evaluable.{HasNumbers}
-use Rattle.kore_sig.specs.Signatures.{IsNumbered}
+use Rattle.kore_sig.specs.Numbered.{IsNumbered}
 use Rattle.kore_rules.specs.Names.{HasIdentifierNames}
 use Rattle.kore_rules.specs.RefusedTexts.{top_of, IsSortOfRules}
 use Rattle.kore_prove.specs.declared.files.Accepted.{Accepted}

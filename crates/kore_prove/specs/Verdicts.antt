@@ -6,7 +6,6 @@ use Rattle.mm_database.specs.Validity.{IsValid, IsFirstFault}
 use Rattle.mm_database.specs.Assertions.{axiom_count, theorem_count}
 use Rattle.desk_io.specs.Told.{Told, file_of}
 use Rattle.desk_io.specs.Sent.{Appends}
-use Rattle.kore_prove.specs.Limits.{database_limit}
 use Rattle.kore_prove.specs.VerifyWords.{IsVerify}
 use Rattle.kore_prove.specs.Courses.{Call}
 
@@ -53,3 +52,6 @@ PrintsVerdictOf words (Some told) before after code =
 abbrev pub PrintsVerdict : Call → ℕ → Type 0
 PrintsVerdict c code =
     PrintsVerdictOf c.words c.course.desk.told c.course.out.bytes c.course.out'.bytes code
+
+abbrev pub database_limit : ℕ
+database_limit = 268435456

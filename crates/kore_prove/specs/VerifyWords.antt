@@ -1,7 +1,6 @@
 -- Words that ask to verify a database, as clap's definition of the command takes them.
 use Rattle.std.specs.Prelude.{◌≡◌, ℕ, List, true, false, Some, codes}
-use Rattle.command_words.specs.CommandLine.{verify_app, value_of}
-use Rattle.command_words.specs.CommandLine.{is_named, are_bad}
+use Rattle.command_words.specs.CommandLine.{verify_app, value_of, is_named, are_bad}
 
 -- the words are good, and ask to verify the database in this file
 pub record IsVerify (words : List (List ℕ)) (file : List ℕ) : Type 0 where

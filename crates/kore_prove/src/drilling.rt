@@ -2,7 +2,8 @@
 // counts of that.
 ghost use Rattle.std.specs.Prelude.{◌≡◌, ◌≤◌, ◌++◌, IsFalse, IfOk, IfErr, OnOk, OnErr, IsErrOf};
 ghost use Rattle.command_words.specs.CommandLine.{most_drilled};
-ghost use Rattle.desk_io.specs.Sent.{Appends, AppendsFront};
+ghost use Rattle.desk_io.specs.Sent.{Appends};
+ghost use Rattle.desk_io.specs.SinkChanges.{AppendsFront};
 ghost use Rattle.desk_io.specs.Counts.{CountRose};
 ghost use Rattle.kore_rules.specs.RefusedTexts.{RefusesFor};
 ghost use Rattle.rule_core.specs.ProgramView.{theory_of};

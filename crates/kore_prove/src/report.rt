@@ -2,7 +2,8 @@
 ghost use Rattle.std.specs.Prelude.{◌≡◌, ◌≤◌, ◌++◌, [], ◌∷◌, List, ℕ, OnOk, OnErr, IsErrOf};
 ghost use Rattle.std.specs.List.{flat_map};
 ghost use Rattle.std.specs.Borrow.{Bor};
-ghost use Rattle.desk_io.specs.Sent.{Appends, AppendsFront};
+ghost use Rattle.desk_io.specs.Sent.{Appends};
+ghost use Rattle.desk_io.specs.SinkChanges.{AppendsFront};
 ghost use Rattle.desk_io.specs.Counts.{CountRose};
 ghost use Rattle.kore_prove.specs.Reports.{end_code, refusal, report_line};
 ghost use Rattle.kore_prove.specs.PlainEnds.{fault_end, plain_end};

@@ -1,16 +1,16 @@
 // The verdict on a database, and its line.
 ghost use Rattle.std.specs.Prelude.{◌≡◌, ◌≤◌, List, ℕ, Option, IfOk, IfErr, OnOk, OnErr, IsErrOf};
 ghost use Rattle.desk_io.specs.KeptFiles.{KeepsFiles};
-ghost use Rattle.desk_io.specs.Sent.{Appends, AppendsFront};
+ghost use Rattle.desk_io.specs.Sent.{Appends};
+ghost use Rattle.desk_io.specs.SinkChanges.{AppendsFront};
 ghost use Rattle.desk_io.specs.Counts.{CountRose};
 ghost use Rattle.kore_prove.specs.FileCauses.{UnreadCause};
 ghost use Rattle.kore_prove.specs.Causes.{VerifyCause, KeepsOutput};
 ghost use Rattle.kore_prove.specs.Courses.{Course, course_of};
-ghost use Rattle.kore_prove.specs.Limits.{database_limit};
+ghost use Rattle.kore_prove.specs.Verdicts.{database_limit, valid_line, invalid_line};
 ghost use Rattle.kore_prove.specs.PlainEnds.{plain_end};
 ghost use Rattle.kore_prove.specs.DatabaseVerdicts.{IsVerdictOn, HoldsDatabase, PrintsVerdictOn};
 ghost use Rattle.kore_prove.specs.DatabaseVerdicts.{verdict_code, verdict_line};
-ghost use Rattle.kore_prove.specs.Verdicts.{valid_line, invalid_line};
 
 use crate::report::{End, send_pieces};
 use desk_io::{Desk, DeskFault, ReadEnd, Sink, read_file};

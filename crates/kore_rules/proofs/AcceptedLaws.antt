@@ -24,9 +24,9 @@ use Rattle.kore_axioms.specs.AxiomClasses.{class_of_statement, is_no_equation, t
 use Rattle.kore_axioms.specs.AxiomClasses.{states_pairs}
 use Rattle.kore_rules.specs.Programs.{IsTopOf}
 use Rattle.kore_rules.specs.Acceptance.{IsAccepted}
-use Rattle.kore_rules.specs.Refused.{IsRefused, IsRefusedTerm, HasTextFault}
+use Rattle.kore_rules.specs.Refused.{IsRefused, IsRefusedTerm, HasTextFault, FirstOfDefinition}
 use Rattle.kore_rules.specs.AxiomsRead.{AreFew}
-use Rattle.kore_rules.specs.FirstRefusal.{FirstOfAxioms, FirstOfDefinition, FirstOfTerm}
+use Rattle.kore_rules.specs.FirstRefusal.{FirstOfAxioms, FirstOfTerm}
 use Rattle.kore_rules.specs.MadePrograms.{IsMadeOf, ListsOwnEquations}
 use Rattle.kore_text.specs.Identifiers.{NamesAreIdentifiers}
 use Rattle.rule_core.specs.WellSorted.{IsWellSorted}

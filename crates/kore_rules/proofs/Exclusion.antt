@@ -15,7 +15,8 @@ use Rattle.kore_rules.specs.AcceptanceLaws.{TextFaultIsOne, TermTextFaultIsOne}
 use Rattle.kore_rules.specs.AcceptanceLaws.{SpelledDefinitionIsFaultless, SpelledPatternIsFaultless}
 use Rattle.kore_rules.specs.AcceptanceLaws.{AcceptedIsNotRefused, RefusalIsOne}
 use Rattle.kore_rules.specs.AcceptanceLaws.{AcceptedTermIsNotRefused, TermRefusalIsOne, StartIsOne}
-use Rattle.kore_rules.specs.FirstRefusal.{FirstOfAxioms, FirstOfDefinition, FirstOfTerm}
+use Rattle.kore_rules.specs.FirstRefusal.{FirstOfAxioms, FirstOfTerm}
+use Rattle.kore_rules.specs.Refused.{FirstOfDefinition}
 use Rattle.kore_rules.proofs.AlikeSignatures.{axioms_alike}
 use Rattle.kore_rules.proofs.MeaningsAreOne.{means_one}
 use Rattle.kore_rules.proofs.OneFault.{term_is_one, axioms_are_one}

@@ -9,7 +9,8 @@ use Rattle.kore_sig.specs.FirstFault.{Fault, ByByte, ByNumber, IsFirstBy}
 use Rattle.kore_check.specs.Folds.{Unfolded, named_variable, written_value, applied_symbol}
 use Rattle.kore_check.specs.Folds.{other_form, Unfoldeds, no_more, and_more, standing_at}
 use Rattle.kore_check.specs.Folds.{applied_to_two, folded_left, folded_right, unfolded}
-use Rattle.kore_check.specs.Folds.{all_unfolded, inner_fold, IsApplicative, AreApplicative}
+use Rattle.kore_check.specs.Folds.{all_unfolded, inner_fold}
+use Rattle.kore_check.specs.Applicative.{IsApplicative, AreApplicative}
 use Rattle.kore_check.specs.PatternMeanings.{with_variables, with_all_variables}
 use Rattle.kore_rules.specs.GroundTerms.{ground_faults, all_ground_faults, folded_ground_faults}
 

@@ -10,7 +10,8 @@ use Rattle.std.proofs.lemmas.Option.{slice_get-map, slice_get-get_or, slice_get_
 use Rattle.std.proofs.lemmas.List.FromFn.{length-range_with_len, get_or-range_with_len}
 use Rattle.std.proofs.lemmas.List.Quantifiers.{position-Some}
 use Rattle.std.proofs.lemmas.Slice.Eq.{bytes_eq-Decides}
-use Rattle.term_core.specs.HookValues.{Hook, hooks, signature}
+use Rattle.term_core.specs.HookValues.{Hook, hooks}
+use Rattle.term_core.specs.HookSignatures.{signature}
 use Rattle.term_core.specs.HookValues as hook
 use Rattle.hook_table.specs.Names.{hook_number, NamesDiffer}
 use Rattle.kore_text.specs.Trees.{AxiomDeclaration}
@@ -20,7 +21,7 @@ use Rattle.rule_core.specs.declared.signature.SymInfo.{SymInfo}
 use Rattle.rule_core.specs.declared.signature.SymKind.{SymKind}
 use Rattle.rule_core.specs.declared.signature.SymKind.TheVariants.{Injection, Ctor, Equations}
 use Rattle.rule_core.specs.declared.signature.SymKind.TheVariants.{Hooked, Closed, NoKind}
-use Rattle.kore_axioms.specs.AxiomClasses.{is_defined_kind}
+use Rattle.rule_core.specs.KindTests.{is_defined_kind}
 use Rattle.kore_equations.specs.EquationMeanings.{IsUnreadable}
 use Rattle.kore_rules.specs.Programs.{HasFittingHook, HasKind, as_declared, by_hook, without_hook}
 use Rattle.kore_rules.specs.Programs.{by_unreadable, by_equations}

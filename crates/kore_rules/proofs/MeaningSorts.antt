@@ -22,7 +22,7 @@ use Rattle.rule_core.specs.declared.signature.SymKind.TheVariants.{Hooked, Close
 use Rattle.kore_sig.specs.SortReferences.{sort_number}
 use Rattle.kore_check.specs.Folds.{Unfolded, Unfoldeds, no_more, and_more, named_variable}
 use Rattle.kore_check.specs.Folds.{written_value, applied_symbol, other_form, unfolded_byte}
-use Rattle.kore_check.specs.Folds.{IsApplicative, AreApplicative}
+use Rattle.kore_check.specs.Applicative.{IsApplicative, AreApplicative}
 use Rattle.kore_check.specs.PatternFaults.{pattern_faults, clash_faults}
 use Rattle.kore_check.specs.PatternMeanings.{Means, by_variable, by_value, by_symbol, AllMean}
 use Rattle.kore_check.specs.PatternMeanings.{none_mean, more_mean, applied_pattern, injected_only}
@@ -42,7 +42,8 @@ use Rattle.kore_axioms.specs.RuleFaults.{faults_at_sort}
 use Rattle.kore_equations.proofs.MeaningLaws.{all_variables_extend}
 use Rattle.kore_axioms.specs.Uses.{has_symbol, have_symbol, is_plain_function}
 use Rattle.kore_axioms.specs.Uses.{is_plain_function_with, is_ac_symbol, is_ac_with}
-use Rattle.kore_axioms.specs.Uses.{is_function_kind, occurs_in, occurs_in_some, is_bound_by}
+use Rattle.kore_axioms.specs.Uses.{occurs_in, occurs_in_some, is_bound_by}
+use Rattle.rule_core.specs.KindTests.{is_function_kind}
 use Rattle.kore_axioms.specs.Uses.{are_bound_by}
 
 some_same : {X : Type 0} (x y : X) → Some x ≡ Some y → x ≡ y

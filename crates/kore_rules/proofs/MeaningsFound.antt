@@ -28,7 +28,8 @@ use Rattle.kore_check.specs.Folds.{Unfolded, named_variable, written_value, appl
 use Rattle.kore_check.specs.Folds.{other_form, Unfoldeds, no_more, and_more, count, height}
 use Rattle.kore_check.specs.Folds.{unfolded_byte, unfolded}
 use Rattle.rule_core.specs.Evaluation.{most_height}
-use Rattle.kore_check.specs.PatternFaults.{pattern_faults, all_faults, has_no_kind}
+use Rattle.kore_check.specs.PatternFaults.{pattern_faults, all_faults}
+use Rattle.rule_core.specs.KindTests.{has_no_kind}
 use Rattle.kore_check.specs.PatternMeanings.{variable_number, with_variable, with_variables}
 use Rattle.kore_check.specs.PatternMeanings.{with_all_variables, injected_only, applied_pattern}
 use Rattle.kore_check.specs.PatternMeanings.{IsNamed, Means, by_variable, by_value, by_symbol}

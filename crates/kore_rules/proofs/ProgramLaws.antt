@@ -13,11 +13,12 @@ use Rattle.std.proofs.lemmas.List.Sums.{sum_by-cons, length-filter, count_by-le-
 use Rattle.std.proofs.lemmas.List.Sorted.{IsPermutation-sym, Contains-permutation}
 use Rattle.std.proofs.lemmas.List.Sorted.{length_permutation}
 use Rattle.kore_text.specs.Trees.{AxiomDeclaration}
-use Rattle.rule_core.specs.Named.{number_of, names_of, AreDistinct}
+use Rattle.rule_core.specs.Named.{number_of}
+use Rattle.rule_core.specs.DistinctNames.{names_of, AreDistinct}
 use Rattle.rule_core.specs.ProgramView.{rewrite_rule, function_equation, function_equations}
 use Rattle.rule_core.specs.Rules.{RewriteRule, ComesBefore}
 use Rattle.rule_core.specs.Rules as plain
-use Rattle.rule_core.specs.TrialOrder.{AreInOrder}
+use Rattle.rule_core.specs.Rules.{AreInOrder}
 use Rattle.rule_core.specs.declared.rules.Equation.{Equation}
 use Rattle.rule_core.specs.declared.rules.Rule.{Rule}
 use Rattle.rule_core.specs.declared.signature.Signature.{Signature}
@@ -28,7 +29,7 @@ use Rattle.rule_core.proofs.Tables.{number_of-entry}
 use Rattle.kore_sig.proofs.ListLaws.{number_within}
 use Rattle.kore_sig.proofs.FirstLaws.{contains_here, contains_there, contains_cases, contains_none}
 use Rattle.kore_check.specs.PatternSorts.{symbol_named}
-use Rattle.kore_axioms.specs.AxiomClasses.{is_defined_kind}
+use Rattle.rule_core.specs.KindTests.{is_defined_kind}
 use Rattle.kore_axioms.specs.AxiomMeanings.{MeansRule}
 use Rattle.kore_axioms.specs.NamedRules.{MeansNamedRule}
 use Rattle.kore_equations.specs.EquationMeanings.{MeansEquation, IsUnreadable}

@@ -27,7 +27,8 @@ use Rattle.kore_sig.proofs.FirstLaws.{contains_here, contains_there, contains_ca
 use Rattle.kore_sig.proofs.ListLaws.{number_within}
 use Rattle.kore_shapes.specs.Shapes.{Rewriting}
 use Rattle.kore_axioms.specs.AxiomClasses.{AxiomClass, refused, orders_sorts, rewrites, equates}
-use Rattle.kore_axioms.specs.AxiomClasses.{passed_over, class_of, is_defined_kind}
+use Rattle.kore_axioms.specs.AxiomClasses.{passed_over, class_of}
+use Rattle.rule_core.specs.KindTests.{is_defined_kind}
 use Rattle.kore_axioms.specs.AxiomMeanings.{MeansRule}
 use Rattle.kore_axioms.specs.RuleFaults.{FirstOfRule}
 use Rattle.kore_equations.specs.EquationMeanings.{MeansEquation, IsUnreadable}

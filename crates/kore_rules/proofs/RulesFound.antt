@@ -23,8 +23,9 @@ use Rattle.kore_shapes.specs.Statements.{Statement}
 use Rattle.kore_shapes.specs.EquationForms.{EquationParts}
 use Rattle.kore_axioms.specs.AxiomClasses.{AxiomClass, refused, orders_sorts, rewrites, equates}
 use Rattle.kore_axioms.specs.AxiomClasses.{passed_over, class_of}
-use Rattle.kore_axioms.specs.AxiomMeanings.{with_some_variables, MeansTest, MeansRule}
+use Rattle.kore_axioms.specs.AxiomMeanings.{MeansTest, MeansRule}
 use Rattle.kore_axioms.specs.BuiltRules.{IsFine}
+use Rattle.kore_axioms.specs.NamedRules.{with_some_variables}
 use Rattle.kore_axioms.specs.Conditions.{tested}
 use Rattle.kore_axioms.specs.Priorities.{priority_of}
 use Rattle.kore_axioms.specs.RuleFaults.{FirstOfRule, listed, is_bound, sorted_faults, use_faults}

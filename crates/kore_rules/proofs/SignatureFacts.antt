@@ -11,7 +11,7 @@ use Rattle.std.proofs.lemmas.Slice.Eq.{bytes_eq-Decides}
 use Rattle.kore_text.specs.Trees.{SymbolDeclaration, Declaration, import_declaration}
 use Rattle.kore_text.specs.Trees.{sort_declaration, symbol_declaration, alias_declaration}
 use Rattle.kore_text.specs.Trees.{axiom_declaration, claim_declaration, DefinitionTree}
-use Rattle.rule_core.specs.Named.{names_of, IsNoneOf, AreDistinct}
+use Rattle.rule_core.specs.DistinctNames.{names_of, IsNoneOf, AreDistinct}
 use Rattle.rule_core.specs.Subsorts.{HasNoCycle, IsBelow, by_pair, by_chain}
 use Rattle.rule_core.specs.WellSorted.{IsSignature}
 use Rattle.rule_core.specs.declared.signature.Signature.{Signature}
@@ -20,7 +20,7 @@ use Rattle.rule_core.specs.declared.signature.SymInfo.{SymInfo}
 use Rattle.kore_sig.specs.CountedModules.{counted_declarations}
 use Rattle.kore_sig.specs.Declarations.{SubsortPair, symbol_declared, symbols_of, pairs_of}
 use Rattle.kore_sig.specs.FirstFault.{Fault, when, ByNumber, IsFirstBy, IsFirstOfSequence}
-use Rattle.kore_sig.specs.Names.{is_among}
+use Rattle.rule_core.specs.Named.{is_among}
 use Rattle.kore_sig.specs.SignatureFaults.{Placed, placed, Before, nothing_declared, declared_after}
 use Rattle.kore_sig.specs.SignatureFaults.{declaration_faults, reference_faults, most_arguments}
 use Rattle.kore_sig.specs.SignatureFaults.{HasPairFault, cycle, with_numbers, pairs_after}

@@ -21,7 +21,7 @@ use Rattle.rule_core.specs.declared.signature.SymInfo.{SymInfo}
 use Rattle.kore_sig.specs.Attributes.{hook_of}
 use Rattle.kore_sig.specs.Declarations.{symbol_declared, symbols_of, SubsortPair, pairs_of}
 use Rattle.kore_sig.specs.FirstFault.{when, ByNumber, IsFirstBy, IsFirstOfSequence}
-use Rattle.kore_sig.specs.Names.{is_among}
+use Rattle.rule_core.specs.Named.{is_among}
 use Rattle.kore_sig.specs.SignatureFaults.{Placed, placed, Before, nothing_declared, declared_after}
 use Rattle.kore_sig.specs.SignatureFaults.{declaration_faults, reference_faults, most_arguments}
 use Rattle.kore_sig.specs.SignatureFaults.{number_faults, HasPairFault, unknown_sort, pairs_after}

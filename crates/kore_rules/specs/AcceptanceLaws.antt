@@ -10,9 +10,8 @@ use Rattle.rule_core.specs.WellSorted.{IsSignature}
 use Rattle.rule_core.specs.declared.signature.Signature.{Signature}
 use Rattle.kore_sig.specs.FirstFault.{Fault}
 use Rattle.kore_rules.specs.Acceptance.{IsAccepted, IsAcceptedTerm}
-use Rattle.kore_rules.specs.Refused.{HasTextFault, IsRefused}
-use Rattle.kore_rules.specs.Refused.{IsRefusedTerm}
-use Rattle.kore_rules.specs.FirstRefusal.{FirstOfAxioms, FirstOfDefinition, FirstOfTerm}
+use Rattle.kore_rules.specs.Refused.{HasTextFault, IsRefused, IsRefusedTerm, FirstOfDefinition}
+use Rattle.kore_rules.specs.FirstRefusal.{FirstOfAxioms, FirstOfTerm}
 
 -- ---- bytes
 

@@ -1,7 +1,7 @@
 -- What has been read of the axioms so far.
 use Rattle.std.specs.Prelude.{◌≡◌, ◌↔◌, ◌≤◌, ◌==◌, ◌^◌, ℕ, Bool, List, [], ◌∷◌, map, length, Option}
-use Rattle.std.specs.Prelude.{Some, None, option_map}
-use Rattle.std.specs.Prelude.{Contains, slice_index_or, count_by, IsTrue, false}
+use Rattle.std.specs.Prelude.{Some, None, option_map, Contains, slice_index_or, count_by, IsTrue}
+use Rattle.std.specs.Prelude.{false}
 use Rattle.std.specs.Borrow.{Bor}
 use Rattle.kore_text.specs.Trees.{SortTree, AxiomDeclaration}
 use Rattle.kore_ast.specs.Plain.{plain_sort, plain_axiom_decl}

@@ -1,17 +1,13 @@
 -- The first fault of a definition and of a term.
 use Rattle.std.specs.Prelude.{◌≡◌, ℕ, List, [], Option, Some, None, Contains}
-use Rattle.kore_text.specs.Trees.{SortTree, PatternTree, AxiomDeclaration, DefinitionTree}
+use Rattle.kore_text.specs.Trees.{SortTree, PatternTree, AxiomDeclaration}
 use Rattle.rule_core.specs.declared.signature.Signature.{Signature}
 use Rattle.kore_sig.specs.FirstFault.{Fault, ByByte, ByNumber, IsFirstBy, Then, IsFirstOfSequence}
 use Rattle.kore_sig.specs.FirstFault.{unless}
-use Rattle.kore_sig.specs.Declarations.{axioms_of}
-use Rattle.kore_sig.specs.Signatures.{IsSignatureOf}
-use Rattle.kore_sig.specs.SignatureFaults.{FirstOfSignature}
 use Rattle.kore_check.specs.Folds.{Unfolded, unfolded}
 use Rattle.kore_check.specs.PatternSorts.{sort_of}
 use Rattle.kore_check.specs.PatternFaults.{all_faults}
-use Rattle.kore_axioms.specs.AxiomClasses.{AxiomClass, refused, orders_sorts, rewrites, equates}
-use Rattle.kore_axioms.specs.AxiomClasses.{passed_over, class_of}
+use Rattle.kore_axioms.specs.AxiomClasses.{AxiomClass, refused, rewrites, class_of}
 use Rattle.kore_axioms.specs.RuleFaults.{FirstOfRule}
 use Rattle.kore_rules.specs.GroundTerms.{ground_faults}
 use Rattle.kore_equations.specs.ReadableEquations.{is_one_sort}
@@ -20,19 +16,14 @@ use Rattle.kore_equations.specs.ReadableEquations.{is_one_sort}
 abbrev pub FirstOfClass : Signature → Option SortTree → AxiomDeclaration → AxiomClass → Option Fault
     → Type 0
 FirstOfClass sig first a (refused number) r = r ≡ Some (record { number = number; byte = a.at })
-FirstOfClass sig first a orders_sorts r = r ≡ None
 FirstOfClass sig first a (rewrites w) r = FirstOfRule sig first a w r
-FirstOfClass sig first a (equates e) r = r ≡ None
-FirstOfClass sig first a passed_over r = r ≡ None
+FirstOfClass sig first a class r = r ≡ None
 
 -- the sort of the first rule: of an earlier one, or else of this axiom if it is a rule
 abbrev pub first_sort : Option SortTree → AxiomClass → Option SortTree
 first_sort (Some s) class = Some s
-first_sort None (refused number) = None
-first_sort None orders_sorts = None
 first_sort None (rewrites w) = Some w.sort
-first_sort None (equates e) = None
-first_sort None passed_over = None
+first_sort None class = None
 
 -- the first fault of the axioms, in their order
 abbrev pub FirstOfAxioms : Signature → List AxiomDeclaration → Option Fault → Type 0
@@ -40,12 +31,6 @@ FirstOfAxioms sig axioms r =
     IsFirstOfSequence (λ first a. FirstOfClass sig first a (class_of sig a))
     (λ first a. first_sort first (class_of sig a)) None
     axioms r
-
--- The first fault of a definition: that of its declarations, or else that of its axioms.
-abbrev pub FirstOfDefinition : DefinitionTree → Option Fault → Type 0
-FirstOfDefinition d r =
-    Then (FirstOfSignature d)
-    (λ r. (sig : Signature) × IsSignatureOf d sig × FirstOfAxioms sig (axioms_of d) r) r
 
 -- 19 at the first byte: the term does not have the sort of the rules; no fault if there are no
 -- rules

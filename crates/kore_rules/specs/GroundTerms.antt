@@ -1,10 +1,8 @@
 -- Terms: patterns that have only applications, domain values and folds.
 use Rattle.std.specs.Prelude.{ℕ, List, [], ◌∷◌, ◌++◌, if◌then◌else◌}
 use Rattle.kore_text.specs.Trees.{PatternTree, element_variable, set_variable, string}
-use Rattle.kore_text.specs.Trees.{symbol_applied, connected}
-use Rattle.kore_text.specs.Trees.{binding, domain_value, folded, PatternTrees, no_patterns}
-use Rattle.kore_text.specs.Trees.{pattern_then}
-use Rattle.kore_text.specs.Trees.{listed_patterns}
+use Rattle.kore_text.specs.Trees.{symbol_applied, connected, binding, domain_value, folded}
+use Rattle.kore_text.specs.Trees.{PatternTrees, no_patterns, pattern_then, listed_patterns}
 use Rattle.kore_sig.specs.FirstFault.{Fault}
 use Rattle.kore_shapes.specs.Forms.{is_one, is_none}
 

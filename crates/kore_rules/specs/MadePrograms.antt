@@ -2,7 +2,7 @@
 use Rattle.std.specs.Prelude.{◌≡◌, ℕ, Option, None}
 use Rattle.kore_text.specs.Trees.{DefinitionTree}
 use Rattle.rule_core.specs.BoundVariables.{IsEquationAt}
-use Rattle.rule_core.specs.Named.{names_of, AreDistinct}
+use Rattle.rule_core.specs.DistinctNames.{names_of, AreDistinct}
 use Rattle.rule_core.specs.Theories.{RewriteTheory}
 use Rattle.rule_core.specs.WellSorted.{IsSignature}
 use Rattle.rule_core.specs.declared.rules.Equation.{Equation}

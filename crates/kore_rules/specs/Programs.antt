@@ -1,14 +1,13 @@
 -- The program that a definition means: its signature, its rewrite rules and the equations of its
 -- functions.
 use Rattle.std.specs.Prelude.{◌≡◌, ℕ, List, map, Option, Some, None, option_map, Contains, ◌↔◌}
-use Rattle.std.specs.Prelude.{length, slice_get}
-use Rattle.std.specs.Prelude.{string_bytes}
+use Rattle.std.specs.Prelude.{length, slice_get, string_bytes}
 use Rattle.std.specs.List.{AllZip}
 use Rattle.kore_text.specs.Trees.{AxiomDeclaration}
 use Rattle.term_core.specs.HookValues.{Hook, hooks}
 use Rattle.rule_core.specs.Rules.{RewriteRule, Equation}
 use Rattle.rule_core.specs.Theories.{RewriteTheory, equations_of}
-use Rattle.rule_core.specs.TrialOrder.{AreInOrder}
+use Rattle.rule_core.specs.Rules.{AreInOrder}
 use Rattle.rule_core.specs.HookSorts.{FitsHook}
 use Rattle.rule_core.specs.declared.signature.Signature.{Signature}
 use Rattle.rule_core.specs.declared.signature.SymInfo.{SymInfo}

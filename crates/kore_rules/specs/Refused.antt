@@ -7,8 +7,11 @@ use Rattle.kore_text.specs.declared.faults.TextFault.{TextFault}
 use Rattle.kore_text.specs.declared.faults.TextFault.TheVariants as text_fault
 use Rattle.kore_ast.specs.KoreText.{ReadsPattern, ReadsDefinition}
 use Rattle.rule_core.specs.declared.signature.Signature.{Signature}
-use Rattle.kore_sig.specs.FirstFault.{Fault}
-use Rattle.kore_rules.specs.FirstRefusal.{FirstOfDefinition, FirstOfTerm}
+use Rattle.kore_sig.specs.FirstFault.{Fault, Then}
+use Rattle.kore_rules.specs.FirstRefusal.{FirstOfTerm, FirstOfAxioms}
+use Rattle.kore_sig.specs.Declarations.{axioms_of}
+use Rattle.kore_sig.specs.Signatures.{IsSignatureOf}
+use Rattle.kore_sig.specs.SignatureFaults.{FirstOfSignature}
 
 -- a fault of the text: 1 for its tokens, 2 for its grammar, 3 for too many open brackets
 abbrev pub fault_of_text : TextFault → Fault
@@ -32,3 +35,9 @@ abbrev pub IsRefusedTerm : Signature → Option ℕ → List ℕ → Fault → T
 IsRefusedTerm sig top bytes f =
     HasTextFault IsPattern bytes f
     ⊎ ((p : PatternTree) × ReadsPattern bytes p × FirstOfTerm sig top p (Some f))
+
+-- The first fault of a definition: that of its declarations, or else that of its axioms.
+abbrev pub FirstOfDefinition : DefinitionTree → Option Fault → Type 0
+FirstOfDefinition d r =
+    Then (FirstOfSignature d)
+    (λ r. (sig : Signature) × IsSignatureOf d sig × FirstOfAxioms sig (axioms_of d) r) r

@@ -1,11 +1,12 @@
 -- The sorts of integers and of truth values, by marks, and the kinds of symbols that follow from
 -- them.
 use Rattle.std.specs.Prelude.{◌≡◌, ◌==◌, ◌&&◌, ◌||◌, not, ℕ, Bool, true, false, List, [], ◌∷◌, map}
-use Rattle.std.specs.Prelude.{Option, Some, None}
-use Rattle.std.specs.Prelude.{option_map, slice_get, string_bytes, if◌then◌else◌, IsTrue, is_some}
+use Rattle.std.specs.Prelude.{Option, Some, None, option_map, slice_get, string_bytes}
+use Rattle.std.specs.Prelude.{if◌then◌else◌, IsTrue, is_some}
 use Rattle.std.specs.List.{list_any}
 use Rattle.std.specs.Option.{option_and_then}
-use Rattle.term_core.specs.HookValues.{Kind, integers, truths, hooks, signature}
+use Rattle.term_core.specs.HookValues.{Kind, integers, truths, hooks}
+use Rattle.term_core.specs.HookSignatures.{signature}
 use Rattle.term_core.specs.HookValues as hook
 use Rattle.std.specs.Borrow.{Bor}
 use Rattle.hook_table.specs.Names.{hook_number}
@@ -26,7 +27,7 @@ use Rattle.rule_core.specs.declared.signature.SymKind.TheVariants.{Hooked, Close
 use Rattle.kore_sig.specs.Attributes.{subsort_sorts}
 use Rattle.kore_sig.specs.SortReferences.{sort_number}
 use Rattle.kore_check.specs.PatternSorts.{sort_kind}
-use Rattle.kore_axioms.specs.AxiomClasses.{is_defined_kind}
+use Rattle.rule_core.specs.KindTests.{is_defined_kind}
 use Rattle.kore_rules.specs.AxiomsRead.{is_marked}
 
 -- ---- which sorts have terms other than values

@@ -1,12 +1,11 @@
 -- Rules and equations in the order of trial, and the equations of each function.
 use Rattle.std.specs.Prelude.{◌==◌, ◌&&◌, ℕ, Bool, false, List, [], Vec, map, filter, Option, Some}
-use Rattle.std.specs.Prelude.{None, slice_index_or}
-use Rattle.std.specs.Prelude.{slice_get}
+use Rattle.std.specs.Prelude.{None, slice_index_or, slice_get}
 use Rattle.std.specs.Global.{Global}
 use Rattle.rule_core.specs.declared.rules.Equation.{Equation}
 use Rattle.rule_core.specs.declared.rules.Rule.{Rule}
 use Rattle.rule_core.specs.declared.signature.SymInfo.{SymInfo}
-use Rattle.kore_axioms.specs.AxiomClasses.{is_defined_kind}
+use Rattle.rule_core.specs.KindTests.{is_defined_kind}
 
 -- the priority and the place, by which rules are sorted
 abbrev pub rule_key : Rule → ℕ × ℕ

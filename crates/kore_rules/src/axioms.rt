@@ -1,12 +1,11 @@
 // Reads the axioms of a definition in order: its rewrite rules and the equations of its functions,
 // or their first fault.
 ghost use Rattle.std.specs.Prelude.{◌≡◌, ◌++◌, ◌∷◌, ◌==◌, ◌||◌, ◌<◌, [], ℕ, List, false, length};
-ghost use Rattle.std.specs.Prelude.{map, None, Some};
-ghost use Rattle.std.specs.Prelude.{IfOk, OnOk, IfErr};
+ghost use Rattle.std.specs.Prelude.{map, None, Some, IfOk, OnOk, IfErr};
 ghost use Rattle.kore_text.specs.Trees.{AxiomDeclaration};
 ghost use Rattle.kore_ast.specs.Plain.{plain_axiom_decl};
 ghost use Rattle.rule_core.specs.WellSorted.{IsSignature};
-ghost use Rattle.kore_sig.specs.Signatures.{IsNumbered};
+ghost use Rattle.kore_sig.specs.Numbered.{IsNumbered};
 ghost use Rattle.kore_shapes.specs.Views.{plain_rewriting};
 ghost use Rattle.kore_shapes.specs.StatementViews.{plain_statement};
 ghost use Rattle.kore_axioms.specs.AxiomClasses.{rewrites, equates, class_of as the_class};

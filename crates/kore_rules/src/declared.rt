@@ -7,7 +7,8 @@ ghost use Rattle.rule_core.specs.WellSorted.{IsSignature};
 ghost use Rattle.kore_sig.specs.Declarations.{axioms_of as the_axioms, axiom_declared};
 ghost use Rattle.kore_sig.specs.Refusals.{IsRefusal};
 ghost use Rattle.kore_sig.specs.SignatureFaults.{FirstOfSignature};
-ghost use Rattle.kore_sig.specs.Signatures.{IsSignatureOf, IsNumbered};
+ghost use Rattle.kore_sig.specs.Signatures.{IsSignatureOf};
+ghost use Rattle.kore_sig.specs.Numbered.{IsNumbered};
 ghost use Rattle.kore_rules.specs.AxiomsRead.{tree_at};
 ghost use Rattle.kore_rules.specs.RefusedTexts.{RefusesFor};
 

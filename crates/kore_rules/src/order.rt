@@ -2,7 +2,7 @@
 ghost use Rattle.std.specs.Prelude.{◌≡◌, ◌<◌, ◌++◌, ◌==◌, ◌∷◌, [], ℕ, All, map, length, filter};
 ghost use Rattle.std.specs.Prelude.{IfOk, OnOk, if◌then◌else◌};
 ghost use Rattle.std.specs.List.Sorted.{IsPermutation};
-ghost use Rattle.rule_core.specs.TrialOrder.{AreInOrder};
+ghost use Rattle.rule_core.specs.Rules.{AreInOrder};
 ghost use Rattle.kore_rules.specs.AxiomsRead.{AreApart};
 ghost use Rattle.kore_rules.specs.TrialOrder.{rule_key, equation_key, belongs_to, listed_at};
 ghost use Rattle.kore_rules.specs.TrialOrder.{has_equations as does_have};

@@ -2,15 +2,13 @@
 -- .., and the guard says that each of them is a member of a pattern. In the direct form the left
 -- side is the function at the patterns.
 use Rattle.std.specs.Prelude.{ℕ, List, [], ◌∷◌, Bool, true, false, ◌&&◌, ◌||◌, not, if◌then◌else◌}
-use Rattle.std.specs.Prelude.{Option, Some, None}
-use Rattle.std.specs.Prelude.{option_map}
+use Rattle.std.specs.Prelude.{Option, Some, None, option_map}
 use Rattle.std.specs.List.{list_any}
 use Rattle.std.specs.Option.{option_and_then}
 use Rattle.kore_text.specs.Trees.{SortTree, listed_sorts, PatternTree, element_variable}
-use Rattle.kore_text.specs.Trees.{set_variable, string}
-use Rattle.kore_text.specs.Trees.{symbol_applied, connected, binding, domain_value, folded}
-use Rattle.kore_text.specs.Trees.{PatternTrees, no_patterns}
-use Rattle.kore_text.specs.Trees.{pattern_then, listed_patterns}
+use Rattle.kore_text.specs.Trees.{set_variable, string, symbol_applied, connected, binding}
+use Rattle.kore_text.specs.Trees.{domain_value, folded, PatternTrees, no_patterns, pattern_then}
+use Rattle.kore_text.specs.Trees.{listed_patterns}
 use Rattle.kore_text.specs.declared.names.Op.{Op}
 use Rattle.kore_text.specs.declared.names.Op.TheVariants.{Top, And, Member}
 use Rattle.kore_shapes.specs.SameSorts.{same_sort, is_variable}
@@ -85,13 +83,11 @@ members r (x ∷ xs) g =
 abbrev mutual
   pub has_variable : List ℕ → SortTree → PatternTree → Bool
   has_variable name s (element_variable at n t) = is_variable name s (element_variable at n t)
-  has_variable name s (set_variable at n t) = false
-  has_variable name s (string at text) = false
   has_variable name s (symbol_applied at n ss ps) = have_variable name s ps
   has_variable name s (connected at op ss ps) = have_variable name s ps
   has_variable name s (binding at b ss x p) = has_variable name s x || has_variable name s p
-  has_variable name s (domain_value at t text place) = false
   has_variable name s (folded at left p) = has_variable name s p
+  has_variable name s p = false
 
   pub have_variable : List ℕ → SortTree → PatternTrees → Bool
   have_variable name s no_patterns = false
@@ -137,8 +133,7 @@ kompiled e c ps =
       parameters = e.arguments;
       patterns = ps;
       condition = Some c;
-      right
-          = right_side e.sort e.value;
+      right = right_side e.sort e.value;
     })
     else None
 

@@ -2,10 +2,8 @@
 -- and its head is ignored.
 use Rattle.std.specs.Prelude.{List, [], ◌∷◌, Bool, true, false, not, ◌||◌, ◌&&◌}
 use Rattle.kore_text.specs.Trees.{PatternTree, element_variable, set_variable, string}
-use Rattle.kore_text.specs.Trees.{symbol_applied, connected}
-use Rattle.kore_text.specs.Trees.{binding, domain_value, folded, PatternTrees, no_patterns}
-use Rattle.kore_text.specs.Trees.{pattern_then}
-use Rattle.kore_text.specs.Trees.{listed_patterns}
+use Rattle.kore_text.specs.Trees.{symbol_applied, connected, binding, domain_value, folded}
+use Rattle.kore_text.specs.Trees.{PatternTrees, no_patterns, pattern_then, listed_patterns}
 use Rattle.kore_text.specs.declared.names.Op.{Op}
 use Rattle.kore_text.specs.declared.names.Op.TheVariants.{And}
 
@@ -34,9 +32,8 @@ covers_others all_forms = true
 
 -- there is exactly one pattern
 abbrev pub is_one : List PatternTree → Bool
-is_one [] = false
 is_one (p ∷ []) = true
-is_one (p ∷ (q ∷ ps)) = false
+is_one ps = false
 
 -- there is no pattern
 abbrev pub is_none : List PatternTree → Bool
@@ -46,14 +43,12 @@ is_none (p ∷ ps) = false
 -- one of the sought forms occurs in the pattern, or (`have_form`) in one of the patterns
 abbrev mutual
   pub has_form : Sought → PatternTree → Bool
-  has_form sought (element_variable at n s) = false
-  has_form sought (set_variable at n s) = false
   has_form sought (string at text) = covers_others sought
   has_form sought (symbol_applied at n ss ps) = have_form sought ps
   has_form sought (connected at op ss ps) = covers sought op || have_form sought ps
   has_form sought (binding at b ss x p) = has_form sought p
-  has_form sought (domain_value at s text place) = false
   has_form sought (folded at left p) = fold_has_form sought p
+  has_form sought p = false
 
   pub have_form : Sought → PatternTrees → Bool
   have_form sought no_patterns = false
@@ -62,31 +57,24 @@ abbrev mutual
   -- one of the sought forms occurs in the fold of this pattern; a fold can be of an application, or
   -- of a connective, with an argument
   pub fold_has_form : Sought → PatternTree → Bool
-  fold_has_form sought (element_variable at n s) = covers_others sought
-  fold_has_form sought (set_variable at n s) = covers_others sought
-  fold_has_form sought (string at text) = covers_others sought
   fold_has_form sought (symbol_applied at n ss ps) =
       (is_none (listed_patterns ps) && covers_others sought)
       || have_form sought ps
   fold_has_form sought (connected at op ss ps) =
       (not (is_one (listed_patterns ps)) && covers sought op)
       || have_form sought ps
-  fold_has_form sought (binding at b ss x p) = covers_others sought
-  fold_has_form sought (domain_value at s text place) = covers_others sought
-  fold_has_form sought (folded at left p) = covers_others sought
+  fold_has_form sought p = covers_others sought
 
 -- a quantifier, `\mu`, `\nu` or a set variable occurs in the pattern, or (`have_binder`) in one of
 -- the patterns
 abbrev mutual
   pub has_binder : PatternTree → Bool
-  has_binder (element_variable at n s) = false
   has_binder (set_variable at n s) = true
-  has_binder (string at text) = false
   has_binder (symbol_applied at n ss ps) = have_binder ps
   has_binder (connected at op ss ps) = have_binder ps
   has_binder (binding at b ss x p) = true
-  has_binder (domain_value at s text place) = false
   has_binder (folded at left p) = has_binder p
+  has_binder p = false
 
   pub have_binder : PatternTrees → Bool
   have_binder no_patterns = false

@@ -63,16 +63,13 @@ side test s p = alone p
 -- what is next to the main part of a side, if there is something; `main_part`: the side itself,
 -- without it
 abbrev pub found_part : Side → Option PatternTree
-found_part (alone p) = None
 found_part (beside p q) = Some p
-found_part without = None
-found_part misshapen = None
+found_part _ = None
 
 abbrev pub main_part : Side → Option PatternTree
 main_part (alone p) = Some p
 main_part (beside p q) = Some q
-main_part without = None
-main_part misshapen = None
+main_part _ = None
 
 -- ---- conditions
 

@@ -9,8 +9,8 @@ use Rattle.kore_shapes.specs.declared.shapes.Side.TheVariants as side
 use Rattle.kore_shapes.specs.declared.shapes.Condition.{Condition}
 use Rattle.kore_shapes.specs.declared.shapes.Condition.TheVariants as condition
 use Rattle.kore_shapes.specs.Shapes.{Rewriting as RewritingTree, Side as SideTree, alone, beside}
-use Rattle.kore_shapes.specs.Shapes.{without, misshapen}
-use Rattle.kore_shapes.specs.Shapes.{Condition as ConditionTree, always, tests, ill}
+use Rattle.kore_shapes.specs.Shapes.{without, misshapen, Condition as ConditionTree, always, tests}
+use Rattle.kore_shapes.specs.Shapes.{ill}
 
 abbrev pub pattern_at : Bor Pat → PatternTree
 pattern_at p = pattern_tree p.now

@@ -16,7 +16,8 @@ use Rattle.rule_core.specs.declared.signature.SymInfo.{SymInfo}
 use Rattle.rule_core.specs.declared.signature.SymKind.{SymKind}
 use Rattle.rule_core.specs.declared.signature.SymKind.TheVariants.{Injection}
 use Rattle.rule_core.specs.declared.signature.SortRef.{SortRef}
-use Rattle.kore_show.specs.KorePatterns.{declared_name, injects, injection_name, kore_sort}
+use Rattle.kore_show.specs.KorePatterns.{declared_name, injection_name, kore_sort}
+use Rattle.rule_core.specs.KindTests.{is_injection}
 use Rattle.kore_show.specs.KorePatterns.{with_sort, kore_sorts, kore_value, applied, in_front}
 use Rattle.kore_show.specs.KorePatterns.{kore_pattern, kore_patterns}
 use Rattle.kore_show.proofs.Declared.{name-there, injection-there}
@@ -72,8 +73,8 @@ symbol-there : (sig : Signature) (f : ℕ) (info : SymInfo) → IsSymbol sig f i
 symbol-there sig f info (name, at) =
     name-there sig.symbols f (slice_get_within sig.symbols f (name, info) at)
 
-kind-injects : (kind : SymKind) → kind ≡ Injection → injects kind ≡ true
-kind-injects kind e = ap injects e
+kind-injects : (kind : SymKind) → kind ≡ Injection → is_injection kind ≡ true
+kind-injects kind e = ap is_injection e
 
 value-there : (s : Option SortTree) (v : DomainValue) → IsSome s → IsSome (kore_value s v)
 value-there None v h = absurd (let no : ⊥ = cc in no)

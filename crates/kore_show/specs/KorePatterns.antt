@@ -1,21 +1,16 @@
 -- The Kore pattern of a pattern of a rule, with the names that its signature declares (Kore
 -- language document, "Patterns"). It does not come from a text, so each place is 0.
 use Rattle.std.specs.Prelude.{ℕ, List, [], ◌∷◌, Bool, true, false, Option, Some, None, option_map}
-use Rattle.std.specs.Prelude.{slice_get, codes}
-use Rattle.std.specs.Prelude.{if◌then◌else◌}
+use Rattle.std.specs.Prelude.{slice_get, codes, if◌then◌else◌}
 use Rattle.std.specs.Fmt.{signed_decimal}
 use Rattle.term_core.specs.Terms.{DomainValue, integer, truth, text}
 use Rattle.term_core.specs.Patterns.{Pattern, Patterns, variable, domain_value, application}
-use Rattle.term_core.specs.Patterns.{injection, call}
-use Rattle.term_core.specs.Patterns.{no_pattern, more_patterns}
+use Rattle.term_core.specs.Patterns.{injection, call, no_pattern, more_patterns}
 use Rattle.rule_core.specs.declared.signature.Signature.{Signature}
 use Rattle.rule_core.specs.declared.signature.SymInfo.{SymInfo}
-use Rattle.rule_core.specs.declared.signature.SymKind.{SymKind}
-use Rattle.rule_core.specs.declared.signature.SymKind.TheVariants.{Injection, Ctor, Equations}
-use Rattle.rule_core.specs.declared.signature.SymKind.TheVariants.{Hooked, Closed, NoKind}
+use Rattle.rule_core.specs.KindTests.{is_injection}
 use Rattle.kore_text.specs.Trees.{SortTree, sort_applied, no_sorts, sort_trees, PatternTree}
-use Rattle.kore_text.specs.Trees.{PatternTrees}
-use Rattle.kore_text.specs.Trees.{symbol_applied, no_patterns, pattern_then}
+use Rattle.kore_text.specs.Trees.{PatternTrees, symbol_applied, no_patterns, pattern_then}
 use Rattle.kore_text.specs.Trees as tree
 
 -- the name with this number
@@ -30,18 +25,10 @@ value_text (truth true) = codes "true"
 value_text (truth false) = codes "false"
 value_text (text bytes) = bytes
 
-abbrev pub injects : SymKind → Bool
-injects Injection = true
-injects Ctor = false
-injects Equations = false
-injects (Hooked row) = false
-injects Closed = false
-injects NoKind = false
-
 -- the name of the injection symbol, which is the first symbol of its kind
 abbrev pub injection_name : List (List ℕ × SymInfo) → Option (List ℕ)
 injection_name [] = None
-injection_name (e ∷ es) = if injects e.1.kind then Some e.0 else injection_name es
+injection_name (e ∷ es) = if is_injection e.1.kind then Some e.0 else injection_name es
 
 -- a declared sort
 abbrev pub kore_sort : Signature → ℕ → Option SortTree

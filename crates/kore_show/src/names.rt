@@ -4,7 +4,8 @@ ghost use Rattle.std.specs.Prelude.{slice_get};
 ghost use Rattle.kore_ast.specs.Plain.{plain_sort};
 ghost use Rattle.term_core.specs.Values.{value_of};
 ghost use Rattle.term_core.specs.RulePatterns.{sort_numbers};
-ghost use Rattle.kore_show.specs.KorePatterns.{declared_name, injection_name, value_text, injects};
+ghost use Rattle.kore_show.specs.KorePatterns.{declared_name, injection_name, value_text};
+ghost use Rattle.rule_core.specs.KindTests.{is_injection};
 ghost use Rattle.kore_show.specs.KorePatterns.{kore_sort};
 ghost use Rattle.kore_show.specs.KorePatterns.{kore_sorts};
 ghost use Rattle.rule_core.specs.declared.signature.SymInfo.{SymInfo};
@@ -32,7 +33,7 @@ pub(crate) fn injection_symbol(symbols: &Table<SymInfo>) -> Option<usize>
 fn injects(symbols: &Table<SymInfo>, n: usize) -> bool
     ensures { (name : List ℕ) (info : SymInfo) → slice_get symbols.now n ≡ Some (name, info)
         → result
-        ≡ injects info.kind }
+        ≡ is_injection info.kind }
 {
     symbols
         .value(n)

@@ -8,7 +8,7 @@ use Rattle.kore_text.specs.Trees.{Declaration, ModuleTree}
 use Rattle.kore_ast.specs.Plain.{plain_module, plain_declaration}
 use Rattle.kore_ast.specs.declared.tree.Module.{Module}
 use Rattle.kore_sig.specs.CountedModules.{imports_of, counts, counted}
-use Rattle.kore_sig.specs.Names.{is_among}
+use Rattle.rule_core.specs.Named.{is_among}
 use Rattle.kore_sig.specs.declared.counted.Placed.{Placed as PlacedDecl}
 use Rattle.kore_sig.specs.Placing.{marks_of, plain_placed}
 use Rattle.kore_sig.specs.SignatureFaults.{Placed, placed_at, placed, names_after}

@@ -7,7 +7,7 @@ use Rattle.std.specs.Prelude.{option_map, find, ◌&&◌, not, ◌==◌, if◌th
 use Rattle.std.specs.List.{AllZip}
 use Rattle.std.specs.Str.{bytes_eq}
 use Rattle.std.proofs.lemmas.Slice.Eq.{bytes_eq-Decides}
-use Rattle.rule_core.specs.Named.{names_of, IsNoneOf, AreDistinct}
+use Rattle.rule_core.specs.DistinctNames.{names_of, IsNoneOf, AreDistinct}
 use Rattle.rule_core.specs.WellSorted.{IsInjectionDeclaration}
 use Rattle.rule_core.specs.declared.signature.SortInfo.{SortInfo}
 use Rattle.rule_core.specs.declared.signature.SymInfo.{SymInfo}

@@ -2,7 +2,7 @@
 use Rattle.std.proofs.Common.{◌≡◌, ℕ, List, [], Option, ap, sym, ◌∙◌, subst}
 use Rattle.std.specs.List.{AllZip}
 use Rattle.std.specs.Prelude.{option_copied}
-use Rattle.rule_core.specs.Named.{names_of, AreDistinct}
+use Rattle.rule_core.specs.DistinctNames.{names_of, AreDistinct}
 use Rattle.rule_core.specs.Subsorts.{HasNoCycle}
 use Rattle.rule_core.specs.WellSorted.{IsSignature}
 use Rattle.rule_core.specs.declared.signature.Signature.{Signature}

@@ -2,8 +2,7 @@
 -- writes). Only the name of an attribute counts, whatever its sorts and arguments, except where its
 -- text or its sorts are needed.
 use Rattle.std.specs.Prelude.{ℕ, Bool, false, ◌||◌, List, [], ◌∷◌, Option, Some, None, option_map}
-use Rattle.std.specs.Prelude.{unwrap_or, find}
-use Rattle.std.specs.Prelude.{filter_map, if◌then◌else◌, codes}
+use Rattle.std.specs.Prelude.{unwrap_or, find, filter_map, if◌then◌else◌, codes}
 use Rattle.std.specs.List.{list_any}
 use Rattle.std.specs.Str.{bytes_eq}
 use Rattle.kore_text.specs.Trees.{SortTree, listed_sorts, PatternTree, string, symbol_applied}
@@ -29,9 +28,8 @@ text_itself p = None
 
 -- the text of the only pattern, if it is a string
 abbrev pub only_text : List PatternTree → Option (List ℕ)
-only_text [] = None
 only_text (p ∷ []) = text_itself p
-only_text (p ∷ (q ∷ ps)) = None
+only_text ps = None
 
 -- the text of an attribute whose only argument is a text
 abbrev pub text_of : PatternTree → Option (List ℕ)

@@ -4,7 +4,7 @@
 use Rattle.std.specs.Prelude.{ℕ, Bool, true, List, [], ◌∷◌, Option, Some, None, flat_map}
 use Rattle.std.specs.Prelude.{filter_map, if◌then◌else◌}
 use Rattle.kore_text.specs.Trees.{Declaration, import_declaration, ModuleTree, DefinitionTree}
-use Rattle.kore_sig.specs.Names.{is_among}
+use Rattle.rule_core.specs.Named.{is_among}
 
 -- the name of the module that a declaration imports
 abbrev pub import_name : Declaration → Option (List ℕ)

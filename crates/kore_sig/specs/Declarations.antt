@@ -2,9 +2,8 @@
 -- modules may use what any of them declares.
 use Rattle.std.specs.Prelude.{ℕ, List, map, Option, Some, None, filter_map, flat_map}
 use Rattle.kore_text.specs.Trees.{SortTree, SortDeclaration, SymbolDeclaration, AxiomDeclaration}
-use Rattle.kore_text.specs.Trees.{Declaration}
-use Rattle.kore_text.specs.Trees.{sort_declaration, symbol_declaration, axiom_declaration}
-use Rattle.kore_text.specs.Trees.{DefinitionTree}
+use Rattle.kore_text.specs.Trees.{Declaration, sort_declaration, symbol_declaration}
+use Rattle.kore_text.specs.Trees.{axiom_declaration, DefinitionTree}
 use Rattle.kore_sig.specs.Attributes.{subsort_pairs}
 use Rattle.kore_sig.specs.CountedModules.{counted_declarations}
 

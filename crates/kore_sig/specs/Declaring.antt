@@ -1,7 +1,7 @@
 -- The declarations, one after another.
 use Rattle.std.specs.Prelude.{◌≡◌, ℕ, List, [], ◌∷◌, ◌++◌, Option, Some, None, option_copied}
 use Rattle.std.specs.List.{AllZip}
-use Rattle.rule_core.specs.Named.{names_of}
+use Rattle.rule_core.specs.DistinctNames.{names_of}
 use Rattle.rule_core.specs.declared.signature.SortInfo.{SortInfo}
 use Rattle.rule_core.specs.declared.signature.SymInfo.{SymInfo}
 use Rattle.kore_text.specs.Trees.{Declaration}

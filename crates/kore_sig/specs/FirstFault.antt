@@ -1,6 +1,6 @@
 -- The first of a set of faults in an order, and the first fault of things that come one after
 -- another.
-use Rattle.std.specs.Prelude.{◌≡◌, ◌<◌, ◌≤◌, ℕ, Bool, List, [], ◌∷◌, ◌⊎◌, Option, Some, None}
+use Rattle.std.specs.Prelude.{◌≡◌, ◌<◌, ◌≤◌, ℕ, Bool, List, [], ◌∷◌, ◌++◌, ◌⊎◌, Option, Some, None}
 use Rattle.std.specs.Prelude.{if◌then◌else◌}
 
 -- a fault: the number of the refusal, and the byte of the text where the fault is
@@ -15,6 +15,11 @@ when test number byte = if test then record { number = number; byte = byte } ∷
 -- a fault with this number at this byte if the test fails, else no fault
 abbrev pub unless : Bool → ℕ → ℕ → List Fault
 unless test number byte = if test then [] else record { number = number; byte = byte } ∷ []
+
+-- the faults at this byte whose tests hold, each by its number
+abbrev pub faults_of_tests : ℕ → List (Bool × ℕ) → List Fault
+faults_of_tests at [] = []
+faults_of_tests at (t ∷ tests) = when t.0 t.1 at ++ faults_of_tests at tests
 
 -- an order of faults: by byte, and at the same byte by number
 abbrev pub ByByte : Fault → Fault → Type 0

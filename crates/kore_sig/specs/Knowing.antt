@@ -1,6 +1,6 @@
 -- What is known of all declarations before each of them is checked.
 use Rattle.std.specs.Prelude.{◌≡◌, ℕ, List, map, filter_map, option_copied}
-use Rattle.rule_core.specs.Named.{names_of, AreDistinct}
+use Rattle.rule_core.specs.DistinctNames.{names_of, AreDistinct}
 use Rattle.rule_core.specs.declared.signature.SortInfo.{SortInfo}
 use Rattle.kore_text.specs.Trees.{SymbolDeclaration, Declaration}
 use Rattle.kore_sig.specs.Declarations.{sort_declared, symbol_declared, axiom_declared}

@@ -1,12 +1,12 @@
 -- Public: what public clauses say, and public definitions of other crates.
 pub mod FirstFault
-pub mod Names
 pub mod Attributes
 pub mod CountedModules
 pub mod Declarations
 pub mod SortReferences
 pub mod SymbolKinds
 pub mod Signatures
+pub mod Numbered
 pub mod SignatureFaults
 pub mod Refusals
 -- Laws: what follows from that. Each is a clause of a function that does nothing.

@@ -5,8 +5,8 @@ use Rattle.kore_sig.specs.FirstFault.{Fault}
 use Rattle.kore_sig.specs.SignatureFaults.{FirstOfSignature}
 use Rattle.kore_sig.specs.declared.faults.SigFault.{SigFault}
 use Rattle.kore_sig.specs.declared.faults.SigFault.TheVariants.{Import, Duplicate, UnknownSort}
-use Rattle.kore_sig.specs.declared.faults.SigFault.TheVariants.{Arity, SortParameter}
-use Rattle.kore_sig.specs.declared.faults.SigFault.TheVariants.{SubsortCycle, Memory}
+use Rattle.kore_sig.specs.declared.faults.SigFault.TheVariants.{Arity, SortParameter, SubsortCycle}
+use Rattle.kore_sig.specs.declared.faults.SigFault.TheVariants.{Memory}
 
 abbrev pub fault_at : ℕ → ℕ → Option Fault
 fault_at number byte = Some (record { number = number; byte = byte })

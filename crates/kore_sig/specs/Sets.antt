@@ -1,7 +1,6 @@
 -- Sets of names.
 use Rattle.std.specs.Prelude.{◌≡◌, ℕ, List, is_some}
-use Rattle.rule_core.specs.Named.{number_of}
-use Rattle.kore_sig.specs.Names.{is_among}
+use Rattle.rule_core.specs.Named.{number_of, is_among}
 
 -- the names of the entries are exactly those of the list
 abbrev pub Knows : {V : Type 0} → List (List ℕ × V) → List (List ℕ) → Type 0

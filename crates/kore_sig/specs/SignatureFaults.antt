@@ -3,17 +3,15 @@
 -- these is in the order of the file. At one declaration the smallest number comes first, and for
 -- the same number the first byte.
 use Rattle.std.specs.Prelude.{◌≡◌, ◌==◌, ℕ, List, [], ◌∷◌, ◌++◌, length, map, flat_map, Contains}
-use Rattle.std.specs.Prelude.{Option, Some, None}
-use Rattle.std.specs.Prelude.{is_some, if◌then◌else◌, nat_lt}
+use Rattle.std.specs.Prelude.{Option, Some, None, is_some, if◌then◌else◌, nat_lt}
 use Rattle.kore_text.specs.Trees.{SortTree, ImportDeclaration, SortDeclaration, SymbolDeclaration}
-use Rattle.kore_text.specs.Trees.{Declaration}
-use Rattle.kore_text.specs.Trees.{import_declaration, sort_declaration, symbol_declaration}
-use Rattle.kore_text.specs.Trees.{ModuleTree, DefinitionTree}
+use Rattle.kore_text.specs.Trees.{Declaration, import_declaration, sort_declaration}
+use Rattle.kore_text.specs.Trees.{symbol_declaration, ModuleTree, DefinitionTree}
 use Rattle.rule_core.specs.Subsorts.{HasNoCycle}
 use Rattle.rule_core.specs.declared.signature.SortInfo.{SortInfo}
 use Rattle.kore_sig.specs.FirstFault.{Fault, when, unless, ByNumber, IsFirstBy, Then}
 use Rattle.kore_sig.specs.FirstFault.{IsFirstOfSequence}
-use Rattle.kore_sig.specs.Names.{is_among}
+use Rattle.rule_core.specs.Named.{is_among}
 use Rattle.kore_sig.specs.CountedModules.{counts, counted}
 use Rattle.kore_sig.specs.Declarations.{SubsortPair, pairs_of}
 use Rattle.kore_sig.specs.SortReferences.{sort_entries, sort_reference, sort_number, sort_place}

@@ -1,7 +1,6 @@
 -- The signature that the declarations of a definition mean (Kore language document, "Modules and
 -- declarations").
-use Rattle.std.specs.Prelude.{◌≡◌, ◌<◌, ◌^◌, ℕ, List, length, map, Option, Some, option_map}
-use Rattle.std.specs.Prelude.{string_bytes}
+use Rattle.std.specs.Prelude.{◌≡◌, ℕ, List, length, map, Option, Some, option_map, string_bytes}
 use Rattle.std.specs.List.{AllZip}
 use Rattle.kore_text.specs.Trees.{SymbolDeclaration, DefinitionTree}
 use Rattle.rule_core.specs.declared.signature.Signature.{Signature}
@@ -42,7 +41,3 @@ pub record IsSignatureOf (definition : DefinitionTree) (sig : Signature) : Type 
   pub sorts : sig.sorts ≡ sort_entries definition
   pub symbols : AllZip (IsEntryOf definition sig.sorts) (symbols_of definition) sig.symbols
   pub subsorts : AllZip (IsPairOf sig.sorts) (pairs_of definition) sig.subsorts
-
--- the number of each sort and of each symbol fits in 32 bits
-abbrev pub IsNumbered : Signature → Type 0
-IsNumbered sig = (length sig.sorts < 2 ^ 32) × (length sig.symbols < 2 ^ 32)

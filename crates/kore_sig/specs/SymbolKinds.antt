@@ -2,19 +2,17 @@
 -- framework, attributes `sortInjection`, `function`, `constructor`, `assoc`, `comm`, `unit` and
 -- `idem`).
 use Rattle.std.specs.Prelude.{ℕ, Bool, false, not, ◌&&◌, ◌||◌, ◌==◌, List, [], ◌∷◌, length, Option}
-use Rattle.std.specs.Prelude.{Some, None}
-use Rattle.std.specs.Prelude.{option_map, find, filter_map, if◌then◌else◌, codes}
+use Rattle.std.specs.Prelude.{Some, None, option_map, find, filter_map, if◌then◌else◌, codes}
 use Rattle.std.specs.Str.{bytes_eq}
 use Rattle.kore_text.specs.Trees.{SortTree, sort_parameter, sort_applied, listed_sorts, PatternTree}
-use Rattle.kore_text.specs.Trees.{symbol_applied}
-use Rattle.kore_text.specs.Trees.{connected, listed_patterns, SymbolDeclaration, AxiomDeclaration}
-use Rattle.kore_text.specs.Trees.{DefinitionTree}
+use Rattle.kore_text.specs.Trees.{symbol_applied, connected, listed_patterns, SymbolDeclaration}
+use Rattle.kore_text.specs.Trees.{AxiomDeclaration, DefinitionTree}
 use Rattle.kore_text.specs.declared.names.Op.{Op}
 use Rattle.kore_text.specs.declared.names.Op.TheVariants.{Equals}
 use Rattle.rule_core.specs.declared.signature.SymKind.{SymKind}
 use Rattle.rule_core.specs.declared.signature.SymKind.TheVariants.{Injection, Ctor, Equations}
 use Rattle.rule_core.specs.declared.signature.SymKind.TheVariants.{Closed, NoKind}
-use Rattle.kore_sig.specs.Names.{is_among}
+use Rattle.rule_core.specs.Named.{is_among}
 use Rattle.kore_sig.specs.Attributes.{has_attribute, is_said_ac}
 use Rattle.kore_sig.specs.Declarations.{axioms_of}
 

@@ -2,8 +2,8 @@
 ghost use Rattle.std.specs.Prelude.{◌≡◌, ◌<◌, ◌^◌, length, take};
 ghost use Rattle.kore_ast.specs.Plain.{plain_declaration, plain_import, plain_sort_decl};
 ghost use Rattle.kore_ast.specs.Plain.{plain_symbol_decl};
-ghost use Rattle.rule_core.specs.Named.{names_of};
-ghost use Rattle.kore_sig.specs.Names.{is_among};
+ghost use Rattle.rule_core.specs.DistinctNames.{names_of};
+ghost use Rattle.rule_core.specs.Named.{is_among};
 ghost use Rattle.kore_sig.specs.Declaring.{IsFoundFault, before_of};
 ghost use Rattle.kore_sig.specs.Noted.{first_by_number};
 ghost use Rattle.kore_sig.specs.SignatureFaults.{import_faults, sort_faults, symbol_faults};

@@ -1,13 +1,14 @@
 // The signature of a definition, or the first fault of its declarations.
 ghost use Rattle.std.specs.Prelude.{◌≡◌, [], ℕ, None, map, IfOk, IfErr, OnOk};
 ghost use Rattle.kore_ast.specs.Plain.{plain_definition, plain_module};
-ghost use Rattle.rule_core.specs.Named.{names_of};
+ghost use Rattle.rule_core.specs.DistinctNames.{names_of};
 ghost use Rattle.rule_core.specs.WellSorted.{IsSignature};
 ghost use Rattle.kore_sig.specs.Naming.{first_module};
 ghost use Rattle.kore_sig.specs.Placing.{names_of_modules};
 ghost use Rattle.kore_sig.specs.Refusals.{IsRefusal, Refuses};
 ghost use Rattle.kore_sig.specs.SignatureFaults.{FirstOfSignature};
-ghost use Rattle.kore_sig.specs.Signatures.{IsSignatureOf, IsNumbered};
+ghost use Rattle.kore_sig.specs.Signatures.{IsSignatureOf};
+ghost use Rattle.kore_sig.specs.Numbered.{IsNumbered};
 
 use crate::counted::placed_declarations;
 use crate::declared_facts::learn;

@@ -4,7 +4,7 @@ ghost use Rattle.std.specs.Prelude.{flat_map, length, take};
 ghost use Rattle.std.specs.Prelude.{IfOk, IfErr, OnOk, option_map, option_copied, string_bytes};
 ghost use Rattle.kore_ast.specs.Plain.{plain_declaration, plain_sort, plain_symbol_decl};
 ghost use Rattle.kore_ast.specs.Plain.{pattern_tree};
-ghost use Rattle.rule_core.specs.Named.{names_of, AreDistinct};
+ghost use Rattle.rule_core.specs.DistinctNames.{names_of, AreDistinct};
 ghost use Rattle.kore_sig.specs.Attributes.{hook_of as the_hook};
 ghost use Rattle.kore_sig.specs.Declaring.{AreSymbols, Grows, before_of, first_declared};
 ghost use Rattle.kore_sig.specs.Knowing.{entries_in};

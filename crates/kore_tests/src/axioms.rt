@@ -1,6 +1,6 @@
 // Axioms, each with the fault that is expected of it.
 ghost use Rattle.rule_core.specs.WellSorted.{IsSignature};
-ghost use Rattle.kore_sig.specs.Signatures.{IsNumbered};
+ghost use Rattle.kore_sig.specs.Numbered.{IsNumbered};
 
 use kore_ast::{AxiomDecl, Decl, Sort, read_definition};
 use kore_axioms::{AxiomClass, Refusal, checked_rule, class_of, priority_of};

@@ -2,7 +2,8 @@
 ghost use Rattle.std.specs.Prelude.{IfOk, map};
 ghost use Rattle.kore_text.specs.Trees.{pattern_trees};
 ghost use Rattle.kore_ast.specs.Plain.{pattern_tree};
-ghost use Rattle.kore_check.specs.Folds.{unfolded, all_unfolded, IsApplicative, AreApplicative};
+ghost use Rattle.kore_check.specs.Folds.{unfolded, all_unfolded};
+ghost use Rattle.kore_check.specs.Applicative.{IsApplicative, AreApplicative};
 
 use crate::check::small_signature;
 use kore_ast::{Pat, PatForm, Sort, SortForm, Text};

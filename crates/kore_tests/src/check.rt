@@ -1,7 +1,7 @@
 // Patterns over a small definition, each with the fault that is expected of it.
 ghost use Rattle.std.specs.Prelude.{IfOk};
 ghost use Rattle.rule_core.specs.WellSorted.{IsSignature};
-ghost use Rattle.kore_sig.specs.Signatures.{IsNumbered};
+ghost use Rattle.kore_sig.specs.Numbered.{IsNumbered};
 
 use kore_ast::{read_definition, read_pattern};
 use kore_check::note_pattern;

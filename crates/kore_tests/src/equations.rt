@@ -1,6 +1,6 @@
 // Axioms, each with the equation that it is expected to mean.
 ghost use Rattle.rule_core.specs.WellSorted.{IsSignature};
-ghost use Rattle.kore_sig.specs.Signatures.{IsNumbered};
+ghost use Rattle.kore_sig.specs.Numbered.{IsNumbered};
 
 use kore_ast::{AxiomDecl, Decl, read_definition};
 use kore_axioms::{AxiomClass, class_of};

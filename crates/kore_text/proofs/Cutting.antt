@@ -6,7 +6,8 @@ use Rattle.kore_lex.specs.declared.lexer.TokenKind.TheVariants as kind
 use Rattle.kore_lex.specs.declared.lexer.Token.{Token as LexToken}
 use Rattle.kore_lex.specs.declared.lexer.LexFault.{LexFault}
 use Rattle.kore_lex.specs.Lexed.{Stream as Cut, end as cut_end, fault as cut_fault}
-use Rattle.kore_lex.specs.Lexed.{token as cut_token, head, tail, Unread, left as cut_left}
+use Rattle.kore_lex.specs.Lexed.{token as cut_token}
+use Rattle.kore_lex.specs.Unread.{head, tail, Unread, left as cut_left}
 use Rattle.kore_text.specs.TokenStream.{Stream, end, fault, token, token_of, joined, named}
 use Rattle.kore_text.specs.Remaining.{left}
 

@@ -1,6 +1,5 @@
 -- How many brackets are open in a text.
-use Rattle.std.specs.Prelude.{◌≤◌, ℕ, ◌+◌, ◌-◌, ◌==◌, ◌||◌}
-use Rattle.std.specs.Prelude.{if◌then◌else◌}
+use Rattle.std.specs.Prelude.{◌≤◌, ℕ, ◌+◌, ◌-◌, ◌==◌, ◌||◌, if◌then◌else◌}
 use Rattle.kore_text.specs.TokenStream.{Token, mark, Stream, end, fault, token}
 
 -- how many brackets `(` and `{` are open after a token, if `n` are open before it

@@ -9,7 +9,7 @@ use Rattle.kore_text.specs.declared.names.Binder.{Binder}
 use Rattle.kore_text.specs.declared.names.Binder.TheVariants as binder
 use Rattle.kore_text.specs.declared.names.Built.TheVariants.{Connective, Binding, Value, Fold}
 use Rattle.kore_text.specs.TokenStream.{Token, identifier, set_identifier, builtin, string_token}
-use Rattle.kore_text.specs.TokenStream.{mark, assign, Stream, end, fault, token}
+use Rattle.kore_text.specs.TokenStream.{mark, assign, Stream, token}
 use Rattle.kore_text.specs.Trees.{SortTree, sort_parameter, sort_applied, SortTrees, no_sorts}
 use Rattle.kore_text.specs.Trees.{sort_then, sort_count, PatternTree, element_variable}
 use Rattle.kore_text.specs.Trees.{set_variable, string, symbol_applied, connected, binding}
@@ -42,13 +42,9 @@ arguments_of op.Not = Some 1
 arguments_of op.Next = Some 1
 arguments_of op.And = None
 arguments_of op.Or = None
-arguments_of op.Implies = Some 2
-arguments_of op.Iff = Some 2
-arguments_of op.Rewrites = Some 2
 arguments_of op.Ceil = Some 1
 arguments_of op.Floor = Some 1
-arguments_of op.Equals = Some 2
-arguments_of op.Member = Some 2
+arguments_of _ = Some 2
 
 abbrev pub is_count : Option ℕ → ℕ → Bool
 is_count None n = true
@@ -60,17 +56,15 @@ takes o sorts arguments = (sorts == sorts_of o) && is_count (arguments_of o) arg
 
 -- how many sorts a binder takes
 abbrev pub binder_sorts : Binder → ℕ
-binder_sorts binder.Exists = 1
-binder_sorts binder.Forall = 1
 binder_sorts binder.Mu = 0
 binder_sorts binder.Nu = 0
+binder_sorts _ = 1
 
 -- the binder binds a set variable; if false, an element variable
 abbrev pub binds_sets : Binder → Bool
-binds_sets binder.Exists = false
-binds_sets binder.Forall = false
 binds_sets binder.Mu = true
 binds_sets binder.Nu = true
+binds_sets _ = false
 
 -- the pattern is a set variable (true) or an element variable (false)
 abbrev pub is_variable : Bool → PatternTree → Bool
@@ -258,9 +252,6 @@ spell_definition d k =
 abbrev pub TakesTokens : List Requirement → Stream → Stream → Type 0
 TakesTokens [] s e = s ≡ e
 TakesTokens (given b ∷ ws) s e = IsTrue b × TakesTokens ws s e
-TakesTokens (placed p u ∷ ws) (end n) e = ⊥
-TakesTokens (placed p u ∷ ws) (fault n) e = ⊥
 TakesTokens (placed p u ∷ ws) (token t q s) e = (t ≡ u) × (q ≡ p) × TakesTokens ws s e
-TakesTokens (any u ∷ ws) (end n) e = ⊥
-TakesTokens (any u ∷ ws) (fault n) e = ⊥
 TakesTokens (any u ∷ ws) (token t q s) e = (t ≡ u) × TakesTokens ws s e
+TakesTokens _ _ _ = ⊥

@@ -1,9 +1,8 @@
 -- What is left of a text while its tokens are taken.
 use Rattle.std.specs.Prelude.{◌≡◌, ◌≢◌, ℕ, suc, zero}
 use Rattle.kore_lex.specs.declared.lexer.TokenKind.TheVariants.{End, Text}
-use Rattle.kore_lex.specs.Tokens.{IsToken}
-use Rattle.kore_lex.specs.Value.{IsString}
-use Rattle.kore_lex.specs.Lexed.{Unread, left as cut_left}
+use Rattle.kore_lex.specs.Tokens.{IsToken, IsString}
+use Rattle.kore_lex.specs.Unread.{Unread, left as cut_left}
 use Rattle.kore_text.specs.TokenStream.{Stream, end, fault, token, token_of, named}
 use Rattle.kore_text.specs.declared.tokens.Next.{Next}
 use Rattle.kore_text.specs.declared.tokens.Next.TheVariants as next

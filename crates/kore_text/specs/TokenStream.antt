@@ -69,18 +69,7 @@ pub data Stream : Type 0 where
 -- `End` is the end
 abbrev pub joined : List ℕ → TokenKind → ℕ → ℕ → Stream → Stream
 joined text kind.End from to s = end from
-joined text kind.Ident from to s =
-    token (token_of kind.Ident (take (to - from) (drop from text))) from s
-joined text kind.SetIdent from to s =
-    token (token_of kind.SetIdent (take (to - from) (drop from text))) from s
-joined text kind.Builtin from to s =
-    token (token_of kind.Builtin (take (to - from) (drop from text))) from s
-joined text kind.Text from to s =
-    token (token_of kind.Text (take (to - from) (drop from text))) from s
-joined text (kind.Punct c) from to s =
-    token (token_of (kind.Punct c) (take (to - from) (drop from text))) from s
-joined text kind.Assign from to s =
-    token (token_of kind.Assign (take (to - from) (drop from text))) from s
+joined text kind from to s = token (token_of kind (take (to - from) (drop from text))) from s
 
 -- the tokens of a text that was cut into pieces
 abbrev pub named : List ℕ → Cut → Stream

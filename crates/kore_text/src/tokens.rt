@@ -27,7 +27,7 @@ pub struct Tokens<'a> {
 
 impl<'a> Model for Tokens<'a> {
     ghost use Rattle.std.specs.Prelude.{◌≡◌};
-    ghost use Rattle.kore_lex.specs.Lexed.{Unread};
+    ghost use Rattle.kore_lex.specs.Unread.{Unread};
 
     ghost Value = { Unread };
 

@@ -18,9 +18,10 @@ use Rattle.rule_core.specs.declared.signature.Signature.{Signature}
 use Rattle.ml_image.specs.Tokens.{token_of_sort, token_of_symbol, token_of_value, numbered}
 use Rattle.ml_image.specs.Images.{both, symbol_image, sort_image, at_sorts, image_of, applied}
 use Rattle.ml_image.specs.Images.{some_symbol_image, injection_symbol, injection_image}
-use Rattle.ml_image.specs.Images.{is_injection}
+use Rattle.rule_core.specs.KindTests.{is_injection}
 use Rattle.ml_image.specs.Injecting.{IsInjectionAt}
-use Rattle.ml_image.specs.Gained.{IsOwnToken, AreOwnTokens, HasGained}
+use Rattle.ml_image.specs.OwnTokens.{IsOwnToken}
+use Rattle.ml_image.specs.Gained.{AreOwnTokens, HasGained}
 
 -- a result that exists does not change
 abbrev pub Keeps : {A : Type 0} → Option A → Option A → Type 0

@@ -3,7 +3,8 @@ use Rattle.std.proofs.Common.{◌≡◌, ℕ, ◌+◌, ◌<◌, List, [], ◌∷
 use Rattle.std.proofs.Common.{ap, length, take, get_or, map, zero, suc, arith}
 use Rattle.std.proofs.lemmas.List.{take_more, map-append}
 use Rattle.ml_pat.specs.Patterns.{Pattern, app, at_sort}
-use Rattle.term_core.specs.Patterns.{Pattern as RulePattern, patterns}
+use Rattle.term_core.specs.Patterns.{Pattern as RulePattern}
+use Rattle.term_core.specs.Instances.{patterns}
 use Rattle.term_core.specs.RulePatterns.{plain_pattern, sort_numbers}
 use Rattle.term_core.specs.PatternLists.{plain_patterns}
 use Rattle.term_core.specs.declared.rule_patterns.RulePat.{RulePat}

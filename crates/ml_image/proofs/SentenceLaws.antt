@@ -18,13 +18,10 @@ use Rattle.rule_core.specs.Sorting.{IsSymbol}
 use Rattle.ml_image.specs.Images.{both, image_of, applied, symbol_image, sort_image}
 use Rattle.ml_image.specs.Images.{injection_image, shifted, all_shifted}
 use Rattle.ml_image.specs.Sentences.{Sentence, term, and, implies, equals}
-use Rattle.ml_image.specs.Sentences.{exists, next, sentence_image}
-use Rattle.ml_image.specs.Sentences.{for_all, variables, IsImageOf}
-use Rattle.ml_image.specs.OwnAxioms.{sort_of, is_true, condition_of, SaysRule}
-use Rattle.ml_image.specs.OwnAxioms.{meets}
+use Rattle.ml_image.specs.Sentences.{exists, next, sentence_image, for_all, variables, IsImageOf}
+use Rattle.ml_image.specs.OwnAxioms.{sort_of, is_true, condition_of, SaysRule, meets}
 use Rattle.ml_image.specs.OwnAxioms.{named, Declares, SaysEquation, direct, kompile, IsConstructor}
-use Rattle.ml_image.specs.OwnAxioms.{of_variables, SaysTotal, SaysSubsort}
-use Rattle.ml_image.specs.OwnAxioms.{SaysCollapse}
+use Rattle.ml_image.specs.OwnAxioms.{of_variables, SaysTotal, SaysSubsort, SaysCollapse}
 use Rattle.term_core.specs.Terms.{DomainValue}
 use Rattle.ml_image.specs.Tokens.{token_of_value, numbered}
 use Rattle.ml_image.specs.TrueFacts.{SaysHook, value_patterns}

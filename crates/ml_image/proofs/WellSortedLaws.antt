@@ -25,7 +25,8 @@ use Rattle.rule_core.specs.declared.signature.SymKind.TheVariants.{Injection, Ct
 use Rattle.rule_core.specs.declared.signature.SortRef.{SortRef}
 use Rattle.rule_core.specs.declared.signature.SortRef.TheVariants.{Param, Sort}
 use Rattle.rule_core.proofs.Bindings.{IsSome-of}
-use Rattle.ml_image.specs.Images.{is_injection, injection_symbol}
+use Rattle.ml_image.specs.Images.{injection_symbol}
+use Rattle.rule_core.specs.KindTests.{is_injection}
 use Rattle.ml_image.specs.OwnAxioms.{sort_of, made_sort, named, Declares}
 use Rattle.ml_image.specs.HasImages as own
 use Rattle.ml_image.specs.HasImages.{HasImage, HaveImages, HasRuleImage, HasEquationImage}

@@ -1,12 +1,10 @@
 -- The conditions under which an image can be made: the sorts and symbols belong to the signature,
 -- and each value is a value of its sort.
 use Rattle.std.specs.Prelude.{◌≡◌, ◌≢◌, ◌<◌, ◌≤◌, ◌+◌, ◌^◌, ℕ, true, false, IsSome, List, [], ◌∷◌}
-use Rattle.std.specs.Prelude.{length, Option, Some}
-use Rattle.std.specs.Prelude.{None, ◌⊎◌, suc}
+use Rattle.std.specs.Prelude.{length, Option, Some, None, ◌⊎◌, suc}
 use Rattle.term_core.specs.Terms.{truth}
 use Rattle.term_core.specs.Patterns.{Pattern, Patterns, variable, domain_value, application}
-use Rattle.term_core.specs.Patterns.{injection, call}
-use Rattle.term_core.specs.Patterns.{no_pattern, more_patterns}
+use Rattle.term_core.specs.Patterns.{injection, call, no_pattern, more_patterns}
 use Rattle.rule_core.specs.Rules.{RewriteRule, Equation}
 use Rattle.rule_core.specs.Sorting.{HasValue, AreSorts}
 use Rattle.rule_core.specs.declared.signature.Signature.{Signature}

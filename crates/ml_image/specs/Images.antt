@@ -1,8 +1,7 @@
 -- The images of rules' patterns as patterns of matching logic (Chen and Rosu 2019). A constant or a
 -- sort of an image is the number of its token among the names. If the names do not have a token,
 -- there is no image.
-use Rattle.std.specs.Prelude.{ℕ, ◌+◌, Bool, true, false, List, [], ◌∷◌, Option, Some, None}
-use Rattle.std.specs.Prelude.{option_map}
+use Rattle.std.specs.Prelude.{ℕ, ◌+◌, List, [], ◌∷◌, Option, Some, None, option_map}
 use Rattle.std.specs.List.{position_from}
 use Rattle.ml_pat.specs.Patterns.{Pattern, app, at_sort, var, constant}
 use Rattle.term_core.specs.Patterns.{Pattern as RulePattern, Patterns as RulePatterns, variable}
@@ -10,8 +9,7 @@ use Rattle.term_core.specs.Patterns.{domain_value, application, injection, call,
 use Rattle.term_core.specs.Patterns.{more_patterns}
 use Rattle.rule_core.specs.declared.signature.Signature.{Signature}
 use Rattle.rule_core.specs.declared.signature.SymInfo.{SymInfo}
-use Rattle.rule_core.specs.declared.signature.SymKind.{SymKind}
-use Rattle.rule_core.specs.declared.signature.SymKind.TheVariants as kind
+use Rattle.rule_core.specs.KindTests.{is_injection}
 use Rattle.ml_image.specs.Tokens.{token_of_sort, token_of_symbol, token_of_value, numbered}
 
 -- the function of two things, if both are given
@@ -19,14 +17,6 @@ abbrev pub both : {A B C : Type 0} → (A → B → C) → Option A → Option B
 both f None b = None
 both f (Some a) None = None
 both f (Some a) (Some b) = Some (f a b)
-
-abbrev pub is_injection : SymKind → Bool
-is_injection kind.Injection = true
-is_injection kind.Ctor = false
-is_injection kind.Equations = false
-is_injection (kind.Hooked n) = false
-is_injection kind.Closed = false
-is_injection kind.NoKind = false
 
 -- the injection symbol: the first of that kind
 abbrev pub injection_symbol : Signature → Option ℕ

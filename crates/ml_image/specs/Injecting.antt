@@ -2,7 +2,7 @@
 use Rattle.std.specs.Prelude.{◌≡◌, ℕ, Bool, List, slice_get, Some}
 use Rattle.rule_core.specs.declared.signature.Signature.{Signature}
 use Rattle.rule_core.specs.declared.signature.SymInfo.{SymInfo}
-use Rattle.ml_image.specs.Images.{is_injection}
+use Rattle.rule_core.specs.KindTests.{is_injection}
 
 -- whether the symbol with this number is an injection
 abbrev pub IsInjectionAt : Signature → ℕ → Bool → Type 0

@@ -6,6 +6,7 @@ pub mod OwnAxioms
 pub mod TrueFacts
 pub mod HasImages
 pub mod Gained
+pub mod OwnTokens
 -- Laws: what follows from that. Each is a clause of a function that does nothing.
 pub mod NamingLaws
 pub mod ConditionLaws

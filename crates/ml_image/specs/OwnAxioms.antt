@@ -1,12 +1,10 @@
 -- The statements of a definition's rules, equations, symbols and sorts in matching logic: its own
 -- axioms (Chen and Rosu 2019; K framework, attributes `constructor`, `subsort` and `function`).
 use Rattle.std.specs.Prelude.{◌≡◌, ◌≢◌, ◌+◌, ◌<◌, ℕ, false, true, List, [], ◌∷◌, ◌++◌, length, map}
-use Rattle.std.specs.Prelude.{slice_get, Contains}
-use Rattle.std.specs.Prelude.{Option, Some, None, option_map}
+use Rattle.std.specs.Prelude.{slice_get, Contains, Option, Some, None, option_map}
 use Rattle.term_core.specs.Terms.{truth}
 use Rattle.term_core.specs.Patterns.{Pattern, Patterns, variable, domain_value, application}
-use Rattle.term_core.specs.Patterns.{injection, call}
-use Rattle.term_core.specs.Patterns.{no_pattern, more_patterns}
+use Rattle.term_core.specs.Patterns.{injection, call, no_pattern, more_patterns}
 use Rattle.rule_core.specs.Rules.{RewriteRule, Equation}
 use Rattle.rule_core.specs.Theories.{RewriteTheory, equations_of}
 use Rattle.rule_core.specs.Subsorts.{IsBelow}
@@ -18,8 +16,7 @@ use Rattle.rule_core.specs.declared.signature.SortRef.{SortRef}
 use Rattle.rule_core.specs.declared.signature.SortRef.TheVariants.{Sort}
 use Rattle.ml_image.specs.Images.{shifted, all_shifted}
 use Rattle.ml_image.specs.Sentences.{Sentence, term, symbol, top, not, and, implies, equals, is_in}
-use Rattle.ml_image.specs.Sentences.{exists, next}
-use Rattle.ml_image.specs.Sentences.{for_all, variables, apply_all, conjunctions}
+use Rattle.ml_image.specs.Sentences.{exists, next, for_all, variables, apply_all, conjunctions}
 
 -- ---- rules and equations
 

@@ -1,7 +1,6 @@
 -- The tokens of sorts, symbols and domain values in a Metamath database, and their numbers.
 use Rattle.std.specs.Prelude.{ℕ, ◌/◌, ◌%◌, List, [], ◌∷◌, ◌++◌, true, false, Option, Some, None}
-use Rattle.std.specs.Prelude.{option_map, slice_get}
-use Rattle.std.specs.Prelude.{codes}
+use Rattle.std.specs.Prelude.{option_map, slice_get, codes}
 use Rattle.std.specs.Char.{digit_char}
 use Rattle.std.specs.Fmt.{signed_decimal}
 use Rattle.term_core.specs.Terms.{DomainValue, integer, truth, text}

@@ -1,7 +1,6 @@
 // The images of rewrite rules and equations.
 ghost use Rattle.std.specs.Prelude.{◌≡◌, ◌≢◌, ◌<◌, ◌≤◌, ◌-◌, ◌+◌, ◌^◌, [], length, IfOk, Some};
-ghost use Rattle.std.specs.Prelude.{option_map};
-ghost use Rattle.std.specs.Prelude.{option_copied, slice_get};
+ghost use Rattle.std.specs.Prelude.{option_map, option_copied, slice_get};
 ghost use Rattle.ml_pat.specs.Patterns.{imp, and, equal, next};
 ghost use Rattle.term_core.specs.Patterns.{call};
 ghost use Rattle.term_core.specs.RulePatterns.{plain_pattern, sort_numbers};

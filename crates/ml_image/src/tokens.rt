@@ -1,7 +1,6 @@
 // The numbers of the tokens of sorts, symbols and domain values.
 ghost use Rattle.std.specs.Prelude.{◌≡◌, OnOk, ◌<◌, ◌++◌, length, slice_get, string_bytes};
-ghost use Rattle.std.specs.Prelude.{option_map, IfOk, Some};
-ghost use Rattle.std.specs.Prelude.{codes};
+ghost use Rattle.std.specs.Prelude.{option_map, IfOk, Some, codes};
 ghost use Rattle.std.specs.Char.{digit_char};
 ghost use Rattle.term_core.specs.Values.{value_of};
 ghost use Rattle.ml_pat.specs.Named.{number_of, IsNumbered};

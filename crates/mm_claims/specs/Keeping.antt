@@ -1,7 +1,6 @@
 -- Which texts fit what a renderer keeps.
 use Rattle.std.specs.Prelude.{◌≡◌, ℕ, ◌+◌, Bool, true, false, IsTrue, List, [], ◌∷◌, ◌++◌, length}
-use Rattle.std.specs.Prelude.{take, Contains}
-use Rattle.std.specs.Prelude.{slice_get, slice_index_or, Some}
+use Rattle.std.specs.Prelude.{take, Contains, slice_get, slice_index_or, Some}
 use Rattle.mm_text.specs.Bytes.{Token}
 use Rattle.mm_database.specs.Assertions.{Assertion}
 use Rattle.ml_pat.specs.Patterns.{Pattern, bot}

@@ -9,7 +9,8 @@ use Rattle.ml_pat.specs.Patterns.{Pattern}
 use Rattle.ml_kernel.specs.Lemmas.{instance, instances, HaveNoVariables}
 use Rattle.ml_kernel.specs.Theorems.{Derivation}
 use Rattle.ml_kernel.specs.Concluding.{Concludes}
-use Rattle.mm_proof.specs.Tokens.{Naming, own_naming, holds}
+use Rattle.mm_proof.specs.Tokens.{Naming, own_naming}
+use Rattle.mm_proof.specs.Judgements.{holds}
 use Rattle.mm_proof.specs.Labels.{statement_label, premise_label, own_labels}
 use Rattle.ml_pat.specs.KnownLeaves.{Known, are_known}
 use Rattle.mm_proof.specs.Trees.{trees_of, cite}

@@ -9,9 +9,8 @@ use Rattle.mm_text.specs.Bytes.{Token, has_token}
 use Rattle.mm_database.specs.Frames.{Frame, is_needed}
 use Rattle.mm_database.specs.Database.{with_apart, with_frame}
 use Rattle.mm_header.specs.Header.{Row, header_rows}
-use Rattle.mm_header.specs.HeaderContext.{header_context, header_labels, header_types, premises}
-use Rattle.mm_header.specs.HeaderContext.{expression_of, is_in_row, is_pair, row_scope}
-use Rattle.mm_header.specs.HeaderContext.{frame_of_row}
+use Rattle.mm_header.specs.HeaderContext.{header_context, header_labels, row_scope, frame_of_row}
+use Rattle.mm_header.specs.HeaderRows.{header_types, premises, expression_of, is_in_row, is_pair}
 use Rattle.mm_header.specs.HeaderLaws.{HasRow, HasOnlyRows}
 use Rattle.mm_header.proofs.Pairs.{same_token, token_same, needed_pair}
 

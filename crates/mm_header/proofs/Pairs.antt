@@ -5,7 +5,7 @@ use Rattle.std.specs.List.{list_any}
 use Rattle.std.proofs.lemmas.Slice.Eq.{bytes_eq-Decides}
 use Rattle.mm_text.specs.Bytes.{Token}
 use Rattle.mm_database.specs.Database.{are_different_tokens}
-use Rattle.mm_header.specs.HeaderContext.{is_pair}
+use Rattle.mm_header.specs.HeaderRows.{is_pair}
 
 pub same_token : (a b : Token) → bytes_eq a b ≡ true → a ≡ b
 same_token a b h = (bytes_eq-Decides a b).0 h

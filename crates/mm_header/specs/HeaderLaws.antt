@@ -4,7 +4,7 @@ use Rattle.mm_text.specs.Bytes.{Token, has_token}
 use Rattle.mm_database.specs.Frames.{Frame}
 use Rattle.mm_database.specs.Database.{Context}
 use Rattle.mm_header.specs.Header.{Row}
-use Rattle.mm_header.specs.HeaderContext.{IsFrameOfRow}
+use Rattle.mm_header.specs.HeaderRows.{IsFrameOfRow}
 
 -- the context has a frame of the row under its label
 pub record HasRow (c : Context) (r : Row) : Type 0 where

@@ -1,10 +1,10 @@
 -- The text of the header: the declarations of its constants and variables, the `$f` of each
 -- variable, and a `$a` for each row, in order. A row with pairs or hypotheses is in a block with
 -- its `$d`s and its `$e`s. The `$e`s have the labels `LABEL.1` and `LABEL.2`.
-use Rattle.std.specs.Prelude.{ℕ, Bool, true, false, ◌&&◌, ◌==◌, if◌then◌else◌, List, [], ◌∷◌, ◌++◌}
-use Rattle.std.specs.Prelude.{codes}
-use Rattle.std.specs.List.{flat_map, zip}
+use Rattle.std.specs.Prelude.{ℕ, Bool, true, false, ◌&&◌, if◌then◌else◌, List, [], ◌∷◌, ◌++◌, codes}
+use Rattle.std.specs.List.{flat_map}
 use Rattle.mm_header.specs.Header.{Row, header_rows}
+use Rattle.mm_header.specs.HeaderRows.{expression_text, labelled, types_texts}
 
 abbrev pub constants_text : List ℕ
 constants_text =
@@ -14,39 +14,9 @@ constants_text =
 abbrev pub variables_text : List ℕ
 variables_text = codes "p q r t u x y s v"
 
--- a label, a typecode and a variable
-abbrev pub types_texts : List (List ℕ × List ℕ × List ℕ)
-types_texts =
-    (codes "fp", codes "#Pattern", codes "p") ∷
-    (codes "fq", codes "#Pattern", codes "q") ∷
-    (codes "fr", codes "#Pattern", codes "r") ∷
-    (codes "ft", codes "#Pattern", codes "t") ∷
-    (codes "fu", codes "#Pattern", codes "u") ∷
-    (codes "fx", codes "#Var", codes "x") ∷
-    (codes "fy", codes "#Var", codes "y") ∷
-    (codes "fs", codes "#Sort", codes "s") ∷
-    (codes "fv", codes "#Sort", codes "v") ∷
-    []
-
 -- ` $.` and the end of the line
 abbrev pub line_end : List ℕ
 line_end = codes " $.\n"
-
--- what comes before a statement: nothing if it begins with `#`, and otherwise `|-` and a space
-abbrev pub turnstile_text : List ℕ → List ℕ
-turnstile_text [] = codes "|- "
-turnstile_text (b ∷ bytes) = if b == 35 then [] else codes "|- "
-
-abbrev pub expression_text : List ℕ → List ℕ
-expression_text text = turnstile_text text ++ text
-
--- the ends of the labels of the first and the second hypothesis
-abbrev pub endings : List (List ℕ)
-endings = codes ".1" ∷ codes ".2" ∷ []
-
--- the hypotheses with the ends of their labels
-abbrev pub labelled : Row → List (List ℕ × List ℕ)
-labelled r = zip endings r.hypotheses
 
 abbrev pub apart_line : List ℕ × List ℕ → List ℕ
 apart_line (x, y) = codes "$d " ++ x ++ codes " " ++ y ++ line_end

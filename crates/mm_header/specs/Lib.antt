@@ -1,5 +1,6 @@
 -- Public: what public clauses say, and public definitions of other crates.
 pub mod Header
+pub mod HeaderRows
 pub mod HeaderText
 pub mod HeaderContext
 pub mod HeaderTable

@@ -2,7 +2,7 @@
 
 ghost use Rattle.std.specs.Prelude.{◌≡◌, map};
 ghost use Rattle.mm_header.specs.HeaderTable.{type_texts};
-ghost use Rattle.mm_header.specs.HeaderText.{types_texts};
+ghost use Rattle.mm_header.specs.HeaderRows.{types_texts};
 
 /// A variable of the header: the label of its `$f`, its typecode and its name.
 #[derive(Clone, Copy)]

@@ -10,7 +10,7 @@ use Rattle.mm_text.specs.Bytes.{Token}
 use Rattle.mm_database.specs.Frames.{Hypothesis, floating, essential, Frame}
 use Rattle.mm_database.specs.Assertions.{Assertion}
 use Rattle.mm_header.specs.Header.{Row, header_rows}
-use Rattle.mm_header.specs.HeaderContext.{header_types, is_in_row, premises, expression_of}
+use Rattle.mm_header.specs.HeaderRows.{header_types, is_in_row, premises, expression_of}
 use Rattle.ml_pat.specs.Patterns.{Pattern}
 use Rattle.ml_pat.specs.Patterns as logic
 use Rattle.ml_pat.specs.Leaves.{EachLeaf}

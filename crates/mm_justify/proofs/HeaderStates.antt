@@ -9,8 +9,8 @@ use Rattle.mm_database.specs.Frames.{Frame}
 use Rattle.mm_database.specs.Assertions.{Assertion, assertions_of, typings_of}
 use Rattle.mm_header.specs.Header.{Row, header_rows}
 use Rattle.mm_header.specs.HeaderText.{header_bytes}
-use Rattle.mm_header.specs.HeaderContext.{header_context, header_labels, header_types, IsFrameOfRow}
-use Rattle.mm_header.specs.HeaderContext.{frame_of_row}
+use Rattle.mm_header.specs.HeaderContext.{header_context, header_labels, frame_of_row}
+use Rattle.mm_header.specs.HeaderRows.{header_types, IsFrameOfRow}
 use Rattle.mm_header.specs.HeaderLaws.{HasRow}
 use Rattle.mm_header.proofs.HeaderFrames.{header_frames}
 use Rattle.rule_core.specs.Theories.{RewriteTheory}

@@ -12,7 +12,7 @@ use Rattle.mm_database.specs.Forms.{declares_constants, asserts}
 use Rattle.mm_database.specs.Assertions.{assertions_of}
 use Rattle.mm_header.specs.Header.{Row, header_rows}
 use Rattle.mm_header.specs.HeaderText.{header_bytes}
-use Rattle.mm_header.specs.HeaderContext.{expression_of}
+use Rattle.mm_header.specs.HeaderRows.{expression_of}
 use Rattle.ml_pat.specs.Patterns.{Pattern, imp, ev, constant}
 use Rattle.ml_pat.specs.Patterns as logic
 use Rattle.ml_kernel.specs.Rules.{pattern, ev_1}
@@ -33,7 +33,7 @@ use Rattle.ml_image.specs.OwnAxioms.{is_true, sort_of, condition_of, direct, kom
 use Rattle.ml_image.specs.OwnAxioms.{behind_parameters, meets, of_variables, IsOwnAxiom, of_rule}
 use Rattle.ml_image.specs.OwnAxioms.{of_equation, total, apart, free, subsort, collapse}
 use Rattle.ml_image.specs.TrueFacts.{value_patterns, IsTrueFact, of_value, of_hook}
-use Rattle.ml_image.specs.Gained.{of_symbol}
+use Rattle.ml_image.specs.OwnTokens.{of_symbol}
 use Rattle.ml_image.proofs.ImageLaws.{none_some, some_same}
 use Rattle.ml_pat.specs.Leaves.{EachLeaf}
 use Rattle.mm_proof.specs.Tokens.{name_of}

@@ -1,21 +1,19 @@
 -- The images of what small definitions say, token by token.
 use Rattle.std.specs.Prelude.{◌≡◌, ℕ, pos, List, [], ◌∷◌, Some, None, option_map, codes, ◌++◌}
 use Rattle.mm_text.specs.Bytes.{Token}
-use Rattle.mm_header.specs.HeaderContext.{words_of}
+use Rattle.mm_header.specs.HeaderRows.{words_of}
 use Rattle.term_core.specs.Terms.{integer}
 use Rattle.term_core.specs.Patterns.{Pattern, Patterns, variable, domain_value, application}
-use Rattle.term_core.specs.Patterns.{injection, call}
-use Rattle.term_core.specs.Patterns.{no_pattern, more_patterns}
+use Rattle.term_core.specs.Patterns.{injection, call, no_pattern, more_patterns}
 use Rattle.rule_core.specs.Rules.{RewriteRule, Equation}
 use Rattle.rule_core.specs.declared.signature.Signature.{Signature}
 use Rattle.ml_image.specs.Tokens.{name_at}
 use Rattle.ml_image.specs.Images.{injection_symbol}
 use Rattle.ml_image.specs.Sentences.{Sentence, term, top, not, and, implies, equals, functional}
-use Rattle.ml_image.specs.Sentences.{exists, for_all}
-use Rattle.ml_image.specs.Sentences.{symbol, variables, apply_all, conjunctions, sentence_image}
+use Rattle.ml_image.specs.Sentences.{exists, for_all, symbol, variables, apply_all, conjunctions}
+use Rattle.ml_image.specs.Sentences.{sentence_image}
 use Rattle.ml_image.specs.OwnAxioms.{is_true, rule_sentence, direct_sentence, behind_parameters}
-use Rattle.ml_image.specs.OwnAxioms.{kompile_sentence}
-use Rattle.ml_image.specs.OwnAxioms.{of_variables}
+use Rattle.ml_image.specs.OwnAxioms.{kompile_sentence, of_variables}
 use Rattle.mm_proof.specs.Tokens.{tokens_of}
 
 -- the image of the sentence has these words

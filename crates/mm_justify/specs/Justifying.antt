@@ -8,7 +8,7 @@ use Rattle.mm_database.specs.Frames.{Hypothesis, floating, essential, Frame}
 use Rattle.mm_database.specs.Assertions.{Assertion, assertions_of, typings_of}
 use Rattle.mm_database.specs.Validity.{IsValid}
 use Rattle.mm_header.specs.Header.{Row, header_rows}
-use Rattle.mm_header.specs.HeaderContext.{IsFrameOfRow}
+use Rattle.mm_header.specs.HeaderRows.{IsFrameOfRow}
 use Rattle.ml_pat.specs.Patterns.{Pattern, imp, ev}
 use Rattle.ml_pat.specs.Named.{AreDistinct}
 use Rattle.ml_pat.specs.Leaves.{EachLeaf}
@@ -18,7 +18,7 @@ use Rattle.ml_image.specs.Images.{image_of}
 use Rattle.ml_image.specs.Sentences.{Sentence, sentence_image}
 use Rattle.ml_image.specs.OwnAxioms.{IsOwnAxiom}
 use Rattle.ml_image.specs.TrueFacts.{IsTrueFact}
-use Rattle.ml_image.specs.Gained.{IsOwnToken}
+use Rattle.ml_image.specs.OwnTokens.{IsOwnToken}
 use Rattle.mm_justify.specs.Stating.{IsName, name_frame, holds_text, holds_frame, closed_over}
 
 -- ---- frames

@@ -1,6 +1,5 @@
 -- The proofs that a variable is not free in a pattern.
-use Rattle.std.proofs.Common.{◌≡◌, ℕ, Bool, true, false, [], ◌∷◌, ◌++◌, refl, sym, subst}
-use Rattle.std.proofs.Common.{eqb-true}
+use Rattle.std.proofs.Common.{◌≡◌, ℕ, Bool, true, false, [], ◌∷◌, ◌++◌, refl, sym, subst, eqb-true}
 use Rattle.std.specs.Prelude.{◌==◌, ◌&&◌, ◌||◌, if◌then◌else◌, codes}
 use Rattle.std.proofs.lemmas.Bool.{false≢true}
 use Rattle.mm_text.specs.Bytes.{Token}
@@ -9,7 +8,8 @@ use Rattle.mm_database.specs.Proofs.{Expression, Proves, texts_apart, symbols_ap
 use Rattle.ml_pat.specs.Patterns.{Pattern, nullary, unary, binary, sorted, quantified, var, meta}
 use Rattle.ml_pat.specs.Patterns.{constant}
 use Rattle.ml_pat.specs.Judgements.{absent, fresh}
-use Rattle.mm_proof.specs.Tokens.{Naming, letters_of, text_by, is_fresh, judgement_by, unary_name}
+use Rattle.mm_proof.specs.Tokens.{Naming, letters_of, text_by, unary_name}
+use Rattle.mm_proof.specs.Judgements.{is_fresh, judgement_by}
 use Rattle.mm_proof.specs.Tokens.{binary_name, sorted_name, quantifier_name}
 use Rattle.ml_pat.specs.Leaves.{LeafFacts, EachLeaf}
 use Rattle.mm_proof.specs.Serving.{Serves}

@@ -8,8 +8,8 @@ use Rattle.mm_database.specs.Proofs.{Expression, Proves}
 use Rattle.ml_pat.specs.Patterns.{Pattern, nullary, quantified, imp, not, and, or, equal, member}
 use Rattle.ml_pat.specs.Patterns.{fun}
 use Rattle.ml_pat.specs.Judgements.{predicate}
-use Rattle.mm_proof.specs.Tokens.{Naming, letters_of, is_predicate, judgement_by, nullary_name}
-use Rattle.mm_proof.specs.Tokens.{quantifier_name}
+use Rattle.mm_proof.specs.Tokens.{Naming, letters_of, nullary_name, quantifier_name}
+use Rattle.mm_proof.specs.Judgements.{is_predicate, judgement_by}
 use Rattle.ml_pat.specs.Leaves.{LeafFacts, EachLeaf}
 use Rattle.mm_proof.specs.Serving.{Serves}
 use Rattle.mm_proof.specs.Trees.{cite, syntax_tree, predicate_tree}

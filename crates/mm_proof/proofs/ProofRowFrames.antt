@@ -5,7 +5,7 @@ use Rattle.mm_header.specs.Header.{header_rows}
 use Rattle.mm_header.specs.HeaderContext.{header_context, header_labels}
 use Rattle.ml_pat.specs.Patterns.{bot, top, imp, not, and, or, equal, member, fun, ex, all, app}
 use Rattle.ml_pat.specs.Patterns.{next, ev, var}
-use Rattle.mm_proof.specs.Tokens.{holds, is_fresh, is_substituted, is_predicate}
+use Rattle.mm_proof.specs.Judgements.{holds, is_fresh, is_substituted, is_predicate}
 use Rattle.mm_proof.proofs.Rows.{IsRow, no_pair, pair_of, P, Q, R, T, U, fp, fq, fr, ft, fu, fx, fy}
 use Rattle.mm_proof.proofs.Rows.{fs, fv}
 

@@ -6,7 +6,7 @@ use Rattle.mm_database.specs.Database.{Context}
 use Rattle.mm_database.specs.Proofs.{Expression, instance_of, keeps_apart, ProofTree, Proves}
 use Rattle.mm_database.specs.Proofs.{AllProve, symbols_apart}
 use Rattle.mm_database.specs.Stack.{bindings_of, text_of}
-use Rattle.mm_proof.specs.Tokens.{Judgement, judgement_by}
+use Rattle.mm_proof.specs.Judgements.{Judgement, judgement_by}
 use Rattle.mm_proof.specs.Trees.{trees_of, cite}
 use Rattle.mm_proof.specs.Serving.{HasHeader}
 use Rattle.mm_proof.proofs.Schemes.{Leaves, under, judgement-under, leads-by}

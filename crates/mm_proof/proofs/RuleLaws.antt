@@ -6,8 +6,8 @@ use Rattle.mm_database.specs.Proofs.{Expression, ProofTree, Proves, AllProve, te
 use Rattle.mm_database.specs.Proofs.{symbols_apart}
 use Rattle.ml_pat.specs.Patterns.{Pattern, bot, top, imp, not, and, or, equal, member, fun, ex, all}
 use Rattle.ml_pat.specs.Patterns.{app, next, ev, var}
-use Rattle.mm_proof.specs.Tokens.{Naming, letters_of, text_by, is_fresh, is_substituted}
-use Rattle.mm_proof.specs.Tokens.{is_predicate, holds}
+use Rattle.mm_proof.specs.Tokens.{Naming, letters_of, text_by}
+use Rattle.mm_proof.specs.Judgements.{is_fresh, is_substituted, is_predicate, holds}
 use Rattle.ml_pat.specs.Leaves.{LeafFacts}
 use Rattle.mm_proof.specs.Serving.{Serves}
 use Rattle.mm_proof.specs.Trees.{fresh_tree, instance_tree, rule_tree, trees_before, trees_after}

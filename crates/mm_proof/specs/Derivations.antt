@@ -5,7 +5,8 @@ use Rattle.mm_database.specs.Proofs.{Expression, ProofTree}
 use Rattle.ml_pat.specs.Patterns.{Pattern}
 use Rattle.ml_kernel.specs.Theorems.{Derivation, Derivations, hypothesis, own_axiom, by_rule, cited}
 use Rattle.ml_kernel.specs.Theorems.{no_derivation, more_derivations}
-use Rattle.mm_proof.specs.Tokens.{Naming, letters_of, holds, judgement_by}
+use Rattle.mm_proof.specs.Tokens.{Naming, letters_of}
+use Rattle.mm_proof.specs.Judgements.{holds, judgement_by}
 use Rattle.mm_proof.specs.Trees.{rule_tree}
 
 -- what is written to say that a pattern holds

@@ -1,5 +1,6 @@
 -- Public: what public clauses say, and public definitions of other crates.
 pub mod Tokens
+pub mod Judgements
 pub mod Labels
 pub mod Trees
 pub mod Entries

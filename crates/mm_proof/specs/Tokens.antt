@@ -99,21 +99,3 @@ own_naming names = record {
 
 abbrev pub tokens_of : List Token → Pattern → List Token
 tokens_of names p = text_by (letters_of (own_naming names)) p
-
--- what a statement of the logic says: a pattern is one; a pattern holds; a variable is not free in
--- a pattern; a pattern is another one with a pattern substituted for a variable; or a pattern is
--- everything or nothing
-pub data Judgement : Type 0 where
-  is_pattern : Pattern → Judgement
-  holds : Pattern → Judgement
-  is_fresh : ℕ → Pattern → Judgement
-  is_substituted : Pattern → Pattern → Pattern → ℕ → Judgement
-  is_predicate : Pattern → Judgement
-
-abbrev pub judgement_by : Letters → Judgement → List Token
-judgement_by l (is_pattern p) = codes "#Pattern" ∷ text_by l p
-judgement_by l (holds p) = codes "|-" ∷ text_by l p
-judgement_by l (is_fresh x p) = codes "#Fresh" ∷ (l.object x ++ text_by l p)
-judgement_by l (is_substituted t p u x) =
-    codes "#Sub" ∷ (text_by l t ++ (text_by l p ++ (text_by l u ++ l.object x)))
-judgement_by l (is_predicate p) = codes "#Pred" ∷ text_by l p

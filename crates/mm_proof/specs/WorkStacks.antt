@@ -6,8 +6,8 @@ use Rattle.ml_pat.specs.Patterns.{Pattern}
 use Rattle.mm_proof.specs.Tokens.{Naming, name_of, object_token}
 use Rattle.mm_proof.specs.Entries.{Entry, entries_of}
 use Rattle.mm_proof.specs.Labels.{own_labels}
-use Rattle.mm_proof.specs.Trees.{cite, first_part, second_part, syntax_tree}
-use Rattle.mm_proof.specs.Trees.{fresh_tree, substitution_tree, predicate_tree}
+use Rattle.mm_proof.specs.Trees.{cite, first_part, second_part, syntax_tree, fresh_tree}
+use Rattle.mm_proof.specs.Trees.{substitution_tree, predicate_tree}
 use Rattle.mm_proof.specs.Writing.{work_entries, listed, plain, plain_bracketed, plain_bracket}
 use Rattle.mm_proof.specs.Writing.{text_entries}
 use Rattle.mm_proof.specs.declared.works.ListingTask.{ListingTask}

@@ -10,7 +10,8 @@ use Rattle.term_core.specs.Terms.{DomainValue}
 use Rattle.ml_image.specs.Tokens.{name_at, sort_token, symbol_token, value_token, hexadecimal}
 use Rattle.ml_image.specs.Tokens.{value_text}
 use Rattle.proof_writer.proofs.ValueBytes.{is_byte, value_bytes}
-use Rattle.ml_image.specs.Gained.{IsOwnToken, of_sort, of_symbol, of_value, AreOwnTokens}
+use Rattle.ml_image.specs.OwnTokens.{IsOwnToken, of_sort, of_symbol, of_value}
+use Rattle.ml_image.specs.Gained.{AreOwnTokens}
 use Rattle.mm_claims.specs.Statements.{sort_name, symbol_name, value_name, is_name_byte, IsName}
 use Rattle.mm_claims.specs.Fitting.{AreNames}
 use Rattle.ml_pat.proofs.LeafLaws.{both_true, split_true}

@@ -10,7 +10,8 @@ use Rattle.ml_pat.specs.Patterns.{Pattern, top, and, equal, member, var, meta}
 use Rattle.ml_kernel.specs.Lemmas.{instance, IsMetaBelow}
 use Rattle.ml_kernel.specs.Theorems.{Theorem}
 use Rattle.ml_scope.specs.Scopes.{Scope, AreWithin}
-use Rattle.term_core.specs.Terms.{Tree, leaf, truth, forest, no_tree, AreNormal}
+use Rattle.term_core.specs.Terms.{Tree, leaf, truth, no_tree, AreNormal}
+use Rattle.term_core.specs.Forests.{forest}
 use Rattle.term_core.specs.Patterns.{Pattern as RulePattern, Patterns as RulePatterns, variable}
 use Rattle.term_core.specs.Patterns.{domain_value, application, injection, call, no_pattern}
 use Rattle.term_core.specs.Patterns.{more_patterns, binding, ground_pattern, ground_patterns}

@@ -6,8 +6,8 @@ use Rattle.ml_kernel.specs.Theorems.{Theorem}
 use Rattle.ml_scope.specs.Scopes.{StaysWithin}
 use Rattle.ml_derived.specs.Equalities.{IsFromClosed, IsFlip, AreJoinable, IsJoin}
 use Rattle.term_core.specs.Terms.{Tree, Forest}
-use Rattle.term_core.specs.Patterns.{Patterns as RulePatterns, call, all_substituted}
-use Rattle.term_core.specs.Patterns.{ground_patterns}
+use Rattle.term_core.specs.Patterns.{Patterns as RulePatterns, call, ground_patterns}
+use Rattle.term_core.specs.Instances.{all_substituted}
 use Rattle.rule_core.specs.Rules.{Equation}
 use Rattle.rule_core.specs.Theories.{equations_of}
 use Rattle.rule_core.specs.ProgramView.{theory_of}

@@ -5,10 +5,10 @@ use Rattle.ml_pat.specs.Patterns.{Pattern, equal, fun, member, var}
 use Rattle.ml_kernel.specs.Lemmas.{HasNoVariable}
 use Rattle.ml_kernel.specs.Theorems.{Theorem}
 use Rattle.ml_scope.specs.Scopes.{StaysWithin}
-use Rattle.term_core.specs.Terms.{Tree, forest}
+use Rattle.term_core.specs.Terms.{Tree}
+use Rattle.term_core.specs.Forests.{forest}
 use Rattle.term_core.specs.Patterns.{Pattern as RulePattern, Patterns as RulePatterns, no_pattern}
-use Rattle.term_core.specs.Patterns.{more_patterns}
-use Rattle.term_core.specs.Patterns.{ground_pattern, instances_of}
+use Rattle.term_core.specs.Patterns.{more_patterns, ground_pattern, instances_of}
 use Rattle.rule_core.specs.Rules.{Equation}
 use Rattle.rule_core.specs.Matching.{RespectsSorts}
 use Rattle.rule_core.specs.ProgramView.{theory_of}

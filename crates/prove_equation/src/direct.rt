@@ -1,6 +1,6 @@
 // Direct equations, which have no parameters, at terms.
 ghost use Rattle.std.specs.Prelude.{◌≡◌, [], IfOk};
-ghost use Rattle.term_core.specs.Terms.{forest};
+ghost use Rattle.term_core.specs.Forests.{forest};
 ghost use Rattle.rule_core.specs.Matching.{MatchAll};
 ghost use Rattle.rule_core.specs.ProgramView.{function_equation, sorts_of, theory_of};
 ghost use Rattle.rule_core.specs.WellSorted.{IsWellSorted};

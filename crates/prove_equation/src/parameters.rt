@@ -4,7 +4,7 @@ ghost use Rattle.std.specs.Prelude.{◌≡◌, ◌≢◌, ◌++◌, [], ◌∷�
 ghost use Rattle.std.specs.List.{AllZip};
 ghost use Rattle.ml_pat.specs.Patterns.{fun, imp, member};
 ghost use Rattle.ml_scope.specs.Scopes.{StaysWithin};
-ghost use Rattle.term_core.specs.Terms.{forest};
+ghost use Rattle.term_core.specs.Forests.{forest};
 ghost use Rattle.term_core.specs.Patterns.{instance_of, instances_of};
 ghost use Rattle.term_core.specs.PatternLists.{plain_patterns};
 ghost use Rattle.term_core.specs.RulePatterns.{plain_pattern};

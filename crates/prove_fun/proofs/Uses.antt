@@ -6,7 +6,8 @@ use Rattle.std.specs.Prelude.{true, Vec, slice_index_or, ◌⊎◌}
 use Rattle.std.specs.Global.{Global}
 use Rattle.ml_pat.specs.Patterns.{Pattern}
 use Rattle.ml_kernel.specs.Theorems.{Theorem}
-use Rattle.term_core.specs.Terms.{Tree, Forest, forest, more_trees, leaf, truth}
+use Rattle.term_core.specs.Terms.{Tree, Forest, more_trees, leaf, truth}
+use Rattle.term_core.specs.Forests.{forest}
 use Rattle.term_core.specs.Patterns.{Pattern as RulePattern}
 use Rattle.term_core.specs.PatternLists.{plain_patterns}
 use Rattle.term_core.specs.RulePatterns.{plain_pattern}

@@ -3,8 +3,7 @@
 use Rattle.std.specs.Prelude.{◌≡◌, ◌≤◌, ℕ, List, [], Option, Some, None, IsSome}
 use Rattle.term_core.specs.Terms.{Tree, Forest, DomainValue, leaf, height, injected}
 use Rattle.term_core.specs.Patterns.{Pattern as RulePattern, Patterns as RulePatterns, injection}
-use Rattle.term_core.specs.Patterns.{call, binding}
-use Rattle.term_core.specs.Patterns.{ground_pattern, ground_patterns}
+use Rattle.term_core.specs.Patterns.{call, binding, ground_pattern, ground_patterns}
 use Rattle.ml_pat.specs.Patterns.{Pattern, equal}
 use Rattle.ml_kernel.specs.Lemmas.{HasNoVariable}
 use Rattle.ml_kernel.specs.Theorems.{Theorem}

@@ -1,8 +1,7 @@
 -- The records of a node's arguments.
 use Rattle.std.specs.Prelude.{List, [], ◌∷◌}
 use Rattle.rule_core.specs.Records.{Record, RecordList, bound, itself, made, by_hook, by_equation}
-use Rattle.rule_core.specs.Records.{no_record}
-use Rattle.rule_core.specs.Records.{more_records}
+use Rattle.rule_core.specs.Records.{no_record, more_records}
 
 abbrev pub children_of : Record → RecordList
 children_of (bound x t) = no_record

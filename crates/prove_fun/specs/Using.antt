@@ -11,8 +11,7 @@ use Rattle.rule_core.specs.Sorting.{IsSymbol}
 use Rattle.rule_core.specs.Evaluation.{IsTrueValue}
 use Rattle.rule_core.specs.ProgramView.{theory_of}
 use Rattle.rule_core.specs.Records.{Record, RecordList, OptionalRecord, RecordsCondition}
-use Rattle.rule_core.specs.Records.{by_equation}
-use Rattle.rule_core.specs.Records.{result_of, results_of}
+use Rattle.rule_core.specs.Records.{by_equation, result_of, results_of}
 use Rattle.rule_core.specs.RecordView.{optional, plain_record, records}
 use Rattle.rule_core.specs.declared.records.EqRecord.{EqRecord}
 use Rattle.rule_core.specs.declared.records.EvalRecord.{EvalRecord}

@@ -1,6 +1,6 @@
 // Equations of functions at the values of a call's arguments.
 ghost use Rattle.std.specs.Prelude.{◌≡◌, ℕ, IfOk, Some, length, slice_get};
-ghost use Rattle.term_core.specs.Terms.{forest};
+ghost use Rattle.term_core.specs.Forests.{forest};
 ghost use Rattle.rule_core.specs.Rules.{Equation as PlainEquation};
 ghost use Rattle.rule_core.specs.Theories.{equations_of};
 ghost use Rattle.rule_core.specs.ProgramView.{theory_of};

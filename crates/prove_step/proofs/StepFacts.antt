@@ -6,7 +6,7 @@ use Rattle.std.proofs.lemmas.Option.{slice_get_within}
 use Rattle.ml_kernel.specs.Theorems.{Theorem}
 use Rattle.term_core.specs.Terms.{Tree, Forest, no_tree, more_trees, height}
 use Rattle.term_core.specs.Patterns.{Pattern, no_pattern, more_patterns, instance_of, instances_of}
-use Rattle.term_core.specs.Patterns.{FitsWithin}
+use Rattle.term_core.specs.Instances.{FitsWithin}
 use Rattle.term_core.specs.RulePatterns.{plain_pattern}
 use Rattle.rule_core.specs.BoundVariables.{IsBoundRule}
 use Rattle.rule_core.specs.Evaluation.{most_height, IsTrueValue}

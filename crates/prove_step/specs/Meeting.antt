@@ -2,8 +2,7 @@
 use Rattle.std.specs.Prelude.{◌||◌, Bool, true, false, List, Option, Some, None}
 use Rattle.term_core.specs.Terms.{Tree, leaf, node, inj}
 use Rattle.term_core.specs.Patterns.{Pattern, Patterns, variable, domain_value, application}
-use Rattle.term_core.specs.Patterns.{injection, call}
-use Rattle.term_core.specs.Patterns.{no_pattern, more_patterns, binding}
+use Rattle.term_core.specs.Patterns.{injection, call, no_pattern, more_patterns, binding}
 
 abbrev pub is_injection : Tree → Bool
 is_injection (leaf s v) = false

@@ -1,7 +1,7 @@
 // From the step of a rule as it is written to the step with normal terms. Injections of injections
 // are made one, and the right side is replaced by its value.
 ghost use Rattle.std.specs.Prelude.{ℕ, List, IfOk, IfSome};
-ghost use Rattle.term_core.specs.Patterns.{FitsWithin};
+ghost use Rattle.term_core.specs.Instances.{FitsWithin};
 ghost use Rattle.term_core.specs.RulePatterns.{plain_pattern};
 ghost use Rattle.rule_core.specs.Evaluation.{most_height};
 ghost use Rattle.rule_core.specs.Matching.{RespectsSorts};

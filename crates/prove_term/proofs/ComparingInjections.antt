@@ -8,7 +8,8 @@ use Rattle.ml_scope.specs.Scopes.{IsOver, StaysWithin}
 use Rattle.ml_scope.proofs.RuleLaws.{lemma_within}
 use Rattle.ml_derived.specs.Equalities.{IsJoin}
 use Rattle.term_core.specs.Terms.{Tree, inj, injected}
-use Rattle.term_core.specs.Patterns.{Pattern as RulePattern, injection, substituted, ground_pattern}
+use Rattle.term_core.specs.Patterns.{Pattern as RulePattern, injection, ground_pattern}
+use Rattle.term_core.specs.Instances.{substituted}
 use Rattle.rule_core.specs.Sorting.{HasSort, IsTermOf}
 use Rattle.rule_core.specs.Subsorts.{IsBelow}
 use Rattle.rule_core.specs.WellSorted.{IsSignature}

@@ -8,7 +8,8 @@ use Rattle.ml_scope.specs.Scopes.{Scope, IsOver}
 use Rattle.term_core.specs.Patterns.{injection, variable}
 use Rattle.term_core.specs.RulePatterns.{sort_numbers}
 use Rattle.term_core.specs.declared.ids.SortId.{SortId}
-use Rattle.rule_core.specs.Subsorts.{IsBelow, IsPath, by_pair}
+use Rattle.rule_core.specs.Subsorts.{IsBelow, by_pair}
+use Rattle.rule_core.specs.SubsortPaths.{IsPath}
 use Rattle.rule_core.proofs.Belows.{IsBelow-trans}
 use Rattle.ml_image.specs.Sentences.{term}
 use Rattle.ml_image.proofs.ImageLaws.{some_same}

@@ -6,9 +6,9 @@ use Rattle.ml_kernel.specs.Lemmas.{HasNoVariable}
 use Rattle.ml_kernel.specs.Theorems.{Theorem}
 use Rattle.ml_scope.specs.Scopes.{Scope, IsOver}
 use Rattle.term_core.specs.Terms.{Tree, Forest}
-use Rattle.term_core.specs.Patterns.{Pattern as RulePattern, Patterns as RulePatterns}
-use Rattle.term_core.specs.Patterns.{substituted, all_substituted, instance_of, instances_of}
-use Rattle.term_core.specs.Patterns.{ground_pattern, ground_patterns}
+use Rattle.term_core.specs.Patterns.{Pattern as RulePattern, Patterns as RulePatterns, instance_of}
+use Rattle.term_core.specs.Patterns.{instances_of, ground_pattern, ground_patterns}
+use Rattle.term_core.specs.Instances.{substituted, all_substituted}
 use Rattle.rule_core.specs.Sorting.{HasSort, HaveSorts}
 use Rattle.rule_core.specs.Matching.{RespectsSorts}
 use Rattle.rule_core.specs.declared.signature.Signature.{Signature}

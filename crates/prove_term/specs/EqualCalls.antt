@@ -2,7 +2,8 @@
 -- written equals the image of its call on their normal forms.
 use Rattle.std.specs.Prelude.{◌≡◌, ℕ, List, [], Option, Some, None}
 use Rattle.term_core.specs.Terms.{Tree, Forest}
-use Rattle.term_core.specs.Patterns.{Patterns, call, all_substituted, ground_patterns}
+use Rattle.term_core.specs.Patterns.{Patterns, call, ground_patterns}
+use Rattle.term_core.specs.Instances.{all_substituted}
 use Rattle.ml_pat.specs.Patterns.{Pattern, equal}
 use Rattle.ml_kernel.specs.Lemmas.{HasNoVariable}
 use Rattle.ml_kernel.specs.Theorems.{Theorem}

@@ -2,8 +2,8 @@
 -- its normal form.
 use Rattle.std.specs.Prelude.{◌≡◌, ◌≢◌, List, Option, Some, None}
 use Rattle.term_core.specs.Terms.{Tree}
-use Rattle.term_core.specs.Patterns.{Pattern as RulePattern, substituted, instance_of}
-use Rattle.term_core.specs.Patterns.{ground_pattern}
+use Rattle.term_core.specs.Patterns.{Pattern as RulePattern, instance_of, ground_pattern}
+use Rattle.term_core.specs.Instances.{substituted}
 use Rattle.ml_pat.specs.Patterns.{Pattern, equal}
 use Rattle.ml_kernel.specs.Lemmas.{HasNoVariable}
 use Rattle.ml_kernel.specs.Theorems.{Theorem}

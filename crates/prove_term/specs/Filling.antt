@@ -2,8 +2,8 @@
 use Rattle.std.specs.Prelude.{ℕ, List, Option, Some, None}
 use Rattle.term_core.specs.Terms.{Tree}
 use Rattle.term_core.specs.Patterns.{Pattern, Patterns, variable, domain_value, application}
-use Rattle.term_core.specs.Patterns.{injection, call}
-use Rattle.term_core.specs.Patterns.{no_pattern, more_patterns, binding, ground_pattern}
+use Rattle.term_core.specs.Patterns.{injection, call, no_pattern, more_patterns, binding}
+use Rattle.term_core.specs.Patterns.{ground_pattern}
 
 -- the term that is bound to the variable x, or the variable itself if none is
 abbrev pub in_place : ℕ → Option Tree → Pattern

@@ -1,6 +1,6 @@
 // Calls of functions on patterns, and the same calls on the terms that the patterns become.
 ghost use Rattle.std.specs.Prelude.{◌≡◌, ◌<◌, ℕ, List, [], length, IfOk, Some};
-ghost use Rattle.term_core.specs.Terms.{forest};
+ghost use Rattle.term_core.specs.Forests.{forest};
 ghost use Rattle.term_core.specs.Patterns.{call, ground_patterns, instances_of};
 ghost use Rattle.term_core.specs.RulePatterns.{plain_pattern};
 ghost use Rattle.term_core.specs.PatternLists.{plain_patterns};

@@ -4,7 +4,8 @@
 ghost use Rattle.std.specs.Prelude.{◌≡◌, ◌≢◌, ℕ, List, IfOk, IfSome, Some};
 ghost use Rattle.ml_pat.specs.Patterns.{Pattern, app, equal};
 ghost use Rattle.ml_kernel.specs.Lemmas.{HasNoVariable};
-ghost use Rattle.term_core.specs.Patterns.{application, injection, FitsWithin};
+ghost use Rattle.term_core.specs.Patterns.{application, injection};
+ghost use Rattle.term_core.specs.Instances.{FitsWithin};
 ghost use Rattle.term_core.specs.RulePatterns.{plain_pattern};
 ghost use Rattle.term_core.specs.PatternLists.{plain_patterns};
 ghost use Rattle.rule_core.specs.Matching.{RespectsSorts};

@@ -3,7 +3,8 @@
 ghost use Rattle.std.specs.Prelude.{◌≡◌, ◌∷◌, [], Contains, IfOk, IfSome};
 ghost use Rattle.term_core.specs.RulePatterns.{sort_numbers};
 ghost use Rattle.rule_core.specs.ProgramView.{theory_of};
-ghost use Rattle.rule_core.specs.Subsorts.{IsBelow, IsPath};
+ghost use Rattle.rule_core.specs.Subsorts.{IsBelow};
+ghost use Rattle.rule_core.specs.SubsortPaths.{IsPath};
 ghost use Rattle.ml_image.specs.HasImages.{CanInject};
 ghost use Rattle.ml_image.specs.Sentences.{IsImageOf};
 ghost use Rattle.prove_term.specs.Contexts.{HasGrown, IsAssumed, IsLemmaIn, StaysIn};

@@ -12,7 +12,7 @@ use Rattle.rule_core.specs.Evaluation.{holds}
 use Rattle.rule_core.specs.FirstRule.{Matches, Meets, applies, none_applies, Tries, no_rule_left}
 use Rattle.rule_core.specs.FirstRule.{unmatched, condition_fails, condition_holds}
 use Rattle.rule_core.specs.RunLaws.{IsPassedOver, FirstApplies, NoneApplies}
-use Rattle.rule_core.specs.TrialOrder.{AreInOrder}
+use Rattle.rule_core.specs.Rules.{AreInOrder}
 use Rattle.rule_core.proofs.EvaluationUnique.{all_first, all_rest}
 
 pub all_at : {X : Type 0} (P : X → Type 0) (xs : List X) (i : ℕ) (x : X) → All P xs

@@ -7,8 +7,8 @@ use Rattle.std.specs.Option.{option_and_then}
 use Rattle.std.proofs.lemmas.Bool.{false≢true}
 use Rattle.std.proofs.lemmas.List.{drop_more}
 use Rattle.std.proofs.lemmas.Option.{get_or_from_slice_get, slice_get_within}
-use Rattle.term_core.specs.Terms.{Tree, node, inj, forest, children, height, IsNoInjection}
-use Rattle.term_core.specs.Terms.{IsNormal}
+use Rattle.term_core.specs.Terms.{Tree, node, inj, height, IsNoInjection, IsNormal}
+use Rattle.term_core.specs.Forests.{forest, children}
 use Rattle.term_core.specs.TreeTest.{tree_eq}
 use Rattle.term_core.specs.Patterns.{Pattern, application}
 use Rattle.term_core.specs.RulePatterns.{plain_pattern}

@@ -4,7 +4,8 @@ use Rattle.std.proofs.Common.{true, false, List, [], ◌∷◌, ◌++◌, length
 use Rattle.std.proofs.Common.{sym, ◌∙◌, ap, subst, arith}
 use Rattle.std.specs.Prelude.{◌==◌, ◌||◌, if◌then◌else◌}
 use Rattle.std.proofs.lemmas.Bool.{false≢true, eqb-true}
-use Rattle.rule_core.specs.Subsorts.{IsBelow, by_pair, by_chain, HasNoCycle, IsPath, is_below}
+use Rattle.rule_core.specs.Subsorts.{IsBelow, by_pair, by_chain, HasNoCycle, is_below}
+use Rattle.rule_core.specs.SubsortPaths.{IsPath}
 use Rattle.rule_core.specs.SubsortFields.{sort_pairs}
 use Rattle.term_core.specs.declared.ids.SortId.{SortId}
 use Rattle.rule_core.proofs.Belows.{is_below-true, true-is_below, either_true, true_left}

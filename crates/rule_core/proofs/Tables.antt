@@ -14,7 +14,8 @@ use Rattle.std.specs.Str.{bytes_eq}
 use Rattle.std.proofs.lemmas.Bool.{false≢true}
 use Rattle.std.proofs.lemmas.List.{map-append}
 use Rattle.std.proofs.lemmas.Slice.Eq.{bytes_eq-Decides}
-use Rattle.rule_core.specs.Named.{number_of, names_of, IsNoneOf, AreDistinct}
+use Rattle.rule_core.specs.Named.{number_of}
+use Rattle.rule_core.specs.DistinctNames.{names_of, IsNoneOf, AreDistinct}
 
 only_none : (b : Bool) (i : ℕ) (rest : Option ℕ) → cond b (Some i) rest ≡ None
     → (b ≡ false) × (rest ≡ None)

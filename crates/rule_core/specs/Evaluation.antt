@@ -66,13 +66,9 @@ pub data HasHead (theory : RewriteTheory) : Pattern → ℕ → Patterns → Typ
 
 -- the normal term that a constructor or an injection builds from the values of its arguments
 abbrev pub built : Pattern → Forest → Option Tree
-built (variable x) ts = None
-built (domain_value s v) ts = None
 built (application f ps) ts = Some (node f ts)
-built (injection a b p) no_tree = None
 built (injection a b p) (more_trees t no_tree) = Some (injected a b t)
-built (injection a b p) (more_trees t (more_trees u ts)) = None
-built (call f sorts ps) ts = None
+built _ _ = None
 
 -- the meaning of the value of a condition
 pub data Says : Evaluated → Tested → Type 0 where

@@ -1,6 +1,6 @@
 -- The value of a function's hook at terms.
 use Rattle.std.specs.Prelude.{◌≡◌, ℕ, List, [], ◌∷◌, Some, Ok, Err}
-use Rattle.term_core.specs.Terms.{leaf, node, inj, Forest, no_tree, more_trees, DomainValue}
+use Rattle.term_core.specs.Terms.{leaf, Forest, no_tree, more_trees, DomainValue}
 use Rattle.term_core.specs.HookValues.{hook_value}
 use Rattle.term_core.specs.declared.values.NoValue.{NoValue}
 use Rattle.rule_core.specs.declared.signature.SymInfo.{SymInfo}
@@ -11,8 +11,7 @@ abbrev pub AreValues : Forest → List DomainValue → Type 0
 AreValues no_tree vs = vs ≡ []
 AreValues (more_trees (leaf s v) ts) vs =
     (rest : List DomainValue) × (vs ≡ v ∷ rest) × AreValues ts rest
-AreValues (more_trees (node f us) ts) vs = ⊥
-AreValues (more_trees (inj a b t) ts) vs = ⊥
+AreValues _ _ = ⊥
 
 -- the symbol has the hook with this number, which has this value at the terms
 pub record HookAnswers (info : SymInfo) (row : ℕ) (ts : Forest) (v : DomainValue) : Type 0 where

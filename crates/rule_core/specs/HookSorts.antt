@@ -35,9 +35,8 @@ RefersTo sig k of = (sort : ℕ) × (of ≡ Sort (record { 0 = sort })) × IsSor
 -- the references are to such sorts, in order
 abbrev pub ReferTo : Signature → List Kind → List SortRef → Type 0
 ReferTo sig [] [] = Unit {0}
-ReferTo sig [] (of ∷ refs) = ⊥
-ReferTo sig (k ∷ ks) [] = ⊥
 ReferTo sig (k ∷ ks) (of ∷ refs) = RefersTo sig k of × ReferTo sig ks refs
+ReferTo _ _ _ = ⊥
 
 -- the declaration has the sorts of the hook with this number
 pub record FitsHook (sig : Signature) (row : ℕ) (info : SymInfo) : Type 0 where

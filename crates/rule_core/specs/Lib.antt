@@ -1,12 +1,15 @@
 -- Public: what public clauses say, and public definitions of other crates.
 pub mod Named
+pub mod DistinctNames
 pub mod Rules
-pub mod TrialOrder
 pub mod Matching
 pub mod MatchSearch
 pub mod FirstRule
 pub mod Subsorts
+pub mod SubsortPaths
 pub mod Sorting
+pub mod KindTests
+pub mod AcSymbols
 pub mod Theories
 pub mod HookCalls
 pub mod Evaluation

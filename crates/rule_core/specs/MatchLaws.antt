@@ -4,7 +4,8 @@ use Rattle.term_core.specs.Terms.{Tree, Forest, AreNormal}
 use Rattle.term_core.specs.Patterns.{Patterns, instances_of, ground_patterns}
 use Rattle.rule_core.specs.Subsorts.{HasNoCycle}
 use Rattle.rule_core.specs.Sorting.{HaveSorts}
-use Rattle.rule_core.specs.Matching.{UseFirst, RespectsSorts, MatchAll, NoneMatches}
+use Rattle.rule_core.specs.Matching.{RespectsSorts, MatchAll, NoneMatches}
+use Rattle.rule_core.specs.MatchSearch.{UseFirst}
 use Rattle.rule_core.specs.declared.signature.Signature.{Signature}
 use Rattle.rule_core.specs.declared.signature.SortRef.{SortRef}
 

@@ -1,11 +1,11 @@
 -- The result of a search for a matching substitution, in each signature in which the patterns and
 -- the terms are well-sorted.
-use Rattle.std.specs.Prelude.{◌≡◌, ◌+◌, ℕ, List, [], length, Option, MatchOption}
-use Rattle.term_core.specs.Terms.{Tree, Forest}
+use Rattle.std.specs.Prelude.{◌≡◌, ◌+◌, ℕ, List, [], length, Option, MatchOption, ◌<◌}
+use Rattle.term_core.specs.Terms.{Tree, Forest, no_tree, more_trees}
 use Rattle.term_core.specs.Patterns.{Pattern, Patterns, variable, domain_value, application}
 use Rattle.term_core.specs.Patterns.{injection, call, no_pattern, more_patterns, ground_patterns}
 use Rattle.rule_core.specs.Sorting.{HaveSorts}
-use Rattle.rule_core.specs.Matching.{MatchAll, NoneMatches}
+use Rattle.rule_core.specs.Matching.{MatchAll, NoneMatches, OccursInSome}
 use Rattle.rule_core.specs.declared.signature.Signature.{Signature}
 use Rattle.rule_core.specs.declared.signature.SortRef.{SortRef}
 
@@ -32,3 +32,12 @@ abbrev mutual
   pub all_nodes : Patterns → ℕ
   all_nodes no_pattern = 0
   all_nodes (more_patterns p ps) = nodes p + all_nodes ps
+
+-- only the first n variables occur in the patterns
+abbrev pub UseFirst : ℕ → Patterns → Type 0
+UseFirst n ps = (x : ℕ) → OccursInSome x ps → x < n
+
+-- under such a substitution the pattern becomes the term
+abbrev pub MatchesTerm : Signature → List ℕ → Pattern → Tree → List (Option Tree) → Type 0
+MatchesTerm sig variables p t theta =
+    MatchAll sig variables (more_patterns p no_pattern) (more_trees t no_tree) theta

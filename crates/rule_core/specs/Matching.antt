@@ -1,8 +1,8 @@
 -- Matching by substitution (Kore language document, "Patterns"). A substitution matches a pattern
 -- with a term if the pattern becomes the term under it. The definition quantifies over
 -- substitutions. The code takes the term apart instead.
-use Rattle.std.specs.Prelude.{◌≡◌, ◌↔◌, ◌<◌, ℕ, List, length, slice_get, Option, Some, IsSome, ◌⊎◌}
-use Rattle.term_core.specs.Terms.{Tree, Forest, no_tree, more_trees, IsNormal}
+use Rattle.std.specs.Prelude.{◌≡◌, ◌↔◌, ℕ, List, length, slice_get, Option, Some, IsSome, ◌⊎◌}
+use Rattle.term_core.specs.Terms.{Tree, Forest, IsNormal}
 use Rattle.term_core.specs.Patterns.{Pattern, Patterns, variable, domain_value, application}
 use Rattle.term_core.specs.Patterns.{injection, call, no_pattern, more_patterns, binding}
 use Rattle.term_core.specs.Patterns.{instances_of}
@@ -13,7 +13,6 @@ use Rattle.rule_core.specs.declared.signature.Signature.{Signature}
 abbrev mutual
   pub OccursIn : ℕ → Pattern → Type 0
   OccursIn x (variable y) = x ≡ y
-  OccursIn x (domain_value s v) = ⊥
   OccursIn x (application f ps) = OccursInSome x ps
   OccursIn x (injection a b p) = OccursIn x p
   OccursIn x (call f sorts ps) = OccursInSome x ps
@@ -21,10 +20,6 @@ abbrev mutual
   pub OccursInSome : ℕ → Patterns → Type 0
   OccursInSome x no_pattern = ⊥
   OccursInSome x (more_patterns p ps) = OccursIn x p ⊎ OccursInSome x ps
-
--- only the first n variables occur in the patterns
-abbrev pub UseFirst : ℕ → Patterns → Type 0
-UseFirst n ps = (x : ℕ) → OccursInSome x ps → x < n
 
 -- each variable that the substitution binds is bound to a normal term of the variable's sort
 abbrev pub RespectsSorts : Signature → List ℕ → List (Option Tree) → Type 0
@@ -46,11 +41,6 @@ pub record MatchAll (sig : Signature) (variables : List ℕ) (ps : Patterns) (ts
     (theta : List (Option Tree)) : Type 0 where
   pub binds : Binds sig variables ps theta
   pub makes : instances_of theta ps ≡ Some ts
-
--- under such a substitution the pattern becomes the term
-abbrev pub MatchesTerm : Signature → List ℕ → Pattern → Tree → List (Option Tree) → Type 0
-MatchesTerm sig variables p t theta =
-    MatchAll sig variables (more_patterns p no_pattern) (more_trees t no_tree) theta
 
 -- under no substitution do the patterns become the terms
 abbrev pub NoneMatches : Signature → List ℕ → Patterns → Forest → Type 0

@@ -1,22 +1,12 @@
 -- Named things in the order of their first mention.
-use Rattle.std.specs.Prelude.{ℕ, ◌≢◌, List, [], ◌∷◌, Option, map}
-use Rattle.std.specs.List.{position_from}
+use Rattle.std.specs.Prelude.{ℕ, Bool, List, Option}
+use Rattle.std.specs.List.{position_from, list_any}
 use Rattle.std.specs.Str.{bytes_eq}
 
 -- the number of a name: the position of the first entry with this name
 abbrev pub number_of : {V : Type 0} → List (List ℕ × V) → List ℕ → Option ℕ
 number_of {V} entries name = position_from (λ (e : List ℕ × V). bytes_eq name e.0) 0 entries
 
--- the names of the entries, in order
-abbrev pub names_of : {V : Type 0} → List (List ℕ × V) → List (List ℕ)
-names_of entries = map (λ e. e.0) entries
-
--- the name is not the name of any of these
-abbrev pub IsNoneOf : List ℕ → List (List ℕ) → Type 0
-IsNoneOf name [] = Unit {0}
-IsNoneOf name (other ∷ others) = (name ≢ other) × IsNoneOf name others
-
--- no name occurs twice
-abbrev pub AreDistinct : List (List ℕ) → Type 0
-AreDistinct [] = Unit {0}
-AreDistinct (name ∷ names) = IsNoneOf name names × AreDistinct names
+-- the name is one of these
+abbrev pub is_among : List (List ℕ) → List ℕ → Bool
+is_among names name = list_any (bytes_eq name) names

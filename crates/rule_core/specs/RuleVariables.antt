@@ -2,7 +2,7 @@
 use Rattle.std.specs.Prelude.{vec_len}
 use Rattle.term_core.specs.Patterns.{no_pattern, more_patterns}
 use Rattle.term_core.specs.RulePatterns.{plain_pattern}
-use Rattle.rule_core.specs.Matching.{UseFirst}
+use Rattle.rule_core.specs.MatchSearch.{UseFirst}
 use Rattle.rule_core.specs.declared.rules.Rule.{Rule}
 
 -- only the variables of the rule itself

@@ -1,6 +1,6 @@
 -- Rewrite rules and equations, and the order in which they are tried (K framework: a smaller number
 -- is a higher priority).
-use Rattle.std.specs.Prelude.{◌≡◌, ℕ, ◌<◌, ◌⊎◌, List, Option}
+use Rattle.std.specs.Prelude.{◌≡◌, ℕ, ◌<◌, ◌⊎◌, List, [], ◌∷◌, Option, All}
 use Rattle.term_core.specs.Patterns.{Pattern, Patterns}
 
 -- A rule rewrites an instance of its left side to the instance of its right side, if its condition
@@ -31,3 +31,8 @@ pub record Equation : Type 0 where
 -- comes first.
 abbrev pub ComesBefore : ℕ × ℕ → ℕ × ℕ → Type 0
 ComesBefore earlier later = (earlier.0 < later.0) ⊎ ((earlier.0 ≡ later.0) × (earlier.1 < later.1))
+
+-- each comes before those that are listed after it
+abbrev pub AreInOrder : List (ℕ × ℕ) → Type 0
+AreInOrder [] = Unit {0}
+AreInOrder (first ∷ later) = All (ComesBefore first) later × AreInOrder later

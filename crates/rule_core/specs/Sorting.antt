@@ -26,17 +26,10 @@ IsInRange n = (neg_ℤ (pos (2 ^ 127)) ≤ℤ n) × (n ≤ℤ pos (2 ^ 127 - 1))
 -- sort
 abbrev pub IsValueOf : SortKind → DomainValue → Type 0
 IsValueOf kind.Int (integer n) = IsInRange n
-IsValueOf kind.Int (truth b) = ⊥
-IsValueOf kind.Int (text bytes) = ⊥
-IsValueOf kind.Bool (integer n) = ⊥
 IsValueOf kind.Bool (truth b) = Unit {0}
-IsValueOf kind.Bool (text bytes) = ⊥
-IsValueOf kind.Map (integer n) = ⊥
-IsValueOf kind.Map (truth b) = ⊥
 IsValueOf kind.Map (text bytes) = IsTrue (is_utf8 bytes)
-IsValueOf kind.Other (integer n) = ⊥
-IsValueOf kind.Other (truth b) = ⊥
 IsValueOf kind.Other (text bytes) = IsTrue (is_utf8 bytes)
+IsValueOf _ _ = ⊥
 
 -- the sort with this number has this value
 abbrev pub HasValue : Signature → ℕ → DomainValue → Type 0
@@ -47,23 +40,12 @@ HasValue sig s v = (name : List ℕ) × (info : SortInfo) × (slice_get sig.sort
 abbrev pub IsSymbol : Signature → ℕ → SymInfo → Type 0
 IsSymbol sig f info = (name : List ℕ) × (slice_get sig.symbols f ≡ Some (name, info))
 
--- the symbol with this number is a constructor that is associative, commutative or idempotent, or
--- has a unit
-abbrev pub IsAcConstructor : Signature → ℕ → Type 0
-IsAcConstructor sig f = (info : SymInfo) × IsSymbol sig f info × (info.kind ≡ Ctor) × IsTrue info.ac
-
--- no symbol is such a constructor
-abbrev pub IsAcFree : Signature → Type 0
-IsAcFree sig = (f : ℕ) → IsAcConstructor sig f → ⊥
-
 -- the kinds of functions: one that is evaluated in some way, or one that nothing defines
 abbrev pub IsFunction : SymKind → Type 0
-IsFunction Injection = ⊥
-IsFunction Ctor = ⊥
 IsFunction Equations = Unit {0}
 IsFunction (Hooked row) = Unit {0}
 IsFunction Closed = Unit {0}
-IsFunction NoKind = ⊥
+IsFunction _ = ⊥
 
 -- the sort to which a declaration refers, when the symbol is applied to these sorts
 abbrev pub sort_at : List ℕ → SortRef → Option ℕ
@@ -101,11 +83,10 @@ abbrev mutual
   -- the patterns have the declared sorts, in order
   pub HaveSorts : Signature → List ℕ → List ℕ → Patterns → List SortRef → Type 0
   HaveSorts sig variables sorts no_pattern [] = Unit {0}
-  HaveSorts sig variables sorts no_pattern (of ∷ refs) = ⊥
-  HaveSorts sig variables sorts (more_patterns p ps) [] = ⊥
   HaveSorts sig variables sorts (more_patterns p ps) (of ∷ refs) =
       (sort : ℕ) × (sort_at sorts of ≡ Some sort) × HasSort sig variables p sort
       × HaveSorts sig variables sorts ps refs
+  HaveSorts _ _ _ _ _ = ⊥
 
 -- the term has this sort
 abbrev pub IsTermOf : Signature → Tree → ℕ → Type 0

@@ -1,7 +1,6 @@
 -- The stored pairs, and the tables that are stored with them.
 use Rattle.std.specs.Prelude.{◌≡◌, ◌↔◌, ◌==◌, ◌||◌, ◌/◌, ◌%◌, ℕ, Bool, IsTrue, List, Vec, [], map}
-use Rattle.std.specs.Prelude.{Contains}
-use Rattle.std.specs.Prelude.{slice_index_or}
+use Rattle.std.specs.Prelude.{Contains, slice_index_or}
 use Rattle.std.specs.Global.{Global}
 use Rattle.std.specs.Int.{bit_at}
 use Rattle.term_core.specs.declared.ids.SortId.{SortId}

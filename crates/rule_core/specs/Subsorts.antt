@@ -1,6 +1,6 @@
 -- The order of sorts (K framework, attribute `subsort`). A sort is below another if a chain of one
 -- or more declared pairs leads from it to the other.
-use Rattle.std.specs.Prelude.{◌≡◌, ◌==◌, ◌&&◌, ◌||◌, ℕ, Bool, false, List, [], ◌∷◌, Contains}
+use Rattle.std.specs.Prelude.{◌==◌, ◌&&◌, ◌||◌, ℕ, Bool, false, List, [], ◌∷◌, Contains}
 
 pub data IsBelow (pairs : List (ℕ × ℕ)) : ℕ → ℕ → Type 0 where
   by_pair : {a b : ℕ} → Contains pairs (a, b) → IsBelow pairs a b
@@ -16,11 +16,3 @@ is_below (pair ∷ pairs) a b =
 -- no sort is below itself
 abbrev pub HasNoCycle : List (ℕ × ℕ) → Type 0
 HasNoCycle pairs = (a : ℕ) → IsBelow pairs a a → ⊥
-
--- the sorts of a chain of pairs from the first sort to the second, including both
-abbrev pub IsPath : List (ℕ × ℕ) → ℕ → ℕ → List ℕ → Type 0
-IsPath pairs a b [] = ⊥
-IsPath pairs a b (s ∷ []) = ⊥
-IsPath pairs a b (s ∷ (t ∷ [])) = (s ≡ a) × (t ≡ b) × Contains pairs (a, b)
-IsPath pairs a b (s ∷ (t ∷ (u ∷ sorts))) =
-    (s ≡ a) × Contains pairs (a, t) × IsPath pairs t b (t ∷ (u ∷ sorts))

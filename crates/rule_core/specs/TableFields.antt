@@ -1,6 +1,6 @@
 -- The entries that contracts see in a table.
 use Rattle.std.specs.Prelude.{ℕ, List, map, string_bytes}
-use Rattle.rule_core.specs.Named.{names_of, AreDistinct}
+use Rattle.rule_core.specs.DistinctNames.{names_of, AreDistinct}
 use Rattle.rule_core.specs.declared.table.Table.TheInside.{Inside}
 
 -- the names, each with its value

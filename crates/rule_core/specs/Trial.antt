@@ -6,7 +6,8 @@ use Rattle.term_core.specs.Patterns.{no_pattern, more_patterns}
 use Rattle.rule_core.specs.Rules.{RewriteRule}
 use Rattle.rule_core.specs.Sorting.{IsTermOf}
 use Rattle.rule_core.specs.WellSorted.{IsRuleOf}
-use Rattle.rule_core.specs.Matching.{MatchesTerm, NoneMatches}
+use Rattle.rule_core.specs.Matching.{NoneMatches}
+use Rattle.rule_core.specs.MatchSearch.{MatchesTerm}
 use Rattle.rule_core.specs.declared.signature.Signature.{Signature}
 
 -- no rule from this index up to that one (excluded) matches

@@ -5,8 +5,7 @@ use Rattle.std.specs.Prelude.{IsSome, IfSome, All, ◌⊎◌, map}
 use Rattle.term_core.specs.Terms.{Tree, height}
 use Rattle.term_core.specs.Patterns.{Pattern, Patterns, variable, domain_value, application}
 use Rattle.term_core.specs.Patterns.{injection, call, no_pattern, more_patterns, binding}
-use Rattle.rule_core.specs.Rules.{RewriteRule, Equation}
-use Rattle.rule_core.specs.TrialOrder.{AreInOrder}
+use Rattle.rule_core.specs.Rules.{RewriteRule, Equation, AreInOrder}
 use Rattle.rule_core.specs.HookSorts.{FitsHook}
 use Rattle.rule_core.specs.Theories.{RewriteTheory, equations_of}
 use Rattle.rule_core.specs.Subsorts.{HasNoCycle}

@@ -1,13 +1,13 @@
 // Matching of patterns with terms: the substitution under which a pattern becomes a term.
 ghost use Rattle.std.specs.Prelude.{ℕ, ◌≡◌, ◌+◌, ◌<◌, ◌≤◌, ◌==◌, ◌||◌, if◌then◌else◌, length, IfOk};
 ghost use Rattle.std.specs.Prelude.{None};
-ghost use Rattle.term_core.specs.Terms.{inj, no_tree, more_trees, forest, children, height};
-ghost use Rattle.term_core.specs.Terms.{IsNoInjection};
+ghost use Rattle.term_core.specs.Terms.{inj, no_tree, more_trees, height, IsNoInjection};
+ghost use Rattle.term_core.specs.Forests.{forest, children};
 ghost use Rattle.term_core.specs.Patterns.{binding, no_pattern, more_patterns};
 ghost use Rattle.term_core.specs.RulePatterns.{plain_pattern};
 ghost use Rattle.term_core.specs.PatternLists.{plain_patterns};
-ghost use Rattle.rule_core.specs.Matching.{OccursIn, UseFirst};
-ghost use Rattle.rule_core.specs.MatchSearch.{FindsMatch, nodes, all_nodes};
+ghost use Rattle.rule_core.specs.Matching.{OccursIn};
+ghost use Rattle.rule_core.specs.MatchSearch.{UseFirst, FindsMatch, nodes, all_nodes};
 ghost use Rattle.rule_core.specs.MatchSteps.{lowered, bound_to, matched, all_matched};
 ghost use Rattle.rule_core.specs.MatchSteps.{AgreesWithSearch};
 ghost use Rattle.rule_core.specs.Subsorts.{is_below};

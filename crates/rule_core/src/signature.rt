@@ -80,7 +80,7 @@ pub struct Signature {
 }
 
 impl Signature {
-    ghost use Rattle.rule_core.specs.Sorting.{IsAcConstructor, IsAcFree};
+    ghost use Rattle.rule_core.specs.AcSymbols.{IsAcConstructor, IsAcFree};
 
     /// Whether no constructor is associative, commutative or idempotent, or has a unit. It looks at
     /// each symbol at most once.

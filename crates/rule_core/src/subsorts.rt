@@ -1,9 +1,9 @@
 // The order of a definition's sorts.
 ghost use Rattle.std.specs.Prelude.{◌≡◌, ◌↔◌, ◌⊎◌, ◌++◌, ◌∷◌, IsTrue, [], Contains, IsSome, IfSome};
-ghost use Rattle.std.specs.Prelude.{IfOk, OnErr};
-ghost use Rattle.std.specs.Prelude.{if◌then◌else◌};
+ghost use Rattle.std.specs.Prelude.{IfOk, OnErr, if◌then◌else◌};
 ghost use Rattle.term_core.specs.RulePatterns.{sort_numbers};
-ghost use Rattle.rule_core.specs.Subsorts.{IsBelow, HasNoCycle, IsPath};
+ghost use Rattle.rule_core.specs.Subsorts.{IsBelow, HasNoCycle};
+ghost use Rattle.rule_core.specs.SubsortPaths.{IsPath};
 
 use crate::sort_sets::{grow, is_in, join, set_of, with_sort};
 use std::alloc::{AllocError, Global};

@@ -2,7 +2,8 @@
 ghost use Rattle.std.specs.Prelude.{◌≡◌, [], ◌∷◌, ◌++◌, length, OnErr, IfOk, slice_get};
 ghost use Rattle.std.specs.Prelude.{option_copied, option_map, string_bytes, is_none};
 ghost use Rattle.std.specs.Prelude.{if◌then◌else◌, ◌==◌};
-ghost use Rattle.rule_core.specs.Named.{number_of, names_of, AreDistinct};
+ghost use Rattle.rule_core.specs.Named.{number_of};
+ghost use Rattle.rule_core.specs.DistinctNames.{names_of, AreDistinct};
 
 use crate::hashing::TextHasher;
 use indexmap::IndexMap;
@@ -44,6 +45,12 @@ impl<V: Drop> Table<V> {
         Table {
             entries: IndexMap::with_hasher(alloc, hasher),
         }
+    }
+
+    /// How the names are hashed. Contracts do not see it, since no answer depends on it. It is for
+    /// other names of the same text.
+    pub fn hasher(&self) -> TextHasher {
+        *self.entries.hasher()
     }
 
     /// How many names the table has. This is also the number that the next new name gets.

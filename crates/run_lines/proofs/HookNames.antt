@@ -3,7 +3,8 @@ use Rattle.std.proofs.Common.{◌≡◌, ℕ, ◌<◌, ◌≤◌, List, [], leng
 use Rattle.std.proofs.Common.{sym, ◌∙◌, ap}
 use Rattle.std.specs.Prelude.{option_map, unwrap_or, slice_get}
 use Rattle.std.proofs.lemmas.Option.{slice_get-map, slice_get-get_or, slice_get_past}
-use Rattle.term_core.specs.HookValues.{Hook, signature}
+use Rattle.term_core.specs.HookValues.{Hook}
+use Rattle.term_core.specs.HookSignatures.{signature}
 use Rattle.hook_table.specs.Rows.{plain_row}
 use Rattle.hook_table.specs.declared.table.HookRow.{HookRow}
 

@@ -3,9 +3,10 @@ use Rattle.std.proofs.Common.{◌≡◌, ℕ, ◌+◌, ◌<◌, ◌≤◌, zero,
 use Rattle.std.proofs.Common.{slice_get, ◌↔◌, Some, get_or, take, drop, refl, sym, ◌∙◌, ap, arith}
 use Rattle.std.proofs.lemmas.Option.{slice_get_read, slice_get_within, get_or_from_slice_get}
 use Rattle.std.proofs.lemmas.List.{take_more}
-use Rattle.term_core.specs.Terms.{Tree, leaf, node, inj, Forest, no_tree, more_trees, forest, trees}
-use Rattle.term_core.specs.Terms.{children, height, heights, size, sizes, IsNoInjection, IsNormal}
-use Rattle.term_core.specs.Terms.{AreNormal, injected, norm, norms}
+use Rattle.term_core.specs.Terms.{Tree, leaf, node, inj, Forest, no_tree, more_trees}
+use Rattle.term_core.specs.Forests.{forest, trees, children, size, sizes}
+use Rattle.term_core.specs.Terms.{height, heights, IsNoInjection, IsNormal, AreNormal, injected}
+use Rattle.term_core.specs.NormalForms.{norm, norms}
 
 pub trees-forest : (ts : List Tree) → trees (forest ts) ≡ ts
 trees-forest [] = refl

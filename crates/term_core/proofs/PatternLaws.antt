@@ -6,14 +6,15 @@ use Rattle.std.specs.Prelude.{option_map, IsSomeAnd, Bool, false, IsTrue}
 use Rattle.std.proofs.lemmas.Bool.{false≢true}
 use Rattle.std.proofs.lemmas.List.{drop_more}
 use Rattle.std.proofs.lemmas.Option.{get_or_from_slice_get, slice_get_within}
-use Rattle.term_core.specs.Terms.{Tree, leaf, node, inj, Forest, no_tree, more_trees, forest}
-use Rattle.term_core.specs.Terms.{children, height, heights, IsNormal, AreNormal, injected, norm}
-use Rattle.term_core.specs.Terms.{norms}
+use Rattle.term_core.specs.Terms.{Tree, leaf, node, inj, Forest, no_tree, more_trees}
+use Rattle.term_core.specs.Forests.{forest, children}
+use Rattle.term_core.specs.Terms.{height, heights, IsNormal, AreNormal, injected}
+use Rattle.term_core.specs.NormalForms.{norm, norms}
 use Rattle.term_core.specs.Patterns.{Pattern, variable, domain_value, application, injection, call}
-use Rattle.term_core.specs.Patterns.{Patterns, no_pattern, more_patterns, patterns, binding}
-use Rattle.term_core.specs.Patterns.{AreNormalBindings, with_first, substituted, all_substituted}
-use Rattle.term_core.specs.Patterns.{instance_of, instances_of, FitsWithin, ground_pattern}
-use Rattle.term_core.specs.Patterns.{ground_patterns}
+use Rattle.term_core.specs.Patterns.{Patterns, no_pattern, more_patterns, binding, with_first}
+use Rattle.term_core.specs.Instances.{patterns, AreNormalBindings, substituted, all_substituted}
+use Rattle.term_core.specs.Patterns.{instance_of, instances_of, ground_pattern, ground_patterns}
+use Rattle.term_core.specs.Instances.{FitsWithin}
 use Rattle.term_core.specs.RulePatterns.{plain_pattern}
 use Rattle.term_core.specs.PatternLists.{AllFitWithin, plain_patterns}
 use Rattle.term_core.specs.GroundPatterns.{IsGround, AreGround}

@@ -1,6 +1,7 @@
 -- What a look at a term shows: its head and the number of its children.
 use Rattle.std.specs.Prelude.{◌≡◌, length}
-use Rattle.term_core.specs.Terms.{Tree, leaf, node, inj, forest, children}
+use Rattle.term_core.specs.Terms.{Tree, leaf, node, inj}
+use Rattle.term_core.specs.Forests.{forest, children}
 use Rattle.term_core.specs.Values.{value_of}
 use Rattle.term_core.specs.declared.terms.View.{View}
 use Rattle.term_core.specs.declared.terms.View.TheVariants as head

@@ -4,7 +4,7 @@
 use Rattle.std.specs.Prelude.{ℕ, ◌-◌, ◌^◌, ℤ, pos, negsuc, ◌+ℤ◌, ◌-ℤ◌, ◌*ℤ◌, int_lt, int_le}
 use Rattle.std.specs.Prelude.{int_div, int_rem, unsigned_abs, bit_and, bit_or, bit_xor, Bool, not}
 use Rattle.std.specs.Prelude.{◌&&◌, ◌||◌, if◌then◌else◌, List, [], ◌∷◌, Option, Some, None, Result}
-use Rattle.std.specs.Prelude.{Ok, Err, codes, slice_get, option_map}
+use Rattle.std.specs.Prelude.{Ok, Err, codes, slice_get}
 use Rattle.std.specs.Int.{int_min, int_max, int_div_euclid, int_rem_euclid}
 use Rattle.std.specs.Ordering.{int_eq}
 use Rattle.term_core.specs.Terms.{DomainValue, integer, truth}
@@ -129,24 +129,6 @@ result_kind (on_integers f) = integers
 result_kind (compares f) = truths
 result_kind (on_truth f) = truths
 result_kind (on_truths f) = truths
-
--- what the table says of a hook, apart from its value
-pub record Signature : Type 0 where
-  pub name : List ℕ
-  pub arguments : List Kind
-  pub result : Kind
-
-abbrev pub signature : Hook → Signature
-signature h = record {
-  name = h.name;
-  arguments = argument_kinds h.operation;
-  result = result_kind h.operation;
-}
-
--- the kinds of the arguments of the hook with this number, if there is one
-abbrev pub hook_arguments : ℕ → Option (List Kind)
-hook_arguments number =
-    option_map (λ (h : Hook). argument_kinds h.operation) (slice_get hooks number)
 
 -- ---- the value of a hook
 

@@ -1,9 +1,13 @@
 -- Public: what public clauses say, and public definitions of other crates.
 pub mod Terms
+pub mod Forests
+pub mod NormalForms
 pub mod Values
 pub mod HookValues
+pub mod HookSignatures
 pub mod Heads
 pub mod Patterns
+pub mod Instances
 pub mod RulePatterns
 pub mod PatternLists
 -- Laws: what follows from that. Each is a clause of a function that does nothing.

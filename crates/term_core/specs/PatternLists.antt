@@ -1,7 +1,8 @@
 -- Lists of patterns of a rule: the arguments of a constructor or of a function.
 use Rattle.std.specs.Prelude.{ℕ, List, Option, IsSomeAnd, map, ◌≤◌}
 use Rattle.term_core.specs.Terms.{Tree, Forest, heights}
-use Rattle.term_core.specs.Patterns.{Patterns, patterns, instances_of}
+use Rattle.term_core.specs.Patterns.{Patterns, instances_of}
+use Rattle.term_core.specs.Instances.{patterns}
 use Rattle.term_core.specs.RulePatterns.{plain_pattern}
 use Rattle.term_core.specs.declared.rule_patterns.RulePat.{RulePat}
 

@@ -1,7 +1,7 @@
 -- The plain pattern that represents a `RulePat` of the code.
 use Rattle.std.specs.Prelude.{ℕ, List, map}
 use Rattle.term_core.specs.Patterns.{Pattern, variable, domain_value, application, injection, call}
-use Rattle.term_core.specs.Patterns.{patterns}
+use Rattle.term_core.specs.Instances.{patterns}
 use Rattle.term_core.specs.Values.{value_of}
 use Rattle.term_core.specs.declared.ids.SortId.{SortId}
 use Rattle.term_core.specs.declared.rule_patterns.RulePat.{RulePat}

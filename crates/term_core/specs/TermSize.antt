@@ -2,7 +2,8 @@
 use Rattle.std.specs.Prelude.{◌+◌, ◌≤◌, List, [], ◌∷◌}
 use Rattle.std.proofs.Common.{arith}
 use denote.Param.Weighed.{most}
-use Rattle.term_core.specs.Terms.{Tree, height, heights, forest}
+use Rattle.term_core.specs.Terms.{Tree, height, heights}
+use Rattle.term_core.specs.Forests.{forest}
 use Rattle.term_core.specs.TermView.{node_tree}
 use Rattle.term_core.specs.declared.terms.Node.{Node}
 use Rattle.term_core.specs.declared.terms.Node.TheVariants as form

@@ -1,7 +1,8 @@
 -- The tree that represents a `Term` of the code. The children of the tree represent the children of
 -- the term.
 use Rattle.std.specs.Prelude.{ℕ, ◌≡◌, ◌≤◌}
-use Rattle.term_core.specs.Terms.{Tree, leaf, node, inj, forest, height, IsNormal}
+use Rattle.term_core.specs.Terms.{Tree, leaf, node, inj, height, IsNormal}
+use Rattle.term_core.specs.Forests.{forest}
 use Rattle.term_core.specs.Values.{value_of}
 use Rattle.term_core.specs.declared.terms.Node.{Node}
 use Rattle.term_core.specs.declared.terms.Node.TheVariants as form

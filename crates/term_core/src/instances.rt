@@ -1,9 +1,11 @@
 // The terms that patterns become when their variables are replaced by terms.
 ghost use Rattle.std.specs.Prelude.{ℕ, ◌≡◌, ◌↔◌, ◌+◌, ◌-◌, ◌≤◌, [], length, IfOk, IsTrue, Some};
 ghost use Rattle.std.specs.Prelude.{option_map};
-ghost use Rattle.term_core.specs.Terms.{forest, children, injected, norm, size, sizes};
-ghost use Rattle.term_core.specs.Patterns.{injection, substituted, instance_of, instances_of};
-ghost use Rattle.term_core.specs.Patterns.{FitsWithin};
+ghost use Rattle.term_core.specs.Terms.{injected};
+ghost use Rattle.term_core.specs.Forests.{forest, children, size, sizes};
+ghost use Rattle.term_core.specs.NormalForms.{norm};
+ghost use Rattle.term_core.specs.Patterns.{injection, instance_of, instances_of};
+ghost use Rattle.term_core.specs.Instances.{substituted, FitsWithin};
 ghost use Rattle.term_core.specs.RulePatterns.{plain_pattern};
 ghost use Rattle.term_core.specs.PatternLists.{AllFitWithin, plain_patterns};
 

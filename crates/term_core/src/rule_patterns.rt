@@ -1,6 +1,6 @@
 // Patterns of rules: terms with variables and calls of functions.
 ghost use Rattle.std.specs.Prelude.{◌≡◌, [], length, IfOk, Some};
-ghost use Rattle.term_core.specs.Terms.{forest, children};
+ghost use Rattle.term_core.specs.Forests.{forest, children};
 ghost use Rattle.term_core.specs.Patterns.{instance_of, ground_pattern, ground_patterns};
 ghost use Rattle.term_core.specs.RulePatterns.{plain_pattern};
 ghost use Rattle.term_core.specs.PatternLists.{plain_patterns};

@@ -1,7 +1,8 @@
 // Substitutions.
 ghost use Rattle.std.specs.Prelude.{◌≡◌, ◌<◌, length, replicate, slice_set, option_copied, IfOk};
 ghost use Rattle.std.specs.Prelude.{Some, None};
-ghost use Rattle.term_core.specs.Patterns.{binding, AreNormalBindings};
+ghost use Rattle.term_core.specs.Patterns.{binding};
+ghost use Rattle.term_core.specs.Instances.{AreNormalBindings};
 
 use crate::terms::Term;
 use std::alloc::{AllocError, Global};
@@ -19,7 +20,7 @@ impl Model for Subst {
     ghost use Rattle.std.specs.Coded.{coded_list, coded_option};
     ghost use Rattle.term_core.specs.Terms.{Tree};
     ghost use Rattle.term_core.specs.TermCode.{tree_code};
-    ghost use Rattle.term_core.specs.Patterns.{AreNormalBindings};
+    ghost use Rattle.term_core.specs.Instances.{AreNormalBindings};
 
     ghost Value = { List (Option Tree) };
 

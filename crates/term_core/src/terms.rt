@@ -1,8 +1,10 @@
 // Ground terms. A term is a tree that is shared, not copied. It is always normal: no injection is
 // the child of another injection.
 ghost use Rattle.std.specs.Prelude.{ℕ, ◌≡◌, ◌+◌, ◌<◌, ◌≤◌, ◌↔◌, length, slice_get, IfOk, IsTrue};
-ghost use Rattle.term_core.specs.Terms.{leaf, node, inj, forest, children, height, heights};
-ghost use Rattle.term_core.specs.Terms.{injected, norm, IsNormal, AreNormal};
+ghost use Rattle.term_core.specs.Terms.{leaf, node, inj, height, heights};
+ghost use Rattle.term_core.specs.Forests.{forest, children};
+ghost use Rattle.term_core.specs.Terms.{injected, IsNormal, AreNormal};
+ghost use Rattle.term_core.specs.NormalForms.{norm};
 ghost use Rattle.term_core.specs.Values.{value_of};
 ghost use Rattle.term_core.specs.Heads.{Shows};
 

@@ -1,6 +1,6 @@
 use Rattle.std.proofs.Common.{rules, ℕ, arith, length-drop}
 use Rattle.std.proofs.lemmas.List.{length-take}
-use Rattle.desk_io.specs.Sent.{AppendsFront}
+use Rattle.desk_io.specs.SinkChanges.{AppendsFront}
 use Rattle.desk_io.proofs.Sent.{Appends-more, Appends-fault}
 use Rattle.desk_io.proofs.sink.send_whole.Goals as goal
 

@@ -4,7 +4,7 @@ use Rattle.std.specs.Prelude.{slice_get, option_map, Err}
 use Rattle.std.proofs.lemmas.Bool.{false≢true}
 use Rattle.std.proofs.lemmas.Result.{err_from_is_err_and}
 use Rattle.std.proofs.lemmas.List.{take_more, take_all}
-use Rattle.term_core.specs.Terms.{forest}
+use Rattle.term_core.specs.Forests.{forest}
 use Rattle.term_core.specs.Patterns.{variable, domain_value, application, injection, call}
 use Rattle.term_core.specs.Values.{value_of}
 use Rattle.term_core.specs.RulePatterns.{plain_pattern, sort_numbers}

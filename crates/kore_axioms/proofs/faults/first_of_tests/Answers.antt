@@ -1,7 +1,7 @@
 use Rattle.std.proofs.Common.{ℕ, Bool, List, take, get_or, map, ap, sym, ◌∙◌}
 use Rattle.std.proofs.lemmas.List.{take_more, map-append}
 use Rattle.kore_sig.specs.Noted.{first_by_number}
-use Rattle.kore_axioms.specs.Raised.{faults_of_tests}
+use Rattle.kore_sig.specs.FirstFault.{faults_of_tests}
 use Rattle.kore_axioms.specs.Views.{plain_test}
 use Rattle.kore_axioms.proofs.RaisedLaws.{first_raised_more}
 use Rattle.kore_axioms.proofs.faults.first_of_tests.Goals as goal

@@ -1,7 +1,7 @@
 use Rattle.std.proofs.Common.{◌≡◌, ℕ, take, map}
 use Rattle.std.specs.Prelude.{option_map}
 use Rattle.kore_sig.specs.Noted.{first_by_number}
-use Rattle.kore_axioms.specs.Raised.{faults_of_tests}
+use Rattle.kore_sig.specs.FirstFault.{faults_of_tests}
 use Rattle.kore_axioms.specs.Views.{fault_at, plain_test}
 use Rattle.kore_axioms.proofs.faults.first_of_tests.Given as goal
 

@@ -5,9 +5,11 @@ use Rattle.kore_text.specs.Trees.{PatternTree}
 use Rattle.kore_ast.specs.Plain.{pattern_tree as plain_tree}
 use Rattle.term_core.specs.RulePatterns.{plain_pattern}
 use Rattle.kore_check.specs.Folds.{Unfoldeds, unfolded}
-use Rattle.kore_check.specs.PatternMeanings.{named_sorts, with_variables, with_all_variables, Means}
+use Rattle.kore_check.specs.PatternMeanings.{with_variables, with_all_variables, Means}
+use Rattle.kore_check.specs.VariableNames.{named_sorts}
 use Rattle.kore_shapes.specs.Views.{pattern_at}
-use Rattle.kore_axioms.specs.AxiomMeanings.{with_some_variables, MeansTest}
+use Rattle.kore_axioms.specs.AxiomMeanings.{MeansTest}
+use Rattle.kore_axioms.specs.NamedRules.{with_some_variables}
 use Rattle.kore_axioms.specs.Conditions.{tested}
 use Rattle.kore_axioms.specs.RuleFaults.{listed, is_bound}
 use Rattle.kore_axioms.specs.RuleParts.{RuleParts, left_of}

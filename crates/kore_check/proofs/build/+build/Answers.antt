@@ -1,7 +1,8 @@
 use Rattle.std.proofs.Common.{rules, ◌≡◌, ◌+◌, ◌++◌, ◌∷◌, [], ℕ, List, map, drop, Some, true, false}
 use Rattle.std.proofs.Common.{sym, subst, arith}
 use Rattle.kore_ast.specs.Plain.{plain_sort}
-use Rattle.term_core.specs.Patterns.{Pattern, patterns}
+use Rattle.term_core.specs.Patterns.{Pattern}
+use Rattle.term_core.specs.Instances.{patterns}
 use Rattle.term_core.specs.RulePatterns.{plain_pattern}
 use Rattle.term_core.specs.declared.rule_patterns.RulePat.{RulePat}
 use Rattle.kore_check.specs.PatternMeanings.{AllMean}

@@ -1,5 +1,6 @@
 use Rattle.std.proofs.Common.{◌≡◌, ◌++◌, drop, map, List, ℕ}
-use Rattle.term_core.specs.Patterns.{Pattern, patterns}
+use Rattle.term_core.specs.Patterns.{Pattern}
+use Rattle.term_core.specs.Instances.{patterns}
 use Rattle.term_core.specs.RulePatterns.{plain_pattern}
 use Rattle.kore_check.specs.PatternMeanings.{AllMean, with_all_variables}
 use Rattle.kore_check.specs.Building.{Extends, AreFaultless}

@@ -2,7 +2,8 @@ use Rattle.std.proofs.Common.{rules, ◌≡◌, ◌++◌, ◌∷◌, [], List, l
 use Rattle.std.proofs.Common.{arith}
 use Rattle.std.proofs.lemmas.List.{length-map}
 use Rattle.term_core.specs.RulePatterns.{plain_pattern, sort_numbers as numbers_of}
-use Rattle.term_core.specs.Patterns.{Pattern, patterns, injection}
+use Rattle.term_core.specs.Patterns.{Pattern, injection}
+use Rattle.term_core.specs.Instances.{patterns}
 use Rattle.term_core.specs.declared.rule_patterns.RulePat.{RulePat}
 use Rattle.term_core.proofs.PlainPatterns.{plain-Inj}
 use Rattle.kore_check.specs.PatternMeanings.{injected_only}

@@ -7,12 +7,13 @@ use Rattle.kore_text.specs.Trees.{PatternTree}
 use Rattle.term_core.specs.RulePatterns.{plain_pattern}
 use Rattle.term_core.specs.PatternLists.{plain_patterns}
 use Rattle.kore_check.specs.Folds.{Unfoldeds, unfolded}
-use Rattle.kore_check.specs.PatternMeanings.{named_sorts, with_variables, with_all_variables, Means}
-use Rattle.kore_check.specs.PatternMeanings.{AllMean}
+use Rattle.kore_check.specs.PatternMeanings.{with_variables, with_all_variables, Means, AllMean}
+use Rattle.kore_check.specs.VariableNames.{named_sorts}
 use Rattle.kore_shapes.specs.EquationForms.{EquationParts}
 use Rattle.kore_shapes.specs.Views.{pattern_at, plain_condition}
 use Rattle.kore_shapes.specs.PartViews.{plain_parts}
-use Rattle.kore_axioms.specs.AxiomMeanings.{with_some_variables, MeansTest}
+use Rattle.kore_axioms.specs.AxiomMeanings.{MeansTest}
+use Rattle.kore_axioms.specs.NamedRules.{with_some_variables}
 use Rattle.kore_axioms.specs.Conditions.{tested}
 use Rattle.kore_axioms.specs.RuleFaults.{is_bound}
 use Rattle.kore_axioms.proofs.BuiltLaws.{bound_counted, bound_all}

@@ -1,5 +1,5 @@
 use Rattle.std.proofs.Common.{◌-◌, length, take, sym, ap, ◌∙◌, subst, arith}
-use Rattle.kore_lex.specs.Escapes.{IsInner}
+use Rattle.kore_lex.specs.Tokens.{IsInner}
 use Rattle.kore_lex.proofs.StringLaws.{string-inside}
 use Rattle.kore_lex.proofs.value.inner.Goals as goal
 

@@ -1,6 +1,6 @@
 use Rattle.std.proofs.Common.{◌≡◌, ◌≤◌, ◌-◌, ◌++◌, length, drop, string_bytes}
 use Rattle.kore_lex.specs.Value.{plain}
-use Rattle.kore_lex.specs.Escapes.{IsInner}
+use Rattle.kore_lex.specs.Tokens.{IsInner}
 use Rattle.kore_lex.proofs.value.text_value.Given as goal
 
 abbrev pub invariant-loop-at : goal.invariant-loop-at

@@ -1,7 +1,8 @@
 use Rattle.std.proofs.Common.{◌++◌, List, ℕ, [], Result, Ok, Err, refl, sym, ap}
 use Rattle.std.specs.Prelude.{OnOk}
 use Rattle.std.proofs.lemmas.List.{append-nil}
-use Rattle.desk_io.specs.Sent.{Appends, AppendsFront}
+use Rattle.desk_io.specs.Sent.{Appends}
+use Rattle.desk_io.specs.SinkChanges.{AppendsFront}
 use Rattle.desk_io.proofs.Counts.{CountRose-later}
 use Rattle.kore_prove.specs.DrilledRun.{counts_line}
 use Rattle.kore_prove.proofs.FileProofs.{on_err_more}

@@ -10,8 +10,7 @@ use Rattle.kore_axioms.specs.declared.refusals.Refusal.{Refusal}
 use Rattle.kore_sig.specs.FirstFault.{Fault}
 use Rattle.kore_rules.specs.Acceptance.{IsAccepted}
 use Rattle.kore_rules.specs.NamedVariables.{NamesVariables}
-use Rattle.kore_rules.specs.Refused.{IsRefused, HasTextFault}
-use Rattle.kore_rules.specs.FirstRefusal.{FirstOfDefinition}
+use Rattle.kore_rules.specs.Refused.{IsRefused, HasTextFault, FirstOfDefinition}
 use Rattle.kore_rules.specs.MadePrograms.{IsMadeOf, ListsOwnEquations, HasNamesOf}
 use Rattle.kore_rules.specs.Names.{HasIdentifierNames}
 use Rattle.kore_rules.specs.RefusedTexts.{top_of, IsSortOfRules, RefusesFor}

@@ -6,7 +6,8 @@ use Rattle.rule_core.specs.ProgramView.{theory_of}
 use Rattle.kore_sig.specs.Declarations.{axioms_of}
 use Rattle.kore_sig.specs.FirstFault.{Fault}
 use Rattle.kore_rules.specs.AxiomsRead.{tree_at}
-use Rattle.kore_rules.specs.FirstRefusal.{FirstOfAxioms, FirstOfDefinition}
+use Rattle.kore_rules.specs.FirstRefusal.{FirstOfAxioms}
+use Rattle.kore_rules.specs.Refused.{FirstOfDefinition}
 use Rattle.kore_rules.specs.Programs.{IsProgramUnder, IsTopOf}
 use Rattle.kore_rules.specs.KeptNames.{KeepsNames}
 use Rattle.kore_rules.specs.RefusedTexts.{number_of_sort}

@@ -2,7 +2,8 @@ use Rattle.std.proofs.Common.{◌≡◌, ◌∙◌, ap, sym, refl, List, Option,
 use Rattle.std.specs.Prelude.{option_copied, option_map, slice_get}
 use Rattle.std.specs.Borrow.{Bor}
 use Rattle.std.proofs.lemmas.Option.{slice_get-map}
-use Rattle.term_core.specs.HookValues.{hooks, signature}
+use Rattle.term_core.specs.HookValues.{hooks}
+use Rattle.term_core.specs.HookSignatures.{signature}
 use Rattle.term_core.specs.HookValues as hook
 use Rattle.hook_table.specs.Rows.{plain_row}
 use Rattle.hook_table.specs.declared.table.HookRow.{HookRow}

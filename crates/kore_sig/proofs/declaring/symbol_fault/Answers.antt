@@ -1,10 +1,10 @@
 use Rattle.std.proofs.Common.{◌∙◌, ◌++◌, ◌∷◌, [], ap, sym, ℕ, List, map, length, arith}
 use Rattle.std.specs.Prelude.{flat_map, nat_lt}
 use Rattle.std.proofs.lemmas.List.{length-map}
-use Rattle.rule_core.specs.Named.{names_of}
+use Rattle.rule_core.specs.DistinctNames.{names_of}
 use Rattle.kore_ast.specs.declared.tree.Sort.{Sort}
 use Rattle.kore_ast.specs.Plain.{plain_sort}
-use Rattle.kore_sig.specs.Names.{is_among}
+use Rattle.rule_core.specs.Named.{is_among}
 use Rattle.kore_sig.specs.Noted.{first_by_number}
 use Rattle.kore_sig.specs.SignatureFaults.{reference_faults}
 use Rattle.kore_sig.specs.UnknownSorts.{unknown_sort_at}

@@ -1,5 +1,5 @@
 use Rattle.std.proofs.Common.{◌≡◌, [], map, take, drop}
-use Rattle.rule_core.specs.Named.{names_of}
+use Rattle.rule_core.specs.DistinctNames.{names_of}
 use Rattle.kore_ast.specs.Plain.{plain_module}
 use Rattle.kore_sig.specs.Naming.{first_module}
 use Rattle.kore_sig.specs.Placing.{names_of_modules}

@@ -2,7 +2,7 @@ use Rattle.std.proofs.Common.{◌≡◌, [], ap, sym, ◌∙◌, List, ℕ, map,
 use Rattle.std.proofs.Common.{refl}
 use Rattle.std.specs.List.{AllZip}
 use Rattle.std.proofs.lemmas.Result.{err_from_is_err_and}
-use Rattle.rule_core.specs.Named.{names_of, AreDistinct}
+use Rattle.rule_core.specs.DistinctNames.{names_of, AreDistinct}
 use Rattle.kore_text.specs.Trees.{Declaration}
 use Rattle.kore_ast.specs.declared.tree.Module.{Module}
 use Rattle.kore_ast.specs.Plain.{plain_definition, plain_module, plain_declaration}

@@ -1,6 +1,7 @@
 use Rattle.std.proofs.Common.{◌≡◌, ◌∙◌, ◌++◌, ◌∷◌, [], ap, sym, ℕ, List, subst, string_bytes, cond}
 use Rattle.std.specs.Prelude.{is_none}
-use Rattle.rule_core.specs.Named.{number_of, names_of}
+use Rattle.rule_core.specs.Named.{number_of}
+use Rattle.rule_core.specs.DistinctNames.{names_of}
 use Rattle.kore_ast.specs.declared.tree.Decl.{Decl}
 use Rattle.kore_ast.specs.Plain.{plain_declaration, plain_sort_decl, plain_symbol_decl}
 use Rattle.kore_sig.specs.Declaring.{Grows, before_of}

@@ -1,5 +1,5 @@
 use Rattle.std.proofs.Common.{◌≡◌, map, take, drop}
-use Rattle.rule_core.specs.Named.{names_of}
+use Rattle.rule_core.specs.DistinctNames.{names_of}
 use Rattle.kore_ast.specs.Plain.{plain_declaration}
 use Rattle.kore_sig.specs.declared.counted.Placed.{Placed}
 use Rattle.kore_sig.specs.Declaring.{AreSymbols, before_of, first_declared}

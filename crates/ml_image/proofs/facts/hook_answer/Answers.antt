@@ -1,6 +1,7 @@
 use Rattle.std.proofs.Common.{◌≡◌, ℕ, List, Option, Some, Result, Ok, length, map, ap, sym, ◌∙◌}
 use Rattle.std.proofs.Common.{arith}
-use Rattle.term_core.specs.HookValues.{Kind, hook_arguments}
+use Rattle.term_core.specs.HookValues.{Kind}
+use Rattle.term_core.specs.HookSignatures.{hook_arguments}
 use Rattle.term_core.specs.declared.values.Scalar.{Scalar}
 use Rattle.hook_table.specs.Scalars.{kind_of}
 use Rattle.ml_image.proofs.HookLaws.{answer_fits, answer_few, two_of, same_row}

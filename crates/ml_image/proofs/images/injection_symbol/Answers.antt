@@ -2,7 +2,7 @@ use Rattle.std.proofs.Common.{◌≡◌, ◌+◌, ◌<◌, ℕ, Bool, true, fals
 use Rattle.std.proofs.Common.{sym, ◌∙◌, ap, arith, rules}
 use Rattle.std.specs.List.{position_from}
 use Rattle.rule_core.specs.declared.signature.SymInfo.{SymInfo}
-use Rattle.ml_image.specs.Images.{is_injection}
+use Rattle.rule_core.specs.KindTests.{is_injection}
 use Rattle.ml_image.proofs.ImageLaws.{injection-step}
 use Rattle.ml_image.proofs.images.injection_symbol.Goals as goal
 

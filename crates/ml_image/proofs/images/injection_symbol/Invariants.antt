@@ -1,7 +1,8 @@
 use Rattle.std.proofs.Common.{◌≡◌, ℕ, List, drop}
 use Rattle.std.specs.List.{position_from}
 use Rattle.rule_core.specs.declared.signature.SymInfo.{SymInfo}
-use Rattle.ml_image.specs.Images.{is_injection, injection_symbol}
+use Rattle.ml_image.specs.Images.{injection_symbol}
+use Rattle.rule_core.specs.KindTests.{is_injection}
 use Rattle.ml_image.proofs.images.injection_symbol.Given as goal
 
 abbrev pub invariant-loop-symbol : goal.invariant-loop-symbol

@@ -1,6 +1,6 @@
 use Rattle.std.proofs.Common.{◌≡◌, List, ℕ, Some, Option, ap, ◌∙◌, rules}
 use Rattle.ml_image.specs.Tokens.{token_of_sort, numbered}
-use Rattle.ml_image.specs.Gained.{of_sort}
+use Rattle.ml_image.specs.OwnTokens.{of_sort}
 use Rattle.ml_image.proofs.ImageLaws.{number_of-numbered, gained-numbered}
 use Rattle.ml_image.proofs.tokens.sort_number.Goals as goal
 

@@ -1,7 +1,7 @@
 use Rattle.std.proofs.Common.{◌≡◌, List, ℕ, Some, Option, ap, ◌∙◌, rules}
 use Rattle.term_core.specs.Values.{value_of}
 use Rattle.ml_image.specs.Tokens.{token_of_value, numbered}
-use Rattle.ml_image.specs.Gained.{of_value}
+use Rattle.ml_image.specs.OwnTokens.{of_value}
 use Rattle.ml_image.proofs.ImageLaws.{number_of-numbered, gained-numbered}
 use Rattle.ml_image.proofs.tokens.value_number.Goals as goal
 

@@ -1,8 +1,9 @@
 use Rattle.std.proofs.Common.{refl}
 use Rattle.mm_database.specs.Database.{Context}
 use Rattle.mm_database.specs.Proofs.{Expression, ProofTree, Proves, IsProof, postorder}
-use Rattle.mm_proof.specs.Tokens.{letters_of, judgement_by, is_pattern, is_fresh, is_substituted}
-use Rattle.mm_proof.specs.Tokens.{is_predicate, holds}
+use Rattle.mm_proof.specs.Tokens.{letters_of}
+use Rattle.mm_proof.specs.Judgements.{judgement_by, is_pattern, is_fresh, is_substituted}
+use Rattle.mm_proof.specs.Judgements.{is_predicate, holds}
 use Rattle.mm_proof.specs.Trees.{syntax_tree, fresh_tree, substitution_tree, predicate_tree}
 use Rattle.mm_proof.specs.Trees.{rule_tree}
 use Rattle.ml_pat.specs.KnownLeaves.{are_known}

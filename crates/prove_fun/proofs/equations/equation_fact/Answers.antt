@@ -1,5 +1,6 @@
 use Rattle.std.proofs.Common.{◌≡◌, ℕ, sym, ◌∙◌, ap, subst}
-use Rattle.term_core.specs.Terms.{Forest, forest}
+use Rattle.term_core.specs.Terms.{Forest}
+use Rattle.term_core.specs.Forests.{forest}
 use Rattle.term_core.specs.PatternLists.{plain_patterns}
 use Rattle.rule_core.specs.Matching.{MatchAll}
 use Rattle.rule_core.specs.Rules.{Equation as PlainEquation}

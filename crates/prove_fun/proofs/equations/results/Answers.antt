@@ -1,5 +1,6 @@
 use Rattle.std.proofs.Common.{◌≡◌, ◌+◌, ℕ, suc, List, [], ◌∷◌, ◌++◌, map, take, sym, ◌∙◌, ap, arith}
-use Rattle.term_core.specs.Terms.{Tree, forest}
+use Rattle.term_core.specs.Terms.{Tree}
+use Rattle.term_core.specs.Forests.{forest}
 use Rattle.rule_core.specs.Records.{result_of}
 use Rattle.rule_core.specs.RecordView.{plain_record}
 use Rattle.prove_fun.specs.RecordParts.{children, children_of}

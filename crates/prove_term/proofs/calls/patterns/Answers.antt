@@ -2,7 +2,8 @@ use Rattle.std.proofs.Common.{rules, ◌≡◌, ◌+◌, ◌≤◌, ◌<◌, [],
 use Rattle.std.proofs.Common.{sym, ◌∙◌, ap, arith}
 use Rattle.std.proofs.lemmas.List.{map_push, take_all, take_more}
 use Rattle.term_core.specs.Terms.{Tree}
-use Rattle.term_core.specs.Patterns.{Pattern, patterns, ground_pattern}
+use Rattle.term_core.specs.Patterns.{Pattern, ground_pattern}
+use Rattle.term_core.specs.Instances.{patterns}
 use Rattle.term_core.specs.RulePatterns.{plain_pattern}
 use Rattle.term_core.specs.declared.rule_patterns.RulePat.{RulePat}
 use Rattle.term_core.proofs.PatternLaws.{patterns-map}

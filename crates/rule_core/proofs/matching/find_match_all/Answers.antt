@@ -1,11 +1,11 @@
 use Rattle.std.proofs.Common.{rules, length-append, ◌≡◌, ◌<◌, ℕ, min, List, [], Some, None, length}
-use Rattle.std.proofs.Common.{drop, replicate, refl, sym}
-use Rattle.std.proofs.Common.{◌∙◌, subst, arith}
+use Rattle.std.proofs.Common.{drop, replicate, refl, sym, ◌∙◌, subst, arith}
 use Rattle.std.specs.Prelude.{slice_get}
 use Rattle.std.proofs.lemmas.List.{drop_all}
 use Rattle.std.proofs.lemmas.Option.{slice_get_read}
 use Rattle.std.proofs.lemmas.Slice.Zip.{zip_turn, zip_end}
-use Rattle.term_core.specs.Terms.{Tree, forest}
+use Rattle.term_core.specs.Terms.{Tree}
+use Rattle.term_core.specs.Forests.{forest}
 use Rattle.term_core.specs.RulePatterns.{plain_pattern}
 use Rattle.term_core.specs.PatternLists.{plain_patterns}
 use Rattle.term_core.specs.declared.rule_patterns.RulePat.{RulePat}

@@ -1,5 +1,5 @@
 use Rattle.std.proofs.Common.{◌≡◌, ◌≤◌, ◌+◌, length, drop, replicate, None}
-use Rattle.term_core.specs.Terms.{forest}
+use Rattle.term_core.specs.Forests.{forest}
 use Rattle.term_core.specs.PatternLists.{plain_patterns}
 use Rattle.rule_core.specs.MatchSearch.{all_nodes}
 use Rattle.rule_core.specs.MatchSteps.{all_matched}

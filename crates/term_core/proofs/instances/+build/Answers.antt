@@ -1,6 +1,7 @@
 use Rattle.std.proofs.Common.{[], ◌∷◌, List, Some, append_assoc, sym, ◌∙◌, ap}
 use Rattle.std.proofs.lemmas.List.{append-nil, drop_all}
-use Rattle.term_core.specs.Terms.{Tree, Forest, no_tree, forest, trees}
+use Rattle.term_core.specs.Terms.{Tree, Forest, no_tree}
+use Rattle.term_core.specs.Forests.{forest, trees}
 use Rattle.term_core.specs.Patterns.{instances_of}
 use Rattle.term_core.specs.PatternLists.{plain_patterns}
 use Rattle.term_core.specs.declared.rule_patterns.RulePat.{RulePat}

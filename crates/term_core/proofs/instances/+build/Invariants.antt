@@ -1,5 +1,6 @@
 use Rattle.std.proofs.Common.{◌≡◌, ◌++◌, Some, drop}
-use Rattle.term_core.specs.Terms.{Forest, forest, trees}
+use Rattle.term_core.specs.Terms.{Forest}
+use Rattle.term_core.specs.Forests.{forest, trees}
 use Rattle.term_core.specs.Patterns.{instances_of}
 use Rattle.term_core.specs.PatternLists.{AllFitWithin, plain_patterns}
 use Rattle.term_core.proofs.instances.+build.Given as goal

@@ -1,7 +1,7 @@
 use Rattle.std.proofs.Common.{◌≡◌, ◌≤◌, [], length, sym, ◌∙◌, ap, inl, inr, refl, false, eq-eqb}
 use Rattle.std.proofs.Common.{arith}
 use Rattle.std.proofs.lemmas.Bool.{false≢true}
-use Rattle.term_core.specs.Terms.{children}
+use Rattle.term_core.specs.Forests.{children}
 use Rattle.term_core.proofs.Forests.{sizes-drop}
 use Rattle.term_core.specs.Patterns.{application}
 use Rattle.term_core.specs.RulePatterns.{plain_pattern}

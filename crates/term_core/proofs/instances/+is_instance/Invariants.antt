@@ -1,5 +1,5 @@
 use Rattle.std.proofs.Common.{◌≡◌, ◌≤◌, ◌+◌, ◌*◌, ◌↔◌, [], Some, drop}
-use Rattle.term_core.specs.Terms.{forest, children, sizes}
+use Rattle.term_core.specs.Forests.{forest, children, sizes}
 use Rattle.term_core.specs.Patterns.{instances_of}
 use Rattle.term_core.specs.PatternLists.{plain_patterns}
 use Rattle.term_core.specs.RulePatterns.{plain_pattern}

@@ -1,8 +1,10 @@
 use Rattle.std.proofs.Common.{◌≡◌, ◌+◌, ◌≤◌, [], ◌∷◌, ◌++◌, List, map, take, length, sym, ◌∙◌, ap}
 use Rattle.std.proofs.Common.{arith}
 use Rattle.std.proofs.lemmas.List.{map_push, take_all}
-use Rattle.term_core.specs.Terms.{forest, children, height, heights}
-use Rattle.term_core.specs.Patterns.{Pattern, patterns, ground_pattern}
+use Rattle.term_core.specs.Terms.{height, heights}
+use Rattle.term_core.specs.Forests.{forest, children}
+use Rattle.term_core.specs.Patterns.{Pattern, ground_pattern}
+use Rattle.term_core.specs.Instances.{patterns}
 use Rattle.term_core.specs.RulePatterns.{plain_pattern}
 use Rattle.term_core.proofs.Forests.{height_of-child, take_child}
 use Rattle.term_core.proofs.PatternLaws.{patterns-map}

@@ -1,5 +1,6 @@
 use Rattle.std.proofs.Common.{◌≡◌, ◌+◌, ◌*◌, map, take}
-use Rattle.term_core.specs.Terms.{forest, children, height, heights}
+use Rattle.term_core.specs.Terms.{height, heights}
+use Rattle.term_core.specs.Forests.{forest, children}
 use Rattle.term_core.specs.Patterns.{ground_pattern}
 use Rattle.term_core.specs.RulePatterns.{plain_pattern}
 use Rattle.term_core.proofs.rule_patterns.+copied.Given as goal

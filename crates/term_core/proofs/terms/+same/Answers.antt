@@ -1,6 +1,7 @@
 use Rattle.std.proofs.Common.{rules, ◌≡◌, ◌+◌, ◌≤◌, sym, ◌∙◌, ap, refl, eqb-true, arith}
 use Rattle.std.proofs.lemmas.Slice.Zip.{zip_turn}
-use Rattle.term_core.specs.Terms.{node, forest, heights, height}
+use Rattle.term_core.specs.Terms.{node, heights, height}
+use Rattle.term_core.specs.Forests.{forest}
 use Rattle.term_core.specs.TermView.{node_tree}
 use Rattle.term_core.proofs.Forests.{same_node, height_of-item}
 use Rattle.term_core.proofs.terms.+same.Goals as goal

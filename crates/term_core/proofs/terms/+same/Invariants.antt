@@ -1,5 +1,6 @@
 use Rattle.std.proofs.Common.{◌≡◌, ◌+◌, ◌*◌, length, take}
-use Rattle.term_core.specs.Terms.{height, heights, forest}
+use Rattle.term_core.specs.Terms.{height, heights}
+use Rattle.term_core.specs.Forests.{forest}
 use Rattle.term_core.proofs.terms.+same.Given as goal
 
 abbrev pub decreases-Term::same : goal.decreases-Term::same

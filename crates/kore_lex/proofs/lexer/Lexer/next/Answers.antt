@@ -1,5 +1,5 @@
 use Rattle.std.proofs.Common.{◌≡◌, ◌∙◌, sym, ap, arith, ℕ, List, length}
-use Rattle.kore_lex.specs.Lexed.{head, tail}
+use Rattle.kore_lex.specs.Unread.{head, tail}
 use Rattle.kore_lex.specs.Pieces.{piece}
 use Rattle.kore_lex.proofs.Lexing.{end-step, gap-step, whole-step, bad-step, is-token}
 use Rattle.kore_lex.specs.declared.lexer.TokenKind.TheVariants.{End}

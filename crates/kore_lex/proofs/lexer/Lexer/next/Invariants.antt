@@ -1,5 +1,6 @@
 use Rattle.std.proofs.Common.{◌≡◌, ◌≤◌, ◌<◌, ◌^◌, ◌-◌, length, drop}
-use Rattle.kore_lex.specs.Lexed.{lexed, left}
+use Rattle.kore_lex.specs.Lexed.{lexed}
+use Rattle.kore_lex.specs.Unread.{left}
 use Rattle.kore_lex.proofs.lexer.Lexer.next.Given as goal
 
 abbrev pub invariant-loop-len : goal.invariant-loop-len

@@ -1,7 +1,6 @@
 use Rattle.std.proofs.Common.{◌-◌, ℕ, List, take, drop, sym, ◌∙◌, subst}
-use Rattle.kore_lex.specs.Lexed.{Unread}
-use Rattle.kore_lex.specs.Tokens.{IsToken}
-use Rattle.kore_lex.specs.Value.{IsString}
+use Rattle.kore_lex.specs.Unread.{Unread}
+use Rattle.kore_lex.specs.Tokens.{IsToken, IsString}
 use Rattle.kore_text.specs.declared.tokens.Next.{Next}
 use Rattle.kore_text.specs.Remaining.{left, Comes}
 use Rattle.kore_text.proofs.Cutting.{next-end, next-fault, left-token}

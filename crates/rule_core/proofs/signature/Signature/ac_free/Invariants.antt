@@ -1,5 +1,5 @@
 use Rattle.std.proofs.Common.{ℕ, ◌<◌}
-use Rattle.rule_core.specs.Sorting.{IsAcConstructor}
+use Rattle.rule_core.specs.AcSymbols.{IsAcConstructor}
 use Rattle.rule_core.proofs.signature.Signature.ac_free.Given as goal
 
 abbrev pub invariant-loop-number : goal.invariant-loop-number

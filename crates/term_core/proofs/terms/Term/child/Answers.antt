@@ -1,5 +1,6 @@
 use Rattle.std.proofs.Common.{◌≡◌, length, sym, ◌∙◌, ap, arith, refl}
-use Rattle.term_core.specs.Terms.{node, forest, children}
+use Rattle.term_core.specs.Terms.{node}
+use Rattle.term_core.specs.Forests.{forest, children}
 use Rattle.term_core.specs.TermView.{node_tree}
 use Rattle.term_core.proofs.Forests.{children-node, child_at}
 use Rattle.term_core.proofs.terms.Term.child.Goals as goal

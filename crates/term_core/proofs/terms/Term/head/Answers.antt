@@ -1,5 +1,6 @@
 use Rattle.std.proofs.Common.{◌≡◌, length, List, sym, ◌∙◌, ap, arith}
-use Rattle.term_core.specs.Terms.{Tree, node, forest, children}
+use Rattle.term_core.specs.Terms.{Tree, node}
+use Rattle.term_core.specs.Forests.{forest, children}
 use Rattle.term_core.specs.TermView.{node_tree}
 use Rattle.term_core.proofs.Forests.{children-node}
 use Rattle.term_core.proofs.terms.Term.head.Goals as goal

@@ -1,5 +1,6 @@
 use Rattle.std.proofs.Common.{◌≡◌, ◌≤◌, take}
-use Rattle.term_core.specs.Terms.{forest, heights, AreNormal}
+use Rattle.term_core.specs.Terms.{heights, AreNormal}
+use Rattle.term_core.specs.Forests.{forest}
 use Rattle.term_core.proofs.terms.Term.highest.Given as goal
 
 abbrev pub invariant-loop-arg : goal.invariant-loop-arg
