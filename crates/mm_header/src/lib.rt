@@ -31,8 +31,9 @@
 //!
 //! **The contract.** `header_text` appends the text of the rows. `header_laws` says that this text
 //! is a valid database, what it declares, and that its frames are exactly those of the rows. The
-//! definitions are in `specs/`: `Header` has the rows as data, `HeaderText` their text, and
-//! `HeaderContext` what they declare. `HeaderTable` reads the table of the program.
+//! definitions are in `specs/`: `Header` has the rows as data, `HeaderRows` their frames,
+//! `HeaderText` their text, and `HeaderContext` what they declare. `HeaderTable` reads the table of
+//! the program.
 #![tactic(auto)]
 
 mod declarations;
