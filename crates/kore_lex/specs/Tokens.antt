@@ -9,6 +9,15 @@ use Rattle.std.specs.Str.{IsUtf8}
 use Rattle.kore_lex.specs.Escapes.{bad_at}
 use Rattle.kore_lex.specs.declared.piece.Piece.TheVariants.{Whole}
 
+-- the bytes may be between quotes: they are UTF-8, and each backslash begins an escape
+pub record IsInner (bs : List ℕ) : Type 0 where
+  pub utf8 : IsUtf8 bs
+  pub escapes : bad_at 0 bs ≡ None
+
+-- the bytes are one whole string
+abbrev pub IsString : List ℕ → Type 0
+IsString bs = piece bs ≡ Whole Text (length bs)
+
 -- each byte is a letter, a digit, `'` or `-`
 abbrev pub AllWord : List ℕ → Type 0
 AllWord [] = Unit {0}
@@ -35,12 +44,3 @@ IsToken End (c ∷ cs) = ⊥
 abbrev pub IsLongest : TokenKind → ℕ → List ℕ → Type 0
 IsLongest k n bs = IsToken k (take n bs)
     × ((j : TokenKind) (m : ℕ) → m ≤ length bs → IsToken j (take m bs) → m ≤ n)
-
--- the bytes may be between quotes: they are UTF-8, and each backslash begins an escape
-pub record IsInner (bs : List ℕ) : Type 0 where
-  pub utf8 : IsUtf8 bs
-  pub escapes : bad_at 0 bs ≡ None
-
--- the bytes are one whole string
-abbrev pub IsString : List ℕ → Type 0
-IsString bs = piece bs ≡ Whole Text (length bs)

@@ -34,6 +34,10 @@ pub record IsProved (words : List (List ℕ)) (told told' : Option Told)
   pub wanted : printed.asked.proof ≡ Some file
   pub proof : HoldsProof told told' file printed.theory printed.start printed.run
 
+-- the words are good, and ask for a run whose proof goes to this file
+abbrev pub IsProofRun : List (List ℕ) → List ℕ → Type 0
+IsProofRun words file = (asked : RunRequest) × IsRun words asked × (asked.proof ≡ Some file)
+
 -- if the exit code is one of a run and the words name a file for its proof, the run is proved there
 abbrev pub ProvesRun : Call → ℕ → Type 0
 ProvesRun c code =
@@ -69,7 +73,3 @@ abbrev pub LeavesFrontOfRun : Call → Type 0
 LeavesFrontOfRun c =
     (asked : RunRequest) → IsRun c.words asked
     → LeavesFront asked c.course.desk.told c.course.desk'.told
-
--- the words are good, and ask for a run whose proof goes to this file
-abbrev pub IsProofRun : List (List ℕ) → List ℕ → Type 0
-IsProofRun words file = (asked : RunRequest) × IsRun words asked × (asked.proof ≡ Some file)

@@ -19,6 +19,9 @@ abbrev pub invalid_line : ℕ → ℕ → List ℕ
 invalid_line kind byte =
     codes "invalid " ++ (decimal kind ++ (codes " at " ++ (decimal byte ++ 10 ∷ [])))
 
+abbrev pub database_limit : ℕ
+database_limit = 268435456
+
 -- the file is a valid database within the limit, and the output grew by the line with its numbers
 -- of `$a` and of `$p` statements
 pub record SaysValid (told : Told) (file : List ℕ) (before after : Option (List ℕ)) : Type 0 where
@@ -52,6 +55,3 @@ PrintsVerdictOf words (Some told) before after code =
 abbrev pub PrintsVerdict : Call → ℕ → Type 0
 PrintsVerdict c code =
     PrintsVerdictOf c.words c.course.desk.told c.course.out.bytes c.course.out'.bytes code
-
-abbrev pub database_limit : ℕ
-database_limit = 268435456

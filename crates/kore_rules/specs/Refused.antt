@@ -24,6 +24,12 @@ abbrev pub HasTextFault : (Stream → Type 0) → List ℕ → Fault → Type 0
 HasTextFault L bytes f = (fault : TextFault) × IsFirstFault L 0 (tokens_of bytes) (Some fault)
     × (f ≡ fault_of_text fault)
 
+-- The first fault of a definition: that of its declarations, or else that of its axioms.
+abbrev pub FirstOfDefinition : DefinitionTree → Option Fault → Type 0
+FirstOfDefinition d r =
+    Then (FirstOfSignature d)
+    (λ r. (sig : Signature) × IsSignatureOf d sig × FirstOfAxioms sig (axioms_of d) r) r
+
 -- The bytes are refused as a definition for this fault.
 abbrev pub IsRefused : List ℕ → Fault → Type 0
 IsRefused bytes f =
@@ -35,9 +41,3 @@ abbrev pub IsRefusedTerm : Signature → Option ℕ → List ℕ → Fault → T
 IsRefusedTerm sig top bytes f =
     HasTextFault IsPattern bytes f
     ⊎ ((p : PatternTree) × ReadsPattern bytes p × FirstOfTerm sig top p (Some f))
-
--- The first fault of a definition: that of its declarations, or else that of its axioms.
-abbrev pub FirstOfDefinition : DefinitionTree → Option Fault → Type 0
-FirstOfDefinition d r =
-    Then (FirstOfSignature d)
-    (λ r. (sig : Signature) × IsSignatureOf d sig × FirstOfAxioms sig (axioms_of d) r) r
