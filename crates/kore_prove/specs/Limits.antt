@@ -2,7 +2,7 @@
 use Rattle.std.specs.Prelude.{ℕ, ◌≤◌, List, length, Option}
 use Rattle.desk_io.specs.Told.{Told, Holds}
 
--- the greatest numbers of bytes of a definition, a term and a database
+-- the greatest numbers of bytes of a definition and of a term
 abbrev pub definition_limit : ℕ
 definition_limit = 33554432
 

@@ -19,6 +19,7 @@ abbrev pub invalid_line : ℕ → ℕ → List ℕ
 invalid_line kind byte =
     codes "invalid " ++ (decimal kind ++ (codes " at " ++ (decimal byte ++ 10 ∷ [])))
 
+-- the greatest number of bytes of a database
 abbrev pub database_limit : ℕ
 database_limit = 268435456
 
