@@ -52,7 +52,7 @@ use Rattle.kore_rules.specs.FirstRefusal.{FirstOfClass, FirstOfAxioms, first_sor
 -- ---- symbols
 
 -- two declared symbols with the same name
-record IsAlike (a b : SymInfo) : Type 0 where
+pub record IsAlike (a b : SymInfo) : Type 0 where
   pub kind : a.kind ≡ b.kind
   pub params : a.params ≡ b.params
   pub args : a.args.items ≡ b.args.items
@@ -61,13 +61,13 @@ record IsAlike (a b : SymInfo) : Type 0 where
   pub ac : a.ac ≡ b.ac
 
 -- both are declared and alike, or neither is declared
-abbrev AreAlike : Option SymInfo → Option SymInfo → Type 0
+abbrev pub AreAlike : Option SymInfo → Option SymInfo → Type 0
 AreAlike None None = Unit {0}
 AreAlike None (Some b) = ⊥
 AreAlike (Some a) None = ⊥
 AreAlike (Some a) (Some b) = IsAlike a b
 
-alike : (e f : List ℕ × SymInfo) → IsSameSymbol e f → IsAlike e.1 f.1
+pub alike : (e f : List ℕ × SymInfo) → IsSameSymbol e f → IsAlike e.1 f.1
 alike e f h = record {
   kind = h.kind;
   params = h.params;
@@ -77,10 +77,10 @@ alike e f h = record {
   ac = h.ac;
 }
 
-abbrev Symbols : Type 0
+abbrev pub Symbols : Type 0
 Symbols = List (List ℕ × SymInfo)
 
-position_alike : (name : List ℕ) (i : ℕ) (xs ys : Symbols) → AllZip IsSameSymbol xs ys
+pub position_alike : (name : List ℕ) (i : ℕ) (xs ys : Symbols) → AllZip IsSameSymbol xs ys
     → position_from (λ (e : List ℕ × SymInfo). bytes_eq name e.0) i xs
     ≡ position_from (λ (e : List ℕ × SymInfo). bytes_eq name e.0) i ys
 position_alike name i [] [] same = refl
@@ -92,10 +92,10 @@ position_alike name i (x ∷ xs) (y ∷ ys) same =
     ∙ ap (λ (o : Option ℕ). cond (bytes_eq name y.0) (Some i) o)
     (position_alike name (i + 1) xs ys same.1)
 
-abbrev info_at : Symbols → ℕ → Option SymInfo
+abbrev pub info_at : Symbols → ℕ → Option SymInfo
 info_at xs n = option_map (λ (e : List ℕ × SymInfo). e.1) (slice_get xs n)
 
-info_alike : (xs ys : Symbols) (n : ℕ) → AllZip IsSameSymbol xs ys
+pub info_alike : (xs ys : Symbols) (n : ℕ) → AllZip IsSameSymbol xs ys
     → AreAlike (info_at xs n) (info_at ys n)
 info_alike [] [] n same = tt
 info_alike [] (y ∷ ys) n same = absurd same
@@ -204,20 +204,20 @@ class_or attributes k =
 
 -- ---- a signature, and another one with other entries of the same symbols
 
-abbrev with_symbols : Signature → Symbols → Signature
+abbrev pub with_symbols : Signature → Symbols → Signature
 with_symbols s xs = record { sorts = s.sorts; symbols = xs; subsorts = s.subsorts }
 
 module _ (s : Signature) (xs : Symbols) (same : AllZip IsSameSymbol s.symbols xs) where
   abbrev t : Signature
   t = with_symbols s xs
 
-  symbol_alike : (name : List ℕ) → AreAlike (symbol_named s name) (symbol_named t name)
+  pub symbol_alike : (name : List ℕ) → AreAlike (symbol_named s name) (symbol_named t name)
   symbol_alike name =
       subst (λ (o : Option ℕ). AreAlike (symbol_named s name) (option_and_then (info_at xs) o))
       (position_alike name 0 s.symbols xs same)
       (numbered_alike s.symbols xs (number_of s.symbols name) same)
 
-  numbers_alike : (ss : List SortTree) → sort_numbers s ss ≡ sort_numbers t ss
+  pub numbers_alike : (ss : List SortTree) → sort_numbers s ss ≡ sort_numbers t ss
   numbers_alike [] = refl
   numbers_alike (x ∷ ss) = ap (number_then (sort_number s.sorts x)) (numbers_alike ss)
 
@@ -264,7 +264,7 @@ module _ (s : Signature) (xs : Symbols) (same : AllZip IsSameSymbol s.symbols xs
         (arguments_alike ss (places_of (symbol_named t name)) ps)
     faults_alike (other_form at) = refl
 
-    arguments_alike : (ss : List SortTree) (refs : List SortRef) (ps : Unfoldeds)
+    pub arguments_alike : (ss : List SortTree) (refs : List SortRef) (ps : Unfoldeds)
         → argument_faults s ss refs ps ≡ argument_faults t ss refs ps
     arguments_alike ss refs no_more = refl
     arguments_alike ss refs (and_more p ps) =
@@ -280,7 +280,7 @@ module _ (s : Signature) (xs : Symbols) (same : AllZip IsSameSymbol s.symbols xs
 
   -- ---- rules
 
-  at_sort_alike : (wanted : Option ℕ) (p : Unfolded)
+  pub at_sort_alike : (wanted : Option ℕ) (p : Unfolded)
       → faults_at_sort s wanted p ≡ faults_at_sort t wanted p
   at_sort_alike wanted p =
       ap (λ (fs : List Fault).
@@ -294,7 +294,7 @@ module _ (s : Signature) (xs : Symbols) (same : AllZip IsSameSymbol s.symbols xs
   side_alike wanted None = refl
   side_alike wanted (Some p) = at_sort_alike wanted (unfolded p)
 
-  condition_alike : (c : Condition) → condition_faults s c ≡ condition_faults t c
+  pub condition_alike : (c : Condition) → condition_faults s c ≡ condition_faults t c
   condition_alike always = refl
   condition_alike (tests x b) = at_sort_alike (sort_number s.sorts x) (unfolded b)
   condition_alike ill = refl
@@ -318,12 +318,12 @@ module _ (s : Signature) (xs : Symbols) (same : AllZip IsSameSymbol s.symbols xs
       ++ (condition_faults t w.condition ++ (fs ++ top))))
       (side_alike wanted (right_of w))
 
-  plain_functions_alike : is_plain_function s ≡ is_plain_function t
+  pub plain_functions_alike : is_plain_function s ≡ is_plain_function t
   plain_functions_alike =
       λ i name.
       plain_function_alike (symbol_named s name) (symbol_named t name) (symbol_alike name) i
 
-  ac_symbols_alike : is_ac_symbol s ≡ is_ac_symbol t
+  pub ac_symbols_alike : is_ac_symbol s ≡ is_ac_symbol t
   ac_symbols_alike =
       λ i name. ac_alike (symbol_named s name) (symbol_named t name) (symbol_alike name) i
 
@@ -360,7 +360,7 @@ module _ (s : Signature) (xs : Symbols) (same : AllZip IsSameSymbol s.symbols xs
   pattern_alike a None = statement_alike a.attributes (statement a.pattern)
   pattern_alike a (Some w) = refl
 
-  class_alike : (a : AxiomDeclaration) → class_of s a ≡ class_of t a
+  pub class_alike : (a : AxiomDeclaration) → class_of s a ≡ class_of t a
   class_alike a =
       ap (λ (k : AxiomClass). class_or a.attributes k) (pattern_alike a (rewriting a.pattern))
 

@@ -44,7 +44,7 @@ number_at n i lt =
     ∙ ap Some (get_or-range_with_len 0 n i 0 lt ∙ omega arith)
 
 -- the number of a hook's name is the hook's own number
-own_number : (row : ℕ) (h : Hook) → slice_get hooks row ≡ Some h → hook_number h.name ≡ Some row
+pub own_number : (row : ℕ) (h : Hook) → slice_get hooks row ≡ Some h → hook_number h.name ≡ Some row
 own_number row h there =
     some_same (hook_number h.name) (Some row)
     (sym (ap (option_map (λ (g : Hook). hook_number g.name)) there)

@@ -41,3 +41,7 @@ pub mod SignaturesFound
 pub mod ProgramsFound
 pub mod SignatureFacts
 pub mod AcceptedPrograms
+pub mod OneOrder
+pub mod AlikeMeanings
+pub mod AlikeKinds
+pub mod OneProgram

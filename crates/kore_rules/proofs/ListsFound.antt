@@ -92,7 +92,7 @@ all_keys key P (x ∷ xs) each =
     All-cons P (key x) (map key xs) (each x (contains_here x xs))
     (all_keys key P xs (λ y has. each y (contains_there x y xs has)))
 
-each_key : {X : Type 0} (key : X → ℕ × ℕ) (P : ℕ × ℕ → Type 0) (xs : List X) (x : X)
+pub each_key : {X : Type 0} (key : X → ℕ × ℕ) (P : ℕ × ℕ → Type 0) (xs : List X) (x : X)
     → All P (map key xs) → Contains xs x → P (key x)
 each_key key P [] x all has = absurd (contains_none x has)
 each_key key P (y ∷ ys) x all has = elim (contains_cases y x ys has) [

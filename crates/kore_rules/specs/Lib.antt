@@ -10,6 +10,7 @@ pub mod Names
 pub mod RefusedTexts
 -- Laws: what follows from that. Each is a clause of a function that does nothing.
 pub mod AcceptanceLaws
+pub mod SamePrograms
 -- Private: what clauses of private functions cite, and how private fields are seen.
 pub mod GroundNotes
 pub mod AxiomsRead

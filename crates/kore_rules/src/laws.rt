@@ -9,6 +9,7 @@ ghost use Rattle.kore_rules.specs.AcceptanceLaws.{AxiomFaultIsOne, TextFaultIsOn
 ghost use Rattle.kore_rules.specs.AcceptanceLaws.{TermTextFaultIsOne};
 ghost use Rattle.kore_rules.specs.AcceptanceLaws.{SpelledDefinitionIsFaultless};
 ghost use Rattle.kore_rules.specs.AcceptanceLaws.{SpelledPatternIsFaultless};
+ghost use Rattle.kore_rules.specs.SamePrograms.{ProgramIsOne};
 
 use kore_lex::token_laws;
 use kore_sig::signature_laws;
@@ -17,7 +18,8 @@ use std::alloc::Global;
 
 /// Does nothing at run time. It gives its caller these laws, for definitions and for terms. Each
 /// text is accepted or refused, and none is both. A refused text is refused for one fault only. A
-/// term means one start only. A text spells at most one tree. First faults are unique.
+/// definition means one program only, and a term means one start only. A text spells at most one
+/// tree. First faults are unique.
 ///
 /// The allocator is never used. It is a parameter because the program that a text means has lists
 /// and names, and their values need an allocator.
@@ -25,6 +27,7 @@ pub fn acceptance_laws(_alloc: Global)
     ensures exclusive { AcceptedIsNotRefused }
     ensures refusal { RefusalIsOne }
     ensures decided { EachTextIsDecided }
+    ensures program { ProgramIsOne }
     ensures exclusive_term { AcceptedTermIsNotRefused }
     ensures refusal_term { TermRefusalIsOne }
     ensures decided_term { EachTermIsDecided }

@@ -4,6 +4,7 @@ use Rattle.kore_rules.proofs.Exclusion.{term_refusal_is_one, start_is_one}
 use Rattle.kore_rules.proofs.MeaningsFound.{each_term_is_decided}
 use Rattle.kore_rules.proofs.OneFault.{term_is_one, axioms_are_one, spelled_faultless}
 use Rattle.kore_rules.proofs.OneFault.{spelled_pattern_faultless, text_one, term_text_one}
+use Rattle.kore_rules.proofs.OneProgram.{program_is_one}
 use Rattle.kore_rules.proofs.OneReading.{definition_is_one, pattern_is_one}
 use Rattle.kore_rules.proofs.ProgramsFound.{each_text_is_decided}
 use Rattle.kore_rules.specs.AcceptanceLaws.{DefinitionFaultIsOne, SpelledDefinitionIsFaultless}
@@ -24,6 +25,7 @@ returns c =
       exclusive = accepted_not_refused definition_is_one definition spelled;
       refusal = refusal_is_one definition_is_one definition spelled text;
       decided = each_text_is_decided c.args._alloc c.token_laws.ensures.cover;
+      program = program_is_one definition_is_one c.signature_laws.ensures.one;
       exclusive_term = accepted_term_not_refused pattern_is_one spelled_pattern;
       refusal_term = term_refusal_is_one pattern_is_one spelled_pattern term_text;
       decided_term = each_term_is_decided;

@@ -1,0 +1,268 @@
+-- Two signatures that agree give patterns, rules and equations the same meanings.
+use Rattle.std.proofs.Common.{◌≡◌, ℕ, List, [], ◌++◌, Option, Some, None, refl, sym, ap}
+use Rattle.std.proofs.Common.{◌∙◌, ◌+◌, subst, length}
+use Rattle.std.specs.Prelude.{◌==◌, ◌&&◌, ◌||◌, not, nat_le}
+use Rattle.std.specs.List.{AllZip}
+use Rattle.kore_text.specs.Trees.{SortTree, sort_parameter, sort_applied, PatternTree}
+use Rattle.kore_text.specs.Trees.{AxiomDeclaration}
+use Rattle.term_core.specs.Patterns.{Pattern, Patterns}
+use Rattle.rule_core.specs.Evaluation.{most_height}
+use Rattle.rule_core.specs.Rules.{RewriteRule, Equation}
+use Rattle.rule_core.specs.Sorting.{sort_at}
+use Rattle.rule_core.specs.declared.signature.Signature.{Signature}
+use Rattle.rule_core.specs.declared.signature.SortRef.{SortRef}
+use Rattle.rule_core.specs.declared.signature.SymInfo.{SymInfo}
+use Rattle.rule_core.specs.declared.signature.SymKind.{SymKind}
+use Rattle.kore_sig.specs.SignatureLaws.{IsSameSymbol, AreSameSignature}
+use Rattle.kore_sig.specs.SortReferences.{sort_number}
+use Rattle.kore_check.specs.Folds.{Unfolded, named_variable, written_value, applied_symbol}
+use Rattle.kore_check.specs.Folds.{other_form, Unfoldeds, no_more, and_more, unfolded, heights}
+use Rattle.kore_check.specs.PatternFaults.{argument_faults}
+use Rattle.kore_check.specs.PatternMeanings.{Means, by_variable, by_value, by_symbol, AllMean}
+use Rattle.kore_check.specs.PatternMeanings.{none_mean, more_mean, with_variables, IsNamed}
+use Rattle.kore_check.specs.PatternMeanings.{with_all_variables, applied_pattern}
+use Rattle.kore_check.specs.PatternSorts.{symbol_named, sort_numbers}
+use Rattle.kore_shapes.specs.EquationForms.{EquationParts}
+use Rattle.kore_shapes.specs.Statements.{Statement}
+use Rattle.kore_axioms.specs.AxiomMeanings.{MeansTest, MeansRule}
+use Rattle.kore_axioms.specs.Conditions.{tested}
+use Rattle.kore_axioms.specs.RuleFaults.{is_empty, faults_at_sort, is_bound}
+use Rattle.kore_axioms.specs.RuleParts.{rule_parts}
+use Rattle.kore_axioms.specs.Uses.{have_symbol}
+use Rattle.kore_equations.specs.EquationMeanings.{MeansEquation, IsUnreadable}
+use Rattle.kore_equations.specs.ReadableEquations.{IsReadable, all_read, condition_of_equation}
+use Rattle.kore_equations.specs.ReadableEquations.{is_sort_over, fits_function, is_one_sort}
+use Rattle.kore_equations.specs.ReadableEquations.{equation_faults, is_sorted}
+use Rattle.kore_equations.specs.ReadableEquations.{has_good_uses}
+use Rattle.kore_rules.proofs.AlikeSignatures.{IsAlike, AreAlike, Symbols, info_at, info_alike}
+use Rattle.kore_rules.proofs.AlikeSignatures.{position_alike, with_symbols, symbol_alike}
+use Rattle.kore_rules.proofs.AlikeSignatures.{numbers_alike, arguments_alike, at_sort_alike}
+use Rattle.kore_rules.proofs.AlikeSignatures.{condition_alike, plain_functions_alike}
+use Rattle.kore_rules.proofs.AlikeSignatures.{ac_symbols_alike, class_alike}
+
+some_alike : (a b : Option SymInfo) (info : SymInfo) → AreAlike a b → a ≡ Some info
+    → (other : SymInfo) × (b ≡ Some other) × IsAlike info other
+some_alike None b info h e = absurd (let never : ⊥ = cc in never)
+some_alike (Some a) None info h e = absurd h
+some_alike (Some a) (Some b) info h e =
+    let same : a ≡ info = cc in (b, refl, subst (λ (i : SymInfo). IsAlike i b) same h)
+
+module _ (s : Signature) (xs : Symbols) (same : AllZip IsSameSymbol s.symbols xs) where
+  abbrev t : Signature
+  t = with_symbols s xs
+
+  -- ---- patterns
+
+  mutual
+    variables_alike : (vars : List (List ℕ × ℕ)) (u : Unfolded)
+        → with_variables s vars u ≡ with_variables t vars u
+    variables_alike vars (named_variable at name x) = refl
+    variables_alike vars (written_value at x text byte) = refl
+    variables_alike vars (applied_symbol at byte name ss ps) = all_variables_alike vars ps
+    variables_alike vars (other_form at) = refl
+
+    all_variables_alike : (vars : List (List ℕ × ℕ)) (us : Unfoldeds)
+        → with_all_variables s vars us ≡ with_all_variables t vars us
+    all_variables_alike vars no_more = refl
+    all_variables_alike vars (and_more u us) =
+        all_variables_alike (with_variables s vars u) us
+        ∙ ap (λ (vs : List (List ℕ × ℕ)). with_all_variables t vs us) (variables_alike vars u)
+
+  named_alike : (name : List ℕ) (f : ℕ) (info : SymInfo) → IsNamed s name f info
+      → (other : SymInfo) × IsNamed t name f other × IsAlike info other
+  named_alike name f info h =
+      let found : (other : SymInfo) × (info_at xs f ≡ Some other) × IsAlike info other =
+      some_alike (info_at s.symbols f) (info_at xs f) info (info_alike s.symbols xs f same) h.1 in
+      (found.0, (sym (position_alike name 0 s.symbols xs same) ∙ h.0, found.1), found.2)
+
+  symbol_means : {vars : List (List ℕ × ℕ)} {at byte f : ℕ} {name : List ℕ} {ss : List SortTree}
+      {us : Unfoldeds} {ns : List ℕ} {ps : Patterns} {p : Pattern} {info : SymInfo}
+      → IsNamed s name f info → sort_numbers s ss ≡ Some ns → AllMean t vars us ps
+      → applied_pattern info.kind f ns ps ≡ Some p
+      → Means t vars (applied_symbol at byte name ss us) p
+  symbol_means {f = f} {name = name} {ss = ss} {ns = ns} {ps = ps} {info = info} named sorts all is =
+      let other : (other : SymInfo) × IsNamed t name f other × IsAlike info other =
+      named_alike name f info named in
+      by_symbol other.1 (sym (numbers_alike s xs same ss) ∙ sorts) all
+      (ap (λ (k : SymKind). applied_pattern k f ns ps) (sym other.2.kind) ∙ is)
+
+  mutual
+    means_alike : {vars : List (List ℕ × ℕ)} {u : Unfolded} {p : Pattern} → Means s vars u p
+        → Means t vars u p
+    means_alike (by_variable a b) = by_variable a b
+    means_alike (by_value a b) = by_value a b
+    means_alike (by_symbol named sorts all is) = symbol_means named sorts (all_mean_alike all) is
+
+    all_mean_alike : {vars : List (List ℕ × ℕ)} {us : Unfoldeds} {ps : Patterns}
+        → AllMean s vars us ps → AllMean t vars us ps
+    all_mean_alike none_mean = none_mean
+    all_mean_alike (more_mean a all) = more_mean (means_alike a) (all_mean_alike all)
+
+  test_alike : (vars : List (List ℕ × ℕ)) (b : Option PatternTree) (p : Option Pattern)
+      → MeansTest s vars b p → MeansTest t vars b p
+  test_alike vars None None h = tt
+  test_alike vars None (Some p) h = absurd h
+  test_alike vars (Some b) None h = absurd h
+  test_alike vars (Some b) (Some p) h = means_alike h
+
+  -- ---- rules
+
+  rule_alike : (a : AxiomDeclaration) (x : RewriteRule) → MeansRule s a x → MeansRule t a x
+  rule_alike a x r = record {
+    shape = r.shape;
+    class = sym (class_alike s xs same a) ∙ r.class;
+    left = r.left;
+    is_left = r.is_left;
+    right = r.right;
+    is_right = r.is_right;
+    variables = r.variables;
+    numbered = r.numbered ∙ variables_alike [] (unfolded r.left);
+    means_left = means_alike r.means_left;
+    means_condition =
+        test_alike r.variables (tested (rule_parts s r.shape).condition) x.condition
+        r.means_condition;
+    means_right = means_alike r.means_right;
+    sorts = r.sorts;
+    priority = r.priority;
+    place = r.place;
+  }
+
+  -- ---- equations
+
+  over_alike : (params : List (List ℕ)) (over : SortTree)
+      → is_sort_over s params over ≡ is_sort_over t params over
+  over_alike params (sort_parameter at name) = refl
+  over_alike params (sort_applied at name ss) = refl
+
+  module _ (a : AxiomDeclaration) (info other : SymInfo) (e : Statement) (q : EquationParts)
+      (h : IsAlike info other) where
+    fits_alike : fits_function s a info e q ≡ fits_function t a other e q
+    fits_alike = λ i.
+        over_alike a.params e.over i
+        && (is_one_sort (sort_number s.sorts e.sort) (sort_at [] (h.result i))
+        && (length q.patterns == length (h.args i)))
+
+    arguments_same : (ps : Unfoldeds)
+        → argument_faults s [] info.args.items ps ≡ argument_faults t [] other.args.items ps
+    arguments_same ps =
+        arguments_alike s xs same [] info.args.items ps
+        ∙ ap (λ (refs : List SortRef). argument_faults t [] refs ps) h.args
+
+    right_same : (u : Unfolded)
+        → faults_at_sort s (sort_at [] info.result) u ≡ faults_at_sort t (sort_at [] other.result) u
+    right_same u =
+        at_sort_alike s xs same (sort_at [] info.result) u
+        ∙ ap (λ (of : SortRef). faults_at_sort t (sort_at [] of) u) h.result
+
+    equation_faults_alike : equation_faults s info e q ≡ equation_faults t other e q
+    equation_faults_alike = λ i.
+        arguments_same (all_read q.parameters) i
+        ++ (arguments_same (all_read q.patterns) i
+        ++ (condition_alike s xs same (condition_of_equation s e q) i
+        ++ right_same (unfolded q.right) i))
+
+    sorted_alike : is_sorted s info e q ≡ is_sorted t other e q
+    sorted_alike = λ i.
+        is_empty (equation_faults_alike i)
+        && nat_le (heights (all_read q.patterns) + 1) most_height
+
+    uses_alike : has_good_uses s info e q ≡ has_good_uses t other e q
+    uses_alike = λ i.
+        not (have_symbol (plain_functions_alike s xs same i) (all_read q.patterns))
+        && (not (h.ac i || have_symbol (ac_symbols_alike s xs same i) (all_read q.patterns))
+        && (is_bound (all_read q.patterns) (tested (condition_of_equation s e q))
+        && is_bound (all_read q.patterns) (Some q.right)))
+
+    readable_alike : IsReadable s a info e q → IsReadable t a other e q
+    readable_alike r = record {
+      no_last_resort = r.no_last_resort;
+      form = r.form;
+      function = sym fits_alike ∙ r.function;
+      good_form = r.good_form;
+      sorted = sym sorted_alike ∙ r.sorted;
+      good_uses = sym uses_alike ∙ r.good_uses;
+    }
+
+    readable_back : IsReadable t a other e q → IsReadable s a info e q
+    readable_back r = record {
+      no_last_resort = r.no_last_resort;
+      form = r.form;
+      function = fits_alike ∙ r.function;
+      good_form = r.good_form;
+      sorted = sorted_alike ∙ r.sorted;
+      good_uses = uses_alike ∙ r.good_uses;
+    }
+
+  declared_alike : (f : List ℕ) (info : SymInfo) → symbol_named s f ≡ Some info
+      → (other : SymInfo) × (symbol_named t f ≡ Some other) × IsAlike info other
+  declared_alike f info e =
+      some_alike (symbol_named s f) (symbol_named t f) info (symbol_alike s xs same f) e
+
+  equation_alike : (f : List ℕ) (a : AxiomDeclaration) (x : Equation) → MeansEquation s f a x
+      → MeansEquation t f a x
+  equation_alike f a x r =
+      let other : (other : SymInfo) × (symbol_named t f ≡ Some other) × IsAlike r.info other =
+      declared_alike f r.info r.declared in
+      record {
+        stated = r.stated;
+        class = sym (class_alike s xs same a) ∙ r.class;
+        function = r.function;
+        info = other.0;
+        declared = other.1;
+        parts = r.parts;
+        readable = readable_alike a r.info other.0 r.stated r.parts other.2 r.readable;
+        variables = r.variables;
+        numbered = r.numbered ∙ all_variables_alike [] (all_read r.parts.patterns);
+        parameters = r.parameters;
+        means_arguments = all_mean_alike r.means_arguments;
+        means_condition =
+            test_alike r.variables (tested (condition_of_equation s r.stated r.parts))
+            x.condition r.means_condition;
+        means_right = means_alike r.means_right;
+        sorts = r.sorts;
+        priority = r.priority;
+        place = r.place;
+      }
+
+  unreadable_alike : (f : List ℕ) (a : AxiomDeclaration) → IsUnreadable s f a → IsUnreadable t f a
+  unreadable_alike f a r =
+      let other : (other : SymInfo) × (symbol_named t f ≡ Some other) × IsAlike r.info other =
+      declared_alike f r.info r.declared in
+      record {
+        stated = r.stated;
+        class = sym (class_alike s xs same a) ∙ r.class;
+        function = r.function;
+        info = other.0;
+        declared = other.1;
+        unreadable =
+            λ parts is.
+            r.unreadable parts (readable_back a r.info other.0 r.stated parts other.2 is);
+      }
+
+-- ---- two signatures that agree
+
+-- a signature that agrees with another one is that one with other entries of the same symbols
+pub entries_replaced : (u v : Signature) → AreSameSignature u v → with_symbols u v.symbols ≡ v
+entries_replaced u v same = λ i. record {
+  sorts = same.sorts i;
+  symbols = v.symbols;
+  subsorts = same.subsorts i;
+}
+
+pub rule_carried : (u v : Signature) → AreSameSignature u v → (a : AxiomDeclaration)
+    (x : RewriteRule) → MeansRule u a x → MeansRule v a x
+rule_carried u v same a x h =
+    subst (λ (sig : Signature). MeansRule sig a x) (entries_replaced u v same)
+    (rule_alike u v.symbols same.symbols a x h)
+
+pub equation_carried : (u v : Signature) → AreSameSignature u v → (f : List ℕ)
+    (a : AxiomDeclaration) (x : Equation) → MeansEquation u f a x → MeansEquation v f a x
+equation_carried u v same f a x h =
+    subst (λ (sig : Signature). MeansEquation sig f a x) (entries_replaced u v same)
+    (equation_alike u v.symbols same.symbols f a x h)
+
+pub unreadable_carried : (u v : Signature) → AreSameSignature u v → (f : List ℕ)
+    (a : AxiomDeclaration) → IsUnreadable u f a → IsUnreadable v f a
+unreadable_carried u v same f a h =
+    subst (λ (sig : Signature). IsUnreadable sig f a) (entries_replaced u v same)
+    (unreadable_alike u v.symbols same.symbols f a h)
