@@ -16,18 +16,17 @@ use Rattle.kore_sig.specs.FirstFault.{Fault}
 use Rattle.kore_check.specs.Folds.{Unfolded, applied_symbol, Unfoldeds, no_more, and_more, count}
 use Rattle.kore_check.specs.Folds.{unfolded_byte, height, unfolded}
 use Rattle.kore_check.specs.PatternSorts.{symbol_named, result_sort, sort_of, places_of}
-use Rattle.kore_check.specs.PatternFaults.{clash_faults, symbol_faults}
-use Rattle.rule_core.specs.KindTests.{has_no_kind, is_injection}
+use Rattle.kore_check.specs.PatternFaults.{clash_faults, symbol_faults, pattern_faults}
+use Rattle.kore_check.specs.PatternFaults.{argument_faults, all_faults}
+use Rattle.rule_core.specs.KindTests.{has_no_kind, is_injection, is_function_kind}
 use Rattle.rule_core.specs.Evaluation.{most_height}
-use Rattle.kore_check.specs.PatternFaults.{pattern_faults, argument_faults, all_faults}
 use Rattle.kore_check.specs.ValueTexts.{integer_of_text}
 use Rattle.kore_axioms.specs.AxiomClasses.{class_of}
 use Rattle.kore_axioms.specs.RuleFaults.{faults_at_sort, sorted_faults, use_faults, FirstOfParts}
 use Rattle.kore_axioms.specs.RuleForms.{form_faults}
 use Rattle.kore_axioms.specs.RuleParts.{RuleParts}
-use Rattle.kore_axioms.specs.Uses.{is_plain_function, is_plain_function_with}
-use Rattle.rule_core.specs.KindTests.{is_function_kind}
-use Rattle.kore_axioms.specs.Uses.{is_ac_symbol, is_ac_with}
+use Rattle.kore_axioms.specs.Uses.{is_plain_function, is_plain_function_with, is_ac_symbol}
+use Rattle.kore_axioms.specs.Uses.{is_ac_with}
 use Rattle.kore_shapes.specs.SameSorts.{same_sort}
 use Rattle.kore_shapes.specs.Shapes.{Rewriting, beside, tests}
 use Rattle.kore_rules.specs.FirstRefusal.{FirstOfClass, first_sort, FirstOfAxioms}

@@ -5,14 +5,13 @@ use Rattle.std.specs.Prelude.{ℤ, pos, All, Contains, slice_get, slice_index_or
 use Rattle.std.specs.Global.{Global}
 use Rattle.term_core.specs.Terms.{Tree, integer}
 use Rattle.term_core.specs.Patterns.{domain_value, binding}
-use Rattle.rule_core.specs.Rules.{RewriteRule}
+use Rattle.rule_core.specs.Rules.{RewriteRule, AreInOrder}
 use Rattle.rule_core.specs.Rules as plain
 use Rattle.rule_core.specs.Theories.{RewriteTheory}
 use Rattle.rule_core.specs.ProgramView.{theory_of, rewrite_rules, function_equations}
 use Rattle.rule_core.specs.Subsorts.{IsBelow, by_pair, by_chain}
 use Rattle.rule_core.specs.Sorting.{HasValue, IsValueOf}
 use Rattle.rule_core.specs.WellSorted.{IsWellSorted, IsPair}
-use Rattle.rule_core.specs.Rules.{AreInOrder}
 use Rattle.rule_core.specs.declared.rules.Equation.{Equation}
 use Rattle.rule_core.specs.declared.rules.Program.{Program}
 use Rattle.rule_core.specs.declared.rules.Rule.{Rule}

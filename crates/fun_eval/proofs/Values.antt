@@ -2,9 +2,9 @@
 use Rattle.std.proofs.Common.{◌≡◌, ◌≢◌, ℕ, suc, ◌<◌, ◌≤◌, ⊎_elim, inl, inr, List, [], ◌∷◌, length}
 use Rattle.std.proofs.Common.{map, Option, Some, None, refl, sym, ◌∙◌, ap, subst, arith}
 use Rattle.std.specs.Prelude.{IsSome, Result, Ok, Err, slice_get, option_map}
-use Rattle.term_core.specs.Terms.{DomainValue, integer, truth, Tree, leaf, node, Forest}
+use Rattle.term_core.specs.Terms.{DomainValue, integer, truth, Tree, leaf, node, Forest, height}
+use Rattle.term_core.specs.Terms.{injected}
 use Rattle.term_core.specs.Forests.{forest}
-use Rattle.term_core.specs.Terms.{height, injected}
 use Rattle.term_core.specs.Patterns.{Pattern, Patterns, variable, domain_value, binding}
 use Rattle.term_core.specs.Patterns.{application, injection, call, no_pattern, more_patterns}
 use Rattle.term_core.specs.HookValues.{Operation, on_integer, on_integers, compares, on_truth}

@@ -1,8 +1,8 @@
 -- What the private functions of evaluation return.
 use Rattle.std.specs.Prelude.{◌≡◌, ◌<◌, ◌≤◌, ℕ, List, length, Option, Some, IsSome, Result, Ok, Err}
-use Rattle.term_core.specs.Terms.{DomainValue, Tree, leaf, node, Forest, height, heights}
+use Rattle.term_core.specs.Terms.{DomainValue, Tree, leaf, node, Forest, height, heights, injected}
+use Rattle.term_core.specs.Terms.{AreNormal}
 use Rattle.term_core.specs.Forests.{forest}
-use Rattle.term_core.specs.Terms.{injected, AreNormal}
 use Rattle.term_core.specs.Patterns.{Pattern, Patterns, call, binding}
 use Rattle.term_core.specs.HookValues.{hook_value}
 use Rattle.rule_core.specs.Theories.{RewriteTheory}

@@ -2,10 +2,9 @@
 use Rattle.std.proofs.Common.{◌≡◌, ℕ, Bool, List, [], ◌∷◌, ◌++◌, refl, ap, ◌∙◌, sym}
 use Rattle.std.specs.Prelude.{Option, None}
 use Rattle.std.proofs.lemmas.List.{append-nil, append_assoc}
-use Rattle.kore_sig.specs.FirstFault.{Fault, when}
+use Rattle.kore_sig.specs.FirstFault.{Fault, when, faults_of_tests}
 use Rattle.kore_sig.specs.Noted.{noted, leads_by_number, first_by_number}
 use Rattle.kore_sig.proofs.NotedLaws.{noted_append}
-use Rattle.kore_sig.specs.FirstFault.{faults_of_tests}
 
 raised_append : (at : ℕ) (ts us : List (Bool × ℕ))
     → faults_of_tests at (ts ++ us) ≡ faults_of_tests at ts ++ faults_of_tests at us

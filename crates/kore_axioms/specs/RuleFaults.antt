@@ -4,7 +4,7 @@ use Rattle.std.specs.Prelude.{ℕ, List, [], ◌∷◌, ◌++◌, Bool, false, t
 use Rattle.std.specs.Prelude.{None, Contains}
 use Rattle.kore_text.specs.Trees.{SortTree, listed_sorts, PatternTree, connected, AxiomDeclaration}
 use Rattle.rule_core.specs.declared.signature.Signature.{Signature}
-use Rattle.kore_sig.specs.FirstFault.{Fault, ByByte, ByNumber, IsFirstBy, Then}
+use Rattle.kore_sig.specs.FirstFault.{Fault, ByByte, ByNumber, IsFirstBy, Then, faults_of_tests}
 use Rattle.kore_sig.specs.SortReferences.{sort_number}
 use Rattle.kore_check.specs.Folds.{Unfolded, Unfoldeds, no_more, and_more, unfolded_byte, unfolded}
 use Rattle.kore_check.specs.PatternSorts.{sort_of}
@@ -15,7 +15,6 @@ use Rattle.kore_axioms.specs.Conditions.{tested}
 use Rattle.kore_axioms.specs.RuleParts.{RuleParts, rule_parts, left_of, right_of}
 use Rattle.kore_axioms.specs.RuleForms.{holds_of, form_faults}
 use Rattle.kore_axioms.specs.Uses.{has_symbol, is_bound_by, is_plain_function, is_ac_symbol}
-use Rattle.kore_sig.specs.FirstFault.{faults_of_tests}
 
 -- there is no fault
 abbrev pub is_empty : List Fault → Bool

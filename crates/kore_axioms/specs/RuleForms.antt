@@ -1,13 +1,12 @@
 -- The faults of the form of a rewrite rule.
 use Rattle.std.specs.Prelude.{ℕ, List, [], ◌∷◌, Bool, true, false, ◌||◌, Option, Some, None}
 use Rattle.kore_text.specs.Trees.{PatternTree, AxiomDeclaration}
-use Rattle.kore_sig.specs.FirstFault.{Fault}
+use Rattle.kore_sig.specs.FirstFault.{Fault, faults_of_tests}
 use Rattle.kore_shapes.specs.Forms.{conjunctions, others, all_forms, has_form, has_binder}
 use Rattle.kore_shapes.specs.Shapes.{Side, without, misshapen}
 use Rattle.kore_axioms.specs.Conditions.{tested, is_ill}
 use Rattle.kore_axioms.specs.RuleParts.{RuleParts, left_of, right_of}
 use Rattle.kore_axioms.specs.Priorities.{has_bad_priority}
-use Rattle.kore_sig.specs.FirstFault.{faults_of_tests}
 
 -- there is a pattern, and the test holds of it
 abbrev pub holds_of : (PatternTree → Bool) → Option PatternTree → Bool

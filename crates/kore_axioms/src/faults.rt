@@ -1,8 +1,7 @@
 // Faults at an axiom.
 ghost use Rattle.std.specs.Prelude.{◌≡◌, ℕ, map, option_map};
-ghost use Rattle.kore_sig.specs.FirstFault.{when};
+ghost use Rattle.kore_sig.specs.FirstFault.{when, faults_of_tests};
 ghost use Rattle.kore_sig.specs.Noted.{noted, leads_by_number, first_by_number};
-ghost use Rattle.kore_sig.specs.FirstFault.{faults_of_tests};
 ghost use Rattle.kore_axioms.specs.Views.{fault_number as the_number, fault_at, plain_test};
 
 /// What is wrong with an axiom as a whole. Its place is the keyword of the axiom. The value of each

@@ -10,9 +10,8 @@ ghost use Rattle.kore_check.specs.PatternFaults.{sort_faults, clash_faults};
 ghost use Rattle.kore_check.specs.FaultNumbers.{IsFirstOf};
 ghost use Rattle.kore_shapes.specs.Views.{pattern_at, plain_condition};
 ghost use Rattle.kore_axioms.specs.RuleFaults.{faults_at_sort, side_faults, condition_faults};
-ghost use Rattle.kore_axioms.specs.RuleFaults.{only_sort_faults};
-ghost use Rattle.kore_axioms.specs.RuleFaults.{is_empty, top_faults, found_top_faults};
-ghost use Rattle.kore_axioms.specs.RuleFaults.{sorted_faults};
+ghost use Rattle.kore_axioms.specs.RuleFaults.{only_sort_faults, is_empty, top_faults};
+ghost use Rattle.kore_axioms.specs.RuleFaults.{found_top_faults, sorted_faults};
 ghost use Rattle.kore_axioms.specs.Views.{plain_rule_parts};
 ghost use Rattle.kore_check.specs.Notes.{kept_fault, after, sort_no};
 

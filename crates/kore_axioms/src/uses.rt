@@ -5,9 +5,9 @@ ghost use Rattle.kore_ast.specs.Plain.{pattern_tree};
 ghost use Rattle.kore_check.specs.Folds.{unfolded, all_unfolded, inner_fold};
 ghost use Rattle.kore_shapes.specs.Forms.{is_one as there_is_one};
 ghost use Rattle.kore_axioms.specs.Uses.{has_symbol as has_one, have_symbol as have_one};
-ghost use Rattle.rule_core.specs.KindTests.{is_function_kind};
 ghost use Rattle.kore_axioms.specs.Uses.{is_plain_function_with as is_the_plain_function};
 ghost use Rattle.kore_axioms.specs.Uses.{is_ac_with as is_the_ac};
+ghost use Rattle.rule_core.specs.KindTests.{is_function_kind};
 ghost use Rattle.kore_axioms.specs.UsedSymbols.{is_used};
 ghost use Rattle.kore_axioms.specs.FoldUses.{are_two as there_are_two};
 

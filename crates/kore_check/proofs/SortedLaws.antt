@@ -38,9 +38,8 @@ use Rattle.kore_check.specs.ValueTexts.{integer_of_text, not_negative, negated, 
 use Rattle.kore_check.specs.PatternSorts.{sort_of, symbol_named, sort_numbers, number_then}
 use Rattle.kore_check.specs.PatternSorts.{result_sort, wanted_sort, places_of}
 use Rattle.kore_check.specs.PatternFaults.{pattern_faults, argument_faults, clash_faults}
-use Rattle.kore_check.specs.PatternFaults.{sort_faults, symbol_faults}
+use Rattle.kore_check.specs.PatternFaults.{sort_faults, symbol_faults, is_bad_injection}
 use Rattle.rule_core.specs.KindTests.{is_injection}
-use Rattle.kore_check.specs.PatternFaults.{is_bad_injection}
 use Rattle.kore_check.specs.PatternMeanings.{Means, by_variable, by_value, by_symbol, AllMean}
 use Rattle.kore_check.specs.PatternMeanings.{none_mean, more_mean, applied_pattern, injected_only}
 use Rattle.kore_check.specs.PatternMeanings.{variable_number}

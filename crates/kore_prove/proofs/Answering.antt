@@ -17,11 +17,10 @@ use Rattle.kore_prove.specs.DrilledRun.{IsDrilled, Drills, LeavesDrill, LeavesFr
 use Rattle.kore_prove.specs.DatabaseVerdicts.{PrintsVerdictOn, verdict_code}
 use Rattle.kore_prove.specs.declared.verification.Verdict.{Verdict}
 use Rattle.kore_prove.specs.Reports.{Ending, out_of_memory, bad_words, Reports}
-use Rattle.kore_prove.specs.Causes.{VerifyCause, KeepsOutput}
+use Rattle.kore_prove.specs.Causes.{VerifyCause, KeepsOutput, without_memory, with_bad_words}
+use Rattle.kore_prove.specs.Causes.{of_run, of_verify, of_drill, run_done, verify_done, drill_done}
 use Rattle.kore_prove.specs.Courses.{Course, Call}
 use Rattle.kore_prove.specs.Unwritten.{IsUnwritten}
-use Rattle.kore_prove.specs.Causes.{without_memory, with_bad_words, of_run, of_verify, of_drill}
-use Rattle.kore_prove.specs.Causes.{run_done, verify_done, drill_done}
 use Rattle.kore_prove.specs.CompleteDrills.{CompletesDrill}
 use Rattle.kore_prove.specs.Requests.{IsWanted, IsDrillFile}
 use Rattle.kore_prove.specs.RunsDone.{IsRunDone, IsRunEnded, IsDrillDone, IsDrillEnded}

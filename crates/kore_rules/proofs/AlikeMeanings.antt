@@ -1,6 +1,6 @@
 -- Two signatures that agree give patterns, rules and equations the same meanings.
-use Rattle.std.proofs.Common.{◌≡◌, ℕ, List, [], ◌++◌, Option, Some, None, refl, sym, ap}
-use Rattle.std.proofs.Common.{◌∙◌, ◌+◌, subst, length}
+use Rattle.std.proofs.Common.{◌≡◌, ℕ, List, [], ◌++◌, Option, Some, None, refl, sym, ap, ◌∙◌, ◌+◌}
+use Rattle.std.proofs.Common.{subst, length}
 use Rattle.std.specs.Prelude.{◌==◌, ◌&&◌, ◌||◌, not, nat_le}
 use Rattle.std.specs.List.{AllZip}
 use Rattle.kore_text.specs.Trees.{SortTree, sort_parameter, sort_applied, PatternTree}
@@ -32,8 +32,7 @@ use Rattle.kore_axioms.specs.Uses.{have_symbol}
 use Rattle.kore_equations.specs.EquationMeanings.{MeansEquation, IsUnreadable}
 use Rattle.kore_equations.specs.ReadableEquations.{IsReadable, all_read, condition_of_equation}
 use Rattle.kore_equations.specs.ReadableEquations.{is_sort_over, fits_function, is_one_sort}
-use Rattle.kore_equations.specs.ReadableEquations.{equation_faults, is_sorted}
-use Rattle.kore_equations.specs.ReadableEquations.{has_good_uses}
+use Rattle.kore_equations.specs.ReadableEquations.{equation_faults, is_sorted, has_good_uses}
 use Rattle.kore_rules.proofs.AlikeSignatures.{IsAlike, AreAlike, Symbols, info_at, info_alike}
 use Rattle.kore_rules.proofs.AlikeSignatures.{position_alike, with_symbols, symbol_alike}
 use Rattle.kore_rules.proofs.AlikeSignatures.{numbers_alike, arguments_alike, at_sort_alike}

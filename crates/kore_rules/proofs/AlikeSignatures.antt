@@ -16,7 +16,7 @@ use Rattle.rule_core.specs.declared.signature.SymKind.{SymKind}
 use Rattle.rule_core.specs.declared.signature.SortRef.{SortRef}
 use Rattle.kore_sig.specs.Attributes.{has_attribute}
 use Rattle.kore_sig.specs.FirstFault.{Fault, ByByte, ByNumber, IsFirstBy, Then, IsFirstOfSequence}
-use Rattle.kore_sig.specs.FirstFault.{when, unless}
+use Rattle.kore_sig.specs.FirstFault.{when, unless, faults_of_tests}
 use Rattle.kore_sig.specs.SignatureLaws.{IsSameSymbol, AreSameSignature}
 use Rattle.kore_sig.specs.SortReferences.{sort_number}
 use Rattle.kore_check.specs.Folds.{Unfolded, named_variable, written_value, applied_symbol}
@@ -25,28 +25,24 @@ use Rattle.kore_check.specs.Folds.{height, unfolded}
 use Rattle.kore_check.specs.PatternSorts.{symbol_named, sort_numbers, number_then, result_sort}
 use Rattle.kore_check.specs.PatternSorts.{sort_of, places_of}
 use Rattle.kore_check.specs.PatternFaults.{sort_faults, clash_faults, symbol_faults, first_wanted}
-use Rattle.rule_core.specs.Evaluation.{most_height}
 use Rattle.kore_check.specs.PatternFaults.{pattern_faults, argument_faults, all_faults}
 use Rattle.kore_check.specs.PatternFaults.{is_bad_injection}
-use Rattle.rule_core.specs.KindTests.{is_injection, has_no_kind}
+use Rattle.rule_core.specs.Evaluation.{most_height}
+use Rattle.rule_core.specs.KindTests.{is_injection, has_no_kind, is_defined_kind, is_function_kind}
 use Rattle.kore_shapes.specs.Shapes.{Rewriting, rewriting, Condition, always, tests, ill}
 use Rattle.kore_shapes.specs.Shapes.{found_part}
 use Rattle.kore_shapes.specs.Statements.{Statement, statement}
 use Rattle.kore_axioms.specs.AxiomClasses.{AxiomClass, refused, orders_sorts, rewrites, equates}
-use Rattle.kore_axioms.specs.AxiomClasses.{passed_over, class_of, takes_equations}
-use Rattle.rule_core.specs.KindTests.{is_defined_kind}
-use Rattle.kore_axioms.specs.AxiomClasses.{is_no_equation, class_of_statement, class_of_pattern}
-use Rattle.kore_axioms.specs.AxiomClasses.{states_pairs}
+use Rattle.kore_axioms.specs.AxiomClasses.{passed_over, class_of, takes_equations, is_no_equation}
+use Rattle.kore_axioms.specs.AxiomClasses.{class_of_statement, class_of_pattern, states_pairs}
 use Rattle.kore_axioms.specs.Conditions.{tested}
-use Rattle.kore_sig.specs.FirstFault.{faults_of_tests}
 use Rattle.kore_axioms.specs.RuleFaults.{FirstOfRule, faults_at_sort, side_faults, condition_faults}
 use Rattle.kore_axioms.specs.RuleFaults.{found_top_faults, sorted_faults, listed, is_bound}
 use Rattle.kore_axioms.specs.RuleFaults.{differs_from, use_faults}
 use Rattle.kore_axioms.specs.RuleForms.{form_faults, holds_of}
 use Rattle.kore_axioms.specs.RuleParts.{RuleParts, rule_parts, left_of, right_of}
-use Rattle.kore_axioms.specs.Uses.{has_symbol, is_plain_function}
-use Rattle.rule_core.specs.KindTests.{is_function_kind}
-use Rattle.kore_axioms.specs.Uses.{is_plain_function_with, is_ac_symbol, is_ac_with}
+use Rattle.kore_axioms.specs.Uses.{has_symbol, is_plain_function, is_plain_function_with}
+use Rattle.kore_axioms.specs.Uses.{is_ac_symbol, is_ac_with}
 use Rattle.kore_rules.specs.FirstRefusal.{FirstOfClass, FirstOfAxioms, first_sort}
 
 -- ---- symbols

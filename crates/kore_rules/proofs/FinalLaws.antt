@@ -10,12 +10,11 @@ use Rattle.std.proofs.lemmas.Slice.Eq.{bytes_eq-Decides}
 use Rattle.std.proofs.lemmas.Option.{slice_get_within, get_or_from_slice_get}
 use Rattle.hook_table.specs.declared.table.ScalarKind.{ScalarKind}
 use Rattle.hook_table.specs.Rows.{plain_kind}
-use Rattle.rule_core.specs.Named.{number_of}
+use Rattle.rule_core.specs.Named.{number_of, is_among}
 use Rattle.rule_core.specs.DistinctNames.{names_of, IsNoneOf, AreDistinct}
 use Rattle.rule_core.specs.declared.signature.Signature.{Signature}
 use Rattle.rule_core.specs.declared.signature.SortRef.{SortRef}
 use Rattle.rule_core.specs.declared.signature.SymInfo.{SymInfo}
-use Rattle.rule_core.specs.Named.{is_among}
 use Rattle.kore_sig.proofs.DeclaringLaws.{allzip_push}
 use Rattle.kore_sig.proofs.ListLaws.{take_step}
 use Rattle.std.proofs.lemmas.List.{drop_more}

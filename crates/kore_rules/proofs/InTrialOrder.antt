@@ -11,8 +11,7 @@ use Rattle.std.proofs.lemmas.Bool.Decides.{Decides-ltb}
 use Rattle.std.proofs.lemmas.List.Elements.{All-nil, All-cons}
 use Rattle.std.proofs.lemmas.List.Sums.{sum_by-cons}
 use Rattle.std.proofs.lemmas.List.Sorted.{sum_by-IsPermutation, IsPermutation-map}
-use Rattle.rule_core.specs.Rules.{ComesBefore}
-use Rattle.rule_core.specs.Rules.{AreInOrder}
+use Rattle.rule_core.specs.Rules.{ComesBefore, AreInOrder}
 use Rattle.kore_rules.specs.AxiomsRead.{AreApart}
 
 -- the first is not after the second

@@ -9,9 +9,9 @@ use Rattle.std.specs.Option.{option_and_then}
 use Rattle.std.proofs.lemmas.Bool.{eqb-true, false≢true}
 use Rattle.std.proofs.lemmas.List.Folds.{list_any-append}
 use Rattle.std.proofs.lemmas.Option.{slice_get_within, get_or_from_slice_get, slice_get-get_or}
-use Rattle.term_core.specs.HookValues.{Kind, integers, truths, Hook, hooks}
+use Rattle.term_core.specs.HookValues.{Kind, integers, truths, Hook, hooks, argument_kinds}
+use Rattle.term_core.specs.HookValues.{result_kind}
 use Rattle.term_core.specs.HookSignatures.{signature}
-use Rattle.term_core.specs.HookValues.{argument_kinds, result_kind}
 use Rattle.kore_text.specs.Trees.{SortTree, PatternTree, AxiomDeclaration}
 use Rattle.rule_core.specs.Subsorts.{IsBelow, by_pair, by_chain}
 use Rattle.rule_core.specs.Sorting.{IsSymbol}

@@ -8,8 +8,7 @@ use Rattle.std.proofs.lemmas.Bool.Decides.{Decides-ltb}
 use Rattle.std.proofs.lemmas.List.Elements.{All-nil, All-cons, All-head, All-tail}
 use Rattle.std.proofs.lemmas.List.Sums.{sum_by-cons}
 use Rattle.kore_text.specs.Trees.{AxiomDeclaration}
-use Rattle.rule_core.specs.Rules.{ComesBefore}
-use Rattle.rule_core.specs.Rules.{AreInOrder}
+use Rattle.rule_core.specs.Rules.{ComesBefore, AreInOrder}
 use Rattle.kore_sig.proofs.FirstLaws.{contains_here, contains_there, contains_cases, contains_none}
 use Rattle.kore_rules.specs.AxiomsRead.{AreRead, AreApart, AreFew}
 use Rattle.kore_rules.proofs.AxiomSteps.{read_more, read_same}

@@ -41,10 +41,9 @@ use Rattle.kore_axioms.proofs.BoundLaws.{no_faults, same_number}
 use Rattle.kore_axioms.specs.RuleFaults.{faults_at_sort}
 use Rattle.kore_equations.proofs.MeaningLaws.{all_variables_extend}
 use Rattle.kore_axioms.specs.Uses.{has_symbol, have_symbol, is_plain_function}
-use Rattle.kore_axioms.specs.Uses.{is_plain_function_with, is_ac_symbol, is_ac_with}
-use Rattle.kore_axioms.specs.Uses.{occurs_in, occurs_in_some, is_bound_by}
+use Rattle.kore_axioms.specs.Uses.{is_plain_function_with, is_ac_symbol, is_ac_with, occurs_in}
+use Rattle.kore_axioms.specs.Uses.{occurs_in_some, is_bound_by, are_bound_by}
 use Rattle.rule_core.specs.KindTests.{is_function_kind}
-use Rattle.kore_axioms.specs.Uses.{are_bound_by}
 
 some_same : {X : Type 0} (x y : X) → Some x ≡ Some y → x ≡ y
 some_same x y e = cc

@@ -1,8 +1,8 @@
 -- Two lists in the order of trial that have the same members are the same list.
-use Rattle.std.proofs.Common.{◌≡◌, ℕ, List, [], ◌∷◌, map, refl, sym, ap, ◌∙◌, subst, arith, inl, inr}
+use Rattle.std.proofs.Common.{◌≡◌, ℕ, List, [], ◌∷◌, map, refl, sym, ap, ◌∙◌, subst, arith, inl}
+use Rattle.std.proofs.Common.{inr}
 use Rattle.std.specs.Prelude.{Contains}
-use Rattle.rule_core.specs.Rules.{ComesBefore}
-use Rattle.rule_core.specs.TrialOrder.{AreInOrder}
+use Rattle.rule_core.specs.Rules.{ComesBefore, AreInOrder}
 use Rattle.kore_sig.proofs.FirstLaws.{contains_here, contains_there, contains_cases, contains_none}
 use Rattle.kore_rules.proofs.ListsFound.{each_key}
 

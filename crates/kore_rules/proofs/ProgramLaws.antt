@@ -16,9 +16,8 @@ use Rattle.kore_text.specs.Trees.{AxiomDeclaration}
 use Rattle.rule_core.specs.Named.{number_of}
 use Rattle.rule_core.specs.DistinctNames.{names_of, AreDistinct}
 use Rattle.rule_core.specs.ProgramView.{rewrite_rule, function_equation, function_equations}
-use Rattle.rule_core.specs.Rules.{RewriteRule, ComesBefore}
+use Rattle.rule_core.specs.Rules.{RewriteRule, ComesBefore, AreInOrder}
 use Rattle.rule_core.specs.Rules as plain
-use Rattle.rule_core.specs.Rules.{AreInOrder}
 use Rattle.rule_core.specs.declared.rules.Equation.{Equation}
 use Rattle.rule_core.specs.declared.rules.Rule.{Rule}
 use Rattle.rule_core.specs.declared.signature.Signature.{Signature}

@@ -7,15 +7,13 @@ use Rattle.kore_text.specs.Trees.{AxiomDeclaration, DefinitionTree}
 use Rattle.term_core.specs.declared.ids.HookNo.{HookNo}
 use Rattle.term_core.specs.HookValues.{Kind, argument_kinds, result_kind}
 use Rattle.rule_core.specs.DistinctNames.{names_of, AreDistinct}
-use Rattle.rule_core.specs.Rules.{RewriteRule, Equation}
+use Rattle.rule_core.specs.Rules.{RewriteRule, Equation, AreInOrder}
 use Rattle.rule_core.specs.Sorting.{IsSymbol, IsFunction}
 use Rattle.rule_core.specs.Subsorts.{IsBelow}
 use Rattle.rule_core.specs.Theories.{RewriteTheory, equations_of}
-use Rattle.rule_core.specs.WellSorted.{IsSignature, IsWellSorted}
+use Rattle.rule_core.specs.WellSorted.{IsSignature, IsWellSorted, IsReference}
+use Rattle.rule_core.specs.WellSorted.{IsRuleOf as IsSortedRule, IsEquationOf as IsSortedEquation}
 use Rattle.rule_core.specs.HookSorts.{IsSortOf, RefersTo, ReferTo, FitsHook}
-use Rattle.rule_core.specs.WellSorted.{IsReference, IsRuleOf as IsSortedRule}
-use Rattle.rule_core.specs.Rules.{AreInOrder}
-use Rattle.rule_core.specs.WellSorted.{IsEquationOf as IsSortedEquation}
 use Rattle.rule_core.specs.declared.signature.Signature.{Signature}
 use Rattle.rule_core.specs.declared.signature.SortInfo.{SortInfo}
 use Rattle.rule_core.specs.declared.signature.SortRef.{SortRef}

@@ -5,9 +5,8 @@ use Rattle.std.specs.Prelude.{length, slice_get, string_bytes}
 use Rattle.std.specs.List.{AllZip}
 use Rattle.kore_text.specs.Trees.{AxiomDeclaration}
 use Rattle.term_core.specs.HookValues.{Hook, hooks}
-use Rattle.rule_core.specs.Rules.{RewriteRule, Equation}
+use Rattle.rule_core.specs.Rules.{RewriteRule, Equation, AreInOrder}
 use Rattle.rule_core.specs.Theories.{RewriteTheory, equations_of}
-use Rattle.rule_core.specs.Rules.{AreInOrder}
 use Rattle.rule_core.specs.HookSorts.{FitsHook}
 use Rattle.rule_core.specs.declared.signature.Signature.{Signature}
 use Rattle.rule_core.specs.declared.signature.SymInfo.{SymInfo}

@@ -1,13 +1,11 @@
 // The laws of acceptance.
 ghost use Rattle.kore_rules.specs.AcceptanceLaws.{AcceptedIsNotRefused, RefusalIsOne};
-ghost use Rattle.kore_rules.specs.AcceptanceLaws.{EachTextIsDecided};
-ghost use Rattle.kore_rules.specs.AcceptanceLaws.{AcceptedTermIsNotRefused, TermRefusalIsOne};
-ghost use Rattle.kore_rules.specs.AcceptanceLaws.{EachTermIsDecided, StartIsOne};
+ghost use Rattle.kore_rules.specs.AcceptanceLaws.{EachTextIsDecided, AcceptedTermIsNotRefused};
+ghost use Rattle.kore_rules.specs.AcceptanceLaws.{TermRefusalIsOne, EachTermIsDecided, StartIsOne};
 ghost use Rattle.kore_rules.specs.AcceptanceLaws.{DefinitionIsOne, PatternIsOne};
 ghost use Rattle.kore_rules.specs.AcceptanceLaws.{DefinitionFaultIsOne, TermFaultIsOne};
 ghost use Rattle.kore_rules.specs.AcceptanceLaws.{AxiomFaultIsOne, TextFaultIsOne};
-ghost use Rattle.kore_rules.specs.AcceptanceLaws.{TermTextFaultIsOne};
-ghost use Rattle.kore_rules.specs.AcceptanceLaws.{SpelledDefinitionIsFaultless};
+ghost use Rattle.kore_rules.specs.AcceptanceLaws.{TermTextFaultIsOne, SpelledDefinitionIsFaultless};
 ghost use Rattle.kore_rules.specs.AcceptanceLaws.{SpelledPatternIsFaultless};
 ghost use Rattle.kore_rules.specs.SamePrograms.{ProgramIsOne};
 

@@ -5,13 +5,12 @@ use Rattle.std.specs.Prelude.{Some, None, is_none, option_copied, if◌then◌el
 use Rattle.std.specs.Prelude.{length, ◌==◌}
 use Rattle.std.specs.List.{AllZip}
 use Rattle.std.proofs.lemmas.List.{map-append, append-nil}
-use Rattle.rule_core.specs.Named.{number_of}
+use Rattle.rule_core.specs.Named.{number_of, is_among}
 use Rattle.rule_core.specs.DistinctNames.{names_of}
 use Rattle.rule_core.specs.declared.signature.SymInfo.{SymInfo}
 use Rattle.kore_text.specs.Trees.{SortDeclaration, SymbolDeclaration, Declaration, sort_declaration}
 use Rattle.kore_text.specs.Trees.{symbol_declaration}
 use Rattle.kore_sig.specs.FirstFault.{Fault, when, unless}
-use Rattle.rule_core.specs.Named.{is_among}
 use Rattle.kore_sig.specs.Noted.{leads_by_number, noted, first_by_number}
 use Rattle.kore_sig.specs.Declaring.{before_of, Grows}
 use Rattle.kore_sig.specs.Knowing.{entries_in, symbols_in}

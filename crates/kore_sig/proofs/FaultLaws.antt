@@ -6,12 +6,11 @@ use Rattle.std.specs.List.{list_any, position_from}
 use Rattle.std.specs.Str.{bytes_eq}
 use Rattle.std.proofs.lemmas.Bool.Decides.{Decides-ltb}
 use Rattle.std.proofs.lemmas.List.{take-map}
-use Rattle.rule_core.specs.Named.{number_of}
+use Rattle.rule_core.specs.Named.{number_of, is_among}
 use Rattle.rule_core.specs.DistinctNames.{names_of}
 use Rattle.rule_core.specs.declared.signature.SortInfo.{SortInfo}
 use Rattle.kore_text.specs.Trees.{SortTree}
 use Rattle.kore_sig.specs.FirstFault.{Fault, when, unless}
-use Rattle.rule_core.specs.Named.{is_among}
 use Rattle.kore_sig.specs.Noted.{leads_by_number, noted, first_by_number}
 use Rattle.kore_sig.specs.Refusals.{fault_at}
 use Rattle.kore_sig.specs.SignatureFaults.{reference_faults}

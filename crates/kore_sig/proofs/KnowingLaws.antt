@@ -7,13 +7,12 @@ use Rattle.std.specs.Str.{bytes_eq}
 use Rattle.std.proofs.lemmas.Slice.Eq.{bytes_eq-Decides}
 use Rattle.std.proofs.lemmas.List.{map-append, append-nil}
 use Rattle.std.proofs.lemmas.List.Elements.{filter_map-append}
-use Rattle.rule_core.specs.Named.{number_of}
+use Rattle.rule_core.specs.Named.{number_of, is_among}
 use Rattle.rule_core.specs.DistinctNames.{names_of, IsNoneOf, AreDistinct}
 use Rattle.rule_core.specs.declared.signature.SortInfo.{SortInfo}
 use Rattle.kore_text.specs.Trees.{Declaration, sort_declaration, SortDeclaration}
 use Rattle.kore_sig.specs.Declarations.{sort_declared, symbol_declared, axiom_declared}
 use Rattle.kore_sig.specs.Knowing.{entries_in, symbols_in, ac_in, IsSortTable}
-use Rattle.rule_core.specs.Named.{is_among}
 use Rattle.kore_sig.specs.SortReferences.{sort_entry}
 use Rattle.kore_sig.specs.SymbolKinds.{said_ac}
 use Rattle.kore_sig.proofs.SetLaws.{knows_more, knows_same}

@@ -5,7 +5,7 @@ use Rattle.std.specs.Prelude.{is_some, option_map, flat_map, ◌||◌, All, nat_
 use Rattle.std.specs.List.{AllZip, AllByRecursion}
 use Rattle.std.specs.Str.{bytes_eq}
 use Rattle.std.proofs.lemmas.List.Elements.{All-from_recursion}
-use Rattle.rule_core.specs.Named.{number_of}
+use Rattle.rule_core.specs.Named.{number_of, is_among}
 use Rattle.rule_core.specs.DistinctNames.{names_of, AreDistinct}
 use Rattle.rule_core.specs.Subsorts.{HasNoCycle}
 use Rattle.rule_core.specs.WellSorted.{IsReference, IsDeclaration, IsPair, IsSignature}
@@ -21,7 +21,6 @@ use Rattle.kore_text.specs.Trees.{axiom_declaration, claim_declaration}
 use Rattle.kore_sig.specs.Attributes.{is_said_ac}
 use Rattle.kore_sig.specs.Declarations.{SubsortPair}
 use Rattle.kore_sig.specs.FirstFault.{unless, when}
-use Rattle.rule_core.specs.Named.{is_among}
 use Rattle.kore_sig.specs.Declaring.{first_declared, placed_faults, placed_behind}
 use Rattle.kore_sig.specs.Sets.{Knows}
 use Rattle.kore_sig.specs.SignatureFaults.{Before, Placed, reference_faults, declaration_faults}

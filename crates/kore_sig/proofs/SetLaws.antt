@@ -8,9 +8,8 @@ use Rattle.std.proofs.lemmas.Slice.Eq.{bytes_eq-Decides}
 use Rattle.std.proofs.lemmas.List.Folds.{list_any-append}
 use Rattle.std.proofs.lemmas.List.{map-append}
 use Rattle.std.proofs.Math.Bool.{or_comm}
-use Rattle.rule_core.specs.Named.{number_of}
+use Rattle.rule_core.specs.Named.{number_of, is_among}
 use Rattle.rule_core.specs.DistinctNames.{names_of}
-use Rattle.rule_core.specs.Named.{is_among}
 use Rattle.kore_sig.specs.Sets.{Knows}
 
 some_or : (b : Bool) (i : ℕ) (o : Option ℕ) (r : Bool) → is_some o ≡ r

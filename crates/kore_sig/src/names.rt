@@ -1,9 +1,8 @@
 // Sets of names.
 ghost use Rattle.std.specs.Prelude.{◌≡◌, ◌++◌, ◌∷◌, [], ℕ, List, IfOk, OnOk, is_some, is_none};
 ghost use Rattle.std.specs.Prelude.{if◌then◌else◌};
-ghost use Rattle.rule_core.specs.Named.{number_of};
+ghost use Rattle.rule_core.specs.Named.{number_of, is_among};
 ghost use Rattle.rule_core.specs.DistinctNames.{names_of};
-ghost use Rattle.rule_core.specs.Named.{is_among};
 ghost use Rattle.kore_sig.specs.Sets.{Knows};
 
 use kore_ast::Text;

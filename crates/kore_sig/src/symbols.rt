@@ -1,7 +1,7 @@
 // The symbols of declarations that have no fault.
 ghost use Rattle.std.specs.Prelude.{◌≡◌, ◌<◌, ◌^◌, ◌++◌, ◌∷◌, [], ℕ, List, None, Some, map};
-ghost use Rattle.std.specs.Prelude.{flat_map, length, take};
-ghost use Rattle.std.specs.Prelude.{IfOk, IfErr, OnOk, option_map, option_copied, string_bytes};
+ghost use Rattle.std.specs.Prelude.{flat_map, length, take, IfOk, IfErr, OnOk, option_map};
+ghost use Rattle.std.specs.Prelude.{option_copied, string_bytes};
 ghost use Rattle.kore_ast.specs.Plain.{plain_declaration, plain_sort, plain_symbol_decl};
 ghost use Rattle.kore_ast.specs.Plain.{pattern_tree};
 ghost use Rattle.rule_core.specs.DistinctNames.{names_of, AreDistinct};

@@ -5,9 +5,9 @@ use Rattle.std.proofs.Common.{sym, ◌∙◌, ap, suc}
 use Rattle.term_core.specs.Terms.{DomainValue}
 use Rattle.term_core.specs.Values.{scalar_value}
 use Rattle.term_core.specs.HookValues.{Kind, Operation, on_integer, on_integers, compares, on_truth}
-use Rattle.term_core.specs.HookValues.{on_truths, Hook, hooks, argument_kinds}
+use Rattle.term_core.specs.HookValues.{on_truths, Hook, hooks, argument_kinds, operation_value}
+use Rattle.term_core.specs.HookValues.{value_by, hook_value}
 use Rattle.term_core.specs.HookSignatures.{hook_arguments}
-use Rattle.term_core.specs.HookValues.{operation_value, value_by, hook_value}
 use Rattle.term_core.specs.declared.values.NoValue.{NoValue}
 use Rattle.term_core.specs.declared.values.Scalar.{Scalar}
 use Rattle.term_core.specs.declared.values.Scalar.TheVariants.{Int, Bool}

@@ -1,8 +1,8 @@
 -- The images of sentences, composed of the images of their parts, which were made under names that
 -- gained tokens later.
-use Rattle.std.proofs.Common.{◌≡◌, ◌≢◌, ℕ, ◌+◌, ◌⊎◌, inl, inr, suc, List, [], ◌∷◌, ◌++◌}
-use Rattle.std.proofs.Common.{Option, Some, None, option_map, Result, IfOk, refl, sym, ◌∙◌, ap}
-use Rattle.std.proofs.Common.{length, slice_get, map, Contains, arith}
+use Rattle.std.proofs.Common.{◌≡◌, ◌≢◌, ℕ, ◌+◌, ◌⊎◌, inl, inr, suc, List, [], ◌∷◌, ◌++◌, Option}
+use Rattle.std.proofs.Common.{Some, None, option_map, Result, IfOk, refl, sym, ◌∙◌, ap, length}
+use Rattle.std.proofs.Common.{slice_get, map, Contains, arith}
 use Rattle.ml_pat.specs.Patterns.{Pattern}
 use Rattle.ml_pat.specs.Patterns as logic
 use Rattle.term_core.specs.Patterns.{Pattern as RulePattern, Patterns as RulePatterns, variable}
@@ -17,10 +17,10 @@ use Rattle.rule_core.specs.Subsorts.{IsBelow}
 use Rattle.rule_core.specs.Sorting.{IsSymbol}
 use Rattle.ml_image.specs.Images.{both, image_of, applied, symbol_image, sort_image}
 use Rattle.ml_image.specs.Images.{injection_image, shifted, all_shifted}
-use Rattle.ml_image.specs.Sentences.{Sentence, term, and, implies, equals}
-use Rattle.ml_image.specs.Sentences.{exists, next, sentence_image, for_all, variables, IsImageOf}
-use Rattle.ml_image.specs.OwnAxioms.{sort_of, is_true, condition_of, SaysRule, meets}
-use Rattle.ml_image.specs.OwnAxioms.{named, Declares, SaysEquation, direct, kompile, IsConstructor}
+use Rattle.ml_image.specs.Sentences.{Sentence, term, and, implies, equals, exists, next}
+use Rattle.ml_image.specs.Sentences.{sentence_image, for_all, variables, IsImageOf}
+use Rattle.ml_image.specs.OwnAxioms.{sort_of, is_true, condition_of, SaysRule, meets, named}
+use Rattle.ml_image.specs.OwnAxioms.{Declares, SaysEquation, direct, kompile, IsConstructor}
 use Rattle.ml_image.specs.OwnAxioms.{of_variables, SaysTotal, SaysSubsort, SaysCollapse}
 use Rattle.term_core.specs.Terms.{DomainValue}
 use Rattle.ml_image.specs.Tokens.{token_of_value, numbered}

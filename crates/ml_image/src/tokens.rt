@@ -5,8 +5,8 @@ ghost use Rattle.std.specs.Char.{digit_char};
 ghost use Rattle.term_core.specs.Values.{value_of};
 ghost use Rattle.ml_pat.specs.Named.{number_of, IsNumbered};
 ghost use Rattle.ml_image.specs.Tokens.{sort_token, symbol_token, name_at, token_of_sort};
-ghost use Rattle.ml_image.specs.Tokens.{token_of_symbol};
-ghost use Rattle.ml_image.specs.Tokens.{token_of_value, value_token, hexadecimal, numbered};
+ghost use Rattle.ml_image.specs.Tokens.{token_of_symbol, token_of_value, value_token, hexadecimal};
+ghost use Rattle.ml_image.specs.Tokens.{numbered};
 ghost use Rattle.rule_core.specs.Sorting.{HasValue};
 ghost use Rattle.ml_image.specs.Gained.{HasGained};
 

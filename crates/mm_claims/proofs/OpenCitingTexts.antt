@@ -14,9 +14,9 @@ use Rattle.ml_pat.specs.Patterns.{constant}
 use Rattle.ml_kernel.specs.Lemmas.{instance, instances, HasNoVariable, HaveNoVariables}
 use Rattle.ml_kernel.specs.Renamings.{renamed, by_place}
 use Rattle.mm_proof.specs.Tokens.{Naming, letters_of, bracket, bracketed, text_by, object_token}
-use Rattle.mm_proof.specs.Tokens.{meta_token, own_naming, name_of}
+use Rattle.mm_proof.specs.Tokens.{meta_token, own_naming, name_of, unary_name, binary_name}
+use Rattle.mm_proof.specs.Tokens.{sorted_name, quantifier_name}
 use Rattle.mm_proof.specs.Judgements.{holds}
-use Rattle.mm_proof.specs.Tokens.{unary_name, binary_name, sorted_name, quantifier_name}
 use Rattle.ml_pat.specs.Leaves.{LeafFacts, EachLeaf}
 use Rattle.mm_proof.specs.Derivations.{holds_text}
 use Rattle.mm_proof.specs.Serving.{punctuation}

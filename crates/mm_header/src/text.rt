@@ -3,8 +3,8 @@ ghost use Rattle.std.specs.Prelude.{◌≡◌, ◌++◌, map, IfOk, OnOk, OnErr}
 ghost use Rattle.std.specs.List.{flat_map, zip};
 ghost use Rattle.mm_header.specs.HeaderTable.{pair_of, row_of, type_texts};
 ghost use Rattle.mm_header.specs.HeaderText.{apart_line, declarations_text, header_bytes};
-ghost use Rattle.mm_header.specs.HeaderRows.{endings, turnstile_text};
 ghost use Rattle.mm_header.specs.HeaderText.{hypothesis_line, row_text, statement_line, type_line};
+ghost use Rattle.mm_header.specs.HeaderRows.{endings, turnstile_text};
 
 use crate::declarations::{CONSTANTS, HeaderVariable, VARIABLE_NAMES, variables};
 use crate::rows::{HeaderRow, table};

@@ -8,9 +8,9 @@ use Rattle.mm_database.specs.Proofs.{Expression, Proves, texts_apart, symbols_ap
 use Rattle.ml_pat.specs.Patterns.{Pattern, nullary, unary, binary, sorted, quantified, var, meta}
 use Rattle.ml_pat.specs.Patterns.{constant}
 use Rattle.ml_pat.specs.Judgements.{absent, fresh}
-use Rattle.mm_proof.specs.Tokens.{Naming, letters_of, text_by, unary_name}
+use Rattle.mm_proof.specs.Tokens.{Naming, letters_of, text_by, unary_name, binary_name, sorted_name}
+use Rattle.mm_proof.specs.Tokens.{quantifier_name}
 use Rattle.mm_proof.specs.Judgements.{is_fresh, judgement_by}
-use Rattle.mm_proof.specs.Tokens.{binary_name, sorted_name, quantifier_name}
 use Rattle.ml_pat.specs.Leaves.{LeafFacts, EachLeaf}
 use Rattle.mm_proof.specs.Serving.{Serves}
 use Rattle.mm_proof.specs.Trees.{cite, syntax_tree, absent_tree, fresh_tree, fresh_by_form}

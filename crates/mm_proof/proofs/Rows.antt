@@ -9,10 +9,10 @@ use Rattle.ml_pat.specs.Patterns.{Nullary, Bot, Top, Unary, Not, Binary, Imp, So
 use Rattle.ml_pat.specs.Patterns.{Quantifier, Ex, All, Pattern, nullary, unary, binary, sorted}
 use Rattle.ml_pat.specs.Patterns.{quantified, imp, not, and, or, equal, member, fun, var, meta}
 use Rattle.ml_pat.specs.Patterns.{constant}
-use Rattle.mm_proof.specs.Tokens.{Naming, letters_of, nullary_name}
-use Rattle.mm_proof.specs.Judgements.{Judgement, is_pattern, is_fresh}
-use Rattle.mm_proof.specs.Judgements.{is_substituted, is_predicate, judgement_by}
-use Rattle.mm_proof.specs.Tokens.{unary_name, binary_name, sorted_name, quantifier_name}
+use Rattle.mm_proof.specs.Tokens.{Naming, letters_of, nullary_name, unary_name, binary_name}
+use Rattle.mm_proof.specs.Tokens.{sorted_name, quantifier_name}
+use Rattle.mm_proof.specs.Judgements.{Judgement, is_pattern, is_fresh, is_substituted, is_predicate}
+use Rattle.mm_proof.specs.Judgements.{judgement_by}
 
 -- the variables of the header: `p q r t u` are pattern variables, `x y` object variables and `s v`
 -- sorts

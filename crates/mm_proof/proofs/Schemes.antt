@@ -11,11 +11,10 @@ use Rattle.mm_database.specs.Proofs.{by_assertion, symbols_apart}
 use Rattle.mm_database.specs.Stack.{behind_first, bindings_of, text_of}
 use Rattle.ml_pat.specs.Patterns.{Pattern, nullary, unary, binary, sorted, quantified, var, meta}
 use Rattle.ml_pat.specs.Patterns.{constant}
-use Rattle.mm_proof.specs.Tokens.{Naming, Letters, letters_of, bracket, text_by}
-use Rattle.mm_proof.specs.Judgements.{Judgement}
-use Rattle.mm_proof.specs.Judgements.{is_pattern, holds, is_fresh, is_substituted, is_predicate}
-use Rattle.mm_proof.specs.Tokens.{unary_name, binary_name, sorted_name, quantifier_name}
-use Rattle.mm_proof.specs.Judgements.{judgement_by}
+use Rattle.mm_proof.specs.Tokens.{Naming, Letters, letters_of, bracket, text_by, unary_name}
+use Rattle.mm_proof.specs.Tokens.{binary_name, sorted_name, quantifier_name}
+use Rattle.mm_proof.specs.Judgements.{Judgement, is_pattern, holds, is_fresh, is_substituted}
+use Rattle.mm_proof.specs.Judgements.{is_predicate, judgement_by}
 use Rattle.mm_proof.specs.Serving.{IsAssertion, punctuation}
 use Rattle.mm_proof.proofs.LeafLaws.{agree_at, agree_nullary, agree_unary, agree_binary}
 use Rattle.mm_proof.proofs.LeafLaws.{agree_sorted, agree_quantifier}

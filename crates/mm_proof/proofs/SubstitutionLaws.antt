@@ -12,8 +12,8 @@ use Rattle.ml_pat.specs.Patterns.{Quantifier, Ex, All, Pattern, nullary, unary, 
 use Rattle.ml_pat.specs.Patterns.{quantified, var, meta, constant}
 use Rattle.ml_pat.specs.Judgements.{fresh, substituted, both_parts}
 use Rattle.mm_proof.specs.Tokens.{Naming, letters_of, unary_name, binary_name, sorted_name}
-use Rattle.mm_proof.specs.Judgements.{Judgement, is_fresh, is_substituted, judgement_by}
 use Rattle.mm_proof.specs.Tokens.{quantifier_name}
+use Rattle.mm_proof.specs.Judgements.{Judgement, is_fresh, is_substituted, judgement_by}
 use Rattle.ml_pat.specs.Leaves.{LeafFacts, EachLeaf}
 use Rattle.mm_proof.specs.Serving.{Serves}
 use Rattle.mm_proof.specs.Trees.{cite, syntax_tree, fresh_tree, unchanged_tree, substitution_tree}

@@ -7,9 +7,9 @@ use Rattle.mm_database.specs.Database.{Context}
 use Rattle.mm_database.specs.Proofs.{Expression, by_hypothesis, Proves}
 use Rattle.ml_pat.specs.Patterns.{Pattern, nullary, unary, binary, sorted, quantified, var, meta}
 use Rattle.ml_pat.specs.Patterns.{constant}
-use Rattle.mm_proof.specs.Tokens.{Naming, letters_of, nullary_name}
+use Rattle.mm_proof.specs.Tokens.{Naming, letters_of, nullary_name, unary_name, binary_name}
+use Rattle.mm_proof.specs.Tokens.{sorted_name, quantifier_name}
 use Rattle.mm_proof.specs.Judgements.{is_pattern, judgement_by}
-use Rattle.mm_proof.specs.Tokens.{unary_name, binary_name, sorted_name, quantifier_name}
 use Rattle.mm_proof.specs.Trees.{cite, syntax_tree}
 use Rattle.mm_proof.specs.Serving.{HasHeader, Declares, Types, Serves}
 use Rattle.mm_proof.specs.ClosedFrames.{closed_frame}

@@ -11,8 +11,8 @@ use Rattle.ml_kernel.specs.Rules.{Instance, Infers}
 use Rattle.ml_kernel.specs.UsedLeaves.{EachInstance}
 use Rattle.ml_kernel.specs.declared.rules.Rule.{Rule}
 use Rattle.mm_proof.specs.Tokens.{Naming, letters_of}
-use Rattle.mm_proof.specs.Judgements.{Judgement, is_pattern, is_fresh, is_substituted}
-use Rattle.mm_proof.specs.Judgements.{is_predicate, holds, judgement_by}
+use Rattle.mm_proof.specs.Judgements.{Judgement, is_pattern, is_fresh, is_substituted, is_predicate}
+use Rattle.mm_proof.specs.Judgements.{holds, judgement_by}
 use Rattle.mm_proof.specs.Serving.{Serves}
 use Rattle.mm_proof.specs.Trees.{trees_of, syntax_tree, fresh_tree, substitution_tree}
 use Rattle.mm_proof.specs.Trees.{predicate_tree, rule_tree}

@@ -12,14 +12,14 @@ use Rattle.ml_kernel.specs.Theorems.{Theorem}
 use Rattle.ml_kernel.proofs.InstanceLaws.{substituted-without}
 use Rattle.ml_scope.specs.Scopes.{IsOver, StaysWithin}
 use Rattle.ml_derived.specs.Equalities.{CanCarry, IsCarried, IsFromClosed, IsFlip}
-use Rattle.term_core.specs.Terms.{Tree, Forest, node, inj, no_tree, more_trees, height}
+use Rattle.term_core.specs.Terms.{Tree, Forest, node, inj, no_tree, more_trees, height, leaf}
+use Rattle.term_core.specs.Terms.{injected}
 use Rattle.term_core.specs.Forests.{forest}
 use Rattle.term_core.specs.Patterns.{Pattern as RulePattern, Patterns as RulePatterns, variable}
 use Rattle.term_core.specs.Patterns.{domain_value, application, injection, call, no_pattern}
-use Rattle.term_core.specs.Patterns.{more_patterns, instance_of, instances_of}
+use Rattle.term_core.specs.Patterns.{more_patterns, instance_of, instances_of, with_first}
+use Rattle.term_core.specs.Patterns.{ground_pattern}
 use Rattle.term_core.specs.Instances.{substituted, all_substituted, FitsWithin}
-use Rattle.term_core.specs.Patterns.{with_first, ground_pattern}
-use Rattle.term_core.specs.Terms.{leaf, injected}
 use Rattle.term_core.specs.RulePatterns.{plain_pattern}
 use Rattle.term_core.specs.PatternLists.{plain_patterns}
 use Rattle.term_core.specs.declared.rule_patterns.RulePat.{RulePat}

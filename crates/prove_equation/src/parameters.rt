@@ -21,8 +21,8 @@ ghost use Rattle.prove_schema.specs.Elements.{IsElementOf};
 ghost use Rattle.prove_equation.specs.Conditions.{BindsEach, SaysCondition};
 ghost use Rattle.prove_equation.specs.EquationLemmas.{IsEquationLemma};
 ghost use Rattle.prove_equation.specs.Parameters.{AreMemberships, CanEnter, IsEntered, IsInItself};
-ghost use Rattle.prove_equation.specs.Parameters.{IsMembership};
-ghost use Rattle.prove_equation.specs.Parameters.{IsEquality, IsInHole, SaysElement, StaysEntered};
+ghost use Rattle.prove_equation.specs.Parameters.{IsMembership, IsEquality, IsInHole, SaysElement};
+ghost use Rattle.prove_equation.specs.Parameters.{StaysEntered};
 
 use crate::conditions::given;
 use ml_derived::{carry, flip};

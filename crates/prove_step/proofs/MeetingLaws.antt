@@ -5,8 +5,8 @@ use Rattle.std.specs.Prelude.{◌⊎◌, ◌||◌, ◌==◌, ◌≢◌}
 use Rattle.std.proofs.lemmas.Bool.Decides.{eqb_tells}
 use Rattle.term_core.specs.Terms.{Tree, Forest, leaf, node, inj, injected, height}
 use Rattle.term_core.specs.Patterns.{Pattern, Patterns, variable, domain_value, application}
-use Rattle.term_core.specs.Patterns.{injection, call, no_pattern, more_patterns}
-use Rattle.term_core.specs.Patterns.{with_first, instance_of, instances_of}
+use Rattle.term_core.specs.Patterns.{injection, call, no_pattern, more_patterns, with_first}
+use Rattle.term_core.specs.Patterns.{instance_of, instances_of}
 use Rattle.term_core.specs.Instances.{substituted, all_substituted}
 use Rattle.rule_core.proofs.SortedInstances.{mapped}
 use Rattle.prove_step.specs.Meeting.{is_injection, is_injection_there, becomes_injection, meet_in}

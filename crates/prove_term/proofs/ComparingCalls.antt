@@ -9,8 +9,8 @@ use Rattle.ml_derived.specs.Equalities.{AreJoinable, IsJoin}
 use Rattle.ml_scope.specs.Scopes.{StaysWithin}
 use Rattle.term_core.specs.Terms.{Tree, Forest, node, inj, DomainValue}
 use Rattle.term_core.specs.Patterns.{Pattern as RulePattern, Patterns as RulePatterns, variable}
-use Rattle.term_core.specs.Patterns.{domain_value, application, injection, call}
-use Rattle.term_core.specs.Patterns.{instance_of, ground_pattern, ground_patterns}
+use Rattle.term_core.specs.Patterns.{domain_value, application, injection, call, instance_of}
+use Rattle.term_core.specs.Patterns.{ground_pattern, ground_patterns}
 use Rattle.term_core.specs.Instances.{substituted}
 use Rattle.term_core.specs.PatternLists.{plain_patterns}
 use Rattle.term_core.specs.declared.rule_patterns.RulePat.{RulePat}

@@ -7,9 +7,9 @@ use Rattle.ml_kernel.specs.Lemmas.{HasNoVariable}
 use Rattle.ml_kernel.specs.Theorems.{Theorem}
 use Rattle.term_core.specs.Terms.{Tree, Forest, no_tree, more_trees}
 use Rattle.term_core.specs.Patterns.{Pattern as RulePattern, Patterns as RulePatterns, no_pattern}
-use Rattle.term_core.specs.Patterns.{more_patterns, with_first, instance_of}
+use Rattle.term_core.specs.Patterns.{more_patterns, with_first, instance_of, instances_of}
+use Rattle.term_core.specs.Patterns.{ground_pattern, ground_patterns}
 use Rattle.term_core.specs.Instances.{substituted, all_substituted}
-use Rattle.term_core.specs.Patterns.{instances_of, ground_pattern, ground_patterns}
 use Rattle.term_core.specs.RulePatterns.{plain_pattern}
 use Rattle.term_core.specs.PatternLists.{plain_patterns}
 use Rattle.term_core.specs.declared.rule_patterns.RulePat.{RulePat}

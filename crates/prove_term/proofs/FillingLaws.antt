@@ -3,10 +3,9 @@
 use Rattle.std.proofs.Common.{◌≡◌, List, [], Option, Some, None, option_map, refl, sym, ◌∙◌, ap}
 use Rattle.term_core.specs.Terms.{Tree, Forest, leaf, node, inj, no_tree, more_trees, injected}
 use Rattle.term_core.specs.Patterns.{Pattern, Patterns, variable, domain_value, application}
-use Rattle.term_core.specs.Patterns.{injection, call, no_pattern, more_patterns}
-use Rattle.term_core.specs.Patterns.{with_first, instance_of}
+use Rattle.term_core.specs.Patterns.{injection, call, no_pattern, more_patterns, with_first}
+use Rattle.term_core.specs.Patterns.{instance_of, instances_of, ground_pattern, ground_patterns}
 use Rattle.term_core.specs.Instances.{substituted, all_substituted}
-use Rattle.term_core.specs.Patterns.{instances_of, ground_pattern, ground_patterns}
 use Rattle.rule_core.proofs.SortedInstances.{mapped, both_there}
 use Rattle.prove_term.specs.Filling.{in_place, filled, all_filled}
 

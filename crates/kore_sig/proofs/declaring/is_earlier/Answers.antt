@@ -1,9 +1,8 @@
 use Rattle.std.proofs.Common.{rules, ◌≡◌, ◌∙◌, ap, sym, ℕ, List, Bool, false, take, Option, Some}
 use Rattle.std.proofs.Common.{None}
 use Rattle.std.specs.Prelude.{nat_lt, MatchOption}
-use Rattle.rule_core.specs.Named.{number_of}
+use Rattle.rule_core.specs.Named.{number_of, is_among}
 use Rattle.rule_core.specs.DistinctNames.{names_of}
-use Rattle.rule_core.specs.Named.{is_among}
 use Rattle.kore_sig.proofs.FaultLaws.{earlier_some, earlier_none}
 use Rattle.kore_sig.proofs.declaring.is_earlier.Goals as goal
 

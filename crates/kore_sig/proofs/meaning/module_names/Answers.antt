@@ -2,12 +2,11 @@ use Rattle.std.proofs.Common.{◌≡◌, ◌+◌, ◌<◌, ◌++◌, ◌∷◌, 
 use Rattle.std.proofs.Common.{length, get_or, refl, not, Bool, true, false, cond}
 use Rattle.std.specs.Option.{option_or}
 use Rattle.std.specs.Prelude.{is_some}
-use Rattle.rule_core.specs.Named.{number_of}
+use Rattle.rule_core.specs.Named.{number_of, is_among}
 use Rattle.rule_core.specs.DistinctNames.{names_of}
 use Rattle.kore_ast.specs.declared.tree.Module.{Module}
 use Rattle.kore_ast.specs.Plain.{plain_module}
 use Rattle.kore_sig.specs.FirstFault.{when}
-use Rattle.rule_core.specs.Named.{is_among}
 use Rattle.kore_sig.specs.Naming.{first_module}
 use Rattle.kore_sig.specs.Noted.{first_by_number}
 use Rattle.kore_sig.proofs.ListLaws.{drop_step, map_step}
