@@ -79,11 +79,11 @@ module _ (s : Signature) (xs : Symbols) (same : AllZip IsSameSymbol s.symbols xs
       → IsNamed s name f info → sort_numbers s ss ≡ Some ns → AllMean t vars us ps
       → applied_pattern info.kind f ns ps ≡ Some p
       → Means t vars (applied_symbol at byte name ss us) p
-  symbol_means {f = f} {name = name} {ss = ss} {ns = ns} {ps = ps} {info = info} named sorts all is =
+  symbol_means {f = f} {name = name} {ss = ss} {ns = ns} {ps = ps} {info = info} named sorts all e =
       let other : (other : SymInfo) × IsNamed t name f other × IsAlike info other =
       named_alike name f info named in
       by_symbol other.1 (sym (numbers_alike s xs same ss) ∙ sorts) all
-      (ap (λ (k : SymKind). applied_pattern k f ns ps) (sym other.2.kind) ∙ is)
+      (ap (λ (k : SymKind). applied_pattern k f ns ps) (sym other.2.kind) ∙ e)
 
   mutual
     means_alike : {vars : List (List ℕ × ℕ)} {u : Unfolded} {p : Pattern} → Means s vars u p
