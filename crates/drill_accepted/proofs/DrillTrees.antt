@@ -4,9 +4,9 @@ use Rattle.std.proofs.Common.{◌+◌, ℕ, true, false, List, [], ◌∷◌, co
 use Rattle.std.specs.Fmt.{decimal}
 use Rattle.kore_text.specs.declared.names.Op.TheVariants as op
 use Rattle.kore_text.specs.Trees.{SortTree, sort_applied, no_sorts, sort_then, PatternTree}
-use Rattle.kore_text.specs.Trees.{element_variable, string, symbol_applied, connected, domain_value}
-use Rattle.kore_text.specs.Trees.{no_patterns, pattern_then, SortDeclaration, SymbolDeclaration}
-use Rattle.kore_text.specs.Trees.{AxiomDeclaration}
+use Rattle.kore_text.specs.Trees.{element_variable, string, symbol_applied, connected}
+use Rattle.kore_text.specs.Trees.{value_written, no_patterns, pattern_then, SortDeclaration}
+use Rattle.kore_text.specs.Trees.{SymbolDeclaration, AxiomDeclaration}
 use Rattle.drill_accepted.proofs.Parts.{numbered_name}
 
 -- the places of the tokens of a line
@@ -130,21 +130,21 @@ left_tree i q = applied_to (q 17) (codes "st") (step_at i (q 21)) (sum_at (q 27)
 abbrev pub tested_tree : Places → PatternTree
 tested_tree q =
     applied_to (q 45) (codes "ge") (sum_at (q 49) (q 51))
-    (domain_value (q 55) (int_at (q 57)) (codes "0") (q 62))
+    (value_written (q 55) (int_at (q 57)) (codes "0") (q 62))
 
 -- the condition that this is true
 abbrev pub condition_tree : Places → PatternTree
 condition_tree q =
     connected (q 34) op.Equals (sort_then (bool_at (q 36)) (sort_then (state_at (q 40)) no_sorts))
     (pattern_then (tested_tree q)
-    (pattern_then (domain_value (q 66) (bool_at (q 68)) (codes "true") (q 73)) no_patterns))
+    (pattern_then (value_written (q 66) (bool_at (q 68)) (codes "true") (q 73)) no_patterns))
 
 -- `st{}(cJ{}(),add{}(X:SortInt{},\dv{SortInt{}}("I")))`, where J is the step after I
 abbrev pub right_tree : ℕ → Places → PatternTree
 right_tree i q =
     applied_to (q 85) (codes "st") (step_at (i + 1) (q 89))
     (applied_to (q 95) (codes "add") (sum_at (q 99) (q 101))
-    (domain_value (q 105) (int_at (q 107)) (decimal i) (q 112)))
+    (value_written (q 105) (int_at (q 107)) (decimal i) (q 112)))
 
 abbrev pub top_tree : Places → PatternTree
 top_tree q = connected (q 117) op.Top (sort_then (state_at (q 119)) no_sorts) no_patterns
@@ -175,4 +175,4 @@ rule_axiom i q = record {
 abbrev pub term_tree : Places → PatternTree
 term_tree q =
     applied_to (q 0) (codes "st") (symbol_applied (q 4) (codes "c0") no_sorts no_patterns)
-    (domain_value (q 10) (int_at (q 12)) (codes "0") (q 17))
+    (value_written (q 10) (int_at (q 12)) (codes "0") (q 17))

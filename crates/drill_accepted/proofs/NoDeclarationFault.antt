@@ -15,9 +15,10 @@ use Rattle.rule_core.specs.declared.signature.SortInfo.{SortInfo}
 use Rattle.kore_sig.specs.Declarations.{SubsortPair, pairs_of}
 use Rattle.kore_sig.specs.FirstFault.{Fault, ByNumber, IsFirstBy, IsFirstOfSequence}
 use Rattle.rule_core.specs.Named.{is_among}
-use Rattle.kore_sig.specs.SignatureFaults.{Placed, placed_at, placed, Before, nothing_declared}
-use Rattle.kore_sig.specs.SignatureFaults.{declared_after, declaration_faults, FirstOfModules}
-use Rattle.kore_sig.specs.SignatureFaults.{FirstOfDeclarations, FirstOfPairs, FirstOfSignature}
+use Rattle.kore_sig.specs.SignatureFaults.{Placed, placed_at, declarations_placed, DeclaredBefore}
+use Rattle.kore_sig.specs.SignatureFaults.{nothing_declared, declared_after, declaration_faults}
+use Rattle.kore_sig.specs.SignatureFaults.{FirstOfModules, FirstOfDeclarations, FirstOfPairs}
+use Rattle.kore_sig.specs.SignatureFaults.{FirstOfSignature}
 use Rattle.kore_sig.specs.SortReferences.{sort_entries}
 use Rattle.kore_sig.proofs.FirstLaws.{contains_none}
 use Rattle.drill_accepted.proofs.Parts.{numbered_name}
@@ -86,32 +87,32 @@ fresh n small =
 
 -- ---- the declarations
 
-abbrev Clears : Before → Placed → Option Fault → Type 0
+abbrev Clears : DeclaredBefore → Placed → Option Fault → Type 0
 Clears b p = IsFirstBy ByNumber
     (Contains (declaration_faults drill_sorts b p.earlier p.declaration))
 
-abbrev then_declared : Before → Placed → Before
+abbrev then_declared : DeclaredBefore → Placed → DeclaredBefore
 then_declared b p = declared_after b p.declaration
 
-abbrev NoneFrom : Before → List Declaration → Type 0
+abbrev NoneFrom : DeclaredBefore → List Declaration → Type 0
 NoneFrom b ds = IsFirstOfSequence Clears then_declared b (map (placed_at []) ds) None
 
-abbrev after_all : Before → List Declaration → Before
+abbrev after_all : DeclaredBefore → List Declaration → DeclaredBefore
 after_all b ds = state_after then_declared b (map (placed_at []) ds)
 
-both-clear : (b c : Before) (ds es : List Declaration) → NoneFrom b ds → after_all b ds ≡ c
+both-clear : (b c : DeclaredBefore) (ds es : List Declaration) → NoneFrom b ds → after_all b ds ≡ c
     → NoneFrom c es → NoneFrom b (ds ++ es)
 both-clear b c ds es first e later =
     subst (λ (ps : List Placed). IsFirstOfSequence Clears then_declared b ps None)
     (sym (map-append (placed_at []) ds es))
     (none-in-both Clears then_declared b (map (placed_at []) ds) (map (placed_at []) es) first
-    (subst (λ (x : Before). NoneFrom x es) (sym e) later))
+    (subst (λ (x : DeclaredBefore). NoneFrom x es) (sym e) later))
 
 abbrev sort_names : List (List ℕ)
 sort_names = codes "SortInt" ∷ codes "SortBool" ∷ codes "SortC" ∷ codes "SortS" ∷ []
 
 -- what is declared after the first declarations and so many steps
-abbrev before_step : ℕ → Before
+abbrev before_step : ℕ → DeclaredBefore
 before_step n = record { sorts = sort_names; symbols = first_names ++ names_below n }
 
 one-step : (q : Layout) (n : ℕ) → n < 2 ^ 64 → NoneFrom (before_step n)
@@ -129,17 +130,17 @@ step-after n q =
     ap (λ (names : List (List ℕ)). record { sorts = sort_names; symbols = names })
     (append_assoc first_names (names_below n) (numbered_name n ∷ []))
 
-record AreClear (b c : Before) (ds : List Declaration) : Type 0 where
+record AreClear (b c : DeclaredBefore) (ds : List Declaration) : Type 0 where
   pub none : NoneFrom b ds
   pub after : after_all b ds ≡ c
 
-clear-both : (b c e : Before) (ds es : List Declaration) → AreClear b c ds → AreClear c e es
+clear-both : (b c e : DeclaredBefore) (ds es : List Declaration) → AreClear b c ds → AreClear c e es
     → AreClear b e (ds ++ es)
 clear-both b c e ds es first later = record {
   none = both-clear b c ds es first.none first.after later.none;
   after = ap (state_after then_declared b) (map-append (placed_at []) ds es)
       ∙ after-both then_declared b (map (placed_at []) ds) (map (placed_at []) es)
-      ∙ ap (λ (x : Before). after_all x es) first.after ∙ later.after;
+      ∙ ap (λ (x : DeclaredBefore). after_all x es) first.after ∙ later.after;
 }
 
 steps-clear : (q : Layout) (n : ℕ) → n < 2 ^ 64 → AreClear (before_step 0) (before_step n)
@@ -156,7 +157,7 @@ steps-clear q (suc n) few =
     (map symbol_declaration (steps_of q n))
     (symbol_declaration (step_symbol n (q n)) ∷ []) (steps-clear q n small) last)
 
-axioms-clear : (b : Before) (axioms : List AxiomDeclaration)
+axioms-clear : (b : DeclaredBefore) (axioms : List AxiomDeclaration)
     → NoneFrom b (map axiom_declaration axioms)
 axioms-clear b [] = refl
 axioms-clear b (a ∷ axioms) = (λ f. contains_none f, axioms-clear b axioms)
@@ -203,7 +204,7 @@ modules-clear : (ds : List Declaration) → FirstOfModules (module_with ds ∷ [
 modules-clear ds = (λ f. contains_none f, refl)
 
 declarations-clear : (ds : List Declaration) → NoneFrom nothing_declared ds
-    → FirstOfDeclarations drill_sorts (placed [] (module_with ds ∷ [])) None
+    → FirstOfDeclarations drill_sorts (declarations_placed [] (module_with ds ∷ [])) None
 declarations-clear ds none =
     subst (λ (ps : List Placed). FirstOfDeclarations drill_sorts ps None)
     (sym (append-nil (map (placed_at []) ds))) none
@@ -214,9 +215,10 @@ no-declaration-fault p q r m n few =
     let ds : List Declaration = declarations p q r m n in
     let d : DefinitionTree = tree_with ds in
     let sorts : sort_entries d ≡ drill_sorts = entries-are p q r m n in
-    let declared : FirstOfDeclarations (sort_entries d) (placed [] (module_with ds ∷ [])) None =
+    let declared : FirstOfDeclarations (sort_entries d) (declarations_placed [] (module_with ds
+        ∷ [])) None =
     subst (λ (es : List (List ℕ × SortInfo)). FirstOfDeclarations es
-    (placed [] (module_with ds ∷ [])) None) (sym sorts)
+    (declarations_placed [] (module_with ds ∷ [])) None) (sym sorts)
     (declarations-clear ds (all-clear p q r m n few)) in
     let paired : FirstOfPairs (sort_entries d) (pairs_of d) None =
     subst (λ (ps : List SubsortPair). FirstOfPairs (sort_entries d) ps None)

@@ -4,7 +4,7 @@ use Rattle.std.proofs.Common.{◌∷◌, ◌++◌, length, Option, Some, None, r
 use Rattle.std.proofs.Common.{arith, eq-eqb, codes}
 use Rattle.std.specs.Prelude.{ℤ, pos, nat_lt}
 use Rattle.std.specs.Fmt.{decimal}
-use Rattle.kore_text.specs.Trees.{SortTree, PatternTree, domain_value, AxiomDeclaration}
+use Rattle.kore_text.specs.Trees.{SortTree, PatternTree, value_written, AxiomDeclaration}
 use Rattle.rule_core.specs.Sorting.{sort_at}
 use Rattle.rule_core.specs.declared.signature.Signature.{Signature}
 use Rattle.rule_core.specs.declared.signature.SortInfo.{SortInfo}
@@ -14,14 +14,14 @@ use Rattle.rule_core.specs.declared.signature.SymKind.TheVariants.{Ctor, Equatio
 use Rattle.rule_core.specs.declared.signature.SortRef.{SortRef}
 use Rattle.kore_sig.specs.FirstFault.{Fault}
 use Rattle.kore_check.specs.Folds.{Unfolded, applied_symbol, Unfoldeds, no_more, and_more, count}
-use Rattle.kore_check.specs.Folds.{unfolded_byte, height, unfolded}
-use Rattle.kore_check.specs.PatternSorts.{symbol_named, result_sort, sort_of, places_of}
+use Rattle.kore_check.specs.Folds.{unfolded_byte, unfolded_height, unfolded}
+use Rattle.kore_check.specs.PatternSorts.{symbol_named, result_sort, sort_of_pattern, places_of}
 use Rattle.kore_check.specs.PatternFaults.{clash_faults, symbol_faults, pattern_faults}
 use Rattle.kore_check.specs.PatternFaults.{argument_faults, all_faults}
 use Rattle.rule_core.specs.KindTests.{has_no_kind, is_injection, is_function_kind}
 use Rattle.rule_core.specs.Evaluation.{most_height}
 use Rattle.kore_check.specs.ValueTexts.{integer_of_text}
-use Rattle.kore_axioms.specs.AxiomClasses.{class_of}
+use Rattle.kore_axioms.specs.AxiomClasses.{axiom_class}
 use Rattle.kore_axioms.specs.RuleFaults.{faults_at_sort, sorted_faults, use_faults, FirstOfParts}
 use Rattle.kore_axioms.specs.RuleForms.{form_faults}
 use Rattle.kore_axioms.specs.RuleParts.{RuleParts}
@@ -45,7 +45,7 @@ use Rattle.drill_accepted.proofs.NoDeclarationFault.{none-of, state_after, after
 -- the pattern has no fault, and the sort with this number
 pub record IsFine (sig : Signature) (p : Unfolded) (s : ℕ) : Type 0 where
   pub faultless : pattern_faults sig p ≡ []
-  pub sorted : sort_of sig p ≡ Some s
+  pub sorted : sort_of_pattern sig p ≡ Some s
 
 none-of-three : {X : Type 0} (xs ys zs : List X) → xs ≡ [] → ys ≡ [] → zs ≡ []
     → xs ++ (ys ++ zs) ≡ []
@@ -58,7 +58,7 @@ no-clash : (at s : ℕ) → clash_faults at (Some s) (Some s) ≡ []
 no-clash at s = rw (eq-eqb s s refl) refl
 
 clash-fine : (sig : Signature) (p : Unfolded) (s : ℕ) → IsFine sig p s
-    → clash_faults (unfolded_byte p) (sort_of sig p) (Some s) ≡ []
+    → clash_faults (unfolded_byte p) (sort_of_pattern sig p) (Some s) ≡ []
 clash-fine sig p s fine =
     ap (λ (o : Option ℕ). clash_faults (unfolded_byte p) o (Some s)) fine.sorted
     ∙ no-clash (unfolded_byte p) s
@@ -126,7 +126,7 @@ sum-fine symbols subsorts at byte = record { faultless = refl; sorted = refl }
 pub number-fine : (symbols : List (List ℕ × SymInfo)) (subsorts : List (ℕ × ℕ)) (at byte there : ℕ)
     (text : List ℕ) (z : ℤ)
     → integer_of_text text ≡ Some z → IsFine (with_sorts symbols subsorts)
-    (unfolded (domain_value at (int_at byte) text there)) 0
+    (unfolded (value_written at (int_at byte) text there)) 0
 number-fine symbols subsorts at byte there text z e =
     record { faultless = rw e refl; sorted = refl }
 
@@ -159,15 +159,15 @@ sides-fine symbols subsorts m i q has functions less small =
           (step-fine sig m i (q 21) has (omega (arith, less)))
           (sum-fine symbols subsorts (q 27) (q 29));
       tested = applied-to-fine sig (q 45) 0 0 1 (codes "ge") Equations (sum_at (q 49) (q 51))
-          (domain_value (q 55) (int_at (q 57)) (codes "0") (q 62)) functions.ge refl refl
+          (value_written (q 55) (int_at (q 57)) (codes "0") (q 62)) functions.ge refl refl
           (sum-fine symbols subsorts (q 49) (q 51))
           (number-fine symbols subsorts (q 55) (q 57) (q 62) (codes "0") (pos 0) refl);
       right = applied-to-fine sig (q 85) 2 0 3 (codes "st") Ctor (step_at (i + 1) (q 89))
           (applied_to (q 95) (codes "add") (sum_at (q 99) (q 101))
-          (domain_value (q 105) (int_at (q 107)) (decimal i) (q 112))) has.state refl refl
+          (value_written (q 105) (int_at (q 107)) (decimal i) (q 112))) has.state refl refl
           (step-fine sig m (i + 1) (q 89) has less)
           (applied-to-fine sig (q 95) 0 0 0 (codes "add") Equations (sum_at (q 99) (q 101))
-          (domain_value (q 105) (int_at (q 107)) (decimal i) (q 112)) functions.add refl refl
+          (value_written (q 105) (int_at (q 107)) (decimal i) (q 112)) functions.add refl refl
           (sum-fine symbols subsorts (q 99) (q 101))
           (number-fine symbols subsorts (q 105) (q 107) (q 112) (decimal i) (pos i)
           (decimal-value i small)));
@@ -190,7 +190,7 @@ no-form-fault : (i : ℕ) (q : Places) → form_faults (rule_axiom i q) (drill_r
 no-form-fault i q = refl
 
 at-sort : (sig : Signature) (p : Unfolded) (s : ℕ) → IsFine sig p s
-    → nat_lt most_height (height p) ≡ false → faults_at_sort sig (Some s) p ≡ []
+    → nat_lt most_height (unfolded_height p) ≡ false → faults_at_sort sig (Some s) p ≡ []
 at-sort sig p s fine low =
     none-of-two (all_faults sig p) _ (none-of-two _ (pattern_faults sig p)
     (rw low refl) fine.faultless) (clash-fine sig p s fine)
@@ -270,10 +270,10 @@ no-fault-at symbols subsorts m i q first has functions less small of =
 -- ---- all rules
 
 abbrev ClassClear : Signature → Option SortTree → AxiomDeclaration → Option Fault → Type 0
-ClassClear sig first a = FirstOfClass sig first a (class_of sig a)
+ClassClear sig first a = FirstOfClass sig first a (axiom_class sig a)
 
 abbrev sort_after : Signature → Option SortTree → AxiomDeclaration → Option SortTree
-sort_after sig first a = first_sort first (class_of sig a)
+sort_after sig first a = first_sort first (axiom_class sig a)
 
 sort-kept : (sig : Signature) (first : Option SortTree) (i : ℕ) (q : Places) → IsOfStates first
     → IsOfStates (sort_after sig first (rule_axiom i q))

@@ -14,14 +14,14 @@ use Rattle.rule_core.proofs.Belows.{both_true}
 use Rattle.kore_lex.specs.declared.lexer.TokenKind.TheVariants as kind
 use Rattle.kore_lex.specs.Escapes.{further, bad_at}
 use Rattle.kore_lex.specs.Pieces.{is_space, is_letter, is_word, is_mark, piece, quote_len}
-use Rattle.kore_lex.specs.Lexed.{lexed, token as cut_token}
+use Rattle.kore_lex.specs.Lexed.{lexed, cut_token}
 use Rattle.kore_lex.specs.Tokens.{IsName, AllWord}
-use Rattle.kore_lex.specs.Value.{plain, value}
+use Rattle.kore_lex.specs.Value.{unescaped_text, string_value}
 use Rattle.kore_lex.proofs.Lexing.{lexed-is}
 use Rattle.kore_lex.proofs.WholePieces.{whole as whole_piece, lexed-whole, string-piece}
 use Rattle.kore_lex.proofs.WholePieces.{begins_word, begins_equals}
-use Rattle.kore_text.specs.TokenStream.{Token, identifier, set_identifier, builtin, string_token}
-use Rattle.kore_text.specs.TokenStream.{mark, assign, Stream, token, named}
+use Rattle.kore_text.specs.TokenStream.{KoreToken, identifier, set_identifier, builtin}
+use Rattle.kore_text.specs.TokenStream.{string_token, mark, assign, Stream, token, named_tokens}
 use Rattle.kore_print.specs.TokenText.{token_text}
 use Rattle.kore_print.specs.PrintLaws.{IsTextual}
 use Rattle.kore_print.proofs.TokenPieces.{IsApart, token-cut}
@@ -31,7 +31,7 @@ pub data Part : Type 0 where
   -- a byte of white space
   blank : ℕ → Part
   -- a token that is no string
-  written : Token → Part
+  written : KoreToken → Part
   -- a string, by what stands between its quotes
   quoted : List ℕ → Part
   -- the name that is `c` and a number
@@ -154,7 +154,7 @@ is_name [] = false
 is_name (c ∷ cs) = is_letter c && all_word cs
 
 -- a token of which these bytes may come next
-abbrev may_stand : Token → List ℕ → Bool
+abbrev may_stand : KoreToken → List ℕ → Bool
 may_stand (identifier n) next = is_name n && ends_word next
 may_stand (set_identifier n) next = false
 may_stand (builtin None) next = false
@@ -215,10 +215,10 @@ colon-ended false w r h = refl
 colon-ended true [] r h = let no : ⊥ = cc in absurd no
 colon-ended true (c ∷ cs) r h = is_false (c == 61) h
 
-abbrev Stands : Token → List ℕ → Type 0
+abbrev Stands : KoreToken → List ℕ → Type 0
 Stands t r = IsTextual t × IsApart t r
 
-stands : (t : Token) (w r : List ℕ) → may_stand t w ≡ true → Stands t (w ++ r)
+stands : (t : KoreToken) (w r : List ℕ) → may_stand t w ≡ true → Stands t (w ++ r)
 stands (identifier n) w r h =
     let p = both_true (is_name n) (ends_word w) h in (name-is n p.0, word-ended w r p.1)
 stands (set_identifier n) w r h = let no : ⊥ = cc in absurd no
@@ -243,8 +243,8 @@ unfolding bad_at
 plain-good [] h = refl
 plain-good (c ∷ cs) h = rw h.1 (ap (further 1) (plain-good cs h.3))
 
-plain-itself : (w : List ℕ) → AllPlain w → plain 0 w ≡ w
-unfolding plain
+plain-itself : (w : List ℕ) → AllPlain w → unescaped_text 0 w ≡ w
+unfolding unescaped_text
 plain-itself [] h = refl
 plain-itself (c ∷ cs) h = rw h.1 (ap (λ (bs : List ℕ). c ∷ bs) (plain-itself cs h.3))
 
@@ -264,10 +264,10 @@ quoted-piece w r h =
     (IsUtf8-from_ascii w (plain-ascii w h))) (plain-good w h)
     ∙ ap (whole_piece kind.Text) (sym (length-quoted w))
 
-quoted-value : (w : List ℕ) → AllPlain w → value (quoted_text w) ≡ w
+quoted-value : (w : List ℕ) → AllPlain w → string_value (quoted_text w) ≡ w
 quoted-value w h =
     let n : length (quoted_text w) - 2 ≡ length w = omega (arith, length-quoted w) in
-    ap (plain 0) (ap (λ (i : ℕ). take i (w ++ (34 ∷ []))) n ∙ take-append_seam w (34 ∷ []))
+    ap (unescaped_text 0) (ap (λ (i : ℕ). take i (w ++ (34 ∷ []))) n ∙ take-append_seam w (34 ∷ []))
     ∙ plain-itself w h
 
 -- ---- one part
@@ -279,8 +279,8 @@ after-piece w r text at d =
 
 -- a string is cut off
 string-cut : (w r text : List ℕ) (at : ℕ) → AllPlain w → drop at text ≡ quoted_text w ++ r
-    → named text (lexed at (quoted_text w ++ r))
-    ≡ token (string_token w) at (named text (lexed (at + length (quoted_text w)) r))
+    → named_tokens text (lexed at (quoted_text w ++ r))
+    ≡ token (string_token w) at (named_tokens text (lexed (at + length (quoted_text w)) r))
 string-cut w r text at h d =
     let bs : List ℕ = quoted_text w in
     let n : ℕ = length bs in
@@ -291,9 +291,9 @@ string-cut w r text at h d =
     let m : at + n - at ≡ n = omega arith in
     let b : take (at + n - at) (drop at text) ≡ bs =
     ap (λ (i : ℕ). take i (drop at text)) m ∙ ap (take n) d ∙ take-append_seam bs r in
-    ap (named text) l
-    ∙ ap (λ (t : List ℕ). token (string_token t) at (named text (lexed (at + n) r)))
-    (ap value b ∙ quoted-value w h)
+    ap (named_tokens text) l
+    ∙ ap (λ (t : List ℕ). token (string_token t) at (named_tokens text (lexed (at + n) r)))
+    (ap string_value b ∙ quoted-value w h)
 
 blank-cut : (c : ℕ) (bs : List ℕ) (at : ℕ) → is_space c ≡ true
     → lexed at (c ∷ bs) ≡ lexed (at + 1) bs
@@ -304,27 +304,27 @@ blank-cut c bs at h = lexed-is at (c ∷ bs) ∙ rw h refl
 
 -- the text of the parts, with whatever comes after it, has their tokens
 pub record Reads (ps : List Part) (at : ℕ) (text r : List ℕ) : Type 0 where
-  pub tokens : named text (lexed at (parts_text ps ++ r))
-      ≡ tokens_from at ps (λ i. named text (lexed i r))
+  pub tokens : named_tokens text (lexed at (parts_text ps ++ r))
+      ≡ tokens_from at ps (λ i. named_tokens text (lexed i r))
   pub rest : drop (place_after at ps) text ≡ r
 
 abbrev pub AreRead : List Part → Type 0
 AreRead ps = (at : ℕ) (text r : List ℕ) → drop at text ≡ parts_text ps ++ r → Reads ps at text r
 
 -- a token in front of parts that are read
-in-front : (w bs r text : List ℕ) (t : Token) (ps : List Part) (at : ℕ)
+in-front : (w bs r text : List ℕ) (t : KoreToken) (ps : List Part) (at : ℕ)
     → bs ≡ w ++ (parts_text ps ++ r) → drop at text ≡ bs
     → (drop at text ≡ w ++ (parts_text ps ++ r)
-    → named text (lexed at (w ++ (parts_text ps ++ r)))
-    ≡ token t at (named text (lexed (at + length w) (parts_text ps ++ r))))
+    → named_tokens text (lexed at (w ++ (parts_text ps ++ r)))
+    ≡ token t at (named_tokens text (lexed (at + length w) (parts_text ps ++ r))))
     → AreRead ps
-    → (named text (lexed at bs)
-    ≡ token t at (tokens_from (at + length w) ps (λ i. named text (lexed i r))))
+    → (named_tokens text (lexed at bs)
+    ≡ token t at (tokens_from (at + length w) ps (λ i. named_tokens text (lexed i r))))
     × (drop (place_after (at + length w) ps) text ≡ r)
 in-front w bs r text t ps at same d cut later =
     let here : drop at text ≡ w ++ (parts_text ps ++ r) = d ∙ same in
     let next = later (at + length w) text r (after-piece w (parts_text ps ++ r) text at here) in (
-      ap (λ (x : List ℕ). named text (lexed at x)) same ∙ cut here
+      ap (λ (x : List ℕ). named_tokens text (lexed at x)) same ∙ cut here
           ∙ ap (token t at) next.tokens,
       next.rest,
     )
@@ -341,7 +341,7 @@ are-read (blank c ∷ ps) h s at text r d =
     let next = are-read ps p.1 s (at + 1) text r (after-piece (c ∷ [])
     (parts_text ps ++ r) text at d)
     in record {
-      tokens = ap (named text) (blank-cut c (parts_text ps ++ r) at p.0) ∙ next.tokens;
+      tokens = ap (named_tokens text) (blank-cut c (parts_text ps ++ r) at p.0) ∙ next.tokens;
       rest = next.rest;
     }
 are-read (written t ∷ ps) h s at text r d =
@@ -384,9 +384,9 @@ read-both ps qs first second at text r d =
     ∙ append_assoc (parts_text ps) (parts_text qs) r in
     let here = first at text (parts_text qs ++ r) (d ∙ same) in
     let there = second (place_after at ps) text r here.rest in record {
-      tokens = ap (λ (bs : List ℕ). named text (lexed at bs)) same ∙ here.tokens
-          ∙ tokens-last ps at (λ i. named text (lexed i (parts_text qs ++ r)))
-          (λ i. tokens_from i qs (λ j. named text (lexed j r))) there.tokens
-          ∙ sym (tokens-append ps qs at (λ j. named text (lexed j r)));
+      tokens = ap (λ (bs : List ℕ). named_tokens text (lexed at bs)) same ∙ here.tokens
+          ∙ tokens-last ps at (λ i. named_tokens text (lexed i (parts_text qs ++ r)))
+          (λ i. tokens_from i qs (λ j. named_tokens text (lexed j r))) there.tokens
+          ∙ sym (tokens-append ps qs at (λ j. named_tokens text (lexed j r)));
       rest = ap (λ (i : ℕ). drop i text) (place-append ps qs at) ∙ there.rest;
     }

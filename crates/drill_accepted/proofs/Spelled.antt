@@ -6,7 +6,7 @@ use Rattle.drill_gen.specs.Drill.{drill_definition, drill_term}
 use Rattle.kore_lex.specs.Lexed.{lexed}
 use Rattle.kore_lex.specs.Pieces.{piece}
 use Rattle.kore_lex.proofs.Lexing.{lexed-is}
-use Rattle.kore_text.specs.TokenStream.{Stream, end, named, tokens_of}
+use Rattle.kore_text.specs.TokenStream.{Stream, end, named_tokens, token_stream}
 use Rattle.kore_text.specs.Trees.{ModuleTree, DefinitionTree}
 use Rattle.kore_text.specs.Grammar.{TakesTokens, spell_pattern, spell_definition}
 use Rattle.kore_text.specs.Depth.{IsShallow}
@@ -40,18 +40,18 @@ drill_tree n = record { attributes = []; modules = drill_module n ∷ [] }
 
 -- ---- the tokens
 
-nothing-left : (text : List ℕ) (at : ℕ) → named text (lexed at []) ≡ end at
+nothing-left : (text : List ℕ) (at : ℕ) → named_tokens text (lexed at []) ≡ end at
 unfolding piece
-nothing-left text at = ap (named text) (lexed-is at [])
+nothing-left text at = ap (named_tokens text) (lexed-is at [])
 
 -- the text of parts has their tokens, and no others
-tokens-read : (ps : List Part) → AreRead ps → tokens_of (parts_text ps) ≡ tokens_from 0 ps end
-unfolding tokens_of
+tokens-read : (ps : List Part) → AreRead ps → token_stream (parts_text ps) ≡ tokens_from 0 ps end
+unfolding token_stream
 tokens-read ps r =
     let t : List ℕ = parts_text ps in
     let here = r 0 t [] (sym (append-nil t)) in
-    ap (λ (bs : List ℕ). named t (lexed 0 bs)) (sym (append-nil t)) ∙ here.tokens
-    ∙ tokens-last ps 0 (λ i. named t (lexed i [])) end (nothing-left t (place_after 0 ps))
+    ap (λ (bs : List ℕ). named_tokens t (lexed 0 bs)) (sym (append-nil t)) ∙ here.tokens
+    ∙ tokens-last ps 0 (λ i. named_tokens t (lexed i [])) end (nothing-left t (place_after 0 ps))
 
 opening-read : AreRead opening_parts
 opening-read = are-read opening_parts refl tt
@@ -82,10 +82,10 @@ pub definition-spelled : (n : ℕ) → n + 1 < 2 ^ 64 → ReadsDefinition (drill
 definition-spelled n few =
     let g : AllGood (drill_lines n) = drill-good n few in
     let parts : List Part = parts_of (drill_lines n) in
-    let same : tokens_of (drill_definition n)
+    let same : token_stream (drill_definition n)
     ≡ tokens_from 0 opening_parts (λ i. tokens_from i parts (λ j. tokens_from j closing_parts end))
     =
-    ap tokens_of (definition-text n) ∙ tokens-read (drill_parts n) (drill-read n g)
+    ap token_stream (definition-text n) ∙ tokens-read (drill_parts n) (drill-read n g)
     ∙ drill-tokens n in
     let last : ℕ = place_after declared_place parts in
     let shallow : IsShallow 0 (tokens_from 0 opening_parts
@@ -131,8 +131,8 @@ term_places = token_places 0 term_parts
 
 pub term-spelled : ReadsPattern drill_term (term_tree term_places)
 term-spelled =
-    let same : tokens_of drill_term ≡ tokens_from 0 term_parts end =
-    ap tokens_of term-text ∙ tokens-read term_parts (are-read term_parts refl tt) in
+    let same : token_stream drill_term ≡ tokens_from 0 term_parts end =
+    ap token_stream term-text ∙ tokens-read term_parts (are-read term_parts refl tt) in
     let e : ℕ = place_after 0 term_parts in
     let spelled : TakesTokens (spell_pattern false (term_tree term_places) [])
     (tokens_from 0 term_parts end) (end e) =

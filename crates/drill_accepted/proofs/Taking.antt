@@ -3,8 +3,8 @@ use Rattle.std.proofs.Common.{◌≡◌, ℕ, zero, suc, Bool, true, ◌&&◌, L
 use Rattle.std.proofs.Common.{subst, nat_le}
 use Rattle.std.proofs.lemmas.Bool.{leb-true}
 use Rattle.rule_core.proofs.Belows.{both_true}
-use Rattle.kore_text.specs.TokenStream.{Stream, end, fault, token}
-use Rattle.kore_text.specs.Grammar.{Requirement, placed, any, given, TakesTokens}
+use Rattle.kore_text.specs.TokenStream.{Stream, end, no_token_at, token}
+use Rattle.kore_text.specs.Grammar.{Requirement, placed, any, provided, TakesTokens}
 use Rattle.kore_text.specs.Depth.{opened, IsShallow}
 use Rattle.drill_accepted.proofs.Parts.{Part, blank, written, quoted, named_number, quoted_number}
 use Rattle.drill_accepted.proofs.Parts.{tokens_from, place_after}
@@ -14,7 +14,7 @@ use Rattle.drill_accepted.proofs.Parts.{tokens_from, place_after}
 -- the place of the token with this number
 abbrev pub place_in : Stream → ℕ → ℕ
 place_in (end n) k = n
-place_in (fault n) k = n
+place_in (no_token_at n) k = n
 place_in (token t p s) zero = p
 place_in (token t p s) (suc k) = place_in s k
 
@@ -29,27 +29,27 @@ first_place s = place_in s 0
 
 abbrev rest_of : Stream → Stream
 rest_of (end n) = end n
-rest_of (fault n) = fault n
+rest_of (no_token_at n) = no_token_at n
 rest_of (token t p s) = s
 
 -- the stream with the required tokens in the place of its own, those that may stand anywhere at its
 -- own places
 abbrev pub fulfilled : List Requirement → Stream → Stream
 fulfilled [] s = s
-fulfilled (given b ∷ ws) s = fulfilled ws s
+fulfilled (provided b ∷ ws) s = fulfilled ws s
 fulfilled (placed p t ∷ ws) s = token t p (fulfilled ws (rest_of s))
 fulfilled (any t ∷ ws) s = token t (first_place s) (fulfilled ws (rest_of s))
 
 -- what is left of the stream behind them
 abbrev pub left_after : List Requirement → Stream → Stream
 left_after [] s = s
-left_after (given b ∷ ws) s = left_after ws s
+left_after (provided b ∷ ws) s = left_after ws s
 left_after (placed p t ∷ ws) s = left_after ws (rest_of s)
 left_after (any t ∷ ws) s = left_after ws (rest_of s)
 
 abbrev pub all_hold : List Requirement → Bool
 all_hold [] = true
-all_hold (given b ∷ ws) = b && all_hold ws
+all_hold (provided b ∷ ws) = b && all_hold ws
 all_hold (placed p t ∷ ws) = all_hold ws
 all_hold (any t ∷ ws) = all_hold ws
 
@@ -57,16 +57,17 @@ all_hold (any t ∷ ws) = all_hold ws
 pub takes-all : (ws : List Requirement) (s : Stream) → all_hold ws ≡ true → fulfilled ws s ≡ s
     → TakesTokens ws s (left_after ws s)
 takes-all [] s h e = refl
-takes-all (given b ∷ ws) s h e = let p = both_true b (all_hold ws) h in (p.0, takes-all ws s p.1 e)
+takes-all (provided b ∷ ws) s h e = let p = both_true b (all_hold ws) h in (p.0,
+    takes-all ws s p.1 e)
 takes-all (placed p t ∷ ws) (end n) h e = let no : ⊥ = cc in no
-takes-all (placed p t ∷ ws) (fault n) h e = let no : ⊥ = cc in no
+takes-all (placed p t ∷ ws) (no_token_at n) h e = let no : ⊥ = cc in no
 takes-all (placed p t ∷ ws) (token u q s) h e =
     let same : u ≡ t = cc in
     let place : q ≡ p = cc in
     let rest : fulfilled ws s ≡ s = cc in
     (same, place, takes-all ws s h rest)
 takes-all (any t ∷ ws) (end n) h e = let no : ⊥ = cc in no
-takes-all (any t ∷ ws) (fault n) h e = let no : ⊥ = cc in no
+takes-all (any t ∷ ws) (no_token_at n) h e = let no : ⊥ = cc in no
 takes-all (any t ∷ ws) (token u q s) h e =
     let same : u ≡ t = cc in
     let rest : fulfilled ws s ≡ s = cc in
@@ -76,12 +77,12 @@ takes-all (any t ∷ ws) (token u q s) h e =
 pub takes-both : (ws k : List Requirement) (s m e : Stream) → TakesTokens ws s m → TakesTokens k m e
     → TakesTokens (ws ++ k) s e
 takes-both [] k s m e h g = subst (λ (x : Stream). TakesTokens k x e) (sym h) g
-takes-both (given b ∷ ws) k s m e h g = (h.0, takes-both ws k s m e h.1 g)
+takes-both (provided b ∷ ws) k s m e h g = (h.0, takes-both ws k s m e h.1 g)
 takes-both (placed p t ∷ ws) k (end n) m e h g = h
-takes-both (placed p t ∷ ws) k (fault n) m e h g = h
+takes-both (placed p t ∷ ws) k (no_token_at n) m e h g = h
 takes-both (placed p t ∷ ws) k (token u q s) m e h g = (h.0, h.1, takes-both ws k s m e h.2 g)
 takes-both (any t ∷ ws) k (end n) m e h g = h
-takes-both (any t ∷ ws) k (fault n) m e h g = h
+takes-both (any t ∷ ws) k (no_token_at n) m e h g = h
 takes-both (any t ∷ ws) k (token u q s) m e h g = (h.0, takes-both ws k s m e h.1 g)
 
 -- ---- brackets

@@ -5,7 +5,7 @@ use Rattle.std.specs.Prelude.{All, slice_get, pos}
 use Rattle.std.specs.List.{AllZip}
 use Rattle.std.proofs.lemmas.Fmt.{decimal_digit}
 use Rattle.std.proofs.lemmas.List.Elements.{All-nil, All-push, All-contains}
-use Rattle.kore_text.specs.Trees.{PatternTree, symbol_applied, domain_value, no_sorts, no_patterns}
+use Rattle.kore_text.specs.Trees.{PatternTree, symbol_applied, value_written, no_sorts, no_patterns}
 use Rattle.kore_text.specs.Trees.{AxiomDeclaration, DefinitionTree}
 use Rattle.rule_core.specs.DistinctNames.{names_of, AreDistinct}
 use Rattle.rule_core.specs.Theories.{RewriteTheory}
@@ -20,7 +20,7 @@ use Rattle.kore_sig.specs.Signatures.{IsSignatureOf}
 use Rattle.kore_sig.specs.SortReferences.{sort_number}
 use Rattle.kore_check.specs.Folds.{no_more, unfolded}
 use Rattle.kore_check.specs.PatternFaults.{all_faults}
-use Rattle.kore_axioms.specs.AxiomClasses.{rewrites, class_of}
+use Rattle.kore_axioms.specs.AxiomClasses.{rewrites, axiom_class}
 use Rattle.kore_equations.specs.ReadableEquations.{is_one_sort}
 use Rattle.kore_shapes.specs.Shapes.{Rewriting}
 use Rattle.kore_rules.specs.Acceptance.{IsAccepted}
@@ -28,8 +28,9 @@ use Rattle.kore_rules.specs.AcceptanceLaws.{EachTermIsDecided, DefinitionIsOne, 
 use Rattle.kore_rules.specs.AcceptanceLaws.{TermFaultIsOne, SpelledPatternIsFaultless}
 use Rattle.kore_rules.specs.FirstRefusal.{start_faults, FirstOfTerm}
 use Rattle.kore_rules.specs.GroundTerms.{ground_faults}
-use Rattle.kore_rules.specs.Programs.{HasKind, as_declared, by_hook, without_hook, by_unreadable}
-use Rattle.kore_rules.specs.Programs.{by_equations, IsSymbolOf, IsProgramUnder, IsTopOf}
+use Rattle.kore_rules.specs.Programs.{HasKind, as_declared, hooked_kind, without_hook}
+use Rattle.kore_rules.specs.Programs.{by_unreadable, equations_kind, IsSymbolOf, IsProgramUnder}
+use Rattle.kore_rules.specs.Programs.{IsTopOf}
 use Rattle.kore_rules.proofs.AcceptedPrograms.{accepted_well_sorted}
 use Rattle.kore_rules.proofs.DeclaredKinds.{named_by_number}
 use Rattle.drill_gen.specs.Drill.{drill_definition, drill_term}
@@ -52,10 +53,10 @@ constructor-kept : (sig : Signature) (axioms : List AxiomDeclaration) (f : List 
     (kind : SymKind) → HasKind sig axioms f info kind
     → info.kind ≡ Ctor → kind ≡ Ctor
 constructor-kept sig axioms f info kind (as_declared other) e = e
-constructor-kept sig axioms f info kind (by_hook is h fits) e = let no : ⊥ = cc in absurd no
+constructor-kept sig axioms f info kind (hooked_kind is h fits) e = let no : ⊥ = cc in absurd no
 constructor-kept sig axioms f info kind (without_hook is h fits) e = let no : ⊥ = cc in absurd no
 constructor-kept sig axioms f info kind (by_unreadable is h a u) e = let no : ⊥ = cc in absurd no
-constructor-kept sig axioms f info kind (by_equations is h u) e = let no : ⊥ = cc in absurd no
+constructor-kept sig axioms f info kind (equations_kind is h u) e = let no : ⊥ = cc in absurd no
 
 names-kept : (sig : Signature) (axioms : List AxiomDeclaration) (xs ys : List (List ℕ × SymInfo))
     → AllZip (IsSymbolOf sig axioms) xs ys
@@ -118,7 +119,7 @@ top-is : (sig : Signature) (r : Layout) (n s : ℕ) → sig.sorts ≡ drill_sort
 top-is sig r n s sorts (a, has, (w, class, number)) =
     let rule : IsDrillRule a = All-contains IsDrillRule (rules_of r n) a (all-rules r n) has in
     let same : rewrites w ≡ rewrites (drill_rewriting rule.0 rule.1) = sym class
-    ∙ ap (class_of sig) rule.2 in
+    ∙ ap (axiom_class sig) rule.2 in
     let shape : w ≡ drill_rewriting rule.0 rule.1 = cc in
     let three : Some 3 ≡ Some s =
     sym (ap (λ (x : Rewriting). sort_number sig.sorts x.sort) shape
@@ -141,7 +142,7 @@ term-fine-with symbols subsorts m q some has =
     let sig : Signature = with_sorts symbols subsorts in
     applied-to-fine sig (q 0) 2 0 3 (codes "st") Ctor
     (symbol_applied (q 4) (codes "c0") no_sorts no_patterns)
-    (domain_value (q 10) (int_at (q 12)) (codes "0") (q 17)) has.state refl refl
+    (value_written (q 10) (int_at (q 12)) (codes "0") (q 17)) has.state refl refl
     (applied-fine sig (q 4) (q 4) 2 (codes "c0") Ctor [] no_more 0
     (first-step m sig some has) refl refl refl refl refl)
     (number-fine symbols subsorts (q 10) (q 12) (q 17) (codes "0") (pos 0) refl)

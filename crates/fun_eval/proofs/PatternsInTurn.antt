@@ -9,14 +9,14 @@ use Rattle.term_core.specs.RulePatterns.{plain_pattern}
 use Rattle.term_core.specs.PatternLists.{plain_patterns}
 use Rattle.term_core.specs.declared.rule_patterns.RulePat.{RulePat}
 use Rattle.rule_core.specs.Theories.{RewriteTheory}
-use Rattle.rule_core.specs.Evaluation.{Cause, value, blocked, AllEvaluated, values, stopped}
+use Rattle.rule_core.specs.Evaluation.{Cause, value, blocked, AllEvaluated, values, all_blocked}
 use Rattle.rule_core.specs.Evaluation.{Evaluates, EvaluateAll, none_left, first_blocked}
 use Rattle.rule_core.specs.Evaluation.{later_blocked, one_more}
 
 -- trees put before the result of the later patterns
 abbrev pub in_front : Tree → AllEvaluated → AllEvaluated
 in_front t (values ts d) = values (more_trees t ts) d
-in_front t (stopped cause) = stopped cause
+in_front t (all_blocked cause) = all_blocked cause
 
 abbrev pub all_in_front : List Tree → AllEvaluated → AllEvaluated
 all_in_front [] r = r
@@ -33,7 +33,7 @@ all_in_front-none [] d = refl
 all_in_front-none (t ∷ ts) d = ap (in_front t) (all_in_front-none ts d)
 
 all_in_front-stopped : (ts : List Tree) (cause : Cause)
-    → all_in_front ts (stopped cause) ≡ stopped cause
+    → all_in_front ts (all_blocked cause) ≡ all_blocked cause
 all_in_front-stopped [] cause = refl
 all_in_front-stopped (t ∷ ts) cause = ap (in_front t) (all_in_front-stopped ts cause)
 
@@ -59,7 +59,7 @@ more_front : (theory : RewriteTheory) (n : ℕ) (theta : List (Option Tree)) (p 
     → Evaluates theory n theta p c (value t d) → EvaluateAll theory n theta ps d r
     → EvaluateAll theory n theta (more_patterns p ps) c (in_front t r)
 more_front theory n theta p ps t c d (values ts k) e all = one_more e all
-more_front theory n theta p ps t c d (stopped cause) e all = later_blocked e all
+more_front theory n theta p ps t c d (all_blocked cause) e all = later_blocked e all
 
 pub goes_on-more : (theory : RewriteTheory) (n : ℕ) (theta : List (Option Tree))
     (pats : List RulePat) (c i : ℕ) (ts us : List Tree) (left rest : ℕ) (p : RulePat) (t : Tree)
@@ -80,13 +80,13 @@ pub goes_on-stop : (theory : RewriteTheory) (n : ℕ) (theta : List (Option Tree
     (pats : List RulePat) (c i : ℕ) (ts : List Tree) (left : ℕ) (p : RulePat) (cause : Cause)
     → GoesOn theory n theta pats c i ts left → p ≡ get_or pats i p → i < length pats
     → Evaluates theory n theta (plain_pattern p) left (blocked cause)
-    → EvaluateAll theory n theta (plain_patterns pats) c (stopped cause)
+    → EvaluateAll theory n theta (plain_patterns pats) c (all_blocked cause)
 goes_on-stop theory n theta pats c i ts left p cause goes e lt evaluated =
-    let P : Patterns → Type 0 = λ ps. EvaluateAll theory n theta ps left (stopped cause) in
+    let P : Patterns → Type 0 = λ ps. EvaluateAll theory n theta ps left (all_blocked cause) in
     let here : P (plain_patterns (drop i pats)) =
     subst P (sym (from_here pats i p e lt)) (first_blocked evaluated) in
     let Q : AllEvaluated → Type 0 = λ s. EvaluateAll theory n theta (plain_patterns pats) c s in
-    subst Q (all_in_front-stopped ts cause) (goes (stopped cause) here)
+    subst Q (all_in_front-stopped ts cause) (goes (all_blocked cause) here)
 
 pub goes_on-end : (theory : RewriteTheory) (n : ℕ) (theta : List (Option Tree))
     (pats : List RulePat) (c i : ℕ) (ts : List Tree) (left : ℕ)

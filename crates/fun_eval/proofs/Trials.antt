@@ -9,9 +9,9 @@ use Rattle.term_core.specs.Patterns.{Pattern}
 use Rattle.rule_core.specs.Rules.{Equation}
 use Rattle.rule_core.specs.Theories.{RewriteTheory, equations_of}
 use Rattle.rule_core.specs.Matching.{MatchAll}
-use Rattle.rule_core.specs.Evaluation.{Cause, Evaluated, value, blocked, Tested, holds, fails}
-use Rattle.rule_core.specs.Evaluation.{untested, says_nothing, Equates, no_equation_left, unmatched}
-use Rattle.rule_core.specs.Evaluation.{condition_fails, condition_blocked, used, Tests}
+use Rattle.rule_core.specs.Evaluation.{Cause, Evaluated, value, blocked, ConditionOutcome, holds}
+use Rattle.rule_core.specs.Evaluation.{fails, untested, says_nothing, Equates, no_equation_left}
+use Rattle.rule_core.specs.Evaluation.{unmatched, condition_fails, condition_blocked, used, Tests}
 use Rattle.rule_core.specs.Evaluation.{no_condition, condition, EvaluatesIn, inside, no_equation}
 use Rattle.rule_core.specs.FirstRule.{most_nesting}
 use Rattle.rule_core.specs.Records.{Record, IsUnused, most_calls}
@@ -56,7 +56,7 @@ within_falls : {theory : RewriteTheory} {n f c d : ℕ} {theta : List (Option Tr
 within_falls (inside e) = calls_fall e
 
 tests_fall : {theory : RewriteTheory} {n f c : ℕ} {theta : List (Option Tree)} {p : Option Pattern}
-    {r : Tested} → Tests theory n f theta p c r → LeavesAtMost c r
+    {r : ConditionOutcome} → Tests theory n f theta p c r → LeavesAtMost c r
 tests_fall no_condition = omega arith
 tests_fall (condition {e = value t d} e says) = says_at_most says (within_falls e)
 tests_fall (condition {e = blocked cause} e says_nothing) = tt

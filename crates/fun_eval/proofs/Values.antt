@@ -23,9 +23,9 @@ use Rattle.rule_core.specs.WellSorted.{IsWellSorted}
 use Rattle.rule_core.specs.HookSorts.{FitsHook}
 use Rattle.rule_core.specs.Evaluation.{value, blocked, values, no_value, too_high, most_height}
 use Rattle.rule_core.specs.Evaluation.{IsInjectionSymbol, of_constructor, of_injection, Evaluates}
-use Rattle.rule_core.specs.Evaluation.{bound, itself, made, made_too_high, called, EvaluateAll}
-use Rattle.rule_core.specs.Evaluation.{none_left, one_more, Applies, by_hook, hook_fails}
-use Rattle.rule_core.specs.Evaluation.{by_equations, Equates, EvaluatesIn, inside}
+use Rattle.rule_core.specs.Evaluation.{bound, itself, made, made_too_high, function_called}
+use Rattle.rule_core.specs.Evaluation.{EvaluateAll, none_left, one_more, HasOutcome, by_hook}
+use Rattle.rule_core.specs.Evaluation.{hook_fails, by_equations, Equates, EvaluatesIn, inside}
 use Rattle.rule_core.specs.Records.{Record, RecordList, no_record, more_records, RecordAll, Records}
 use Rattle.rule_core.specs.Records.{results_of, result_of}
 use Rattle.rule_core.specs.Records as kept
@@ -243,28 +243,29 @@ hook_called {R} tells all_tell theory n f row sort k info args i hook at r h =
     → tells a.recorded (kept.by_hook rs a.term)))
     (λ cause. (vs : List DomainValue) × (why : NoValue) × AreValues (forest args.terms.items) vs
     × (hook_value row vs ≡ Some (Err why)) × (cause ≡ no_value row why))
-    (λ (a : Answer R) (left : ℕ). Applies theory n f (forest args.terms.items) (suc k)
+    (λ (a : Answer R) (left : ℕ). HasOutcome theory n f (forest args.terms.items) (suc k)
     (value a.term left) × IsRecordedCall tells all_tell theory f args a)
-    (λ cause. Applies theory n f (forest args.terms.items) (suc k) (blocked cause))
+    (λ cause. HasOutcome theory n f (forest args.terms.items) (suc k) (blocked cause))
     r
     (λ a left w. (answered a left w.0 w.1, told a w.0 w.2))
-    (λ cause w. let here : Applies theory n f (forest args.terms.items) (suc k)
+    (λ cause w. let here : HasOutcome theory n f (forest args.terms.items) (suc k)
     (blocked (no_value row w.1)) =
     hook_fails i (record { hooked = hook; arguments = w.0; are = w.2; fails = w.3 }) in
-    subst (λ c. Applies theory n f (forest args.terms.items) (suc k) (blocked c)) (sym w.4) here)
+    subst (λ c. HasOutcome theory n f (forest args.terms.items) (suc k) (blocked c)) (sym w.4) here)
     h where
       answered : (a : Answer R) (left : ℕ)
           → ((vs : List DomainValue) × (v : DomainValue) × AreValues (forest args.terms.items) vs
           × (hook_value row vs ≡ Some (Ok v)) × (a.term ≡ leaf sort v)) → left ≡ k
-          → Applies theory n f (forest args.terms.items) (suc k) (value a.term left)
+          → HasOutcome theory n f (forest args.terms.items) (suc k) (value a.term left)
       answered a left w e =
-          let here : Applies theory n f (forest args.terms.items) (suc k)
+          let here : HasOutcome theory n f (forest args.terms.items) (suc k)
           (value (leaf sort w.1) k) =
           by_hook i (record { hooked = hook; arguments = w.0; are = w.2; answers = w.3 }) at in
-          let with_term : Applies theory n f (forest args.terms.items) (suc k) (value a.term k) =
-          subst (λ t. Applies theory n f (forest args.terms.items) (suc k) (value t k))
+          let with_term : HasOutcome theory n f (forest args.terms.items) (suc k) (value a.term k) =
+          subst (λ t. HasOutcome theory n f (forest args.terms.items) (suc k) (value t k))
           (sym w.4) here in
-          subst (λ j. Applies theory n f (forest args.terms.items) (suc k) (value a.term j)) (sym e)
+          subst (λ j. HasOutcome theory n f (forest args.terms.items) (suc k) (value a.term j))
+              (sym e)
           with_term
 
       told : (a : Answer R)
@@ -322,9 +323,9 @@ equations_call {R} tells all_tell theory n f c k info args i is e r h =
     × IsRecordedCall tells all_tell theory f args a)
     (λ cause.
     Equates theory n f (equations_of theory f) (forest args.terms.items) k (blocked cause))
-    (λ (a : Answer R) (left : ℕ). Applies theory n f (forest args.terms.items) (suc k)
+    (λ (a : Answer R) (left : ℕ). HasOutcome theory n f (forest args.terms.items) (suc k)
     (value a.term left) × IsRecordedCall tells all_tell theory f args a)
-    (λ cause. Applies theory n f (forest args.terms.items) (suc k) (blocked cause))
+    (λ cause. HasOutcome theory n f (forest args.terms.items) (suc k) (blocked cause))
     r (λ a left w. (by_equations i is w.0, w.1)) (λ cause w. by_equations i is w) h)
 
 -- ---- nodes
@@ -338,17 +339,18 @@ pub called_gives : {R : Type 0} (tells : R → Record → Type 0)
     → (sorts : List ℕ) → Gives tells theory m theta (call f sorts ps) c r
 called_gives {R} tells all_tell theory n m f c d theta ps args e all recorded r h sorts =
     subst (λ j. Gives tells theory j theta (call f sorts ps) c r) (sym e) (comes-weaker
-    (λ (a : Answer R) (left : ℕ). Applies theory n f (forest args.terms.items) d (value a.term left)
+    (λ (a : Answer R) (left : ℕ). HasOutcome theory n f (forest args.terms.items) d
+    (value a.term left)
     × IsRecordedCall tells all_tell theory f args a)
-    (λ cause. Applies theory n f (forest args.terms.items) d (blocked cause))
+    (λ cause. HasOutcome theory n f (forest args.terms.items) d (blocked cause))
     (λ (a : Answer R) (left : ℕ). Evaluates theory (suc n) theta (call f sorts ps) c
     (value a.term left)
     × IsRecorded (tells a.recorded) theory theta (call f sorts ps) a.term)
     (λ cause. Evaluates theory (suc n) theta (call f sorts ps) c (blocked cause))
     r
     (λ a left w. let told = w.1 recorded.0 recorded.1 recorded.3 in
-    (called all w.0, (told.0, told.1, told.2 theta sorts ps recorded.2, told.3)))
-    (λ cause w. called all w) h)
+    (function_called all w.0, (told.0, told.1, told.2 theta sorts ps recorded.2, told.3)))
+    (λ cause w. function_called all w) h)
 
 pub constructed_gives : {R : Type 0} (tells : R → Record → Type 0)
     (all_tell : List R → RecordList → Type 0) (theory : RewriteTheory) (n m f c d : ℕ)

@@ -11,8 +11,9 @@ use Rattle.term_core.specs.declared.values.NoValue.{NoValue}
 use Rattle.rule_core.specs.Sorting.{HaveSorts, IsSymbol, IsFunction, sort_at}
 use Rattle.rule_core.specs.MatchLaws.{AreTermsOf}
 use Rattle.rule_core.specs.Matching.{OccursInSome, RespectsSorts}
-use Rattle.rule_core.specs.Evaluation.{Cause, value, blocked, values, stopped, no_value, too_high}
-use Rattle.rule_core.specs.Evaluation.{most_height, Evaluates, EvaluateAll, Applies, EvaluatesIn}
+use Rattle.rule_core.specs.Evaluation.{Cause, value, blocked, values, all_blocked, no_value}
+use Rattle.rule_core.specs.Evaluation.{too_high, most_height, Evaluates, EvaluateAll, HasOutcome}
+use Rattle.rule_core.specs.Evaluation.{EvaluatesIn}
 use Rattle.rule_core.specs.Records.{Record, RecordList, no_record, more_records, made, by_hook}
 use Rattle.rule_core.specs.Records.{Records, RecordAll, results_of, result_of}
 use Rattle.rule_core.specs.RunView.{cause_of}
@@ -67,7 +68,7 @@ AllGive {R} all_tell theory n theta ps c answer =
     (λ (a : Answers R) (left : ℕ).
     EvaluateAll theory n theta ps c (values (forest a.terms.items) left)
     × AreRecorded (all_tell a.records.items) theory theta ps (forest a.terms.items))
-    (λ cause. EvaluateAll theory n theta ps c (stopped cause))
+    (λ cause. EvaluateAll theory n theta ps c (all_blocked cause))
     answer
 
 -- the substitution gives each variable of the patterns, and perhaps others, a normal term of its
@@ -142,9 +143,10 @@ abbrev pub Calls : {R : Type 0} → (R → Record → Type 0) → (List R → Re
     → RewriteTheory → ℕ → ℕ → Answers R → ℕ → Result (Answer R × ℕ) EvalEnd → Type 0
 Calls {R} tells all_tell theory n f args c answer =
     Comes
-    (λ (a : Answer R) (left : ℕ). Applies theory n f (forest args.terms.items) c (value a.term left)
+    (λ (a : Answer R) (left : ℕ). HasOutcome theory n f (forest args.terms.items) c
+    (value a.term left)
     × IsRecordedCall tells all_tell theory f args a)
-    (λ cause. Applies theory n f (forest args.terms.items) c (blocked cause))
+    (λ cause. HasOutcome theory n f (forest args.terms.items) c (blocked cause))
     answer
 
 -- a constructor applied to the values of its arguments

@@ -2,11 +2,11 @@
 use Rattle.std.proofs.Common.{◌≡◌, ℕ, Bool, true, false, not, IsTrue, List, [], ◌∷◌, map, Some}
 use Rattle.std.proofs.Common.{refl, ap, sym, ◌∙◌, subst}
 use Rattle.std.specs.Prelude.{codes}
-use Rattle.kore_text.specs.TokenStream.{Token, identifier, mark, assign, Stream, end}
+use Rattle.kore_text.specs.TokenStream.{KoreToken, identifier, mark, assign, Stream, end}
 use Rattle.kore_text.specs.Trees.{SortTree, PatternTree, ImportDeclaration, SortDeclaration}
 use Rattle.kore_text.specs.Trees.{SymbolDeclaration, AliasDeclaration, AxiomDeclaration, ModuleTree}
 use Rattle.kore_text.specs.Trees.{DefinitionTree, element_variable, set_variable, string}
-use Rattle.kore_text.specs.Trees.{symbol_applied, connected, binding, domain_value, folded}
+use Rattle.kore_text.specs.Trees.{symbol_applied, connected, binder_applied, value_written, folded}
 use Rattle.kore_text.specs.Trees.{Declaration, import_declaration, sort_declaration}
 use Rattle.kore_text.specs.Trees.{symbol_declaration, alias_declaration, axiom_declaration}
 use Rattle.kore_text.specs.Trees.{claim_declaration}
@@ -27,11 +27,11 @@ use Rattle.kore_ast.proofs.Lists.{Begins}
 use Rattle.kore_ast.proofs.Sequences.{Follows, No, follows-end}
 
 -- a token, and the stream after it
-pub any-to : (t : Token) (k : List Requirement) (s s1 e : Stream) → s1 ≡ after s
+pub any-to : (t : KoreToken) (k : List Requirement) (s s1 e : Stream) → s1 ≡ after s
     → Has (any t ∷ k) s e → (seen s ≡ Some t) × Has k s1 e
 any-to t k s s1 e p h = let x = any-step t k s e h in (x.0, subst (λ u. Has k u e) (sym p) x.1)
 
-pub placed-to : (p : ℕ) (t : Token) (k : List Requirement) (s s1 e : Stream) → s1 ≡ after s
+pub placed-to : (p : ℕ) (t : KoreToken) (k : List Requirement) (s s1 e : Stream) → s1 ≡ after s
     → Has (placed p t ∷ k) s e → (seen s ≡ Some t) × (p ≡ byte_of_next s) × Has k s1 e
 placed-to p t k s s1 e q h =
     let x = placed-step p t k s e h in (x.0, x.1, subst (λ u. Has k u e) (sym q) x.2)
@@ -356,8 +356,8 @@ apart-pattern b (set_variable p n s) k e = refl
 apart-pattern b (string p t) k e = refl
 apart-pattern b (symbol_applied p n ss ps) k e = refl
 apart-pattern b (connected p o ss ps) k e = refl
-apart-pattern b (binding p o ss x q) k e = refl
-apart-pattern b (domain_value p s t q) k e = refl
+apart-pattern b (binder_applied p o ss x q) k e = refl
+apart-pattern b (value_written p s t q) k e = refl
 apart-pattern b (folded p l q) k e = refl
 
 pub stated-read : (word : List ℕ) (at : ℕ) (ns : List (List ℕ)) (q : PatternTree)

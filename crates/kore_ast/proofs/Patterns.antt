@@ -4,15 +4,15 @@ use Rattle.std.proofs.Common.{ap, sym, ◌∙◌, subst}
 use Rattle.kore_text.specs.declared.names.Op.{Op}
 use Rattle.kore_text.specs.declared.names.Binder.{Binder}
 use Rattle.kore_text.specs.declared.names.Built.TheVariants as built
-use Rattle.kore_text.specs.TokenStream.{Token, identifier, set_identifier, builtin, string_token}
-use Rattle.kore_text.specs.TokenStream.{mark, Stream}
+use Rattle.kore_text.specs.TokenStream.{KoreToken, identifier, set_identifier, builtin}
+use Rattle.kore_text.specs.TokenStream.{string_token, mark, Stream}
 use Rattle.kore_text.specs.Trees.{SortTree, SortTrees, sort_trees, sort_count, PatternTree}
 use Rattle.kore_text.specs.Trees.{element_variable, set_variable, string, symbol_applied, connected}
-use Rattle.kore_text.specs.Trees.{binding, domain_value, folded, PatternTrees, no_patterns}
+use Rattle.kore_text.specs.Trees.{binder_applied, value_written, folded, PatternTrees, no_patterns}
 use Rattle.kore_text.specs.Trees.{pattern_then, pattern_trees, pattern_count, listed_patterns}
 use Rattle.kore_text.specs.Grammar.{Requirement, placed, any, listed, Spelling, takes, binder_sorts}
-use Rattle.kore_text.specs.Grammar.{binds_sets, is_variable, is_foldable, spell_sort, spell_sorts}
-use Rattle.kore_text.specs.Grammar.{spell_pattern, spell_patterns, spell_applied}
+use Rattle.kore_text.specs.Grammar.{binds_sets, is_variable_tree, is_foldable, spell_sort}
+use Rattle.kore_text.specs.Grammar.{spell_sorts, spell_pattern, spell_patterns, spell_applied}
 use Rattle.kore_text.specs.Apart.{Apart}
 use Rattle.kore_ast.specs.declared.reader.Head.{Head}
 use Rattle.kore_ast.specs.declared.reader.Head.TheVariants as head
@@ -56,14 +56,14 @@ behind-binder b ss x q k =
     ∷ spell_pattern b x (any (mark 44) ∷ spell_pattern b q (any (mark 41) ∷ k)))
 
 -- a pattern's first token
-abbrev pub first_of : PatternTree → Token
+abbrev pub first_of : PatternTree → KoreToken
 first_of (element_variable p n s) = identifier n
 first_of (set_variable p n s) = set_identifier n
 first_of (string p t) = string_token t
 first_of (symbol_applied p n ss ps) = identifier n
 first_of (connected p o ss ps) = builtin (Some (built.Connective o))
-first_of (binding p o ss x q) = builtin (Some (built.Binding o))
-first_of (domain_value p s t q) = builtin (Some built.Value)
+first_of (binder_applied p o ss x q) = builtin (Some (built.Binding o))
+first_of (value_written p s t q) = builtin (Some built.Value)
 first_of (folded p l q) = builtin (Some (built.Fold l))
 
 pub begins-with : (b : Bool) (t : PatternTree) (k : List Requirement) (s e : Stream)
@@ -84,11 +84,11 @@ begins-with b (connected p o ss ps) k s e h =
     (given-step (takes o (sort_count ss) (pattern_count ps))
     (spell_applied p (builtin (Some (built.Connective o))) ss (spell_patterns b ps) k) s e
     h).1).0
-begins-with b (binding p o ss x q) k s e h =
+begins-with b (binder_applied p o ss x q) k s e h =
     (placed-step p (builtin (Some (built.Binding o))) (behind-binder b ss x q k) s e
-    (given-step ((sort_count ss == binder_sorts o) && is_variable (binds_sets o) x)
+    (given-step ((sort_count ss == binder_sorts o) && is_variable_tree (binds_sets o) x)
     (placed p (builtin (Some (built.Binding o))) ∷ behind-binder b ss x q k) s e h).1).0
-begins-with b (domain_value p x t q) k s e h =
+begins-with b (value_written p x t q) k s e h =
     (placed-step p (builtin (Some built.Value)) (any (mark 123)
     ∷ spell_sort x
     (any (mark 125) ∷ any (mark 40) ∷ placed q (string_token t) ∷ any (mark 41) ∷ k)) s
@@ -113,8 +113,8 @@ no-mark close (set_variable p n s) = refl
 no-mark close (string p t) = refl
 no-mark close (symbol_applied p n ss ps) = refl
 no-mark close (connected p o ss ps) = refl
-no-mark close (binding p o ss x q) = refl
-no-mark close (domain_value p s t q) = refl
+no-mark close (binder_applied p o ss x q) = refl
+no-mark close (value_written p s t q) = refl
 no-mark close (folded p l q) = refl
 
 -- if a pattern begins here, the list is not over
@@ -132,8 +132,8 @@ by-set (set_variable p n s) e = (p, n, s, refl)
 by-set (string p n) e = absurd (let z : ⊥ = cc in z)
 by-set (symbol_applied p n ss ps) e = absurd (let z : ⊥ = cc in z)
 by-set (connected p o ss ps) e = absurd (let z : ⊥ = cc in z)
-by-set (binding p o ss x q) e = absurd (let z : ⊥ = cc in z)
-by-set (domain_value p s n q) e = absurd (let z : ⊥ = cc in z)
+by-set (binder_applied p o ss x q) e = absurd (let z : ⊥ = cc in z)
+by-set (value_written p s n q) e = absurd (let z : ⊥ = cc in z)
 by-set (folded p l q) e = absurd (let z : ⊥ = cc in z)
 
 by-connective : (t : PatternTree) (op : Op) → head_of_tree t ≡ head.Builtin (built.Connective op)
@@ -144,33 +144,33 @@ by-connective (string p n) op e = absurd (let z : ⊥ = cc in z)
 by-connective (symbol_applied p n ss ps) op e = absurd (let z : ⊥ = cc in z)
 by-connective (connected p o ss ps) op e =
     let f : o ≡ op = cc in (p, ss, ps, ap (λ v. connected p v ss ps) f)
-by-connective (binding p o ss x q) op e = absurd (let z : ⊥ = cc in z)
-by-connective (domain_value p s n q) op e = absurd (let z : ⊥ = cc in z)
+by-connective (binder_applied p o ss x q) op e = absurd (let z : ⊥ = cc in z)
+by-connective (value_written p s n q) op e = absurd (let z : ⊥ = cc in z)
 by-connective (folded p l q) op e = absurd (let z : ⊥ = cc in z)
 
 by-binder : (t : PatternTree) (binder : Binder)
     → head_of_tree t ≡ head.Builtin (built.Binding binder)
     → (p : ℕ) × (ss : SortTrees) × (x : PatternTree) × (q : PatternTree)
-    × (t ≡ binding p binder ss x q)
+    × (t ≡ binder_applied p binder ss x q)
 by-binder (element_variable p n s) binder e = absurd (let z : ⊥ = cc in z)
 by-binder (set_variable p n s) binder e = absurd (let z : ⊥ = cc in z)
 by-binder (string p n) binder e = absurd (let z : ⊥ = cc in z)
 by-binder (symbol_applied p n ss ps) binder e = absurd (let z : ⊥ = cc in z)
 by-binder (connected p o ss ps) binder e = absurd (let z : ⊥ = cc in z)
-by-binder (binding p o ss x q) binder e =
-    let f : o ≡ binder = cc in (p, ss, x, q, ap (λ v. binding p v ss x q) f)
-by-binder (domain_value p s n q) binder e = absurd (let z : ⊥ = cc in z)
+by-binder (binder_applied p o ss x q) binder e =
+    let f : o ≡ binder = cc in (p, ss, x, q, ap (λ v. binder_applied p v ss x q) f)
+by-binder (value_written p s n q) binder e = absurd (let z : ⊥ = cc in z)
 by-binder (folded p l q) binder e = absurd (let z : ⊥ = cc in z)
 
 by-value : (t : PatternTree) → head_of_tree t ≡ head.Builtin built.Value
-    → (p : ℕ) × (s : SortTree) × (n : List ℕ) × (q : ℕ) × (t ≡ domain_value p s n q)
+    → (p : ℕ) × (s : SortTree) × (n : List ℕ) × (q : ℕ) × (t ≡ value_written p s n q)
 by-value (element_variable p n s) e = absurd (let z : ⊥ = cc in z)
 by-value (set_variable p n s) e = absurd (let z : ⊥ = cc in z)
 by-value (string p n) e = absurd (let z : ⊥ = cc in z)
 by-value (symbol_applied p n ss ps) e = absurd (let z : ⊥ = cc in z)
 by-value (connected p o ss ps) e = absurd (let z : ⊥ = cc in z)
-by-value (binding p o ss x q) e = absurd (let z : ⊥ = cc in z)
-by-value (domain_value p s n q) e = (p, s, n, q, refl)
+by-value (binder_applied p o ss x q) e = absurd (let z : ⊥ = cc in z)
+by-value (value_written p s n q) e = (p, s, n, q, refl)
 by-value (folded p l q) e = absurd (let z : ⊥ = cc in z)
 
 by-fold : (t : PatternTree) (from_left : Bool)
@@ -181,8 +181,8 @@ by-fold (set_variable p n s) from_left e = absurd (let z : ⊥ = cc in z)
 by-fold (string p n) from_left e = absurd (let z : ⊥ = cc in z)
 by-fold (symbol_applied p n ss ps) from_left e = absurd (let z : ⊥ = cc in z)
 by-fold (connected p o ss ps) from_left e = absurd (let z : ⊥ = cc in z)
-by-fold (binding p o ss x q) from_left e = absurd (let z : ⊥ = cc in z)
-by-fold (domain_value p s n q) from_left e = absurd (let z : ⊥ = cc in z)
+by-fold (binder_applied p o ss x q) from_left e = absurd (let z : ⊥ = cc in z)
+by-fold (value_written p s n q) from_left e = absurd (let z : ⊥ = cc in z)
 by-fold (folded p l q) from_left e = let f : l ≡ from_left = cc in (p, q, ap (λ v. folded p v q) f)
 
 by-text : (t : PatternTree) → is_textual (head_of_tree t) ≡ true
@@ -192,8 +192,8 @@ by-text (set_variable p n s) e = absurd (let y : false ≡ true = e in let z : �
 by-text (string p n) e = (p, n, refl)
 by-text (symbol_applied p n ss ps) e = absurd (let y : false ≡ true = e in let z : ⊥ = cc in z)
 by-text (connected p o ss ps) e = absurd (let y : false ≡ true = e in let z : ⊥ = cc in z)
-by-text (binding p o ss x q) e = absurd (let y : false ≡ true = e in let z : ⊥ = cc in z)
-by-text (domain_value p s n q) e = absurd (let y : false ≡ true = e in let z : ⊥ = cc in z)
+by-text (binder_applied p o ss x q) e = absurd (let y : false ≡ true = e in let z : ⊥ = cc in z)
+by-text (value_written p s n q) e = absurd (let y : false ≡ true = e in let z : ⊥ = cc in z)
 by-text (folded p l q) e = absurd (let y : false ≡ true = e in let z : ⊥ = cc in z)
 
 abbrev Matches : (b : Bool) → PatternTree → Stream → Stream → Type 0
@@ -231,13 +231,13 @@ element-go b x s r hd m i (connected p o ss ps) k e a h =
     let z : head_of_tree (connected p o ss ps) ≡ head.Name =
     begins-head b (connected p o ss ps) k s e head.Name hd h in
     absurd (let y' : ⊥ = cc in y')
-element-go b x s r hd m i (binding p o ss y q) k e a h =
-    let z : head_of_tree (binding p o ss y q) ≡ head.Name =
-    begins-head b (binding p o ss y q) k s e head.Name hd h in
+element-go b x s r hd m i (binder_applied p o ss y q) k e a h =
+    let z : head_of_tree (binder_applied p o ss y q) ≡ head.Name =
+    begins-head b (binder_applied p o ss y q) k s e head.Name hd h in
     absurd (let y' : ⊥ = cc in y')
-element-go b x s r hd m i (domain_value p y n q) k e a h =
-    let z : head_of_tree (domain_value p y n q) ≡ head.Name =
-    begins-head b (domain_value p y n q) k s e head.Name hd h in
+element-go b x s r hd m i (value_written p y n q) k e a h =
+    let z : head_of_tree (value_written p y n q) ≡ head.Name =
+    begins-head b (value_written p y n q) k s e head.Name hd h in
     absurd (let y' : ⊥ = cc in y')
 element-go b x s r hd m i (folded p l q) k e a h =
     let z : head_of_tree (folded p l q) ≡ head.Name =
@@ -279,13 +279,13 @@ symbol-go b xs ys s r1 r hd m i j (connected p o ss ps) k e a h =
     let z : head_of_tree (connected p o ss ps) ≡ head.Name =
     begins-head b (connected p o ss ps) k s e head.Name hd h in
     absurd (let y' : ⊥ = cc in y')
-symbol-go b xs ys s r1 r hd m i j (binding p o ss x q) k e a h =
-    let z : head_of_tree (binding p o ss x q) ≡ head.Name =
-    begins-head b (binding p o ss x q) k s e head.Name hd h in
+symbol-go b xs ys s r1 r hd m i j (binder_applied p o ss x q) k e a h =
+    let z : head_of_tree (binder_applied p o ss x q) ≡ head.Name =
+    begins-head b (binder_applied p o ss x q) k s e head.Name hd h in
     absurd (let y' : ⊥ = cc in y')
-symbol-go b xs ys s r1 r hd m i j (domain_value p x n q) k e a h =
-    let z : head_of_tree (domain_value p x n q) ≡ head.Name =
-    begins-head b (domain_value p x n q) k s e head.Name hd h in
+symbol-go b xs ys s r1 r hd m i j (value_written p x n q) k e a h =
+    let z : head_of_tree (value_written p x n q) ≡ head.Name =
+    begins-head b (value_written p x n q) k s e head.Name hd h in
     absurd (let y' : ⊥ = cc in y')
 symbol-go b xs ys s r1 r hd m i j (folded p l q) k e a h =
     let z : head_of_tree (folded p l q) ≡ head.Name =
@@ -336,7 +336,7 @@ connected-go b op xs ys s r1 r hd i j t k e a h =
     let ss : SortTrees = f.1 in
     let ps : PatternTrees = f.2 in
     let w : List Requirement = any (mark 40) ∷ listed (spell_patterns b ps) 41 k in
-    let d : Token = builtin (Some (built.Connective op)) in
+    let d : KoreToken = builtin (Some (built.Connective op)) in
     let g =
     given-step (takes op (sort_count ss) (pattern_count ps))
     (spell_applied p d ss (spell_patterns b ps) k) s e
@@ -356,7 +356,7 @@ binding-go : (b : Bool) (o : Binder) (xs : List SortTree) (y z : PatternTree) (s
     → head_of (seen s) ≡ head.Builtin (built.Binding o)
     → Reads (spell_list spell_sort 125) xs (after (after s)) r1
     → Reads (spell_pattern b) y (after r1) r2 → Reads (spell_pattern b) z (after r2) r3
-    → Matches b (binding (byte_of_next s) o (sort_trees xs) y z) s (after r3)
+    → Matches b (binder_applied (byte_of_next s) o (sort_trees xs) y z) s (after r3)
 binding-go b o xs y z s r1 r2 r3 hd i j l t k e a h =
     let f = by-binder t o (begins-head b t k s e (head.Builtin (built.Binding o)) hd h) in
     let p : ℕ = f.0 in
@@ -366,11 +366,11 @@ binding-go b o xs y z s r1 r2 r3 hd i j l t k e a h =
     let w3 : List Requirement = any (mark 41) ∷ k in
     let w2 : List Requirement = any (mark 44) ∷ spell_pattern b q w3 in
     let w1 : List Requirement = any (mark 40) ∷ spell_pattern b x w2 in
-    let d : Token = builtin (Some (built.Binding o)) in
+    let d : KoreToken = builtin (Some (built.Binding o)) in
     let g =
-    given-step ((sort_count ss == binder_sorts o) && is_variable (binds_sets o) x)
+    given-step ((sort_count ss == binder_sorts o) && is_variable_tree (binds_sets o) x)
     (placed p d ∷ behind-binder b ss x q k) s e
-    (form b t (binding p o ss x q) k s e f.4 h) in
+    (form b t (binder_applied p o ss x q) k s e f.4 h) in
     let u = placed-step p d (behind-binder b ss x q k) s e g.1 in
     let v = any-step (mark 123) (listed (spell_sorts ss) 125 w1) (after s) e u.2 in
     let c1 = sorts-exact xs (after (after s)) r1 i ss w1 e refl v.1 in
@@ -379,15 +379,16 @@ binding-go b o xs y z s r1 r2 r3 hd i j l t k e a h =
     let m2 = any-step (mark 44) (spell_pattern b q w3) r2 e c2.1 in
     let c3 = l.exact q w3 e refl m2.1 in
     let m3 = any-step (mark 41) k r3 e c3.1 in (
-      f.4 ∙ ap (λ v. binding v o ss x q) u.1 ∙ ap (λ v. binding (byte_of_next s) o v x q) c1.0
-          ∙ ap (λ v. binding (byte_of_next s) o (sort_trees xs) v q) c2.0
-          ∙ ap (binding (byte_of_next s) o (sort_trees xs) y) c3.0,
+      f.4 ∙ ap (λ v. binder_applied v o ss x q) u.1
+          ∙ ap (λ v. binder_applied (byte_of_next s) o v x q) c1.0
+          ∙ ap (λ v. binder_applied (byte_of_next s) o (sort_trees xs) v q) c2.0
+          ∙ ap (binder_applied (byte_of_next s) o (sort_trees xs) y) c3.0,
       m3.1,
     )
 
 value-go : (b : Bool) (x : SortTree) (s r : Stream) → head_of (seen s) ≡ head.Builtin built.Value
     → Reads spell_sort x (after (after s)) r
-    → Matches b (domain_value (byte_of_next s) x (text_of (seen (after (after r))))
+    → Matches b (value_written (byte_of_next s) x (text_of (seen (after (after r))))
     (byte_of_next (after (after r)))) s (after (after (after (after r))))
 value-go b x s r hd i t k e a h =
     let f = by-value t (begins-head b t k s e (head.Builtin built.Value) hd h) in
@@ -399,19 +400,19 @@ value-go b x s r hd i t k e a h =
     let w3 : List Requirement = placed q (string_token n) ∷ w4 in
     let w2 : List Requirement = any (mark 40) ∷ w3 in
     let w1 : List Requirement = any (mark 125) ∷ w2 in
-    let d : Token = builtin (Some built.Value) in
+    let d : KoreToken = builtin (Some built.Value) in
     let u =
     placed-step p d (any (mark 123) ∷ spell_sort y w1) s e
-    (form b t (domain_value p y n q) k s e f.4 h) in
+    (form b t (value_written p y n q) k s e f.4 h) in
     let v = any-step (mark 123) (spell_sort y w1) (after s) e u.2 in
     let z = i.exact y w1 e refl v.1 in
     let m1 = any-step (mark 125) w2 r e z.1 in
     let m2 = any-step (mark 40) w3 (after r) e m1.1 in
     let m3 = placed-step q (string_token n) w4 (after (after r)) e m2.1 in
     let m4 = any-step (mark 41) k (after (after (after r))) e m3.2 in (
-      f.4 ∙ ap (λ v. domain_value v y n q) u.1 ∙ ap (λ v. domain_value (byte_of_next s) v n q) z.0
-          ∙ ap (λ v. domain_value (byte_of_next s) x (text_of v) q) (sym m3.0)
-          ∙ ap (domain_value (byte_of_next s) x (text_of (seen (after (after r))))) m3.1,
+      f.4 ∙ ap (λ v. value_written v y n q) u.1 ∙ ap (λ v. value_written (byte_of_next s) v n q) z.0
+          ∙ ap (λ v. value_written (byte_of_next s) x (text_of v) q) (sym m3.0)
+          ∙ ap (value_written (byte_of_next s) x (text_of (seen (after (after r))))) m3.1,
       m4.1,
     )
 
@@ -427,7 +428,7 @@ fold-go b l x s r hd i t k e a h =
     let w3 : List Requirement = spell_pattern b q w4 in
     let w2 : List Requirement = any (mark 40) ∷ w3 in
     let w1 : List Requirement = any (mark 125) ∷ w2 in
-    let d : Token = builtin (Some (built.Fold l)) in
+    let d : KoreToken = builtin (Some (built.Fold l)) in
     let g =
     given-step (is_foldable q) (placed p d ∷ any (mark 123) ∷ w1) s e
     (form b t (folded p l q) k s e f.2 h) in
@@ -500,7 +501,7 @@ pub binding-read : (at : ℕ) (o : Binder) (xs : List SortTree) (y z : PatternTr
     → Reads (spell_list spell_sort 125) xs s2 s3 → s4 ≡ after s3
     → ((b : Bool) → Reads (spell_pattern b) y s4 s5) → s6 ≡ after s5
     → ((b : Bool) → Reads (spell_pattern b) z s6 s7) → r ≡ after s7 → (b : Bool)
-    → Reads (spell_pattern b) (binding at o (sort_trees xs) y z) s r
+    → Reads (spell_pattern b) (binder_applied at o (sort_trees xs) y z) s r
 binding-read at o xs y z s s1 s2 s3 s4 s5 s6 s7 r hd e g h i l j m q w b =
     rw (e, w) (record {
       exact =
@@ -514,7 +515,7 @@ pub value-read : (at p : ℕ) (n : List ℕ) (x : SortTree) (s s1 s2 s3 s4 s5 s6
     → head_of (seen s) ≡ head.Builtin built.Value → at ≡ byte_of_next s → s1 ≡ after s
     → s2 ≡ after s1 → Reads spell_sort x s2 s3 → s4 ≡ after s3 → s5 ≡ after s4 → p ≡ byte_of_next s5
     → n ≡ text_of (seen s5) → s6 ≡ after s5 → r ≡ after s6 → (b : Bool)
-    → Reads (spell_pattern b) (domain_value at x n p) s r
+    → Reads (spell_pattern b) (value_written at x n p) s r
 value-read at p n x s s1 s2 s3 s4 s5 s6 r hd e g h i l m f q w v b =
     let c : s5 ≡ after (after s3) = m ∙ ap after l in
     let u1 : n ≡ text_of (seen (after (after s3))) = q ∙ ap (λ u. text_of (seen u)) c in

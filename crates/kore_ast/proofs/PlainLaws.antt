@@ -17,7 +17,7 @@ use Rattle.kore_ast.specs.declared.tree.PatForm.TheFolds.{fold-PatForm, fold-rol
 use Rattle.kore_ast.specs.declared.tree.PatForm.TheFolds.{fold-roll-PatForm}
 use Rattle.kore_text.specs.Trees.{SortTree, sort_parameter, sort_applied, sort_trees, PatternTree}
 use Rattle.kore_text.specs.Trees.{element_variable, set_variable, string, symbol_applied, connected}
-use Rattle.kore_text.specs.Trees.{binding, domain_value, folded, pattern_trees}
+use Rattle.kore_text.specs.Trees.{binder_applied, value_written, folded, pattern_trees}
 use Rattle.kore_ast.specs.Plain.{plain_sort, sort_form_step, sort_step, pattern_tree}
 use Rattle.kore_ast.specs.Plain.{pattern_form_step, pattern_step}
 
@@ -107,7 +107,7 @@ plain-pattern-Built at o ss ps =
 
 pub plain-pattern-Bound : (at : ℕ) (o : Binder) (ss : Vec Sort Global) (x p : Box Pat)
     → pattern_tree (pattern_view.roll-Pat (record { at = at; form = pattern_view.Bound o ss x p }))
-    ≡ binding at o (sort_trees (map plain_sort ss.items)) (pattern_tree x.value)
+    ≡ binder_applied at o (sort_trees (map plain_sort ss.items)) (pattern_tree x.value)
     (pattern_tree p.value)
 plain-pattern-Bound at o ss x p =
     fold-roll-Pat (ℕ → PatternTree) PatternTree pattern_form_step pattern_step
@@ -120,7 +120,7 @@ plain-pattern-Bound at o ss x p =
 
 pub plain-pattern-Value : (at : ℕ) (s : Sort) (n : List ℕ) (q : ℕ)
     → pattern_tree (pattern_view.roll-Pat (record { at = at; form = pattern_rolls.Value s n q }))
-    ≡ domain_value at (plain_sort s) n q
+    ≡ value_written at (plain_sort s) n q
 plain-pattern-Value at s n q =
     fold-roll-Pat (ℕ → PatternTree) PatternTree pattern_form_step pattern_step
     (record { at = at; form = pattern_rolls.Value s n q })

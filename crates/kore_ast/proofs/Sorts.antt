@@ -1,10 +1,10 @@
 -- What is read at a sort.
 use Rattle.std.proofs.Common.{◌≡◌, ℕ, Bool, true, false, List, [], ◌∷◌, map, refl, ap, sym, ◌∙◌}
 use Rattle.std.proofs.Common.{subst}
-use Rattle.kore_text.specs.TokenStream.{identifier, mark, Stream, end, fault, token}
+use Rattle.kore_text.specs.TokenStream.{identifier, mark, Stream, end, no_token_at, token}
 use Rattle.kore_text.specs.Trees.{SortTree, sort_parameter, sort_applied, SortTrees, no_sorts}
 use Rattle.kore_text.specs.Trees.{sort_then, sort_trees, listed_sorts}
-use Rattle.kore_text.specs.Grammar.{Requirement, placed, any, given, listed, spell_sort}
+use Rattle.kore_text.specs.Grammar.{Requirement, placed, any, provided, listed, spell_sort}
 use Rattle.kore_text.specs.Grammar.{spell_sorts}
 use Rattle.kore_text.specs.Apart.{Apart}
 use Rattle.kore_ast.specs.Streams.{after, byte_of_next, seen, has_mark, is_over, name_of}
@@ -41,9 +41,9 @@ sorts-exact xs s r h ss k e a g =
 pub apart-seen : (k : List Requirement) (s e : Stream) → Apart k e → Has k s e
     → has_mark 123 (seen s) ≡ false
 apart-seen [] s (end x) a h = ap (λ u. has_mark 123 (seen u)) (end-step s (end x) h)
-apart-seen [] s (fault x) a h = absurd a
+apart-seen [] s (no_token_at x) a h = absurd a
 apart-seen [] s (token t p q) a h = absurd a
-apart-seen (given b ∷ ws) s e a h = apart-seen ws s e a (given-step b ws s e h).1
+apart-seen (provided b ∷ ws) s e a h = apart-seen ws s e a (given-step b ws s e h).1
 apart-seen (any t ∷ ws) s e a h = ap (has_mark 123) (any-step t ws s e h).0 ∙ a
 apart-seen (placed p t ∷ ws) s e a h = ap (has_mark 123) (placed-step p t ws s e h).0 ∙ a
 

@@ -3,7 +3,7 @@ use Rattle.std.specs.Prelude.{ℕ, List, [], ◌∷◌, drop}
 use Rattle.kore_lex.specs.declared.lexer.TokenKind.TheVariants.{Ident, SetIdent, Text}
 use Rattle.kore_text.specs.declared.tokens.Next.{Next}
 use Rattle.kore_text.specs.declared.tokens.Next.TheVariants as next
-use Rattle.kore_text.specs.TokenStream.{token_of, Stream, end, fault, token}
+use Rattle.kore_text.specs.TokenStream.{token_of, Stream, end, no_token_at, token}
 
 -- the bytes of an identifier; empty for any other token
 abbrev pub name_bytes : Next → List ℕ
@@ -24,4 +24,4 @@ string_bytes_of _ = 34 ∷ 34 ∷ []
 abbrev pub first : Next → Stream → Stream
 first (next.Token kind at bytes) s = token (token_of kind bytes.now) at s
 first (next.End at) s = end at
-first (next.Fault at) s = fault at
+first (next.Fault at) s = no_token_at at

@@ -2,11 +2,12 @@
 use Rattle.std.specs.Prelude.{ℕ, map}
 use Rattle.kore_text.specs.Trees.{SortTree, sort_parameter, sort_applied, sort_trees, PatternTree}
 use Rattle.kore_text.specs.Trees.{element_variable, set_variable, string, symbol_applied, connected}
-use Rattle.kore_text.specs.Trees.{binding, domain_value, folded, pattern_trees, ImportDeclaration}
-use Rattle.kore_text.specs.Trees.{SortDeclaration, SymbolDeclaration, AliasDeclaration}
-use Rattle.kore_text.specs.Trees.{AxiomDeclaration, Declaration, import_declaration}
-use Rattle.kore_text.specs.Trees.{sort_declaration, symbol_declaration, alias_declaration}
-use Rattle.kore_text.specs.Trees.{axiom_declaration, claim_declaration, ModuleTree, DefinitionTree}
+use Rattle.kore_text.specs.Trees.{binder_applied, value_written, folded, pattern_trees}
+use Rattle.kore_text.specs.Trees.{ImportDeclaration, SortDeclaration, SymbolDeclaration}
+use Rattle.kore_text.specs.Trees.{AliasDeclaration, AxiomDeclaration, Declaration}
+use Rattle.kore_text.specs.Trees.{import_declaration, sort_declaration, symbol_declaration}
+use Rattle.kore_text.specs.Trees.{alias_declaration, axiom_declaration, claim_declaration}
+use Rattle.kore_text.specs.Trees.{ModuleTree, DefinitionTree}
 use Rattle.kore_ast.specs.declared.tree.Sort.{Sort}
 use Rattle.kore_ast.specs.declared.tree.SortForm.TheOpen.{SortForm-F, Sort-F}
 use Rattle.kore_ast.specs.declared.tree.SortForm.TheOpen as sort_layer
@@ -46,8 +47,8 @@ pattern_form_step (pattern_layer.App n ss ps) at =
 pattern_form_step (pattern_layer.Built op ss ps) at =
     connected at op (sort_trees (map plain_sort ss.items)) (pattern_trees ps.items)
 pattern_form_step (pattern_layer.Bound b ss x p) at =
-    binding at b (sort_trees (map plain_sort ss.items)) x.value p.value
-pattern_form_step (pattern_layer.Value s t place) at = domain_value at (plain_sort s) t place
+    binder_applied at b (sort_trees (map plain_sort ss.items)) x.value p.value
+pattern_form_step (pattern_layer.Value s t place) at = value_written at (plain_sort s) t place
 pattern_form_step (pattern_layer.Fold left p) at = folded at left p.value
 
 abbrev pub pattern_step : Pat-F (ℕ → PatternTree) PatternTree → PatternTree

@@ -6,7 +6,7 @@ ghost use Rattle.std.specs.Prelude.{IfOk, OnOk, drop};
 ghost use Rattle.std.specs.Str.{is_utf8};
 ghost use Rattle.kore_lex.specs.Tokens.{IsString};
 ghost use Rattle.kore_ast.specs.Known.{name_bytes, set_name_bytes, string_bytes_of};
-ghost use Rattle.kore_text.specs.TokenStream.{tokens_of};
+ghost use Rattle.kore_text.specs.TokenStream.{token_stream};
 ghost use Rattle.kore_ast.specs.Keywords.{keyword_at};
 
 use crate::text::Text;
@@ -58,7 +58,7 @@ impl<'a> Reader<'a> {
     #[tactic(auto, using(crate::proofs::Heads::comes_first, crate::proofs::Heads::comes_name, crate::proofs::Heads::comes_set_name, crate::proofs::Heads::comes_string))]
     pub(crate) fn new(alloc: Global, text: &'a [u8]) -> Reader<'a>
         requires { length text.now < 2 ^ 32 }
-        ensures { left result ≡ tokens_of text.now }
+        ensures { left result ≡ token_stream text.now }
     {
         let mut tokens = Tokens::new(text);
         let next = tokens.next();

@@ -4,15 +4,16 @@ use Rattle.std.proofs.Common.{◌≡◌, ℕ, Bool, true, false, ◌||◌, ◌&&
 use Rattle.std.specs.Prelude.{not}
 use Rattle.std.proofs.lemmas.Bool.{false≢true}
 use Rattle.kore_text.specs.Trees.{SortTree, PatternTree, element_variable, set_variable, string}
-use Rattle.kore_text.specs.Trees.{symbol_applied, connected, binding, domain_value, folded}
+use Rattle.kore_text.specs.Trees.{symbol_applied, connected, binder_applied, value_written, folded}
 use Rattle.kore_text.specs.Trees.{PatternTrees, no_patterns, pattern_then, listed_patterns}
 use Rattle.kore_check.specs.Folds.{Unfolded, Unfoldeds, no_more, and_more, named_variable}
 use Rattle.kore_check.specs.Folds.{written_value, applied_symbol, other_form, standing_at}
 use Rattle.kore_check.specs.Folds.{applied_to_two, folded_left, folded_right, fold_of, only_of}
 use Rattle.kore_check.specs.Folds.{unfolded, inner_fold, all_unfolded}
 use Rattle.kore_check.specs.Applicative.{IsApplicative, AreApplicative}
-use Rattle.kore_shapes.specs.Forms.{conjunctions, others, all_forms, covers, has_form, have_form}
-use Rattle.kore_shapes.specs.Forms.{fold_has_form, is_one, is_none, has_binder, have_binder}
+use Rattle.kore_shapes.specs.Forms.{only_conjunctions, others, all_forms, covers, has_form}
+use Rattle.kore_shapes.specs.Forms.{have_form, fold_has_form, is_one, is_none, has_binder}
+use Rattle.kore_shapes.specs.Forms.{have_binder}
 
 pub neither : (a b : Bool) → (a || b) ≡ false → (a ≡ false) × (b ≡ false)
 neither true b h = absurd (false≢true (sym h))
@@ -59,8 +60,8 @@ mutual
   applicative (symbol_applied at n ss ps) h b = all_applicative ps h b
   applicative (connected at op ss ps) h b =
       absurd (false≢true (sym (neither true (have_form all_forms ps) h).0))
-  applicative (binding at c ss x p) h b = absurd (false≢true (sym b))
-  applicative (domain_value at s text byte) h b = tt
+  applicative (binder_applied at c ss x p) h b = absurd (false≢true (sym b))
+  applicative (value_written at s text byte) h b = tt
   applicative (folded at left p) h b = standing at (inner_fold left p) (fold_applicative left p h b)
 
   pub all_applicative : (ps : PatternTrees) → have_form all_forms ps ≡ false
@@ -82,8 +83,8 @@ mutual
   fold_applicative left (connected at op ss ps) h b =
       let both = neither _ _ h in
       only_is at ps both.0 (all_applicative ps both.1 b)
-  fold_applicative left (binding at c ss x p) h b = absurd (false≢true (sym h))
-  fold_applicative left (domain_value at s text byte) h b = absurd (false≢true (sym h))
+  fold_applicative left (binder_applied at c ss x p) h b = absurd (false≢true (sym h))
+  fold_applicative left (value_written at s text byte) h b = absurd (false≢true (sym h))
   fold_applicative left (folded at other p) h b = absurd (false≢true (sym h))
 
 -- ---- `\and`, and the other forms
@@ -100,20 +101,21 @@ never_both true h k = false≢true (sym k)
 never_both false h k = false≢true (sym h)
 
 mutual
-  pub two_forms : (p : PatternTree) → has_form others p ≡ false → has_form conjunctions p ≡ false
+  pub two_forms : (p : PatternTree) → has_form others p ≡ false → has_form only_conjunctions p
+      ≡ false
       → has_form all_forms p ≡ false
   two_forms (element_variable at n s) h k = refl
   two_forms (set_variable at n s) h k = refl
   two_forms (string at text) h k = h
   two_forms (symbol_applied at n ss ps) h k = all_two_forms ps h k
   two_forms (connected at op ss ps) h k =
-      absurd (never_both (covers conjunctions op) (neither _ _ h).0 (neither _ _ k).0)
-  two_forms (binding at c ss x p) h k = two_forms p h k
-  two_forms (domain_value at s text byte) h k = refl
+      absurd (never_both (covers only_conjunctions op) (neither _ _ h).0 (neither _ _ k).0)
+  two_forms (binder_applied at c ss x p) h k = two_forms p h k
+  two_forms (value_written at s text byte) h k = refl
   two_forms (folded at left p) h k = fold_two_forms p h k
 
   all_two_forms : (ps : PatternTrees) → have_form others ps ≡ false
-      → have_form conjunctions ps ≡ false → have_form all_forms ps ≡ false
+      → have_form only_conjunctions ps ≡ false → have_form all_forms ps ≡ false
   all_two_forms no_patterns h k = refl
   all_two_forms (pattern_then p ps) h k =
       let first = neither _ _ h in
@@ -121,7 +123,7 @@ mutual
       either_false _ _ (two_forms p first.0 second.0) (all_two_forms ps first.1 second.1)
 
   fold_two_forms : (p : PatternTree) → fold_has_form others p ≡ false
-      → fold_has_form conjunctions p ≡ false → fold_has_form all_forms p ≡ false
+      → fold_has_form only_conjunctions p ≡ false → fold_has_form all_forms p ≡ false
   fold_two_forms (element_variable at n s) h k = h
   fold_two_forms (set_variable at n s) h k = h
   fold_two_forms (string at text) h k = h
@@ -133,8 +135,8 @@ mutual
       let first = neither _ _ h in
       let second = neither _ _ k in
       either_false _ _
-      (exhausted (not (is_one (listed_patterns ps))) (covers conjunctions op) first.0 second.0)
+      (exhausted (not (is_one (listed_patterns ps))) (covers only_conjunctions op) first.0 second.0)
       (all_two_forms ps first.1 second.1)
-  fold_two_forms (binding at c ss x p) h k = h
-  fold_two_forms (domain_value at s text byte) h k = h
+  fold_two_forms (binder_applied at c ss x p) h k = h
+  fold_two_forms (value_written at s text byte) h k = h
   fold_two_forms (folded at left p) h k = h

@@ -3,8 +3,8 @@ use Rattle.std.proofs.Common.{◌≡◌, Bool, true, false, ◌&&◌, List, [], 
 use Rattle.std.proofs.Common.{refl, sym, subst}
 use Rattle.std.proofs.lemmas.Bool.{false≢true}
 use Rattle.kore_text.specs.Trees.{SortTree, listed_sorts, PatternTree, element_variable}
-use Rattle.kore_text.specs.Trees.{set_variable, string, symbol_applied, connected, binding}
-use Rattle.kore_text.specs.Trees.{domain_value, folded, PatternTrees, no_patterns, pattern_then}
+use Rattle.kore_text.specs.Trees.{set_variable, string, symbol_applied, connected, binder_applied}
+use Rattle.kore_text.specs.Trees.{value_written, folded, PatternTrees, no_patterns, pattern_then}
 use Rattle.kore_text.specs.Trees.{listed_patterns}
 use Rattle.kore_text.specs.declared.names.Op.{Op}
 use Rattle.kore_text.specs.declared.names.Op.TheVariants.{Top, Bottom, Not, Next, And, Or, Implies}
@@ -18,7 +18,7 @@ use Rattle.kore_shapes.specs.Shapes.{main_part, Condition, always, tests, ill, c
 use Rattle.kore_shapes.specs.Shapes.{condition_with, given_condition, is_true_of, heads_condition}
 use Rattle.kore_shapes.specs.Shapes.{is_top}
 use Rattle.rule_core.specs.declared.signature.Signature.{Signature}
-use Rattle.kore_axioms.specs.Conditions.{is_bool, over_bool, tested}
+use Rattle.kore_axioms.specs.Conditions.{is_bool, over_bool, tested_pattern}
 use Rattle.kore_axioms.specs.RuleParts.{RuleParts, rule_parts, left_of, right_of}
 use Rattle.kore_axioms.proofs.ApplicativeLaws.{neither}
 
@@ -73,8 +73,8 @@ rewriting_binds_none (string at text) w e h = absurd (let never : ⊥ = cc in ne
 rewriting_binds_none (symbol_applied at n ss ps) w e h = absurd (let never : ⊥ = cc in never)
 rewriting_binds_none (connected at op ss ps) w e h =
     rewriting_binds op (listed_sorts ss) (listed_patterns ps) w e (each_binds_none ps h)
-rewriting_binds_none (binding at b ss x p) w e h = absurd (false≢true (sym h))
-rewriting_binds_none (domain_value at s text place) w e h = absurd (let never : ⊥ = cc in never)
+rewriting_binds_none (binder_applied at b ss x p) w e h = absurd (false≢true (sym h))
+rewriting_binds_none (value_written at s text place) w e h = absurd (let never : ⊥ = cc in never)
 rewriting_binds_none (folded at left p) w e h = absurd (let never : ⊥ = cc in never)
 
 -- ---- the patterns of a side
@@ -125,8 +125,8 @@ side_binds_none test s (element_variable at n t) h = h
 side_binds_none test s (set_variable at n t) h = h
 side_binds_none test s (string at text) h = h
 side_binds_none test s (symbol_applied at n ss ps) h = h
-side_binds_none test s (binding at b ss x p) h = h
-side_binds_none test s (domain_value at t text place) h = h
+side_binds_none test s (binder_applied at b ss x p) h = h
+side_binds_none test s (value_written at t text place) h = h
 side_binds_none test s (folded at left p) h = h
 
 pub main_binds_none : (s : Side) → SideBindsNone s → NoneBinds (main_part s)
@@ -192,8 +192,8 @@ condition_of_binds s (string at text) h = tt
 condition_of_binds s (symbol_applied at n ss ps) h = tt
 condition_of_binds s (connected at op ts ps) h =
     condition_binds s op (listed_sorts ts) (listed_patterns ps) (each_binds_none ps h)
-condition_of_binds s (binding at b ss x p) h = tt
-condition_of_binds s (domain_value at t text place) h = tt
+condition_of_binds s (binder_applied at b ss x p) h = tt
+condition_of_binds s (value_written at t text place) h = tt
 condition_of_binds s (folded at left p) h = tt
 
 given_binds : (s : SortTree) (o : Option PatternTree) → NoneBinds o
@@ -210,7 +210,7 @@ over_binds sig (tests t b) h = by_case (is_bool sig t) where
   by_case true = h
   by_case false = tt
 
-tested_binds : (c : Condition) → ConditionBindsNone c → NoneBinds (tested c)
+tested_binds : (c : Condition) → ConditionBindsNone c → NoneBinds (tested_pattern c)
 tested_binds always h = λ q e. absurd (let never : ⊥ = cc in never)
 tested_binds (tests t b) h =
     λ q e. subst (λ (x : PatternTree). has_binder x ≡ false) (let same : b ≡ q = cc in same) h
@@ -218,7 +218,7 @@ tested_binds ill h = λ q e. absurd (let never : ⊥ = cc in never)
 
 -- the pattern that a condition over sorts of truth values tests
 pub test_binds_none : (sig : Signature) (s : SortTree) (o : Option PatternTree) → NoneBinds o
-    → NoneBinds (tested (over_bool sig (given_condition s o)))
+    → NoneBinds (tested_pattern (over_bool sig (given_condition s o)))
 test_binds_none sig s o none = tested_binds _ (over_binds sig _ (given_binds s o none))
 
 -- ---- the parts of a rule
@@ -226,7 +226,7 @@ test_binds_none sig s o none = tested_binds _ (over_binds sig _ (given_binds s o
 pub record PartsBindNone (w : RuleParts) : Type 0 where
   pub left : NoneBinds (left_of w)
   pub right : NoneBinds (right_of w)
-  pub test : NoneBinds (tested w.condition)
+  pub test : NoneBinds (tested_pattern w.condition)
 
 pub parts_bind_none : (sig : Signature) (p : PatternTree) (v : Rewriting) → rewriting p ≡ Some v
     → has_binder p ≡ false → PartsBindNone (rule_parts sig v)

@@ -12,7 +12,7 @@ use Rattle.std.proofs.lemmas.List.Folds.{list_any-append}
 use Rattle.std.proofs.lemmas.Slice.Eq.{bytes_eq-Decides}
 use Rattle.kore_text.specs.Trees.{SortTree, sort_parameter, sort_applied, no_sorts, sort_then}
 use Rattle.rule_core.proofs.Belows.{both_true, true_both}
-use Rattle.rule_core.specs.Named.{number_of}
+use Rattle.rule_core.specs.Named.{number_of_name}
 use Rattle.rule_core.specs.declared.signature.Signature.{Signature}
 use Rattle.rule_core.specs.declared.signature.SortInfo.{SortInfo}
 use Rattle.kore_sig.specs.FirstFault.{Fault, unless}
@@ -25,7 +25,7 @@ use Rattle.rule_core.specs.declared.signature.SortRef.{SortRef}
 use Rattle.kore_check.specs.PatternMeanings.{variable_number, with_variable, with_variables}
 use Rattle.kore_check.specs.PatternMeanings.{with_all_variables}
 use Rattle.kore_shapes.specs.SameSorts.{same_sort}
-use Rattle.kore_axioms.specs.Uses.{occurs_in, occurs_in_some, is_bound_by, are_bound_by}
+use Rattle.kore_axioms.specs.Uses.{occurs_in_pattern, occurs_in_some, is_bound_by, are_bound_by}
 
 -- ---- sorts
 
@@ -36,7 +36,7 @@ same_number sorts (sort_parameter at n) (sort_parameter place m) h = refl
 same_number sorts (sort_parameter at n) (sort_applied place m ts) h = absurd (false≢true h)
 same_number sorts (sort_applied at n ss) (sort_parameter place m) h = absurd (false≢true h)
 same_number sorts (sort_applied at n no_sorts) (sort_applied place m no_sorts) h =
-    ap (number_of sorts) ((bytes_eq-Decides n m).0 (both_true _ _ h).0)
+    ap (number_of_name sorts) ((bytes_eq-Decides n m).0 (both_true _ _ h).0)
 same_number sorts (sort_applied at n no_sorts) (sort_applied place m (sort_then t ts)) h =
     absurd (false≢true (both_true _ _ h).1)
 same_number sorts (sort_applied at n (sort_then s ss)) (sort_applied place m no_sorts) h =
@@ -179,7 +179,7 @@ either false b h f g = g h
 -- a variable that occurs in a pattern is numbered
 mutual
   covers : (sig : Signature) (vars : List (List ℕ × ℕ)) (q : Unfolded) (name : List ℕ)
-      (t : SortTree) (s : ℕ) → occurs_in name t q ≡ true → sort_number sig.sorts t ≡ Some s
+      (t : SortTree) (s : ℕ) → occurs_in_pattern name t q ≡ true → sort_number sig.sorts t ≡ Some s
       → has (with_variables sig vars q) name s ≡ true
   covers sig vars (named_variable at n u) name t s h e =
       let both = both_true _ _ h in
@@ -197,7 +197,7 @@ mutual
       → sort_number sig.sorts t ≡ Some s → has (with_all_variables sig vars qs) name s ≡ true
   all_cover sig vars no_more name t s h e = absurd (false≢true h)
   all_cover sig vars (and_more q qs) name t s h e =
-      either (occurs_in name t q) (occurs_in_some name t qs) h
+      either (occurs_in_pattern name t q) (occurs_in_some name t qs) h
       (λ here.
       all_kept sig (with_variables sig vars q) qs name s (covers sig vars q name t s here e))
       (λ later. all_cover sig (with_variables sig vars q) qs name t s later e)
@@ -209,11 +209,12 @@ OccursAs sig name s occurs = (t : SortTree) × (occurs t ≡ true) × (sort_numb
 added_only : (sig : Signature) (vars : List (List ℕ × ℕ)) (at : ℕ) (n : List ℕ) (u : SortTree)
     (name : List ℕ) (s : ℕ) (o : Option ℕ) → sort_number sig.sorts u ≡ o
     → has (with_variable vars n o) name s ≡ true
-    → (has vars name s ≡ true) ⊎ OccursAs sig name s (λ t. occurs_in name t (named_variable at n u))
+    → (has vars name s ≡ true) ⊎ OccursAs sig name s (λ t.
+    occurs_in_pattern name t (named_variable at n u))
 added_only sig vars at n u name s None e h = inl h
 added_only sig vars at n u name s (Some k) e h = by_case (has vars n k) refl where
   new : is_one name s (n, k) ≡ true
-      → OccursAs sig name s (λ t. occurs_in name t (named_variable at n u))
+      → OccursAs sig name s (λ t. occurs_in_pattern name t (named_variable at n u))
   new is =
       let both = both_true _ _ is in (
         u,
@@ -224,7 +225,7 @@ added_only sig vars at n u name s (Some k) e h = by_case (has vars n k) refl whe
 
   by_case : (b : Bool) → has vars n k ≡ b
       → (has vars name s ≡ true)
-      ⊎ OccursAs sig name s (λ t. occurs_in name t (named_variable at n u))
+      ⊎ OccursAs sig name s (λ t. occurs_in_pattern name t (named_variable at n u))
   by_case true was =
       inl (ap (λ (vs : List (List ℕ × ℕ)). has vs name s) (sym (unchanged vars n k was)) ∙ h)
   by_case false was =
@@ -238,7 +239,7 @@ added_only sig vars at n u name s (Some k) e h = by_case (has vars n k) refl whe
 mutual
   only : (sig : Signature) (vars : List (List ℕ × ℕ)) (q : Unfolded) (name : List ℕ) (s : ℕ)
       → has (with_variables sig vars q) name s ≡ true
-      → (has vars name s ≡ true) ⊎ OccursAs sig name s (λ t. occurs_in name t q)
+      → (has vars name s ≡ true) ⊎ OccursAs sig name s (λ t. occurs_in_pattern name t q)
   only sig vars (named_variable at n u) name s h =
       added_only sig vars at n u name s (sort_number sig.sorts u) refl h
   only sig vars (written_value at u text byte) name s h = inl h
@@ -253,14 +254,14 @@ mutual
       ⊎_elim
       (λ before. ⊎_elim (λ was. inl was) (λ found. inr (found.0, or_true _ _ found.1, found.2))
       (only sig vars q name s before))
-      (λ found. inr (found.0, true_or (occurs_in name found.0 q) _ found.1, found.2))
+      (λ found. inr (found.0, true_or (occurs_in_pattern name found.0 q) _ found.1, found.2))
       (all_only sig (with_variables sig vars q) qs name s h)
 
 -- a variable occurs in a pattern with any way to write its sort
 mutual
   written_so : (sig : Signature) (q : Unfolded) (name : List ℕ) (t u : SortTree) (s : ℕ)
       → sort_number sig.sorts t ≡ Some s → sort_number sig.sorts u ≡ Some s
-      → occurs_in name t q ≡ true → occurs_in name u q ≡ true
+      → occurs_in_pattern name t q ≡ true → occurs_in_pattern name u q ≡ true
   written_so sig (named_variable at n v) name t u s e f h =
       let both = both_true _ _ h in
       true_both _ _ both.0
@@ -275,9 +276,9 @@ mutual
       → occurs_in_some name t qs ≡ true → occurs_in_some name u qs ≡ true
   all_written_so sig no_more name t u s e f h = absurd (false≢true h)
   all_written_so sig (and_more q qs) name t u s e f h =
-      either (occurs_in name t q) (occurs_in_some name t qs) h
+      either (occurs_in_pattern name t q) (occurs_in_some name t qs) h
       (λ here. or_true _ _ (written_so sig q name t u s e f here))
-      (λ later. true_or (occurs_in name u q) _ (all_written_so sig qs name t u s e f later))
+      (λ later. true_or (occurs_in_pattern name u q) _ (all_written_so sig qs name t u s e f later))
 
 -- ---- patterns over given patterns
 

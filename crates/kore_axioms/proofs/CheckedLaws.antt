@@ -11,10 +11,10 @@ use Rattle.kore_check.specs.Folds.{unfolded}
 use Rattle.kore_check.specs.PatternMeanings.{with_variables, Means}
 use Rattle.kore_check.specs.VariableNames.{named_sorts}
 use Rattle.kore_shapes.specs.Shapes.{Rewriting}
-use Rattle.kore_axioms.specs.AxiomClasses.{rewrites, class_of}
+use Rattle.kore_axioms.specs.AxiomClasses.{rewrites, axiom_class}
 use Rattle.kore_axioms.specs.AxiomMeanings.{MeansTest}
 use Rattle.kore_axioms.specs.NamedRules.{MeansNamedRule}
-use Rattle.kore_axioms.specs.Conditions.{tested}
+use Rattle.kore_axioms.specs.Conditions.{tested_pattern}
 use Rattle.kore_axioms.specs.Priorities.{priority_of}
 use Rattle.kore_sig.specs.FirstFault.{Fault}
 use Rattle.kore_sig.specs.Noted.{first_by_number}
@@ -22,7 +22,8 @@ use Rattle.kore_sig.proofs.FirstLaws.{contains_none}
 use Rattle.kore_axioms.specs.BuiltRules.{FirstOfShape, IsBuiltOf}
 use Rattle.kore_axioms.specs.Refusals.{Refuses}
 use Rattle.kore_axioms.specs.RuleForms.{form_faults}
-use Rattle.kore_axioms.specs.RuleFaults.{sorted_faults, use_faults, listed, is_bound, FirstOfParts}
+use Rattle.kore_axioms.specs.RuleFaults.{sorted_faults, use_faults, listed_pattern, is_bound}
+use Rattle.kore_axioms.specs.RuleFaults.{FirstOfParts}
 use Rattle.kore_axioms.specs.RuleParts.{RuleParts, rule_parts, left_of, right_of}
 use Rattle.kore_axioms.specs.declared.refusals.Refusal.{Refusal}
 use Rattle.kore_axioms.specs.declared.refusals.Refusal.TheVariants.{Refused, Memory}
@@ -68,14 +69,15 @@ not_false false h = sym h
 -- if the uses have no fault, all variables are bound
 pub all_bound : (sig : Signature) (first : Option SortTree) (at : ℕ) (s : SortTree) (w : RuleParts)
     → first_by_number (use_faults sig first at s w) ≡ None
-    → (is_bound (listed (left_of w)) (tested w.condition)
-    && is_bound (listed (left_of w)) (right_of w)) ≡ true
+    → (is_bound (listed_pattern (left_of w)) (tested_pattern w.condition)
+    && is_bound (listed_pattern (left_of w)) (right_of w)) ≡ true
 all_bound sig first at s w e =
     let one = not_raised _ 12 at _ (none_by_number (use_faults sig first at s w) e) in
     let two = not_raised _ 14 at _ one.1 in
     let three =
-    not_raised (not (is_bound (listed
-    (left_of w)) (tested w.condition) && is_bound (listed (left_of w)) (right_of w))) 18
+    not_raised (not (is_bound (listed_pattern
+    (left_of w)) (tested_pattern w.condition)
+    && is_bound (listed_pattern (left_of w)) (right_of w))) 18
     at _ two.1 in
     not_false _ three.0
 
@@ -86,7 +88,7 @@ sorts_named (v ∷ vars) = ap (λ (ss : List ℕ). v.sort.0 ∷ ss) (sorts_named
 
 -- the patterns that are built of bound parts are the rule that the axiom means
 pub rule_meant : (sig : Signature) (a : AxiomDeclaration) (v : Rewriting) (made : RulePatterns)
-    (n : ℕ) → class_of sig a ≡ rewrites v → IsBuiltOf sig (rule_parts sig v) made
+    (n : ℕ) → axiom_class sig a ≡ rewrites v → IsBuiltOf sig (rule_parts sig v) made
     → made.bound ≡ true → n ≡ priority_of a.attributes
     → MeansNamedRule sig a (record {
       at = a.at;
@@ -110,7 +112,8 @@ rule_meant sig a v made n class b bound stated = record {
         subst (λ (vs : List (List ℕ × ℕ)). Means sig vs (unfolded b.left) (plain_pattern made.left))
         (b.numbered bound) (b.means_left bound);
     means_condition =
-        subst (λ (vs : List (List ℕ × ℕ)). MeansTest sig vs (tested (rule_parts sig v).condition)
+        subst (λ (vs : List (List ℕ × ℕ)).
+            MeansTest sig vs (tested_pattern (rule_parts sig v).condition)
         (option_map plain_pattern made.cond)) (b.numbered bound)
         (b.means_condition bound);
     means_right =

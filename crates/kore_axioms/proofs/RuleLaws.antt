@@ -9,16 +9,16 @@ use Rattle.kore_sig.specs.FirstFault.{Fault, when}
 use Rattle.kore_sig.specs.SortReferences.{sort_number}
 use Rattle.kore_check.specs.Folds.{unfolded}
 use Rattle.kore_check.specs.PatternFaults.{pattern_faults}
-use Rattle.kore_shapes.specs.Forms.{conjunctions, others, all_forms, has_form, has_binder}
+use Rattle.kore_shapes.specs.Forms.{only_conjunctions, others, all_forms, has_form, has_binder}
 use Rattle.kore_shapes.specs.Shapes.{Rewriting, rewriting, Side, alone, beside, without, misshapen}
 use Rattle.kore_shapes.specs.Shapes.{Condition, always, tests, ill, main_part}
-use Rattle.kore_axioms.specs.Conditions.{tested, is_ill}
+use Rattle.kore_axioms.specs.Conditions.{tested_pattern, is_ill}
 use Rattle.kore_axioms.specs.RuleParts.{RuleParts, rule_parts, left_of, right_of}
 use Rattle.kore_axioms.specs.AxiomClasses.{AxiomClass, refused, orders_sorts, rewrites, equates}
 use Rattle.kore_axioms.specs.AxiomClasses.{passed_over, takes_equations, is_no_equation}
-use Rattle.kore_axioms.specs.AxiomClasses.{class_of_statement, class_of_pattern, class_of}
+use Rattle.kore_axioms.specs.AxiomClasses.{class_of_statement, class_of_pattern, axiom_class}
 use Rattle.kore_check.specs.PatternSorts.{symbol_named}
-use Rattle.kore_shapes.specs.Statements.{Statement, statement}
+use Rattle.kore_shapes.specs.Statements.{StatedEquation, stated_equation}
 use Rattle.kore_axioms.specs.RuleForms.{holds_of, is_misshapen, is_without, has_bad_form}
 use Rattle.kore_axioms.specs.RuleForms.{form_faults}
 use Rattle.kore_axioms.specs.RuleFaults.{side_faults, condition_faults, sorted_faults}
@@ -40,7 +40,7 @@ pub record IsWellFormed (a : AxiomDeclaration) (w : RuleParts) : Type 0 where
   pub after : is_without w.after ≡ false
   pub before : is_without w.before ≡ false
   pub condition : is_ill w.condition ≡ false
-  pub conjunction : holds_of (has_form conjunctions) (left_of w) ≡ false
+  pub conjunction : holds_of (has_form only_conjunctions) (left_of w) ≡ false
 
 pub well_formed : (a : AxiomDeclaration) (w : RuleParts) → form_faults a w ≡ [] → IsWellFormed a w
 well_formed a w h =
@@ -48,7 +48,7 @@ well_formed a w h =
     let two = not_raised (has_binder a.pattern) 15 a.at _ one.1 in
     let three = not_raised (is_without w.after) 16 a.at _ two.1 in
     let four = not_raised (is_without w.before || is_ill w.condition) 17 a.at _ three.1 in
-    let five = not_raised (holds_of (has_form conjunctions) (left_of w)) 22 a.at _ four.1 in
+    let five = not_raised (holds_of (has_form only_conjunctions) (left_of w)) 22 a.at _ four.1 in
     let condition = neither (is_without w.before) (is_ill w.condition) four.0 in
     record {
       form = one.0;
@@ -79,7 +79,7 @@ clear_at sig wanted o p e h =
     let here : side_faults sig wanted (Some p) ≡ [] = sym (ap (side_faults sig wanted) e) ∙ h in
     (no_faults _ _ (no_faults _ _ here).0).1
 
-pub clear_test : (sig : Signature) (c : Condition) (p : PatternTree) → tested c ≡ Some p
+pub clear_test : (sig : Signature) (c : Condition) (p : PatternTree) → tested_pattern c ≡ Some p
     → condition_faults sig c ≡ [] → pattern_faults sig (unfolded p) ≡ []
 clear_test sig always p e h = absurd (let never : ⊥ = cc in never)
 clear_test sig (tests t b) p e h =
@@ -107,7 +107,7 @@ fine sig a s w form sorts binds =
       left_form =
           applicative left.0 (two_forms left.0
           (held (has_form others) (left_of w) left.0 left.1 odd.0)
-          (held (has_form conjunctions) (left_of w) left.0 left.1 well.conjunction))
+          (held (has_form only_conjunctions) (left_of w) left.0 left.1 well.conjunction))
           (binds.left left.0 left.1);
       left_clear = clear_at sig (sort_number sig.sorts s) (left_of w) left.0 left.1 at_left.0;
       right = right.0;
@@ -117,7 +117,7 @@ fine sig a s w form sorts binds =
           (binds.right right.0 right.1);
       right_clear = clear_at sig (sort_number sig.sorts s) (right_of w) right.0 right.1 at_right.0;
       test_form =
-          λ p e. applicative p (held (has_form all_forms) (tested w.condition) p e rest.0)
+          λ p e. applicative p (held (has_form all_forms) (tested_pattern w.condition) p e rest.0)
           (binds.test p e);
       test_clear = λ p e. clear_test sig w.condition p e at_test.0;
     }
@@ -134,7 +134,7 @@ class_ordered : (b : Bool) (c : AxiomClass) (w : Rewriting)
 class_ordered true c w e = absurd (let never : ⊥ = cc in never)
 class_ordered false c w e = e
 
-no_rewriting : (sig : Signature) (attributes : List PatternTree) (o : Option Statement)
+no_rewriting : (sig : Signature) (attributes : List PatternTree) (o : Option StatedEquation)
     (w : Rewriting) → class_of_statement sig attributes o ≡ rewrites w → ⊥
 no_rewriting sig attributes None w e = let never : ⊥ = cc in never
 no_rewriting sig attributes (Some st) w e =
@@ -146,19 +146,19 @@ no_rewriting sig attributes (Some st) w e =
 
 of_pattern : (sig : Signature) (a : AxiomDeclaration) (o : Option Rewriting) (w : Rewriting)
     → class_of_pattern sig a o ≡ rewrites w → o ≡ Some w
-of_pattern sig a None w e = absurd (no_rewriting sig a.attributes (statement a.pattern) w e)
+of_pattern sig a None w e = absurd (no_rewriting sig a.attributes (stated_equation a.pattern) w e)
 of_pattern sig a (Some v) w e = ap (λ (x : Rewriting). Some x) (let same : v ≡ w = cc in same)
 
 -- a rewrite rule has the shape of one
 pub class_rewrites : (sig : Signature) (a : AxiomDeclaration) (w : Rewriting)
-    → class_of sig a ≡ rewrites w → rewriting a.pattern ≡ Some w
+    → axiom_class sig a ≡ rewrites w → rewriting a.pattern ≡ Some w
 class_rewrites sig a w e =
     of_pattern sig a (rewriting a.pattern) w
     (class_ordered _ _ w (class_refused _ 21 _ w (class_refused _ 20 _ w e)))
 
 -- a rule whose form and sorts have no fault is fine
 pub fine_rule : (sig : Signature) (a : AxiomDeclaration) (v : Rewriting)
-    → class_of sig a ≡ rewrites v → form_faults a (rule_parts sig v) ≡ []
+    → axiom_class sig a ≡ rewrites v → form_faults a (rule_parts sig v) ≡ []
     → sorted_faults sig v.sort (rule_parts sig v) ≡ [] → IsFine sig (rule_parts sig v)
 fine_rule sig a v class form sorts =
     fine sig a v.sort (rule_parts sig v) form sorts (parts_bind_none sig a.pattern v

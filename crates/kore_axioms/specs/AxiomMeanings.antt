@@ -7,8 +7,8 @@ use Rattle.rule_core.specs.declared.signature.Signature.{Signature}
 use Rattle.kore_check.specs.Folds.{unfolded}
 use Rattle.kore_check.specs.PatternMeanings.{with_variables, Means}
 use Rattle.kore_shapes.specs.Shapes.{Rewriting}
-use Rattle.kore_axioms.specs.AxiomClasses.{rewrites, class_of}
-use Rattle.kore_axioms.specs.Conditions.{tested}
+use Rattle.kore_axioms.specs.AxiomClasses.{rewrites, axiom_class}
+use Rattle.kore_axioms.specs.Conditions.{tested_pattern}
 use Rattle.kore_axioms.specs.RuleParts.{rule_parts, left_of, right_of}
 use Rattle.kore_axioms.specs.Priorities.{priority_of}
 
@@ -22,7 +22,7 @@ MeansTest _ _ _ _ = ⊥
 -- first occurrence.
 pub record MeansRule (sig : Signature) (a : AxiomDeclaration) (rule : RewriteRule) : Type 0 where
   pub shape : Rewriting
-  pub class : class_of sig a ≡ rewrites shape
+  pub class : axiom_class sig a ≡ rewrites shape
   pub left : PatternTree
   pub is_left : left_of (rule_parts sig shape) ≡ Some left
   pub right : PatternTree
@@ -30,7 +30,7 @@ pub record MeansRule (sig : Signature) (a : AxiomDeclaration) (rule : RewriteRul
   pub variables : List (List ℕ × ℕ)
   pub numbered : variables ≡ with_variables sig [] (unfolded left)
   pub means_left : Means sig variables (unfolded left) rule.left
-  pub means_condition : MeansTest sig variables (tested (rule_parts sig shape).condition)
+  pub means_condition : MeansTest sig variables (tested_pattern (rule_parts sig shape).condition)
       rule.condition
   pub means_right : Means sig variables (unfolded right) rule.right
   pub sorts : rule.variables ≡ map (λ (v : List ℕ × ℕ). v.1) variables

@@ -10,10 +10,10 @@ use Rattle.kore_check.specs.PatternFaults.{pattern_faults}
 use Rattle.kore_check.specs.PatternMeanings.{with_variables, Means}
 use Rattle.kore_check.specs.VariableNames.{named_sorts}
 use Rattle.kore_axioms.specs.AxiomMeanings.{MeansTest}
-use Rattle.kore_axioms.specs.Conditions.{tested}
+use Rattle.kore_axioms.specs.Conditions.{tested_pattern}
 use Rattle.kore_axioms.specs.RuleParts.{RuleParts, left_of, right_of}
 use Rattle.kore_axioms.specs.RuleForms.{form_faults}
-use Rattle.kore_axioms.specs.RuleFaults.{sorted_faults, listed, is_bound}
+use Rattle.kore_axioms.specs.RuleFaults.{sorted_faults, listed_pattern, is_bound}
 use Rattle.kore_axioms.specs.declared.rules.RulePatterns.{RulePatterns}
 
 -- the first fault of the form, or, if the form has none, the first fault of the sorts
@@ -35,8 +35,9 @@ pub record IsFine (sig : Signature) (w : RuleParts) : Type 0 where
   pub is_right : right_of w ≡ Some right
   pub right_form : IsApplicative (unfolded right)
   pub right_clear : pattern_faults sig (unfolded right) ≡ []
-  pub test_form : (p : PatternTree) → tested w.condition ≡ Some p → IsApplicative (unfolded p)
-  pub test_clear : (p : PatternTree) → tested w.condition ≡ Some p
+  pub test_form : (p : PatternTree) → tested_pattern w.condition ≡ Some p
+      → IsApplicative (unfolded p)
+  pub test_clear : (p : PatternTree) → tested_pattern w.condition ≡ Some p
       → pattern_faults sig (unfolded p) ≡ []
 
 -- The patterns are built of the two sides and of the tested pattern of the condition. If all
@@ -47,14 +48,14 @@ pub record IsBuiltOf (sig : Signature) (w : RuleParts) (made : RulePatterns) : T
   pub right : PatternTree
   pub is_right : right_of w ≡ Some right
   pub bound : made.bound
-      ≡ (is_bound (listed (left_of w)) (tested w.condition)
-      && is_bound (listed (left_of w)) (right_of w))
+      ≡ (is_bound (listed_pattern (left_of w)) (tested_pattern w.condition)
+      && is_bound (listed_pattern (left_of w)) (right_of w))
   pub numbered : made.bound ≡ true
       → named_sorts made.vars.items ≡ with_variables sig [] (unfolded left)
   pub means_left : made.bound ≡ true
       → Means sig (named_sorts made.vars.items) (unfolded left) (plain_pattern made.left)
   pub means_condition : made.bound ≡ true
-      → MeansTest sig (named_sorts made.vars.items) (tested w.condition)
+      → MeansTest sig (named_sorts made.vars.items) (tested_pattern w.condition)
       (option_map plain_pattern made.cond)
   pub means_right : made.bound ≡ true
       → Means sig (named_sorts made.vars.items) (unfolded right) (plain_pattern made.right)

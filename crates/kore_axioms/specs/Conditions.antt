@@ -27,9 +27,9 @@ over_bool sig (tests t b) = if is_bool sig t then tests t b else ill
 over_bool sig c = c
 
 -- the pattern that a condition tests, if it tests one
-abbrev pub tested : Condition → Option PatternTree
-tested (tests t b) = Some b
-tested _ = None
+abbrev pub tested_pattern : Condition → Option PatternTree
+tested_pattern (tests t b) = Some b
+tested_pattern _ = None
 
 abbrev pub is_ill : Condition → Bool
 is_ill ill = true

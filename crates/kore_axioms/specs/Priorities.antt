@@ -3,7 +3,7 @@
 use Rattle.std.specs.Prelude.{ℕ, List, Bool, ◌&&◌, length, Option, Some, None, if◌then◌else◌, codes}
 use Rattle.std.specs.Prelude.{nat_le, is_some, is_none}
 use Rattle.kore_text.specs.Trees.{PatternTree}
-use Rattle.kore_sig.specs.Attributes.{has_attribute, first_of_name, text_of}
+use Rattle.kore_sig.specs.Attributes.{has_attribute, first_of_name, attribute_text}
 use Rattle.kore_check.specs.ValueTexts.{number_of_digits}
 
 -- the number of a text of one to nine digits; none for any other text
@@ -14,7 +14,7 @@ short_number (Some text) = if nat_le (length text) 9 then number_of_digits text 
 -- the number of an attribute whose only argument is a text of one to nine digits
 abbrev pub stated_number : Option PatternTree → Option ℕ
 stated_number None = None
-stated_number (Some attribute) = short_number (text_of attribute)
+stated_number (Some attribute) = short_number (attribute_text attribute)
 
 -- the attribute that states a priority; if there are several, the first one
 abbrev pub stated_priority : List PatternTree → Option PatternTree

@@ -7,11 +7,11 @@ use Rattle.rule_core.specs.declared.signature.Signature.{Signature}
 use Rattle.kore_sig.specs.FirstFault.{Fault, ByByte, ByNumber, IsFirstBy, Then, faults_of_tests}
 use Rattle.kore_sig.specs.SortReferences.{sort_number}
 use Rattle.kore_check.specs.Folds.{Unfolded, Unfoldeds, no_more, and_more, unfolded_byte, unfolded}
-use Rattle.kore_check.specs.PatternSorts.{sort_of}
+use Rattle.kore_check.specs.PatternSorts.{sort_of_pattern}
 use Rattle.kore_check.specs.PatternFaults.{sort_faults, clash_faults, all_faults}
 use Rattle.kore_shapes.specs.SameSorts.{same_sort}
 use Rattle.kore_shapes.specs.Shapes.{Rewriting, Condition, always, tests, ill, found_part}
-use Rattle.kore_axioms.specs.Conditions.{tested}
+use Rattle.kore_axioms.specs.Conditions.{tested_pattern}
 use Rattle.kore_axioms.specs.RuleParts.{RuleParts, rule_parts, left_of, right_of}
 use Rattle.kore_axioms.specs.RuleForms.{holds_of, form_faults}
 use Rattle.kore_axioms.specs.Uses.{has_symbol, is_bound_by, is_plain_function, is_ac_symbol}
@@ -26,7 +26,7 @@ is_empty (f ∷ fs) = false
 -- the faults of a pattern that should have this sort
 abbrev pub faults_at_sort : Signature → Option ℕ → Unfolded → List Fault
 faults_at_sort sig wanted p =
-    all_faults sig p ++ clash_faults (unfolded_byte p) (sort_of sig p) wanted
+    all_faults sig p ++ clash_faults (unfolded_byte p) (sort_of_pattern sig p) wanted
 
 -- the faults of a side that should have this sort; none if there is no pattern
 abbrev pub side_faults : Signature → Option ℕ → Option PatternTree → List Fault
@@ -68,9 +68,9 @@ sorted_faults sig s w =
 -- ---- the uses
 
 -- a list of the pattern with its folds read; empty if there is no pattern
-abbrev pub listed : Option PatternTree → Unfoldeds
-listed None = no_more
-listed (Some p) = and_more (unfolded p) no_more
+abbrev pub listed_pattern : Option PatternTree → Unfoldeds
+listed_pattern None = no_more
+listed_pattern (Some p) = and_more (unfolded p) no_more
 
 -- each variable of the pattern occurs in one of these; true if there is no pattern
 abbrev pub is_bound : Unfoldeds → Option PatternTree → Bool
@@ -94,8 +94,9 @@ use_tests sig first s w = (
 )
     ∷ ((holds_of (λ (p : PatternTree). has_symbol (is_ac_symbol sig) (unfolded p)) (left_of w), 14)
     ∷ ((
-      not (is_bound (listed
-          (left_of w)) (tested w.condition) && is_bound (listed (left_of w)) (right_of w)),
+      not (is_bound (listed_pattern
+          (left_of w)) (tested_pattern w.condition)
+          && is_bound (listed_pattern (left_of w)) (right_of w)),
       18,
     )
     ∷ ((differs_from first s, 19) ∷ [])))

@@ -2,9 +2,9 @@
 use Rattle.std.specs.Prelude.{ℕ, List, [], ◌∷◌, Bool, true, false, ◌||◌, Option, Some, None}
 use Rattle.kore_text.specs.Trees.{PatternTree, AxiomDeclaration}
 use Rattle.kore_sig.specs.FirstFault.{Fault, faults_of_tests}
-use Rattle.kore_shapes.specs.Forms.{conjunctions, others, all_forms, has_form, has_binder}
+use Rattle.kore_shapes.specs.Forms.{only_conjunctions, others, all_forms, has_form, has_binder}
 use Rattle.kore_shapes.specs.Shapes.{Side, without, misshapen}
-use Rattle.kore_axioms.specs.Conditions.{tested, is_ill}
+use Rattle.kore_axioms.specs.Conditions.{tested_pattern, is_ill}
 use Rattle.kore_axioms.specs.RuleParts.{RuleParts, left_of, right_of}
 use Rattle.kore_axioms.specs.Priorities.{has_bad_priority}
 
@@ -27,7 +27,7 @@ abbrev pub has_bad_form : RuleParts → Bool
 has_bad_form w =
     (is_misshapen w.before || is_misshapen w.after)
     || (holds_of (has_form others) (left_of w)
-    || (holds_of (has_form all_forms) (tested w.condition)
+    || (holds_of (has_form all_forms) (tested_pattern w.condition)
     || holds_of (has_form all_forms) (right_of w)))
 
 -- The faults of the form, all at the axiom.
@@ -43,7 +43,7 @@ form_tests a w =
     ∷ ((has_binder a.pattern, 15)
     ∷ ((is_without w.after, 16)
     ∷ ((is_without w.before || is_ill w.condition, 17)
-    ∷ ((holds_of (has_form conjunctions) (left_of w), 22)
+    ∷ ((holds_of (has_form only_conjunctions) (left_of w), 22)
     ∷ ((has_bad_priority a.attributes, 23) ∷ [])))))
 
 abbrev pub form_faults : AxiomDeclaration → RuleParts → List Fault

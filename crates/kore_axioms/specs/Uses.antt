@@ -23,14 +23,14 @@ abbrev mutual
 -- a variable of this name and sort occurs in the pattern, or (`occurs_in_some`) in one of the
 -- patterns
 abbrev mutual
-  pub occurs_in : List ℕ → SortTree → Unfolded → Bool
-  occurs_in name s (named_variable at n t) = bytes_eq name n && same_sort s t
-  occurs_in name s (applied_symbol at byte f ss ps) = occurs_in_some name s ps
-  occurs_in name s p = false
+  pub occurs_in_pattern : List ℕ → SortTree → Unfolded → Bool
+  occurs_in_pattern name s (named_variable at n t) = bytes_eq name n && same_sort s t
+  occurs_in_pattern name s (applied_symbol at byte f ss ps) = occurs_in_some name s ps
+  occurs_in_pattern name s p = false
 
   pub occurs_in_some : List ℕ → SortTree → Unfoldeds → Bool
   occurs_in_some name s no_more = false
-  occurs_in_some name s (and_more p ps) = occurs_in name s p || occurs_in_some name s ps
+  occurs_in_some name s (and_more p ps) = occurs_in_pattern name s p || occurs_in_some name s ps
 
 -- each variable of the pattern, or (`are_bound_by`) of the patterns, occurs in one of the patterns
 -- `qs`

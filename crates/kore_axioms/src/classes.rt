@@ -11,7 +11,7 @@ ghost use Rattle.kore_axioms.specs.AxiomClasses.{is_no_equation as is_surely_non
 ghost use Rattle.kore_axioms.specs.AxiomClasses.{class_of_statement as the_class_of_statement};
 ghost use Rattle.kore_axioms.specs.AxiomClasses.{class_of_pattern as the_class_of_pattern};
 ghost use Rattle.kore_axioms.specs.AxiomClasses.{states_pairs as do_state_pairs};
-ghost use Rattle.kore_axioms.specs.AxiomClasses.{class_of as the_class};
+ghost use Rattle.kore_axioms.specs.AxiomClasses.{axiom_class as the_class};
 ghost use Rattle.kore_axioms.specs.ClassViews.{plain_class};
 
 use crate::faults::AxiomFault;

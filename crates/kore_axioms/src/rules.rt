@@ -10,16 +10,17 @@ ghost use Rattle.kore_sig.specs.Noted.{first_by_number};
 ghost use Rattle.kore_check.specs.Folds.{unfolded};
 ghost use Rattle.kore_check.specs.Applicative.{IsApplicative};
 ghost use Rattle.kore_shapes.specs.Views.{pattern_at, plain_rewriting};
-ghost use Rattle.kore_axioms.specs.AxiomClasses.{rewrites, class_of};
+ghost use Rattle.kore_axioms.specs.AxiomClasses.{rewrites, axiom_class};
 ghost use Rattle.kore_axioms.specs.AxiomMeanings.{MeansTest};
 ghost use Rattle.kore_axioms.specs.NamedRules.{with_some_variables, MeansNamedRule};
 ghost use Rattle.kore_axioms.specs.BuiltRules.{IsFine, IsBuiltOf, FirstOfShape};
 ghost use Rattle.kore_axioms.specs.Refusals.{Refuses};
-ghost use Rattle.kore_axioms.specs.Conditions.{tested as the_tested};
+ghost use Rattle.kore_axioms.specs.Conditions.{tested_pattern as the_tested};
 ghost use Rattle.kore_sig.specs.FirstFault.{faults_of_tests};
 ghost use Rattle.kore_axioms.specs.RuleForms.{holds_of, form_faults};
-ghost use Rattle.kore_axioms.specs.RuleFaults.{listed, is_bound, differs_from as does_differ};
-ghost use Rattle.kore_axioms.specs.RuleFaults.{use_tests, sorted_faults, FirstOfRule};
+ghost use Rattle.kore_axioms.specs.RuleFaults.{listed_pattern, is_bound};
+ghost use Rattle.kore_axioms.specs.RuleFaults.{differs_from as does_differ, use_tests};
+ghost use Rattle.kore_axioms.specs.RuleFaults.{sorted_faults, FirstOfRule};
 ghost use Rattle.kore_axioms.specs.RuleParts.{left_of, right_of};
 ghost use Rattle.kore_axioms.specs.UsedSymbols.{is_used};
 ghost use Rattle.kore_axioms.specs.Uses.{has_symbol as has_one};
@@ -48,9 +49,9 @@ fn use_fault(
     parts: RuleParts<'_>,
     bound: bool,
 ) -> Option<AxiomFault>
-    requires { bound ≡ (is_bound (listed (left_of (plain_rule_parts parts)))
+    requires { bound ≡ (is_bound (listed_pattern (left_of (plain_rule_parts parts)))
         (the_tested (plain_rule_parts parts).condition)
-        && is_bound (listed (left_of (plain_rule_parts parts)))
+        && is_bound (listed_pattern (left_of (plain_rule_parts parts)))
         (right_of (plain_rule_parts parts))) }
     ensures { (at : ℕ) → option_map (fault_at at) result
         ≡ first_by_number (faults_of_tests at
@@ -113,7 +114,7 @@ pub fn checked_rule(
 ) -> Result<Rule, Refusal>
     requires numbered { IsNumbered sig.now }
     requires signature { IsSignature sig.now }
-    requires class { class_of sig.now (plain_axiom_decl decl.now)
+    requires class { axiom_class sig.now (plain_axiom_decl decl.now)
         ≡ rewrites (plain_rewriting rewriting) }
     ensures clear { OnOk result
         (FirstOfRule sig.now (option_map (λ s. plain_sort s.now) first.entry)

@@ -15,7 +15,7 @@ use Rattle.kore_sig.specs.Noted.{noted, leads_by_byte}
 use Rattle.kore_check.specs.declared.faults.PatternFault.{PatternFault}
 use Rattle.kore_check.specs.Folds.{applied_symbol, Unfoldeds, unfolded_byte, count, unfolded}
 use Rattle.kore_check.specs.Folds.{all_unfolded}
-use Rattle.kore_check.specs.PatternSorts.{sort_numbers, sort_of, result_sort, symbol_named}
+use Rattle.kore_check.specs.PatternSorts.{sort_numbers, sort_of_pattern, result_sort, symbol_named}
 use Rattle.kore_check.specs.PatternSorts.{places_of}
 use Rattle.kore_check.specs.PatternFaults.{sort_faults, symbol_faults, pattern_faults}
 use Rattle.kore_check.specs.PatternFaults.{argument_faults, clash_faults, first_wanted}
@@ -51,13 +51,13 @@ pub application_sorted : (sig : Signature) (p : Pat) (n : List ℕ) (ss : Vec So
     (ps : Vec Pat Global) (symbol : Option SymInfo) (xs : List Sort) (own : Option ℕ)
     → p.form ≡ form.App n ss ps → symbol ≡ symbol_named sig n → xs ≡ ss.items
     → own ≡ result_sort symbol (map plain_sort xs) (sort_numbers sig (map plain_sort xs))
-    → own ≡ sort_of sig (unfolded (pattern_tree p))
+    → own ≡ sort_of_pattern sig (unfolded (pattern_tree p))
 application_sorted sig p n ss ps symbol xs own h is same known =
     known
     ∙ ap (λ s. result_sort s (map plain_sort xs) (sort_numbers sig (map plain_sort xs))) is
     ∙ ap (λ (ys : List Sort). result_sort (symbol_named sig n) (map plain_sort ys)
     (sort_numbers sig (map plain_sort ys))) same
-    ∙ sym (ap (sort_of sig) (application_unfolded p n ss ps h))
+    ∙ sym (ap (sort_of_pattern sig) (application_unfolded p n ss ps h))
 
 pub application_checked : (sig : Signature) (p : Pat) (n : List ℕ) (ss : Vec Sort Global)
     (ps : Vec Pat Global) (symbol : Option SymInfo) (xs zs : List Sort) (places : List SortRef)
@@ -104,7 +104,8 @@ pub argument_checked : (sig : Signature) (S : List SortTree) (places : List Sort
     (args : List Pat) (i : ℕ) (arg : Pat) (own wanted : Option ℕ)
     (first second third : Option PatternFault) (target : Option Fault) → i < length args
     → arg ≡ get_or args i arg → unfolded_byte (unfolded (pattern_tree arg)) ≡ arg.at
-    → own ≡ sort_of sig (unfolded (pattern_tree arg)) → wanted ≡ first_wanted sig S (drop i places)
+    → own ≡ sort_of_pattern sig (unfolded (pattern_tree arg)) → wanted
+    ≡ first_wanted sig S (drop i places)
     → kept_fault second ≡ after first (pattern_faults sig (unfolded (pattern_tree arg)))
     → kept_fault third ≡ after second (clash_faults arg.at own wanted)
     → after first (argument_faults sig S (drop i places) (reads (drop i args))) ≡ target
@@ -116,25 +117,26 @@ argument_checked sig S places args i arg own wanted first second third target lt
     let own_faults : List Fault = pattern_faults sig (unfolded (pattern_tree arg)) in
     let clashes : List Fault =
     clash_faults (unfolded_byte (unfolded (pattern_tree arg)))
-    (sort_of sig (unfolded (pattern_tree arg))) (first_wanted sig S (drop i places)) in
+    (sort_of_pattern sig (unfolded (pattern_tree arg))) (first_wanted sig S (drop i places)) in
     let clash : kept_fault third ≡ after second (clash_faults
-    (unfolded_byte (unfolded (pattern_tree arg))) (sort_of sig (unfolded (pattern_tree arg)))
+    (unfolded_byte (unfolded (pattern_tree arg)))
+    (sort_of_pattern sig (unfolded (pattern_tree arg)))
     (first_wanted sig S (drop i places))) =
     f ∙ ap (λ b. after second (clash_faults b own wanted)) (sym at)
     ∙ ap (λ o. after second (clash_faults (unfolded_byte (unfolded (pattern_tree arg))) o wanted))
     sorted
     ∙ ap (λ o. after second (clash_faults (unfolded_byte (unfolded (pattern_tree arg)))
-    (sort_of sig (unfolded (pattern_tree arg))) o)) want in
+    (sort_of_pattern sig (unfolded (pattern_tree arg))) o)) want in
     let joined : after third rest ≡ after first (pattern_faults sig (unfolded (pattern_tree arg))
     ++ (clash_faults (unfolded_byte (unfolded (pattern_tree arg)))
-    (sort_of sig (unfolded (pattern_tree arg))) (first_wanted sig S (drop i places))
+    (sort_of_pattern sig (unfolded (pattern_tree arg))) (first_wanted sig S (drop i places))
     ++ rest)) =
     after-append first second (after third rest) own_faults (clashes ++ rest) e
     (after-append second third (after third rest) clashes rest clash refl) in
     joined
     ∙ ap (λ refs. after first (pattern_faults sig (unfolded (pattern_tree arg))
     ++ (clash_faults (unfolded_byte (unfolded (pattern_tree arg)))
-    (sort_of sig (unfolded (pattern_tree arg))) (first_wanted sig S (drop i places))
+    (sort_of_pattern sig (unfolded (pattern_tree arg))) (first_wanted sig S (drop i places))
     ++ argument_faults sig S refs (reads (drop (i + 1) args)))))
     (sym (drop-drop places i))
     ∙ ap (λ (qs : List Pat). after first (argument_faults sig S (drop i places) (reads qs)))

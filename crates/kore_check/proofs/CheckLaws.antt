@@ -9,7 +9,7 @@ use Rattle.rule_core.specs.declared.signature.Signature.{Signature}
 use Rattle.rule_core.specs.declared.signature.SymInfo.{SymInfo}
 use Rattle.rule_core.specs.declared.signature.SortRef.{SortRef}
 use Rattle.rule_core.specs.declared.signature.SortRef.TheVariants.{Param, Sort}
-use Rattle.rule_core.specs.Named.{number_of}
+use Rattle.rule_core.specs.Named.{number_of_name}
 use Rattle.rule_core.proofs.AcSymbols.{symbol_found}
 use Rattle.kore_sig.specs.FirstFault.{Fault, ByByte, IsFirstBy}
 use Rattle.kore_check.specs.declared.faults.PatternFault.{PatternFault}
@@ -20,7 +20,7 @@ use Rattle.kore_check.specs.FaultNumbers.{fault_number}
 use Rattle.kore_check.specs.Folds.{Unfolded, named_variable, written_value, applied_symbol}
 use Rattle.kore_check.specs.Folds.{other_form}
 use Rattle.kore_check.specs.Applicative.{IsApplicative}
-use Rattle.kore_check.specs.PatternSorts.{sort_of, symbol_named, symbol_info, sort_numbers}
+use Rattle.kore_check.specs.PatternSorts.{sort_of_pattern, symbol_named, symbol_info, sort_numbers}
 use Rattle.kore_check.specs.PatternSorts.{result_sort}
 use Rattle.kore_check.specs.PatternFaults.{pattern_faults}
 use Rattle.kore_check.proofs.NotedLaws.{contains_here}
@@ -69,7 +69,7 @@ result_there sig info ns (Sort s) there count none = let no_sort : ⊥ = cc in n
 
 symbol_of_name : (sig : Signature) (name : List ℕ) (info : SymInfo)
     → symbol_named sig name ≡ Some info → (f : ℕ) × IsSymbol sig f info
-symbol_of_name sig name info is = by_number (number_of sig.symbols name) is where
+symbol_of_name sig name info is = by_number (number_of_name sig.symbols name) is where
   by_number : (o : Option ℕ) → option_and_then (symbol_info sig) o ≡ Some info
       → (f : ℕ) × IsSymbol sig f info
   by_number None e = absurd (let no_symbol : ⊥ = cc in no_symbol)
@@ -77,7 +77,7 @@ symbol_of_name sig name info is = by_number (number_of sig.symbols name) is wher
 
 -- a pattern without faults has a sort
 pub faultless_sorted : (sig : Signature) (u : Unfolded) → IsSignature sig → IsApplicative u
-    → pattern_faults sig u ≡ [] → sort_of sig u ≡ None → ⊥
+    → pattern_faults sig u ≡ [] → sort_of_pattern sig u ≡ None → ⊥
 faultless_sorted sig (named_variable at name s) good form e none =
     variable_known sig at name s (e, form) none
 faultless_sorted sig (written_value at s text byte) good form e none =

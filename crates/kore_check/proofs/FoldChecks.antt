@@ -19,7 +19,7 @@ use Rattle.kore_check.specs.declared.check.FoldSorts.{FoldSorts}
 use Rattle.kore_check.specs.Folds.{Unfolded, Unfoldeds, no_more, and_more, other_form}
 use Rattle.kore_check.specs.Folds.{unfolded_byte, unfolded, inner_fold, only_of, fold_of}
 use Rattle.kore_check.specs.Folds.{folded_left, applied_to_two}
-use Rattle.kore_check.specs.PatternSorts.{sort_numbers, sort_of, result_sort, symbol_named}
+use Rattle.kore_check.specs.PatternSorts.{sort_numbers, sort_of_pattern, result_sort, symbol_named}
 use Rattle.kore_check.specs.PatternSorts.{places_of}
 use Rattle.kore_check.specs.PatternFaults.{sort_faults, symbol_faults, pattern_faults, clash_faults}
 use Rattle.kore_check.specs.PatternFaults.{first_wanted}
@@ -57,7 +57,7 @@ only_other at (p ∷ q ∷ args) other = refl
 -- a fold of two or more patterns has the sort of its symbol
 left_sort : (sig : Signature) (byte : ℕ) (name : List ℕ) (ss : List SortTree) (u v : Unfolded)
     (qs : Unfoldeds)
-    → sort_of sig (folded_left byte name ss (applied_to_two byte name ss u v) qs)
+    → sort_of_pattern sig (folded_left byte name ss (applied_to_two byte name ss u v) qs)
     ≡ result_sort (symbol_named sig name) ss (sort_numbers sig ss)
 left_sort sig byte name ss u v no_more = refl
 left_sort sig byte name ss u v (and_more q qs) =
@@ -65,7 +65,7 @@ left_sort sig byte name ss u v (and_more q qs) =
 
 pub fold_sort : (sig : Signature) (left : Bool) (byte : ℕ) (name : List ℕ) (ss : List SortTree)
     (args : List Pat) → 2 ≤ length args
-    → sort_of sig (fold_of left byte name ss (reads args))
+    → sort_of_pattern sig (fold_of left byte name ss (reads args))
     ≡ result_sort (symbol_named sig name) ss (sort_numbers sig ss)
 fold_sort sig left byte name ss [] many = absurd (omega (arith, many))
 fold_sort sig left byte name ss (p ∷ []) many = absurd (omega (arith, many))
@@ -109,7 +109,7 @@ last_item xs i lt = by_rest (drop (i + 1) xs) refl where
 pub fold_begun : (sig : Signature) (left : Bool) (s : FoldSorts) (args : List Pat) (arg : Pat)
     (own : Option ℕ) (first second third : Option PatternFault) → 2 ≤ length args
     → arg ≡ get_or args 0 arg → unfolded_byte (unfolded (pattern_tree arg)) ≡ arg.at
-    → own ≡ sort_of sig (unfolded (pattern_tree arg))
+    → own ≡ sort_of_pattern sig (unfolded (pattern_tree arg))
     → kept_fault second ≡ after first (pattern_faults sig (unfolded (pattern_tree arg)))
     → kept_fault third ≡ after second (clash_faults arg.at own (option_map sort_no s.lower))
     → after third (rest_faults sig left s (reads (drop 1 args)))
@@ -121,7 +121,7 @@ fold_begun sig left s (p ∷ args) arg own first second third many item at sorte
     let own_faults : List Fault = pattern_faults sig (unfolded (pattern_tree arg)) in
     let clashes : List Fault =
     clash_faults (unfolded_byte (unfolded (pattern_tree arg)))
-    (sort_of sig (unfolded (pattern_tree arg))) (option_map sort_no s.lower) in
+    (sort_of_pattern sig (unfolded (pattern_tree arg))) (option_map sort_no s.lower) in
     let clash : kept_fault third ≡ after second clashes =
     f ∙ ap (λ b. after second (clash_faults b own (option_map sort_no s.lower))) (sym at)
     ∙ ap (λ o. after second (clash_faults (unfolded_byte (unfolded (pattern_tree arg))) o
@@ -135,7 +135,7 @@ pub fold_goes_on : (sig : Signature) (left is_last : Bool) (s : FoldSorts) (args
     (arg : Pat) (own : Option ℕ) (first second third : Option PatternFault)
     (target : Option Fault) → i < length args → arg ≡ get_or args i arg
     → unfolded_byte (unfolded (pattern_tree arg)) ≡ arg.at
-    → own ≡ sort_of sig (unfolded (pattern_tree arg)) → is_last ≡ (i + 1 == length args)
+    → own ≡ sort_of_pattern sig (unfolded (pattern_tree arg)) → is_last ≡ (i + 1 == length args)
     → kept_fault second ≡ after first (pattern_faults sig (unfolded (pattern_tree arg)))
     → kept_fault third ≡ after second (next_faults is_last left arg.at own s)
     → after first (rest_faults sig left s (reads (drop i args))) ≡ target
@@ -147,7 +147,7 @@ fold_goes_on sig left is_last s args i arg own first second third target lt item
     let clashes : List Fault =
     next_faults (is_none_more (reads (drop (i + 1) args))) left
     (unfolded_byte (unfolded (pattern_tree arg)))
-    (sort_of sig (unfolded (pattern_tree arg))) s in
+    (sort_of_pattern sig (unfolded (pattern_tree arg))) s in
     let clash : kept_fault third ≡ after second clashes =
     f
     ∙ ap (λ (b : Bool). after second (next_faults b left arg.at own s))
@@ -199,14 +199,14 @@ pub fold_sorted : (sig : Signature) (left : Bool) (p : Pat) (n : List ℕ) (ss :
     (ps : Vec Pat Global) (symbol : Option SymInfo) (xs : List Sort) (own : Option ℕ)
     → p.form ≡ form.App n ss ps → 2 ≤ length ps.items → symbol ≡ symbol_named sig n → xs ≡ ss.items
     → own ≡ result_sort symbol (map plain_sort xs) (sort_numbers sig (map plain_sort xs))
-    → own ≡ sort_of sig (inner_fold left (pattern_tree p))
+    → own ≡ sort_of_pattern sig (inner_fold left (pattern_tree p))
 fold_sorted sig left p n ss ps symbol xs own h many is same known =
     known
     ∙ ap (λ s. result_sort s (map plain_sort xs) (sort_numbers sig (map plain_sort xs))) is
     ∙ ap (λ (ys : List Sort). result_sort (symbol_named sig n) (map plain_sort ys)
     (sort_numbers sig (map plain_sort ys))) same
     ∙
-    sym (ap (sort_of
+    sym (ap (sort_of_pattern
     sig) (application_folded left p n ss ps h) ∙ fold_sort sig left p.at n (map plain_sort
     ss.items) ps.items many)
 

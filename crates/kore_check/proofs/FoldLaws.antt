@@ -9,7 +9,7 @@ use Rattle.kore_sig.specs.FirstFault.{Fault}
 use Rattle.kore_check.specs.declared.check.FoldSorts.{FoldSorts}
 use Rattle.kore_check.specs.Folds.{Unfolded, Unfoldeds, no_more, and_more, unfolded_byte}
 use Rattle.kore_check.specs.Folds.{applied_to_two, folded_left, folded_right, fold_of}
-use Rattle.kore_check.specs.PatternSorts.{sort_of, symbol_named, sort_numbers, result_sort}
+use Rattle.kore_check.specs.PatternSorts.{sort_of_pattern, symbol_named, sort_numbers, result_sort}
 use Rattle.kore_check.specs.PatternSorts.{places_of}
 use Rattle.kore_check.specs.PatternFaults.{pattern_faults, sort_faults, symbol_faults, clash_faults}
 use Rattle.kore_check.specs.PatternFaults.{first_wanted}
@@ -35,7 +35,7 @@ pub record Knows (sig : Signature) (byte : ℕ) (name : List ℕ) (ss : List Sor
 
 -- the clash of a pattern with the wanted sort
 abbrev clash : Signature → Unfolded → Option ℕ → List Fault
-clash sig p wanted = clash_faults (unfolded_byte p) (sort_of sig p) wanted
+clash sig p wanted = clash_faults (unfolded_byte p) (sort_of_pattern sig p) wanted
 
 -- the faults of an application to two patterns
 two_faults : (sig : Signature) (byte : ℕ) (name : List ℕ) (ss : List SortTree) (s : FoldSorts)

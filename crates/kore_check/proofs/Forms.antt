@@ -4,8 +4,8 @@ use Rattle.std.specs.Global.{Box}
 use Rattle.kore_text.specs.declared.names.Op.{Op}
 use Rattle.kore_text.specs.declared.names.Binder.{Binder}
 use Rattle.kore_text.specs.Trees.{SortTree, sort_trees, listed_sorts, PatternTree, element_variable}
-use Rattle.kore_text.specs.Trees.{set_variable, string, symbol_applied, connected, binding}
-use Rattle.kore_text.specs.Trees.{domain_value, folded, pattern_trees}
+use Rattle.kore_text.specs.Trees.{set_variable, string, symbol_applied, connected, binder_applied}
+use Rattle.kore_text.specs.Trees.{value_written, folded, pattern_trees}
 use Rattle.kore_ast.specs.declared.tree.Sort.{Sort}
 use Rattle.kore_ast.specs.declared.tree.Pat.{Pat}
 use Rattle.kore_ast.specs.declared.tree.PatForm.{PatForm}
@@ -55,17 +55,18 @@ connective_is p o ss ps h =
 pub binder_is : (p : Pat) (b : Binder) (ss : Vec Sort Global) (x body : Box Pat)
     → p.form ≡ form.Bound b ss x body
     → pattern_tree p
-    ≡ binding p.at b (sort_trees (map plain_sort ss.items)) (pattern_tree x.value)
+    ≡ binder_applied p.at b (sort_trees (map plain_sort ss.items)) (pattern_tree x.value)
     (pattern_tree body.value)
 binder_is p b ss x body h =
-    pattern_is p (form.Bound b ss x body) (binding p.at b (sort_trees (map plain_sort ss.items))
+    pattern_is p (form.Bound b ss x body)
+        (binder_applied p.at b (sort_trees (map plain_sort ss.items))
     (pattern_tree x.value) (pattern_tree body.value)) h
     (plain-pattern-Bound p.at b ss x body)
 
 pub value_is : (p : Pat) (s : Sort) (n : List ℕ) (q : ℕ) → p.form ≡ form.Value s n q
-    → pattern_tree p ≡ domain_value p.at (plain_sort s) n q
+    → pattern_tree p ≡ value_written p.at (plain_sort s) n q
 value_is p s n q h =
-    pattern_is p (form.Value s n q) (domain_value p.at (plain_sort s) n q) h
+    pattern_is p (form.Value s n q) (value_written p.at (plain_sort s) n q) h
     (plain-pattern-Value p.at s n q)
 
 pub fold_is : (p : Pat) (left : Bool) (inner : Box Pat) → p.form ≡ form.Fold left inner

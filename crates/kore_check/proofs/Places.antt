@@ -1,7 +1,7 @@
 -- The byte of a pattern is that of its first token.
 use Rattle.std.proofs.Common.{◌≡◌, ℕ, refl, ap, ◌∙◌}
 use Rattle.kore_text.specs.Trees.{PatternTree, element_variable, set_variable, string}
-use Rattle.kore_text.specs.Trees.{symbol_applied, connected, binding, domain_value, folded}
+use Rattle.kore_text.specs.Trees.{symbol_applied, connected, binder_applied, value_written, folded}
 use Rattle.kore_ast.specs.declared.tree.Pat.{Pat, fold-Pat}
 use Rattle.kore_ast.specs.declared.tree.PatForm.{PatForm, map-PatForm, out-PatForm}
 use Rattle.kore_ast.specs.declared.tree.PatForm.TheOpen.{PatForm-F}
@@ -19,8 +19,8 @@ first_byte (set_variable at name s) = at
 first_byte (string at text) = at
 first_byte (symbol_applied at name ss ps) = at
 first_byte (connected at op ss ps) = at
-first_byte (binding at binder ss x p) = at
-first_byte (domain_value at s text byte) = at
+first_byte (binder_applied at binder ss x p) = at
+first_byte (value_written at s text byte) = at
 first_byte (folded at left p) = at
 
 of_layer : (l : PatForm-F (ℕ → PatternTree) PatternTree) (at : ℕ)
@@ -62,8 +62,8 @@ byte_of_next-first_byte (set_variable at name s) = refl
 byte_of_next-first_byte (string at text) = refl
 byte_of_next-first_byte (symbol_applied at name ss ps) = refl
 byte_of_next-first_byte (connected at op ss ps) = refl
-byte_of_next-first_byte (binding at binder ss x p) = refl
-byte_of_next-first_byte (domain_value at s text byte) = refl
+byte_of_next-first_byte (binder_applied at binder ss x p) = refl
+byte_of_next-first_byte (value_written at s text byte) = refl
 byte_of_next-first_byte (folded at left p) = byte_of_next-standing_at at (inner_fold left p)
 
 pub byte_of_next-unfolded : (p : Pat) → unfolded_byte (unfolded (pattern_tree p)) ≡ p.at

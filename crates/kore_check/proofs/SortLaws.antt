@@ -1,9 +1,8 @@
 -- The declared sorts that the sorts in a text name.
 use Rattle.std.proofs.Common.{◌≡◌, ◌<◌, ℕ, zero, suc, ◌+◌, Bool, true, false, List, [], ◌∷◌, length}
-use Rattle.std.proofs.Common.{map, Option, Some, None, slice_get, refl, sym, ◌∙◌, ap, arith}
+use Rattle.std.proofs.Common.{map, Option, Some, None, slice_get, refl, sym, ◌∙◌, ap, arith, get_or}
 use Rattle.std.specs.Prelude.{is_some, ◌==◌}
 use Rattle.std.specs.Option.{option_and_then}
-use Rattle.std.proofs.Common.{get_or}
 use Rattle.std.proofs.lemmas.Bool.{false≢true}
 use Rattle.rule_core.specs.Sorting.{sort_at}
 use Rattle.std.proofs.lemmas.List.{length-map}
@@ -16,7 +15,7 @@ use Rattle.std.specs.Str.{bytes_eq}
 use Rattle.kore_text.specs.Trees.{SortTree, sort_parameter, sort_applied, no_sorts, sort_then}
 use Rattle.kore_ast.specs.declared.tree.Sort.{Sort}
 use Rattle.kore_ast.specs.Plain.{plain_sort}
-use Rattle.rule_core.specs.Named.{number_of}
+use Rattle.rule_core.specs.Named.{number_of_name}
 use Rattle.rule_core.specs.declared.signature.Signature.{Signature}
 use Rattle.rule_core.specs.declared.signature.SortInfo.{SortInfo}
 use Rattle.kore_sig.specs.SortReferences.{sort_number}
@@ -38,7 +37,7 @@ position-within {X} test n k (x ∷ xs) is =
 
 -- the number of a name is that of an entry
 pub number-within : {V : Type 0} (entries : List (List ℕ × V)) (name : List ℕ) (k : ℕ)
-    → number_of entries name ≡ Some k → k < length entries
+    → number_of_name entries name ≡ Some k → k < length entries
 number-within {V} entries name k is =
     omega (arith, position-within (λ (e : List ℕ × V). bytes_eq name e.0) 0 k entries is)
 

@@ -35,7 +35,7 @@ use Rattle.kore_check.specs.Folds.{Unfolded, Unfoldeds, unfolded_byte, count}
 use Rattle.kore_check.specs.Applicative.{IsApplicative, AreApplicative}
 use Rattle.kore_check.specs.ValueTexts.{value_of_text, value_of_words, truth_of_text}
 use Rattle.kore_check.specs.ValueTexts.{integer_of_text, not_negative, negated, number_of_digits}
-use Rattle.kore_check.specs.PatternSorts.{sort_of, symbol_named, sort_numbers, number_then}
+use Rattle.kore_check.specs.PatternSorts.{sort_of_pattern, symbol_named, sort_numbers, number_then}
 use Rattle.kore_check.specs.PatternSorts.{result_sort, wanted_sort, places_of}
 use Rattle.kore_check.specs.PatternFaults.{pattern_faults, argument_faults, clash_faults}
 use Rattle.kore_check.specs.PatternFaults.{sort_faults, symbol_faults, is_bad_injection}
@@ -289,7 +289,7 @@ mutual
 mutual
   sorted : (sig : Signature) (good : IsSignature sig) (vars : List (List ℕ × ℕ)) (s : ℕ)
       {u : Unfolded} {p : Pattern} → pattern_faults sig u ≡ [] → Means sig vars u p
-      → sort_of sig u ≡ Some s → HasSort sig (variable_sorts vars) p s
+      → sort_of_pattern sig u ≡ Some s → HasSort sig (variable_sorts vars) p s
   sorted sig good vars s e (by_variable {x = x} {s = n} {name = name} number var) is =
       variable_sorted vars name s x (subst (λ (m : ℕ). variable_number vars name m ≡ Some x)
       (some_same n s (sym number ∙ is)) var)
@@ -346,18 +346,18 @@ mutual
       (more_mean {u = u} {us = us} {p = p} {ps = ps} first rest) many =
       let parts = parts_empty (pattern_faults sig u) _ e in
       let more =
-      parts_empty (clash_faults (unfolded_byte u) (sort_of sig u) (wanted_sort sig ss of)) _
+      parts_empty (clash_faults (unfolded_byte u) (sort_of_pattern sig u) (wanted_sort sig ss of)) _
       (parts.1) in
       let wanted : (w : ℕ) × (sort_at ns of ≡ Some w) =
       some_or_none (sort_at ns of)
       (place_there sig ns n of (there of (0, omega arith, refl)) count_is) in
-      let own : (w : ℕ) × (sort_of sig u ≡ Some w) =
-      some_or_none (sort_of sig u)
+      let own : (w : ℕ) × (sort_of_pattern sig u ≡ Some w) =
+      some_or_none (sort_of_pattern sig u)
       (faultless_sorted sig u good (means_form sig vars first) parts.0) in
       let equal : own.0 ≡ wanted.0 =
       no_clash (unfolded_byte u) own.0 wanted.0 (ap
       (λ o. clash_faults (unfolded_byte u) o (Some wanted.0)) (sym own.1)
-      ∙ ap (λ o. clash_faults (unfolded_byte u) (sort_of sig u) o)
+      ∙ ap (λ o. clash_faults (unfolded_byte u) (sort_of_pattern sig u) o)
       (sym (sym (wanted-at sig ss ns of numbers) ∙ wanted.1)) ∙ more.0) in (
         wanted.0,
         wanted.1,

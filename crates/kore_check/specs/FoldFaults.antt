@@ -4,7 +4,7 @@ use Rattle.kore_sig.specs.FirstFault.{Fault}
 use Rattle.rule_core.specs.declared.signature.Signature.{Signature}
 use Rattle.kore_check.specs.declared.check.FoldSorts.{FoldSorts}
 use Rattle.kore_check.specs.Folds.{Unfoldeds, no_more, and_more, unfolded_byte}
-use Rattle.kore_check.specs.PatternSorts.{sort_of}
+use Rattle.kore_check.specs.PatternSorts.{sort_of_pattern}
 use Rattle.kore_check.specs.PatternFaults.{pattern_faults, clash_faults}
 use Rattle.kore_check.specs.Notes.{sort_no}
 
@@ -27,7 +27,8 @@ is_none_more (and_more p ps) = false
 abbrev pub rest_faults : Signature → Bool → FoldSorts → Unfoldeds → List Fault
 rest_faults sig left s no_more = []
 rest_faults sig left s (and_more p ps) =
-    pattern_faults sig p ++ (next_faults (is_none_more ps) left (unfolded_byte p) (sort_of sig p) s
+    pattern_faults sig p ++ (next_faults (is_none_more ps) left (unfolded_byte p)
+        (sort_of_pattern sig p) s
     ++ rest_faults sig left s ps)
 
 -- the faults of all arguments
@@ -35,5 +36,5 @@ abbrev pub folded_faults : Signature → Bool → FoldSorts → Unfoldeds → Li
 folded_faults sig left s no_more = []
 folded_faults sig left s (and_more p ps) =
     pattern_faults sig p
-    ++ (clash_faults (unfolded_byte p) (sort_of sig p) (option_map sort_no s.lower)
+    ++ (clash_faults (unfolded_byte p) (sort_of_pattern sig p) (option_map sort_no s.lower)
     ++ rest_faults sig left s ps)

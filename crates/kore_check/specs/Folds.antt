@@ -3,7 +3,7 @@
 -- is that argument.
 use Rattle.std.specs.Prelude.{◌+◌, ℕ, Bool, true, false, List, max}
 use Rattle.kore_text.specs.Trees.{SortTree, PatternTree, element_variable, set_variable, string}
-use Rattle.kore_text.specs.Trees.{symbol_applied, connected, binding, domain_value, folded}
+use Rattle.kore_text.specs.Trees.{symbol_applied, connected, binder_applied, value_written, folded}
 use Rattle.kore_text.specs.Trees.{PatternTrees, no_patterns, pattern_then, listed_sorts}
 
 mutual
@@ -72,8 +72,8 @@ abbrev mutual
   unfolded (symbol_applied at name ss ps) =
       applied_symbol at at name (listed_sorts ss) (all_unfolded ps)
   unfolded (connected at op ss ps) = other_form at
-  unfolded (binding at binder ss x p) = other_form at
-  unfolded (domain_value at s text byte) = written_value at s text byte
+  unfolded (binder_applied at binder ss x p) = other_form at
+  unfolded (value_written at s text byte) = written_value at s text byte
   unfolded (folded at left p) = standing_at at (inner_fold left p)
 
   -- the expansion of a fold of this pattern
@@ -84,8 +84,8 @@ abbrev mutual
   inner_fold left (symbol_applied at name ss ps) =
       fold_of left at name (listed_sorts ss) (all_unfolded ps)
   inner_fold left (connected at op ss ps) = only_of at (all_unfolded ps)
-  inner_fold left (binding at binder ss x p) = other_form at
-  inner_fold left (domain_value at s text byte) = other_form at
+  inner_fold left (binder_applied at binder ss x p) = other_form at
+  inner_fold left (value_written at s text byte) = other_form at
   inner_fold left (folded at other p) = other_form at
 
   pub all_unfolded : PatternTrees → Unfoldeds
@@ -99,11 +99,11 @@ count (and_more p ps) = count ps + 1
 
 -- the height; a variable, a value and a symbol without arguments have the height 1
 abbrev mutual
-  pub height : Unfolded → ℕ
-  height (applied_symbol at byte name ss ps) = heights ps + 1
-  height p = 1
+  pub unfolded_height : Unfolded → ℕ
+  unfolded_height (applied_symbol at byte name ss ps) = unfolded_heights ps + 1
+  unfolded_height p = 1
 
   -- the greatest of these heights, 0 if there are none
-  pub heights : Unfoldeds → ℕ
-  heights no_more = 0
-  heights (and_more p ps) = max (height p) (heights ps)
+  pub unfolded_heights : Unfoldeds → ℕ
+  unfolded_heights no_more = 0
+  unfolded_heights (and_more p ps) = max (unfolded_height p) (unfolded_heights ps)

@@ -14,9 +14,9 @@ use Rattle.kore_sig.specs.FirstFault.{Fault, when, unless}
 use Rattle.kore_sig.specs.SortReferences.{sort_number, sort_place}
 use Rattle.kore_check.specs.Folds.{Unfolded, named_variable, written_value, applied_symbol}
 use Rattle.kore_check.specs.Folds.{other_form, Unfoldeds, no_more, and_more, unfolded_byte, count}
-use Rattle.kore_check.specs.Folds.{height}
+use Rattle.kore_check.specs.Folds.{unfolded_height}
 use Rattle.kore_check.specs.ValueTexts.{value_of_text}
-use Rattle.kore_check.specs.PatternSorts.{sort_kind, symbol_named, sort_numbers, sort_of}
+use Rattle.kore_check.specs.PatternSorts.{sort_kind, symbol_named, sort_numbers, sort_of_pattern}
 use Rattle.kore_check.specs.PatternSorts.{wanted_sort, places_of}
 
 -- 6 at the sort's name: the sort is not declared, has arguments, or is a sort parameter
@@ -72,9 +72,10 @@ abbrev mutual
   argument_faults sig ss refs no_more = []
   argument_faults sig ss refs (and_more p ps) =
       pattern_faults sig p
-      ++ (clash_faults (unfolded_byte p) (sort_of sig p) (first_wanted sig ss refs)
+      ++ (clash_faults (unfolded_byte p) (sort_of_pattern sig p) (first_wanted sig ss refs)
       ++ argument_faults sig ss (drop 1 refs) ps)
 
 -- all faults of a pattern: those above, and 3 at the pattern if it is higher than a value may be
 abbrev pub all_faults : Signature → Unfolded → List Fault
-all_faults sig p = when (nat_lt most_height (height p)) 3 (unfolded_byte p) ++ pattern_faults sig p
+all_faults sig p = when (nat_lt most_height (unfolded_height p)) 3 (unfolded_byte p)
+    ++ pattern_faults sig p

@@ -8,7 +8,7 @@ use Rattle.std.specs.Option.{option_and_then}
 use Rattle.kore_text.specs.Trees.{SortTree}
 use Rattle.term_core.specs.Patterns.{Pattern, Patterns, variable, domain_value, application}
 use Rattle.term_core.specs.Patterns.{injection, call, no_pattern, more_patterns}
-use Rattle.rule_core.specs.Named.{number_of}
+use Rattle.rule_core.specs.Named.{number_of_name}
 use Rattle.rule_core.specs.declared.signature.Signature.{Signature}
 use Rattle.rule_core.specs.declared.signature.SymInfo.{SymInfo}
 use Rattle.rule_core.specs.declared.signature.SymKind.{SymKind}
@@ -46,7 +46,8 @@ abbrev mutual
 
 -- the symbol with this name is declared, and has this number and this declaration
 abbrev pub IsNamed : Signature → List ℕ → ℕ → SymInfo → Type 0
-IsNamed sig name f info = (number_of sig.symbols name ≡ Some f) × (symbol_info sig f ≡ Some info)
+IsNamed sig name f info = (number_of_name sig.symbols name ≡ Some f)
+    × (symbol_info sig f ≡ Some info)
 
 -- the injection of one pattern from the first sort to the second; else None
 abbrev pub injected_only : List ℕ → Patterns → Option Pattern

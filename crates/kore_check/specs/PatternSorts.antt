@@ -4,7 +4,7 @@ use Rattle.std.specs.Prelude.{◌==◌, ℕ, List, [], ◌∷◌, length, slice_
 use Rattle.std.specs.Prelude.{option_map, if◌then◌else◌}
 use Rattle.std.specs.Option.{option_and_then}
 use Rattle.kore_text.specs.Trees.{SortTree}
-use Rattle.rule_core.specs.Named.{number_of}
+use Rattle.rule_core.specs.Named.{number_of_name}
 use Rattle.rule_core.specs.Sorting.{sort_at}
 use Rattle.rule_core.specs.declared.signature.Signature.{Signature}
 use Rattle.rule_core.specs.declared.signature.SortInfo.{SortInfo}
@@ -26,7 +26,7 @@ symbol_info sig f = option_map (λ (e : List ℕ × SymInfo). e.1) (slice_get si
 
 -- the declaration of the symbol with this name
 abbrev pub symbol_named : Signature → List ℕ → Option SymInfo
-symbol_named sig name = option_and_then (symbol_info sig) (number_of sig.symbols name)
+symbol_named sig name = option_and_then (symbol_info sig) (number_of_name sig.symbols name)
 
 -- the number before the others; None if one of them is missing
 abbrev pub number_then : Option ℕ → Option (List ℕ) → Option (List ℕ)
@@ -47,12 +47,12 @@ result_sort (Some info) ss None = None
 result_sort (Some info) ss (Some ns) =
     if length ss == info.params then sort_at ns info.result else None
 
-abbrev pub sort_of : Signature → Unfolded → Option ℕ
-sort_of sig (named_variable at name s) = sort_number sig.sorts s
-sort_of sig (written_value at s text byte) = sort_number sig.sorts s
-sort_of sig (applied_symbol at byte name ss ps) =
+abbrev pub sort_of_pattern : Signature → Unfolded → Option ℕ
+sort_of_pattern sig (named_variable at name s) = sort_number sig.sorts s
+sort_of_pattern sig (written_value at s text byte) = sort_number sig.sorts s
+sort_of_pattern sig (applied_symbol at byte name ss ps) =
     result_sort (symbol_named sig name) ss (sort_numbers sig ss)
-sort_of sig (other_form at) = None
+sort_of_pattern sig (other_form at) = None
 
 -- the sort that an argument must have; a parameter of the symbol is the sort argument with its
 -- number

@@ -5,7 +5,7 @@ use Rattle.rule_core.specs.Sorting.{HasSort}
 use Rattle.rule_core.specs.WellSorted.{IsSignature}
 use Rattle.rule_core.specs.declared.signature.Signature.{Signature}
 use Rattle.kore_check.specs.Folds.{Unfolded}
-use Rattle.kore_check.specs.PatternSorts.{sort_of}
+use Rattle.kore_check.specs.PatternSorts.{sort_of_pattern}
 use Rattle.kore_check.specs.PatternFaults.{pattern_faults}
 use Rattle.kore_check.specs.PatternMeanings.{Means}
 
@@ -17,5 +17,5 @@ abbrev pub MeaningsAreSorted : Type 0
 MeaningsAreSorted =
     (sig : Signature) (vars : List (List ℕ × ℕ)) (u : Unfolded) (p : Pattern) (s : ℕ)
     → IsSignature sig →
-    pattern_faults sig u ≡ [] → Means sig vars u p → sort_of sig u ≡ Some s
+    pattern_faults sig u ≡ [] → Means sig vars u p → sort_of_pattern sig u ≡ Some s
     → HasSort sig (variable_sorts vars) p s

@@ -3,7 +3,7 @@ ghost use Rattle.std.specs.Prelude.{◌≡◌, ◌≤◌, ℕ, length, map, drop
 ghost use Rattle.kore_text.specs.Trees.{pattern_trees};
 ghost use Rattle.kore_ast.specs.Plain.{plain_sort, pattern_tree};
 ghost use Rattle.kore_check.specs.Folds.{unfolded, inner_fold, only_of, all_unfolded};
-ghost use Rattle.kore_check.specs.PatternSorts.{sort_of, places_of};
+ghost use Rattle.kore_check.specs.PatternSorts.{sort_of_pattern, places_of};
 ghost use Rattle.kore_check.specs.PatternFaults.{pattern_faults, argument_faults, first_wanted};
 ghost use Rattle.kore_check.specs.Notes.{kept_fault, after, sort_no};
 ghost use Rattle.kore_sig.specs.Numbered.{IsNumbered};
@@ -31,7 +31,7 @@ pub(crate) struct FoldSorts {
 #[cycle(check)]
 pub(crate) fn check(sig: &Signature, pat: &Pat, first: &mut Option<PatternFault>) -> Option<SortId>
     requires { IsNumbered sig.now }
-    ensures sort { option_map sort_no result ≡ sort_of sig.now (unfolded (pattern_tree pat.now)) }
+    ensures sort { option_map sort_no result ≡ sort_of_pattern sig.now (unfolded (pattern_tree pat.now)) }
     ensures first { kept_fault first.new
         ≡ after first.old (pattern_faults sig.now (unfolded (pattern_tree pat.now))) }
 {
@@ -91,7 +91,7 @@ fn check_fold(
 ) -> Option<SortId>
     requires { IsNumbered sig.now }
     ensures sort { option_map sort_no result
-        ≡ sort_of sig.now (inner_fold left (pattern_tree inner.now)) }
+        ≡ sort_of_pattern sig.now (inner_fold left (pattern_tree inner.now)) }
     ensures first { kept_fault first.new
         ≡ after first.old (pattern_faults sig.now (inner_fold left (pattern_tree inner.now))) }
 {
@@ -131,7 +131,7 @@ fn check_fold(
 fn check_only(args: &[Pat], sig: &Signature, first: &mut Option<PatternFault>) -> Option<SortId>
     requires { IsNumbered sig.now }
     ensures sort { (at : ℕ) → option_map sort_no result
-        ≡ sort_of sig.now (only_of at (all_unfolded (pattern_trees (map pattern_tree args.now)))) }
+        ≡ sort_of_pattern sig.now (only_of at (all_unfolded (pattern_trees (map pattern_tree args.now)))) }
     ensures first { (at : ℕ) → kept_fault first.new
         ≡ after first.old (pattern_faults sig.now
         (only_of at (all_unfolded (pattern_trees (map pattern_tree args.now))))) }

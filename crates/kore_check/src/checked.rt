@@ -8,7 +8,7 @@ ghost use Rattle.rule_core.specs.WellSorted.{IsSignature};
 ghost use Rattle.kore_check.specs.SortedMeanings.{variable_sorts};
 ghost use Rattle.kore_check.specs.Folds.{unfolded};
 ghost use Rattle.kore_check.specs.Applicative.{IsApplicative};
-ghost use Rattle.kore_check.specs.PatternSorts.{sort_of};
+ghost use Rattle.kore_check.specs.PatternSorts.{sort_of_pattern};
 ghost use Rattle.kore_check.specs.PatternFaults.{pattern_faults, all_faults};
 ghost use Rattle.kore_check.specs.PatternMeanings.{with_variables, Means};
 ghost use Rattle.kore_check.specs.FaultNumbers.{IsRefusal};
@@ -38,7 +38,7 @@ pub fn check_pattern(
     requires signature { IsSignature sig.now }
     requires form { IsApplicative (unfolded (plain_tree pat.now)) }
     ensures faultless { OnOk result (all_faults sig.now (unfolded (plain_tree pat.now)) ≡ []) }
-    ensures sort { IfOk result (λ r. sort_of sig.now (unfolded (plain_tree pat.now)) ≡ Some r.1.0) }
+    ensures sort { IfOk result (λ r. sort_of_pattern sig.now (unfolded (plain_tree pat.now)) ≡ Some r.1.0) }
     ensures vars { OnOk result
         (vars.new ≡ with_variables sig.now vars.old (unfolded (plain_tree pat.now))) }
     ensures means { IfOk result

@@ -3,7 +3,7 @@ ghost use Rattle.std.specs.Prelude.{◌≡◌, ◌≤◌, ◌+◌, ℕ, true, fa
 ghost use Rattle.kore_text.specs.Trees.{SortTree, pattern_trees};
 ghost use Rattle.kore_ast.specs.Plain.{pattern_tree};
 ghost use Rattle.kore_check.specs.Folds.{unfolded, inner_fold, only_of, fold_of, all_unfolded};
-ghost use Rattle.kore_check.specs.Folds.{height, heights};
+ghost use Rattle.kore_check.specs.Folds.{unfolded_height, unfolded_heights};
 ghost use Rattle.kore_check.specs.FoldHeights.{cut};
 
 use kore_ast::{Pat, PatForm};
@@ -13,7 +13,7 @@ use term_core::MAX_HEIGHT;
 /// and a symbol without arguments have the height 1. It goes through the pattern once.
 #[cycle(height)]
 pub fn height_of(pat: &Pat) -> u32
-    ensures { result ≡ cut (height (unfolded (pattern_tree pat.now))) }
+    ensures { result ≡ cut (unfolded_height (unfolded (pattern_tree pat.now))) }
 {
     match &pat.form {
         PatForm::Elem(..) | PatForm::Value(..) => 1,
@@ -26,7 +26,7 @@ pub fn height_of(pat: &Pat) -> u32
 // The greatest height of these patterns, or 501 if it is greater. It is 0 if there are none.
 #[cycle(height)]
 fn highest(args: &[Pat]) -> u32
-    ensures { result ≡ cut (heights (all_unfolded (pattern_trees (map pattern_tree args.now)))) }
+    ensures { result ≡ cut (unfolded_heights (all_unfolded (pattern_trees (map pattern_tree args.now)))) }
 {
     let mut highest: u32 = 0;
     for arg in args {
@@ -38,7 +38,7 @@ fn highest(args: &[Pat]) -> u32
 // The height of a fold of this pattern, or 501 if it is greater.
 #[cycle(height)]
 fn fold_height(inner: &Pat, left: bool) -> u32
-    ensures { result ≡ cut (height (inner_fold left (pattern_tree inner.now))) }
+    ensures { result ≡ cut (unfolded_height (inner_fold left (pattern_tree inner.now))) }
 {
     match &inner.form {
         PatForm::App(_, _, args) => {
@@ -60,7 +60,7 @@ fn fold_height(inner: &Pat, left: bool) -> u32
 #[cycle(height)]
 fn only_height(args: &[Pat]) -> u32
     ensures { (at : ℕ) → result
-        ≡ cut (height (only_of at (all_unfolded (pattern_trees (map pattern_tree args.now))))) }
+        ≡ cut (unfolded_height (only_of at (all_unfolded (pattern_trees (map pattern_tree args.now))))) }
 {
     if args.len() != 1 {
         return 1;
@@ -74,7 +74,7 @@ fn only_height(args: &[Pat]) -> u32
 fn left_height(args: &[Pat]) -> u32
     requires { 2 ≤ length args.now }
     ensures { (byte : ℕ) (name : List ℕ) (ss : List SortTree) → result
-        ≡ cut (height (fold_of true byte name ss
+        ≡ cut (unfolded_height (fold_of true byte name ss
         (all_unfolded (pattern_trees (map pattern_tree args.now))))) }
 {
     let mut height = height_of(&args[0]);
@@ -90,7 +90,7 @@ fn left_height(args: &[Pat]) -> u32
 fn right_height(args: &[Pat]) -> u32
     requires { 2 ≤ length args.now }
     ensures { (byte : ℕ) (name : List ℕ) (ss : List SortTree) → result
-        ≡ cut (height (fold_of false byte name ss
+        ≡ cut (unfolded_height (fold_of false byte name ss
         (all_unfolded (pattern_trees (map pattern_tree args.now))))) }
 {
     let last = args.len() - 1;
@@ -103,7 +103,7 @@ fn right_height(args: &[Pat]) -> u32
 
 // One more than a height, or 501 if that is greater.
 fn one_more(height: u32) -> u32
-    ensures { result ≡ cut (height + 1) }
+    ensures { result ≡ cut (unfolded_height + 1) }
 {
     height.min(MAX_HEIGHT) + 1
 }

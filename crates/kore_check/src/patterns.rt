@@ -4,8 +4,8 @@ ghost use Rattle.kore_ast.specs.Plain.{plain_sort, pattern_tree};
 ghost use Rattle.kore_sig.specs.FirstFault.{Fault, when};
 ghost use Rattle.kore_sig.specs.Numbered.{IsNumbered};
 ghost use Rattle.kore_sig.specs.SortReferences.{sort_number};
-ghost use Rattle.kore_check.specs.Folds.{unfolded, height, unfolded_byte};
-ghost use Rattle.kore_check.specs.PatternSorts.{sort_of};
+ghost use Rattle.kore_check.specs.Folds.{unfolded, unfolded_height, unfolded_byte};
+ghost use Rattle.kore_check.specs.PatternSorts.{sort_of_pattern};
 ghost use Rattle.kore_check.specs.PatternFaults.{all_faults, sort_faults, clash_faults};
 ghost use Rattle.rule_core.specs.Evaluation.{most_height};
 ghost use Rattle.kore_check.specs.FaultNumbers.{IsFirstOf};
@@ -29,7 +29,7 @@ use term_core::{MAX_HEIGHT, SortId};
 pub fn note_pattern(sig: &Signature, pat: &Pat, first: &mut Option<PatternFault>) -> Option<SortId>
     requires { IsNumbered sig.now }
     ensures sort { option_map (λ s. s.0) result
-        ≡ sort_of sig.now (unfolded (pattern_tree pat.now)) }
+        ≡ sort_of_pattern sig.now (unfolded (pattern_tree pat.now)) }
     ensures first { (before : List Fault) → IsFirstOf before first.old →
         IsFirstOf (before ++ all_faults sig.now (unfolded (pattern_tree pat.now))) first.new }
 {
@@ -40,7 +40,7 @@ pub fn note_pattern(sig: &Signature, pat: &Pat, first: &mut Option<PatternFault>
 // Notes a pattern that is too high.
 fn check_height(pat: &Pat, first: &mut Option<PatternFault>)
     ensures { kept_fault first.new
-        ≡ after first.old (when (nat_lt most_height (height (unfolded (pattern_tree pat.now)))) 3
+        ≡ after first.old (when (nat_lt most_height (unfolded_height (unfolded (pattern_tree pat.now)))) 3
         (unfolded_byte (unfolded (pattern_tree pat.now)))) }
 {
     if height_of(pat) > MAX_HEIGHT {

@@ -4,21 +4,22 @@ use Rattle.std.proofs.Common.{cond, refl, subst}
 use Rattle.std.specs.Prelude.{option_map}
 use Rattle.std.specs.Option.{option_and_then}
 use Rattle.kore_text.specs.Trees.{SortTree, listed_sorts, PatternTree, element_variable}
-use Rattle.kore_text.specs.Trees.{set_variable, string, symbol_applied, connected, binding}
-use Rattle.kore_text.specs.Trees.{domain_value, folded, listed_patterns}
+use Rattle.kore_text.specs.Trees.{set_variable, string, symbol_applied, connected, binder_applied}
+use Rattle.kore_text.specs.Trees.{value_written, folded, listed_patterns}
 use Rattle.kore_text.specs.declared.names.Op.{Op}
 use Rattle.kore_text.specs.declared.names.Op.TheVariants.{Top, Bottom, Not, Next, And, Or, Implies}
 use Rattle.kore_text.specs.declared.names.Op.TheVariants.{Iff, Rewrites, Ceil, Floor, Equals}
 use Rattle.kore_text.specs.declared.names.Op.TheVariants.{Member}
 use Rattle.kore_shapes.specs.SameSorts.{same_sort}
 use Rattle.kore_shapes.specs.Forms.{has_binder}
-use Rattle.kore_shapes.specs.Statements.{Statement, call_of, called, equality_of_call}
-use Rattle.kore_shapes.specs.Statements.{equality_with, equality, guarded, statement_with}
-use Rattle.kore_shapes.specs.Statements.{statement}
+use Rattle.kore_shapes.specs.Statements.{StatedEquation, stated_call, symbol_called}
+use Rattle.kore_shapes.specs.Statements.{equality_of_call, equality_with, equality, guarded}
+use Rattle.kore_shapes.specs.Statements.{statement_with, stated_equation}
 use Rattle.kore_shapes.specs.EquationForms.{EquationParts, conjuncts_with, conjuncts, is_top_of}
-use Rattle.kore_shapes.specs.EquationForms.{beside_top, right_side, is_member, member_with, member}
-use Rattle.kore_shapes.specs.EquationForms.{entry, members, occur_nowhere_else, direct, kompiled}
-use Rattle.kore_shapes.specs.EquationForms.{parts_under, parts_with, equation_parts}
+use Rattle.kore_shapes.specs.EquationForms.{beside_top, right_side, is_member, member_with}
+use Rattle.kore_shapes.specs.EquationForms.{member_pattern, entry, members, occur_nowhere_else}
+use Rattle.kore_shapes.specs.EquationForms.{direct_parts, kompiled, parts_under, parts_with}
+use Rattle.kore_shapes.specs.EquationForms.{equation_parts}
 use Rattle.kore_axioms.proofs.BinderLaws.{NoneBinds, AllBindNone, each_binds_none}
 
 abbrev BothBindNone : PatternTree × PatternTree → Type 0
@@ -37,18 +38,18 @@ then_there f (Some x) y e = (x, refl, e)
 
 -- ---- the statement
 
-pub record StatementBindsNone (e : Statement) : Type 0 where
+pub record StatementBindsNone (e : StatedEquation) : Type 0 where
   pub guard : NoneBinds e.guard
   pub arguments : AllBindNone e.arguments
   pub value : has_binder e.value ≡ false
 
 call_binds : (f : List ℕ) (ss : List SortTree) (ps : List PatternTree)
-    (call : List ℕ × List PatternTree) → call_of f ss ps ≡ Some call → AllBindNone ps
+    (call : List ℕ × List PatternTree) → stated_call f ss ps ≡ Some call → AllBindNone ps
     → AllBindNone call.1
 call_binds f [] ps call e all = subst AllBindNone (let same : ps ≡ call.1 = cc in same) all
 call_binds f (s ∷ ss) ps call e all = absurd (let never : ⊥ = cc in never)
 
-called_binds : (p : PatternTree) (call : List ℕ × List PatternTree) → called p ≡ Some call
+called_binds : (p : PatternTree) (call : List ℕ × List PatternTree) → symbol_called p ≡ Some call
     → has_binder p ≡ false → AllBindNone call.1
 called_binds (element_variable at n s) call e h = absurd (let never : ⊥ = cc in never)
 called_binds (set_variable at n s) call e h = absurd (let never : ⊥ = cc in never)
@@ -56,15 +57,15 @@ called_binds (string at text) call e h = absurd (let never : ⊥ = cc in never)
 called_binds (symbol_applied at n ss ps) call e h =
     call_binds n (listed_sorts ss) (listed_patterns ps) call e (each_binds_none ps h)
 called_binds (connected at op ss ps) call e h = absurd (let never : ⊥ = cc in never)
-called_binds (binding at b ss x p) call e h = absurd (let never : ⊥ = cc in never)
-called_binds (domain_value at s text place) call e h = absurd (let never : ⊥ = cc in never)
+called_binds (binder_applied at b ss x p) call e h = absurd (let never : ⊥ = cc in never)
+called_binds (value_written at s text place) call e h = absurd (let never : ⊥ = cc in never)
 called_binds (folded at left p) call e h = absurd (let never : ⊥ = cc in never)
 
-stated_binds : (s r : SortTree) (l d : PatternTree) (e : Statement)
-    → option_map (equality_of_call s r d) (called l) ≡ Some e → has_binder l ≡ false
+stated_binds : (s r : SortTree) (l d : PatternTree) (e : StatedEquation)
+    → option_map (equality_of_call s r d) (symbol_called l) ≡ Some e → has_binder l ≡ false
     → has_binder d ≡ false → StatementBindsNone e
 stated_binds s r l d e is h k =
-    let found = mapped_there (equality_of_call s r d) (called l) e is in
+    let found = mapped_there (equality_of_call s r d) (symbol_called l) e is in
     subst StatementBindsNone found.2 (record {
       guard =
           λ p none. absurd (let never : ⊥ = cc in never);
@@ -72,7 +73,7 @@ stated_binds s r l d e is h k =
       value = k;
     })
 
-equality_with_binds : (op : Op) (ss : List SortTree) (ps : List PatternTree) (e : Statement)
+equality_with_binds : (op : Op) (ss : List SortTree) (ps : List PatternTree) (e : StatedEquation)
     → equality_with op ss ps ≡ Some e → AllBindNone ps → StatementBindsNone e
 equality_with_binds Equals (s ∷ (r ∷ [])) (l ∷ (d ∷ [])) e is all =
     stated_binds s r l d e is all.0 all.1.0
@@ -96,7 +97,7 @@ equality_with_binds Ceil ss ps e is all = absurd (let never : ⊥ = cc in never)
 equality_with_binds Floor ss ps e is all = absurd (let never : ⊥ = cc in never)
 equality_with_binds Member ss ps e is all = absurd (let never : ⊥ = cc in never)
 
-equality_binds : (p : PatternTree) (e : Statement) → equality p ≡ Some e → has_binder p ≡ false
+equality_binds : (p : PatternTree) (e : StatedEquation) → equality p ≡ Some e → has_binder p ≡ false
     → StatementBindsNone e
 equality_binds (element_variable at n s) e is h = absurd (let never : ⊥ = cc in never)
 equality_binds (set_variable at n s) e is h = absurd (let never : ⊥ = cc in never)
@@ -104,11 +105,11 @@ equality_binds (string at text) e is h = absurd (let never : ⊥ = cc in never)
 equality_binds (symbol_applied at n ss ps) e is h = absurd (let never : ⊥ = cc in never)
 equality_binds (connected at op ss ps) e is h =
     equality_with_binds op (listed_sorts ss) (listed_patterns ps) e is (each_binds_none ps h)
-equality_binds (binding at b ss x p) e is h = absurd (let never : ⊥ = cc in never)
-equality_binds (domain_value at s text place) e is h = absurd (let never : ⊥ = cc in never)
+equality_binds (binder_applied at b ss x p) e is h = absurd (let never : ⊥ = cc in never)
+equality_binds (value_written at s text place) e is h = absurd (let never : ⊥ = cc in never)
 equality_binds (folded at left p) e is h = absurd (let never : ⊥ = cc in never)
 
-guarded_binds : (r : SortTree) (g : PatternTree) (d e : Statement) → guarded r g d ≡ Some e
+guarded_binds : (r : SortTree) (g : PatternTree) (d e : StatedEquation) → guarded r g d ≡ Some e
     → has_binder g ≡ false → StatementBindsNone d → StatementBindsNone e
 guarded_binds r g d e is h b = by_case (same_sort r d.over) is where
   by_case : (t : Bool) → cond t (Some (record d { guard = Some g })) None ≡ Some e
@@ -124,7 +125,7 @@ guarded_binds r g d e is h b = by_case (same_sort r d.over) is where
         value = b.value;
       })
 
-statement_with_binds : (op : Op) (ss : List SortTree) (ps : List PatternTree) (e : Statement)
+statement_with_binds : (op : Op) (ss : List SortTree) (ps : List PatternTree) (e : StatedEquation)
     → statement_with op ss ps ≡ Some e → AllBindNone ps → StatementBindsNone e
 statement_with_binds Implies (r ∷ []) (g ∷ (d ∷ [])) e is all =
     let found = then_there (guarded r g) (equality d) e is in
@@ -148,7 +149,7 @@ statement_with_binds Floor ss ps e is all = equality_with_binds Floor ss ps e is
 statement_with_binds Equals ss ps e is all = equality_with_binds Equals ss ps e is all
 statement_with_binds Member ss ps e is all = equality_with_binds Member ss ps e is all
 
-pub statement_binds_none : (p : PatternTree) (e : Statement) → statement p ≡ Some e
+pub statement_binds_none : (p : PatternTree) (e : StatedEquation) → stated_equation p ≡ Some e
     → has_binder p ≡ false → StatementBindsNone e
 statement_binds_none (element_variable at n s) e is h = absurd (let never : ⊥ = cc in never)
 statement_binds_none (set_variable at n s) e is h = absurd (let never : ⊥ = cc in never)
@@ -156,8 +157,8 @@ statement_binds_none (string at text) e is h = absurd (let never : ⊥ = cc in n
 statement_binds_none (symbol_applied at n ss ps) e is h = absurd (let never : ⊥ = cc in never)
 statement_binds_none (connected at op ss ps) e is h =
     statement_with_binds op (listed_sorts ss) (listed_patterns ps) e is (each_binds_none ps h)
-statement_binds_none (binding at b ss x p) e is h = absurd (let never : ⊥ = cc in never)
-statement_binds_none (domain_value at s text place) e is h = absurd (let never : ⊥ = cc in never)
+statement_binds_none (binder_applied at b ss x p) e is h = absurd (let never : ⊥ = cc in never)
+statement_binds_none (value_written at s text place) e is h = absurd (let never : ⊥ = cc in never)
 statement_binds_none (folded at left p) e is h = absurd (let never : ⊥ = cc in never)
 
 -- ---- conjunctions and members
@@ -196,8 +197,8 @@ conjuncts_bind s (string at text) both is h = absurd (let never : ⊥ = cc in ne
 conjuncts_bind s (symbol_applied at n ss ps) both is h = absurd (let never : ⊥ = cc in never)
 conjuncts_bind s (connected at op ss ps) both is h =
     conjuncts_with_bind s op (listed_sorts ss) (listed_patterns ps) both is (each_binds_none ps h)
-conjuncts_bind s (binding at b ss x p) both is h = absurd (let never : ⊥ = cc in never)
-conjuncts_bind s (domain_value at t text place) both is h = absurd (let never : ⊥ = cc in never)
+conjuncts_bind s (binder_applied at b ss x p) both is h = absurd (let never : ⊥ = cc in never)
+conjuncts_bind s (value_written at t text place) both is h = absurd (let never : ⊥ = cc in never)
 conjuncts_bind s (folded at left p) both is h = absurd (let never : ⊥ = cc in never)
 
 beside_binds : (s : SortTree) (d : PatternTree) (o : Option (PatternTree × PatternTree))
@@ -244,7 +245,8 @@ member_with_binds r x Ceil ss ps p is all = absurd (let never : ⊥ = cc in neve
 member_with_binds r x Floor ss ps p is all = absurd (let never : ⊥ = cc in never)
 member_with_binds r x Equals ss ps p is all = absurd (let never : ⊥ = cc in never)
 
-member_binds : (r : SortTree) (x m p : PatternTree) → member r x m ≡ Some p → has_binder m ≡ false
+member_binds : (r : SortTree) (x m p : PatternTree) → member_pattern r x m ≡ Some p → has_binder m
+    ≡ false
     → has_binder p ≡ false
 member_binds r x (element_variable at n s) p is h = absurd (let never : ⊥ = cc in never)
 member_binds r x (set_variable at n s) p is h = absurd (let never : ⊥ = cc in never)
@@ -252,8 +254,8 @@ member_binds r x (string at text) p is h = absurd (let never : ⊥ = cc in never
 member_binds r x (symbol_applied at n ss ps) p is h = absurd (let never : ⊥ = cc in never)
 member_binds r x (connected at op ss ps) p is h =
     member_with_binds r x op (listed_sorts ss) (listed_patterns ps) p is (each_binds_none ps h)
-member_binds r x (binding at b ss y q) p is h = absurd (let never : ⊥ = cc in never)
-member_binds r x (domain_value at s text place) p is h = absurd (let never : ⊥ = cc in never)
+member_binds r x (binder_applied at b ss y q) p is h = absurd (let never : ⊥ = cc in never)
+member_binds r x (value_written at s text place) p is h = absurd (let never : ⊥ = cc in never)
 member_binds r x (folded at left q) p is h = absurd (let never : ⊥ = cc in never)
 
 entry_binds : (r : SortTree) (x g : PatternTree) (both : PatternTree × PatternTree)
@@ -261,10 +263,11 @@ entry_binds : (r : SortTree) (x g : PatternTree) (both : PatternTree × PatternT
 entry_binds r x g both is h =
     let parts =
     then_there (λ (b : PatternTree × PatternTree).
-    option_map (λ (p : PatternTree). (p, b.1)) (member r x b.0)) (conjuncts r g) both
+    option_map (λ (p : PatternTree). (p, b.1)) (member_pattern r x b.0)) (conjuncts r g) both
     is in
     let found =
-    mapped_there (λ (p : PatternTree). (p, parts.0.1)) (member r x parts.0.0) both parts.2 in
+    mapped_there (λ (p : PatternTree). (p, parts.0.1)) (member_pattern r x parts.0.0) both parts.2
+        in
     let clean = conjuncts_bind r g parts.0 parts.1 h in
     subst BothBindNone found.2 (member_binds r x parts.0.0 found.0 found.1 clean.0, clean.1)
 
@@ -292,16 +295,16 @@ pub record PartsBindNone (q : EquationParts) : Type 0 where
   pub condition : NoneBinds q.condition
   pub right : has_binder q.right ≡ false
 
-direct_binds : (e : Statement) (c : Option PatternTree) (q : EquationParts)
-    → Some (direct e c) ≡ Some q → NoneBinds c → StatementBindsNone e → PartsBindNone q
+direct_binds : (e : StatedEquation) (c : Option PatternTree) (q : EquationParts)
+    → Some (direct_parts e c) ≡ Some q → NoneBinds c → StatementBindsNone e → PartsBindNone q
 direct_binds e c q is none b =
-    subst PartsBindNone (let same : direct e c ≡ q = cc in same) (record {
+    subst PartsBindNone (let same : direct_parts e c ≡ q = cc in same) (record {
       patterns = b.arguments;
       condition = none;
       right = right_binds_none e.sort e.value b.value;
     })
 
-kompiled_binds : (e : Statement) (c : PatternTree) (ps : List PatternTree) (q : EquationParts)
+kompiled_binds : (e : StatedEquation) (c : PatternTree) (ps : List PatternTree) (q : EquationParts)
     → kompiled e c ps ≡ Some q → has_binder c ≡ false → AllBindNone ps → StatementBindsNone e
     → PartsBindNone q
 kompiled_binds e c ps q is h all b =
@@ -332,7 +335,7 @@ kompiled_binds e c ps q is h all b =
           right = right_binds_none e.sort e.value b.value;
         })
 
-under_binds : (e : Statement) (g : PatternTree) (o : Option (PatternTree × PatternTree))
+under_binds : (e : StatedEquation) (g : PatternTree) (o : Option (PatternTree × PatternTree))
     (q : EquationParts) → parts_under e g o ≡ Some q
     → ((both : PatternTree × PatternTree) → o ≡ Some both → BothBindNone both)
     → has_binder g ≡ false → StatementBindsNone e → PartsBindNone q
@@ -345,13 +348,14 @@ under_binds e g (Some both) q is known h b =
     kompiled_binds e both.0 found.0 q found.2 clean.0
     (members_bind e.over e.arguments both.1 found.0 found.1 clean.1) b
 
-with_binds : (e : Statement) (o : Option PatternTree) (q : EquationParts) → parts_with e o ≡ Some q
+with_binds : (e : StatedEquation) (o : Option PatternTree) (q : EquationParts) → parts_with e o
+    ≡ Some q
     → NoneBinds o → StatementBindsNone e → PartsBindNone q
 with_binds e None q is none b = direct_binds e None q is none b
 with_binds e (Some g) q is none b =
     under_binds e g (conjuncts e.over g) q is
     (λ both found. conjuncts_bind e.over g both found (none g refl)) (none g refl) b
 
-pub equation_binds_none : (e : Statement) (q : EquationParts) → equation_parts e ≡ Some q
+pub equation_binds_none : (e : StatedEquation) (q : EquationParts) → equation_parts e ≡ Some q
     → StatementBindsNone e → PartsBindNone q
 equation_binds_none e q is b = with_binds e e.guard q is b.guard b

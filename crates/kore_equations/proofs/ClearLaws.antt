@@ -5,7 +5,7 @@ use Rattle.std.specs.Prelude.{not, nat_lt, nat_le, drop, codes}
 use Rattle.std.specs.Option.{option_and_then}
 use Rattle.std.proofs.lemmas.Bool.{false≢true, ltb-true, leb-true}
 use Rattle.kore_text.specs.Trees.{PatternTree, element_variable, set_variable, string}
-use Rattle.kore_text.specs.Trees.{symbol_applied, connected, binding, domain_value, folded}
+use Rattle.kore_text.specs.Trees.{symbol_applied, connected, binder_applied, value_written, folded}
 use Rattle.kore_text.specs.Trees.{AxiomDeclaration}
 use Rattle.rule_core.proofs.Belows.{both_true, true_both}
 use Rattle.rule_core.specs.Sorting.{sort_at}
@@ -15,16 +15,16 @@ use Rattle.rule_core.specs.declared.signature.SymInfo.{SymInfo}
 use Rattle.kore_sig.specs.Attributes.{has_attribute}
 use Rattle.kore_sig.specs.FirstFault.{Fault}
 use Rattle.kore_check.specs.Folds.{Unfolded, Unfoldeds, no_more, and_more, unfolded_byte, unfolded}
-use Rattle.kore_check.specs.Folds.{height, heights}
+use Rattle.kore_check.specs.Folds.{unfolded_height, unfolded_heights}
 use Rattle.kore_check.specs.PatternFaults.{pattern_faults, argument_faults, clash_faults}
-use Rattle.rule_core.specs.Evaluation.{most_height}
 use Rattle.kore_check.specs.PatternFaults.{all_faults, first_wanted}
-use Rattle.kore_check.specs.PatternSorts.{sort_of}
-use Rattle.kore_shapes.specs.Statements.{Statement}
+use Rattle.rule_core.specs.Evaluation.{most_height}
+use Rattle.kore_check.specs.PatternSorts.{sort_of_pattern}
+use Rattle.kore_shapes.specs.Statements.{StatedEquation}
 use Rattle.kore_shapes.specs.EquationForms.{EquationParts, conjuncts, members, stands_alone}
-use Rattle.kore_shapes.specs.EquationForms.{occur_nowhere_else, direct, kompiled, parts_under}
+use Rattle.kore_shapes.specs.EquationForms.{occur_nowhere_else, direct_parts, kompiled, parts_under}
 use Rattle.kore_shapes.specs.EquationForms.{parts_with, equation_parts, right_side}
-use Rattle.kore_axioms.specs.Conditions.{tested}
+use Rattle.kore_axioms.specs.Conditions.{tested_pattern}
 use Rattle.kore_axioms.specs.RuleFaults.{is_empty, faults_at_sort, condition_faults, is_bound}
 use Rattle.kore_axioms.specs.Uses.{have_symbol, is_plain_function, is_ac_symbol}
 use Rattle.kore_equations.specs.ReadableEquations.{all_read, condition_of_equation, fits_function}
@@ -49,23 +49,24 @@ not_high h le = by_case (nat_lt 500 h) refl where
   by_case false e = refl
   by_case true e = absurd (let above : 500 < h = ltb-true 500 h e in omega (arith, above, le))
 
-low_faults : (sig : Signature) (u : Unfolded) → height u ≤ 500
+low_faults : (sig : Signature) (u : Unfolded) → unfolded_height u ≤ 500
     → all_faults sig u ≡ pattern_faults sig u
-low_faults sig u le = rw (not_high (height u) le) refl
+low_faults sig u le = rw (not_high (unfolded_height u) le) refl
 
 and_assoc : (a b c : Bool) → ((a && b) && c) ≡ (a && (b && c))
 and_assoc true b c = refl
 and_assoc false b c = refl
 
 -- patterns that are not too high are faultless if and only if they have no fault as arguments
-pub faultless_same : (sig : Signature) (refs : List SortRef) (us : Unfoldeds) → heights us ≤ 500
+pub faultless_same : (sig : Signature) (refs : List SortRef) (us : Unfoldeds)
+    → unfolded_heights us ≤ 500
     → each_faultless sig refs us ≡ is_empty (argument_faults sig [] refs us)
 faultless_same sig refs no_more le = refl
 faultless_same sig refs (and_more u us) le =
-    let here : height u ≤ 500 = omega (arith, le) in
-    let later : heights us ≤ 500 = omega (arith, le) in
+    let here : unfolded_height u ≤ 500 = omega (arith, le) in
+    let later : unfolded_heights us ≤ 500 = omega (arith, le) in
     let clash : List Fault =
-    clash_faults (unfolded_byte u) (sort_of sig u) (first_wanted sig [] refs) in
+    clash_faults (unfolded_byte u) (sort_of_pattern sig u) (first_wanted sig [] refs) in
     let rest : List Fault = argument_faults sig [] (drop 1 refs) us in
     let first : is_empty (faults_at_sort sig (first_wanted sig [] refs) u) ≡
     (is_empty (pattern_faults sig u) && is_empty clash) =
@@ -84,33 +85,35 @@ faultless_same sig refs (and_more u us) le =
 -- ---- the variables of kompile's form
 
 alone_low : (x : PatternTree) (others : List PatternTree) → stands_alone x others ≡ true
-    → height (unfolded x) ≤ 500
+    → unfolded_height (unfolded x) ≤ 500
 alone_low (element_variable at n s) others h = omega arith
 alone_low (set_variable at n s) others h = absurd (false≢true h)
 alone_low (string at text) others h = absurd (false≢true h)
 alone_low (symbol_applied at n ss ps) others h = absurd (false≢true h)
 alone_low (connected at op ss ps) others h = absurd (false≢true h)
-alone_low (binding at b ss x p) others h = absurd (false≢true h)
-alone_low (domain_value at s text byte) others h = absurd (false≢true h)
+alone_low (binder_applied at b ss x p) others h = absurd (false≢true h)
+alone_low (value_written at s text byte) others h = absurd (false≢true h)
 alone_low (folded at left p) others h = absurd (false≢true h)
 
 apart_low : (xs others : List PatternTree) → occur_nowhere_else xs others ≡ true
-    → heights (all_read xs) ≤ 500
+    → unfolded_heights (all_read xs) ≤ 500
 apart_low [] others h = omega arith
 apart_low (x ∷ xs) others h =
     let both = both_true _ _ h in
-    let here : height (unfolded x) ≤ 500 = alone_low x xs (both_true _ _ both.0).0 in
-    let later : heights (all_read xs) ≤ 500 = apart_low xs others both.1 in
+    let here : unfolded_height (unfolded x) ≤ 500 = alone_low x xs (both_true _ _ both.0).0 in
+    let later : unfolded_heights (all_read xs) ≤ 500 = apart_low xs others both.1 in
     omega (arith, here, later)
 
 abbrev HasLowParameters : EquationParts → Type 0
-HasLowParameters q = heights (all_read q.parameters) ≤ 500
+HasLowParameters q = unfolded_heights (all_read q.parameters) ≤ 500
 
-direct_low : (e : Statement) (c : Option PatternTree) (q : EquationParts)
-    → Some (direct e c) ≡ Some q → HasLowParameters q
-direct_low e c q is = subst HasLowParameters (let same : direct e c ≡ q = cc in same) (omega arith)
+direct_low : (e : StatedEquation) (c : Option PatternTree) (q : EquationParts)
+    → Some (direct_parts e c) ≡ Some q → HasLowParameters q
+direct_low e c q is = subst HasLowParameters (let same : direct_parts e c
+    ≡ q = cc in same) (omega arith)
 
-kompiled_low : (e : Statement) (c : PatternTree) (o : Option (List PatternTree)) (q : EquationParts)
+kompiled_low : (e : StatedEquation) (c : PatternTree) (o : Option (List PatternTree))
+    (q : EquationParts)
     → option_and_then (kompiled e c) o ≡ Some q → HasLowParameters q
 kompiled_low e c None q is = absurd (let never : ⊥ = cc in never)
 kompiled_low e c (Some ps) q is =
@@ -135,12 +138,13 @@ kompiled_low e c (Some ps) q is =
         same)
         (apart_low e.arguments (c ∷ (e.value ∷ ps)) test)
 
-under_low : (e : Statement) (g : PatternTree) (o : Option (PatternTree × PatternTree))
+under_low : (e : StatedEquation) (g : PatternTree) (o : Option (PatternTree × PatternTree))
     (q : EquationParts) → parts_under e g o ≡ Some q → HasLowParameters q
 under_low e g None q is = direct_low e (Some g) q is
 under_low e g (Some both) q is = kompiled_low e both.0 (members e.over e.arguments both.1) q is
 
-with_low : (e : Statement) (o : Option PatternTree) (q : EquationParts) → parts_with e o ≡ Some q
+with_low : (e : StatedEquation) (o : Option PatternTree) (q : EquationParts) → parts_with e o
+    ≡ Some q
     → HasLowParameters q
 with_low e None q is = direct_low e None q is
 with_low e (Some g) q is = under_low e g (conjuncts e.over g) q is
@@ -155,10 +159,10 @@ and_true : (x : Bool) → (x && true) ≡ x
 and_true true = refl
 and_true false = refl
 
-pub sorted_same : (sig : Signature) (info : SymInfo) (e : Statement) (q : EquationParts)
+pub sorted_same : (sig : Signature) (info : SymInfo) (e : StatedEquation) (q : EquationParts)
     → equation_parts e ≡ Some q
     → are_parts_sorted sig info (condition_of_equation sig e q) q ≡ is_sorted sig info e q
-sorted_same sig info e q form = by_case (nat_le (heights ps + 1) most_height) refl where
+sorted_same sig info e q form = by_case (nat_le (unfolded_heights ps + 1) most_height) refl where
   ps : Unfoldeds
   ps = all_read q.patterns
 
@@ -185,15 +189,16 @@ sorted_same sig info e q form = by_case (nat_le (heights ps + 1) most_height) re
       ∙ ap (λ (b : Bool). is_empty (argument_faults sig [] info.args.items ps) && b)
       (empty_both fs gs))
 
-  by_case : (b : Bool) → nat_le (heights ps + 1) most_height ≡ b
+  by_case : (b : Bool) → nat_le (unfolded_heights ps + 1) most_height ≡ b
       → (b
       && (each_faultless sig info.args.items xs
       && (each_faultless sig info.args.items ps && (is_empty fs && is_empty gs))))
       ≡ (all_empty && b)
   by_case false h = sym (and_false all_empty)
   by_case true h =
-      let low : heights ps ≤ 500 =
-      let le : heights ps + 1 ≤ 500 = leb-true (heights ps + 1) 500 h in omega (arith, le) in
+      let low : unfolded_heights ps ≤ 500 =
+      let le : unfolded_heights ps + 1 ≤ 500 = leb-true (unfolded_heights ps + 1) 500 h in omega
+          (arith, le) in
       ap (λ (b : Bool).
       b && (each_faultless sig info.args.items ps && (is_empty fs && is_empty gs)))
       (faultless_same sig info.args.items xs (with_low e e.guard q form))
@@ -209,17 +214,17 @@ split_uses true ac g b c = refl
 split_uses false true g b c = refl
 split_uses false false g b c = refl
 
-uses_same : (sig : Signature) (info : SymInfo) (e : Statement) (q : EquationParts)
+uses_same : (sig : Signature) (info : SymInfo) (e : StatedEquation) (q : EquationParts)
     → has_good_uses sig info e q ≡ (has_good_symbols sig info q && are_bound sig e q)
 uses_same sig info e q =
     split_uses (have_symbol (is_plain_function sig) (all_read q.patterns)) info.ac
     (have_symbol (is_ac_symbol sig) (all_read q.patterns))
-    (is_bound (all_read q.patterns) (tested (condition_of_equation sig e q)))
+    (is_bound (all_read q.patterns) (tested_pattern (condition_of_equation sig e q)))
     (is_bound (all_read q.patterns) (Some q.right))
 
 -- ---- the whole
 
-pub record IsClear (sig : Signature) (a : AxiomDeclaration) (info : SymInfo) (e : Statement)
+pub record IsClear (sig : Signature) (a : AxiomDeclaration) (info : SymInfo) (e : StatedEquation)
     (q : EquationParts) : Type 0 where
   pub no_last_resort : has_attribute (codes "owise") a.attributes ≡ false
   pub form : equation_parts e ≡ Some q
@@ -228,7 +233,7 @@ pub record IsClear (sig : Signature) (a : AxiomDeclaration) (info : SymInfo) (e 
   pub sorted : are_parts_sorted sig info (condition_of_equation sig e q) q ≡ true
   pub symbols : has_good_symbols sig info q ≡ true
 
-pub clear_is : (sig : Signature) (a : AxiomDeclaration) (info : SymInfo) (e : Statement)
+pub clear_is : (sig : Signature) (a : AxiomDeclaration) (info : SymInfo) (e : StatedEquation)
     (q : EquationParts) → clear_parts sig a info e ≡ Some q → IsClear sig a info e q
 clear_is sig a info e q h = by_resort (has_attribute (codes "owise") a.attributes) refl h where
   found : has_attribute (codes "owise") a.attributes ≡ false → equation_parts e ≡ Some q
@@ -265,7 +270,7 @@ clear_is sig a info e q h = by_resort (has_attribute (codes "owise") a.attribute
   by_resort true resort h = absurd (let never : ⊥ = cc in never)
   by_resort false none h = by_parts none (equation_parts e) refl h
 
-pub is_readable : (sig : Signature) (a : AxiomDeclaration) (info : SymInfo) (e : Statement)
+pub is_readable : (sig : Signature) (a : AxiomDeclaration) (info : SymInfo) (e : StatedEquation)
     (q : EquationParts) → clear_parts sig a info e ≡ Some q → are_bound sig e q ≡ true
     → IsReadable sig a info e q
 is_readable sig a info e q h bound =
@@ -279,7 +284,7 @@ is_readable sig a info e q h bound =
       good_uses = uses_same sig info e q ∙ true_both _ _ c.symbols bound;
     }
 
-pub readable_is : (sig : Signature) (a : AxiomDeclaration) (info : SymInfo) (e : Statement)
+pub readable_is : (sig : Signature) (a : AxiomDeclaration) (info : SymInfo) (e : StatedEquation)
     (q : EquationParts) → IsReadable sig a info e q
     → (clear_parts sig a info e ≡ Some q) × (are_bound sig e q ≡ true)
 readable_is sig a info e q r =
@@ -294,14 +299,15 @@ readable_is sig a info e q r =
     )
 
 -- an equation that is not clear, or has an unbound variable, is not readable
-pub none_unreadable : (sig : Signature) (a : AxiomDeclaration) (info : SymInfo) (e : Statement)
+pub none_unreadable : (sig : Signature) (a : AxiomDeclaration) (info : SymInfo) (e : StatedEquation)
     → clear_parts sig a info e ≡ None → (q : EquationParts) → IsReadable sig a info e q → ⊥
 none_unreadable sig a info e h q r =
     let both : None ≡ Some q = sym h ∙ (readable_is sig a info e q r).0 in
     let never : ⊥ = cc in
     never
 
-pub unbound_unreadable : (sig : Signature) (a : AxiomDeclaration) (info : SymInfo) (e : Statement)
+pub unbound_unreadable : (sig : Signature) (a : AxiomDeclaration) (info : SymInfo)
+    (e : StatedEquation)
     (p : EquationParts) → clear_parts sig a info e ≡ Some p → are_bound sig e p ≡ false
     → (q : EquationParts) → IsReadable sig a info e q → ⊥
 unbound_unreadable sig a info e p h unbound q r =

@@ -2,7 +2,7 @@
 use Rattle.std.proofs.Common.{◌≡◌, Some, sym, ◌∙◌, subst}
 use Rattle.rule_core.specs.declared.signature.SymInfo.{SymInfo}
 use Rattle.kore_axioms.specs.AxiomClasses.{equates}
-use Rattle.kore_shapes.specs.Statements.{Statement}
+use Rattle.kore_shapes.specs.Statements.{StatedEquation}
 use Rattle.kore_equations.specs.ReadableEquations.{IsReadable}
 use Rattle.kore_equations.specs.ReadingLaws.{ReadingsExclude}
 
@@ -14,4 +14,4 @@ readings_exclude sig f a e is not =
     let info : is.info ≡ not.info = cc in
     not.unreadable is.parts
     (subst (λ (i : SymInfo). IsReadable sig a i not.stated is.parts) info
-    (subst (λ (s : Statement). IsReadable sig a is.info s is.parts) stated is.readable))
+    (subst (λ (s : StatedEquation). IsReadable sig a is.info s is.parts) stated is.readable))

@@ -19,11 +19,11 @@ use Rattle.kore_check.specs.PatternMeanings.{with_all_variables, Means, AllMean}
 use Rattle.kore_check.specs.VariableNames.{named_sorts}
 use Rattle.kore_check.specs.PatternSorts.{symbol_named}
 use Rattle.kore_shapes.specs.Forms.{all_forms, has_form, has_binder}
-use Rattle.kore_shapes.specs.Statements.{Statement}
+use Rattle.kore_shapes.specs.Statements.{StatedEquation}
 use Rattle.kore_shapes.specs.EquationForms.{EquationParts}
-use Rattle.kore_axioms.specs.AxiomClasses.{equates, class_of}
+use Rattle.kore_axioms.specs.AxiomClasses.{equates, axiom_class}
 use Rattle.kore_axioms.specs.AxiomMeanings.{MeansTest}
-use Rattle.kore_axioms.specs.Conditions.{tested}
+use Rattle.kore_axioms.specs.Conditions.{tested_pattern}
 use Rattle.kore_axioms.specs.Priorities.{priority_of}
 use Rattle.kore_axioms.specs.RuleFaults.{is_empty, faults_at_sort, condition_faults}
 use Rattle.kore_axioms.proofs.ApplicativeLaws.{neither, applicative}
@@ -63,8 +63,8 @@ not_true : (b : Bool) → not b ≡ true → b ≡ false
 not_true false h = refl
 not_true true h = sym h
 
-pub fine_equation : (sig : Signature) (a : AxiomDeclaration) (info : SymInfo) (e : Statement)
-    (q : EquationParts) → class_of sig a ≡ equates e → clear_parts sig a info e ≡ Some q
+pub fine_equation : (sig : Signature) (a : AxiomDeclaration) (info : SymInfo) (e : StatedEquation)
+    (q : EquationParts) → axiom_class sig a ≡ equates e → clear_parts sig a info e ≡ Some q
     → IsFineEquation sig (condition_of_equation sig e q) q
 fine_equation sig a info e q class h =
     let c = clear_is sig a info e q h in
@@ -84,7 +84,8 @@ fine_equation sig a info e q class h =
       test = λ p is. record {
         form =
             applicative p
-            (held (has_form all_forms) (tested (condition_of_equation sig e q)) p is others.0)
+            (held (has_form all_forms) (tested_pattern (condition_of_equation sig e q)) p is
+            others.0)
             (test_binds_none sig e.over q.condition binds.condition p is);
         clear =
             clear_test sig (condition_of_equation sig e q) p is
@@ -99,8 +100,8 @@ sorts_named [] = refl
 sorts_named (v ∷ vars) = ap (λ (ss : List ℕ). v.sort.0 ∷ ss) (sorts_named vars)
 
 -- the patterns that are built of bound parts are the equation that the axiom means
-pub equation_meant : (sig : Signature) (a : AxiomDeclaration) (info : SymInfo) (e : Statement)
-    (q : EquationParts) (made : EquationPatterns) (f n p : ℕ) → class_of sig a ≡ equates e
+pub equation_meant : (sig : Signature) (a : AxiomDeclaration) (info : SymInfo) (e : StatedEquation)
+    (q : EquationParts) (made : EquationPatterns) (f n p : ℕ) → axiom_class sig a ≡ equates e
     → symbol_named sig e.function ≡ Some info → clear_parts sig a info e ≡ Some q
     → IsBuiltOf sig (condition_of_equation sig e q) q made → made.bound ≡ true
     → n ≡ length q.parameters → p ≡ priority_of a.attributes
@@ -134,7 +135,7 @@ equation_meant sig a info e q made f n p class declared clear b bound count stat
             (b.means_arguments bound);
         means_condition =
             subst (λ (vs : List (List ℕ × ℕ)). MeansTest sig vs
-            (tested (condition_of_equation sig e q)) (option_map plain_pattern made.cond))
+            (tested_pattern (condition_of_equation sig e q)) (option_map plain_pattern made.cond))
             numbered (b.means_condition bound);
         means_right =
             subst (λ (vs : List (List ℕ × ℕ)).

@@ -12,7 +12,7 @@ use Rattle.kore_check.specs.VariableNames.{named_sorts}
 use Rattle.kore_shapes.specs.Shapes.{Condition}
 use Rattle.kore_shapes.specs.EquationForms.{EquationParts}
 use Rattle.kore_axioms.specs.AxiomMeanings.{MeansTest}
-use Rattle.kore_axioms.specs.Conditions.{tested}
+use Rattle.kore_axioms.specs.Conditions.{tested_pattern}
 use Rattle.kore_axioms.specs.RuleFaults.{is_bound}
 use Rattle.kore_equations.specs.ReadableEquations.{all_read}
 use Rattle.kore_equations.specs.declared.patterns.EquationPatterns.{EquationPatterns}
@@ -30,7 +30,7 @@ AreFine sig (and_more u us) = IsFine sig u × AreFine sig us
 -- the patterns, the condition and the right side of an equation are so
 pub record IsFineEquation (sig : Signature) (c : Condition) (q : EquationParts) : Type 0 where
   pub patterns : AreFine sig (all_read q.patterns)
-  pub test : (p : PatternTree) → tested c ≡ Some p → IsFine sig (unfolded p)
+  pub test : (p : PatternTree) → tested_pattern c ≡ Some p → IsFine sig (unfolded p)
   pub right : IsFine sig (unfolded q.right)
 
 -- The patterns are built of the parts, under this condition. If all variables are bound, the built
@@ -38,13 +38,15 @@ pub record IsFineEquation (sig : Signature) (c : Condition) (q : EquationParts) 
 pub record IsBuiltOf (sig : Signature) (c : Condition) (q : EquationParts)
     (made : EquationPatterns) : Type 0 where
   pub bound : made.bound
-      ≡ (is_bound (all_read q.patterns) (tested c) && is_bound (all_read q.patterns) (Some q.right))
+      ≡ (is_bound (all_read q.patterns) (tested_pattern c)
+      && is_bound (all_read q.patterns) (Some q.right))
   pub numbered : made.bound ≡ true
       → named_sorts made.vars.items ≡ with_all_variables sig [] (all_read q.patterns)
   pub means_arguments : made.bound ≡ true
       → AllMean sig (named_sorts made.vars.items) (all_read q.patterns)
       (plain_patterns made.args.items)
   pub means_condition : made.bound ≡ true
-      → MeansTest sig (named_sorts made.vars.items) (tested c) (option_map plain_pattern made.cond)
+      → MeansTest sig (named_sorts made.vars.items) (tested_pattern c)
+      (option_map plain_pattern made.cond)
   pub means_right : made.bound ≡ true
       → Means sig (named_sorts made.vars.items) (unfolded q.right) (plain_pattern made.right)

@@ -7,10 +7,10 @@ use Rattle.rule_core.specs.declared.signature.SymInfo.{SymInfo}
 use Rattle.kore_check.specs.Folds.{unfolded}
 use Rattle.kore_check.specs.PatternMeanings.{with_all_variables, Means, AllMean}
 use Rattle.kore_check.specs.PatternSorts.{symbol_named}
-use Rattle.kore_shapes.specs.Statements.{Statement}
+use Rattle.kore_shapes.specs.Statements.{StatedEquation}
 use Rattle.kore_shapes.specs.EquationForms.{EquationParts}
-use Rattle.kore_axioms.specs.AxiomClasses.{equates, class_of}
-use Rattle.kore_axioms.specs.Conditions.{tested}
+use Rattle.kore_axioms.specs.AxiomClasses.{equates, axiom_class}
+use Rattle.kore_axioms.specs.Conditions.{tested_pattern}
 use Rattle.kore_axioms.specs.AxiomMeanings.{MeansTest}
 use Rattle.kore_axioms.specs.Priorities.{priority_of}
 use Rattle.kore_equations.specs.ReadableEquations.{IsReadable, condition_of_equation, all_read}
@@ -19,8 +19,8 @@ use Rattle.kore_equations.specs.ReadableEquations.{IsReadable, condition_of_equa
 -- that the arguments match, in the order of their first occurrence.
 pub record MeansEquation (sig : Signature) (f : List ℕ) (a : AxiomDeclaration) (e : Equation) :
     Type 0 where
-  pub stated : Statement
-  pub class : class_of sig a ≡ equates stated
+  pub stated : StatedEquation
+  pub class : axiom_class sig a ≡ equates stated
   pub function : stated.function ≡ f
   pub info : SymInfo
   pub declared : symbol_named sig f ≡ Some info
@@ -30,7 +30,8 @@ pub record MeansEquation (sig : Signature) (f : List ℕ) (a : AxiomDeclaration)
   pub numbered : variables ≡ with_all_variables sig [] (all_read parts.patterns)
   pub parameters : e.parameters ≡ length parts.parameters
   pub means_arguments : AllMean sig variables (all_read parts.patterns) e.arguments
-  pub means_condition : MeansTest sig variables (tested (condition_of_equation sig stated parts))
+  pub means_condition : MeansTest sig variables
+      (tested_pattern (condition_of_equation sig stated parts))
       e.condition
   pub means_right : Means sig variables (unfolded parts.right) e.right
   pub sorts : e.variables ≡ map (λ (v : List ℕ × ℕ). v.1) variables
@@ -39,8 +40,8 @@ pub record MeansEquation (sig : Signature) (f : List ℕ) (a : AxiomDeclaration)
 
 -- the axiom states an equation of the function of this name, and it is not readable
 pub record IsUnreadable (sig : Signature) (f : List ℕ) (a : AxiomDeclaration) : Type 0 where
-  pub stated : Statement
-  pub class : class_of sig a ≡ equates stated
+  pub stated : StatedEquation
+  pub class : axiom_class sig a ≡ equates stated
   pub function : stated.function ≡ f
   pub info : SymInfo
   pub declared : symbol_named sig f ≡ Some info

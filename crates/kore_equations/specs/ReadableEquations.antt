@@ -13,14 +13,14 @@ use Rattle.rule_core.specs.declared.signature.SymInfo.{SymInfo}
 use Rattle.kore_sig.specs.FirstFault.{Fault}
 use Rattle.kore_sig.specs.Attributes.{has_attribute}
 use Rattle.kore_sig.specs.SortReferences.{sort_number}
-use Rattle.kore_check.specs.Folds.{Unfoldeds, unfolded, all_unfolded, heights}
+use Rattle.kore_check.specs.Folds.{Unfoldeds, unfolded, all_unfolded, unfolded_heights}
 use Rattle.rule_core.specs.Evaluation.{most_height}
 use Rattle.kore_check.specs.PatternFaults.{argument_faults}
 use Rattle.kore_shapes.specs.Forms.{all_forms, has_form, has_binder}
 use Rattle.kore_shapes.specs.Shapes.{Condition, given_condition}
-use Rattle.kore_shapes.specs.Statements.{Statement}
+use Rattle.kore_shapes.specs.Statements.{StatedEquation}
 use Rattle.kore_shapes.specs.EquationForms.{EquationParts, equation_parts}
-use Rattle.kore_axioms.specs.Conditions.{over_bool, tested, is_ill}
+use Rattle.kore_axioms.specs.Conditions.{over_bool, tested_pattern, is_ill}
 use Rattle.kore_axioms.specs.Uses.{have_symbol, is_plain_function, is_ac_symbol}
 use Rattle.kore_axioms.specs.Priorities.{has_bad_priority}
 use Rattle.kore_axioms.specs.RuleForms.{holds_of}
@@ -30,7 +30,7 @@ use Rattle.kore_axioms.specs.RuleFaults.{is_empty, faults_at_sort, condition_fau
 abbrev pub all_read : List PatternTree → Unfoldeds
 all_read ps = all_unfolded (pattern_trees ps)
 
-abbrev pub condition_of_equation : Signature → Statement → EquationParts → Condition
+abbrev pub condition_of_equation : Signature → StatedEquation → EquationParts → Condition
 condition_of_equation sig e q = over_bool sig (given_condition e.over q.condition)
 
 -- ---- its function
@@ -48,7 +48,8 @@ is_one_sort _ _ = false
 
 -- the equation is over such a sort, has its function's result sort, and has as many patterns as its
 -- function has arguments
-abbrev pub fits_function : Signature → AxiomDeclaration → SymInfo → Statement → EquationParts → Bool
+abbrev pub fits_function : Signature → AxiomDeclaration → SymInfo → StatedEquation → EquationParts
+    → Bool
 fits_function sig a info e q =
     is_sort_over sig a.params e.over
     && (is_one_sort (sort_number sig.sorts e.sort) (sort_at [] info.result)
@@ -57,15 +58,15 @@ fits_function sig a info e q =
 -- ---- its form
 
 -- a pattern contains a form that no equation may have
-abbrev pub has_other_form : Signature → Statement → EquationParts → Bool
+abbrev pub has_other_form : Signature → StatedEquation → EquationParts → Bool
 has_other_form sig e q =
     list_any (has_form all_forms) q.patterns
-    || (holds_of (has_form all_forms) (tested (condition_of_equation sig e q))
+    || (holds_of (has_form all_forms) (tested_pattern (condition_of_equation sig e q))
     || has_form all_forms q.right)
 
 -- the equation has no such form and no binder, its condition has the form of a condition, and its
 -- priority is not bad
-abbrev pub has_good_form : Signature → AxiomDeclaration → Statement → EquationParts → Bool
+abbrev pub has_good_form : Signature → AxiomDeclaration → StatedEquation → EquationParts → Bool
 has_good_form sig a e q =
     not (has_other_form sig e q)
     && (not (has_binder a.pattern)
@@ -75,7 +76,7 @@ has_good_form sig a e q =
 
 -- the faults of the variables of the left side and of the patterns, which should have the sorts of
 -- the function's arguments; of the condition; and of the right side
-abbrev pub equation_faults : Signature → SymInfo → Statement → EquationParts → List Fault
+abbrev pub equation_faults : Signature → SymInfo → StatedEquation → EquationParts → List Fault
 equation_faults sig info e q =
     argument_faults sig [] info.args.items (all_read q.parameters)
     ++ (argument_faults sig [] info.args.items (all_read q.patterns)
@@ -83,27 +84,27 @@ equation_faults sig info e q =
     ++ faults_at_sort sig (sort_at [] info.result) (unfolded q.right)))
 
 -- the sorts have no fault, and the function applied to the patterns is not too high
-abbrev pub is_sorted : Signature → SymInfo → Statement → EquationParts → Bool
+abbrev pub is_sorted : Signature → SymInfo → StatedEquation → EquationParts → Bool
 is_sorted sig info e q =
     is_empty (equation_faults sig info e q)
-    && nat_le (heights (all_read q.patterns) + 1) most_height
+    && nat_le (unfolded_heights (all_read q.patterns) + 1) most_height
 
 -- ---- its uses
 
 -- the patterns use no function and no AC symbol, the function is not AC, and each variable of the
 -- condition and of the right side occurs in the patterns
-abbrev pub has_good_uses : Signature → SymInfo → Statement → EquationParts → Bool
+abbrev pub has_good_uses : Signature → SymInfo → StatedEquation → EquationParts → Bool
 has_good_uses sig info e q =
     not (have_symbol (is_plain_function sig) (all_read q.patterns))
     && (not (info.ac || have_symbol (is_ac_symbol sig) (all_read q.patterns))
-    && (is_bound (all_read q.patterns) (tested (condition_of_equation sig e q))
+    && (is_bound (all_read q.patterns) (tested_pattern (condition_of_equation sig e q))
     && is_bound (all_read q.patterns) (Some q.right)))
 
 -- ---- the equation
 
 -- The equation of the function with this declaration has one of the two forms, with these parts.
 -- The parts have no fault, and the equation is no last resort (`owise`).
-pub record IsReadable (sig : Signature) (a : AxiomDeclaration) (info : SymInfo) (e : Statement)
+pub record IsReadable (sig : Signature) (a : AxiomDeclaration) (info : SymInfo) (e : StatedEquation)
     (q : EquationParts) :
     Type 0 where
   pub no_last_resort : has_attribute (codes "owise") a.attributes ≡ false

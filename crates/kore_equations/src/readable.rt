@@ -13,7 +13,7 @@ ghost use Rattle.kore_shapes.specs.StatementViews.{plain_statement};
 ghost use Rattle.kore_shapes.specs.PartViews.{plain_parts};
 ghost use Rattle.kore_axioms.specs.Uses.{have_symbol as have_one};
 ghost use Rattle.kore_axioms.specs.UsedSymbols.{is_used};
-ghost use Rattle.kore_axioms.specs.Conditions.{tested as the_tested};
+ghost use Rattle.kore_axioms.specs.Conditions.{tested_pattern as the_tested};
 ghost use Rattle.kore_axioms.specs.RuleForms.{holds_of};
 ghost use Rattle.kore_equations.specs.ReadableEquations.{condition_of_equation as the_condition};
 ghost use Rattle.kore_equations.specs.ReadableEquations.{is_sort_over as is_a_sort_over};

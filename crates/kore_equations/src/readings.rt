@@ -1,11 +1,11 @@
 // What an axiom that states an equation is read as.
 ghost use Rattle.std.specs.Prelude.{◌≡◌, IfOk, Some};
 ghost use Rattle.kore_ast.specs.Plain.{plain_axiom_decl};
-ghost use Rattle.rule_core.specs.Named.{number_of};
+ghost use Rattle.rule_core.specs.Named.{number_of_name};
 ghost use Rattle.rule_core.specs.WellSorted.{IsSignature};
 ghost use Rattle.kore_sig.specs.Numbered.{IsNumbered};
 ghost use Rattle.kore_shapes.specs.StatementViews.{plain_statement};
-ghost use Rattle.kore_axioms.specs.AxiomClasses.{equates, class_of};
+ghost use Rattle.kore_axioms.specs.AxiomClasses.{equates, axiom_class};
 ghost use Rattle.kore_check.specs.PatternSorts.{symbol_named};
 ghost use Rattle.kore_equations.specs.Readings.{IsReadAs, function_of};
 ghost use Rattle.kore_equations.specs.MeantEquations.{IsMeant};
@@ -46,11 +46,11 @@ pub fn read_equation(
 ) -> Result<Reading, AllocError>
     requires numbered { IsNumbered sig.now }
     requires signature { IsSignature sig.now }
-    requires class { class_of sig.now (plain_axiom_decl decl.now)
+    requires class { axiom_class sig.now (plain_axiom_decl decl.now)
         ≡ equates (plain_statement stated.now) }
     ensures function { IfOk result
         (λ reading.
-        number_of sig.now.symbols stated.now.function.now ≡ Some (function_of reading)) }
+        number_of_name sig.now.symbols stated.now.function.now ≡ Some (function_of reading)) }
     ensures means { IfOk result
         (IsReadAs sig.now stated.now.function.now (plain_axiom_decl decl.now)) }
 {
@@ -78,7 +78,7 @@ fn meant_equation(
 ) -> Result<Option<Equation>, AllocError>
     requires numbered { IsNumbered sig.now }
     requires signature { IsSignature sig.now }
-    requires class { class_of sig.now (plain_axiom_decl decl.now)
+    requires class { axiom_class sig.now (plain_axiom_decl decl.now)
         ≡ equates (plain_statement stated.now) }
     requires declared { symbol_named sig.now stated.now.function.now ≡ Some symbol.now }
     ensures { IfOk result

@@ -3,7 +3,7 @@ ghost use Rattle.std.specs.Prelude.{◌≡◌, ◌+◌, [], drop, map, option_ma
 ghost use Rattle.kore_ast.specs.Plain.{pattern_tree};
 ghost use Rattle.rule_core.specs.Sorting.{sort_at as the_sort_at};
 ghost use Rattle.kore_sig.specs.Numbered.{IsNumbered};
-ghost use Rattle.kore_check.specs.Folds.{heights};
+ghost use Rattle.kore_check.specs.Folds.{unfolded_heights};
 ghost use Rattle.kore_check.specs.FoldHeights.{cut};
 ghost use Rattle.rule_core.specs.Evaluation.{most_height};
 ghost use Rattle.kore_check.specs.PatternFaults.{first_wanted};
@@ -41,14 +41,14 @@ pub(crate) fn is_sorted(
 
 /// Whether a symbol applied to these patterns is not too high.
 fn fits_height(pats: &[&Pat]) -> bool
-    ensures { result ≡ nat_le (heights (all_read (map pattern_at pats.now)) + 1) most_height }
+    ensures { result ≡ nat_le (unfolded_heights (all_read (map pattern_at pats.now)) + 1) most_height }
 {
     highest(pats) < MAX_HEIGHT
 }
 
 /// The greatest height of the patterns: 0 if there are none, and 501 if it is greater than 500.
 fn highest(pats: &[&Pat]) -> u32
-    ensures { result ≡ cut (heights (all_read (map pattern_at pats.now))) }
+    ensures { result ≡ cut (unfolded_heights (all_read (map pattern_at pats.now))) }
 {
     let mut highest: u32 = 0;
     for pat in pats {

@@ -17,8 +17,8 @@ use Rattle.kore_lex.specs.declared.piece.Piece.TheVariants.{Nothing, Gap, Whole,
 use Rattle.kore_lex.specs.Escapes.{hex_digit, bind, hex_number, by_number, escape}
 use Rattle.kore_lex.specs.Tokens.{IsInner, IsToken, IsString}
 use Rattle.kore_lex.specs.Pieces.{piece}
-use Rattle.kore_lex.specs.Lexed.{Stream, end, fault, token, lexed, onward}
-use Rattle.kore_lex.specs.Value.{plain, value}
+use Rattle.kore_lex.specs.Lexed.{Cut, cut_end, cut_fault, cut_token, lexed, onward}
+use Rattle.kore_lex.specs.Value.{unescaped_text, string_value}
 use Rattle.kore_lex.specs.Steps.{Took, run_len}
 use Rattle.kore_lex.proofs.Lexing.{Within, lexed-is, piece-within}
 use Rattle.kore_lex.proofs.Longest.{piece-longest}
@@ -70,15 +70,17 @@ escape-scalar (c ∷ cs) =
 
 -- the text of the bytes inside a string is UTF-8
 
-taken-utf8 : (bs t : List ℕ) (n : ℕ) → Took bs [] t n → IsUtf8 t → IsUtf8 (plain 0 (drop n bs))
-    → IsUtf8 (plain 0 bs)
+taken-utf8 : (bs t : List ℕ) (n : ℕ) → Took bs [] t n → IsUtf8 t
+    → IsUtf8 (unescaped_text 0 (drop n bs))
+    → IsUtf8 (unescaped_text 0 bs)
 taken-utf8 bs t n k u v =
-    subst (λ (x : List ℕ). IsUtf8 x) k.grown (IsUtf8-append t (plain 0 (drop n bs)) u v)
+    subst (λ (x : List ℕ). IsUtf8 x) k.grown (IsUtf8-append t (unescaped_text 0 (drop n bs)) u v)
 
 escape-utf8 : (bs : List ℕ) (o : Option Escape) → o ≡ escape (drop 1 bs) → 0 < length bs
     → get_or bs 0 0 ≡ 92 → IsInner bs
-    → ((n : ℕ) → 1 ≤ n → n ≤ length bs → IsInner (drop n bs) → IsUtf8 (plain 0 (drop n bs)))
-    → IsUtf8 (plain 0 bs)
+    → ((n : ℕ) → 1 ≤ n → n ≤ length bs → IsInner (drop n bs)
+    → IsUtf8 (unescaped_text 0 (drop n bs)))
+    → IsUtf8 (unescaped_text 0 bs)
 escape-utf8 bs None e l b h go = absurd (escape-there bs l b h e)
 escape-utf8 bs (Some x) e l b h go =
     let k : Took bs [] (encode_utf8 x.character) (x.len + 1) =
@@ -90,29 +92,31 @@ escape-utf8 bs (Some x) e l b h go =
     (go (x.len + 1) k.some k.within k.inner)
 
 run-plain : (bs : List ℕ) → 0 < length bs → (get_or bs 0 0 ≡ 92 → ⊥) → IsInner bs
-    → ((n : ℕ) → 1 ≤ n → n ≤ length bs → IsInner (drop n bs) → IsUtf8 (plain 0 (drop n bs)))
-    → IsUtf8 (plain 0 bs)
+    → ((n : ℕ) → 1 ≤ n → n ≤ length bs → IsInner (drop n bs)
+    → IsUtf8 (unescaped_text 0 (drop n bs)))
+    → IsUtf8 (unescaped_text 0 bs)
 run-plain bs l b h go =
     let n : ℕ = run_len bs in
     let k : Took bs [] (take n bs) n = run-took bs [] (take n bs) l b h refl in
     taken-utf8 bs (take n bs) n k (run-utf8 bs h) (go n k.some k.within k.inner)
 
 by-first : (bs : List ℕ) (x : Bool) → (get_or bs 0 0 == 92) ≡ x → 0 < length bs → IsInner bs
-    → ((n : ℕ) → 1 ≤ n → n ≤ length bs → IsInner (drop n bs) → IsUtf8 (plain 0 (drop n bs)))
-    → IsUtf8 (plain 0 bs)
+    → ((n : ℕ) → 1 ≤ n → n ≤ length bs → IsInner (drop n bs)
+    → IsUtf8 (unescaped_text 0 (drop n bs)))
+    → IsUtf8 (unescaped_text 0 bs)
 by-first bs true e l h go =
     escape-utf8 bs (escape (drop 1 bs)) refl l (grind (arith, nat_tests)) h go
 by-first bs false e l h go = run-plain bs l (λ z. grind (arith, nat_tests)) h go
 
-plain-utf8 : (m : ℕ) (bs : List ℕ) → length bs ≤ m → IsInner bs → IsUtf8 (plain 0 bs)
-unfolding plain
+plain-utf8 : (m : ℕ) (bs : List ℕ) → length bs ≤ m → IsInner bs → IsUtf8 (unescaped_text 0 bs)
+unfolding unescaped_text
 plain-utf8 m [] l h = IsUtf8-nil
 plain-utf8 zero (c ∷ cs) l h = absurd (omega arith)
 plain-utf8 (suc m) (c ∷ cs) l h =
     by-first (c ∷ cs) (c == 92) refl (omega arith) h
     (λ n lo hi i. plain-utf8 m (drop n (c ∷ cs)) (omega (arith, length-drop n (c ∷ cs))) i)
 
-pub string-utf8 : (bs : List ℕ) → IsString bs → IsUtf8 (value bs)
+pub string-utf8 : (bs : List ℕ) → IsString bs → IsUtf8 (string_value bs)
 string-utf8 bs h =
     let inner : List ℕ = take (length bs - 2) (drop 1 bs) in
     let i : (2 ≤ length bs) × IsInner inner = string-inside bs h in
@@ -125,10 +129,10 @@ abbrev pub IsRead : TokenKind → List ℕ → Type 0
 IsRead k bs = IsToken k bs × (k ≡ Text → IsString bs)
 
 -- each token of the stream is such a token
-abbrev pub AllRead : List ℕ → Stream → Type 0
-AllRead text (end e) = Unit {0}
-AllRead text (fault e) = Unit {0}
-AllRead text (token k from to s) = IsRead k (take (to - from) (drop from text)) × AllRead text s
+abbrev pub AllRead : List ℕ → Cut → Type 0
+AllRead text (cut_end e) = Unit {0}
+AllRead text (cut_fault e) = Unit {0}
+AllRead text (cut_token k from to s) = IsRead k (take (to - from) (drop from text)) × AllRead text s
 
 whole-read : (k : TokenKind) (n at : ℕ) (text : List ℕ) → piece (drop at text) ≡ Whole k n
     → IsRead k (take (at + n - at) (drop at text))
@@ -153,7 +157,7 @@ from-piece : (at : ℕ) (text : List ℕ)
     → AllRead text (lexed (at + n) (drop n (drop at text))))
     → AllRead text (lexed at (drop at text))
 from-piece at text go =
-    subst (λ (s : Stream). AllRead text s) (sym (lexed-is at (drop at text)))
+    subst (λ (s : Cut). AllRead text s) (sym (lexed-is at (drop at text)))
     (by-piece at text (piece (drop at text)) refl go (piece-within (drop at text)))
 
 further-on : (m at n : ℕ) (text : List ℕ) → length (drop at text) ≤ suc m → 1 ≤ n

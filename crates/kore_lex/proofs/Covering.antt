@@ -15,9 +15,9 @@ use Rattle.kore_lex.specs.declared.piece.Piece.TheVariants.{Nothing, Gap, Whole,
 use Rattle.kore_lex.specs.Escapes.{bad_at}
 use Rattle.kore_lex.specs.Tokens.{IsInner, IsName, IsToken, IsLongest}
 use Rattle.kore_lex.specs.Pieces.{is_space, is_letter, is_mark, word_len, line_len, block_len}
-use Rattle.kore_lex.specs.Pieces.{quote_len, block, comment, by_escapes, body_piece, by_end, string}
-use Rattle.kore_lex.specs.Pieces.{named, colon, piece}
-use Rattle.kore_lex.specs.Lexed.{Stream, end, fault, token, onward, lexed}
+use Rattle.kore_lex.specs.Pieces.{quote_len, block, comment, by_escapes, body_piece, by_end}
+use Rattle.kore_lex.specs.Pieces.{string_piece, name_piece, colon, piece}
+use Rattle.kore_lex.specs.Lexed.{Cut, cut_end, cut_fault, cut_token, onward, lexed}
 use Rattle.kore_lex.specs.TokenLaws.{IsBlank, white, line_comment, block_comment, IsGap, nothing}
 use Rattle.kore_lex.specs.TokenLaws.{blank_then, HasBadEscape, bad_escape, IsFault, Covers}
 use Rattle.kore_lex.specs.TokenLaws.{TokensCover, fault_of, NoTokenAtFault}
@@ -26,11 +26,12 @@ use Rattle.kore_lex.proofs.Longest.{letter-space, piece-to, piece-longest, quote
 
 -- if a token starts at the head, the piece there is no fault
 
-named-good : (k : TokenKind) (i n : ℕ) (cs : List ℕ) → IsName (take i cs) → named k cs ≡ Bad n → ⊥
+named-good : (k : TokenKind) (i n : ℕ) (cs : List ℕ) → IsName (take i cs) → name_piece k cs ≡ Bad n
+    → ⊥
 named-good k zero n cs h e = h
 named-good k (suc i) n [] h e = h
 named-good k (suc i) n (d ∷ ds) h e =
-    let p : named k (d ∷ ds) ≡ Whole k (word_len ds + 2) = rw h.0 refl in
+    let p : name_piece k (d ∷ ds) ≡ Whole k (word_len ds + 2) = rw h.0 refl in
     let q : Whole k (word_len ds + 2) ≡ Bad n = sym p ∙ e in absurd (let z : ⊥ = cc in z)
 
 whole-good : (k : TokenKind) (m n : ℕ) → Whole k m ≡ Bad n → ⊥
@@ -69,7 +70,7 @@ good-body body n h e =
 
 string-good : (i n : ℕ) (cs : List ℕ) → i ≤ length cs
     → quote_len 0 (take i cs) ≡ Some (length (take i cs))
-    → IsInner (take (length (take i cs) - 1) (take i cs)) → string cs ≡ Bad n → ⊥
+    → IsInner (take (length (take i cs) - 1) (take i cs)) → string_piece cs ≡ Bad n → ⊥
 string-good i n cs l h g e =
     let r : length (take i cs) ≡ i = length-take-le i cs l in
     let q : quote_len 0 cs ≡ Some i = quote-on 0 i cs l (h ∙ ap Some r) in
@@ -135,7 +136,7 @@ string-no-gap n cs None e = let z : ⊥ = cc in z
 string-no-gap n cs (Some i) e =
     escapes-no-gap (take (i - 1) cs) n (is_utf8 (take (i - 1) cs)) (bad_at 0 (take (i - 1) cs)) e
 
-named-no-gap : (k : TokenKind) (n : ℕ) (cs : List ℕ) → named k cs ≡ Gap n → ⊥
+named-no-gap : (k : TokenKind) (n : ℕ) (cs : List ℕ) → name_piece k cs ≡ Gap n → ⊥
 named-no-gap k n [] e = let z : ⊥ = cc in z
 named-no-gap k n (c ∷ cs) e =
     piece-to (is_letter c) (Whole k (word_len cs + 2)) (Bad 0) (Gap n) ⊥
@@ -159,9 +160,11 @@ gap-blank n (c ∷ cs) e =
     (λ h e. absurd (let z : ⊥ = cc in z))
     (piece-to (c == 47) (comment cs) _ r G
     (λ h e. subst (λ (d : ℕ). IsBlank n (d ∷ cs)) (sym (same-byte c 47 h)) (comment-gap n cs e))
-    (piece-to (c == 34) (string cs) _ r G (λ h e. absurd (string-no-gap n cs (quote_len 0 cs) e))
-    (piece-to (c == 64) (named SetIdent cs) _ r G (λ h e. absurd (named-no-gap SetIdent n cs e))
-    (piece-to (c == 92) (named Builtin cs) _ r G (λ h e. absurd (named-no-gap Builtin n cs e))
+    (piece-to (c == 34) (string_piece cs) _ r G (λ h e.
+    absurd (string-no-gap n cs (quote_len 0 cs) e))
+    (piece-to (c == 64) (name_piece SetIdent cs) _ r G (λ h e.
+    absurd (named-no-gap SetIdent n cs e))
+    (piece-to (c == 92) (name_piece Builtin cs) _ r G (λ h e. absurd (named-no-gap Builtin n cs e))
     (piece-to (c == 58) (colon cs) _ r G (λ h e. absurd (colon-no-gap n cs e))
     (piece-to (is_mark c) (Whole (Punct c) 1) (Bad 0) r G (λ h e. absurd (let z : ⊥ = cc in z))
     (λ e. absurd (let z : ⊥ = cc in z)))))))))
@@ -201,7 +204,7 @@ comment-place n (c ∷ cs) e =
     (piece-to (c == 42) (block (block_len cs)) (Bad 0) (Bad n) (n ≡ 0)
     (λ h. block-place n (block_len cs)) (λ e. let z : n ≡ 0 = cc in z)) e
 
-named-place : (k : TokenKind) (n : ℕ) (cs : List ℕ) → named k cs ≡ Bad n → n ≡ 0
+named-place : (k : TokenKind) (n : ℕ) (cs : List ℕ) → name_piece k cs ≡ Bad n → n ≡ 0
 named-place k n [] e = cc
 named-place k n (c ∷ cs) e =
     piece-to (is_letter c) (Whole k (word_len cs + 2)) (Bad 0) (Bad n) (n ≡ 0)
@@ -217,10 +220,10 @@ piece-place n (c ∷ cs) e =
     (piece-to (is_letter c) (Whole Ident (word_len cs + 1)) _ r G
     (λ h e. absurd (let z : ⊥ = cc in z))
     (piece-to (c == 47) (comment cs) _ r G (λ h e. inl (comment-place n cs e))
-    (piece-to (c == 34) (string cs) _ r G (λ h e. subst (λ (d : ℕ). Placed n (d ∷ cs))
+    (piece-to (c == 34) (string_piece cs) _ r G (λ h e. subst (λ (d : ℕ). Placed n (d ∷ cs))
     (sym (same-byte c 34 h)) (string-place n cs (quote_len 0 cs) refl (quote-within 0 cs) e))
-    (piece-to (c == 64) (named SetIdent cs) _ r G (λ h e. inl (named-place SetIdent n cs e))
-    (piece-to (c == 92) (named Builtin cs) _ r G (λ h e. inl (named-place Builtin n cs e))
+    (piece-to (c == 64) (name_piece SetIdent cs) _ r G (λ h e. inl (named-place SetIdent n cs e))
+    (piece-to (c == 92) (name_piece Builtin cs) _ r G (λ h e. inl (named-place Builtin n cs e))
     (piece-to (c == 58) (colon cs) _ r G (λ h e. absurd (colon-good n cs e))
     (piece-to (is_mark c) (Whole (Punct c) 1) (Bad 0) r G (λ h e. absurd (let z : ⊥ = cc in z))
     (λ e. inl (let z : n ≡ 0 = cc in z)))))))))
@@ -289,7 +292,7 @@ string-some cs (Some i) =
     some-if (is_utf8 (take (i - 1) cs)) (by_escapes (take (i - 1) cs) (bad_at 0 (take (i - 1) cs)))
     (Bad 0) (escapes-some (take (i - 1) cs) _) tt
 
-named-some : (k : TokenKind) (cs : List ℕ) → IsSome (named k cs)
+named-some : (k : TokenKind) (cs : List ℕ) → IsSome (name_piece k cs)
 named-some k [] = tt
 named-some k (c ∷ cs) = some-if (is_letter c) (Whole k (word_len cs + 2)) (Bad 0) tt tt
 
@@ -302,9 +305,9 @@ unfolding piece
 piece-some c cs =
     some-if (is_space c) (Gap 1) _ tt (some-if (is_letter c) (Whole Ident (word_len cs + 1)) _ tt
     (some-if (c == 47) (comment cs) _ (comment-some cs)
-    (some-if (c == 34) (string cs) _ (string-some cs (quote_len 0 cs))
-    (some-if (c == 64) (named SetIdent cs) _ (named-some SetIdent cs)
-    (some-if (c == 92) (named Builtin cs) _ (named-some Builtin cs)
+    (some-if (c == 34) (string_piece cs) _ (string-some cs (quote_len 0 cs))
+    (some-if (c == 64) (name_piece SetIdent cs) _ (named-some SetIdent cs)
+    (some-if (c == 92) (name_piece Builtin cs) _ (named-some Builtin cs)
     (some-if (c == 58) (colon cs) _ (colon-some cs)
     (some-if (is_mark c) (Whole (Punct c) 1) (Bad 0) tt tt)))))))
 
@@ -314,14 +317,14 @@ nothing-empty (c ∷ cs) e = absurd (subst IsSome e (piece-some c cs))
 
 -- the tokens of a text cover it
 
-wider : (m at : ℕ) (bs : List ℕ) (s : Stream) → m ≤ length bs → IsBlank m bs
+wider : (m at : ℕ) (bs : List ℕ) (s : Cut) → m ≤ length bs → IsBlank m bs
     → Covers (at + m) (drop m bs) s → Covers at bs s
-wider m at bs (end e) l b h =
+wider m at bs (cut_end e) l b h =
     let z : m + length (drop m bs) ≡ length bs = omega (arith, length-drop m bs) in (
       subst (λ (n : ℕ). IsGap n bs) z (blank_then m (length (drop m bs)) bs b h.0),
       omega (arith, h.1, z),
     )
-wider m at bs (fault e) l b (i, n, g, f, q) = (
+wider m at bs (cut_fault e) l b (i, n, g, f, q) = (
   m
       + i,
   n,
@@ -329,7 +332,7 @@ wider m at bs (fault e) l b (i, n, g, f, q) = (
   subst (λ (xs : List ℕ). IsFault n xs) (drop-drop i m bs) f,
   omega (arith, q),
 )
-wider m at bs (token k from to s) l b (i, n, g, p, q, w, r, t) =
+wider m at bs (cut_token k from to s) l b (i, n, g, p, q, w, r, t) =
     let e : drop i (drop m bs) ≡ drop (m + i) bs = drop-drop i m bs in (
       m + i,
       n,
@@ -357,7 +360,7 @@ covers-from : (at : ℕ) (bs : List ℕ)
     → ((n : ℕ) → 1 ≤ n → n ≤ length bs → Covers (at + n) (drop n bs) (lexed (at + n) (drop n bs)))
     → Covers at bs (lexed at bs)
 covers-from at bs go =
-    subst (λ (s : Stream). Covers at bs s) (sym (lexed-is at bs))
+    subst (λ (s : Cut). Covers at bs s) (sym (lexed-is at bs))
     (covers-onward at bs (piece bs) refl (piece-within bs) go)
 
 covers-all : (m at : ℕ) (bs : List ℕ) → length bs ≤ m → Covers at bs (lexed at bs)
@@ -369,15 +372,15 @@ covers-all (suc m) at bs l =
 pub tokens-cover : TokensCover
 tokens-cover text = covers-all (length text) 0 text (omega arith)
 
-at-fault : (text : List ℕ) (at : ℕ) (bs : List ℕ) (s : Stream) (e : ℕ) → bs ≡ drop at text
+at-fault : (text : List ℕ) (at : ℕ) (bs : List ℕ) (s : Cut) (e : ℕ) → bs ≡ drop at text
     → Covers at bs s → fault_of s ≡ Some e → (p n : ℕ) × IsFault n (drop p text) × (e ≡ p + n)
-at-fault text at bs (end f) e b h q = absurd (let z : ⊥ = cc in z)
-at-fault text at bs (fault f) e b (m, n, g, x, p) q =
+at-fault text at bs (cut_end f) e b h q = absurd (let z : ⊥ = cc in z)
+at-fault text at bs (cut_fault f) e b (m, n, g, x, p) q =
     let z : f ≡ e = cc in
     let d : drop m bs ≡ drop (at + m) text =
     ap (λ (xs : List ℕ). drop m xs) b ∙ drop-drop m at text in
     (at + m, n, subst (λ (xs : List ℕ). IsFault n xs) d x, omega (arith, z, p))
-at-fault text at bs (token k from to s) e b (m, n, g, p, r, w, x, t) q =
+at-fault text at bs (cut_token k from to s) e b (m, n, g, p, r, w, x, t) q =
     let d : drop n (drop m bs) ≡ drop (at + m + n) text =
     ap (λ (xs : List ℕ). drop n (drop m xs)) b
     ∙ ap (λ (xs : List ℕ). drop n xs) (drop-drop m at text) ∙ drop-drop n (at + m) text in

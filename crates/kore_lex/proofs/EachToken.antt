@@ -5,12 +5,12 @@ use Rattle.std.proofs.lemmas.List.{drop-drop}
 use Rattle.kore_lex.specs.declared.piece.Piece.{Piece}
 use Rattle.kore_lex.specs.declared.piece.Piece.TheVariants.{Nothing, Gap, Whole, Bad}
 use Rattle.kore_lex.specs.Pieces.{piece}
-use Rattle.kore_lex.specs.Lexed.{Stream, onward, lexed_by, lexed}
+use Rattle.kore_lex.specs.Lexed.{Cut, onward, lexed_by, lexed}
 use Rattle.kore_lex.specs.Tokens.{IsToken}
 use Rattle.kore_lex.specs.TokenLaws.{AreTokens, token_count, EachIsToken, TokensAreFew}
 use Rattle.kore_lex.proofs.Longest.{piece-longest}
 
-onward-tokens : (text : List ℕ) (more : ℕ → List ℕ → Stream) (at : ℕ) (p : Piece)
+onward-tokens : (text : List ℕ) (more : ℕ → List ℕ → Cut) (at : ℕ) (p : Piece)
     → piece (drop at text) ≡ p → ((m : ℕ) → AreTokens text (more (at + m) (drop m (drop at text))))
     → AreTokens text (onward more at (drop at text) p)
 onward-tokens text more at Nothing e h = tt
@@ -34,7 +34,7 @@ pub each-is-token : EachIsToken
 unfolding lexed
 each-is-token text = lexed_by-tokens (length text) 0 text
 
-onward-few : (more : ℕ → List ℕ → Stream) (b at : ℕ) (bs : List ℕ) (p : Piece)
+onward-few : (more : ℕ → List ℕ → Cut) (b at : ℕ) (bs : List ℕ) (p : Piece)
     → ((a : ℕ) (cs : List ℕ) → token_count (more a cs) ≤ b)
     → token_count (onward more at bs p) ≤ b + 1
 onward-few more b at bs Nothing h = omega arith

@@ -18,8 +18,9 @@ use Rattle.kore_lex.specs.declared.piece.Piece.TheVariants.{Nothing, Gap, Whole,
 use Rattle.kore_lex.specs.Escapes.{further, escape, on_escape, bad_at}
 use Rattle.kore_lex.specs.Pieces.{is_space, is_letter, is_word, is_mark, word_len, line_len}
 use Rattle.kore_lex.specs.Pieces.{ends_block, block_len, passed, quote_len, block, comment}
-use Rattle.kore_lex.specs.Pieces.{by_escapes, body_piece, by_end, string, named, colon, piece}
-use Rattle.kore_lex.specs.Lexed.{Stream, end, fault, token, onward, lexed_by, lexed}
+use Rattle.kore_lex.specs.Pieces.{by_escapes, body_piece, by_end, string_piece, name_piece, colon}
+use Rattle.kore_lex.specs.Pieces.{piece}
+use Rattle.kore_lex.specs.Lexed.{Cut, cut_end, cut_fault, cut_token, onward, lexed_by, lexed}
 
 -- a piece has at least one byte, and no more bytes than there are
 abbrev pub Within : Piece → ℕ → Type 0
@@ -98,7 +99,7 @@ comment-within (c ∷ cs) =
     (widen (block (block_len cs)) (length cs + 2) n
     (by-block (block_len cs) (length cs) (block-within cs)) (omega arith)) (omega arith))
 
-named-within : (k : TokenKind) (cs : List ℕ) → Within (named k cs) (suc (length cs))
+named-within : (k : TokenKind) (cs : List ℕ) → Within (name_piece k cs) (suc (length cs))
 named-within k [] = omega arith
 named-within k (c ∷ cs) =
     within-if (is_letter c) (Whole k (word_len cs + 2)) (Bad 0) _
@@ -155,19 +156,19 @@ piece-within (c ∷ cs) =
     (within-if (is_letter c) (Whole Ident (word_len cs + 1)) _ n
     (omega (arith, word-within cs), omega (arith, word-within cs))
     (within-if (c == 47) (comment cs) _ n (comment-within cs)
-    (within-if (c == 34) (string cs) _ n (end-within cs (quote_len 0 cs) (quote-within 0 cs))
-    (within-if (c == 64) (named SetIdent cs) _ n (named-within SetIdent cs)
-    (within-if (c == 92) (named Builtin cs) _ n (named-within Builtin cs)
+    (within-if (c == 34) (string_piece cs) _ n (end-within cs (quote_len 0 cs) (quote-within 0 cs))
+    (within-if (c == 64) (name_piece SetIdent cs) _ n (named-within SetIdent cs)
+    (within-if (c == 92) (name_piece Builtin cs) _ n (named-within Builtin cs)
     (within-if (c == 58) (colon cs) _ n (colon-within cs)
     (within-if (is_mark c) (Whole (Punct c) 1) (Bad 0) n (omega arith, omega arith)
     (omega arith))))))))
 
-onward-same : (f g : ℕ → List ℕ → Stream) (at : ℕ) (bs : List ℕ) (p : Piece) → Within p (length bs)
+onward-same : (f g : ℕ → List ℕ → Cut) (at : ℕ) (bs : List ℕ) (p : Piece) → Within p (length bs)
     → ((n : ℕ) → 1 ≤ n → n ≤ length bs → f (at + n) (drop n bs) ≡ g (at + n) (drop n bs))
     → onward f at bs p ≡ onward g at bs p
 onward-same f g at bs Nothing w h = refl
 onward-same f g at bs (Gap n) w h = h n w.0 w.1
-onward-same f g at bs (Whole k n) w h = ap (token k at (at + n)) (h n w.0 w.1)
+onward-same f g at bs (Whole k n) w h = ap (cut_token k at (at + n)) (h n w.0 w.1)
 onward-same f g at bs (Bad n) w h = refl
 
 -- any two bounds on the count of pieces that are large enough give the same stream
@@ -205,7 +206,7 @@ within-at at text p l h =
     (subst (λ q. Within q (length (drop at text))) (sym h) (piece-within (drop at text)))
 
 pub end-step : (at : ℕ) (text : List ℕ) → Nothing ≡ piece (drop at text)
-    → lexed at (drop at text) ≡ end at
+    → lexed at (drop at text) ≡ cut_end at
 end-step at text h = lexed-at at text Nothing h
 
 pub gap-step : (at n : ℕ) (text : List ℕ) → at ≤ length text → Gap n ≡ piece (drop at text)
@@ -222,16 +223,16 @@ gap-step at n text l h =
 pub whole-step : (k : TokenKind) (at n : ℕ) (text : List ℕ) → at ≤ length text
     → Whole k n ≡ piece (drop at text)
     → (at + n ≤ length text)
-    × (lexed at (drop at text) ≡ token k at (at + n) (lexed (at + n) (drop (at + n) text)))
+    × (lexed at (drop at text) ≡ cut_token k at (at + n) (lexed (at + n) (drop (at + n) text)))
 whole-step k at n text l h =
     let w : (1 ≤ n) × (n ≤ length text - at) = within-at at text (Whole k n) l h in (
       omega (arith, w.1),
       lexed-at at text (Whole k n) h
-          ∙ ap (λ bs. token k at (at + n) (lexed (at + n) bs)) (drop-drop n at text),
+          ∙ ap (λ bs. cut_token k at (at + n) (lexed (at + n) bs)) (drop-drop n at text),
     )
 
 pub bad-step : (at n : ℕ) (text : List ℕ) → at ≤ length text → Bad n ≡ piece (drop at text)
-    → (at + n ≤ length text) × (lexed at (drop at text) ≡ fault (at + n))
+    → (at + n ≤ length text) × (lexed at (drop at text) ≡ cut_fault (at + n))
 bad-step at n text l h =
     let w : n ≤ length text - at = within-at at text (Bad n) l h in
     (omega (arith, w), lexed-at at text (Bad n) h)

@@ -17,7 +17,7 @@ use Rattle.kore_lex.specs.Escapes.{further, bad_at}
 use Rattle.kore_lex.specs.Tokens.{IsInner, AllWord, IsName, IsToken, IsLongest}
 use Rattle.kore_lex.specs.Pieces.{is_space, is_letter, is_word, is_mark, word_len, line_len}
 use Rattle.kore_lex.specs.Pieces.{block_len, passed, quote_len, block, comment, by_escapes}
-use Rattle.kore_lex.specs.Pieces.{body_piece, by_end, string, named, colon, piece}
+use Rattle.kore_lex.specs.Pieces.{body_piece, by_end, string_piece, name_piece, colon, piece}
 use Rattle.std.proofs.lemmas.Str.{IsUtf8-from_is_utf8}
 use Rattle.kore_lex.specs.declared.lexer.Token.{Token}
 use Rattle.kore_lex.proofs.StringLaws.{no-block, quote-take}
@@ -51,12 +51,12 @@ ident-long c i n cs k e l h =
     let m : word_len cs + 1 ≡ n = cc in
     omega (arith, w, m)
 
-named-long : (i n : ℕ) (cs : List ℕ) (j k : TokenKind) → named j cs ≡ Whole k n → i ≤ length cs
+named-long : (i n : ℕ) (cs : List ℕ) (j k : TokenKind) → name_piece j cs ≡ Whole k n → i ≤ length cs
     → IsName (take i cs) → suc i ≤ n
 named-long zero n cs j k e l h = absurd h
 named-long (suc i) n [] j k e l h = absurd h
 named-long (suc i) n (d ∷ ds) j k e l h =
-    let p : named j (d ∷ ds) ≡ Whole j (word_len ds + 2) = rw h.0 refl in
+    let p : name_piece j (d ∷ ds) ≡ Whole j (word_len ds + 2) = rw h.0 refl in
     let q : Whole j (word_len ds + 2) ≡ Whole k n = sym p ∙ e in
     let w : i ≤ word_len ds = word-long i ds (omega arith) h.1 in
     let m : word_len ds + 2 ≡ n = cc in
@@ -92,7 +92,7 @@ body-long body n k false x e = absurd (let z : ⊥ = cc in z)
 body-long body n k true None e = cc
 body-long body n k true (Some i) e = absurd (let z : ⊥ = cc in z)
 
-string-long : (i n : ℕ) (cs : List ℕ) (k : TokenKind) → string cs ≡ Whole k n → i ≤ length cs
+string-long : (i n : ℕ) (cs : List ℕ) (k : TokenKind) → string_piece cs ≡ Whole k n → i ≤ length cs
     → quote_len 0 (take i cs) ≡ Some i → suc i ≤ n
 string-long i n cs k e l h =
     let q : quote_len 0 cs ≡ Some i = quote-on 0 i cs l h in
@@ -188,7 +188,7 @@ no-comment-of (c ∷ cs) k n G e =
     (piece-to (c == 42) (block (block_len cs)) (Bad 0) (Whole k n) G
     (λ h. no-block (block_len cs) k n G) (λ e. absurd (let z : ⊥ = cc in z))) e
 
-named-is : (n : ℕ) (cs : List ℕ) (j k : TokenKind) → named j cs ≡ Whole k n
+named-is : (n : ℕ) (cs : List ℕ) (j k : TokenKind) → name_piece j cs ≡ Whole k n
     → (m : ℕ) × ((j ≡ k) × (suc m ≡ n) × IsName (take m cs))
 named-is n [] j k e = absurd (let z : ⊥ = cc in z)
 named-is n (d ∷ ds) j k e =
@@ -259,13 +259,13 @@ at-byte : (c d n : ℕ) (cs : List ℕ) (k : TokenKind) → (c == d) ≡ true �
     → IsToken k (take n (c ∷ cs))
 at-byte c d n cs k h g = subst (λ b. IsToken k (take n (b ∷ cs))) (sym (same-byte c d h)) g
 
-set-is : (n : ℕ) (cs : List ℕ) (k : TokenKind) → named SetIdent cs ≡ Whole k n
+set-is : (n : ℕ) (cs : List ℕ) (k : TokenKind) → name_piece SetIdent cs ≡ Whole k n
     → IsToken k (take n (64 ∷ cs))
 set-is n cs k e =
     let m = named-is n cs SetIdent k e in
     moved SetIdent k (suc m.0) n (64 ∷ cs) m.1.0 m.1.1 (refl, m.1.2)
 
-builtin-is : (n : ℕ) (cs : List ℕ) (k : TokenKind) → named Builtin cs ≡ Whole k n
+builtin-is : (n : ℕ) (cs : List ℕ) (k : TokenKind) → name_piece Builtin cs ≡ Whole k n
     → IsToken k (take n (92 ∷ cs))
 builtin-is n cs k e =
     let m = named-is n cs Builtin k e in
@@ -280,10 +280,11 @@ is-token-of (c ∷ cs) k n e =
     piece-to (is_space c) (Gap 1) _ r G (λ h e. absurd (let z : ⊥ = cc in z))
     (piece-to (is_letter c) (Whole Ident (word_len cs + 1)) _ r G (λ h e. ident-is c n cs k h e)
     (piece-to (c == 47) (comment cs) _ r G (λ h. no-comment-of cs k n G)
-    (piece-to (c == 34) (string cs) _ r G (λ h e.
+    (piece-to (c == 34) (string_piece cs) _ r G (λ h e.
     at-byte c 34 n cs k h (string-is n cs k (quote_len 0 cs) refl (quote-within 0 cs) e))
-    (piece-to (c == 64) (named SetIdent cs) _ r G (λ h e. at-byte c 64 n cs k h (set-is n cs k e))
-    (piece-to (c == 92) (named Builtin cs) _ r G
+    (piece-to (c == 64) (name_piece SetIdent cs) _ r G (λ h e.
+    at-byte c 64 n cs k h (set-is n cs k e))
+    (piece-to (c == 92) (name_piece Builtin cs) _ r G
     (λ h e. at-byte c 92 n cs k h (builtin-is n cs k e))
     (piece-to (c == 58) (colon cs) _ r G (λ h e. at-byte c 58 n cs k h (colon-is n cs k e))
     (piece-to (is_mark c) (Whole (Punct c) 1) (Bad 0) r G (λ h e. mark-is c n cs k h e)

@@ -18,7 +18,7 @@ use Rattle.kore_lex.specs.Escapes.{further, bad_at}
 use Rattle.kore_lex.specs.Tokens.{IsInner, IsString}
 use Rattle.kore_lex.specs.Pieces.{is_space, is_letter, is_mark, word_len, line_len, block_len}
 use Rattle.kore_lex.specs.Pieces.{passed, quote_len, block, comment, by_escapes, body_piece, by_end}
-use Rattle.kore_lex.specs.Pieces.{string, named, colon, piece}
+use Rattle.kore_lex.specs.Pieces.{string_piece, name_piece, colon, piece}
 use Rattle.kore_lex.proofs.Lexing.{quote-within}
 
 -- a whole string has two quotes and the bytes between them
@@ -53,7 +53,7 @@ inside-end c cs (Some i) h e =
     inside-utf8 c cs i (is_utf8 (take (i - 1) cs)) (bad_at 0 (take (i - 1) cs)) h.0 h.1 refl refl e
 
 no-named : (k : TokenKind) (cs : List ℕ) (n : ℕ) (G : Type 0) → (k ≡ Text → ⊥)
-    → named k cs ≡ Whole Text n → G
+    → name_piece k cs ≡ Whole Text n → G
 no-named k [] n G h e = absurd (let z : ⊥ = cc in z)
 no-named k (c ∷ cs) n G h e =
     piece-if (is_letter c) (Whole k (word_len cs + 2)) (Bad 0) n G
@@ -83,18 +83,18 @@ piece-when false p q n G h k e = k e
 
 -- a string begins with a quote
 pub text-quote : (c : ℕ) (cs : List ℕ) (n : ℕ) → piece (c ∷ cs) ≡ Whole Text n
-    → (c ≡ 34) × (string cs ≡ Whole Text n)
+    → (c ≡ 34) × (string_piece cs ≡ Whole Text n)
 unfolding piece
 text-quote c cs n e =
-    let G : Type 0 = (c ≡ 34) × (string cs ≡ Whole Text n) in
+    let G : Type 0 = (c ≡ 34) × (string_piece cs ≡ Whole Text n) in
     piece-if (is_space c) (Gap 1) _ n G (λ e. absurd (let z : ⊥ = cc in z))
     (piece-if (is_letter c) (Whole Ident (word_len cs + 1)) _ n G
     (λ e. absurd (let z : ⊥ = cc in z))
     (piece-if (c == 47) (comment cs) _ n G (no-comment cs n G)
-    (piece-when (c == 34) (string cs) _ n G
+    (piece-when (c == 34) (string_piece cs) _ n G
     (λ h e. ((let q : c ≡ 34 = grind (arith, nat_tests) in q), e))
-    (piece-if (c == 64) (named SetIdent cs) _ n G (no-named SetIdent cs n G (λ e. cc))
-    (piece-if (c == 92) (named Builtin cs) _ n G (no-named Builtin cs n G (λ e. cc))
+    (piece-if (c == 64) (name_piece SetIdent cs) _ n G (no-named SetIdent cs n G (λ e. cc))
+    (piece-if (c == 92) (name_piece Builtin cs) _ n G (no-named Builtin cs n G (λ e. cc))
     (piece-if (c == 58) (colon cs) _ n G (no-colon cs n G)
     (piece-if (is_mark c) (Whole (Punct c) 1) (Bad 0) n G (λ e. absurd (let z : ⊥ = cc in z))
     (λ e. absurd (let z : ⊥ = cc in z)))))))))
@@ -145,7 +145,7 @@ body-len body n true (Some i) e = absurd (let z : ⊥ = cc in z)
 
 end-alone : (n : ℕ) (cs : List ℕ) (x : Option ℕ) → quote_len 0 cs ≡ x
     → IfSome x (λ i. (1 ≤ i) × (i ≤ length cs)) → by_end cs x ≡ Whole Text n
-    → (i : ℕ) × ((n ≡ suc i) × (i ≤ length cs) × (string (take i cs) ≡ Whole Text n))
+    → (i : ℕ) × ((n ≡ suc i) × (i ≤ length cs) × (string_piece (take i cs) ≡ Whole Text n))
 end-alone n cs None q h e = absurd (let z : ⊥ = cc in z)
 end-alone n cs (Some i) q h e =
     let body : List ℕ = take (i - 1) cs in

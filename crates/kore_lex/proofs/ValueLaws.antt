@@ -15,7 +15,7 @@ use lib.Utf8.{scalar}
 use Rattle.kore_lex.specs.declared.escape.Escape.{Escape}
 use Rattle.kore_lex.specs.Escapes.{hex_digit, bind, hex_number, by_number, escape, further, bad_at}
 use Rattle.kore_lex.specs.Tokens.{IsInner}
-use Rattle.kore_lex.specs.Value.{plain}
+use Rattle.kore_lex.specs.Value.{unescaped_text}
 use Rattle.kore_lex.specs.Steps.{run_len, Took, unit_len}
 use Rattle.kore_lex.proofs.Runs.{drop-past}
 use Rattle.kore_lex.proofs.EscapeLaws.{unit-bad, none-bad}
@@ -102,8 +102,8 @@ this-ascii cs e h = subst (λ x. IfSome x (λ e. Ascii e.len cs)) (sym h) (escap
 
 -- an escape at the head
 
-plain-skip : (n : ℕ) (bs : List ℕ) → plain n bs ≡ plain 0 (drop n bs)
-unfolding plain
+plain-skip : (n : ℕ) (bs : List ℕ) → unescaped_text n bs ≡ unescaped_text 0 (drop n bs)
+unfolding unescaped_text
 plain-skip zero bs = refl
 plain-skip (suc n) [] = refl
 plain-skip (suc n) (c ∷ cs) = plain-skip n cs
@@ -117,8 +117,8 @@ unit-escape : (c : ℕ) (cs : List ℕ) (e : Escape) → c ≡ 92 → Some e ≡
 unit-escape c cs e h g = rw (h, sym g) refl
 
 plain-escape : (c : ℕ) (cs : List ℕ) (e : Escape) → c ≡ 92 → Some e ≡ escape cs
-    → plain 0 (c ∷ cs) ≡ encode_utf8 e.character ++ plain e.len cs
-unfolding plain
+    → unescaped_text 0 (c ∷ cs) ≡ encode_utf8 e.character ++ unescaped_text e.len cs
+unfolding unescaped_text
 plain-escape c cs e h g = rw (h, sym g) refl
 
 pub escape-took : (bs old new : List ℕ) (e : Escape) → 0 < length bs → get_or bs 0 0 ≡ 92
@@ -138,9 +138,9 @@ escape-took (c ∷ cs) old new e l b h g n =
             further-no (e.len + 1) _ (sym (unit-bad (c
             ∷ cs) (e.len + 1) (omega arith) l (unit-escape c cs e b g)) ∙ h.escapes);
       };
-      grown = ap (λ t. t ++ plain 0 (drop (e.len + 1) (c ∷ cs))) n
+      grown = ap (λ t. t ++ unescaped_text 0 (drop (e.len + 1) (c ∷ cs))) n
           ∙ append_assoc old (encode_utf8 e.character) _
-          ∙ ap (λ t. old ++ t) (ap (λ t. encode_utf8 e.character ++ plain 0 t) (sym d)
+          ∙ ap (λ t. old ++ t) (ap (λ t. encode_utf8 e.character ++ unescaped_text 0 t) (sym d)
           ∙ ap (λ t. encode_utf8 e.character ++ t) (sym (plain-skip e.len cs))
           ∙ sym (plain-escape c cs e b g));
     }
@@ -166,8 +166,9 @@ Plain zero bs = Unit {0}
 Plain (suc n) [] = ⊥
 Plain (suc n) (c ∷ cs) = ((c == 92) ≡ false) × Plain n cs
 
-plain-run : (n : ℕ) (bs : List ℕ) → Plain n bs → plain 0 bs ≡ take n bs ++ plain 0 (drop n bs)
-unfolding plain
+plain-run : (n : ℕ) (bs : List ℕ) → Plain n bs → unescaped_text 0 bs ≡ take n bs
+    ++ unescaped_text 0 (drop n bs)
+unfolding unescaped_text
 plain-run zero bs h = refl
 plain-run (suc n) [] h = absurd h
 plain-run (suc n) (c ∷ cs) h = rw h.0 (ap (λ t. c ∷ t) (plain-run n cs h.1))
@@ -232,12 +233,12 @@ run-took bs old new l b h n =
         utf8 = IsUtf8-drop bs m h.utf8 (boundary-if bs m r.within r.stops);
         escapes = bad-run m bs r.plain h.escapes;
       };
-      grown = ap (λ t. t ++ plain 0 (drop m bs)) n ∙ append_assoc old (take m bs) _
+      grown = ap (λ t. t ++ unescaped_text 0 (drop m bs)) n ∙ append_assoc old (take m bs) _
           ∙ ap (λ t. old ++ t) (sym (plain-run m bs r.plain));
     }
 
 -- at the end of the bytes nothing is left to append
 pub plain-past : (t : List ℕ) (at : ℕ) (bs : List ℕ) → length bs ≤ at
-    → t ≡ t ++ plain 0 (drop at bs)
-unfolding plain
-plain-past t at bs h = sym (ap (λ l. t ++ plain 0 l) (drop-past at bs h) ∙ append-nil t)
+    → t ≡ t ++ unescaped_text 0 (drop at bs)
+unfolding unescaped_text
+plain-past t at bs h = sym (ap (λ l. t ++ unescaped_text 0 l) (drop-past at bs h) ∙ append-nil t)

@@ -13,8 +13,8 @@ use Rattle.kore_lex.specs.declared.piece.Piece.{Piece}
 use Rattle.kore_lex.specs.declared.piece.Piece.TheVariants.{Whole, Bad}
 use Rattle.kore_lex.specs.Escapes.{bad_at}
 use Rattle.kore_lex.specs.Pieces.{is_space, is_letter, is_word, is_mark, word_len, quote_len}
-use Rattle.kore_lex.specs.Pieces.{body_piece, by_end, named, colon, piece}
-use Rattle.kore_lex.specs.Lexed.{token, lexed, onward}
+use Rattle.kore_lex.specs.Pieces.{body_piece, by_end, name_piece, colon, piece}
+use Rattle.kore_lex.specs.Lexed.{cut_token, lexed, onward}
 use Rattle.kore_lex.specs.Tokens.{IsName, AllWord}
 use Rattle.kore_lex.proofs.Lexing.{lexed-is}
 
@@ -24,7 +24,7 @@ whole k n = Whole k n
 
 -- after a whole token the rest is cut
 pub lexed-whole : (k : TokenKind) (n at : ℕ) (bs : List ℕ) → piece bs ≡ whole k n
-    → lexed at bs ≡ token k at (at + n) (lexed (at + n) (drop n bs))
+    → lexed at bs ≡ cut_token k at (at + n) (lexed (at + n) (drop n bs))
 lexed-whole k n at bs h = lexed-is at bs ∙ ap (onward lexed at bs) h
 
 -- the bytes begin with a byte that may continue a name, or (`begins_equals`) with `=`
@@ -60,7 +60,7 @@ name-piece (c ∷ cs) r h b =
     rw (letter-no-space c h.0, h.0) (ap (Whole Ident) e)
 
 named-piece : (k : TokenKind) (n r : List ℕ) → IsName n → begins_word r ≡ false
-    → named k (n ++ r) ≡ Whole k (suc (length n))
+    → name_piece k (n ++ r) ≡ Whole k (suc (length n))
 named-piece k [] r h b = absurd h
 named-piece k (c ∷ cs) r h b =
     let e : word_len (cs ++ r) + 2 ≡ suc (suc (length cs)) = omega (arith, word-runs cs r h.1 b) in

@@ -28,8 +28,8 @@ abbrev pub by_number : ℕ → Option ℕ → Option Escape
 by_number k None = None
 by_number k (Some c) = Some (record { character = c; len = k + 1 })
 
-abbrev pub numbered : ℕ → List ℕ → Option Escape
-numbered k bs = by_number k (hex_number k 0 bs)
+abbrev pub escape_by_number : ℕ → List ℕ → Option Escape
+escape_by_number k bs = by_number k (hex_number k 0 bs)
 
 abbrev pub single : ℕ → Option Escape
 single c = Some (record { character = c; len = 1 })
@@ -44,9 +44,9 @@ escape (c ∷ cs) =
     else (if c == 102 then single 12
     else (if c == 34 then single 34
     else (if c == 92 then single 92
-    else (if c == 120 then numbered 2 cs
-    else (if c == 117 then numbered 4 cs
-    else (if c == 85 then numbered 8 cs
+    else (if c == 120 then escape_by_number 2 cs
+    else (if c == 117 then escape_by_number 4 cs
+    else (if c == 85 then escape_by_number 8 cs
     else None))))))))
 
 -- the number increased by `n`, if there is one

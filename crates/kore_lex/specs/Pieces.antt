@@ -83,13 +83,13 @@ abbrev pub by_end : List ℕ → Option ℕ → Piece
 by_end bs None = Bad 0
 by_end bs (Some n) = body_piece (take (n - 1) bs)
 
-abbrev pub string : List ℕ → Piece
-string bs = by_end bs (quote_len 0 bs)
+abbrev pub string_piece : List ℕ → Piece
+string_piece bs = by_end bs (quote_len 0 bs)
 
 -- a name of this kind, after its first byte `@` or `\`
-abbrev pub named : TokenKind → List ℕ → Piece
-named k [] = Bad 0
-named k (c ∷ cs) = if is_letter c then Whole k (word_len cs + 2) else Bad 0
+abbrev pub name_piece : TokenKind → List ℕ → Piece
+name_piece k [] = Bad 0
+name_piece k (c ∷ cs) = if is_letter c then Whole k (word_len cs + 2) else Bad 0
 
 -- after a colon
 abbrev pub colon : List ℕ → Piece
@@ -103,9 +103,9 @@ piece (c ∷ cs) =
     if is_space c then Gap 1
     else (if is_letter c then Whole Ident (word_len cs + 1)
     else (if c == 47 then comment cs
-    else (if c == 34 then string cs
-    else (if c == 64 then named SetIdent cs
-    else (if c == 92 then named Builtin cs
+    else (if c == 34 then string_piece cs
+    else (if c == 64 then name_piece SetIdent cs
+    else (if c == 92 then name_piece Builtin cs
     else (if c == 58 then colon cs
     else (if is_mark c then Whole (Punct c) 1
     else Bad 0)))))))

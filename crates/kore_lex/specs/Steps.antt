@@ -3,7 +3,7 @@ use Rattle.std.specs.Prelude.{◌≡◌, ◌≤◌, ◌+◌, ℕ, not, List, [],
 use Rattle.std.specs.Prelude.{◌==◌, if◌then◌else◌, Option, Some, None}
 use Rattle.kore_lex.specs.Escapes.{escape, on_escape}
 use Rattle.kore_lex.specs.Tokens.{IsInner}
-use Rattle.kore_lex.specs.Value.{plain}
+use Rattle.kore_lex.specs.Value.{unescaped_text}
 
 -- how many bytes there are before the first backslash
 abbrev pub run_len : List ℕ → ℕ
@@ -14,7 +14,7 @@ pub record Took (bs old new : List ℕ) (n : ℕ) : Type 0 where
   pub some : 1 ≤ n
   pub within : n ≤ length bs
   pub inner : IsInner (drop n bs)
-  pub grown : new ++ plain 0 (drop n bs) ≡ old ++ plain 0 bs
+  pub grown : new ++ unescaped_text 0 (drop n bs) ≡ old ++ unescaped_text 0 bs
 
 -- how many bytes the unit at the head has inside a string. A unit is a byte, or an escape with its
 -- backslash. There is none at a backslash that begins no escape.

@@ -5,20 +5,20 @@ use Rattle.std.specs.Str.{IsUtf8}
 use Rattle.kore_lex.specs.declared.lexer.TokenKind.{TokenKind}
 use Rattle.kore_lex.specs.Escapes.{bad_at}
 use Rattle.kore_lex.specs.Pieces.{is_space, line_len, block_len, quote_len}
-use Rattle.kore_lex.specs.Lexed.{Stream, end, fault, token, lexed}
+use Rattle.kore_lex.specs.Lexed.{Cut, cut_end, cut_fault, cut_token, lexed}
 use Rattle.kore_lex.specs.Tokens.{IsToken, IsLongest}
 
 -- the bytes of each token of the stream are one token of its kind
-abbrev pub AreTokens : List ℕ → Stream → Type 0
-AreTokens text (end n) = Unit {0}
-AreTokens text (fault n) = Unit {0}
-AreTokens text (token k from to s) =
+abbrev pub AreTokens : List ℕ → Cut → Type 0
+AreTokens text (cut_end n) = Unit {0}
+AreTokens text (cut_fault n) = Unit {0}
+AreTokens text (cut_token k from to s) =
     IsToken k (take (to - from) (drop from text)) × AreTokens text s
 
-abbrev pub token_count : Stream → ℕ
-token_count (end n) = 0
-token_count (fault n) = 0
-token_count (token k from to s) = token_count s + 1
+abbrev pub token_count : Cut → ℕ
+token_count (cut_end n) = 0
+token_count (cut_fault n) = 0
+token_count (cut_token k from to s) = token_count s + 1
 
 -- in each text, the bytes of each token are one token of its kind
 abbrev pub EachIsToken : Type 0
@@ -61,10 +61,10 @@ pub record IsFault (n : ℕ) (bs : List ℕ) : Type 0 where
 
 -- the bytes at place `at` are white space, comments and the tokens of the stream, in order, and
 -- nothing else, up to their end or to a fault. Each token is the longest at its place.
-abbrev pub Covers : ℕ → List ℕ → Stream → Type 0
-Covers at bs (end e) = IsGap (length bs) bs × (e ≡ at + length bs)
-Covers at bs (fault e) = (m n : ℕ) × IsGap m bs × IsFault n (drop m bs) × (e ≡ at + m + n)
-Covers at bs (token k from to s) =
+abbrev pub Covers : ℕ → List ℕ → Cut → Type 0
+Covers at bs (cut_end e) = IsGap (length bs) bs × (e ≡ at + length bs)
+Covers at bs (cut_fault e) = (m n : ℕ) × IsGap m bs × IsFault n (drop m bs) × (e ≡ at + m + n)
+Covers at bs (cut_token k from to s) =
     (m n : ℕ) × IsGap m bs × (from ≡ at + m) × (to ≡ from + n) × (n ≤ length (drop m bs))
     × IsLongest k n (drop m bs)
     × Covers to (drop n (drop m bs)) s
@@ -74,10 +74,10 @@ abbrev pub TokensCover : Type 0
 TokensCover = (text : List ℕ) → Covers 0 text (lexed 0 text)
 
 -- the byte of the fault at which the stream ends, if it ends at a fault
-abbrev pub fault_of : Stream → Option ℕ
-fault_of (end n) = None
-fault_of (fault n) = Some n
-fault_of (token k from to s) = fault_of s
+abbrev pub fault_of : Cut → Option ℕ
+fault_of (cut_end n) = None
+fault_of (cut_fault n) = Some n
+fault_of (cut_token k from to s) = fault_of s
 
 -- no token starts at a fault. The byte that the fault names is that place, or a byte inside the
 -- string that begins there.

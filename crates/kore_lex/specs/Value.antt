@@ -13,11 +13,12 @@ unescaped more (Some e) = encode_utf8 e.character ++ more e.len
 -- the text of the bytes between the quotes: each escape becomes its character in UTF-8, and each
 -- other byte stays. The first argument is how many bytes at the head belong to an escape that has
 -- been read.
-unfoldable pub plain : ℕ → List ℕ → List ℕ
-plain n [] = []
-plain (suc n) (c ∷ cs) = plain n cs
-plain zero (c ∷ cs) = if c == 92 then unescaped (λ n. plain n cs) (escape cs) else c ∷ plain 0 cs
+unfoldable pub unescaped_text : ℕ → List ℕ → List ℕ
+unescaped_text n [] = []
+unescaped_text (suc n) (c ∷ cs) = unescaped_text n cs
+unescaped_text zero (c ∷ cs) = if c == 92 then unescaped (λ n. unescaped_text n cs) (escape cs) else
+    c ∷ unescaped_text 0 cs
 
 -- the text of a whole string, without its quotes
-abbrev pub value : List ℕ → List ℕ
-value bs = plain 0 (take (length bs - 2) (drop 1 bs))
+abbrev pub string_value : List ℕ → List ℕ
+string_value bs = unescaped_text 0 (take (length bs - 2) (drop 1 bs))

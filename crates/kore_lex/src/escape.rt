@@ -1,7 +1,8 @@
 // The escapes of strings.
 
 ghost use Rattle.std.specs.Prelude.{◌≡◌, ◌+◌, ◌<◌, ◌^◌, ◌≤◌, length, IfSome, OnSome};
-ghost use Rattle.kore_lex.specs.Escapes.{hex_digit, hex_number, escape, single, numbered, bad_at};
+ghost use Rattle.kore_lex.specs.Escapes.{hex_digit, hex_number, escape, single, escape_by_number};
+ghost use Rattle.kore_lex.specs.Escapes.{bad_at};
 ghost use Rattle.kore_lex.specs.Steps.{unit_len};
 
 use crate::bytes::behind;
@@ -48,7 +49,7 @@ fn hex_number(digits: usize, bytes: &[u8]) -> Option<char>
 /// The escape by a number of `digits` hexadecimal digits, after its letter.
 fn numbered(digits: usize, bytes: &[u8]) -> Option<Escape>
     requires { digits < 2 ^ 32 }
-    ensures value { result ≡ numbered digits bytes.now }
+    ensures value { result ≡ escape_by_number digits bytes.now }
     ensures within { IfSome result (λ e. e.len ≤ length bytes.now + 1) }
 {
     let character = hex_number(digits, bytes)?;

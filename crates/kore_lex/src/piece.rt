@@ -3,7 +3,7 @@
 
 ghost use Rattle.std.specs.Prelude.{◌≡◌, ◌<◌, ◌^◌, ◌+◌, ◌≤◌, length, IfSome};
 ghost use Rattle.kore_lex.specs.Pieces.{ends_block, block_len, passed, quote_len, body_piece};
-ghost use Rattle.kore_lex.specs.Pieces.{comment, string, named, colon, piece};
+ghost use Rattle.kore_lex.specs.Pieces.{comment, string_piece, name_piece, colon, piece};
 
 use crate::bytes::{first, is_letter, is_mark, is_space, line_len, word_len};
 use crate::escape::bad_at;
@@ -100,7 +100,7 @@ fn body_piece(body: &[u8]) -> Piece
 /// The piece that a quote begins, by the bytes after the quote.
 fn string(bytes: &[u8]) -> Piece
     requires { length bytes.now < 2 ^ 32 }
-    ensures { result ≡ string bytes.now }
+    ensures { result ≡ string_piece bytes.now }
 {
     match quote_len(bytes) {
         Some(len) => body_piece(first(bytes, len - 1)),
@@ -111,7 +111,7 @@ fn string(bytes: &[u8]) -> Piece
 /// The piece of a name of this kind, by the bytes after its first byte `@` or `\`.
 fn named(kind: TokenKind, bytes: &[u8]) -> Piece
     requires { length bytes.now < 2 ^ 32 }
-    ensures { result ≡ named kind bytes.now }
+    ensures { result ≡ name_piece kind bytes.now }
 {
     match bytes {
         [letter, rest @ ..] if is_letter(*letter) => Piece::Whole(kind, word_len(rest) + 2),

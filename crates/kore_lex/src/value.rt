@@ -2,7 +2,7 @@
 
 ghost use Rattle.std.specs.Prelude.{◌≡◌, ◌≢◌, ◌<◌, ◌-◌, length, take, drop, slice_index, IfOk};
 ghost use Rattle.std.specs.Prelude.{string_bytes};
-ghost use Rattle.kore_lex.specs.Value.{value};
+ghost use Rattle.kore_lex.specs.Value.{string_value};
 ghost use Rattle.kore_lex.specs.Tokens.{IsString, IsInner};
 ghost use Rattle.kore_lex.specs.Steps.{Took, run_len};
 
@@ -14,7 +14,7 @@ use std::alloc::{AllocError, Global};
 /// only if memory runs out. Time is linear in the length of the token.
 pub fn text_value(alloc: Global, token: &[u8]) -> Result<String, AllocError>
     requires whole { IsString token.now }
-    ensures { IfOk result (λ text. string_bytes text ≡ value token.now) }
+    ensures { IfOk result (λ text. string_bytes text ≡ string_value token.now) }
 {
     let inner = inner(token);
     let mut text = String::new(alloc);

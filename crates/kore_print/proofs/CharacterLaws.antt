@@ -9,12 +9,12 @@ use Rattle.std.proofs.lemmas.Str.Ascii.{IsAscii-nil, IsAscii-cons}
 use Rattle.std.specs.Str.{IsAscii}
 use Rattle.std.specs.Char.{encode_utf8, digit_char}
 use lib.Utf8.{scalar}
-use Rattle.kore_lex.specs.Escapes.{hex_digit, bind, hex_number, by_number, numbered, single, escape}
-use Rattle.kore_lex.specs.Escapes.{further, bad_at}
+use Rattle.kore_lex.specs.Escapes.{hex_digit, bind, hex_number, by_number, escape_by_number, single}
+use Rattle.kore_lex.specs.Escapes.{escape, further, bad_at}
 use Rattle.kore_lex.specs.Pieces.{quote_len}
-use Rattle.kore_lex.specs.Value.{plain}
+use Rattle.kore_lex.specs.Value.{unescaped_text}
 use Rattle.kore_lex.proofs.Runs.{further-none, further-sum}
-use Rattle.kore_print.specs.TokenText.{hexadecimal, numbered_text, character_text}
+use Rattle.kore_print.specs.TokenText.{hexadecimal_digits, numbered_text, character_text}
 
 -- 16 to the power of k
 abbrev sixteens : ℕ → ℕ
@@ -26,7 +26,7 @@ digit-back d h = grind (arith, nat_tests)
 
 -- the digits of a number are read as the number
 hex-read : (k j c : ℕ) (r : List ℕ) → c < sixteens k
-    → hex_number (k + j) 0 (hexadecimal k c ++ r) ≡ hex_number j c r
+    → hex_number (k + j) 0 (hexadecimal_digits k c ++ r) ≡ hex_number j c r
 unfolding hex_number
 hex-read zero j c r h =
     let e : 0 ≡ c = omega arith in
@@ -38,8 +38,8 @@ hex-read (suc k) j c r h =
     let l : c / 16 < sixteens k = omega arith in
     let m : c % 16 < 16 = omega arith in
     let n : 16 * (c / 16) + c % 16 ≡ c = omega arith in
-    ap (λ (m : ℕ). hex_number m 0 (hexadecimal (suc k) c ++ r)) i
-    ∙ ap (hex_number (k + suc j) 0) (append_assoc (hexadecimal k (c / 16)) (d ∷ []) r)
+    ap (λ (m : ℕ). hex_number m 0 (hexadecimal_digits (suc k) c ++ r)) i
+    ∙ ap (hex_number (k + suc j) 0) (append_assoc (hexadecimal_digits k (c / 16)) (d ∷ []) r)
     ∙ hex-read k (suc j) (c / 16) (d ∷ r) l
     ∙ ap (λ (o : Option ℕ). bind o (λ x. hex_number j (16 * (c / 16) + x) r))
     (digit-back (c % 16) m)
@@ -58,18 +58,19 @@ digit-plain : (d : ℕ) → d < 16
     → ((digit_char d == 34) ≡ false) × ((digit_char d == 92) ≡ false) × (digit_char d < 128)
 digit-plain d h = (grind (arith, nat_tests), grind (arith, nat_tests), grind (arith, nat_tests))
 
-digits-plain : (k n : ℕ) → AllPlain (hexadecimal k n)
+digits-plain : (k n : ℕ) → AllPlain (hexadecimal_digits k n)
 digits-plain zero n = tt
 digits-plain (suc k) n =
     let p = digit-plain (n % 16) (omega arith) in
-    plain-append (hexadecimal k (n / 16)) (digit_char (n % 16) ∷ []) (digits-plain k (n / 16))
+    plain-append (hexadecimal_digits k (n / 16)) (digit_char (n % 16)
+        ∷ []) (digits-plain k (n / 16))
     (p.0, p.1, p.2, tt)
 
-digits-length : (k n : ℕ) → length (hexadecimal k n) ≡ k
+digits-length : (k n : ℕ) → length (hexadecimal_digits k n) ≡ k
 digits-length zero n = refl
 digits-length (suc k) n =
-    let e : length (hexadecimal (suc k) n) ≡ length (hexadecimal k (n / 16)) + 1 =
-    length-append (hexadecimal k (n / 16)) (digit_char (n % 16) ∷ []) in
+    let e : length (hexadecimal_digits (suc k) n) ≡ length (hexadecimal_digits k (n / 16)) + 1 =
+    length-append (hexadecimal_digits k (n / 16)) (digit_char (n % 16) ∷ []) in
     omega (arith, e, digits-length k (n / 16))
 
 quote-plain : (ds r : List ℕ) → AllPlain ds
@@ -86,8 +87,8 @@ bad-passed [] r = sym (further-none (bad_at 0 r))
 bad-passed (d ∷ ds) r = ap (further 1) (bad-passed ds r)
     ∙ further-sum 1 (length ds) (suc (length ds)) (bad_at 0 r) (omega arith)
 
-read-passed : (ds r : List ℕ) → plain (length ds) (ds ++ r) ≡ plain 0 r
-unfolding plain
+read-passed : (ds r : List ℕ) → unescaped_text (length ds) (ds ++ r) ≡ unescaped_text 0 r
+unfolding unescaped_text
 read-passed [] r = refl
 read-passed (d ∷ ds) r = read-passed ds r
 
@@ -99,21 +100,21 @@ plain-ascii (d ∷ ds) h = IsAscii-cons d ds h.2 (plain-ascii ds h.3)
 pub record Stands (c : ℕ) (w : List ℕ) : Type 0 where
   pub quoted : (r : List ℕ) → quote_len 0 (w ++ r) ≡ further (length w) (quote_len 0 r)
   pub good : (r : List ℕ) → bad_at 0 (w ++ r) ≡ further (length w) (bad_at 0 r)
-  pub read : (r : List ℕ) → plain 0 (w ++ r) ≡ encode_utf8 c ++ plain 0 r
+  pub read : (r : List ℕ) → unescaped_text 0 (w ++ r) ≡ encode_utf8 c ++ unescaped_text 0 r
   pub ascii : IsAscii w
 
 stands-itself : (c : ℕ) → c < 128 → (c == 34) ≡ false → (c == 92) ≡ false → Stands c (c ∷ [])
-unfolding quote_len bad_at plain
+unfolding quote_len bad_at unescaped_text
 stands-itself c l q b = record {
   quoted = λ r. rw (q, b) refl;
   good = λ r. rw b refl;
-  read = λ r. rw b (ap (λ (t : List ℕ). t ++ plain 0 r) (sym (encode_ascii c l)));
+  read = λ r. rw b (ap (λ (t : List ℕ). t ++ unescaped_text 0 r) (sym (encode_ascii c l)));
   ascii = IsAscii-cons c [] l IsAscii-nil;
 }
 
 stands-letter : (x c : ℕ) → x < 128 → ((r : List ℕ) → escape (x ∷ r) ≡ single c)
     → Stands c (92 ∷ x ∷ [])
-unfolding quote_len bad_at plain
+unfolding quote_len bad_at unescaped_text
 stands-letter x c l h = record {
   quoted = λ r. further-sum 1 1 2 (quote_len 0 r) refl;
   good = λ r. rw (h r) (further-sum 1 1 2 (bad_at 0 r) refl);
@@ -121,11 +122,11 @@ stands-letter x c l h = record {
   ascii = IsAscii-cons 92 (x ∷ []) (omega arith) (IsAscii-cons x [] l IsAscii-nil);
 }
 
-stands-numbered : (x k c : ℕ) → x < 128 → ((r : List ℕ) → escape (x ∷ r) ≡ numbered k r)
-    → c < sixteens k → scalar c ≡ true → Stands c (92 ∷ x ∷ hexadecimal k c)
-unfolding quote_len bad_at plain hex_number
+stands-numbered : (x k c : ℕ) → x < 128 → ((r : List ℕ) → escape (x ∷ r) ≡ escape_by_number k r)
+    → c < sixteens k → scalar c ≡ true → Stands c (92 ∷ x ∷ hexadecimal_digits k c)
+unfolding quote_len bad_at unescaped_text hex_number
 stands-numbered x k c l h s u =
-    let ds : List ℕ = hexadecimal k c in
+    let ds : List ℕ = hexadecimal_digits k c in
     let n : k + 1 ≡ suc (length ds) = omega (arith, digits-length k c) in
     let z : k + 0 ≡ k = omega arith in
     let number : (r : List ℕ) → hex_number k 0 (ds ++ r) ≡ Some c =
@@ -172,9 +173,10 @@ scalar-small c h = grind (arith, nat_tests)
 stands-by-number : (c : ℕ) → scalar c ≡ true → Stands c (numbered_text c)
 unfolding escape
 stands-by-number c s =
-    stands-if (nat_lt c 256) c (92 ∷ 120 ∷ hexadecimal 2 c) _
+    stands-if (nat_lt c 256) c (92 ∷ 120 ∷ hexadecimal_digits 2 c) _
     (λ h. stands-numbered 120 2 c (omega arith) (λ r. refl) (below c 256 h) s)
-    (λ i. stands-if (nat_lt c 65536) c (92 ∷ 117 ∷ hexadecimal 4 c) (92 ∷ 85 ∷ hexadecimal 8 c)
+    (λ i. stands-if (nat_lt c 65536) c (92 ∷ 117 ∷ hexadecimal_digits 4 c) (92 ∷ 85
+    ∷ hexadecimal_digits 8 c)
     (λ h. stands-numbered 117 4 c (omega arith) (λ r. refl) (below c 65536 h) s)
     (λ h. stands-numbered 85 8 c (omega arith) (λ r. refl) (scalar-small c s) s))
 

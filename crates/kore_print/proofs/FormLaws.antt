@@ -5,9 +5,9 @@ use Rattle.std.specs.Global.{Box}
 use Rattle.kore_text.specs.declared.names.Op.{Op}
 use Rattle.kore_text.specs.declared.names.Binder.{Binder}
 use Rattle.kore_text.specs.declared.names.Built.TheVariants.{Connective, Binding, Fold}
-use Rattle.kore_text.specs.TokenStream.{Token, identifier, builtin, mark}
+use Rattle.kore_text.specs.TokenStream.{KoreToken, identifier, builtin, mark}
 use Rattle.kore_text.specs.Trees.{SortTree, sort_applied, sort_trees, PatternTree, string}
-use Rattle.kore_text.specs.Trees.{symbol_applied, connected, binding, folded, pattern_trees}
+use Rattle.kore_text.specs.Trees.{symbol_applied, connected, binder_applied, folded, pattern_trees}
 use Rattle.kore_text.specs.Grammar.{Requirement, any, Spelling, listed, spell_sort, spell_sorts}
 use Rattle.kore_text.specs.Grammar.{spell_pattern, spell_patterns}
 use Rattle.kore_ast.specs.declared.tree.Sort.{Sort}
@@ -53,7 +53,7 @@ same-sort-text spell s t old new same is h =
     (same k ∙ ap (λ (u : SortTree). text_of (spell_sort u k)) is)
 
 -- the text of a token was added, and then the rest
-pub token_first : (t : Token) (part : List ℕ) (f : Spelling) (old mid new : List ℕ)
+pub token_first : (t : KoreToken) (part : List ℕ) (f : Spelling) (old mid new : List ℕ)
     → part ≡ token_text t → mid ≡ old ++ part → Writes f mid new → Writes (λ k. any t ∷ f k) old new
 token_first t part f old mid new p m w =
     λ k. part_first (token_text t) old mid new (text_of (f k)) (text_of k)
@@ -105,7 +105,8 @@ arguments-text ss ps head k =
     (listed (spell_sorts (sort_trees ss)) 125 (any (mark 40) ∷ listed fs 41 k))))
     (spell_patterns_trees ps)
 
-applied-text : (ss ts : List SortTree) (ps qs : List PatternTree) (t : Token) (k : List Requirement)
+applied-text : (ss ts : List SortTree) (ps qs : List PatternTree) (t : KoreToken)
+    (k : List Requirement)
     → ss ≡ ts → ps ≡ qs
     → text_of (spell_head t ss (spell_in_parentheses ps k))
     ≡ token_text t
@@ -185,7 +186,7 @@ pub written_binding : (p : Pat) (o : Binder) (ss : Vec Sort Global) (x q : Box P
     → Writes (spell_pattern false (pattern_tree p)) old new
 written_binding p o ss x q xs old mid new h y v w =
     let t : PatternTree =
-    binding p.at o (sort_trees (map plain_sort ss.items)) (pattern_tree x.value)
+    binder_applied p.at o (sort_trees (map plain_sort ss.items)) (pattern_tree x.value)
     (pattern_tree q.value) in
     let rest : Spelling = bound (pattern_tree x.value) (pattern_tree q.value) in
     same-text (λ k. spell_head (builtin (Some (Binding o))) (map plain_sort xs) (rest k))

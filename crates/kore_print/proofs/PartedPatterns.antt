@@ -2,7 +2,7 @@
 use Rattle.std.proofs.Common.{◌≡◌, ℕ, Bool, true, false, List, [], ◌∷◌, refl, ◌==◌}
 use Rattle.kore_text.specs.Trees.{SortTree, sort_parameter, sort_applied, SortTrees, no_sorts}
 use Rattle.kore_text.specs.Trees.{sort_then, PatternTree, element_variable, set_variable, string}
-use Rattle.kore_text.specs.Trees.{symbol_applied, connected, binding, domain_value, folded}
+use Rattle.kore_text.specs.Trees.{symbol_applied, connected, binder_applied, value_written, folded}
 use Rattle.kore_text.specs.Trees.{PatternTrees, no_patterns, pattern_then}
 use Rattle.kore_text.specs.TokenStream.{mark}
 use Rattle.kore_text.specs.Grammar.{Requirement, Spelling, listed, more_listed, spell_sort}
@@ -77,7 +77,7 @@ mutual
           (refl, listed-parts (spell_patterns b ps) 41 k refl (patterns-part b ps) h),
     ),
   )
-  pattern-parts b (binding at o ss x p) k m h = (
+  pattern-parts b (binder_applied at o ss x p) k m h = (
     refl,
     (
       refl,
@@ -85,7 +85,7 @@ mutual
           (refl, pattern-parts b x _ refl (refl, pattern-parts b p _ refl (refl, h))),
     ),
   )
-  pattern-parts b (domain_value at s t place) k m h =
+  pattern-parts b (value_written at s t place) k m h =
       (refl, (refl, sort-parts s _ refl (refl, (refl, (tt, (refl, h))))))
   pattern-parts b (folded at left p) k m h =
       (refl, (refl, (refl, (refl, pattern-parts b p _ refl (refl, h)))))

@@ -5,13 +5,14 @@ use Rattle.kore_text.specs.declared.names.Op.{Op}
 use Rattle.kore_text.specs.declared.names.Built.TheVariants.{Connective, Binding, Value, Fold}
 use Rattle.kore_text.specs.Trees.{SortTree, sort_parameter, sort_applied, SortTrees, no_sorts}
 use Rattle.kore_text.specs.Trees.{sort_then, sort_count, PatternTree, element_variable}
-use Rattle.kore_text.specs.Trees.{set_variable, string, symbol_applied, connected, binding}
-use Rattle.kore_text.specs.Trees.{domain_value, folded, PatternTrees, no_patterns, pattern_then}
+use Rattle.kore_text.specs.Trees.{set_variable, string, symbol_applied, connected, binder_applied}
+use Rattle.kore_text.specs.Trees.{value_written, folded, PatternTrees, no_patterns, pattern_then}
 use Rattle.kore_text.specs.Trees.{pattern_count}
-use Rattle.kore_text.specs.TokenStream.{Token, identifier, set_identifier, builtin, string_token}
-use Rattle.kore_text.specs.TokenStream.{mark, Stream, end, fault, token, tokens_of}
-use Rattle.kore_text.specs.Grammar.{Requirement, placed, any, given, TakesTokens, listed}
-use Rattle.kore_text.specs.Grammar.{more_listed, takes, binder_sorts, binds_sets, is_variable}
+use Rattle.kore_text.specs.TokenStream.{KoreToken, identifier, set_identifier, builtin}
+use Rattle.kore_text.specs.TokenStream.{string_token, mark, Stream, end, no_token_at, token}
+use Rattle.kore_text.specs.TokenStream.{token_stream}
+use Rattle.kore_text.specs.Grammar.{Requirement, placed, any, provided, TakesTokens, listed}
+use Rattle.kore_text.specs.Grammar.{more_listed, takes, binder_sorts, binds_sets, is_variable_tree}
 use Rattle.kore_text.specs.Grammar.{spell_sort, spell_sorts, spell_pattern, spell_patterns}
 use Rattle.kore_text.specs.Depth.{opened, IsShallow}
 use Rattle.kore_print.specs.Reading.{unplaced_sort, unplaced_sorts, unplaced, unplaced_patterns}
@@ -23,16 +24,16 @@ use Rattle.kore_print.proofs.Unplacing.{foldable-kept}
 -- the same requirements, at any places
 abbrev bare : List Requirement → List Requirement
 bare [] = []
-bare (given b ∷ ws) = given b ∷ bare ws
+bare (provided b ∷ ws) = provided b ∷ bare ws
 bare (placed p t ∷ ws) = any t ∷ bare ws
 bare (any t ∷ ws) = any t ∷ bare ws
 
 given-same : (a b : Bool) (k l : List Requirement) → a ≡ b → k ≡ l
-    → ◌≡◌ {A = List Requirement} (given a ∷ k) (given b ∷ l)
+    → ◌≡◌ {A = List Requirement} (provided a ∷ k) (provided b ∷ l)
 given-same a b k l h g =
-    ap (λ (c : Bool). given c ∷ k) h ∙ ap (λ (m : List Requirement). given b ∷ m) g
+    ap (λ (c : Bool). provided c ∷ k) h ∙ ap (λ (m : List Requirement). provided b ∷ m) g
 
-any-same : (t : Token) (k l : List Requirement) → k ≡ l
+any-same : (t : KoreToken) (k l : List Requirement) → k ≡ l
     → ◌≡◌ {A = List Requirement} (any t ∷ k) (any t ∷ l)
 any-same t k l h = ap (λ (m : List Requirement). any t ∷ m) h
 
@@ -80,9 +81,9 @@ mutual
       given-same _ _ _ _ (counts-bare o ss ps)
       (any-same (builtin (Some (Connective o))) _ _ (any-same (mark 123) _ _
       (sorts-bare ss _ _ (any-same (mark 40) _ _ (patterns-bare b ps k l h)))))
-  pattern-bare b (binding p o ss x q) k l h =
+  pattern-bare b (binder_applied p o ss x q) k l h =
       given-same _ _ _ _
-      (ap (λ (n : ℕ). (n == binder_sorts o) && is_variable (binds_sets o) x)
+      (ap (λ (n : ℕ). (n == binder_sorts o) && is_variable_tree (binds_sets o) x)
       (sym (sorts-counted ss))
       ∙ ap (λ (v : Bool). (sort_count (unplaced_sorts ss) == binder_sorts o) && v)
       (sym (variable-kept (binds_sets o) x)))
@@ -90,7 +91,7 @@ mutual
       (any-same (mark 123) _ _ (sorts-bare ss _ _ (any-same (mark 40) _ _
       (pattern-bare b x _ _
       (any-same (mark 44) _ _ (pattern-bare b q _ _ (any-same (mark 41) _ _ h))))))))
-  pattern-bare b (domain_value p s t place) k l h =
+  pattern-bare b (value_written p s t place) k l h =
       any-same (builtin (Some Value)) _ _
       (any-same (mark 123) _ _ (sort-bare s _ _ (any-same (mark 125) _ _ (any-same (mark 40) _ _
       (any-same (string_token t) _ _ (any-same (mark 41) _ _ h))))))
@@ -121,37 +122,37 @@ mutual
 
 to-bare : (ws : List Requirement) (n : ℕ) → CanStand n ws → CanStand n (bare ws)
 to-bare [] n h = tt
-to-bare (given b ∷ ws) n h = (h.0, to-bare ws n h.1)
+to-bare (provided b ∷ ws) n h = (h.0, to-bare ws n h.1)
 to-bare (placed p t ∷ ws) n h = (h.0, h.1, to-bare ws (opened t n) h.2)
 to-bare (any t ∷ ws) n h = (h.0, h.1, to-bare ws (opened t n) h.2)
 
 from-bare : (ws : List Requirement) (n : ℕ) → CanStand n (bare ws) → CanStand n ws
 from-bare [] n h = tt
-from-bare (given b ∷ ws) n h = (h.0, from-bare ws n h.1)
+from-bare (provided b ∷ ws) n h = (h.0, from-bare ws n h.1)
 from-bare (placed p t ∷ ws) n h = (h.0, h.1, from-bare ws (opened t n) h.2)
 from-bare (any t ∷ ws) n h = (h.0, h.1, from-bare ws (opened t n) h.2)
 
 -- a token of the text can occur in a text
-taken-one : (t u : Token) (n : ℕ) (s : Stream) (R : ℕ → Type 0) → u ≡ t → IsTextual u
+taken-one : (t u : KoreToken) (n : ℕ) (s : Stream) (R : ℕ → Type 0) → u ≡ t → IsTextual u
     → opened u n ≤ 500 → IsShallow (opened u n) s → (IsShallow (opened t n) s → R (opened t n))
     → IsTextual t × (opened t n ≤ 500) × R (opened t n)
 taken-one t u n s R e x o d go = (
   subst IsTextual e x,
-  subst (λ (u : Token). opened u n ≤ 500) e o,
-  go (subst (λ (u : Token). IsShallow (opened u n) s) e d),
+  subst (λ (u : KoreToken). opened u n ≤ 500) e o,
+  go (subst (λ (u : KoreToken). IsShallow (opened u n) s) e d),
 )
 
 taken-stand : (ws : List Requirement) (n : ℕ) (s e : Stream) → TakesTokens ws s e → IsShallow n s
     → AllTextual s → CanStand n ws
 taken-stand [] n s e h d x = tt
-taken-stand (given b ∷ ws) n s e h d x = (h.0, taken-stand ws n s e h.1 d x)
+taken-stand (provided b ∷ ws) n s e h d x = (h.0, taken-stand ws n s e h.1 d x)
 taken-stand (placed p t ∷ ws) n (end y) e h d x = absurd h
-taken-stand (placed p t ∷ ws) n (fault y) e h d x = absurd h
+taken-stand (placed p t ∷ ws) n (no_token_at y) e h d x = absurd h
 taken-stand (placed p t ∷ ws) n (token u q s) e h d x =
     taken-one t u n s (λ m. CanStand m ws) h.0 x.0 d.0 d.1
     (λ c. taken-stand ws (opened t n) s e h.2 c x.1)
 taken-stand (any t ∷ ws) n (end y) e h d x = absurd h
-taken-stand (any t ∷ ws) n (fault y) e h d x = absurd h
+taken-stand (any t ∷ ws) n (no_token_at y) e h d x = absurd h
 taken-stand (any t ∷ ws) n (token u q s) e h d x =
     taken-one t u n s (λ m. CanStand m ws) h.0 x.0 d.0 d.1
     (λ c. taken-stand ws (opened t n) s e h.1 c x.1)
@@ -169,6 +170,6 @@ pub read_readable : ReadIsReadable
 read_readable bytes p h =
     let q : PatternTree = h.0 in
     let r : IsReadable q =
-    taken-stand (spell_pattern false q []) 0 (tokens_of bytes) (end h.2.1.0) h.2.1.1 h.2.0
+    taken-stand (spell_pattern false q []) 0 (token_stream bytes) (end h.2.1.0) h.2.1.1 h.2.0
     (tokens-textual bytes) in
     readable-same p q h.1 r

@@ -1,6 +1,6 @@
 -- The canonical text of a pattern that can be read spells it.
 use Rattle.std.proofs.Common.{◌≡◌, false, List, [], refl, sym, subst}
-use Rattle.kore_text.specs.TokenStream.{Stream, end, tokens_of}
+use Rattle.kore_text.specs.TokenStream.{Stream, end, token_stream}
 use Rattle.kore_text.specs.Grammar.{Requirement, TakesTokens, spell_pattern}
 use Rattle.kore_text.specs.Depth.{IsShallow}
 use Rattle.kore_print.specs.CanonicalText.{canonical_text}
@@ -16,10 +16,11 @@ reads_back p h =
     let a : Settled (spell_pattern false) unplaced p [] 0 =
     settled-pattern false p [] 0 (stand-holds ws 0 h) in
     let d : Parted ws = pattern-parts false p [] refl tt in
-    let e : tokens_of (canonical_text p) ≡ stream_of 0 ws = tokens-spelled ws 0 h d in
-    let s : IsShallow 0 (tokens_of (canonical_text p)) =
+    let e : token_stream (canonical_text p) ≡ stream_of 0 ws = tokens-spelled ws 0 h d in
+    let s : IsShallow 0 (token_stream (canonical_text p)) =
     subst (λ (s : Stream). IsShallow 0 s) (sym e) (spelled-shallow ws 0 0 h) in
-    let t : TakesTokens (spell_pattern false a.to []) (tokens_of (canonical_text p)) (end a.rest) =
+    let t : TakesTokens (spell_pattern false a.to []) (token_stream (canonical_text p))
+        (end a.rest) =
     subst (λ (s : Stream). TakesTokens (spell_pattern false a.to []) s (end a.rest)) (sym e)
     (a.spelled [] (end a.rest) refl) in
     (a.to, a.same, (s, (a.rest, t)))

@@ -7,14 +7,15 @@ use Rattle.kore_text.specs.declared.names.Binder.{Binder}
 use Rattle.kore_text.specs.declared.names.Built.TheVariants.{Connective, Binding, Value, Fold}
 use Rattle.kore_text.specs.Trees.{SortTree, sort_parameter, sort_applied, SortTrees, no_sorts}
 use Rattle.kore_text.specs.Trees.{sort_then, sort_count, PatternTree, element_variable}
-use Rattle.kore_text.specs.Trees.{set_variable, string, symbol_applied, connected, binding}
-use Rattle.kore_text.specs.Trees.{domain_value, folded, PatternTrees, no_patterns, pattern_then}
+use Rattle.kore_text.specs.Trees.{set_variable, string, symbol_applied, connected, binder_applied}
+use Rattle.kore_text.specs.Trees.{value_written, folded, PatternTrees, no_patterns, pattern_then}
 use Rattle.kore_text.specs.Trees.{pattern_count}
-use Rattle.kore_text.specs.TokenStream.{Token, identifier, set_identifier, builtin, string_token}
-use Rattle.kore_text.specs.TokenStream.{mark, Stream}
-use Rattle.kore_text.specs.Grammar.{Requirement, placed, any, given, TakesTokens, Spelling, listed}
-use Rattle.kore_text.specs.Grammar.{more_listed, takes, binder_sorts, binds_sets, is_variable}
-use Rattle.kore_text.specs.Grammar.{spell_sort, spell_sorts, spell_pattern, spell_patterns}
+use Rattle.kore_text.specs.TokenStream.{KoreToken, identifier, set_identifier, builtin}
+use Rattle.kore_text.specs.TokenStream.{string_token, mark, Stream}
+use Rattle.kore_text.specs.Grammar.{Requirement, placed, any, provided, TakesTokens, Spelling}
+use Rattle.kore_text.specs.Grammar.{listed, more_listed, takes, binder_sorts, binds_sets}
+use Rattle.kore_text.specs.Grammar.{is_variable_tree, spell_sort, spell_sorts, spell_pattern}
+use Rattle.kore_text.specs.Grammar.{spell_patterns}
 use Rattle.kore_print.specs.TokenText.{token_text}
 use Rattle.kore_print.specs.Reading.{unplaced_sort, unplaced_sorts, unplaced, unplaced_patterns}
 use Rattle.kore_print.specs.PrintLaws.{CanStand}
@@ -24,13 +25,13 @@ use Rattle.kore_print.proofs.Unplacing.{sort-counts, pattern-counts, variables, 
 -- the conditions among the requirements hold
 abbrev pub Holds : List Requirement → Type 0
 Holds [] = Unit {0}
-Holds (given b ∷ ws) = IsTrue b × Holds ws
+Holds (provided b ∷ ws) = IsTrue b × Holds ws
 Holds (placed p t ∷ ws) = Holds ws
 Holds (any t ∷ ws) = Holds ws
 
 pub stand-holds : (ws : List Requirement) (n : ℕ) → CanStand n ws → Holds ws
 stand-holds [] n h = tt
-stand-holds (given b ∷ ws) n h = (h.0, stand-holds ws n h.1)
+stand-holds (provided b ∷ ws) n h = (h.0, stand-holds ws n h.1)
 stand-holds (placed p t ∷ ws) n h = stand-holds ws _ h.2
 stand-holds (any t ∷ ws) n h = stand-holds ws _ h.2
 
@@ -46,7 +47,7 @@ pub record Settled {T : Type 0} (spell : T → Spelling) (bare : T → T) (x : T
       → TakesTokens (spell to w) (stream_of at (spell x k)) e
 
 -- the place after a token
-abbrev behind : ℕ → Token → ℕ
+abbrev behind : ℕ → KoreToken → ℕ
 behind at t = at + length (token_text t)
 
 abbrev in_braces : SortTrees → Spelling
@@ -139,16 +140,17 @@ counts-kept o ss ts ps qs a b h =
 
 binder-kept : (o : Binder) (ss ts : SortTrees) (x y : PatternTree)
     → unplaced_sorts ts ≡ unplaced_sorts ss → unplaced y ≡ unplaced x
-    → IsTrue ((sort_count ss == binder_sorts o) && is_variable (binds_sets o) x)
-    → IsTrue ((sort_count ts == binder_sorts o) && is_variable (binds_sets o) y)
+    → IsTrue ((sort_count ss == binder_sorts o) && is_variable_tree (binds_sets o) x)
+    → IsTrue ((sort_count ts == binder_sorts o) && is_variable_tree (binds_sets o) y)
 binder-kept o ss ts x y a b h =
     both-same (λ (n : ℕ) (v : Bool). (n == binder_sorts o) && v) _ _ _ _ (sort-counts ts ss a)
     (variables (binds_sets o) y x b) ∙ h
 
 three-same : (o : Binder) (ss ts : SortTrees) (x y p q : PatternTree) → ss ≡ ts → x ≡ y → p ≡ q
-    → binding 0 o ss x p ≡ binding 0 o ts y q
+    → binder_applied 0 o ss x p ≡ binder_applied 0 o ts y q
 three-same o ss ts x y p q a b c =
-    ap (λ z. binding 0 o z x p) a ∙ ap (λ z. binding 0 o ts z p) b ∙ ap (binding 0 o ts y) c
+    ap (λ z. binder_applied 0 o z x p) a ∙ ap (λ z. binder_applied 0 o ts z p) b
+        ∙ ap (binder_applied 0 o ts y) c
 
 mutual
   pub settled-pattern : (b : Bool) (p : PatternTree) (k : List Requirement) (at : ℕ)
@@ -226,7 +228,7 @@ mutual
           ),
         );
       }
-  settled-pattern b (binding p o ss x q) k at h =
+  settled-pattern b (binder_applied p o ss x q) k at h =
       let i : ℕ = behind (behind at (builtin (Some (Binding o)))) (mark 123) in
       let t : List Requirement = any (mark 41) ∷ k in
       let u : List Requirement = any (mark 44) ∷ spell_pattern b q t in
@@ -237,7 +239,7 @@ mutual
       let l : ℕ = behind c.rest (mark 44) in
       let d : Settled (spell_pattern b) unplaced q t l = settled-pattern b q t l c.holds in
       record {
-        to = binding at o a.to c.to d.to;
+        to = binder_applied at o a.to c.to d.to;
         same = three-same o _ _ _ _ _ _ a.same c.same d.same;
         rest = behind d.rest (mark 41);
         holds = d.holds;
@@ -259,15 +261,15 @@ mutual
           ),
         );
       }
-  settled-pattern b (domain_value p s t place) k at h =
+  settled-pattern b (value_written p s t place) k at h =
       let i : ℕ = behind (behind at (builtin (Some Value))) (mark 123) in
       let r : List Requirement =
       any (mark 125) ∷ any (mark 40) ∷ placed place (string_token t) ∷ any (mark 41) ∷ k in
       let a : Settled spell_sort unplaced_sort s r i = settled-sort s r i h in
       let j : ℕ = behind (behind a.rest (mark 125)) (mark 40) in
       record {
-        to = domain_value at a.to t j;
-        same = ap (λ z. domain_value 0 z t 0) a.same;
+        to = value_written at a.to t j;
+        same = ap (λ z. value_written 0 z t 0) a.same;
         rest = behind (behind j (string_token t)) (mark 41);
         holds = a.holds;
         spelled = λ w e g. (

@@ -12,7 +12,7 @@ use lib.Utf8.{scalar, scalars}
 use Rattle.kore_lex.specs.declared.lexer.TokenKind.TheVariants.{Text}
 use Rattle.kore_lex.specs.Escapes.{further, bad_at}
 use Rattle.kore_lex.specs.Pieces.{quote_len, piece}
-use Rattle.kore_lex.specs.Value.{plain, value}
+use Rattle.kore_lex.specs.Value.{unescaped_text, string_value}
 use Rattle.kore_lex.proofs.Runs.{further-none, further-sum}
 use Rattle.kore_lex.proofs.WholePieces.{whole, string-piece}
 use Rattle.kore_text.proofs.Accepting.{both}
@@ -42,8 +42,9 @@ all-good (c ∷ cs) s =
     let u : Stands c (character_text c) = stands c p.0 in
     u.good (characters_text cs) ∙ ap (further (length (character_text c))) (all-good cs p.1)
 
-all-read : (cs : List ℕ) → scalars cs ≡ true → plain 0 (characters_text cs) ≡ encode_utf8_all cs
-unfolding plain
+all-read : (cs : List ℕ) → scalars cs ≡ true → unescaped_text 0 (characters_text cs)
+    ≡ encode_utf8_all cs
+unfolding unescaped_text
 all-read [] s = refl
 all-read (c ∷ cs) s =
     let p = both (scalar c) (scalars cs) s in
@@ -81,10 +82,10 @@ text-piece t r u =
     ∙ closed-piece cs r s ∙ ap (whole Text) (sym (length-quoted w))
 
 -- the text of a string denotes the string
-pub text-value : (t : List ℕ) → IsUtf8 t → value (string_text t) ≡ t
+pub text-value : (t : List ℕ) → IsUtf8 t → string_value (string_text t) ≡ t
 text-value t u =
     let cs : List ℕ = chars t in
     let w : List ℕ = characters_text cs in
     let n : length (34 ∷ (w ++ (34 ∷ []))) - 2 ≡ length w = omega (arith, length-quoted w) in
-    ap (plain 0) (ap (λ (i : ℕ). take i (w ++ (34 ∷ []))) n ∙ take-append_seam w (34 ∷ []))
+    ap (unescaped_text 0) (ap (λ (i : ℕ). take i (w ++ (34 ∷ []))) n ∙ take-append_seam w (34 ∷ []))
     ∙ all-read cs (scalars-chars t u) ∙ encodes-chars t u

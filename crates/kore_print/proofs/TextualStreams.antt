@@ -3,18 +3,18 @@ use Rattle.std.proofs.Common.{◌≡◌, ◌≢◌, ◌-◌, ℕ, true, List, []
 use Rattle.kore_lex.specs.declared.lexer.TokenKind.{TokenKind}
 use Rattle.kore_lex.specs.declared.lexer.TokenKind.TheVariants as kind
 use Rattle.kore_lex.specs.Pieces.{is_mark}
-use Rattle.kore_lex.specs.Lexed.{lexed, Stream as Cut, end as cut_end, fault as cut_fault}
-use Rattle.kore_lex.specs.Lexed.{token as cut_token}
+use Rattle.kore_lex.specs.Lexed.{lexed, Cut, cut_end, cut_fault, cut_token}
 use Rattle.kore_lex.specs.Tokens.{IsToken, IsString}
 use Rattle.kore_lex.proofs.AllTokens.{AllRead, all-read, string-utf8}
-use Rattle.kore_text.specs.TokenStream.{Stream, end, fault, token, token_of, named, tokens_of}
+use Rattle.kore_text.specs.TokenStream.{Stream, end, no_token_at, token, token_of, named_tokens}
+use Rattle.kore_text.specs.TokenStream.{token_stream}
 use Rattle.kore_print.specs.PrintLaws.{IsTextual}
 use Rattle.kore_print.proofs.TokenPieces.{named-token}
 
 -- each token can occur in a text
 abbrev pub AllTextual : Stream → Type 0
 AllTextual (end e) = Unit {0}
-AllTextual (fault e) = Unit {0}
+AllTextual (no_token_at e) = Unit {0}
 AllTextual (token t p s) = IsTextual t × AllTextual s
 
 token-textual : (k : TokenKind) (bs : List ℕ) → IsToken k bs → (k ≡ kind.Text → IsString bs)
@@ -32,7 +32,7 @@ no-end : (bs : List ℕ) → IsToken kind.End bs → ⊥
 no-end [] h = h
 no-end (c ∷ cs) h = h
 
-named-textual : (text : List ℕ) (s : Cut) → AllRead text s → AllTextual (named text s)
+named-textual : (text : List ℕ) (s : Cut) → AllRead text s → AllTextual (named_tokens text s)
 named-textual text (cut_end e) h = tt
 named-textual text (cut_fault e) h = tt
 named-textual text (cut_token k from to s) h =
@@ -41,6 +41,6 @@ named-textual text (cut_token k from to s) h =
     subst AllTextual (sym (named-token text k from to s no))
     (token-textual k bs h.0.0 h.0.1, named-textual text s h.1)
 
-pub tokens-textual : (bytes : List ℕ) → AllTextual (tokens_of bytes)
-unfolding tokens_of
+pub tokens-textual : (bytes : List ℕ) → AllTextual (token_stream bytes)
+unfolding token_stream
 tokens-textual bytes = named-textual bytes (lexed 0 bytes) (all-read bytes)

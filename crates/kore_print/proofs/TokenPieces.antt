@@ -7,7 +7,7 @@ use Rattle.std.proofs.Math.Seq.{take-append_seam, drop-append_seam}
 use Rattle.kore_lex.specs.declared.lexer.TokenKind.{TokenKind}
 use Rattle.kore_lex.specs.declared.lexer.TokenKind.TheVariants as kind
 use Rattle.kore_lex.specs.Pieces.{is_letter, is_word, piece}
-use Rattle.kore_lex.specs.Lexed.{lexed, Stream as Cut, token as cut_token}
+use Rattle.kore_lex.specs.Lexed.{lexed, Cut, cut_token}
 use Rattle.kore_lex.specs.Tokens.{IsName, AllWord}
 use Rattle.kore_lex.proofs.WholePieces.{whole, lexed-whole, begins_word, begins_equals, name-piece}
 use Rattle.kore_lex.proofs.WholePieces.{set-piece, builtin-piece, mark-piece, assign-piece}
@@ -15,15 +15,15 @@ use Rattle.kore_text.specs.declared.names.Op.TheVariants as op
 use Rattle.kore_text.specs.declared.names.Binder.TheVariants as binder
 use Rattle.kore_text.specs.declared.names.Built.{Built}
 use Rattle.kore_text.specs.declared.names.Built.TheVariants.{Connective, Binding, Value, Fold}
-use Rattle.kore_text.specs.TokenStream.{Token, identifier, set_identifier, builtin, string_token}
-use Rattle.kore_text.specs.TokenStream.{mark, assign, token, token_of, built_of}
-use Rattle.kore_text.specs.TokenStream.{named as named_stream}
+use Rattle.kore_text.specs.TokenStream.{KoreToken, identifier, set_identifier, builtin}
+use Rattle.kore_text.specs.TokenStream.{string_token, mark, assign, token, token_of, built_of}
+use Rattle.kore_text.specs.TokenStream.{named_tokens as named_stream}
 use Rattle.kore_print.specs.TokenText.{built_name, token_text}
 use Rattle.kore_print.specs.PrintLaws.{IsTextual}
 use Rattle.kore_print.proofs.StringTexts.{text-piece, text-value}
 
 -- the bytes may follow the token
-abbrev pub IsApart : Token → List ℕ → Type 0
+abbrev pub IsApart : KoreToken → List ℕ → Type 0
 IsApart (identifier n) r = begins_word r ≡ false
 IsApart (set_identifier n) r = begins_word r ≡ false
 IsApart (builtin (Some b)) r = begins_word r ≡ false
@@ -100,7 +100,7 @@ built-back (Fold true) = refl
 built-back (Fold false) = refl
 
 -- the kind of a token
-abbrev kind_of : Token → TokenKind
+abbrev kind_of : KoreToken → TokenKind
 kind_of (identifier n) = kind.Ident
 kind_of (set_identifier n) = kind.SetIdent
 kind_of (builtin b) = kind.Builtin
@@ -109,7 +109,7 @@ kind_of (mark c) = kind.Punct c
 kind_of assign = kind.Assign
 
 -- the text of a token is cut off as one piece
-token-piece : (t : Token) (r : List ℕ) → IsTextual t → IsApart t r
+token-piece : (t : KoreToken) (r : List ℕ) → IsTextual t → IsApart t r
     → piece (token_text t ++ r) ≡ whole (kind_of t) (length (token_text t))
 token-piece (identifier n) r h a = name-piece n r h a
 token-piece (set_identifier n) r h a = set-piece n r h a
@@ -121,7 +121,7 @@ token-piece (mark c) r h a = mark-piece c r h a
 token-piece assign r h a = assign-piece r
 
 -- the text of a token is read as that token
-token-back : (t : Token) (r : List ℕ) → IsTextual t → IsApart t r
+token-back : (t : KoreToken) (r : List ℕ) → IsTextual t → IsApart t r
     → token_of (kind_of t) (token_text t) ≡ t
 token-back (identifier n) r h a = refl
 token-back (set_identifier n) r h a = refl
@@ -142,7 +142,7 @@ named-token whole kind.Text from to s h = refl
 named-token whole (kind.Punct c) from to s h = refl
 named-token whole kind.Assign from to s h = refl
 
-kind-no-end : (t : Token) → kind_of t ≢ kind.End
+kind-no-end : (t : KoreToken) → kind_of t ≢ kind.End
 kind-no-end (identifier n) = λ e. cc
 kind-no-end (set_identifier n) = λ e. cc
 kind-no-end (builtin b) = λ e. cc
@@ -151,7 +151,7 @@ kind-no-end (mark c) = λ e. cc
 kind-no-end assign = λ e. cc
 
 -- if the text of a token is at a place of a text, that token is there, followed by the rest
-pub token-cut : (t : Token) (r whole : List ℕ) (at : ℕ) → IsTextual t → IsApart t r
+pub token-cut : (t : KoreToken) (r whole : List ℕ) (at : ℕ) → IsTextual t → IsApart t r
     → drop at whole ≡ token_text t ++ r
     → named_stream whole (lexed at (token_text t ++ r))
     ≡ token t at (named_stream whole (lexed (at + length (token_text t)) r))
@@ -167,11 +167,11 @@ token-cut t r whole at h a d =
     ap (λ (i : ℕ). take i (drop at whole)) m ∙ ap (take n) d ∙ take-append_seam w r in
     ap (named_stream whole) l
     ∙ named-token whole (kind_of t) at (at + n) (lexed (at + n) r) (kind-no-end t)
-    ∙ ap (λ (u : Token). token u at (named_stream whole (lexed (at + n) r)))
+    ∙ ap (λ (u : KoreToken). token u at (named_stream whole (lexed (at + n) r)))
     (ap (token_of (kind_of t)) b ∙ token-back t r h a)
 
 -- the rest is after the token
-pub behind-token : (t : Token) (r whole : List ℕ) (at : ℕ) → drop at whole ≡ token_text t ++ r
+pub behind-token : (t : KoreToken) (r whole : List ℕ) (at : ℕ) → drop at whole ≡ token_text t ++ r
     → drop (at + length (token_text t)) whole ≡ r
 behind-token t r whole at d =
     sym (drop-drop (length (token_text t)) at whole) ∙ ap (drop (length (token_text t))) d

@@ -2,12 +2,12 @@
 -- between two of them.
 use Rattle.std.specs.Prelude.{ℕ, false, List, [], ◌∷◌, ◌++◌}
 use Rattle.kore_text.specs.Trees.{PatternTree}
-use Rattle.kore_text.specs.Grammar.{Requirement, placed, any, given, spell_pattern}
+use Rattle.kore_text.specs.Grammar.{Requirement, placed, any, provided, spell_pattern}
 use Rattle.kore_print.specs.TokenText.{token_text}
 
 abbrev pub text_of : List Requirement → List ℕ
 text_of [] = []
-text_of (given b ∷ ws) = text_of ws
+text_of (provided b ∷ ws) = text_of ws
 text_of (placed at t ∷ ws) = token_text t ++ text_of ws
 text_of (any t ∷ ws) = token_text t ++ text_of ws
 

@@ -4,16 +4,16 @@ use Rattle.std.specs.Prelude.{◌≡◌, ◌≤◌, ℕ, true, false, IsTrue, Li
 use Rattle.std.specs.Str.{IsUtf8}
 use Rattle.kore_lex.specs.Pieces.{is_mark}
 use Rattle.kore_lex.specs.Tokens.{IsName}
-use Rattle.kore_text.specs.TokenStream.{Token, identifier, set_identifier, builtin, string_token}
-use Rattle.kore_text.specs.TokenStream.{mark, assign}
+use Rattle.kore_text.specs.TokenStream.{KoreToken, identifier, set_identifier, builtin}
+use Rattle.kore_text.specs.TokenStream.{string_token, mark, assign}
 use Rattle.kore_text.specs.Trees.{PatternTree}
-use Rattle.kore_text.specs.Grammar.{Requirement, placed, any, given, spell_pattern}
+use Rattle.kore_text.specs.Grammar.{Requirement, placed, any, provided, spell_pattern}
 use Rattle.kore_text.specs.Depth.{opened}
 use Rattle.kore_print.specs.CanonicalText.{canonical_text}
 use Rattle.kore_print.specs.Reading.{ReadsAs}
 
 -- the token can occur in a text: names are identifiers, strings are UTF-8, marks are marks
-abbrev pub IsTextual : Token → Type 0
+abbrev pub IsTextual : KoreToken → Type 0
 IsTextual (identifier n) = IsName n
 IsTextual (set_identifier n) = IsName n
 IsTextual (builtin b) = Unit {0}
@@ -25,7 +25,7 @@ IsTextual assign = Unit {0}
 -- with n open at the start
 abbrev pub CanStand : ℕ → List Requirement → Type 0
 CanStand n [] = Unit {0}
-CanStand n (given b ∷ ws) = IsTrue b × CanStand n ws
+CanStand n (provided b ∷ ws) = IsTrue b × CanStand n ws
 CanStand n (placed at t ∷ ws) = IsTextual t × (opened t n ≤ 500) × CanStand (opened t n) ws
 CanStand n (any t ∷ ws) = IsTextual t × (opened t n ≤ 500) × CanStand (opened t n) ws
 

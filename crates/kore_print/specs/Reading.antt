@@ -2,7 +2,7 @@
 use Rattle.std.specs.Prelude.{◌≡◌, ℕ, List}
 use Rattle.kore_text.specs.Trees.{SortTree, sort_parameter, sort_applied, SortTrees, no_sorts}
 use Rattle.kore_text.specs.Trees.{sort_then, PatternTree, element_variable, set_variable, string}
-use Rattle.kore_text.specs.Trees.{symbol_applied, connected, binding, domain_value, folded}
+use Rattle.kore_text.specs.Trees.{symbol_applied, connected, binder_applied, value_written, folded}
 use Rattle.kore_text.specs.Trees.{PatternTrees, no_patterns, pattern_then}
 use Rattle.kore_ast.specs.KoreText.{ReadsPattern}
 
@@ -24,8 +24,9 @@ abbrev mutual
   unplaced (symbol_applied at n ss ps) =
       symbol_applied 0 n (unplaced_sorts ss) (unplaced_patterns ps)
   unplaced (connected at o ss ps) = connected 0 o (unplaced_sorts ss) (unplaced_patterns ps)
-  unplaced (binding at o ss x p) = binding 0 o (unplaced_sorts ss) (unplaced x) (unplaced p)
-  unplaced (domain_value at s t place) = domain_value 0 (unplaced_sort s) t 0
+  unplaced (binder_applied at o ss x p) = binder_applied 0 o (unplaced_sorts ss) (unplaced x)
+      (unplaced p)
+  unplaced (value_written at s t place) = value_written 0 (unplaced_sort s) t 0
   unplaced (folded at left p) = folded 0 left (unplaced p)
 
   pub unplaced_patterns : PatternTrees → PatternTrees

@@ -9,20 +9,20 @@ use Rattle.kore_text.specs.declared.names.Binder.{Binder}
 use Rattle.kore_text.specs.declared.names.Binder.TheVariants as binder
 use Rattle.kore_text.specs.declared.names.Built.{Built}
 use Rattle.kore_text.specs.declared.names.Built.TheVariants.{Connective, Binding, Value, Fold}
-use Rattle.kore_text.specs.TokenStream.{Token, identifier, set_identifier, builtin, string_token}
-use Rattle.kore_text.specs.TokenStream.{mark, assign}
+use Rattle.kore_text.specs.TokenStream.{KoreToken, identifier, set_identifier, builtin}
+use Rattle.kore_text.specs.TokenStream.{string_token, mark, assign}
 
 -- the last hexadecimal digits of a number, in lower case; the first argument is how many
-abbrev pub hexadecimal : ℕ → ℕ → List ℕ
-hexadecimal zero n = []
-hexadecimal (suc k) n = hexadecimal k (n / 16) ++ (digit_char (n % 16) ∷ [])
+abbrev pub hexadecimal_digits : ℕ → ℕ → List ℕ
+hexadecimal_digits zero n = []
+hexadecimal_digits (suc k) n = hexadecimal_digits k (n / 16) ++ (digit_char (n % 16) ∷ [])
 
 -- the escape of a character by its number, in 2, 4 or 8 hexadecimal digits, as few as possible
 abbrev pub numbered_text : ℕ → List ℕ
 numbered_text c =
-    if nat_lt c 256 then codes "\\x" ++ hexadecimal 2 c
-    else (if nat_lt c 65536 then codes "\\u" ++ hexadecimal 4 c
-    else codes "\\U" ++ hexadecimal 8 c)
+    if nat_lt c 256 then codes "\\x" ++ hexadecimal_digits 2 c
+    else (if nat_lt c 65536 then codes "\\u" ++ hexadecimal_digits 4 c
+    else codes "\\U" ++ hexadecimal_digits 8 c)
 
 -- a character inside a string: `"` and `\` after a backslash, LF, CR, tab and FF by their letters,
 -- other characters from the space to the tilde as themselves, and all others by their numbers
@@ -76,7 +76,7 @@ built_name (Fold true) = codes "left-assoc"
 built_name (Fold false) = codes "right-assoc"
 
 -- the text of a token; a built-in token without a built-in has no text
-abbrev pub token_text : Token → List ℕ
+abbrev pub token_text : KoreToken → List ℕ
 token_text (identifier n) = n
 token_text (set_identifier n) = 64 ∷ n
 token_text (builtin (Some b)) = 92 ∷ built_name b

@@ -1,6 +1,6 @@
 -- What the private functions say of the text that they write. Only their clauses cite it.
 use Rattle.std.specs.Prelude.{◌≡◌, ℕ, zero, suc, false, List, [], ◌∷◌, ◌++◌, map}
-use Rattle.kore_text.specs.TokenStream.{Token, mark}
+use Rattle.kore_text.specs.TokenStream.{KoreToken, mark}
 use Rattle.kore_text.specs.Trees.{SortTree, PatternTree}
 use Rattle.kore_text.specs.Grammar.{Requirement, any, Spelling, listed, more_listed, spell_sort}
 use Rattle.kore_text.specs.Grammar.{spell_pattern}
@@ -27,5 +27,5 @@ spell_in_braces ss k = any (mark 123) ∷ listed (map spell_sort ss) 125 k
 abbrev pub spell_in_parentheses : List PatternTree → Spelling
 spell_in_parentheses ps k = any (mark 40) ∷ listed (map (spell_pattern false) ps) 41 k
 
-abbrev pub spell_head : Token → List SortTree → Spelling
+abbrev pub spell_head : KoreToken → List SortTree → Spelling
 spell_head t ss k = any t ∷ spell_in_braces ss k

@@ -2,7 +2,7 @@
 
 ghost use Rattle.std.specs.Prelude.{◌≡◌, ℕ, false, ◌∷◌, Some, ◌++◌, IfOk, OnOk, map, string_bytes};
 ghost use Rattle.kore_text.specs.TokenStream.{identifier, set_identifier, builtin};
-ghost use Rattle.kore_text.specs.Trees.{domain_value};
+ghost use Rattle.kore_text.specs.Trees.{value_written};
 ghost use Rattle.kore_text.specs.Grammar.{spell_sort, spell_variable, spell_pattern};
 ghost use Rattle.kore_ast.specs.Plain.{plain_sort, pattern_tree};
 ghost use Rattle.kore_print.specs.TokenText.{built_name, op_name};
@@ -116,7 +116,7 @@ fn push_built(text: &mut String, built: Built, sorts: &[Sort]) -> Result<(), All
 /// Adds a domain value.
 fn push_value(text: &mut String, sort: &Sort, content: &Text) -> Result<(), AllocError>
     ensures { OnOk result ((place : ℕ)
-        → Writes (spell_pattern false (domain_value 0 (plain_sort sort.now) content.now place))
+        → Writes (spell_pattern false (value_written 0 (plain_sort sort.now) content.now place))
         (string_bytes text.old) (string_bytes text.new)) }
 {
     push_name(text, Built::Value)?;

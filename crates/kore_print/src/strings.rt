@@ -2,7 +2,7 @@
 
 ghost use Rattle.std.specs.Prelude.{◌≡◌, ◌<◌, ◌&&◌, nat_le, ◌++◌, OnOk, string_bytes};
 ghost use Rattle.std.specs.Char.{digit_char};
-ghost use Rattle.kore_print.specs.TokenText.{hexadecimal, numbered_text, character_text};
+ghost use Rattle.kore_print.specs.TokenText.{hexadecimal_digits, numbered_text, character_text};
 ghost use Rattle.kore_print.specs.TokenText.{string_text};
 
 use std::alloc::AllocError;
@@ -63,7 +63,7 @@ fn push_numbered(text: &mut String, number: u32) -> Result<(), AllocError>
 /// Adds the last `digits` hexadecimal digits of a number.
 fn push_hexadecimal(text: &mut String, digits: usize, number: u32) -> Result<(), AllocError>
     ensures { OnOk result
-        (string_bytes text.new ≡ string_bytes text.old ++ hexadecimal digits number) }
+        (string_bytes text.new ≡ string_bytes text.old ++ hexadecimal_digits digits number) }
 {
     if digits == 0 {
         return Ok(());

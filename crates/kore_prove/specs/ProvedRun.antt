@@ -27,7 +27,7 @@ HasWantedProof None told told' theory start run = Unit {0}
 HasWantedProof (Some file) told told' theory start run = HoldsProof told told' file theory start run
 
 -- the printed run is proved in this file, which the words name
-pub record IsProved (words : List (List ℕ)) (told told' : Option Told)
+pub record HasProvedRun (words : List (List ℕ)) (told told' : Option Told)
     (before after : Option (List ℕ)) (code : ℕ)
     (file : List ℕ) : Type 0 where
   pub printed : IsPrinted words told before after code
@@ -42,7 +42,8 @@ IsProofRun words file = (asked : RunRequest) × IsRun words asked × (asked.proo
 abbrev pub ProvesRun : Call → ℕ → Type 0
 ProvesRun c code =
     IsCodeOfRun c.words code → (file : List ℕ) → IsProofRun c.words file
-    → IsProved c.words c.course.desk.told c.course.desk'.told c.course.out.bytes c.course.out'.bytes
+    → HasProvedRun c.words c.course.desk.told c.course.desk'.told c.course.out.bytes
+    c.course.out'.bytes
     code file
 
 -- the file is empty, or holds the front of a database that justifies a run from the initial term to

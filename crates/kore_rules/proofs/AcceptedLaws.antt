@@ -17,9 +17,9 @@ use Rattle.kore_sig.specs.Attributes.{has_attribute}
 use Rattle.kore_sig.specs.SortReferences.{sort_number}
 use Rattle.kore_check.specs.PatternSorts.{symbol_named}
 use Rattle.kore_shapes.specs.Shapes.{Rewriting, rewriting}
-use Rattle.kore_shapes.specs.Statements.{Statement, statement}
+use Rattle.kore_shapes.specs.Statements.{StatedEquation, stated_equation}
 use Rattle.kore_axioms.specs.AxiomClasses.{AxiomClass, refused, orders_sorts, rewrites, equates}
-use Rattle.kore_axioms.specs.AxiomClasses.{passed_over, class_of, class_of_pattern}
+use Rattle.kore_axioms.specs.AxiomClasses.{passed_over, axiom_class, class_of_pattern}
 use Rattle.kore_axioms.specs.AxiomClasses.{class_of_statement, is_no_equation, takes_equations}
 use Rattle.kore_axioms.specs.AxiomClasses.{states_pairs}
 use Rattle.kore_rules.specs.Programs.{IsTopOf}
@@ -91,7 +91,7 @@ term_refused sig top bytes p f reads first = inr (p, reads, first)
 
 -- ---- the sort of the rules
 
-statement_no_rule : (sig : Signature) (attributes : List PatternTree) (o : Option Statement)
+statement_no_rule : (sig : Signature) (attributes : List PatternTree) (o : Option StatedEquation)
     (w : Rewriting) → class_of_statement sig attributes o ≡ rewrites w → ⊥
 statement_no_rule sig attributes None w e = let never : ⊥ = cc in never
 statement_no_rule sig attributes (Some s) w e =
@@ -104,7 +104,7 @@ statement_no_rule sig attributes (Some s) w e =
 pattern_any : (sig other : Signature) (a : AxiomDeclaration) (o : Option Rewriting) (w : Rewriting)
     → class_of_pattern sig a o ≡ rewrites w → class_of_pattern other a o ≡ rewrites w
 pattern_any sig other a None w e =
-    absurd (statement_no_rule sig a.attributes (statement a.pattern) w e)
+    absurd (statement_no_rule sig a.attributes (stated_equation a.pattern) w e)
 pattern_any sig other a (Some v) w e = e
 
 tests_any : (b c d : Bool) (k m : AxiomClass) (w : Rewriting) → (k ≡ rewrites w → m ≡ rewrites w)
@@ -117,7 +117,7 @@ tests_any false false false k m w into e = into e
 
 -- which axioms are rules does not depend on the kinds of symbols
 rewrites_any : (sig other : Signature) (a : AxiomDeclaration) (w : Rewriting)
-    → class_of sig a ≡ rewrites w → class_of other a ≡ rewrites w
+    → axiom_class sig a ≡ rewrites w → axiom_class other a ≡ rewrites w
 rewrites_any sig other a w e =
     tests_any (has_attribute (codes "anywhere") a.attributes) (has_attribute (codes "overload")
     a.attributes || has_attribute (codes "symbol-overload") a.attributes)

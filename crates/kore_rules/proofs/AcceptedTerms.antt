@@ -10,7 +10,7 @@ use Rattle.rule_core.specs.declared.signature.Signature.{Signature}
 use Rattle.std.proofs.lemmas.List.Elements.{All-nil}
 use Rattle.kore_check.specs.Folds.{unfolded}
 use Rattle.kore_check.specs.PatternFaults.{pattern_faults, all_faults}
-use Rattle.kore_check.specs.PatternSorts.{sort_of}
+use Rattle.kore_check.specs.PatternSorts.{sort_of_pattern}
 use Rattle.kore_check.proofs.BuildLaws.{unless_empty}
 use Rattle.kore_check.proofs.CheckLaws.{faultless_sorted, some_or_none}
 use Rattle.kore_check.proofs.SortedLaws.{meanings_are_sorted}
@@ -31,11 +31,12 @@ one_sort : (o : Option ℕ) (s t : ℕ) → o ≡ Some s → is_one_sort o (Some
 one_sort None s t e h = absurd (false≢true h)
 one_sort (Some n) s t e h = let same : n ≡ s = cc in sym (eqb-true n t h) ∙ same
 
-of_top : (sig : Signature) (top : Option ℕ) (u : _) (s : ℕ) → sort_of sig u ≡ Some s
+of_top : (sig : Signature) (top : Option ℕ) (u : _) (s : ℕ) → sort_of_pattern sig u ≡ Some s
     → start_faults sig top u ≡ [] → IsOfTop top s
 of_top sig None u s e h = tt
 of_top sig (Some t) u s e h =
-    one_sort (sort_of sig u) s t e (unless_empty (is_one_sort (sort_of sig u) (Some t)) 19 0 h)
+    one_sort (sort_of_pattern sig u) s t e
+        (unless_empty (is_one_sort (sort_of_pattern sig u) (Some t)) 19 0 h)
 
 pub accepted_start : (sig : Signature) (top : Option ℕ) (bytes : List ℕ) (start : Pattern)
     → IsSignature sig → IsAcceptedTerm sig top bytes start
@@ -44,8 +45,8 @@ accepted_start sig top bytes start good is =
     let u = unfolded is.term in
     let clear : pattern_faults sig u ≡ [] =
     (no_faults _ _ (none_by_byte (all_faults sig u) is.no_fault.1.0)).1 in
-    let own : (w : ℕ) × (sort_of sig u ≡ Some w) =
-    some_or_none (sort_of sig u)
+    let own : (w : ℕ) × (sort_of_pattern sig u ≡ Some w) =
+    some_or_none (sort_of_pattern sig u)
     (faultless_sorted sig u good (means_form sig [] is.means) clear) in (
       own.0,
       meanings_are_sorted sig [] u start own.0 good clear is.means own.1,

@@ -16,8 +16,8 @@ use Rattle.rule_core.specs.declared.signature.SymKind.{SymKind}
 use Rattle.rule_core.specs.declared.signature.SymKind.TheVariants.{Equations, Hooked, Closed}
 use Rattle.kore_sig.specs.SignatureLaws.{IsSameSymbol, AreSameSignature}
 use Rattle.kore_equations.specs.EquationMeanings.{IsUnreadable}
-use Rattle.kore_rules.specs.Programs.{HasFittingHook, HasKind, as_declared, by_hook, without_hook}
-use Rattle.kore_rules.specs.Programs.{by_unreadable, by_equations}
+use Rattle.kore_rules.specs.Programs.{HasFittingHook, HasKind, as_declared, hooked_kind}
+use Rattle.kore_rules.specs.Programs.{without_hook, by_unreadable, equations_kind}
 use Rattle.kore_rules.proofs.AlikeMeanings.{entries_replaced, unreadable_carried}
 use Rattle.kore_rules.proofs.AlikeSignatures.{IsAlike, Symbols, with_symbols}
 use Rattle.kore_rules.proofs.HookLaws.{own_number}
@@ -140,8 +140,8 @@ pub kind_carried : (u v : Signature) → AreSameSignature u v → (axioms : List
     → HasKind u axioms f info k → HasKind v axioms f other k
 kind_carried u v same axioms f info other h (as_declared differs) =
     subst (HasKind v axioms f other) (sym h.kind) (as_declared (λ k. differs (h.kind ∙ k)))
-kind_carried u v same axioms f info other h (by_hook {name = name} {row = row} kind hook fits) =
-    by_hook (sym h.kind ∙ kind) (sym h.hook ∙ hook)
+kind_carried u v same axioms f info other h (hooked_kind {name = name} {row = row} kind hook fits) =
+    hooked_kind (sym h.kind ∙ kind) (sym h.hook ∙ hook)
     (fitting_carried u v same info other h name row fits)
 kind_carried u v same axioms f info other h (without_hook {name = name} kind hook none) =
     without_hook (sym h.kind ∙ kind) (sym h.hook ∙ hook)
@@ -150,8 +150,8 @@ kind_carried u v same axioms f info other h (without_hook {name = name} kind hoo
 kind_carried u v same axioms f info other h (by_unreadable {a = a} kind none there bad) =
     by_unreadable (sym h.kind ∙ kind) (hook_none info other h none) there
     (unreadable_carried u v same f a bad)
-kind_carried u v same axioms f info other h (by_equations kind none good) =
-    by_equations (sym h.kind ∙ kind) (hook_none info other h none)
+kind_carried u v same axioms f info other h (equations_kind kind none good) =
+    equations_kind (sym h.kind ∙ kind) (hook_none info other h none)
     (λ a there bad. good a there (unreadable_carried v u (signatures_back u v same) f a bad))
 
 some_same : {A : Type 0} (x y : A) → Some x ≡ Some y → x ≡ y
@@ -175,16 +175,16 @@ module _ (sig : Signature) (axioms : List AxiomDeclaration) (f : List ℕ) (info
   declared_one : (info.kind ≡ Equations → ⊥) → {k : SymKind} → HasKind sig axioms f info k
       → info.kind ≡ k
   declared_one differs (as_declared also) = refl
-  declared_one differs (by_hook kind hook fits) = absurd (differs kind)
+  declared_one differs (hooked_kind kind hook fits) = absurd (differs kind)
   declared_one differs (without_hook kind hook none) = absurd (differs kind)
   declared_one differs (by_unreadable kind none there bad) = absurd (differs kind)
-  declared_one differs (by_equations kind none good) = absurd (differs kind)
+  declared_one differs (equations_kind kind none good) = absurd (differs kind)
 
   hooked_one : (name : List ℕ) (row : ℕ) → info.kind ≡ Equations
       → option_map string_bytes info.hook ≡ Some name → HasFittingHook sig info name row
       → {k : SymKind} → HasKind sig axioms f info k → Hooked (record { 0 = row }) ≡ k
   hooked_one name row kind hook fits (as_declared differs) = absurd (differs kind)
-  hooked_one name row kind hook fits (by_hook {name = other} {row = at} also named too) =
+  hooked_one name row kind hook fits (hooked_kind {name = other} {row = at} also named too) =
       ap (λ (n : ℕ). Hooked (record { 0 = n })) (row_one sig info name other row at hook named fits
       too)
   hooked_one name row kind hook fits (without_hook {name = other} also named none) =
@@ -192,7 +192,7 @@ module _ (sig : Signature) (axioms : List AxiomDeclaration) (f : List ℕ) (info
       (some_same name other (sym hook ∙ named)) fits))
   hooked_one name row kind hook fits (by_unreadable also none there bad) =
       absurd (some_none info hook none)
-  hooked_one name row kind hook fits (by_equations also none good) =
+  hooked_one name row kind hook fits (equations_kind also none good) =
       absurd (some_none info hook none)
 
   -- a function that is closed, because its hook does not fit or because it has no hook and an
@@ -202,42 +202,42 @@ module _ (sig : Signature) (axioms : List AxiomDeclaration) (f : List ℕ) (info
       → ((row : ℕ) → HasFittingHook sig info name row → ⊥) → {k : SymKind}
       → HasKind sig axioms f info k → Closed ≡ k
   unhooked_one name kind hook none (as_declared differs) = absurd (differs kind)
-  unhooked_one name kind hook none (by_hook {name = other} {row = row} also named fits) =
+  unhooked_one name kind hook none (hooked_kind {name = other} {row = row} also named fits) =
       absurd (none row (subst (λ (n : List ℕ). HasFittingHook sig info n row)
       (some_same other name (sym named ∙ hook)) fits))
   unhooked_one name kind hook none (without_hook also named never) = refl
   unhooked_one name kind hook none (by_unreadable also without there bad) = refl
-  unhooked_one name kind hook none (by_equations also without good) =
+  unhooked_one name kind hook none (equations_kind also without good) =
       absurd (some_none info hook without)
 
   unread_one : (a : AxiomDeclaration) → info.kind ≡ Equations → info.hook ≡ None
       → Contains axioms a → IsUnreadable sig f a → {k : SymKind} → HasKind sig axioms f info k
       → Closed ≡ k
   unread_one a kind none there bad (as_declared differs) = absurd (differs kind)
-  unread_one a kind none there bad (by_hook also hook fits) =
+  unread_one a kind none there bad (hooked_kind also hook fits) =
       absurd (some_none info hook none)
   unread_one a kind none there bad (without_hook also hook never) = refl
   unread_one a kind none there bad (by_unreadable also without has unread) = refl
-  unread_one a kind none there bad (by_equations also without good) = absurd (good a there bad)
+  unread_one a kind none there bad (equations_kind also without good) = absurd (good a there bad)
 
   equations_one : info.kind ≡ Equations → info.hook ≡ None
       → ((a : AxiomDeclaration) → Contains axioms a → IsUnreadable sig f a → ⊥) → {k : SymKind}
       → HasKind sig axioms f info k → Equations ≡ k
   equations_one kind none good (as_declared differs) = absurd (differs kind)
-  equations_one kind none good (by_hook also hook fits) =
+  equations_one kind none good (hooked_kind also hook fits) =
       absurd (some_none info hook none)
   equations_one kind none good (without_hook also hook never) =
       absurd (some_none info hook none)
   equations_one kind none good (by_unreadable {a = a} also without there bad) =
       absurd (good a there bad)
-  equations_one kind none good (by_equations also without well) = refl
+  equations_one kind none good (equations_kind also without well) = refl
 
   -- a symbol has one kind
   pub kind_one : {j k : SymKind} → HasKind sig axioms f info j → HasKind sig axioms f info k
       → j ≡ k
   kind_one (as_declared differs) b = declared_one differs b
-  kind_one (by_hook {name = name} {row = row} kind hook fits) b =
+  kind_one (hooked_kind {name = name} {row = row} kind hook fits) b =
       hooked_one name row kind hook fits b
   kind_one (without_hook {name = name} kind hook none) b = unhooked_one name kind hook none b
   kind_one (by_unreadable {a = a} kind none there bad) b = unread_one a kind none there bad b
-  kind_one (by_equations kind none good) b = equations_one kind none good b
+  kind_one (equations_kind kind none good) b = equations_one kind none good b

@@ -16,16 +16,17 @@ use Rattle.rule_core.specs.declared.signature.SymKind.{SymKind}
 use Rattle.kore_sig.specs.SignatureLaws.{IsSameSymbol, AreSameSignature}
 use Rattle.kore_sig.specs.SortReferences.{sort_number}
 use Rattle.kore_check.specs.Folds.{Unfolded, named_variable, written_value, applied_symbol}
-use Rattle.kore_check.specs.Folds.{other_form, Unfoldeds, no_more, and_more, unfolded, heights}
+use Rattle.kore_check.specs.Folds.{other_form, Unfoldeds, no_more, and_more, unfolded}
+use Rattle.kore_check.specs.Folds.{unfolded_heights}
 use Rattle.kore_check.specs.PatternFaults.{argument_faults}
 use Rattle.kore_check.specs.PatternMeanings.{Means, by_variable, by_value, by_symbol, AllMean}
 use Rattle.kore_check.specs.PatternMeanings.{none_mean, more_mean, with_variables, IsNamed}
 use Rattle.kore_check.specs.PatternMeanings.{with_all_variables, applied_pattern}
 use Rattle.kore_check.specs.PatternSorts.{symbol_named, sort_numbers}
 use Rattle.kore_shapes.specs.EquationForms.{EquationParts}
-use Rattle.kore_shapes.specs.Statements.{Statement}
+use Rattle.kore_shapes.specs.Statements.{StatedEquation}
 use Rattle.kore_axioms.specs.AxiomMeanings.{MeansTest, MeansRule}
-use Rattle.kore_axioms.specs.Conditions.{tested}
+use Rattle.kore_axioms.specs.Conditions.{tested_pattern}
 use Rattle.kore_axioms.specs.RuleFaults.{is_empty, faults_at_sort, is_bound}
 use Rattle.kore_axioms.specs.RuleParts.{rule_parts}
 use Rattle.kore_axioms.specs.Uses.{have_symbol}
@@ -118,7 +119,7 @@ module _ (s : Signature) (xs : Symbols) (same : AllZip IsSameSymbol s.symbols xs
     numbered = r.numbered ∙ variables_alike [] (unfolded r.left);
     means_left = means_alike r.means_left;
     means_condition =
-        test_alike r.variables (tested (rule_parts s r.shape).condition) x.condition
+        test_alike r.variables (tested_pattern (rule_parts s r.shape).condition) x.condition
         r.means_condition;
     means_right = means_alike r.means_right;
     sorts = r.sorts;
@@ -133,7 +134,7 @@ module _ (s : Signature) (xs : Symbols) (same : AllZip IsSameSymbol s.symbols xs
   over_alike params (sort_parameter at name) = refl
   over_alike params (sort_applied at name ss) = refl
 
-  module _ (a : AxiomDeclaration) (info other : SymInfo) (e : Statement) (q : EquationParts)
+  module _ (a : AxiomDeclaration) (info other : SymInfo) (e : StatedEquation) (q : EquationParts)
       (h : IsAlike info other) where
     fits_alike : fits_function s a info e q ≡ fits_function t a other e q
     fits_alike = λ i.
@@ -163,13 +164,13 @@ module _ (s : Signature) (xs : Symbols) (same : AllZip IsSameSymbol s.symbols xs
     sorted_alike : is_sorted s info e q ≡ is_sorted t other e q
     sorted_alike = λ i.
         is_empty (equation_faults_alike i)
-        && nat_le (heights (all_read q.patterns) + 1) most_height
+        && nat_le (unfolded_heights (all_read q.patterns) + 1) most_height
 
     uses_alike : has_good_uses s info e q ≡ has_good_uses t other e q
     uses_alike = λ i.
         not (have_symbol (plain_functions_alike s xs same i) (all_read q.patterns))
         && (not (h.ac i || have_symbol (ac_symbols_alike s xs same i) (all_read q.patterns))
-        && (is_bound (all_read q.patterns) (tested (condition_of_equation s e q))
+        && (is_bound (all_read q.patterns) (tested_pattern (condition_of_equation s e q))
         && is_bound (all_read q.patterns) (Some q.right)))
 
     readable_alike : IsReadable s a info e q → IsReadable t a other e q
@@ -215,7 +216,7 @@ module _ (s : Signature) (xs : Symbols) (same : AllZip IsSameSymbol s.symbols xs
         parameters = r.parameters;
         means_arguments = all_mean_alike r.means_arguments;
         means_condition =
-            test_alike r.variables (tested (condition_of_equation s r.stated r.parts))
+            test_alike r.variables (tested_pattern (condition_of_equation s r.stated r.parts))
             x.condition r.means_condition;
         means_right = means_alike r.means_right;
         sorts = r.sorts;

@@ -8,7 +8,7 @@ use Rattle.std.specs.List.{AllZip, position_from}
 use Rattle.std.specs.Option.{option_and_then}
 use Rattle.std.specs.Str.{bytes_eq}
 use Rattle.kore_text.specs.Trees.{SortTree, PatternTree, AxiomDeclaration}
-use Rattle.rule_core.specs.Named.{number_of}
+use Rattle.rule_core.specs.Named.{number_of_name}
 use Rattle.rule_core.specs.Sorting.{sort_at}
 use Rattle.rule_core.specs.declared.signature.Signature.{Signature}
 use Rattle.rule_core.specs.declared.signature.SymInfo.{SymInfo}
@@ -21,9 +21,9 @@ use Rattle.kore_sig.specs.SignatureLaws.{IsSameSymbol, AreSameSignature}
 use Rattle.kore_sig.specs.SortReferences.{sort_number}
 use Rattle.kore_check.specs.Folds.{Unfolded, named_variable, written_value, applied_symbol}
 use Rattle.kore_check.specs.Folds.{other_form, Unfoldeds, no_more, and_more, unfolded_byte, count}
-use Rattle.kore_check.specs.Folds.{height, unfolded}
+use Rattle.kore_check.specs.Folds.{unfolded_height, unfolded}
 use Rattle.kore_check.specs.PatternSorts.{symbol_named, sort_numbers, number_then, result_sort}
-use Rattle.kore_check.specs.PatternSorts.{sort_of, places_of}
+use Rattle.kore_check.specs.PatternSorts.{sort_of_pattern, places_of}
 use Rattle.kore_check.specs.PatternFaults.{sort_faults, clash_faults, symbol_faults, first_wanted}
 use Rattle.kore_check.specs.PatternFaults.{pattern_faults, argument_faults, all_faults}
 use Rattle.kore_check.specs.PatternFaults.{is_bad_injection}
@@ -31,13 +31,14 @@ use Rattle.rule_core.specs.Evaluation.{most_height}
 use Rattle.rule_core.specs.KindTests.{is_injection, has_no_kind, is_defined_kind, is_function_kind}
 use Rattle.kore_shapes.specs.Shapes.{Rewriting, rewriting, Condition, always, tests, ill}
 use Rattle.kore_shapes.specs.Shapes.{found_part}
-use Rattle.kore_shapes.specs.Statements.{Statement, statement}
+use Rattle.kore_shapes.specs.Statements.{StatedEquation, stated_equation}
 use Rattle.kore_axioms.specs.AxiomClasses.{AxiomClass, refused, orders_sorts, rewrites, equates}
-use Rattle.kore_axioms.specs.AxiomClasses.{passed_over, class_of, takes_equations, is_no_equation}
-use Rattle.kore_axioms.specs.AxiomClasses.{class_of_statement, class_of_pattern, states_pairs}
-use Rattle.kore_axioms.specs.Conditions.{tested}
+use Rattle.kore_axioms.specs.AxiomClasses.{passed_over, axiom_class, takes_equations}
+use Rattle.kore_axioms.specs.AxiomClasses.{is_no_equation, class_of_statement, class_of_pattern}
+use Rattle.kore_axioms.specs.AxiomClasses.{states_pairs}
+use Rattle.kore_axioms.specs.Conditions.{tested_pattern}
 use Rattle.kore_axioms.specs.RuleFaults.{FirstOfRule, faults_at_sort, side_faults, condition_faults}
-use Rattle.kore_axioms.specs.RuleFaults.{found_top_faults, sorted_faults, listed, is_bound}
+use Rattle.kore_axioms.specs.RuleFaults.{found_top_faults, sorted_faults, listed_pattern, is_bound}
 use Rattle.kore_axioms.specs.RuleFaults.{differs_from, use_faults}
 use Rattle.kore_axioms.specs.RuleForms.{form_faults, holds_of}
 use Rattle.kore_axioms.specs.RuleParts.{RuleParts, rule_parts, left_of, right_of}
@@ -170,7 +171,7 @@ in_order_alike {S} P Q next onward each same s (x ∷ xs) r h =
 -- ---- faults, by what they depend on
 
 abbrev height_faults : Unfolded → List Fault
-height_faults p = when (nat_lt most_height (height p)) 3 (unfolded_byte p)
+height_faults p = when (nat_lt most_height (unfolded_height p)) 3 (unfolded_byte p)
 
 abbrev faults_by : (List ℕ → Bool) → (List ℕ → Bool) → Option SortTree → ℕ → SortTree → RuleParts
     → List Fault
@@ -179,8 +180,9 @@ faults_by plain ac first at x w =
     ((holds_of (λ (p : PatternTree). has_symbol plain (unfolded p)) (left_of w), 12)
     ∷ ((holds_of (λ (p : PatternTree). has_symbol ac (unfolded p)) (left_of w), 14)
     ∷ ((
-      not (is_bound (listed
-          (left_of w)) (tested w.condition) && is_bound (listed (left_of w)) (right_of w)),
+      not (is_bound (listed_pattern
+          (left_of w)) (tested_pattern w.condition)
+          && is_bound (listed_pattern (left_of w)) (right_of w)),
       18,
     )
     ∷ ((differs_from first x, 19) ∷ []))))
@@ -211,13 +213,13 @@ module _ (s : Signature) (xs : Symbols) (same : AllZip IsSameSymbol s.symbols xs
   symbol_alike name =
       subst (λ (o : Option ℕ). AreAlike (symbol_named s name) (option_and_then (info_at xs) o))
       (position_alike name 0 s.symbols xs same)
-      (numbered_alike s.symbols xs (number_of s.symbols name) same)
+      (numbered_alike s.symbols xs (number_of_name s.symbols name) same)
 
   pub numbers_alike : (ss : List SortTree) → sort_numbers s ss ≡ sort_numbers t ss
   numbers_alike [] = refl
   numbers_alike (x ∷ ss) = ap (number_then (sort_number s.sorts x)) (numbers_alike ss)
 
-  sort_alike : (p : Unfolded) → sort_of s p ≡ sort_of t p
+  sort_alike : (p : Unfolded) → sort_of_pattern s p ≡ sort_of_pattern t p
   sort_alike (named_variable at name x) = refl
   sort_alike (written_value at x text byte) = refl
   sort_alike (applied_symbol at byte name ss ps) =
@@ -265,13 +267,13 @@ module _ (s : Signature) (xs : Symbols) (same : AllZip IsSameSymbol s.symbols xs
     arguments_alike ss refs no_more = refl
     arguments_alike ss refs (and_more p ps) =
         ap (λ (fs : List Fault). fs
-        ++ (clash_faults (unfolded_byte p) (sort_of s p) (first_wanted s ss refs)
+        ++ (clash_faults (unfolded_byte p) (sort_of_pattern s p) (first_wanted s ss refs)
         ++ argument_faults s ss (drop 1 refs) ps)) (faults_alike p)
         ∙ ap (λ (o : Option ℕ). pattern_faults t p
         ++ (clash_faults (unfolded_byte p) o (first_wanted s ss refs)
         ++ argument_faults s ss (drop 1 refs) ps)) (sort_alike p)
         ∙ ap (λ (fs : List Fault). pattern_faults t p
-        ++ (clash_faults (unfolded_byte p) (sort_of t p) (first_wanted s ss refs) ++ fs))
+        ++ (clash_faults (unfolded_byte p) (sort_of_pattern t p) (first_wanted s ss refs) ++ fs))
         (arguments_alike ss (drop 1 refs) ps)
 
   -- ---- rules
@@ -280,7 +282,7 @@ module _ (s : Signature) (xs : Symbols) (same : AllZip IsSameSymbol s.symbols xs
       → faults_at_sort s wanted p ≡ faults_at_sort t wanted p
   at_sort_alike wanted p =
       ap (λ (fs : List Fault).
-      (height_faults p ++ fs) ++ clash_faults (unfolded_byte p) (sort_of s p) wanted)
+      (height_faults p ++ fs) ++ clash_faults (unfolded_byte p) (sort_of_pattern s p) wanted)
       (faults_alike p)
       ∙ ap (λ (o : Option ℕ). all_faults t p ++ clash_faults (unfolded_byte p) o wanted)
       (sort_alike p)
@@ -343,7 +345,7 @@ module _ (s : Signature) (xs : Symbols) (same : AllZip IsSameSymbol s.symbols xs
 
   -- ---- axioms
 
-  statement_alike : (attributes : List PatternTree) (e : Option Statement)
+  statement_alike : (attributes : List PatternTree) (e : Option StatedEquation)
       → class_of_statement s attributes e ≡ class_of_statement t attributes e
   statement_alike attributes None = refl
   statement_alike attributes (Some e) =
@@ -353,10 +355,10 @@ module _ (s : Signature) (xs : Symbols) (same : AllZip IsSameSymbol s.symbols xs
 
   pattern_alike : (a : AxiomDeclaration) (w : Option Rewriting)
       → class_of_pattern s a w ≡ class_of_pattern t a w
-  pattern_alike a None = statement_alike a.attributes (statement a.pattern)
+  pattern_alike a None = statement_alike a.attributes (stated_equation a.pattern)
   pattern_alike a (Some w) = refl
 
-  pub class_alike : (a : AxiomDeclaration) → class_of s a ≡ class_of t a
+  pub class_alike : (a : AxiomDeclaration) → axiom_class s a ≡ axiom_class t a
   class_alike a =
       ap (λ (k : AxiomClass). class_or a.attributes k) (pattern_alike a (rewriting a.pattern))
 
@@ -369,20 +371,20 @@ module _ (s : Signature) (xs : Symbols) (same : AllZip IsSameSymbol s.symbols xs
   first_alike first a passed_over r h = h
 
   axiom_alike : (first : Option SortTree) (a : AxiomDeclaration) (r : Option Fault)
-      → FirstOfClass s first a (class_of s a) r → FirstOfClass t first a (class_of t a) r
+      → FirstOfClass s first a (axiom_class s a) r → FirstOfClass t first a (axiom_class t a) r
   axiom_alike first a r h =
       subst (λ (k : AxiomClass). FirstOfClass t first a k r) (class_alike a)
-      (first_alike first a (class_of s a) r h)
+      (first_alike first a (axiom_class s a) r h)
 
   in_order : (axioms : List AxiomDeclaration) (r : Option Fault) → FirstOfAxioms s axioms r
       → FirstOfAxioms t axioms r
   in_order axioms r h =
       in_order_alike (λ (first : Option SortTree) (a : AxiomDeclaration).
-      FirstOfClass s first a (class_of s a)) (λ (first : Option SortTree)
+      FirstOfClass s first a (axiom_class s a)) (λ (first : Option SortTree)
       (a : AxiomDeclaration).
-      FirstOfClass t first a (class_of t a))
-      (λ (first : Option SortTree) (a : AxiomDeclaration). first_sort first (class_of s a))
-      (λ (first : Option SortTree) (a : AxiomDeclaration). first_sort first (class_of t a))
+      FirstOfClass t first a (axiom_class t a))
+      (λ (first : Option SortTree) (a : AxiomDeclaration). first_sort first (axiom_class s a))
+      (λ (first : Option SortTree) (a : AxiomDeclaration). first_sort first (axiom_class t a))
       axiom_alike (λ first a. ap (first_sort first) (class_alike a)) None axioms r h
 
 pub axioms_alike : (s t : Signature) → AreSameSignature s t

@@ -6,7 +6,7 @@ use Rattle.std.specs.Prelude.{◌||◌, ◌==◌, ◌↔◌, IsTrue}
 use Rattle.std.proofs.lemmas.Bool.{eqb-true}
 use Rattle.std.proofs.lemmas.List.{map-append}
 use Rattle.kore_text.specs.Trees.{AxiomDeclaration}
-use Rattle.rule_core.specs.Named.{number_of}
+use Rattle.rule_core.specs.Named.{number_of_name}
 use Rattle.rule_core.specs.ProgramView.{rewrite_rule, function_equation}
 use Rattle.rule_core.specs.Rules.{RewriteRule}
 use Rattle.rule_core.specs.Rules as plain
@@ -14,8 +14,8 @@ use Rattle.rule_core.specs.declared.rules.Equation.{Equation}
 use Rattle.rule_core.specs.declared.rules.Rule.{Rule}
 use Rattle.rule_core.specs.declared.signature.Signature.{Signature}
 use Rattle.kore_shapes.specs.Shapes.{Rewriting}
-use Rattle.kore_shapes.specs.Statements.{Statement}
-use Rattle.kore_axioms.specs.AxiomClasses.{AxiomClass, rewrites, equates, class_of}
+use Rattle.kore_shapes.specs.Statements.{StatedEquation}
+use Rattle.kore_axioms.specs.AxiomClasses.{AxiomClass, rewrites, equates, axiom_class}
 use Rattle.kore_axioms.specs.AxiomMeanings.{MeansRule}
 use Rattle.kore_axioms.specs.NamedRules.{MeansNamedRule}
 use Rattle.kore_equations.specs.EquationMeanings.{MeansEquation, IsUnreadable}
@@ -42,16 +42,17 @@ pair_same a b x y e f = ap (λ (n : ℕ). pair_of n x) e ∙ ap (pair_of b) f
 function_one : (sig : Signature) (f g : List ℕ) (a : AxiomDeclaration) (x y : plain.Equation)
     → MeansEquation sig f a x → MeansEquation sig g a y → f ≡ g
 function_one sig f g a x y r s = sym r.function
-    ∙ ap (λ (e : Statement). e.function) (equates_one r.stated s.stated (sym r.class ∙ s.class))
+    ∙ ap (λ (e : StatedEquation). e.function) (equates_one r.stated s.stated (sym r.class
+    ∙ s.class))
     ∙ s.function
 
 numbered_one : (sig : Signature) (f : List ℕ) (a : AxiomDeclaration) (n : ℕ) (x : plain.Equation)
-    → number_of sig.symbols f ≡ Some n → MeansEquation sig f a x → (y : ℕ × plain.Equation)
+    → number_of_name sig.symbols f ≡ Some n → MeansEquation sig f a x → (y : ℕ × plain.Equation)
     → IsNumberedEquation sig a y → pair_of n x ≡ y
 numbered_one sig f a n x number is y (g, its, same) =
     let functions : f ≡ g = function_one sig f g a x y.1 is same in
     pair_same n y.0 x y.1
-    (some_same n y.0 (sym number ∙ ap (number_of sig.symbols) functions ∙ its))
+    (some_same n y.0 (sym number ∙ ap (number_of_name sig.symbols) functions ∙ its))
     (equation_one sig f a x y.1 is
     (subst (λ (h : List ℕ). MeansEquation sig h a y.1) (sym functions) same))
 
@@ -60,7 +61,7 @@ equation_not_unreadable : (sig : Signature) (f g : List ℕ) (a : AxiomDeclarati
 equation_not_unreadable sig f g a x r s =
     let functions : g ≡ f =
     sym s.function
-    ∙ ap (λ (e : Statement). e.function)
+    ∙ ap (λ (e : StatedEquation). e.function)
     (equates_one s.stated r.stated (sym s.class ∙ r.class)) ∙ r.function in
     readable_or_not sig f a x r (subst (λ (h : List ℕ). IsUnreadable sig h a) functions s)
 
@@ -71,7 +72,7 @@ same_marks : (sig : Signature) (axioms : List AxiomDeclaration) (a : AxiomDeclar
     → IsTrue (is_marked new n) ↔ HasUnreadable sig (axioms ++ a ∷ []) n
 same_marks sig axioms a old new same none before n =
     let P : AxiomDeclaration → Type 0 =
-    λ b. (f : List ℕ) × (number_of sig.symbols f ≡ Some n) × IsUnreadable sig f b in (
+    λ b. (f : List ℕ) × (number_of_name sig.symbols f ≡ Some n) × IsUnreadable sig f b in (
       λ set. some_more P axioms a
           ((before n).0 (ap (λ (ms : List Bool). is_marked ms n) (sym same) ∙ set)),
       λ some. ap (λ (ms : List Bool). is_marked ms n) same ∙ elim (some_cases P axioms a some) [
@@ -94,13 +95,13 @@ right_true false b e = e
 
 -- an unreadable equation sets the mark of its function
 one_mark : (sig : Signature) (axioms : List AxiomDeclaration) (a : AxiomDeclaration) (f : List ℕ)
-    (k : ℕ) (old new : List Bool) → number_of sig.symbols f ≡ Some k → IsUnreadable sig f a
+    (k : ℕ) (old new : List Bool) → number_of_name sig.symbols f ≡ Some k → IsUnreadable sig f a
     → ((n : ℕ) → is_marked new n ≡ (is_marked old n || (n == k)))
     → ((n : ℕ) → IsTrue (is_marked old n) ↔ HasUnreadable sig axioms n) → (n : ℕ)
     → IsTrue (is_marked new n) ↔ HasUnreadable sig (axioms ++ a ∷ []) n
 one_mark sig axioms a f k old new number is set before n =
     let P : AxiomDeclaration → Type 0 =
-    λ b. (g : List ℕ) × (number_of sig.symbols g ≡ Some n) × IsUnreadable sig g b in (
+    λ b. (g : List ℕ) × (number_of_name sig.symbols g ≡ Some n) × IsUnreadable sig g b in (
       λ marked. elim (or_cases (is_marked old n) (n == k) (sym (set n) ∙ marked)) [
         | inl b ↦ some_more P axioms a ((before n).0 b)
         | inr e ↦ some_last P axioms a (f, number ∙ ap Some (sym (eqb-true n k e)), is)
@@ -110,11 +111,11 @@ one_mark sig axioms a f k old new number is set before n =
         | inr (g, its, same) ↦
             let functions : g ≡ f =
             sym same.function
-            ∙ ap (λ (e : Statement). e.function)
+            ∙ ap (λ (e : StatedEquation). e.function)
             (equates_one same.stated is.stated (sym same.class ∙ is.class))
             ∙ is.function in
             let numbers : n ≡ k =
-            some_same n k (sym its ∙ ap (number_of sig.symbols) functions ∙ number) in
+            some_same n k (sym its ∙ ap (number_of_name sig.symbols) functions ∙ number) in
             right_true (is_marked old n) (n == k) (eq-eqb n k numbers)
       ],
     )
@@ -164,12 +165,13 @@ read_rule sig axioms a old new rule grown equations marks is before = record {
 pub read_equation : (sig : Signature) (axioms : List AxiomDeclaration) (a : AxiomDeclaration)
     (f : List ℕ) (old new : Readings) (e : Equation)
     → new.equations.items ≡ old.equations.items ++ e ∷ [] → new.rules.items ≡ old.rules.items
-    → new.unreadable.items ≡ old.unreadable.items → number_of sig.symbols f ≡ Some e.fun.0
+    → new.unreadable.items ≡ old.unreadable.items → number_of_name sig.symbols f ≡ Some e.fun.0
     → MeansNamedEquation sig f a e → HaveRead sig axioms old
     → HaveRead sig (axioms ++ a ∷ []) new
 read_equation sig axioms a f old new e grown rules marks number is before = record {
   rules =
-      subst (AreRead (MeansRule sig) place_of (axioms ++ a ∷ [])) (ap (map rewrite_rule) (sym rules))
+      subst (AreRead (MeansRule sig) place_of (axioms ++ a
+          ∷ [])) (ap (map rewrite_rule) (sym rules))
       (read_same (MeansRule sig) place_of axioms (map rewrite_rule old.rules.items) a
       (λ y h. rule_not_equation sig f a y (function_equation e) h is.means) before.rules);
   equations =
@@ -197,11 +199,12 @@ pub read_unreadable : (sig : Signature) (axioms : List AxiomDeclaration) (a : Ax
     → new.equations.items ≡ old.equations.items
     → length new.unreadable.items ≡ length old.unreadable.items
     → ((n : ℕ) → is_marked new.unreadable.items n ≡ (is_marked old.unreadable.items n || (n == k)))
-    → number_of sig.symbols f ≡ Some k → IsUnreadable sig f a → HaveRead sig axioms old
+    → number_of_name sig.symbols f ≡ Some k → IsUnreadable sig f a → HaveRead sig axioms old
     → HaveRead sig (axioms ++ a ∷ []) new
 read_unreadable sig axioms a f k old new rules equations len set number is before = record {
   rules =
-      subst (AreRead (MeansRule sig) place_of (axioms ++ a ∷ [])) (ap (map rewrite_rule) (sym rules))
+      subst (AreRead (MeansRule sig) place_of (axioms ++ a
+          ∷ [])) (ap (map rewrite_rule) (sym rules))
       (read_same (MeansRule sig) place_of axioms (map rewrite_rule old.rules.items) a
       (λ y h. rule_not_unreadable sig f a y h is) before.rules);
   equations =
@@ -224,8 +227,8 @@ read_unreadable sig axioms a f k old new rules equations len set number is befor
 
 -- the new axiom is neither a rule nor an equation
 pub read_nothing : (sig : Signature) (axioms : List AxiomDeclaration) (a : AxiomDeclaration)
-    (old : Readings) → ((w : Rewriting) → class_of sig a ≡ rewrites w → ⊥)
-    → ((e : Statement) → class_of sig a ≡ equates e → ⊥) → HaveRead sig axioms old
+    (old : Readings) → ((w : Rewriting) → axiom_class sig a ≡ rewrites w → ⊥)
+    → ((e : StatedEquation) → axiom_class sig a ≡ equates e → ⊥) → HaveRead sig axioms old
     → HaveRead sig (axioms ++ a ∷ []) old
 read_nothing sig axioms a old no_rule no_equation before = record {
   rules =

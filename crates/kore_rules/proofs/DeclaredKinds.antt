@@ -8,7 +8,7 @@ use Rattle.std.specs.Str.{bytes_eq}
 use Rattle.std.proofs.lemmas.Bool.{eqb-true}
 use Rattle.std.proofs.lemmas.Slice.Eq.{bytes_eq-Decides}
 use Rattle.kore_text.specs.Trees.{DefinitionTree}
-use Rattle.rule_core.specs.Named.{number_of}
+use Rattle.rule_core.specs.Named.{number_of_name}
 use Rattle.rule_core.specs.DistinctNames.{names_of, IsNoneOf, AreDistinct}
 use Rattle.rule_core.specs.declared.signature.Signature.{Signature}
 use Rattle.rule_core.specs.declared.signature.SymInfo.{SymInfo}
@@ -101,7 +101,7 @@ pub named_by_number : (sig : Signature) (f : ℕ) (name : List ℕ) (info : SymI
     → AreDistinct (names_of sig.symbols) → slice_get sig.symbols f ≡ Some (name, info)
     → symbol_named sig name ≡ Some info
 named_by_number sig f name info distinct at =
-    let number : number_of sig.symbols name ≡ Some f =
+    let number : number_of_name sig.symbols name ≡ Some f =
     place_of sig.symbols 0 f (name, info) distinct at ∙ ap (λ (n : ℕ). Some n) (omega arith) in
     ap (option_and_then (symbol_info sig)) number
     ∙ ap (option_map (λ (e : List ℕ × SymInfo). e.1)) at

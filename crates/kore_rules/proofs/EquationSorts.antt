@@ -22,7 +22,7 @@ use Rattle.kore_check.specs.PatternFaults.{argument_faults}
 use Rattle.kore_check.specs.PatternMeanings.{AllMean, none_mean, more_mean}
 use Rattle.kore_check.specs.SortedMeanings.{variable_sorts}
 use Rattle.kore_shapes.specs.Shapes.{given_condition}
-use Rattle.kore_axioms.specs.Conditions.{tested}
+use Rattle.kore_axioms.specs.Conditions.{tested_pattern}
 use Rattle.kore_axioms.specs.RuleFaults.{is_empty, is_bound}
 use Rattle.kore_axioms.specs.Uses.{have_symbol, is_plain_function}
 use Rattle.kore_axioms.proofs.ApplicativeLaws.{neither}
@@ -96,7 +96,7 @@ sorted_equation declared final axioms f a e info kept good r params refs same_ar
     both_true (not (have_symbol (is_plain_function declared) (all_read q.patterns))) _
     r.readable.good_uses in
     let ac = both_true _ _ uses.1 in
-    let bound = both_true (is_bound (all_read q.patterns) (tested over)) _ ac.1 in
+    let bound = both_true (is_bound (all_read q.patterns) (tested_pattern over)) _ ac.1 in
     let vars : List (List ℕ × ℕ) = r.variables in
     let V : List ℕ = variable_sorts vars in
     let same : V ≡ e.variables = sym r.sorts in

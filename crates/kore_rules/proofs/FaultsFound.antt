@@ -4,8 +4,8 @@ use Rattle.std.proofs.Common.{refl, sym, ◌∙◌, subst, ◌⊎◌, inl, inr}
 use Rattle.std.specs.Prelude.{Contains}
 use Rattle.std.proofs.lemmas.Bool.{false≢true}
 use Rattle.kore_text.specs.Trees.{SortTree, PatternTree, AxiomDeclaration, DefinitionTree}
-use Rattle.kore_text.specs.TokenStream.{tokens_of}
-use Rattle.kore_text.specs.Faults.{IsFirstFault, IsPattern, IsDefinition}
+use Rattle.kore_text.specs.TokenStream.{token_stream}
+use Rattle.kore_text.specs.Faults.{IsFirstFaultOfText, IsPattern, IsDefinition}
 use Rattle.kore_text.specs.Table.{run, pattern_symbols, definition_symbols}
 use Rattle.kore_text.specs.declared.faults.TextFault.{TextFault}
 use Rattle.kore_text.proofs.Explaining.{pattern_fault, definition_fault}
@@ -20,8 +20,8 @@ use Rattle.kore_sig.specs.Noted.{noted, leads_by_byte, leads_by_number}
 use Rattle.kore_sig.specs.Declaring.{placed_faults, placed_behind}
 use Rattle.kore_sig.specs.SignatureFaults.{FirstOfModules, FirstOfDeclarations, FirstOfPairs}
 use Rattle.kore_sig.specs.SignatureFaults.{FirstOfSignature, HasPairFault, unknown_sort, cycle}
-use Rattle.kore_sig.specs.SignatureFaults.{number_faults, pairs_after, placed, module_faults}
-use Rattle.kore_sig.specs.SignatureFaults.{names_after, nothing_declared}
+use Rattle.kore_sig.specs.SignatureFaults.{number_faults, pairs_after, declarations_placed}
+use Rattle.kore_sig.specs.SignatureFaults.{module_faults, names_after, nothing_declared}
 use Rattle.kore_sig.specs.SortReferences.{sort_number, sort_entries}
 use Rattle.kore_sig.proofs.FirstLaws.{contains_cases, contains_none, first_of_list, by_byte}
 use Rattle.kore_sig.proofs.FirstLaws.{by_number}
@@ -30,7 +30,7 @@ use Rattle.kore_check.specs.Folds.{unfolded}
 use Rattle.kore_check.specs.PatternFaults.{all_faults}
 use Rattle.kore_shapes.specs.Shapes.{Rewriting}
 use Rattle.kore_axioms.specs.AxiomClasses.{AxiomClass, refused, orders_sorts, rewrites, equates}
-use Rattle.kore_axioms.specs.AxiomClasses.{passed_over, class_of}
+use Rattle.kore_axioms.specs.AxiomClasses.{passed_over, axiom_class}
 use Rattle.kore_axioms.specs.RuleFaults.{FirstOfRule, sorted_faults, use_faults}
 use Rattle.kore_axioms.specs.RuleForms.{form_faults}
 use Rattle.kore_axioms.specs.RuleParts.{rule_parts}
@@ -45,9 +45,10 @@ pub definition_is_found : (bytes : List ℕ)
     → ((d : DefinitionTree) × ReadsDefinition bytes d)
     ⊎ ((f : Fault) × HasTextFault IsDefinition bytes f)
 definition_is_found bytes =
-    by_case (run (tokens_of bytes) (Some 0) definition_symbols) (definition_fault (tokens_of bytes))
+    by_case (run (token_stream bytes) (Some 0) definition_symbols)
+        (definition_fault (token_stream bytes))
   where
-    by_case : (r : Option TextFault) → IsFirstFault IsDefinition 0 (tokens_of bytes) r
+    by_case : (r : Option TextFault) → IsFirstFaultOfText IsDefinition 0 (token_stream bytes) r
         → ((d : DefinitionTree) × ReadsDefinition bytes d)
         ⊎ ((f : Fault) × HasTextFault IsDefinition bytes f)
     by_case None h = inl (h.0.0, (h.1, (h.0.1, h.0.2)))
@@ -56,9 +57,9 @@ definition_is_found bytes =
 pub pattern_is_found : (bytes : List ℕ)
     → ((p : PatternTree) × ReadsPattern bytes p) ⊎ ((f : Fault) × HasTextFault IsPattern bytes f)
 pattern_is_found bytes =
-    by_case (run (tokens_of bytes) (Some 0) pattern_symbols) (pattern_fault (tokens_of bytes))
+    by_case (run (token_stream bytes) (Some 0) pattern_symbols) (pattern_fault (token_stream bytes))
   where
-    by_case : (r : Option TextFault) → IsFirstFault IsPattern 0 (tokens_of bytes) r
+    by_case : (r : Option TextFault) → IsFirstFaultOfText IsPattern 0 (token_stream bytes) r
         → ((p : PatternTree) × ReadsPattern bytes p)
         ⊎ ((f : Fault) × HasTextFault IsPattern bytes f)
     by_case None h = inl (h.0.0, (h.1, (h.0.1, h.0.2)))
@@ -178,13 +179,15 @@ pub declaration_fault_is_found : (d : DefinitionTree) → Found (FirstOfSignatur
 declaration_fault_is_found d =
     let sorts = sort_entries d in
     then_found (FirstOfModules d.modules)
-    (Then (FirstOfDeclarations sorts (placed [] d.modules)) (FirstOfPairs sorts (pairs_of d)))
+    (Then (FirstOfDeclarations sorts (declarations_placed [] d.modules))
+    (FirstOfPairs sorts (pairs_of d)))
     (in_order_found (λ names m. IsFirstBy ByNumber (Contains (module_faults names m))) names_after
     (λ names m. by_number_found (module_faults names m)) [] d.modules)
-    (then_found (FirstOfDeclarations sorts (placed [] d.modules)) (FirstOfPairs sorts (pairs_of d))
+    (then_found (FirstOfDeclarations sorts (declarations_placed [] d.modules))
+    (FirstOfPairs sorts (pairs_of d))
     (in_order_found (λ before p. IsFirstBy ByNumber (Contains (placed_faults sorts before p)))
     placed_behind (λ before p. by_number_found (placed_faults sorts before p)) nothing_declared
-    (placed [] d.modules))
+    (declarations_placed [] d.modules))
     (in_order_found (λ before p. IsFirstBy ByNumber (HasPairFault sorts before p))
     (pairs_after sorts) (pair_found sorts) [] (pairs_of d)))
 
@@ -213,9 +216,9 @@ class_found sig first a passed_over = (None, refl)
 pub axiom_fault_is_found : (sig : Signature) (axioms : List AxiomDeclaration)
     → Found (FirstOfAxioms sig axioms)
 axiom_fault_is_found sig axioms =
-    in_order_found (λ (first : Option SortTree) a. FirstOfClass sig first a (class_of sig a))
-    (λ (first : Option SortTree) a. first_sort first (class_of sig a))
-    (λ first a. class_found sig first a (class_of sig a)) None axioms
+    in_order_found (λ (first : Option SortTree) a. FirstOfClass sig first a (axiom_class sig a))
+    (λ (first : Option SortTree) a. first_sort first (axiom_class sig a))
+    (λ first a. class_found sig first a (axiom_class sig a)) None axioms
 
 pub term_fault_is_found : (sig : Signature) (top : Option ℕ) (p : PatternTree)
     → Found (FirstOfTerm sig top p)

@@ -10,7 +10,7 @@ use Rattle.std.proofs.lemmas.Slice.Eq.{bytes_eq-Decides}
 use Rattle.std.proofs.lemmas.Option.{slice_get_within, get_or_from_slice_get}
 use Rattle.hook_table.specs.declared.table.ScalarKind.{ScalarKind}
 use Rattle.hook_table.specs.Rows.{plain_kind}
-use Rattle.rule_core.specs.Named.{number_of, is_among}
+use Rattle.rule_core.specs.Named.{number_of_name, is_among}
 use Rattle.rule_core.specs.DistinctNames.{names_of, IsNoneOf, AreDistinct}
 use Rattle.rule_core.specs.declared.signature.Signature.{Signature}
 use Rattle.rule_core.specs.declared.signature.SortRef.{SortRef}
@@ -88,7 +88,7 @@ number_from {V} (first ∷ es) i (suc n) e distinct is =
     (number_from es (i + 1) n e distinct.1 is ∙ ap Some (omega arith))
 
 pub own_number : {V : Type 0} (es : List (List ℕ × V)) (n : ℕ) (e : List ℕ × V)
-    → AreDistinct (names_of es) → slice_get es n ≡ Some e → number_of es e.0 ≡ Some n
+    → AreDistinct (names_of es) → slice_get es n ≡ Some e → number_of_name es e.0 ≡ Some n
 own_number es n e distinct is = number_from es 0 n e distinct is ∙ ap Some (omega arith)
 
 -- ---- the symbols
@@ -121,19 +121,19 @@ none_true (Some n) e = absurd (false≢true (sym e))
 pub final_more : (sig : Signature) (marks unreadable : List Bool) (n : ℕ)
     (d made : List ℕ × SymInfo) (old new : List (List ℕ × SymInfo)) (added : Bool)
     → AreDistinct (names_of sig.symbols) → slice_get sig.symbols n ≡ Some d
-    → IsFinal sig marks unreadable d made → added ≡ is_none (number_of old made.0)
+    → IsFinal sig marks unreadable d made → added ≡ is_none (number_of_name old made.0)
     → new ≡ cond added (old ++ made ∷ []) old
     → AllZip (IsFinal sig marks unreadable) (take n sig.symbols) old
     → AllZip (IsFinal sig marks unreadable) (take (n + 1) sig.symbols) new
 final_more sig marks unreadable n d made old new added distinct is final fresh grown before =
-    let absent : is_some (number_of old d.0) ≡ false =
+    let absent : is_some (number_of_name old d.0) ≡ false =
     number_among old d.0
     ∙ ap (λ (ns : List (List ℕ)). is_among ns d.0)
     (final_names sig marks unreadable (take n sig.symbols) old before)
     ∙ none_before sig.symbols n d distinct is in
     let yes : added ≡ true =
-    fresh ∙ ap (λ (name : List ℕ). is_none (number_of old name)) final.name
-    ∙ none_true (number_of old d.0) absent in
+    fresh ∙ ap (λ (name : List ℕ). is_none (number_of_name old name)) final.name
+    ∙ none_true (number_of_name old d.0) absent in
     let all : new ≡ old ++ made ∷ [] =
     grown ∙ ap (λ (b : Bool). cond b (old ++ made ∷ []) old) yes in
     subst (λ (ds : List (List ℕ × SymInfo)). AllZip (IsFinal sig marks unreadable) ds new)

@@ -11,7 +11,7 @@ use Rattle.kore_sig.specs.SortReferences.{sort_number, sort_place}
 use Rattle.kore_sig.proofs.FirstLaws.{contains_here}
 use Rattle.kore_shapes.specs.Shapes.{Rewriting, found_part}
 use Rattle.kore_axioms.specs.AxiomClasses.{AxiomClass, refused, orders_sorts, rewrites, equates}
-use Rattle.kore_axioms.specs.AxiomClasses.{passed_over, class_of}
+use Rattle.kore_axioms.specs.AxiomClasses.{passed_over, axiom_class}
 use Rattle.kore_axioms.specs.RuleFaults.{FirstOfRule, side_faults, condition_faults}
 use Rattle.kore_axioms.specs.RuleFaults.{found_top_faults}
 use Rattle.kore_axioms.specs.RuleParts.{rule_parts, left_of, right_of}
@@ -29,14 +29,14 @@ refuses_into P Q Memory into h = tt
 -- the first fault of axioms, if the first rule before them has this sort
 abbrev pub FirstBehind : Signature → Option SortTree → List AxiomDeclaration → Option Fault → Type 0
 FirstBehind sig first axioms r =
-    IsFirstOfSequence (λ first a. FirstOfClass sig first a (class_of sig a))
-    (λ first a. first_sort first (class_of sig a)) first axioms r
+    IsFirstOfSequence (λ first a. FirstOfClass sig first a (axiom_class sig a))
+    (λ first a. first_sort first (axiom_class sig a)) first axioms r
 
 -- if the next axiom has no fault, the axioms after it decide
 pub behind_clear : (sig : Signature) (first : Option SortTree) (a : AxiomDeclaration)
     (axioms : List AxiomDeclaration) (r : Option Fault)
-    → FirstOfClass sig first a (class_of sig a) None
-    → FirstBehind sig (first_sort first (class_of sig a)) axioms r
+    → FirstOfClass sig first a (axiom_class sig a) None
+    → FirstBehind sig (first_sort first (axiom_class sig a)) axioms r
     → FirstBehind sig first (a ∷ axioms) r
 behind_clear sig first a axioms None clear rest = (clear, rest)
 behind_clear sig first a axioms (Some f) clear rest = inr (clear, rest)
@@ -44,7 +44,7 @@ behind_clear sig first a axioms (Some f) clear rest = inr (clear, rest)
 -- if the next axiom has a fault, that is the first
 pub behind_fault : (sig : Signature) (first : Option SortTree) (a : AxiomDeclaration)
     (axioms : List AxiomDeclaration) (f : Fault)
-    → FirstOfClass sig first a (class_of sig a) (Some f)
+    → FirstOfClass sig first a (axiom_class sig a) (Some f)
     → FirstBehind sig first (a ∷ axioms) (Some f)
 behind_fault sig first a axioms f is = inl is
 
@@ -73,17 +73,17 @@ declared_sort sig first a w clear = by_case (sort_number sig.sorts w.sort) refl 
       (sym e) (contains_here fault rest)))
 
 no_rule_more : (sig : Signature) (axioms : List AxiomDeclaration) (a : AxiomDeclaration)
-    → IsFirstSort sig axioms None → ((w : Rewriting) → class_of sig a ≡ rewrites w → ⊥)
+    → IsFirstSort sig axioms None → ((w : Rewriting) → axiom_class sig a ≡ rewrites w → ⊥)
     → IsFirstSort sig (axioms ++ a ∷ []) None
 no_rule_more sig axioms a before none b there w class =
     elim (Contains-push_cases axioms a b there) [
       | inl old ↦ before b old w class
       | inr same ↦ none w
-          (subst (λ (x : AxiomDeclaration). class_of sig x ≡ rewrites w) (sym same) class)
+          (subst (λ (x : AxiomDeclaration). axiom_class sig x ≡ rewrites w) (sym same) class)
     ]
 
 first_by : (sig : Signature) (axioms : List AxiomDeclaration) (a : AxiomDeclaration)
-    (k : AxiomClass) → class_of sig a ≡ k → IsFirstSort sig axioms None
+    (k : AxiomClass) → axiom_class sig a ≡ k → IsFirstSort sig axioms None
     → FirstOfClass sig None a k None → IsFirstSort sig (axioms ++ a ∷ []) (first_sort None k)
 first_by sig axioms a (refused n) class before clear = absurd (let never : ⊥ = cc in never)
 first_by sig axioms a orders_sorts class before clear =
@@ -100,8 +100,9 @@ first_by sig axioms a passed_over class before clear =
 
 pub first_more : (sig : Signature) (axioms : List AxiomDeclaration) (first : Option SortTree)
     (a : AxiomDeclaration) → IsFirstSort sig axioms first
-    → FirstOfClass sig first a (class_of sig a) None
-    → IsFirstSort sig (axioms ++ a ∷ []) (first_sort first (class_of sig a))
-first_more sig axioms None a before clear = first_by sig axioms a (class_of sig a) refl before clear
+    → FirstOfClass sig first a (axiom_class sig a) None
+    → IsFirstSort sig (axioms ++ a ∷ []) (first_sort first (axiom_class sig a))
+first_more sig axioms None a before clear = first_by sig axioms a (axiom_class sig a) refl before
+    clear
 first_more sig axioms (Some s) a (b, there, is, declared) clear =
     (b, Contains-append_left axioms (a ∷ []) b there, is, declared)

@@ -2,7 +2,7 @@
 use Rattle.std.proofs.Common.{◌≡◌, ℕ, Bool, true, false, List, [], ◌∷◌, ◌++◌, Contains, Option}
 use Rattle.std.proofs.Common.{Some, None, refl, sym, ap, ◌∙◌, ◌⊎◌, inl, inr, subst}
 use Rattle.kore_text.specs.Trees.{SortTree, PatternTree, element_variable, set_variable, string}
-use Rattle.kore_text.specs.Trees.{symbol_applied, connected, binding, domain_value, folded}
+use Rattle.kore_text.specs.Trees.{symbol_applied, connected, binder_applied, value_written, folded}
 use Rattle.kore_text.specs.Trees.{PatternTrees, no_patterns, pattern_then, listed_sorts}
 use Rattle.rule_core.specs.declared.signature.Signature.{Signature}
 use Rattle.kore_sig.specs.FirstFault.{Fault, ByByte, ByNumber, IsFirstBy}
@@ -79,8 +79,8 @@ mutual
   ground_closed (symbol_applied at name ss ps) e =
       applied_closed at at name (listed_sorts ss) (all_unfolded ps) (all_closed ps e)
   ground_closed (connected at op ss ps) e = absurd (let never : ⊥ = cc in never)
-  ground_closed (binding at b ss x p) e = absurd (let never : ⊥ = cc in never)
-  ground_closed (domain_value at s text byte) e = record { form = tt; none = λ sig vars. refl }
+  ground_closed (binder_applied at b ss x p) e = absurd (let never : ⊥ = cc in never)
+  ground_closed (value_written at s text byte) e = record { form = tt; none = λ sig vars. refl }
   ground_closed (folded at left p) e =
       standing_closed at (inner_fold left p) (inner_closed left p e)
 
@@ -108,8 +108,8 @@ mutual
       let all = all_closed (pattern_then p no_patterns) e in all.0
   inner_closed left (connected at op ss (pattern_then p (pattern_then q ps))) e =
       absurd (let never : ⊥ = cc in never)
-  inner_closed left (binding at b ss x p) e = absurd (let never : ⊥ = cc in never)
-  inner_closed left (domain_value at s text byte) e = absurd (let never : ⊥ = cc in never)
+  inner_closed left (binder_applied at b ss x p) e = absurd (let never : ⊥ = cc in never)
+  inner_closed left (value_written at s text byte) e = absurd (let never : ⊥ = cc in never)
   inner_closed left (folded at other p) e = absurd (let never : ⊥ = cc in never)
 
 pub ground_form : (p : PatternTree) → ground_faults p ≡ [] → IsApplicative (unfolded p)

@@ -23,8 +23,8 @@ use Rattle.rule_core.specs.declared.signature.SymKind.TheVariants.{Injection, Ct
 use Rattle.rule_core.specs.declared.signature.SymKind.TheVariants.{Hooked, Closed, NoKind}
 use Rattle.rule_core.specs.KindTests.{is_defined_kind}
 use Rattle.kore_equations.specs.EquationMeanings.{IsUnreadable}
-use Rattle.kore_rules.specs.Programs.{HasFittingHook, HasKind, as_declared, by_hook, without_hook}
-use Rattle.kore_rules.specs.Programs.{by_unreadable, by_equations}
+use Rattle.kore_rules.specs.Programs.{HasFittingHook, HasKind, as_declared, hooked_kind}
+use Rattle.kore_rules.specs.Programs.{without_hook, by_unreadable, equations_kind}
 use Rattle.kore_rules.specs.ScalarSorts.{MarksTerms, fits_row, kind_in_row, kind_of_number}
 use Rattle.kore_rules.specs.ScalarSorts.{kind_by_hook, kind_of_function, final_kind, hook_row}
 use Rattle.kore_rules.proofs.KindLaws.{HasPairs, fits_true, fits_from}
@@ -84,7 +84,7 @@ by_fits : (sig : Signature) (axioms : List AxiomDeclaration) (marks : List Bool)
     → slice_get hooks n ≡ Some h → h.name ≡ name → fits_row sig marks (signature h) info ≡ t
     → HasKind sig axioms f info (kind_in_row sig marks info n (Some (signature h)))
 by_fits sig axioms marks zip is f info name n h true function hooked there named e =
-    rw e (by_hook function hooked
+    rw e (hooked_kind function hooked
     (h, there, named, fits_true sig axioms marks zip is info n h there e))
 by_fits sig axioms marks zip is f info name n h false function hooked there named e =
     rw e (without_hook function hooked (λ row other.
@@ -126,7 +126,7 @@ by_function : (sig : Signature) (axioms : List AxiomDeclaration) (marks : List B
 by_function sig axioms marks zip is f info true None function none same =
     let some = same.0 refl in by_unreadable function none some.1 some.2
 by_function sig axioms marks zip is f info false None function none same =
-    by_equations function none (λ a there bad. false≢true (same.1 (a, there, bad)))
+    equations_kind function none (λ a there bad. false≢true (same.1 (a, there, bad)))
 by_function sig axioms marks zip is f info unreadable (Some s) function hooked same =
     by_number sig axioms marks zip is f info (string_bytes s) (hook_number (string_bytes s))
     function (ap (option_map string_bytes) hooked) refl

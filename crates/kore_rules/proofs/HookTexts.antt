@@ -11,28 +11,27 @@ use lib.ListN.{length-take}
 use Rattle.kore_lex.specs.Escapes.{escape}
 use Rattle.kore_lex.specs.declared.lexer.TokenKind.{TokenKind}
 use Rattle.kore_lex.specs.declared.lexer.TokenKind.TheVariants as kind
-use Rattle.kore_lex.specs.Lexed.{Stream as Cut, end as cut_end, fault as cut_fault}
-use Rattle.kore_lex.specs.Lexed.{token as cut_token, lexed}
-use Rattle.kore_lex.specs.Value.{value, plain, unescaped}
-use Rattle.kore_text.specs.TokenStream.{Token, identifier, set_identifier, builtin, string_token}
-use Rattle.kore_text.specs.TokenStream.{mark, assign, Stream, end, fault, token, joined, named}
-use Rattle.kore_text.specs.TokenStream.{tokens_of}
+use Rattle.kore_lex.specs.Lexed.{Cut, cut_end, cut_fault, cut_token, lexed}
+use Rattle.kore_lex.specs.Value.{string_value, unescaped_text, unescaped}
+use Rattle.kore_text.specs.TokenStream.{KoreToken, identifier, set_identifier, builtin}
+use Rattle.kore_text.specs.TokenStream.{string_token, mark, assign, Stream, end, no_token_at, token}
+use Rattle.kore_text.specs.TokenStream.{token_then, named_tokens, token_stream}
 use Rattle.kore_text.specs.Trees.{SortTree, sort_parameter, sort_applied, SortTrees, no_sorts}
 use Rattle.kore_text.specs.Trees.{sort_then, PatternTree, element_variable, set_variable, string}
-use Rattle.kore_text.specs.Trees.{symbol_applied, connected, binding, domain_value, folded}
+use Rattle.kore_text.specs.Trees.{symbol_applied, connected, binder_applied, value_written, folded}
 use Rattle.kore_text.specs.Trees.{PatternTrees, no_patterns, pattern_then, listed_patterns}
 use Rattle.kore_text.specs.Trees.{SymbolDeclaration, AliasDeclaration, AxiomDeclaration, ModuleTree}
 use Rattle.kore_text.specs.Trees.{DefinitionTree, Declaration, import_declaration, sort_declaration}
 use Rattle.kore_text.specs.Trees.{symbol_declaration, alias_declaration, axiom_declaration}
 use Rattle.kore_text.specs.Trees.{claim_declaration}
-use Rattle.kore_text.specs.Grammar.{Requirement, placed, any, given, Spelling, listed, more_listed}
-use Rattle.kore_text.specs.Grammar.{in_order, TakesTokens, spell_name, spell_names, spell_sort}
-use Rattle.kore_text.specs.Grammar.{spell_sorts, spell_pattern, spell_patterns, spell_attributes}
-use Rattle.kore_text.specs.Grammar.{spell_signature, spell_statement, spell_declaration}
-use Rattle.kore_text.specs.Grammar.{spell_module, spell_definition}
+use Rattle.kore_text.specs.Grammar.{Requirement, placed, any, provided, Spelling, listed}
+use Rattle.kore_text.specs.Grammar.{more_listed, in_order, TakesTokens, spell_name, spell_names}
+use Rattle.kore_text.specs.Grammar.{spell_sort, spell_sorts, spell_pattern, spell_patterns}
+use Rattle.kore_text.specs.Grammar.{spell_attributes, spell_signature, spell_statement}
+use Rattle.kore_text.specs.Grammar.{spell_declaration, spell_module, spell_definition}
 use Rattle.kore_ast.specs.KoreText.{ReadsDefinition}
 use Rattle.kore_print.proofs.TextualStreams.{AllTextual, tokens-textual}
-use Rattle.kore_sig.specs.Attributes.{is_named, only_text, text_of, hook_of}
+use Rattle.kore_sig.specs.Attributes.{is_attribute_named, only_text, attribute_text, hook_of}
 use Rattle.kore_sig.specs.CountedModules.{counts, counted, counted_declarations}
 use Rattle.kore_sig.specs.Declarations.{symbol_declared, symbols_of}
 
@@ -68,21 +67,21 @@ unescaped_short more m short cs =
       )
     ]
 
-plain_short : (n : ℕ) (bs : List ℕ) → length (plain n bs) ≤ 4 * length bs
-unfolding plain
+plain_short : (n : ℕ) (bs : List ℕ) → length (unescaped_text n bs) ≤ 4 * length bs
+unfolding unescaped_text
 plain_short n [] = omega arith
 plain_short (suc n) (c ∷ cs) = omega (arith, plain_short n cs)
 plain_short zero (c ∷ cs) =
-    by_case (c == 92) (unescaped (λ n. plain n cs) (escape cs))
-    (unescaped_short (λ n. plain n cs) (4 * length cs) (λ n. plain_short n cs) cs)
+    by_case (c == 92) (unescaped (λ n. unescaped_text n cs) (escape cs))
+    (unescaped_short (λ n. unescaped_text n cs) (4 * length cs) (λ n. plain_short n cs) cs)
     (plain_short 0 cs) where
       by_case : (b : Bool) (xs : List ℕ) → length xs ≤ 4 * length cs + 4
-          → length (plain 0 cs) ≤ 4 * length cs
-          → length (cond b xs (c ∷ plain 0 cs)) ≤ 4 * length (c ∷ cs)
+          → length (unescaped_text 0 cs) ≤ 4 * length cs
+          → length (cond b xs (c ∷ unescaped_text 0 cs)) ≤ 4 * length (c ∷ cs)
       by_case true xs h rest = omega (arith, h)
       by_case false xs h rest = omega (arith, rest)
 
-value_short : (bs : List ℕ) (n : ℕ) → length bs ≤ n → length (value bs) ≤ 4 * n
+value_short : (bs : List ℕ) (n : ℕ) → length bs ≤ n → length (string_value bs) ≤ 4 * n
 value_short bs n short =
     let inner : List ℕ = take (length bs - 2) (drop 1 bs) in
     omega (
@@ -96,7 +95,7 @@ value_short bs n short =
 -- ---- tokens
 
 -- the text in a token, if it has one, is fine
-abbrev IsFine : ℕ → Token → Type 0
+abbrev IsFine : ℕ → KoreToken → Type 0
 IsFine n (identifier x) = Unit {0}
 IsFine n (set_identifier x) = Unit {0}
 IsFine n (builtin b) = Unit {0}
@@ -106,7 +105,7 @@ IsFine n assign = Unit {0}
 
 abbrev AllFine : ℕ → Stream → Type 0
 AllFine n (end e) = Unit {0}
-AllFine n (fault e) = Unit {0}
+AllFine n (no_token_at e) = Unit {0}
 AllFine n (token t p s) = IsFine n t × AllFine n s
 
 cut_short : (text : List ℕ) (from to : ℕ) → length (take (to - from) (drop from text)) ≤ length text
@@ -114,8 +113,8 @@ cut_short text from to =
     omega (arith, length-take (to - from) (drop from text), length-drop from text)
 
 joined_fine : (text : List ℕ) (k : TokenKind) (from to : ℕ) (s : Stream)
-    → AllTextual (joined text k from to s) → (AllTextual s → AllFine (4 * length text) s)
-    → AllFine (4 * length text) (joined text k from to s)
+    → AllTextual (token_then text k from to s) → (AllTextual s → AllFine (4 * length text) s)
+    → AllFine (4 * length text) (token_then text k from to s)
 joined_fine text kind.End from to s h rest = tt
 joined_fine text kind.Ident from to s h rest = (tt, rest h.1)
 joined_fine text kind.SetIdent from to s h rest = (tt, rest h.1)
@@ -127,15 +126,15 @@ joined_fine text kind.Text from to s h rest = (
 joined_fine text (kind.Punct c) from to s h rest = (tt, rest h.1)
 joined_fine text kind.Assign from to s h rest = (tt, rest h.1)
 
-named_fine : (text : List ℕ) (s : Cut) → AllTextual (named text s)
-    → AllFine (4 * length text) (named text s)
+named_fine : (text : List ℕ) (s : Cut) → AllTextual (named_tokens text s)
+    → AllFine (4 * length text) (named_tokens text s)
 named_fine text (cut_end e) h = tt
 named_fine text (cut_fault e) h = tt
 named_fine text (cut_token k from to s) h =
-    joined_fine text k from to (named text s) h (named_fine text s)
+    joined_fine text k from to (named_tokens text s) h (named_fine text s)
 
-tokens_fine : (bytes : List ℕ) → AllFine (4 * length bytes) (tokens_of bytes)
-unfolding tokens_of
+tokens_fine : (bytes : List ℕ) → AllFine (4 * length bytes) (token_stream bytes)
+unfolding token_stream
 tokens_fine bytes = named_fine bytes (lexed 0 bytes) (tokens-textual bytes)
 
 -- ---- required tokens
@@ -143,19 +142,19 @@ tokens_fine bytes = named_fine bytes (lexed 0 bytes) (tokens-textual bytes)
 -- the texts in the required tokens are fine
 abbrev RequiresFine : ℕ → List Requirement → Type 0
 RequiresFine n [] = Unit {0}
-RequiresFine n (given b ∷ ws) = RequiresFine n ws
+RequiresFine n (provided b ∷ ws) = RequiresFine n ws
 RequiresFine n (any t ∷ ws) = IsFine n t × RequiresFine n ws
 RequiresFine n (placed p t ∷ ws) = IsFine n t × RequiresFine n ws
 
 taken : (n : ℕ) (ws : List Requirement) (s e : Stream) → TakesTokens ws s e → AllFine n s
     → RequiresFine n ws
 taken n [] s e h a = tt
-taken n (given b ∷ ws) s e h a = taken n ws s e h.1 a
+taken n (provided b ∷ ws) s e h a = taken n ws s e h.1 a
 taken n (any u ∷ ws) (end x) e h a = absurd h
-taken n (any u ∷ ws) (fault x) e h a = absurd h
+taken n (any u ∷ ws) (no_token_at x) e h a = absurd h
 taken n (any u ∷ ws) (token t p s) e h a = (subst (IsFine n) h.0 a.0, taken n ws s e h.1 a.1)
 taken n (placed q u ∷ ws) (end x) e h a = absurd h
-taken n (placed q u ∷ ws) (fault x) e h a = absurd h
+taken n (placed q u ∷ ws) (no_token_at x) e h a = absurd h
 taken n (placed q u ∷ ws) (token t p s) e h a = (subst (IsFine n) h.0 a.0, taken n ws s e h.2 a.1)
 
 -- the strings in a pattern are fine, except those inside connectives, binders and folds
@@ -166,8 +165,8 @@ abbrev mutual
   Texts n (string at t) = IsFineText n t
   Texts n (symbol_applied at x ss ps) = AllTexts n ps
   Texts n (connected at o ss ps) = Unit {0}
-  Texts n (binding at o ss x p) = Unit {0}
-  Texts n (domain_value at s t place) = Unit {0}
+  Texts n (binder_applied at o ss x p) = Unit {0}
+  Texts n (value_written at s t place) = Unit {0}
   Texts n (folded at left p) = Unit {0}
 
   AllTexts : ℕ → PatternTrees → Type 0
@@ -206,7 +205,7 @@ mutual
     (patterns_behind n b ps k
         (sorts_behind n ss 125 (any (mark 40) ∷ listed (spell_patterns b ps) 41 k) h.1.1).1).1,
   )
-  pattern_behind n b (binding at o ss x p) k h =
+  pattern_behind n b (binder_applied at o ss x p) k h =
       let sorts =
       sorts_behind n ss 125 (any (mark 40)
       ∷ spell_pattern b x (any (mark 44) ∷ spell_pattern b p (any (mark 41) ∷ k)))
@@ -214,7 +213,7 @@ mutual
       let variable =
       pattern_behind n b x (any (mark 44) ∷ spell_pattern b p (any (mark 41) ∷ k)) sorts.1 in
       let body = pattern_behind n b p (any (mark 41) ∷ k) variable.1.1 in (tt, body.1.1)
-  pattern_behind n b (domain_value at s t place) k h =
+  pattern_behind n b (value_written at s t place) k h =
       let sort =
       sort_behind n s
       (any (mark 125) ∷ any (mark 40) ∷ placed place (string_token t) ∷ any (mark 41) ∷ k)
@@ -357,7 +356,7 @@ modules_fine : (bytes : List ℕ) (d : DefinitionTree) → ReadsDefinition bytes
 modules_fine bytes d reads =
     let n : ℕ = 4 * length bytes in
     let w =
-    taken n (spell_definition d []) (tokens_of bytes) (end reads.1.0) reads.1.1
+    taken n (spell_definition d []) (token_stream bytes) (end reads.1.0) reads.1.1
     (tokens_fine bytes) in
     let attributes =
     attributes_behind n d.attributes (in_order (map spell_module d.modules) []) w in
@@ -403,36 +402,37 @@ only_fine n (pattern_then (set_variable at x s) no_patterns) all = empty_fine n
 only_fine n (pattern_then (string at t) no_patterns) all = all.0
 only_fine n (pattern_then (symbol_applied at x ss qs) no_patterns) all = empty_fine n
 only_fine n (pattern_then (connected at o ss qs) no_patterns) all = empty_fine n
-only_fine n (pattern_then (binding at o ss x p) no_patterns) all = empty_fine n
-only_fine n (pattern_then (domain_value at s t place) no_patterns) all = empty_fine n
+only_fine n (pattern_then (binder_applied at o ss x p) no_patterns) all = empty_fine n
+only_fine n (pattern_then (value_written at s t place) no_patterns) all = empty_fine n
 only_fine n (pattern_then (folded at left p) no_patterns) all = empty_fine n
 only_fine n (pattern_then p (pattern_then q ps)) all = empty_fine n
 
-text_fine : (n : ℕ) (p : PatternTree) → Texts n p → IsFineText n (unwrap_or (text_of p) [])
+text_fine : (n : ℕ) (p : PatternTree) → Texts n p → IsFineText n (unwrap_or (attribute_text p) [])
 text_fine n (element_variable at x s) h = empty_fine n
 text_fine n (set_variable at x s) h = empty_fine n
 text_fine n (string at t) h = empty_fine n
 text_fine n (symbol_applied at x ss ps) h = only_fine n ps h
 text_fine n (connected at o ss ps) h = empty_fine n
-text_fine n (binding at o ss x p) h = empty_fine n
-text_fine n (domain_value at s t place) h = empty_fine n
+text_fine n (binder_applied at o ss x p) h = empty_fine n
+text_fine n (value_written at s t place) h = empty_fine n
 text_fine n (folded at left p) h = empty_fine n
 
 hook_fine : (n : ℕ) (ps : List PatternTree) → AllOf (Texts n) ps → (text : List ℕ)
-    → option_map (λ (a : PatternTree). unwrap_or (text_of a) []) (find (is_named (codes "hook")) ps)
+    → option_map (λ (a : PatternTree). unwrap_or (attribute_text a) [])
+    (find (is_attribute_named (codes "hook")) ps)
     ≡ Some text → IsFineText n text
 hook_fine n [] all text e = absurd (let never : ⊥ = cc in never)
 hook_fine n (p ∷ ps) all text e =
-    by_case (is_named (codes "hook") p) (hook_fine n ps all.1 text) e
+    by_case (is_attribute_named (codes "hook") p) (hook_fine n ps all.1 text) e
   where
     by_case : (b : Bool)
-        → (option_map (λ (a : PatternTree). unwrap_or (text_of a) [])
-        (find (is_named (codes "hook")) ps) ≡ Some text → IsFineText n text)
-        → option_map (λ (a : PatternTree). unwrap_or (text_of a) [])
-        (cond b (Some p) (find (is_named (codes "hook")) ps)) ≡ Some text
+        → (option_map (λ (a : PatternTree). unwrap_or (attribute_text a) [])
+        (find (is_attribute_named (codes "hook")) ps) ≡ Some text → IsFineText n text)
+        → option_map (λ (a : PatternTree). unwrap_or (attribute_text a) [])
+        (cond b (Some p) (find (is_attribute_named (codes "hook")) ps)) ≡ Some text
         → IsFineText n text
     by_case true rest e =
-        let same : unwrap_or (text_of p) [] ≡ text = cc in
+        let same : unwrap_or (attribute_text p) [] ≡ text = cc in
         subst (IsFineText n) same (text_fine n p all.0)
     by_case false rest e = rest e
 

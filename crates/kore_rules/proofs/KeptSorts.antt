@@ -18,8 +18,8 @@ use Rattle.rule_core.specs.declared.signature.SortRef.TheVariants.{Param, Sort}
 use Rattle.rule_core.specs.declared.signature.SymInfo.{SymInfo}
 use Rattle.rule_core.specs.declared.signature.SymKind.{SymKind}
 use Rattle.rule_core.specs.declared.signature.SymKind.TheVariants.{Injection, Ctor, Equations}
-use Rattle.kore_rules.specs.Programs.{HasKind, as_declared, by_hook, without_hook, by_unreadable}
-use Rattle.kore_rules.specs.Programs.{by_equations, IsSymbolOf, IsProgramUnder}
+use Rattle.kore_rules.specs.Programs.{HasKind, as_declared, hooked_kind, without_hook}
+use Rattle.kore_rules.specs.Programs.{by_unreadable, equations_kind, IsSymbolOf, IsProgramUnder}
 use Rattle.rule_core.specs.Theories.{RewriteTheory}
 
 -- ---- entries at the same place
@@ -46,29 +46,29 @@ zipped_right R (w ∷ xs) (z ∷ ys) (suc i) y all is = zipped_right R xs ys i y
 pub kind_kept : (sig : Signature) (axioms : List AxiomDeclaration) (f : List ℕ) (info : SymInfo)
     (k : SymKind) → HasKind sig axioms f info k → (IsFunction k → ⊥) → info.kind ≡ k
 kind_kept sig axioms f info _ (as_declared other) not = refl
-kind_kept sig axioms f info _ (by_hook is hook fits) not = absurd (not tt)
+kind_kept sig axioms f info _ (hooked_kind is hook fits) not = absurd (not tt)
 kind_kept sig axioms f info _ (without_hook is hook none) not = absurd (not tt)
 kind_kept sig axioms f info _ (by_unreadable is none there bad) not = absurd (not tt)
-kind_kept sig axioms f info _ (by_equations is none all) not = absurd (not tt)
+kind_kept sig axioms f info _ (equations_kind is none all) not = absurd (not tt)
 
 -- a declared kind that is not a function's is the final one
 pub kind_stays : (sig : Signature) (axioms : List AxiomDeclaration) (f : List ℕ) (info : SymInfo)
     (k : SymKind) → HasKind sig axioms f info k → (info.kind ≡ Equations → ⊥) → k ≡ info.kind
 kind_stays sig axioms f info _ (as_declared other) not = refl
-kind_stays sig axioms f info _ (by_hook is hook fits) not = absurd (not is)
+kind_stays sig axioms f info _ (hooked_kind is hook fits) not = absurd (not is)
 kind_stays sig axioms f info _ (without_hook is hook none) not = absurd (not is)
 kind_stays sig axioms f info _ (by_unreadable is none there bad) not = absurd (not is)
-kind_stays sig axioms f info _ (by_equations is none all) not = absurd (not is)
+kind_stays sig axioms f info _ (equations_kind is none all) not = absurd (not is)
 
 -- a function stays a function
 pub function_stays : (sig : Signature) (axioms : List AxiomDeclaration) (f : List ℕ)
     (info : SymInfo) (k : SymKind) → HasKind sig axioms f info k → IsFunction info.kind
     → IsFunction k
 function_stays sig axioms f info _ (as_declared other) fun = fun
-function_stays sig axioms f info _ (by_hook is hook fits) fun = tt
+function_stays sig axioms f info _ (hooked_kind is hook fits) fun = tt
 function_stays sig axioms f info _ (without_hook is hook none) fun = tt
 function_stays sig axioms f info _ (by_unreadable is none there bad) fun = tt
-function_stays sig axioms f info _ (by_equations is none all) fun = tt
+function_stays sig axioms f info _ (equations_kind is none all) fun = tt
 
 ctor_apart : Ctor ≡ Equations → ⊥
 ctor_apart e = let never : ⊥ = cc in never

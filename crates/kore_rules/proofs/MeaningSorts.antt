@@ -28,7 +28,7 @@ use Rattle.kore_check.specs.PatternMeanings.{Means, by_variable, by_value, by_sy
 use Rattle.kore_check.specs.PatternMeanings.{none_mean, more_mean, applied_pattern, injected_only}
 use Rattle.kore_check.specs.PatternMeanings.{variable_number, with_variable, with_variables}
 use Rattle.kore_check.specs.PatternMeanings.{with_all_variables, IsNamed}
-use Rattle.kore_check.specs.PatternSorts.{symbol_info, symbol_named, sort_of}
+use Rattle.kore_check.specs.PatternSorts.{symbol_info, symbol_named, sort_of_pattern}
 use Rattle.kore_check.specs.SortedMeanings.{variable_sorts}
 use Rattle.kore_check.specs.Building.{Extends}
 use Rattle.kore_check.proofs.BuildLaws.{unless_empty, number-added, number-kept, extends-refl}
@@ -41,8 +41,8 @@ use Rattle.kore_axioms.proofs.BoundLaws.{no_faults, same_number}
 use Rattle.kore_axioms.specs.RuleFaults.{faults_at_sort}
 use Rattle.kore_equations.proofs.MeaningLaws.{all_variables_extend}
 use Rattle.kore_axioms.specs.Uses.{has_symbol, have_symbol, is_plain_function}
-use Rattle.kore_axioms.specs.Uses.{is_plain_function_with, is_ac_symbol, is_ac_with, occurs_in}
-use Rattle.kore_axioms.specs.Uses.{occurs_in_some, is_bound_by, are_bound_by}
+use Rattle.kore_axioms.specs.Uses.{is_plain_function_with, is_ac_symbol, is_ac_with}
+use Rattle.kore_axioms.specs.Uses.{occurs_in_pattern, occurs_in_some, is_bound_by, are_bound_by}
 use Rattle.rule_core.specs.KindTests.{is_function_kind}
 
 some_same : {X : Type 0} (x y : X) → Some x ≡ Some y → x ≡ y
@@ -70,15 +70,15 @@ no_clash byte own wanted e = eqb-true own wanted (unless_empty (own == wanted) 9
 -- a pattern without faults that has a sort means a pattern of this sort
 pub sorted_at : (sig : Signature) (vars : List (List ℕ × ℕ)) (wanted : Option ℕ) (s : ℕ)
     {u : Unfolded} {p : Pattern} → IsSignature sig → pattern_faults sig u ≡ []
-    → clash_faults (unfolded_byte u) (sort_of sig u) wanted ≡ [] → wanted ≡ Some s
+    → clash_faults (unfolded_byte u) (sort_of_pattern sig u) wanted ≡ [] → wanted ≡ Some s
     → Means sig vars u p → HasSort sig (variable_sorts vars) p s
 sorted_at sig vars wanted s {u} {p} good clear clash is means =
-    let own : (w : ℕ) × (sort_of sig u ≡ Some w) =
-    some_or_none (sort_of sig u)
+    let own : (w : ℕ) × (sort_of_pattern sig u ≡ Some w) =
+    some_or_none (sort_of_pattern sig u)
     (faultless_sorted sig u good (means_form sig vars means) clear) in
     let equal : own.0 ≡ s =
     no_clash (unfolded_byte u) own.0 s (ap (λ o. clash_faults (unfolded_byte u) o (Some s))
-    (sym own.1) ∙ ap (λ o. clash_faults (unfolded_byte u) (sort_of sig u) o) (sym is)
+    (sym own.1) ∙ ap (λ o. clash_faults (unfolded_byte u) (sort_of_pattern sig u) o) (sym is)
     ∙ clash) in
     meanings_are_sorted sig vars u p s good clear means (own.1 ∙ ap (λ (m : ℕ). Some m) equal)
 
@@ -201,7 +201,8 @@ either false b h = inr h
 mutual
   found_in : (sig : Signature) (vars : List (List ℕ × ℕ)) (name : List ℕ) (tree : SortTree)
       (s x : ℕ) {u : Unfolded} {p : Pattern} → sort_number sig.sorts tree ≡ Some s
-      → variable_number vars name s ≡ Some x → occurs_in name tree u ≡ true → Means sig vars u p
+      → variable_number vars name s ≡ Some x → occurs_in_pattern name tree u ≡ true
+      → Means sig vars u p
       → OccursIn x p
   found_in sig vars name tree s x number var occurs
       (by_variable {x = y} {s = t} {name = n} {tree = other} a b) =
@@ -225,7 +226,7 @@ mutual
   found_in_some sig vars name tree s x number var occurs (more_mean {u = u} {us = us} first rest) =
       ⊎_elim (λ here. inl (found_in sig vars name tree s x number var here first))
       (λ later. inr (found_in_some sig vars name tree s x number var later rest))
-      (either (occurs_in name tree u) (occurs_in_some name tree us) occurs)
+      (either (occurs_in_pattern name tree u) (occurs_in_some name tree us) occurs)
 
 -- the meaning of a pattern of bound variables has only variables of these patterns
 mutual

@@ -11,12 +11,12 @@ use Rattle.kore_check.specs.PatternMeanings.{Means, by_variable, by_value, by_sy
 use Rattle.kore_check.specs.PatternMeanings.{none_mean, more_mean, with_variables}
 use Rattle.kore_check.specs.PatternMeanings.{with_all_variables}
 use Rattle.kore_shapes.specs.Shapes.{Rewriting}
-use Rattle.kore_shapes.specs.Statements.{Statement}
+use Rattle.kore_shapes.specs.Statements.{StatedEquation}
 use Rattle.kore_shapes.specs.EquationForms.{EquationParts, equation_parts}
 use Rattle.kore_axioms.specs.AxiomClasses.{AxiomClass, rewrites, equates, refused, orders_sorts}
-use Rattle.kore_axioms.specs.AxiomClasses.{passed_over, class_of}
+use Rattle.kore_axioms.specs.AxiomClasses.{passed_over, axiom_class}
 use Rattle.kore_axioms.specs.AxiomMeanings.{MeansTest, MeansRule}
-use Rattle.kore_axioms.specs.Conditions.{tested}
+use Rattle.kore_axioms.specs.Conditions.{tested_pattern}
 use Rattle.kore_axioms.specs.RuleParts.{rule_parts, left_of, right_of}
 use Rattle.kore_equations.specs.EquationMeanings.{MeansEquation, IsUnreadable}
 use Rattle.kore_equations.specs.ReadableEquations.{IsReadable, condition_of_equation, all_read}
@@ -55,7 +55,7 @@ test_means_one sig vars (Some b) (Some p) (Some q) m n = ap Some (means_one sig 
 rewrites_one : (v w : Rewriting) → rewrites v ≡ rewrites w → v ≡ w
 rewrites_one v w e = cc
 
-pub equates_one : (v w : Statement) → equates v ≡ equates w → v ≡ w
+pub equates_one : (v w : StatedEquation) → equates v ≡ equates w → v ≡ w
 equates_one v w e = cc
 
 -- ---- rules
@@ -101,15 +101,15 @@ rule_one sig a x y r s =
     subst (λ (t : PatternTree). Means sig r.variables (unfolded t) y.right) (sym rights)
     (subst (λ (vs : List (List ℕ × ℕ)). Means sig vs (unfolded s.right) y.right) (sym vars)
     s.means_right) in
-    let condition : MeansTest sig r.variables (tested (rule_parts sig r.shape).condition)
+    let condition : MeansTest sig r.variables (tested_pattern (rule_parts sig r.shape).condition)
     y.condition =
     subst (λ (w : Rewriting).
-    MeansTest sig r.variables (tested (rule_parts sig w).condition) y.condition)
+    MeansTest sig r.variables (tested_pattern (rule_parts sig w).condition) y.condition)
     (sym shapes) (subst (λ (vs : List (List ℕ × ℕ)).
-    MeansTest sig vs (tested (rule_parts sig s.shape).condition) y.condition) (sym vars)
+    MeansTest sig vs (tested_pattern (rule_parts sig s.shape).condition) y.condition) (sym vars)
     s.means_condition) in
     same_rule x y (means_one sig r.variables r.means_left left)
-    (test_means_one sig r.variables (tested (rule_parts sig r.shape).condition) x.condition
+    (test_means_one sig r.variables (tested_pattern (rule_parts sig r.shape).condition) x.condition
     y.condition r.means_condition condition)
     (means_one sig r.variables r.means_right right)
     (r.sorts ∙ ap (map (λ (v : List ℕ × ℕ). v.1)) vars ∙ sym s.sorts)
@@ -166,21 +166,22 @@ equation_one sig f a x y r s =
     subst (λ (q : EquationParts). Means sig r.variables (unfolded q.right) y.right) (sym parts)
     (subst (λ (vs : List (List ℕ × ℕ)). Means sig vs (unfolded s.parts.right) y.right)
     (sym vars) s.means_right) in
-    let condition : MeansTest sig r.variables (tested (condition_of_equation sig r.stated r.parts))
+    let condition : MeansTest sig r.variables
+        (tested_pattern (condition_of_equation sig r.stated r.parts))
     y.condition =
-    subst (λ (e : Statement).
-    MeansTest sig r.variables (tested (condition_of_equation sig e r.parts)) y.condition)
+    subst (λ (e : StatedEquation).
+    MeansTest sig r.variables (tested_pattern (condition_of_equation sig e r.parts)) y.condition)
     (sym stated)
     (subst (λ (q : EquationParts).
-    MeansTest sig r.variables (tested (condition_of_equation sig s.stated q)) y.condition)
+    MeansTest sig r.variables (tested_pattern (condition_of_equation sig s.stated q)) y.condition)
     (sym parts)
     (subst (λ (vs : List (List ℕ × ℕ)).
-    MeansTest sig vs (tested (condition_of_equation sig s.stated s.parts)) y.condition)
+    MeansTest sig vs (tested_pattern (condition_of_equation sig s.stated s.parts)) y.condition)
     (sym vars) s.means_condition)) in
     same_equation x y
     (r.parameters ∙ ap (λ (q : EquationParts). length q.parameters) parts ∙ sym s.parameters)
     (all_mean_one sig r.variables r.means_arguments arguments)
-    (test_means_one sig r.variables (tested (condition_of_equation sig r.stated r.parts))
+    (test_means_one sig r.variables (tested_pattern (condition_of_equation sig r.stated r.parts))
     x.condition y.condition r.means_condition condition)
     (means_one sig r.variables r.means_right right)
     (r.sorts ∙ ap (map (λ (v : List ℕ × ℕ). v.1)) vars ∙ sym s.sorts)
@@ -193,7 +194,7 @@ readable_or_not sig f a x r s =
     let stated : r.stated ≡ s.stated = equates_one r.stated s.stated (sym r.class ∙ s.class) in
     let info : r.info ≡ s.info = some_same r.info s.info (sym r.declared ∙ s.declared) in
     s.unreadable r.parts (subst (λ (i : SymInfo). IsReadable sig a i s.stated r.parts) info
-    (subst (λ (e : Statement). IsReadable sig a r.info e r.parts) stated r.readable))
+    (subst (λ (e : StatedEquation). IsReadable sig a r.info e r.parts) stated r.readable))
 
 -- ---- classes
 

@@ -11,7 +11,7 @@ use Rattle.kore_ast.specs.KoreText.{ReadsPattern}
 use Rattle.term_core.specs.Patterns.{Pattern, Patterns, variable, domain_value, injection}
 use Rattle.term_core.specs.Patterns.{application, call, no_pattern, more_patterns}
 use Rattle.term_core.specs.Terms.{DomainValue}
-use Rattle.rule_core.specs.Named.{number_of}
+use Rattle.rule_core.specs.Named.{number_of_name}
 use Rattle.rule_core.specs.WellSorted.{IsSignature, IsInjectionDeclaration}
 use Rattle.rule_core.specs.declared.signature.Signature.{Signature}
 use Rattle.rule_core.specs.declared.signature.SortKind.{SortKind}
@@ -25,7 +25,7 @@ use Rattle.kore_sig.specs.FirstFault.{Fault, when}
 use Rattle.kore_sig.specs.SortReferences.{sort_number}
 use Rattle.kore_check.specs.Building.{Extends, MeansFrom, AllMeanFrom, IsFaultless, AreFaultless}
 use Rattle.kore_check.specs.Folds.{Unfolded, named_variable, written_value, applied_symbol}
-use Rattle.kore_check.specs.Folds.{other_form, Unfoldeds, no_more, and_more, count, height}
+use Rattle.kore_check.specs.Folds.{other_form, Unfoldeds, no_more, and_more, count, unfolded_height}
 use Rattle.kore_check.specs.Folds.{unfolded_byte, unfolded}
 use Rattle.rule_core.specs.Evaluation.{most_height}
 use Rattle.kore_check.specs.PatternFaults.{pattern_faults, all_faults}
@@ -96,8 +96,8 @@ numbered vars name s = by_case (variable_number vars name s) refl where
 -- a declared symbol has a number
 named : (sig : Signature) (name : List ℕ) (info : SymInfo) → symbol_named sig name ≡ Some info
     → (f : ℕ) × IsNamed sig name f info
-named sig name info e = by_case (number_of sig.symbols name) refl where
-  by_case : (o : Option ℕ) → number_of sig.symbols name ≡ o → (f : ℕ) × IsNamed sig name f info
+named sig name info e = by_case (number_of_name sig.symbols name) refl where
+  by_case : (o : Option ℕ) → number_of_name sig.symbols name ≡ o → (f : ℕ) × IsNamed sig name f info
   by_case None n =
       let both : None ≡ Some info = sym (ap (option_and_then (symbol_info sig)) n) ∙ e in
       let never : ⊥ = cc in absurd never
@@ -242,7 +242,7 @@ each_term_is_decided sig top bytes sorted = by_text (pattern_is_found bytes) whe
       none_by_byte (all_faults sig (unfolded p)) clear.1.0 in
       let fine : pattern_faults sig (unfolded p) ≡ [] =
       (no_faults
-      (when (nat_lt most_height (height (unfolded p))) 3 (unfolded_byte (unfolded p)))
+      (when (nat_lt most_height (unfolded_height (unfolded p))) 3 (unfolded_byte (unfolded p)))
       (pattern_faults sig (unfolded p)) faults).1 in
       let found = meaning sig sorted (unfolded p) [] (fine, ground_form p ground) in
       let vars : Variables = with_variables sig [] (unfolded p) in (

@@ -6,17 +6,16 @@ use Rattle.kore_text.specs.Faults.{IsPattern, IsDefinition}
 use Rattle.kore_text.specs.TextLaws.{DefinitionHasNoFault, PatternHasNoFault}
 use Rattle.kore_text.specs.TextLaws.{DefinitionFaultIsUnique, PatternFaultIsUnique}
 use Rattle.rule_core.specs.declared.signature.Signature.{Signature}
-use Rattle.kore_sig.specs.FirstFault.{Fault, ByByte, IsFirstBy, Then, IsFirstOfSequence}
+use Rattle.kore_sig.specs.FirstFault.{Fault, ByByte, IsFirstBy, Then, IsFirstOfSequence, ByNumber}
 use Rattle.kore_sig.proofs.UniqueLaws.{byte_antisymmetric, first_same, first_one, then_one}
 use Rattle.kore_sig.proofs.UniqueLaws.{in_order_one}
 use Rattle.kore_check.specs.Folds.{unfolded}
 use Rattle.kore_check.specs.PatternFaults.{all_faults}
 use Rattle.kore_axioms.specs.AxiomClasses.{AxiomClass, refused, orders_sorts, rewrites, equates}
-use Rattle.kore_axioms.specs.AxiomClasses.{passed_over, class_of}
+use Rattle.kore_axioms.specs.AxiomClasses.{passed_over, axiom_class}
 use Rattle.kore_axioms.specs.RuleFaults.{FirstOfRule, sorted_faults, use_faults}
 use Rattle.kore_axioms.specs.RuleForms.{form_faults}
 use Rattle.kore_axioms.specs.RuleParts.{rule_parts}
-use Rattle.kore_sig.specs.FirstFault.{ByNumber}
 use Rattle.kore_shapes.specs.Shapes.{Rewriting}
 use Rattle.kore_rules.specs.AcceptanceLaws.{TermFaultIsOne, AxiomFaultIsOne}
 use Rattle.kore_rules.specs.AcceptanceLaws.{SpelledDefinitionIsFaultless, SpelledPatternIsFaultless}
@@ -62,9 +61,9 @@ class_is_one sig first a passed_over q r x y = x ∙ sym y
 
 pub axioms_are_one : AxiomFaultIsOne
 axioms_are_one sig axioms q r x y =
-    in_order_one (λ (first : Option SortTree) a. FirstOfClass sig first a (class_of sig a))
-    (λ (first : Option SortTree) a. first_sort first (class_of sig a))
-    (λ first a. class_is_one sig first a (class_of sig a)) None axioms q r x y
+    in_order_one (λ (first : Option SortTree) a. FirstOfClass sig first a (axiom_class sig a))
+    (λ (first : Option SortTree) a. first_sort first (axiom_class sig a))
+    (λ first a. class_is_one sig first a (axiom_class sig a)) None axioms q r x y
 
 pub spelled_faultless : DefinitionHasNoFault → SpelledDefinitionIsFaultless
 spelled_faultless law bytes d f reads fault =

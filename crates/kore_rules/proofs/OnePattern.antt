@@ -3,12 +3,12 @@ use Rattle.std.proofs.Common.{◌≡◌, ℕ, ◌==◌, Bool, true, false, not, 
 use Rattle.std.proofs.Common.{refl, sym, ap, ◌∙◌, subst, arith, if◌then◌else◌}
 use Rattle.kore_text.specs.declared.names.Built.{Built}
 use Rattle.kore_text.specs.declared.names.Built.TheVariants.{Connective, Binding, Value, Fold}
-use Rattle.kore_text.specs.TokenStream.{Token, identifier, set_identifier, builtin, string_token}
-use Rattle.kore_text.specs.TokenStream.{mark, assign, Stream, end, fault, token}
+use Rattle.kore_text.specs.TokenStream.{KoreToken, identifier, set_identifier, builtin}
+use Rattle.kore_text.specs.TokenStream.{string_token, mark, assign, Stream, end, no_token_at, token}
 use Rattle.kore_text.specs.Trees.{SortTree, sort_parameter, sort_applied, SortTrees, no_sorts}
 use Rattle.kore_text.specs.Trees.{sort_then, sort_trees, listed_sorts, PatternTree}
 use Rattle.kore_text.specs.Trees.{element_variable, set_variable, string, symbol_applied, connected}
-use Rattle.kore_text.specs.Trees.{binding, domain_value, folded, PatternTrees, no_patterns}
+use Rattle.kore_text.specs.Trees.{binder_applied, value_written, folded, PatternTrees, no_patterns}
 use Rattle.kore_text.specs.Trees.{pattern_then, pattern_trees, listed_patterns}
 use Rattle.kore_text.specs.Grammar.{Requirement, placed, any, Spelling, listed, more_listed}
 use Rattle.kore_text.specs.Grammar.{TakesTokens, spell_name, spell_names, spell_variable}
@@ -26,10 +26,11 @@ pub record Agree {T : Type 0} (t u : T) (v w : List Requirement) (d e : Stream) 
   pub first : TakesTokens v to d
   pub second : TakesTokens w to e
 
-pub any-one : (t u : Token) (v w : List Requirement) (s d e : Stream) → TakesTokens (any t ∷ v) s d
+pub any-one : (t u : KoreToken) (v w : List Requirement) (s d e : Stream)
+    → TakesTokens (any t ∷ v) s d
     → TakesTokens (any u ∷ w) s e → Agree t u v w d e
 any-one t u v w (end n) d e h k = absurd h
-any-one t u v w (fault n) d e h k = absurd h
+any-one t u v w (no_token_at n) d e h k = absurd h
 any-one t u v w (token x p s) d e h k = record {
   same = sym h.0 ∙ k.0;
   to = s;
@@ -37,11 +38,11 @@ any-one t u v w (token x p s) d e h k = record {
   second = k.1;
 }
 
-pub placed-one : (p q : ℕ) (t u : Token) (v w : List Requirement) (s d e : Stream)
+pub placed-one : (p q : ℕ) (t u : KoreToken) (v w : List Requirement) (s d e : Stream)
     → TakesTokens (placed p t ∷ v) s d → TakesTokens (placed q u ∷ w) s e
-    → Agree {T = ℕ × Token} (p, t) (q, u) v w d e
+    → Agree {T = ℕ × KoreToken} (p, t) (q, u) v w d e
 placed-one p q t u v w (end n) d e h k = absurd h
-placed-one p q t u v w (fault n) d e h k = absurd h
+placed-one p q t u v w (no_token_at n) d e h k = absurd h
 placed-one p q t u v w (token x at s) d e h k =
     let places : p ≡ q = sym h.1 ∙ k.1 in
     let tokens : t ≡ u = sym h.0 ∙ k.0 in
@@ -113,10 +114,10 @@ more-told spell c closes (t ∷ ts) (u ∷ us) told v w s d e h k =
 plain-mark : (c : ℕ) (w : List Requirement) (s e : Stream) → TakesTokens (any (mark c) ∷ w) s e
     → IsPlain s → ⊥
 plain-mark c w (end n) e h p = h
-plain-mark c w (fault n) e h p = h
+plain-mark c w (no_token_at n) e h p = h
 plain-mark c w (token t q s) e h p =
     let marked : IsPlain (token (mark c) q s) =
-    subst (λ (x : Token). IsPlain (token x q s)) h.0 p in
+    subst (λ (x : KoreToken). IsPlain (token x q s)) h.0 p in
     let never : ⊥ = cc in never
 
 pub list-told : {T : Type 0} (spell : T → Spelling) → BeginsPlain spell → (c : ℕ) → Closes c
@@ -179,11 +180,12 @@ sorts-one ss rs told v w s d e h k =
       second = a.second;
     }
 
-pub names-same : (p q : ℕ) (n m : List ℕ) → ◌≡◌ {A = ℕ × Token} (p, identifier n) (q, identifier m)
+pub names-same : (p q : ℕ) (n m : List ℕ)
+    → ◌≡◌ {A = ℕ × KoreToken} (p, identifier n) (q, identifier m)
     → (p ≡ q) × (n ≡ m)
 names-same p q n m h =
-    let tokens : identifier n ≡ identifier m = ap (λ (x : ℕ × Token). x.1) h in
-    (ap (λ (x : ℕ × Token). x.0) h, let e : n ≡ m = cc in e)
+    let tokens : identifier n ≡ identifier m = ap (λ (x : ℕ × KoreToken). x.1) h in
+    (ap (λ (x : ℕ × KoreToken). x.0) h, let e : n ≡ m = cc in e)
 
 -- there is no brace where a brace must not come
 no-brace : (v w : List Requirement) (s d e : Stream) → Apart v d → TakesTokens v s d
@@ -191,10 +193,10 @@ no-brace : (v w : List Requirement) (s d e : Stream) → Apart v d → TakesToke
 no-brace v w s d e apart h k = brace s (apart-comes v s d apart h) k where
   brace : (s : Stream) → comes 123 s ≡ false → TakesTokens (any (mark 123) ∷ w) s e → ⊥
   brace (end n) none k = k
-  brace (fault n) none k = k
+  brace (no_token_at n) none k = k
   brace (token t p s) none k =
       let at : is_mark 123 (mark 123) ≡ false =
-      subst (λ (x : Token). is_mark 123 x ≡ false) k.0 none in
+      subst (λ (x : KoreToken). is_mark 123 x ≡ false) k.0 none in
       let never : ⊥ = cc in never
 
 mutual
@@ -275,8 +277,8 @@ form (set_variable at n s) = 1
 form (string at t) = 2
 form (symbol_applied at n ss ps) = 3
 form (connected at o ss ps) = 4
-form (binding at o ss x p) = 5
-form (domain_value at s t place) = 6
+form (binder_applied at o ss x p) = 5
+form (value_written at s t place) = 6
 form (folded at left p) = 7
 
 abbrev built_form : Built → ℕ
@@ -285,7 +287,7 @@ built_form (Binding o) = 5
 built_form Value = 6
 built_form (Fold left) = 7
 
-abbrev token_form : Token → Bool → ℕ
+abbrev token_form : KoreToken → Bool → ℕ
 token_form (identifier n) colon = if colon then 0 else 3
 token_form (set_identifier n) colon = 1
 token_form (builtin None) colon = 8
@@ -296,24 +298,24 @@ token_form assign colon = 8
 
 abbrev form_at : Stream → ℕ
 form_at (end n) = 8
-form_at (fault n) = 8
+form_at (no_token_at n) = 8
 form_at (token t p s) = token_form t (comes 58 s)
 
-placed-form : (p : ℕ) (t : Token) (w : List Requirement) (s e : Stream)
+placed-form : (p : ℕ) (t : KoreToken) (w : List Requirement) (s e : Stream)
     → TakesTokens (placed p t ∷ w) s e → form_at s ≡ token_form t (comes 58 (after s))
 placed-form p t w (end n) e h = absurd h
-placed-form p t w (fault n) e h = absurd h
-placed-form p t w (token u q s) e h = ap (λ (x : Token). token_form x (comes 58 s)) h.0
+placed-form p t w (no_token_at n) e h = absurd h
+placed-form p t w (token u q s) e h = ap (λ (x : KoreToken). token_form x (comes 58 s)) h.0
 
-marked-form : (p : ℕ) (t : Token) (c : ℕ) (w : List Requirement) (s e : Stream)
+marked-form : (p : ℕ) (t : KoreToken) (c : ℕ) (w : List Requirement) (s e : Stream)
     → TakesTokens (placed p t ∷ any (mark c) ∷ w) s e → form_at s ≡ token_form t (c == 58)
 marked-form p t c w (end n) e h = absurd h
-marked-form p t c w (fault n) e h = absurd h
+marked-form p t c w (no_token_at n) e h = absurd h
 marked-form p t c w (token u q (end n)) e h = absurd h.2
-marked-form p t c w (token u q (fault n)) e h = absurd h.2
+marked-form p t c w (token u q (no_token_at n)) e h = absurd h.2
 marked-form p t c w (token u q (token x r s)) e h =
-    ap (λ (y : Token). token_form y (is_mark 58 x)) h.0
-    ∙ ap (λ (y : Token). token_form t (is_mark 58 y)) h.2.0
+    ap (λ (y : KoreToken). token_form y (is_mark 58 x)) h.0
+    ∙ ap (λ (y : KoreToken). token_form t (is_mark 58 y)) h.2.0
 
 pattern-form : (b : Bool) (t : PatternTree) (w : List Requirement) (s e : Stream)
     → TakesTokens (spell_pattern b t w) s e → form_at s ≡ form t
@@ -329,12 +331,12 @@ pattern-form b (connected at o ss ps) w s e h =
     placed-form at (builtin (Some (Connective o))) (any (mark 123)
     ∷ listed (spell_sorts ss) 125 (any (mark 40) ∷ listed (spell_patterns b ps) 41 w)) s e
     h.1
-pattern-form b (binding at o ss x p) w s e h =
+pattern-form b (binder_applied at o ss x p) w s e h =
     placed-form at (builtin (Some (Binding o))) (any (mark 123)
     ∷ listed (spell_sorts ss) 125 (any (mark 40)
     ∷ spell_pattern b x (any (mark 44) ∷ spell_pattern b p (any (mark 41) ∷ w)))) s e
     h.1
-pattern-form b (domain_value at o t place) w s e h =
+pattern-form b (value_written at o t place) w s e h =
     placed-form at (builtin (Some Value)) (any (mark 123)
     ∷ spell_sort o (any (mark 125) ∷ any (mark 40) ∷ placed place (string_token t)
     ∷ any (mark 41) ∷ w)) s e h
@@ -348,10 +350,11 @@ forms-same : (b : Bool) (t u : PatternTree) (v w : List Requirement) (s d e : St
     → form t ≡ form u
 forms-same b t u v w s d e h k = sym (pattern-form b t v s d h) ∙ pattern-form b u w s e k
 
-variable-one : (at bt : ℕ) (t u : Token) (o r : SortTree) (v w : List Requirement) (s d e : Stream)
+variable-one : (at bt : ℕ) (t u : KoreToken) (o r : SortTree) (v w : List Requirement)
+    (s d e : Stream)
     → Apart v d → Apart w e → TakesTokens (spell_variable at t o v) s d
     → TakesTokens (spell_variable bt u r w) s e
-    → Agree {T = (ℕ × Token) × SortTree} ((at, t), o) ((bt, u), r) v w d e
+    → Agree {T = (ℕ × KoreToken) × SortTree} ((at, t), o) ((bt, u), r) v w d e
 variable-one at bt t u o r v w s d e av aw h k =
     let a =
     placed-one at bt t u (any (mark 58) ∷ spell_sort o v) (any (mark 58) ∷ spell_sort r w) s d e
@@ -361,11 +364,12 @@ variable-one at bt t u o r v w s d e av aw h k =
     let c = sort-told o r v w b.to d e av aw b.first b.second in
     record { same = λ i. (a.same i, c.same i); to = c.to; first = c.first; second = c.second }
 
-applied-one : (b : Bool) (at bt : ℕ) (t u : Token) (ss rs : SortTrees) (ps qs : PatternTrees)
+applied-one : (b : Bool) (at bt : ℕ) (t u : KoreToken) (ss rs : SortTrees) (ps qs : PatternTrees)
     → AllTold (spell_pattern b) (listed_patterns ps) → (v w : List Requirement) (s d e : Stream)
     → TakesTokens (spell_applied at t ss (spell_patterns b ps) v) s d
     → TakesTokens (spell_applied bt u rs (spell_patterns b qs) w) s e
-    → Agree {T = ((ℕ × Token) × SortTrees) × PatternTrees} (((at, t), ss), ps) (((bt, u), rs), qs) v
+    → Agree {T = ((ℕ × KoreToken) × SortTrees) × PatternTrees} (((at, t), ss), ps) (((bt, u), rs),
+    qs) v
     w d e
 applied-one b at bt t u ss rs ps qs told v w s d e h k =
     let x2 : List Requirement = listed (spell_patterns b ps) 41 v in
@@ -448,7 +452,7 @@ mutual
         first = a.first;
         second = a.second;
       }
-  pattern-told b (binding at o ss x p) (binding bt r rs y q) v w s d e av aw h k =
+  pattern-told b (binder_applied at o ss x p) (binder_applied bt r rs y q) v w s d e av aw h k =
       let v3 : List Requirement = any (mark 41) ∷ v in
       let w3 : List Requirement = any (mark 41) ∷ w in
       let v2 : List Requirement = any (mark 44) ∷ spell_pattern b p v3 in
@@ -474,12 +478,12 @@ mutual
       let j = pattern-told b p q v3 w3 n.to d e refl refl n.first n.second in
       let z = any-one (mark 41) (mark 41) v w j.to d e j.first j.second in
       record {
-        same = λ i. binding (a.same i).0 (same i) (f.same i) (m.same i) (j.same i);
+        same = λ i. binder_applied (a.same i).0 (same i) (f.same i) (m.same i) (j.same i);
         to = z.to;
         first = z.first;
         second = z.second;
       }
-  pattern-told b (domain_value at o t place) (domain_value bt r u there) v w s d e av aw h k =
+  pattern-told b (value_written at o t place) (value_written bt r u there) v w s d e av aw h k =
       let v3 : List Requirement = any (mark 41) ∷ v in
       let w3 : List Requirement = any (mark 41) ∷ w in
       let v2 : List Requirement = placed place (string_token t) ∷ v3 in
@@ -503,7 +507,7 @@ mutual
       let same : t ≡ u = texts-same t u (λ i. (n.same i).1) in
       let z = any-one (mark 41) (mark 41) v w n.to d e n.first n.second in
       record {
-        same = λ i. domain_value (a.same i).0 (f.same i) (same i) (n.same i).0;
+        same = λ i. value_written (a.same i).0 (f.same i) (same i) (n.same i).0;
         to = z.to;
         first = z.first;
         second = z.second;
@@ -544,10 +548,10 @@ mutual
       absurd (omega (arith, forms-same b (symbol_applied at n ss ps) u v w s d e h k))
   pattern-told b (connected at o ss ps) u v w s d e av aw h k =
       absurd (omega (arith, forms-same b (connected at o ss ps) u v w s d e h k))
-  pattern-told b (binding at o ss x p) u v w s d e av aw h k =
-      absurd (omega (arith, forms-same b (binding at o ss x p) u v w s d e h k))
-  pattern-told b (domain_value at o t place) u v w s d e av aw h k =
-      absurd (omega (arith, forms-same b (domain_value at o t place) u v w s d e h k))
+  pattern-told b (binder_applied at o ss x p) u v w s d e av aw h k =
+      absurd (omega (arith, forms-same b (binder_applied at o ss x p) u v w s d e h k))
+  pattern-told b (value_written at o t place) u v w s d e av aw h k =
+      absurd (omega (arith, forms-same b (value_written at o t place) u v w s d e h k))
   pattern-told b (folded at left p) u v w s d e av aw h k =
       absurd (omega (arith, forms-same b (folded at left p) u v w s d e h k))
 

@@ -2,8 +2,8 @@
 use Rattle.std.proofs.Common.{◌≡◌, ℕ, Bool, true, false, not, ◌||◌, IsTrue, List, [], ◌∷◌, map}
 use Rattle.std.proofs.Common.{refl, sym, ap, ◌∙◌, subst, arith, codes, if◌then◌else◌}
 use Rattle.std.specs.Str.{bytes_eq}
-use Rattle.kore_text.specs.TokenStream.{Token, identifier, mark, assign, Stream, end, fault, token}
-use Rattle.kore_text.specs.TokenStream.{tokens_of}
+use Rattle.kore_text.specs.TokenStream.{KoreToken, identifier, mark, assign, Stream, end}
+use Rattle.kore_text.specs.TokenStream.{no_token_at, token, token_stream}
 use Rattle.kore_text.specs.Trees.{SortTree, PatternTree, ImportDeclaration, SortDeclaration}
 use Rattle.kore_text.specs.Trees.{SymbolDeclaration, AliasDeclaration, AxiomDeclaration, ModuleTree}
 use Rattle.kore_text.specs.Trees.{DefinitionTree, Declaration, import_declaration, sort_declaration}
@@ -128,14 +128,14 @@ first_word _ = []
 keyword-first : (p : ℕ) (n : List ℕ) (w : List Requirement) (s e : Stream)
     → TakesTokens (keyword p n ∷ w) s e → first_word s ≡ n
 keyword-first p n w (end x) e h = absurd h
-keyword-first p n w (fault x) e h = absurd h
-keyword-first p n w (token t q s) e h = ap (λ (x : Token). first_word (token x q s)) h.0
+keyword-first p n w (no_token_at x) e h = absurd h
+keyword-first p n w (token t q s) e h = ap (λ (x : KoreToken). first_word (token x q s)) h.0
 
 named-first : (n : List ℕ) (w : List Requirement) (s e : Stream)
     → TakesTokens (any (identifier n) ∷ w) s e → first_word s ≡ n
 named-first n w (end x) e h = absurd h
-named-first n w (fault x) e h = absurd h
-named-first n w (token t q s) e h = ap (λ (x : Token). first_word (token x q s)) h.0
+named-first n w (no_token_at x) e h = absurd h
+named-first n w (token t q s) e h = ap (λ (x : KoreToken). first_word (token x q s)) h.0
 
 declaration-kind : (x : Declaration) (w : List Requirement) (s e : Stream)
     → TakesTokens (spell_declaration x w) s e → word_kind (first_word s) ≡ kind x
@@ -453,7 +453,7 @@ definition_is_one bytes x y h k =
     let e : ℕ = k.1.0 in
     let a =
     attributes-one x.attributes y.attributes (in_order (map spell_module x.modules) [])
-    (in_order (map spell_module y.modules) []) (tokens_of bytes) (end d) (end e) h.1.1.1
+    (in_order (map spell_module y.modules) []) (token_stream bytes) (end d) (end e) h.1.1.1
     k.1.1.1 in
     let modules = modules-one x.modules y.modules a.to d e a.first a.second in
     λ i. record { attributes = a.same i; modules = modules i }
@@ -461,4 +461,5 @@ definition_is_one bytes x y h k =
 pub pattern_is_one : (bytes : List ℕ) (p q : PatternTree) → ReadsPattern bytes p
     → ReadsPattern bytes q → p ≡ q
 pattern_is_one bytes p q h k =
-    (pattern-told false p q [] [] (tokens_of bytes) (end h.1.0) (end k.1.0) tt tt h.1.1 k.1.1).same
+    (pattern-told false p q [] [] (token_stream bytes) (end h.1.0) (end k.1.0) tt tt h.1.1
+    k.1.1).same

@@ -10,25 +10,26 @@ use Rattle.std.proofs.lemmas.Bool.{eqb-true}
 use Rattle.std.proofs.lemmas.List.Sums.{sum_by-cons}
 use Rattle.kore_lex.specs.declared.lexer.TokenKind.{TokenKind}
 use Rattle.kore_lex.specs.declared.lexer.TokenKind.TheVariants as kind
-use Rattle.kore_lex.specs.Lexed.{Stream as Cut, end as cut_end, fault as cut_fault}
-use Rattle.kore_lex.specs.Lexed.{token as cut_token, lexed}
+use Rattle.kore_lex.specs.Lexed.{Cut, cut_end, cut_fault, cut_token, lexed}
 use Rattle.kore_lex.specs.Tokens.{IsToken}
 use Rattle.kore_lex.specs.TokenLaws.{Covers, TokensCover}
-use Rattle.kore_text.specs.TokenStream.{Token, identifier, mark, builtin, string_token, assign}
-use Rattle.kore_text.specs.TokenStream.{Stream, end, fault, token, joined, named, tokens_of}
+use Rattle.kore_text.specs.TokenStream.{KoreToken, identifier, mark, builtin, string_token, assign}
+use Rattle.kore_text.specs.TokenStream.{Stream, end, no_token_at, token, token_then, named_tokens}
+use Rattle.kore_text.specs.TokenStream.{token_stream}
 use Rattle.kore_text.specs.declared.names.Built.TheVariants.{Connective}
 use Rattle.kore_text.specs.Trees.{SortTree, sort_parameter, sort_applied, SortTrees, no_sorts}
 use Rattle.kore_text.specs.Trees.{sort_then, PatternTree, element_variable, set_variable, string}
-use Rattle.kore_text.specs.Trees.{symbol_applied, connected, binding, domain_value, folded}
+use Rattle.kore_text.specs.Trees.{symbol_applied, connected, binder_applied, value_written, folded}
 use Rattle.kore_text.specs.Trees.{PatternTrees, no_patterns, pattern_then, AliasDeclaration}
 use Rattle.kore_text.specs.Trees.{AxiomDeclaration, ModuleTree, DefinitionTree, Declaration}
 use Rattle.kore_text.specs.Trees.{import_declaration, sort_declaration, symbol_declaration}
 use Rattle.kore_text.specs.Trees.{alias_declaration, axiom_declaration, claim_declaration}
-use Rattle.kore_text.specs.Grammar.{Requirement, placed, any, given, Spelling, listed, more_listed}
-use Rattle.kore_text.specs.Grammar.{in_order, TakesTokens, spell_name, spell_names, spell_sort}
-use Rattle.kore_text.specs.Grammar.{spell_sorts, spell_applied, spell_pattern, spell_patterns}
-use Rattle.kore_text.specs.Grammar.{spell_attributes, spell_signature, spell_statement}
-use Rattle.kore_text.specs.Grammar.{spell_declaration, spell_module, spell_definition}
+use Rattle.kore_text.specs.Grammar.{Requirement, placed, any, provided, Spelling, listed}
+use Rattle.kore_text.specs.Grammar.{more_listed, in_order, TakesTokens, spell_name, spell_names}
+use Rattle.kore_text.specs.Grammar.{spell_sort, spell_sorts, spell_applied, spell_pattern}
+use Rattle.kore_text.specs.Grammar.{spell_patterns, spell_attributes, spell_signature}
+use Rattle.kore_text.specs.Grammar.{spell_statement, spell_declaration, spell_module}
+use Rattle.kore_text.specs.Grammar.{spell_definition}
 use Rattle.kore_ast.specs.KoreText.{ReadsDefinition}
 use Rattle.kore_sig.specs.CountedModules.{counts, counted}
 use Rattle.kore_sig.specs.Declarations.{axiom_declared, axioms_of}
@@ -40,16 +41,16 @@ use Rattle.kore_rules.proofs.VariableCounts.{variable_count, variables_count}
 -- the tokens are at increasing places, from the one place on and below the other
 abbrev pub Stand : ℕ → ℕ → Stream → Type 0
 Stand low high (end e) = low ≤ high
-Stand low high (fault e) = low ≤ high
+Stand low high (no_token_at e) = low ≤ high
 Stand low high (token t p s) = (low ≤ p) × (p < high) × Stand (p + 1) high s
 
 stand-lower : (low less high : ℕ) (s : Stream) → less ≤ low → Stand low high s → Stand less high s
 stand-lower low less high (end e) le h = omega (arith, le, h)
-stand-lower low less high (fault e) le h = omega (arith, le, h)
+stand-lower low less high (no_token_at e) le h = omega (arith, le, h)
 stand-lower low less high (token t p s) le h = ((let a = h.0 in omega arith), h.1, h.2)
 
 joined-stand : (text : List ℕ) (k : TokenKind) (from to low high : ℕ) (s : Stream) → low ≤ from
-    → from < high → Stand (from + 1) high s → Stand low high (joined text k from to s)
+    → from < high → Stand (from + 1) high s → Stand low high (token_then text k from to s)
 joined-stand text kind.End from to low high s a b h = omega (arith, a, b)
 joined-stand text kind.Ident from to low high s a b h = (a, b, h)
 joined-stand text kind.SetIdent from to low high s a b h = (a, b, h)
@@ -63,7 +64,7 @@ no-empty k zero bs h = absurd h
 no-empty k (suc n) bs h = omega arith
 
 covered-stand : (text : List ℕ) (at high : ℕ) (bs : List ℕ) (s : Cut) → at + length bs ≤ high
-    → Covers at bs s → Stand at high (named text s)
+    → Covers at bs s → Stand at high (named_tokens text s)
 covered-stand text at high bs (cut_end e) le h = omega (arith, le)
 covered-stand text at high bs (cut_fault e) le h = omega (arith, le)
 covered-stand text at high bs (cut_token k from to s) le
@@ -71,15 +72,15 @@ covered-stand text at high bs (cut_token k from to s) le
     let some : 0 < n = no-empty k n (drop m bs) longest.0 in
     let left : length (drop m bs) ≡ length bs - m = length-drop m bs in
     let more : length (drop n (drop m bs)) ≡ length (drop m bs) - n = length-drop n (drop m bs) in
-    let further : Stand to high (named text s) =
+    let further : Stand to high (named_tokens text s) =
     covered-stand text to high (drop n (drop m bs)) s
     (omega (arith, some, left, more, fits, is_from, is_to, le)) rest in
-    joined-stand text k from to at high (named text s) (omega (arith, is_from))
+    joined-stand text k from to at high (named_tokens text s) (omega (arith, is_from))
     (omega (arith, some, left, fits, is_from, le))
-    (stand-lower to (from + 1) high (named text s) (omega (arith, some, is_to)) further)
+    (stand-lower to (from + 1) high (named_tokens text s) (omega (arith, some, is_to)) further)
 
-tokens-stand : TokensCover → (bytes : List ℕ) → Stand 0 (length bytes) (tokens_of bytes)
-unfolding tokens_of
+tokens-stand : TokensCover → (bytes : List ℕ) → Stand 0 (length bytes) (token_stream bytes)
+unfolding token_stream
 tokens-stand law bytes =
     covered-stand bytes 0 (length bytes) bytes (lexed 0 bytes) (omega arith) (law bytes)
 
@@ -88,38 +89,38 @@ tokens-stand law bytes =
 -- the required tokens that have places are at increasing places
 abbrev Rising : ℕ → ℕ → List Requirement → Type 0
 Rising low high [] = low ≤ high
-Rising low high (given b ∷ ws) = Rising low high ws
+Rising low high (provided b ∷ ws) = Rising low high ws
 Rising low high (any t ∷ ws) = Rising low high ws
 Rising low high (placed p t ∷ ws) = (low ≤ p) × (p < high) × Rising (p + 1) high ws
 
 rising-lower : (low less high : ℕ) (ws : List Requirement) → less ≤ low → Rising low high ws
     → Rising less high ws
 rising-lower low less high [] le h = omega (arith, le, h)
-rising-lower low less high (given b ∷ ws) le h = rising-lower low less high ws le h
+rising-lower low less high (provided b ∷ ws) le h = rising-lower low less high ws le h
 rising-lower low less high (any t ∷ ws) le h = rising-lower low less high ws le h
 rising-lower low less high (placed p t ∷ ws) le h = ((let a = h.0 in omega arith), h.1, h.2)
 
 rising-room : (low high : ℕ) (ws : List Requirement) → Rising low high ws → low ≤ high
 rising-room low high [] h = h
-rising-room low high (given b ∷ ws) h = rising-room low high ws h
+rising-room low high (provided b ∷ ws) h = rising-room low high ws h
 rising-room low high (any t ∷ ws) h = rising-room low high ws h
 rising-room low high (placed p t ∷ ws) h = let a = h.0 in let b = h.1 in omega (arith, a, b)
 
 stand-room : (low high : ℕ) (s : Stream) → Stand low high s → low ≤ high
 stand-room low high (end e) h = h
-stand-room low high (fault e) h = h
+stand-room low high (no_token_at e) h = h
 stand-room low high (token t p s) h = let a = h.0 in let b = h.1 in omega (arith, a, b)
 
 taken : (low high : ℕ) (ws : List Requirement) (s e : Stream) → TakesTokens ws s e
     → Stand low high s → Rising low high ws
 taken low high [] s e h a = stand-room low high s a
-taken low high (given b ∷ ws) s e h a = taken low high ws s e h.1 a
+taken low high (provided b ∷ ws) s e h a = taken low high ws s e h.1 a
 taken low high (any u ∷ ws) (end x) e h a = absurd h
-taken low high (any u ∷ ws) (fault x) e h a = absurd h
+taken low high (any u ∷ ws) (no_token_at x) e h a = absurd h
 taken low high (any u ∷ ws) (token t p s) e h a =
     taken low high ws s e h.1 (stand-lower (p + 1) low high s (let b = a.0 in omega arith) a.2)
 taken low high (placed q u ∷ ws) (end x) e h a = absurd h
-taken low high (placed q u ∷ ws) (fault x) e h a = absurd h
+taken low high (placed q u ∷ ws) (no_token_at x) e h a = absurd h
 taken low high (placed q u ∷ ws) (token t p s) e h a =
     subst (λ (r : ℕ). (low ≤ r) × (r < high) × Rising (r + 1) high ws) h.1
     (a.0, a.1, taken (p + 1) high ws s e h.2 a.2)
@@ -217,7 +218,7 @@ more-counts n m f fs one all = record {
       (all.further close (low + n * 2) high k (one.count low high (more_listed fs close k) h));
 }
 
-applied-counts : (n at : ℕ) (t : Token) (ss : SortTrees) (ps : List Spelling) → CountsAll n ps
+applied-counts : (n at : ℕ) (t : KoreToken) (ss : SortTrees) (ps : List Spelling) → CountsAll n ps
     → (low high : ℕ) (k : List Requirement) → Rising low high (spell_applied at t ss ps k)
     → Rising (low + n * 2) high k
 applied-counts n at t ss ps all low high k h =
@@ -253,7 +254,7 @@ mutual
         applied-counts (variables_count ps) at (builtin (Some (Connective o))) ss
         (spell_patterns b ps) (patterns-count b ps);
   }
-  pattern-counts b (binding at o ss x p) = record {
+  pattern-counts b (binder_applied at o ss x p) = record {
     count = λ low high k h.
         let n = variable_count x in
         let m = variable_count p in
@@ -267,7 +268,7 @@ mutual
         ∷ spell_pattern b x (any (mark 44) ∷ spell_pattern b p (any (mark 41) ∷ k))))
         h))));
   }
-  pattern-counts b (domain_value at s t place) = record {
+  pattern-counts b (value_written at s t place) = record {
     count = λ low high k h.
         still low high k
         (behind low high place (any (mark 41) ∷ k)
@@ -472,7 +473,7 @@ pub axioms-rise : TokensCover → (bytes : List ℕ) (d : DefinitionTree) → Re
 axioms-rise law bytes d reads =
     let high = length bytes in
     let required : Rising 0 high (spell_definition d []) =
-    taken 0 high (spell_definition d []) (tokens_of bytes) (end reads.1.0) reads.1.1
+    taken 0 high (spell_definition d []) (token_stream bytes) (end reads.1.0) reads.1.1
     (tokens-stand law bytes) in
     rise-then (λ n. Rising n high []) (λ n. Unit {0}) high 0 (axioms_of d) (λ n r. tt)
     (modules-rise d.modules 0 high [] ((attributes-skip d.attributes).skip 0 high

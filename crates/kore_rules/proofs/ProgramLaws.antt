@@ -13,7 +13,7 @@ use Rattle.std.proofs.lemmas.List.Sums.{sum_by-cons, length-filter, count_by-le-
 use Rattle.std.proofs.lemmas.List.Sorted.{IsPermutation-sym, Contains-permutation}
 use Rattle.std.proofs.lemmas.List.Sorted.{length_permutation}
 use Rattle.kore_text.specs.Trees.{AxiomDeclaration}
-use Rattle.rule_core.specs.Named.{number_of}
+use Rattle.rule_core.specs.Named.{number_of_name}
 use Rattle.rule_core.specs.DistinctNames.{names_of, AreDistinct}
 use Rattle.rule_core.specs.ProgramView.{rewrite_rule, function_equation, function_equations}
 use Rattle.rule_core.specs.Rules.{RewriteRule, ComesBefore, AreInOrder}
@@ -201,25 +201,26 @@ rules_are sig axioms old new read moved in_order = record {
 
 -- ---- symbols
 
-name_at : (es : List (List ℕ × SymInfo)) (f g : List ℕ) (n : ℕ) → number_of es f ≡ Some n
-    → number_of es g ≡ Some n → f ≡ g
+name_at : (es : List (List ℕ × SymInfo)) (f g : List ℕ) (n : ℕ) → number_of_name es f ≡ Some n
+    → number_of_name es g ≡ Some n → f ≡ g
 name_at es f g n a b =
     let x = number_of-entry es f n a in
     let y = number_of-entry es g n b in
     ap (λ (e : List ℕ × SymInfo). e.0) (some_same (f, x.0) (g, y.0) (sym x.1 ∙ y.1))
 
-unnamed : (sig : Signature) (f : List ℕ) (a : AxiomDeclaration) → number_of sig.symbols f ≡ None
+unnamed : (sig : Signature) (f : List ℕ) (a : AxiomDeclaration) → number_of_name sig.symbols f
+    ≡ None
     → IsUnreadable sig f a → ⊥
 unnamed sig f a none bad =
     let both : Some bad.info ≡ None = sym bad.declared ∙ no_symbol none in
     let never : ⊥ = cc in never
   where
-    no_symbol : number_of sig.symbols f ≡ None → symbol_named sig f ≡ None
+    no_symbol : number_of_name sig.symbols f ≡ None → symbol_named sig f ≡ None
     no_symbol e = rw e refl
 
 unreadable_same : (sig : Signature) (axioms : List AxiomDeclaration) (marks : List Bool)
     → ((n : ℕ) → IsTrue (is_marked marks n) ↔ HasUnreadable sig axioms n)
-    → (f : List ℕ) (o : Option ℕ) → number_of sig.symbols f ≡ o → IsTrue (is_marked_at marks o)
+    → (f : List ℕ) (o : Option ℕ) → number_of_name sig.symbols f ≡ o → IsTrue (is_marked_at marks o)
     ↔ Unreadables sig axioms f
 unreadable_same sig axioms marks is f None e =
     (λ h. absurd (false≢true h), λ h. absurd (unnamed sig f h.0 e h.2))
@@ -249,8 +250,8 @@ symbols_are sig axioms marks unreadable made zip terms is final =
       name = f.name;
       kind = subst (HasKind sig axioms d.0 d.1) (sym f.kind)
           (final_is sig axioms marks zip terms d.0 d.1
-          (is_marked_at unreadable (number_of sig.symbols d.0))
-          (unreadable_same sig axioms unreadable is d.0 (number_of sig.symbols d.0) refl));
+          (is_marked_at unreadable (number_of_name sig.symbols d.0))
+          (unreadable_same sig axioms unreadable is d.0 (number_of_name sig.symbols d.0) refl));
       params = f.params;
       args = f.args;
       result = f.result;
@@ -308,8 +309,8 @@ equations_are sig axioms made old new lists n f info distinct symbols read moved
     let view : slice_index_or (function_equations lists) n [] ≡ map function_equation all =
     listed_view lists n ∙ ap (map function_equation) listed in
     let d = declared_at (IsSymbolOf sig axioms) sig.symbols made n (f, info) symbols there in
-    let number : number_of sig.symbols f ≡ Some n =
-    ap (number_of sig.symbols) d.2.name ∙ own_number sig.symbols n d.0 distinct d.1 in
+    let number : number_of_name sig.symbols f ≡ Some n =
+    ap (number_of_name sig.symbols) d.2.name ∙ own_number sig.symbols n d.0 distinct d.1 in
     let has : has_equations made n ≡ is_defined_kind info.kind = ap is_by_equations there in
     record {
       just = λ e. (

@@ -27,7 +27,7 @@ use Rattle.kore_sig.proofs.FirstLaws.{contains_here, contains_there, contains_ca
 use Rattle.kore_sig.proofs.ListLaws.{number_within}
 use Rattle.kore_shapes.specs.Shapes.{Rewriting}
 use Rattle.kore_axioms.specs.AxiomClasses.{AxiomClass, refused, orders_sorts, rewrites, equates}
-use Rattle.kore_axioms.specs.AxiomClasses.{passed_over, class_of}
+use Rattle.kore_axioms.specs.AxiomClasses.{passed_over, axiom_class}
 use Rattle.rule_core.specs.KindTests.{is_defined_kind}
 use Rattle.kore_axioms.specs.AxiomMeanings.{MeansRule}
 use Rattle.kore_axioms.specs.RuleFaults.{FirstOfRule}
@@ -266,28 +266,28 @@ list_at sig axioms (x ∷ made) (es ∷ lists) (suc n) m zip e =
 -- ---- the sort of the rules
 
 top_found : (sig : Signature) (axioms : List AxiomDeclaration)
-    → ((a : AxiomDeclaration) → Contains axioms a → (w : Rewriting) → class_of sig a ≡ rewrites w
+    → ((a : AxiomDeclaration) → Contains axioms a → (w : Rewriting) → axiom_class sig a ≡ rewrites w
     → (n : ℕ) × (sort_number sig.sorts w.sort ≡ Some n))
     → (top : Option ℕ) × IsTopOf sig axioms top
 top_found sig [] each = (None, λ a has. absurd (contains_none a has))
 top_found sig (a ∷ axioms) each =
-    by_class (class_of sig a) refl
+    by_class (axiom_class sig a) refl
     (top_found sig axioms (λ b has. each b (contains_there a b axioms has)))
   where
-    later : (k : AxiomClass) → class_of sig a ≡ k → ((w : Rewriting) → k ≡ rewrites w → ⊥)
+    later : (k : AxiomClass) → axiom_class sig a ≡ k → ((w : Rewriting) → k ≡ rewrites w → ⊥)
         → (top : Option ℕ) × IsTopOf sig axioms top
         → (top : Option ℕ) × IsTopOf sig (a ∷ axioms) top
     later k class other (None, none) = (
       None,
       λ b has w is. elim (contains_cases a b axioms has) [
-        | inl same ↦ other w (sym class ∙ ap (class_of sig) same ∙ is)
+        | inl same ↦ other w (sym class ∙ ap (axiom_class sig) same ∙ is)
         | inr there ↦ none b there w is
       ],
     )
     later k class other (Some n, found) =
         (Some n, (found.0, contains_there a found.0 axioms found.1, found.2))
 
-    by_class : (k : AxiomClass) → class_of sig a ≡ k → (top : Option ℕ) × IsTopOf sig axioms top
+    by_class : (k : AxiomClass) → axiom_class sig a ≡ k → (top : Option ℕ) × IsTopOf sig axioms top
         → (top : Option ℕ) × IsTopOf sig (a ∷ axioms) top
     by_class (refused n) class rest =
         later (refused n) class (λ w h. let never : ⊥ = cc in never) rest
@@ -316,7 +316,7 @@ program_found : (bytes : List ℕ) (d : DefinitionTree) (sig : Signature) → Re
 program_found bytes d sig reads few clear is none =
     let axioms : List AxiomDeclaration = axioms_of d in
     let sorted : IsSignature sig = faultless_signature d sig clear is in
-    let rule : (a : AxiomDeclaration) → Contains axioms a → (w : Rewriting) → class_of sig a ≡
+    let rule : (a : AxiomDeclaration) → Contains axioms a → (w : Rewriting) → axiom_class sig a ≡
     rewrites w → (first : Option SortTree) × FirstOfRule sig first a w None =
     λ a has w class. rule_clear sig None axioms a w none has class in
     let rules : AreListed (MeansRule sig) rule_key axioms =

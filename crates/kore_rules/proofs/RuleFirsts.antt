@@ -11,15 +11,15 @@ use Rattle.kore_check.proofs.BuildLaws.{unless_empty}
 use Rattle.kore_check.specs.PatternSorts.{symbol_named}
 use Rattle.kore_shapes.specs.SameSorts.{same_sort}
 use Rattle.kore_shapes.specs.Shapes.{Rewriting, rewriting}
-use Rattle.kore_shapes.specs.Statements.{Statement, statement}
+use Rattle.kore_shapes.specs.Statements.{StatedEquation, stated_equation}
 use Rattle.kore_axioms.specs.AxiomClasses.{AxiomClass, refused, orders_sorts, rewrites, equates}
-use Rattle.kore_axioms.specs.AxiomClasses.{passed_over, class_of, class_of_pattern}
+use Rattle.kore_axioms.specs.AxiomClasses.{passed_over, axiom_class, class_of_pattern}
 use Rattle.kore_axioms.specs.AxiomClasses.{class_of_statement, is_no_equation, takes_equations}
 use Rattle.kore_axioms.specs.AxiomClasses.{states_pairs}
 use Rattle.kore_sig.specs.Attributes.{has_attribute}
-use Rattle.kore_axioms.specs.Conditions.{tested}
-use Rattle.kore_axioms.specs.RuleFaults.{sorted_faults, use_faults, listed, is_bound, differs_from}
-use Rattle.kore_axioms.specs.RuleFaults.{FirstOfRule}
+use Rattle.kore_axioms.specs.Conditions.{tested_pattern}
+use Rattle.kore_axioms.specs.RuleFaults.{sorted_faults, use_faults, listed_pattern, is_bound}
+use Rattle.kore_axioms.specs.RuleFaults.{differs_from, FirstOfRule}
 use Rattle.kore_axioms.specs.RuleParts.{rule_parts, left_of, right_of}
 use Rattle.kore_axioms.proofs.BoundLaws.{no_faults, same_number}
 use Rattle.kore_axioms.proofs.FirstLaws.{none_by_byte}
@@ -45,8 +45,8 @@ contains_none x (k, lt, is) = omega (arith, lt)
 abbrev pub NoneFrom : Signature → Option SortTree → List AxiomDeclaration → Type 0
 NoneFrom sig first axioms =
     IsFirstOfSequence
-    (λ (s : Option SortTree) (a : AxiomDeclaration). FirstOfClass sig s a (class_of sig a))
-    (λ (s : Option SortTree) (a : AxiomDeclaration). first_sort s (class_of sig a)) first axioms
+    (λ (s : Option SortTree) (a : AxiomDeclaration). FirstOfClass sig s a (axiom_class sig a))
+    (λ (s : Option SortTree) (a : AxiomDeclaration). first_sort s (axiom_class sig a)) first axioms
     None
 
 rule_here : (sig : Signature) (first : Option SortTree) (a : AxiomDeclaration) (c : AxiomClass)
@@ -57,17 +57,17 @@ rule_here sig first a c w e h = subst (λ (k : AxiomClass). FirstOfClass sig fir
 -- each rule has no fault
 pub rule_clear : (sig : Signature) (first : Option SortTree) (axioms : List AxiomDeclaration)
     (a : AxiomDeclaration) (w : Rewriting) → NoneFrom sig first axioms → Contains axioms a
-    → class_of sig a ≡ rewrites w → (s : Option SortTree) × FirstOfRule sig s a w None
+    → axiom_class sig a ≡ rewrites w → (s : Option SortTree) × FirstOfRule sig s a w None
 rule_clear sig first [] a w none there class = absurd (contains_none a there)
 rule_clear sig first (x ∷ axioms) a w none there class =
     ⊎_elim
     (λ here. (
       first,
-      rule_here sig first a (class_of sig a) w class (subst
-          (λ (y : AxiomDeclaration). FirstOfClass sig first y (class_of sig y) None) here
+      rule_here sig first a (axiom_class sig a) w class (subst
+          (λ (y : AxiomDeclaration). FirstOfClass sig first y (axiom_class sig y) None) here
           none.0),
     ))
-    (λ later. rule_clear sig (first_sort first (class_of sig x)) axioms a w none.1 later class)
+    (λ later. rule_clear sig (first_sort first (axiom_class sig x)) axioms a w none.1 later class)
     (contains_cases axioms x a there)
 
 not_not : (b : Bool) → not b ≡ false → b ≡ true
@@ -84,48 +84,50 @@ same_sort_of sig s a w clear =
     let one = not_raised _ 12 a.at _ uses in
     let two = not_raised _ 14 a.at _ one.1 in
     let three =
-    not_raised (not (is_bound (listed
-    (left_of v)) (tested v.condition) && is_bound (listed (left_of v)) (right_of v))) 18
+    not_raised (not (is_bound (listed_pattern
+    (left_of v)) (tested_pattern v.condition)
+    && is_bound (listed_pattern (left_of v)) (right_of v))) 18
     a.at _ two.1 in
     let four = not_raised (differs_from (Some s) w.sort) 19 a.at _ three.1 in
     not_not (same_sort s w.sort) four.0
 
 rules_behind : (sig : Signature) (s : SortTree) (axioms : List AxiomDeclaration)
     (a : AxiomDeclaration) (w : Rewriting) → NoneFrom sig (Some s) axioms → Contains axioms a
-    → class_of sig a ≡ rewrites w → sort_number sig.sorts w.sort ≡ sort_number sig.sorts s
+    → axiom_class sig a ≡ rewrites w → sort_number sig.sorts w.sort ≡ sort_number sig.sorts s
 rules_behind sig s [] a w none there class = absurd (contains_none a there)
 rules_behind sig s (x ∷ axioms) a w none there class =
     ⊎_elim
     (λ here. sym (same_number sig.sorts s w.sort (same_sort_of sig s a w (rule_here sig (Some s) a
-    (class_of sig a) w class (subst
-    (λ (y : AxiomDeclaration). FirstOfClass sig (Some s) y (class_of sig y) None) here
+    (axiom_class sig a) w class (subst
+    (λ (y : AxiomDeclaration). FirstOfClass sig (Some s) y (axiom_class sig y) None) here
     none.0)))))
     (λ later. rules_behind sig s axioms a w none.1 later class) (contains_cases axioms x a there)
 
 -- all rules have this sort
 abbrev pub AllHave : Signature → List AxiomDeclaration → Option ℕ → Type 0
 AllHave sig axioms t = (a : AxiomDeclaration) → Contains axioms a → (w : Rewriting)
-    → class_of sig a ≡ rewrites w → sort_number sig.sorts w.sort ≡ t
+    → axiom_class sig a ≡ rewrites w → sort_number sig.sorts w.sort ≡ t
 
 -- an axiom of another class says nothing about the sort of the rules
 no_rule : (sig : Signature) (x : AxiomDeclaration) (axioms : List AxiomDeclaration) (t : Option ℕ)
-    → ((w : Rewriting) → class_of sig x ≡ rewrites w → ⊥) → AllHave sig axioms t
+    → ((w : Rewriting) → axiom_class sig x ≡ rewrites w → ⊥) → AllHave sig axioms t
     → AllHave sig (x ∷ axioms) t
 no_rule sig x axioms t other all = λ a there w class.
-    ⊎_elim (λ here. absurd (other w (ap (class_of sig) here ∙ class)))
+    ⊎_elim (λ here. absurd (other w (ap (axiom_class sig) here ∙ class)))
     (λ later. all a later w class) (contains_cases axioms x a there)
 
 one_rule : (sig : Signature) (x : AxiomDeclaration) (axioms : List AxiomDeclaration) (u : Rewriting)
-    → class_of sig x ≡ rewrites u → AllHave sig axioms (sort_number sig.sorts u.sort)
+    → axiom_class sig x ≡ rewrites u → AllHave sig axioms (sort_number sig.sorts u.sort)
     → AllHave sig (x ∷ axioms) (sort_number sig.sorts u.sort)
 one_rule sig x axioms u is all = λ a there w class.
     ⊎_elim
-    (λ here. let both : rewrites w ≡ rewrites u = sym class ∙ ap (class_of sig) (sym here) ∙ is in
+    (λ here. let both : rewrites w ≡ rewrites u = sym class ∙ ap (axiom_class sig) (sym here)
+    ∙ is in
     let same : w ≡ u = cc in ap (λ (v : Rewriting). sort_number sig.sorts v.sort) same)
     (λ later. all a later w class) (contains_cases axioms x a there)
 
 by_class : (sig : Signature) (x : AxiomDeclaration) (axioms : List AxiomDeclaration)
-    (c : AxiomClass) → class_of sig x ≡ c → NoneFrom sig (first_sort None c) axioms
+    (c : AxiomClass) → axiom_class sig x ≡ c → NoneFrom sig (first_sort None c) axioms
     → (NoneFrom sig None axioms → (t : Option ℕ) × AllHave sig axioms t)
     → (t : Option ℕ) × AllHave sig (x ∷ axioms) t
 by_class sig x axioms (refused n) is none rest =
@@ -166,7 +168,8 @@ pub one_sort_of_rules : (sig : Signature) (axioms : List AxiomDeclaration)
     → NoneFrom sig None axioms → (t : Option ℕ) × AllHave sig axioms t
 one_sort_of_rules sig [] none = (None, λ a there w class. absurd (contains_none a there))
 one_sort_of_rules sig (x ∷ axioms) none =
-    by_class sig x axioms (class_of sig x) refl none.1 (λ later. one_sort_of_rules sig axioms later)
+    by_class sig x axioms (axiom_class sig x) refl none.1 (λ later.
+        one_sort_of_rules sig axioms later)
 
 there_is : (o : Option ℕ) → is_some o ≡ true → (n : ℕ) × (o ≡ Some n)
 there_is None h = absurd (false≢true h)
@@ -193,7 +196,7 @@ staged false true z c d w f e = e
 staged false false true c d w f e = e
 staged false false false c d w f e = f e
 
-statement_never : (sig : Signature) (attributes : List PatternTree) (o : Option Statement)
+statement_never : (sig : Signature) (attributes : List PatternTree) (o : Option StatedEquation)
     (w : Rewriting) → class_of_statement sig attributes o ≡ rewrites w → ⊥
 statement_never sig attributes None w e = let never : ⊥ = cc in never
 statement_never sig attributes (Some st) w e =
@@ -206,11 +209,11 @@ statement_never sig attributes (Some st) w e =
 pattern_same : (sig other : Signature) (a : AxiomDeclaration) (o : Option Rewriting) (w : Rewriting)
     → class_of_pattern sig a o ≡ rewrites w → class_of_pattern other a o ≡ rewrites w
 pattern_same sig other a None w e =
-    absurd (statement_never sig a.attributes (statement a.pattern) w e)
+    absurd (statement_never sig a.attributes (stated_equation a.pattern) w e)
 pattern_same sig other a (Some v) w e = e
 
 pub class_same : (sig other : Signature) (a : AxiomDeclaration) (w : Rewriting)
-    → class_of sig a ≡ rewrites w → class_of other a ≡ rewrites w
+    → axiom_class sig a ≡ rewrites w → axiom_class other a ≡ rewrites w
 class_same sig other a w e =
     staged (has_attribute (codes "anywhere") a.attributes) (has_attribute (codes "overload")
     a.attributes || has_attribute (codes "symbol-overload") a.attributes)

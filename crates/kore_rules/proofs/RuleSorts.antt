@@ -22,10 +22,11 @@ use Rattle.kore_check.specs.PatternSorts.{sort_kind}
 use Rattle.kore_check.specs.SortedMeanings.{variable_sorts}
 use Rattle.kore_shapes.specs.Shapes.{Condition, always, tests, ill}
 use Rattle.kore_axioms.specs.AxiomMeanings.{MeansTest, MeansRule}
-use Rattle.kore_axioms.specs.Conditions.{is_bool_kind, is_some_bool, is_bool, over_bool, tested}
+use Rattle.kore_axioms.specs.Conditions.{is_bool_kind, is_some_bool, is_bool, over_bool}
+use Rattle.kore_axioms.specs.Conditions.{tested_pattern}
 use Rattle.kore_axioms.specs.RuleForms.{holds_of}
 use Rattle.kore_axioms.specs.RuleFaults.{side_faults, condition_faults, sorted_faults, use_faults}
-use Rattle.kore_axioms.specs.RuleFaults.{listed, is_bound, FirstOfRule}
+use Rattle.kore_axioms.specs.RuleFaults.{listed_pattern, is_bound, FirstOfRule}
 use Rattle.kore_axioms.specs.RuleParts.{rule_parts, left_of, right_of}
 use Rattle.kore_axioms.specs.Uses.{has_symbol, is_plain_function, is_ac_symbol}
 use Rattle.kore_axioms.proofs.BoundLaws.{no_faults}
@@ -74,7 +75,7 @@ pub sorted_condition : (declared final : Signature) (axioms : List AxiomDeclarat
     (vars : List (List ℕ × ℕ)) {qs : Unfoldeds} {ps : Patterns} (c d : Condition)
     (o : Option Pattern) → IsKept declared final axioms → IsSignature declared
     → AllMean declared vars qs ps → over_bool declared c ≡ d → condition_faults declared d ≡ []
-    → is_bound qs (tested d) ≡ true → MeansTest declared vars (tested d) o
+    → is_bound qs (tested_pattern d) ≡ true → MeansTest declared vars (tested_pattern d) o
     → IfSome o (IsCondition final (variable_sorts vars) ps)
 sorted_condition declared final axioms vars c always None kept good all over clear bound means = tt
 sorted_condition declared final axioms vars c always (Some p) kept good all over clear bound means =
@@ -133,8 +134,9 @@ sorted_rule declared final axioms a rule first s kept good r clear number =
     not_raised (holds_of (λ (p : PatternTree). has_symbol (is_ac_symbol declared) (unfolded p))
     (left_of w)) 14 a.at _ plain.1 in
     let unbound =
-    not_raised (not (is_bound (listed
-    (left_of w)) (tested w.condition) && is_bound (listed (left_of w)) (right_of w))) 18
+    not_raised (not (is_bound (listed_pattern
+    (left_of w)) (tested_pattern w.condition)
+    && is_bound (listed_pattern (left_of w)) (right_of w))) 18
     a.at _ ac.1 in
     let bound = both_true _ _ (not_false _ unbound.0) in
     let vars : List (List ℕ × ℕ) = r.variables in
@@ -142,12 +144,14 @@ sorted_rule declared final axioms a rule first s kept good r clear number =
     (more_patterns rule.left no_pattern) =
     more_mean r.means_left none_mean in
     let qs : Unfoldeds = and_more (unfolded r.left) no_more in
-    let bound_test : is_bound qs (tested w.condition) ≡ true =
-    subst (λ (o : Option PatternTree). is_bound (listed o) (tested w.condition) ≡ true)
+    let bound_test : is_bound qs (tested_pattern w.condition) ≡ true =
+    subst (λ (o : Option PatternTree). is_bound (listed_pattern o) (tested_pattern w.condition)
+        ≡ true)
     r.is_left bound.0 in
     let bound_right : is_bound qs (Some r.right) ≡ true =
     subst (λ (o : Option PatternTree). is_bound qs o ≡ true) r.is_right (subst
-    (λ (o : Option PatternTree). is_bound (listed o) (right_of w) ≡ true) r.is_left bound.1) in
+    (λ (o : Option PatternTree). is_bound (listed_pattern o) (right_of w) ≡ true) r.is_left bound.1)
+    in
     let numbers : AreDeclared declared vars =
     subst (AreDeclared declared) (sym r.numbered) (variables_declared declared []
     (unfolded r.left) (All-nil (λ (n : ℕ). n < length declared.sorts))) in

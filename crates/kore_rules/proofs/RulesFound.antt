@@ -19,16 +19,17 @@ use Rattle.kore_check.specs.PatternMeanings.{with_variables, with_all_variables}
 use Rattle.kore_check.specs.PatternSorts.{symbol_named}
 use Rattle.kore_check.proofs.BuildLaws.{extends-refl}
 use Rattle.kore_shapes.specs.Shapes.{Rewriting}
-use Rattle.kore_shapes.specs.Statements.{Statement}
+use Rattle.kore_shapes.specs.Statements.{StatedEquation}
 use Rattle.kore_shapes.specs.EquationForms.{EquationParts}
 use Rattle.kore_axioms.specs.AxiomClasses.{AxiomClass, refused, orders_sorts, rewrites, equates}
-use Rattle.kore_axioms.specs.AxiomClasses.{passed_over, class_of}
+use Rattle.kore_axioms.specs.AxiomClasses.{passed_over, axiom_class}
 use Rattle.kore_axioms.specs.AxiomMeanings.{MeansTest, MeansRule}
 use Rattle.kore_axioms.specs.BuiltRules.{IsFine}
 use Rattle.kore_axioms.specs.NamedRules.{with_some_variables}
-use Rattle.kore_axioms.specs.Conditions.{tested}
+use Rattle.kore_axioms.specs.Conditions.{tested_pattern}
 use Rattle.kore_axioms.specs.Priorities.{priority_of}
-use Rattle.kore_axioms.specs.RuleFaults.{FirstOfRule, listed, is_bound, sorted_faults, use_faults}
+use Rattle.kore_axioms.specs.RuleFaults.{FirstOfRule, listed_pattern, is_bound, sorted_faults}
+use Rattle.kore_axioms.specs.RuleFaults.{use_faults}
 use Rattle.kore_axioms.specs.RuleForms.{form_faults}
 use Rattle.kore_axioms.specs.RuleParts.{RuleParts, rule_parts, left_of, right_of}
 use Rattle.kore_axioms.proofs.BuiltLaws.{bound_counted, bound_all}
@@ -89,7 +90,7 @@ are_meant sig sorted qs test right good fine bound =
 -- ---- rules
 
 pub rule_found : (sig : Signature) (first : Option SortTree) (a : AxiomDeclaration) (w : Rewriting)
-    → IsSignature sig → class_of sig a ≡ rewrites w → FirstOfRule sig first a w None
+    → IsSignature sig → axiom_class sig a ≡ rewrites w → FirstOfRule sig first a w None
     → (rule : RewriteRule) × MeansRule sig a rule
 rule_found sig first a w sorted class clear =
     let parts : RuleParts = rule_parts sig w in
@@ -98,20 +99,21 @@ rule_found sig first a w sorted class clear =
     (none_by_byte (sorted_faults sig w.sort parts) clear.1.0) in
     let none : use_faults sig first a.at w.sort parts ≡ [] =
     none_by_byte (use_faults sig first a.at w.sort parts) clear.1.1 in
-    let bound : (is_bound (listed (left_of parts)) (tested parts.condition)
-    && is_bound (listed (left_of parts)) (right_of parts)) ≡ true =
+    let bound : (is_bound (listed_pattern (left_of parts)) (tested_pattern parts.condition)
+    && is_bound (listed_pattern (left_of parts)) (right_of parts)) ≡ true =
     all_bound sig first a.at w.sort parts (ap first_by_number none) in
-    let bound_parts : (is_bound (listed (Some f.left)) (tested parts.condition)
-    && is_bound (listed (Some f.left)) (Some f.right)) ≡ true =
-    ap (λ (o : Option PatternTree). is_bound (listed (Some f.left)) (tested parts.condition)
-    && is_bound (listed (Some f.left)) o) (sym f.is_right)
-    ∙ ap (λ (o : Option PatternTree). is_bound (listed o) (tested parts.condition)
-    && is_bound (listed o) (right_of parts)) (sym f.is_left) ∙ bound in
+    let bound_parts : (is_bound (listed_pattern (Some f.left)) (tested_pattern parts.condition)
+    && is_bound (listed_pattern (Some f.left)) (Some f.right)) ≡ true =
+    ap (λ (o : Option PatternTree).
+        is_bound (listed_pattern (Some f.left)) (tested_pattern parts.condition)
+    && is_bound (listed_pattern (Some f.left)) o) (sym f.is_right)
+    ∙ ap (λ (o : Option PatternTree). is_bound (listed_pattern o) (tested_pattern parts.condition)
+    && is_bound (listed_pattern o) (right_of parts)) (sym f.is_left) ∙ bound in
     let vars : Variables = with_variables sig [] (unfolded f.left) in
     let left : HasMeaning sig vars (unfolded f.left) =
     meaning sig sorted (unfolded f.left) [] (f.left_clear, f.left_form) in
-    let meant : AreMeant sig vars (tested parts.condition) f.right =
-    are_meant sig sorted (listed (Some f.left)) (tested parts.condition) f.right
+    let meant : AreMeant sig vars (tested_pattern parts.condition) f.right =
+    are_meant sig sorted (listed_pattern (Some f.left)) (tested_pattern parts.condition) f.right
     (λ p e. (f.test_clear p e, f.test_form p e)) (f.right_clear, f.right_form) bound_parts in (
       record {
         left = left.0;
@@ -149,8 +151,8 @@ are_faultless sig (and_more u us) h = ((h.0.clear, h.0.form), are_faultless sig 
 abbrev IsRead : Signature → AxiomDeclaration → List ℕ → Type 0
 IsRead sig a f = ((e : Equation) × MeansEquation sig f a e) ⊎ IsUnreadable sig f a
 
-equation_of_parts : (sig : Signature) (a : AxiomDeclaration) (e : Statement) (info : SymInfo)
-    (q : EquationParts) → IsSignature sig → class_of sig a ≡ equates e
+equation_of_parts : (sig : Signature) (a : AxiomDeclaration) (e : StatedEquation) (info : SymInfo)
+    (q : EquationParts) → IsSignature sig → axiom_class sig a ≡ equates e
     → symbol_named sig e.function ≡ Some info → clear_parts sig a info e ≡ Some q
     → are_bound sig e q ≡ true → (x : Equation) × MeansEquation sig e.function a x
 equation_of_parts sig a e info q sorted class declared clear bound =
@@ -159,8 +161,9 @@ equation_of_parts sig a e info q sorted class declared clear bound =
     let f : IsFineEquation sig c q = fine_equation sig a info e q class clear in
     let vars : Variables = with_all_variables sig [] qs in
     let arguments = all_meanings sig sorted qs [] (are_faultless sig qs f.patterns) in
-    let meant : AreMeant sig vars (tested c) q.right =
-    are_meant sig sorted qs (tested c) q.right (λ p is. ((f.test p is).clear, (f.test p is).form))
+    let meant : AreMeant sig vars (tested_pattern c) q.right =
+    are_meant sig sorted qs (tested_pattern c) q.right (λ p is. ((f.test p is).clear,
+        (f.test p is).form))
     (f.right.clear, f.right.form) bound in (
       record {
         parameters = length q.parameters;
@@ -191,8 +194,8 @@ equation_of_parts sig a e info q sorted class declared clear bound =
       },
     )
 
-equation_read : (sig : Signature) (a : AxiomDeclaration) (e : Statement) → IsSignature sig
-    → class_of sig a ≡ equates e → IsRead sig a e.function
+equation_read : (sig : Signature) (a : AxiomDeclaration) (e : StatedEquation) → IsSignature sig
+    → axiom_class sig a ≡ equates e → IsRead sig a e.function
 equation_read sig a e sorted class = by_parts (clear_parts sig a declared.0 e) refl where
   declared : (info : SymInfo) × (symbol_named sig e.function ≡ Some info)
   declared = function_declared sig a e class
@@ -231,23 +234,25 @@ abbrev IsNoOf : Signature → List ℕ → AxiomDeclaration → Type 0
 IsNoOf sig f a = ((e : Equation) → MeansEquation sig f a e → ⊥) × (IsUnreadable sig f a → ⊥)
 
 other_class : (sig : Signature) (f : List ℕ) (a : AxiomDeclaration) (k : AxiomClass)
-    → class_of sig a ≡ k → ((e : Statement) → k ≡ equates e → ⊥) → IsNoOf sig f a
+    → axiom_class sig a ≡ k → ((e : StatedEquation) → k ≡ equates e → ⊥) → IsNoOf sig f a
 other_class sig f a k class other =
     (λ e is. other is.stated (sym class ∙ is.class), λ is. other is.stated (sym class ∙ is.class))
 
-other_function : (sig : Signature) (f : List ℕ) (a : AxiomDeclaration) (e : Statement)
-    → class_of sig a ≡ equates e → (e.function ≡ f → ⊥) → IsNoOf sig f a
+other_function : (sig : Signature) (f : List ℕ) (a : AxiomDeclaration) (e : StatedEquation)
+    → axiom_class sig a ≡ equates e → (e.function ≡ f → ⊥) → IsNoOf sig f a
 other_function sig f a e class other = (
-  λ x is. other (ap (λ (s : Statement). s.function) (equates_one e is.stated (sym class ∙ is.class))
+  λ x is. other (ap (λ (s : StatedEquation). s.function) (equates_one e is.stated (sym class
+      ∙ is.class))
       ∙ is.function),
-  λ is. other (ap (λ (s : Statement). s.function) (equates_one e is.stated (sym class ∙ is.class))
+  λ is. other (ap (λ (s : StatedEquation). s.function) (equates_one e is.stated (sym class
+      ∙ is.class))
       ∙ is.function),
 )
 
 pub read_or_not : (sig : Signature) (f : List ℕ) (a : AxiomDeclaration) → IsSignature sig
     → IsRead sig a f ⊎ IsNoOf sig f a
-read_or_not sig f a sorted = by_class (class_of sig a) refl where
-  by_function : (e : Statement) → class_of sig a ≡ equates e → (b : Bool)
+read_or_not sig f a sorted = by_class (axiom_class sig a) refl where
+  by_function : (e : StatedEquation) → axiom_class sig a ≡ equates e → (b : Bool)
       → bytes_eq e.function f ≡ b → IsRead sig a f ⊎ IsNoOf sig f a
   by_function e class true same =
       inl (subst (IsRead sig a) ((bytes_eq-Decides e.function f).0 same)
@@ -256,7 +261,7 @@ read_or_not sig f a sorted = by_class (class_of sig a) refl where
       inr (other_function sig f a e class
       (λ same. false≢true (sym other ∙ (bytes_eq-Decides e.function f).1 same)))
 
-  by_class : (k : AxiomClass) → class_of sig a ≡ k → IsRead sig a f ⊎ IsNoOf sig f a
+  by_class : (k : AxiomClass) → axiom_class sig a ≡ k → IsRead sig a f ⊎ IsNoOf sig f a
   by_class (refused n) class =
       inr (other_class sig f a (refused n) class (λ e h. let never : ⊥ = cc in never))
   by_class orders_sorts class =
@@ -285,14 +290,14 @@ unreadable_decided sig f a sorted = by_reading (read_or_not sig f a sorted) wher
 
 -- an axiom without faults is decided to be a rule or not
 pub rule_decided : (sig : Signature) (a : AxiomDeclaration) → IsSignature sig
-    → ((w : Rewriting) → class_of sig a ≡ rewrites w
+    → ((w : Rewriting) → axiom_class sig a ≡ rewrites w
     → (first : Option SortTree) × FirstOfRule sig first a w None) → Decided (MeansRule sig a)
-rule_decided sig a sorted clear = by_class (class_of sig a) refl where
-  none : (k : AxiomClass) → class_of sig a ≡ k → ((w : Rewriting) → k ≡ rewrites w → ⊥)
+rule_decided sig a sorted clear = by_class (axiom_class sig a) refl where
+  none : (k : AxiomClass) → axiom_class sig a ≡ k → ((w : Rewriting) → k ≡ rewrites w → ⊥)
       → Decided (MeansRule sig a)
   none k class other = inr (λ rule is. other is.shape (sym class ∙ is.class))
 
-  by_class : (k : AxiomClass) → class_of sig a ≡ k → Decided (MeansRule sig a)
+  by_class : (k : AxiomClass) → axiom_class sig a ≡ k → Decided (MeansRule sig a)
   by_class (refused n) class = none (refused n) class (λ w h. let never : ⊥ = cc in never)
   by_class orders_sorts class = none orders_sorts class (λ w h. let never : ⊥ = cc in never)
   by_class (rewrites w) class =

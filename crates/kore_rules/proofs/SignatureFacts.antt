@@ -21,10 +21,10 @@ use Rattle.kore_sig.specs.CountedModules.{counted_declarations}
 use Rattle.kore_sig.specs.Declarations.{SubsortPair, symbol_declared, symbols_of, pairs_of}
 use Rattle.kore_sig.specs.FirstFault.{Fault, when, ByNumber, IsFirstBy, IsFirstOfSequence}
 use Rattle.rule_core.specs.Named.{is_among}
-use Rattle.kore_sig.specs.SignatureFaults.{Placed, placed, Before, nothing_declared, declared_after}
-use Rattle.kore_sig.specs.SignatureFaults.{declaration_faults, reference_faults, most_arguments}
-use Rattle.kore_sig.specs.SignatureFaults.{HasPairFault, cycle, with_numbers, pairs_after}
-use Rattle.kore_sig.specs.SignatureFaults.{FirstOfSignature}
+use Rattle.kore_sig.specs.SignatureFaults.{Placed, declarations_placed, DeclaredBefore}
+use Rattle.kore_sig.specs.SignatureFaults.{nothing_declared, declared_after, declaration_faults}
+use Rattle.kore_sig.specs.SignatureFaults.{reference_faults, most_arguments, HasPairFault, cycle}
+use Rattle.kore_sig.specs.SignatureFaults.{with_numbers, pairs_after, FirstOfSignature}
 use Rattle.kore_sig.specs.Signatures.{IsSignatureOf, IsSymbolEntry, IsPairOf}
 use Rattle.kore_sig.specs.SortReferences.{sort_number, sort_entries}
 use Rattle.kore_sig.specs.SymbolKinds.{injection_of, ac_names}
@@ -54,16 +54,16 @@ distinct_push (x ∷ xs) n distinct free =
 abbrev symbol_names : List Declaration → List (List ℕ)
 symbol_names ds = map (λ (d : SymbolDeclaration). d.name) (filter_map symbol_declared ds)
 
-abbrev NoneDeclared : List (List ℕ × SortInfo) → Before → List Placed → Type 0
+abbrev NoneDeclared : List (List ℕ × SortInfo) → DeclaredBefore → List Placed → Type 0
 NoneDeclared sorts before ps =
-    IsFirstOfSequence (λ (b : Before) (p : Placed).
+    IsFirstOfSequence (λ (b : DeclaredBefore) (p : Placed).
     IsFirstBy ByNumber (Contains (declaration_faults sorts b p.earlier p.declaration)))
-    (λ (b : Before) (p : Placed). declared_after b p.declaration) before ps None
+    (λ (b : DeclaredBefore) (p : Placed). declared_after b p.declaration) before ps None
 
 abbrev declarations : List Placed → List Declaration
 declarations ps = map (λ (p : Placed). p.declaration) ps
 
-distinct_behind : (sorts : List (List ℕ × SortInfo)) (before : Before) (ps : List Placed)
+distinct_behind : (sorts : List (List ℕ × SortInfo)) (before : DeclaredBefore) (ps : List Placed)
     → NoneDeclared sorts before ps → AreDistinct before.symbols
     → AreDistinct (before.symbols ++ symbol_names (declarations ps))
 distinct_behind sorts before [] none distinct =
@@ -109,8 +109,9 @@ named_entries sorts i ac (d ∷ ds) (e ∷ es) zipped =
 pub distinct_symbols : (d : DefinitionTree) (sig : Signature) → FirstOfSignature d None
     → IsSignatureOf d sig → AreDistinct (names_of sig.symbols)
 distinct_symbols d sig none is =
-    let all : AreDistinct (symbol_names (declarations (placed [] d.modules))) =
-    distinct_behind (sort_entries d) nothing_declared (placed [] d.modules) none.1.0 tt in
+    let all : AreDistinct (symbol_names (declarations (declarations_placed [] d.modules))) =
+    distinct_behind (sort_entries d) nothing_declared (declarations_placed [] d.modules) none.1.0 tt
+        in
     let same : names_of sig.symbols ≡ symbol_names (counted_declarations d) =
     named_entries sig.sorts (injection_of (symbols_of d)) (ac_names d) (symbols_of d)
     sig.symbols is.symbols in

@@ -22,9 +22,10 @@ use Rattle.kore_sig.specs.Attributes.{hook_of}
 use Rattle.kore_sig.specs.Declarations.{symbol_declared, symbols_of, SubsortPair, pairs_of}
 use Rattle.kore_sig.specs.FirstFault.{when, ByNumber, IsFirstBy, IsFirstOfSequence}
 use Rattle.rule_core.specs.Named.{is_among}
-use Rattle.kore_sig.specs.SignatureFaults.{Placed, placed, Before, nothing_declared, declared_after}
-use Rattle.kore_sig.specs.SignatureFaults.{declaration_faults, reference_faults, most_arguments}
-use Rattle.kore_sig.specs.SignatureFaults.{number_faults, HasPairFault, unknown_sort, pairs_after}
+use Rattle.kore_sig.specs.SignatureFaults.{Placed, declarations_placed, DeclaredBefore}
+use Rattle.kore_sig.specs.SignatureFaults.{nothing_declared, declared_after, declaration_faults}
+use Rattle.kore_sig.specs.SignatureFaults.{reference_faults, most_arguments, number_faults}
+use Rattle.kore_sig.specs.SignatureFaults.{HasPairFault, unknown_sort, pairs_after}
 use Rattle.kore_sig.specs.SignatureFaults.{FirstOfSignature}
 use Rattle.kore_sig.specs.Signatures.{IsSymbolEntry, IsPairOf, IsSignatureOf}
 use Rattle.kore_sig.specs.SortReferences.{sort_entries, sort_reference, sort_number, sort_place}
@@ -64,16 +65,16 @@ record IsClear (sorts : List (List ℕ × SortInfo)) (d : SymbolDeclaration) : T
   pub references : flat_map (reference_faults sorts d.params) (d.args ++ d.result ∷ []) ≡ []
   pub few : nat_lt most_arguments (length d.args) ≡ false
 
-abbrev NoneDeclared : List (List ℕ × SortInfo) → Before → List Placed → Type 0
+abbrev NoneDeclared : List (List ℕ × SortInfo) → DeclaredBefore → List Placed → Type 0
 NoneDeclared sorts before ps =
-    IsFirstOfSequence (λ (b : Before) (p : Placed).
+    IsFirstOfSequence (λ (b : DeclaredBefore) (p : Placed).
     IsFirstBy ByNumber (Contains (declaration_faults sorts b p.earlier p.declaration)))
-    (λ (b : Before) (p : Placed). declared_after b p.declaration) before ps None
+    (λ (b : DeclaredBefore) (p : Placed). declared_after b p.declaration) before ps None
 
 abbrev declarations : List Placed → List Declaration
 declarations ps = map (λ (p : Placed). p.declaration) ps
 
-all_clear : (sorts : List (List ℕ × SortInfo)) (before : Before) (ps : List Placed)
+all_clear : (sorts : List (List ℕ × SortInfo)) (before : DeclaredBefore) (ps : List Placed)
     → NoneDeclared sorts before ps
     → AllOf (IsClear sorts) (filter_map symbol_declared (declarations ps))
 all_clear sorts before [] none = tt
@@ -112,7 +113,7 @@ symbols_clear d none =
     subst (λ (ds : List Declaration).
     AllOf (IsClear (sort_entries d)) (filter_map symbol_declared ds))
     (placed_counted [] d.modules)
-    (all_clear (sort_entries d) nothing_declared (placed [] d.modules) none.1.0)
+    (all_clear (sort_entries d) nothing_declared (declarations_placed [] d.modules) none.1.0)
 
 -- ---- their sorts
 

@@ -11,7 +11,7 @@ use Rattle.kore_sig.proofs.FirstLaws.{contains_here, contains_none, contains_cas
 use Rattle.kore_sig.proofs.FirstLaws.{by_byte}
 use Rattle.kore_check.specs.Folds.{Unfolded, unfolded}
 use Rattle.kore_check.specs.PatternFaults.{all_faults}
-use Rattle.kore_check.specs.PatternSorts.{sort_of}
+use Rattle.kore_check.specs.PatternSorts.{sort_of_pattern}
 use Rattle.kore_axioms.proofs.FirstLaws.{none_by_byte}
 use Rattle.kore_equations.specs.ReadableEquations.{is_one_sort}
 use Rattle.kore_rules.specs.FirstRefusal.{FirstOfTerm, start_faults}
@@ -56,7 +56,7 @@ turned n s false e = by_case (n == s) refl where
   by_case true f = absurd (false≢true (sym e ∙ eq-eqb s n (sym (eqb-true n s f))))
   by_case false f = f
 
-start_by : (sig : Signature) (s n : ℕ) (u : Unfolded) (t : Bool) → sort_of sig u ≡ Some n
+start_by : (sig : Signature) (s n : ℕ) (u : Unfolded) (t : Bool) → sort_of_pattern sig u ≡ Some n
     → (s == n) ≡ t → start_faults sig (Some s) u ≡ unless t 19 0
 start_by sig s n u t is e =
     ap (λ (o : Option ℕ). unless (is_one_sort o (Some s)) 19 0) is
@@ -64,7 +64,8 @@ start_by sig s n u t is e =
 
 -- the term does not have the sort of the rules
 pub other_sort_first : (sig : Signature) (top : Option ℕ) (p : PatternTree) (n : ℕ)
-    → ground_faults p ≡ [] → all_faults sig (unfolded p) ≡ [] → sort_of sig (unfolded p) ≡ Some n
+    → ground_faults p ≡ [] → all_faults sig (unfolded p) ≡ [] → sort_of_pattern sig (unfolded p)
+    ≡ Some n
     → differs_from top n ≡ true → FirstOfTerm sig top p (Some (record { number = 19; byte = 0 }))
 other_sort_first sig None p n ground clear is e = absurd (false≢true e)
 other_sort_first sig (Some s) p n ground clear is e = by_case (s == n) refl where
@@ -83,7 +84,8 @@ other_sort_first sig (Some s) p n ground clear is e = by_case (s == n) refl wher
         ),
       )
 
-same_start : (sig : Signature) (top : Option ℕ) (u : Unfolded) (n : ℕ) → sort_of sig u ≡ Some n
+same_start : (sig : Signature) (top : Option ℕ) (u : Unfolded) (n : ℕ) → sort_of_pattern sig u
+    ≡ Some n
     → differs_from top n ≡ false → start_faults sig top u ≡ []
 same_start sig None u n is e = refl
 same_start sig (Some s) u n is e = by_case (s == n) refl where
@@ -94,7 +96,7 @@ same_start sig (Some s) u n is e = by_case (s == n) refl where
 
 -- the term has no fault
 pub no_fault : (sig : Signature) (top : Option ℕ) (p : PatternTree) (n : ℕ) → ground_faults p ≡ []
-    → all_faults sig (unfolded p) ≡ [] → sort_of sig (unfolded p) ≡ Some n
+    → all_faults sig (unfolded p) ≡ [] → sort_of_pattern sig (unfolded p) ≡ Some n
     → differs_from top n ≡ false → FirstOfTerm sig top p None
 no_fault sig top p n ground clear is e = (
   nothing (ground_faults p) ground,

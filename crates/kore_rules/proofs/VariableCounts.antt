@@ -8,8 +8,8 @@ use Rattle.std.specs.Option.{option_and_then}
 use Rattle.std.proofs.lemmas.Bool.{false≢true}
 use Rattle.std.proofs.lemmas.List.{length-append}
 use Rattle.kore_text.specs.Trees.{SortTree, listed_sorts, PatternTree, element_variable}
-use Rattle.kore_text.specs.Trees.{set_variable, string, symbol_applied, connected, binding}
-use Rattle.kore_text.specs.Trees.{domain_value, folded, PatternTrees, no_patterns, pattern_then}
+use Rattle.kore_text.specs.Trees.{set_variable, string, symbol_applied, connected, binder_applied}
+use Rattle.kore_text.specs.Trees.{value_written, folded, PatternTrees, no_patterns, pattern_then}
 use Rattle.kore_text.specs.Trees.{pattern_trees, listed_patterns}
 use Rattle.kore_text.specs.declared.names.Op.{Op}
 use Rattle.kore_text.specs.declared.names.Op.TheVariants.{Top, Bottom, Not, Next, And, Or, Implies}
@@ -27,13 +27,14 @@ use Rattle.kore_check.specs.PatternMeanings.{with_all_variables}
 use Rattle.kore_shapes.specs.SameSorts.{same_sort}
 use Rattle.kore_shapes.specs.Shapes.{Rewriting, rewriting, rewriting_of, Side, alone, beside}
 use Rattle.kore_shapes.specs.Shapes.{without, misshapen, side, joined_side, picked, main_part}
-use Rattle.kore_shapes.specs.Statements.{Statement, call_of, called, equality_of_call}
-use Rattle.kore_shapes.specs.Statements.{equality_with, equality, guarded, statement_with}
-use Rattle.kore_shapes.specs.Statements.{statement}
+use Rattle.kore_shapes.specs.Statements.{StatedEquation, stated_call, symbol_called}
+use Rattle.kore_shapes.specs.Statements.{equality_of_call, equality_with, equality, guarded}
+use Rattle.kore_shapes.specs.Statements.{statement_with, stated_equation}
 use Rattle.kore_shapes.specs.EquationForms.{EquationParts, conjuncts_with, conjuncts, is_top_of}
-use Rattle.kore_shapes.specs.EquationForms.{right_side, is_member, member_with, member, entry}
-use Rattle.kore_shapes.specs.EquationForms.{members, stands_alone, occur_nowhere_else, direct}
-use Rattle.kore_shapes.specs.EquationForms.{kompiled, parts_under, parts_with, equation_parts}
+use Rattle.kore_shapes.specs.EquationForms.{right_side, is_member, member_with, member_pattern}
+use Rattle.kore_shapes.specs.EquationForms.{entry, members, stands_alone, occur_nowhere_else}
+use Rattle.kore_shapes.specs.EquationForms.{direct_parts, kompiled, parts_under, parts_with}
+use Rattle.kore_shapes.specs.EquationForms.{equation_parts}
 use Rattle.kore_equations.specs.ReadableEquations.{all_read}
 
 -- the number of places of the pattern where an element variable occurs
@@ -44,8 +45,8 @@ abbrev mutual
   variable_count (string at text) = 0
   variable_count (symbol_applied at n ss ps) = variables_count ps
   variable_count (connected at op ss ps) = variables_count ps
-  variable_count (binding at b ss x p) = variable_count x + variable_count p
-  variable_count (domain_value at s text place) = 0
+  variable_count (binder_applied at b ss x p) = variable_count x + variable_count p
+  variable_count (value_written at s text place) = 0
   variable_count (folded at left p) = variable_count p
 
   pub variables_count : PatternTrees → ℕ
@@ -144,8 +145,8 @@ mutual
   unfolded_count (string at text) = omega arith
   unfolded_count (symbol_applied at n ss ps) = all_unfolded_count ps
   unfolded_count (connected at op ss ps) = omega arith
-  unfolded_count (binding at b ss x p) = omega arith
-  unfolded_count (domain_value at s text place) = omega arith
+  unfolded_count (binder_applied at b ss x p) = omega arith
+  unfolded_count (value_written at s text place) = omega arith
   unfolded_count (folded at left p) =
       let same = standing_count at (inner_fold left p) in
       let inner = inner_count left p in omega (arith, same, inner)
@@ -160,8 +161,8 @@ mutual
   inner_count left (connected at op ss ps) =
       let only = only_count at (all_unfolded ps) in
       let all = all_unfolded_count ps in omega (arith, only, all)
-  inner_count left (binding at b ss x p) = omega arith
-  inner_count left (domain_value at s text place) = omega arith
+  inner_count left (binder_applied at b ss x p) = omega arith
+  inner_count left (value_written at s text place) = omega arith
   inner_count left (folded at other p) = omega arith
 
   all_unfolded_count : (ps : PatternTrees) → all_read_count (all_unfolded ps) ≤ variables_count ps
@@ -219,8 +220,8 @@ before_count (symbol_applied at n ss ps) w e = absurd (let never : ⊥ = cc in n
 before_count (connected at op ss ps) w e =
     let most = rewriting_count op (listed_sorts ss) (listed_patterns ps) w e in
     let same = as_listed ps in omega (arith, most, same)
-before_count (binding at b ss x p) w e = absurd (let never : ⊥ = cc in never)
-before_count (domain_value at s text place) w e = absurd (let never : ⊥ = cc in never)
+before_count (binder_applied at b ss x p) w e = absurd (let never : ⊥ = cc in never)
+before_count (value_written at s text place) w e = absurd (let never : ⊥ = cc in never)
 before_count (folded at left p) w e = absurd (let never : ⊥ = cc in never)
 
 -- the pattern that is found in a side has at most n variables
@@ -272,8 +273,8 @@ side_count test s (element_variable at n t) = omega arith
 side_count test s (set_variable at n t) = omega arith
 side_count test s (string at text) = omega arith
 side_count test s (symbol_applied at n ss ps) = omega arith
-side_count test s (binding at b ss x p) = omega arith
-side_count test s (domain_value at t text place) = omega arith
+side_count test s (binder_applied at b ss x p) = omega arith
+side_count test s (value_written at t text place) = omega arith
 side_count test s (folded at left p) = omega arith
 
 pub main_count : (n : ℕ) (s : Side) (p : PatternTree) → IsSideWithin n s → main_part s ≡ Some p
@@ -298,25 +299,25 @@ then_there f None y e = absurd (let never : ⊥ = cc in never)
 then_there f (Some x) y e = (x, refl, e)
 
 -- the guard has at most n variables, and so have the arguments together
-pub record IsStatementWithin (n : ℕ) (e : Statement) : Type 0 where
+pub record IsStatementWithin (n : ℕ) (e : StatedEquation) : Type 0 where
   pub guard : (g : PatternTree) → e.guard ≡ Some g → variable_count g ≤ n
   pub arguments : listed_count e.arguments ≤ n
 
-wider : (n m : ℕ) (e : Statement) → n ≤ m → IsStatementWithin n e → IsStatementWithin m e
+wider : (n m : ℕ) (e : StatedEquation) → n ≤ m → IsStatementWithin n e → IsStatementWithin m e
 wider n m e le h = record {
   guard = λ g is. let most = h.guard g is in omega (arith, most, le);
   arguments = let most = h.arguments in omega (arith, most, le);
 }
 
 call_count : (f : List ℕ) (ss : List SortTree) (ps : List PatternTree)
-    (call : List ℕ × List PatternTree) → call_of f ss ps ≡ Some call
+    (call : List ℕ × List PatternTree) → stated_call f ss ps ≡ Some call
     → listed_count call.1 ≤ listed_count ps
 call_count f [] ps call e =
     subst (λ (qs : List PatternTree). listed_count qs ≤ listed_count ps)
     (let same : ps ≡ call.1 = cc in same) (omega arith)
 call_count f (s ∷ ss) ps call e = absurd (let never : ⊥ = cc in never)
 
-called_count : (p : PatternTree) (call : List ℕ × List PatternTree) → called p ≡ Some call
+called_count : (p : PatternTree) (call : List ℕ × List PatternTree) → symbol_called p ≡ Some call
     → listed_count call.1 ≤ variable_count p
 called_count (element_variable at n s) call e = absurd (let never : ⊥ = cc in never)
 called_count (set_variable at n s) call e = absurd (let never : ⊥ = cc in never)
@@ -325,15 +326,15 @@ called_count (symbol_applied at n ss ps) call e =
     let most = call_count n (listed_sorts ss) (listed_patterns ps) call e in
     let same = as_listed ps in omega (arith, most, same)
 called_count (connected at op ss ps) call e = absurd (let never : ⊥ = cc in never)
-called_count (binding at b ss x p) call e = absurd (let never : ⊥ = cc in never)
-called_count (domain_value at s text place) call e = absurd (let never : ⊥ = cc in never)
+called_count (binder_applied at b ss x p) call e = absurd (let never : ⊥ = cc in never)
+called_count (value_written at s text place) call e = absurd (let never : ⊥ = cc in never)
 called_count (folded at left p) call e = absurd (let never : ⊥ = cc in never)
 
-stated_count : (n : ℕ) (s r : SortTree) (l d : PatternTree) (e : Statement)
-    → option_map (equality_of_call s r d) (called l) ≡ Some e → variable_count l ≤ n
+stated_count : (n : ℕ) (s r : SortTree) (l d : PatternTree) (e : StatedEquation)
+    → option_map (equality_of_call s r d) (symbol_called l) ≡ Some e → variable_count l ≤ n
     → IsStatementWithin n e
 stated_count n s r l d e is le =
-    let found = mapped_there (equality_of_call s r d) (called l) e is in
+    let found = mapped_there (equality_of_call s r d) (symbol_called l) e is in
     let most = called_count l found.0 found.1 in
     subst (IsStatementWithin n) found.2 (record {
       guard =
@@ -341,7 +342,7 @@ stated_count n s r l d e is le =
       arguments = omega (arith, most, le);
     })
 
-equality_with_count : (op : Op) (ss : List SortTree) (ps : List PatternTree) (e : Statement)
+equality_with_count : (op : Op) (ss : List SortTree) (ps : List PatternTree) (e : StatedEquation)
     → equality_with op ss ps ≡ Some e → IsStatementWithin (listed_count ps) e
 equality_with_count Equals (s ∷ (r ∷ [])) (l ∷ (d ∷ [])) e is =
     stated_count (listed_count (l ∷ (d ∷ []))) s r l d e is (omega arith)
@@ -365,7 +366,7 @@ equality_with_count Ceil ss ps e is = absurd (let never : ⊥ = cc in never)
 equality_with_count Floor ss ps e is = absurd (let never : ⊥ = cc in never)
 equality_with_count Member ss ps e is = absurd (let never : ⊥ = cc in never)
 
-equality_count : (p : PatternTree) (e : Statement) → equality p ≡ Some e
+equality_count : (p : PatternTree) (e : StatedEquation) → equality p ≡ Some e
     → IsStatementWithin (variable_count p) e
 equality_count (element_variable at n s) e is = absurd (let never : ⊥ = cc in never)
 equality_count (set_variable at n s) e is = absurd (let never : ⊥ = cc in never)
@@ -374,11 +375,12 @@ equality_count (symbol_applied at n ss ps) e is = absurd (let never : ⊥ = cc i
 equality_count (connected at op ss ps) e is =
     subst (λ (n : ℕ). IsStatementWithin n e) (sym (as_listed ps))
     (equality_with_count op (listed_sorts ss) (listed_patterns ps) e is)
-equality_count (binding at b ss x p) e is = absurd (let never : ⊥ = cc in never)
-equality_count (domain_value at s text place) e is = absurd (let never : ⊥ = cc in never)
+equality_count (binder_applied at b ss x p) e is = absurd (let never : ⊥ = cc in never)
+equality_count (value_written at s text place) e is = absurd (let never : ⊥ = cc in never)
 equality_count (folded at left p) e is = absurd (let never : ⊥ = cc in never)
 
-guarded_count : (n : ℕ) (r : SortTree) (g : PatternTree) (d e : Statement) → guarded r g d ≡ Some e
+guarded_count : (n : ℕ) (r : SortTree) (g : PatternTree) (d e : StatedEquation) → guarded r g d
+    ≡ Some e
     → variable_count g ≤ n → IsStatementWithin n d → IsStatementWithin n e
 guarded_count n r g d e is le h = by_case (same_sort r d.over) is where
   by_case : (t : Bool) → cond t (Some (record d { guard = Some g })) None ≡ Some e
@@ -393,7 +395,7 @@ guarded_count n r g d e is le h = by_case (same_sort r d.over) is where
         arguments = h.arguments;
       })
 
-statement_with_count : (op : Op) (ss : List SortTree) (ps : List PatternTree) (e : Statement)
+statement_with_count : (op : Op) (ss : List SortTree) (ps : List PatternTree) (e : StatedEquation)
     → statement_with op ss ps ≡ Some e → IsStatementWithin (listed_count ps) e
 statement_with_count Implies (r ∷ []) (g ∷ (d ∷ [])) e is =
     let found = then_there (guarded r g) (equality d) e is in
@@ -419,7 +421,7 @@ statement_with_count Floor ss ps e is = equality_with_count Floor ss ps e is
 statement_with_count Equals ss ps e is = equality_with_count Equals ss ps e is
 statement_with_count Member ss ps e is = equality_with_count Member ss ps e is
 
-pub statement_count : (p : PatternTree) (e : Statement) → statement p ≡ Some e
+pub statement_count : (p : PatternTree) (e : StatedEquation) → stated_equation p ≡ Some e
     → IsStatementWithin (variable_count p) e
 statement_count (element_variable at n s) e is = absurd (let never : ⊥ = cc in never)
 statement_count (set_variable at n s) e is = absurd (let never : ⊥ = cc in never)
@@ -428,8 +430,8 @@ statement_count (symbol_applied at n ss ps) e is = absurd (let never : ⊥ = cc 
 statement_count (connected at op ss ps) e is =
     subst (λ (n : ℕ). IsStatementWithin n e) (sym (as_listed ps))
     (statement_with_count op (listed_sorts ss) (listed_patterns ps) e is)
-statement_count (binding at b ss x p) e is = absurd (let never : ⊥ = cc in never)
-statement_count (domain_value at s text place) e is = absurd (let never : ⊥ = cc in never)
+statement_count (binder_applied at b ss x p) e is = absurd (let never : ⊥ = cc in never)
+statement_count (value_written at s text place) e is = absurd (let never : ⊥ = cc in never)
 statement_count (folded at left p) e is = absurd (let never : ⊥ = cc in never)
 
 -- ---- conjunctions and members
@@ -473,8 +475,8 @@ conjuncts_count s (symbol_applied at n ss ps) both is = absurd (let never : ⊥ 
 conjuncts_count s (connected at op ss ps) both is =
     let most = conjuncts_with_count s op (listed_sorts ss) (listed_patterns ps) both is in
     let same = as_listed ps in omega (arith, most, same)
-conjuncts_count s (binding at b ss x p) both is = absurd (let never : ⊥ = cc in never)
-conjuncts_count s (domain_value at t text place) both is = absurd (let never : ⊥ = cc in never)
+conjuncts_count s (binder_applied at b ss x p) both is = absurd (let never : ⊥ = cc in never)
+conjuncts_count s (value_written at t text place) both is = absurd (let never : ⊥ = cc in never)
 conjuncts_count s (folded at left p) both is = absurd (let never : ⊥ = cc in never)
 
 member_with_count : (r : SortTree) (x : PatternTree) (op : Op) (ss : List SortTree)
@@ -509,7 +511,7 @@ member_with_count r x Ceil ss ps p is = absurd (let never : ⊥ = cc in never)
 member_with_count r x Floor ss ps p is = absurd (let never : ⊥ = cc in never)
 member_with_count r x Equals ss ps p is = absurd (let never : ⊥ = cc in never)
 
-member_count : (r : SortTree) (x m p : PatternTree) → member r x m ≡ Some p
+member_count : (r : SortTree) (x m p : PatternTree) → member_pattern r x m ≡ Some p
     → variable_count p ≤ variable_count m
 member_count r x (element_variable at n s) p is = absurd (let never : ⊥ = cc in never)
 member_count r x (set_variable at n s) p is = absurd (let never : ⊥ = cc in never)
@@ -518,8 +520,8 @@ member_count r x (symbol_applied at n ss ps) p is = absurd (let never : ⊥ = cc
 member_count r x (connected at op ss ps) p is =
     let most = member_with_count r x op (listed_sorts ss) (listed_patterns ps) p is in
     let same = as_listed ps in omega (arith, most, same)
-member_count r x (binding at b ss y q) p is = absurd (let never : ⊥ = cc in never)
-member_count r x (domain_value at s text place) p is = absurd (let never : ⊥ = cc in never)
+member_count r x (binder_applied at b ss y q) p is = absurd (let never : ⊥ = cc in never)
+member_count r x (value_written at s text place) p is = absurd (let never : ⊥ = cc in never)
 member_count r x (folded at left q) p is = absurd (let never : ⊥ = cc in never)
 
 entry_count : (r : SortTree) (x g : PatternTree) (both : PatternTree × PatternTree)
@@ -527,10 +529,11 @@ entry_count : (r : SortTree) (x g : PatternTree) (both : PatternTree × PatternT
 entry_count r x g both is =
     let parts =
     then_there (λ (b : PatternTree × PatternTree).
-    option_map (λ (p : PatternTree). (p, b.1)) (member r x b.0)) (conjuncts r g) both
+    option_map (λ (p : PatternTree). (p, b.1)) (member_pattern r x b.0)) (conjuncts r g) both
     is in
     let found =
-    mapped_there (λ (p : PatternTree). (p, parts.0.1)) (member r x parts.0.0) both parts.2 in
+    mapped_there (λ (p : PatternTree). (p, parts.0.1)) (member_pattern r x parts.0.0) both parts.2
+        in
     let first = member_count r x parts.0.0 found.0 found.1 in
     let most = conjuncts_count r g parts.0 parts.1 in
     subst (λ (b : PatternTree × PatternTree).
@@ -573,8 +576,8 @@ alone_count (set_variable at n s) others h = absurd (false≢true h)
 alone_count (string at text) others h = absurd (false≢true h)
 alone_count (symbol_applied at n ss ps) others h = absurd (false≢true h)
 alone_count (connected at op ss ps) others h = absurd (false≢true h)
-alone_count (binding at b ss x p) others h = absurd (false≢true h)
-alone_count (domain_value at s text place) others h = absurd (false≢true h)
+alone_count (binder_applied at b ss x p) others h = absurd (false≢true h)
+alone_count (value_written at s text place) others h = absurd (false≢true h)
 alone_count (folded at left p) others h = absurd (false≢true h)
 
 apart_count : (xs others : List PatternTree) → occur_nowhere_else xs others ≡ true
@@ -595,13 +598,13 @@ pub record ArePartsWithin (n : ℕ) (q : EquationParts) : Type 0 where
   pub parameters : length q.parameters ≤ n
   pub form : (length q.parameters ≡ 0) ⊎ (length q.parameters ≡ length q.patterns)
 
-direct_count : (n : ℕ) (e : Statement) (c : Option PatternTree) (q : EquationParts)
-    → Some (direct e c) ≡ Some q → IsStatementWithin n e → ArePartsWithin n q
+direct_count : (n : ℕ) (e : StatedEquation) (c : Option PatternTree) (q : EquationParts)
+    → Some (direct_parts e c) ≡ Some q → IsStatementWithin n e → ArePartsWithin n q
 direct_count n e c q is h =
-    subst (ArePartsWithin n) (let same : direct e c ≡ q = cc in same)
+    subst (ArePartsWithin n) (let same : direct_parts e c ≡ q = cc in same)
     (record { patterns = h.arguments; parameters = omega arith; form = inl refl })
 
-kompiled_count : (n : ℕ) (e : Statement) (c : PatternTree) (ps : List PatternTree)
+kompiled_count : (n : ℕ) (e : StatedEquation) (c : PatternTree) (ps : List PatternTree)
     (q : EquationParts) → kompiled e c ps ≡ Some q → listed_count ps ≤ n
     → length ps ≡ length e.arguments → IsStatementWithin n e → ArePartsWithin n q
 kompiled_count n e c ps q is most long h =
@@ -628,7 +631,8 @@ kompiled_count n e c ps q is most long h =
         same)
         (record { patterns = most; parameters = omega (arith, each, all); form = inr (sym long) })
 
-under_count : (n : ℕ) (e : Statement) (g : PatternTree) (o : Option (PatternTree × PatternTree))
+under_count : (n : ℕ) (e : StatedEquation) (g : PatternTree) (o : Option (PatternTree
+    × PatternTree))
     (q : EquationParts) → parts_under e g o ≡ Some q
     → ((both : PatternTree × PatternTree) → o ≡ Some both → variable_count both.1 ≤ n)
     → IsStatementWithin n e → ArePartsWithin n q
@@ -640,7 +644,7 @@ under_count n e g (Some both) q is known h =
     let le = known both refl in
     kompiled_count n e both.0 found.0 q found.2 (omega (arith, least, le)) counted.1 h
 
-with_count : (n : ℕ) (e : Statement) (o : Option PatternTree) (q : EquationParts) → e.guard ≡ o
+with_count : (n : ℕ) (e : StatedEquation) (o : Option PatternTree) (q : EquationParts) → e.guard ≡ o
     → parts_with e o ≡ Some q → IsStatementWithin n e → ArePartsWithin n q
 with_count n e None q same is h = direct_count n e None q is h
 with_count n e (Some g) q same is h =
@@ -648,6 +652,6 @@ with_count n e (Some g) q same is h =
     (λ both found. let most = conjuncts_count e.over g both found in
     let le = h.guard g same in omega (arith, most, le)) h
 
-pub parts_count : (n : ℕ) (e : Statement) (q : EquationParts) → equation_parts e ≡ Some q
+pub parts_count : (n : ℕ) (e : StatedEquation) (q : EquationParts) → equation_parts e ≡ Some q
     → IsStatementWithin n e → ArePartsWithin n q
 parts_count n e q is h = with_count n e e.guard q refl is h

@@ -26,10 +26,11 @@ use Rattle.kore_sig.specs.Signatures.{IsSignatureOf}
 use Rattle.kore_sig.specs.SortReferences.{sort_number}
 use Rattle.kore_check.specs.PatternSorts.{symbol_named}
 use Rattle.kore_shapes.specs.Shapes.{Rewriting}
-use Rattle.kore_axioms.specs.AxiomClasses.{rewrites, class_of}
+use Rattle.kore_axioms.specs.AxiomClasses.{rewrites, axiom_class}
 use Rattle.kore_rules.specs.FirstRefusal.{FirstOfAxioms}
-use Rattle.kore_rules.specs.Programs.{HasKind, as_declared, by_hook, without_hook, by_unreadable}
-use Rattle.kore_rules.specs.Programs.{by_equations, IsSymbolOf, IsProgramUnder, IsTopOf}
+use Rattle.kore_rules.specs.Programs.{HasKind, as_declared, hooked_kind, without_hook}
+use Rattle.kore_rules.specs.Programs.{by_unreadable, equations_kind, IsSymbolOf, IsProgramUnder}
+use Rattle.kore_rules.specs.Programs.{IsTopOf}
 use Rattle.kore_rules.specs.RefusedTexts.{IsSortOfRules}
 use Rattle.kore_rules.proofs.DeclaredKinds.{functions_plain, never_hooked, named_by_number}
 use Rattle.kore_rules.proofs.EquationSorts.{sorted_equation}
@@ -65,13 +66,13 @@ faultless_program d declared theory none is axioms program = record {
 equations_declared : (sig : Signature) (axioms : List AxiomDeclaration) (f : List ℕ) (own : SymInfo)
     (k : SymKind) → HasKind sig axioms f own k → k ≡ Equations → own.kind ≡ Equations
 equations_declared sig axioms f own _ (as_declared other) e = e
-equations_declared sig axioms f own _ (by_hook is hook fits) e =
+equations_declared sig axioms f own _ (hooked_kind is hook fits) e =
     absurd (let never : ⊥ = cc in never)
 equations_declared sig axioms f own _ (without_hook is hook none) e =
     absurd (let never : ⊥ = cc in never)
 equations_declared sig axioms f own _ (by_unreadable is none there bad) e =
     absurd (let never : ⊥ = cc in never)
-equations_declared sig axioms f own _ (by_equations is none all) e = is
+equations_declared sig axioms f own _ (equations_kind is none all) e = is
 
 same_row : (n row : ℕ) → Hooked (record { 0 = n }) ≡ Hooked (record { 0 = row }) → n ≡ row
 same_row n row e =
@@ -82,13 +83,14 @@ hook_fits : (sig : Signature) (axioms : List AxiomDeclaration) (f : List ℕ) (o
     (k : SymKind) (row : ℕ) → HasKind sig axioms f own k → k ≡ Hooked (record { 0 = row })
     → (own.kind ≡ k → ⊥) → FitsHook sig row own
 hook_fits sig axioms f own _ row (as_declared other) e never = absurd (never refl)
-hook_fits sig axioms f own _ row (by_hook {row = n} is hook fits) e never =
+hook_fits sig axioms f own _ row (hooked_kind {row = n} is hook fits) e never =
     subst (λ (i : ℕ). FitsHook sig i own) (same_row n row e) fits.3
 hook_fits sig axioms f own _ row (without_hook is hook none) e never =
     absurd (let no : ⊥ = cc in no)
 hook_fits sig axioms f own _ row (by_unreadable is none there bad) e never =
     absurd (let no : ⊥ = cc in no)
-hook_fits sig axioms f own _ row (by_equations is none all) e never = absurd (let no : ⊥ = cc in no)
+hook_fits sig axioms f own _ row (equations_kind is none all) e never =
+    absurd (let no : ⊥ = cc in no)
 
 not_ctor : (k : SymKind) → k ≡ Ctor → IsFunction k → ⊥
 not_ctor k e fun = subst IsFunction e fun
@@ -149,7 +151,7 @@ fits_kept declared final axioms row own info name made same of is = record {
 -- the rules of such a program have the sort of any of its rules
 rules_sorted : (d : DefinitionTree) (declared : Signature) (theory : RewriteTheory) (s : ℕ)
     (a : AxiomDeclaration) (w : Rewriting) → IsFaultlessProgram d declared theory
-    → Contains (axioms_of d) a → class_of declared a ≡ rewrites w
+    → Contains (axioms_of d) a → axiom_class declared a ≡ rewrites w
     → sort_number declared.sorts w.sort ≡ Some s → All (IsSortedRule theory.sig s) theory.rules
 rules_sorted d declared theory s a w p there class number =
     let axioms = axioms_of d in
@@ -263,7 +265,7 @@ well_sorted_program d declared theory p =
 no_rules : (d : DefinitionTree) (declared : Signature) (theory : RewriteTheory)
     (rules : List RewriteRule) → IsFaultlessProgram d declared theory
     → ((a : AxiomDeclaration) → Contains (axioms_of d) a → (w : Rewriting)
-    → class_of theory.sig a ≡ rewrites w → ⊥) → theory.rules ≡ rules → theory.rules ≡ []
+    → axiom_class theory.sig a ≡ rewrites w → ⊥) → theory.rules ≡ rules → theory.rules ≡ []
 no_rules d declared theory [] p none e = e
 no_rules d declared theory (rule ∷ rules) p none e =
     let of =

@@ -7,7 +7,7 @@ use Rattle.kore_text.specs.Trees.{SortTree, AxiomDeclaration}
 use Rattle.kore_ast.specs.Plain.{plain_sort, plain_axiom_decl}
 use Rattle.kore_ast.specs.declared.tree.AxiomDecl.{AxiomDecl}
 use Rattle.kore_ast.specs.declared.tree.Sort.{Sort}
-use Rattle.rule_core.specs.Named.{number_of}
+use Rattle.rule_core.specs.Named.{number_of_name}
 use Rattle.rule_core.specs.ProgramView.{rewrite_rule, function_equation}
 use Rattle.rule_core.specs.Rules.{RewriteRule}
 use Rattle.rule_core.specs.Rules as plain
@@ -16,7 +16,7 @@ use Rattle.rule_core.specs.declared.rules.Rule.{Rule}
 use Rattle.rule_core.specs.declared.signature.Signature.{Signature}
 use Rattle.kore_sig.specs.SortReferences.{sort_number}
 use Rattle.kore_shapes.specs.Shapes.{Rewriting}
-use Rattle.kore_axioms.specs.AxiomClasses.{rewrites, class_of}
+use Rattle.kore_axioms.specs.AxiomClasses.{rewrites, axiom_class}
 use Rattle.kore_axioms.specs.AxiomMeanings.{MeansRule}
 use Rattle.kore_axioms.specs.NamedRules.{MeansNamedRule}
 use Rattle.kore_equations.specs.EquationMeanings.{MeansEquation, IsUnreadable}
@@ -42,7 +42,7 @@ pub record AreRead {X : Type 0} (Is : AxiomDeclaration → X → Type 0) (place 
 -- the axiom is this equation of the function with this number
 abbrev pub IsNumberedEquation : Signature → AxiomDeclaration → ℕ × plain.Equation → Type 0
 IsNumberedEquation sig a e =
-    (f : List ℕ) × (number_of sig.symbols f ≡ Some e.0) × MeansEquation sig f a e.1
+    (f : List ℕ) × (number_of_name sig.symbols f ≡ Some e.0) × MeansEquation sig f a e.1
 
 abbrev pub numbered_equation : Equation → ℕ × plain.Equation
 numbered_equation e = (e.fun.0, function_equation e)
@@ -51,7 +51,7 @@ numbered_equation e = (e.fun.0, function_equation e)
 abbrev pub HasUnreadable : Signature → List AxiomDeclaration → ℕ → Type 0
 HasUnreadable sig axioms n =
     (a : AxiomDeclaration) × Contains axioms a
-    × ((f : List ℕ) × (number_of sig.symbols f ≡ Some n) × IsUnreadable sig f a)
+    × ((f : List ℕ) × (number_of_name sig.symbols f ≡ Some n) × IsUnreadable sig f a)
 
 -- the mark with this number is set
 abbrev pub is_marked : List Bool → ℕ → Bool
@@ -60,10 +60,11 @@ is_marked marks n = slice_index_or marks n false
 -- the sort of a rule; None if there are no rules
 abbrev pub IsFirstSort : Signature → List AxiomDeclaration → Option SortTree → Type 0
 IsFirstSort sig axioms None =
-    (a : AxiomDeclaration) → Contains axioms a → (w : Rewriting) → class_of sig a ≡ rewrites w → ⊥
+    (a : AxiomDeclaration) → Contains axioms a → (w : Rewriting) → axiom_class sig a ≡ rewrites w
+    → ⊥
 IsFirstSort sig axioms (Some s) =
     (a : AxiomDeclaration) × Contains axioms a
-    × ((w : Rewriting) × (class_of sig a ≡ rewrites w) × (w.sort ≡ s))
+    × ((w : Rewriting) × (axiom_class sig a ≡ rewrites w) × (w.sort ≡ s))
     × ((n : ℕ) × (sort_number sig.sorts s ≡ Some n))
 
 -- what is read of these axioms

@@ -5,9 +5,9 @@ use Rattle.rule_core.specs.declared.signature.Signature.{Signature}
 use Rattle.kore_sig.specs.FirstFault.{Fault, ByByte, ByNumber, IsFirstBy, Then, IsFirstOfSequence}
 use Rattle.kore_sig.specs.FirstFault.{unless}
 use Rattle.kore_check.specs.Folds.{Unfolded, unfolded}
-use Rattle.kore_check.specs.PatternSorts.{sort_of}
+use Rattle.kore_check.specs.PatternSorts.{sort_of_pattern}
 use Rattle.kore_check.specs.PatternFaults.{all_faults}
-use Rattle.kore_axioms.specs.AxiomClasses.{AxiomClass, refused, rewrites, class_of}
+use Rattle.kore_axioms.specs.AxiomClasses.{AxiomClass, refused, rewrites, axiom_class}
 use Rattle.kore_axioms.specs.RuleFaults.{FirstOfRule}
 use Rattle.kore_rules.specs.GroundTerms.{ground_faults}
 use Rattle.kore_equations.specs.ReadableEquations.{is_one_sort}
@@ -28,15 +28,15 @@ first_sort None class = None
 -- the first fault of the axioms, in their order
 abbrev pub FirstOfAxioms : Signature → List AxiomDeclaration → Option Fault → Type 0
 FirstOfAxioms sig axioms r =
-    IsFirstOfSequence (λ first a. FirstOfClass sig first a (class_of sig a))
-    (λ first a. first_sort first (class_of sig a)) None
+    IsFirstOfSequence (λ first a. FirstOfClass sig first a (axiom_class sig a))
+    (λ first a. first_sort first (axiom_class sig a)) None
     axioms r
 
 -- 19 at the first byte: the term does not have the sort of the rules; no fault if there are no
 -- rules
 abbrev pub start_faults : Signature → Option ℕ → Unfolded → List Fault
 start_faults sig None p = []
-start_faults sig (Some s) p = unless (is_one_sort (sort_of sig p) (Some s)) 19 0
+start_faults sig (Some s) p = unless (is_one_sort (sort_of_pattern sig p) (Some s)) 19 0
 
 -- the first fault of a term, if the rules have this sort
 abbrev pub FirstOfTerm : Signature → Option ℕ → PatternTree → Option Fault → Type 0

@@ -1,7 +1,7 @@
 -- Terms: patterns that have only applications, domain values and folds.
 use Rattle.std.specs.Prelude.{ℕ, List, [], ◌∷◌, ◌++◌, if◌then◌else◌}
 use Rattle.kore_text.specs.Trees.{PatternTree, element_variable, set_variable, string}
-use Rattle.kore_text.specs.Trees.{symbol_applied, connected, binding, domain_value, folded}
+use Rattle.kore_text.specs.Trees.{symbol_applied, connected, binder_applied, value_written, folded}
 use Rattle.kore_text.specs.Trees.{PatternTrees, no_patterns, pattern_then, listed_patterns}
 use Rattle.kore_sig.specs.FirstFault.{Fault}
 use Rattle.kore_shapes.specs.Forms.{is_one, is_none}
@@ -18,8 +18,8 @@ abbrev mutual
   ground_faults (string at text) = not_ground at
   ground_faults (symbol_applied at f ss ps) = all_ground_faults ps
   ground_faults (connected at op ss ps) = not_ground at
-  ground_faults (binding at b ss x p) = not_ground at
-  ground_faults (domain_value at s text place) = []
+  ground_faults (binder_applied at b ss x p) = not_ground at
+  ground_faults (value_written at s text place) = []
   ground_faults (folded at left p) = folded_ground_faults p
 
   pub all_ground_faults : PatternTrees → List Fault
@@ -36,6 +36,6 @@ abbrev mutual
       = if is_none (listed_patterns ps) then not_ground at else all_ground_faults ps
   folded_ground_faults (connected at op ss ps)
       = if is_one (listed_patterns ps) then all_ground_faults ps else not_ground at
-  folded_ground_faults (binding at b ss x p) = not_ground at
-  folded_ground_faults (domain_value at s text place) = not_ground at
+  folded_ground_faults (binder_applied at b ss x p) = not_ground at
+  folded_ground_faults (value_written at s text place) = not_ground at
   folded_ground_faults (folded at left p) = not_ground at

@@ -14,7 +14,7 @@ use Rattle.rule_core.specs.declared.signature.SymKind.{SymKind}
 use Rattle.rule_core.specs.declared.signature.SymKind.TheVariants.{Equations, Hooked, Closed}
 use Rattle.kore_sig.specs.SortReferences.{sort_number}
 use Rattle.kore_shapes.specs.Shapes.{Rewriting}
-use Rattle.kore_axioms.specs.AxiomClasses.{rewrites, class_of}
+use Rattle.kore_axioms.specs.AxiomClasses.{rewrites, axiom_class}
 use Rattle.kore_axioms.specs.AxiomMeanings.{MeansRule}
 use Rattle.kore_equations.specs.EquationMeanings.{MeansEquation, IsUnreadable}
 
@@ -30,7 +30,7 @@ pub data HasKind (sig : Signature) (axioms : List AxiomDeclaration) (f : List �
     SymKind
     → Type 0 where
   as_declared : (info.kind ≡ Equations → ⊥) → HasKind sig axioms f info info.kind
-  by_hook : {name : List ℕ} {row : ℕ} → info.kind ≡ Equations
+  hooked_kind : {name : List ℕ} {row : ℕ} → info.kind ≡ Equations
       → option_map string_bytes info.hook ≡ Some name → HasFittingHook sig info name row
       → HasKind sig axioms f info (Hooked (record { 0 = row }))
   without_hook : {name : List ℕ} → info.kind ≡ Equations
@@ -38,7 +38,7 @@ pub data HasKind (sig : Signature) (axioms : List AxiomDeclaration) (f : List �
       → ((row : ℕ) → HasFittingHook sig info name row → ⊥) → HasKind sig axioms f info Closed
   by_unreadable : {a : AxiomDeclaration} → info.kind ≡ Equations → info.hook ≡ None
       → Contains axioms a → IsUnreadable sig f a → HasKind sig axioms f info Closed
-  by_equations : info.kind ≡ Equations → info.hook ≡ None →
+  equations_kind : info.kind ≡ Equations → info.hook ≡ None →
       ((a : AxiomDeclaration) → Contains axioms a → IsUnreadable sig f a → ⊥)
       → HasKind sig axioms f info Equations
 
@@ -66,7 +66,8 @@ pub record AreEquationsOf (sig : Signature) (axioms : List AxiomDeclaration) (f 
     (kind : SymKind)
     (es : List Equation) : Type 0 where
   pub just : (e : Equation) → Contains es e
-      ↔ ((kind ≡ Equations) × ((a : AxiomDeclaration) × Contains axioms a × MeansEquation sig f a e))
+      ↔ ((kind ≡ Equations) × ((a : AxiomDeclaration) × Contains axioms a
+          × MeansEquation sig f a e))
   pub in_order : AreInOrder (map (λ (e : Equation). (e.priority, e.place)) es)
 
 -- The program of a definition whose declarations give the signature `declared`.
@@ -85,7 +86,8 @@ pub record IsProgramUnder (declared : Signature) (axioms : List AxiomDeclaration
 -- the sort of a rule; None if there are no rules
 abbrev pub IsTopOf : Signature → List AxiomDeclaration → Option ℕ → Type 0
 IsTopOf sig axioms None =
-    (a : AxiomDeclaration) → Contains axioms a → (w : Rewriting) → class_of sig a ≡ rewrites w → ⊥
+    (a : AxiomDeclaration) → Contains axioms a → (w : Rewriting) → axiom_class sig a ≡ rewrites w
+    → ⊥
 IsTopOf sig axioms (Some s) =
     (a : AxiomDeclaration) × Contains axioms a
-    × ((w : Rewriting) × (class_of sig a ≡ rewrites w) × (sort_number sig.sorts w.sort ≡ Some s))
+    × ((w : Rewriting) × (axiom_class sig a ≡ rewrites w) × (sort_number sig.sorts w.sort ≡ Some s))

@@ -1,8 +1,8 @@
 -- When bytes are refused as a definition or as a term.
 use Rattle.std.specs.Prelude.{◌≡◌, ◌⊎◌, ℕ, List, Option, Some}
 use Rattle.kore_text.specs.Trees.{PatternTree, DefinitionTree}
-use Rattle.kore_text.specs.TokenStream.{tokens_of, Stream}
-use Rattle.kore_text.specs.Faults.{IsFirstFault, IsPattern, IsDefinition}
+use Rattle.kore_text.specs.TokenStream.{token_stream, Stream}
+use Rattle.kore_text.specs.Faults.{IsFirstFaultOfText, IsPattern, IsDefinition}
 use Rattle.kore_text.specs.declared.faults.TextFault.{TextFault}
 use Rattle.kore_text.specs.declared.faults.TextFault.TheVariants as text_fault
 use Rattle.kore_ast.specs.KoreText.{ReadsPattern, ReadsDefinition}
@@ -21,7 +21,8 @@ fault_of_text (text_fault.Deep at) = record { number = 3; byte = at }
 
 -- this is the first fault of the text
 abbrev pub HasTextFault : (Stream → Type 0) → List ℕ → Fault → Type 0
-HasTextFault L bytes f = (fault : TextFault) × IsFirstFault L 0 (tokens_of bytes) (Some fault)
+HasTextFault L bytes f = (fault : TextFault)
+    × IsFirstFaultOfText L 0 (token_stream bytes) (Some fault)
     × (f ≡ fault_of_text fault)
 
 -- The first fault of a definition: that of its declarations, or else that of its axioms.

@@ -13,7 +13,7 @@ use Rattle.hook_table.specs.Names.{hook_number}
 use Rattle.hook_table.specs.Rows.{plain_row}
 use Rattle.hook_table.specs.declared.table.HookRow.{HookRow}
 use Rattle.kore_text.specs.Trees.{SortTree, PatternTree, AxiomDeclaration}
-use Rattle.rule_core.specs.Named.{number_of}
+use Rattle.rule_core.specs.Named.{number_of_name}
 use Rattle.rule_core.specs.declared.signature.Signature.{Signature}
 use Rattle.rule_core.specs.declared.signature.SortInfo.{SortInfo}
 use Rattle.rule_core.specs.declared.signature.SortKind.{SortKind}
@@ -153,7 +153,8 @@ pub record IsFinal (sig : Signature) (marks unreadable : List Bool)
     (declared made : List ℕ × SymInfo) : Type 0 where
   pub name : made.0 ≡ declared.0
   pub kind : made.1.kind
-      ≡ final_kind sig marks declared.1 (is_marked_at unreadable (number_of sig.symbols declared.0))
+      ≡ final_kind sig marks declared.1
+      (is_marked_at unreadable (number_of_name sig.symbols declared.0))
   pub params : made.1.params ≡ declared.1.params
   pub args : made.1.args.items ≡ declared.1.args.items
   pub result : made.1.result ≡ declared.1.result

@@ -8,7 +8,7 @@ ghost use Rattle.rule_core.specs.WellSorted.{IsSignature};
 ghost use Rattle.kore_sig.specs.Numbered.{IsNumbered};
 ghost use Rattle.kore_shapes.specs.Views.{plain_rewriting};
 ghost use Rattle.kore_shapes.specs.StatementViews.{plain_statement};
-ghost use Rattle.kore_axioms.specs.AxiomClasses.{rewrites, equates, class_of as the_class};
+ghost use Rattle.kore_axioms.specs.AxiomClasses.{rewrites, equates, axiom_class as the_class};
 ghost use Rattle.kore_axioms.specs.ClassViews.{plain_class};
 ghost use Rattle.kore_axioms.specs.RuleFaults.{FirstOfRule};
 ghost use Rattle.kore_rules.specs.AxiomsRead.{HaveRead, IsFirstSort, is_marked, tree_at, sort_at};

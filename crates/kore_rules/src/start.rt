@@ -10,7 +10,7 @@ ghost use Rattle.kore_check.specs.FaultNumbers.{IsRefusal};
 ghost use Rattle.kore_check.specs.Folds.{unfolded};
 ghost use Rattle.kore_check.specs.PatternFaults.{all_faults};
 ghost use Rattle.kore_check.specs.PatternMeanings.{Means};
-ghost use Rattle.kore_check.specs.PatternSorts.{sort_of as the_sort};
+ghost use Rattle.kore_check.specs.PatternSorts.{sort_of_pattern as the_sort};
 ghost use Rattle.kore_rules.specs.FirstRefusal.{FirstOfTerm};
 ghost use Rattle.kore_rules.specs.GroundTerms.{ground_faults};
 ghost use Rattle.kore_rules.specs.RefusedTexts.{RefusesFor, number_of_sort};

@@ -6,13 +6,13 @@ use Rattle.std.specs.Prelude.{Option, Some, None, option_map}
 use Rattle.std.specs.List.{list_any}
 use Rattle.std.specs.Option.{option_and_then}
 use Rattle.kore_text.specs.Trees.{SortTree, listed_sorts, PatternTree, element_variable}
-use Rattle.kore_text.specs.Trees.{set_variable, string, symbol_applied, connected, binding}
-use Rattle.kore_text.specs.Trees.{domain_value, folded, PatternTrees, no_patterns, pattern_then}
+use Rattle.kore_text.specs.Trees.{set_variable, string, symbol_applied, connected, binder_applied}
+use Rattle.kore_text.specs.Trees.{value_written, folded, PatternTrees, no_patterns, pattern_then}
 use Rattle.kore_text.specs.Trees.{listed_patterns}
 use Rattle.kore_text.specs.declared.names.Op.{Op}
 use Rattle.kore_text.specs.declared.names.Op.TheVariants.{Top, And, Member}
 use Rattle.kore_shapes.specs.SameSorts.{same_sort, is_variable}
-use Rattle.kore_shapes.specs.Statements.{Statement}
+use Rattle.kore_shapes.specs.Statements.{StatedEquation}
 
 -- the pattern is `\top{S}()`
 abbrev pub top_with : SortTree → Op → List SortTree → List PatternTree → Bool
@@ -57,9 +57,10 @@ member_with r x Member (s ∷ (t ∷ [])) (y ∷ (p ∷ [])) =
     if same_sort r t && is_member s x y then Some p else None
 member_with r x op ss ps = None
 
-abbrev pub member : SortTree → PatternTree → PatternTree → Option PatternTree
-member r x (connected at op ss ps) = member_with r x op (listed_sorts ss) (listed_patterns ps)
-member r x p = None
+abbrev pub member_pattern : SortTree → PatternTree → PatternTree → Option PatternTree
+member_pattern r x (connected at op ss ps) =
+    member_with r x op (listed_sorts ss) (listed_patterns ps)
+member_pattern r x p = None
 
 -- the pattern p and the rest G of `\and{R}(\in{S,R}(X,p),G)`, for this variable X; none of any
 -- other pattern
@@ -67,7 +68,7 @@ abbrev pub entry : SortTree → PatternTree → PatternTree → Option (PatternT
 entry r x g =
     option_and_then
     (λ (both : PatternTree × PatternTree). option_map (λ (p : PatternTree). (p, both.1))
-    (member r x both.0)) (conjuncts r g)
+    (member_pattern r x both.0)) (conjuncts r g)
 
 -- The patterns p0, p1, .. of `\and{R}(\in{S0,R}(X0,p0),\and{R}(\in{S1,R}(X1,p1),..\top{R}()))`, for
 -- these variables X0, X1, ... There are none if the guard has another form.
@@ -85,7 +86,7 @@ abbrev mutual
   has_variable name s (element_variable at n t) = is_variable name s (element_variable at n t)
   has_variable name s (symbol_applied at n ss ps) = have_variable name s ps
   has_variable name s (connected at op ss ps) = have_variable name s ps
-  has_variable name s (binding at b ss x p) = has_variable name s x || has_variable name s p
+  has_variable name s (binder_applied at b ss x p) = has_variable name s x || has_variable name s p
   has_variable name s (folded at left p) = has_variable name s p
   has_variable name s p = false
 
@@ -116,8 +117,8 @@ pub record EquationParts : Type 0 where
   pub right : PatternTree
 
 -- the direct form: the guard, if there is one, is the condition
-abbrev pub direct : Statement → Option PatternTree → EquationParts
-direct e c = record {
+abbrev pub direct_parts : StatedEquation → Option PatternTree → EquationParts
+direct_parts e c = record {
   parameters = [];
   patterns = e.arguments;
   condition = c;
@@ -126,7 +127,7 @@ direct e c = record {
 
 -- kompile's form with the condition `c` and these patterns; none if a variable of its left side
 -- occurs anywhere else
-abbrev pub kompiled : Statement → PatternTree → List PatternTree → Option EquationParts
+abbrev pub kompiled : StatedEquation → PatternTree → List PatternTree → Option EquationParts
 kompiled e c ps =
     if occur_nowhere_else e.arguments (c ∷ (e.value ∷ ps))
     then Some (record {
@@ -140,16 +141,16 @@ kompiled e c ps =
 -- The parts of an equation under this guard. Under `\and{R}(c,G)` the equation can only have
 -- kompile's form, with the condition c. If the function has no arguments, G has to be `\top{R}()`.
 -- Any guard that is no `\and{R}` of two patterns is itself the condition.
-abbrev pub parts_under : Statement → PatternTree → Option (PatternTree × PatternTree)
+abbrev pub parts_under : StatedEquation → PatternTree → Option (PatternTree × PatternTree)
     → Option EquationParts
-parts_under e g None = Some (direct e (Some g))
+parts_under e g None = Some (direct_parts e (Some g))
 parts_under e g (Some both) =
     option_and_then (kompiled e both.0) (members e.over e.arguments both.1)
 
 -- the parts of an equation; none if it has neither form
-abbrev pub parts_with : Statement → Option PatternTree → Option EquationParts
-parts_with e None = Some (direct e None)
+abbrev pub parts_with : StatedEquation → Option PatternTree → Option EquationParts
+parts_with e None = Some (direct_parts e None)
 parts_with e (Some g) = parts_under e g (conjuncts e.over g)
 
-abbrev pub equation_parts : Statement → Option EquationParts
+abbrev pub equation_parts : StatedEquation → Option EquationParts
 equation_parts e = parts_with e e.guard

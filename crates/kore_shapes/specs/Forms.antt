@@ -2,7 +2,7 @@
 -- and its head is ignored.
 use Rattle.std.specs.Prelude.{List, [], ◌∷◌, Bool, true, false, not, ◌||◌, ◌&&◌}
 use Rattle.kore_text.specs.Trees.{PatternTree, element_variable, set_variable, string}
-use Rattle.kore_text.specs.Trees.{symbol_applied, connected, binding, domain_value, folded}
+use Rattle.kore_text.specs.Trees.{symbol_applied, connected, binder_applied, value_written, folded}
 use Rattle.kore_text.specs.Trees.{PatternTrees, no_patterns, pattern_then, listed_patterns}
 use Rattle.kore_text.specs.declared.names.Op.{Op}
 use Rattle.kore_text.specs.declared.names.Op.TheVariants.{And}
@@ -14,19 +14,19 @@ is_and op = false
 -- Which forms are sought: `\and`; all forms other than `\and`, a variable, an application, a domain
 -- value, a fold and a binder; or both.
 pub data Sought : Type 0 where
-  conjunctions : Sought
+  only_conjunctions : Sought
   others : Sought
   all_forms : Sought
 
 -- the connective is one of the sought forms
 abbrev pub covers : Sought → Op → Bool
-covers conjunctions op = is_and op
+covers only_conjunctions op = is_and op
 covers others op = not (is_and op)
 covers all_forms op = true
 
 -- strings, and folds of something that cannot be folded, are among the sought forms
 abbrev pub covers_others : Sought → Bool
-covers_others conjunctions = false
+covers_others only_conjunctions = false
 covers_others others = true
 covers_others all_forms = true
 
@@ -46,7 +46,7 @@ abbrev mutual
   has_form sought (string at text) = covers_others sought
   has_form sought (symbol_applied at n ss ps) = have_form sought ps
   has_form sought (connected at op ss ps) = covers sought op || have_form sought ps
-  has_form sought (binding at b ss x p) = has_form sought p
+  has_form sought (binder_applied at b ss x p) = has_form sought p
   has_form sought (folded at left p) = fold_has_form sought p
   has_form sought p = false
 
@@ -72,7 +72,7 @@ abbrev mutual
   has_binder (set_variable at n s) = true
   has_binder (symbol_applied at n ss ps) = have_binder ps
   has_binder (connected at op ss ps) = have_binder ps
-  has_binder (binding at b ss x p) = true
+  has_binder (binder_applied at b ss x p) = true
   has_binder (folded at left p) = has_binder p
   has_binder p = false
 

@@ -4,7 +4,7 @@
 use Rattle.std.specs.Prelude.{List, [], ◌∷◌, Bool, true, false, ◌&&◌, if◌then◌else◌, Option, Some}
 use Rattle.std.specs.Prelude.{None, codes}
 use Rattle.std.specs.Str.{bytes_eq}
-use Rattle.kore_text.specs.Trees.{SortTree, listed_sorts, PatternTree, connected, domain_value}
+use Rattle.kore_text.specs.Trees.{SortTree, listed_sorts, PatternTree, connected, value_written}
 use Rattle.kore_text.specs.Trees.{listed_patterns}
 use Rattle.kore_text.specs.declared.names.Op.{Op}
 use Rattle.kore_text.specs.declared.names.Op.TheVariants.{Top, And, Rewrites, Equals}
@@ -84,7 +84,7 @@ pub data Condition : Type 0 where
 
 -- the pattern is `\dv{T}("true")`
 abbrev pub is_true_of : SortTree → PatternTree → Bool
-is_true_of t (domain_value at s text place) = same_sort t s && bytes_eq text (codes "true")
+is_true_of t (value_written at s text place) = same_sort t s && bytes_eq text (codes "true")
 is_true_of t p = false
 
 -- the condition with this connective at its head; S is the sort of the `\and` or of the guard that

@@ -5,7 +5,7 @@ use Rattle.kore_text.specs.Trees.{PatternTree}
 use Rattle.kore_ast.specs.declared.tree.Pat.{Pat}
 use Rattle.kore_ast.specs.Plain.{plain_sort, pattern_tree}
 use Rattle.kore_shapes.specs.declared.statements.Statement.{Statement}
-use Rattle.kore_shapes.specs.Statements.{Statement as StatementTree}
+use Rattle.kore_shapes.specs.Statements.{StatedEquation as StatementTree}
 use Rattle.kore_shapes.specs.Views.{pattern_at}
 
 abbrev pub plain_call : Bor (List ℕ) × Bor (List Pat) → List ℕ × List PatternTree

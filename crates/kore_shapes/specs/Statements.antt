@@ -9,7 +9,7 @@ use Rattle.kore_text.specs.declared.names.Op.TheVariants.{Implies, Equals}
 use Rattle.kore_shapes.specs.SameSorts.{same_sort}
 
 -- `\equals{S,R}(f{}(..),d)`, with the guard before it if there is one
-pub record Statement : Type 0 where
+pub record StatedEquation : Type 0 where
   pub guard : Option PatternTree
   pub sort : SortTree
   pub over : SortTree
@@ -18,36 +18,38 @@ pub record Statement : Type 0 where
   pub value : PatternTree
 
 -- `f{}(..)`: the symbol and its arguments
-abbrev pub call_of : List ℕ → List SortTree → List PatternTree → Option (List ℕ × List PatternTree)
-call_of f [] ps = Some (f, ps)
-call_of f (s ∷ ss) ps = None
+abbrev pub stated_call : List ℕ → List SortTree → List PatternTree
+    → Option (List ℕ × List PatternTree)
+stated_call f [] ps = Some (f, ps)
+stated_call f (s ∷ ss) ps = None
 
-abbrev pub called : PatternTree → Option (List ℕ × List PatternTree)
-called (symbol_applied at f ss ps) = call_of f (listed_sorts ss) (listed_patterns ps)
-called p = None
+abbrev pub symbol_called : PatternTree → Option (List ℕ × List PatternTree)
+symbol_called (symbol_applied at f ss ps) = stated_call f (listed_sorts ss) (listed_patterns ps)
+symbol_called p = None
 
 -- the equality of a call and this value
 abbrev pub equality_of_call : SortTree → SortTree → PatternTree → List ℕ × List PatternTree
-    → Statement
+    → StatedEquation
 equality_of_call s r d call =
     record { guard = None; sort = s; over = r; function = call.0; arguments = call.1; value = d }
 
-abbrev pub equality_with : Op → List SortTree → List PatternTree → Option Statement
-equality_with Equals (s ∷ (r ∷ [])) (l ∷ (d ∷ [])) = option_map (equality_of_call s r d) (called l)
+abbrev pub equality_with : Op → List SortTree → List PatternTree → Option StatedEquation
+equality_with Equals (s ∷ (r ∷ [])) (l ∷ (d ∷ [])) =
+    option_map (equality_of_call s r d) (symbol_called l)
 equality_with op ss ps = None
 
-abbrev pub equality : PatternTree → Option Statement
+abbrev pub equality : PatternTree → Option StatedEquation
 equality (connected at op ss ps) = equality_with op (listed_sorts ss) (listed_patterns ps)
 equality p = None
 
 -- the statement under this guard; none if its sort R is another one than the guard's
-abbrev pub guarded : SortTree → PatternTree → Statement → Option Statement
+abbrev pub guarded : SortTree → PatternTree → StatedEquation → Option StatedEquation
 guarded r g e = if same_sort r e.over then Some (record e { guard = Some g }) else None
 
-abbrev pub statement_with : Op → List SortTree → List PatternTree → Option Statement
+abbrev pub statement_with : Op → List SortTree → List PatternTree → Option StatedEquation
 statement_with Implies (r ∷ []) (g ∷ (e ∷ [])) = option_and_then (guarded r g) (equality e)
 statement_with op ss ps = equality_with op ss ps
 
-abbrev pub statement : PatternTree → Option Statement
-statement (connected at op ss ps) = statement_with op (listed_sorts ss) (listed_patterns ps)
-statement p = None
+abbrev pub stated_equation : PatternTree → Option StatedEquation
+stated_equation (connected at op ss ps) = statement_with op (listed_sorts ss) (listed_patterns ps)
+stated_equation p = None

@@ -2,11 +2,12 @@
 ghost use Rattle.std.specs.Prelude.{◌≡◌, map, option_map};
 ghost use Rattle.std.specs.Option.{option_and_then};
 ghost use Rattle.kore_ast.specs.Plain.{plain_sort, pattern_tree};
-ghost use Rattle.kore_shapes.specs.Statements.{called as the_called, call_of as the_call_of};
+ghost use Rattle.kore_shapes.specs.Statements.{symbol_called as the_called};
+ghost use Rattle.kore_shapes.specs.Statements.{stated_call as the_call_of};
 ghost use Rattle.kore_shapes.specs.Statements.{equality as the_equality};
 ghost use Rattle.kore_shapes.specs.Statements.{equality_with as the_equality_with};
 ghost use Rattle.kore_shapes.specs.Statements.{guarded as the_guarded};
-ghost use Rattle.kore_shapes.specs.Statements.{statement as the_statement};
+ghost use Rattle.kore_shapes.specs.Statements.{stated_equation as the_statement};
 ghost use Rattle.kore_shapes.specs.Statements.{statement_with as the_statement_with};
 ghost use Rattle.kore_shapes.specs.StatementViews.{plain_statement, plain_call};
 

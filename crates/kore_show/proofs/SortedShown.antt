@@ -17,14 +17,14 @@ use Rattle.rule_core.specs.declared.signature.SymKind.{SymKind}
 use Rattle.rule_core.specs.declared.signature.SymKind.TheVariants.{Injection}
 use Rattle.rule_core.specs.declared.signature.SortRef.{SortRef}
 use Rattle.kore_show.specs.KorePatterns.{declared_name, injection_name, kore_sort, with_sort}
-use Rattle.kore_show.specs.KorePatterns.{kore_sorts, kore_value, applied, in_front, kore_pattern}
-use Rattle.kore_show.specs.KorePatterns.{kore_patterns}
+use Rattle.kore_show.specs.KorePatterns.{kore_sorts, kore_value, applied_tree, in_front}
+use Rattle.kore_show.specs.KorePatterns.{kore_pattern, kore_patterns}
 use Rattle.rule_core.specs.KindTests.{is_injection}
 use Rattle.kore_show.proofs.Declared.{name-there, injection-there}
 
 applied-there : (name : Option (List ℕ)) (sorts : Option (List SortTree))
     (args : Option PatternTrees) → IsSome name → IsSome sorts → IsSome args
-    → IsSome (applied name sorts args)
+    → IsSome (applied_tree name sorts args)
 applied-there None sorts args h k l = absurd (let no : ⊥ = cc in no)
 applied-there (Some n) None args h k l = absurd (let no : ⊥ = cc in no)
 applied-there (Some n) (Some ss) None h k l = absurd (let no : ⊥ = cc in no)

@@ -48,15 +48,16 @@ kore_sorts sig (s ∷ ss) = with_sort (kore_sort sig s) (kore_sorts sig ss)
 -- a domain value of a sort
 abbrev pub kore_value : Option SortTree → DomainValue → Option PatternTree
 kore_value None v = None
-kore_value (Some s) v = Some (tree.domain_value 0 s (value_text v) 0)
+kore_value (Some s) v = Some (tree.value_written 0 s (value_text v) 0)
 
 -- a symbol of this name, at these sorts, applied to these arguments
-abbrev pub applied : Option (List ℕ) → Option (List SortTree) → Option PatternTrees
+abbrev pub applied_tree : Option (List ℕ) → Option (List SortTree) → Option PatternTrees
     → Option PatternTree
-applied None sorts args = None
-applied (Some name) None args = None
-applied (Some name) (Some sorts) None = None
-applied (Some name) (Some sorts) (Some args) = Some (symbol_applied 0 name (sort_trees sorts) args)
+applied_tree None sorts args = None
+applied_tree (Some name) None args = None
+applied_tree (Some name) (Some sorts) None = None
+applied_tree (Some name) (Some sorts) (Some args) =
+    Some (symbol_applied 0 name (sort_trees sorts) args)
 
 -- a pattern and more patterns
 abbrev pub in_front : Option PatternTree → Option PatternTrees → Option PatternTrees
@@ -71,12 +72,12 @@ abbrev mutual
   kore_pattern sig (variable x) = None
   kore_pattern sig (domain_value s v) = kore_value (kore_sort sig s) v
   kore_pattern sig (application f ps) =
-      applied (declared_name sig.symbols f) (Some []) (kore_patterns sig ps)
+      applied_tree (declared_name sig.symbols f) (Some []) (kore_patterns sig ps)
   kore_pattern sig (injection a b p) =
-      applied (injection_name sig.symbols) (kore_sorts sig (a ∷ (b ∷ [])))
+      applied_tree (injection_name sig.symbols) (kore_sorts sig (a ∷ (b ∷ [])))
       (in_front (kore_pattern sig p) (Some no_patterns))
   kore_pattern sig (call f sorts ps) =
-      applied (declared_name sig.symbols f) (kore_sorts sig sorts) (kore_patterns sig ps)
+      applied_tree (declared_name sig.symbols f) (kore_sorts sig sorts) (kore_patterns sig ps)
 
   pub kore_patterns : Signature → Patterns → Option PatternTrees
   kore_patterns sig no_pattern = Some no_patterns

@@ -11,7 +11,7 @@ use Rattle.kore_sig.specs.CountedModules.{imports_of, counts, counted}
 use Rattle.rule_core.specs.Named.{is_among}
 use Rattle.kore_sig.specs.declared.counted.Placed.{Placed as PlacedDecl}
 use Rattle.kore_sig.specs.Placing.{marks_of, plain_placed}
-use Rattle.kore_sig.specs.SignatureFaults.{Placed, placed_at, placed, names_after}
+use Rattle.kore_sig.specs.SignatureFaults.{Placed, placed_at, declarations_placed, names_after}
 use Rattle.kore_sig.proofs.ListLaws.{drop_step}
 
 -- the modules from the place before this one on: the module there, and those from this place on
@@ -67,13 +67,13 @@ by_mark false names m later = refl
 
 -- the declarations of the modules that count, module by module
 pub placed_counted : (names : List (List ℕ)) (modules : List ModuleTree)
-    → map (λ (p : Placed). p.declaration) (placed names modules)
+    → map (λ (p : Placed). p.declaration) (declarations_placed names modules)
     ≡ flat_map (λ (m : ModuleTree). m.declarations) (counted modules)
 placed_counted names [] = refl
 placed_counted names (m ∷ later) =
     map-append (λ (p : Placed). p.declaration)
     (cond (counts m later (counted later)) (map (placed_at names) m.declarations) [])
-    (placed (names_after names m) later)
+    (declarations_placed (names_after names m) later)
     ∙ ap (λ ds. map (λ (p : Placed). p.declaration)
     (cond (counts m later (counted later)) (map (placed_at names) m.declarations) [])
     ++ ds) (placed_counted (names_after names m) later)
@@ -101,21 +101,24 @@ mark_at ms marks i m later b is lt at rest =
 -- the declarations with one more module
 pub placed_with : (names : List (List ℕ)) (m : ModuleTree) (later : List ModuleTree) (b : Bool)
     (so_far : List Placed) → b ≡ counts m later (counted later) → b ≡ true
-    → (so_far ++ map (placed_at names) m.declarations) ++ placed (names_after names m) later
-    ≡ so_far ++ placed names (m ∷ later)
+    → (so_far ++ map (placed_at names) m.declarations)
+    ++ declarations_placed (names_after names m) later
+    ≡ so_far ++ declarations_placed names (m ∷ later)
 placed_with names m later b so_far is holds =
-    append_assoc so_far (map (placed_at names) m.declarations) (placed (names_after names m) later)
+    append_assoc so_far (map (placed_at names) m.declarations)
+        (declarations_placed (names_after names m) later)
     ∙ ap (λ c. so_far
     ++ (cond c (map (placed_at names) m.declarations) []
-    ++ placed (names_after names m) later)) (sym holds ∙ is)
+    ++ declarations_placed (names_after names m) later)) (sym holds ∙ is)
 
 pub placed_without : (names : List (List ℕ)) (m : ModuleTree) (later : List ModuleTree) (b : Bool)
     (so_far : List Placed) → b ≡ counts m later (counted later) → b ≡ false
-    → so_far ++ placed (names_after names m) later ≡ so_far ++ placed names (m ∷ later)
+    → so_far ++ declarations_placed (names_after names m) later ≡ so_far
+    ++ declarations_placed names (m ∷ later)
 placed_without names m later b so_far is fails =
     ap (λ c. so_far
     ++ (cond c (map (placed_at names) m.declarations) []
-    ++ placed (names_after names m) later)) (sym fails ∙ is)
+    ++ declarations_placed (names_after names m) later)) (sym fails ∙ is)
 
 -- the declarations of placed declarations
 pub declarations_of : (names : List (List ℕ)) (ps : List PlacedDecl)

@@ -5,7 +5,7 @@ use Rattle.std.specs.Prelude.{Some, None, is_none, option_copied, if◌then◌el
 use Rattle.std.specs.Prelude.{length, ◌==◌}
 use Rattle.std.specs.List.{AllZip}
 use Rattle.std.proofs.lemmas.List.{map-append, append-nil}
-use Rattle.rule_core.specs.Named.{number_of, is_among}
+use Rattle.rule_core.specs.Named.{number_of_name, is_among}
 use Rattle.rule_core.specs.DistinctNames.{names_of}
 use Rattle.rule_core.specs.declared.signature.SymInfo.{SymInfo}
 use Rattle.kore_text.specs.Trees.{SortDeclaration, SymbolDeclaration, Declaration, sort_declaration}
@@ -21,8 +21,9 @@ use Rattle.kore_ast.specs.declared.tree.Decl.{Decl}
 use Rattle.kore_ast.specs.declared.tree.Decl.TheVariants as decl
 use Rattle.kore_ast.specs.declared.tree.SortDecl.{SortDecl}
 use Rattle.kore_ast.specs.declared.tree.SymbolDecl.{SymbolDecl}
-use Rattle.kore_sig.specs.SignatureFaults.{declared_after, reference_faults, symbol_faults}
-use Rattle.kore_sig.specs.SignatureFaults.{sort_faults, most_arguments}
+use Rattle.kore_sig.specs.SignatureFaults.{declared_after, reference_faults}
+use Rattle.kore_sig.specs.SignatureFaults.{symbol_declaration_faults, sort_declaration_faults}
+use Rattle.kore_sig.specs.SignatureFaults.{most_arguments}
 use Rattle.kore_sig.specs.Signatures.{IsSymbolEntry}
 use Rattle.kore_sig.specs.declared.declared_facts.DeclaredFacts.{DeclaredFacts}
 use Rattle.kore_sig.proofs.KnowingLaws.{entries_push, symbols_push}
@@ -65,12 +66,12 @@ allzip_push R (w ∷ xs) [] x y h r = absurd h
 allzip_push R (w ∷ xs) (z ∷ ys) x y h r = (h.0, allzip_push R xs ys x y h.1 r)
 
 fresh_true : {V : Type 0} (es : List (List ℕ × V)) (name : List ℕ)
-    → is_among (names_of es) name ≡ false → is_none (number_of es name) ≡ true
+    → is_among (names_of es) name ≡ false → is_none (number_of_name es name) ≡ true
 fresh_true es name e = ap not (number_among es name ∙ e)
 
 -- a new name is added
 pub added : {V : Type 0} (old new : List (List ℕ × V)) (name : List ℕ) (v : V) (b : Bool)
-    → is_among (names_of old) name ≡ false → b ≡ is_none (number_of old name)
+    → is_among (names_of old) name ≡ false → b ≡ is_none (number_of_name old name)
     → new ≡ (if b then old ++ (name, v) ∷ [] else old) → new ≡ old ++ (name, v) ∷ []
 added old new name v b free fresh is =
     is ∙ ap (λ c. cond c (old ++ (name, v) ∷ []) old) (fresh ∙ fresh_true old name free)
@@ -159,11 +160,11 @@ pub record IsClearSymbol (sorts : List (List ℕ × SortInfo)) (names : List (Li
   pub result : reference_faults sorts d.params d.result ≡ []
 
 pub clear_symbol : (sorts : List (List ℕ × SortInfo)) (names : List (List ℕ))
-    (d : SymbolDeclaration) → first_by_number (symbol_faults sorts names d) ≡ None
+    (d : SymbolDeclaration) → first_by_number (symbol_declaration_faults sorts names d) ≡ None
     → IsClearSymbol sorts names d
 clear_symbol sorts names d none =
     let F = reference_faults sorts d.params in
-    let all = empty_from_none leads_by_number (symbol_faults sorts names d) none in
+    let all = empty_from_none leads_by_number (symbol_declaration_faults sorts names d) none in
     let front =
     (both_empty (when (is_among names d.name) 5 d.at ++ flat_map F (d.args ++ d.result ∷ []))
     (when (nat_lt most_arguments (length d.args)) 8 d.at) all).0 in
@@ -180,8 +181,8 @@ clear_symbol sorts names d none =
     }
 
 pub clear_sort : (names : List (List ℕ)) (d : SortDeclaration)
-    → first_by_number (sort_faults names d) ≡ None → is_among names d.name ≡ false
+    → first_by_number (sort_declaration_faults names d) ≡ None → is_among names d.name ≡ false
 clear_sort names d none =
     when_empty (is_among names d.name) 5 d.at (both_empty (when (is_among names d.name) 5 d.at)
     (unless (length d.params == 0) 10 d.at)
-    (empty_from_none leads_by_number (sort_faults names d) none)).0
+    (empty_from_none leads_by_number (sort_declaration_faults names d) none)).0

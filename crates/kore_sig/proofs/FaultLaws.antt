@@ -6,7 +6,7 @@ use Rattle.std.specs.List.{list_any, position_from}
 use Rattle.std.specs.Str.{bytes_eq}
 use Rattle.std.proofs.lemmas.Bool.Decides.{Decides-ltb}
 use Rattle.std.proofs.lemmas.List.{take-map}
-use Rattle.rule_core.specs.Named.{number_of, is_among}
+use Rattle.rule_core.specs.Named.{number_of_name, is_among}
 use Rattle.rule_core.specs.DistinctNames.{names_of}
 use Rattle.rule_core.specs.declared.signature.SortInfo.{SortInfo}
 use Rattle.kore_text.specs.Trees.{SortTree}
@@ -79,13 +79,13 @@ among_taken {V} es n k = ap (λ ns. is_among ns n) (take-map (λ (e : List ℕ �
     ∙ sym (any_name (take k es) n)
 
 pub earlier_some : {V : Type 0} (es : List (List ℕ × V)) (n : List ℕ) (k j : ℕ)
-    → number_of es n ≡ Some j → nat_lt j k ≡ is_among (take k (names_of es)) n
+    → number_of_name es n ≡ Some j → nat_lt j k ≡ is_among (take k (names_of es)) n
 earlier_some {V} es n k j e =
     sym (among_taken es n k ∙ any_in_front (λ (x : List ℕ × V).
     bytes_eq n x.0) 0 k es j e ∙ ap (nat_lt j) (let plain : 0 + k ≡ k = omega arith in plain))
 
 pub earlier_none : {V : Type 0} (es : List (List ℕ × V)) (n : List ℕ) (k : ℕ)
-    → number_of es n ≡ None → false ≡ is_among (take k (names_of es)) n
+    → number_of_name es n ≡ None → false ≡ is_among (take k (names_of es)) n
 earlier_none {V} es n k e =
     sym (among_taken es n k ∙ none_in_front (λ (x : List ℕ × V). bytes_eq n x.0) 0 k es e)
 

@@ -7,7 +7,7 @@ use Rattle.std.specs.Str.{bytes_eq}
 use Rattle.std.proofs.lemmas.Slice.Eq.{bytes_eq-Decides}
 use Rattle.std.proofs.lemmas.List.{map-append, append-nil}
 use Rattle.std.proofs.lemmas.List.Elements.{filter_map-append}
-use Rattle.rule_core.specs.Named.{number_of, is_among}
+use Rattle.rule_core.specs.Named.{number_of_name, is_among}
 use Rattle.rule_core.specs.DistinctNames.{names_of, IsNoneOf, AreDistinct}
 use Rattle.rule_core.specs.declared.signature.SortInfo.{SortInfo}
 use Rattle.kore_text.specs.Trees.{Declaration, sort_declaration, SortDeclaration}
@@ -63,14 +63,14 @@ distinct_last (x ∷ xs) n h =
 -- ---- one more sort
 
 at_fresh : (b : Bool) (old new es : List (List ℕ × SortInfo)) (e : List ℕ × SortInfo)
-    → b ≡ is_none (number_of old e.0) → new ≡ (if b then old ++ e ∷ [] else old)
-    → is_some (number_of old e.0) ≡ false → old ≡ es → new ≡ es ++ e ∷ []
+    → b ≡ is_none (number_of_name old e.0) → new ≡ (if b then old ++ e ∷ [] else old)
+    → is_some (number_of_name old e.0) ≡ false → old ≡ es → new ≡ es ++ e ∷ []
 at_fresh true old new es e fresh is none same = is ∙ ap (λ xs. xs ++ e ∷ []) same
 at_fresh false old new es e fresh is none same =
     absurd (let never : ⊥ = cc (fresh, ap not none) in never)
 
 pub sort_more : (ds : List Declaration) (d : SortDeclaration) (b : Bool)
-    (old new : List (List ℕ × SortInfo)) → b ≡ is_none (number_of old d.name)
+    (old new : List (List ℕ × SortInfo)) → b ≡ is_none (number_of_name old d.name)
     → new ≡ (if b then old ++ sort_entry d ∷ [] else old) → IsSortTable ds old
     → IsSortTable (ds ++ sort_declaration d ∷ []) new
 sort_more ds d b old new fresh is table =

@@ -5,7 +5,7 @@ use Rattle.std.specs.Prelude.{Option, Some, None, is_some, option_map, find, fil
 use Rattle.std.specs.Prelude.{◌||◌}
 use Rattle.std.specs.List.{list_any, cons_option, position_from}
 use Rattle.std.specs.Str.{bytes_eq}
-use Rattle.rule_core.specs.Named.{number_of}
+use Rattle.rule_core.specs.Named.{number_of_name}
 use Rattle.std.proofs.lemmas.List.{take_more, drop_more, map-append, append-nil, take-append-drop}
 use Rattle.std.proofs.lemmas.List.Elements.{filter_map-append}
 
@@ -71,7 +71,7 @@ position_within test i (x ∷ xs) j e =
     (position_within test (i + 1) xs j) e
 
 pub number_within : {V : Type 0} (es : List (List ℕ × V)) (name : List ℕ) (i : ℕ)
-    → number_of es name ≡ Some i → i < length es
+    → number_of_name es name ≡ Some i → i < length es
 number_within {V} es name i e =
     omega (arith, position_within (λ (x : List ℕ × V). bytes_eq name x.0) 0 es i e)
 

@@ -5,7 +5,7 @@ use Rattle.std.specs.Prelude.{is_some, option_map, flat_map, ◌||◌, All, nat_
 use Rattle.std.specs.List.{AllZip, AllByRecursion}
 use Rattle.std.specs.Str.{bytes_eq}
 use Rattle.std.proofs.lemmas.List.Elements.{All-from_recursion}
-use Rattle.rule_core.specs.Named.{number_of, is_among}
+use Rattle.rule_core.specs.Named.{number_of_name, is_among}
 use Rattle.rule_core.specs.DistinctNames.{names_of, AreDistinct}
 use Rattle.rule_core.specs.Subsorts.{HasNoCycle}
 use Rattle.rule_core.specs.WellSorted.{IsReference, IsDeclaration, IsPair, IsSignature}
@@ -23,8 +23,8 @@ use Rattle.kore_sig.specs.Declarations.{SubsortPair}
 use Rattle.kore_sig.specs.FirstFault.{unless, when}
 use Rattle.kore_sig.specs.Declaring.{first_declared, placed_faults, placed_behind}
 use Rattle.kore_sig.specs.Sets.{Knows}
-use Rattle.kore_sig.specs.SignatureFaults.{Before, Placed, reference_faults, declaration_faults}
-use Rattle.kore_sig.specs.SignatureFaults.{most_arguments}
+use Rattle.kore_sig.specs.SignatureFaults.{DeclaredBefore, Placed, reference_faults}
+use Rattle.kore_sig.specs.SignatureFaults.{declaration_faults, most_arguments}
 use Rattle.kore_sig.specs.Signatures.{IsSymbolEntry, IsPairOf}
 use Rattle.kore_sig.specs.SortReferences.{sort_reference, declared_number, parameter_place}
 use Rattle.kore_sig.specs.SortReferences.{sort_place}
@@ -38,7 +38,7 @@ use Rattle.kore_sig.proofs.SetLaws.{number_among}
 -- ---- sorts with the same names
 
 number_known : (table entries : List (List ℕ × SortInfo)) → Knows table (names_of entries)
-    → (n : List ℕ) → is_some (number_of table n) ≡ is_some (number_of entries n)
+    → (n : List ℕ) → is_some (number_of_name table n) ≡ is_some (number_of_name entries n)
 number_known table entries knows n = knows n ∙ sym (number_among entries n)
 
 declared_known : (table entries : List (List ℕ × SortInfo)) → Knows table (names_of entries)
@@ -70,7 +70,7 @@ references_known table entries knows params (s ∷ ss) =
     (references_known table entries knows params ss)
 
 faults_known : (table entries : List (List ℕ × SortInfo)) → Knows table (names_of entries)
-    → (before : Before) (earlier : List (List ℕ)) (d : Declaration)
+    → (before : DeclaredBefore) (earlier : List (List ℕ)) (d : Declaration)
     → declaration_faults table before earlier d ≡ declaration_faults entries before earlier d
 faults_known table entries knows before earlier (import_declaration d) = refl
 faults_known table entries knows before earlier (sort_declaration d) = refl
@@ -84,7 +84,7 @@ faults_known table entries knows before earlier (claim_declaration d) = refl
 
 -- the first fault is the same by both tables
 pub first_known : (table entries : List (List ℕ × SortInfo)) → Knows table (names_of entries)
-    → (before : Before) (ps : List Placed)
+    → (before : DeclaredBefore) (ps : List Placed)
     → first_declared table before ps ≡ first_declared entries before ps
 first_known table entries knows before ps =
     first_in_same (placed_faults table) (placed_faults entries) placed_behind

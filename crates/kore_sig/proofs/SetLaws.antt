@@ -8,7 +8,7 @@ use Rattle.std.proofs.lemmas.Slice.Eq.{bytes_eq-Decides}
 use Rattle.std.proofs.lemmas.List.Folds.{list_any-append}
 use Rattle.std.proofs.lemmas.List.{map-append}
 use Rattle.std.proofs.Math.Bool.{or_comm}
-use Rattle.rule_core.specs.Named.{number_of, is_among}
+use Rattle.rule_core.specs.Named.{number_of_name, is_among}
 use Rattle.rule_core.specs.DistinctNames.{names_of}
 use Rattle.kore_sig.specs.Sets.{Knows}
 
@@ -31,7 +31,7 @@ any_name (e ∷ entries) n = ap (λ (b : Bool). bytes_eq n e.0 || b) (any_name e
 
 -- a name has a number if and only if it is among the names
 pub number_among : {V : Type 0} (entries : List (List ℕ × V)) (n : List ℕ)
-    → is_some (number_of entries n) ≡ is_among (names_of entries) n
+    → is_some (number_of_name entries n) ≡ is_among (names_of entries) n
 number_among {V} entries n =
     some_position (λ (e : List ℕ × V). bytes_eq n e.0) 0 entries ∙ any_name entries n
 
@@ -70,27 +70,27 @@ names_push {V} old name v = map-append (λ (e : List ℕ × V). e.0) old ((name,
 
 -- a set with one more name
 pub knows_more : {V : Type 0} (b : Bool) (old new : List (List ℕ × V)) (name : List ℕ) (v : V)
-    (known : List (List ℕ)) → b ≡ is_none (number_of old name)
+    (known : List (List ℕ)) → b ≡ is_none (number_of_name old name)
     → new ≡ (if b then old ++ (name, v) ∷ [] else old) → Knows old known
     → Knows new (known ++ name ∷ [])
 knows_more true old new name v known fresh is knows n =
-    ap (λ es. is_some (number_of es n)) is
+    ap (λ es. is_some (number_of_name es n)) is
     ∙ number_among (old ++ (name, v) ∷ []) n
     ∙ ap (λ ns. is_among ns n) (names_push old name v)
     ∙ among_append (names_of old) (name ∷ []) n
     ∙ ap (λ (b : Bool). b || is_among (name ∷ []) n) (sym (number_among old n) ∙ knows n)
     ∙ sym (among_append known (name ∷ []) n)
 knows_more false old new name v known fresh is knows n =
-    ap (λ es. is_some (number_of es n)) is
-    ∙ one_more (bytes_eq n name) (λ (m : List ℕ). is_some (number_of old m)) n name refl
-    (not_false (is_some (number_of old name)) (sym fresh))
+    ap (λ es. is_some (number_of_name es n)) is
+    ∙ one_more (bytes_eq n name) (λ (m : List ℕ). is_some (number_of_name old m)) n name refl
+    (not_false (is_some (number_of_name old name)) (sym fresh))
     ∙ ap (λ (b : Bool). b || is_among (name ∷ []) n) (knows n)
     ∙ sym (among_append known (name ∷ []) n)
 
 pub knows_same : {V : Type 0} (old new : List (List ℕ × V)) (xs ys : List (List ℕ)) → new ≡ old
     → xs ≡ ys → Knows old xs → Knows new ys
 knows_same old new xs ys e f h n =
-    ap (λ es. is_some (number_of es n)) e ∙ h n ∙ ap (λ ns. is_among ns n) f
+    ap (λ es. is_some (number_of_name es n)) e ∙ h n ∙ ap (λ ns. is_among ns n) f
 
 -- the order of two lists of names does not matter for a set
 pub knows_swap : {V : Type 0} (es : List (List ℕ × V)) (xs ys : List (List ℕ)) → Knows es (xs ++ ys)

@@ -10,8 +10,8 @@ use Rattle.kore_text.specs.Trees.{SymbolDeclaration}
 use Rattle.kore_sig.specs.Declarations.{SubsortPair, symbols_of, pairs_of}
 use Rattle.kore_sig.specs.FirstFault.{Fault, ByByte, ByNumber, IsFirstBy, Then, IsFirstOfSequence}
 use Rattle.kore_sig.specs.SignatureFaults.{FirstOfModules, FirstOfDeclarations, FirstOfPairs}
-use Rattle.kore_sig.specs.SignatureFaults.{HasPairFault, placed, module_faults, names_after}
-use Rattle.kore_sig.specs.SignatureFaults.{nothing_declared, pairs_after}
+use Rattle.kore_sig.specs.SignatureFaults.{HasPairFault, declarations_placed, module_faults}
+use Rattle.kore_sig.specs.SignatureFaults.{names_after, nothing_declared, pairs_after}
 use Rattle.kore_sig.specs.Declaring.{placed_faults, placed_behind}
 use Rattle.kore_sig.specs.SignatureLaws.{FirstIsOne, IsSameSymbol, SignatureIsOne}
 use Rattle.kore_sig.specs.Signatures.{IsSymbolEntry, IsPairOf}
@@ -95,16 +95,16 @@ in_order_one R next one s (x ∷ xs) =
 pub first_is_one : FirstIsOne
 first_is_one d =
     then_one (FirstOfModules d.modules) (Then
-    (FirstOfDeclarations (sort_entries d) (placed [] d.modules))
+    (FirstOfDeclarations (sort_entries d) (declarations_placed [] d.modules))
     (FirstOfPairs (sort_entries d) (pairs_of d)))
     (in_order_one (λ names m. IsFirstBy ByNumber (Contains (module_faults names m))) names_after
     (λ names m. first_one (Contains (module_faults names m))) [] d.modules)
-    (then_one (FirstOfDeclarations (sort_entries d) (placed [] d.modules))
+    (then_one (FirstOfDeclarations (sort_entries d) (declarations_placed [] d.modules))
     (FirstOfPairs (sort_entries d) (pairs_of d))
     (in_order_one
     (λ before p. IsFirstBy ByNumber (Contains (placed_faults (sort_entries d) before p)))
     placed_behind (λ before p. first_one (Contains (placed_faults (sort_entries d) before p)))
-    nothing_declared (placed [] d.modules))
+    nothing_declared (declarations_placed [] d.modules))
     (in_order_one (λ before p. IsFirstBy ByNumber (HasPairFault (sort_entries d) before p))
     (pairs_after (sort_entries d))
     (λ before p. first_one (HasPairFault (sort_entries d) before p)) [] (pairs_of d)))

@@ -17,7 +17,7 @@ use Rattle.kore_sig.specs.Naming.{first_module}
 use Rattle.kore_sig.specs.Ordering.{FirstFrom, pairs_in}
 use Rattle.kore_sig.specs.SignatureFaults.{Placed, FirstOfModules, FirstOfDeclarations}
 use Rattle.kore_sig.specs.SignatureFaults.{FirstOfPairs, module_faults, names_after}
-use Rattle.kore_sig.specs.SignatureFaults.{nothing_declared, placed}
+use Rattle.kore_sig.specs.SignatureFaults.{nothing_declared, declarations_placed}
 use Rattle.kore_sig.specs.Signatures.{IsSymbolEntry, IsPairOf, IsSignatureOf}
 use Rattle.kore_sig.specs.SortReferences.{sort_entries}
 use Rattle.kore_sig.specs.SymbolKinds.{injection_of, ac_names}
@@ -41,9 +41,9 @@ declarations_first sorts ps r e =
 -- the first fault of the declarations, by a table of the declared sorts
 pub declared_first : (definition : DefinitionTree) (ds : List Declaration) (known : DeclaredFacts)
     (ps : List Placed) (r : Option Fault) → ds ≡ counted_declarations definition
-    → IsKnown ds known → ps ≡ placed [] definition.modules
+    → IsKnown ds known → ps ≡ declarations_placed [] definition.modules
     → first_declared known.sorts nothing_declared ps ≡ r
-    → FirstOfDeclarations (sort_entries definition) (placed [] definition.modules) r
+    → FirstOfDeclarations (sort_entries definition) (declarations_placed [] definition.modules) r
 declared_first definition ds known ps r counted is where_ first =
     let same : first_declared (entries_in ds) nothing_declared ps ≡ r =
     sym (first_known known.sorts (entries_in ds) is.sorts.known nothing_declared ps) ∙ first in

@@ -9,17 +9,17 @@ use Rattle.kore_text.specs.Trees.{SortTree, listed_sorts, PatternTree, string, s
 use Rattle.kore_text.specs.Trees.{listed_patterns}
 
 -- the pattern is an attribute with this name
-abbrev pub is_named : List ℕ → PatternTree → Bool
-is_named name (symbol_applied at n sorts arguments) = bytes_eq n name
-is_named name p = false
+abbrev pub is_attribute_named : List ℕ → PatternTree → Bool
+is_attribute_named name (symbol_applied at n sorts arguments) = bytes_eq n name
+is_attribute_named name p = false
 
 -- some attribute has this name
 abbrev pub has_attribute : List ℕ → List PatternTree → Bool
-has_attribute name attributes = list_any (is_named name) attributes
+has_attribute name attributes = list_any (is_attribute_named name) attributes
 
 -- the first attribute with this name; if there are several, only this one counts
 abbrev pub first_of_name : List ℕ → List PatternTree → Option PatternTree
-first_of_name name attributes = find (is_named name) attributes
+first_of_name name attributes = find (is_attribute_named name) attributes
 
 -- the text of a pattern that is a string
 abbrev pub text_itself : PatternTree → Option (List ℕ)
@@ -32,14 +32,14 @@ only_text (p ∷ []) = text_itself p
 only_text ps = None
 
 -- the text of an attribute whose only argument is a text
-abbrev pub text_of : PatternTree → Option (List ℕ)
-text_of (symbol_applied at n sorts arguments) = only_text (listed_patterns arguments)
-text_of p = None
+abbrev pub attribute_text : PatternTree → Option (List ℕ)
+attribute_text (symbol_applied at n sorts arguments) = only_text (listed_patterns arguments)
+attribute_text p = None
 
 -- the name of the hook; the empty text, which names no hook, if the attribute has no text
 abbrev pub hook_of : List PatternTree → Option (List ℕ)
 hook_of attributes =
-    option_map (λ (a : PatternTree). unwrap_or (text_of a) [])
+    option_map (λ (a : PatternTree). unwrap_or (attribute_text a) [])
     (first_of_name (codes "hook") attributes)
 
 -- some attribute says that the symbol is associative, commutative or idempotent, or has a unit

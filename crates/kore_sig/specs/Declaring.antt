@@ -9,7 +9,8 @@ use Rattle.kore_sig.specs.FirstFault.{Fault}
 use Rattle.kore_sig.specs.Knowing.{entries_in, symbols_in}
 use Rattle.kore_sig.specs.Noted.{first_in}
 use Rattle.kore_sig.specs.Refusals.{Refuses}
-use Rattle.kore_sig.specs.SignatureFaults.{Placed, Before, declaration_faults, declared_after}
+use Rattle.kore_sig.specs.SignatureFaults.{Placed, DeclaredBefore, declaration_faults}
+use Rattle.kore_sig.specs.SignatureFaults.{declared_after}
 use Rattle.kore_sig.specs.Signatures.{IsSymbolEntry}
 use Rattle.kore_sig.specs.declared.faults.SigFault.{SigFault}
 use Rattle.kore_sig.specs.declared.declared_facts.DeclaredFacts.{DeclaredFacts}
@@ -20,17 +21,17 @@ IsFoundFault first None = first ≡ None
 IsFoundFault first (Some fault) = Refuses (λ r. first ≡ r) fault
 
 -- the names that are declared before a declaration, from the tables that keep them
-abbrev pub before_of : List (List ℕ × Unit {0}) → List (List ℕ × SymInfo) → Before
+abbrev pub before_of : List (List ℕ × Unit {0}) → List (List ℕ × SymInfo) → DeclaredBefore
 before_of seen symbols = record { sorts = names_of seen; symbols = names_of symbols }
 
-abbrev pub placed_faults : List (List ℕ × SortInfo) → Before → Placed → List Fault
+abbrev pub placed_faults : List (List ℕ × SortInfo) → DeclaredBefore → Placed → List Fault
 placed_faults sorts before p = declaration_faults sorts before p.earlier p.declaration
 
-abbrev pub placed_behind : Before → Placed → Before
+abbrev pub placed_behind : DeclaredBefore → Placed → DeclaredBefore
 placed_behind before p = declared_after before p.declaration
 
 -- the first fault of these declarations
-abbrev pub first_declared : List (List ℕ × SortInfo) → Before → List Placed → Option Fault
+abbrev pub first_declared : List (List ℕ × SortInfo) → DeclaredBefore → List Placed → Option Fault
 first_declared sorts before ps = first_in (placed_faults sorts) placed_behind before ps
 
 -- the symbols that these declarations declare, from what is known of all declarations

@@ -41,14 +41,14 @@ abbrev pub placed_at : List (List ℕ) → Declaration → Placed
 placed_at names d = record { earlier = names; declaration = d }
 
 -- the declarations of the modules that count, if the modules before them have these names
-abbrev pub placed : List (List ℕ) → List ModuleTree → List Placed
-placed names [] = []
-placed names (m ∷ later) =
+abbrev pub declarations_placed : List (List ℕ) → List ModuleTree → List Placed
+declarations_placed names [] = []
+declarations_placed names (m ∷ later) =
     (if counts m later (counted later) then map (placed_at names) m.declarations else [])
-    ++ placed (names_after names m) later
+    ++ declarations_placed (names_after names m) later
 
 -- the names that are declared before a declaration
-pub record Before : Type 0 where
+pub record DeclaredBefore : Type 0 where
   pub sorts : List (List ℕ)
   pub symbols : List (List ℕ)
 
@@ -57,8 +57,9 @@ abbrev pub import_faults : List (List ℕ) → ImportDeclaration → List Fault
 import_faults earlier d = unless (is_among earlier d.name) 4 d.at
 
 -- 5 at the keyword: an earlier sort has the name; 10 at the keyword: it has parameters
-abbrev pub sort_faults : List (List ℕ) → SortDeclaration → List Fault
-sort_faults names d = when (is_among names d.name) 5 d.at ++ unless (length d.params == 0) 10 d.at
+abbrev pub sort_declaration_faults : List (List ℕ) → SortDeclaration → List Fault
+sort_declaration_faults names d = when (is_among names d.name) 5 d.at
+    ++ unless (length d.params == 0) 10 d.at
 
 -- 6 at the sort's name: it is neither declared nor a parameter, or it has arguments
 abbrev pub reference_faults : List (List ℕ × SortInfo) → List (List ℕ) → SortTree → List Fault
@@ -70,29 +71,32 @@ most_arguments = 64
 
 -- 5 at the keyword: an earlier symbol has the name; 6 at the name of a sort; 8 at the keyword: it
 -- has too many arguments
-abbrev pub symbol_faults : List (List ℕ × SortInfo) → List (List ℕ) → SymbolDeclaration → List Fault
-symbol_faults sorts names d =
+abbrev pub symbol_declaration_faults : List (List ℕ × SortInfo) → List (List ℕ) → SymbolDeclaration
+    → List Fault
+symbol_declaration_faults sorts names d =
     when (is_among names d.name) 5 d.at
     ++ flat_map (reference_faults sorts d.params) (d.args ++ d.result ∷ [])
     ++ when (nat_lt most_arguments (length d.args)) 8 d.at
 
 -- the faults of a declaration, if these names are declared before it
-abbrev pub declaration_faults : List (List ℕ × SortInfo) → Before → List (List ℕ) → Declaration
+abbrev pub declaration_faults : List (List ℕ × SortInfo) → DeclaredBefore → List (List ℕ)
+    → Declaration
     → List Fault
 declaration_faults sorts before earlier (import_declaration d) = import_faults earlier d
-declaration_faults sorts before earlier (sort_declaration d) = sort_faults before.sorts d
+declaration_faults sorts before earlier (sort_declaration d) =
+    sort_declaration_faults before.sorts d
 declaration_faults sorts before earlier (symbol_declaration d) =
-    symbol_faults sorts before.symbols d
+    symbol_declaration_faults sorts before.symbols d
 declaration_faults sorts before earlier d = []
 
 -- the names that are declared before the next declaration
-abbrev pub declared_after : Before → Declaration → Before
+abbrev pub declared_after : DeclaredBefore → Declaration → DeclaredBefore
 declared_after before (sort_declaration d) = record before { sorts = before.sorts ++ d.name ∷ [] }
 declared_after before (symbol_declaration d) =
     record before { symbols = before.symbols ++ d.name ∷ [] }
 declared_after before d = before
 
-abbrev pub nothing_declared : Before
+abbrev pub nothing_declared : DeclaredBefore
 nothing_declared = record { sorts = []; symbols = [] }
 
 abbrev pub FirstOfDeclarations : List (List ℕ × SortInfo) → List Placed → Option Fault → Type 0
@@ -140,5 +144,6 @@ FirstOfPairs sorts pairs r =
 abbrev pub FirstOfSignature : DefinitionTree → Option Fault → Type 0
 FirstOfSignature definition r =
     Then (FirstOfModules definition.modules)
-    (Then (FirstOfDeclarations (sort_entries definition) (placed [] definition.modules))
+    (Then (FirstOfDeclarations (sort_entries definition)
+    (declarations_placed [] definition.modules))
     (FirstOfPairs (sort_entries definition) (pairs_of definition))) r

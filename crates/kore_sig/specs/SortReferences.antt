@@ -6,7 +6,7 @@ use Rattle.std.specs.List.{position_from}
 use Rattle.std.specs.Str.{bytes_eq}
 use Rattle.kore_text.specs.Trees.{SortTree, sort_parameter, sort_applied, listed_sorts}
 use Rattle.kore_text.specs.Trees.{SortDeclaration, DefinitionTree}
-use Rattle.rule_core.specs.Named.{number_of}
+use Rattle.rule_core.specs.Named.{number_of_name}
 use Rattle.rule_core.specs.declared.signature.SortInfo.{SortInfo}
 use Rattle.rule_core.specs.declared.signature.SortKind.{SortKind}
 use Rattle.rule_core.specs.declared.signature.SortKind.TheVariants as kind
@@ -38,7 +38,7 @@ parameter_place params name = position_from (λ (p : List ℕ). bytes_eq name p)
 
 -- the number of the declared sort with this name; None if it has arguments
 abbrev pub declared_number : List (List ℕ × SortInfo) → List ℕ → List SortTree → Option ℕ
-declared_number sorts name [] = number_of sorts name
+declared_number sorts name [] = number_of_name sorts name
 declared_number sorts name (s ∷ args) = None
 
 -- What a sort means with these declared sorts and these sort parameters: one of the parameters, or

@@ -59,14 +59,14 @@ abbrev pub head_of : List ℕ → List SortTree → Option (List ℕ)
 head_of name [] = Some name
 head_of name (s ∷ sorts) = None
 
-abbrev pub applied_symbol : PatternTree → Option (List ℕ)
-applied_symbol (symbol_applied at n sorts args) = head_of n (listed_sorts sorts)
-applied_symbol p = None
+abbrev pub head_symbol : PatternTree → Option (List ℕ)
+head_symbol (symbol_applied at n sorts args) = head_of n (listed_sorts sorts)
+head_symbol p = None
 
 -- the symbol of the first of these patterns
 abbrev pub first_symbol : List PatternTree → Option (List ℕ)
 first_symbol [] = None
-first_symbol (p ∷ ps) = applied_symbol p
+first_symbol (p ∷ ps) = head_symbol p
 
 -- the symbol f of `\equals{S,R}(f{}(..),..)`
 abbrev pub equated_by : Op → List PatternTree → Option (List ℕ)

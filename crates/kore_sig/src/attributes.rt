@@ -1,12 +1,11 @@
 // Attributes, by their names.
 ghost use Rattle.std.specs.Prelude.{◌≡◌, map, option_map, option_copied};
 ghost use Rattle.kore_ast.specs.Plain.{pattern_tree, plain_sort};
-ghost use Rattle.kore_sig.specs.Attributes.{is_named as is_attribute, has_attribute as has};
-ghost use Rattle.kore_sig.specs.Attributes.{first_of_name as first};
+ghost use Rattle.kore_sig.specs.Attributes.{is_attribute_named as is_attribute};
+ghost use Rattle.kore_sig.specs.Attributes.{has_attribute as has, first_of_name as first};
 ghost use Rattle.kore_sig.specs.Attributes.{text_itself as the_text, only_text as the_only_text};
-ghost use Rattle.kore_sig.specs.Attributes.{text_of as text};
-ghost use Rattle.kore_sig.specs.Attributes.{hook_of as hook, is_said_ac as is_ac};
-ghost use Rattle.kore_sig.specs.Attributes.{stated_pair as the_pair};
+ghost use Rattle.kore_sig.specs.Attributes.{attribute_text as text, hook_of as hook};
+ghost use Rattle.kore_sig.specs.Attributes.{is_said_ac as is_ac, stated_pair as the_pair};
 ghost use Rattle.kore_sig.specs.Attributes.{subsort_sorts as pair};
 
 use kore_ast::{Pat, PatForm, Sort, Text};

@@ -2,7 +2,7 @@
 ghost use Rattle.std.specs.Prelude.{◌≡◌, ◌++◌, [], ℕ, List, map, filter_map, IfOk, OnOk, take};
 ghost use Rattle.kore_ast.specs.Plain.{plain_definition, plain_module, plain_declaration};
 ghost use Rattle.kore_sig.specs.CountedModules.{import_name, counted_declarations as the_counted};
-ghost use Rattle.kore_sig.specs.SignatureFaults.{placed as the_placed, placed_at};
+ghost use Rattle.kore_sig.specs.SignatureFaults.{declarations_placed as the_placed, placed_at};
 ghost use Rattle.kore_sig.specs.Placing.{marks_of, plain_placed, names_of_modules};
 ghost use Rattle.kore_sig.specs.Sets.{Knows};
 

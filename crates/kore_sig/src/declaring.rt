@@ -6,8 +6,8 @@ ghost use Rattle.rule_core.specs.DistinctNames.{names_of};
 ghost use Rattle.rule_core.specs.Named.{is_among};
 ghost use Rattle.kore_sig.specs.Declaring.{IsFoundFault, before_of};
 ghost use Rattle.kore_sig.specs.Noted.{first_by_number};
-ghost use Rattle.kore_sig.specs.SignatureFaults.{import_faults, sort_faults, symbol_faults};
-ghost use Rattle.kore_sig.specs.SignatureFaults.{declaration_faults};
+ghost use Rattle.kore_sig.specs.SignatureFaults.{import_faults, sort_declaration_faults};
+ghost use Rattle.kore_sig.specs.SignatureFaults.{symbol_declaration_faults, declaration_faults};
 
 use crate::counted::Placed;
 use crate::faults::SigFault;
@@ -66,7 +66,7 @@ fn is_earlier(modules: &Table<()>, own: usize, name: &Text) -> bool
 /// The first fault of a sort: its name is taken, or it has parameters.
 fn sort_fault(seen: &Table<()>, decl: &SortDecl) -> Option<SigFault>
     ensures { IsFoundFault
-        (first_by_number (sort_faults (names_of seen.now) (plain_sort_decl decl.now))) result }
+        (first_by_number (sort_declaration_faults (names_of seen.now) (plain_sort_decl decl.now))) result }
 {
     if has_name(seen, &decl.name) {
         Some(SigFault::Duplicate(decl.at))
@@ -86,7 +86,7 @@ fn symbol_fault(
 ) -> Option<SigFault>
     requires { length sorts.now < 2 ^ 32 }
     ensures { IsFoundFault (first_by_number
-        (symbol_faults sorts.now (names_of symbols.now) (plain_symbol_decl decl.now)))
+        (symbol_declaration_faults sorts.now (names_of symbols.now) (plain_symbol_decl decl.now)))
         result }
 {
     if has_name(symbols, &decl.name) {

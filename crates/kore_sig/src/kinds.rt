@@ -8,9 +8,8 @@ ghost use Rattle.kore_sig.specs.SymbolKinds.{goes_from_to as the_going};
 ghost use Rattle.kore_sig.specs.SymbolKinds.{has_injection_form as the_form};
 ghost use Rattle.kore_sig.specs.SymbolKinds.{is_named_so as the_named};
 ghost use Rattle.kore_sig.specs.SymbolKinds.{function_kind as the_function_kind};
-ghost use Rattle.kore_sig.specs.SymbolKinds.{kind_of as the_kind};
-ghost use Rattle.kore_sig.specs.SymbolKinds.{head_of as the_head, applied_symbol as the_applied};
-ghost use Rattle.kore_sig.specs.SymbolKinds.{first_symbol as the_first};
+ghost use Rattle.kore_sig.specs.SymbolKinds.{kind_of as the_kind, head_of as the_head};
+ghost use Rattle.kore_sig.specs.SymbolKinds.{head_symbol as the_applied, first_symbol as the_first};
 ghost use Rattle.kore_sig.specs.SymbolKinds.{equated_by as the_equated_by};
 ghost use Rattle.kore_sig.specs.SymbolKinds.{equated_symbol as the_equated, said_ac as the_said_ac};
 

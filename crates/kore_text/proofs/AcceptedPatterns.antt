@@ -7,17 +7,17 @@ use Rattle.kore_text.specs.declared.symbols.Close.TheVariants as close
 use Rattle.kore_text.specs.declared.symbols.Item.TheVariants as item
 use Rattle.kore_text.specs.declared.symbols.Symbol.{Symbol}
 use Rattle.kore_text.specs.declared.symbols.Symbol.TheVariants as symbol
-use Rattle.kore_text.specs.TokenStream.{Token, identifier, set_identifier, builtin, string_token}
-use Rattle.kore_text.specs.TokenStream.{mark, Stream, end, fault, token}
+use Rattle.kore_text.specs.TokenStream.{KoreToken, identifier, set_identifier, builtin}
+use Rattle.kore_text.specs.TokenStream.{string_token, mark, Stream, end, no_token_at, token}
 use Rattle.kore_text.specs.Trees.{SortTree, SortTrees, sort_count, PatternTree, element_variable}
-use Rattle.kore_text.specs.Trees.{set_variable, string, symbol_applied, connected, binding}
-use Rattle.kore_text.specs.Trees.{domain_value, folded, PatternTrees, no_patterns, pattern_then}
+use Rattle.kore_text.specs.Trees.{set_variable, string, symbol_applied, connected, binder_applied}
+use Rattle.kore_text.specs.Trees.{value_written, folded, PatternTrees, no_patterns, pattern_then}
 use Rattle.kore_text.specs.Trees.{pattern_count}
 use Rattle.kore_text.specs.Grammar.{Requirement, placed, any, Spelling, listed, more_listed}
-use Rattle.kore_text.specs.Grammar.{TakesTokens, sorts_of, arguments_of, takes, is_count}
-use Rattle.kore_text.specs.Grammar.{binder_sorts, binds_sets, is_variable, is_associative}
-use Rattle.kore_text.specs.Grammar.{is_foldable, spell_sort, spell_sorts, spell_pattern}
-use Rattle.kore_text.specs.Grammar.{spell_patterns}
+use Rattle.kore_text.specs.Grammar.{TakesTokens, connective_sorts, connective_arguments, takes}
+use Rattle.kore_text.specs.Grammar.{is_count, binder_sorts, binds_sets, is_variable_tree}
+use Rattle.kore_text.specs.Grammar.{is_associative, is_foldable, spell_sort, spell_sorts}
+use Rattle.kore_text.specs.Grammar.{spell_pattern, spell_patterns}
 use Rattle.kore_text.specs.Table.{turn, step, passes, run, empty_fold, folded_arguments, exactly}
 use Rattle.kore_text.specs.Table.{argument_symbols, built_symbols}
 use Rattle.kore_text.proofs.Reaching.{Reaches, done, after, by-token, any-placed, mark-goes}
@@ -57,23 +57,26 @@ pub connected-goes : (b : Bool) (at : ℕ) (o : Op) (ss : SortTrees) (ps : Patte
     ∷ listed (spell_sorts ss) 125 (any (mark 40) ∷ listed (spell_patterns b ps) 41 w)) s e
     → Reaches (symbol.Pattern b ∷ []) w s e
 connected-goes b at o ss ps w s e t ga h =
-    let c = both (sort_count ss == sorts_of o) (is_count (arguments_of o) (pattern_count ps)) t in
+    let c = both (sort_count ss == connective_sorts o) (is_count (connective_arguments o)
+        (pattern_count ps)) t in
     let v2 : List Requirement = any (mark 40) ∷ listed (spell_patterns b ps) 41 w in
     let v1 : List Requirement = listed (spell_sorts ss) 125 v2 in
     by-token (symbol.Pattern b) (built_symbols b (Connective o)) (builtin (Some (Connective o)))
     (any (mark 123) ∷ v1) w s e refl (λ k. built-step b (Connective o) k)
     (any-placed (builtin (Some (Connective o))) at (any (mark 123) ∷ v1) s e h)
-    (λ q x. mark-then 123 (exactly symbol.Sort close.Brace (sorts_of o)
-    (symbol.Mark 40 ∷ argument_symbols b (arguments_of o))) v1 w q e x
-    (λ r y. sorts-exactly (sorts_of o) ss (symbol.Mark 40 ∷ argument_symbols b (arguments_of o)) v2
-    w r e (number-is (sort_count ss) (sorts_of o) c.0) y
-    (λ i z. mark-then 40 (argument_symbols b (arguments_of o)) (listed (spell_patterns b ps) 41 w) w
+    (λ q x. mark-then 123 (exactly symbol.Sort close.Brace (connective_sorts o)
+    (symbol.Mark 40 ∷ argument_symbols b (connective_arguments o))) v1 w q e x
+    (λ r y. sorts-exactly (connective_sorts o) ss (symbol.Mark 40
+    ∷ argument_symbols b (connective_arguments o)) v2
+    w r e (number-is (sort_count ss) (connective_sorts o) c.0) y
+    (λ i z. mark-then 40 (argument_symbols b (connective_arguments o))
+    (listed (spell_patterns b ps) 41 w) w
     i e z
-    (λ j u. arguments-go b (arguments_of o) ps w j e c.1 ga u))))
+    (λ j u. arguments-go b (connective_arguments o) ps w j e c.1 ga u))))
 
 pub binding-goes : (b : Bool) (at : ℕ) (o : Binder) (ss : SortTrees) (x p : PatternTree)
     (w : List Requirement) (s e : Stream)
-    → ((sort_count ss == binder_sorts o) && is_variable (binds_sets o) x) ≡ true
+    → ((sort_count ss == binder_sorts o) && is_variable_tree (binds_sets o) x) ≡ true
     → ((w' : List Requirement) (s' : Stream) → Apart w' e → TakesTokens (spell_pattern b p w') s' e
     → Reaches (symbol.Pattern b ∷ []) w' s' e)
     → TakesTokens (placed at (builtin (Some (Binding o))) ∷ any (mark 123)
@@ -81,7 +84,7 @@ pub binding-goes : (b : Bool) (at : ℕ) (o : Binder) (ss : SortTrees) (x p : Pa
     ∷ spell_pattern b x (any (mark 44) ∷ spell_pattern b p (any (mark 41) ∷ w)))) s e
     → Reaches (symbol.Pattern b ∷ []) w s e
 binding-goes b at o ss x p w s e t body h =
-    let c = both (sort_count ss == binder_sorts o) (is_variable (binds_sets o) x) t in
+    let c = both (sort_count ss == binder_sorts o) (is_variable_tree (binds_sets o) x) t in
     let v4 : List Requirement = spell_pattern b p (any (mark 41) ∷ w) in
     let v3 : List Requirement = spell_pattern b x (any (mark 44) ∷ v4) in
     let v1 : List Requirement = listed (spell_sorts ss) 125 (any (mark 40) ∷ v3) in
@@ -135,17 +138,17 @@ folded_spellings b _ = []
 no-close : (s : Stream) → IsPlain s → passes s (symbol.Mark 41 ∷ []) ≡ false
 unfolding passes step turn
 no-close (end x) h = absurd h
-no-close (fault x) h = absurd h
+no-close (no_token_at x) h = absurd h
 no-close (token t p s) h = rw (unmarked 41 t h) refl
 
 -- after the head of an application with an argument comes more than `(` and `)`
-head-filled : (t : Token) (p : ℕ) (bs : List Symbol) (v w : List Requirement) (s e : Stream)
+head-filled : (t : KoreToken) (p : ℕ) (bs : List Symbol) (v w : List Requirement) (s e : Stream)
     → step (symbol.EmptyFolded ∷ []) t ≡ Some (bs ++ (symbol.Mark 41 ∷ []))
     → TakesTokens (placed p t ∷ v) s e → ((q : Stream) → TakesTokens v q e → Reaches bs w q e)
     → ((q : Stream) → TakesTokens w q e → IsPlain q)
     → passes s (symbol.EmptyFolded ∷ []) ≡ false
 head-filled t p bs v w (end x) e m h go f = absurd h
-head-filled t p bs v w (fault x) e m h go f = absurd h
+head-filled t p bs v w (no_token_at x) e m h go f = absurd h
 head-filled t p bs v w (token u q s) e m h go f =
     let r : Reaches bs w s e = go s h.2 in
     rw h.0 (pass-step t q s symbol.EmptyFolded [] (bs ++ (symbol.Mark 41 ∷ [])) m)
@@ -156,8 +159,8 @@ filled : (b : Bool) (q : PatternTree) (w : List Requirement) (s e : Stream) → 
 filled b (element_variable at n t) w s e i h = let z : ⊥ = cc in absurd z
 filled b (set_variable at n t) w s e i h = let z : ⊥ = cc in absurd z
 filled b (string at x) w s e i h = let z : ⊥ = cc in absurd z
-filled b (binding at o ss x q) w s e i h = let z : ⊥ = cc in absurd z
-filled b (domain_value at t x place) w s e i h = let z : ⊥ = cc in absurd z
+filled b (binder_applied at o ss x q) w s e i h = let z : ⊥ = cc in absurd z
+filled b (value_written at t x place) w s e i h = let z : ⊥ = cc in absurd z
 filled b (folded at left q) w s e i h = let z : ⊥ = cc in absurd z
 filled b (symbol_applied at n ss no_patterns) w s e i h = let z : ⊥ = cc in absurd z
 filled b (symbol_applied at n ss (pattern_then p ps)) w s e i h =
@@ -177,8 +180,8 @@ filled b (connected at o ss no_patterns) w s e i h =
 filled b (connected at o ss (pattern_then p ps)) w s e i h =
     let a = both (is_associative o) true i in
     let c =
-    both (sort_count ss == sorts_of o)
-    (is_count (arguments_of o) (pattern_count (pattern_then p ps))) h.0 in
+    both (sort_count ss == connective_sorts o)
+    (is_count (connective_arguments o) (pattern_count (pattern_then p ps))) h.0 in
     let v3 : List Requirement = spell_pattern b p (more_listed (spell_patterns b ps) 41 w) in
     let v1 : List Requirement = listed (spell_sorts ss) 125 (any (mark 40) ∷ v3) in
     head-filled (builtin (Some (Connective o))) at
@@ -186,7 +189,7 @@ filled b (connected at o ss (pattern_then p ps)) w s e i h =
     (any (mark 123) ∷ v1) v3 s e (empty-built-step o [] a.0) h.1
     (λ q x. mark-then 123 (symbol.Sort ∷ symbol.Mark 125 ∷ symbol.Mark 40 ∷ []) v1 v3 q e x
     (λ r y. sorts-exactly 1 ss (symbol.Mark 40 ∷ []) (any (mark 40) ∷ v3) v3 r e
-    (number-is (sort_count ss) (sorts_of o) c.0 ∙ single o a.0) y
+    (number-is (sort_count ss) (connective_sorts o) c.0 ∙ single o a.0) y
     (λ k z. mark-goes 40 v3 k e z)))
     (λ q x. plain-pattern b p (more_listed (spell_patterns b ps) 41 w) q e x)
 
@@ -215,7 +218,7 @@ by-fold : (b left : Bool) (p : ℕ) (v w : List Requirement) (s e : Stream)
     → ((q : Stream) → TakesTokens v q e → Reaches (built_symbols b (Fold left)) w q e)
     → Reaches (symbol.Pattern b ∷ []) w s e
 by-fold b left p v w (end x) e h f go = absurd h
-by-fold b left p v w (fault x) e h f go = absurd h
+by-fold b left p v w (no_token_at x) e h f go = absurd h
 by-fold b left p v w (token t q s) e h f go =
     let c : Reaches (built_symbols b (Fold left)) w s e = go s h.2 in record {
       to = c.to;
@@ -233,8 +236,8 @@ folded-goes : (b : Bool) (q : PatternTree) (w : List Requirement) (s e : Stream)
 folded-goes b (element_variable at n t) w s e i ga h = let z : ⊥ = cc in absurd z
 folded-goes b (set_variable at n t) w s e i ga h = let z : ⊥ = cc in absurd z
 folded-goes b (string at x) w s e i ga h = let z : ⊥ = cc in absurd z
-folded-goes b (binding at o ss x q) w s e i ga h = let z : ⊥ = cc in absurd z
-folded-goes b (domain_value at t x place) w s e i ga h = let z : ⊥ = cc in absurd z
+folded-goes b (binder_applied at o ss x q) w s e i ga h = let z : ⊥ = cc in absurd z
+folded-goes b (value_written at t x place) w s e i ga h = let z : ⊥ = cc in absurd z
 folded-goes b (folded at left q) w s e i ga h = let z : ⊥ = cc in absurd z
 folded-goes b (symbol_applied at n ss no_patterns) w s e i ga h = let z : ⊥ = cc in absurd z
 folded-goes b (symbol_applied at n ss (pattern_then p ps)) w s e i ga h =
@@ -254,8 +257,8 @@ folded-goes b (connected at o ss no_patterns) w s e i ga h =
 folded-goes b (connected at o ss (pattern_then p ps)) w s e i ga h =
     let a = both (is_associative o) true i in
     let c =
-    both (sort_count ss == sorts_of o)
-    (is_count (arguments_of o) (pattern_count (pattern_then p ps))) h.0 in
+    both (sort_count ss == connective_sorts o)
+    (is_count (connective_arguments o) (pattern_count (pattern_then p ps))) h.0 in
     let v2 : List Requirement =
     any (mark 40) ∷ spell_pattern b p (more_listed (spell_patterns b ps) 41 w) in
     let v1 : List Requirement = listed (spell_sorts ss) 125 v2 in
@@ -266,7 +269,7 @@ folded-goes b (connected at o ss (pattern_then p ps)) w s e i ga h =
     (any-placed (builtin (Some (Connective o))) at (any (mark 123) ∷ v1) s e h.1)
     (λ q x. mark-then 123 (symbol.Sort ∷ symbol.Mark 125 ∷ folded_arguments b) v1 w q e x
     (λ r y. sorts-exactly 1 ss (folded_arguments b) v2 w r e
-    (number-is (sort_count ss) (sorts_of o) c.0 ∙ single o a.0) y
+    (number-is (sort_count ss) (connective_sorts o) c.0 ∙ single o a.0) y
     (λ k z. arguments-folded b (spell_pattern b p) (spell_patterns b ps) w k e ga.0 ga.1 z)))
 
 fold-goes : (b left : Bool) (at : ℕ) (q : PatternTree) (w : List Requirement) (s e : Stream)
@@ -312,9 +315,9 @@ mutual
       applied-goes b at n ss (spell_patterns b ps) w s e (patterns-go b ps e) h
   pattern-goes b (connected at o ss ps) w s e a h =
       connected-goes b at o ss ps w s e h.0 (patterns-go b ps e) h.1
-  pattern-goes b (binding at o ss x p) w s e a h =
+  pattern-goes b (binder_applied at o ss x p) w s e a h =
       binding-goes b at o ss x p w s e h.0 (λ w' s' a' h'. pattern-goes b p w' s' e a' h') h.1
-  pattern-goes b (domain_value at t x place) w s e a h = value-goes b at t x place w s e h
+  pattern-goes b (value_written at t x place) w s e a h = value-goes b at t x place w s e h
   pattern-goes b (folded at left q) w s e a h =
       fold-goes b left at q w s e h.0 (folded-go b q e) h.1
 
@@ -325,8 +328,8 @@ mutual
   folded-go b (element_variable at n t) e = tt
   folded-go b (set_variable at n t) e = tt
   folded-go b (string at x) e = tt
-  folded-go b (binding at o ss x q) e = tt
-  folded-go b (domain_value at t x place) e = tt
+  folded-go b (binder_applied at o ss x q) e = tt
+  folded-go b (value_written at t x place) e = tt
   folded-go b (folded at left q) e = tt
 
   pub patterns-go : (b : Bool) (ps : PatternTrees) (e : Stream)

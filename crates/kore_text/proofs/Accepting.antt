@@ -11,16 +11,16 @@ use Rattle.kore_text.specs.declared.symbols.Item.TheVariants as item
 use Rattle.kore_text.specs.declared.symbols.Symbol.{Symbol}
 use Rattle.kore_text.specs.declared.symbols.Symbol.TheVariants as symbol
 use Rattle.kore_text.specs.TokenStream.{identifier, set_identifier, builtin, string_token, mark}
-use Rattle.kore_text.specs.TokenStream.{Stream, end, fault, token}
+use Rattle.kore_text.specs.TokenStream.{Stream, end, no_token_at, token}
 use Rattle.kore_text.specs.Trees.{SortTree, sort_parameter, sort_applied, SortTrees, no_sorts}
 use Rattle.kore_text.specs.Trees.{sort_then, sort_count, PatternTree, element_variable}
-use Rattle.kore_text.specs.Trees.{set_variable, string, symbol_applied, connected, binding}
-use Rattle.kore_text.specs.Trees.{domain_value, folded, PatternTrees, no_patterns, pattern_then}
+use Rattle.kore_text.specs.Trees.{set_variable, string, symbol_applied, connected, binder_applied}
+use Rattle.kore_text.specs.Trees.{value_written, folded, PatternTrees, no_patterns, pattern_then}
 use Rattle.kore_text.specs.Trees.{pattern_count}
-use Rattle.kore_text.specs.Grammar.{Requirement, placed, any, given, Spelling, listed, more_listed}
-use Rattle.kore_text.specs.Grammar.{TakesTokens, sorts_of, is_count, is_variable, is_associative}
-use Rattle.kore_text.specs.Grammar.{spell_name, spell_sort, spell_sorts, spell_pattern}
-use Rattle.kore_text.specs.Grammar.{spell_patterns}
+use Rattle.kore_text.specs.Grammar.{Requirement, placed, any, provided, Spelling, listed}
+use Rattle.kore_text.specs.Grammar.{more_listed, TakesTokens, connective_sorts, is_count}
+use Rattle.kore_text.specs.Grammar.{is_variable_tree, is_associative, spell_name, spell_sort}
+use Rattle.kore_text.specs.Grammar.{spell_sorts, spell_pattern, spell_patterns}
 use Rattle.kore_text.specs.Table.{turn, step, folded_arguments, exactly, argument_symbols}
 use Rattle.kore_text.specs.Table.{built_symbols}
 use Rattle.kore_text.proofs.Reaching.{Reaches, done, after, by-token, any-placed, mark-then}
@@ -51,19 +51,19 @@ name-goes n w s e h =
 -- the first token that is required is no mark
 abbrev pub requires_plain : List Requirement → Bool
 requires_plain [] = false
-requires_plain (given b ∷ ws) = requires_plain ws
+requires_plain (provided b ∷ ws) = requires_plain ws
 requires_plain (any t ∷ ws) = is_plain t
 requires_plain (placed p t ∷ ws) = is_plain t
 
 pub plain-first : (ws : List Requirement) (s e : Stream) → requires_plain ws ≡ true
     → TakesTokens ws s e → IsPlain s
 plain-first [] s e i h = let z : ⊥ = cc in absurd z
-plain-first (given b ∷ ws) s e i h = plain-first ws s e i h.1
+plain-first (provided b ∷ ws) s e i h = plain-first ws s e i h.1
 plain-first (any t ∷ ws) (end n) e i h = absurd h
-plain-first (any t ∷ ws) (fault n) e i h = absurd h
+plain-first (any t ∷ ws) (no_token_at n) e i h = absurd h
 plain-first (any t ∷ ws) (token u p s) e i h = rw h.0 i
 plain-first (placed q t ∷ ws) (end n) e i h = absurd h
-plain-first (placed q t ∷ ws) (fault n) e i h = absurd h
+plain-first (placed q t ∷ ws) (no_token_at n) e i h = absurd h
 plain-first (placed q t ∷ ws) (token u p s) e i h = rw h.0 i
 
 pub names-go : (ns : List (List ℕ)) (e : Stream) → AllGo symbol.Name (map spell_name ns) e
@@ -143,10 +143,10 @@ plain-pattern b (symbol_applied at n ss ps) w s e h =
     plain-first (spell_pattern b (symbol_applied at n ss ps) w) s e refl h
 plain-pattern b (connected at o ss ps) w s e h =
     plain-first (spell_pattern b (connected at o ss ps) w) s e refl h
-plain-pattern b (binding at o ss x q) w s e h =
-    plain-first (spell_pattern b (binding at o ss x q) w) s e refl h
-plain-pattern b (domain_value at t x place) w s e h =
-    plain-first (spell_pattern b (domain_value at t x place) w) s e refl h
+plain-pattern b (binder_applied at o ss x q) w s e h =
+    plain-first (spell_pattern b (binder_applied at o ss x q) w) s e refl h
+plain-pattern b (value_written at t x place) w s e h =
+    plain-first (spell_pattern b (value_written at t x place) w) s e refl h
 plain-pattern b (folded at left q) w s e h =
     plain-first (spell_pattern b (folded at left q) w) s e refl h
 
@@ -228,7 +228,7 @@ colon-goes t w s e a h =
     mark-then 58 (symbol.Sort ∷ []) (spell_sort t w) w s e h (λ q x. sort-goes t w q e a x)
 
 pub variable-goes : (b c : Bool) (x : PatternTree) (w : List Requirement) (s e : Stream)
-    → is_variable c x ≡ true → Apart w e → TakesTokens (spell_pattern b x w) s e
+    → is_variable_tree c x ≡ true → Apart w e → TakesTokens (spell_pattern b x w) s e
     → Reaches (symbol.Variable c ∷ []) w s e
 variable-goes b true (element_variable at n t) w s e v a h = let z : ⊥ = cc in absurd z
 variable-goes b true (set_variable at n t) w s e v a h =
@@ -239,8 +239,8 @@ variable-goes b true (set_variable at n t) w s e v a h =
 variable-goes b true (string at x) w s e v a h = let z : ⊥ = cc in absurd z
 variable-goes b true (symbol_applied at n ss ps) w s e v a h = let z : ⊥ = cc in absurd z
 variable-goes b true (connected at o ss ps) w s e v a h = let z : ⊥ = cc in absurd z
-variable-goes b true (binding at o ss x q) w s e v a h = let z : ⊥ = cc in absurd z
-variable-goes b true (domain_value at t x place) w s e v a h = let z : ⊥ = cc in absurd z
+variable-goes b true (binder_applied at o ss x q) w s e v a h = let z : ⊥ = cc in absurd z
+variable-goes b true (value_written at t x place) w s e v a h = let z : ⊥ = cc in absurd z
 variable-goes b true (folded at left q) w s e v a h = let z : ⊥ = cc in absurd z
 variable-goes b false (element_variable at n t) w s e v a h =
     by-token (symbol.Variable false) (symbol.Mark 58 ∷ symbol.Sort ∷ []) (identifier n)
@@ -251,11 +251,11 @@ variable-goes b false (set_variable at n t) w s e v a h = let z : ⊥ = cc in ab
 variable-goes b false (string at x) w s e v a h = let z : ⊥ = cc in absurd z
 variable-goes b false (symbol_applied at n ss ps) w s e v a h = let z : ⊥ = cc in absurd z
 variable-goes b false (connected at o ss ps) w s e v a h = let z : ⊥ = cc in absurd z
-variable-goes b false (binding at o ss x q) w s e v a h = let z : ⊥ = cc in absurd z
-variable-goes b false (domain_value at t x place) w s e v a h = let z : ⊥ = cc in absurd z
+variable-goes b false (binder_applied at o ss x q) w s e v a h = let z : ⊥ = cc in absurd z
+variable-goes b false (value_written at t x place) w s e v a h = let z : ⊥ = cc in absurd z
 variable-goes b false (folded at left q) w s e v a h = let z : ⊥ = cc in absurd z
 
-pub single : (o : Op) → is_associative o ≡ true → sorts_of o ≡ 1
+pub single : (o : Op) → is_associative o ≡ true → connective_sorts o ≡ 1
 single op.Top h = let z : ⊥ = cc in absurd z
 single op.Bottom h = let z : ⊥ = cc in absurd z
 single op.Not h = let z : ⊥ = cc in absurd z

@@ -8,15 +8,16 @@ use Rattle.kore_text.specs.declared.symbols.Item.{Item}
 use Rattle.kore_text.specs.declared.symbols.Item.TheVariants as item
 use Rattle.kore_text.specs.declared.symbols.Symbol.{Symbol}
 use Rattle.kore_text.specs.declared.symbols.Symbol.TheVariants as symbol
-use Rattle.kore_text.specs.TokenStream.{Token, identifier, set_identifier, builtin, string_token}
-use Rattle.kore_text.specs.TokenStream.{mark, assign, Stream, end, fault, token}
+use Rattle.kore_text.specs.TokenStream.{KoreToken, identifier, set_identifier, builtin}
+use Rattle.kore_text.specs.TokenStream.{string_token, mark, assign, Stream, end, no_token_at, token}
 use Rattle.kore_text.specs.Trees.{sort_parameter, no_sorts, sort_count, element_variable}
 use Rattle.kore_text.specs.Trees.{symbol_applied, no_patterns, pattern_then}
 use Rattle.kore_text.specs.Grammar.{Requirement, any, listed, TakesTokens, spell_sorts}
 use Rattle.kore_text.specs.Table.{byte_of, is_fold, turn, step, passes, empty_fold, item_move}
 use Rattle.kore_text.specs.Table.{rest_of, is_empty, onto, can_end, passes_on}
 use Rattle.kore_text.specs.Apart.{is_mark}
-use Rattle.kore_text.specs.Faults.{FoldHead, of_symbol, of_connective, spell_unfilled, IsEmptyFold}
+use Rattle.kore_text.specs.Faults.{FoldHead, head_of_symbol, of_connective, spell_unfilled}
+use Rattle.kore_text.specs.Faults.{IsEmptyFold}
 use Rattle.kore_text.proofs.Accepting.{number-is, both, sorts-go, sorts-exactly, empty-step}
 use Rattle.kore_text.proofs.Accepting.{empty-built-step}
 use Rattle.kore_text.proofs.Reaching.{Reaches, after, mark-goes, mark-then, pass-step, first-goes}
@@ -66,7 +67,7 @@ complete (symbol.Folded b) r = (
 complete symbol.EmptyFolded r = (
   token (identifier x_name) 0
       (token (mark 123) 0 (token (mark 125) 0 (token (mark 40) 0 (token (mark 41) 0 r)))),
-  (of_symbol x_name no_sorts, λ w e h. (refl, (refl, (refl, (refl, (refl, h)))))),
+  (head_of_symbol x_name no_sorts, λ w e h. (refl, (refl, (refl, (refl, (refl, h)))))),
 )
 complete (symbol.First i c) r = (token (mark (byte_of c)) 0 r, ([], λ w e h. (refl, h)))
 complete (symbol.More i c) r = (token (mark (byte_of c)) 0 r, ([], λ w e h. (refl, h)))
@@ -125,7 +126,7 @@ pieces-split (f ∷ b) m s e h =
     let x = pieces-split b m h.0 e h.2 in (x.0, ((h.0, h.1, x.1.0), x.1.1))
 
 -- what is still to come of a list, if the symbol begins one
-pub record Rests (f : Symbol) (t : Token) (k : List Symbol) (q e : Stream) : Type 0 where
+pub record Rests (f : Symbol) (t : KoreToken) (k : List Symbol) (q e : Stream) : Type 0 where
   pub item : Item
   pub close : Close
   pub first : f ≡ symbol.First item close
@@ -134,7 +135,7 @@ pub record Rests (f : Symbol) (t : Token) (k : List Symbol) (q e : Stream) : Typ
   pub more : Says (symbol.More item close) q to
   pub others : Pieces k to e
 
-first-rests : (i : Item) (c : Close) (t : Token) (k : List Symbol) (q e : Stream) (x : Bool)
+first-rests : (i : Item) (c : Close) (t : KoreToken) (k : List Symbol) (q e : Stream) (x : Bool)
     → x ≡ is_mark (byte_of c) t → Pieces (if x then k else (symbol.More i c ∷ k)) q e
     → (((if x then [] else (symbol.More i c ∷ [])) ≡ []) × Pieces k q e)
     ⊎ Rests (symbol.First i c) t k q e
@@ -150,7 +151,7 @@ first-rests i c t k q e false h m =
       others = m.2;
     })
 
-rests : (f : Symbol) (t : Token) (k : List Symbol) (q e : Stream) → Pieces (rest_of f t k) q e
+rests : (f : Symbol) (t : KoreToken) (k : List Symbol) (q e : Stream) → Pieces (rest_of f t k) q e
     → ((rest_of f t [] ≡ []) × Pieces k q e) ⊎ Rests f t k q e
 rests (symbol.Mark c) t k q e m = inl (refl, m)
 rests symbol.Name t k q e m = inl (refl, m)
@@ -173,18 +174,18 @@ rests symbol.Declarations t k q e m = inl (refl, m)
 rests symbol.Module t k q e m = inl (refl, m)
 rests symbol.Modules t k q e m = inl (refl, m)
 
-first-move : (i : Item) (c : Close) (t : Token) → is_mark (byte_of c) t ≡ false
+first-move : (i : Item) (c : Close) (t : KoreToken) → is_mark (byte_of c) t ≡ false
     → turn (symbol.First i c) t ≡ item_move i t
 unfolding turn
 first-move i c t h = rw h refl
 
-first-moved : (i : Item) (c : Close) (t : Token) (b : List Symbol) (s q : Stream)
+first-moved : (i : Item) (c : Close) (t : KoreToken) (b : List Symbol) (s q : Stream)
     → Some b ≡ turn (symbol.First i c) t → is_mark (byte_of c) t ≡ false → Pieces b s q
     → Moved (item_move i t) s q
 first-moved i c t b s q m u h = subst (λ x. Moved x s q) (m ∙ first-move i c t u) h
 
 -- a token that fits the stack, and what the new stack says after it
-taken : (f : Symbol) (t : Token) (p : ℕ) (s : Stream) (k b : List Symbol) (e : Stream)
+taken : (f : Symbol) (t : KoreToken) (p : ℕ) (s : Stream) (k b : List Symbol) (e : Stream)
     → Some b ≡ turn f t → Pieces (b ++ rest_of f t k) s e → Pieces (f ∷ k) (token t p s) e
 taken f t p s k b e m h =
     let x = pieces-split b (rest_of f t k) s e h in
@@ -203,7 +204,7 @@ taken f t p s k b e m h =
 some-same : (a b : List Symbol) → Some a ≡ Some b → a ≡ b
 some-same a b h = cc
 
-stepped : (f : Symbol) (t : Token) (p : ℕ) (s : Stream) (k k' : List Symbol) (e : Stream)
+stepped : (f : Symbol) (t : KoreToken) (p : ℕ) (s : Stream) (k k' : List Symbol) (e : Stream)
     (mv : Option (List Symbol)) (z : Bool) → mv ≡ turn f t → z ≡ is_empty f
     → onto mv (rest_of f t k) (if z then step k t else None) ≡ Some k' → Pieces k' s e
     → (step k t ≡ Some k' → Pieces k' s e → Pieces k (token t p s) e)
@@ -214,7 +215,8 @@ stepped f t p s k k' e None true m i h g rec =
     (token t p s, empty-says f (token t p s) (sym i), rec h g)
 stepped f t p s k k' e None false m i h g rec = let z : ⊥ = cc in absurd z
 
-pub step-back : (k : List Symbol) (t : Token) (p : ℕ) (s : Stream) (k' : List Symbol) (e : Stream)
+pub step-back : (k : List Symbol) (t : KoreToken) (p : ℕ) (s : Stream) (k' : List Symbol)
+    (e : Stream)
     → step k t ≡ Some k' → Pieces k' s e → Pieces k (token t p s) e
 unfolding step
 step-back [] t p s k' e h g = let z : ⊥ = cc in absurd z
@@ -227,7 +229,7 @@ ends-back [] e h = refl
 ends-back (f ∷ k) e h =
     let x = both (is_empty f) (can_end k) h in (e, empty-says f e x.0, ends-back k e x.1)
 
-passed-on : (t : Token) (p : ℕ) (s : Stream) (k : List Symbol) (mv : Option (List Symbol))
+passed-on : (t : KoreToken) (p : ℕ) (s : Stream) (k : List Symbol) (mv : Option (List Symbol))
     → step k t ≡ mv → passes_on (passes s) mv ≡ true
     → ((k' : List Symbol) → passes s k' ≡ true → (r : Stream) × Pieces k' s r)
     → (r : Stream) × Pieces k (token t p s) r
@@ -239,11 +241,11 @@ passed : (s : Stream) (k : List Symbol) → passes s k ≡ true → (r : Stream)
 unfolding passes
 passed s [] h = (s, refl)
 passed (end e) (f ∷ k) h = let z : ⊥ = cc in absurd z
-passed (fault e) (f ∷ k) h = let z : ⊥ = cc in absurd z
+passed (no_token_at e) (f ∷ k) h = let z : ⊥ = cc in absurd z
 passed (token t p s) (f ∷ k) h =
     passed-on t p s (f ∷ k) (step (f ∷ k) t) refl h (λ k' g. passed s k' g)
 
-fold-token : (t : Token) → is_fold t ≡ true → (left : Bool) × (t ≡ builtin (Some (Fold left)))
+fold-token : (t : KoreToken) → is_fold t ≡ true → (left : Bool) × (t ≡ builtin (Some (Fold left)))
 fold-token (builtin (Some (Fold left))) h = (left, refl)
 fold-token (builtin (Some (Connective o))) h = let z : ⊥ = cc in absurd z
 fold-token (builtin (Some (Binding o))) h = let z : ⊥ = cc in absurd z
@@ -256,7 +258,7 @@ fold-token (mark c) h = let z : ⊥ = cc in absurd z
 fold-token assign h = let z : ⊥ = cc in absurd z
 
 -- if the table finds a fold without an argument, there is one
-pub is-empty-fold : (t : Token) (s : Stream) → (is_fold t && passes s empty_fold) ≡ true
+pub is-empty-fold : (t : KoreToken) (s : Stream) → (is_fold t && passes s empty_fold) ≡ true
     → IsEmptyFold t s
 is-empty-fold t s h =
     let x = both (is_fold t) (passes s empty_fold) h in
@@ -278,16 +280,16 @@ last-passes : (s e : Stream) → TakesTokens (any (mark 41) ∷ []) s e
     → passes s (symbol.Mark 41 ∷ []) ≡ true
 unfolding passes step turn
 last-passes (end x) e h = absurd h
-last-passes (fault x) e h = absurd h
+last-passes (no_token_at x) e h = absurd h
 last-passes (token t p s) e h = rw h.0 refl
 
-unfilled-by : (t : Token) (bs : List Symbol) (v : List Requirement) (s e : Stream)
+unfilled-by : (t : KoreToken) (bs : List Symbol) (v : List Requirement) (s e : Stream)
     → step (symbol.EmptyFolded ∷ []) t ≡ Some (bs ++ (symbol.Mark 41 ∷ []))
     → TakesTokens (any t ∷ v) s e
     → ((q : Stream) → TakesTokens v q e → Reaches bs (any (mark 41) ∷ []) q e)
     → passes s (symbol.EmptyFolded ∷ []) ≡ true
 unfilled-by t bs v (end x) e m h go = absurd h
-unfilled-by t bs v (fault x) e m h go = absurd h
+unfilled-by t bs v (no_token_at x) e m h go = absurd h
 unfilled-by t bs v (token u q s) e m h go =
     let r : Reaches bs (any (mark 41) ∷ []) s e = go s h.1 in
     rw h.0 (pass-step t q s symbol.EmptyFolded [] (bs ++ (symbol.Mark 41 ∷ [])) m)
@@ -295,7 +297,7 @@ unfilled-by t bs v (token u q s) e m h go =
 
 unfilled : (h : FoldHead) (s e : Stream) → TakesTokens (spell_unfilled h []) s e
     → passes s (symbol.EmptyFolded ∷ []) ≡ true
-unfilled (of_symbol n ss) s e h =
+unfilled (head_of_symbol n ss) s e h =
     let v3 : List Requirement = any (mark 41) ∷ [] in
     let v1 : List Requirement = listed (spell_sorts ss) 125 (any (mark 40) ∷ v3) in
     unfilled-by (identifier n)
@@ -318,7 +320,7 @@ unfilled (of_connective o ss) s e h =
     (λ k z. mark-goes 40 v3 k e z)))
 
 -- if there is a fold without an argument, the table finds it
-pub fold-found : (t : Token) (s : Stream) → IsEmptyFold t s
+pub fold-found : (t : KoreToken) (s : Stream) → IsEmptyFold t s
     → (is_fold t && passes s empty_fold) ≡ true
 fold-found t s h =
     let v : List Requirement = spell_unfilled h.2 [] in

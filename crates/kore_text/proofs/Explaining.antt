@@ -5,14 +5,14 @@ use Rattle.std.proofs.Common.{◌≤◌, ◌<◌, nat_lt}
 use Rattle.std.proofs.lemmas.Bool.Decides.{nat_tests}
 use Rattle.kore_text.specs.declared.symbols.Symbol.{Symbol}
 use Rattle.kore_text.specs.declared.symbols.Symbol.TheVariants as symbol
-use Rattle.kore_text.specs.TokenStream.{Token, Stream, end, fault, token}
+use Rattle.kore_text.specs.TokenStream.{KoreToken, Stream, end, no_token_at, token}
 use Rattle.kore_text.specs.Grammar.{in_order, spell_module}
 use Rattle.kore_text.specs.Table.{is_fold, step, passes, run, empty_fold, can_end, onward}
 use Rattle.kore_text.specs.Table.{pattern_symbols, definition_symbols}
-use Rattle.kore_text.specs.Faults.{IsPattern, IsDefinition, IsEmptyFold}
+use Rattle.kore_text.specs.Faults.{IsPattern, IsDefinition, IsEmptyFold, PlacedToken, followed_by}
+use Rattle.kore_text.specs.Faults.{open_after, Begins, IsGood, Stops, GoesDeep, Follows}
+use Rattle.kore_text.specs.Faults.{IsFirstFaultOfText}
 use Rattle.kore_text.specs.Depth.{opened, IsShallow}
-use Rattle.kore_text.specs.Faults.{PlacedToken, followed_by, open_after, Begins, IsGood, Stops}
-use Rattle.kore_text.specs.Faults.{GoesDeep, Follows, IsFirstFault}
 use Rattle.kore_text.specs.declared.faults.TextFault.{TextFault}
 use Rattle.kore_text.specs.declared.faults.TextFault.TheVariants.{Lex, Syntax, Deep}
 use Rattle.kore_text.proofs.AcceptedDefinitions.{accepts-pattern, accepts-definition}
@@ -23,7 +23,7 @@ use Rattle.kore_text.proofs.Completing.{completes, ends-back, step-back, is-empt
 -- be accepted
 abbrev Standing : (Stream → Type 0) → (Stream → Type 0) → ℕ → List PlacedToken → Stream → TextFault
     → Type 0
-Standing In Out n good rest (Lex at) = rest ≡ fault at
+Standing In Out n good rest (Lex at) = rest ≡ no_token_at at
 Standing In Out n good rest (Syntax at) = Stops Out good rest at
 Standing In Out n good rest (Deep at) = GoesDeep In n good rest at
 
@@ -47,20 +47,20 @@ Fits k s = (e : ℕ) × Pieces k s (end e)
 abbrev pub Accepts : List Symbol → Stream → Type 0
 Accepts k s = run s None k ≡ None
 
-begins-cons : (In In' : Stream → Type 0) (t : Token) (p : ℕ) (good : List PlacedToken)
+begins-cons : (In In' : Stream → Type 0) (t : KoreToken) (p : ℕ) (good : List PlacedToken)
     → ((r : Stream) → In' r → In (token t p r)) → Begins In' good → Begins In ((t, p) ∷ good)
 begins-cons In In' t p good inn b = (b.0, inn (followed_by good b.0) b.1)
 
-begins-tail : (Out Out' : Stream → Type 0) (t : Token) (p : ℕ) (good : List PlacedToken)
+begins-tail : (Out Out' : Stream → Type 0) (t : KoreToken) (p : ℕ) (good : List PlacedToken)
     → ((r : Stream) → Out (token t p r) → Out' r) → Begins Out ((t, p) ∷ good) → Begins Out' good
 begins-tail Out Out' t p good out b = (b.0, out (followed_by good b.0) b.1)
 
-stops-step : (Out Out' : Stream → Type 0) (t : Token) (p : ℕ) (good : List PlacedToken)
+stops-step : (Out Out' : Stream → Type 0) (t : KoreToken) (p : ℕ) (good : List PlacedToken)
     (rest : Stream) (at : ℕ) → ((r : Stream) → Out (token t p r) → Out' r) → Stops Out' good rest at
     → Stops Out ((t, p) ∷ good) rest at
 stops-step Out Out' t p good (end e) at out h =
     (h.0, λ o. h.1 (out (followed_by good (end e)) o))
-stops-step Out Out' t p good (fault e) at out h = absurd h
+stops-step Out Out' t p good (no_token_at e) at out h = absurd h
 stops-step Out Out' t p good (token u q r) at out h = (
   h.0,
   elim h.1 [
@@ -69,11 +69,11 @@ stops-step Out Out' t p good (token u q r) at out h = (
   ],
 )
 
-deep-step : (In In' : Stream → Type 0) (t : Token) (p n : ℕ) (good : List PlacedToken)
+deep-step : (In In' : Stream → Type 0) (t : KoreToken) (p n : ℕ) (good : List PlacedToken)
     (rest : Stream) (at : ℕ) → ((r : Stream) → In' r → In (token t p r))
     → GoesDeep In' (opened t n) good rest at → GoesDeep In n ((t, p) ∷ good) rest at
 deep-step In In' t p n good (end e) at inn h = absurd h
-deep-step In In' t p n good (fault e) at inn h = absurd h
+deep-step In In' t p n good (no_token_at e) at inn h = absurd h
 deep-step In In' t p n good (token u q r) at inn h =
     (h.0, begins-cons In In' t p (good ++ (u, q) ∷ []) inn h.1, h.2)
 
@@ -109,7 +109,7 @@ filled-step t good rest f others [] u after e empty =
 filled-step t good rest f others (b ∷ before) u after e empty =
     others before u after (tails t b good (before ++ u ∷ after) e) empty
 
-good-step : (In In' : Stream → Type 0) (t : Token) (p n : ℕ) (good : List PlacedToken)
+good-step : (In In' : Stream → Type 0) (t : KoreToken) (p n : ℕ) (good : List PlacedToken)
     (rest : Stream) → ((r : Stream) → In' r → In (token t p r)) → opened t n ≤ 500
     → (IsEmptyFold t (followed_by good rest) → ⊥) → IsGood In' (opened t n) good rest
     → IsGood In n ((t, p) ∷ good) rest
@@ -120,7 +120,7 @@ good-step In In' t p n good rest inn l f g =
       filled = filled-step (t, p) good rest f g.filled;
     }
 
-standing-step : (In In' Out Out' : Stream → Type 0) (t : Token) (p n : ℕ)
+standing-step : (In In' Out Out' : Stream → Type 0) (t : KoreToken) (p n : ℕ)
     (good : List PlacedToken) (rest : Stream) (f : TextFault)
     → ((r : Stream) → In' r → In (token t p r)) → ((r : Stream) → Out (token t p r) → Out' r)
     → Standing In' Out' (opened t n) good rest f → Standing In Out n ((t, p) ∷ good) rest f
@@ -131,7 +131,7 @@ standing-step In In' Out Out' t p n good rest (Deep at) inn out h =
     deep-step In In' t p n good rest at inn h
 
 -- a good token before the others
-onwards : (In In' Out Out' : Stream → Type 0) (t : Token) (p n : ℕ) (s : Stream)
+onwards : (In In' Out Out' : Stream → Type 0) (t : KoreToken) (p n : ℕ) (s : Stream)
     (v : Option TextFault) → ((r : Stream) → In' r → In (token t p r))
     → ((r : Stream) → Out (token t p r) → Out' r) → opened t n ≤ 500 → (IsEmptyFold t s → ⊥)
     → Explained In' Out' (opened t n) s v → Explained In Out n (token t p s) v
@@ -182,31 +182,31 @@ end-case e n k v false i h =
           (let z : Some (Syntax e) ≡ None = sym (end-run e k (sym i)) ∙ o in let y : ⊥ = cc in y),
     ))
 
-stuck-case : (t : Token) (p : ℕ) (r : Stream) (k : List Symbol) (x : Bool)
+stuck-case : (t : KoreToken) (p : ℕ) (r : Stream) (k : List Symbol) (x : Bool)
     → (if x then Some (Syntax p) else onward (run r) p None None) ≡ None → ⊥
 stuck-case t p r k true h = let y : ⊥ = cc in y
 stuck-case t p r k false h = let y : ⊥ = cc in y
 
-pub stuck-run : (t : Token) (p : ℕ) (r : Stream) (k : List Symbol) → step k t ≡ None
+pub stuck-run : (t : KoreToken) (p : ℕ) (r : Stream) (k : List Symbol) → step k t ≡ None
     → run (token t p r) None k ≡ None → ⊥
 unfolding run
 stuck-run t p r k m h =
     stuck-case t p r k (is_fold t && passes r empty_fold) (subst (λ mv. (if is_fold t && passes r
     empty_fold then Some (Syntax p) else onward (run r) p None mv) ≡ None) m h)
 
-on-case : (t : Token) (p : ℕ) (r : Stream) (k' : List Symbol) (x : Bool)
+on-case : (t : KoreToken) (p : ℕ) (r : Stream) (k' : List Symbol) (x : Bool)
     → (if x then Some (Syntax p) else onward (run r) p None (Some k')) ≡ None → run r None k' ≡ None
 on-case t p r k' true h = let y : ⊥ = cc in absurd y
 on-case t p r k' false h = h
 
-pub on-run : (t : Token) (p : ℕ) (r : Stream) (k k' : List Symbol) → step k t ≡ Some k'
+pub on-run : (t : KoreToken) (p : ℕ) (r : Stream) (k k' : List Symbol) → step k t ≡ Some k'
     → run (token t p r) None k ≡ None → run r None k' ≡ None
 unfolding run
 on-run t p r k k' m h =
     on-case t p r k' (is_fold t && passes r empty_fold) (subst (λ mv. (if is_fold t && passes r
     empty_fold then Some (Syntax p) else onward (run r) p None mv) ≡ None) m h)
 
-no-start : (t : Token) (p : ℕ) (k : List Symbol) → step k t ≡ None
+no-start : (t : KoreToken) (p : ℕ) (k : List Symbol) → step k t ≡ None
     → Begins (Accepts k) ((t, p) ∷ []) → ⊥
 no-start t p k m b = stuck-run t p b.0 k m b.1
 
@@ -219,7 +219,8 @@ not-above n h = grind (arith, nat_tests)
 true-false : (x : Bool) → x ≡ false → x ≡ true → ⊥
 true-false x h i = let y : ⊥ = cc in y
 
-fits-more : (k k' : List Symbol) (t : Token) (p : ℕ) → step k t ≡ Some k' → (r : Stream) → Fits k' r
+fits-more : (k k' : List Symbol) (t : KoreToken) (p : ℕ) → step k t ≡ Some k' → (r : Stream)
+    → Fits k' r
     → Fits k (token t p r)
 fits-more k k' t p m r f = (f.0, step-back k t p r k' (end f.0) m f.1)
 
@@ -235,7 +236,7 @@ onward-is : (x : Bool) (mv : Option (List Symbol)) (go : Option ℕ → List Sym
 onward-is x None go p n v h = h
 onward-is x (Some k) go p n v h = h
 
-token-case : (t : Token) (p : ℕ) (s : Stream) (n : ℕ) (k : List Symbol) (v : Option TextFault)
+token-case : (t : KoreToken) (p : ℕ) (s : Stream) (n : ℕ) (k : List Symbol) (v : Option TextFault)
     (x : Bool) (mv : Option (List Symbol)) (d : Bool) → (is_fold t && passes s empty_fold) ≡ x
     → step k t ≡ mv → nat_lt 500 (opened t n) ≡ d
     → (if x then Some (Syntax p) else onward-by d (run s) p (Some (opened t n)) mv) ≡ v
@@ -264,9 +265,9 @@ pub explain : (s : Stream) (n : ℕ) (k : List Symbol) (v : Option TextFault) �
     → Explained (Fits k) (Accepts k) n s v
 unfolding run
 explain (end e) n k v h = end-case e n k v (can_end k) refl h
-explain (fault e) n k v h =
-    subst (Explained (Fits k) (Accepts k) n (fault e)) h
-    (at-once (Accepts k) k n (fault e) (Lex e) refl)
+explain (no_token_at e) n k v h =
+    subst (Explained (Fits k) (Accepts k) n (no_token_at e)) h
+    (at-once (Accepts k) k n (no_token_at e) (Lex e) refl)
 explain (token t p s) n k v h =
     token-case t p s n k v (is_fold t && passes s empty_fold) (step k t) (nat_lt 500 (opened t n))
     refl refl refl
@@ -287,7 +288,7 @@ stops-in : (L : Stream → Type 0) (k : List Symbol) (good : List PlacedToken) (
     (at : ℕ) → ((r : Stream) → L r → Accepts k r) → Stops (Accepts k) good rest at
     → Stops L good rest at
 stops-in L k good (end e) at out h = (h.0, λ o. h.1 (out (followed_by good (end e)) o))
-stops-in L k good (fault e) at out h = absurd h
+stops-in L k good (no_token_at e) at out h = absurd h
 stops-in L k good (token t p r) at out h = (
   h.0,
   elim h.1 [
@@ -300,7 +301,7 @@ deep-in : (L : Stream → Type 0) (k : List Symbol) (n : ℕ) (good : List Place
     (rest : Stream) (at : ℕ) → ((r : Stream) → Fits k r → L r) → GoesDeep (Fits k) n good rest at
     → GoesDeep L n good rest at
 deep-in L k n good (end e) at inn h = absurd h
-deep-in L k n good (fault e) at inn h = absurd h
+deep-in L k n good (no_token_at e) at inn h = absurd h
 deep-in L k n good (token t p r) at inn h =
     (h.0, (h.1.0, inn (followed_by (good ++ (t, p) ∷ []) h.1.0) h.1.1), h.2)
 
@@ -314,7 +315,7 @@ follows-in L k n good rest (Deep at) inn out h = deep-in L k n good rest at inn 
 
 first-fault : (L : Stream → Type 0) (k : List Symbol) (n : ℕ) (s : Stream) (v : Option TextFault)
     → ((r : Stream) → Fits k r → L r) → ((r : Stream) → L r → Accepts k r)
-    → Explained (Fits k) (Accepts k) n s v → IsFirstFault L n s v
+    → Explained (Fits k) (Accepts k) n s v → IsFirstFaultOfText L n s v
 first-fault L k n s None inn out h = (inn s h.0, h.1)
 first-fault L k n s (Some f) inn out h = record {
   good = h.good;
@@ -342,13 +343,13 @@ fits-definition r f =
     )
 
 -- the result of the table is the first fault
-pub pattern_fault : (s : Stream) → IsFirstFault IsPattern 0 s (run s (Some 0) pattern_symbols)
+pub pattern_fault : (s : Stream) → IsFirstFaultOfText IsPattern 0 s (run s (Some 0) pattern_symbols)
 pattern_fault s =
     first-fault IsPattern pattern_symbols 0 s (run s (Some 0) pattern_symbols) fits-pattern
     accepts-pattern (explain s 0 pattern_symbols (run s (Some 0) pattern_symbols) refl)
 
 pub definition_fault : (s : Stream)
-    → IsFirstFault IsDefinition 0 s (run s (Some 0) definition_symbols)
+    → IsFirstFaultOfText IsDefinition 0 s (run s (Some 0) definition_symbols)
 definition_fault s =
     first-fault IsDefinition definition_symbols 0 s (run s (Some 0) definition_symbols)
     fits-definition accepts-definition

@@ -4,14 +4,14 @@ use Rattle.std.proofs.Common.{Option, Some, None, if◌then◌else◌, refl, ap,
 use Rattle.std.proofs.lemmas.Bool.Decides.{nat_tests}
 use Rattle.kore_text.specs.declared.faults.TextFault.TheVariants.{Lex, Syntax, Deep}
 use Rattle.kore_text.specs.declared.symbols.Symbol.{Symbol}
-use Rattle.kore_text.specs.TokenStream.{Token, Stream, end, fault, token}
+use Rattle.kore_text.specs.TokenStream.{KoreToken, Stream, end, no_token_at, token}
 use Rattle.kore_text.specs.Depth.{opened}
 use Rattle.kore_text.specs.Remaining.{size}
 use Rattle.kore_text.specs.Stacks.{Steps, is_nil}
 use Rattle.kore_text.specs.Table.{step, passes, passes_on, run, empty_fold, is_fold, can_end}
 use Rattle.kore_text.specs.Table.{onward}
 
-pub size_token : (t : Token) (p : ℕ) (s r : Stream) → s ≡ token t p r → size r < size s
+pub size_token : (t : KoreToken) (p : ℕ) (s r : Stream) → s ≡ token t p r → size r < size s
 unfolding size
 size_token t p s r h = rw h (omega arith)
 
@@ -27,7 +27,7 @@ unfolding passes
 passes_end s x [] h n = let y : ⊥ = cc in absurd y
 passes_end s x (f ∷ k) h n = rw h refl
 
-pub passes_fault : (s : Stream) (x : ℕ) (k : List Symbol) → s ≡ fault x → is_nil k ≡ false
+pub passes_fault : (s : Stream) (x : ℕ) (k : List Symbol) → s ≡ no_token_at x → is_nil k ≡ false
     → passes s k ≡ false
 unfolding passes
 passes_fault s x [] h n = let y : ⊥ = cc in absurd y
@@ -43,13 +43,13 @@ stops : (mv : Option (List Symbol)) (r : Stream) (new : List Symbol) → Steps f
 stops (Some b) r new h = absurd h
 stops None r new h = refl
 
-pub passes_token : (t : Token) (p : ℕ) (s r : Stream) (k new : List Symbol) → s ≡ token t p r
+pub passes_token : (t : KoreToken) (p : ℕ) (s r : Stream) (k new : List Symbol) → s ≡ token t p r
     → is_nil k ≡ false → Steps true (step k t) new → passes s k ≡ passes r new
 unfolding passes
 passes_token t p s r [] new h n m = let y : ⊥ = cc in absurd y
 passes_token t p s r (f ∷ k) new h n m = rw h (goes-on (step (f ∷ k) t) r new m)
 
-pub passes_stuck : (t : Token) (p : ℕ) (s r : Stream) (k new : List Symbol) → s ≡ token t p r
+pub passes_stuck : (t : KoreToken) (p : ℕ) (s r : Stream) (k new : List Symbol) → s ≡ token t p r
     → is_nil k ≡ false → Steps false (step k t) new → passes s k ≡ false
 unfolding passes
 passes_stuck t p s r [] new h n m = let y : ⊥ = cc in absurd y
@@ -69,17 +69,17 @@ pub run_no_end : (x n : ℕ) (k : List Symbol) → false ≡ can_end k
 unfolding run
 run_no_end x n k h = rw (sym h) refl
 
-pub run_fault : (x n : ℕ) (s : Stream) (k : List Symbol) → s ≡ fault x
+pub run_fault : (x n : ℕ) (s : Stream) (k : List Symbol) → s ≡ no_token_at x
     → run s (Some n) k ≡ Some (Lex x)
 unfolding run
 run_fault x n s k h = rw h refl
 
-pub run_empty_fold : (t : Token) (p n : ℕ) (s r : Stream) (k : List Symbol) → s ≡ token t p r
+pub run_empty_fold : (t : KoreToken) (p n : ℕ) (s r : Stream) (k : List Symbol) → s ≡ token t p r
     → (is_fold t && passes r empty_fold) ≡ true → run s (Some n) k ≡ Some (Syntax p)
 unfolding run
 run_empty_fold t p n s r k h e = rw (h, e) refl
 
-run-token : (t : Token) (p n : ℕ) (r : Stream) (k : List Symbol) (x : Bool)
+run-token : (t : KoreToken) (p n : ℕ) (r : Stream) (k : List Symbol) (x : Bool)
     → (is_fold t && passes r empty_fold) ≡ x
     → run (token t p r) (Some n) k
     ≡ (if x then Some (Syntax p) else onward (run r) p (Some (opened t n)) (step k t))
@@ -101,13 +101,13 @@ onward-on : (mv : Option (List Symbol)) (r : Stream) (p n : ℕ) (new : List Sym
 onward-on (Some b) r p n new h d = rw d (ap (run r (Some n)) (sym h))
 onward-on None r p n new h d = absurd h
 
-pub run_stuck : (t : Token) (p n : ℕ) (s r : Stream) (k new : List Symbol) → s ≡ token t p r
+pub run_stuck : (t : KoreToken) (p n : ℕ) (s r : Stream) (k new : List Symbol) → s ≡ token t p r
     → (is_fold t && passes r empty_fold) ≡ false → Steps false (step k t) new
     → run s (Some n) k ≡ Some (Syntax p)
 run_stuck t p n s r k new h e m = ap (λ u. run u (Some n) k) h ∙ run-token t p n r k false e
     ∙ onward-stuck (step k t) r p (Some (opened t n)) new m
 
-pub run_deep : (t : Token) (p n d : ℕ) (s r : Stream) (k new : List Symbol) → s ≡ token t p r
+pub run_deep : (t : KoreToken) (p n d : ℕ) (s r : Stream) (k new : List Symbol) → s ≡ token t p r
     → (is_fold t && passes r empty_fold) ≡ false → Steps true (step k t) new → d ≡ opened t n
     → 500 < d → run s (Some n) k ≡ Some (Deep p)
 run_deep t p n d s r k new h e m i l =
@@ -116,7 +116,7 @@ run_deep t p n d s r k new h e m i l =
     ap (λ u. run u (Some n) k) h ∙ run-token t p n r k false e
     ∙ onward-deep (step k t) r p (opened t n) new m j
 
-pub run_on : (t : Token) (p n d : ℕ) (s r : Stream) (k new : List Symbol) → s ≡ token t p r
+pub run_on : (t : KoreToken) (p n d : ℕ) (s r : Stream) (k new : List Symbol) → s ≡ token t p r
     → (is_fold t && passes r empty_fold) ≡ false → Steps true (step k t) new → d ≡ opened t n
     → d ≤ 500 → run s (Some n) k ≡ run r (Some d) new
 run_on t p n d s r k new h e m i l =

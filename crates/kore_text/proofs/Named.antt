@@ -5,26 +5,26 @@ use Rattle.std.proofs.Common.{drop, Some, subst, arith}
 use Rattle.std.proofs.lemmas.List.Elements.{All-nil, All-cons}
 use Rattle.kore_lex.specs.declared.lexer.TokenKind.{TokenKind}
 use Rattle.kore_lex.specs.declared.lexer.TokenKind.TheVariants as kind
-use Rattle.kore_lex.specs.Lexed.{Stream as Cut, end as cut_end, fault as cut_fault}
-use Rattle.kore_lex.specs.Lexed.{token as cut_token, lexed}
+use Rattle.kore_lex.specs.Lexed.{Cut, cut_end, cut_fault, cut_token, lexed}
 use Rattle.kore_lex.specs.Tokens.{IsName, IsToken}
 use Rattle.kore_lex.specs.TokenLaws.{AreTokens, token_count, EachIsToken, TokensAreFew}
 use Rattle.kore_text.specs.declared.names.Built.TheVariants.{Connective}
-use Rattle.kore_text.specs.TokenStream.{Token, identifier, set_identifier, builtin, string_token}
-use Rattle.kore_text.specs.TokenStream.{mark, assign, Stream, end, fault, token, joined, named}
-use Rattle.kore_text.specs.TokenStream.{tokens_of}
+use Rattle.kore_text.specs.TokenStream.{KoreToken, identifier, set_identifier, builtin}
+use Rattle.kore_text.specs.TokenStream.{string_token, mark, assign, Stream, end, no_token_at, token}
+use Rattle.kore_text.specs.TokenStream.{token_then, named_tokens, token_stream}
 use Rattle.kore_text.specs.Trees.{SortTree, sort_parameter, sort_applied, SortTrees, no_sorts}
 use Rattle.kore_text.specs.Trees.{sort_then, PatternTree, element_variable, set_variable, string}
-use Rattle.kore_text.specs.Trees.{symbol_applied, connected, binding, domain_value, folded}
+use Rattle.kore_text.specs.Trees.{symbol_applied, connected, binder_applied, value_written, folded}
 use Rattle.kore_text.specs.Trees.{PatternTrees, no_patterns, pattern_then, AliasDeclaration}
 use Rattle.kore_text.specs.Trees.{AxiomDeclaration, ModuleTree, Declaration, import_declaration}
 use Rattle.kore_text.specs.Trees.{sort_declaration, symbol_declaration, alias_declaration}
 use Rattle.kore_text.specs.Trees.{axiom_declaration, claim_declaration}
-use Rattle.kore_text.specs.Grammar.{Requirement, placed, any, given, Spelling, listed, more_listed}
-use Rattle.kore_text.specs.Grammar.{in_order, TakesTokens, spell_name, spell_names, spell_sort}
-use Rattle.kore_text.specs.Grammar.{spell_sorts, spell_applied, spell_pattern, spell_patterns}
-use Rattle.kore_text.specs.Grammar.{spell_attributes, spell_signature, spell_statement}
-use Rattle.kore_text.specs.Grammar.{spell_declaration, spell_module, spell_definition}
+use Rattle.kore_text.specs.Grammar.{Requirement, placed, any, provided, Spelling, listed}
+use Rattle.kore_text.specs.Grammar.{more_listed, in_order, TakesTokens, spell_name, spell_names}
+use Rattle.kore_text.specs.Grammar.{spell_sort, spell_sorts, spell_applied, spell_pattern}
+use Rattle.kore_text.specs.Grammar.{spell_patterns, spell_attributes, spell_signature}
+use Rattle.kore_text.specs.Grammar.{spell_statement, spell_declaration, spell_module}
+use Rattle.kore_text.specs.Grammar.{spell_definition}
 use Rattle.kore_text.specs.Remaining.{size}
 use Rattle.kore_text.specs.TextLaws.{NoMoreTokensThanBytes}
 use Rattle.kore_text.specs.Identifiers.{IsNamedSort, AreNamedSorts, IsNamedPattern}
@@ -33,7 +33,7 @@ use Rattle.kore_text.specs.Identifiers.{IsNamedDeclaration, IsNamedModule, Names
 use Rattle.kore_text.specs.Identifiers.{PatternNamesAreIdentifiers}
 
 -- the name in a token, if it has one, is an identifier
-abbrev IsNamed : Token → Type 0
+abbrev IsNamed : KoreToken → Type 0
 IsNamed (identifier n) = IsName n
 IsNamed (set_identifier n) = IsName n
 IsNamed (builtin b) = Unit {0}
@@ -43,7 +43,7 @@ IsNamed assign = Unit {0}
 
 abbrev AreNamed : Stream → Type 0
 AreNamed (end e) = Unit {0}
-AreNamed (fault e) = Unit {0}
+AreNamed (no_token_at e) = Unit {0}
 AreNamed (token t p s) = IsNamed t × AreNamed s
 
 ident-name : (bs : List ℕ) → IsToken kind.Ident bs → IsName bs
@@ -56,7 +56,7 @@ set-name (c ∷ cs) h = h.1
 
 joined-named : (text : List ℕ) (k : TokenKind) (from to : ℕ) (s : Stream)
     → IsToken k (take (to - from) (drop from text)) → AreNamed s
-    → AreNamed (joined text k from to s)
+    → AreNamed (token_then text k from to s)
 joined-named text kind.End from to s h a = tt
 joined-named text kind.Ident from to s h a = (ident-name (take (to - from) (drop from text)) h, a)
 joined-named text kind.SetIdent from to s h a = (set-name (take (to - from) (drop from text)) h, a)
@@ -65,31 +65,31 @@ joined-named text kind.Text from to s h a = (tt, a)
 joined-named text (kind.Punct c) from to s h a = (tt, a)
 joined-named text kind.Assign from to s h a = (tt, a)
 
-named-are-named : (text : List ℕ) (s : Cut) → AreTokens text s → AreNamed (named text s)
+named-are-named : (text : List ℕ) (s : Cut) → AreTokens text s → AreNamed (named_tokens text s)
 named-are-named text (cut_end n) h = tt
 named-are-named text (cut_fault n) h = tt
 named-are-named text (cut_token k from to s) h =
-    joined-named text k from to (named text s) h.0 (named-are-named text s h.1)
+    joined-named text k from to (named_tokens text s) h.0 (named-are-named text s h.1)
 
-tokens-named : EachIsToken → (bytes : List ℕ) → AreNamed (tokens_of bytes)
-unfolding tokens_of
+tokens-named : EachIsToken → (bytes : List ℕ) → AreNamed (token_stream bytes)
+unfolding token_stream
 tokens-named law bytes = named-are-named bytes (lexed 0 bytes) (law bytes)
 
 -- the names in the requirements are identifiers
 abbrev RequiresNamed : List Requirement → Type 0
 RequiresNamed [] = Unit {0}
-RequiresNamed (given b ∷ ws) = RequiresNamed ws
+RequiresNamed (provided b ∷ ws) = RequiresNamed ws
 RequiresNamed (any t ∷ ws) = IsNamed t × RequiresNamed ws
 RequiresNamed (placed p t ∷ ws) = IsNamed t × RequiresNamed ws
 
 taken : (ws : List Requirement) (s e : Stream) → TakesTokens ws s e → AreNamed s → RequiresNamed ws
 taken [] s e h a = tt
-taken (given b ∷ ws) s e h a = taken ws s e h.1 a
+taken (provided b ∷ ws) s e h a = taken ws s e h.1 a
 taken (any u ∷ ws) (end x) e h a = absurd h
-taken (any u ∷ ws) (fault x) e h a = absurd h
+taken (any u ∷ ws) (no_token_at x) e h a = absurd h
 taken (any u ∷ ws) (token t p s) e h a = (subst IsNamed h.0 a.0, taken ws s e h.1 a.1)
 taken (placed q u ∷ ws) (end x) e h a = absurd h
-taken (placed q u ∷ ws) (fault x) e h a = absurd h
+taken (placed q u ∷ ws) (no_token_at x) e h a = absurd h
 taken (placed q u ∷ ws) (token t p s) e h a = (subst IsNamed h.0 a.0, taken ws s e h.2 a.1)
 
 -- a thing with this spelling has names that are identifiers
@@ -145,7 +145,7 @@ mutual
       more-tells (spell_sort s) (spell_sorts ss) (λ one all. (one, all)) (sort-tells s)
       (sorts-tell ss)
 
-applied-tells : {P : Type 0} (at : ℕ) (t : Token) (ss : SortTrees) (ps : List Spelling)
+applied-tells : {P : Type 0} (at : ℕ) (t : KoreToken) (ss : SortTrees) (ps : List Spelling)
     → TellsAll ps P → (k : List Requirement) → RequiresNamed (spell_applied at t ss ps k)
     → IsNamed t × AreNamedSorts ss × P × RequiresNamed k
 applied-tells at t ss ps q k h =
@@ -176,7 +176,7 @@ mutual
         (patterns-tell b ps) k h in
         ((r.1, r.2), r.3);
   }
-  pattern-tells b (binding at o ss x p) = record {
+  pattern-tells b (binder_applied at o ss x p) = record {
     told = λ k h.
         let sorts =
         (sorts-tell ss).first 125 (any (mark 40)
@@ -188,7 +188,7 @@ mutual
         let body = (pattern-tells b p).told (any (mark 41) ∷ k) variable.1.1 in
         ((sorts.0, variable.0, body.0), body.1.1);
   }
-  pattern-tells b (domain_value at s t place) = record {
+  pattern-tells b (value_written at s t place) = record {
     told =
         λ k h. let r =
         (sort-tells s).told (any (mark 125) ∷ any (mark 40) ∷ placed place (string_token t)
@@ -304,7 +304,7 @@ module-tells m = record {
 }
 
 joined-few : (text : List ℕ) (k : TokenKind) (from to : ℕ) (s : Stream)
-    → size (joined text k from to s) ≤ size s + 1
+    → size (token_then text k from to s) ≤ size s + 1
 unfolding size
 joined-few text kind.End from to s = omega arith
 joined-few text kind.Ident from to s = omega arith
@@ -314,20 +314,20 @@ joined-few text kind.Text from to s = omega arith
 joined-few text (kind.Punct c) from to s = omega arith
 joined-few text kind.Assign from to s = omega arith
 
-named-few : (text : List ℕ) (s : Cut) → size (named text s) ≤ token_count s
+named-few : (text : List ℕ) (s : Cut) → size (named_tokens text s) ≤ token_count s
 unfolding size
 named-few text (cut_end e) = omega arith
 named-few text (cut_fault e) = omega arith
 named-few text (cut_token k from to s) =
-    omega (arith, named-few text s, joined-few text k from to (named text s))
+    omega (arith, named-few text s, joined-few text k from to (named_tokens text s))
 
 pub tokens-few : TokensAreFew → NoMoreTokensThanBytes
-unfolding tokens_of
+unfolding token_stream
 tokens-few law bytes = omega (arith, law bytes, named-few bytes (lexed 0 bytes))
 
 pub names-are-identifiers : EachIsToken → NamesAreIdentifiers
 names-are-identifiers law bytes d e h =
-    let w = taken (spell_definition d []) (tokens_of bytes) (end e) h (tokens-named law bytes) in
+    let w = taken (spell_definition d []) (token_stream bytes) (end e) h (tokens-named law bytes) in
     let attributes = attributes-tell d.attributes (in_order (map spell_module d.modules) []) w in
     let modules = order-tells spell_module IsNamedModule module-tells d.modules [] attributes.1 in
     record { attributes = attributes.0; modules = modules.0 }
@@ -335,4 +335,4 @@ names-are-identifiers law bytes d e h =
 pub pattern-names-are-identifiers : EachIsToken → PatternNamesAreIdentifiers
 pattern-names-are-identifiers law bytes p e h =
     ((pattern-tells false p).told []
-    (taken (spell_pattern false p []) (tokens_of bytes) (end e) h (tokens-named law bytes))).0
+    (taken (spell_pattern false p []) (token_stream bytes) (end e) h (tokens-named law bytes))).0

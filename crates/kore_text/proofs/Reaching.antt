@@ -8,10 +8,10 @@ use Rattle.kore_text.specs.declared.symbols.Item.{Item}
 use Rattle.kore_text.specs.declared.symbols.Item.TheVariants as item
 use Rattle.kore_text.specs.declared.symbols.Symbol.{Symbol}
 use Rattle.kore_text.specs.declared.symbols.Symbol.TheVariants as symbol
-use Rattle.kore_text.specs.TokenStream.{Token, identifier, set_identifier, builtin, string_token}
-use Rattle.kore_text.specs.TokenStream.{mark, assign, Stream, end, fault, token}
-use Rattle.kore_text.specs.Grammar.{Requirement, placed, any, given, Spelling, listed, more_listed}
-use Rattle.kore_text.specs.Grammar.{TakesTokens}
+use Rattle.kore_text.specs.TokenStream.{KoreToken, identifier, set_identifier, builtin}
+use Rattle.kore_text.specs.TokenStream.{string_token, mark, assign, Stream, end, no_token_at, token}
+use Rattle.kore_text.specs.Grammar.{Requirement, placed, any, provided, Spelling, listed}
+use Rattle.kore_text.specs.Grammar.{more_listed, TakesTokens}
 use Rattle.kore_text.specs.Apart.{Apart, is_mark}
 use Rattle.kore_text.specs.Table.{byte_of, symbol_of, is_fold, turn, step, passes, run}
 use Rattle.kore_text.specs.Table.{more_exactly, exactly}
@@ -46,29 +46,30 @@ after f fs v w s e a go =
       passing = λ k n. a.passing (fs ++ k) (still fs k n) ∙ c.passing k n;
     }
 
-pub walk-step : (t : Token) (p : ℕ) (s : Stream) (k b : List Symbol) → is_fold t ≡ false
+pub walk-step : (t : KoreToken) (p : ℕ) (s : Stream) (k b : List Symbol) → is_fold t ≡ false
     → step k t ≡ Some b → run (token t p s) None k ≡ run s None b
 unfolding run
 walk-step t p s k b f e = rw (f, e) refl
 
-pub pass-step : (t : Token) (p : ℕ) (s : Stream) (f : Symbol) (k b : List Symbol)
+pub pass-step : (t : KoreToken) (p : ℕ) (s : Stream) (f : Symbol) (k b : List Symbol)
     → step (f ∷ k) t ≡ Some b → passes (token t p s) (f ∷ k) ≡ passes s b
 unfolding passes
 pass-step t p s f k b e = rw e refl
 
-pub any-placed : (t : Token) (p : ℕ) (k : List Requirement) (s e : Stream)
+pub any-placed : (t : KoreToken) (p : ℕ) (k : List Requirement) (s e : Stream)
     → TakesTokens (placed p t ∷ k) s e → TakesTokens (any t ∷ k) s e
 any-placed t p k (end n) e h = absurd h
-any-placed t p k (fault n) e h = absurd h
+any-placed t p k (no_token_at n) e h = absurd h
 any-placed t p k (token u at s) e h = (h.0, h.2)
 
 -- a token that replaces a symbol with others
-pub by-token : (f : Symbol) (b : List Symbol) (u : Token) (v w : List Requirement) (s e : Stream)
+pub by-token : (f : Symbol) (b : List Symbol) (u : KoreToken) (v w : List Requirement)
+    (s e : Stream)
     → is_fold u ≡ false → ((k : List Symbol) → step (f ∷ k) u ≡ Some (b ++ k))
     → TakesTokens (any u ∷ v) s e → ((q : Stream) → TakesTokens v q e → Reaches b w q e)
     → Reaches (f ∷ []) w s e
 by-token f b u v w (end n) e i m h go = absurd h
-by-token f b u v w (fault n) e i m h go = absurd h
+by-token f b u v w (no_token_at n) e i m h go = absurd h
 by-token f b u v w (token t p s) e i m h go =
     let c : Reaches b w s e = go s h.1 in record {
       to = c.to;
@@ -103,17 +104,17 @@ comes c _ = false
 pub apart-comes : (w : List Requirement) (s e : Stream) → Apart w e → TakesTokens w s e
     → comes 123 s ≡ false
 apart-comes [] s (end x) a h = rw h refl
-apart-comes [] s (fault x) a h = absurd a
+apart-comes [] s (no_token_at x) a h = absurd a
 apart-comes [] s (token t p r) a h = absurd a
-apart-comes (given b ∷ ws) s e a h = apart-comes ws s e a h.1
+apart-comes (provided b ∷ ws) s e a h = apart-comes ws s e a h.1
 apart-comes (any t ∷ ws) (end n) e a h = absurd h
-apart-comes (any t ∷ ws) (fault n) e a h = absurd h
+apart-comes (any t ∷ ws) (no_token_at n) e a h = absurd h
 apart-comes (any t ∷ ws) (token u p s) e a h = rw h.0 a
 apart-comes (placed q t ∷ ws) (end n) e a h = absurd h
-apart-comes (placed q t ∷ ws) (fault n) e a h = absurd h
+apart-comes (placed q t ∷ ws) (no_token_at n) e a h = absurd h
 apart-comes (placed q t ∷ ws) (token u p s) e a h = rw h.0 a
 
-tail-step : (t : Token) (k : List Symbol) → is_mark 123 t ≡ false
+tail-step : (t : KoreToken) (k : List Symbol) → is_mark 123 t ≡ false
     → step (symbol.SortTail ∷ k) t ≡ step k t
 unfolding step turn
 tail-step t k h = rw h refl
@@ -122,7 +123,7 @@ tail-walks : (s : Stream) (k : List Symbol) → comes 123 s ≡ false
     → run s None (symbol.SortTail ∷ k) ≡ run s None k
 unfolding run
 tail-walks (end n) k h = refl
-tail-walks (fault n) k h = refl
+tail-walks (no_token_at n) k h = refl
 tail-walks (token t p s) k h = rw (tail-step t k h) refl
 
 tail-passing : (s : Stream) (k : List Symbol) → comes 123 s ≡ false → is_nil k ≡ false
@@ -130,7 +131,7 @@ tail-passing : (s : Stream) (k : List Symbol) → comes 123 s ≡ false → is_n
 unfolding passes
 tail-passing s [] h n = let z : ⊥ = cc in absurd z
 tail-passing (end x) (f ∷ k) h n = refl
-tail-passing (fault x) (f ∷ k) h n = refl
+tail-passing (no_token_at x) (f ∷ k) h n = refl
 tail-passing (token t p s) (f ∷ k) h n = rw (tail-step t (f ∷ k) h) refl
 
 pub tail-goes : (w : List Requirement) (s e : Stream) → Apart w e → TakesTokens w s e
@@ -143,7 +144,7 @@ tail-goes w s e a h = record {
 }
 
 -- a token that is no mark comes next
-abbrev pub is_plain : Token → Bool
+abbrev pub is_plain : KoreToken → Bool
 is_plain (mark c) = false
 is_plain _ = true
 
@@ -202,7 +203,7 @@ first-closes i close.Brace k = refl
 first-closes i close.Paren k = refl
 first-closes i close.Bracket k = refl
 
-pub unmarked : (c : ℕ) (t : Token) → is_plain t ≡ true → is_mark c t ≡ false
+pub unmarked : (c : ℕ) (t : KoreToken) → is_plain t ≡ true → is_mark c t ≡ false
 unmarked c (identifier n) h = refl
 unmarked c (set_identifier n) h = refl
 unmarked c (builtin x) h = refl
@@ -210,7 +211,7 @@ unmarked c (string_token n) h = refl
 unmarked c (mark d) h = let z : ⊥ = cc in absurd z
 unmarked c assign h = refl
 
-first-step : (i : Item) (c : Close) (t : Token) (k : List Symbol) → is_plain t ≡ true
+first-step : (i : Item) (c : Close) (t : KoreToken) (k : List Symbol) → is_plain t ≡ true
     → step (symbol.First i c ∷ k) t ≡ step (symbol_of i ∷ symbol.More i c ∷ k) t
 unfolding step turn
 first-step item.Name c t k h = rw (unmarked (byte_of c) t h) refl
@@ -221,14 +222,14 @@ first-walks : (i : Item) (c : Close) (s : Stream) (k : List Symbol) → IsPlain 
     → run s None (symbol.First i c ∷ k) ≡ run s None (symbol_of i ∷ symbol.More i c ∷ k)
 unfolding run
 first-walks i c (end n) k h = absurd h
-first-walks i c (fault n) k h = absurd h
+first-walks i c (no_token_at n) k h = absurd h
 first-walks i c (token t p s) k h = rw (first-step i c t k h) refl
 
 first-passing : (i : Item) (c : Close) (s : Stream) (k : List Symbol) → IsPlain s
     → passes s (symbol.First i c ∷ k) ≡ passes s (symbol_of i ∷ symbol.More i c ∷ k)
 unfolding passes
 first-passing i c (end n) k h = absurd h
-first-passing i c (fault n) k h = absurd h
+first-passing i c (no_token_at n) k h = absurd h
 first-passing i c (token t p s) k h = rw (first-step i c t k h) refl
 
 pub first-goes : (i : Item) (c : Close) (gs : List Spelling) (w : List Requirement) (s e : Stream)

@@ -11,8 +11,8 @@ use Rattle.kore_text.specs.declared.symbols.Item.{Item}
 use Rattle.kore_text.specs.declared.symbols.Item.TheVariants as item
 use Rattle.kore_text.specs.declared.symbols.Symbol.{Symbol}
 use Rattle.kore_text.specs.declared.symbols.Symbol.TheVariants as symbol
-use Rattle.kore_text.specs.TokenStream.{Token, identifier, set_identifier, builtin, string_token}
-use Rattle.kore_text.specs.TokenStream.{mark, assign, Stream, token}
+use Rattle.kore_text.specs.TokenStream.{KoreToken, identifier, set_identifier, builtin}
+use Rattle.kore_text.specs.TokenStream.{string_token, mark, assign, Stream, token}
 use Rattle.kore_text.specs.Trees.{SortTree, no_sorts, sort_then, sort_trees, ModuleTree}
 use Rattle.kore_text.specs.Trees.{import_declaration, sort_declaration, symbol_declaration}
 use Rattle.kore_text.specs.Trees.{alias_declaration, axiom_declaration, claim_declaration}
@@ -25,13 +25,12 @@ use Rattle.kore_text.specs.Table.{when, item_move, folded_move, folded_built_mov
 use Rattle.kore_text.specs.Table.{keyword_move, rest_of, declarations_move}
 use Rattle.kore_text.specs.Apart.{is_mark}
 use Rattle.std.proofs.lemmas.Slice.Eq.{bytes_eq-Decides}
-use Rattle.kore_text.specs.Faults.{of_symbol, of_connective}
+use Rattle.kore_text.specs.Faults.{head_of_symbol, of_connective}
 use Rattle.kore_text.proofs.Saying.{ItemTree, spell_item, Says, Pieces, along, said}
 use Rattle.kore_text.proofs.ReturningFolds.{Moved, when-back, mark-is, as-sorts, name-back}
 use Rattle.kore_text.proofs.ReturningFolds.{text-back, assign-back, sort-back, sort-tail-back}
-use Rattle.kore_text.proofs.ReturningFolds.{variable-back, pattern-back}
-use Rattle.kore_text.proofs.ReturningFolds.{pattern-tail-back, folded-connective-back}
-use Rattle.kore_text.proofs.ReturningFolds.{folded-symbol-back}
+use Rattle.kore_text.proofs.ReturningFolds.{variable-back, pattern-back, pattern-tail-back}
+use Rattle.kore_text.proofs.ReturningFolds.{folded-connective-back, folded-symbol-back}
 
 empty-connective-back : (o : Op) (p : ℕ) (s r : Stream) → is_associative o ≡ true
     → Pieces (symbol.Mark 123 ∷ exactly symbol.Sort close.Brace 1 no_arguments) s r
@@ -63,7 +62,7 @@ empty-symbol-back n p s r m =
     let xs : List SortTree = m.2.1.0 in
     let k : Pieces no_arguments m.2.0 r = m.2.2 in
     let g : Pieces (symbol.Mark 41 ∷ []) k.0 r = k.2 in (
-      of_symbol n (sort_trees xs),
+      head_of_symbol n (sort_trees xs),
       λ w e h. (
         refl,
         m.1 (listed (spell_sorts (sort_trees xs)) 125 (any (mark 40) ∷ any (mark 41) ∷ w)) e
@@ -85,7 +84,7 @@ folded-built-back b (Some (Binding o)) p s r m = absurd m
 folded-built-back b (Some Value) p s r m = absurd m
 folded-built-back b (Some (Fold left)) p s r m = absurd m
 
-folded-back : (b : Bool) (t : Token) (p : ℕ) (s r : Stream)
+folded-back : (b : Bool) (t : KoreToken) (p : ℕ) (s r : Stream)
     → Moved (folded_move (folded_arguments b) t) s r → Says (symbol.Folded b) (token t p s) r
 folded-back b (identifier n) p s r m = folded-symbol-back b n p s r m
 folded-back b (builtin x) p s r m = folded-built-back b x p s r m
@@ -107,7 +106,7 @@ empty-built-back (Some (Binding o)) p s r m = absurd m
 empty-built-back (Some Value) p s r m = absurd m
 empty-built-back (Some (Fold left)) p s r m = absurd m
 
-empty-back : (t : Token) (p : ℕ) (s r : Stream) → Moved (folded_move no_arguments t) s r
+empty-back : (t : KoreToken) (p : ℕ) (s r : Stream) → Moved (folded_move no_arguments t) s r
     → Says symbol.EmptyFolded (token t p s) r
 empty-back (identifier n) p s r m = empty-symbol-back n p s r m
 empty-back (builtin x) p s r m = empty-built-back x p s r m
@@ -116,24 +115,24 @@ empty-back (string_token n) p s r m = absurd m
 empty-back (mark d) p s r m = absurd m
 empty-back assign p s r m = absurd m
 
-item-back : (i : Item) (t : Token) (p : ℕ) (s r : Stream) → Moved (item_move i t) s r
+item-back : (i : Item) (t : KoreToken) (p : ℕ) (s r : Stream) → Moved (item_move i t) s r
     → Says (symbol_of i) (token t p s) r
 item-back item.Name t p s r m = name-back t p s r m
 item-back item.Sort t p s r m = sort-back t p s r m
 item-back (item.Pattern b) t p s r m = pattern-back b t p s r m
 
-pub first-back : (i : Item) (c : Close) (t : Token) (p : ℕ) (s q r : Stream)
+pub first-back : (i : Item) (c : Close) (t : KoreToken) (p : ℕ) (s q r : Stream)
     → Moved (item_move i t) s q → Says (symbol.More i c) q r
     → Says (symbol.First i c) (token t p s) r
 first-back i c t p s q r m n =
     let x = said i (token t p s) q (item-back i t p s q m) in
     (x.0 ∷ n.0, λ w e h. x.1 (more_listed (map (spell_item i) n.0) (byte_of c) w) e (n.1 w e h))
 
-pub close-back : (i : Item) (c : Close) (t : Token) (p : ℕ) (s : Stream)
+pub close-back : (i : Item) (c : Close) (t : KoreToken) (p : ℕ) (s : Stream)
     → is_mark (byte_of c) t ≡ true → Says (symbol.First i c) (token t p s) s
 close-back i c t p s a = ([], λ w e h. (mark-is (byte_of c) t a, h))
 
-more-choice : (i : Item) (c : Close) (t : Token) (p : ℕ) (x y : Bool) (s r : Stream)
+more-choice : (i : Item) (c : Close) (t : KoreToken) (p : ℕ) (x y : Bool) (s r : Stream)
     → x ≡ is_mark (byte_of c) t → y ≡ is_mark 44 t
     → Moved (if x then Some [] else when y (symbol_of i ∷ symbol.More i c ∷ [])) s r
     → Says (symbol.More i c) (token t p s) r
@@ -152,21 +151,21 @@ more-choice i c t p false true s r a b m =
     )
 more-choice i c t p false false s r a b m = absurd m
 
-attributes-back : (t : Token) (p : ℕ) (s r : Stream)
+attributes-back : (t : KoreToken) (p : ℕ) (s r : Stream)
     → Moved (when (is_mark 91 t) (symbol.First (item.Pattern true) close.Bracket ∷ [])) s r
     → Says symbol.Attributes (token t p s) r
 attributes-back t p s r m =
     let x = when-back (is_mark 91 t) (symbol.First (item.Pattern true) close.Bracket ∷ []) s r m in
     (x.1.1.0, λ w e h. (mark-is 91 t x.0, x.1.1.1 w e (along x.1.0 r x.1.2 w e h)))
 
-names-back : (t : Token) (p : ℕ) (s r : Stream)
+names-back : (t : KoreToken) (p : ℕ) (s r : Stream)
     → Moved (when (is_mark 123 t) (symbol.First item.Name close.Brace ∷ [])) s r
     → Says symbol.Names (token t p s) r
 names-back t p s r m =
     let x = when-back (is_mark 123 t) (symbol.First item.Name close.Brace ∷ []) s r m in
     (x.1.1.0, λ w e h. (mark-is 123 t x.0, x.1.1.1 w e (along x.1.0 r x.1.2 w e h)))
 
-signature-back : (t : Token) (p : ℕ) (s r : Stream)
+signature-back : (t : KoreToken) (p : ℕ) (s r : Stream)
     → Moved (when (is_mark 40 t)
     (symbol.First item.Sort close.Paren ∷ symbol.Mark 58 ∷ symbol.Sort ∷ [])) s r
     → Says symbol.Signature (token t p s) r
@@ -192,7 +191,7 @@ keyword-choice : (n w : List ℕ) (b : List Symbol) (s r : Stream) → Moved (wh
     → (n ≡ w) × Pieces b s r
 keyword-choice n w b s r m = let x = when-back (bytes_eq n w) b s r m in (word-is n w x.0, x.1)
 
-where-back : (t : Token) (p : ℕ) (s r : Stream) → Moved (keyword_move (codes "where") [] t) s r
+where-back : (t : KoreToken) (p : ℕ) (s r : Stream) → Moved (keyword_move (codes "where") [] t) s r
     → Says symbol.Where (token t p s) r
 where-back (identifier n) p s r m =
     let x = keyword-choice n (codes "where") [] s r m in
@@ -203,7 +202,7 @@ where-back (string_token n) p s r m = absurd m
 where-back (mark d) p s r m = absurd m
 where-back assign p s r m = absurd m
 
-module-back : (t : Token) (p : ℕ) (s r : Stream)
+module-back : (t : KoreToken) (p : ℕ) (s r : Stream)
     → Moved (keyword_move (codes "module") (symbol.Name ∷ symbol.Declarations ∷ []) t) s r
     → Says symbol.Module (token t p s) r
 module-back (identifier n) p s r m =
@@ -222,7 +221,7 @@ module-back (string_token n) p s r m = absurd m
 module-back (mark d) p s r m = absurd m
 module-back assign p s r m = absurd m
 
-modules-back : (t : Token) (p : ℕ) (s r : Stream)
+modules-back : (t : KoreToken) (p : ℕ) (s r : Stream)
     → Moved
     (keyword_move (codes "module") (symbol.Name ∷ symbol.Declarations ∷ symbol.Modules ∷ []) t)
     s r → Says symbol.Modules (token t p s) r
@@ -474,7 +473,7 @@ word-back n p s r m =
     (λ i y. claim-back n p s r (word-is n (codes "claim") i) y) (λ x.
     absurd x)))))))))
 
-declarations-back : (t : Token) (p : ℕ) (s r : Stream) → Moved (declarations_move t) s r
+declarations-back : (t : KoreToken) (p : ℕ) (s r : Stream) → Moved (declarations_move t) s r
     → Says symbol.Declarations (token t p s) r
 declarations-back (identifier n) p s r m = word-back n p s r m
 declarations-back (set_identifier n) p s r m = absurd m
@@ -484,7 +483,7 @@ declarations-back (mark d) p s r m = absurd m
 declarations-back assign p s r m = absurd m
 
 -- a list that is closed at once
-first-choice : (i : Item) (c : Close) (t : Token) (p : ℕ) (x : Bool) (s r : Stream)
+first-choice : (i : Item) (c : Close) (t : KoreToken) (p : ℕ) (x : Bool) (s r : Stream)
     → x ≡ is_mark (byte_of c) t → Moved (if x then Some [] else item_move i t) s r
     → (if x then [] else (symbol.More i c ∷ [])) ≡ [] → Says (symbol.First i c) (token t p s) r
 first-choice i c t p true s r a m n =
@@ -492,7 +491,7 @@ first-choice i c t p true s r a m n =
 first-choice i c t p false s r a m n = let z : ⊥ = cc in absurd z
 
 -- a symbol that begins no list, by the move of its first token
-pub move-back : (f : Symbol) (t : Token) (p : ℕ) (s r : Stream) → Moved (turn f t) s r
+pub move-back : (f : Symbol) (t : KoreToken) (p : ℕ) (s r : Stream) → Moved (turn f t) s r
     → rest_of f t [] ≡ [] → Says f (token t p s) r
 unfolding turn
 move-back (symbol.Mark c) t p s r m i =

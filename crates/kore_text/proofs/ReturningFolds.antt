@@ -10,16 +10,17 @@ use Rattle.kore_text.specs.declared.symbols.Close.TheVariants as close
 use Rattle.kore_text.specs.declared.symbols.Item.TheVariants as item
 use Rattle.kore_text.specs.declared.symbols.Symbol.{Symbol}
 use Rattle.kore_text.specs.declared.symbols.Symbol.TheVariants as symbol
-use Rattle.kore_text.specs.TokenStream.{Token, identifier, set_identifier, builtin, string_token}
-use Rattle.kore_text.specs.TokenStream.{mark, assign, Stream, token}
+use Rattle.kore_text.specs.TokenStream.{KoreToken, identifier, set_identifier, builtin}
+use Rattle.kore_text.specs.TokenStream.{string_token, mark, assign, Stream, token}
 use Rattle.kore_text.specs.Trees.{SortTree, sort_parameter, sort_applied, no_sorts, sort_then}
 use Rattle.kore_text.specs.Trees.{sort_count, PatternTree, element_variable, set_variable, string}
-use Rattle.kore_text.specs.Trees.{symbol_applied, connected, binding, domain_value, folded}
+use Rattle.kore_text.specs.Trees.{symbol_applied, connected, binder_applied, value_written, folded}
 use Rattle.kore_text.specs.Trees.{pattern_then, pattern_count, sort_trees, pattern_trees}
 use Rattle.kore_text.specs.Grammar.{Requirement, placed, any, listed, more_listed, TakesTokens}
-use Rattle.kore_text.specs.Grammar.{sorts_of, arguments_of, takes, is_count, binder_sorts}
-use Rattle.kore_text.specs.Grammar.{binds_sets, is_variable, is_associative, spell_sort}
-use Rattle.kore_text.specs.Grammar.{spell_sorts, spell_pattern, spell_patterns, spell_variable}
+use Rattle.kore_text.specs.Grammar.{connective_sorts, connective_arguments, takes, is_count}
+use Rattle.kore_text.specs.Grammar.{binder_sorts, binds_sets, is_variable_tree, is_associative}
+use Rattle.kore_text.specs.Grammar.{spell_sort, spell_sorts, spell_pattern, spell_patterns}
+use Rattle.kore_text.specs.Grammar.{spell_variable}
 use Rattle.kore_text.specs.Table.{folded_arguments, exactly, argument_symbols, built_symbols, when}
 use Rattle.kore_text.specs.Table.{name_move, sort_move, pattern_move, built_move, assign_move}
 use Rattle.kore_text.specs.Table.{text_move, pattern_tail_move, variable_move}
@@ -43,7 +44,7 @@ when-back false b s r m = absurd m
 and-true : (a b : Bool) → a ≡ true → b ≡ true → (a && b) ≡ true
 and-true a b h i = rw (h, i) refl
 
-pub mark-is : (c : ℕ) (t : Token) → is_mark c t ≡ true → t ≡ mark c
+pub mark-is : (c : ℕ) (t : KoreToken) → is_mark c t ≡ true → t ≡ mark c
 mark-is c (identifier n) h = let z : ⊥ = cc in absurd z
 mark-is c (set_identifier n) h = let z : ⊥ = cc in absurd z
 mark-is c (builtin x) h = let z : ⊥ = cc in absurd z
@@ -69,7 +70,7 @@ as-more-patterns : (b : Bool) (ps : List PatternTree) (s r : Stream)
 as-more-patterns b ps s r m w e h =
     subst (λ fs. TakesTokens (more_listed fs 41 w) s e) (sym (spell_patterns-trees b ps)) (m w e h)
 
-pub name-back : (t : Token) (p : ℕ) (s r : Stream) → Moved (name_move t) s r
+pub name-back : (t : KoreToken) (p : ℕ) (s r : Stream) → Moved (name_move t) s r
     → Says symbol.Name (token t p s) r
 name-back (identifier n) p s r m = (n, λ w e h. (refl, along s r m w e h))
 name-back (set_identifier n) p s r m = absurd m
@@ -78,7 +79,7 @@ name-back (string_token n) p s r m = absurd m
 name-back (mark d) p s r m = absurd m
 name-back assign p s r m = absurd m
 
-pub text-back : (t : Token) (p : ℕ) (s r : Stream) → Moved (text_move t) s r
+pub text-back : (t : KoreToken) (p : ℕ) (s r : Stream) → Moved (text_move t) s r
     → Says symbol.Text (token t p s) r
 text-back (identifier n) p s r m = absurd m
 text-back (set_identifier n) p s r m = absurd m
@@ -87,7 +88,7 @@ text-back (string_token n) p s r m = (n, p, λ w e h. (refl, refl, along s r m w
 text-back (mark d) p s r m = absurd m
 text-back assign p s r m = absurd m
 
-pub assign-back : (t : Token) (p : ℕ) (s r : Stream) → Moved (assign_move t) s r
+pub assign-back : (t : KoreToken) (p : ℕ) (s r : Stream) → Moved (assign_move t) s r
     → Says symbol.Assign (token t p s) r
 assign-back (identifier n) p s r m = absurd m
 assign-back (set_identifier n) p s r m = absurd m
@@ -96,7 +97,7 @@ assign-back (string_token n) p s r m = absurd m
 assign-back (mark d) p s r m = absurd m
 assign-back assign p s r m = λ w e h. (refl, along s r m w e h)
 
-pub sort-back : (t : Token) (p : ℕ) (s r : Stream) → Moved (sort_move t) s r
+pub sort-back : (t : KoreToken) (p : ℕ) (s r : Stream) → Moved (sort_move t) s r
     → Says symbol.Sort (token t p s) r
 sort-back (identifier n) p s r m = elim m.1 [
   | inl g ↦ (sort_parameter p n, λ w e h. (refl, refl, g w e (along m.0 r m.2 w e h)))
@@ -108,7 +109,7 @@ sort-back (string_token n) p s r m = absurd m
 sort-back (mark d) p s r m = absurd m
 sort-back assign p s r m = absurd m
 
-pub sort-tail-back : (t : Token) (p : ℕ) (s r : Stream)
+pub sort-tail-back : (t : KoreToken) (p : ℕ) (s r : Stream)
     → Moved (when (is_mark 123 t) (symbol.First item.Sort close.Brace ∷ [])) s r
     → Says symbol.SortTail (token t p s) r
 sort-tail-back t p s r m =
@@ -119,7 +120,8 @@ sort-tail-back t p s r m =
           (mark-is 123 t x.0, as-sorts x.1.1.0 s x.1.0 x.1.1.1 w e (along x.1.0 r x.1.2 w e h)),
     )
 
-pub variable-back : (c : Bool) (t : Token) (p : ℕ) (s r : Stream) → Moved (variable_move c t) s r
+pub variable-back : (c : Bool) (t : KoreToken) (p : ℕ) (s r : Stream)
+    → Moved (variable_move c t) s r
     → Says (symbol.Variable c) (token t p s) r
 variable-back true (identifier n) p s r m = absurd m
 variable-back true (set_identifier n) p s r m = (
@@ -164,21 +166,23 @@ connected-back : (b : Bool) (o : Op) (p : ℕ) (s r : Stream)
     → Says (symbol.Pattern b) (token (builtin (Some (Connective o))) p s) r
 connected-back b o p s r m =
     let x =
-    exactly-back item.Sort close.Brace (sorts_of o)
-    (symbol.Mark 40 ∷ argument_symbols b (arguments_of o)) m.0 r m.2 in
+    exactly-back item.Sort close.Brace (connective_sorts o)
+    (symbol.Mark 40 ∷ argument_symbols b (connective_arguments o)) m.0 r m.2 in
     let xs : List SortTree = x.0 in
     let q2 : Stream = x.1.1.0 in
-    let g : Pieces (symbol.Mark 40 ∷ argument_symbols b (arguments_of o)) q2 r = x.1.1.1.1 in
-    let y = arguments-back b (arguments_of o) g.0 r g.2 in
+    let g : Pieces (symbol.Mark 40 ∷ argument_symbols b (connective_arguments o)) q2 r =
+        x.1.1.1.1 in
+    let y = arguments-back b (connective_arguments o) g.0 r g.2 in
     let ys : List PatternTree = y.0 in
     let v : List Requirement → List Requirement =
     λ w. listed (spell_patterns b (pattern_trees ys)) 41 w in
     let fit : takes o (sort_count (sort_trees xs)) (pattern_count (pattern_trees ys)) ≡ true =
-    and-true (sort_count (sort_trees xs) == sorts_of o)
-    (is_count (arguments_of o) (pattern_count (pattern_trees ys)))
-    (subst (λ k. (k == sorts_of o) ≡ true) (sym (sort_count-trees xs ∙ x.1.0))
-    (same-count (sorts_of o)))
-    (subst (λ k. is_count (arguments_of o) k ≡ true) (sym (pattern_count-trees ys)) y.1.0) in (
+    and-true (sort_count (sort_trees xs) == connective_sorts o)
+    (is_count (connective_arguments o) (pattern_count (pattern_trees ys)))
+    (subst (λ k. (k == connective_sorts o) ≡ true) (sym (sort_count-trees xs ∙ x.1.0))
+    (same-count (connective_sorts o)))
+    (subst (λ k. is_count (connective_arguments o) k ≡ true) (sym (pattern_count-trees ys)) y.1.0)
+    in (
       connected p o (sort_trees xs) (pattern_trees ys),
       λ w e h. (
         fit,
@@ -197,7 +201,7 @@ variable_tree true p n t = set_variable p n t
 variable_tree false p n t = element_variable p n t
 
 is-variable : (c : Bool) (p : ℕ) (n : List ℕ) (t : SortTree)
-    → is_variable c (variable_tree c p n t) ≡ true
+    → is_variable_tree c (variable_tree c p n t) ≡ true
 is-variable true p n t = refl
 is-variable false p n t = refl
 
@@ -223,11 +227,11 @@ binding-back b o p s r m =
     let tree : PatternTree = variable_tree c v.0 v.1 v.2 in
     let k : Pieces (symbol.Mark 44 ∷ symbol.Pattern b ∷ symbol.Mark 41 ∷ []) g.2.0 r = g.2.2 in
     let body : PatternTree = k.2.1.0 in
-    let fit : ((sort_count (sort_trees xs) == binder_sorts o) && is_variable c tree) ≡ true =
-    and-true (sort_count (sort_trees xs) == binder_sorts o) (is_variable c tree)
+    let fit : ((sort_count (sort_trees xs) == binder_sorts o) && is_variable_tree c tree) ≡ true =
+    and-true (sort_count (sort_trees xs) == binder_sorts o) (is_variable_tree c tree)
     (subst (λ j. (j == binder_sorts o) ≡ true) (sym (sort_count-trees xs ∙ x.1.0))
     (same-count (binder_sorts o))) (is-variable c v.0 v.1 v.2) in (
-      binding p o (sort_trees xs) tree body,
+      binder_applied p o (sort_trees xs) tree body,
       λ w e h. (
         fit,
         (
@@ -259,7 +263,7 @@ value-back b p s r m =
     let g : Pieces (symbol.Text ∷ symbol.Mark 41 ∷ []) k.2.0 r = k.2.2 in
     let x : List ℕ = g.1.0 in
     let place : ℕ = g.1.1 in (
-      domain_value p t x place,
+      value_written p t x place,
       λ w e h. (
         refl,
         refl,
@@ -302,7 +306,7 @@ built-back b (Some (Binding o)) p s r m = binding-back b o p s r m
 built-back b (Some Value) p s r m = value-back b p s r m
 built-back b (Some (Fold left)) p s r m = fold-back b left p s r m
 
-pub pattern-back : (b : Bool) (t : Token) (p : ℕ) (s r : Stream) → Moved (pattern_move b t) s r
+pub pattern-back : (b : Bool) (t : KoreToken) (p : ℕ) (s r : Stream) → Moved (pattern_move b t) s r
     → Says (symbol.Pattern b) (token t p s) r
 pattern-back b (identifier n) p s r m = elim m.1 [
   | inl g ↦ (element_variable p n g.0, λ w e h. (refl, refl, g.1 w e (along m.0 r m.2 w e h)))
@@ -342,7 +346,7 @@ tail-choice b false true d p s r i j m =
     )
 tail-choice b false false d p s r i j m = absurd m
 
-pub pattern-tail-back : (b : Bool) (t : Token) (p : ℕ) (s r : Stream)
+pub pattern-tail-back : (b : Bool) (t : KoreToken) (p : ℕ) (s r : Stream)
     → Moved (pattern_tail_move b t) s r → Says (symbol.PatternTail b) (token t p s) r
 pattern-tail-back b (mark d) p s r m = tail-choice b (d == 58) (d == 123) d p s r refl refl m
 pattern-tail-back b (identifier n) p s r m = absurd m
@@ -351,7 +355,7 @@ pattern-tail-back b (builtin x) p s r m = absurd m
 pattern-tail-back b (string_token n) p s r m = absurd m
 pattern-tail-back b assign p s r m = absurd m
 
-any-count : (o : Op) (n : ℕ) → is_associative o ≡ true → is_count (arguments_of o) n ≡ true
+any-count : (o : Op) (n : ℕ) → is_associative o ≡ true → is_count (connective_arguments o) n ≡ true
 any-count op.Top n h = let z : ⊥ = cc in absurd z
 any-count op.Bottom n h = let z : ⊥ = cc in absurd z
 any-count op.Not n h = let z : ⊥ = cc in absurd z
@@ -377,8 +381,8 @@ folded-connective-back b o p s r a m =
     let q : PatternTree = g.1.0 in
     let ps : List PatternTree = g.2.1.0 in
     let fit : takes o 1 (pattern_count (pattern_then q (pattern_trees ps))) ≡ true =
-    and-true (1 == sorts_of o)
-    (is_count (arguments_of o) (pattern_count (pattern_then q (pattern_trees ps))))
+    and-true (1 == connective_sorts o)
+    (is_count (connective_arguments o) (pattern_count (pattern_then q (pattern_trees ps))))
     (subst (λ n. (1 == n) ≡ true) (sym (single o a)) refl)
     (any-count o (pattern_count (pattern_then q (pattern_trees ps))) a) in (
       connected p o (sort_then t no_sorts) (pattern_then q (pattern_trees ps)),

@@ -7,7 +7,7 @@ use Rattle.kore_text.specs.declared.symbols.Item.{Item}
 use Rattle.kore_text.specs.declared.symbols.Item.TheVariants as item
 use Rattle.kore_text.specs.declared.symbols.Symbol.{Symbol}
 use Rattle.kore_text.specs.declared.symbols.Symbol.TheVariants as symbol
-use Rattle.kore_text.specs.TokenStream.{Token, identifier, set_identifier, string_token, mark}
+use Rattle.kore_text.specs.TokenStream.{KoreToken, identifier, set_identifier, string_token, mark}
 use Rattle.kore_text.specs.TokenStream.{assign, Stream}
 use Rattle.kore_text.specs.Trees.{SortTree, SortTrees, sort_count, PatternTree, PatternTrees}
 use Rattle.kore_text.specs.Trees.{pattern_count, sort_trees, pattern_trees, ModuleTree, Declaration}
@@ -33,7 +33,7 @@ spell_item item.Name = spell_name
 spell_item item.Sort = spell_sort
 spell_item (item.Pattern b) = spell_pattern b
 
-abbrev pub variable_token : Bool → List ℕ → Token
+abbrev pub variable_token : Bool → List ℕ → KoreToken
 variable_token true n = set_identifier n
 variable_token false n = identifier n
 

@@ -3,11 +3,11 @@ use Rattle.std.proofs.Common.{◌≡◌, ◌≤◌, ◌<◌, ℕ, List, [], ◌�
 use Rattle.std.proofs.Common.{subst, arith, inl, inr}
 use Rattle.kore_text.specs.declared.faults.TextFault.{TextFault}
 use Rattle.kore_text.specs.declared.faults.TextFault.TheVariants.{Lex, Syntax, Deep}
-use Rattle.kore_text.specs.TokenStream.{Token, Stream, end, fault, token, tokens_of}
-use Rattle.kore_text.specs.Faults.{IsEmptyFold, PlacedToken, followed_by, open_after}
-use Rattle.kore_text.specs.Depth.{opened}
-use Rattle.kore_text.specs.Faults.{Begins, IsGood, Stops, GoesDeep, Follows, HasFault, IsFirstFault}
+use Rattle.kore_text.specs.TokenStream.{KoreToken, Stream, end, no_token_at, token, token_stream}
+use Rattle.kore_text.specs.Faults.{IsEmptyFold, PlacedToken, followed_by, open_after, Begins}
+use Rattle.kore_text.specs.Faults.{IsGood, Stops, GoesDeep, Follows, HasFault, IsFirstFaultOfText}
 use Rattle.kore_text.specs.Faults.{IsPattern, IsDefinition}
+use Rattle.kore_text.specs.Depth.{opened}
 use Rattle.kore_text.specs.TextLaws.{DefinitionFaultIsUnique, PatternFaultIsUnique}
 
 pub followed_by-append : (ts us : List PlacedToken) (s : Stream)
@@ -43,18 +43,18 @@ longer-cons t u ts r us q same l =
 abbrev Compared : List PlacedToken → Stream → List PlacedToken → Stream → Type 0
 Compared ts r us q = ((ts ≡ us) × (r ≡ q)) ⊎ (Longer ts r us q ⊎ Longer us q ts r)
 
-token-is : (t u : Token) (p q : ℕ) (r s : Stream) → token t p r ≡ token u q s → t ≡ u
+token-is : (t u : KoreToken) (p q : ℕ) (r s : Stream) → token t p r ≡ token u q s → t ≡ u
 token-is t u p q r s e = cc
 
-place-is : (t u : Token) (p q : ℕ) (r s : Stream) → token t p r ≡ token u q s → p ≡ q
+place-is : (t u : KoreToken) (p q : ℕ) (r s : Stream) → token t p r ≡ token u q s → p ≡ q
 place-is t u p q r s e = cc
 
-rest-is : (t u : Token) (p q : ℕ) (r s : Stream) → token t p r ≡ token u q s → r ≡ s
+rest-is : (t u : KoreToken) (p q : ℕ) (r s : Stream) → token t p r ≡ token u q s → r ≡ s
 rest-is t u p q r s e = cc
 
 placed-is : (t u : PlacedToken) → t.0 ≡ u.0 → t.1 ≡ u.1 → t ≡ u
 placed-is t u e f =
-    let first : (t.0, t.1) ≡ (u.0, t.1) = ap (λ (x : Token). (x, t.1)) e in
+    let first : (t.0, t.1) ≡ (u.0, t.1) = ap (λ (x : KoreToken). (x, t.1)) e in
     let second : (u.0, t.1) ≡ (u.0, u.1) = ap (λ (x : ℕ). (u.0, x)) f in first ∙ second
 
 compared-cons : (t u : PlacedToken) (ts : List PlacedToken) (r : Stream) (us : List PlacedToken)
@@ -114,31 +114,31 @@ open-few (t ∷ ts) n l h =
 deep-or-stops : (L : Stream → Type 0) (n : ℕ) (ts : List PlacedToken) (r : Stream) (a b : ℕ)
     → open_after ts n ≤ 500 → Stops L ts r a → GoesDeep L n ts r b → ⊥
 deep-or-stops L n ts (end e) a b l h d = d
-deep-or-stops L n ts (fault e) a b l h d = d
+deep-or-stops L n ts (no_token_at e) a b l h d = d
 deep-or-stops L n ts (token t p r) a b l h d = elim h.1 [
   | inl never ↦ never d.1
   | inr empty ↦
       let z : opened t (open_after ts n) ≡ open_after ts n =
-      ap (λ (u : Token). opened u (open_after ts n)) empty.1 in
+      ap (λ (u : KoreToken). opened u (open_after ts n)) empty.1 in
       absurd (omega (arith, z, d.2, l))
 ]
 
 same-stop : (L : Stream → Type 0) (ts : List PlacedToken) (r : Stream) (a b : ℕ) → Stops L ts r a
     → Stops L ts r b → a ≡ b
 same-stop L ts (end e) a b g h = g.0 ∙ sym h.0
-same-stop L ts (fault e) a b g h = absurd g
+same-stop L ts (no_token_at e) a b g h = absurd g
 same-stop L ts (token t p r) a b g h = g.0 ∙ sym h.0
 
 same-deep : (L : Stream → Type 0) (n : ℕ) (ts : List PlacedToken) (r : Stream) (a b : ℕ)
     → GoesDeep L n ts r a → GoesDeep L n ts r b → a ≡ b
 same-deep L n ts (end e) a b g h = absurd g
-same-deep L n ts (fault e) a b g h = absurd g
+same-deep L n ts (no_token_at e) a b g h = absurd g
 same-deep L n ts (token t p r) a b g h = g.0 ∙ sym h.0
 
 one-fault : (L : Stream → Type 0) (n : ℕ) (ts : List PlacedToken) (r : Stream) (f g : TextFault)
     → open_after ts n ≤ 500 → Follows L n ts r f → Follows L n ts r g → f ≡ g
 one-fault L n ts r (Lex a) (Lex b) l h k =
-    let z : fault a ≡ fault b = sym h ∙ k in ap Lex (let q : a ≡ b = cc in q)
+    let z : no_token_at a ≡ no_token_at b = sym h ∙ k in ap Lex (let q : a ≡ b = cc in q)
 one-fault L n ts r (Lex a) (Syntax b) l h k =
     absurd (subst (λ (x : Stream). Stops L ts x b) h k)
 one-fault L n ts r (Lex a) (Deep b) l h k =
@@ -168,7 +168,7 @@ unique L s f g h k = elim (compared h.good k.good h.rest k.rest (sym h.is ∙ k.
 ]
 
 pub definition-unique : DefinitionFaultIsUnique
-definition-unique bytes f g = unique IsDefinition (tokens_of bytes) f g
+definition-unique bytes f g = unique IsDefinition (token_stream bytes) f g
 
 pub pattern-unique : PatternFaultIsUnique
-pattern-unique bytes f g = unique IsPattern (tokens_of bytes) f g
+pattern-unique bytes f g = unique IsPattern (token_stream bytes) f g

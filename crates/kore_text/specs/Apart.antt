@@ -1,10 +1,10 @@
 -- What may follow a sort without braces.
 use Rattle.std.specs.Prelude.{◌≡◌, ℕ, Bool, false, ◌==◌, List, [], ◌∷◌}
-use Rattle.kore_text.specs.TokenStream.{Token, mark, Stream, end, fault, token}
-use Rattle.kore_text.specs.Grammar.{Requirement, placed, any, given}
+use Rattle.kore_text.specs.TokenStream.{KoreToken, mark, Stream, end, no_token_at, token}
+use Rattle.kore_text.specs.Grammar.{Requirement, placed, any, provided}
 
 -- the token is this mark
-abbrev pub is_mark : ℕ → Token → Bool
+abbrev pub is_mark : ℕ → KoreToken → Bool
 is_mark c (mark d) = d == c
 is_mark c _ = false
 
@@ -12,8 +12,8 @@ is_mark c _ = false
 -- ends here
 abbrev pub Apart : List Requirement → Stream → Type 0
 Apart [] (end x) = Unit {0}
-Apart [] (fault x) = ⊥
+Apart [] (no_token_at x) = ⊥
 Apart [] (token t p s) = ⊥
-Apart (given b ∷ ws) e = Apart ws e
+Apart (provided b ∷ ws) e = Apart ws e
 Apart (any t ∷ ws) e = is_mark 123 t ≡ false
 Apart (placed p t ∷ ws) e = is_mark 123 t ≡ false

@@ -7,9 +7,10 @@ use Rattle.kore_text.specs.declared.names.Op.{Op}
 use Rattle.kore_text.specs.declared.names.Built.TheVariants.{Connective, Fold}
 use Rattle.kore_text.specs.declared.faults.TextFault.{TextFault}
 use Rattle.kore_text.specs.declared.faults.TextFault.TheVariants.{Lex, Syntax, Deep}
-use Rattle.kore_text.specs.TokenStream.{Token, identifier, builtin, mark, Stream, end, fault, token}
+use Rattle.kore_text.specs.TokenStream.{KoreToken, identifier, builtin, mark, Stream, end}
+use Rattle.kore_text.specs.TokenStream.{no_token_at, token}
 use Rattle.kore_text.specs.Trees.{PatternTree, SortTrees, sort_count, DefinitionTree}
-use Rattle.kore_text.specs.Grammar.{Requirement, any, given, TakesTokens, listed, spell_sorts}
+use Rattle.kore_text.specs.Grammar.{Requirement, any, provided, TakesTokens, listed, spell_sorts}
 use Rattle.kore_text.specs.Grammar.{spell_pattern, spell_definition, is_associative}
 use Rattle.kore_text.specs.Depth.{opened, IsShallow}
 
@@ -19,21 +20,21 @@ is_single ss = sort_count ss == 1
 
 -- the head of a folded application, with its sorts: a symbol, or `\and` or `\or` of a sort
 pub data FoldHead : Type 0 where
-  of_symbol : List ℕ → SortTrees → FoldHead
+  head_of_symbol : List ℕ → SortTrees → FoldHead
   of_connective : Op → SortTrees → FoldHead
 
 -- the application of the head to no argument, up to and including the closing parenthesis
 abbrev pub spell_unfilled : FoldHead → List Requirement → List Requirement
-spell_unfilled (of_symbol n ss) k =
+spell_unfilled (head_of_symbol n ss) k =
     any (identifier n) ∷ any (mark 123)
     ∷ listed (spell_sorts ss) 125 (any (mark 40) ∷ any (mark 41) ∷ k)
 spell_unfilled (of_connective o ss) k =
-    given (is_associative o) ∷ given (is_single ss) ∷ any (builtin (Some (Connective o)))
+    provided (is_associative o) ∷ provided (is_single ss) ∷ any (builtin (Some (Connective o)))
     ∷ any (mark 123) ∷ listed (spell_sorts ss) 125 (any (mark 40) ∷ any (mark 41) ∷ k)
 
 -- the token and what follows it begin a fold without an argument: empty braces, and in parentheses
 -- an application to no argument; the closing parenthesis of the fold itself is not tested
-abbrev pub IsEmptyFold : Token → Stream → Type 0
+abbrev pub IsEmptyFold : KoreToken → Stream → Type 0
 IsEmptyFold t s =
     (left : Bool) × (t ≡ builtin (Some (Fold left)))
     × (h : FoldHead) × (r : Stream)
@@ -43,7 +44,7 @@ IsEmptyFold t s =
 
 -- a token with the byte at which it begins
 abbrev pub PlacedToken : Type 0
-PlacedToken = Token × ℕ
+PlacedToken = KoreToken × ℕ
 
 -- the stream that begins with these tokens and goes on with this rest
 abbrev pub followed_by : List PlacedToken → Stream → Stream
@@ -75,20 +76,20 @@ pub record IsGood (L : Stream → Type 0) (n : ℕ) (good : List PlacedToken) (r
 -- argument
 abbrev pub Stops : (Stream → Type 0) → List PlacedToken → Stream → ℕ → Type 0
 Stops L good (end e) at = (at ≡ e) × (L (followed_by good (end e)) → ⊥)
-Stops L good (fault e) at = ⊥
+Stops L good (no_token_at e) at = ⊥
 Stops L good (token t p rest) at =
     (at ≡ p) × ((Begins L (good ++ (t, p) ∷ []) → ⊥) ⊎ IsEmptyFold t rest)
 
 -- the token after the good ones goes on a text of the language, but opens one bracket too many
 abbrev pub GoesDeep : (Stream → Type 0) → ℕ → List PlacedToken → Stream → ℕ → Type 0
 GoesDeep L n good (end e) at = ⊥
-GoesDeep L n good (fault e) at = ⊥
+GoesDeep L n good (no_token_at e) at = ⊥
 GoesDeep L n good (token t p rest) at =
     (at ≡ p) × Begins L (good ++ (t, p) ∷ []) × (500 < opened t (open_after good n))
 
 -- what follows the good tokens is this fault
 abbrev pub Follows : (Stream → Type 0) → ℕ → List PlacedToken → Stream → TextFault → Type 0
-Follows L n good rest (Lex at) = rest ≡ fault at
+Follows L n good rest (Lex at) = rest ≡ no_token_at at
 Follows L n good rest (Syntax at) = Stops L good rest at
 Follows L n good rest (Deep at) = GoesDeep L n good rest at
 
@@ -102,9 +103,9 @@ pub record HasFault (L : Stream → Type 0) (n : ℕ) (s : Stream) (f : TextFaul
 
 -- what the first fault of a text is, if `n` brackets are open at its head; it has none if it is a
 -- text of the language in which at most 500 brackets are open
-abbrev pub IsFirstFault : (Stream → Type 0) → ℕ → Stream → Option TextFault → Type 0
-IsFirstFault L n s None = L s × IsShallow n s
-IsFirstFault L n s (Some f) = HasFault L n s f
+abbrev pub IsFirstFaultOfText : (Stream → Type 0) → ℕ → Stream → Option TextFault → Type 0
+IsFirstFaultOfText L n s None = L s × IsShallow n s
+IsFirstFaultOfText L n s (Some f) = HasFault L n s f
 
 -- the tokens spell a pattern
 abbrev pub IsPattern : Stream → Type 0

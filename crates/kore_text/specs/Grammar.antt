@@ -8,12 +8,12 @@ use Rattle.kore_text.specs.declared.names.Op.TheVariants as op
 use Rattle.kore_text.specs.declared.names.Binder.{Binder}
 use Rattle.kore_text.specs.declared.names.Binder.TheVariants as binder
 use Rattle.kore_text.specs.declared.names.Built.TheVariants.{Connective, Binding, Value, Fold}
-use Rattle.kore_text.specs.TokenStream.{Token, identifier, set_identifier, builtin, string_token}
-use Rattle.kore_text.specs.TokenStream.{mark, assign, Stream, token}
+use Rattle.kore_text.specs.TokenStream.{KoreToken, identifier, set_identifier, builtin}
+use Rattle.kore_text.specs.TokenStream.{string_token, mark, assign, Stream, token}
 use Rattle.kore_text.specs.Trees.{SortTree, sort_parameter, sort_applied, SortTrees, no_sorts}
 use Rattle.kore_text.specs.Trees.{sort_then, sort_count, PatternTree, element_variable}
-use Rattle.kore_text.specs.Trees.{set_variable, string, symbol_applied, connected, binding}
-use Rattle.kore_text.specs.Trees.{domain_value, folded, PatternTrees, no_patterns, pattern_then}
+use Rattle.kore_text.specs.Trees.{set_variable, string, symbol_applied, connected, binder_applied}
+use Rattle.kore_text.specs.Trees.{value_written, folded, PatternTrees, no_patterns, pattern_then}
 use Rattle.kore_text.specs.Trees.{pattern_count, ImportDeclaration, SortDeclaration}
 use Rattle.kore_text.specs.Trees.{SymbolDeclaration, AliasDeclaration, AxiomDeclaration, ModuleTree}
 use Rattle.kore_text.specs.Trees.{DefinitionTree, Declaration, import_declaration, sort_declaration}
@@ -22,29 +22,29 @@ use Rattle.kore_text.specs.Trees.{claim_declaration}
 
 -- a requirement: a token at this place, a token at any place, or a condition, which needs no token
 pub data Requirement : Type 0 where
-  placed : ℕ → Token → Requirement
-  any : Token → Requirement
-  given : Bool → Requirement
+  placed : ℕ → KoreToken → Requirement
+  any : KoreToken → Requirement
+  provided : Bool → Requirement
 
 -- how many sorts a connective takes
-abbrev pub sorts_of : Op → ℕ
-sorts_of op.Ceil = 2
-sorts_of op.Floor = 2
-sorts_of op.Equals = 2
-sorts_of op.Member = 2
-sorts_of _ = 1
+abbrev pub connective_sorts : Op → ℕ
+connective_sorts op.Ceil = 2
+connective_sorts op.Floor = 2
+connective_sorts op.Equals = 2
+connective_sorts op.Member = 2
+connective_sorts _ = 1
 
 -- how many arguments a connective takes; `None` if it takes any number
-abbrev pub arguments_of : Op → Option ℕ
-arguments_of op.Top = Some 0
-arguments_of op.Bottom = Some 0
-arguments_of op.Not = Some 1
-arguments_of op.Next = Some 1
-arguments_of op.And = None
-arguments_of op.Or = None
-arguments_of op.Ceil = Some 1
-arguments_of op.Floor = Some 1
-arguments_of _ = Some 2
+abbrev pub connective_arguments : Op → Option ℕ
+connective_arguments op.Top = Some 0
+connective_arguments op.Bottom = Some 0
+connective_arguments op.Not = Some 1
+connective_arguments op.Next = Some 1
+connective_arguments op.And = None
+connective_arguments op.Or = None
+connective_arguments op.Ceil = Some 1
+connective_arguments op.Floor = Some 1
+connective_arguments _ = Some 2
 
 abbrev pub is_count : Option ℕ → ℕ → Bool
 is_count None n = true
@@ -52,7 +52,8 @@ is_count (Some m) n = n == m
 
 -- the connective takes this many sorts and this many arguments
 abbrev pub takes : Op → ℕ → ℕ → Bool
-takes o sorts arguments = (sorts == sorts_of o) && is_count (arguments_of o) arguments
+takes o sorts arguments = (sorts == connective_sorts o)
+    && is_count (connective_arguments o) arguments
 
 -- how many sorts a binder takes
 abbrev pub binder_sorts : Binder → ℕ
@@ -67,10 +68,10 @@ binds_sets binder.Nu = true
 binds_sets _ = false
 
 -- the pattern is a set variable (true) or an element variable (false)
-abbrev pub is_variable : Bool → PatternTree → Bool
-is_variable true (set_variable at n s) = true
-is_variable false (element_variable at n s) = true
-is_variable _ _ = false
+abbrev pub is_variable_tree : Bool → PatternTree → Bool
+is_variable_tree true (set_variable at n s) = true
+is_variable_tree false (element_variable at n s) = true
+is_variable_tree _ _ = false
 
 -- the connective may be folded: `\and` and `\or`
 abbrev pub is_associative : Op → Bool
@@ -130,11 +131,11 @@ abbrev mutual
   spell_sorts (sort_then s ss) = spell_sort s ∷ spell_sorts ss
 
 -- a variable: its name, a colon and its sort
-abbrev pub spell_variable : ℕ → Token → SortTree → Spelling
+abbrev pub spell_variable : ℕ → KoreToken → SortTree → Spelling
 spell_variable at t s k = placed at t ∷ any (mark 58) ∷ spell_sort s k
 
 -- an application: its head, its sorts in braces and its arguments in parentheses
-abbrev pub spell_applied : ℕ → Token → SortTrees → List Spelling → Spelling
+abbrev pub spell_applied : ℕ → KoreToken → SortTrees → List Spelling → Spelling
 spell_applied at t ss ps k =
     placed at t ∷ any (mark 123) ∷ listed (spell_sorts ss) 125 (any (mark 40) ∷ listed ps 41 k)
 
@@ -143,22 +144,22 @@ abbrev mutual
   pub spell_pattern : Bool → PatternTree → Spelling
   spell_pattern b (element_variable at n s) = λ k. spell_variable at (identifier n) s k
   spell_pattern b (set_variable at n s) = λ k. spell_variable at (set_identifier n) s k
-  spell_pattern b (string at t) = λ k. given b ∷ placed at (string_token t) ∷ k
+  spell_pattern b (string at t) = λ k. provided b ∷ placed at (string_token t) ∷ k
   spell_pattern b (symbol_applied at n ss ps) =
       λ k. spell_applied at (identifier n) ss (spell_patterns b ps) k
   spell_pattern b (connected at o ss ps) = λ k.
-      given (takes o (sort_count ss) (pattern_count ps))
+      provided (takes o (sort_count ss) (pattern_count ps))
       ∷ spell_applied at (builtin (Some (Connective o))) ss (spell_patterns b ps) k
-  spell_pattern b (binding at o ss x p) = λ k.
-      given ((sort_count ss == binder_sorts o) && is_variable (binds_sets o) x)
+  spell_pattern b (binder_applied at o ss x p) = λ k.
+      provided ((sort_count ss == binder_sorts o) && is_variable_tree (binds_sets o) x)
       ∷ placed at (builtin (Some (Binding o))) ∷ any (mark 123)
       ∷ listed (spell_sorts ss) 125 (any (mark 40)
       ∷ spell_pattern b x (any (mark 44) ∷ spell_pattern b p (any (mark 41) ∷ k)))
-  spell_pattern b (domain_value at s t place) = λ k.
+  spell_pattern b (value_written at s t place) = λ k.
       placed at (builtin (Some Value)) ∷ any (mark 123) ∷ spell_sort s (any (mark 125)
       ∷ any (mark 40) ∷ placed place (string_token t) ∷ any (mark 41) ∷ k)
   spell_pattern b (folded at left p) = λ k.
-      given (is_foldable p) ∷ placed at (builtin (Some (Fold left))) ∷ any (mark 123)
+      provided (is_foldable p) ∷ placed at (builtin (Some (Fold left))) ∷ any (mark 123)
       ∷ any (mark 125)
       ∷ any (mark 40) ∷ spell_pattern b p (any (mark 41) ∷ k)
 
@@ -204,7 +205,7 @@ spell_symbol_declaration d k =
 -- an alias: its symbol, `where`, its left side, `:=` and its body
 abbrev pub spell_alias : AliasDeclaration → Spelling
 spell_alias d k =
-    given (not d.hooked) ∷ keyword d.at (codes "alias") ∷ any (identifier d.name)
+    provided (not d.hooked) ∷ keyword d.at (codes "alias") ∷ any (identifier d.name)
     ∷ spell_names d.params (spell_signature d.args d.result
     (any (identifier (codes "where")) ∷ any (identifier d.left_name)
     ∷ any (mark 123)
@@ -244,14 +245,14 @@ is_some_module (m ∷ ms) = true
 -- a definition: attributes, and one module or more
 abbrev pub spell_definition : DefinitionTree → Spelling
 spell_definition d k =
-    given (is_some_module d.modules)
+    provided (is_some_module d.modules)
     ∷ spell_attributes d.attributes (in_order (map spell_module d.modules) k)
 
 -- the tokens from the first stream up to the second meet the requirements, in order, and the
 -- conditions hold
 abbrev pub TakesTokens : List Requirement → Stream → Stream → Type 0
 TakesTokens [] s e = s ≡ e
-TakesTokens (given b ∷ ws) s e = IsTrue b × TakesTokens ws s e
+TakesTokens (provided b ∷ ws) s e = IsTrue b × TakesTokens ws s e
 TakesTokens (placed p u ∷ ws) (token t q s) e = (t ≡ u) × (q ≡ p) × TakesTokens ws s e
 TakesTokens (any u ∷ ws) (token t q s) e = (t ≡ u) × TakesTokens ws s e
 TakesTokens _ _ _ = ⊥

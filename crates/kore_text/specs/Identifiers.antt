@@ -1,10 +1,10 @@
 -- The names in a tree are identifiers. Each is a letter, and then letters, digits, `'` and `-`.
 use Rattle.std.specs.Prelude.{ℕ, false, List, [], All}
 use Rattle.kore_lex.specs.Tokens.{IsName}
-use Rattle.kore_text.specs.TokenStream.{tokens_of, end}
+use Rattle.kore_text.specs.TokenStream.{token_stream, end}
 use Rattle.kore_text.specs.Trees.{SortTree, sort_parameter, sort_applied, SortTrees, no_sorts}
 use Rattle.kore_text.specs.Trees.{sort_then, PatternTree, element_variable, set_variable, string}
-use Rattle.kore_text.specs.Trees.{symbol_applied, connected, binding, domain_value, folded}
+use Rattle.kore_text.specs.Trees.{symbol_applied, connected, binder_applied, value_written, folded}
 use Rattle.kore_text.specs.Trees.{PatternTrees, no_patterns, pattern_then, ImportDeclaration}
 use Rattle.kore_text.specs.Trees.{SortDeclaration, SymbolDeclaration, AliasDeclaration}
 use Rattle.kore_text.specs.Trees.{AxiomDeclaration, ModuleTree, DefinitionTree, Declaration}
@@ -30,8 +30,9 @@ abbrev mutual
   IsNamedPattern (string at t) = Unit {0}
   IsNamedPattern (symbol_applied at n ss ps) = IsName n × AreNamedSorts ss × AreNamedPatterns ps
   IsNamedPattern (connected at o ss ps) = AreNamedSorts ss × AreNamedPatterns ps
-  IsNamedPattern (binding at o ss x p) = AreNamedSorts ss × IsNamedPattern x × IsNamedPattern p
-  IsNamedPattern (domain_value at s t place) = IsNamedSort s
+  IsNamedPattern (binder_applied at o ss x p) = AreNamedSorts ss × IsNamedPattern x
+      × IsNamedPattern p
+  IsNamedPattern (value_written at s t place) = IsNamedSort s
   IsNamedPattern (folded at left p) = IsNamedPattern p
 
   pub AreNamedPatterns : PatternTrees → Type 0
@@ -92,10 +93,10 @@ pub record HasIdentifiers (d : DefinitionTree) : Type 0 where
 abbrev pub NamesAreIdentifiers : Type 0
 NamesAreIdentifiers =
     (bytes : List ℕ) (d : DefinitionTree) (e : ℕ)
-    → TakesTokens (spell_definition d []) (tokens_of bytes) (end e) → HasIdentifiers d
+    → TakesTokens (spell_definition d []) (token_stream bytes) (end e) → HasIdentifiers d
 
 -- the names of a pattern that bytes spell are identifiers
 abbrev pub PatternNamesAreIdentifiers : Type 0
 PatternNamesAreIdentifiers =
     (bytes : List ℕ) (p : PatternTree) (e : ℕ)
-    → TakesTokens (spell_pattern false p []) (tokens_of bytes) (end e) → IsNamedPattern p
+    → TakesTokens (spell_pattern false p []) (token_stream bytes) (end e) → IsNamedPattern p

@@ -3,7 +3,7 @@ use Rattle.std.specs.Prelude.{◌≡◌, Bool, true, false, ◌&&◌, List, [], 
 use Rattle.std.specs.Prelude.{Some, None}
 use Rattle.kore_text.specs.declared.expected.Expected.{Expected}
 use Rattle.kore_text.specs.declared.symbols.Symbol.{Symbol}
-use Rattle.kore_text.specs.TokenStream.{Token}
+use Rattle.kore_text.specs.TokenStream.{KoreToken}
 use Rattle.kore_text.specs.Table.{is_empty, turn}
 
 -- the symbols that are to come, the next one first
@@ -30,7 +30,7 @@ abbrev pub is_none : Option (List Symbol) → Bool
 is_none (Some b) = false
 is_none None = true
 
-abbrev pub is_left_out : Symbol → Token → Bool
+abbrev pub is_left_out : Symbol → KoreToken → Bool
 is_left_out f t = is_empty f && is_none (turn f t)
 
 abbrev pub is_nil : List Symbol → Bool

@@ -14,10 +14,10 @@ use Rattle.kore_text.specs.declared.symbols.Symbol.{Symbol}
 use Rattle.kore_text.specs.declared.symbols.Symbol.TheVariants as symbol
 use Rattle.kore_text.specs.declared.faults.TextFault.{TextFault}
 use Rattle.kore_text.specs.declared.faults.TextFault.TheVariants.{Lex, Syntax, Deep}
-use Rattle.kore_text.specs.TokenStream.{Token, identifier, set_identifier, builtin, string_token}
-use Rattle.kore_text.specs.TokenStream.{mark, assign, Stream, end, fault, token}
-use Rattle.kore_text.specs.Grammar.{sorts_of, arguments_of, binder_sorts, binds_sets}
-use Rattle.kore_text.specs.Grammar.{is_associative}
+use Rattle.kore_text.specs.TokenStream.{KoreToken, identifier, set_identifier, builtin}
+use Rattle.kore_text.specs.TokenStream.{string_token, mark, assign, Stream, end, no_token_at, token}
+use Rattle.kore_text.specs.Grammar.{connective_sorts, connective_arguments, binder_sorts}
+use Rattle.kore_text.specs.Grammar.{binds_sets, is_associative}
 use Rattle.kore_text.specs.Depth.{opened}
 use Rattle.kore_text.specs.Apart.{is_mark}
 
@@ -32,23 +32,23 @@ symbol_of item.Sort = symbol.Sort
 symbol_of (item.Pattern b) = symbol.Pattern b
 
 -- the token is an identifier; `is_word`: it is this identifier
-abbrev pub is_name : Token → Bool
+abbrev pub is_name : KoreToken → Bool
 is_name (identifier n) = true
 is_name _ = false
 
-abbrev pub is_word : List ℕ → Token → Bool
+abbrev pub is_word : List ℕ → KoreToken → Bool
 is_word w (identifier n) = bytes_eq n w
 is_word w _ = false
 
-abbrev pub is_set_name : Token → Bool
+abbrev pub is_set_name : KoreToken → Bool
 is_set_name (set_identifier n) = true
 is_set_name _ = false
 
-abbrev pub is_text : Token → Bool
+abbrev pub is_text : KoreToken → Bool
 is_text (string_token n) = true
 is_text _ = false
 
-abbrev pub is_assign : Token → Bool
+abbrev pub is_assign : KoreToken → Bool
 is_assign assign = true
 is_assign _ = false
 
@@ -75,8 +75,8 @@ argument_symbols b (Some n) = exactly (symbol.Pattern b) close.Paren n []
 abbrev pub built_symbols : Bool → Built → List Symbol
 built_symbols b (Connective o) =
     symbol.Mark 123
-    ∷ exactly symbol.Sort close.Brace (sorts_of o)
-    (symbol.Mark 40 ∷ argument_symbols b (arguments_of o))
+    ∷ exactly symbol.Sort close.Brace (connective_sorts o)
+    (symbol.Mark 40 ∷ argument_symbols b (connective_arguments o))
 built_symbols b (Binding o) =
     symbol.Mark 123 ∷ exactly symbol.Sort close.Brace (binder_sorts o) (symbol.Mark 40
     ∷ symbol.Variable (binds_sets o) ∷ symbol.Mark 44 ∷ symbol.Pattern b ∷ symbol.Mark 41 ∷ [])
@@ -94,37 +94,37 @@ abbrev pub folded_arguments : Bool → List Symbol
 folded_arguments b =
     symbol.Mark 40 ∷ symbol.Pattern b ∷ symbol.More (item.Pattern b) close.Paren ∷ []
 
-abbrev pub name_move : Token → Option (List Symbol)
+abbrev pub name_move : KoreToken → Option (List Symbol)
 name_move t = when (is_name t) []
 
-abbrev pub text_move : Token → Option (List Symbol)
+abbrev pub text_move : KoreToken → Option (List Symbol)
 text_move t = when (is_text t) []
 
-abbrev pub assign_move : Token → Option (List Symbol)
+abbrev pub assign_move : KoreToken → Option (List Symbol)
 assign_move t = when (is_assign t) []
 
-abbrev pub sort_move : Token → Option (List Symbol)
+abbrev pub sort_move : KoreToken → Option (List Symbol)
 sort_move t = when (is_name t) (symbol.SortTail ∷ [])
 
 abbrev pub built_move : Bool → Option Built → Option (List Symbol)
 built_move b None = None
 built_move b (Some x) = Some (built_symbols b x)
 
-abbrev pub pattern_move : Bool → Token → Option (List Symbol)
+abbrev pub pattern_move : Bool → KoreToken → Option (List Symbol)
 pattern_move b (identifier n) = Some (symbol.PatternTail b ∷ [])
 pattern_move b (set_identifier n) = Some (symbol.Mark 58 ∷ symbol.Sort ∷ [])
 pattern_move b (builtin x) = built_move b x
 pattern_move b (string_token t) = when b []
 pattern_move b _ = None
 
-abbrev pub pattern_tail_move : Bool → Token → Option (List Symbol)
+abbrev pub pattern_tail_move : Bool → KoreToken → Option (List Symbol)
 pattern_tail_move b (mark c) =
     if c == 58 then Some (symbol.Sort ∷ [])
     else when (c == 123) (symbol.First item.Sort close.Brace ∷ symbol.Mark 40
     ∷ symbol.First (item.Pattern b) close.Paren ∷ [])
 pattern_tail_move b _ = None
 
-abbrev pub variable_move : Bool → Token → Option (List Symbol)
+abbrev pub variable_move : Bool → KoreToken → Option (List Symbol)
 variable_move c t =
     when (if c then is_set_name t else is_name t) (symbol.Mark 58 ∷ symbol.Sort ∷ [])
 
@@ -134,12 +134,12 @@ folded_built_move k (Some (Connective o)) =
     when (is_associative o) (symbol.Mark 123 ∷ exactly symbol.Sort close.Brace 1 k)
 folded_built_move k _ = None
 
-abbrev pub folded_move : List Symbol → Token → Option (List Symbol)
+abbrev pub folded_move : List Symbol → KoreToken → Option (List Symbol)
 folded_move k (identifier n) = Some (symbol.Mark 123 ∷ symbol.First item.Sort close.Brace ∷ k)
 folded_move k (builtin x) = folded_built_move k x
 folded_move k _ = None
 
-abbrev pub item_move : Item → Token → Option (List Symbol)
+abbrev pub item_move : Item → KoreToken → Option (List Symbol)
 item_move item.Name t = name_move t
 item_move item.Sort t = sort_move t
 item_move (item.Pattern b) t = pattern_move b t
@@ -174,16 +174,16 @@ word_move n =
     ∷ symbol.Declarations ∷ [])
     else None))))))))
 
-abbrev pub declarations_move : Token → Option (List Symbol)
+abbrev pub declarations_move : KoreToken → Option (List Symbol)
 declarations_move (identifier n) = word_move n
 declarations_move _ = None
 
 -- if the token is this word, the symbols that come after it
-abbrev pub keyword_move : List ℕ → List Symbol → Token → Option (List Symbol)
+abbrev pub keyword_move : List ℕ → List Symbol → KoreToken → Option (List Symbol)
 keyword_move w b t = when (is_word w t) b
 
 -- the symbols that replace a symbol after a token, if the token fits it
-unfoldable pub turn : Symbol → Token → Option (List Symbol)
+unfoldable pub turn : Symbol → KoreToken → Option (List Symbol)
 turn (symbol.Mark c) t = when (is_mark c t) []
 turn symbol.Name t = name_move t
 turn symbol.Where t = keyword_move (codes "where") [] t
@@ -211,7 +211,7 @@ turn symbol.Modules t =
 
 -- what is still to come after the first token of a symbol: if the symbol begins a list, the rest of
 -- the list comes before `k`
-abbrev pub rest_of : Symbol → Token → List Symbol → List Symbol
+abbrev pub rest_of : Symbol → KoreToken → List Symbol → List Symbol
 rest_of (symbol.First i c) t k = if is_mark (byte_of c) t then k else symbol.More i c ∷ k
 rest_of _ t k = k
 
@@ -226,7 +226,7 @@ onto (Some b) k other = Some (b ++ k)
 onto None k other = other
 
 -- the stack after a token; a symbol that may be left out is skipped if the token does not fit it
-unfoldable pub step : List Symbol → Token → Option (List Symbol)
+unfoldable pub step : List Symbol → KoreToken → Option (List Symbol)
 step [] t = None
 step (f ∷ k) t = onto (turn f t) (rest_of f t k) (if is_empty f then step k t else None)
 
@@ -242,19 +242,19 @@ passes_on go (Some k) = go k
 unfoldable pub passes : Stream → List Symbol → Bool
 passes s [] = true
 passes (end e) (f ∷ k) = false
-passes (fault e) (f ∷ k) = false
+passes (no_token_at e) (f ∷ k) = false
 passes (token t p s) (f ∷ k) = passes_on (passes s) (step (f ∷ k) t)
 
 -- what follows the name of a fold if the fold has no argument
 abbrev pub empty_fold : List Symbol
 empty_fold = symbol.Mark 123 ∷ symbol.Mark 125 ∷ symbol.Mark 40 ∷ symbol.EmptyFolded ∷ []
 
-abbrev pub is_fold : Token → Bool
+abbrev pub is_fold : KoreToken → Bool
 is_fold (builtin (Some (Fold left))) = true
 is_fold _ = false
 
 -- how many brackets are open after a token, if they are counted
-abbrev pub counted : Token → Option ℕ → Option ℕ
+abbrev pub counted : KoreToken → Option ℕ → Option ℕ
 counted t None = None
 counted t (Some n) = Some (opened t n)
 
@@ -271,7 +271,7 @@ onward go at n (Some k) = if is_deep n then Some (Deep at) else go n k
 -- is how many are open at its head
 unfoldable pub run : Stream → Option ℕ → List Symbol → Option TextFault
 run (end e) n k = if can_end k then None else Some (Syntax e)
-run (fault e) n k = Some (Lex e)
+run (no_token_at e) n k = Some (Lex e)
 run (token t p s) n k =
     if is_fold t && passes s empty_fold then Some (Syntax p)
     else onward (run s) p (counted t n) (step k t)

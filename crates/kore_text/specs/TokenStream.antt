@@ -5,9 +5,8 @@ use Rattle.std.specs.Prelude.{true, false}
 use Rattle.std.specs.Str.{bytes_eq}
 use Rattle.kore_lex.specs.declared.lexer.TokenKind.{TokenKind}
 use Rattle.kore_lex.specs.declared.lexer.TokenKind.TheVariants as kind
-use Rattle.kore_lex.specs.Lexed.{lexed, Stream as Cut, end as cut_end, fault as cut_fault}
-use Rattle.kore_lex.specs.Lexed.{token as cut_token}
-use Rattle.kore_lex.specs.Value.{value}
+use Rattle.kore_lex.specs.Lexed.{lexed, Cut, cut_end, cut_fault, cut_token}
+use Rattle.kore_lex.specs.Value.{string_value}
 use Rattle.kore_text.specs.declared.names.Op.TheVariants as op
 use Rattle.kore_text.specs.declared.names.Binder.TheVariants as binder
 use Rattle.kore_text.specs.declared.names.Built.{Built}
@@ -15,13 +14,13 @@ use Rattle.kore_text.specs.declared.names.Built.TheVariants.{Connective, Binding
 
 -- a token: an identifier; the identifier of a set variable, after its `@`; what a built-in name
 -- stands for, if it stands for anything; the text of a string; a mark; or `:=`
-pub data Token : Type 0 where
-  identifier : List ℕ → Token
-  set_identifier : List ℕ → Token
-  builtin : Option Built → Token
-  string_token : List ℕ → Token
-  mark : ℕ → Token
-  assign : Token
+pub data KoreToken : Type 0 where
+  identifier : List ℕ → KoreToken
+  set_identifier : List ℕ → KoreToken
+  builtin : Option Built → KoreToken
+  string_token : List ℕ → KoreToken
+  mark : ℕ → KoreToken
+  assign : KoreToken
 
 -- what the name after a backslash stands for, if it stands for anything
 unfoldable pub built_of : List ℕ → Option Built
@@ -49,11 +48,11 @@ built_of n =
     else None)))))))))))))))))))
 
 -- the token of this kind with these bytes
-abbrev pub token_of : TokenKind → List ℕ → Token
+abbrev pub token_of : TokenKind → List ℕ → KoreToken
 token_of kind.Ident bs = identifier bs
 token_of kind.SetIdent bs = set_identifier (drop 1 bs)
 token_of kind.Builtin bs = builtin (built_of (drop 1 bs))
-token_of kind.Text bs = string_token (value bs)
+token_of kind.Text bs = string_token (string_value bs)
 token_of (kind.Punct c) bs = mark c
 token_of kind.Assign bs = assign
 token_of kind.End bs = assign
@@ -62,21 +61,21 @@ token_of kind.End bs = assign
 -- something that is no token
 pub data Stream : Type 0 where
   end : ℕ → Stream
-  fault : ℕ → Stream
-  token : Token → ℕ → Stream → Stream
+  no_token_at : ℕ → Stream
+  token : KoreToken → ℕ → Stream → Stream
 
 -- a token of the text from byte `from` to byte `to`, and the stream after it; a token of the kind
 -- `End` is the end
-abbrev pub joined : List ℕ → TokenKind → ℕ → ℕ → Stream → Stream
-joined text kind.End from to s = end from
-joined text kind from to s = token (token_of kind (take (to - from) (drop from text))) from s
+abbrev pub token_then : List ℕ → TokenKind → ℕ → ℕ → Stream → Stream
+token_then text kind.End from to s = end from
+token_then text kind from to s = token (token_of kind (take (to - from) (drop from text))) from s
 
 -- the tokens of a text that was cut into pieces
-abbrev pub named : List ℕ → Cut → Stream
-named text (cut_end n) = end n
-named text (cut_fault n) = fault n
-named text (cut_token k from to s) = joined text k from to (named text s)
+abbrev pub named_tokens : List ℕ → Cut → Stream
+named_tokens text (cut_end n) = end n
+named_tokens text (cut_fault n) = no_token_at n
+named_tokens text (cut_token k from to s) = token_then text k from to (named_tokens text s)
 
 -- the tokens of a text
-unfoldable pub tokens_of : List ℕ → Stream
-tokens_of text = named text (lexed 0 text)
+unfoldable pub token_stream : List ℕ → Stream
+token_stream text = named_tokens text (lexed 0 text)

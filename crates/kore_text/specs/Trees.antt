@@ -28,9 +28,9 @@ mutual
     -- a connective, its sorts and its arguments
     connected : ℕ → Op → SortTrees → PatternTrees → PatternTree
     -- a binder, its sorts, its variable and its body
-    binding : ℕ → Binder → SortTrees → PatternTree → PatternTree → PatternTree
+    binder_applied : ℕ → Binder → SortTrees → PatternTree → PatternTree → PatternTree
     -- a domain value's sort, its text and the byte of its string
-    domain_value : ℕ → SortTree → List ℕ → ℕ → PatternTree
+    value_written : ℕ → SortTree → List ℕ → ℕ → PatternTree
     -- the fold of an application, from the left (true) or from the right (false)
     folded : ℕ → Bool → PatternTree → PatternTree
 

@@ -1,11 +1,11 @@
 // The first fault of a text.
 
 ghost use Rattle.std.specs.Prelude.{◌≡◌, ◌≤◌, ◌&&◌, ℕ, List, ◌<◌, ◌^◌, length, Some, IfOk};
-ghost use Rattle.kore_text.specs.TokenStream.{tokens_of, token_of};
+ghost use Rattle.kore_text.specs.TokenStream.{token_stream, token_of};
 ghost use Rattle.kore_text.specs.Remaining.{left, size};
 ghost use Rattle.kore_text.specs.Table.{run, is_fold, passes, empty_fold, pattern_symbols};
 ghost use Rattle.kore_text.specs.Table.{definition_symbols};
-ghost use Rattle.kore_text.specs.Faults.{IsFirstFault, IsPattern, IsDefinition};
+ghost use Rattle.kore_text.specs.Faults.{IsFirstFaultOfText, IsPattern, IsDefinition};
 ghost use Rattle.kore_text.specs.Depth.{opened};
 
 use crate::expected::Expected;
@@ -54,7 +54,7 @@ pub(crate) enum Look {
 #[tactic(auto, using(crate::proofs::Explaining::definition_fault))]
 pub fn definition_fault(alloc: Global, text: &[u8]) -> Result<Option<TextFault>, AllocError>
     requires { length text.now < 2 ^ 32 }
-    ensures { IfOk result (λ f. IsFirstFault IsDefinition 0 (tokens_of text.now) f) }
+    ensures { IfOk result (λ f. IsFirstFaultOfText IsDefinition 0 (token_stream text.now) f) }
 {
     first_fault(
         alloc,
@@ -69,7 +69,7 @@ pub fn definition_fault(alloc: Global, text: &[u8]) -> Result<Option<TextFault>,
 #[tactic(auto, using(crate::proofs::Explaining::pattern_fault))]
 pub fn pattern_fault(alloc: Global, text: &[u8]) -> Result<Option<TextFault>, AllocError>
     requires { length text.now < 2 ^ 32 }
-    ensures { IfOk result (λ f. IsFirstFault IsPattern 0 (tokens_of text.now) f) }
+    ensures { IfOk result (λ f. IsFirstFaultOfText IsPattern 0 (token_stream text.now) f) }
 {
     first_fault(alloc, text, &[Symbol::Pattern(false)])
 }
@@ -81,7 +81,7 @@ fn first_fault(
     start: &[Symbol],
 ) -> Result<Option<TextFault>, AllocError>
     requires { length text.now < 2 ^ 32 }
-    ensures { IfOk result (λ f. f ≡ run (tokens_of text.now) (Some 0) start.now) }
+    ensures { IfOk result (λ f. f ≡ run (token_stream text.now) (Some 0) start.now) }
 {
     let mut finder = Finder {
         alloc,

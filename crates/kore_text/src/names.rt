@@ -2,8 +2,8 @@
 
 ghost use Rattle.std.specs.Prelude.{◌≡◌};
 ghost use Rattle.kore_text.specs.TokenStream.{built_of};
-ghost use Rattle.kore_text.specs.Grammar.{sorts_of, arguments_of, is_associative, binder_sorts};
-ghost use Rattle.kore_text.specs.Grammar.{binds_sets};
+ghost use Rattle.kore_text.specs.Grammar.{connective_sorts, connective_arguments, is_associative};
+ghost use Rattle.kore_text.specs.Grammar.{binder_sorts, binds_sets};
 
 /// The connectives whose arguments are patterns. `Member` is `\in`.
 #[derive(Clone, Copy, PartialEq, Eq, Debug)]
@@ -80,7 +80,7 @@ impl Built {
 impl Op {
     /// How many sorts the connective takes.
     pub fn sorts(self) -> usize
-        ensures { result ≡ sorts_of self }
+        ensures { result ≡ connective_sorts self }
     {
         match self {
             Op::Ceil | Op::Floor | Op::Equals | Op::Member => 2,
@@ -90,7 +90,7 @@ impl Op {
 
     /// How many arguments the connective takes. Returns none if it takes any number.
     pub fn arguments(self) -> Option<usize>
-        ensures { result ≡ arguments_of self }
+        ensures { result ≡ connective_arguments self }
     {
         match self {
             Op::And | Op::Or => None,

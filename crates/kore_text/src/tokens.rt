@@ -1,7 +1,7 @@
 // The tokens of a text, each with its bytes.
 
 ghost use Rattle.std.specs.Prelude.{◌≡◌, ◌≢◌, ◌≤◌, ◌<◌, ◌-◌, ◌^◌, length, take, drop};
-ghost use Rattle.kore_text.specs.TokenStream.{tokens_of};
+ghost use Rattle.kore_text.specs.TokenStream.{token_stream};
 
 use kore_lex::{Lexer, TokenKind};
 use std::marker::Model;
@@ -42,7 +42,7 @@ impl<'a> Tokens<'a> {
     /// The tokens of the whole text, which has fewer than 2^32 bytes.
     pub fn new(text: &'a [u8]) -> Tokens<'a>
         requires { length text.now < 2 ^ 32 }
-        ensures { left result ≡ tokens_of text.now }
+        ensures { left result ≡ token_stream text.now }
     {
         Tokens {
             lexer: Lexer::new(text),

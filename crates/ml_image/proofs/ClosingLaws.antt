@@ -14,7 +14,7 @@ use Rattle.rule_core.specs.declared.signature.SortRef.TheVariants.{Param, Sort}
 use Rattle.ml_image.specs.Images.{both, sort_image}
 use Rattle.ml_image.specs.Sentences.{Sentence, sentence_image, for_all, variables, apply_all}
 use Rattle.ml_image.specs.Sentences.{conjunctions}
-use Rattle.ml_image.specs.OwnAxioms.{named}
+use Rattle.ml_image.specs.OwnAxioms.{sort_numbered}
 use Rattle.ml_image.specs.Counted.{at_variables, at_pairs}
 use Rattle.ml_image.specs.Gained.{HasGained}
 use Rattle.ml_image.proofs.NamingLaws.{gained-sentence}
@@ -45,24 +45,26 @@ sorts_of-next vars i v sorts low is before =
     ∙ sym (map-append (λ (u : VarInfo). u.sort.0) (take i vars) (v ∷ [])) ∙ sym (ap sorts_of front)
 
 pub named-next : (refs : List SortRef) (i : ℕ) (s : SortId) (d : SortRef) (sorts : List SortId)
-    → i < length refs → get_or refs i d ≡ Sort s → take i refs ≡ map named (sort_numbers sorts)
-    → take (i + 1) refs ≡ map named (sort_numbers (sorts ++ s ∷ []))
+    → i < length refs → get_or refs i d ≡ Sort s → take i refs
+    ≡ map sort_numbered (sort_numbers sorts)
+    → take (i + 1) refs ≡ map sort_numbered (sort_numbers (sorts ++ s ∷ []))
 named-next refs i s d sorts low is before =
-    let ends : map named (sort_numbers (sorts ++ s ∷ [])) ≡ map named (sort_numbers sorts) ++ Sort s
+    let ends : map sort_numbered (sort_numbers (sorts ++ s ∷ []))
+        ≡ map sort_numbered (sort_numbers sorts) ++ Sort s
     ∷ [] =
-    ap (map named) (map-append (λ (t : SortId). t.0) sorts (s ∷ []))
-    ∙ map-append named (sort_numbers sorts) (s.0 ∷ []) in
+    ap (map sort_numbered) (map-append (λ (t : SortId). t.0) sorts (s ∷ []))
+    ∙ map-append sort_numbered (sort_numbers sorts) (s.0 ∷ []) in
     take_more refs i d low ∙ ap (λ (r : SortRef). take i refs ++ r ∷ []) is
     ∙ ap (λ (rs : List SortRef). rs ++ Sort s ∷ []) before ∙ sym ends
 
-named_item : (sorts : List ℕ) (i k : ℕ) (d : SortRef) → i < length (map named sorts)
-    → get_or (map named sorts) i d ≡ Param k → ⊥
+named_item : (sorts : List ℕ) (i k : ℕ) (d : SortRef) → i < length (map sort_numbered sorts)
+    → get_or (map sort_numbered sorts) i d ≡ Param k → ⊥
 named_item [] i k d low is = absurd (omega (arith, low))
 named_item (s ∷ sorts) zero k d low is = cc
 named_item (s ∷ sorts) (suc i) k d low is = named_item sorts i k d (omega (arith, low)) is
 
 pub no_parameter : (refs : List SortRef) (sorts : List ℕ) (i k : ℕ) (d : SortRef)
-    → refs ≡ map named sorts → i < length refs → get_or refs i d ≡ Param k → ⊥
+    → refs ≡ map sort_numbered sorts → i < length refs → get_or refs i d ≡ Param k → ⊥
 no_parameter refs sorts i k d are low is =
     named_item sorts i k d (subst (λ (rs : List SortRef). i < length rs) are low)
     (ap (λ (rs : List SortRef). get_or rs i d) (sym are) ∙ is)

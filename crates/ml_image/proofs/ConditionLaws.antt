@@ -12,7 +12,7 @@ use Rattle.term_core.specs.Patterns.{more_patterns}
 use Rattle.rule_core.specs.ProgramView.{sorts_of}
 use Rattle.rule_core.specs.declared.rules.VarInfo.{VarInfo}
 use Rattle.rule_core.specs.declared.signature.Signature.{Signature}
-use Rattle.ml_image.specs.Tokens.{token_of_value, numbered}
+use Rattle.ml_image.specs.Tokens.{token_of_value, number_in_names}
 use Rattle.ml_image.specs.Images.{both, image_of, shifted}
 use Rattle.ml_image.specs.Sentences.{Sentence, term, top, sentence_image, IsImageOf}
 use Rattle.ml_image.specs.OwnAxioms.{sort_of, is_true}
@@ -57,7 +57,7 @@ nothing_said sig names sorts k condition result none made =
 pub truth_said : {E : Type 0} (sig : Signature) (n1 n2 : List (List ℕ)) (sorts : List ℕ) (k : ℕ)
     (q : RulePattern) (s t : ℕ) (held value : Pattern) (result : Result Pattern E)
     → HasGained sig n1 n2 → sort_of sig sorts q ≡ Some s → image_of sig n1 (shifted k q) ≡ Some held
-    → numbered n2 (token_of_value sig s (truth true)) ≡ Some t → value ≡ constant t
+    → number_in_names n2 (token_of_value sig s (truth true)) ≡ Some t → value ≡ constant t
     → IfOk result (λ p. p ≡ equal held value)
     → IfOk result (IsConditionImage sig n2 sorts k (Some q))
 truth_said sig n1 n2 sorts k q s t held value result gained sort image number is made =
@@ -65,7 +65,7 @@ truth_said sig n1 n2 sorts k q s t held value result gained sort image number is
     gained-sentence sig n1 n2 (term (shifted k q)) gained held image in
     let whole : sentence_image sig n2 (is_true (shifted k q) s) ≡ Some (equal held (constant t)) =
     ap (λ (o : Option Pattern).
-    both equal o (option_map constant (numbered n2 (token_of_value sig s (truth true)))))
+    both equal o (option_map constant (number_in_names n2 (token_of_value sig s (truth true)))))
     held'
     ∙ ap (λ (o : Option ℕ). both equal (Some held) (option_map constant o)) number in
     if_ok (λ (p : Pattern). p ≡ equal held value) (IsConditionImage sig n2 sorts k (Some q)) result

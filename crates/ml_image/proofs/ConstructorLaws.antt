@@ -12,7 +12,7 @@ use Rattle.rule_core.specs.declared.signature.Signature.{Signature}
 use Rattle.rule_core.specs.declared.signature.SymInfo.{SymInfo}
 use Rattle.ml_image.specs.Sentences.{sentence_image, for_all, IsImageOf}
 use Rattle.ml_image.specs.Images.{both}
-use Rattle.ml_image.specs.OwnAxioms.{named, Declares, of_variables, SaysApart, SaysFree}
+use Rattle.ml_image.specs.OwnAxioms.{sort_numbered, Declares, of_variables, SaysApart, SaysFree}
 use Rattle.ml_image.specs.HasImages.{MakesTerms, HasDifference, HasFreedom, count_of}
 use Rattle.ml_image.specs.Closing.{Closes, TakesSorts, apart_body, of_pairs, free_body}
 use Rattle.ml_image.specs.Gained.{HasGained}
@@ -21,12 +21,13 @@ use Rattle.ml_image.proofs.NamingLaws.{gained-sentence}
 use Rattle.ml_image.proofs.ListedLaws.{length-numbers}
 use Rattle.ml_image.proofs.SentenceLaws.{named_same, one_symbol, closed_image}
 
-pub one_sort : (s t : ℕ) → named s ≡ named t → s ≡ t
+pub one_sort : (s t : ℕ) → sort_numbered s ≡ sort_numbered t → s ≡ t
 one_sort s t is = some_same s t (ap (sort_at []) is)
 
 -- the sorts that were read from a declaration are its sorts
 pub read_sorts : (sig : Signature) (f : ℕ) (info read : SymInfo) (sorts listed : List ℕ) (sort : ℕ)
-    → Declares sig f info sorts sort → IsSymbol sig f read → read.args.items ≡ map named listed
+    → Declares sig f info sorts sort → IsSymbol sig f read → read.args.items
+    ≡ map sort_numbered listed
     → sorts ≡ listed
 read_sorts sig f info read sorts listed sort declared there takes =
     named_same sorts listed (sym declared.takes
@@ -34,7 +35,8 @@ read_sorts sig f info read sorts listed sort declared there takes =
     ∙ takes)
 
 pub read_maker : (sig : Signature) (f : ℕ) (info read : SymInfo) (sorts listed : List ℕ) (sort : ℕ)
-    → MakesTerms sig f info sorts sort → IsSymbol sig f read → read.args.items ≡ map named listed
+    → MakesTerms sig f info sorts sort → IsSymbol sig f read → read.args.items
+    ≡ map sort_numbered listed
     → MakesTerms sig f read listed sort
 read_maker sig f info read sorts listed sort makes there takes =
     subst (λ (ss : List ℕ). MakesTerms sig f read ss sort)
@@ -54,7 +56,7 @@ numbers-append (x ∷ xs) ys = ap (λ (ns : List ℕ). x.0 ∷ ns) (numbers-appe
 
 pub read_declared : (sig : Signature) (f : ℕ) (info read : SymInfo) (sorts listed : List ℕ)
     (sort : ℕ) → Declares sig f info sorts sort → IsSymbol sig f read
-    → read.args.items ≡ map named listed → Declares sig f read listed sort
+    → read.args.items ≡ map sort_numbered listed → Declares sig f read listed sort
 read_declared sig f info read sorts listed sort declared there takes =
     subst (λ (ss : List ℕ). Declares sig f read ss sort)
     (read_sorts sig f info read sorts listed sort declared there takes)
@@ -107,7 +109,8 @@ apart_closes sig old new f g n m differ ss os body result takes other_takes coun
       no_ac = differ.no_ac;
       says =
           apart-counts f g n m differ.sorts differ.others (sort_numbers ss) (sort_numbers os)
-          (taken_sorts sig f differ.info differ.sorts (sort_numbers ss) differ.sort differ.first takes)
+          (taken_sorts sig f differ.info differ.sorts (sort_numbers ss) differ.sort differ.first
+          takes)
           (taken_sorts sig g differ.other differ.others (sort_numbers os) differ.sort differ.second
           other_takes)
           (count ∙ sym (length-numbers ss)) (others ∙ sym (length-numbers os));

@@ -10,12 +10,12 @@ use Rattle.rule_core.specs.declared.signature.SymInfo.{SymInfo}
 use Rattle.std.proofs.lemmas.Slice.Eq.{bytes_eq-Decides}
 use Rattle.ml_pat.proofs.NamedLaws.{number_of-push}
 use Rattle.ml_pat.specs.Patterns.{Pattern, app, at_sort, constant}
-use Rattle.ml_pat.specs.Named.{number_of, IsNumbered}
+use Rattle.ml_pat.specs.Named.{token_number, IsNumbered}
 use Rattle.term_core.specs.Patterns.{Pattern as RulePattern, Patterns as RulePatterns, variable}
 use Rattle.term_core.specs.Patterns.{domain_value, application, injection, call, no_pattern}
 use Rattle.term_core.specs.Patterns.{more_patterns}
 use Rattle.rule_core.specs.declared.signature.Signature.{Signature}
-use Rattle.ml_image.specs.Tokens.{token_of_sort, token_of_symbol, token_of_value, numbered}
+use Rattle.ml_image.specs.Tokens.{token_of_sort, token_of_symbol, token_of_value, number_in_names}
 use Rattle.ml_image.specs.Images.{both, symbol_image, sort_image, at_sorts, image_of, applied}
 use Rattle.ml_image.specs.Images.{some_symbol_image, injection_symbol, injection_image}
 use Rattle.rule_core.specs.KindTests.{is_injection}
@@ -55,7 +55,7 @@ map-keeps f None a' k b h = absurd (none_some b h)
 map-keeps f (Some x) a' k b h = rw (k x refl) h
 
 pub numbered-keeps : (names more : List (List ℕ)) (t : Option (List ℕ))
-    → Keeps (numbered names t) (numbered (names ++ more) t)
+    → Keeps (number_in_names names t) (number_in_names (names ++ more) t)
 numbered-keeps names more None n h = absurd (none_some n h)
 numbered-keeps names more (Some t) n h = found-append _ 0 names more n h
 
@@ -152,19 +152,19 @@ gained-image sig old new p g =
 
 -- a token that was looked up has its number
 numbered-by : (old new : List (List ℕ)) (token : List ℕ) (n : ℕ) (o : Option ℕ)
-    → number_of old token ≡ o
+    → token_number old token ≡ o
     → MatchOption o ((n ≡ length old) × (new ≡ old ++ token ∷ [])) (λ m. (n ≡ m) × (new ≡ old))
-    → number_of new token ≡ Some n
+    → token_number new token ≡ Some n
 numbered-by old new token n None e h =
-    ap (λ (ns : List (List ℕ)). number_of ns token) h.1 ∙ number_of-push old token token e
-    ∙ ap (λ (b : Bool). cond b (Some (length old)) (number_of old token))
+    ap (λ (ns : List (List ℕ)). token_number ns token) h.1 ∙ number_of-push old token token e
+    ∙ ap (λ (b : Bool). cond b (Some (length old)) (token_number old token))
     ((bytes_eq-Decides token token).1 refl) ∙ ap (λ (m : ℕ). Some m) (sym h.0)
 numbered-by old new token n (Some m) e h =
-    ap (λ (ns : List (List ℕ)). number_of ns token) h.1 ∙ e ∙ ap (λ (k : ℕ). Some k) (sym h.0)
+    ap (λ (ns : List (List ℕ)). token_number ns token) h.1 ∙ e ∙ ap (λ (k : ℕ). Some k) (sym h.0)
 
 pub number_of-numbered : (old new : List (List ℕ)) (token : List ℕ) (n : ℕ)
-    → IsNumbered old new token n → number_of new token ≡ Some n
-number_of-numbered old new token n h = numbered-by old new token n (number_of old token) refl h
+    → IsNumbered old new token n → token_number new token ≡ Some n
+number_of-numbered old new token n h = numbered-by old new token n (token_number old token) refl h
 
 gained-by : (sig : Signature) (old new : List (List ℕ)) (token : List ℕ) (n : ℕ) (o : Option ℕ)
     → IsOwnToken sig token
@@ -184,7 +184,7 @@ gained-by sig old new token n (Some m) own h = record {
 pub gained-numbered : (sig : Signature) (old new : List (List ℕ)) (token : List ℕ) (n : ℕ)
     → IsOwnToken sig token → IsNumbered old new token n → HasGained sig old new
 gained-numbered sig old new token n own h =
-    gained-by sig old new token n (number_of old token) own h
+    gained-by sig old new token n (token_number old token) own h
 
 -- if a property holds of a result, so does each weaker property
 pub if_ok : {T E : Type 0} (P Q : T → Type 0) (r : Result T E) → ((x : T) → P x → Q x) → IfOk r P

@@ -16,7 +16,7 @@ use Rattle.term_core.specs.declared.values.Scalar.{Scalar}
 use Rattle.term_core.specs.declared.rule_patterns.RulePat.{RulePat}
 use Rattle.rule_core.specs.Sorting.{HasValue}
 use Rattle.rule_core.specs.declared.signature.Signature.{Signature}
-use Rattle.ml_image.specs.Tokens.{token_of_value, numbered}
+use Rattle.ml_image.specs.Tokens.{token_of_value, number_in_names}
 use Rattle.ml_image.specs.Images.{both, image_of, applied, shifted, all_shifted}
 use Rattle.ml_image.specs.Sentences.{sentence_image}
 use Rattle.ml_image.specs.OwnAxioms.{meets}
@@ -105,7 +105,8 @@ pub values-next : (sig : Signature) (old new : List (List ℕ)) (head : Pattern)
     → HasGained sig old new → i < length ss → i < length vs
     → applied sig old (Some head)
     (value_patterns (take i (sort_numbers ss)) (take i (map scalar_value vs))) ≡ Some made
-    → numbered new (token_of_value sig (get_or ss i d).0 (scalar_value (get_or vs i e))) ≡ Some n
+    → number_in_names new (token_of_value sig (get_or ss i d).0 (scalar_value (get_or vs i e)))
+    ≡ Some n
     → applied sig new (Some head)
     (value_patterns (take (i + 1) (sort_numbers ss)) (take (i + 1) (map scalar_value vs)))
     ≡ Some (app made (constant n))

@@ -10,7 +10,7 @@ use Rattle.term_core.specs.PatternLists.{plain_patterns}
 use Rattle.term_core.specs.declared.rule_patterns.RulePat.{RulePat}
 use Rattle.term_core.specs.declared.ids.SortId.{SortId}
 use Rattle.rule_core.specs.declared.signature.Signature.{Signature}
-use Rattle.ml_image.specs.Tokens.{token_of_sort, numbered}
+use Rattle.ml_image.specs.Tokens.{token_of_sort, number_in_names}
 use Rattle.rule_core.specs.Sorting.{AreSorts}
 use Rattle.ml_image.specs.Images.{both, at_sorts, image_of, applied, shifted, all_shifted}
 use Rattle.ml_image.specs.HasImages.{HasImage, HaveImages}
@@ -52,15 +52,15 @@ applied-next sig old new k head ps i p made a g lt e before arg =
 at_sorts-push : (sig : Signature) (names : List (List ℕ)) (ss : List ℕ) (s : ℕ)
     (head : Option Pattern)
     → at_sorts sig names head (ss ++ s ∷ [])
-    ≡ both at_sort (at_sorts sig names head ss) (numbered names (token_of_sort sig s))
+    ≡ both at_sort (at_sorts sig names head ss) (number_in_names names (token_of_sort sig s))
 at_sorts-push sig names [] s head = refl
 at_sorts-push sig names (r ∷ ss) s head =
-    at_sorts-push sig names ss s (both at_sort head (numbered names (token_of_sort sig r)))
+    at_sorts-push sig names ss s (both at_sort head (number_in_names names (token_of_sort sig r)))
 
 pub at_sorts-next : (sig : Signature) (old new : List (List ℕ)) (head : Pattern) (ss : List SortId)
     (i : ℕ) (s : SortId) (made : Pattern) (n : ℕ) → HasGained sig old new → i < length ss
     → s ≡ get_or ss i s → at_sorts sig old (Some head) (sort_numbers (take i ss)) ≡ Some made
-    → numbered new (token_of_sort sig s.0) ≡ Some n
+    → number_in_names new (token_of_sort sig s.0) ≡ Some n
     → at_sorts sig new (Some head) (sort_numbers (take (i + 1) ss)) ≡ Some (at_sort made n)
 at_sorts-next sig old new head ss i s made n g lt e before there =
     let front : take (i + 1) ss ≡ take i ss ++ s ∷ [] =
@@ -73,7 +73,7 @@ at_sorts-next sig old new head ss i s made n g lt e before there =
     before in
     ap (λ (qs : List ℕ). at_sorts sig new (Some head) qs) listed
     ∙ at_sorts-push sig new (sort_numbers (take i ss)) s.0 (Some head)
-    ∙ ap (λ (o : Option Pattern). both at_sort o (numbered new (token_of_sort sig s.0))) kept
+    ∙ ap (λ (o : Option Pattern). both at_sort o (number_in_names new (token_of_sort sig s.0))) kept
     ∙ ap (λ (o : Option ℕ). both at_sort (Some made) o) there
 
 -- the conditions of one argument and of one sort

@@ -19,11 +19,12 @@ use Rattle.ml_image.specs.Images.{both, image_of, applied, symbol_image, sort_im
 use Rattle.ml_image.specs.Images.{injection_image, shifted, all_shifted}
 use Rattle.ml_image.specs.Sentences.{Sentence, term, and, implies, equals, exists, next}
 use Rattle.ml_image.specs.Sentences.{sentence_image, for_all, variables, IsImageOf}
-use Rattle.ml_image.specs.OwnAxioms.{sort_of, is_true, condition_of, SaysRule, meets, named}
-use Rattle.ml_image.specs.OwnAxioms.{Declares, SaysEquation, direct, kompile, IsConstructor}
-use Rattle.ml_image.specs.OwnAxioms.{of_variables, SaysTotal, SaysSubsort, SaysCollapse}
+use Rattle.ml_image.specs.OwnAxioms.{sort_of, is_true, condition_sentence, SaysRule, meets}
+use Rattle.ml_image.specs.OwnAxioms.{sort_numbered, Declares, SaysEquation, direct, kompile}
+use Rattle.ml_image.specs.OwnAxioms.{IsConstructor, of_variables, SaysTotal, SaysSubsort}
+use Rattle.ml_image.specs.OwnAxioms.{SaysCollapse}
 use Rattle.term_core.specs.Terms.{DomainValue}
-use Rattle.ml_image.specs.Tokens.{token_of_value, numbered}
+use Rattle.ml_image.specs.Tokens.{token_of_value, number_in_names}
 use Rattle.ml_image.specs.TrueFacts.{SaysHook, value_patterns}
 use Rattle.ml_image.specs.Closing.{Closes}
 use Rattle.ml_image.specs.Counted.{condition_at, IsConditionImage}
@@ -63,13 +64,13 @@ sort_of-behind sig sorts vars (injection a b p) = refl
 sort_of-behind sig sorts vars (call f ss ps) = refl
 
 condition_at-zero : (sig : Signature) (vars : List ℕ) (p : Option RulePattern)
-    → condition_at sig vars 0 p ≡ condition_of sig vars p
+    → condition_at sig vars 0 p ≡ condition_sentence sig vars p
 condition_at-zero sig vars None = refl
 condition_at-zero sig vars (Some p) =
     ap (λ (q : RulePattern). option_map (is_true q) (sort_of sig vars p)) (shifted-zero p)
 
 condition_at-behind : (sig : Signature) (sorts vars : List ℕ) (p : Option RulePattern)
-    → condition_of sig (sorts ++ vars) (option_map (shifted (length sorts)) p)
+    → condition_sentence sig (sorts ++ vars) (option_map (shifted (length sorts)) p)
     ≡ condition_at sig vars (length sorts) p
 condition_at-behind sig sorts vars None = refl
 condition_at-behind sig sorts vars (Some p) =
@@ -82,12 +83,12 @@ numbers [] = []
 numbers (Sort s ∷ refs) = s.0 ∷ numbers refs
 numbers (Param i ∷ refs) = i ∷ numbers refs
 
-numbers-named : (sorts : List ℕ) → numbers (map named sorts) ≡ sorts
+numbers-named : (sorts : List ℕ) → numbers (map sort_numbered sorts) ≡ sorts
 unfolding numbers
 numbers-named [] = refl
 numbers-named (s ∷ sorts) = ap (λ (ns : List ℕ). s ∷ ns) (numbers-named sorts)
 
-pub named_same : (xs ys : List ℕ) → map named xs ≡ map named ys → xs ≡ ys
+pub named_same : (xs ys : List ℕ) → map sort_numbered xs ≡ map sort_numbered ys → xs ≡ ys
 named_same xs ys is = sym (numbers-named xs) ∙ ap numbers is ∙ numbers-named ys
 
 pub one_symbol : (sig : Signature) (f : ℕ) (a b : SymInfo) → IsSymbol sig f a → IsSymbol sig f b
@@ -292,7 +293,8 @@ pub hook_said : {E : Type 0} (sig : Signature) (n1 n2 : List (List ℕ)) (f : �
     (head called value : Pattern) (t : ℕ) (result : Result Pattern E) → HasGained sig n1 n2
     → symbol_image sig n1 f ≡ Some head
     → applied sig n1 (Some head) (value_patterns says.sorts vs) ≡ Some called
-    → numbered n2 (token_of_value sig says.sort says.value) ≡ Some t → value ≡ logic.constant t
+    → number_in_names n2 (token_of_value sig says.sort says.value) ≡ Some t → value
+    ≡ logic.constant t
     → IfOk result (λ p. p ≡ logic.equal called value)
     → IfOk result (IsImageOf sig n2 (SaysHook sig f vs))
 hook_said sig n1 n2 f vs s says head called value t result gained symbol_is call_is number is made =
@@ -305,10 +307,11 @@ hook_said sig n1 n2 f vs s says head called value t result gained symbol_is call
     first in
     let whole : both logic.equal
     (sentence_image sig n2 (term (call f [] (value_patterns says.sorts vs))))
-    (option_map logic.constant (numbered n2 (token_of_value sig says.sort says.value))) ≡ Some
+    (option_map logic.constant (number_in_names n2 (token_of_value sig says.sort says.value)))
+    ≡ Some
     (logic.equal called (logic.constant t)) =
     ap (λ (o : Option Pattern). both logic.equal o
-    (option_map logic.constant (numbered n2 (token_of_value sig says.sort says.value))))
+    (option_map logic.constant (number_in_names n2 (token_of_value sig says.sort says.value))))
     left
     ∙ ap (λ (o : Option ℕ). both logic.equal (Some called) (option_map logic.constant o))
     number in

@@ -27,7 +27,7 @@ use Rattle.rule_core.specs.declared.signature.SortRef.TheVariants.{Param, Sort}
 use Rattle.rule_core.proofs.Bindings.{IsSome-of}
 use Rattle.ml_image.specs.Images.{injection_symbol}
 use Rattle.rule_core.specs.KindTests.{is_injection}
-use Rattle.ml_image.specs.OwnAxioms.{sort_of, made_sort, named, Declares}
+use Rattle.ml_image.specs.OwnAxioms.{sort_of, made_sort, sort_numbered, Declares}
 use Rattle.ml_image.specs.HasImages as own
 use Rattle.ml_image.specs.HasImages.{HasImage, HaveImages, HasRuleImage, HasEquationImage}
 use Rattle.ml_image.specs.HasImages.{HasParameters, HasTotality, MakesTerms, count_of}
@@ -152,20 +152,20 @@ rule_has_image theory r ok there few = go ok.one_sort
 
 -- the sorts that references without parameters name
 names_of : (sig : Signature) (refs : List SortRef) → All (IsReference sig 0) refs
-    → (sorts : List ℕ) × (refs ≡ map named sorts) × AreSorts sig sorts
+    → (sorts : List ℕ) × (refs ≡ map sort_numbered sorts) × AreSorts sig sorts
 names_of sig [] each = ([], refl, tt)
 names_of sig (Param i ∷ refs) each = absurd (omega (arith, each 0 (Param i) (omega arith)))
 names_of sig (Sort s ∷ refs) each =
-    let w : (sorts : List ℕ) × (refs ≡ map named sorts) × AreSorts sig sorts =
+    let w : (sorts : List ℕ) × (refs ≡ map sort_numbered sorts) × AreSorts sig sorts =
     names_of sig refs (λ k d low. each (suc k) d (omega (arith, low))) in
     (s.0 ∷ w.0, ap (λ (rs : List SortRef). Sort s ∷ rs) w.1, (each 0 (Sort s) (omega arith), w.2))
 
 name_of : (sig : Signature) (r : SortRef) → IsReference sig 0 r
-    → (s : ℕ) × (r ≡ named s) × (s < length sig.sorts)
+    → (s : ℕ) × (r ≡ sort_numbered s) × (s < length sig.sorts)
 name_of sig (Param i) is = absurd (omega (arith, is))
 name_of sig (Sort s) is = (s.0, refl, is)
 
-length-named : (sorts : List ℕ) → length (map named sorts) ≡ length sorts
+length-named : (sorts : List ℕ) → length (map sort_numbered sorts) ≡ length sorts
 length-named [] = refl
 length-named (s ∷ sorts) = ap suc (length-named sorts)
 
@@ -173,10 +173,11 @@ pub constructor_has_totality : ConstructorHasTotality
 constructor_has_totality sig f info ok there constructs few =
     let none : info.params ≡ 0 = ok.constructors f info there constructs in
     let declared : IsDeclaration sig info = ok.declared f info there in
-    let takes : (sorts : List ℕ) × (info.args.items ≡ map named sorts) × AreSorts sig sorts =
+    let takes : (sorts : List ℕ) × (info.args.items ≡ map sort_numbered sorts)
+        × AreSorts sig sorts =
     names_of sig info.args.items
     (subst (λ (n : ℕ). All (IsReference sig n) info.args.items) none declared.arguments) in
-    let makes : (s : ℕ) × (info.result ≡ named s) × (s < length sig.sorts) =
+    let makes : (s : ℕ) × (info.result ≡ sort_numbered s) × (s < length sig.sorts) =
     name_of sig info.result
     (subst (λ (n : ℕ). IsReference sig n info.result) none declared.result) in (
       info,
@@ -223,12 +224,13 @@ equation_has_image theory f info e ok there kind listed few parameters =
     go is (inr many) =
         let no : info.params ≡ 0 = ok.functions f info there kind in
         let declared : IsDeclaration theory.sig info = ok.signature.declared f info there in
-        let takes : (sorts : List ℕ) × (info.args.items ≡ map named sorts) × AreSorts theory.sig
+        let takes : (sorts : List ℕ) × (info.args.items ≡ map sort_numbered sorts)
+            × AreSorts theory.sig
         sorts =
         names_of theory.sig info.args.items (subst
         (λ (n : ℕ). All (IsReference theory.sig n) info.args.items) no
         declared.arguments) in
-        let makes : (s : ℕ) × (info.result ≡ named s) × (s < length theory.sig.sorts) =
+        let makes : (s : ℕ) × (info.result ≡ sort_numbered s) × (s < length theory.sig.sorts) =
         name_of theory.sig info.result
         (subst (λ (n : ℕ). IsReference theory.sig n info.result) no declared.result) in
         inr (record {

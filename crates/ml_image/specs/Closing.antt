@@ -7,7 +7,7 @@ use Rattle.rule_core.specs.declared.signature.Signature.{Signature}
 use Rattle.rule_core.specs.declared.signature.SymInfo.{SymInfo}
 use Rattle.ml_image.specs.Sentences.{Sentence, symbol, not, and, implies, sentence_image, for_all}
 use Rattle.ml_image.specs.Sentences.{variables, apply_all, conjunctions}
-use Rattle.ml_image.specs.OwnAxioms.{named, of_variables}
+use Rattle.ml_image.specs.OwnAxioms.{sort_numbered, of_variables}
 
 -- if the body is the image of a sentence under the old names, then the pattern is the image of that
 -- sentence, quantified over variables of these sorts, under the new names
@@ -19,7 +19,7 @@ Closes sig old new sorts body p = (s : Sentence) → sentence_image sig old s �
 pub record TakesSorts (sig : Signature) (f : ℕ) (sorts : List ℕ) : Type 0 where
   pub info : SymInfo
   pub there : IsSymbol sig f info
-  pub takes : info.args.items ≡ map named sorts
+  pub takes : info.args.items ≡ map sort_numbered sorts
 
 -- the results of f, which has n arguments, and of g, which has m arguments, differ
 abbrev pub apart_body : ℕ → ℕ → ℕ → ℕ → Sentence

@@ -10,7 +10,7 @@ use Rattle.term_core.specs.Patterns.{more_patterns}
 use Rattle.rule_core.specs.declared.signature.Signature.{Signature}
 use Rattle.rule_core.specs.declared.signature.SymInfo.{SymInfo}
 use Rattle.rule_core.specs.KindTests.{is_injection}
-use Rattle.ml_image.specs.Tokens.{token_of_sort, token_of_symbol, token_of_value, numbered}
+use Rattle.ml_image.specs.Tokens.{token_of_sort, token_of_symbol, token_of_value, number_in_names}
 
 -- the function of two things, if both are given
 abbrev pub both : {A B C : Type 0} → (A → B → C) → Option A → Option B → Option C
@@ -24,11 +24,11 @@ injection_symbol sig = position_from (λ (e : List ℕ × SymInfo). is_injection
 
 -- the constant of a symbol
 abbrev pub symbol_image : Signature → List (List ℕ) → ℕ → Option Pattern
-symbol_image sig names f = option_map constant (numbered names (token_of_symbol sig f))
+symbol_image sig names f = option_map constant (number_in_names names (token_of_symbol sig f))
 
 -- the number of a sort
 abbrev pub sort_image : Signature → List (List ℕ) → ℕ → Option ℕ
-sort_image sig names s = numbered names (token_of_sort sig s)
+sort_image sig names s = number_in_names names (token_of_sort sig s)
 
 -- the pattern applied to the sort arguments, in order
 abbrev pub at_sorts : Signature → List (List ℕ) → Option Pattern → List ℕ → Option Pattern
@@ -53,7 +53,7 @@ abbrev mutual
   pub image_of : Signature → List (List ℕ) → RulePattern → Option Pattern
   image_of sig names (variable x) = Some (var x)
   image_of sig names (domain_value s v) =
-      option_map constant (numbered names (token_of_value sig s v))
+      option_map constant (number_in_names names (token_of_value sig s v))
   image_of sig names (application f ps) = applied sig names (symbol_image sig names f) ps
   image_of sig names (injection a b p) =
       both app (injection_image sig names a b) (image_of sig names p)

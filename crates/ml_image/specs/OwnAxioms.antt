@@ -41,9 +41,9 @@ abbrev pub is_true : Pattern → ℕ → Sentence
 is_true p s = equals (term p) (term (domain_value s (truth true)))
 
 -- the sentence of a condition: it is true; without a condition it is `top`
-abbrev pub condition_of : Signature → List ℕ → Option Pattern → Option Sentence
-condition_of sig sorts None = Some top
-condition_of sig sorts (Some p) = option_map (is_true p) (sort_of sig sorts p)
+abbrev pub condition_sentence : Signature → List ℕ → Option Pattern → Option Sentence
+condition_sentence sig sorts None = Some top
+condition_sentence sig sorts (Some p) = option_map (is_true p) (sort_of sig sorts p)
 
 -- The sentence of a rewrite rule with this condition: an instance of its left side, if the
 -- condition holds, makes a step to that of its right side.
@@ -52,7 +52,7 @@ rule_sentence r c = for_all 0 r.variables (implies (and (term r.left) c) (next (
 
 pub record SaysRule (sig : Signature) (r : RewriteRule) (p : Sentence) : Type 0 where
   pub condition : Sentence
-  pub conditional : condition_of sig r.variables r.condition ≡ Some condition
+  pub conditional : condition_sentence sig r.variables r.condition ≡ Some condition
   pub says : p ≡ rule_sentence r condition
 
 -- The sentence of an equation that is written directly: if the condition holds, the function
@@ -84,24 +84,26 @@ kompile_sentence f n e c =
     (equals (apply_all (symbol f) (variables 0 n)) (term e.right)))
 
 -- a sort in a declaration, which is not a sort parameter
-abbrev pub named : ℕ → SortRef
-named s = Sort (record { 0 = s })
+abbrev pub sort_numbered : ℕ → SortRef
+sort_numbered s = Sort (record { 0 = s })
 
 -- the symbol with this number has these argument sorts and this result sort
 pub record Declares (sig : Signature) (f : ℕ) (info : SymInfo) (sorts : List ℕ) (sort : ℕ) :
     Type 0 where
   pub there : IsSymbol sig f info
-  pub takes : info.args.items ≡ map named sorts
-  pub makes : info.result ≡ named sort
+  pub takes : info.args.items ≡ map sort_numbered sorts
+  pub makes : info.result ≡ sort_numbered sort
 
 -- the sentence of an equation: an equation without parameters is written directly, and one with a
 -- parameter for each argument is in the form of kompile
 pub data SaysEquation (sig : Signature) (f : ℕ) (e : Equation) (p : Sentence) : Type 0 where
-  direct : (c : Sentence) → e.parameters ≡ 0 → condition_of sig e.variables e.condition ≡ Some c →
+  direct : (c : Sentence) → e.parameters ≡ 0 → condition_sentence sig e.variables e.condition
+      ≡ Some c →
       p ≡ direct_sentence f e c → SaysEquation sig f e p
   kompile : (c : Sentence) (info : SymInfo) (sorts : List ℕ) (sort : ℕ) → e.parameters ≢ 0 →
       e.parameters ≡ length sorts → Declares sig f info sorts sort →
-      condition_of sig (behind_parameters sorts e).variables (behind_parameters sorts e).condition
+      condition_sentence sig (behind_parameters sorts e).variables
+          (behind_parameters sorts e).condition
       ≡ Some c →
       p ≡ kompile_sentence f (length sorts) (behind_parameters sorts e) c → SaysEquation sig f e p
 

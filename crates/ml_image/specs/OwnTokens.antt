@@ -7,7 +7,8 @@ use Rattle.ml_image.specs.Tokens.{token_of_sort, token_of_symbol, token_of_value
 
 -- the token of a sort or a symbol of the signature, or of a domain value of one of its sorts
 pub data IsOwnToken (sig : Signature) (token : List ℕ) : Type 0 where
-  of_sort : (s : ℕ) → token_of_sort sig s ≡ Some token → IsOwnToken sig token
-  of_symbol : (f : ℕ) → token_of_symbol sig f ≡ Some token → IsOwnToken sig token
-  of_value : (s : ℕ) (v : DomainValue) → HasValue sig s v → token_of_value sig s v ≡ Some token
+  is_sort_token : (s : ℕ) → token_of_sort sig s ≡ Some token → IsOwnToken sig token
+  is_symbol_token : (f : ℕ) → token_of_symbol sig f ≡ Some token → IsOwnToken sig token
+  is_value_token : (s : ℕ) (v : DomainValue) → HasValue sig s v → token_of_value sig s v
+      ≡ Some token
       → IsOwnToken sig token

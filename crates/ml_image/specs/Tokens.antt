@@ -4,7 +4,7 @@ use Rattle.std.specs.Prelude.{option_map, slice_get, codes}
 use Rattle.std.specs.Char.{digit_char}
 use Rattle.std.specs.Fmt.{signed_decimal}
 use Rattle.term_core.specs.Terms.{DomainValue, integer, truth, text}
-use Rattle.ml_pat.specs.Named.{number_of}
+use Rattle.ml_pat.specs.Named.{token_number}
 use Rattle.rule_core.specs.declared.signature.Signature.{Signature}
 
 abbrev pub sort_token : List ℕ → List ℕ
@@ -45,6 +45,6 @@ abbrev pub token_of_value : Signature → ℕ → DomainValue → Option (List �
 token_of_value sig s v = option_map (λ name. value_token name v) (name_at sig.sorts s)
 
 -- the number of a token among the names, if it is there
-abbrev pub numbered : List (List ℕ) → Option (List ℕ) → Option ℕ
-numbered names None = None
-numbered names (Some token) = number_of names token
+abbrev pub number_in_names : List (List ℕ) → Option (List ℕ) → Option ℕ
+number_in_names names None = None
+number_in_names names (Some token) = token_number names token

@@ -4,7 +4,7 @@ ghost use Rattle.ml_pat.specs.Patterns.{and, var};
 ghost use Rattle.term_core.specs.RulePatterns.{sort_numbers};
 ghost use Rattle.rule_core.specs.Sorting.{AreSorts};
 ghost use Rattle.rule_core.specs.ProgramView.{sorts_of};
-ghost use Rattle.ml_image.specs.OwnAxioms.{named};
+ghost use Rattle.ml_image.specs.OwnAxioms.{sort_numbered};
 ghost use Rattle.ml_image.specs.Closing.{Closes};
 ghost use Rattle.ml_image.specs.Counted.{at_variables, at_pairs};
 ghost use Rattle.ml_image.specs.Gained.{HasGained};
@@ -74,8 +74,8 @@ pub(crate) fn variable_sorts(alloc: Global, vars: &[VarInfo]) -> Result<Vec<Sort
 
 // The sorts that the references name, in order.
 pub(crate) fn named_sorts(alloc: Global, refs: &[SortRef]) -> Result<Vec<SortId>, AllocError>
-    requires { (sorts : List ℕ) × (refs.now ≡ map named sorts) }
-    ensures { IfOk result (λ v. refs.now ≡ map named (sort_numbers v.items)) }
+    requires { (sorts : List ℕ) × (refs.now ≡ map sort_numbered sorts) }
+    ensures { IfOk result (λ v. refs.now ≡ map sort_numbered (sort_numbers v.items)) }
 {
     let mut sorts = Vec::with_capacity(alloc, refs.len())?;
     for of in refs {

@@ -4,7 +4,8 @@ ghost use Rattle.ml_pat.specs.Patterns.{equal, var, ex};
 ghost use Rattle.term_core.specs.RulePatterns.{sort_numbers};
 ghost use Rattle.rule_core.specs.Sorting.{IsSymbol};
 ghost use Rattle.ml_image.specs.Sentences.{IsImageOf, sentence_image};
-ghost use Rattle.ml_image.specs.OwnAxioms.{SaysTotal, SaysApart, SaysFree, of_variables, named};
+ghost use Rattle.ml_image.specs.OwnAxioms.{SaysTotal, SaysApart, SaysFree, of_variables};
+ghost use Rattle.ml_image.specs.OwnAxioms.{sort_numbered};
 ghost use Rattle.ml_image.specs.Closing.{TakesSorts, apart_body, of_pairs, free_body};
 ghost use Rattle.ml_image.specs.HasImages.{HasTotality, HasDifference, HasFreedom};
 ghost use Rattle.ml_image.specs.Gained.{HasGained};
@@ -162,8 +163,8 @@ pub(crate) fn declaration(sig: &Signature, symbol: SymId) -> &SymInfo
 
 // The result sort of a symbol, which is not a sort parameter.
 pub(crate) fn result_sort(info: &SymInfo) -> SortId
-    requires { (sort : ℕ) × (info.now.result ≡ named sort) }
-    ensures { info.now.result ≡ named result.0 }
+    requires { (sort : ℕ) × (info.now.result ≡ sort_numbered sort) }
+    ensures { info.now.result ≡ sort_numbered result.0 }
 {
     match info.result {
         SortRef::Sort(sort) => sort,

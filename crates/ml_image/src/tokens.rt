@@ -3,10 +3,10 @@ ghost use Rattle.std.specs.Prelude.{◌≡◌, OnOk, ◌<◌, ◌++◌, length, 
 ghost use Rattle.std.specs.Prelude.{option_map, IfOk, Some, codes};
 ghost use Rattle.std.specs.Char.{digit_char};
 ghost use Rattle.term_core.specs.Values.{value_of};
-ghost use Rattle.ml_pat.specs.Named.{number_of, IsNumbered};
+ghost use Rattle.ml_pat.specs.Named.{token_number, IsNumbered};
 ghost use Rattle.ml_image.specs.Tokens.{sort_token, symbol_token, name_at, token_of_sort};
 ghost use Rattle.ml_image.specs.Tokens.{token_of_symbol, token_of_value, value_token, hexadecimal};
-ghost use Rattle.ml_image.specs.Tokens.{numbered};
+ghost use Rattle.ml_image.specs.Tokens.{number_in_names};
 ghost use Rattle.rule_core.specs.Sorting.{HasValue};
 ghost use Rattle.ml_image.specs.Gained.{HasGained};
 
@@ -25,7 +25,7 @@ pub(crate) fn sort_number(
 ) -> Result<MSort, AllocError>
     requires { sort.0 < length sig.now.sorts }
     ensures number { IfOk result
-        (λ s. numbered names.new (token_of_sort sig.now sort.0) ≡ Some s.0) }
+        (λ s. number_in_names names.new (token_of_sort sig.now sort.0) ≡ Some s.0) }
     ensures names { HasGained sig.now names.old names.new }
 {
     let Some(name) = sig.sorts.name(sort.0 as usize) else {
@@ -44,7 +44,7 @@ pub(crate) fn symbol_number(
 ) -> Result<ConstNo, AllocError>
     requires { symbol < length sig.now.symbols }
     ensures number { IfOk result
-        (λ c. numbered names.new (token_of_symbol sig.now symbol) ≡ Some c.0) }
+        (λ c. number_in_names names.new (token_of_symbol sig.now symbol) ≡ Some c.0) }
     ensures names { HasGained sig.now names.old names.new }
 {
     let Some(name) = sig.symbols.name(symbol) else {
@@ -64,7 +64,7 @@ pub(crate) fn value_number(
 ) -> Result<ConstNo, AllocError>
     requires { HasValue sig.now sort.0 (value_of value.now) }
     ensures number { IfOk result
-        (λ c. numbered names.new (token_of_value sig.now sort.0 (value_of value.now)) ≡ Some c.0) }
+        (λ c. number_in_names names.new (token_of_value sig.now sort.0 (value_of value.now)) ≡ Some c.0) }
     ensures names { HasGained sig.now names.old names.new }
 {
     let Some(name) = sig.sorts.name(sort.0 as usize) else {

@@ -5,7 +5,7 @@ use Rattle.std.specs.Str.{bytes_eq}
 use Rattle.std.proofs.lemmas.Bool.{false≢true}
 use Rattle.std.proofs.lemmas.Bool.Decides.{same_from_decides}
 use Rattle.std.proofs.lemmas.Slice.Eq.{bytes_eq-Decides}
-use Rattle.ml_pat.specs.Named.{number_of, IsNoneOf, AreDistinct}
+use Rattle.ml_pat.specs.Named.{token_number, IsNoneOf, AreDistinct}
 
 -- whether two tokens are the same does not depend on their order
 bytes_eq-comm : (a b : List ℕ) → bytes_eq a b ≡ bytes_eq b a
@@ -47,21 +47,21 @@ from (e ∷ es) i k q h =
     (position_from (λ (other : List ℕ). bytes_eq q other) (i + 1) es)) (omega arith))
 
 -- the number of each token after a new token is added
-pub number_of-push : (es : List (List ℕ)) (k q : List ℕ) → number_of es k ≡ None
-    → number_of (es ++ k ∷ []) q ≡ cond (bytes_eq k q) (Some (length es)) (number_of es q)
+pub number_of-push : (es : List (List ℕ)) (k q : List ℕ) → token_number es k ≡ None
+    → token_number (es ++ k ∷ []) q ≡ cond (bytes_eq k q) (Some (length es)) (token_number es q)
 number_of-push es k q h =
-    from es 0 k q h ∙ ap (λ n. cond (bytes_eq k q) (Some n) (number_of es q)) (omega arith)
+    from es 0 k q h ∙ ap (λ n. cond (bytes_eq k q) (Some n) (token_number es q)) (omega arith)
 
 -- if a map has exactly the numbers of the old tokens, then with the new token's number it has
 -- exactly the numbers of all tokens
 pub indexed-push : (f g : List ℕ → Option ℕ) (es new : List (List ℕ)) (k : List ℕ) (n : ℕ)
-    → ((q : List ℕ) → f q ≡ number_of es q) → number_of es k ≡ None → n ≡ length es
+    → ((q : List ℕ) → f q ≡ token_number es q) → token_number es k ≡ None → n ≡ length es
     → ((q : List ℕ) → g q ≡ cond (bytes_eq k q) (Some n) (f q)) → new ≡ es ++ k ∷ [] → (q : List ℕ)
-    → g q ≡ number_of new q
+    → g q ≡ token_number new q
 indexed-push f g es new k n had absent size got grown q =
     got q ∙ ap (λ o. cond (bytes_eq k q) (Some n) o) (had q)
-    ∙ ap (λ m. cond (bytes_eq k q) (Some m) (number_of es q)) size
-    ∙ sym (number_of-push es k q absent) ∙ ap (λ xs. number_of xs q) (sym grown)
+    ∙ ap (λ m. cond (bytes_eq k q) (Some m) (token_number es q)) size
+    ∙ sym (number_of-push es k q absent) ∙ ap (λ xs. token_number xs q) (sym grown)
 
 -- different tokens stay different when a token is added that is none of them
 IsNoneOf-push : (name : List ℕ) (others : List (List ℕ)) (new : List ℕ) → IsNoneOf name others
@@ -79,6 +79,6 @@ differ (e ∷ es) i k had absent =
       differ es (i + 1) k had.1 o.1,
     )
 
-pub AreDistinct-push : (es : List (List ℕ)) (k : List ℕ) → AreDistinct es → number_of es k ≡ None
+pub AreDistinct-push : (es : List (List ℕ)) (k : List ℕ) → AreDistinct es → token_number es k ≡ None
     → AreDistinct (es ++ k ∷ [])
 AreDistinct-push es k had absent = differ es 0 k had absent

@@ -4,13 +4,13 @@ use Rattle.std.specs.List.{position_from}
 use Rattle.std.specs.Str.{bytes_eq}
 
 -- the number of a token: the position at which it first occurs
-abbrev pub number_of : List (List ℕ) → List ℕ → Option ℕ
-number_of tokens token = position_from (λ (other : List ℕ). bytes_eq token other) 0 tokens
+abbrev pub token_number : List (List ℕ) → List ℕ → Option ℕ
+token_number tokens token = position_from (λ (other : List ℕ). bytes_eq token other) 0 tokens
 
 -- a known token keeps its number, and nothing changes; a new token gets the next number
 abbrev pub IsNumbered : List (List ℕ) → List (List ℕ) → List ℕ → ℕ → Type 0
 IsNumbered old new token number =
-    MatchOption (number_of old token) ((number ≡ length old) × (new ≡ old ++ token ∷ []))
+    MatchOption (token_number old token) ((number ≡ length old) × (new ≡ old ++ token ∷ []))
     (λ n. (number ≡ n) × (new ≡ old))
 
 -- the token is not in the list

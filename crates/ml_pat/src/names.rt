@@ -1,7 +1,7 @@
 // Tokens and their numbers.
 ghost use Rattle.std.specs.Prelude.{◌≡◌, [], ◌∷◌, ◌++◌, length, IfOk, OnOk, OnErr, slice_get};
 ghost use Rattle.std.specs.Prelude.{option_copied, None};
-ghost use Rattle.ml_pat.specs.Named.{number_of, IsNumbered, AreDistinct};
+ghost use Rattle.ml_pat.specs.Named.{token_number, IsNumbered, AreDistinct};
 
 use std::alloc::{AllocError, Global};
 use std::collections::BTreeMap;
@@ -59,7 +59,7 @@ impl Names {
 
     // Gives a new token the next number.
     fn add(&mut self, token: &str) -> Result<u64, AllocError>
-        requires { number_of self.old token.now ≡ None }
+        requires { token_number self.old token.now ≡ None }
         ensures number { IfOk result (λ no. no ≡ length self.old) }
         ensures tokens { OnOk result (self.new ≡ self.old ++ token.now ∷ []) }
         ensures err { OnErr result (self.new ≡ self.old) }

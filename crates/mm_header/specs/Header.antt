@@ -40,8 +40,8 @@ two_place = codes "imp" ∷ codes "and" ∷ codes "or" ∷ codes "eq" ∷ codes 
 abbrev pub one_place : List (List ℕ)
 one_place = codes "not" ∷ codes "next" ∷ codes "ev" ∷ []
 
-abbrev pub sorted : List (List ℕ)
-sorted = codes "at" ∷ codes "fun" ∷ []
+abbrev pub sorted_names : List (List ℕ)
+sorted_names = codes "at" ∷ codes "fun" ∷ []
 
 abbrev pub quantifiers : List (List ℕ)
 quantifiers = codes "ex" ∷ codes "all" ∷ []
@@ -58,7 +58,7 @@ syntax_rows =
     schema (codes "w.top") (codes "#Pattern \\top") ∷
     map (λ k. schema (codes "w." ++ k) (codes "#Pattern " ++ of k (codes "p q"))) two_place ++
     map (λ k. schema (codes "w." ++ k) (codes "#Pattern " ++ of k (codes "p"))) one_place ++
-    map (λ k. schema (codes "w." ++ k) (codes "#Pattern " ++ of k (codes "p s"))) sorted ++
+    map (λ k. schema (codes "w." ++ k) (codes "#Pattern " ++ of k (codes "p s"))) sorted_names ++
     map (λ k. schema (codes "w." ++ k) (codes "#Pattern " ++ of k (codes "x s p"))) quantifiers
 
 -- `#Fresh x p`: x is not free in p
@@ -70,7 +70,7 @@ fresh_rows =
     map (λ k. rule (codes "fr." ++ k) (codes "#Fresh x p" ∷ [])
     (codes "#Fresh x " ++ of k (codes "p"))) one_place ++
     map (λ k. rule (codes "fr." ++ k) (codes "#Fresh x p" ∷ [])
-    (codes "#Fresh x " ++ of k (codes "p s"))) sorted ++
+    (codes "#Fresh x " ++ of k (codes "p s"))) sorted_names ++
     map (λ k. rule (codes "fr." ++ k) (codes "#Fresh x p" ∷ [])
     (codes "#Fresh x " ++ of k (codes "y s p"))) quantifiers ++
     map (λ k. schema (codes "fr." ++ k ++ codes "b") (codes "#Fresh x " ++ of k (codes "x s p")))
@@ -87,7 +87,7 @@ substitution_rows =
     map (λ k. rule (codes "su." ++ k) (codes "#Sub t p u x" ∷ []) (codes "#Sub " ++ of k (codes "t")
     ++ codes " " ++ of k (codes "p") ++ codes " u x")) one_place ++
     map (λ k. rule (codes "su." ++ k) (codes "#Sub t p u x" ∷ []) (codes "#Sub "
-    ++ of k (codes "t s") ++ codes " " ++ of k (codes "p s") ++ codes " u x")) sorted ++
+    ++ of k (codes "t s") ++ codes " " ++ of k (codes "p s") ++ codes " u x")) sorted_names ++
     map (λ k. rule_apart (codes "x") (codes "y") (codes "su." ++ k)
     (codes "#Fresh y u" ∷ codes "#Sub t p u x" ∷ []) (codes "#Sub " ++ of k (codes "y s t")
     ++ codes " " ++ of k (codes "y s p") ++ codes " u x")) quantifiers

@@ -9,7 +9,7 @@ use Rattle.mm_text.specs.Bytes.{Token}
 use Rattle.ml_pat.specs.Patterns.{Pattern, app, at_sort, constant}
 use Rattle.ml_pat.specs.Patterns as logic
 use Rattle.ml_pat.specs.Leaves.{LeafFacts, EachLeaf}
-use Rattle.ml_pat.specs.Named.{number_of}
+use Rattle.ml_pat.specs.Named.{token_number}
 use Rattle.ml_kernel.specs.Lemmas.{HasNoMeta}
 use Rattle.term_core.specs.Terms.{DomainValue}
 use Rattle.term_core.specs.Patterns.{Pattern as RulePattern, Patterns as RulePatterns, variable}
@@ -18,7 +18,7 @@ use Rattle.term_core.specs.Patterns.{more_patterns}
 use Rattle.rule_core.specs.Matching.{OccursIn, OccursInSome}
 use Rattle.rule_core.specs.declared.signature.Signature.{Signature}
 use Rattle.ml_image.specs.Tokens.{sort_token, symbol_token, value_token, name_at, token_of_sort}
-use Rattle.ml_image.specs.Tokens.{token_of_symbol, token_of_value, numbered}
+use Rattle.ml_image.specs.Tokens.{token_of_symbol, token_of_value, number_in_names}
 use Rattle.ml_image.specs.Images.{both, symbol_image, sort_image, at_sorts, injection_symbol}
 use Rattle.ml_image.specs.Images.{some_symbol_image, injection_image, image_of, applied}
 use Rattle.ml_image.specs.Sentences.{Sentence, term, symbol, apply, top, not, and, implies, equals}
@@ -54,7 +54,7 @@ found token i (t ∷ names) n h = go (bytes_eq token t) refl h (found token (i +
         behind n there in
         (suc w.0, (omega (arith, w.1.0), (omega (arith, w.1.1.0), w.1.1.1)))
 
-pub number_found : (names : List Token) (token : Token) (n : ℕ) → number_of names token ≡ Some n
+pub number_found : (names : List Token) (token : Token) (n : ℕ) → token_number names token ≡ Some n
     → (n < length names) × (name_of names n ≡ token)
 number_found names token n h =
     let w : (k : ℕ) × ((n ≡ 0 + k) × ((k < length names) × (name_of names k ≡ token))) =
@@ -67,29 +67,30 @@ abbrev IsNumber : List Token → Token → ℕ → Type 0
 IsNumber names typecode n = (n < length names) × (typecode_of (name_of names n) ≡ typecode)
 
 typed : (names : List Token) (token typecode : Token) (n : ℕ) → typecode_of token ≡ typecode
-    → number_of names token ≡ Some n → IsNumber names typecode n
+    → token_number names token ≡ Some n → IsNumber names typecode n
 typed names token typecode n is h =
     let w : (n < length names) × (name_of names n ≡ token) = number_found names token n h in
     (w.0, ap typecode_of w.1 ∙ is)
 
 named : (names : List Token) (f : Token → Token) (typecode : Token) (o : Option Token) (n : ℕ)
-    → ((name : Token) → typecode_of (f name) ≡ typecode) → numbered names (option_map f o) ≡ Some n
+    → ((name : Token) → typecode_of (f name) ≡ typecode) → number_in_names names (option_map f o)
+    ≡ Some n
     → IsNumber names typecode n
 named names f typecode None n each h = absurd (none_some n h)
 named names f typecode (Some name) n each h = typed names (f name) typecode n (each name) h
 
 sort_leaf : (sig : Signature) (names : List Token) (s n : ℕ)
-    → numbered names (token_of_sort sig s) ≡ Some n → IsNumber names (codes "#Sort") n
+    → number_in_names names (token_of_sort sig s) ≡ Some n → IsNumber names (codes "#Sort") n
 sort_leaf sig names s n h =
     named names sort_token (codes "#Sort") (name_at sig.sorts s) n (λ name. refl) h
 
 symbol_leaf : (sig : Signature) (names : List Token) (f n : ℕ)
-    → numbered names (token_of_symbol sig f) ≡ Some n → IsNumber names (codes "#Pattern") n
+    → number_in_names names (token_of_symbol sig f) ≡ Some n → IsNumber names (codes "#Pattern") n
 symbol_leaf sig names f n h =
     named names symbol_token (codes "#Pattern") (name_at sig.symbols f) n (λ name. refl) h
 
 value_leaf : (sig : Signature) (names : List Token) (s : ℕ) (v : DomainValue) (n : ℕ)
-    → numbered names (token_of_value sig s v) ≡ Some n → IsNumber names (codes "#Pattern") n
+    → number_in_names names (token_of_value sig s v) ≡ Some n → IsNumber names (codes "#Pattern") n
 value_leaf sig names s v n h =
     named names (λ (name : Token). value_token name v) (codes "#Pattern") (name_at sig.sorts s) n
     (λ name. refl) h
@@ -152,7 +153,7 @@ sort_fact sig names f known s n h = known.sorts n (sort_leaf sig names s n h)
 symbol_leaves : (sig : Signature) (names : List Token) (f : LeafFacts) → Known names f → (g : ℕ)
     → Each f (symbol_image sig names g)
 symbol_leaves sig names f known g =
-    constant_leaves f (numbered names (token_of_symbol sig g))
+    constant_leaves f (number_in_names names (token_of_symbol sig g))
     (λ n h. known.constants n (symbol_leaf sig names g n h))
 
 sorts_leaves : (sig : Signature) (names : List Token) (f : LeafFacts) → Known names f
@@ -175,7 +176,7 @@ mutual
   term_leaves sig names f known (variable x) objects p h =
       subst (EachLeaf f) (some_same (logic.var x) p h) (objects x refl)
   term_leaves sig names f known (domain_value s v) objects p h =
-      constant_leaves f (numbered names (token_of_value sig s v))
+      constant_leaves f (number_in_names names (token_of_value sig s v))
       (λ n k. known.constants n (value_leaf sig names s v n k)) p h
   term_leaves sig names f known (application g ps) objects p h =
       applied_leaves sig names f known ps (symbol_image sig names g) objects

@@ -20,7 +20,7 @@ use Rattle.ml_kernel.specs.Theorems.{Derivation, by_rule, no_derivation}
 use Rattle.ml_kernel.specs.Concluding.{Concludes}
 use Rattle.ml_kernel.specs.declared.rules.Rule.TheVariants as rule
 use Rattle.rule_core.specs.Theories.{RewriteTheory}
-use Rattle.ml_image.specs.Tokens.{token_of_symbol, numbered}
+use Rattle.ml_image.specs.Tokens.{token_of_symbol, number_in_names}
 use Rattle.term_core.specs.Terms.{truth}
 use Rattle.term_core.specs.Patterns.{Pattern as RulePattern, variable, domain_value, injection}
 use Rattle.term_core.specs.Patterns.{call}
@@ -29,11 +29,11 @@ use Rattle.ml_image.specs.Images.{both, image_of, sort_image}
 use Rattle.ml_image.specs.Sentences.{Sentence, term, symbol, top, not, and, implies, equals, exists}
 use Rattle.ml_image.specs.Sentences.{functional, next, sentence_image, for_all, variables}
 use Rattle.ml_image.specs.Sentences.{apply_all, conjunctions}
-use Rattle.ml_image.specs.OwnAxioms.{is_true, sort_of, condition_of, direct, kompile}
+use Rattle.ml_image.specs.OwnAxioms.{is_true, sort_of, condition_sentence, direct, kompile}
 use Rattle.ml_image.specs.OwnAxioms.{behind_parameters, meets, of_variables, IsOwnAxiom, of_rule}
 use Rattle.ml_image.specs.OwnAxioms.{of_equation, total, apart, free, subsort, collapse}
 use Rattle.ml_image.specs.TrueFacts.{value_patterns, IsTrueFact, of_value, of_hook}
-use Rattle.ml_image.specs.OwnTokens.{of_symbol}
+use Rattle.ml_image.specs.OwnTokens.{is_symbol_token}
 use Rattle.ml_image.proofs.ImageLaws.{none_some, some_same}
 use Rattle.ml_pat.specs.Leaves.{EachLeaf}
 use Rattle.mm_proof.specs.Tokens.{name_of}
@@ -149,7 +149,8 @@ text_spelt =
 
 small_image : (theory : RewriteTheory) (f : ℕ) → token_of_symbol theory.sig f ≡ Some (codes "f:a")
     → image_of theory.sig names (alone f) ≡ Some (constant 0)
-small_image theory f there = ap (λ (o : Option Token). option_map constant (numbered names o)) there
+small_image theory f there = ap (λ (o : Option Token).
+    option_map constant (number_in_names names o)) there
 
 small_text_justifies : (theory : RewriteTheory) (f : ℕ)
     → token_of_symbol theory.sig f ≡ Some (codes "f:a")
@@ -157,7 +158,7 @@ small_text_justifies : (theory : RewriteTheory) (f : ℕ)
 small_text_justifies theory f there =
     let before : HasOnlyAxiomsOf theory (header_bytes ++ declarations) =
     declared_behind theory [] names [] header_bytes header_fits_claims are_names (tt, tt)
-    (omega arith) (of_symbol f there, tt) (header_has_only theory) in
+    (omega arith) (is_symbol_token f there, tt) (header_has_only theory) in
     let fits : FitsClaims names (claim ∷ []) ((header_bytes ++ declarations) ++ theorem) =
     theorem_fits names [] (header_bytes ++ declarations) claim [] one_rule nowhere no_premise
     declared_fits (omega arith) is_claim provable in
@@ -282,7 +283,7 @@ after_and_other sig ts a b c p is =
     subst (IsOther ts) (sym (w.4 ∙ ap (λ (q : Pattern). logic.imp q w.1) v.4)) (inr refl)
 
 condition_other : (sig : Signature) (ts : List Token) (vars : List ℕ) (o : Option RulePattern)
-    (c d : Sentence) → condition_of sig vars o ≡ Some c → AreOther sig ts (implies c d)
+    (c d : Sentence) → condition_sentence sig vars o ≡ Some c → AreOther sig ts (implies c d)
 condition_other sig ts vars None c d says p is =
     let top_is : sentence_image sig ts c ≡ Some logic.top =
     ap (sentence_image sig ts) (sym (some_same top c says)) in

@@ -14,12 +14,12 @@ use Rattle.ml_image.specs.Sentences.{exists, for_all, symbol, variables, apply_a
 use Rattle.ml_image.specs.Sentences.{sentence_image}
 use Rattle.ml_image.specs.OwnAxioms.{is_true, rule_sentence, direct_sentence, behind_parameters}
 use Rattle.ml_image.specs.OwnAxioms.{kompile_sentence, of_variables}
-use Rattle.mm_proof.specs.Tokens.{tokens_of}
+use Rattle.mm_proof.specs.Tokens.{pattern_tokens}
 
 -- the image of the sentence has these words
 abbrev pub IsSpelt : Signature → List Token → Sentence → List ℕ → Type 0
 IsSpelt sig names s text =
-    option_map (tokens_of names) (sentence_image sig names s) ≡ Some (words_of text)
+    option_map (pattern_tokens names) (sentence_image sig names s) ≡ Some (words_of text)
 
 abbrev pub one : Pattern → Patterns
 one p = more_patterns p no_pattern

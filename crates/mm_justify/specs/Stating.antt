@@ -7,7 +7,7 @@ use Rattle.mm_database.specs.Frames.{Hypothesis, floating, Frame}
 use Rattle.ml_pat.specs.Patterns.{Pattern, nullary, unary, binary, sorted, quantified, var, meta}
 use Rattle.ml_pat.specs.Patterns.{constant}
 use Rattle.ml_pat.specs.Leaves.{LeafFacts}
-use Rattle.mm_proof.specs.Tokens.{object_token, name_of, tokens_of}
+use Rattle.mm_proof.specs.Tokens.{object_token, name_of, pattern_tokens}
 
 -- ---- names
 
@@ -45,7 +45,7 @@ name_frame token = record {
 
 -- what is written to say that a pattern holds, with the tokens of names
 abbrev pub holds_text : List Token → Pattern → List Token
-holds_text names p = codes "|-" ∷ tokens_of names p
+holds_text names p = codes "|-" ∷ pattern_tokens names p
 
 -- the object variables that occur in a pattern, bound or free
 abbrev pub variables_in : Pattern → List ℕ

@@ -9,7 +9,7 @@ use Rattle.ml_pat.specs.Patterns.{Pattern, nullary, unary, binary, sorted, quant
 use Rattle.ml_pat.specs.Patterns.{constant}
 use Rattle.ml_kernel.specs.Rules.{Instance, label}
 use Rattle.ml_kernel.specs.declared.rules.Rule.{Rule}
-use Rattle.mm_proof.specs.Tokens.{Naming, bracketed, bracket, tokens_of, name_of, object_token}
+use Rattle.mm_proof.specs.Tokens.{Naming, bracketed, bracket, pattern_tokens, name_of, object_token}
 use Rattle.mm_proof.specs.Trees.{trees_of, cite, instance_tree, rule_tree, trees_before}
 use Rattle.mm_proof.specs.Trees.{trees_after, syntax_tree, fresh_tree, unchanged_tree}
 use Rattle.mm_proof.specs.Trees.{substitution_tree, predicate_tree}
@@ -123,51 +123,54 @@ inside_bracket : (connective : Token) (xs : List Entry) (ts : List Token) → la
 inside_bracket connective xs ts h = ap (bracketed connective) h
 
 one_part : (names : List Token) (connective : Token) (p : Pattern)
-    → labels_in (text_entries names p) ≡ tokens_of names p
+    → labels_in (text_entries names p) ≡ pattern_tokens names p
     → labels_in (plain_bracketed connective (text_entries names p ++ plain_bracket))
-    ≡ bracketed connective (tokens_of names p ++ bracket)
+    ≡ bracketed connective (pattern_tokens names p ++ bracket)
 one_part names connective p h =
-    inside_bracket connective (text_entries names p ++ plain_bracket) (tokens_of names p ++ bracket)
-    (behind_part (text_entries names p) plain_bracket (tokens_of names p) bracket h refl)
+    inside_bracket connective (text_entries names p ++ plain_bracket) (pattern_tokens names p
+        ++ bracket)
+    (behind_part (text_entries names p) plain_bracket (pattern_tokens names p) bracket h refl)
 
 two_parts : (names : List Token) (connective : Token) (p q : Pattern)
-    → labels_in (text_entries names p) ≡ tokens_of names p
-    → labels_in (text_entries names q) ≡ tokens_of names q
+    → labels_in (text_entries names p) ≡ pattern_tokens names p
+    → labels_in (text_entries names q) ≡ pattern_tokens names q
     → labels_in (plain_bracketed connective
     (text_entries names p ++ (text_entries names q ++ plain_bracket)))
-    ≡ bracketed connective (tokens_of names p ++ (tokens_of names q ++ bracket))
+    ≡ bracketed connective (pattern_tokens names p ++ (pattern_tokens names q ++ bracket))
 two_parts names connective p q h k =
     inside_bracket connective (text_entries names p ++ (text_entries names q ++ plain_bracket))
-    (tokens_of names p ++ (tokens_of names q ++ bracket))
-    (behind_part (text_entries names p) (text_entries names q ++ plain_bracket) (tokens_of names p)
-    (tokens_of names q ++ bracket) h
-    (behind_part (text_entries names q) plain_bracket (tokens_of names q) bracket k refl))
+    (pattern_tokens names p ++ (pattern_tokens names q ++ bracket))
+    (behind_part (text_entries names p) (text_entries names q
+    ++ plain_bracket) (pattern_tokens names p)
+    (pattern_tokens names q ++ bracket) h
+    (behind_part (text_entries names q) plain_bracket (pattern_tokens names q) bracket k refl))
 
 sorted_part : (names : List Token) (connective : Token) (p : Pattern) (s : ℕ)
-    → labels_in (text_entries names p) ≡ tokens_of names p
+    → labels_in (text_entries names p) ≡ pattern_tokens names p
     → labels_in (plain_bracketed connective (text_entries names p
     ++ (record { label = name_of names s; takes = 0 } ∷ plain_bracket)))
-    ≡ bracketed connective (tokens_of names p ++ (name_of names s ∷ bracket))
+    ≡ bracketed connective (pattern_tokens names p ++ (name_of names s ∷ bracket))
 sorted_part names connective p s h =
     inside_bracket connective
     (text_entries names p ++ (record { label = name_of names s; takes = 0 } ∷ plain_bracket))
-    (tokens_of names p ++ (name_of names s ∷ bracket))
+    (pattern_tokens names p ++ (name_of names s ∷ bracket))
     (behind_part (text_entries names p)
-    (record { label = name_of names s; takes = 0 } ∷ plain_bracket) (tokens_of names p)
+    (record { label = name_of names s; takes = 0 } ∷ plain_bracket) (pattern_tokens names p)
     (name_of names s ∷ bracket) h refl)
 
 bound_part : (names : List Token) (connective : Token) (x s : ℕ) (p : Pattern)
-    → labels_in (text_entries names p) ≡ tokens_of names p
+    → labels_in (text_entries names p) ≡ pattern_tokens names p
     → labels_in (plain_bracketed connective (record { label = object_token x; takes = 0 }
     ∷ (record { label = name_of names s; takes = 0 }
     ∷ (text_entries names p ++ plain_bracket))))
-    ≡ bracketed connective (object_token x ∷ (name_of names s ∷ (tokens_of names p ++ bracket)))
+    ≡ bracketed connective (object_token x
+    ∷ (name_of names s ∷ (pattern_tokens names p ++ bracket)))
 bound_part names connective x s p h =
     ap (λ (ts : List Token). bracketed connective (object_token x ∷ (name_of names s ∷ ts)))
-    (behind_part (text_entries names p) plain_bracket (tokens_of names p) bracket h refl)
+    (behind_part (text_entries names p) plain_bracket (pattern_tokens names p) bracket h refl)
 
 pub labels_of_text : (names : List Token) (p : Pattern)
-    → labels_in (text_entries names p) ≡ tokens_of names p
+    → labels_in (text_entries names p) ≡ pattern_tokens names p
 labels_of_text names (nullary c) = refl
 labels_of_text names (binary c p q) =
     two_parts names _ p q (labels_of_text names p) (labels_of_text names q)

@@ -5,7 +5,7 @@ use Rattle.ml_pat.specs.Patterns.{bot, imp, app, all, ex, fun, equal, next, var,
 use Rattle.ml_kernel.specs.Rules.{pattern, variable, sort}
 use Rattle.ml_kernel.specs.Theorems.{by_rule, own_axiom, no_derivation, more_derivations}
 use Rattle.ml_kernel.specs.declared.rules.Rule.TheVariants as rule
-use Rattle.mm_proof.specs.Tokens.{Naming, tokens_of, object_token}
+use Rattle.mm_proof.specs.Tokens.{Naming, pattern_tokens, object_token}
 use Rattle.mm_proof.specs.Trees.{cite, syntax_tree, fresh_tree, substitution_tree, predicate_tree}
 use Rattle.mm_proof.specs.Trees.{rule_tree}
 use Rattle.mm_proof.specs.Derivations.{Citing, derivation_tree}
@@ -28,9 +28,9 @@ one_axiom = record {
 }
 
 pub record TriedCases : Type 0 where
-  pub application : tokens_of (codes "f:f" ∷ codes "f:a" ∷ []) (app (constant 0) (constant 1))
+  pub application : pattern_tokens (codes "f:f" ∷ codes "f:a" ∷ []) (app (constant 0) (constant 1))
       ≡ codes "(" ∷ codes "\\app" ∷ codes "f:f" ∷ codes "f:a" ∷ codes ")" ∷ []
-  pub universal : tokens_of (codes "s:S" ∷ []) (all 0 0 (fun (var 0) 0))
+  pub universal : pattern_tokens (codes "s:S" ∷ []) (all 0 0 (fun (var 0) 0))
       ≡ codes "(" ∷ codes "\\all" ∷ object_token 0 ∷ codes "s:S" ∷ codes "(" ∷ codes "\\fun"
       ∷ object_token 0 ∷ codes "s:S" ∷ codes ")" ∷ codes ")" ∷ []
   pub syntax : postorder (syntax_tree short (imp (constant 0) bot))

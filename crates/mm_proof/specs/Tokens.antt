@@ -97,5 +97,5 @@ own_naming names = record {
   meta = meta_token;
 }
 
-abbrev pub tokens_of : List Token → Pattern → List Token
-tokens_of names p = text_by (letters_of (own_naming names)) p
+abbrev pub pattern_tokens : List Token → Pattern → List Token
+pattern_tokens names p = text_by (letters_of (own_naming names)) p

@@ -4,7 +4,7 @@ use Rattle.mm_text.specs.Bytes.{Token}
 use Rattle.mm_database.specs.Proofs.{postorder}
 use Rattle.ml_pat.specs.Patterns.{Pattern, nullary, unary, binary, sorted, quantified, var, meta}
 use Rattle.ml_pat.specs.Patterns.{constant}
-use Rattle.mm_proof.specs.Tokens.{tokens_of, name_of, object_token, meta_token, nullary_name}
+use Rattle.mm_proof.specs.Tokens.{pattern_tokens, name_of, object_token, meta_token, nullary_name}
 use Rattle.mm_proof.specs.Tokens.{unary_name, binary_name, sorted_name, quantifier_name}
 use Rattle.mm_proof.specs.Labels.{name_label, statement_label, object_label, meta_label}
 use Rattle.mm_proof.specs.Labels.{premise_label, own_labels}
@@ -45,7 +45,7 @@ Lists entries old new =
 abbrev pub work_tokens : List Token → ℕ → ListingTask → List Token
 work_tokens names k (work.One w) = word_token names k w ∷ []
 work_tokens names k (work.Taking w n) = word_token names k w ∷ []
-work_tokens names k (work.Text p) = tokens_of names p.now
+work_tokens names k (work.Text p) = pattern_tokens names p.now
 work_tokens names k (work.Syntax p) = postorder (syntax_tree (own_labels k) p.now)
 work_tokens names k (work.Fresh x p) = postorder (fresh_tree (own_labels k) x.0 p.now)
 work_tokens names k (work.Unchanged x u p) =

@@ -10,7 +10,7 @@ use Rattle.term_core.specs.Terms.{DomainValue}
 use Rattle.ml_image.specs.Tokens.{name_at, sort_token, symbol_token, value_token, hexadecimal}
 use Rattle.ml_image.specs.Tokens.{value_text}
 use Rattle.proof_writer.proofs.ValueBytes.{is_byte, value_bytes}
-use Rattle.ml_image.specs.OwnTokens.{IsOwnToken, of_sort, of_symbol, of_value}
+use Rattle.ml_image.specs.OwnTokens.{IsOwnToken, is_sort_token, is_symbol_token, is_value_token}
 use Rattle.ml_image.specs.Gained.{AreOwnTokens}
 use Rattle.mm_claims.specs.Statements.{sort_name, symbol_name, value_name, is_name_byte, IsName}
 use Rattle.mm_claims.specs.Fitting.{AreNames}
@@ -65,11 +65,11 @@ value_rest name v h k =
 
 own_name : (sig : Signature) → HasPlainNames sig → (token : Token) → IsOwnToken sig token
     → IsName token
-own_name sig plain token (of_sort s h) =
+own_name sig plain token (is_sort_token s h) =
     let made : (name : Token) × ((name_at sig.sorts s ≡ Some name) × (token ≡ sort_token name)) =
     made_of sort_token (name_at sig.sorts s) token h in
     record { kind = sort_name; rest = made.0; is = made.1.1; bytes = plain.sorts s made.0 made.1.0 }
-own_name sig plain token (of_symbol f h) =
+own_name sig plain token (is_symbol_token f h) =
     let made : (name : Token) ×
     ((name_at sig.symbols f ≡ Some name) × (token ≡ symbol_token name)) =
     made_of symbol_token (name_at sig.symbols f) token h in
@@ -79,7 +79,7 @@ own_name sig plain token (of_symbol f h) =
       is = made.1.1;
       bytes = plain.symbols f made.0 made.1.0;
     }
-own_name sig plain token (of_value s v has h) =
+own_name sig plain token (is_value_token s v has h) =
     let made : (name : Token) × ((name_at sig.sorts s ≡ Some name) × (token ≡ value_token name v)) =
     made_of (λ name. value_token name v) (name_at sig.sorts s) token h in
     let bytes : list_all is_byte (value_text v) ≡ true = value_bytes sig s v has in

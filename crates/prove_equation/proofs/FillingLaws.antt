@@ -19,7 +19,7 @@ use Rattle.rule_core.specs.declared.signature.SymInfo.{SymInfo}
 use Rattle.rule_core.specs.declared.rules.Program.{Program}
 use Rattle.ml_image.specs.Images.{both, image_of}
 use Rattle.ml_image.specs.HasImages.{HasImage, IsTruth, IsCondition, HasEquationImage}
-use Rattle.ml_image.specs.OwnAxioms.{condition_of, sort_of, made_sort, is_true}
+use Rattle.ml_image.specs.OwnAxioms.{condition_sentence, sort_of, made_sort, is_true}
 use Rattle.ml_image.specs.Sentences.{Sentence, sentence_image, term, equals}
 use Rattle.ml_image.specs.Sentences as says
 use Rattle.ml_image.proofs.ImageLaws.{some_same}
@@ -242,7 +242,7 @@ condition_proved cx vars theta qs ns others x sort p t condition h images there 
 -- what the condition's theorem, if there is one, proves of the lemma's assumptions
 pub part_proved : (cx : Context) (vars : List ℕ) (theta : List (Option Tree)) (qs : List Pattern)
     (ns : List ℕ) (holds : Sentence) (condition : Pattern) (c : Option RulePattern)
-    (o : Option Theorem) → condition_of cx.program.sig vars c ≡ Some holds
+    (o : Option Theorem) → condition_sentence cx.program.sig vars c ≡ Some holds
     → sentence_image cx.program.sig cx.names holds ≡ Some condition
     → IsCondition cx.program.sig vars c → AreImages cx.program.sig cx.names theta qs
     → AllThere theta (length vars) → length vars ≡ length qs → SaysCondition cx vars theta c o

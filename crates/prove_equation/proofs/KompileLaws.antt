@@ -27,7 +27,7 @@ use Rattle.rule_core.specs.declared.signature.SymInfo.{SymInfo}
 use Rattle.rule_core.proofs.SortedInstances.{instances_are_sorted}
 use Rattle.ml_image.specs.Images.{both, image_of, shifted, all_shifted}
 use Rattle.ml_image.specs.HasImages.{HasImage, HaveImages, IsTruth, IsCondition, HasEquationImage}
-use Rattle.ml_image.specs.OwnAxioms.{condition_of, is_true, meets, named}
+use Rattle.ml_image.specs.OwnAxioms.{condition_sentence, is_true, meets, sort_numbered}
 use Rattle.ml_image.specs.Sentences.{sentence_image, term, symbol, apply_all, variables, is_in}
 use Rattle.ml_image.specs.Sentences as sentence
 use Rattle.ml_image.proofs.ImageLaws.{none_some, some_same}
@@ -60,7 +60,7 @@ use Rattle.prove_equation.proofs.ParameterLaws.{variables-have, variables-filled
 -- ---- the sorts of the terms
 
 of_sorts : (sig : Signature) (us : List Tree) (sorts : List ℕ) (refs : List SortRef)
-    → refs ≡ map named sorts → AreTermsOf sig [] (forest us) refs → AreNormal (forest us)
+    → refs ≡ map sort_numbered sorts → AreTermsOf sig [] (forest us) refs → AreNormal (forest us)
     → AreOfSorts sig us sorts
 of_sorts sig [] [] refs is sorted normal = tt
 of_sorts sig [] (s ∷ sorts) refs is sorted normal =
@@ -68,11 +68,11 @@ of_sorts sig [] (s ∷ sorts) refs is sorted normal =
 of_sorts sig (u ∷ us) [] refs is sorted normal =
     absurd (subst (λ (rs : List SortRef). AreTermsOf sig [] (forest (u ∷ us)) rs) is sorted)
 of_sorts sig (u ∷ us) (s ∷ sorts) refs is sorted normal =
-    let here : AreTermsOf sig [] (forest (u ∷ us)) (named s ∷ map named sorts) =
+    let here : AreTermsOf sig [] (forest (u ∷ us)) (sort_numbered s ∷ map sort_numbered sorts) =
     subst (λ (rs : List SortRef). AreTermsOf sig [] (forest (u ∷ us)) rs) is sorted in
     let same : here.0 ≡ s = some_same here.0 s (sym here.1) in (
       (normal.0, subst (IsTermOf sig u) same here.2),
-      of_sorts sig us sorts (map named sorts) refl here.3 normal.1,
+      of_sorts sig us sorts (map sort_numbered sorts) refl here.3 normal.1,
     )
 
 -- ---- sorts after parameters
@@ -271,7 +271,7 @@ placed cx f e lemma theta us o fs gs ms w =
     All-contains (IsEquationOf cx.program.sig w.can.own.info)
     (equations_of (theory_of cx.program) f) e
     (w.can.well_sorted.equations f w.can.own.info w.can.own.function) w.can.own.listed in
-    let takes : w.can.own.info.args.items ≡ map named d.sorts =
+    let takes : w.can.own.info.args.items ≡ map sort_numbered d.sorts =
     ap (λ (i : SymInfo). i.args.items)
     (one_symbol cx.program.sig f w.can.own.info d.info w.can.own.function d.declared.there)
     ∙ d.declared.takes in
@@ -330,7 +330,8 @@ kompile_condition cx f e s theta us fs gs ms o i None is has said h part =
     let k : ℕ = length i.shape.sorts in
     let holds : i.shape.holds ≡ sentence.top =
     some_same i.shape.holds sentence.top (sym i.shape.is_holds
-    ∙ ap (λ (c : Option RulePattern). condition_of cx.program.sig (i.shape.sorts ++ e.variables)
+    ∙ ap (λ (c : Option RulePattern). condition_sentence cx.program.sig (i.shape.sorts
+    ++ e.variables)
     (option_map (shifted (length i.shape.sorts)) c)) is) in
     let nothing : i.shape.condition ≡ top =
     some_same i.shape.condition top
@@ -355,7 +356,8 @@ kompile_condition cx f e s theta us fs gs ms (Some t) i (Some c) is has (sort, s
     condition_is cx.program.sig (i.shape.sorts ++ e.variables) (shifted (length i.shape.sorts) c)
     sort i.shape.holds (sort_of_sorted cx.program.sig (i.shape.sorts ++ e.variables)
     (shifted (length i.shape.sorts) c) sort of_sort)
-    (ap (λ (c : Option RulePattern). condition_of cx.program.sig (i.shape.sorts ++ e.variables)
+    (ap (λ (c : Option RulePattern). condition_sentence cx.program.sig (i.shape.sorts
+    ++ e.variables)
     (option_map (shifted (length i.shape.sorts)) c)) (sym is) ∙ i.shape.is_holds) in
     let says : SaysValue cx (behind_terms us theta) (shifted (length i.shape.sorts) c)
     (leaf sort (truth true)) t.conclusion =

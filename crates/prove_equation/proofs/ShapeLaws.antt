@@ -13,8 +13,8 @@ use Rattle.ml_image.specs.Images.{both, image_of, shifted, all_shifted}
 use Rattle.ml_image.specs.HasImages as own
 use Rattle.ml_image.specs.HasImages.{HasImage, HaveImages, HasEquationImage, HasParameters}
 use Rattle.ml_image.specs.HasImages.{count_of}
-use Rattle.ml_image.specs.OwnAxioms.{SaysEquation, direct, kompile, condition_of, sort_of, is_true}
-use Rattle.ml_image.specs.OwnAxioms.{meets, Declares}
+use Rattle.ml_image.specs.OwnAxioms.{SaysEquation, direct, kompile, condition_sentence, sort_of}
+use Rattle.ml_image.specs.OwnAxioms.{is_true, meets, Declares}
 use Rattle.ml_image.specs.Sentences.{Sentence, sentence_image, IsImageOf, term, symbol, apply, top}
 use Rattle.ml_image.specs.Sentences.{implies, equals, is_in, for_all, variables, apply_all}
 use Rattle.ml_image.specs.Sentences as says
@@ -54,12 +54,13 @@ closed_same k (n ∷ ns) (m ∷ ms) p q a b e =
 
 -- what a condition says
 pub condition_is : (sig : Signature) (vars : List ℕ) (p : RulePattern) (sort : ℕ) (c : Sentence)
-    → sort_of sig vars p ≡ Some sort → condition_of sig vars (Some p) ≡ Some c → c ≡ is_true p sort
+    → sort_of sig vars p ≡ Some sort → condition_sentence sig vars (Some p) ≡ Some c → c
+    ≡ is_true p sort
 condition_is sig vars p sort c sorted is =
     some_same c (is_true p sort) (sym is ∙ ap (option_map (is_true p)) sorted)
 
 pub condition_open : (sig : Signature) (vars : List ℕ) (o : Option RulePattern) (c : Sentence)
-    → own.IsCondition sig vars o → condition_of sig vars o ≡ Some c
+    → own.IsCondition sig vars o → condition_sentence sig vars o ≡ Some c
     → IsOpenSentence sig (length vars) c
 condition_open sig vars None c h is =
     subst (IsOpenSentence sig (length vars)) (some_same top c is) tt
@@ -74,7 +75,7 @@ pub record IsDirect (sig : Signature) (names : List (List ℕ)) (f : ℕ) (e : E
   pub numbers : List ℕ
   pub are : AreNumbers sig names e.variables numbers
   pub holds : Sentence
-  pub is_holds : condition_of sig e.variables e.condition ≡ Some holds
+  pub is_holds : condition_sentence sig e.variables e.condition ≡ Some holds
   pub condition : Pattern
   pub is_condition : sentence_image sig names holds ≡ Some condition
   pub left : Pattern
@@ -174,7 +175,7 @@ pub record IsKompile (sig : Signature) (names : List (List ℕ)) (f : ℕ) (e : 
   pub numbers : List ℕ
   pub are : AreNumbers sig names (sorts ++ e.variables) numbers
   pub holds : Sentence
-  pub is_holds : condition_of sig (sorts ++ e.variables)
+  pub is_holds : condition_sentence sig (sorts ++ e.variables)
       (option_map (shifted (length sorts)) e.condition) ≡ Some holds
   pub condition : Pattern
   pub is_condition : sentence_image sig names holds ≡ Some condition

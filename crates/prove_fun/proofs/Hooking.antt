@@ -30,7 +30,7 @@ use Rattle.rule_core.specs.declared.signature.SymKind.TheVariants.{Hooked}
 use Rattle.rule_core.proofs.EvaluationUnique.{same_symbol}
 use Rattle.ml_image.specs.Images.{image_of}
 use Rattle.ml_image.specs.Sentences.{Sentence, term, equals, sentence_image, IsImageOf}
-use Rattle.ml_image.specs.OwnAxioms.{named}
+use Rattle.ml_image.specs.OwnAxioms.{sort_numbered}
 use Rattle.ml_image.specs.TrueFacts.{HaveValues, value_patterns, SaysHook}
 use Rattle.prove_term.specs.Contexts.{Context, StaysIn}
 use Rattle.prove_term.proofs.ImageShapes.{both_some}
@@ -77,25 +77,25 @@ same_values (more_trees (inj k l t) ts) vs ws a b = absurd a
 
 -- ---- sorts
 
-named_sort : (of : SortRef) (sort : ℕ) → of ≡ named sort → (s : ℕ) → sort_at [] of ≡ Some s
+named_sort : (of : SortRef) (sort : ℕ) → of ≡ sort_numbered sort → (s : ℕ) → sort_at [] of ≡ Some s
     → s ≡ sort
 named_sort of sort is s at = let e : Some sort ≡ Some s = sym (ap (sort_at []) is) ∙ at in cc
 
 refs_named : (sig : Signature) (ks : List Kind) (refs : List SortRef) → ReferTo sig ks refs
-    → (sorts : List ℕ) × (refs ≡ map named sorts)
+    → (sorts : List ℕ) × (refs ≡ map sort_numbered sorts)
 refs_named sig [] [] h = ([], refl)
 refs_named sig [] (of ∷ refs) h = absurd h
 refs_named sig (k ∷ ks) [] h = absurd h
 refs_named sig (k ∷ ks) (of ∷ refs) h =
-    let rest : (sorts : List ℕ) × (refs ≡ map named sorts) = refs_named sig ks refs h.1 in (
+    let rest : (sorts : List ℕ) × (refs ≡ map sort_numbered sorts) = refs_named sig ks refs h.1 in (
       h.0.0 ∷ rest.0,
       ap (λ (r : SortRef). r ∷ refs) h.0.1
-          ∙ ap (λ (rs : List SortRef). named h.0.0 ∷ rs) rest.1,
+          ∙ ap (λ (rs : List SortRef). sort_numbered h.0.0 ∷ rs) rest.1,
     )
 
 -- terms of these sorts that are values
 values_there : (sig : Signature) (sorts : List ℕ) (ts : Forest) (vs : List DomainValue)
-    → AreTermsOf sig [] ts (map named sorts) → AreValues ts vs
+    → AreTermsOf sig [] ts (map sort_numbered sorts) → AreValues ts vs
     → HaveValues sig sorts vs × (value_patterns sorts vs ≡ ground_patterns ts)
 values_there sig [] no_tree vs of are = rw are (tt, refl)
 values_there sig [] (more_trees t ts) vs of are = absurd of
@@ -103,7 +103,7 @@ values_there sig (s ∷ sorts) no_tree vs of are = absurd of
 values_there sig (s ∷ sorts) (more_trees (leaf r v) ts) vs of are =
     let rest : HaveValues sig sorts are.0 × (value_patterns sorts are.0 ≡ ground_patterns ts) =
     values_there sig sorts ts are.0 of.3 are.2 in
-    let same : r ≡ s = of.2.0 ∙ named_sort (named s) s refl of.0 of.1 in
+    let same : r ≡ s = of.2.0 ∙ named_sort (sort_numbered s) s refl of.0 of.1 in
     let P : List DomainValue → Type 0 =
     λ ws. HaveValues sig (s ∷ sorts) ws
     × (value_patterns (s ∷ sorts) ws ≡ ground_patterns (more_trees (leaf r v) ts)) in
@@ -122,15 +122,15 @@ values_there sig (s ∷ sorts) (more_trees (inj k l t) ts) vs of are = absurd ar
 pub hook_says : (sig : Signature) (f : ℕ) (ts : Forest) (t : Tree) (vs : List DomainValue)
     → IsHookCall sig f ts t → AreValues ts vs → (s : Sentence) × SaysHook sig f vs s
 hook_says sig f ts t vs h are =
-    let refs : (sorts : List ℕ) × (h.info.args.items ≡ map named sorts) =
+    let refs : (sorts : List ℕ) × (h.info.args.items ≡ map sort_numbered sorts) =
     refs_named sig (argument_kinds h.fits.hook.operation) h.info.args.items h.fits.arguments in
     let there : HaveValues sig refs.0 vs × (value_patterns refs.0 vs ≡ ground_patterns ts) =
     values_there sig refs.0 ts vs
     (subst (λ (rs : List SortRef). AreTermsOf sig [] ts rs) refs.1 h.sorted) are in
     let same : vs ≡ h.answers.arguments = same_values ts vs h.answers.arguments are h.answers.are in
-    let result : h.info.result ≡ named h.sort =
+    let result : h.info.result ≡ sort_numbered h.sort =
     h.fits.result.1
-    ∙ ap named
+    ∙ ap sort_numbered
     (sym (named_sort h.info.result h.fits.result.0 h.fits.result.1 h.sort h.at)) in (
       equals (term (call f [] (value_patterns refs.0 vs))) (term (domain_value h.sort h.value)),
       record {
@@ -167,7 +167,7 @@ pub hook_call : (cx : Context) (f : ℕ) (ts : Forest) (t : Tree) (vs : List Dom
 hook_call cx f ts t vs fact image h are (s, says, image_is) stays is =
     let info : says.info ≡ h.info =
     same_symbol cx.program.sig f says.info h.info says.declared.there h.there in
-    let refs : h.info.args.items ≡ map named says.sorts =
+    let refs : h.info.args.items ≡ map sort_numbered says.sorts =
     sym (ap (λ (i : SymInfo). i.args.items) info) ∙ says.declared.takes in
     let there : HaveValues cx.program.sig says.sorts vs ×
     (value_patterns says.sorts vs ≡ ground_patterns ts) =

@@ -8,10 +8,9 @@ use Rattle.ml_kernel.specs.Lemmas.{instance, HasNoVariable, HaveNoVariables}
 use Rattle.term_core.specs.Terms.{Tree}
 use Rattle.term_core.specs.Patterns.{Pattern as RulePattern, Patterns as RulePatterns, variable}
 use Rattle.term_core.specs.Patterns.{domain_value, application, injection, call, no_pattern}
-use Rattle.term_core.specs.Patterns.{more_patterns}
-use Rattle.term_core.specs.Patterns.{binding, ground_pattern}
+use Rattle.term_core.specs.Patterns.{more_patterns, binding, ground_pattern}
 use Rattle.rule_core.specs.declared.signature.Signature.{Signature}
-use Rattle.ml_image.specs.Tokens.{token_of_symbol, token_of_value, numbered}
+use Rattle.ml_image.specs.Tokens.{token_of_symbol, token_of_value, number_in_names}
 use Rattle.ml_image.specs.Images.{both, symbol_image, sort_image, at_sorts, image_of, applied}
 use Rattle.ml_image.specs.Images.{some_symbol_image, injection_symbol, injection_image}
 use Rattle.ml_image.specs.HasImages.{HasImage, HaveImages}
@@ -70,7 +69,7 @@ becomes_some : (sig : Signature) (names : List (List ℕ)) (qs : List Pattern) (
     → Becomes qs (some_symbol_image sig names o) (some_symbol_image sig names o)
 becomes_some sig names qs None p e = absurd (none_some p e)
 becomes_some sig names qs (Some f) p e =
-    becomes_constant qs (numbered names (token_of_symbol sig f)) p e
+    becomes_constant qs (number_in_names names (token_of_symbol sig f)) p e
 
 -- The image of a pattern with terms in place of its variables is the instance of the pattern's
 -- schema at the images of the terms.
@@ -88,10 +87,10 @@ mutual
       ∙ ap (λ (r : Pattern). Some r) (sym (get_or_from_slice_get qs x at.0 (meta x) at.1.0))
       ∙ ap (λ (r : Pattern). Some (instance qs (with_metas r))) (some_same (var x) q is)
   filled_image sig names theta qs n (domain_value s v) are there has =
-      becomes_constant qs (numbered names (token_of_value sig s v))
+      becomes_constant qs (number_in_names names (token_of_value sig s v))
   filled_image sig names theta qs n (application f ps) are there has =
       filled_applied sig names theta qs n ps (symbol_image sig names f) (symbol_image sig names f)
-      are there has.1 (becomes_constant qs (numbered names (token_of_symbol sig f)))
+      are there has.1 (becomes_constant qs (number_in_names names (token_of_symbol sig f)))
   filled_image sig names theta qs n (injection a b p) are there has =
       becomes_app qs (injection_image sig names a b) (injection_image sig names a b)
       (image_of sig names p) (image_of sig names (filled theta p))
@@ -104,7 +103,7 @@ mutual
       filled_applied sig names theta qs n ps (at_sorts sig names (symbol_image sig names f) ss)
       (at_sorts sig names (symbol_image sig names f) ss) are there has.2
       (becomes_at_sorts sig names qs ss (symbol_image sig names f) (symbol_image sig names f)
-      (becomes_constant qs (numbered names (token_of_symbol sig f))))
+      (becomes_constant qs (number_in_names names (token_of_symbol sig f))))
 
   filled_applied : (sig : Signature) (names : List (List ℕ)) (theta : List (Option Tree))
       (qs : List Pattern) (n : ℕ) (ps : RulePatterns) (head new : Option Pattern)

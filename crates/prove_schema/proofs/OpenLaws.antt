@@ -11,7 +11,7 @@ use Rattle.term_core.specs.Patterns.{Pattern as RulePattern, Patterns as RulePat
 use Rattle.term_core.specs.Patterns.{domain_value, application, injection, call, no_pattern}
 use Rattle.term_core.specs.Patterns.{more_patterns}
 use Rattle.rule_core.specs.declared.signature.Signature.{Signature}
-use Rattle.ml_image.specs.Tokens.{token_of_symbol, token_of_value, numbered}
+use Rattle.ml_image.specs.Tokens.{token_of_symbol, token_of_value, number_in_names}
 use Rattle.ml_image.specs.Images.{both, symbol_image, sort_image, at_sorts, image_of, applied}
 use Rattle.ml_image.specs.Images.{some_symbol_image, injection_symbol, injection_image}
 use Rattle.ml_image.specs.HasImages.{HasImage, HaveImages}
@@ -93,7 +93,8 @@ open_at_sorts sig names n (s ∷ ss) head k =
 open_some : (sig : Signature) (names : List (List ℕ)) (n : ℕ) (o : Option ℕ)
     → IsOpenHead n (some_symbol_image sig names o)
 open_some sig names n None h e = absurd (none_some h e)
-open_some sig names n (Some f) h e = open_constant n (numbered names (token_of_symbol sig f)) h e
+open_some sig names n (Some f) h e = open_constant n (number_in_names names (token_of_symbol sig f))
+    h e
 
 mutual
   pub image_is_open : (sig : Signature) (names : List (List ℕ)) (n : ℕ) (p : RulePattern)
@@ -101,10 +102,10 @@ mutual
   image_is_open sig names n (variable x) has q e =
       subst (IsOpenFrom 0 n) (some_same (var x) q e) (omega arith, has)
   image_is_open sig names n (domain_value s v) has q e =
-      open_constant n (numbered names (token_of_value sig s v)) q e
+      open_constant n (number_in_names names (token_of_value sig s v)) q e
   image_is_open sig names n (application f ps) has q e =
       applied_is_open sig names n ps (symbol_image sig names f) has.1
-      (open_constant n (numbered names (token_of_symbol sig f))) q e
+      (open_constant n (number_in_names names (token_of_symbol sig f))) q e
   image_is_open sig names n (injection a b p) has q e =
       open_app n (injection_image sig names a b) (image_of sig names p)
       (open_at_sorts sig names n (a ∷ b ∷ []) (some_symbol_image sig names (injection_symbol sig))
@@ -113,7 +114,7 @@ mutual
   image_is_open sig names n (call f ss ps) has q e =
       applied_is_open sig names n ps (at_sorts sig names (symbol_image sig names f) ss) has.2
       (open_at_sorts sig names n ss (symbol_image sig names f)
-      (open_constant n (numbered names (token_of_symbol sig f)))) q e
+      (open_constant n (number_in_names names (token_of_symbol sig f)))) q e
 
   applied_is_open : (sig : Signature) (names : List (List ℕ)) (n : ℕ) (ps : RulePatterns)
       (head : Option Pattern) → HaveImages sig n ps → IsOpenHead n head → (q : Pattern)

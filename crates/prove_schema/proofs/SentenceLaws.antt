@@ -5,7 +5,7 @@ use Rattle.ml_pat.specs.Patterns as logic
 use Rattle.ml_pat.proofs.LeafLaws.{EachLeaf-implied}
 use Rattle.ml_scope.specs.Scopes.{Scope, IsOverPlaces, leaves_of, place_leaves_of}
 use Rattle.rule_core.specs.declared.signature.Signature.{Signature}
-use Rattle.ml_image.specs.Tokens.{token_of_symbol, numbered}
+use Rattle.ml_image.specs.Tokens.{token_of_symbol, number_in_names}
 use Rattle.ml_image.specs.Images.{both, sort_image}
 use Rattle.ml_image.specs.HasImages.{HasImage}
 use Rattle.ml_image.specs.Sentences.{Sentence, sentence_image, term, symbol, apply, top, not, and}
@@ -65,7 +65,8 @@ open_sorted n a o ha r h =
 pub sentence_is_open : (sig : Signature) (names : List (List ℕ)) (n : ℕ) (s : Sentence)
     → IsOpenSentence sig n s → IsOpenImage n (sentence_image sig names s)
 sentence_is_open sig names n (term p) h = image_is_open sig names n p h
-sentence_is_open sig names n (symbol f) h = open_number n (numbered names (token_of_symbol sig f))
+sentence_is_open sig names n (symbol f) h =
+    open_number n (number_in_names names (token_of_symbol sig f))
 sentence_is_open sig names n (apply p q) h =
     open_both n logic.app (sentence_image sig names p) (sentence_image sig names q)
     (λ a b x y. (x, y)) (sentence_is_open sig names n p h.0)

@@ -9,7 +9,7 @@ use Rattle.rule_core.specs.declared.signature.Signature.{Signature}
 use Rattle.ml_image.specs.Images.{both, image_of}
 use Rattle.ml_image.specs.HasImages as own
 use Rattle.ml_image.specs.HasImages.{HasRuleImage}
-use Rattle.ml_image.specs.OwnAxioms.{SaysRule, condition_of, is_true}
+use Rattle.ml_image.specs.OwnAxioms.{SaysRule, condition_sentence, is_true}
 use Rattle.ml_image.specs.Sentences.{Sentence, sentence_image, IsImageOf}
 use Rattle.ml_image.specs.Sentences as says
 use Rattle.ml_image.proofs.ImageLaws.{none_some, some_same}
@@ -33,7 +33,7 @@ pub record IsRuleImage (sig : Signature) (names : List (List ℕ)) (r : RewriteR
   pub left : Pattern
   pub left_image : image_of sig names r.left ≡ Some left
   pub holds : Sentence
-  pub is_holds : condition_of sig r.variables r.condition ≡ Some holds
+  pub is_holds : condition_sentence sig r.variables r.condition ≡ Some holds
   pub condition : Pattern
   pub condition_image : sentence_image sig names holds ≡ Some condition
   pub right : Pattern
@@ -114,7 +114,7 @@ image_sentence sig names r p i = record { says = i.says; is_open = i.is_open }
 -- the image of a condition
 condition_form : (sig : Signature) (names : List (List ℕ)) (vars : List ℕ) (o : Option RulePattern)
     (holds : Sentence) (c : Pattern) → own.IsCondition sig vars o
-    → condition_of sig vars o ≡ Some holds → sentence_image sig names holds ≡ Some c
+    → condition_sentence sig vars o ≡ Some holds → sentence_image sig names holds ≡ Some c
     → IsCondition (with_metas c)
 condition_form sig names vars None holds c has is image =
     let nothing : holds ≡ says.top = some_same holds says.top (sym is) in

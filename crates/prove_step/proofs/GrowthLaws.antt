@@ -5,7 +5,7 @@ use Rattle.ml_kernel.specs.Theorems.{Theorem}
 use Rattle.rule_core.specs.Rules.{RewriteRule}
 use Rattle.rule_core.specs.ProgramView.{rewrite_rule}
 use Rattle.rule_core.specs.declared.rules.Program.{Program}
-use Rattle.ml_image.specs.OwnAxioms.{condition_of}
+use Rattle.ml_image.specs.OwnAxioms.{condition_sentence}
 use Rattle.prove_term.specs.Contexts.{Context, HasGrown}
 use Rattle.prove_term.proofs.ContextLaws.{grown_none, grown_twice, image_grown, lemma_there_grown}
 use Rattle.prove_schema.proofs.ElementLaws.{pattern_grown, sort_grown}
@@ -37,7 +37,8 @@ schema_grown old new r t g says = record {
   left_image = pattern_grown old new r.left says.left g says.left_image;
   holds = says.holds;
   is_holds =
-      ap (λ (p : Program). condition_of p.sig r.variables r.condition) g.program ∙ says.is_holds;
+      ap (λ (p : Program). condition_sentence p.sig r.variables r.condition) g.program
+          ∙ says.is_holds;
   condition = says.condition;
   condition_image = image_grown old new says.holds says.condition g says.condition_image;
   right = says.right;

@@ -9,7 +9,7 @@ use Rattle.rule_core.specs.ProgramView.{rewrite_rule}
 use Rattle.rule_core.specs.declared.rules.Rule.{Rule}
 use Rattle.rule_core.specs.declared.signature.Signature.{Signature}
 use Rattle.ml_image.specs.Images.{image_of, sort_image}
-use Rattle.ml_image.specs.OwnAxioms.{condition_of}
+use Rattle.ml_image.specs.OwnAxioms.{condition_sentence}
 use Rattle.ml_image.specs.Sentences.{Sentence, sentence_image}
 use Rattle.prove_term.specs.Contexts.{Context}
 use Rattle.prove_schema.specs.Schemas.{with_metas, meta_facts, parts_of}
@@ -27,7 +27,7 @@ pub record SaysRuleSchema (cx : Context) (r : RewriteRule) (t : Theorem) : Type 
   pub left : Pattern
   pub left_image : image_of cx.program.sig cx.names r.left ≡ Some left
   pub holds : Sentence
-  pub is_holds : condition_of cx.program.sig r.variables r.condition ≡ Some holds
+  pub is_holds : condition_sentence cx.program.sig r.variables r.condition ≡ Some holds
   pub condition : Pattern
   pub condition_image : sentence_image cx.program.sig cx.names holds ≡ Some condition
   pub right : Pattern

@@ -8,8 +8,8 @@ use Rattle.ml_kernel.specs.Lemmas.{HasNoVariable}
 use Rattle.term_core.specs.Terms.{Tree, Forest, leaf, node, inj, no_tree, more_trees, injected}
 use Rattle.term_core.specs.Patterns.{Pattern as RulePattern, Patterns as RulePatterns, variable}
 use Rattle.term_core.specs.Patterns.{domain_value, application, injection, call, no_pattern}
-use Rattle.term_core.specs.Patterns.{more_patterns}
-use Rattle.term_core.specs.Patterns.{instance_of, instances_of, ground_pattern, ground_patterns}
+use Rattle.term_core.specs.Patterns.{more_patterns, instance_of, instances_of, ground_pattern}
+use Rattle.term_core.specs.Patterns.{ground_patterns}
 use Rattle.term_core.specs.RulePatterns.{plain_pattern}
 use Rattle.term_core.specs.PatternLists.{plain_patterns}
 use Rattle.term_core.specs.declared.rule_patterns.RulePat.{RulePat}
@@ -19,7 +19,7 @@ use Rattle.rule_core.specs.WellSorted.{IsSignature}
 use Rattle.rule_core.specs.declared.signature.Signature.{Signature}
 use Rattle.rule_core.specs.declared.signature.SortRef.{SortRef}
 use Rattle.rule_core.proofs.SortedInstances.{mapped, both_there, instance_is_sorted}
-use Rattle.ml_image.specs.Tokens.{token_of_symbol, token_of_value, numbered}
+use Rattle.ml_image.specs.Tokens.{token_of_symbol, token_of_value, number_in_names}
 use Rattle.ml_image.specs.Images.{both, image_of, applied, symbol_image, sort_image, at_sorts}
 use Rattle.ml_image.specs.Images.{injection_image, some_symbol_image, injection_symbol}
 use Rattle.ml_image.specs.HasImages.{HasImage, HaveImages}
@@ -61,7 +61,7 @@ closed-sorts sig names (s ∷ ss) head h =
 closed-symbol : (sig : Signature) (names : List (List ℕ)) (o : Option ℕ)
     → IsClosed (some_symbol_image sig names o)
 closed-symbol sig names None = λ r h. absurd (none_some r h)
-closed-symbol sig names (Some f) = closed-constant (numbered names (token_of_symbol sig f))
+closed-symbol sig names (Some f) = closed-constant (number_in_names names (token_of_symbol sig f))
 
 pub closed-injection : (sig : Signature) (names : List (List ℕ)) (a b : ℕ) (p : Pattern)
     → injection_image sig names a b ≡ Some p → HasNoVariable p
@@ -71,10 +71,11 @@ closed-injection sig names a b =
 mutual
   closed-term : (sig : Signature) (names : List (List ℕ)) (t : Tree)
       → IsClosed (image_of sig names (ground_pattern t))
-  closed-term sig names (leaf s v) = closed-constant (numbered names (token_of_value sig s v))
+  closed-term sig names (leaf s v) =
+      closed-constant (number_in_names names (token_of_value sig s v))
   closed-term sig names (node f ts) =
       closed-forest sig names ts (symbol_image sig names f)
-      (closed-constant (numbered names (token_of_symbol sig f)))
+      (closed-constant (number_in_names names (token_of_symbol sig f)))
   closed-term sig names (inj a b t) =
       closed-app (injection_image sig names a b) (image_of sig names (ground_pattern t))
       (closed-injection sig names a b) (closed-term sig names t)
@@ -130,8 +131,9 @@ application_image sig names f ps r h =
     let w : (g : Pattern) × (qs : List Pattern) × (symbol_image sig names f ≡ Some g) × AreImages
     sig names ps qs × (r ≡ applied_to g qs) =
     applied_parts sig names ps (symbol_image sig names f) r h in
-    let c : (x : ℕ) × (numbered names (token_of_symbol sig f) ≡ Some x) × (w.0 ≡ constant x) =
-    map_some constant (numbered names (token_of_symbol sig f)) w.0 w.2 in (
+    let c : (x : ℕ) × (number_in_names names (token_of_symbol sig f) ≡ Some x)
+        × (w.0 ≡ constant x) =
+    map_some constant (number_in_names names (token_of_symbol sig f)) w.0 w.2 in (
       c.0,
       w.1,
       w.2 ∙ ap (λ (g : Pattern). Some g) c.2,

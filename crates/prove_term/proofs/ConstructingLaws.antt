@@ -8,7 +8,7 @@ use Rattle.rule_core.specs.ProgramView.{theory_of}
 use Rattle.rule_core.specs.WellSorted.{IsSignature}
 use Rattle.rule_core.specs.declared.signature.Signature.{Signature}
 use Rattle.ml_image.specs.Sentences.{sentence_image, IsImageOf}
-use Rattle.ml_image.specs.OwnAxioms.{named, SaysTotal, total}
+use Rattle.ml_image.specs.OwnAxioms.{sort_numbered, SaysTotal, total}
 use Rattle.ml_image.specs.HasImages.{HasTotality}
 use Rattle.ml_image.proofs.ImageLaws.{some_same}
 use Rattle.ml_image.proofs.WellSortedLaws.{constructor_has_totality}
@@ -40,7 +40,7 @@ says_totality cx f n p takes few (s, says, is) =
     let many : length shape.0.numbers ≡ length says.sorts =
     as_many_numbers cx.program.sig cx.names says.sorts shape.0.numbers shape.0.are_numbers in
     let args : length says.info.args.items ≡ length says.sorts =
-    ap length says.constructs.0.takes ∙ length-map says.sorts named in
+    ap length says.constructs.0.takes ∙ length-map says.sorts sort_numbered in
     record {
       numbered = record {
         info = says.info;
@@ -61,7 +61,7 @@ arguments_counted cx f n p says takes =
     as_many_numbers cx.program.sig cx.names says.numbered.sorts says.numbered.numbers.numbers
     says.numbered.numbers.are_numbers in
     let args : length says.numbered.info.args.items ≡ length says.numbered.sorts =
-    ap length says.numbered.constructs.0.takes ∙ length-map says.numbered.sorts named in
+    ap length says.numbered.constructs.0.takes ∙ length-map says.numbered.sorts sort_numbered in
     omega (arith, takes says.numbered.info says.numbered.constructs.0.there, args, many)
 
 pub arguments_few : (cx : Context) (f n : ℕ) (p : Pattern) → SaysTotality cx f p

@@ -17,7 +17,7 @@ use Rattle.rule_core.specs.declared.signature.SymInfo.{SymInfo}
 use Rattle.rule_core.specs.declared.signature.SortRef.{SortRef}
 use Rattle.ml_image.specs.Images.{both, image_of, applied, sort_image}
 use Rattle.ml_image.specs.Sentences.{term, functional}
-use Rattle.ml_image.specs.OwnAxioms.{named}
+use Rattle.ml_image.specs.OwnAxioms.{sort_numbered}
 use Rattle.ml_image.proofs.ImageLaws.{some_same}
 use Rattle.prove_term.specs.Contexts.{Context, HasContext, HasGrown, StaysIn}
 use Rattle.prove_term.specs.Schemas.{AreImages, AreSortImages, at_metas, meta_facts, facts}
@@ -76,7 +76,7 @@ gathered_none cx = record {
 }
   where
     none : (refs : List SortRef) (sorts : List ℕ) → HaveSorts cx.program.sig [] [] no_pattern refs
-        → refs ≡ map named sorts
+        → refs ≡ map sort_numbered sorts
         → (numbers : List ℕ) × AreSortImages cx.program.sig cx.names sorts numbers
         × (conclusions [] ≡ reversed (facts [] numbers))
     none [] [] sorted are = ([], tt, refl)
@@ -149,14 +149,14 @@ gathered_next a b p ps images ts q t g h sorted element none stays is_subject =
     )
 
     more : AreElements b ps h.natural ts → (refs : List SortRef) (sorts : List ℕ)
-        → HaveSorts b.program.sig [] [] (more_patterns p ps) refs → refs ≡ map named sorts
+        → HaveSorts b.program.sig [] [] (more_patterns p ps) refs → refs ≡ map sort_numbered sorts
         → (numbers : List ℕ) × AreSortImages b.program.sig b.names sorts numbers
         × (conclusions (ts ++ t ∷ []) ≡ reversed (facts (q ∷ h.natural) numbers))
     more before [] sorts are_sorted are = absurd are_sorted
     more before (r ∷ refs) [] are_sorted are = absurd (omega (arith, ap length are))
     more before (r ∷ refs) (s ∷ sorts) are_sorted are =
-        let heads : (r ≡ named s) × (refs ≡ map named sorts) =
-        first_of r (named s) refs (map named sorts) are in
+        let heads : (r ≡ sort_numbered s) × (refs ≡ map sort_numbered sorts) =
+        first_of r (sort_numbered s) refs (map sort_numbered sorts) are in
         let sort_is : are_sorted.0 ≡ s =
         some_same are_sorted.0 s (sym are_sorted.1 ∙ ap (sort_at []) heads.0) in
         let has_sort : HasSort b.program.sig [] p s =
@@ -215,7 +215,7 @@ no_meta-applied (q ∷ qs) h a k = no_meta-applied qs (app h q) (a, k.0) k.1
 -- if there are as many sorts as patterns, there are as many facts
 as_many_said : (ps : RulePatterns) (sig : Signature) (names : List (List ℕ)) (qs : List Pattern)
     (refs : List SortRef) (sorts : List ℕ) → AreImages sig names ps qs
-    → HaveSorts sig [] [] ps refs → refs ≡ map named sorts → length qs ≡ length sorts
+    → HaveSorts sig [] [] ps refs → refs ≡ map sort_numbered sorts → length qs ≡ length sorts
 as_many_said no_pattern sig names [] [] [] h k are = refl
 as_many_said no_pattern sig names [] [] (s ∷ sorts) h k are = absurd (omega (arith, ap length are))
 as_many_said no_pattern sig names [] (r ∷ refs) sorts h k are = absurd k
@@ -226,7 +226,7 @@ as_many_said (more_patterns p ps) sig names (q ∷ qs) (r ∷ refs) [] h k are =
     absurd (omega (arith, ap length are))
 as_many_said (more_patterns p ps) sig names (q ∷ qs) (r ∷ refs) (s ∷ sorts) h k are =
     ap suc (as_many_said ps sig names qs refs sorts h.1 k.3
-    (first_of r (named s) refs (map named sorts) are).1)
+    (first_of r (sort_numbered s) refs (map sort_numbered sorts) are).1)
 
 -- a constructor of elements, and its lemma
 pub record IsBuilt (cx : Context) (f k : ℕ) (ps : RulePatterns) (qs : List Pattern)
@@ -265,7 +265,7 @@ agrees cx f k ps qs ts m =
     let info_is : m.sorted.1.0 ≡ m.at.numbered.info =
     same_symbol cx.program.sig f m.sorted.1.0 m.at.numbered.info m.sorted.1.1
     m.at.numbered.constructs.0.there in
-    let takes : m.sorted.1.0.args.items ≡ map named m.at.numbered.sorts =
+    let takes : m.sorted.1.0.args.items ≡ map sort_numbered m.at.numbered.sorts =
     ap (λ (i : SymInfo). i.args.items) info_is ∙ m.at.numbered.constructs.0.takes in
     let said : (numbers : List ℕ) × AreSortImages cx.program.sig cx.names m.at.numbered.sorts
     numbers × (conclusions ts ≡ reversed (facts qs numbers)) =

@@ -9,7 +9,7 @@ use Rattle.term_core.specs.Patterns.{Pattern as RulePattern, Patterns as RulePat
 use Rattle.term_core.specs.Patterns.{domain_value, application, injection, call, no_pattern}
 use Rattle.term_core.specs.Patterns.{more_patterns}
 use Rattle.rule_core.specs.declared.signature.Signature.{Signature}
-use Rattle.ml_image.specs.Tokens.{token_of_symbol, token_of_value, numbered}
+use Rattle.ml_image.specs.Tokens.{token_of_symbol, token_of_value, number_in_names}
 use Rattle.ml_image.specs.Images.{both, image_of, applied, symbol_image, sort_image, at_sorts}
 use Rattle.ml_image.specs.Images.{injection_image, some_symbol_image, injection_symbol}
 use Rattle.ml_image.specs.Sentences.{Sentence, term, symbol, apply, top, not, and, implies, equals}
@@ -85,22 +85,23 @@ none-sorts sig names (s ∷ ss) head h =
 none-some_symbol : (sig : Signature) (names : List (List ℕ)) (o : Option ℕ)
     → HasNone (some_symbol_image sig names o)
 none-some_symbol sig names None = λ r h. absurd (none_some r h)
-none-some_symbol sig names (Some f) = none-constant (numbered names (token_of_symbol sig f))
+none-some_symbol sig names (Some f) = none-constant (number_in_names names (token_of_symbol sig f))
 
 mutual
   none-image : (sig : Signature) (names : List (List ℕ)) (p : RulePattern)
       → HasNone (image_of sig names p)
   none-image sig names (variable x) = λ r h. subst HasNoMeta (some_same (logic.var x) r h) tt
-  none-image sig names (domain_value s v) = none-constant (numbered names (token_of_value sig s v))
+  none-image sig names (domain_value s v) =
+      none-constant (number_in_names names (token_of_value sig s v))
   none-image sig names (application f ps) =
-      none-applied sig names ps _ (none-constant (numbered names (token_of_symbol sig f)))
+      none-applied sig names ps _ (none-constant (number_in_names names (token_of_symbol sig f)))
   none-image sig names (injection a b p) =
       none-both logic.app (injection_image sig names a b) (image_of sig names p) (λ p q h k. (h, k))
       (none-sorts sig names (a ∷ b ∷ []) _ (none-some_symbol sig names (injection_symbol sig)))
       (none-image sig names p)
   none-image sig names (call f ss ps) =
       none-applied sig names ps _
-      (none-sorts sig names ss _ (none-constant (numbered names (token_of_symbol sig f))))
+      (none-sorts sig names ss _ (none-constant (number_in_names names (token_of_symbol sig f))))
 
   none-applied : (sig : Signature) (names : List (List ℕ)) (ps : RulePatterns)
       (head : Option Pattern) → HasNone head → HasNone (applied sig names head ps)
@@ -112,7 +113,7 @@ mutual
 none-sentence : (sig : Signature) (names : List (List ℕ)) (s : Sentence)
     → HasNone (sentence_image sig names s)
 none-sentence sig names (term p) = none-image sig names p
-none-sentence sig names (symbol f) = none-constant (numbered names (token_of_symbol sig f))
+none-sentence sig names (symbol f) = none-constant (number_in_names names (token_of_symbol sig f))
 none-sentence sig names (apply p q) =
     none-both logic.app _ _ (λ p q h k. (h, k)) (none-sentence sig names p)
     (none-sentence sig names q)
@@ -149,13 +150,13 @@ pub value_fact_shape : (sig : Signature) (names : List (List ℕ)) (s : ℕ) (v 
     → IsValueFact sig names s v p
 value_fact_shape sig names s v p h =
     let w : (x : Pattern) × (n : ℕ) ×
-    (option_map logic.constant (numbered names (token_of_value sig s v)) ≡ Some x) ×
+    (option_map logic.constant (number_in_names names (token_of_value sig s v)) ≡ Some x) ×
     (sort_image sig names s ≡ Some n) × (p ≡ logic.fun x n) =
-    both_some logic.fun (option_map logic.constant (numbered names (token_of_value sig s v)))
+    both_some logic.fun (option_map logic.constant (number_in_names names (token_of_value sig s v)))
     (sort_image sig names s) p h in
-    let c : (c : ℕ) × (numbered names (token_of_value sig s v) ≡ Some c) ×
+    let c : (c : ℕ) × (number_in_names names (token_of_value sig s v) ≡ Some c) ×
     (w.0 ≡ logic.constant c) =
-    map_some logic.constant (numbered names (token_of_value sig s v)) w.0 w.2 in
+    map_some logic.constant (number_in_names names (token_of_value sig s v)) w.0 w.2 in
     record {
       token = c.0;
       is_token = c.1;
@@ -244,9 +245,9 @@ totality_shape sig names f sorts sort p h =
     both_some logic.equal (Some (logic.var (length sorts))) made e.1 e.3 in
     let head : (h : Pattern) × (symbol_image sig names f ≡ Some h) =
     applied_variables_some sig names (length sorts) 0 (symbol f) q.1 q.3 in
-    let c : (c : ℕ) × (numbered names (token_of_symbol sig f) ≡ Some c) ×
+    let c : (c : ℕ) × (number_in_names names (token_of_symbol sig f) ≡ Some c) ×
     (head.0 ≡ logic.constant c) =
-    map_some logic.constant (numbered names (token_of_symbol sig f)) head.0 head.1 in
+    map_some logic.constant (number_in_names names (token_of_symbol sig f)) head.0 head.1 in
     let is_head : symbol_image sig names f ≡ Some (logic.constant c.0) =
     head.1 ∙ ap (λ (x : Pattern). Some x) c.2 in
     let applied_is : q.1 ≡ at_variables (logic.constant c.0) 0 (length sorts) =

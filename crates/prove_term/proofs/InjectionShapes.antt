@@ -8,7 +8,7 @@ use Rattle.rule_core.specs.Subsorts.{IsBelow, by_pair, by_chain}
 use Rattle.rule_core.specs.WellSorted.{IsPair, IsSignature}
 use Rattle.rule_core.specs.ProgramView.{theory_of}
 use Rattle.rule_core.specs.declared.signature.Signature.{Signature}
-use Rattle.ml_image.specs.Tokens.{token_of_symbol, numbered}
+use Rattle.ml_image.specs.Tokens.{token_of_symbol, number_in_names}
 use Rattle.ml_image.specs.Images.{both, sort_image, some_symbol_image, injection_symbol}
 use Rattle.ml_image.specs.Images.{injection_image}
 use Rattle.ml_image.specs.Sentences.{sentence_image, IsImageOf}
@@ -26,8 +26,9 @@ symbol_shape : (sig : Signature) (names : List (List ℕ)) (o : Option ℕ) (p :
     → some_symbol_image sig names o ≡ Some p → (c : ℕ) × (p ≡ logic.constant c)
 symbol_shape sig names None p h = absurd (none_some p h)
 symbol_shape sig names (Some f) p h =
-    let w : (c : ℕ) × (numbered names (token_of_symbol sig f) ≡ Some c) × (p ≡ logic.constant c) =
-    map_some logic.constant (numbered names (token_of_symbol sig f)) p h in
+    let w : (c : ℕ) × (number_in_names names (token_of_symbol sig f) ≡ Some c)
+        × (p ≡ logic.constant c) =
+    map_some logic.constant (number_in_names names (token_of_symbol sig f)) p h in
     (w.0, w.2)
 
 -- the injection symbol at two sorts

@@ -9,7 +9,7 @@ use Rattle.rule_core.specs.Sorting.{HasSort, HaveSorts}
 use Rattle.rule_core.specs.declared.signature.Signature.{Signature}
 use Rattle.rule_core.specs.declared.signature.SortRef.{SortRef}
 use Rattle.ml_image.specs.Images.{image_of, sort_image}
-use Rattle.ml_image.specs.OwnAxioms.{named}
+use Rattle.ml_image.specs.OwnAxioms.{sort_numbered}
 use Rattle.prove_term.specs.Contexts.{Context, HasContext}
 use Rattle.prove_term.specs.Schemas.{AreImages, AreSortImages, facts, reversed}
 
@@ -40,7 +40,7 @@ pub record AreElements (cx : Context) (ps : RulePatterns) (qs : List Pattern) (t
     Type 0 where
   pub images : AreImages cx.program.sig cx.names ps qs
   pub say : (refs : List SortRef) (sorts : List ℕ) → HaveSorts cx.program.sig [] [] ps refs
-      → refs ≡ map named sorts
+      → refs ≡ map sort_numbered sorts
       → (numbers : List ℕ) × AreSortImages cx.program.sig cx.names sorts numbers
       × (conclusions ts ≡ reversed (facts qs numbers))
   pub no_hypotheses : all_hypotheses ts ≡ []

@@ -3,7 +3,7 @@ use Rattle.std.specs.Prelude.{◌≡◌, ℕ, Some, List, slice_get}
 use Rattle.ml_pat.specs.Patterns.{Pattern, fun, constant}
 use Rattle.term_core.specs.Terms.{DomainValue}
 use Rattle.rule_core.specs.declared.signature.Signature.{Signature}
-use Rattle.ml_image.specs.Tokens.{token_of_value, numbered}
+use Rattle.ml_image.specs.Tokens.{token_of_value, number_in_names}
 use Rattle.ml_image.specs.Images.{sort_image}
 use Rattle.prove_term.specs.Contexts.{Context}
 
@@ -11,7 +11,7 @@ use Rattle.prove_term.specs.Contexts.{Context}
 pub record IsValueFact (sig : Signature) (names : List (List ℕ)) (s : ℕ) (v : DomainValue)
     (p : Pattern) : Type 0 where
   pub token : ℕ
-  pub is_token : numbered names (token_of_value sig s v) ≡ Some token
+  pub is_token : number_in_names names (token_of_value sig s v) ≡ Some token
   pub sort : ℕ
   pub is_sort : sort_image sig names s ≡ Some sort
   pub says : p ≡ fun (constant token) sort

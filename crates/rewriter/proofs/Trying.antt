@@ -15,16 +15,16 @@ use Rattle.rule_core.specs.ProgramView.{rewrite_rule, rewrite_rules, sorts_of, t
 use Rattle.rule_core.specs.Matching.{OccursInSome}
 use Rattle.rule_core.specs.MatchSearch.{FindsMatch}
 use Rattle.rule_core.specs.WellSorted.{IsWellSorted, IsRuleOf, IsCondition}
-use Rattle.rule_core.specs.Evaluation.{value, blocked, Tested, holds, fails, untested, IsTrueValue}
-use Rattle.rule_core.specs.Evaluation.{says_true, says_other, says_nothing, Evaluates}
-use Rattle.rule_core.specs.FirstRule.{most_nesting, Matches, IsUnmatched, Meets, no_condition}
-use Rattle.rule_core.specs.FirstRule.{condition, applies, none_applies, trial_blocked, Tries}
-use Rattle.rule_core.specs.FirstRule.{no_rule_left, unmatched, condition_fails, condition_blocked}
-use Rattle.rule_core.specs.FirstRule.{condition_holds}
+use Rattle.rule_core.specs.Evaluation.{value, blocked, ConditionOutcome, holds, fails, untested}
+use Rattle.rule_core.specs.Evaluation.{IsTrueValue, says_true, says_other, says_nothing, Evaluates}
+use Rattle.rule_core.specs.FirstRule.{most_nesting, Matches, IsUnmatched, Meets, no_rule_condition}
+use Rattle.rule_core.specs.FirstRule.{rule_condition, applies, none_applies, trial_blocked, Tries}
+use Rattle.rule_core.specs.FirstRule.{no_rule_left, rule_unmatched, rule_condition_fails}
+use Rattle.rule_core.specs.FirstRule.{rule_condition_blocked, condition_holds}
 use Rattle.rule_core.specs.FirstRule as first
 use Rattle.rule_core.specs.Records.{Record, OptionalRecord, unconditional, conditional}
 use Rattle.rule_core.specs.Records.{RecordsCondition, IsUnusedRule, most_calls, Records}
-use Rattle.rule_core.specs.Runs.{Steps, next, by_rule, in_condition, in_right_side}
+use Rattle.rule_core.specs.Runs.{Steps, steps_on, by_rule, in_condition, in_right_side}
 use Rattle.rule_core.specs.RunView.{cause_of}
 use Rattle.rule_core.specs.declared.rules.Program.{Program}
 use Rattle.rule_core.specs.declared.rules.Rule.{Rule}
@@ -115,7 +115,8 @@ pub no_test : (theory : RewriteTheory) (c : ℕ) (theta : List (Option Tree)) (p
     → Meets theory theta p c (holds c)
     × ((o : OptionalRecord) × (o ≡ unconditional) × RecordsCondition theory theta p o)
 no_test theory c theta p is =
-    (subst (λ o. Meets theory theta o c (holds c)) (sym is) no_condition, (unconditional, refl, is))
+    (subst (λ o. Meets theory theta o c (holds c)) (sym is) no_rule_condition,
+    (unconditional, refl, is))
 
 pub test_holds : (tell : Record → Type 0) (theory : RewriteTheory) (c left : ℕ)
     (theta : List (Option Tree)) (p : Option Pattern) (q : Pattern) (t : Tree) → p ≡ Some q
@@ -126,7 +127,7 @@ pub test_holds : (tell : Record → Type 0) (theory : RewriteTheory) (c left : �
     × RecordsCondition theory theta p o)
 test_holds tell theory c left theta p q t is evaluated told true_value = (
   subst (λ o. Meets theory theta o c (holds left)) (sym is)
-      (condition evaluated (says_true true_value)),
+      (rule_condition evaluated (says_true true_value)),
   (
     conditional told.0,
     (told.0, refl, told.1),
@@ -140,7 +141,7 @@ pub test_fails : (theory : RewriteTheory) (c left : ℕ) (theta : List (Option T
     → Meets theory theta p c (fails left)
 test_fails theory c left theta p q t is evaluated other =
     subst (λ o. Meets theory theta o c (fails left)) (sym is)
-    (condition evaluated (says_other other))
+    (rule_condition evaluated (says_other other))
 
 pub test_stops : {R : Type 0} (tells : R → Record → Type 0) (theory : RewriteTheory)
     (rule : RewriteRule) (t : Tree) (c : ℕ) (theta : List (Option Tree)) (q : Pattern)
@@ -151,25 +152,25 @@ test_stops tells theory rule t c theta q (Blocked why) match is h = (
   theta,
   match,
   subst (λ o. Meets theory theta o c (untested (cause_of why))) (sym is)
-      (condition h says_nothing),
+      (rule_condition h says_nothing),
 )
 test_stops tells theory rule t c theta q Memory match is h = tt
 
 -- ---- with less and with more calls left
 
 meets_more : (theory : RewriteTheory) (k : ℕ) {c : ℕ} {theta : List (Option Tree)}
-    {p : Option Pattern} {r : Tested} → Meets theory theta p c r → IsTold r
+    {p : Option Pattern} {r : ConditionOutcome} → Meets theory theta p c r → IsTold r
     → Meets theory theta p (c + k) (with_calls k r)
-meets_more theory k no_condition told = no_condition
-meets_more theory k (condition {e = value t d} e says) told =
-    condition (evaluates_more theory k e most_nesting (omega arith)) (more_says k says)
-meets_more theory k (condition {e = blocked cause} e says_nothing) told = absurd told
+meets_more theory k no_rule_condition told = no_rule_condition
+meets_more theory k (rule_condition {e = value t d} e says) told =
+    rule_condition (evaluates_more theory k e most_nesting (omega arith)) (more_says k says)
+meets_more theory k (rule_condition {e = blocked cause} e says_nothing) told = absurd told
 
 meets_fall : {theory : RewriteTheory} {c : ℕ} {theta : List (Option Tree)} {p : Option Pattern}
-    {r : Tested} → Meets theory theta p c r → LeavesAtMost c r
-meets_fall no_condition = omega arith
-meets_fall (condition {e = value t d} e says) = says_at_most says (calls_fall e)
-meets_fall (condition {e = blocked cause} e says_nothing) = tt
+    {r : ConditionOutcome} → Meets theory theta p c r → LeavesAtMost c r
+meets_fall no_rule_condition = omega arith
+meets_fall (rule_condition {e = value t d} e says) = says_at_most says (calls_fall e)
+meets_fall (rule_condition {e = blocked cause} e says_nothing) = tt
 
 failed_with : (theory : RewriteTheory) (theta : List (Option Tree)) (p : Option Pattern) (c d k : ℕ)
     → Meets theory theta p c (fails d) → c ≤ k → (left : ℕ) × Meets theory theta p k (fails left)
@@ -223,8 +224,9 @@ passed : {R : Type 0} (tells : R → Record → Type 0) (theory : RewriteTheory)
     → RuleSays tells theory rule t c Unused left → Tries theory t (i + 1) rs left r
     → Tries theory t i (rule ∷ rs) c r
 passed tells theory t i c left rule rs r (inl never) rest =
-    unmatched never.0 (subst (λ d. Tries theory t (i + 1) rs d r) never.1 rest)
-passed tells theory t i c left rule rs r (inr failed) rest = condition_fails failed.1 failed.2 rest
+    rule_unmatched never.0 (subst (λ d. Tries theory t (i + 1) rs d r) never.1 rest)
+passed tells theory t i c left rule rs r (inr failed) rest =
+    rule_condition_fails failed.1 failed.2 rest
 
 pub tried-more : {R : Type 0} (tells : R → Record → Type 0) (theory : RewriteTheory) (t : Tree)
     (c i left rest : ℕ) (rule : RewriteRule) → TriedUpTo theory t c i left
@@ -269,7 +271,7 @@ pub trial_stops : {R : Type 0} (tells : R → Record → Type 0) (theory : Rewri
 trial_stops tells theory t c i left rule (Blocked why) tried there h =
     tried (trial_blocked (cause_of why)) (subst
     (λ xs. Tries theory t i xs left (trial_blocked (cause_of why)))
-    (sym (from_here theory.rules i rule there)) (condition_blocked h.1 h.2))
+    (sym (from_here theory.rules i rule there)) (rule_condition_blocked h.1 h.2))
 trial_stops tells theory t c i left rule Memory tried there h = tt
 
 pub tried-all : (theory : RewriteTheory) (t : Tree) (c i left : ℕ) → TriedUpTo theory t c i left
@@ -328,7 +330,7 @@ pub step_made : {R : Type 0} (tells : R → Record → Type 0) (theory : Rewrite
     → slice_get theory.rules number ≡ Some rule
     → Evaluates theory most_nesting theta rule.right left (value u rest)
     → IsRecorded (tells recorded) theory theta rule.right u
-    → Steps theory t c (next u rest)
+    → Steps theory t c (steps_on u rest)
     × TellsStep tells theory t u
     (record { rule = number; subst = theta; cond = cond; right = recorded })
     × IsConfiguration theory u

@@ -5,7 +5,7 @@ use Rattle.rule_core.specs.Theories.{RewriteTheory}
 use Rattle.rule_core.specs.Records.{Record, StepRecord, RecordsStep, result_of}
 use Rattle.rule_core.specs.RecordView.{plain_step}
 use Rattle.rule_core.specs.RunView.{cause_of}
-use Rattle.rule_core.specs.Runs.{Steps, next, stays, stops}
+use Rattle.rule_core.specs.Runs.{Steps, steps_on, stays, stops}
 use Rattle.rule_core.specs.declared.records.StepRecord as code
 use Rattle.fun_eval.specs.RecordLists.{TellsOption}
 use Rattle.rewriter.specs.Configurations.{RunState}
@@ -17,7 +17,7 @@ use Rattle.rewriter.specs.declared.step.Made.{Made}
 -- is as before.
 abbrev pub TakesStep : {S : Type 0} → RewriteTheory → RunState → RunState → Next S → Type 0
 TakesStep theory old new (answer.Made s) =
-    Steps theory old.config old.calls (next new.config new.calls)
+    Steps theory old.config old.calls (steps_on new.config new.calls)
 TakesStep theory old new answer.Stuck = Steps theory old.config old.calls stays × (new ≡ old)
 TakesStep theory old new (answer.Blocked why) =
     Steps theory old.config old.calls (stops (cause_of why)) × (new ≡ old)

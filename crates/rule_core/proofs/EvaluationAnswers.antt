@@ -19,18 +19,18 @@ use Rattle.rule_core.specs.Matching.{OccursIn, OccursInSome, RespectsSorts, Matc
 use Rattle.rule_core.specs.MatchLaws.{AreTermsOf}
 use Rattle.rule_core.specs.Sorting.{HasSort, HaveSorts, IsTermOf, IsSymbol, IsFunction}
 use Rattle.rule_core.specs.Sorting.{HasInjection, HasValue, sort_at}
-use Rattle.rule_core.specs.Evaluation.{Evaluated, value, blocked, AllEvaluated, values, stopped}
-use Rattle.rule_core.specs.Evaluation.{Tested, holds, fails, untested, no_value, closed}
+use Rattle.rule_core.specs.Evaluation.{Evaluated, value, blocked, AllEvaluated, values, all_blocked}
+use Rattle.rule_core.specs.Evaluation.{ConditionOutcome, holds, fails, untested, no_value, closed}
 use Rattle.rule_core.specs.Evaluation.{no_equation, no_call_left, too_high, too_nested, IsTrueValue}
 use Rattle.rule_core.specs.Evaluation.{most_height, IsInjectionSymbol, HasHead, of_constructor}
 use Rattle.rule_core.specs.Evaluation.{of_injection, of_call, built, Says, says_true, says_other}
 use Rattle.rule_core.specs.Evaluation.{says_nothing, Evaluates, bound, itself, nested_out}
-use Rattle.rule_core.specs.Evaluation.{argument_blocked, made, made_too_high, called, EvaluateAll}
-use Rattle.rule_core.specs.Evaluation.{none_left, first_blocked, later_blocked, one_more, Applies}
-use Rattle.rule_core.specs.Evaluation.{by_nothing, without_call, by_hook, hook_fails, by_equations}
-use Rattle.rule_core.specs.Evaluation.{Equates, no_equation_left, unmatched, condition_fails}
-use Rattle.rule_core.specs.Evaluation.{condition_blocked, used, Tests, no_condition, condition}
-use Rattle.rule_core.specs.Evaluation.{EvaluatesIn, no_nesting, inside}
+use Rattle.rule_core.specs.Evaluation.{argument_blocked, made, made_too_high, function_called}
+use Rattle.rule_core.specs.Evaluation.{EvaluateAll, none_left, first_blocked, later_blocked}
+use Rattle.rule_core.specs.Evaluation.{one_more, HasOutcome, by_nothing, without_call, by_hook}
+use Rattle.rule_core.specs.Evaluation.{hook_fails, by_equations, Equates, no_equation_left}
+use Rattle.rule_core.specs.Evaluation.{unmatched, condition_fails, condition_blocked, used, Tests}
+use Rattle.rule_core.specs.Evaluation.{no_condition, condition, EvaluatesIn, no_nesting, inside}
 use Rattle.rule_core.specs.HookCalls.{HookAnswers, HookFails}
 use Rattle.term_core.specs.declared.values.NoValue.{NoValue}
 use Rattle.rule_core.specs.WellSorted.{IsWellSorted, BindsVariablesOf, IsEquationOf, IsCondition}
@@ -101,7 +101,7 @@ AreGoodTrees sig sorts ts refs =
 
 abbrev AreGood : Signature → List ℕ → List SortRef → AllEvaluated → Type 0
 AreGood sig sorts refs (values ts d) = AreGoodTrees sig sorts ts refs
-AreGood sig sorts refs (stopped cause) = Unit {0}
+AreGood sig sorts refs (all_blocked cause) = Unit {0}
 
 abbrev Answer : RewriteTheory → ℕ → List (Option Tree) → Pattern → ℕ → ℕ → Type 0
 Answer theory n theta p c sort =
@@ -114,7 +114,7 @@ AllAnswer theory n theta sorts ps refs c =
 
 abbrev FunctionAnswer : RewriteTheory → ℕ → ℕ → Forest → ℕ → ℕ → Type 0
 FunctionAnswer theory n f ts c sort =
-    (r : Evaluated) × Applies theory n f ts c r × IsGood theory.sig sort r
+    (r : Evaluated) × HasOutcome theory n f ts c r × IsGood theory.sig sort r
 
 abbrev EquationAnswer : RewriteTheory → ℕ → ℕ → List Equation → Forest → ℕ → ℕ → Type 0
 EquationAnswer theory n f es ts c sort =
@@ -148,8 +148,8 @@ joined : {theory : RewriteTheory} {n d : ℕ} {theta : List (Option Tree)} (sort
     → IsGoodTree theory.sig t sort → (r : AllEvaluated) → EvaluateAll theory n theta ps d r
     → AreGood theory.sig sorts refs r
     → AllAnswer theory n theta sorts (more_patterns p ps) (of ∷ refs) c
-joined sorts p ps of refs c sort t at e good (stopped cause) all goods =
-    (stopped cause, later_blocked e all, tt)
+joined sorts p ps of refs c sort t at e good (all_blocked cause) all goods =
+    (all_blocked cause, later_blocked e all, tt)
 joined sorts p ps of refs c sort t at e good (values ts k) all goods =
     let low : height t ≤ most_height = good.2 in
     let lows : heights ts ≤ most_height = goods.2 in (
@@ -164,7 +164,7 @@ first_then : {theory : RewriteTheory} {n : ℕ} {theta : List (Option Tree)} (so
     → IsGood theory.sig sort r → ((d : ℕ) → AllAnswer theory n theta sorts ps refs d)
     → AllAnswer theory n theta sorts (more_patterns p ps) (of ∷ refs) c
 first_then sorts p ps of refs c sort at (blocked cause) e good rest =
-    (stopped cause, first_blocked e, tt)
+    (all_blocked cause, first_blocked e, tt)
 first_then sorts p ps of refs c sort at (value t d) e good rest =
     let others = rest d in joined sorts p ps of refs c sort t at e good others.0 others.1 others.2
 
@@ -208,7 +208,7 @@ constructed : {theory : RewriteTheory} {n : ℕ} {theta : List (Option Tree)} (f
     → sort_at [] info.result ≡ Some sort → (r : AllEvaluated) → EvaluateAll theory n theta ps c r
     → AreGood theory.sig [] info.args.items r
     → Answer theory (suc n) theta (application f ps) c sort
-constructed f ps c sort info i k at (stopped cause) all goods =
+constructed f ps c sort info i k at (all_blocked cause) all goods =
     (blocked cause, argument_blocked of_constructor all, tt)
 constructed f ps c sort info i k at (values ts d) all goods =
     made_answer (application f ps) (node f ts) sort of_constructor all refl
@@ -297,7 +297,7 @@ true_or_not (leaf s (text bytes)) =
 true_or_not (node f ts) = inr (λ h. let k : node f ts ≡ leaf h.0 (truth true) = h.1 in cc)
 true_or_not (inj a b t) = inr (λ h. let k : inj a b t ≡ leaf h.0 (truth true) = h.1 in cc)
 
-pub says_something : (e : Evaluated) → (x : Tested) × Says e x
+pub says_something : (e : Evaluated) → (x : ConditionOutcome) × Says e x
 says_something (blocked cause) = (untested cause, says_nothing)
 says_something (value t c) =
     ⊎_elim (λ (is : IsTrueValue t). (holds c, says_true is))
@@ -307,7 +307,7 @@ test_answer : (theory : RewriteTheory) (n : ℕ) → AnswersWithin theory n
     → (f : ℕ) (variables : List ℕ) (ps : Patterns) (ts : Forest) (theta : List (Option Tree))
     (c : ℕ) → MatchAll theory.sig variables ps ts theta → heights ts ≤ most_height
     → (o : Option Pattern) → IfSome o (IsCondition theory.sig variables ps)
-    → (x : Tested) × Tests theory n f theta o c x
+    → (x : ConditionOutcome) × Tests theory n f theta o c x
 test_answer theory n within f variables ps ts theta c m lows None fits = (holds c, no_condition)
 test_answer theory n within f variables ps ts theta c m lows (Some p) fits =
     let r =
@@ -319,7 +319,7 @@ test_answer theory n within f variables ps ts theta c m lows (Some p) fits =
 -- the outcome of an equation that matches
 matched_answer : (theory : RewriteTheory) (n : ℕ) (f : ℕ) (e : Equation) (es : List Equation)
     (ts : Forest) (theta : List (Option Tree)) (c sort : ℕ)
-    → MatchAll theory.sig e.variables e.arguments ts theta → (x : Tested)
+    → MatchAll theory.sig e.variables e.arguments ts theta → (x : ConditionOutcome)
     → Tests theory n f theta e.condition c x
     → ((d : ℕ)
     → (r : Evaluated) × EvaluatesIn theory n f theta e.right d r × IsGood theory.sig sort r)
@@ -412,7 +412,7 @@ called_answer : (theory : RewriteTheory) → IsWellSorted theory → (n : ℕ) �
     → length sorts ≡ info.params → sort_at sorts info.result ≡ Some sort → (r : AllEvaluated)
     → EvaluateAll theory n theta ps c r → AreGood theory.sig sorts info.args.items r
     → Answer theory (suc n) theta (call f sorts ps) c sort
-called_answer theory good n within theta f sorts ps c sort info i is many at (stopped cause) all
+called_answer theory good n within theta f sorts ps c sort info i is many at (all_blocked cause) all
     goods =
     (blocked cause, argument_blocked of_call all, tt)
 called_answer theory good n within theta f sorts ps c sort info i is many at (values ts d) all
@@ -420,7 +420,7 @@ called_answer theory good n within theta f sorts ps c sort info i is many at (va
     let r =
     function_answer theory good n within f info sorts ts sort i many at goods info.kind refl is
     d in
-    (r.0, called all r.1, r.2)
+    (r.0, function_called all r.1, r.2)
 
 -- ---- all of them
 

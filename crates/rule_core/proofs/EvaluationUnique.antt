@@ -15,13 +15,14 @@ use Rattle.rule_core.specs.Matching.{MatchAll}
 use Rattle.rule_core.specs.Sorting.{IsSymbol, sort_at}
 use Rattle.rule_core.specs.HookCalls.{AreValues, HookAnswers, HookFails}
 use Rattle.rule_core.specs.Evaluation.{Cause, Evaluated, value, blocked, AllEvaluated, values}
-use Rattle.rule_core.specs.Evaluation.{stopped, Tested, holds, fails, untested, no_value, closed}
-use Rattle.rule_core.specs.Evaluation.{no_equation, no_call_left, too_high, too_nested, most_height}
-use Rattle.rule_core.specs.Evaluation.{IsInjectionSymbol, HasHead, of_constructor, of_injection}
-use Rattle.rule_core.specs.Evaluation.{of_call, built, Says, says_true, says_other, says_nothing}
-use Rattle.rule_core.specs.Evaluation.{IsUnmatchedBy, Evaluates, bound, itself, nested_out}
-use Rattle.rule_core.specs.Evaluation.{argument_blocked, made, made_too_high, called, EvaluateAll}
-use Rattle.rule_core.specs.Evaluation.{none_left, first_blocked, later_blocked, one_more, Applies}
+use Rattle.rule_core.specs.Evaluation.{all_blocked, ConditionOutcome, holds, fails, untested}
+use Rattle.rule_core.specs.Evaluation.{no_value, closed, no_equation, no_call_left, too_high}
+use Rattle.rule_core.specs.Evaluation.{too_nested, most_height, IsInjectionSymbol, HasHead}
+use Rattle.rule_core.specs.Evaluation.{of_constructor, of_injection, of_call, built, Says}
+use Rattle.rule_core.specs.Evaluation.{says_true, says_other, says_nothing, IsUnmatchedBy}
+use Rattle.rule_core.specs.Evaluation.{Evaluates, bound, itself, nested_out, argument_blocked, made}
+use Rattle.rule_core.specs.Evaluation.{made_too_high, function_called, EvaluateAll, none_left}
+use Rattle.rule_core.specs.Evaluation.{first_blocked, later_blocked, one_more, HasOutcome}
 use Rattle.rule_core.specs.Evaluation.{by_nothing, without_call, by_hook, hook_fails, by_equations}
 use Rattle.rule_core.specs.Evaluation.{Equates, no_equation_left, unmatched, condition_fails}
 use Rattle.rule_core.specs.Evaluation.{condition_blocked, used, Tests, no_condition, condition}
@@ -89,12 +90,12 @@ data Makes (theory : RewriteTheory) (n f : ℕ) (ts : Forest) (d : ℕ) : Patter
       → Makes theory n f ts d p (value t d)
   passes : {p : Pattern} {t : Tree} → built p ts ≡ Some t → most_height < height t
       → Makes theory n f ts d p (blocked (too_high f))
-  calls : {sorts : List ℕ} {ps : Patterns} {r : Evaluated} → Applies theory n f ts d r
+  calls : {sorts : List ℕ} {ps : Patterns} {r : Evaluated} → HasOutcome theory n f ts d r
       → Makes theory n f ts d (call f sorts ps) r
 
 data Comes (theory : RewriteTheory) (n : ℕ) (theta : List (Option Tree)) (p : Pattern) (f : ℕ)
     (ps : Patterns) (c : ℕ) : Evaluated → Type 0 where
-  from_blocked : {cause : Cause} → EvaluateAll theory n theta ps c (stopped cause)
+  from_blocked : {cause : Cause} → EvaluateAll theory n theta ps c (all_blocked cause)
       → Comes theory n theta p f ps c (blocked cause)
   from_values : {ts : Forest} {d : ℕ} {r : Evaluated}
       → EvaluateAll theory n theta ps c (values ts d) → Makes theory n f ts d p r
@@ -107,7 +108,7 @@ comes h (bound e) = absurd (no_head_of-variable h)
 comes h itself = absurd (no_head_of-value h)
 comes {theory} {n} {c} {theta = theta} h (argument_blocked {cause = cause} i all) =
     from_blocked
-    (subst (λ qs. EvaluateAll theory n theta qs c (stopped cause)) (same_head i h).1 all)
+    (subst (λ qs. EvaluateAll theory n theta qs c (all_blocked cause)) (same_head i h).1 all)
 comes {theory} {n} {c} {theta = theta} h (made {d = d} {ts = ts} i all b le) =
     from_values (subst (λ qs. EvaluateAll theory n theta qs c (values ts d)) (same_head i h).1 all)
     (fits b le)
@@ -116,7 +117,7 @@ comes {theory} {n} {c} {f} {theta = theta} {p = p} h
     from_values (subst (λ qs. EvaluateAll theory n theta qs c (values ts d)) (same_head i h).1 all)
     (subst (λ k. Makes theory n f ts d p (blocked (too_high k))) (sym (same_head i h).0)
     (passes b lt))
-comes of_call (called all applied) = from_values all (calls applied)
+comes of_call (function_called all applied) = from_values all (calls applied)
 
 -- ---- each case by itself, if its parts have one answer
 
@@ -146,12 +147,12 @@ nested_out_only h (nested_out i) = ap (λ k. blocked (too_nested k)) (same_head 
 
 blocked_only : {theory : RewriteTheory} {n c f : ℕ} {theta : List (Option Tree)} {p : Pattern}
     {ps : Patterns} {cause : Cause} {s : Evaluated}
-    → ((r : AllEvaluated) → EvaluateAll theory n theta ps c r → stopped cause ≡ r)
+    → ((r : AllEvaluated) → EvaluateAll theory n theta ps c r → all_blocked cause ≡ r)
     → Comes theory n theta p f ps c s → blocked cause ≡ s
 blocked_only {cause = cause} only (from_blocked {cause = other} all) =
-    let e : stopped cause ≡ stopped other = only (stopped other) all in cc
+    let e : all_blocked cause ≡ all_blocked other = only (all_blocked other) all in cc
 blocked_only {cause = cause} only (from_values {ts = ts} {d = d} all makes) =
-    let e : stopped cause ≡ values ts d = only (values ts d) all in let no : ⊥ = cc in absurd no
+    let e : all_blocked cause ≡ values ts d = only (values ts d) all in let no : ⊥ = cc in absurd no
 
 values_only : {theory : RewriteTheory} {n c f d : ℕ} {theta : List (Option Tree)} {p : Pattern}
     {ps : Patterns} {ts : Forest} {r s : Evaluated}
@@ -159,7 +160,8 @@ values_only : {theory : RewriteTheory} {n c f d : ℕ} {theta : List (Option Tre
     → ((b : Evaluated) → Makes theory n f ts d p b → r ≡ b) → Comes theory n theta p f ps c s
     → r ≡ s
 values_only {d = d} {ts = ts} only makes_only (from_blocked {cause = other} all) =
-    let e : values ts d ≡ stopped other = only (stopped other) all in let no : ⊥ = cc in absurd no
+    let e : values ts d ≡ all_blocked other = only (all_blocked other) all in let no : ⊥ =
+        cc in absurd no
 values_only {theory} {n} {f = f} {d = d} {p = p} {ts = ts} {s = s} only makes_only
     (from_values {ts = us} {d = k} all makes) =
     let e : values ts d ≡ values us k = only (values us k) all in
@@ -194,7 +196,7 @@ passes_only {t = t} b lt (fits {t = u} k le) =
 passes_only b lt (calls applied) = absurd (no_term b)
 
 calls_only : {theory : RewriteTheory} {n f g d : ℕ} {sorts : List ℕ} {ps : Patterns} {ts : Forest}
-    {r s : Evaluated} → ((b : Evaluated) → Applies theory n f ts d b → r ≡ b)
+    {r s : Evaluated} → ((b : Evaluated) → HasOutcome theory n f ts d b → r ≡ b)
     → Makes theory n f ts d (call g sorts ps) s → r ≡ s
 calls_only only (fits b le) = absurd (no_term b)
 calls_only only (passes b lt) = absurd (no_term b)
@@ -207,7 +209,7 @@ none_left_only none_left = refl
 first_blocked_only : {theory : RewriteTheory} {n c : ℕ} {theta : List (Option Tree)} {p : Pattern}
     {ps : Patterns} {cause : Cause} {s : AllEvaluated}
     → ((r : Evaluated) → Evaluates theory n theta p c r → blocked cause ≡ r)
-    → EvaluateAll theory n theta (more_patterns p ps) c s → stopped cause ≡ s
+    → EvaluateAll theory n theta (more_patterns p ps) c s → all_blocked cause ≡ s
 first_blocked_only {cause = cause} only (first_blocked {cause = other} e) =
     let same : blocked cause ≡ blocked other = only (blocked other) e in cc
 first_blocked_only {cause = cause} only (later_blocked {d = d} {t = t} e all) =
@@ -218,7 +220,7 @@ first_blocked_only {cause = cause} only (one_more {d = d} {t = t} e all) =
 -- a tree in front of the outcome of the others
 abbrev behind : Tree → AllEvaluated → AllEvaluated
 behind t (values ts c) = values (more_trees t ts) c
-behind t (stopped cause) = stopped cause
+behind t (all_blocked cause) = all_blocked cause
 
 behind_only : {theory : RewriteTheory} {n c d : ℕ} {theta : List (Option Tree)} {p : Pattern}
     {ps : Patterns} {t : Tree} {r s : AllEvaluated}
@@ -231,8 +233,8 @@ behind_only {theory} {n} {d = d} {theta = theta} {ps = ps} {t = t} only rest
     (later_blocked {d = k} {t = u} {cause = other} e all) =
     let same : value t d ≡ value u k = only (value u k) e in
     let calls_same : k ≡ d = cc in
-    ap (behind t) (rest (stopped other)
-    (subst (λ j. EvaluateAll theory n theta ps j (stopped other)) calls_same all))
+    ap (behind t) (rest (all_blocked other)
+    (subst (λ j. EvaluateAll theory n theta ps j (all_blocked other)) calls_same all))
 behind_only {theory} {n} {d = d} {theta = theta} {ps = ps} {t = t} only rest
     (one_more {d = k} {e = left} {t = u} {ts = ts} e all) =
     let same : value t d ≡ value u k = only (value u k) e in
@@ -303,7 +305,7 @@ data AppliedAs (theory : RewriteTheory) (n f : ℕ) (ts : Forest) (info : SymInf
       → Equates theory n f (equations_of theory f) ts c r → AppliedAs theory n f ts info (suc c) r
 
 applied_as : {theory : RewriteTheory} {n f c : ℕ} {ts : Forest} {r : Evaluated} (info : SymInfo)
-    → IsSymbol theory.sig f info → Applies theory n f ts c r → AppliedAs theory n f ts info c r
+    → IsSymbol theory.sig f info → HasOutcome theory n f ts c r → AppliedAs theory n f ts info c r
 applied_as {theory} {f = f} info i (by_nothing {info = other} j k) =
     rw (same_symbol theory.sig f info other i j) (as_closed k)
 applied_as {theory} {f = f} info i (without_call {info = other} j k) =
@@ -423,7 +425,7 @@ unmatched_only never only (used {theta = sigma} l test right) = absurd (never si
 
 fails_only : {theory : RewriteTheory} {n f c d : ℕ} {ts : Forest} {e : Equation}
     {es : List Equation} {theta : List (Option Tree)} {r s : Evaluated}
-    → ((x : Tested) → Tests theory n f theta e.condition c x → fails d ≡ x)
+    → ((x : ConditionOutcome) → Tests theory n f theta e.condition c x → fails d ≡ x)
     → ((a : Evaluated) → Equates theory n f es ts d a → r ≡ a) → Tried theory n f ts e es theta c s
     → r ≡ s
 fails_only {theory} {n} {f} {d = d} {ts = ts} {es = es} {s = s} test only
@@ -438,7 +440,7 @@ fails_only {d = d} test only (tried_holds {d = k} t right) =
 
 untested_only : {theory : RewriteTheory} {n f c : ℕ} {ts : Forest} {e : Equation}
     {es : List Equation} {theta : List (Option Tree)} {cause : Cause} {s : Evaluated}
-    → ((x : Tested) → Tests theory n f theta e.condition c x → untested cause ≡ x)
+    → ((x : ConditionOutcome) → Tests theory n f theta e.condition c x → untested cause ≡ x)
     → Tried theory n f ts e es theta c s → blocked cause ≡ s
 untested_only {cause = cause} test (tried_fails {d = k} t others) =
     let same : untested cause ≡ fails k = test (fails k) t in let no : ⊥ = cc in absurd no
@@ -449,7 +451,7 @@ untested_only {cause = cause} test (tried_holds {d = k} t right) =
 
 holds_only : {theory : RewriteTheory} {n f c d : ℕ} {ts : Forest} {e : Equation}
     {es : List Equation} {theta : List (Option Tree)} {r s : Evaluated}
-    → ((x : Tested) → Tests theory n f theta e.condition c x → holds d ≡ x)
+    → ((x : ConditionOutcome) → Tests theory n f theta e.condition c x → holds d ≡ x)
     → ((a : Evaluated) → EvaluatesIn theory n f theta e.right d a → r ≡ a)
     → Tried theory n f ts e es theta c s → r ≡ s
 holds_only {d = d} test only (tried_fails {d = k} t others) =
@@ -463,7 +465,7 @@ holds_only {theory} {n} {f} {d = d} {e = e} {theta = theta} {s = s} test only
     only s (subst (λ j. EvaluatesIn theory n f theta e.right j s) calls_same right)
 
 -- a value has only one meaning for a condition
-pub says_only : {e : Evaluated} {x y : Tested} → Says e x → Says e y → x ≡ y
+pub says_only : {e : Evaluated} {x y : ConditionOutcome} → Says e x → Says e y → x ≡ y
 says_only (says_true a) (says_true b) = refl
 says_only (says_true a) (says_other b) = absurd (b a)
 says_only (says_other a) (says_true b) = absurd (a b)
@@ -471,13 +473,14 @@ says_only (says_other a) (says_other b) = refl
 says_only says_nothing says_nothing = refl
 
 condition_only : {theory : RewriteTheory} {n f c : ℕ} {theta : List (Option Tree)} {p : Pattern}
-    {e : Evaluated} {x y : Tested}
+    {e : Evaluated} {x y : ConditionOutcome}
     → ((a : Evaluated) → EvaluatesIn theory n f theta p c a → e ≡ a) → Says e x
     → Tests theory n f theta (Some p) c y → x ≡ y
 condition_only {y = y} only says (condition {e = other} ev told) =
     says_only says (subst (λ a. Says a y) (sym (only other ev)) told)
 
-no_condition_only : {theory : RewriteTheory} {n f c : ℕ} {theta : List (Option Tree)} {y : Tested}
+no_condition_only : {theory : RewriteTheory} {n f c : ℕ} {theta : List (Option Tree)}
+    {y : ConditionOutcome}
     → Tests theory n f theta None c y → holds c ≡ y
 no_condition_only no_condition = refl
 
@@ -505,7 +508,7 @@ mutual
       values_only (all_unique theory once all) (λ r m. fits_only b le m) (comes h d)
   evaluation_unique theory once (made_too_high h all b lt) s d =
       values_only (all_unique theory once all) (λ r m. passes_only b lt m) (comes h d)
-  evaluation_unique theory once (called all applied) s d =
+  evaluation_unique theory once (function_called all applied) s d =
       values_only (all_unique theory once all)
       (λ r m. calls_only (applies_unique theory once applied) m) (comes of_call d)
 
@@ -522,8 +525,8 @@ mutual
       behind_only (evaluation_unique theory once e) (all_unique theory once all) d
 
   pub applies_unique : (theory : RewriteTheory) (once : AllMatchOnce theory) {n f c : ℕ}
-      {ts : Forest} {r : Evaluated} → Applies theory n f ts c r → (s : Evaluated)
-      → Applies theory n f ts c s → r ≡ s
+      {ts : Forest} {r : Evaluated} → HasOutcome theory n f ts c r → (s : Evaluated)
+      → HasOutcome theory n f ts c s → r ≡ s
   applies_unique theory once (by_nothing {info = info} i k) s d =
       closed_only k (applied_as info i d)
   applies_unique theory once (without_call {info = info} i k) s d =
@@ -554,8 +557,8 @@ mutual
       (tried theta (all_first (MatchesOnce theory) e es each) m d)
 
   pub tests_unique : (theory : RewriteTheory) (once : AllMatchOnce theory) {n f c : ℕ}
-      {theta : List (Option Tree)} {p : Option Pattern} {r : Tested}
-      → Tests theory n f theta p c r → (s : Tested) → Tests theory n f theta p c s → r ≡ s
+      {theta : List (Option Tree)} {p : Option Pattern} {r : ConditionOutcome}
+      → Tests theory n f theta p c r → (s : ConditionOutcome) → Tests theory n f theta p c s → r ≡ s
   tests_unique theory once no_condition s d = no_condition_only d
   tests_unique theory once (condition e says) s d =
       condition_only (within_unique theory once e) says d

@@ -6,13 +6,12 @@ use Rattle.std.proofs.lemmas.Bool.{cases_lt}
 use Rattle.std.proofs.lemmas.Option.{slice_get-map}
 use Rattle.std.proofs.Math.Nat.{eq-or-lt_of_le}
 use Rattle.term_core.specs.Terms.{Tree}
-use Rattle.rule_core.specs.Rules.{RewriteRule, ComesBefore}
+use Rattle.rule_core.specs.Rules.{RewriteRule, ComesBefore, AreInOrder}
 use Rattle.rule_core.specs.Theories.{RewriteTheory}
 use Rattle.rule_core.specs.Evaluation.{holds}
 use Rattle.rule_core.specs.FirstRule.{Matches, Meets, applies, none_applies, Tries, no_rule_left}
-use Rattle.rule_core.specs.FirstRule.{unmatched, condition_fails, condition_holds}
+use Rattle.rule_core.specs.FirstRule.{rule_unmatched, rule_condition_fails, condition_holds}
 use Rattle.rule_core.specs.RunLaws.{IsPassedOver, FirstApplies, NoneApplies}
-use Rattle.rule_core.specs.Rules.{AreInOrder}
 use Rattle.rule_core.proofs.EvaluationUnique.{all_first, all_rest}
 
 pub all_at : {X : Type 0} (P : X → Type 0) (xs : List X) (i : ℕ) (x : X) → All P xs
@@ -57,8 +56,8 @@ one_later {theory} {t} {rules} first over a = record {
 pub applied : {theory : RewriteTheory} {t : Tree} {i c j d : ℕ} {rules : List RewriteRule}
     {rule : RewriteRule} {theta : List (Option Tree)}
     → Tries theory t i rules c (applies j rule theta d) → Applied theory t i j d rules rule theta
-applied (unmatched {rule = first} never others) = one_later first (inl never) (applied others)
-applied (condition_fails {c = c} {d = d} {rule = first} {theta = theta} m test others) =
+applied (rule_unmatched {rule = first} never others) = one_later first (inl never) (applied others)
+applied (rule_condition_fails {c = c} {d = d} {rule = first} {theta = theta} m test others) =
     one_later first (inr (theta, c, d, m, test)) (applied others)
 applied (condition_holds {c = c} {d = d} m test) = record {
   place = 0;
@@ -139,16 +138,18 @@ passed_over : {theory : RewriteTheory} {t : Tree} {i c : ℕ} {rules : List Rewr
     → slice_get rules j ≡ Some other → IsPassedOver theory t other
 passed_over no_rule_left j other there =
     let k : None ≡ Some other = there in let no : ⊥ = cc in absurd no
-passed_over {theory} {t} (unmatched {rule = rule} never others) zero other there =
+passed_over {theory} {t} (rule_unmatched {rule = rule} never others) zero other there =
     let k : Some rule ≡ Some other = there in
     let same : rule ≡ other = cc in subst (IsPassedOver theory t) same (inl never)
-passed_over (unmatched never others) (suc j) other there = passed_over others j other there
+passed_over (rule_unmatched never others) (suc j) other there = passed_over others j other there
 passed_over {theory} {t}
-    (condition_fails {c = c} {d = d} {rule = rule} {theta = theta} m test others) zero other there =
+    (rule_condition_fails {c = c} {d = d} {rule = rule} {theta = theta} m test others) zero other
+    there =
     let k : Some rule ≡ Some other = there in
     let same : rule ≡ other = cc in
     subst (IsPassedOver theory t) same (inr (theta, c, d, m, test))
-passed_over (condition_fails m test others) (suc j) other there = passed_over others j other there
+passed_over (rule_condition_fails m test others) (suc j) other there =
+    passed_over others j other there
 
 pub none_applies_over : NoneApplies
 none_applies_over theory t c j other tries there = passed_over tries j other there

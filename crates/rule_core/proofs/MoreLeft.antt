@@ -5,26 +5,26 @@ use Rattle.term_core.specs.Terms.{Tree, Forest}
 use Rattle.term_core.specs.Patterns.{Pattern, Patterns}
 use Rattle.rule_core.specs.Rules.{Equation}
 use Rattle.rule_core.specs.Theories.{RewriteTheory}
-use Rattle.rule_core.specs.Evaluation.{value, blocked, values, Tested, holds, fails, untested, Says}
-use Rattle.rule_core.specs.Evaluation.{says_true, says_other, says_nothing, Evaluates, bound}
-use Rattle.rule_core.specs.Evaluation.{itself, made, called, EvaluateAll, none_left, one_more}
-use Rattle.rule_core.specs.Evaluation.{Applies, by_hook, by_equations, Equates, unmatched}
-use Rattle.rule_core.specs.Evaluation.{condition_fails, used, Tests, no_condition, condition}
-use Rattle.rule_core.specs.Evaluation.{EvaluatesIn, inside}
+use Rattle.rule_core.specs.Evaluation.{value, blocked, values, ConditionOutcome, holds, fails}
+use Rattle.rule_core.specs.Evaluation.{untested, Says, says_true, says_other, says_nothing}
+use Rattle.rule_core.specs.Evaluation.{Evaluates, bound, itself, made, function_called, EvaluateAll}
+use Rattle.rule_core.specs.Evaluation.{none_left, one_more, HasOutcome, by_hook, by_equations}
+use Rattle.rule_core.specs.Evaluation.{Equates, unmatched, condition_fails, used, Tests}
+use Rattle.rule_core.specs.Evaluation.{no_condition, condition, EvaluatesIn, inside}
 
 -- k more calls are left
-abbrev pub with_calls : ℕ → Tested → Tested
+abbrev pub with_calls : ℕ → ConditionOutcome → ConditionOutcome
 with_calls k (holds c) = holds (c + k)
 with_calls k (fails c) = fails (c + k)
 with_calls k (untested cause) = untested cause
 
 -- a condition holds or fails, and is not blocked
-abbrev pub IsTold : Tested → Type 0
+abbrev pub IsTold : ConditionOutcome → Type 0
 IsTold (holds c) = Unit {0}
 IsTold (fails c) = Unit {0}
 IsTold (untested cause) = ⊥
 
-pub more_says : {c : ℕ} (k : ℕ) {t : Tree} {r : Tested} → Says (value t c) r
+pub more_says : {c : ℕ} (k : ℕ) {t : Tree} {r : ConditionOutcome} → Says (value t c) r
     → Says (value t (c + k)) (with_calls k r)
 more_says k (says_true is) = says_true is
 more_says k (says_other other) = says_other other
@@ -38,9 +38,10 @@ mutual
   evaluates_more theory k (made h all b low) zero le = absurd (omega arith)
   evaluates_more theory k (made h all b low) (suc m) le =
       made h (all_more theory k all m (omega arith)) b low
-  evaluates_more theory k (called all applied) zero le = absurd (omega arith)
-  evaluates_more theory k (called all applied) (suc m) le =
-      called (all_more theory k all m (omega arith)) (applies_more theory k applied m (omega arith))
+  evaluates_more theory k (function_called all applied) zero le = absurd (omega arith)
+  evaluates_more theory k (function_called all applied) (suc m) le =
+      function_called (all_more theory k all m (omega arith)) (applies_more theory k applied m
+          (omega arith))
 
   pub all_more : (theory : RewriteTheory) (k : ℕ) {n c d : ℕ} {theta : List (Option Tree)}
       {ps : Patterns} {ts : Forest} → EvaluateAll theory n theta ps c (values ts d) → (m : ℕ)
@@ -50,8 +51,8 @@ mutual
       one_more (evaluates_more theory k e m le) (all_more theory k all m le)
 
   pub applies_more : (theory : RewriteTheory) (k : ℕ) {n f c d : ℕ} {ts : Forest} {t : Tree}
-      → Applies theory n f ts c (value t d) → (m : ℕ) → n ≤ m
-      → Applies theory m f ts (c + k) (value t (d + k))
+      → HasOutcome theory n f ts c (value t d) → (m : ℕ) → n ≤ m
+      → HasOutcome theory m f ts (c + k) (value t (d + k))
   applies_more theory k (by_hook {c = c} i a s) m le =
       let e : suc c + k ≡ suc (c + k) = omega arith in rw e (by_hook i a s)
   applies_more theory k (by_equations {c = c} i is e) m le =
@@ -69,7 +70,8 @@ mutual
       used match (tests_more theory k test tt m le) (within_more theory k right m le)
 
   pub tests_more : (theory : RewriteTheory) (k : ℕ) {n f c : ℕ} {theta : List (Option Tree)}
-      {p : Option Pattern} {r : Tested} → Tests theory n f theta p c r → IsTold r → (m : ℕ)
+      {p : Option Pattern} {r : ConditionOutcome} → Tests theory n f theta p c r → IsTold r
+          → (m : ℕ)
       → n ≤ m → Tests theory m f theta p (c + k) (with_calls k r)
   tests_more theory k no_condition told m le = no_condition
   tests_more theory k (condition {e = value t d} e says) told m le =

@@ -6,12 +6,13 @@ use Rattle.term_core.specs.Patterns.{Pattern, Patterns, call}
 use Rattle.rule_core.specs.Rules.{Equation}
 use Rattle.rule_core.specs.Theories.{RewriteTheory, equations_of}
 use Rattle.rule_core.specs.Matching.{MatchAll}
-use Rattle.rule_core.specs.Evaluation.{value, blocked, values, Tested, holds, fails, untested}
-use Rattle.rule_core.specs.Evaluation.{built, says_true, says_other, says_nothing, Evaluates, bound}
-use Rattle.rule_core.specs.Evaluation.{itself, made, called, EvaluateAll, none_left, one_more}
-use Rattle.rule_core.specs.Evaluation.{Applies, by_hook, by_equations, Equates, unmatched}
-use Rattle.rule_core.specs.Evaluation.{condition_fails, used, Tests, no_condition, condition}
-use Rattle.rule_core.specs.Evaluation.{EvaluatesIn, inside, IsTrueValue, Says}
+use Rattle.rule_core.specs.Evaluation.{value, blocked, values, ConditionOutcome, holds, fails}
+use Rattle.rule_core.specs.Evaluation.{untested, built, says_true, says_other, says_nothing}
+use Rattle.rule_core.specs.Evaluation.{Evaluates, bound, itself, made, function_called, EvaluateAll}
+use Rattle.rule_core.specs.Evaluation.{none_left, one_more, HasOutcome, by_hook, by_equations}
+use Rattle.rule_core.specs.Evaluation.{Equates, unmatched, condition_fails, used, Tests}
+use Rattle.rule_core.specs.Evaluation.{no_condition, condition, EvaluatesIn, inside, IsTrueValue}
+use Rattle.rule_core.specs.Evaluation.{Says}
 use Rattle.rule_core.specs.FirstRule.{most_nesting}
 use Rattle.rule_core.specs.HookCalls.{HookAnswers}
 use Rattle.rule_core.specs.Records.{Record, RecordList, no_record, more_records, OptionalRecord}
@@ -24,12 +25,13 @@ use Rattle.rule_core.specs.declared.signature.SymKind.TheVariants.{Equations}
 use Rattle.rule_core.proofs.MoreLeft.{tests_more}
 
 -- the number of calls that a condition leaves, if it is not blocked
-abbrev pub LeavesAtMost : ℕ → Tested → Type 0
+abbrev pub LeavesAtMost : ℕ → ConditionOutcome → Type 0
 LeavesAtMost c (holds d) = d ≤ c
 LeavesAtMost c (fails d) = d ≤ c
 LeavesAtMost c (untested cause) = Unit {0}
 
-pub says_at_most : {c d : ℕ} {t : Tree} {r : Tested} → Says (value t d) r → d ≤ c → LeavesAtMost c r
+pub says_at_most : {c d : ℕ} {t : Tree} {r : ConditionOutcome} → Says (value t d) r → d ≤ c
+    → LeavesAtMost c r
 says_at_most (says_true is) le = le
 says_at_most (says_other other) le = le
 
@@ -39,7 +41,8 @@ mutual
   calls_fall (bound e) = omega arith
   calls_fall itself = omega arith
   calls_fall (made h all b low) = all_calls_fall all
-  calls_fall (called all applied) = omega (arith, all_calls_fall all, applied_calls_fall applied)
+  calls_fall (function_called all applied) = omega (arith, all_calls_fall all,
+      applied_calls_fall applied)
 
   pub all_calls_fall : {theory : RewriteTheory} {n c d : ℕ} {theta : List (Option Tree)}
       {ps : Patterns} {ts : Forest} → EvaluateAll theory n theta ps c (values ts d) → d ≤ c
@@ -47,7 +50,7 @@ mutual
   all_calls_fall (one_more e all) = omega (arith, calls_fall e, all_calls_fall all)
 
   applied_calls_fall : {theory : RewriteTheory} {n f c d : ℕ} {ts : Forest} {t : Tree}
-      → Applies theory n f ts c (value t d) → d ≤ c
+      → HasOutcome theory n f ts c (value t d) → d ≤ c
   applied_calls_fall (by_hook i a s) = omega arith
   applied_calls_fall (by_equations i is e) = omega (arith, equated_calls_fall e)
 
@@ -60,7 +63,7 @@ mutual
       let le : k ≤ c = tested_calls_fall test in omega (arith, le, within_calls_fall right)
 
   tested_calls_fall : {theory : RewriteTheory} {n f c : ℕ} {theta : List (Option Tree)}
-      {p : Option Pattern} {r : Tested} → Tests theory n f theta p c r → LeavesAtMost c r
+      {p : Option Pattern} {r : ConditionOutcome} → Tests theory n f theta p c r → LeavesAtMost c r
   tested_calls_fall no_condition = omega arith
   tested_calls_fall (condition {e = value t d} e says) = says_at_most says (within_calls_fall e)
   tested_calls_fall (condition {e = blocked cause} e says_nothing) = tt
@@ -77,7 +80,8 @@ abbrev RecordsOf : RewriteTheory → List (Option Tree) → Patterns → Forest 
 RecordsOf theory theta ps ts =
     (rs : RecordList) × RecordAll theory theta ps rs × (results_of rs ≡ ts)
 
-abbrev pub ConditionRecord : RewriteTheory → List (Option Tree) → Option Pattern → Tested → Type 0
+abbrev pub ConditionRecord : RewriteTheory → List (Option Tree) → Option Pattern → ConditionOutcome
+    → Type 0
 ConditionRecord theory theta p (holds c) = (o : OptionalRecord) × RecordsCondition theory theta p o
 ConditionRecord theory theta p (fails c) = Unit {0}
 ConditionRecord theory theta p (untested cause) = Unit {0}
@@ -199,7 +203,7 @@ by_equation_record theory f info {ts = ts} is defined sorts ps args r =
     )
 
 pub condition_record : (theory : RewriteTheory) {theta : List (Option Tree)} (p : Pattern) {d : ℕ}
-    {t : Tree} {r : Tested} → Says (value t d) r → RecordOf theory theta p t
+    {t : Tree} {r : ConditionOutcome} → Says (value t d) r → RecordOf theory theta p t
     → ConditionRecord theory theta (Some p) r
 condition_record theory p (says_true is) kept_value =
     (conditional kept_value.0, (p, refl, kept_value.1, subst IsTrueValue (sym kept_value.2) is))
@@ -215,7 +219,7 @@ mutual
   has_record theory (made {f = f} {p = p} {ps = ps} {t = t} h all b low) le few =
       let args = have_records theory all (omega arith) few in
       (kept.made args.0 t, (f, ps, h, ap (built p) args.2 ∙ b, low, args.1), refl)
-  has_record theory (called {c = c} {d = d} {sorts = sorts} {ps = ps} all applied) le few =
+  has_record theory (function_called {c = c} {d = d} {sorts = sorts} {ps = ps} all applied) le few =
       let fewer : d ≤ c = all_calls_fall all in
       has_call_record theory applied (omega arith) (le_trans fewer few) sorts ps
       (have_records theory all (omega arith) few)
@@ -234,7 +238,7 @@ mutual
       )
 
   has_call_record : (theory : RewriteTheory) {n f c d : ℕ} {ts : Forest} {t : Tree}
-      → Applies theory n f ts c (value t d) → n ≤ most_nesting → c ≤ most_calls
+      → HasOutcome theory n f ts c (value t d) → n ≤ most_nesting → c ≤ most_calls
       → {theta : List (Option Tree)} (sorts : List ℕ) (ps : Patterns) → RecordsOf theory theta ps ts
       → RecordOf theory theta (call f sorts ps) t
   has_call_record theory (by_hook {f = f} {sort = sort} {info = info} {v = v} {row = row} i a s) le
@@ -279,7 +283,7 @@ mutual
       first_used e es theta match o.0 o.1 (has_record_within theory right le (le_trans fewer few))
 
   has_condition_record : (theory : RewriteTheory) {n f c : ℕ} {theta : List (Option Tree)}
-      {p : Option Pattern} {r : Tested} → Tests theory n f theta p c r → n ≤ most_nesting
+      {p : Option Pattern} {r : ConditionOutcome} → Tests theory n f theta p c r → n ≤ most_nesting
       → c ≤ most_calls → ConditionRecord theory theta p r
   has_condition_record theory no_condition le few = (unconditional, refl)
   has_condition_record theory (condition {p = p} {e = value t d} e says) le few =

@@ -7,10 +7,10 @@ use Rattle.rule_core.specs.Rules.{Equation}
 use Rattle.rule_core.specs.Theories.{RewriteTheory, equations_of}
 use Rattle.rule_core.specs.Matching.{MatchAll}
 use Rattle.rule_core.specs.Evaluation.{value, values, holds, fails, says_true, Evaluates, bound}
-use Rattle.rule_core.specs.Evaluation.{itself, made, called, EvaluateAll, none_left, one_more}
-use Rattle.rule_core.specs.Evaluation.{Applies, by_hook, by_equations, Equates, unmatched}
-use Rattle.rule_core.specs.Evaluation.{condition_fails, used, Tests, no_condition, condition}
-use Rattle.rule_core.specs.Evaluation.{EvaluatesIn, inside}
+use Rattle.rule_core.specs.Evaluation.{itself, made, function_called, EvaluateAll, none_left}
+use Rattle.rule_core.specs.Evaluation.{one_more, HasOutcome, by_hook, by_equations, Equates}
+use Rattle.rule_core.specs.Evaluation.{unmatched, condition_fails, used, Tests, no_condition}
+use Rattle.rule_core.specs.Evaluation.{condition, EvaluatesIn, inside}
 use Rattle.rule_core.specs.FirstRule.{most_nesting}
 use Rattle.rule_core.specs.Records.{Record, RecordList, no_record, more_records, OptionalRecord}
 use Rattle.rule_core.specs.Records.{unconditional, conditional, result_of, results_of, most_calls}
@@ -56,20 +56,20 @@ one_more_somehow theory theta p ps t ts first others =
 -- a call, from its arguments and the result of the function
 called_somehow : (theory : RewriteTheory) (theta : List (Option Tree)) (f : ℕ) (sorts : List ℕ)
     (ps : Patterns) (ts : Forest) (t : Tree) (m c d : ℕ) → Somehow (ValuesBy theory theta ps ts)
-    → ((n k : ℕ) → m ≤ n → Applies theory n f ts (c + k) (value t (d + k)))
+    → ((n k : ℕ) → m ≤ n → HasOutcome theory n f ts (c + k) (value t (d + k)))
     → Somehow (ValueBy theory theta (call f sorts ps) t)
 called_somehow theory theta f sorts ps ts t m c d all applied =
     let n : ℕ = m + all.0 in
     let arguments : EvaluateAll theory n theta ps (all.1 + c) (values ts (all.2 + c)) =
     all_more theory c all.3 n (omega arith) in
     let swap : all.2 + c ≡ c + all.2 = omega arith in
-    let value_there : Applies theory n f ts (c + all.2) (value t (d + all.2)) =
+    let value_there : HasOutcome theory n f ts (c + all.2) (value t (d + all.2)) =
     applied n all.2 (omega arith) in (
       suc n,
       all.1 + c,
       d
           + all.2,
-      called (subst (λ k. EvaluateAll theory n theta ps (all.1 + c) (values ts k)) swap
+      function_called (subst (λ k. EvaluateAll theory n theta ps (all.1 + c) (values ts k)) swap
           arguments) value_there,
     )
 

@@ -9,15 +9,16 @@ use Rattle.rule_core.specs.Rules.{RewriteRule}
 use Rattle.rule_core.specs.Theories.{RewriteTheory}
 use Rattle.rule_core.specs.Matching.{MatchAll, NoneMatches}
 use Rattle.rule_core.specs.Sorting.{HasSort}
-use Rattle.rule_core.specs.Evaluation.{Evaluated, value, blocked, Tested, holds, fails, untested}
-use Rattle.rule_core.specs.Evaluation.{says_true, says_other, IsTrueValue, Evaluates, most_height}
-use Rattle.rule_core.specs.FirstRule.{most_nesting, Matches, IsUnmatched, Meets, no_condition}
-use Rattle.rule_core.specs.FirstRule.{condition, Trial, applies, none_applies, trial_blocked, Tries}
-use Rattle.rule_core.specs.FirstRule.{no_rule_left, unmatched, condition_fails, condition_blocked}
-use Rattle.rule_core.specs.FirstRule.{condition_holds}
-use Rattle.rule_core.specs.Runs.{Stepped, next, stays, stops, Steps, by_rule, by_none, in_condition}
-use Rattle.rule_core.specs.Runs.{in_right_side, Reaches, at_start, after_step, Run, stuck, limited}
-use Rattle.rule_core.specs.Runs.{stopped, unstarted, IsRunOf}
+use Rattle.rule_core.specs.Evaluation.{Evaluated, value, blocked, ConditionOutcome, holds, fails}
+use Rattle.rule_core.specs.Evaluation.{untested, says_true, says_other, IsTrueValue, Evaluates}
+use Rattle.rule_core.specs.Evaluation.{most_height}
+use Rattle.rule_core.specs.FirstRule.{most_nesting, Matches, IsUnmatched, Meets, no_rule_condition}
+use Rattle.rule_core.specs.FirstRule.{rule_condition, Trial, applies, none_applies, trial_blocked}
+use Rattle.rule_core.specs.FirstRule.{Tries, no_rule_left, rule_unmatched, rule_condition_fails}
+use Rattle.rule_core.specs.FirstRule.{rule_condition_blocked, condition_holds}
+use Rattle.rule_core.specs.Runs.{Stepped, steps_on, stays, stops, Steps, by_rule, by_none}
+use Rattle.rule_core.specs.Runs.{in_condition, in_right_side, Reaches, at_start, after_step, Run}
+use Rattle.rule_core.specs.Runs.{stuck, limited, stopped, unstarted, IsRunOf}
 use Rattle.rule_core.specs.RunLaws.{HasRun, StepRecordDetermines}
 use Rattle.rule_core.specs.Records.{StepRecord, RecordsStep, RecordsCondition, OptionalRecord}
 use Rattle.rule_core.specs.Records.{unconditional, conditional, result_of}
@@ -49,26 +50,27 @@ TrialAnswer theory sort t i rules c =
 meets_answer : (theory : RewriteTheory) → IsWellSorted theory
     → (variables : List ℕ) (ps : Patterns) (ts : Forest) (theta : List (Option Tree)) (c : ℕ)
     → MatchAll theory.sig variables ps ts theta → heights ts ≤ most_height → (o : Option Pattern)
-    → IfSome o (IsCondition theory.sig variables ps) → (x : Tested) × Meets theory theta o c x
-meets_answer theory good variables ps ts theta c m lows None fits = (holds c, no_condition)
+    → IfSome o (IsCondition theory.sig variables ps) → (x : ConditionOutcome)
+    × Meets theory theta o c x
+meets_answer theory good variables ps ts theta c m lows None fits = (holds c, no_rule_condition)
 meets_answer theory good variables ps ts theta c m lows (Some p) fits =
     let r =
     (answers theory good most_nesting).0 variables theta p fits.0 c fits.5
     (serves_match theory.sig variables ps ts theta p m lows fits.6) in
     let x = says_something r.0 in
-    (x.0, condition r.1 x.1)
+    (x.0, rule_condition r.1 x.1)
 
 matched_rule : (theory : RewriteTheory) (sort : ℕ) (t : Tree) (i c : ℕ) (rule : RewriteRule)
     (rules : List RewriteRule) (theta : List (Option Tree)) → IsRuleOf theory.sig sort rule
-    → Matches theory rule t theta → (x : Tested) → Meets theory theta rule.condition c x
+    → Matches theory rule t theta → (x : ConditionOutcome) → Meets theory theta rule.condition c x
     → ((d : ℕ) → TrialAnswer theory sort t (i + 1) rules d)
     → TrialAnswer theory sort t i (rule ∷ rules) c
 matched_rule theory sort t i c rule rules theta fits m (holds d) test others =
     (applies i rule theta d, condition_holds m test, (fits, m))
 matched_rule theory sort t i c rule rules theta fits m (fails d) test others =
-    let r = others d in (r.0, condition_fails m test r.1, r.2)
+    let r = others d in (r.0, rule_condition_fails m test r.1, r.2)
 matched_rule theory sort t i c rule rules theta fits m (untested cause) test others =
-    (trial_blocked cause, condition_blocked m test, tt)
+    (trial_blocked cause, rule_condition_blocked m test, tt)
 
 trial_answer : (theory : RewriteTheory) → IsWellSorted theory → (sort : ℕ) (t : Tree)
     → IsGoodTree theory.sig t sort → (rules : List RewriteRule)
@@ -91,7 +93,7 @@ trial_answer theory good sort t fine (rule ∷ rules) each i c =
     matched_rule theory sort t i c rule rules hit.0 fits hit.1 x.0 x.1 others)
     (λ (never : NoneMatches theory.sig rule.variables (more_patterns rule.left
     no_pattern) (more_trees t no_tree)).
-    let r = others c in (r.0, unmatched never r.1, r.2))
+    let r = others c in (r.0, rule_unmatched never r.1, r.2))
     (match_is_decidable theory.sig rule.variables [] (more_patterns rule.left no_pattern)
     (Sort (record { 0 = sort }) ∷ []) (more_trees t no_tree) good.signature.no_cycle
     (sort, refl, fits.left, tt) (sort, refl, fine.0, tt) (fine.1, tt))
@@ -99,7 +101,7 @@ trial_answer theory good sort t fine (rule ∷ rules) each i c =
 -- ---- steps
 
 abbrev IsGoodStep : RewriteTheory → ℕ → Stepped → Type 0
-IsGoodStep theory sort (next u d) = IsGoodTree theory.sig u sort
+IsGoodStep theory sort (steps_on u d) = IsGoodTree theory.sig u sort
 IsGoodStep theory sort stays = Unit {0}
 IsGoodStep theory sort (stops cause) = Unit {0}
 
@@ -111,7 +113,7 @@ right_answer : (theory : RewriteTheory) (sort : ℕ) (t : Tree) (c i d : ℕ) (r
     → (r : Evaluated) → Evaluates theory most_nesting theta rule.right d r
     → IsGood theory.sig sort r → StepAnswer theory sort t c
 right_answer theory sort t c i d rule theta tries (value u e) right fine =
-    (next u e, by_rule tries right, fine)
+    (steps_on u e, by_rule tries right, fine)
 right_answer theory sort t c i d rule theta tries (blocked cause) right fine =
     (stops cause, in_right_side tries right, tt)
 
@@ -167,7 +169,7 @@ run_by : (theory : RewriteTheory) (limit calls sort : ℕ) (start : Pattern) (n 
     → ((u : Tree) (d : ℕ) → Reaches theory start calls (suc n) u d → IsGoodTree theory.sig u sort
     → (r : Run) × IsRunOf theory limit calls start r)
     → (r : Run) × IsRunOf theory limit calls start r
-run_by theory limit calls sort start n t c r lt (next u d) step fine later =
+run_by theory limit calls sort start n t c r lt (steps_on u d) step fine later =
     later u d (after_step r step) fine
 run_by theory limit calls sort start n t c r lt stays step fine later =
     (stuck n t, (c, r, lt, step))
@@ -211,7 +213,7 @@ configurations_are_sorted theory good calls sort start each h
     let fine : IsGoodTree theory.sig t sort =
     configurations_are_sorted theory good calls sort start each h r in
     let s = step_answer theory good sort each t fine c in
-    let same : s.0 ≡ next u d = step_is_unique theory t c s.0 (next u d) good s.1 step in
+    let same : s.0 ≡ steps_on u d = step_is_unique theory t c s.0 (steps_on u d) good s.1 step in
     subst (IsGoodStep theory sort) same s.2
 
 -- ---- records of steps
@@ -221,14 +223,14 @@ not_both : (theory : RewriteTheory) → IsWellSorted theory
     → (theta : List (Option Tree)) (p : Option Pattern) (c d k e : ℕ)
     → Meets theory theta p c (holds d) → Meets theory theta p k (fails e) → ⊥
 not_both theory good theta None c d k e holding failing = elim failing [ ]
-not_both theory good theta (Some p) c d k e (condition {e = value t m} a (says_true is))
-    (condition {e = value u n} b (says_other other)) =
+not_both theory good theta (Some p) c d k e (rule_condition {e = value t m} a (says_true is))
+    (rule_condition {e = value u n} b (says_other other)) =
     other (subst IsTrueValue
     (values_agree theory good theta p t u most_nesting c m most_nesting k n a b) is)
-not_both theory good theta (Some p) c d k e (condition {e = value t m} a (says_true is))
-    (condition {e = blocked cause} b says) =
+not_both theory good theta (Some p) c d k e (rule_condition {e = value t m} a (says_true is))
+    (rule_condition {e = blocked cause} b says) =
     elim says [ ]
-not_both theory good theta (Some p) c d k e (condition {e = blocked cause} a says) failing =
+not_both theory good theta (Some p) c d k e (rule_condition {e = blocked cause} a says) failing =
     elim says [ ]
 
 -- a condition that has a record cannot fail
@@ -244,11 +246,11 @@ not_recorded theory good theta p k e (conditional r) w test =
     failed (subst (λ q. Meets theory theta q k (fails e)) w.1 test)
   where
     failed : Meets theory theta (Some w.0) k (fails e) → ⊥
-    failed (condition {e = value u n} b (says_other other)) =
+    failed (rule_condition {e = value u n} b (says_other other)) =
         let told = record_tells theory theta w.0 r w.2 in
         other (subst IsTrueValue (values_agree theory good theta w.0 (result_of r) u told.0 told.1
         told.2 most_nesting k n told.3 b) w.3)
-    failed (condition {e = blocked cause} b says) = elim says [ ]
+    failed (rule_condition {e = blocked cause} b says) = elim says [ ]
 
 -- the rule that is used is the one in the record
 same_rule : (theory : RewriteTheory) → IsWellSorted theory
@@ -281,7 +283,7 @@ same_rule theory good t rule theta step w {i} {d} a =
 
 recorded_right : (theory : RewriteTheory) → IsWellSorted theory
     → (t u : Tree) (c d : ℕ) (step : StepRecord) → RecordsStep theory t step → (r : Trial)
-    → Tries theory t 0 theory.rules c r → After theory r (next u d) → u ≡ result_of step.right
+    → Tries theory t 0 theory.rules c r → After theory r (steps_on u d) → u ≡ result_of step.right
 recorded_right theory good t u c d step w (applies i rule theta k) tries (after_right e) =
     let a = applied tries in
     let places : a.place ≡ step.rule = same_rule theory good t rule theta step w a in

@@ -7,15 +7,15 @@ use Rattle.term_core.specs.Terms.{Tree, no_tree, more_trees}
 use Rattle.term_core.specs.Patterns.{Pattern}
 use Rattle.rule_core.specs.Rules.{RewriteRule}
 use Rattle.rule_core.specs.Theories.{RewriteTheory}
-use Rattle.rule_core.specs.Evaluation.{Cause, value, blocked, Tested, holds, fails, untested, Says}
-use Rattle.rule_core.specs.Evaluation.{Evaluates}
-use Rattle.rule_core.specs.FirstRule.{most_nesting, Matches, IsUnmatched, Meets, no_condition}
-use Rattle.rule_core.specs.FirstRule.{condition, Trial, applies, none_applies, trial_blocked, Tries}
-use Rattle.rule_core.specs.FirstRule.{no_rule_left, unmatched, condition_fails, condition_blocked}
-use Rattle.rule_core.specs.FirstRule.{condition_holds}
-use Rattle.rule_core.specs.Runs.{Stepped, next, stays, stops, Steps, by_rule, by_none, in_condition}
-use Rattle.rule_core.specs.Runs.{in_right_side, Reaches, at_start, after_step, stuck, limited}
-use Rattle.rule_core.specs.Runs.{stopped, unstarted, IsRunOf}
+use Rattle.rule_core.specs.Evaluation.{Cause, value, blocked, ConditionOutcome, holds, fails}
+use Rattle.rule_core.specs.Evaluation.{untested, Says, Evaluates}
+use Rattle.rule_core.specs.FirstRule.{most_nesting, Matches, IsUnmatched, Meets, no_rule_condition}
+use Rattle.rule_core.specs.FirstRule.{rule_condition, Trial, applies, none_applies, trial_blocked}
+use Rattle.rule_core.specs.FirstRule.{Tries, no_rule_left, rule_unmatched, rule_condition_fails}
+use Rattle.rule_core.specs.FirstRule.{rule_condition_blocked, condition_holds}
+use Rattle.rule_core.specs.Runs.{Stepped, steps_on, stays, stops, Steps, by_rule, by_none}
+use Rattle.rule_core.specs.Runs.{in_condition, in_right_side, Reaches, at_start, after_step, stuck}
+use Rattle.rule_core.specs.Runs.{limited, stopped, unstarted, IsRunOf}
 use Rattle.rule_core.specs.RunLaws.{TrialIsUnique, StepIsUnique, RunIsUnique}
 use Rattle.rule_core.specs.WellSorted.{IsWellSorted, IsRuleOf}
 use Rattle.rule_core.specs.declared.signature.SortRef.TheVariants.{Sort}
@@ -57,28 +57,29 @@ rule_tried : {theory : RewriteTheory} {t : Tree} {i c : ℕ} {rule : RewriteRule
     {rules : List RewriteRule} {r : Trial} (theta : List (Option Tree))
     → RuleMatchesOnce theory rule → Matches theory rule t theta
     → Tries theory t i (rule ∷ rules) c r → RuleTried theory t i rule rules theta c r
-rule_tried theta once m (unmatched never others) = absurd (never theta m)
-rule_tried {t = t} theta once m (condition_fails {theta = sigma} l test others) =
+rule_tried theta once m (rule_unmatched never others) = absurd (never theta m)
+rule_tried {t = t} theta once m (rule_condition_fails {theta = sigma} l test others) =
     rw (once t theta sigma m l) (rule_fails test others)
-rule_tried {t = t} theta once m (condition_blocked {theta = sigma} l test) =
+rule_tried {t = t} theta once m (rule_condition_blocked {theta = sigma} l test) =
     rw (once t theta sigma m l) (rule_blocked test)
 rule_tried {t = t} theta once m (condition_holds {theta = sigma} l test) =
     rw (once t theta sigma m l) (rule_holds test)
 
 meets_only : (theory : RewriteTheory) → AllMatchOnce theory
-    → {c : ℕ} {theta : List (Option Tree)} {p : Option Pattern} {x y : Tested}
+    → {c : ℕ} {theta : List (Option Tree)} {p : Option Pattern} {x y : ConditionOutcome}
     → Meets theory theta p c x → Meets theory theta p c y → x ≡ y
-meets_only theory once no_condition no_condition = refl
-meets_only theory once {y = y} (condition {e = e} a says) (condition {e = other} b told) =
+meets_only theory once no_rule_condition no_rule_condition = refl
+meets_only theory once {y = y} (rule_condition {e = e} a says) (rule_condition {e = other} b told) =
     says_only says (subst (λ v. Says v y) (sym (evaluation_unique theory once a other b)) told)
 
 unmatched_only : {theory : RewriteTheory} {t : Tree} {i c : ℕ} {rule : RewriteRule}
     {rules : List RewriteRule} {r s : Trial} → IsUnmatched theory rule t
     → ((x : Trial) → Tries theory t (i + 1) rules c x → r ≡ x) → Tries theory t i (rule ∷ rules) c s
     → r ≡ s
-unmatched_only {s = s} never only (unmatched other others) = only s others
-unmatched_only never only (condition_fails {theta = sigma} l test others) = absurd (never sigma l)
-unmatched_only never only (condition_blocked {theta = sigma} l test) = absurd (never sigma l)
+unmatched_only {s = s} never only (rule_unmatched other others) = only s others
+unmatched_only never only (rule_condition_fails {theta = sigma} l test others) =
+    absurd (never sigma l)
+unmatched_only never only (rule_condition_blocked {theta = sigma} l test) = absurd (never sigma l)
 unmatched_only never only (condition_holds {theta = sigma} l test) = absurd (never sigma l)
 
 fails_only : (theory : RewriteTheory) → AllMatchOnce theory
@@ -134,16 +135,16 @@ tries_unique : (theory : RewriteTheory) (once : AllMatchOnce theory) {t : Tree} 
     {rules : List RewriteRule} {r : Trial} → All (RuleMatchesOnce theory) rules
     → Tries theory t i rules c r → (s : Trial) → Tries theory t i rules c s → r ≡ s
 tries_unique theory once each no_rule_left s d = none_left_only d
-tries_unique theory once each (unmatched {rule = rule} {rules = rules} never others) s d =
+tries_unique theory once each (rule_unmatched {rule = rule} {rules = rules} never others) s d =
     unmatched_only never
     (tries_unique theory once (all_rest (RuleMatchesOnce theory) rule rules each) others) d
 tries_unique theory once each
-    (condition_fails {rule = rule} {rules = rules} {theta = theta} m test others) s d =
+    (rule_condition_fails {rule = rule} {rules = rules} {theta = theta} m test others) s d =
     fails_only theory once test
     (tries_unique theory once (all_rest (RuleMatchesOnce theory) rule rules each) others)
     (rule_tried theta (all_first (RuleMatchesOnce theory) rule rules each) m d)
 tries_unique theory once each
-    (condition_blocked {rule = rule} {rules = rules} {theta = theta} m test) s d =
+    (rule_condition_blocked {rule = rule} {rules = rules} {theta = theta} m test) s d =
     blocked_only theory once test
     (rule_tried theta (all_first (RuleMatchesOnce theory) rule rules each) m d)
 tries_unique theory once each (condition_holds {rule = rule} {rules = rules} {theta = theta} m test)
@@ -161,7 +162,7 @@ trial_is_unique theory t c r s good a b =
 pub data After (theory : RewriteTheory) : Trial → Stepped → Type 0 where
   after_right : {i d e : ℕ} {rule : RewriteRule} {theta : List (Option Tree)} {u : Tree}
       → Evaluates theory most_nesting theta rule.right d (value u e)
-      → After theory (applies i rule theta d) (next u e)
+      → After theory (applies i rule theta d) (steps_on u e)
   after_none : After theory none_applies stays
   after_condition : {cause : Cause} → After theory (trial_blocked cause) (stops cause)
   after_blocked : {i d : ℕ} {rule : RewriteRule} {theta : List (Option Tree)} {cause : Cause}
@@ -219,7 +220,7 @@ record Before (theory : RewriteTheory) (start : Pattern) (calls n : ℕ) (u : Tr
   term : Tree
   left : ℕ
   reached : Reaches theory start calls n term left
-  step : Steps theory term left (next u d)
+  step : Steps theory term left (steps_on u d)
 
 before : {theory : RewriteTheory} {start : Pattern} {calls n d : ℕ} {u : Tree}
     → Reaches theory start calls (suc n) u d → Before theory start calls n u d
@@ -234,11 +235,11 @@ same_place theory good (suc n) {c} {d} {t} {u} a b =
     let x = before a in
     let y = before b in
     let places = same_place theory good n y.reached x.reached in
-    let step : Steps theory x.term x.left (next u d) =
-    subst (λ k. Steps theory x.term k (next u d)) places.1
-    (subst (λ v. Steps theory v y.left (next u d)) places.0 y.step) in
-    let same : next t c ≡ next u d =
-    step_is_unique theory x.term x.left (next t c) (next u d) good x.step step in
+    let step : Steps theory x.term x.left (steps_on u d) =
+    subst (λ k. Steps theory x.term k (steps_on u d)) places.1
+    (subst (λ v. Steps theory v y.left (steps_on u d)) places.0 y.step) in
+    let same : steps_on t c ≡ steps_on u d =
+    step_is_unique theory x.term x.left (steps_on t c) (steps_on u d) good x.step step in
     (cc, cc)
 
 starts : {theory : RewriteTheory} {start : Pattern} {calls n c : ℕ} {t : Tree}
@@ -261,7 +262,7 @@ record Last (theory : RewriteTheory) (limit : ℕ) (start : Pattern) (calls n : 
     (c : ℕ) : Type 0 where
   reached : Reaches theory start calls n t c
   within : n ≤ limit
-  ends : n < limit → (w : Tree) (e : ℕ) → Steps theory t c (next w e) → ⊥
+  ends : n < limit → (w : Tree) (e : ℕ) → Steps theory t c (steps_on w e) → ⊥
 
 not_before : (theory : RewriteTheory) → IsWellSorted theory
     → {start : Pattern} {calls : ℕ} (limit n m : ℕ) {c d : ℕ} {t u : Tree}
@@ -270,9 +271,9 @@ not_before theory good limit n m {c} {d} {t} {u} a b lt =
     let on = passes m n b.reached lt in
     let le : m ≤ limit = b.within in
     let places = same_place theory good n on.2.reached a.reached in
-    let step : Steps theory t c (next on.0 on.1) =
-    subst (λ k. Steps theory t k (next on.0 on.1)) places.1
-    (subst (λ v. Steps theory v on.2.left (next on.0 on.1)) places.0 on.2.step) in
+    let step : Steps theory t c (steps_on on.0 on.1) =
+    subst (λ k. Steps theory t k (steps_on on.0 on.1)) places.1
+    (subst (λ v. Steps theory v on.2.left (steps_on on.0 on.1)) places.0 on.2.step) in
     a.ends (omega arith) on.0 on.1 step
 
 same_count : (theory : RewriteTheory) → IsWellSorted theory
@@ -301,8 +302,8 @@ stuck_last theory good limit n t (c, r, lt, s) = record {
   reached = r;
   within = omega arith;
   ends =
-      λ le w e step. let same : stays ≡ next w e =
-      step_is_unique theory t c stays (next w e) good s step in
+      λ le w e step. let same : stays ≡ steps_on w e =
+      step_is_unique theory t c stays (steps_on w e) good s step in
       let no : ⊥ = cc in no;
 }
 
@@ -314,8 +315,8 @@ stopped_last theory good limit n cause t (c, r, lt, s) = record {
   reached = r;
   within = omega arith;
   ends =
-      λ le w e step. let same : stops cause ≡ next w e =
-      step_is_unique theory t c (stops cause) (next w e) good s step in
+      λ le w e step. let same : stops cause ≡ steps_on w e =
+      step_is_unique theory t c (stops cause) (steps_on w e) good s step in
       let no : ⊥ = cc in no;
 }
 

@@ -8,7 +8,7 @@ use Rattle.term_core.specs.Patterns.{no_pattern, more_patterns}
 use Rattle.rule_core.specs.Rules.{RewriteRule}
 use Rattle.rule_core.specs.Theories.{RewriteTheory}
 use Rattle.rule_core.specs.Matching.{NoneMatches}
-use Rattle.rule_core.specs.FirstRule.{Trial, Tries, unmatched}
+use Rattle.rule_core.specs.FirstRule.{Trial, Tries, rule_unmatched}
 use Rattle.rule_core.specs.TrialLaws.{UnmatchedAreSkipped}
 
 -- one rule that does not match
@@ -22,7 +22,7 @@ skip_one theory t i calls r rule within is none later =
     drop_more theory.rules i rule within
     ∙ ap (λ (x : RewriteRule). x ∷ drop (i + 1) theory.rules) (sym is) in
     let P : List RewriteRule → Type 0 = λ rules. Tries theory t i rules calls r in
-    subst P (sym front) (unmatched none later)
+    subst P (sym front) (rule_unmatched none later)
 
 first_of : (rules : List RewriteRule) (i : ℕ) → i < length rules
     → (rule : RewriteRule) × (rule ≡ get_or rules i rule)

@@ -5,9 +5,10 @@ use Rattle.term_core.specs.Terms.{Tree}
 use Rattle.term_core.specs.Patterns.{Pattern}
 use Rattle.rule_core.specs.Rules.{RewriteRule}
 use Rattle.rule_core.specs.Theories.{RewriteTheory}
-use Rattle.rule_core.specs.Evaluation.{value, blocked, Tested, fails, says_nothing}
-use Rattle.rule_core.specs.FirstRule.{most_nesting, Matches, Meets, no_condition, condition}
-use Rattle.rule_core.specs.FirstRule.{applies, Tries, unmatched, condition_fails, condition_holds}
+use Rattle.rule_core.specs.Evaluation.{value, blocked, ConditionOutcome, fails, says_nothing}
+use Rattle.rule_core.specs.FirstRule.{most_nesting, Matches, Meets, no_rule_condition}
+use Rattle.rule_core.specs.FirstRule.{rule_condition, applies, Tries, rule_unmatched}
+use Rattle.rule_core.specs.FirstRule.{rule_condition_fails, condition_holds}
 use Rattle.rule_core.specs.Runs.{by_rule}
 use Rattle.rule_core.specs.Records.{RecordsCondition, OptionalRecord, unconditional, IsUnusedRule}
 use Rattle.rule_core.specs.Records.{most_calls}
@@ -18,25 +19,26 @@ use Rattle.rule_core.proofs.RecordsKept.{condition_record, has_record}
 
 -- the condition of a rule, with more calls left
 meets_more : (theory : RewriteTheory) (k : ℕ) {c : ℕ} {theta : List (Option Tree)}
-    {p : Option Pattern} {r : Tested} → Meets theory theta p c r → IsTold r
+    {p : Option Pattern} {r : ConditionOutcome} → Meets theory theta p c r → IsTold r
     → Meets theory theta p (c + k) (with_calls k r)
-meets_more theory k no_condition told = no_condition
-meets_more theory k (condition {e = value t d} e says) told =
-    condition (evaluates_more theory k e most_nesting (omega arith)) (more_says k says)
-meets_more theory k (condition {e = blocked cause} e says_nothing) told = absurd told
+meets_more theory k no_rule_condition told = no_rule_condition
+meets_more theory k (rule_condition {e = value t d} e says) told =
+    rule_condition (evaluates_more theory k e most_nesting (omega arith)) (more_says k says)
+meets_more theory k (rule_condition {e = blocked cause} e says_nothing) told = absurd told
 
 meets_fall : {theory : RewriteTheory} {c : ℕ} {theta : List (Option Tree)} {p : Option Pattern}
-    {r : Tested} → Meets theory theta p c r → LeavesAtMost c r
-meets_fall no_condition = omega arith
-meets_fall (condition {e = value t d} e says) = says_at_most says (calls_fall e)
-meets_fall (condition {e = blocked cause} e says_nothing) = tt
+    {r : ConditionOutcome} → Meets theory theta p c r → LeavesAtMost c r
+meets_fall no_rule_condition = omega arith
+meets_fall (rule_condition {e = value t d} e says) = says_at_most says (calls_fall e)
+meets_fall (rule_condition {e = blocked cause} e says_nothing) = tt
 
 meets_record : (theory : RewriteTheory) {c : ℕ} {theta : List (Option Tree)} {p : Option Pattern}
-    {r : Tested} → Meets theory theta p c r → c ≤ most_calls → ConditionRecord theory theta p r
-meets_record theory no_condition few = (unconditional, refl)
-meets_record theory (condition {p = p} {e = value t d} e says) few =
+    {r : ConditionOutcome} → Meets theory theta p c r → c ≤ most_calls
+        → ConditionRecord theory theta p r
+meets_record theory no_rule_condition few = (unconditional, refl)
+meets_record theory (rule_condition {p = p} {e = value t d} e says) few =
     condition_record theory p says (has_record theory e (omega arith) few)
-meets_record theory (condition {e = blocked cause} e says_nothing) few = tt
+meets_record theory (rule_condition {e = blocked cause} e says_nothing) few = tt
 
 failed_with : (theory : RewriteTheory) (theta : List (Option Tree)) (p : Option Pattern) (c d k : ℕ)
     → Meets theory theta p c (fails d) → c ≤ k → (left : ℕ) × Meets theory theta p k (fails left)
@@ -64,7 +66,7 @@ record Used (theory : RewriteTheory) (t : Tree) (c left : ℕ) (rules : List Rew
   earlier : (j : ℕ) (other : RewriteRule) → j < place → slice_get rules j ≡ Some other
       → IsUnusedRule theory other t
   test : OptionalRecord
-  condition : RecordsCondition theory theta rule.condition test
+  rule_condition : RecordsCondition theory theta rule.condition test
   fewer : left ≤ c
 
 one_later : {theory : RewriteTheory} {t : Tree} {b c left : ℕ} {rules : List RewriteRule}
@@ -91,9 +93,10 @@ rule_used : (theory : RewriteTheory) {t : Tree} {i c j d : ℕ} {rules : List Re
     {rule : RewriteRule} {theta : List (Option Tree)}
     → Tries theory t i rules c (applies j rule theta d) → c ≤ most_calls
     → Used theory t c d rules rule theta
-rule_used theory (unmatched {rule = first} never others) few =
+rule_used theory (rule_unmatched {rule = first} never others) few =
     one_later first (inl never) (omega arith) (rule_used theory others few)
-rule_used theory {t} (condition_fails {c = c} {d = d} {rule = first} {theta = theta} m test others)
+rule_used theory {t} (rule_condition_fails {c = c} {d = d} {rule = first} {theta = theta} m test
+    others)
     few =
     let le : d ≤ c = meets_fall test in
     one_later first (unused_rule theory t first theta c d m test few) le

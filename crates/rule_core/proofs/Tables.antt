@@ -14,7 +14,7 @@ use Rattle.std.specs.Str.{bytes_eq}
 use Rattle.std.proofs.lemmas.Bool.{false≢true}
 use Rattle.std.proofs.lemmas.List.{map-append}
 use Rattle.std.proofs.lemmas.Slice.Eq.{bytes_eq-Decides}
-use Rattle.rule_core.specs.Named.{number_of}
+use Rattle.rule_core.specs.Named.{number_of_name}
 use Rattle.rule_core.specs.DistinctNames.{names_of, IsNoneOf, AreDistinct}
 
 only_none : (b : Bool) (i : ℕ) (rest : Option ℕ) → cond b (Some i) rest ≡ None
@@ -51,7 +51,7 @@ differ (e ∷ es) i k v had absent =
     )
 
 pub AreDistinct-push : {V : Type 0} (es : List (List ℕ × V)) (k : List ℕ) (v : V)
-    → AreDistinct (names_of es) → is_some (number_of es k) ≡ false
+    → AreDistinct (names_of es) → is_some (number_of_name es k) ≡ false
     → AreDistinct (names_of (es ++ (k, v) ∷ []))
 AreDistinct-push es k v had absent = rw map-append (differ es 0 k v had (none_is _ absent))
 
@@ -76,7 +76,7 @@ found (e ∷ es) i k j h = found_at e es i k j (bytes_eq k e.0) refl h (found es
 
 -- the entry with the number of a name has that name
 pub number_of-entry : {V : Type 0} (es : List (List ℕ × V)) (k : List ℕ) (i : ℕ)
-    → number_of es k ≡ Some i → (v : V) × (slice_get es i ≡ Some (k, v))
+    → number_of_name es k ≡ Some i → (v : V) × (slice_get es i ≡ Some (k, v))
 number_of-entry es k i h = let p = found es 0 k i h in
     let same : i ≡ p.0 = omega (arith, p.1.0) in
     (p.1.1.0, ap (λ n. slice_get es n) same ∙ p.1.1.1)
@@ -97,7 +97,7 @@ position-named name i (e ∷ es) =
 
 pub index-named : {V : Type 0} (name : List ℕ) (es : List (String Global × V))
     → position (λ (k : String Global). bytes_eq name (string_bytes k)) (keys_of es)
-    ≡ number_of (plain_entries es) name
+    ≡ number_of_name (plain_entries es) name
 index-named name es =
     position_from-zero (λ (k : String Global). bytes_eq name (string_bytes k)) (keys_of es)
     ∙ position-named name 0 es
@@ -116,7 +116,7 @@ absent_value name i (e ∷ es) h =
 -- the entries after a new name is added
 pub entries-added : {V S : Type 0} (old : IndexMap (String Global) V S) (k : String Global) (v : V)
     (new : List (String Global × V))
-    → is_some (number_of (plain_entries old.entries) (string_bytes k)) ≡ false
+    → is_some (number_of_name (plain_entries old.entries) (string_bytes k)) ≡ false
     → new ≡ insert_entry string_eq old.entries k v
     → plain_entries new ≡ plain_entries old.entries ++ (string_bytes k, v) ∷ []
 entries-added old k v new absent is =

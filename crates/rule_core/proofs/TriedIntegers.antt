@@ -9,8 +9,8 @@ use Rattle.term_core.specs.declared.values.NoValue.TheVariants.{ZeroDivisor, Ran
 use Rattle.rule_core.specs.Theories.{RewriteTheory}
 use Rattle.rule_core.specs.Sorting.{sort_at}
 use Rattle.rule_core.specs.Evaluation.{value, blocked, no_value, values, of_constructor, of_call}
-use Rattle.rule_core.specs.Evaluation.{Evaluates, itself, argument_blocked, made, called}
-use Rattle.rule_core.specs.Evaluation.{EvaluateAll, none_left, first_blocked, one_more, Applies}
+use Rattle.rule_core.specs.Evaluation.{Evaluates, itself, argument_blocked, made, function_called}
+use Rattle.rule_core.specs.Evaluation.{EvaluateAll, none_left, first_blocked, one_more, HasOutcome}
 use Rattle.rule_core.specs.Evaluation.{by_nothing, without_call, by_hook, hook_fails}
 use Rattle.rule_core.specs.EvaluationCases.{Declares, DeclaresIntegers, TriedIntegers, binary, two}
 use Rattle.rule_core.specs.EvaluationCases.{number, tree_number, one_tree, n, tree_n, hook}
@@ -37,7 +37,7 @@ two_numbers x y = one_more itself (one_more itself none_left)
 pub hook_gives : {theory : RewriteTheory} {k f c row result : ℕ} {arguments : List ℕ} (x y : ℤ)
     (v : DomainValue) → Declares theory.sig f (hook row) arguments result
     → hook_value row (integer x ∷ (integer y ∷ [])) ≡ Some (Ok v)
-    → Applies theory k f (more_trees (tree_number x) (one_tree (tree_number y))) (suc c)
+    → HasOutcome theory k f (more_trees (tree_number x) (one_tree (tree_number y))) (suc c)
     (value (leaf result v) c)
 hook_gives x y v d e =
     by_hook d.there (record {
@@ -50,7 +50,7 @@ hook_gives x y v d e =
 pub hook_has_none : {theory : RewriteTheory} {k f c row result : ℕ} {arguments : List ℕ} (x y : ℤ)
     (why : NoValue) → Declares theory.sig f (hook row) arguments result
     → hook_value row (integer x ∷ (integer y ∷ [])) ≡ Some (Err why)
-    → Applies theory k f (more_trees (tree_number x) (one_tree (tree_number y))) (suc c)
+    → HasOutcome theory k f (more_trees (tree_number x) (one_tree (tree_number y))) (suc c)
     (blocked (no_value row why))
 hook_has_none x y why d e =
     hook_fails d.there (record {
@@ -66,7 +66,7 @@ result_in_n : {theory : RewriteTheory} {k f row : ℕ} (x y z : ℤ) {arguments 
     → Evaluates theory (suc (suc k)) [] (n (binary f x y)) 1 (value (tree_n z) 0)
 result_in_n x y z d e =
     made of_constructor
-    (one_more (called (two_numbers x y) (hook_gives x y (integer z) d e)) none_left) refl
+    (one_more (function_called (two_numbers x y) (hook_gives x y (integer z) d e)) none_left) refl
     (omega arith)
 
 none_in_n : {theory : RewriteTheory} {k f row : ℕ} (x y : ℤ) (why : NoValue) {arguments : List ℕ}
@@ -75,7 +75,7 @@ none_in_n : {theory : RewriteTheory} {k f row : ℕ} (x y : ℤ) (why : NoValue)
     → Evaluates theory (suc (suc k)) [] (n (binary f x y)) 1 (blocked (no_value row why))
 none_in_n x y why d e =
     argument_blocked of_constructor
-    (first_blocked (called (two_numbers x y) (hook_has_none x y why d e)))
+    (first_blocked (function_called (two_numbers x y) (hook_has_none x y why d e)))
 
 pub tried_integers : (sig : Signature) → DeclaresIntegers sig → TriedIntegers sig
 tried_integers sig d = record {
@@ -83,7 +83,7 @@ tried_integers sig d = record {
   greatest_sum = result_in_n greatest (pos 0) greatest d.add refl;
   past_range = none_in_n greatest (pos 1) Range d.add refl;
   no_call =
-      argument_blocked of_constructor (first_blocked (called (two_numbers (pos 2) (pos 3))
+      argument_blocked of_constructor (first_blocked (function_called (two_numbers (pos 2) (pos 3))
       (without_call d.add.there (λ is. hooked_not_closed d.add.info.kind 0 d.add.of_kind is))));
   truncated_rest = result_in_n (negsuc 6) (pos 2) (negsuc 0) d.tmod refl;
   euclidean_rest = result_in_n (negsuc 6) (pos 2) (pos 1) d.emod refl;
@@ -94,8 +94,8 @@ tried_integers sig d = record {
   by_zero = none_in_n (pos 1) (pos 0) ZeroDivisor d.tdiv refl;
   nothing_gives =
       argument_blocked of_constructor (first_blocked
-      (called (one_more itself none_left) (by_nothing d.len.there d.len.of_kind)));
+      (function_called (one_more itself none_left) (by_nothing d.len.there d.len.of_kind)));
   first_cause =
-      argument_blocked of_call (first_blocked (called (two_numbers (pos 1) (pos 0))
+      argument_blocked of_call (first_blocked (function_called (two_numbers (pos 1) (pos 0))
       (hook_has_none (pos 1) (pos 0) ZeroDivisor d.tdiv refl)));
 }

@@ -11,9 +11,9 @@ use Rattle.rule_core.specs.Theories.{RewriteTheory}
 use Rattle.rule_core.specs.Matching.{MatchAll, OccursInSome}
 use Rattle.rule_core.specs.Sorting.{HaveSorts, IsTermOf}
 use Rattle.rule_core.specs.Evaluation.{value, of_constructor, IsUnmatchedBy, Evaluates, bound}
-use Rattle.rule_core.specs.Evaluation.{argument_blocked, made, called, none_left, first_blocked}
-use Rattle.rule_core.specs.Evaluation.{later_blocked, one_more, without_call, by_equations}
-use Rattle.rule_core.specs.Evaluation.{unmatched, used, no_condition, inside}
+use Rattle.rule_core.specs.Evaluation.{argument_blocked, made, function_called, none_left}
+use Rattle.rule_core.specs.Evaluation.{first_blocked, later_blocked, one_more, without_call}
+use Rattle.rule_core.specs.Evaluation.{by_equations, unmatched, used, no_condition, inside}
 use Rattle.rule_core.specs.EvaluationCases.{Declares, DeclaresLists, TriedLists, appending}
 use Rattle.rule_core.specs.EvaluationCases.{append_empty, two, one, one_tree, one_item}
 use Rattle.rule_core.specs.EvaluationCases.{one_item_tree, named}
@@ -137,22 +137,22 @@ one_item_value =
 pub tried_lists : (sig : Signature) → DeclaresLists sig → TriedLists sig
 tried_lists sig d = record {
   appended =
-      called (one_more one_item_value (one_more one_item_value none_left))
+      function_called (one_more one_item_value (one_more one_item_value none_left))
       (by_equations d.append.there d.append.of_kind
       (unmatched (first_unmatched sig (one_tree one_item_tree))
       (used (match_items sig d) no_condition (inside
       (made of_constructor (one_more (bound refl) (one_more
-      (called (one_more (bound refl) (one_more (bound refl) none_left))
+      (function_called (one_more (bound refl) (one_more (bound refl) none_left))
       (by_equations d.append.there d.append.of_kind
       (used (match_empty sig d) no_condition (inside (bound refl)))))
       none_left)) refl (omega arith))))));
   too_few =
-      called (one_more one_item_value (one_more one_item_value none_left))
+      function_called (one_more one_item_value (one_more one_item_value none_left))
       (by_equations d.append.there d.append.of_kind
       (unmatched (first_unmatched sig (one_tree one_item_tree))
       (used (match_items sig d) no_condition (inside
       (argument_blocked of_constructor (later_blocked (bound refl) (first_blocked
-      (called (one_more (bound refl) (one_more (bound refl) none_left))
+      (function_called (one_more (bound refl) (one_more (bound refl) none_left))
       (without_call d.append.there
       (λ is. defined_not_closed d.append.info.kind d.append.of_kind is))))))))));
 }

@@ -14,10 +14,10 @@ use Rattle.rule_core.specs.Matching.{MatchAll, OccursInSome}
 use Rattle.rule_core.specs.Sorting.{HasInjection, IsTermOf, IsValueOf}
 use Rattle.rule_core.specs.Evaluation.{value, says_true, says_other, says_nothing, IsTrueValue}
 use Rattle.rule_core.specs.Evaluation.{of_constructor, of_injection, of_call, Evaluates, bound}
-use Rattle.rule_core.specs.Evaluation.{itself, argument_blocked, made, called, none_left}
+use Rattle.rule_core.specs.Evaluation.{itself, argument_blocked, made, function_called, none_left}
 use Rattle.rule_core.specs.Evaluation.{first_blocked, one_more, without_call}
-use Rattle.rule_core.specs.FirstRule.{no_condition, condition, no_rule_left, condition_fails}
-use Rattle.rule_core.specs.FirstRule.{condition_blocked, condition_holds}
+use Rattle.rule_core.specs.FirstRule.{no_rule_condition, rule_condition, no_rule_left}
+use Rattle.rule_core.specs.FirstRule.{rule_condition_fails, rule_condition_blocked, condition_holds}
 use Rattle.rule_core.specs.Runs.{by_rule, by_none, in_condition}
 use Rattle.rule_core.specs.EvaluationCases.{Declares, DeclaresIntegers, DeclaresInjections}
 use Rattle.rule_core.specs.EvaluationCases.{TriedConditions, TriedInjections, IsOfIntegers}
@@ -85,7 +85,8 @@ compared : {theory : RewriteTheory} {n c d e : ℕ} {theta : List (Option Tree)}
     → Evaluates theory n theta q d (value (tree_number y) (suc e))
     → hook_value 11 (integer x ∷ (integer y ∷ [])) ≡ Some (Ok v)
     → Evaluates theory (suc n) theta (greater p q) c (value (leaf 1 v) e)
-compared x y v d a b answer = called (one_more a (one_more b none_left)) (hook_gives x y v d answer)
+compared x y v d a b answer = function_called (one_more a (one_more b none_left))
+    (hook_gives x y v d answer)
 
 not_true : (s : ℕ) → IsTrueValue (leaf s (truth false)) → ⊥
 not_true s h = let k : leaf s (truth false) ≡ leaf h.0 (truth true) = h.1 in cc
@@ -93,46 +94,46 @@ not_true s h = let k : leaf s (truth false) ≡ leaf h.0 (truth true) = h.1 in c
 pub tried_conditions : (sig : Signature) → DeclaresIntegers sig → TriedConditions sig
 tried_conditions sig d = record {
   first_holds =
-      by_rule (condition_holds (on_matches sig 11 d.sort (omega arith)) (condition
+      by_rule (condition_holds (on_matches sig 11 d.sort (omega arith)) (rule_condition
       (compared (pos 11) (pos 10) (truth true) d.gt (bound refl) itself refl)
       (says_true (1, refl))))
       (made of_constructor (one_more (bound refl) none_left) refl (omega arith));
   second_holds =
-      by_rule (condition_fails (on_matches sig 3 d.sort (omega arith)) (condition
+      by_rule (rule_condition_fails (on_matches sig 3 d.sort (omega arith)) (rule_condition
       (compared (pos 3) (pos 10) (truth false) d.gt (bound refl) itself refl)
       (says_other (not_true 1)))
-      (condition_holds (on_matches sig 3 d.sort (omega arith)) (condition
+      (condition_holds (on_matches sig 3 d.sort (omega arith)) (rule_condition
       (compared (pos 10) (pos 3) (truth true) d.gt itself (bound refl) refl)
       (says_true (1, refl)))))
       (made of_constructor (one_more (bound refl) none_left) refl (omega arith));
   none_holds =
-      by_none (condition_fails (on_matches sig 10 d.sort (omega arith)) (condition
+      by_none (rule_condition_fails (on_matches sig 10 d.sort (omega arith)) (rule_condition
       (compared (pos 10) (pos 10) (truth false) d.gt (bound refl) itself refl)
       (says_other (not_true 1)))
-      (condition_fails (on_matches sig 10 d.sort (omega arith)) (condition
+      (rule_condition_fails (on_matches sig 10 d.sort (omega arith)) (rule_condition
       (compared (pos 10) (pos 10) (truth false) d.gt itself (bound refl) refl)
       (says_other (not_true 1))) no_rule_left));
   too_few_calls =
-      in_condition (condition_fails (on_matches sig 3 d.sort (omega arith))
-      (condition (compared (pos 3) (pos 10) (truth false) d.gt (bound refl) itself refl)
+      in_condition (rule_condition_fails (on_matches sig 3 d.sort (omega arith))
+      (rule_condition (compared (pos 3) (pos 10) (truth false) d.gt (bound refl) itself refl)
       (says_other (not_true 1)))
-      (condition_blocked (on_matches sig 3 d.sort (omega arith)) (condition
-      (called (one_more itself (one_more (bound refl) none_left))
+      (rule_condition_blocked (on_matches sig 3 d.sort (omega arith)) (rule_condition
+      (function_called (one_more itself (one_more (bound refl) none_left))
       (without_call d.gt.there (λ is. hooked_not_closed d.gt.info.kind 11 d.gt.of_kind is)))
       says_nothing)));
   first_divides =
-      by_rule (condition_fails (on_matches sig 3 d.sort (omega arith)) (condition
-      (compared (pos 0) (pos 0) (truth false) d.gt (called
+      by_rule (rule_condition_fails (on_matches sig 3 d.sort (omega arith)) (rule_condition
+      (compared (pos 0) (pos 0) (truth false) d.gt (function_called
       (one_more itself (one_more (bound refl) none_left))
       (hook_gives (pos 1) (pos 3) (integer (pos 0)) d.tdiv refl)) itself refl)
       (says_other (not_true 1)))
-      (condition_holds (on_matches sig 3 d.sort (omega arith)) (condition
+      (condition_holds (on_matches sig 3 d.sort (omega arith)) (rule_condition
       (compared (pos 10) (pos 3) (truth true) d.gt itself (bound refl) refl)
       (says_true (1, refl)))))
       (made of_constructor (one_more (bound refl) none_left) refl (omega arith));
   first_blocked =
-      in_condition (condition_blocked (on_matches sig 0 d.sort (omega arith)) (condition
-      (argument_blocked of_call (first_blocked (called
+      in_condition (rule_condition_blocked (on_matches sig 0 d.sort (omega arith)) (rule_condition
+      (argument_blocked of_call (first_blocked (function_called
       (one_more itself (one_more (bound refl) none_left))
       (hook_has_none (pos 1) (pos 0) ZeroDivisor d.tdiv refl)))) says_nothing));
 }
@@ -151,7 +152,7 @@ tried_injections sig d =
           (one_tree (node 1 (one_tree (inj 0 3 (tree_number (pos 5))))))
           (inj 0 1 (tree_number (pos 5))) only_first (inl (inl refl)) (tt, tt)
           (has, refl, d.below, number_of_sort sig 0 5 d.integers (omega arith)) refl)
-          no_condition)
+          no_rule_condition)
           (made of_constructor (one_more (made (of_injection d.symbol)
           (one_more (bound refl) none_left) refl (omega arith)) none_left) refl
           (omega arith));

@@ -33,13 +33,13 @@ pub data Evaluated : Type 0 where
 
 pub data AllEvaluated : Type 0 where
   values : Forest → ℕ → AllEvaluated
-  stopped : Cause → AllEvaluated
+  all_blocked : Cause → AllEvaluated
 
 -- a condition holds or fails, with the number of calls that are left, or it is blocked
-pub data Tested : Type 0 where
-  holds : ℕ → Tested
-  fails : ℕ → Tested
-  untested : Cause → Tested
+pub data ConditionOutcome : Type 0 where
+  holds : ℕ → ConditionOutcome
+  fails : ℕ → ConditionOutcome
+  untested : Cause → ConditionOutcome
 
 -- the term is the truth value `true`
 abbrev pub IsTrueValue : Tree → Type 0
@@ -71,7 +71,7 @@ built (injection a b p) (more_trees t no_tree) = Some (injected a b t)
 built _ _ = None
 
 -- the meaning of the value of a condition
-pub data Says : Evaluated → Tested → Type 0 where
+pub data Says : Evaluated → ConditionOutcome → Type 0 where
   says_true : {c : ℕ} {t : Tree} → IsTrueValue t → Says (value t c) (holds c)
   says_other : {c : ℕ} {t : Tree} → (IsTrueValue t → ⊥) → Says (value t c) (fails c)
   says_nothing : {cause : Cause} → Says (blocked cause) (untested cause)
@@ -92,7 +92,7 @@ mutual
         → HasHead theory p f ps → Evaluates theory 0 theta p c (blocked (too_nested f))
     argument_blocked : {n c f : ℕ} {theta : List (Option Tree)} {p : Pattern} {ps : Patterns}
         {cause : Cause} → HasHead theory p f ps
-        → EvaluateAll theory n theta ps c (stopped cause)
+        → EvaluateAll theory n theta ps c (all_blocked cause)
         → Evaluates theory (suc n) theta p c (blocked cause)
     made : {n c d f : ℕ} {theta : List (Option Tree)} {p : Pattern} {ps : Patterns} {ts : Forest}
         {t : Tree} → HasHead theory p f ps → EvaluateAll theory n theta ps c (values ts d)
@@ -102,9 +102,9 @@ mutual
         {ts : Forest} {t : Tree} → HasHead theory p f ps
         → EvaluateAll theory n theta ps c (values ts d) → built p ts ≡ Some t
         → most_height < height t → Evaluates theory (suc n) theta p c (blocked (too_high f))
-    called : {n c d f : ℕ} {theta : List (Option Tree)} {sorts : List ℕ} {ps : Patterns}
+    function_called : {n c d f : ℕ} {theta : List (Option Tree)} {sorts : List ℕ} {ps : Patterns}
         {ts : Forest} {e : Evaluated} → EvaluateAll theory n theta ps c (values ts d)
-        → Applies theory n f ts d e → Evaluates theory (suc n) theta (call f sorts ps) c e
+        → HasOutcome theory n f ts d e → Evaluates theory (suc n) theta (call f sorts ps) c e
 
   -- the same for the patterns, one after another
   pub data EvaluateAll (theory : RewriteTheory) : ℕ → List (Option Tree) → Patterns → ℕ
@@ -113,11 +113,11 @@ mutual
         → EvaluateAll theory n theta no_pattern c (values no_tree c)
     first_blocked : {n c : ℕ} {theta : List (Option Tree)} {p : Pattern} {ps : Patterns}
         {cause : Cause} → Evaluates theory n theta p c (blocked cause)
-        → EvaluateAll theory n theta (more_patterns p ps) c (stopped cause)
+        → EvaluateAll theory n theta (more_patterns p ps) c (all_blocked cause)
     later_blocked : {n c d : ℕ} {theta : List (Option Tree)} {p : Pattern} {ps : Patterns}
         {t : Tree} {cause : Cause} → Evaluates theory n theta p c (value t d)
-        → EvaluateAll theory n theta ps d (stopped cause)
-        → EvaluateAll theory n theta (more_patterns p ps) c (stopped cause)
+        → EvaluateAll theory n theta ps d (all_blocked cause)
+        → EvaluateAll theory n theta (more_patterns p ps) c (all_blocked cause)
     one_more : {n c d e : ℕ} {theta : List (Option Tree)} {p : Pattern} {ps : Patterns} {t : Tree}
         {ts : Forest} → Evaluates theory n theta p c (value t d)
         → EvaluateAll theory n theta ps d (values ts e)
@@ -125,21 +125,21 @@ mutual
 
   -- The function has this outcome at these terms. This takes one call, unless nothing defines the
   -- function.
-  pub data Applies (theory : RewriteTheory) : ℕ → ℕ → Forest → ℕ → Evaluated → Type 0 where
+  pub data HasOutcome (theory : RewriteTheory) : ℕ → ℕ → Forest → ℕ → Evaluated → Type 0 where
     by_nothing : {n f c : ℕ} {ts : Forest} {info : SymInfo} → IsSymbol theory.sig f info
-        → info.kind ≡ Closed → Applies theory n f ts c (blocked (closed f))
+        → info.kind ≡ Closed → HasOutcome theory n f ts c (blocked (closed f))
     without_call : {n f : ℕ} {ts : Forest} {info : SymInfo} → IsSymbol theory.sig f info
-        → info.kind ≢ Closed → Applies theory n f ts 0 (blocked (no_call_left f))
+        → info.kind ≢ Closed → HasOutcome theory n f ts 0 (blocked (no_call_left f))
     by_hook : {n f c sort : ℕ} {ts : Forest} {info : SymInfo} {v : DomainValue} {row : ℕ} →
         IsSymbol theory.sig f info → HookAnswers info row ts v → sort_at [] info.result ≡ Some sort
         →
-        Applies theory n f ts (suc c) (value (leaf sort v) c)
+        HasOutcome theory n f ts (suc c) (value (leaf sort v) c)
     hook_fails : {n f c : ℕ} {ts : Forest} {info : SymInfo} {why : NoValue} {row : ℕ}
         → IsSymbol theory.sig f info → HookFails info row ts why
-        → Applies theory n f ts (suc c) (blocked (no_value row why))
+        → HasOutcome theory n f ts (suc c) (blocked (no_value row why))
     by_equations : {n f c : ℕ} {ts : Forest} {info : SymInfo} {e : Evaluated}
         → IsSymbol theory.sig f info → info.kind ≡ Equations
-        → Equates theory n f (equations_of theory f) ts c e → Applies theory n f ts (suc c) e
+        → Equates theory n f (equations_of theory f) ts c e → HasOutcome theory n f ts (suc c) e
 
   -- The value is that of the right side of the first of these equations that matches and whose
   -- condition holds. The calls that a condition takes are not available to later conditions.
@@ -166,11 +166,13 @@ mutual
         → Equates theory n f (e ∷ es) ts c r
 
   -- the condition of an equation of this function, if it has one
-  pub data Tests (theory : RewriteTheory) : ℕ → ℕ → List (Option Tree) → Option Pattern → ℕ → Tested
+  pub data Tests (theory : RewriteTheory) : ℕ → ℕ → List (Option Tree) → Option Pattern → ℕ
+      → ConditionOutcome
       → Type 0 where
     no_condition : {n f c : ℕ} {theta : List (Option Tree)}
         → Tests theory n f theta None c (holds c)
-    condition : {n f c : ℕ} {theta : List (Option Tree)} {p : Pattern} {e : Evaluated} {r : Tested}
+    condition : {n f c : ℕ} {theta : List (Option Tree)} {p : Pattern} {e : Evaluated}
+        {r : ConditionOutcome}
         → EvaluatesIn theory n f theta p c e → Says e r → Tests theory n f theta (Some p) c r
 
   -- a condition or a right side of an equation of this function, which takes one level of nesting

@@ -16,7 +16,7 @@ use Rattle.rule_core.specs.Evaluation.{Evaluated, value, blocked, no_value, clos
 use Rattle.rule_core.specs.Evaluation.{no_call_left, too_high, too_nested, IsInjectionSymbol}
 use Rattle.rule_core.specs.Evaluation.{Evaluates}
 use Rattle.rule_core.specs.FirstRule.{most_nesting}
-use Rattle.rule_core.specs.Runs.{next, stops, stays, Steps}
+use Rattle.rule_core.specs.Runs.{steps_on, stops, stays, Steps}
 use Rattle.rule_core.specs.declared.signature.Signature.{Signature}
 use Rattle.rule_core.specs.declared.signature.SortInfo.{SortInfo}
 use Rattle.rule_core.specs.declared.signature.SortKind.TheVariants as kind
@@ -201,11 +201,11 @@ abbrev pub on : ℕ → ℤ → Tree
 on f z = node f (one_tree (tree_number z))
 
 pub record TriedConditions (sig : Signature) : Type 0 where
-  pub first_holds : Steps (by_size sig) (on 8 (pos 11)) 1 (next (on 9 (pos 11)) 0)
-  pub second_holds : Steps (by_size sig) (on 8 (pos 3)) 2 (next (on 10 (pos 3)) 0)
+  pub first_holds : Steps (by_size sig) (on 8 (pos 11)) 1 (steps_on (on 9 (pos 11)) 0)
+  pub second_holds : Steps (by_size sig) (on 8 (pos 3)) 2 (steps_on (on 10 (pos 3)) 0)
   pub none_holds : Steps (by_size sig) (on 8 (pos 10)) 2 stays
   pub too_few_calls : Steps (by_size sig) (on 8 (pos 3)) 1 (stops (no_call_left 5))
-  pub first_divides : Steps (by_quotient sig) (on 8 (pos 3)) 3 (next (on 10 (pos 3)) 0)
+  pub first_divides : Steps (by_quotient sig) (on 8 (pos 3)) 3 (steps_on (on 10 (pos 3)) 0)
   pub first_blocked : Steps (by_quotient sig) (on 8 (pos 0)) 3 (stops (no_value 3 ZeroDivisor))
 
 -- ---- injections: the sorts 0 (whole numbers), 1 above it, and 2 and 3 above 1
@@ -232,7 +232,7 @@ pub record TriedInjections (sig : Signature) : Type 0 where
       (value (inj 0 2 (tree_number (pos 5))) 0)
   pub moved : Steps (with_rules sig (moves ∷ []))
       (node 1 (one_tree (inj 0 3 (tree_number (pos 5))))) 0
-      (next (node 2 (one_tree (inj 0 2 (tree_number (pos 5))))) 0)
+      (steps_on (node 2 (one_tree (inj 0 2 (tree_number (pos 5))))) 0)
 
 -- ---- lists: the constructors 1 (empty) and 2 (an item followed by a list), and the function 0,
 -- which appends, in the sort 1; the item 3

@@ -6,8 +6,8 @@ use Rattle.term_core.specs.Patterns.{Pattern, no_pattern, more_patterns}
 use Rattle.rule_core.specs.Rules.{RewriteRule}
 use Rattle.rule_core.specs.Theories.{RewriteTheory}
 use Rattle.rule_core.specs.Matching.{MatchAll, NoneMatches}
-use Rattle.rule_core.specs.Evaluation.{Cause, Evaluated, Tested, holds, fails, untested, Says}
-use Rattle.rule_core.specs.Evaluation.{Evaluates}
+use Rattle.rule_core.specs.Evaluation.{Cause, Evaluated, ConditionOutcome, holds, fails, untested}
+use Rattle.rule_core.specs.Evaluation.{Says, Evaluates}
 
 -- the nesting at which a condition or a right side of a rule is evaluated
 abbrev pub most_nesting : ℕ
@@ -25,10 +25,11 @@ IsUnmatched theory rule t =
     (more_trees t no_tree)
 
 -- the condition of a rule, if it has one
-pub data Meets (theory : RewriteTheory) (theta : List (Option Tree)) : Option Pattern → ℕ → Tested
+pub data Meets (theory : RewriteTheory) (theta : List (Option Tree)) : Option Pattern → ℕ
+    → ConditionOutcome
     → Type 0 where
-  no_condition : {c : ℕ} → Meets theory theta None c (holds c)
-  condition : {c : ℕ} {p : Pattern} {e : Evaluated} {r : Tested}
+  no_rule_condition : {c : ℕ} → Meets theory theta None c (holds c)
+  rule_condition : {c : ℕ} {p : Pattern} {e : Evaluated} {r : ConditionOutcome}
       → Evaluates theory most_nesting theta p c e → Says e r → Meets theory theta (Some p) c r
 
 -- the outcome of trying rules: the rule with this number applies with this substitution, and this
@@ -41,14 +42,14 @@ pub data Trial : Type 0 where
 -- the outcome of trying these rules on a term, where this is the number of the first one
 pub data Tries (theory : RewriteTheory) (t : Tree) : ℕ → List RewriteRule → ℕ → Trial → Type 0 where
   no_rule_left : {i c : ℕ} → Tries theory t i [] c none_applies
-  unmatched : {i c : ℕ} {rule : RewriteRule} {rules : List RewriteRule} {r : Trial}
+  rule_unmatched : {i c : ℕ} {rule : RewriteRule} {rules : List RewriteRule} {r : Trial}
       → IsUnmatched theory rule t → Tries theory t (i + 1) rules c r
       → Tries theory t i (rule ∷ rules) c r
-  condition_fails : {i c d : ℕ} {rule : RewriteRule} {rules : List RewriteRule} {r : Trial}
+  rule_condition_fails : {i c d : ℕ} {rule : RewriteRule} {rules : List RewriteRule} {r : Trial}
       {theta : List (Option Tree)} → Matches theory rule t theta
       → Meets theory theta rule.condition c (fails d) → Tries theory t (i + 1) rules d r
       → Tries theory t i (rule ∷ rules) c r
-  condition_blocked : {i c : ℕ} {rule : RewriteRule} {rules : List RewriteRule}
+  rule_condition_blocked : {i c : ℕ} {rule : RewriteRule} {rules : List RewriteRule}
       {theta : List (Option Tree)} {cause : Cause} → Matches theory rule t theta
       → Meets theory theta rule.condition c (untested cause)
       → Tries theory t i (rule ∷ rules) c (trial_blocked cause)

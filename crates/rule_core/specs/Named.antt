@@ -4,8 +4,8 @@ use Rattle.std.specs.List.{position_from, list_any}
 use Rattle.std.specs.Str.{bytes_eq}
 
 -- the number of a name: the position of the first entry with this name
-abbrev pub number_of : {V : Type 0} → List (List ℕ × V) → List ℕ → Option ℕ
-number_of {V} entries name = position_from (λ (e : List ℕ × V). bytes_eq name e.0) 0 entries
+abbrev pub number_of_name : {V : Type 0} → List (List ℕ × V) → List ℕ → Option ℕ
+number_of_name {V} entries name = position_from (λ (e : List ℕ × V). bytes_eq name e.0) 0 entries
 
 -- the name is one of these
 abbrev pub is_among : List (List ℕ) → List ℕ → Bool

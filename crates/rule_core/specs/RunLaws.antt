@@ -8,7 +8,7 @@ use Rattle.rule_core.specs.Sorting.{HasSort, IsTermOf}
 use Rattle.rule_core.specs.Evaluation.{holds, fails, most_height}
 use Rattle.rule_core.specs.FirstRule.{Matches, IsUnmatched, Meets, Trial, applies, none_applies}
 use Rattle.rule_core.specs.FirstRule.{Tries}
-use Rattle.rule_core.specs.Runs.{Stepped, next, Steps, Reaches, Run, IsRunOf}
+use Rattle.rule_core.specs.Runs.{Stepped, steps_on, Steps, Reaches, Run, IsRunOf}
 use Rattle.rule_core.specs.Records.{StepRecord, RecordsStep, most_calls, result_of}
 use Rattle.rule_core.specs.WellSorted.{IsWellSorted, IsRuleOf}
 
@@ -74,11 +74,12 @@ ConfigurationsAreSorted =
 -- judged.
 abbrev pub StepHasRecord : Type 0
 StepHasRecord =
-    (theory : RewriteTheory) (t u : Tree) (c d : ℕ) → c ≤ most_calls → Steps theory t c (next u d) →
+    (theory : RewriteTheory) (t u : Tree) (c d : ℕ) → c ≤ most_calls
+    → Steps theory t c (steps_on u d) →
     (step : StepRecord) × RecordsStep theory t step × (result_of step.right ≡ u)
 
 -- If there is a record of a step from a term, its result is the only term to which a step leads.
 abbrev pub StepRecordDetermines : Type 0
 StepRecordDetermines =
     (theory : RewriteTheory) (t u : Tree) (c d : ℕ) (step : StepRecord) → IsWellSorted theory →
-    RecordsStep theory t step → Steps theory t c (next u d) → u ≡ result_of step.right
+    RecordsStep theory t step → Steps theory t c (steps_on u d) → u ≡ result_of step.right

@@ -12,14 +12,14 @@ use Rattle.rule_core.specs.FirstRule.{most_nesting, applies, none_applies, trial
 -- the outcome of one step from a configuration: the next one, with the number of calls that are
 -- left; none; or a cause why there is no result
 pub data Stepped : Type 0 where
-  next : Tree → ℕ → Stepped
+  steps_on : Tree → ℕ → Stepped
   stays : Stepped
   stops : Cause → Stepped
 
 pub data Steps (theory : RewriteTheory) (t : Tree) (c : ℕ) : Stepped → Type 0 where
   by_rule : {i d e : ℕ} {rule : RewriteRule} {theta : List (Option Tree)} {u : Tree} →
       Tries theory t 0 theory.rules c (applies i rule theta d) →
-      Evaluates theory most_nesting theta rule.right d (value u e) → Steps theory t c (next u e)
+      Evaluates theory most_nesting theta rule.right d (value u e) → Steps theory t c (steps_on u e)
   by_none : Tries theory t 0 theory.rules c none_applies → Steps theory t c stays
   in_condition : {cause : Cause} → Tries theory t 0 theory.rules c (trial_blocked cause) →
       Steps theory t c (stops cause)
@@ -35,7 +35,7 @@ pub data Reaches (theory : RewriteTheory) (start : Pattern) (calls : ℕ) : ℕ 
   at_start : {t : Tree} {c : ℕ} → Evaluates theory most_nesting [] start calls (value t c) →
       Reaches theory start calls 0 t c
   after_step : {n c d : ℕ} {t u : Tree} → Reaches theory start calls n t c
-      → Steps theory t c (next u d) → Reaches theory start calls (suc n) u d
+      → Steps theory t c (steps_on u d) → Reaches theory start calls (suc n) u d
 
 -- how a run ends, after how many steps, and the last complete configuration; if the initial term
 -- has no value, there is no configuration

@@ -2,7 +2,7 @@
 ghost use Rattle.std.specs.Prelude.{◌≡◌, [], ◌∷◌, ◌++◌, length, OnErr, IfOk, slice_get};
 ghost use Rattle.std.specs.Prelude.{option_copied, option_map, string_bytes, is_none};
 ghost use Rattle.std.specs.Prelude.{if◌then◌else◌, ◌==◌};
-ghost use Rattle.rule_core.specs.Named.{number_of};
+ghost use Rattle.rule_core.specs.Named.{number_of_name};
 ghost use Rattle.rule_core.specs.DistinctNames.{names_of, AreDistinct};
 
 use crate::hashing::TextHasher;
@@ -77,7 +77,7 @@ impl<V: Drop> Table<V> {
     /// The number of a name, or None if the table does not have it. It costs one hash of the name,
     /// and mostly one comparison.
     pub fn number(&self, name: &str) -> Option<usize>
-        ensures { result ≡ number_of self.now name.now }
+        ensures { result ≡ number_of_name self.now name.now }
     {
         self.entries.get_index_of(name)
     }
@@ -104,7 +104,7 @@ impl<V: Drop> Table<V> {
     /// changes either. It costs two look-ups, and sometimes a move of all entries to larger memory.
     pub fn insert(&mut self, name: String, value: V) -> Result<bool, AllocError>
         ensures fresh { IfOk result
-            (λ added. added ≡ is_none (number_of self.old (string_bytes name))) }
+            (λ added. added ≡ is_none (number_of_name self.old (string_bytes name))) }
         ensures entries { IfOk result (λ added.
             self.new ≡ (if added then self.old ++ (string_bytes name, value) ∷ [] else self.old)) }
         ensures err { OnErr result (self.new ≡ self.old) }

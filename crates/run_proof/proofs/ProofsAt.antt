@@ -17,7 +17,7 @@ use Rattle.mm_justify.specs.Counting.{HasCounts, capped}
 use Rattle.prove_step.specs.Steps.{IsStepFrom}
 use Rattle.prove_run.specs.RunProof.{RunProof, configuration, reached}
 use Rattle.prove_run.specs.Proving.{CanStep, FitsProof, StepsTo}
-use Rattle.rule_core.specs.Runs.{Steps, next, Reaches}
+use Rattle.rule_core.specs.Runs.{Steps, steps_on, Reaches, Run, kept_by}
 use Rattle.rewriter.specs.Configurations.{IsStartOf, RunState, IsConfiguration}
 use Rattle.run_proof.specs.declared.summaries.Summary.{Summary}
 use Rattle.run_proof.specs.declared.steps.ProvedSteps.{ProvedSteps}
@@ -32,7 +32,6 @@ use Rattle.run_proof.specs.WrittenPieces.{SumsUp}
 use Rattle.desk_io.specs.Told.{Told}
 use Rattle.desk_io.specs.Changes.{TellsCreated, Writes, WritesFront}
 use Rattle.desk_io.proofs.Told.{Writes-nil, Writes-then}
-use Rattle.rule_core.specs.Runs.{Run, kept_by}
 use Rattle.run_proof.specs.WrittenProofs.{IsSummaryOf, WritesFrontOfProof, WritesProof}
 
 -- a run begins where its proof begins
@@ -87,13 +86,13 @@ goes_on program start proof further written before after t u h by = record {
 
 -- the step is the one of the definition
 pub goes_further : (program : Program) (old : ProvedSteps) (run : RunState) (g : StepResult)
-    → Steps (theory_of program) old.run.config old.run.calls (next run.config run.calls)
+    → Steps (theory_of program) old.run.config old.run.calls (steps_on run.config run.calls)
     → IsConfiguration (theory_of program) run.config → IsFurther run old.proof old.text.items g
     → ContinuesRun program old g
 goes_further program old run (going.Further new) step sorted h =
     let same : run ≡ new.run = sym h.0 in (
       subst (λ (s : RunState).
-          Steps (theory_of program) old.run.config old.run.calls (next s.config s.calls)) same
+          Steps (theory_of program) old.run.config old.run.calls (steps_on s.config s.calls)) same
           step,
       λ start written at. (
         subst (λ (s : RunState). IsConfiguration (theory_of program) s.config) same sorted,

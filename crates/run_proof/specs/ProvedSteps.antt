@@ -8,7 +8,7 @@ use Rattle.rule_core.specs.ProgramView.{theory_of}
 use Rattle.rule_core.specs.RunView.{cause_of}
 use Rattle.rule_core.specs.Evaluation.{Evaluates, blocked}
 use Rattle.rule_core.specs.FirstRule.{most_nesting}
-use Rattle.rule_core.specs.Runs.{Steps, next, stays, stops, Reaches}
+use Rattle.rule_core.specs.Runs.{Steps, steps_on, stays, stops, Reaches}
 use Rattle.rule_core.specs.WellSorted.{IsStart}
 use Rattle.rule_core.specs.declared.rules.Blocked.{Blocked}
 use Rattle.rule_core.specs.declared.rules.Program.{Program}
@@ -87,7 +87,7 @@ IsUnstarted program start why (beginning.Unstarted because left) =
 -- made
 abbrev pub ContinuesRun : Program → ProvedSteps → StepResult → Type 0
 ContinuesRun program old (going.Further new) =
-    Steps (theory_of program) old.run.config old.run.calls (next new.run.config new.run.calls)
+    Steps (theory_of program) old.run.config old.run.calls (steps_on new.run.config new.run.calls)
     × ((start : Pattern) (written : List ℕ) → IsProvedRun program start written old →
     IsProvedRun program start written new)
 ContinuesRun program old (going.Stuck last left) =

@@ -14,8 +14,9 @@ use Rattle.term_core.proofs.PlainPatterns.{plain-Var, plain-Value, plain-Ctor, p
 use Rattle.rule_core.specs.Theories.{equations_of}
 use Rattle.rule_core.specs.ProgramView.{theory_of, function_equation}
 use Rattle.rule_core.specs.Evaluation.{Evaluates, value, blocked, too_nested, nested_out}
-use Rattle.rule_core.specs.Evaluation.{of_constructor, of_injection, of_call, Applies, by_nothing}
-use Rattle.rule_core.specs.Evaluation.{without_call, no_call_left, EvaluatesIn, no_nesting}
+use Rattle.rule_core.specs.Evaluation.{of_constructor, of_injection, of_call, HasOutcome}
+use Rattle.rule_core.specs.Evaluation.{by_nothing, without_call, no_call_left, EvaluatesIn}
+use Rattle.rule_core.specs.Evaluation.{no_nesting}
 use Rattle.rule_core.specs.Matching.{MatchAll}
 use Rattle.rule_core.specs.Sorting.{IsSymbol}
 use Rattle.rule_core.specs.declared.rules.Program.{Program}
@@ -310,7 +311,7 @@ apply-returns-then-calls-eq0 g t c =
     let there : IsSymbol c.args.engine.now.sig c.args.sym.0 c.symbol-info.result.now =
     subst (λ (p : Program). IsSymbol p.sig c.args.sym.0 c.symbol-info.result.now)
     c.program.ensures.program c.symbol-info.ensures in
-    subst (λ k. Applies (theory_of c.args.engine.now) c.args.nest c.args.sym.0
+    subst (λ k. HasOutcome (theory_of c.args.engine.now) c.args.nest c.args.sym.0
     (forest c.args.args.terms.items) k (blocked (no_call_left c.args.sym.0)))
     (sym c.if-calls-eq0.true) (without_call there c.in_default.not-Closed)
 

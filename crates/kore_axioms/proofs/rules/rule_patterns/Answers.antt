@@ -10,8 +10,8 @@ use Rattle.kore_check.specs.VariableNames.{named_sorts}
 use Rattle.kore_shapes.specs.Views.{pattern_at}
 use Rattle.kore_axioms.specs.AxiomMeanings.{MeansTest}
 use Rattle.kore_axioms.specs.NamedRules.{with_some_variables}
-use Rattle.kore_axioms.specs.Conditions.{tested}
-use Rattle.kore_axioms.specs.RuleFaults.{listed, is_bound}
+use Rattle.kore_axioms.specs.Conditions.{tested_pattern}
+use Rattle.kore_axioms.specs.RuleFaults.{listed_pattern, is_bound}
 use Rattle.kore_axioms.specs.RuleParts.{RuleParts, left_of}
 use Rattle.kore_axioms.specs.Views.{plain_rule_parts}
 use Rattle.kore_axioms.proofs.BuiltLaws.{bound_counted, bound_all}
@@ -31,9 +31,9 @@ returns c =
     let right_is : plain_tree c.in-Some-Some.right.now ≡ f.right =
     some_same _ _ (sym (ap (option_map pattern_at) c.in-Some-Some.is-1) ∙ c.main-2.ensures
     ∙ f.is_right) in
-    let qs : Unfoldeds = listed (Some f.left) in
+    let qs : Unfoldeds = listed_pattern (Some f.left) in
     let first : List (List ℕ × ℕ) = with_all_variables sig [] qs in
-    let test : Option PatternTree = tested w.condition in
+    let test : Option PatternTree = tested_pattern w.condition in
     let one : c.build_pattern.new.vars ≡ first =
     c.in_ok-left.ensures.vars
     ∙ ap (λ (vs : List (List ℕ × ℕ)).
@@ -73,9 +73,10 @@ returns c =
       is_right = f.is_right;
       bound = bound
           ∙ ap (λ (o : Option PatternTree).
-          is_bound (listed o) test && is_bound (listed o) (Some f.right)) (sym f.is_left)
+          is_bound (listed_pattern o) test
+              && is_bound (listed_pattern o) (Some f.right)) (sym f.is_left)
           ∙ ap (λ (o : Option PatternTree).
-          is_bound (listed (left_of w)) test && is_bound (listed (left_of w)) o)
+          is_bound (listed_pattern (left_of w)) test && is_bound (listed_pattern (left_of w)) o)
           (sym f.is_right);
       numbered =
           λ yes. kept

@@ -2,7 +2,7 @@ use Rattle.std.proofs.Common.{◌≡◌, ℕ, sym, subst}
 use Rattle.std.specs.Prelude.{Option, option_map}
 use Rattle.kore_ast.specs.Plain.{pattern_tree}
 use Rattle.kore_check.specs.Folds.{unfolded, unfolded_byte}
-use Rattle.kore_check.specs.PatternSorts.{sort_of}
+use Rattle.kore_check.specs.PatternSorts.{sort_of_pattern}
 use Rattle.kore_check.specs.PatternFaults.{all_faults, clash_faults}
 use Rattle.kore_check.proofs.Places.{byte_of_next-unfolded}
 use Rattle.kore_check.specs.Notes.{kept_fault, after, sort_no}
@@ -23,7 +23,7 @@ returns c =
     subst (λ (b : ℕ). kept_fault c.note_clash.new.first
     ≡ after c.note_pattern-own.new.first (clash_faults b own wanted))
     (sym (byte_of_next-unfolded c.args.pat.now)) clash in
-    noted_both (all_faults sig u) (clash_faults (unfolded_byte u) (sort_of sig u) wanted)
+    noted_both (all_faults sig u) (clash_faults (unfolded_byte u) (sort_of_pattern sig u) wanted)
     c.args.first.now c.note_pattern-own.new.first c.note_clash.new.first
     (as_noted (all_faults sig u) c.args.first.now c.note_pattern-own.new.first
     c.note_pattern-own.ensures.first)

@@ -5,7 +5,7 @@ use Rattle.kore_ast.specs.Plain.{plain_sort}
 use Rattle.kore_ast.specs.declared.tree.Pat.{Pat}
 use Rattle.kore_check.specs.Folds.{only_of}
 use Rattle.kore_check.specs.PatternFaults.{pattern_faults}
-use Rattle.kore_check.specs.PatternSorts.{sort_of}
+use Rattle.kore_check.specs.PatternSorts.{sort_of_pattern}
 use Rattle.kore_check.specs.Notes.{sort_no, after}
 use Rattle.kore_check.proofs.FoldChecks.{application_folded, fold_short, only_other, fold_known}
 use Rattle.kore_check.proofs.FoldChecks.{fold_sorted, fold_checked, fold_begun, fold_goes_on}
@@ -42,7 +42,8 @@ check_arguments-loop-i-preserved t c =
 
 pub check_only-returns-then-args-ne1-clause-sort : goal.check_only-returns-then-args-ne1-clause-sort
 check_only-returns-then-args-ne1-clause-sort t c =
-    λ at. sym (ap (sort_of c.args.sig.now) (only_other at c.args.args.now c.if-args-ne1.true))
+    λ at. sym (ap (sort_of_pattern c.args.sig.now) (only_other at c.args.args.now
+        c.if-args-ne1.true))
 
 pub check_only-returns-then-args-ne1-clause-first :
     goal.check_only-returns-then-args-ne1-clause-first
@@ -76,9 +77,10 @@ check_folded-returns t c =
 pub check_fold-returns-then-len-lt2-clause-sort : goal.check_fold-returns-then-len-lt2-clause-sort
 check_fold-returns-then-len-lt2-clause-sort t c =
     c.check_only.ensures.sort c.args.inner.now.at
-    ∙ ap (λ (ps : List Pat). sort_of c.args.sig.now (only_of c.args.inner.now.at (reads ps)))
+    ∙ ap (λ (ps : List Pat). sort_of_pattern c.args.sig.now
+    (only_of c.args.inner.now.at (reads ps)))
     c.deref.ensures.value
-    ∙ ap (sort_of c.args.sig.now) (fold_short c.args.left c.args.inner.now.at c.in-App.name
+    ∙ ap (sort_of_pattern c.args.sig.now) (fold_short c.args.left c.args.inner.now.at c.in-App.name
     (map plain_sort c.in-App.sorts.items) c.in-App.args.items
     (omega (arith, c.len.ensures, c.if-len-lt2.true))
     ∙

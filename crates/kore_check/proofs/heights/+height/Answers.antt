@@ -1,13 +1,13 @@
 use Rattle.std.proofs.Common.{rules, ◌≡◌, ◌+◌, List, max, drop, sym, ◌∙◌, ap, arith, map}
 use Rattle.kore_ast.specs.declared.tree.Pat.{Pat}
 use Rattle.kore_ast.specs.Plain.{plain_sort, pattern_tree}
-use Rattle.kore_check.specs.Folds.{only_of, height, unfolded}
+use Rattle.kore_check.specs.Folds.{only_of, unfolded_height, unfolded}
 use Rattle.kore_check.specs.FoldHeights.{cut}
 use Rattle.kore_check.proofs.Applications.{reads}
 use Rattle.kore_check.proofs.FoldChecks.{application_folded, fold_short}
 use Rattle.kore_check.proofs.HeightLaws.{left-more, left-end, left_whole, right-end, right_whole}
 use Rattle.kore_check.proofs.HeightLaws.{only_high, grown_left, cut-grown}
-use Rattle.kore_check.proofs.heights.+height.Goals as goal
+use Rattle.kore_check.proofs.heights.+unfolded_height.Goals as goal
 
 pub only_height-returns-then-args-ne1 : goal.only_height-returns-then-args-ne1
 only_height-returns-then-args-ne1 t c =
@@ -16,9 +16,9 @@ only_height-returns-then-args-ne1 t c =
 pub fold_height-returns-then-len-lt2 : goal.fold_height-returns-then-len-lt2
 fold_height-returns-then-len-lt2 t c =
     c.only_height.ensures c.args.inner.now.at
-    ∙ ap (λ (ps : List Pat). cut (height (only_of c.args.inner.now.at (reads ps))))
+    ∙ ap (λ (ps : List Pat). cut (unfolded_height (only_of c.args.inner.now.at (reads ps))))
     c.deref.ensures.value
-    ∙ ap (λ u. cut (height u)) (fold_short c.args.left c.args.inner.now.at c.in-App.field-0
+    ∙ ap (λ u. cut (unfolded_height u)) (fold_short c.args.left c.args.inner.now.at c.in-App.field-0
     (map plain_sort c.in-App.field-1.items) c.in-App.args.items
     (omega (arith, c.len.ensures, c.if-len-lt2.true))
     ∙
@@ -42,7 +42,8 @@ left_height-returns t c = λ byte name ss.
     left-end c.loop-i.height c.args.args.now c.loop-i.i _ c.loop-i-test.false c.loop-i.invariant.low
     c.loop-i.invariant.whole
     ∙ ap (λ h. cut (grown_left h (drop 1 c.args.args.now))) c.height_of-height.ensures
-    ∙ cut-grown (height (unfolded (pattern_tree c.index-args-0.result))) (drop 1 c.args.args.now)
+    ∙ cut-grown (unfolded_height (unfolded (pattern_tree c.index-args-0.result)))
+    (drop 1 c.args.args.now)
     ∙ ap cut (sym (left_whole byte name ss c.args.args.now c.index-args-0.result c.requires
     c.index-args-0.is))
 

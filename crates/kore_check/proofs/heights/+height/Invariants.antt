@@ -1,5 +1,5 @@
 use Rattle.std.proofs.Common.{◌≡◌, ◌≤◌, drop, max}
-use Rattle.kore_check.specs.Folds.{heights}
+use Rattle.kore_check.specs.Folds.{unfolded_heights}
 use Rattle.kore_check.specs.FoldHeights.{cut}
 use Rattle.kore_check.proofs.HeightLaws.{grown_left, grown_from}
 use Rattle.kore_check.proofs.Applications.{reads}
@@ -8,8 +8,8 @@ use Rattle.kore_check.proofs.heights.+height.Given as goal
 abbrev pub invariant-highest-loop-arg : goal.invariant-highest-loop-arg
 invariant-highest-loop-arg l = record {
   low : l.highest ≤ 501;
-  whole : cut (max l.highest (heights (reads (drop l.arg-index l.args))))
-      ≡ cut (heights (reads l.args));
+  whole : cut (max l.highest (unfolded_heights (reads (drop l.arg-index l.args))))
+      ≡ cut (unfolded_heights (reads l.args));
 }
 
 abbrev pub invariant-left_height-loop-i : goal.invariant-left_height-loop-i

@@ -14,7 +14,7 @@ use Rattle.kore_shapes.specs.Views.{pattern_at, plain_condition}
 use Rattle.kore_shapes.specs.PartViews.{plain_parts}
 use Rattle.kore_axioms.specs.AxiomMeanings.{MeansTest}
 use Rattle.kore_axioms.specs.NamedRules.{with_some_variables}
-use Rattle.kore_axioms.specs.Conditions.{tested}
+use Rattle.kore_axioms.specs.Conditions.{tested_pattern}
 use Rattle.kore_axioms.specs.RuleFaults.{is_bound}
 use Rattle.kore_axioms.proofs.BuiltLaws.{bound_counted, bound_all}
 use Rattle.kore_equations.specs.ReadableEquations.{all_read}
@@ -24,7 +24,7 @@ pub returns : goal.returns
 returns c =
     let sig = c.args.sig.now in
     let q : EquationParts = plain_parts c.args.parts.now in
-    let test : Option PatternTree = tested (plain_condition c.args.condition) in
+    let test : Option PatternTree = tested_pattern (plain_condition c.args.condition) in
     let qs : Unfoldeds = all_read q.patterns in
     let right : PatternTree = q.right in
     let f = c.requires.fine in

@@ -4,7 +4,7 @@ use Rattle.std.proofs.lemmas.List.{length-map}
 use Rattle.kore_ast.specs.declared.tree.Pat.{Pat}
 use Rattle.kore_ast.specs.Plain.{pattern_tree as plain_tree, plain_axiom_decl}
 use Rattle.kore_shapes.specs.Shapes.{Condition}
-use Rattle.kore_shapes.specs.Statements.{Statement}
+use Rattle.kore_shapes.specs.Statements.{StatedEquation}
 use Rattle.kore_shapes.specs.StatementViews.{plain_statement}
 use Rattle.kore_shapes.specs.EquationForms.{EquationParts}
 use Rattle.kore_shapes.specs.PartViews.{plain_parts}
@@ -51,7 +51,7 @@ pub returns : goal.returns
 returns c =
     let sig = c.args.sig.now in
     let a = plain_axiom_decl c.args.decl.now in
-    let e : Statement = plain_statement c.args.stated.now in
+    let e : StatedEquation = plain_statement c.args.stated.now in
     let q : EquationParts = plain_parts c.in-Some.parts in
     let made = c.in_ok-made.made in
     let n : ℕ = c.in_ok-ok_or.field-0 in
@@ -61,7 +61,8 @@ returns c =
     subst (λ (k : Condition). IsBuiltOf sig k q made) c.condition_of.ensures
     c.in_ok-made.ensures in
     let count : n ≡ length q.parameters =
-    (rw c.in_ok-ok_or.ensures.ok_part at c.as_number.ensures.fits) ∙ sym (length-map c.in-Some.parts.parameters.now plain_tree) in
+    (rw c.in_ok-ok_or.ensures.ok_part at c.as_number.ensures.fits)
+    ∙ sym (length-map c.in-Some.parts.parameters.now plain_tree) in
     let priority : c.priority_of.result ≡ priority_of a.attributes =
     c.priority_of.ensures
     ∙ ap (λ (attrs : List Pat). priority_of (map plain_tree attrs)) c.deref.ensures.value in (

@@ -3,7 +3,7 @@ use Rattle.std.proofs.Common.{subst, arith}
 use Rattle.std.specs.Prelude.{option_copied}
 use Rattle.std.specs.Option.{option_and_then}
 use Rattle.kore_ast.specs.Plain.{plain_axiom_decl}
-use Rattle.rule_core.specs.Named.{number_of}
+use Rattle.rule_core.specs.Named.{number_of_name}
 use Rattle.rule_core.specs.declared.signature.SymInfo.{SymInfo}
 use Rattle.rule_core.specs.declared.rules.Equation.{Equation}
 use Rattle.kore_check.specs.PatternSorts.{symbol_info, symbol_named}
@@ -15,17 +15,17 @@ use Rattle.kore_equations.proofs.readings.read_equation.Goals as goal
 
 pub unreachable-requires : goal.unreachable-requires
 unreachable-requires c =
-    let none : number_of c.args.sig.now.symbols c.args.stated.now.function.now ≡ None =
-    ap (number_of c.args.sig.now.symbols) (sym c.as_str.ensures) ∙ sym c.number.ensures
+    let none : number_of_name c.args.sig.now.symbols c.args.stated.now.function.now ≡ None =
+    ap (number_of_name c.args.sig.now.symbols) (sym c.as_str.ensures) ∙ sym c.number.ensures
     ∙ c.in_default.is in
     number_there c.args.sig.now (plain_axiom_decl c.args.decl.now)
     (plain_statement c.args.stated.now) c.requires.class none
 
 pub unreachable-requires-in_default-value : goal.unreachable-requires-in_default-value
 unreachable-requires-in_default-value c =
-    let is : number_of c.args.sig.now.symbols c.args.stated.now.function.now ≡ Some
+    let is : number_of_name c.args.sig.now.symbols c.args.stated.now.function.now ≡ Some
     c.in-Some.number =
-    ap (number_of c.args.sig.now.symbols) (sym c.as_str.ensures) ∙ sym c.number.ensures
+    ap (number_of_name c.args.sig.now.symbols) (sym c.as_str.ensures) ∙ sym c.number.ensures
     ∙ c.in-Some.is in
     declaration_there c.args.sig.now (plain_axiom_decl c.args.decl.now)
     (plain_statement c.args.stated.now) c.in-Some.number c.requires.class is
@@ -45,8 +45,8 @@ returns-in-None-clause-means c =
     let e = plain_statement c.args.stated.now in
     let f : List ℕ = c.args.stated.now.function.now in
     let info : SymInfo = c.in-Some-value.symbol.now in
-    let is : number_of sig.symbols f ≡ Some c.in-Some.number =
-    ap (number_of sig.symbols) (sym c.as_str.ensures) ∙ sym c.number.ensures ∙ c.in-Some.is in
+    let is : number_of_name sig.symbols f ≡ Some c.in-Some.number =
+    ap (number_of_name sig.symbols) (sym c.as_str.ensures) ∙ sym c.number.ensures ∙ c.in-Some.is in
     let declared : symbol_named sig f ≡ Some info =
     ap (option_and_then (symbol_info sig)) is ∙ sym c.value.ensures
     ∙ ap option_copied c.in-Some-value.is in

@@ -2,7 +2,7 @@ use Rattle.std.proofs.Common.{refl, ◌≡◌, Some, subst}
 use Rattle.kore_ast.specs.Plain.{plain_axiom_decl}
 use Rattle.kore_equations.specs.Readings.{IsReadAs, function_of}
 use Rattle.kore_equations.specs.declared.readings.Reading.{Reading}
-use Rattle.rule_core.specs.Named.{number_of}
+use Rattle.rule_core.specs.Named.{number_of_name}
 use Rattle.kore_rules.proofs.AxiomReads.{read_equation, read_unreadable}
 use Rattle.kore_rules.proofs.axioms.add_equation.Goals as goal
 
@@ -13,7 +13,7 @@ returns-in_ok-push-in-Equation c = λ axioms h.
     let a = plain_axiom_decl c.args.decl.now in
     read_equation sig axioms a f c.args.readings.now _ c.in-Equation.equation
     c.in_ok-push-in-Equation.ensures.items refl refl
-    (subst (λ (r : Reading). number_of sig.symbols f ≡ Some (function_of r)) c.in-Equation.is
+    (subst (λ (r : Reading). number_of_name sig.symbols f ≡ Some (function_of r)) c.in-Equation.is
     c.in_ok-equation.ensures.function)
     (subst (λ (r : Reading). IsReadAs sig f a r) c.in-Equation.is c.in_ok-equation.ensures.means) h
 
@@ -24,7 +24,7 @@ returns-in-Unreadable c = λ axioms h.
     let a = plain_axiom_decl c.args.decl.now in
     read_unreadable sig axioms a f c.in-Unreadable.function.0 c.args.readings.now _ refl refl
     c.mark.ensures.len c.mark.ensures.marked
-    (subst (λ (r : Reading). number_of sig.symbols f ≡ Some (function_of r)) c.in-Unreadable.is
+    (subst (λ (r : Reading). number_of_name sig.symbols f ≡ Some (function_of r)) c.in-Unreadable.is
     c.in_ok-equation.ensures.function)
     (subst (λ (r : Reading). IsReadAs sig f a r) c.in-Unreadable.is c.in_ok-equation.ensures.means)
     h

@@ -6,7 +6,7 @@ use Rattle.kore_text.specs.Trees.{SortTree, AxiomDeclaration}
 use Rattle.kore_ast.specs.declared.tree.AxiomDecl.{AxiomDecl}
 use Rattle.kore_sig.specs.FirstFault.{Fault}
 use Rattle.kore_sig.proofs.ListLaws.{map_step, drop_step}
-use Rattle.kore_axioms.specs.AxiomClasses.{AxiomClass, class_of}
+use Rattle.kore_axioms.specs.AxiomClasses.{AxiomClass, axiom_class}
 use Rattle.kore_rules.specs.AxiomsRead.{HaveRead, IsFirstSort, sort_at, tree_at}
 use Rattle.kore_rules.specs.FirstRefusal.{FirstOfClass, FirstOfAxioms, first_sort}
 use Rattle.kore_rules.proofs.FirstLaws.{FirstBehind, refuses_into, behind_clear, behind_fault}
@@ -47,10 +47,10 @@ loop-decl-preserved c =
     let more =
     map_step tree_at c.args.axioms.now i c.decl-item.result c.loop-decl-test.true
     c.decl-item.is in
-    let clear : FirstOfClass sig first a (class_of sig a) None =
+    let clear : FirstOfClass sig first a (axiom_class sig a) None =
     subst (λ (k : AxiomClass). FirstOfClass sig first a k None) c.class_of-class.ensures
     c.in_ok-read_axiom.ensures.clear in
-    let then : sort_at c.first_sort-first.result ≡ first_sort first (class_of sig a) =
+    let then : sort_at c.first_sort-first.result ≡ first_sort first (axiom_class sig a) =
     c.first_sort-first.ensures ∙ ap (first_sort first) c.class_of-class.ensures in
     record {
       read =
@@ -61,7 +61,7 @@ loop-decl-preserved c =
           subst (λ (s : Option SortTree).
           IsFirstSort sig (map tree_at (take (i + 1) c.args.axioms.now)) s) (sym then)
           (subst (λ (axioms : List AxiomDeclaration).
-          IsFirstSort sig axioms (first_sort first (class_of sig a))) (sym more)
+          IsFirstSort sig axioms (first_sort first (axiom_class sig a))) (sym more)
           (first_more sig (map tree_at (take i c.args.axioms.now)) first a
           c.loop-decl.invariant.first clear));
       behind = λ r rest. c.loop-decl.invariant.behind r

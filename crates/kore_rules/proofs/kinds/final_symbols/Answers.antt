@@ -1,6 +1,6 @@
 use Rattle.std.proofs.Common.{◌≡◌, ◌∙◌, ap, sym, Option, Some, List, ℕ, Bool, Bor}
 use Rattle.std.specs.Prelude.{option_copied, option_map, slice_get, string_bytes}
-use Rattle.rule_core.specs.Named.{number_of}
+use Rattle.rule_core.specs.Named.{number_of_name}
 use Rattle.rule_core.specs.declared.signature.SymInfo.{SymInfo}
 use Rattle.kore_rules.specs.ScalarSorts.{IsFinal, final_kind, is_marked_at}
 use Rattle.kore_rules.proofs.FinalLaws.{own_number, entry_from, final_more}
@@ -16,7 +16,7 @@ loop-number-preserved c =
     (ap option_copied (sym c.in-Some-Some.is-1) ∙ c.value.ensures) in
     let d = found.0 in
     let made : List ℕ × SymInfo = (string_bytes c.in_ok-name.name, c.in_ok-with_kind.field-0) in
-    let number : number_of sig.symbols d.0 ≡ Some n =
+    let number : number_of_name sig.symbols d.0 ≡ Some n =
     own_number sig.symbols n d c.names_differ.ensures found.1 in
     let final : IsFinal sig c.args.with_terms.now c.args.unreadable.now d made = record {
       name = c.in_ok-name.ensures.ok ∙ sym found.2;

@@ -3,7 +3,7 @@ use Rattle.kore_text.specs.Trees.{SortTree, PatternTree, pattern_trees, listed_p
 use Rattle.kore_ast.specs.Plain.{plain_sort, pattern_tree}
 use Rattle.kore_ast.specs.declared.tree.Pat.{Pat}
 use Rattle.kore_ast.specs.declared.tree.Sort.{Sort}
-use Rattle.kore_shapes.specs.Statements.{called as the_called, call_of as the_call_of}
+use Rattle.kore_shapes.specs.Statements.{symbol_called as the_called, stated_call as the_call_of}
 use Rattle.kore_shapes.proofs.TreeLists.{listed_sort_trees, listed_pattern_trees}
 use Rattle.kore_shapes.proofs.PatternForms.{application_is}
 use Rattle.kore_shapes.proofs.statements.called.Goals as goal

@@ -9,7 +9,7 @@ use Rattle.kore_ast.specs.Plain.{plain_module, plain_declaration}
 use Rattle.kore_ast.specs.declared.tree.Module.{Module}
 use Rattle.kore_sig.specs.CountedModules.{counts, counted}
 use Rattle.kore_sig.specs.Placing.{marks_of, plain_placed, names_of_modules}
-use Rattle.kore_sig.specs.SignatureFaults.{Placed, placed, placed_at, names_after}
+use Rattle.kore_sig.specs.SignatureFaults.{Placed, declarations_placed, placed_at, names_after}
 use Rattle.kore_sig.proofs.CountedLaws.{mark_at, length_marks, placed_with, placed_without}
 use Rattle.kore_sig.proofs.CountedLaws.{placed_counted, declarations_of}
 use Rattle.kore_sig.proofs.ListLaws.{take_step, drop_step}
@@ -59,8 +59,10 @@ loop-i-preserved c =
     sym (get_or-map (λ (x : Module).
     x.name) modules c.loop-i.i c.module-item.result c.module-item.result.name lt)) in
     let so_far = map (plain_placed names) c.loop-i.placed.items in
-    let whole : so_far ++ placed here (m ∷ later) ≡ placed [] (map plain_module modules) =
-    ap (λ (ms : List ModuleTree). so_far ++ placed here ms) (sym rest) ∙ c.loop-i.invariant in
+    let whole : so_far ++ declarations_placed here (m ∷ later)
+        ≡ declarations_placed [] (map plain_module modules) =
+    ap (λ (ms : List ModuleTree). so_far ++ declarations_placed here ms) (sym rest)
+        ∙ c.loop-i.invariant in
     elim c.if-index.branch [
       | then-index+in_ok-place w ↦ let grown : map (plain_placed names) c.if-index.placed.items
           ≡ so_far ++ map (placed_at here) m.declarations =
@@ -69,14 +71,15 @@ loop-i-preserved c =
           ∙ ap (λ (ds : List Decl). so_far ++ map (placed_at here) (map plain_declaration ds))
           w.deref-then-index.ensures.value in
           ap (λ (ns : List (List ℕ)).
-          map (plain_placed names) c.if-index.placed.items ++ placed ns later) next
-          ∙ ap (λ (ps : List Placed). ps ++ placed (names_after here m) later) grown
+          map (plain_placed names) c.if-index.placed.items ++ declarations_placed ns later) next
+          ∙ ap (λ (ps : List Placed). ps ++ declarations_placed (names_after here m) later) grown
           ∙ placed_with here m later c.index.result.now so_far is w.if-index.true
           ∙ whole
       | else-index w ↦ ap (λ (ns : List (List ℕ)).
-          map (plain_placed names) c.if-index.placed.items ++ placed ns later) next
+          map (plain_placed names) c.if-index.placed.items ++ declarations_placed ns later) next
           ∙ ap (λ (v : Vec PlacedDecl Global).
-          map (plain_placed names) v.items ++ placed (names_after here m) later) w.placed-is
+          map (plain_placed names) v.items ++ declarations_placed (names_after here m) later)
+              w.placed-is
           ∙ placed_without here m later c.index.result.now so_far is w.if-index.false
           ∙ whole
     ]
@@ -86,11 +89,11 @@ returns-clause-counted c =
     let modules = c.deref-module-items.result.now in
     let names = names_of_modules modules in
     let over : drop c.loop-i.i modules ≡ [] = drop_all c.loop-i.i modules (omega arith) in
-    let whole : map (plain_placed names) c.loop-i.placed.items ≡ placed []
+    let whole : map (plain_placed names) c.loop-i.placed.items ≡ declarations_placed []
     (map plain_module modules) =
     sym (append-nil (map (plain_placed names) c.loop-i.placed.items))
     ∙ ap (λ (ms : List Module). map (plain_placed names) c.loop-i.placed.items
-    ++ placed (take c.loop-i.i names) (map plain_module ms)) (sym over)
+    ++ declarations_placed (take c.loop-i.i names) (map plain_module ms)) (sym over)
     ∙ c.loop-i.invariant in
     sym (declarations_of names c.loop-i.placed.items)
     ∙ ap (map (λ (p : Placed). p.declaration)) whole

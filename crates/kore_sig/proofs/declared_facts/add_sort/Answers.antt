@@ -1,6 +1,6 @@
 use Rattle.std.proofs.Common.{◌≡◌, ap, ◌∙◌, cond, ◌++◌, ◌∷◌, [], List, ℕ, map, string_bytes}
 use Rattle.std.specs.Prelude.{is_none}
-use Rattle.rule_core.specs.Named.{number_of}
+use Rattle.rule_core.specs.Named.{number_of_name}
 use Rattle.rule_core.specs.declared.signature.SortInfo.{SortInfo}
 use Rattle.rule_core.specs.declared.signature.SortKind.{SortKind}
 use Rattle.kore_ast.specs.declared.tree.Pat.{Pat}
@@ -30,7 +30,7 @@ returns c =
     (sort_entry d).1.kind name kind in
     λ ds table. sort_more ds d c.in_ok-insert.field-0 c.args.sorts.now c.insert.new.self
     (c.in_ok-insert.ensures.fresh
-    ∙ ap (λ (n : List ℕ). is_none (number_of c.args.sorts.now n)) name)
+    ∙ ap (λ (n : List ℕ). is_none (number_of_name c.args.sorts.now n)) name)
     (c.in_ok-insert.ensures.entries
     ∙ ap (λ (e : List ℕ × SortInfo).
     cond c.in_ok-insert.field-0 (c.args.sorts.now ++ e ∷ []) c.args.sorts.now) entry)

@@ -2,7 +2,7 @@ use Rattle.std.proofs.Common.{◌≡◌, ◌+◌, ◌<◌, ◌++◌, ◌∷◌, 
 use Rattle.std.proofs.Common.{length, get_or, refl, not, Bool, true, false, cond}
 use Rattle.std.specs.Option.{option_or}
 use Rattle.std.specs.Prelude.{is_some}
-use Rattle.rule_core.specs.Named.{number_of, is_among}
+use Rattle.rule_core.specs.Named.{number_of_name, is_among}
 use Rattle.rule_core.specs.DistinctNames.{names_of}
 use Rattle.kore_ast.specs.declared.tree.Module.{Module}
 use Rattle.kore_ast.specs.Plain.{plain_module}
@@ -38,7 +38,7 @@ returns-then-not-branch-clause-refused c =
     let m = c.module-item.result in
     let there : is_among names m.name ≡ true =
     sym (number_among c.loop-module.names m.name)
-    ∙ taken c.in_ok-add_name.field-0 (is_some (number_of c.loop-module.names m.name))
+    ∙ taken c.in_ok-add_name.field-0 (is_some (number_of_name c.loop-module.names m.name))
     c.in_ok-add_name.ensures.fresh c.if-not-branch.true in
     sym c.loop-module.invariant.first
     ∙ from_here names c.args.modules.now c.loop-module.module-index m (omega arith) c.module-item.is
@@ -54,7 +54,7 @@ loop-module-preserved c =
     let left = map plain_module (drop (c.loop-module.module-index + 1) c.args.modules.now) in
     let none : is_among names m.name ≡ false =
     sym (number_among c.loop-module.names m.name)
-    ∙ free c.in_ok-add_name.field-0 (is_some (number_of c.loop-module.names m.name))
+    ∙ free c.in_ok-add_name.field-0 (is_some (number_of_name c.loop-module.names m.name))
     c.in_ok-add_name.ensures.fresh c.if-not-branch.false in
     let named : names_of c.add_name.new.names ≡ names ++ m.name ∷ [] =
     ap names_of (c.in_ok-add_name.ensures.entries

@@ -12,7 +12,7 @@ use Rattle.kore_sig.specs.Knowing.{entries_in, IsKnown}
 use Rattle.kore_sig.specs.Naming.{first_module}
 use Rattle.kore_sig.specs.Ordering.{FirstFrom, pairs_in}
 use Rattle.kore_sig.specs.Placing.{plain_placed, names_of_modules}
-use Rattle.kore_sig.specs.SignatureFaults.{FirstOfSignature, nothing_declared, placed}
+use Rattle.kore_sig.specs.SignatureFaults.{FirstOfSignature, nothing_declared, declarations_placed}
 use Rattle.kore_sig.specs.Signatures.{IsPairOf}
 use Rattle.kore_sig.specs.SortReferences.{sort_entries}
 use Rattle.kore_sig.specs.declared.counted.Placed.{Placed as PlacedDecl}
@@ -49,7 +49,7 @@ returns-in_err-symbols-clause-refused c =
     c.args.definition.now.modules.items =
     c.in_ok-modules.ensures.names ∙ ap names_of_modules c.deref.ensures.value in
     let placed_is : map (plain_placed (names_of c.in_ok-modules.modules)) c.deref-3.result.now ≡
-    placed [] d.modules =
+    declarations_placed [] d.modules =
     ap (λ (ps : List PlacedDecl). map (plain_placed (names_of c.in_ok-modules.modules)) ps)
     c.deref-3.ensures.value
     ∙ ap (λ (ns : List (List ℕ)). map (plain_placed ns) decls) named
@@ -83,7 +83,7 @@ returns-in_err-subsorts-clause-refused c =
     c.args.definition.now.modules.items =
     c.in_ok-modules.ensures.names ∙ ap names_of_modules c.deref.ensures.value in
     let placed_is : map (plain_placed (names_of c.in_ok-modules.modules)) c.deref-3.result.now ≡
-    placed [] d.modules =
+    declarations_placed [] d.modules =
     ap (λ (ps : List PlacedDecl). map (plain_placed (names_of c.in_ok-modules.modules)) ps)
     c.deref-3.ensures.value
     ∙ ap (λ (ns : List (List ℕ)). map (plain_placed ns) decls) named
@@ -126,7 +126,7 @@ returns-clause-declared c =
     c.args.definition.now.modules.items =
     c.in_ok-modules.ensures.names ∙ ap names_of_modules c.deref.ensures.value in
     let placed_is : map (plain_placed (names_of c.in_ok-modules.modules)) c.deref-3.result.now ≡
-    placed [] d.modules =
+    declarations_placed [] d.modules =
     ap (λ (ps : List PlacedDecl). map (plain_placed (names_of c.in_ok-modules.modules)) ps)
     c.deref-3.ensures.value
     ∙ ap (λ (ns : List (List ℕ)). map (plain_placed ns) decls) named
@@ -165,7 +165,7 @@ returns-clause-faultless c =
     c.args.definition.now.modules.items =
     c.in_ok-modules.ensures.names ∙ ap names_of_modules c.deref.ensures.value in
     let placed_is : map (plain_placed (names_of c.in_ok-modules.modules)) c.deref-3.result.now ≡
-    placed [] d.modules =
+    declarations_placed [] d.modules =
     ap (λ (ps : List PlacedDecl). map (plain_placed (names_of c.in_ok-modules.modules)) ps)
     c.deref-3.ensures.value
     ∙ ap (λ (ns : List (List ℕ)). map (plain_placed ns) decls) named

@@ -1,6 +1,6 @@
 use Rattle.std.proofs.Common.{◌≡◌, ◌∙◌, ◌++◌, ◌∷◌, [], ap, sym, ℕ, List, subst, string_bytes, cond}
 use Rattle.std.specs.Prelude.{is_none}
-use Rattle.rule_core.specs.Named.{number_of}
+use Rattle.rule_core.specs.Named.{number_of_name}
 use Rattle.rule_core.specs.DistinctNames.{names_of}
 use Rattle.kore_ast.specs.declared.tree.Decl.{Decl}
 use Rattle.kore_ast.specs.Plain.{plain_declaration, plain_sort_decl, plain_symbol_decl}
@@ -69,7 +69,7 @@ returns-in_ok-insert-in-SymbolDecl-clause-grown c =
     (added c.args.symbols.now c.insert.new.self d.name info c.in_ok-insert-in-SymbolDecl.field-0
     clear.free
     (c.in_ok-insert-in-SymbolDecl.ensures.fresh
-    ∙ ap (λ (n : List ℕ). is_none (number_of c.args.symbols.now n)) name)
+    ∙ ap (λ (n : List ℕ). is_none (number_of_name c.args.symbols.now n)) name)
     (c.in_ok-insert-in-SymbolDecl.ensures.entries
     ∙ ap (λ (n : List ℕ). cond c.in_ok-insert-in-SymbolDecl.field-0
     (c.args.symbols.now ++ (n, info) ∷ []) c.args.symbols.now) name))

@@ -1,7 +1,7 @@
 use Rattle.std.proofs.Common.{◌≡◌, take, map}
 use Rattle.term_core.specs.RulePatterns.{sort_numbers}
-use Rattle.ml_image.specs.OwnAxioms.{named}
+use Rattle.ml_image.specs.OwnAxioms.{sort_numbered}
 use Rattle.ml_image.proofs.closing.named_sorts.Given as goal
 
 abbrev pub invariant-loop-of : goal.invariant-loop-of
-invariant-loop-of l = take l.of-index l.refs ≡ map named (sort_numbers l.sorts.items)
+invariant-loop-of l = take l.of-index l.refs ≡ map sort_numbered (sort_numbers l.sorts.items)

@@ -5,7 +5,7 @@ use Rattle.rule_core.specs.Sorting.{IsSymbol}
 use Rattle.rule_core.specs.declared.signature.Signature.{Signature}
 use Rattle.rule_core.specs.declared.signature.SortRef.{SortRef}
 use Rattle.rule_core.specs.declared.signature.SymInfo.{SymInfo}
-use Rattle.ml_image.specs.OwnAxioms.{named}
+use Rattle.ml_image.specs.OwnAxioms.{sort_numbered}
 use Rattle.ml_image.specs.Closing.{TakesSorts}
 use Rattle.ml_image.proofs.SentenceLaws.{one_symbol}
 use Rattle.ml_image.proofs.constructors.argument_sorts.Goals as goal
@@ -22,7 +22,7 @@ named_sorts-requires c =
 
 takes_read : {T E : Type 0} (items : T → List SortId) (sig : Signature) (f : ℕ) (info : SymInfo)
     (refs : List SortRef) (result : Result T E) → IsSymbol sig f info → refs ≡ info.args.items
-    → IfOk result (λ v. refs ≡ map named (sort_numbers (items v)))
+    → IfOk result (λ v. refs ≡ map sort_numbered (sort_numbers (items v)))
     → IfOk result (λ v. TakesSorts sig f (sort_numbers (items v)))
 takes_read items sig f info refs (Ok v) there read takes =
     record { info = info; there = there; takes = sym read ∙ takes }

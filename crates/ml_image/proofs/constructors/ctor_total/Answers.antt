@@ -5,7 +5,7 @@ use Rattle.term_core.specs.declared.ids.SortId.{SortId}
 use Rattle.rule_core.specs.Sorting.{AreSorts}
 use Rattle.ml_image.specs.Images.{sort_image}
 use Rattle.ml_image.specs.Sentences.{sentence_image}
-use Rattle.ml_image.specs.OwnAxioms.{named, of_variables}
+use Rattle.ml_image.specs.OwnAxioms.{sort_numbered, of_variables}
 use Rattle.ml_image.specs.HasImages.{MakesTerms}
 use Rattle.ml_image.proofs.ImageLaws.{gained_twice}
 use Rattle.ml_image.proofs.ListedLaws.{length-numbers}
@@ -15,7 +15,7 @@ use Rattle.ml_image.proofs.constructors.ctor_total.Goals as goal
 
 pub close-requires-clause-sorts : goal.close-requires-clause-sorts
 close-requires-clause-sorts c =
-    let takes : c.declaration-info.result.now.args.items ≡ map named
+    let takes : c.declaration-info.result.now.args.items ≡ map sort_numbered
     (sort_numbers c.in_ok-sorts.sorts.items) =
     sym c.deref.ensures.value ∙ c.in_ok-sorts.ensures in
     let makes : MakesTerms c.args.sig.now c.args.symbol.0 c.declaration-info.result.now
@@ -28,7 +28,7 @@ close-requires-clause-sorts c =
 
 pub returns-clause-image : goal.returns-clause-image
 returns-clause-image c =
-    let takes : c.declaration-info.result.now.args.items ≡ map named
+    let takes : c.declaration-info.result.now.args.items ≡ map sort_numbered
     (sort_numbers c.in_ok-sorts.sorts.items) =
     sym c.deref.ensures.value ∙ c.in_ok-sorts.ensures in
     let makes : MakesTerms c.args.sig.now c.args.symbol.0 c.declaration-info.result.now

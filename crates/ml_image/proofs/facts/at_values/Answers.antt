@@ -6,7 +6,7 @@ use Rattle.term_core.specs.RulePatterns.{sort_numbers}
 use Rattle.term_core.specs.Values.{scalar_value}
 use Rattle.term_core.specs.declared.values.Scalar.TheVariants.{Int}
 use Rattle.rule_core.specs.Sorting.{HasValue}
-use Rattle.ml_image.specs.Tokens.{token_of_value, numbered}
+use Rattle.ml_image.specs.Tokens.{token_of_value, number_in_names}
 use Rattle.ml_image.specs.Images.{applied}
 use Rattle.ml_image.specs.TrueFacts.{value_patterns}
 use Rattle.ml_image.proofs.ImageLaws.{gained_twice, gained-nothing}
@@ -56,7 +56,7 @@ loop-i-preserved c =
           c.args.sorts.now c.args.args.now c.loop-i.i (record { 0 = 0 }) (Int (pos 0))
           c.loop-i.made c.in_ok-number.number.0 c.value_number.ensures.names within
           c.loop-i-test.true c.loop-i.invariant.images
-          (ap (λ (v : DomainValue). numbered c.value_number.new.names
+          (ap (λ (v : DomainValue). number_in_names c.value_number.new.names
           (token_of_value c.args.sig.now
           (get_or c.args.sorts.now c.loop-i.i (record { 0 = 0 })).0 v))
           (ap scalar_value (one_default c.args.args.now c.loop-i.i (Int (pos 0)) _

@@ -4,9 +4,9 @@ use Rattle.term_core.specs.Terms.{DomainValue}
 use Rattle.term_core.specs.Values.{value_of, scalar_value}
 use Rattle.term_core.specs.RulePatterns.{sort_numbers}
 use Rattle.rule_core.specs.declared.signature.SymInfo.{SymInfo}
-use Rattle.ml_image.specs.Tokens.{token_of_value, numbered}
+use Rattle.ml_image.specs.Tokens.{token_of_value, number_in_names}
 use Rattle.ml_image.specs.Images.{symbol_image, applied}
-use Rattle.ml_image.specs.OwnAxioms.{named}
+use Rattle.ml_image.specs.OwnAxioms.{sort_numbered}
 use Rattle.ml_image.specs.TrueFacts.{HaveValues, value_patterns}
 use Rattle.ml_image.proofs.ImageLaws.{gained_twice, gained-symbol, some_same}
 use Rattle.ml_image.proofs.ConstructorLaws.{read_sorts, one_sort}
@@ -16,7 +16,7 @@ use Rattle.ml_image.proofs.facts.hook_fact.Goals as goal
 
 pub at_values-requires : goal.at_values-requires
 at_values-requires c =
-    let takes : c.declaration-info.result.now.args.items ≡ map named
+    let takes : c.declaration-info.result.now.args.items ≡ map sort_numbered
     (sort_numbers c.in_ok-sorts.sorts.items) =
     sym c.deref.ensures.value ∙ c.in_ok-sorts.ensures in
     let read : c.requires.1.sorts ≡ sort_numbers c.in_ok-sorts.sorts.items =
@@ -30,7 +30,7 @@ at_values-requires c =
 
 pub returns-clause-image : goal.returns-clause-image
 returns-clause-image c =
-    let takes : c.declaration-info.result.now.args.items ≡ map named
+    let takes : c.declaration-info.result.now.args.items ≡ map sort_numbered
     (sort_numbers c.in_ok-sorts.sorts.items) =
     sym c.deref.ensures.value ∙ c.in_ok-sorts.ensures in
     let read : c.requires.1.sorts ≡ sort_numbers c.in_ok-sorts.sorts.items =
@@ -58,9 +58,9 @@ returns-clause-image c =
     (subst (λ (ss : List ℕ). applied c.args.sig.now c.at_values.new.names (Some c.in_ok-head.head)
     (value_patterns ss (map scalar_value c.args.args.now)) ≡ Some c.in_ok-call.call)
     (sym whole) c.in_ok-call.ensures.image)
-    (ap (λ (s : ℕ). numbered c.value_number.new.names
+    (ap (λ (s : ℕ). number_in_names c.value_number.new.names
     (token_of_value c.args.sig.now s c.requires.1.value)) sort
-    ∙ ap (λ (v : DomainValue). numbered c.value_number.new.names
+    ∙ ap (λ (v : DomainValue). number_in_names c.value_number.new.names
     (token_of_value c.args.sig.now c.result_sort.result.0 v)) value
     ∙ c.in_ok-number.ensures.number)
     c.in_ok-constant.ensures c.equal.ensures

@@ -10,7 +10,7 @@ use Rattle.rule_core.specs.ProgramView.{sorts_of, function_equation}
 use Rattle.rule_core.specs.declared.rules.VarInfo.{VarInfo}
 use Rattle.ml_image.specs.Images.{image_of, shifted, all_shifted}
 use Rattle.ml_image.specs.Sentences.{sentence_image}
-use Rattle.ml_image.specs.OwnAxioms.{named, meets, of_variables}
+use Rattle.ml_image.specs.OwnAxioms.{sort_numbered, meets, of_variables}
 use Rattle.ml_image.specs.HasImages.{HaveImages, HasParameters}
 use Rattle.ml_image.specs.Counted.{IsConditionImage}
 use Rattle.ml_image.proofs.ImageLaws.{gained_twice}
@@ -91,7 +91,7 @@ close-requires-clause-sorts c =
     (function_equation c.args.equation.now) =
     has_parameters c.args.equation.now.params c.requires.equation.parameters
     c.requires.kompile in
-    let takes : c.declaration.result.now.args.items ≡ map named
+    let takes : c.declaration.result.now.args.items ≡ map sort_numbered
     (sort_numbers c.in_ok-sorts.sorts.items) =
     sym c.deref-3.ensures.value ∙ c.in_ok-sorts.ensures in
     let read : has.sorts ≡ sort_numbers c.in_ok-sorts.sorts.items =
@@ -117,7 +117,7 @@ returns-clause-image c =
     (function_equation c.args.equation.now) =
     has_parameters c.args.equation.now.params c.requires.equation.parameters
     c.requires.kompile in
-    let takes : c.declaration.result.now.args.items ≡ map named
+    let takes : c.declaration.result.now.args.items ≡ map sort_numbered
     (sort_numbers c.in_ok-sorts.sorts.items) =
     sym c.deref-3.ensures.value ∙ c.in_ok-sorts.ensures in
     let read : has.sorts ≡ sort_numbers c.in_ok-sorts.sorts.items =

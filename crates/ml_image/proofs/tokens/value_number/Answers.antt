@@ -1,7 +1,7 @@
 use Rattle.std.proofs.Common.{◌≡◌, List, ℕ, Some, Option, ap, ◌∙◌, rules}
 use Rattle.term_core.specs.Values.{value_of}
-use Rattle.ml_image.specs.Tokens.{token_of_value, numbered}
-use Rattle.ml_image.specs.OwnTokens.{of_value}
+use Rattle.ml_image.specs.Tokens.{token_of_value, number_in_names}
+use Rattle.ml_image.specs.OwnTokens.{is_value_token}
 use Rattle.ml_image.proofs.ImageLaws.{number_of-numbered, gained-numbered}
 use Rattle.ml_image.proofs.tokens.value_number.Goals as goal
 
@@ -10,7 +10,7 @@ returns-clause-number c =
     let token : token_of_value c.args.sig.now c.args.sort.0 (value_of c.args.value.now) ≡ Some
     c.as_str.result.now =
     search rules in
-    ap (λ (t : Option (List ℕ)). numbered c.number.new.self t) token
+    ap (λ (t : Option (List ℕ)). number_in_names c.number.new.self t) token
     ∙ number_of-numbered c.args.names.now c.number.new.self c.as_str.result.now
     c.in_ok-number.field-0 c.in_ok-number.ensures.number
 
@@ -21,5 +21,5 @@ returns-clause-names c =
     search rules in
     gained-numbered c.args.sig.now c.args.names.now c.number.new.self c.as_str.result.now
     c.in_ok-number.field-0
-    (of_value c.args.sort.0 (value_of c.args.value.now) c.requires token)
+    (is_value_token c.args.sort.0 (value_of c.args.value.now) c.requires token)
     c.in_ok-number.ensures.number

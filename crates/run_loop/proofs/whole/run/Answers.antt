@@ -2,11 +2,11 @@ use Rattle.std.proofs.Common.{◌≡◌, ℕ, ◌+◌, refl, sym, ◌∙◌, sub
 use Rattle.term_core.specs.Terms.{Tree}
 use Rattle.term_core.specs.Patterns.{Pattern}
 use Rattle.rule_core.specs.Theories.{RewriteTheory}
-use Rattle.rule_core.specs.Runs.{Steps, next, Reaches, after_step}
+use Rattle.rule_core.specs.Runs.{Steps, steps_on, Reaches, after_step}
 use Rattle.run_loop.proofs.whole.run.Goals as goal
 
 one_more : (theory : RewriteTheory) (start : Pattern) (calls n c d : ℕ) (t u : Tree)
-    → Reaches theory start calls n t c → Steps theory t c (next u d)
+    → Reaches theory start calls n t c → Steps theory t c (steps_on u d)
     → Reaches theory start calls (n + 1) u d
 one_more theory start calls n c d t u reached step =
     subst (λ (m : ℕ). Reaches theory start calls m u d) (sym (add-one n)) (after_step reached step)

@@ -7,7 +7,7 @@ use Rattle.term_core.specs.Patterns.{Pattern, ground_pattern}
 use Rattle.term_core.specs.RulePatterns.{plain_pattern}
 use Rattle.rule_core.specs.ProgramView.{theory_of}
 use Rattle.rule_core.specs.Theories.{RewriteTheory}
-use Rattle.rule_core.specs.Runs.{Run, limited, IsRunOf, Steps, next, Reaches, after_step}
+use Rattle.rule_core.specs.Runs.{Run, limited, IsRunOf, Steps, steps_on, Reaches, after_step}
 use Rattle.run_loop.specs.RunEnds.{plain_run}
 use Rattle.run_proof.specs.WrittenProofs.{WritesFrontOfProof}
 use Rattle.run_proof.proofs.ProofsAt.{on_err, on_err_front, on_err_more, none_front}
@@ -21,7 +21,7 @@ if_ok (Ok t) P Q f h = f t h
 if_ok (Err e) P Q f h = tt
 
 one_more : (theory : RewriteTheory) (start : Pattern) (calls n c d : ℕ) (t u : Tree)
-    → Reaches theory start calls n t c → Steps theory t c (next u d)
+    → Reaches theory start calls n t c → Steps theory t c (steps_on u d)
     → Reaches theory start calls (n + 1) u d
 one_more theory start calls n c d t u reached step =
     subst (λ (m : ℕ). Reaches theory start calls m u d) (sym (add-one n)) (after_step reached step)
