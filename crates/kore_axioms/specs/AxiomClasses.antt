@@ -1,7 +1,7 @@
 -- What an axiom is read as: the first class that fits. The axiom is in a module that counts: the
 -- main module, or a module that it reaches by imports.
-use Rattle.std.specs.Prelude.{ℕ, List, Bool, true, false, not, ◌||◌, ◌&&◌, Option, Some, None}
-use Rattle.std.specs.Prelude.{is_none, is_some, if◌then◌else◌, codes}
+use Rattle.std.specs.Prelude.{ℕ, List, Bool, false, not, ◌||◌, ◌&&◌, Option, Some, None, is_none}
+use Rattle.std.specs.Prelude.{is_some, if◌then◌else◌, codes}
 use Rattle.std.specs.List.{list_any}
 use Rattle.kore_text.specs.Trees.{PatternTree, AxiomDeclaration}
 use Rattle.rule_core.specs.declared.signature.Signature.{Signature}

@@ -5,8 +5,8 @@ use Rattle.kore_text.specs.Trees.{SortTree}
 use Rattle.rule_core.specs.declared.signature.Signature.{Signature}
 use Rattle.rule_core.specs.declared.signature.SymInfo.{SymInfo}
 use Rattle.rule_core.specs.KindTests.{is_function_kind}
-use Rattle.kore_check.specs.Folds.{Unfolded, named_variable, written_value, applied_symbol}
-use Rattle.kore_check.specs.Folds.{other_form, Unfoldeds, no_more, and_more}
+use Rattle.kore_check.specs.Folds.{Unfolded, named_variable, applied_symbol, Unfoldeds, no_more}
+use Rattle.kore_check.specs.Folds.{and_more}
 use Rattle.kore_check.specs.PatternSorts.{symbol_named}
 use Rattle.kore_shapes.specs.SameSorts.{same_sort}
 

@@ -1,6 +1,7 @@
 -- The integer that a text is read as.
 use Rattle.std.proofs.Common.{◌≡◌, ◌<◌, ◌≤◌, ◌^◌, ℕ, Bool, true, false, List, [], ◌∷◌, length, Some}
-use Rattle.std.proofs.Common.{None, eq-eqb, refl, sym, ◌∙◌, ap, arith, rules}
+use Rattle.std.proofs.Common.{zero, suc, if◌then◌else◌, Option, None, eq-eqb, refl, sym, ◌∙◌, ap}
+use Rattle.std.proofs.Common.{arith, rules}
 use Rattle.std.specs.Prelude.{ℤ, pos, neg_ℤ, Result, Ok, Err, nat_lt, nat_le, ◌==◌, ◌&&◌}
 use Rattle.std.specs.Int.{w128}
 use Rattle.std.specs.Str.{all_ascii_digits}
@@ -10,8 +11,25 @@ use Rattle.std.proofs.lemmas.Bool.{eqb-true, false≢true, ltb-true, lt-ltb, leb
 use Rattle.std.proofs.lemmas.Str.Parse.{IsNumeralModel, numerals_by_fold, parse_signed_plain}
 use Rattle.std.proofs.lemmas.Str.Parse.{parse_signed_plus, parse_signed_minus}
 use Rattle.rule_core.proofs.Belows.{both_true}
+use Rattle.term_core.specs.HookValues.{is_in_range}
+use Rattle.term_core.specs.declared.values.NoValue.{NoValue}
+use Rattle.term_core.specs.declared.values.NoValue.TheVariants.{Range}
 use Rattle.kore_check.specs.ValueTexts.{append_digits, number_of_digits, not_negative, negated}
 use Rattle.kore_check.specs.ValueTexts.{integer_of_text}
+
+-- the integer, if it is in the range
+abbrev kept : ℤ → Bool → Option ℤ
+kept z b = result_ok {E = NoValue} (if b then Ok z else Err Range)
+
+in_range_up : (n : ℕ) → is_in_range (pos n) ≡ nat_lt n (2 ^ 127)
+in_range_up n = refl
+
+in_range_down : (n : ℕ) → is_in_range (neg_ℤ (pos n)) ≡ nat_le n (2 ^ 127)
+in_range_down zero = refl
+in_range_down (suc n) = and_true (nat_le (suc n) (2 ^ 127)) where
+  and_true : (b : Bool) → (b && true) ≡ b
+  and_true true = refl
+  and_true false = refl
 
 own : IsNumeralModel (λ ds. all_ascii_digits ds ≡ true) (append_digits 0)
 own = numerals_by_fold _ (search rules) append_digits (search rules)
@@ -28,13 +46,14 @@ not_negative_is (Ok z) ds (q, e) =
     ap (λ (x : ℤ). Some x) e
     ∙ sym (ap not_negative (digits_are ds q.0 q.1) ∙ small (append_digits 0 ds) q.2) where
       small : (n : ℕ) → n < 2 ^ 127 → not_negative (Some n) ≡ Some (pos n)
-      small n lt = rw (lt-ltb n (2 ^ 127) lt) refl
+      small n lt = ap (kept (pos n)) (in_range_up n ∙ lt-ltb n (2 ^ 127) lt)
 not_negative_is (Err x) ds none = by_case (all_ascii_digits ds && nat_lt 0 (length ds)) refl where
   large : (t : Bool) → nat_lt (append_digits 0 ds) (2 ^ 127) ≡ t
       → (all_ascii_digits ds ≡ true) × (nat_lt 0 (length ds) ≡ true)
       → not_negative (Some (append_digits 0 ds)) ≡ None
   large true e both = absurd (none (both.0, ltb-true _ _ both.1, ltb-true _ _ e))
-  large false e both = rw e refl
+  large false e both =
+      ap (kept (pos (append_digits 0 ds))) (in_range_up (append_digits 0 ds) ∙ e)
 
   by_case : (t : Bool) → (all_ascii_digits ds && nat_lt 0 (length ds)) ≡ t
       → None ≡ not_negative (number_of_digits ds)
@@ -51,13 +70,14 @@ negated_is (Ok z) ds (q, e) =
     ap (λ (x : ℤ). Some x) e
     ∙ sym (ap negated (digits_are ds q.0 q.1) ∙ small (append_digits 0 ds) q.2) where
       small : (n : ℕ) → n ≤ 2 ^ 127 → negated (Some n) ≡ Some (neg_ℤ (pos n))
-      small n le = rw (le-leb n (2 ^ 127) le) refl
+      small n le = ap (kept (neg_ℤ (pos n))) (in_range_down n ∙ le-leb n (2 ^ 127) le)
 negated_is (Err x) ds none = by_case (all_ascii_digits ds && nat_lt 0 (length ds)) refl where
   large : (t : Bool) → nat_le (append_digits 0 ds) (2 ^ 127) ≡ t
       → (all_ascii_digits ds ≡ true) × (nat_lt 0 (length ds) ≡ true)
       → negated (Some (append_digits 0 ds)) ≡ None
   large true e both = absurd (none (both.0, ltb-true _ _ both.1, leb-true _ _ e))
-  large false e both = rw e refl
+  large false e both =
+      ap (kept (neg_ℤ (pos (append_digits 0 ds)))) (in_range_down (append_digits 0 ds) ∙ e)
 
   by_case : (t : Bool) → (all_ascii_digits ds && nat_lt 0 (length ds)) ≡ t
       → None ≡ negated (number_of_digits ds)

@@ -14,8 +14,10 @@ use Rattle.kore_text.specs.Trees.{SortTree}
 use Rattle.term_core.specs.Terms.{DomainValue, integer, truth, text}
 use Rattle.term_core.specs.Patterns.{Pattern, Patterns, application, call, no_pattern}
 use Rattle.term_core.specs.Patterns.{more_patterns}
-use Rattle.rule_core.specs.Sorting.{HasSort, HaveSorts, IsSymbol, IsValueOf, IsInRange, sort_at}
-use Rattle.rule_core.specs.Sorting.{IsFunction, AreSorts}
+use Rattle.std.specs.Result.{result_ok}
+use Rattle.term_core.specs.HookValues.{is_in_range, in_range}
+use Rattle.rule_core.specs.Sorting.{HasSort, HaveSorts, IsSymbol, IsValueOf, sort_at, IsFunction}
+use Rattle.rule_core.specs.Sorting.{AreSorts}
 use Rattle.rule_core.specs.Subsorts.{IsBelow, is_below}
 use Rattle.rule_core.specs.WellSorted.{IsSignature, IsReference, IsDeclaration}
 use Rattle.rule_core.specs.declared.signature.Signature.{Signature}
@@ -51,35 +53,30 @@ use Rattle.kore_check.proofs.CheckLaws.{faultless_sorted, some_or_none}
 
 -- ---- values
 
-in_range_up : (n : ℕ) → n < 2 ^ 127 → IsInRange (pos n)
-in_range_up n lt = (omega (arith, ints), omega (arith, ints, lt))
-
-in_range_down : (n : ℕ) → n ≤ 2 ^ 127 → IsInRange (neg_ℤ (pos n))
-in_range_down n le = (omega (arith, ints, le), omega (arith, ints))
-
 some_same : {X : Type 0} (x y : X) → Some x ≡ Some y → x ≡ y
 some_same x y e = cc
 
-number_up : (o : Option ℕ) (z : ℤ) → not_negative o ≡ Some z → IsInRange z
+kept_in_range : (z r : ℤ) → result_ok (in_range z) ≡ Some r → is_in_range r ≡ true
+kept_in_range z r is = by_case (is_in_range z) refl where
+  by_case : (t : Bool) → is_in_range z ≡ t → is_in_range r ≡ true
+  by_case false e =
+      absurd (let none : None ≡ Some r = rw e at is in let no_value : ⊥ = cc in no_value)
+  by_case true e = subst (λ n. is_in_range n ≡ true) (some_same _ _ (rw e at is)) e
+
+number_up : (o : Option ℕ) (z : ℤ) → not_negative o ≡ Some z → is_in_range z ≡ true
 number_up None z is = absurd (let no_value : ⊥ = cc in no_value)
-number_up (Some n) z is = by_case (nat_lt n (2 ^ 127)) refl where
-  by_case : (t : Bool) → nat_lt n (2 ^ 127) ≡ t → IsInRange z
-  by_case false e =
-      absurd (let none : None ≡ Some z = rw e at is in let no_value : ⊥ = cc in no_value)
-  by_case true e = subst IsInRange (some_same _ _ (rw e at is)) (in_range_up n (ltb-true _ _ e))
+number_up (Some n) z is = kept_in_range (pos n) z is
 
-number_down : (o : Option ℕ) (z : ℤ) → negated o ≡ Some z → IsInRange z
+number_down : (o : Option ℕ) (z : ℤ) → negated o ≡ Some z → is_in_range z ≡ true
 number_down None z is = absurd (let no_value : ⊥ = cc in no_value)
-number_down (Some n) z is = by_case (nat_le n (2 ^ 127)) refl where
-  by_case : (t : Bool) → nat_le n (2 ^ 127) ≡ t → IsInRange z
-  by_case false e =
-      absurd (let none : None ≡ Some z = rw e at is in let no_value : ⊥ = cc in no_value)
-  by_case true e = subst IsInRange (some_same _ _ (rw e at is)) (in_range_down n (leb-true _ _ e))
+number_down (Some n) z is = kept_in_range (neg_ℤ (pos n)) z is
 
-integer_in_range : (bytes : List ℕ) (z : ℤ) → integer_of_text bytes ≡ Some z → IsInRange z
+integer_in_range : (bytes : List ℕ) (z : ℤ) → integer_of_text bytes ≡ Some z
+    → is_in_range z ≡ true
 integer_in_range [] z is = absurd (let no_value : ⊥ = cc in no_value)
 integer_in_range (b ∷ bytes) z is = by_sign (b == 45) refl (b == 43) refl where
-  by_sign : (minus : Bool) → (b == 45) ≡ minus → (plus : Bool) → (b == 43) ≡ plus → IsInRange z
+  by_sign : (minus : Bool) → (b == 45) ≡ minus → (plus : Bool) → (b == 43) ≡ plus
+      → is_in_range z ≡ true
   by_sign true e plus f = number_down (number_of_digits bytes) z (rw e at is)
   by_sign false e true f = number_up (number_of_digits bytes) z (rw (e, f) at is)
   by_sign false e false f = number_up (number_of_digits (b ∷ bytes)) z (rw (e, f) at is)

@@ -2,10 +2,12 @@
 -- `BOOL.Bool`). The text of an integer of 128 bits is an optional sign and digits. The text of a
 -- truth value is its name. A sort of another kind takes any text. So `007` and `+7` are 7, and `-0`
 -- is 0.
-use Rattle.std.specs.Prelude.{◌==◌, ◌&&◌, ◌+◌, ◌*◌, ◌-◌, ◌^◌, ℕ, ℤ, pos, neg_ℤ, Bool, true, false}
-use Rattle.std.specs.Prelude.{List, [], ◌∷◌, length, Option, Some, None, option_map, if◌then◌else◌}
-use Rattle.std.specs.Prelude.{codes, nat_lt, nat_le}
+use Rattle.std.specs.Prelude.{◌==◌, ◌&&◌, ◌+◌, ◌*◌, ◌-◌, ℕ, ℤ, pos, neg_ℤ, Bool, true, false, List}
+use Rattle.std.specs.Prelude.{[], ◌∷◌, length, Option, Some, None, option_map, if◌then◌else◌, codes}
+use Rattle.std.specs.Prelude.{nat_lt}
 use Rattle.std.specs.Str.{is_utf8, bytes_eq, all_ascii_digits}
+use Rattle.std.specs.Result.{result_ok}
+use Rattle.term_core.specs.HookValues.{in_range}
 use Rattle.term_core.specs.Terms.{DomainValue, integer, truth, text}
 use Rattle.rule_core.specs.declared.signature.SortKind.{SortKind}
 use Rattle.rule_core.specs.declared.signature.SortKind.TheVariants as kind
@@ -20,14 +22,14 @@ abbrev pub number_of_digits : List ℕ → Option ℕ
 number_of_digits bytes =
     if all_ascii_digits bytes && nat_lt 0 (length bytes) then Some (append_digits 0 bytes) else None
 
--- the number as an integer, if it is less than 2^127
+-- the number as an integer, and its negative, if it is in the range of integers
 abbrev pub not_negative : Option ℕ → Option ℤ
 not_negative None = None
-not_negative (Some n) = if nat_lt n (2 ^ 127) then Some (pos n) else None
+not_negative (Some n) = result_ok (in_range (pos n))
 
 abbrev pub negated : Option ℕ → Option ℤ
 negated None = None
-negated (Some n) = if nat_le n (2 ^ 127) then Some (neg_ℤ (pos n)) else None
+negated (Some n) = result_ok (in_range (neg_ℤ (pos n)))
 
 -- the integer that an optional sign, `-` or `+`, and digits stand for
 abbrev pub integer_of_text : List ℕ → Option ℤ

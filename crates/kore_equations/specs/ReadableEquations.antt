@@ -2,7 +2,7 @@
 -- fault of the definition, so it only matters whether the equation has a fault, not which fault is
 -- the first.
 use Rattle.std.specs.Prelude.{◌≡◌, ◌==◌, ◌+◌, ℕ, List, [], ◌++◌, Bool, true, false, not, ◌||◌, ◌&&◌}
-use Rattle.std.specs.Prelude.{Option, Some, None, is_some, length, codes, nat_le}
+use Rattle.std.specs.Prelude.{Option, Some, is_some, length, codes, nat_le}
 use Rattle.std.specs.List.{list_any}
 use Rattle.std.specs.Str.{bytes_eq}
 use Rattle.kore_text.specs.Trees.{SortTree, sort_parameter, sort_applied, PatternTree}

@@ -13,7 +13,6 @@ use Rattle.term_core.specs.Patterns.{Pattern, ground_pattern}
 use Rattle.rule_core.specs.Theories.{RewriteTheory}
 use Rattle.rule_core.specs.Runs.{Run, stuck, limited, stopped, unstarted, kept_by}
 use Rattle.rule_core.specs.WellSorted.{IsSignature, IsStart}
-use Rattle.rewriter.specs.Configurations.{IsStartOf}
 use Rattle.run_loop.specs.RunEnds.{IsSortedEnd}
 use Rattle.kore_show.specs.ShownLaws.{SortedIsShown}
 use Rattle.run_lines.specs.Lines.{kept_pattern}
@@ -32,11 +31,6 @@ use Rattle.kore_prove.specs.RunsDone.{HasLines, IsRunDone, IsRunEnded}
 use Rattle.kore_prove.proofs.Ending.{kept_output, files_at}
 use Rattle.kore_prove.proofs.FileProofs.{kept_others, then_others, kept_file, then_file}
 use Rattle.kore_prove.proofs.FileProofs.{proof_front}
-
--- the initial term meets the requirement of the rewriter
-pub start_of : (theory : RewriteTheory) (start : Pattern) → IsStart theory start
-    → IsStartOf theory start
-start_of theory start h = (h.0, h.2, h.1)
 
 -- what the run keeps has a Kore pattern
 pub kept_shown : SortedIsShown → (theory : RewriteTheory) (start : Pattern) (run : Run)

@@ -1,7 +1,6 @@
 -- What has been read of the axioms so far.
-use Rattle.std.specs.Prelude.{◌≡◌, ◌↔◌, ◌≤◌, ◌==◌, ◌^◌, ℕ, Bool, List, [], ◌∷◌, map, length, Option}
-use Rattle.std.specs.Prelude.{Some, None, option_map, Contains, slice_index_or, count_by, IsTrue}
-use Rattle.std.specs.Prelude.{false}
+use Rattle.std.specs.Prelude.{◌≡◌, ◌↔◌, ◌≤◌, ◌==◌, ◌^◌, ℕ, Bool, List, map, length, Option, Some}
+use Rattle.std.specs.Prelude.{None, option_map, Contains, slice_index_or, count_by, IsTrue, false}
 use Rattle.std.specs.Borrow.{Bor}
 use Rattle.kore_text.specs.Trees.{SortTree, AxiomDeclaration}
 use Rattle.kore_ast.specs.Plain.{plain_sort, plain_axiom_decl}
@@ -12,7 +11,6 @@ use Rattle.rule_core.specs.ProgramView.{rewrite_rule, function_equation}
 use Rattle.rule_core.specs.Rules.{RewriteRule}
 use Rattle.rule_core.specs.Rules as plain
 use Rattle.rule_core.specs.declared.rules.Equation.{Equation}
-use Rattle.rule_core.specs.declared.rules.Rule.{Rule}
 use Rattle.rule_core.specs.declared.signature.Signature.{Signature}
 use Rattle.kore_sig.specs.SortReferences.{sort_number}
 use Rattle.kore_shapes.specs.Shapes.{Rewriting}

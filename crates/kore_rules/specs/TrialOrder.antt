@@ -1,6 +1,6 @@
 -- Rules and equations in the order of trial, and the equations of each function.
-use Rattle.std.specs.Prelude.{◌==◌, ◌&&◌, ℕ, Bool, false, List, [], Vec, map, filter, Option, Some}
-use Rattle.std.specs.Prelude.{None, slice_index_or, slice_get}
+use Rattle.std.specs.Prelude.{◌==◌, ◌&&◌, ℕ, Bool, false, List, [], Vec, map, Option, Some, None}
+use Rattle.std.specs.Prelude.{slice_index_or, slice_get}
 use Rattle.std.specs.Global.{Global}
 use Rattle.rule_core.specs.declared.rules.Equation.{Equation}
 use Rattle.rule_core.specs.declared.rules.Rule.{Rule}

@@ -6,9 +6,8 @@ use Rattle.std.specs.Prelude.{Option, Some, None, option_map}
 use Rattle.std.specs.List.{list_any}
 use Rattle.std.specs.Option.{option_and_then}
 use Rattle.kore_text.specs.Trees.{SortTree, listed_sorts, PatternTree, element_variable}
-use Rattle.kore_text.specs.Trees.{set_variable, string, symbol_applied, connected, binder_applied}
-use Rattle.kore_text.specs.Trees.{value_written, folded, PatternTrees, no_patterns, pattern_then}
-use Rattle.kore_text.specs.Trees.{listed_patterns}
+use Rattle.kore_text.specs.Trees.{symbol_applied, connected, binder_applied, folded, PatternTrees}
+use Rattle.kore_text.specs.Trees.{no_patterns, pattern_then, listed_patterns}
 use Rattle.kore_text.specs.declared.names.Op.{Op}
 use Rattle.kore_text.specs.declared.names.Op.TheVariants.{Top, And, Member}
 use Rattle.kore_shapes.specs.SameSorts.{same_sort, is_variable}

@@ -1,9 +1,9 @@
 -- Which forms occur in a pattern after its folds are read. A fold of one argument is that argument,
 -- and its head is ignored.
 use Rattle.std.specs.Prelude.{List, [], ◌∷◌, Bool, true, false, not, ◌||◌, ◌&&◌}
-use Rattle.kore_text.specs.Trees.{PatternTree, element_variable, set_variable, string}
-use Rattle.kore_text.specs.Trees.{symbol_applied, connected, binder_applied, value_written, folded}
-use Rattle.kore_text.specs.Trees.{PatternTrees, no_patterns, pattern_then, listed_patterns}
+use Rattle.kore_text.specs.Trees.{PatternTree, set_variable, string, symbol_applied, connected}
+use Rattle.kore_text.specs.Trees.{binder_applied, folded, PatternTrees, no_patterns, pattern_then}
+use Rattle.kore_text.specs.Trees.{listed_patterns}
 use Rattle.kore_text.specs.declared.names.Op.{Op}
 use Rattle.kore_text.specs.declared.names.Op.TheVariants.{And}
 

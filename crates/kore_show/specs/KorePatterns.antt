@@ -1,9 +1,9 @@
 -- The Kore pattern of a pattern of a rule, with the names that its signature declares (Kore
 -- language document, "Patterns"). It does not come from a text, so each place is 0.
-use Rattle.std.specs.Prelude.{ℕ, List, [], ◌∷◌, Bool, true, false, Option, Some, None, option_map}
-use Rattle.std.specs.Prelude.{slice_get, codes, if◌then◌else◌}
-use Rattle.std.specs.Fmt.{signed_decimal}
-use Rattle.term_core.specs.Terms.{DomainValue, integer, truth, text}
+use Rattle.std.specs.Prelude.{ℕ, List, [], ◌∷◌, Option, Some, None, option_map, slice_get}
+use Rattle.std.specs.Prelude.{if◌then◌else◌}
+use Rattle.term_core.specs.Terms.{DomainValue}
+use Rattle.term_core.specs.ValueTexts.{value_text}
 use Rattle.term_core.specs.Patterns.{Pattern, Patterns, variable, domain_value, application}
 use Rattle.term_core.specs.Patterns.{injection, call, no_pattern, more_patterns}
 use Rattle.rule_core.specs.declared.signature.Signature.{Signature}
@@ -16,14 +16,6 @@ use Rattle.kore_text.specs.Trees as tree
 -- the name with this number
 abbrev pub declared_name : {V : Type 0} → List (List ℕ × V) → ℕ → Option (List ℕ)
 declared_name {V} entries n = option_map (λ e. e.0) (slice_get entries n)
-
--- the text of a domain value in canonical form: an integer in decimal digits, a truth value by its
--- name
-abbrev pub value_text : DomainValue → List ℕ
-value_text (integer n) = signed_decimal n
-value_text (truth true) = codes "true"
-value_text (truth false) = codes "false"
-value_text (text bytes) = bytes
 
 -- the name of the injection symbol, which is the first symbol of its kind
 abbrev pub injection_name : List (List ℕ × SymInfo) → Option (List ℕ)

@@ -4,8 +4,9 @@ ghost use Rattle.std.specs.Prelude.{slice_get};
 ghost use Rattle.kore_ast.specs.Plain.{plain_sort};
 ghost use Rattle.term_core.specs.Values.{value_of};
 ghost use Rattle.term_core.specs.RulePatterns.{sort_numbers};
-ghost use Rattle.kore_show.specs.KorePatterns.{declared_name, injection_name, value_text};
-ghost use Rattle.kore_show.specs.KorePatterns.{kore_sort, kore_sorts};
+ghost use Rattle.kore_show.specs.KorePatterns.{declared_name, injection_name, kore_sort};
+ghost use Rattle.kore_show.specs.KorePatterns.{kore_sorts};
+ghost use Rattle.term_core.specs.ValueTexts.{value_text};
 ghost use Rattle.rule_core.specs.KindTests.{is_injection};
 ghost use Rattle.rule_core.specs.declared.signature.SymInfo.{SymInfo};
 

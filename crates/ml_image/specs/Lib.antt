@@ -4,6 +4,7 @@ pub mod Images
 pub mod Sentences
 pub mod OwnAxioms
 pub mod TrueFacts
+pub mod Assumed
 pub mod HasImages
 pub mod Gained
 pub mod OwnTokens

@@ -1,10 +1,10 @@
 -- The tokens of sorts, symbols and domain values in a Metamath database, and their numbers.
-use Rattle.std.specs.Prelude.{ℕ, ◌/◌, ◌%◌, List, [], ◌∷◌, ◌++◌, true, false, Option, Some, None}
-use Rattle.std.specs.Prelude.{option_map, slice_get, codes}
+use Rattle.std.specs.Prelude.{ℕ, ◌/◌, ◌%◌, List, [], ◌∷◌, ◌++◌, Option, Some, None, option_map}
+use Rattle.std.specs.Prelude.{slice_get, codes}
 use Rattle.std.specs.Char.{digit_char}
-use Rattle.std.specs.Fmt.{signed_decimal}
-use Rattle.term_core.specs.Terms.{DomainValue, integer, truth, text}
+use Rattle.term_core.specs.Terms.{DomainValue}
 use Rattle.ml_pat.specs.Named.{token_number}
+use Rattle.term_core.specs.ValueTexts.{value_text}
 use Rattle.rule_core.specs.declared.signature.Signature.{Signature}
 
 abbrev pub sort_token : List ℕ → List ℕ
@@ -17,14 +17,6 @@ symbol_token name = codes "f:" ++ name
 abbrev pub hexadecimal : List ℕ → List ℕ
 hexadecimal [] = []
 hexadecimal (byte ∷ bytes) = digit_char (byte / 16) ∷ (digit_char (byte % 16) ∷ hexadecimal bytes)
-
--- the canonical text of a domain value: decimal digits for an integer, and the text itself for a
--- text
-abbrev pub value_text : DomainValue → List ℕ
-value_text (integer n) = signed_decimal n
-value_text (truth true) = codes "true"
-value_text (truth false) = codes "false"
-value_text (text bytes) = bytes
 
 -- the token of a domain value of the sort with this name
 abbrev pub value_token : List ℕ → DomainValue → List ℕ

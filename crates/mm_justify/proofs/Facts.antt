@@ -37,7 +37,8 @@ use Rattle.mm_claims.specs.Keeping.{Fits, Gains}
 use Rattle.mm_claims.proofs.ClosedPatterns.{closed_frame_has_none}
 use Rattle.mm_justify.specs.Stating.{holds_text, holds_frame}
 use Rattle.mm_justify.specs.Justifying.{typecode_in, premises_in, SaysNoMore, header_row}
-use Rattle.mm_justify.specs.Justifying.{declaration, assumption_of, IsAssumed}
+use Rattle.mm_justify.specs.Justifying.{declaration, assumption_of}
+use Rattle.ml_image.specs.Assumed.{IsAssumed}
 use Rattle.mm_justify.specs.Counting.{begins_as_fact, has_none, is_fact}
 use Rattle.mm_justify.specs.CountingLaws.{FactsAreTrue, TrueFactsAreFacts, IsFrameOfFact}
 use Rattle.mm_justify.specs.CountingLaws.{is_fact_form, AddsCounts, AxiomCounts}

@@ -46,8 +46,9 @@ use Rattle.mm_claims.specs.Blocks.{Claim, IsClaim, open_frame, open_assertion}
 use Rattle.mm_claims.specs.CitedAt.{at_places, ArePremises}
 use Rattle.mm_claims.specs.Claiming.{FitsClaims, proved_statements, GainsExactly}
 use Rattle.mm_claims.specs.Provable.{IsProvable}
-use Rattle.mm_justify.specs.Justifying.{IsAssumed, header_row, declaration, assumption_of}
-use Rattle.mm_justify.specs.Justifying.{HasOnlyAxiomsOf, Justifies}
+use Rattle.mm_justify.specs.Justifying.{header_row, declaration, assumption_of, HasOnlyAxiomsOf}
+use Rattle.mm_justify.specs.Justifying.{Justifies}
+use Rattle.ml_image.specs.Assumed.{IsAssumed}
 use Rattle.mm_justify.specs.JustifyingCases.{small_text, alone, SmallJustifies, conclusion}
 use Rattle.mm_justify.specs.JustifyingCases.{ConclusionIsNoAxiom}
 use Rattle.mm_claims.proofs.OpenFits.{header_fits_claims, claims_are_valid, theorem_fits}

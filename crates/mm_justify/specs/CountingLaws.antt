@@ -23,7 +23,8 @@ use Rattle.mm_claims.specs.Keeping.{Fits, Gains}
 use Rattle.mm_claims.specs.Places.{MayProve, StatesLemma}
 use Rattle.mm_justify.specs.Counting.{is_fact, fact_count, statement_count, HasCounts}
 use Rattle.mm_justify.specs.Stating.{holds_frame}
-use Rattle.mm_justify.specs.Justifying.{SaysNoMore, IsAssumed, IsAxiomOf}
+use Rattle.mm_justify.specs.Justifying.{SaysNoMore, IsAxiomOf}
+use Rattle.ml_image.specs.Assumed.{IsAssumed}
 
 -- ---- what is counted
 

@@ -1,8 +1,8 @@
 -- A database justifies that one pattern reaches another. It is valid. It assumes only matching
 -- logic, what the program's definition says, and true facts on built-ins. Its last theorem says
 -- exactly that (Chen and Rosu 2019).
-use Rattle.std.specs.Prelude.{◌≡◌, ℕ, true, false, IsTrue, if◌then◌else◌, List, [], ◌∷◌, ◌++◌, ◌⊎◌}
-use Rattle.std.specs.Prelude.{All, Contains, Option, Some, None, bytes_eq, codes}
+use Rattle.std.specs.Prelude.{◌≡◌, ℕ, true, false, IsTrue, if◌then◌else◌, List, [], ◌∷◌, ◌++◌, All}
+use Rattle.std.specs.Prelude.{Contains, Option, Some, None, bytes_eq, codes}
 use Rattle.mm_text.specs.Bytes.{Token, has_token}
 use Rattle.mm_database.specs.Frames.{Hypothesis, floating, essential, Frame}
 use Rattle.mm_database.specs.Assertions.{Assertion, assertions_of, typings_of}
@@ -14,10 +14,9 @@ use Rattle.ml_pat.specs.Named.{AreDistinct}
 use Rattle.ml_pat.specs.Leaves.{EachLeaf}
 use Rattle.term_core.specs.Patterns.{Pattern as RulePattern}
 use Rattle.rule_core.specs.Theories.{RewriteTheory}
+use Rattle.ml_image.specs.Assumed.{IsAssumed}
 use Rattle.ml_image.specs.Images.{image_of}
 use Rattle.ml_image.specs.Sentences.{Sentence, sentence_image}
-use Rattle.ml_image.specs.OwnAxioms.{IsOwnAxiom}
-use Rattle.ml_image.specs.TrueFacts.{IsTrueFact}
 use Rattle.ml_image.specs.OwnTokens.{IsOwnToken}
 use Rattle.mm_justify.specs.Stating.{IsName, name_frame, holds_text, holds_frame, closed_over}
 
@@ -46,10 +45,6 @@ pub record SaysNoMore (f other : Frame) : Type 0 where
   pub apart : (x y : Token) → IsTrue (other.apart x y) → IsTrue (f.apart x y)
 
 -- ---- axioms
-
--- what the program's definition says, or a true fact on its built-ins
-abbrev pub IsAssumed : RewriteTheory → Sentence → Type 0
-IsAssumed theory s = IsOwnAxiom theory s ⊎ IsTrueFact theory.sig s
 
 -- What an axiom may say: a row of the header; that a token is a sort, a symbol or a domain value of
 -- the program; or what the program may assume, with the tokens of names.

@@ -22,7 +22,8 @@ use Rattle.mm_claims.specs.Blocks.{open_assertion}
 use Rattle.mm_claims.specs.ClaimVariables.{claim_of, claim_variables}
 use Rattle.mm_claims.specs.Keeping.{Fits, Gains}
 use Rattle.mm_claims.specs.Places.{MayProve, StatesLemma}
-use Rattle.mm_justify.specs.Justifying.{IsAssumed, HasOnlyAxiomsOf, Justifies, JustifiesRun}
+use Rattle.mm_justify.specs.Justifying.{HasOnlyAxiomsOf, Justifies, JustifiesRun}
+use Rattle.ml_image.specs.Assumed.{IsAssumed}
 
 -- the axioms of the header are axioms of every program
 abbrev pub HeaderHasOnly : Type 0

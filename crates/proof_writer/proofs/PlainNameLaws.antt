@@ -8,7 +8,7 @@ use Rattle.mm_text.specs.Bytes.{Token}
 use Rattle.rule_core.specs.declared.signature.Signature.{Signature}
 use Rattle.term_core.specs.Terms.{DomainValue}
 use Rattle.ml_image.specs.Tokens.{name_at, sort_token, symbol_token, value_token, hexadecimal}
-use Rattle.ml_image.specs.Tokens.{value_text}
+use Rattle.term_core.specs.ValueTexts.{value_text}
 use Rattle.proof_writer.proofs.ValueBytes.{is_byte, value_bytes}
 use Rattle.ml_image.specs.OwnTokens.{IsOwnToken, is_sort_token, is_symbol_token, is_value_token}
 use Rattle.ml_image.specs.Gained.{AreOwnTokens}

@@ -14,7 +14,7 @@ use Rattle.rule_core.specs.Sorting.{HasValue, IsValueOf}
 use Rattle.rule_core.specs.declared.signature.Signature.{Signature}
 use Rattle.rule_core.specs.declared.signature.SortKind.{SortKind}
 use Rattle.rule_core.specs.declared.signature.SortKind.TheVariants as kind
-use Rattle.ml_image.specs.Tokens.{value_text}
+use Rattle.term_core.specs.ValueTexts.{value_text}
 
 abbrev pub is_byte : ℕ → Bool
 is_byte b = nat_le b 255

@@ -12,7 +12,8 @@ use Rattle.ml_image.specs.OwnAxioms.{sort_numbered, SaysTotal, total}
 use Rattle.ml_image.specs.HasImages.{HasTotality}
 use Rattle.ml_image.proofs.ImageLaws.{some_same}
 use Rattle.ml_image.proofs.WellSortedLaws.{constructor_has_totality}
-use Rattle.prove_term.specs.Contexts.{Context, IsAssumed}
+use Rattle.prove_term.specs.Contexts.{Context}
+use Rattle.ml_image.specs.Assumed.{IsAssumed}
 use Rattle.prove_term.specs.Constructing.{Constructs, HasArity, HasNumbers, SaysTotality}
 use Rattle.prove_term.specs.Constructing.{IsConstructorAt, totality}
 use Rattle.prove_term.specs.Assuming.{IsTotality, TotalFrom}

@@ -16,8 +16,9 @@ use Rattle.ml_image.specs.Sentences.{Sentence, sentence_image, IsImageOf}
 use Rattle.ml_image.specs.Gained.{AreOwnTokens, HasGained}
 use Rattle.ml_image.proofs.ImageLaws.{gained-nothing, gained_twice, none_some, some_same}
 use Rattle.ml_image.proofs.NamingLaws.{gained-sentence}
-use Rattle.prove_term.specs.Contexts.{Context, IsAssumed, HasContext, StaysIn, IsLemmaIn, IsContext}
-use Rattle.prove_term.specs.Contexts.{HasGrown, new_context}
+use Rattle.prove_term.specs.Contexts.{Context, HasContext, StaysIn, IsLemmaIn, IsContext, HasGrown}
+use Rattle.prove_term.specs.Contexts.{new_context}
+use Rattle.ml_image.specs.Assumed.{IsAssumed}
 
 -- ---- growing
 

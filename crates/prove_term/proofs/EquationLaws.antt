@@ -7,7 +7,8 @@ use Rattle.rule_core.specs.declared.rules.Program.{Program}
 use Rattle.ml_image.specs.OwnAxioms.{IsEquationFor, SaysEquation, of_equation}
 use Rattle.ml_image.specs.Sentences.{IsImageOf}
 use Rattle.ml_image.proofs.ImageLaws.{some_same}
-use Rattle.prove_term.specs.Contexts.{Context, HasGrown, IsAssumed}
+use Rattle.prove_term.specs.Contexts.{Context, HasGrown}
+use Rattle.ml_image.specs.Assumed.{IsAssumed}
 use Rattle.prove_term.specs.EquationAxioms.{SaysEquationOf}
 use Rattle.prove_term.proofs.ContextLaws.{image_grown}
 

@@ -15,7 +15,8 @@ use Rattle.ml_image.specs.Sentences.{sentence_image, IsImageOf}
 use Rattle.ml_image.specs.OwnAxioms.{SaysSubsort, SaysCollapse, subsort, collapse}
 use Rattle.ml_image.specs.HasImages.{CanInject}
 use Rattle.ml_image.proofs.ImageLaws.{none_some, some_same}
-use Rattle.prove_term.specs.Contexts.{Context, IsAssumed}
+use Rattle.prove_term.specs.Contexts.{Context}
+use Rattle.ml_image.specs.Assumed.{IsAssumed}
 use Rattle.prove_term.specs.Injections.{inject, HasEnds, SaysInjecting, SaysCollapsing}
 use Rattle.prove_term.specs.InjectionTables.{AllowsPair, InjectsBelow}
 use Rattle.prove_term.proofs.ImageShapes.{both_some, map_some}

@@ -9,7 +9,8 @@ use Rattle.ml_kernel.specs.Theorems.{Theorem}
 use Rattle.rule_core.specs.ProgramView.{theory_of}
 use Rattle.ml_image.specs.Sentences.{IsImageOf}
 use Rattle.ml_image.specs.Gained.{HasGained}
-use Rattle.prove_term.specs.Contexts.{Context, IsAssumed, IsContext, IsLemmaIn, HasGrown}
+use Rattle.prove_term.specs.Contexts.{Context, IsContext, IsLemmaIn, HasGrown}
+use Rattle.ml_image.specs.Assumed.{IsAssumed}
 use Rattle.prove_term.specs.ContextView.{context_of, IsKept}
 use Rattle.prove_term.specs.declared.context.Cx.TheInside.{Inside}
 use Rattle.prove_term.proofs.ContextLaws.{grown_none, grown_names, grown_axiom, grown_lemma}

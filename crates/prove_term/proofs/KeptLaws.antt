@@ -16,7 +16,8 @@ use Rattle.ml_image.specs.Images.{sort_image, symbol_image}
 use Rattle.ml_image.specs.Sentences.{IsImageOf}
 use Rattle.ml_image.specs.OwnAxioms.{SaysRule, IsConstructor, of_rule}
 use Rattle.ml_image.proofs.ImageLaws.{numbered-keeps, gained-symbol}
-use Rattle.prove_term.specs.Contexts.{Context, HasGrown, IsAssumed}
+use Rattle.prove_term.specs.Contexts.{Context, HasGrown}
+use Rattle.ml_image.specs.Assumed.{IsAssumed}
 use Rattle.prove_term.specs.RuleAxioms.{SaysRuleAt}
 use Rattle.prove_term.specs.Stated.{IsRuleAxiom}
 use Rattle.prove_term.specs.ValueAxioms.{IsValueAxiom}

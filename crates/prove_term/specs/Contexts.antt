@@ -1,15 +1,13 @@
 -- What was made for the proofs of a run: the names of sorts, symbols and values, the axioms, and
 -- the lemmas. A theorem stays in a context if it uses and cites nothing else.
-use Rattle.std.specs.Prelude.{◌≡◌, ℕ, IsTrue, List, [], ◌++◌, Contains, ◌⊎◌, Some, take, slice_get}
+use Rattle.std.specs.Prelude.{◌≡◌, ℕ, IsTrue, List, [], ◌++◌, Contains, Some, take, slice_get}
 use Rattle.ml_pat.specs.Patterns.{Pattern}
 use Rattle.ml_kernel.specs.Theorems.{Theorem}
 use Rattle.ml_scope.specs.Scopes.{Scope, IsOver, IsStatedIn, IsWithin}
-use Rattle.rule_core.specs.Theories.{RewriteTheory}
 use Rattle.rule_core.specs.declared.rules.Program.{Program}
 use Rattle.rule_core.specs.ProgramView.{theory_of}
+use Rattle.ml_image.specs.Assumed.{IsAssumed}
 use Rattle.ml_image.specs.Sentences.{Sentence, sentence_image, IsImageOf}
-use Rattle.ml_image.specs.OwnAxioms.{IsOwnAxiom}
-use Rattle.ml_image.specs.TrueFacts.{IsTrueFact}
 use Rattle.ml_image.specs.Gained.{AreOwnTokens, HasGained}
 
 -- the names, axioms and lemmas that proofs about a program use, each in the order in which they
@@ -19,10 +17,6 @@ pub record Context : Type 0 where
   pub names : List (List ℕ)
   pub axioms : List Pattern
   pub lemmas : List Theorem
-
--- the sentence is an axiom of the program's definition, or a true fact about its built-ins
-abbrev pub IsAssumed : RewriteTheory → Sentence → Type 0
-IsAssumed theory s = IsOwnAxiom theory s ⊎ IsTrueFact theory.sig s
 
 -- The scope has what the context has: the sorts and constants of each image over its names, all
 -- variables, and its axioms and lemmas as stated.

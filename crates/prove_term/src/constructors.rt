@@ -3,7 +3,8 @@ ghost use Rattle.std.specs.Prelude.{◌≡◌, [], IfOk, IfSome};
 ghost use Rattle.rule_core.specs.ProgramView.{theory_of};
 ghost use Rattle.rule_core.specs.WellSorted.{IsSignature};
 ghost use Rattle.ml_image.specs.Sentences.{IsImageOf};
-ghost use Rattle.prove_term.specs.Contexts.{HasGrown, IsAssumed, StaysIn};
+ghost use Rattle.prove_term.specs.Contexts.{HasGrown, StaysIn};
+ghost use Rattle.ml_image.specs.Assumed.{IsAssumed};
 ghost use Rattle.prove_term.specs.Constructing.{Constructs, IsConstructorAt, SaysTotality};
 ghost use Rattle.prove_term.specs.Constructing.{HasArity};
 

@@ -7,8 +7,8 @@ ghost use Rattle.rule_core.specs.declared.rules.Rule.{Rule};
 ghost use Rattle.ml_image.specs.Images.{image_of};
 ghost use Rattle.ml_image.specs.HasImages.{HasImage};
 ghost use Rattle.ml_image.specs.Sentences.{IsImageOf};
-ghost use Rattle.prove_term.specs.Contexts.{HasGrown, IsAssumed, IsContext, IsLemmaIn, StaysIn};
-ghost use Rattle.prove_term.specs.Contexts.{new_context};
+ghost use Rattle.prove_term.specs.Contexts.{HasGrown, IsContext, IsLemmaIn, StaysIn, new_context};
+ghost use Rattle.ml_image.specs.Assumed.{IsAssumed};
 ghost use Rattle.prove_term.specs.RuleAxioms.{HasImageAt, SaysRuleAt};
 ghost use Rattle.prove_term.specs.Stated.{IsRuleAxiom};
 

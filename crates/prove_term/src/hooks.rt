@@ -4,7 +4,8 @@ ghost use Rattle.term_core.specs.Values.{scalar_value};
 ghost use Rattle.rule_core.specs.ProgramView.{theory_of};
 ghost use Rattle.ml_image.specs.Sentences.{Sentence, IsImageOf};
 ghost use Rattle.ml_image.specs.TrueFacts.{SaysHook};
-ghost use Rattle.prove_term.specs.Contexts.{HasGrown, IsAssumed, StaysIn};
+ghost use Rattle.prove_term.specs.Contexts.{HasGrown, StaysIn};
+ghost use Rattle.ml_image.specs.Assumed.{IsAssumed};
 
 use crate::context::Cx;
 use ml_image::hook_fact;

@@ -5,7 +5,8 @@ ghost use Rattle.term_core.specs.Values.{value_of};
 ghost use Rattle.rule_core.specs.ProgramView.{theory_of};
 ghost use Rattle.rule_core.specs.Sorting.{HasValue};
 ghost use Rattle.ml_image.specs.Sentences.{IsImageOf};
-ghost use Rattle.prove_term.specs.Contexts.{HasGrown, IsAssumed, StaysIn};
+ghost use Rattle.prove_term.specs.Contexts.{HasGrown, StaysIn};
+ghost use Rattle.ml_image.specs.Assumed.{IsAssumed};
 ghost use Rattle.prove_term.specs.ValueAxioms.{IsValueAxiom, SaysValueOf};
 
 use crate::context::{Cx, ValueAxiom};

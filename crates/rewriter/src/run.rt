@@ -9,7 +9,8 @@ ghost use Rattle.rule_core.specs.RecordView.{plain_record};
 ghost use Rattle.rule_core.specs.Runs.{Reaches};
 ghost use Rattle.fun_eval.specs.EvalEnds.{EndsBy};
 ghost use Rattle.fun_eval.specs.Recorded.{IsRecorded};
-ghost use Rattle.rewriter.specs.Configurations.{IsConfiguration, IsStartOf};
+ghost use Rattle.rewriter.specs.Configurations.{IsConfiguration};
+ghost use Rattle.rule_core.specs.WellSorted.{IsStart};
 ghost use Rattle.rewriter.specs.NextSteps.{TakesStep, RecordsNext, RecordedNext};
 ghost use Rattle.rewriter.specs.WithRecords.{IsWithRecord};
 
@@ -59,7 +60,7 @@ impl Run {
         start: &RulePat,
         calls: u32,
     ) -> Result<(Run, EvalRecord), EvalEnd>
-        requires { IsStartOf (theory_of engine.now) (plain_pattern start.now) }
+        requires { IsStart (theory_of engine.now) (plain_pattern start.now) }
         ensures starts { IfOk result
             (λ r. Reaches (theory_of engine.now) (plain_pattern start.now) calls 0 r.0.config
             r.0.calls) }
@@ -81,7 +82,7 @@ impl Run {
         start: &RulePat,
         calls: u32,
     ) -> Result<(Run, R), EvalEnd>
-        requires { IsStartOf (theory_of engine.now) (plain_pattern start.now) }
+        requires { IsStart (theory_of engine.now) (plain_pattern start.now) }
         ensures starts { IfOk result
             (λ r. Reaches (theory_of engine.now) (plain_pattern start.now) calls 0 r.0.config
             r.0.calls) }

@@ -10,20 +10,20 @@ use Rattle.std.specs.Int.{int_min, int_max, int_div_euclid, int_rem_euclid}
 use Rattle.std.specs.Int.Signed.{mag, mag_rem}
 use Rattle.std.specs.Ordering.{int_eq}
 use Rattle.std.proofs.Math.Nat.{div-le_self, mod-le}
-use Rattle.std.proofs.lemmas.Bool.{false≢true}
+use Rattle.std.proofs.lemmas.Bool.{false≢true, le-leb}
 use Rattle.std.proofs.lemmas.Bool.Decides.{leb_tells}
 use Rattle.std.proofs.lemmas.Nat.{and_le_l, or_lt, xor_lt}
 use Rattle.term_core.specs.Terms.{Tree, leaf, node, inj, Forest, no_tree, more_trees, DomainValue}
 use Rattle.term_core.specs.Terms.{integer, truth, text}
-use Rattle.term_core.specs.HookValues.{in_range, complement, bitwise_and, bitwise_or, bitwise_xor}
-use Rattle.term_core.specs.HookValues.{Operation, on_integer, on_integers, compares, on_truth}
-use Rattle.term_core.specs.HookValues.{on_truths, Hook, hooks, Kind, integers, truths}
+use Rattle.term_core.specs.HookValues.{is_in_range, in_range, complement, bitwise_and, bitwise_or}
+use Rattle.term_core.specs.HookValues.{bitwise_xor, Operation, on_integer, on_integers, compares}
+use Rattle.term_core.specs.HookValues.{on_truth, on_truths, Hook, hooks, Kind, integers, truths}
 use Rattle.term_core.specs.HookValues.{argument_kinds, result_kind, operation_value, outcome}
 use Rattle.term_core.specs.HookValues.{value_by, hook_value}
 use Rattle.term_core.specs.declared.values.NoValue.{NoValue}
 use Rattle.term_core.specs.declared.values.NoValue.TheVariants.{ZeroDivisor, NegativeShift, Range}
 use Rattle.rule_core.specs.Subsorts.{IsBelow}
-use Rattle.rule_core.specs.Sorting.{IsInRange, IsValueOf, HasValue, IsTermOf, sort_at}
+use Rattle.rule_core.specs.Sorting.{IsValueOf, HasValue, IsTermOf, sort_at}
 use Rattle.rule_core.specs.MatchLaws.{AreTermsOf}
 use Rattle.rule_core.specs.HookSorts.{FitsHook, IsOfKind, IsSortOf, RefersTo, ReferTo}
 use Rattle.rule_core.specs.HookCalls.{AreValues, HookAnswers, HookFails}
@@ -63,15 +63,14 @@ no_more m n e =
     (λ (other : (leb m n ≡ false) × (n < m)). absurd (false≢true (sym other.0 ∙ e)))
     (leb_tells m n)
 
-tested_short : (z : ℤ) → (int_le (pos 0 -ℤ pos (2 ^ 127)) z && int_lt z (pos (2 ^ 127))) ≡ true
-    → IsShort 127 z
+tested_short : (z : ℤ) → is_in_range z ≡ true → IsShort 127 z
 tested_short (pos n) e = no_more (suc n) (2 ^ 127) e
 tested_short (negsuc n) e =
     let le : n ≤ 2 ^ 127 - 1 = no_more n (2 ^ 127 - 1) (both_true _ _ e).0 in omega arith
 
 ranged : (z r : ℤ) → in_range z ≡ Ok r → IsShort 127 r
 ranged z r e =
-    let d = chosen (int_le (pos 0 -ℤ pos (2 ^ 127)) z && int_lt z (pos (2 ^ 127))) z Range r e in
+    let d = chosen (is_in_range z) z Range r e in
     subst (IsShort 127) d.1 (tested_short z d.0)
 
 rem_short : (x y : ℤ) → mag (int_rem x y) ≤ mag x
@@ -273,20 +272,15 @@ AreOfTheseKinds [] (v ∷ vs) = ⊥
 AreOfTheseKinds (k ∷ ks) [] = ⊥
 AreOfTheseKinds (k ∷ ks) (v ∷ vs) = IsOfThisKind k v × AreOfTheseKinds ks vs
 
-range_short : (z : ℤ) → IsInRange z → IsShort 127 z
-range_short (pos n) r = let le : n ≤ 2 ^ 127 - 1 = leb→le n (2 ^ 127 - 1) r.1.le in omega arith
-range_short (negsuc n) r = let le : n ≤ 2 ^ 127 - 1 = leb→le n (2 ^ 127 - 1) r.0.le in omega arith
-
-pub short_range : (z : ℤ) → IsShort 127 z → IsInRange z
-short_range (pos n) s = (record { le = tt }, record { le = le→leb n (2 ^ 127 - 1) (omega arith) })
-short_range (negsuc n) s =
-    (record { le = le→leb n (2 ^ 127 - 1) (omega arith) }, record { le = tt })
+pub short_range : (z : ℤ) → IsShort 127 z → is_in_range z ≡ true
+short_range (pos n) s = le-leb (suc n) (2 ^ 127) (omega arith)
+short_range (negsuc n) s = rw (le-leb n (2 ^ 127 - 1) (omega arith)) refl
 
 value_kind : (k : Kind) (info : SortInfo) (v : DomainValue) → IsOfKind k info
     → IsValueOf info.kind v → IsOfThisKind k v
 value_kind integers info (integer z) is v =
     let there : IsValueOf sort_kind.Int (integer z) = subst (λ k. IsValueOf k (integer z)) is v in
-    range_short z there
+    tested_short z there
 value_kind integers info (truth b) is v =
     let there : IsValueOf sort_kind.Int (truth b) = subst (λ k. IsValueOf k (truth b)) is v in there
 value_kind integers info (text bytes) is v =

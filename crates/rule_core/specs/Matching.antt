@@ -13,6 +13,7 @@ use Rattle.rule_core.specs.declared.signature.Signature.{Signature}
 abbrev mutual
   pub OccursIn : ℕ → Pattern → Type 0
   OccursIn x (variable y) = x ≡ y
+  OccursIn x (domain_value s v) = ⊥
   OccursIn x (application f ps) = OccursInSome x ps
   OccursIn x (injection a b p) = OccursIn x p
   OccursIn x (call f sorts ps) = OccursInSome x ps

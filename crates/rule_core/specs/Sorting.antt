@@ -1,9 +1,9 @@
 -- Well-sorted patterns (Kore language document, "Well-formed patterns"), over the signature of a
 -- definition.
-use Rattle.std.specs.Prelude.{◌≡◌, ◌≤ℤ◌, ◌-◌, ◌^◌, ◌<◌, ℕ, ℤ, pos, neg_ℤ, IsTrue, List, [], ◌∷◌}
-use Rattle.std.specs.Prelude.{length, slice_get, Option, Some}
+use Rattle.std.specs.Prelude.{◌≡◌, ◌<◌, ℕ, IsTrue, List, [], ◌∷◌, length, slice_get, Option, Some}
 use Rattle.std.specs.Str.{is_utf8}
 use Rattle.term_core.specs.Terms.{DomainValue, integer, truth, text, Tree}
+use Rattle.term_core.specs.HookValues.{is_in_range}
 use Rattle.term_core.specs.Patterns.{Pattern, Patterns, variable, domain_value, application}
 use Rattle.term_core.specs.Patterns.{injection, call, no_pattern, more_patterns, ground_pattern}
 use Rattle.rule_core.specs.Subsorts.{IsBelow}
@@ -14,18 +14,14 @@ use Rattle.rule_core.specs.declared.signature.SortKind.TheVariants as kind
 use Rattle.rule_core.specs.declared.signature.SymInfo.{SymInfo}
 use Rattle.rule_core.specs.declared.signature.SymKind.{SymKind}
 use Rattle.rule_core.specs.declared.signature.SymKind.TheVariants.{Injection, Ctor, Equations}
-use Rattle.rule_core.specs.declared.signature.SymKind.TheVariants.{Hooked, Closed, NoKind}
+use Rattle.rule_core.specs.declared.signature.SymKind.TheVariants.{Hooked, Closed}
 use Rattle.rule_core.specs.declared.signature.SortRef.{SortRef}
 use Rattle.rule_core.specs.declared.signature.SortRef.TheVariants.{Param, Sort}
-
--- the integers of 128 bits
-abbrev pub IsInRange : ℤ → Type 0
-IsInRange n = (neg_ℤ (pos (2 ^ 127)) ≤ℤ n) × (n ≤ℤ pos (2 ^ 127 - 1))
 
 -- a value of a sort of this kind: an integer in the range, a truth value, or any text for another
 -- sort
 abbrev pub IsValueOf : SortKind → DomainValue → Type 0
-IsValueOf kind.Int (integer n) = IsInRange n
+IsValueOf kind.Int (integer n) = IsTrue (is_in_range n)
 IsValueOf kind.Bool (truth b) = Unit {0}
 IsValueOf kind.Map (text bytes) = IsTrue (is_utf8 bytes)
 IsValueOf kind.Other (text bytes) = IsTrue (is_utf8 bytes)

@@ -3,7 +3,7 @@ ghost use Rattle.std.specs.Prelude.{◌≡◌, ◌≤◌, IfOk};
 ghost use Rattle.term_core.specs.RulePatterns.{plain_pattern};
 ghost use Rattle.rule_core.specs.ProgramView.{theory_of};
 ghost use Rattle.rule_core.specs.Runs.{IsRunOf};
-ghost use Rattle.rewriter.specs.Configurations.{IsStartOf};
+ghost use Rattle.rule_core.specs.WellSorted.{IsStart};
 ghost use Rattle.run_loop.specs.RunEnds.{plain_run, IsSortedEnd};
 
 use crate::ends::RunEnd;
@@ -23,7 +23,7 @@ pub fn run(
     limit: u32,
     calls: u32,
 ) -> Result<RunEnd, AllocError>
-    requires { IsStartOf (theory_of engine.now) (plain_pattern start.now) }
+    requires { IsStart (theory_of engine.now) (plain_pattern start.now) }
     ensures run { IfOk result
         (λ end. IsRunOf (theory_of engine.now) limit calls (plain_pattern start.now)
         (plain_run end)) }

@@ -10,7 +10,6 @@ use Rattle.rule_core.specs.Theories.{RewriteTheory}
 use Rattle.rule_core.specs.Evaluation.{most_height}
 use Rattle.rule_core.specs.ProgramView.{theory_of}
 use Rattle.rule_core.specs.Records.{StepRecord, RecordsStep}
-use Rattle.rule_core.specs.WellSorted.{IsStart}
 use Rattle.rule_core.specs.declared.rules.Program.{Program}
 use Rattle.mm_justify.specs.Justifying.{JustifiesRun}
 use Rattle.mm_justify.specs.Counting.{HasCounts, capped}
@@ -18,7 +17,7 @@ use Rattle.prove_step.specs.Steps.{IsStepFrom}
 use Rattle.prove_run.specs.RunProof.{RunProof, configuration, reached}
 use Rattle.prove_run.specs.Proving.{CanStep, FitsProof, StepsTo}
 use Rattle.rule_core.specs.Runs.{Steps, steps_on, Reaches, Run, kept_by}
-use Rattle.rewriter.specs.Configurations.{IsStartOf, RunState, IsConfiguration}
+use Rattle.rewriter.specs.Configurations.{RunState, IsConfiguration}
 use Rattle.run_proof.specs.declared.summaries.Summary.{Summary}
 use Rattle.run_proof.specs.declared.steps.ProvedSteps.{ProvedSteps}
 use Rattle.run_proof.specs.declared.steps.ProofRest.{ProofRest}
@@ -118,11 +117,6 @@ justified program start at end proof text h last =
     subst (λ (p : Pattern). JustifiesRun text (theory_of program) p (reached proof))
     h.same_start one in
     subst (λ (p : Pattern). JustifiesRun text (theory_of program) start p) (h.is_reached ∙ last) two
-
--- the initial term meets the requirement of the rewriter
-pub start_of : (theory : RewriteTheory) (start : Pattern) → IsStart theory start
-    → IsStartOf theory start
-start_of theory start h = (h.0, h.2, h.1)
 
 -- ---- the counts
 

@@ -1,6 +1,6 @@
 -- The hooks on whole numbers and truth values (K framework, "domains.md"): the value of each at its
--- arguments. Whole numbers are mathematical integers. If the result of a hook is a whole number, it
--- must be from -2^127 to 2^127 - 1.
+-- arguments. Whole numbers are mathematical integers. Those of a program are in the range from
+-- -2^127 to 2^127 - 1, so the result of a hook must be in it.
 use Rattle.std.specs.Prelude.{ℕ, ◌-◌, ◌^◌, ℤ, pos, negsuc, ◌+ℤ◌, ◌-ℤ◌, ◌*ℤ◌, int_lt, int_le}
 use Rattle.std.specs.Prelude.{int_div, int_rem, unsigned_abs, bit_and, bit_or, bit_xor, Bool, not}
 use Rattle.std.specs.Prelude.{◌&&◌, ◌||◌, if◌then◌else◌, List, [], ◌∷◌, Option, Some, None, Result}
@@ -13,10 +13,13 @@ use Rattle.term_core.specs.declared.values.NoValue.TheVariants.{ZeroDivisor, Neg
 
 -- ---- whole numbers
 
+-- the number is in the range
+abbrev pub is_in_range : ℤ → Bool
+is_in_range z = int_le (pos 0 -ℤ pos (2 ^ 127)) z && int_lt z (pos (2 ^ 127))
+
 -- the number, if it is in the range
 abbrev pub in_range : ℤ → Result ℤ NoValue
-in_range z =
-    if int_le (pos 0 -ℤ pos (2 ^ 127)) z && int_lt z (pos (2 ^ 127)) then Ok z else Err Range
+in_range z = if is_in_range z then Ok z else Err Range
 
 -- the result of a division, by the divisor
 abbrev pub unless_zero : ℤ → Result ℤ NoValue → Result ℤ NoValue

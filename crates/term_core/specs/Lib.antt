@@ -5,6 +5,7 @@ pub mod NormalForms
 pub mod Values
 pub mod HookValues
 pub mod HookSignatures
+pub mod ValueTexts
 pub mod Heads
 pub mod Patterns
 pub mod Instances

@@ -1,9 +1,8 @@
 use Rattle.std.proofs.Common.{Result, Ok, Err, IfOk}
 use Rattle.term_core.specs.RulePatterns.{plain_pattern}
-use Rattle.rule_core.specs.ProgramView.{theory_of}
 use Rattle.run_proof.specs.declared.steps.StartResult.{StartResult}
 use Rattle.run_proof.specs.ProvedSteps.{BeginsAt, BeginsRun}
-use Rattle.run_proof.proofs.ProofsAt.{begins_run, start_of}
+use Rattle.run_proof.proofs.ProofsAt.{begins_run}
 use Rattle.run_proof.proofs.steps.proved_beginning.Goals as goal
 
 if_ok : {T E : Type 0} (r : Result T E) (P Q : T → Type 0) → ((t : T) → P t → Q t) → IfOk r P
@@ -12,8 +11,7 @@ if_ok (Ok t) P Q f h = f t h
 if_ok (Err e) P Q f h = tt
 
 pub new-requires : goal.new-requires
-new-requires c =
-    start_of (theory_of c.args.engine.now) (plain_pattern c.args.start.now) c.requires.is_start
+new-requires c = c.requires.is_start
 
 pub returns-in-Ok : goal.returns-in-Ok
 returns-in-Ok c =

@@ -7,12 +7,11 @@ use Rattle.term_core.specs.declared.rule_patterns.RulePat.TheVariants as form
 use Rattle.term_core.specs.declared.values.Value.TheVariants as value
 use Rattle.term_core.proofs.PlainPatterns.{plain-Value}
 use Rattle.rule_core.specs.ProgramView.{theory_of, rewrite_rules}
-use Rattle.rule_core.specs.WellSorted.{IsRuleOf}
+use Rattle.rule_core.specs.WellSorted.{IsRuleOf, IsStart}
 use Rattle.rule_core.specs.declared.rules.Program.{Program}
 use Rattle.rule_core.specs.declared.rules.Rule.{Rule}
 use Rattle.fun_eval.specs.TestPrograms.{HasIntegers}
 use Rattle.fun_eval.proofs.Empty.{integer_value}
-use Rattle.rewriter.specs.Configurations.{IsStartOf}
 use Rattle.run_tests.proofs.rewriting.is_stuck_without_a_rule.Goals as goal
 
 pub new-requires : goal.new-requires
@@ -25,11 +24,11 @@ new-requires g c =
     (rewrite_rules c.in-Some.program.rules.items) =
     subst (λ (rs : List Rule). All (IsRuleOf c.in-Some.program.sig 0) (rewrite_rules rs))
     (sym none) (λ k d lt. absurd (omega arith)) in
-    let plain : IsStartOf (theory_of c.in-Some.program) (domain_value 0 (integer (pos 5))) =
-    (0, rules_fit, (refl, integer_value c.in-Some.program.sig 5 (omega arith) has)) in
-    let own : IsStartOf (theory_of c.in-Some.program)
+    let plain : IsStart (theory_of c.in-Some.program) (domain_value 0 (integer (pos 5))) =
+    (0, (refl, integer_value c.in-Some.program.sig 5 (omega arith) has), rules_fit) in
+    let own : IsStart (theory_of c.in-Some.program)
     (plain_pattern (form.Value (record { 0 = 0 }) (value.Int (pos 5)))) =
-    subst (IsStartOf (theory_of c.in-Some.program)) (sym (plain-Value _ _)) plain in
-    subst (λ (p : Program). IsStartOf (theory_of p)
+    subst (IsStart (theory_of c.in-Some.program)) (sym (plain-Value _ _)) plain in
+    subst (λ (p : Program). IsStart (theory_of p)
     (plain_pattern (form.Value (record { 0 = 0 }) (value.Int (pos 5)))))
     (sym c.new-engine.ensures) own

@@ -10,7 +10,7 @@ use Rattle.mm_claims.specs.Keeping.{MayState, axiom_at, with_stated}
 use Rattle.mm_claims.specs.OverNames.{over_names}
 use Rattle.mm_justify.specs.CountingLaws.{is_fact_form}
 use Rattle.rule_core.specs.ProgramView.{theory_of}
-use Rattle.prove_term.specs.Contexts.{IsAssumed}
+use Rattle.ml_image.specs.Assumed.{IsAssumed}
 use Rattle.proof_writer.specs.Writing.{context_of}
 use Rattle.proof_writer.proofs.CountLaws.{fact_counted, more_counts}
 use Rattle.proof_writer.proofs.ScopeLaws.{contained}
