@@ -216,7 +216,7 @@ no-declaration-fault p q r m n few =
     let d : DefinitionTree = tree_with ds in
     let sorts : sort_entries d ≡ drill_sorts = entries-are p q r m n in
     let declared : FirstOfDeclarations (sort_entries d) (declarations_placed [] (module_with ds
-        ∷ [])) None =
+    ∷ [])) None =
     subst (λ (es : List (List ℕ × SortInfo)). FirstOfDeclarations es
     (declarations_placed [] (module_with ds ∷ [])) None) (sym sorts)
     (declarations-clear ds (all-clear p q r m n few)) in

@@ -57,8 +57,10 @@ all_hold (any t ∷ ws) = all_hold ws
 pub takes-all : (ws : List Requirement) (s : Stream) → all_hold ws ≡ true → fulfilled ws s ≡ s
     → TakesTokens ws s (left_after ws s)
 takes-all [] s h e = refl
-takes-all (provided b ∷ ws) s h e = let p = both_true b (all_hold ws) h in (p.0,
-    takes-all ws s p.1 e)
+takes-all (provided b ∷ ws) s h e = let p = both_true b (all_hold ws) h in (
+  p.0,
+  takes-all ws s p.1 e,
+)
 takes-all (placed p t ∷ ws) (end n) h e = let no : ⊥ = cc in no
 takes-all (placed p t ∷ ws) (no_token_at n) h e = let no : ⊥ = cc in no
 takes-all (placed p t ∷ ws) (token u q s) h e =

@@ -265,7 +265,7 @@ hook_called {R} tells all_tell theory n f row sort k info args i hook at r h =
           subst (λ t. HasOutcome theory n f (forest args.terms.items) (suc k) (value t k))
           (sym w.4) here in
           subst (λ j. HasOutcome theory n f (forest args.terms.items) (suc k) (value a.term j))
-              (sym e)
+          (sym e)
           with_term
 
       told : (a : Answer R)

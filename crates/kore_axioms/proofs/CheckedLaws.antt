@@ -113,7 +113,7 @@ rule_meant sig a v made n class b bound stated = record {
         (b.numbered bound) (b.means_left bound);
     means_condition =
         subst (λ (vs : List (List ℕ × ℕ)).
-            MeansTest sig vs (tested_pattern (rule_parts sig v).condition)
+        MeansTest sig vs (tested_pattern (rule_parts sig v).condition)
         (option_map plain_pattern made.cond)) (b.numbered bound)
         (b.means_condition bound);
     means_right =

@@ -59,7 +59,7 @@ pub binder_is : (p : Pat) (b : Binder) (ss : Vec Sort Global) (x body : Box Pat)
     (pattern_tree body.value)
 binder_is p b ss x body h =
     pattern_is p (form.Bound b ss x body)
-        (binder_applied p.at b (sort_trees (map plain_sort ss.items))
+    (binder_applied p.at b (sort_trees (map plain_sort ss.items))
     (pattern_tree x.value) (pattern_tree body.value)) h
     (plain-pattern-Bound p.at b ss x body)
 

@@ -72,7 +72,7 @@ pub highest-end : (h : ℕ) (args : List Pat) (i : ℕ) (whole : ℕ) → length
     → cut (max h (unfolded_heights (reads (drop i args)))) ≡ whole → h ≡ whole
 highest-end h args i whole le low known =
     same h low ∙ ap (λ (ps : List Pat). cut (max h (unfolded_heights (reads ps))))
-        (sym (drop_all i args le))
+    (sym (drop_all i args le))
     ∙ known where
       same : (h : ℕ) → h ≤ 501 → h ≡ cut (max h 0)
       same h low = omega arith

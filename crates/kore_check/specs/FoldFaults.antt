@@ -28,7 +28,7 @@ abbrev pub rest_faults : Signature → Bool → FoldSorts → Unfoldeds → List
 rest_faults sig left s no_more = []
 rest_faults sig left s (and_more p ps) =
     pattern_faults sig p ++ (next_faults (is_none_more ps) left (unfolded_byte p)
-        (sort_of_pattern sig p) s
+    (sort_of_pattern sig p) s
     ++ rest_faults sig left s ps)
 
 -- the faults of all arguments

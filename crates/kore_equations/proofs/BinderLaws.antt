@@ -267,7 +267,7 @@ entry_binds r x g both is h =
     is in
     let found =
     mapped_there (λ (p : PatternTree). (p, parts.0.1)) (member_pattern r x parts.0.0) both parts.2
-        in
+    in
     let clean = conjuncts_bind r g parts.0 parts.1 h in
     subst BothBindNone found.2 (member_binds r x parts.0.0 found.0 found.1 clean.0, clean.1)
 

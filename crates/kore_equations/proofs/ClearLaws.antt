@@ -198,7 +198,7 @@ sorted_same sig info e q form = by_case (nat_le (unfolded_heights ps + 1) most_h
   by_case true h =
       let low : unfolded_heights ps ≤ 500 =
       let le : unfolded_heights ps + 1 ≤ 500 = leb-true (unfolded_heights ps + 1) 500 h in omega
-          (arith, le) in
+      (arith, le) in
       ap (λ (b : Bool).
       b && (each_faultless sig info.args.items ps && (is_empty fs && is_empty gs)))
       (faultless_same sig info.args.items xs (with_low e e.guard q form))

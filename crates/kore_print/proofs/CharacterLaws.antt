@@ -63,7 +63,7 @@ digits-plain zero n = tt
 digits-plain (suc k) n =
     let p = digit-plain (n % 16) (omega arith) in
     plain-append (hexadecimal_digits k (n / 16)) (digit_char (n % 16)
-        ∷ []) (digits-plain k (n / 16))
+    ∷ []) (digits-plain k (n / 16))
     (p.0, p.1, p.2, tt)
 
 digits-length : (k n : ℕ) → length (hexadecimal_digits k n) ≡ k

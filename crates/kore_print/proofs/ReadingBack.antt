@@ -20,7 +20,7 @@ reads_back p h =
     let s : IsShallow 0 (token_stream (canonical_text p)) =
     subst (λ (s : Stream). IsShallow 0 s) (sym e) (spelled-shallow ws 0 0 h) in
     let t : TakesTokens (spell_pattern false a.to []) (token_stream (canonical_text p))
-        (end a.rest) =
+    (end a.rest) =
     subst (λ (s : Stream). TakesTokens (spell_pattern false a.to []) s (end a.rest)) (sym e)
     (a.spelled [] (end a.rest) refl) in
     (a.to, a.same, (s, (a.rest, t)))

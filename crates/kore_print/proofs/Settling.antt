@@ -150,7 +150,7 @@ three-same : (o : Binder) (ss ts : SortTrees) (x y p q : PatternTree) → ss ≡
     → binder_applied 0 o ss x p ≡ binder_applied 0 o ts y q
 three-same o ss ts x y p q a b c =
     ap (λ z. binder_applied 0 o z x p) a ∙ ap (λ z. binder_applied 0 o ts z p) b
-        ∙ ap (binder_applied 0 o ts y) c
+    ∙ ap (binder_applied 0 o ts y) c
 
 mutual
   pub settled-pattern : (b : Bool) (p : PatternTree) (k : List Requirement) (at : ℕ)

@@ -36,7 +36,7 @@ of_top : (sig : Signature) (top : Option ℕ) (u : _) (s : ℕ) → sort_of_patt
 of_top sig None u s e h = tt
 of_top sig (Some t) u s e h =
     one_sort (sort_of_pattern sig u) s t e
-        (unless_empty (is_one_sort (sort_of_pattern sig u) (Some t)) 19 0 h)
+    (unless_empty (is_one_sort (sort_of_pattern sig u) (Some t)) 19 0 h)
 
 pub accepted_start : (sig : Signature) (top : Option ℕ) (bytes : List ℕ) (start : Pattern)
     → IsSignature sig → IsAcceptedTerm sig top bytes start

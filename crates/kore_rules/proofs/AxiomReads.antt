@@ -171,7 +171,7 @@ pub read_equation : (sig : Signature) (axioms : List AxiomDeclaration) (a : Axio
 read_equation sig axioms a f old new e grown rules marks number is before = record {
   rules =
       subst (AreRead (MeansRule sig) place_of (axioms ++ a
-          ∷ [])) (ap (map rewrite_rule) (sym rules))
+      ∷ [])) (ap (map rewrite_rule) (sym rules))
       (read_same (MeansRule sig) place_of axioms (map rewrite_rule old.rules.items) a
       (λ y h. rule_not_equation sig f a y (function_equation e) h is.means) before.rules);
   equations =
@@ -204,7 +204,7 @@ pub read_unreadable : (sig : Signature) (axioms : List AxiomDeclaration) (a : Ax
 read_unreadable sig axioms a f k old new rules equations len set number is before = record {
   rules =
       subst (AreRead (MeansRule sig) place_of (axioms ++ a
-          ∷ [])) (ap (map rewrite_rule) (sym rules))
+      ∷ [])) (ap (map rewrite_rule) (sym rules))
       (read_same (MeansRule sig) place_of axioms (map rewrite_rule old.rules.items) a
       (λ y h. rule_not_unreadable sig f a y h is) before.rules);
   equations =

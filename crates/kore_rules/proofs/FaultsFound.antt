@@ -46,7 +46,7 @@ pub definition_is_found : (bytes : List ℕ)
     ⊎ ((f : Fault) × HasTextFault IsDefinition bytes f)
 definition_is_found bytes =
     by_case (run (token_stream bytes) (Some 0) definition_symbols)
-        (definition_fault (token_stream bytes))
+    (definition_fault (token_stream bytes))
   where
     by_case : (r : Option TextFault) → IsFirstFaultOfText IsDefinition 0 (token_stream bytes) r
         → ((d : DefinitionTree) × ReadsDefinition bytes d)

@@ -11,7 +11,7 @@ use Rattle.std.proofs.lemmas.List.FromFn.{length-range_with_len, get_or-range_wi
 use Rattle.std.proofs.lemmas.List.Quantifiers.{position-Some}
 use Rattle.std.proofs.lemmas.Slice.Eq.{bytes_eq-Decides}
 use Rattle.term_core.specs.HookValues.{Hook, hooks}
-use Rattle.term_core.specs.HookSignatures.{signature}
+use Rattle.term_core.specs.HookSignatures.{Signature as HookSignature, signature}
 use Rattle.term_core.specs.HookValues as hook
 use Rattle.hook_table.specs.Names.{hook_number, NamesDiffer}
 use Rattle.kore_text.specs.Trees.{AxiomDeclaration}
@@ -112,7 +112,7 @@ by_number sig axioms marks zip is f info name (Some n) function hooked e =
     let found = numbered_hook name n first_hook e in
     let row : hook_row n ≡ Some (signature found.0) = row_is n found.0 found.1 in
     subst
-    (λ (o : Option hook.Signature). HasKind sig axioms f info (kind_in_row sig marks info n o))
+    (λ (o : Option HookSignature). HasKind sig axioms f info (kind_in_row sig marks info n o))
     (sym row)
     (by_fits sig axioms marks zip is f info name n found.0
     (fits_row sig marks (signature found.0) info) function hooked found.1 found.2 refl)

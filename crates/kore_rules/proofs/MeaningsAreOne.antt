@@ -167,7 +167,7 @@ equation_one sig f a x y r s =
     (subst (λ (vs : List (List ℕ × ℕ)). Means sig vs (unfolded s.parts.right) y.right)
     (sym vars) s.means_right) in
     let condition : MeansTest sig r.variables
-        (tested_pattern (condition_of_equation sig r.stated r.parts))
+    (tested_pattern (condition_of_equation sig r.stated r.parts))
     y.condition =
     subst (λ (e : StatedEquation).
     MeansTest sig r.variables (tested_pattern (condition_of_equation sig e r.parts)) y.condition)

@@ -368,8 +368,10 @@ applied-one : (b : Bool) (at bt : ℕ) (t u : KoreToken) (ss rs : SortTrees) (ps
     → AllTold (spell_pattern b) (listed_patterns ps) → (v w : List Requirement) (s d e : Stream)
     → TakesTokens (spell_applied at t ss (spell_patterns b ps) v) s d
     → TakesTokens (spell_applied bt u rs (spell_patterns b qs) w) s e
-    → Agree {T = ((ℕ × KoreToken) × SortTrees) × PatternTrees} (((at, t), ss), ps) (((bt, u), rs),
-    qs) v
+    → Agree {T = ((ℕ × KoreToken) × SortTrees) × PatternTrees} (((at, t), ss), ps) (
+      ((bt, u), rs),
+      qs,
+    ) v
     w d e
 applied-one b at bt t u ss rs ps qs told v w s d e h k =
     let x2 : List Requirement = listed (spell_patterns b ps) 41 v in

@@ -169,7 +169,7 @@ pub one_sort_of_rules : (sig : Signature) (axioms : List AxiomDeclaration)
 one_sort_of_rules sig [] none = (None, λ a there w class. absurd (contains_none a there))
 one_sort_of_rules sig (x ∷ axioms) none =
     by_class sig x axioms (axiom_class sig x) refl none.1 (λ later.
-        one_sort_of_rules sig axioms later)
+    one_sort_of_rules sig axioms later)
 
 there_is : (o : Option ℕ) → is_some o ≡ true → (n : ℕ) × (o ≡ Some n)
 there_is None h = absurd (false≢true h)

@@ -146,7 +146,7 @@ sorted_rule declared final axioms a rule first s kept good r clear number =
     let qs : Unfoldeds = and_more (unfolded r.left) no_more in
     let bound_test : is_bound qs (tested_pattern w.condition) ≡ true =
     subst (λ (o : Option PatternTree). is_bound (listed_pattern o) (tested_pattern w.condition)
-        ≡ true)
+    ≡ true)
     r.is_left bound.0 in
     let bound_right : is_bound qs (Some r.right) ≡ true =
     subst (λ (o : Option PatternTree). is_bound qs o ≡ true) r.is_right (subst

@@ -105,7 +105,7 @@ rule_found sig first a w sorted class clear =
     let bound_parts : (is_bound (listed_pattern (Some f.left)) (tested_pattern parts.condition)
     && is_bound (listed_pattern (Some f.left)) (Some f.right)) ≡ true =
     ap (λ (o : Option PatternTree).
-        is_bound (listed_pattern (Some f.left)) (tested_pattern parts.condition)
+    is_bound (listed_pattern (Some f.left)) (tested_pattern parts.condition)
     && is_bound (listed_pattern (Some f.left)) o) (sym f.is_right)
     ∙ ap (λ (o : Option PatternTree). is_bound (listed_pattern o) (tested_pattern parts.condition)
     && is_bound (listed_pattern o) (right_of parts)) (sym f.is_left) ∙ bound in
@@ -162,8 +162,10 @@ equation_of_parts sig a e info q sorted class declared clear bound =
     let vars : Variables = with_all_variables sig [] qs in
     let arguments = all_meanings sig sorted qs [] (are_faultless sig qs f.patterns) in
     let meant : AreMeant sig vars (tested_pattern c) q.right =
-    are_meant sig sorted qs (tested_pattern c) q.right (λ p is. ((f.test p is).clear,
-        (f.test p is).form))
+    are_meant sig sorted qs (tested_pattern c) q.right (λ p is. (
+      (f.test p is).clear,
+      (f.test p is).form,
+    ))
     (f.right.clear, f.right.form) bound in (
       record {
         parameters = length q.parameters;

@@ -111,7 +111,7 @@ pub distinct_symbols : (d : DefinitionTree) (sig : Signature) → FirstOfSignatu
 distinct_symbols d sig none is =
     let all : AreDistinct (symbol_names (declarations (declarations_placed [] d.modules))) =
     distinct_behind (sort_entries d) nothing_declared (declarations_placed [] d.modules) none.1.0 tt
-        in
+    in
     let same : names_of sig.symbols ≡ symbol_names (counted_declarations d) =
     named_entries sig.sorts (injection_of (symbols_of d)) (ac_names d) (symbols_of d)
     sig.symbols is.symbols in

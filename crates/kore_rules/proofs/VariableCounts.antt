@@ -533,7 +533,7 @@ entry_count r x g both is =
     is in
     let found =
     mapped_there (λ (p : PatternTree). (p, parts.0.1)) (member_pattern r x parts.0.0) both parts.2
-        in
+    in
     let first = member_count r x parts.0.0 found.0 found.1 in
     let most = conjuncts_count r g parts.0 parts.1 in
     subst (λ (b : PatternTree × PatternTree).

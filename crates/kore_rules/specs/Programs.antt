@@ -67,7 +67,7 @@ pub record AreEquationsOf (sig : Signature) (axioms : List AxiomDeclaration) (f 
     (es : List Equation) : Type 0 where
   pub just : (e : Equation) → Contains es e
       ↔ ((kind ≡ Equations) × ((a : AxiomDeclaration) × Contains axioms a
-          × MeansEquation sig f a e))
+      × MeansEquation sig f a e))
   pub in_order : AreInOrder (map (λ (e : Equation). (e.priority, e.place)) es)
 
 -- The program of a definition whose declarations give the signature `declared`.

@@ -6,8 +6,7 @@ use Rattle.std.specs.Prelude.{if◌then◌else◌}
 use Rattle.std.specs.List.{list_any}
 use Rattle.std.specs.Option.{option_and_then}
 use Rattle.term_core.specs.HookValues.{Kind, integers, truths, hooks}
-use Rattle.term_core.specs.HookSignatures.{signature}
-use Rattle.term_core.specs.HookValues as hook
+use Rattle.term_core.specs.HookSignatures.{Signature as HookSignature, signature}
 use Rattle.std.specs.Borrow.{Bor}
 use Rattle.hook_table.specs.Names.{hook_number}
 use Rattle.hook_table.specs.Rows.{plain_row}
@@ -104,23 +103,23 @@ refer_to sig marks (k ∷ ks) [] = false
 refer_to sig marks (k ∷ ks) (of ∷ refs) = refers_to sig marks k of && refer_to sig marks ks refs
 
 -- the declaration has no sort parameters, and has the sorts of the row
-abbrev pub fits_row : Signature → List Bool → hook.Signature → SymInfo → Bool
+abbrev pub fits_row : Signature → List Bool → HookSignature → SymInfo → Bool
 fits_row sig marks row info =
     (info.params == 0)
     && (refer_to sig marks row.arguments info.args.items
     && refers_to sig marks row.result info.result)
 
 -- the kind of a function by the row with this number
-abbrev pub kind_in_row : Signature → List Bool → SymInfo → ℕ → Option hook.Signature → SymKind
+abbrev pub kind_in_row : Signature → List Bool → SymInfo → ℕ → Option HookSignature → SymKind
 kind_in_row sig marks info n None = Closed
 kind_in_row sig marks info n (Some row) =
     if fits_row sig marks row info then Hooked (record { 0 = n }) else Closed
 
-abbrev pub row_at : Bor HookRow → hook.Signature
+abbrev pub row_at : Bor HookRow → HookSignature
 row_at row = plain_row row.now
 
 -- the row of the table for the hook with this number
-unfoldable pub hook_row : ℕ → Option hook.Signature
+unfoldable pub hook_row : ℕ → Option HookSignature
 hook_row n = slice_get (map signature hooks) n
 
 abbrev pub kind_of_number : Signature → List Bool → SymInfo → Option ℕ → SymKind

@@ -106,7 +106,7 @@ pub placed_with : (names : List (List ℕ)) (m : ModuleTree) (later : List Modul
     ≡ so_far ++ declarations_placed names (m ∷ later)
 placed_with names m later b so_far is holds =
     append_assoc so_far (map (placed_at names) m.declarations)
-        (declarations_placed (names_after names m) later)
+    (declarations_placed (names_after names m) later)
     ∙ ap (λ c. so_far
     ++ (cond c (map (placed_at names) m.declarations) []
     ++ declarations_placed (names_after names m) later)) (sym holds ∙ is)

@@ -58,7 +58,7 @@ pub connected-goes : (b : Bool) (at : ℕ) (o : Op) (ss : SortTrees) (ps : Patte
     → Reaches (symbol.Pattern b ∷ []) w s e
 connected-goes b at o ss ps w s e t ga h =
     let c = both (sort_count ss == connective_sorts o) (is_count (connective_arguments o)
-        (pattern_count ps)) t in
+    (pattern_count ps)) t in
     let v2 : List Requirement = any (mark 40) ∷ listed (spell_patterns b ps) 41 w in
     let v1 : List Requirement = listed (spell_sorts ss) 125 v2 in
     by-token (symbol.Pattern b) (built_symbols b (Connective o)) (builtin (Some (Connective o)))

@@ -82,7 +82,7 @@ faultless L k n s f accepts fine h =
 pub pattern-faultless : PatternHasNoFault
 pattern-faultless bytes f =
     faultless IsPattern pattern_symbols 0 (token_stream bytes) f
-        (accepts-pattern (token_stream bytes))
+    (accepts-pattern (token_stream bytes))
 
 pub definition-faultless : DefinitionHasNoFault
 definition-faultless bytes f =

@@ -171,7 +171,7 @@ connected-back b o p s r m =
     let xs : List SortTree = x.0 in
     let q2 : Stream = x.1.1.0 in
     let g : Pieces (symbol.Mark 40 ∷ argument_symbols b (connective_arguments o)) q2 r =
-        x.1.1.1.1 in
+    x.1.1.1.1 in
     let y = arguments-back b (connective_arguments o) g.0 r g.2 in
     let ys : List PatternTree = y.0 in
     let v : List Requirement → List Requirement =

@@ -50,7 +50,7 @@ pub named-next : (refs : List SortRef) (i : ℕ) (s : SortId) (d : SortRef) (sor
     → take (i + 1) refs ≡ map sort_numbered (sort_numbers (sorts ++ s ∷ []))
 named-next refs i s d sorts low is before =
     let ends : map sort_numbered (sort_numbers (sorts ++ s ∷ []))
-        ≡ map sort_numbered (sort_numbers sorts) ++ Sort s
+    ≡ map sort_numbered (sort_numbers sorts) ++ Sort s
     ∷ [] =
     ap (map sort_numbered) (map-append (λ (t : SortId). t.0) sorts (s ∷ []))
     ∙ map-append sort_numbered (sort_numbers sorts) (s.0 ∷ []) in

@@ -174,7 +174,7 @@ constructor_has_totality sig f info ok there constructs few =
     let none : info.params ≡ 0 = ok.constructors f info there constructs in
     let declared : IsDeclaration sig info = ok.declared f info there in
     let takes : (sorts : List ℕ) × (info.args.items ≡ map sort_numbered sorts)
-        × AreSorts sig sorts =
+    × AreSorts sig sorts =
     names_of sig info.args.items
     (subst (λ (n : ℕ). All (IsReference sig n) info.args.items) none declared.arguments) in
     let makes : (s : ℕ) × (info.result ≡ sort_numbered s) × (s < length sig.sorts) =
@@ -225,7 +225,7 @@ equation_has_image theory f info e ok there kind listed few parameters =
         let no : info.params ≡ 0 = ok.functions f info there kind in
         let declared : IsDeclaration theory.sig info = ok.signature.declared f info there in
         let takes : (sorts : List ℕ) × (info.args.items ≡ map sort_numbered sorts)
-            × AreSorts theory.sig
+        × AreSorts theory.sig
         sorts =
         names_of theory.sig info.args.items (subst
         (λ (n : ℕ). All (IsReference theory.sig n) info.args.items) no

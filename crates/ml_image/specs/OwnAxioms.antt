@@ -103,7 +103,7 @@ pub data SaysEquation (sig : Signature) (f : ℕ) (e : Equation) (p : Sentence) 
   kompile : (c : Sentence) (info : SymInfo) (sorts : List ℕ) (sort : ℕ) → e.parameters ≢ 0 →
       e.parameters ≡ length sorts → Declares sig f info sorts sort →
       condition_sentence sig (behind_parameters sorts e).variables
-          (behind_parameters sorts e).condition
+      (behind_parameters sorts e).condition
       ≡ Some c →
       p ≡ kompile_sentence f (length sorts) (behind_parameters sorts e) c → SaysEquation sig f e p
 

@@ -128,7 +128,7 @@ one_part : (names : List Token) (connective : Token) (p : Pattern)
     ≡ bracketed connective (pattern_tokens names p ++ bracket)
 one_part names connective p h =
     inside_bracket connective (text_entries names p ++ plain_bracket) (pattern_tokens names p
-        ++ bracket)
+    ++ bracket)
     (behind_part (text_entries names p) plain_bracket (pattern_tokens names p) bracket h refl)
 
 two_parts : (names : List Token) (connective : Token) (p q : Pattern)

@@ -38,7 +38,7 @@ schema_grown old new r t g says = record {
   holds = says.holds;
   is_holds =
       ap (λ (p : Program). condition_sentence p.sig r.variables r.condition) g.program
-          ∙ says.is_holds;
+      ∙ says.is_holds;
   condition = says.condition;
   condition_image = image_grown old new says.holds says.condition g says.condition_image;
   right = says.right;

@@ -132,7 +132,7 @@ application_image sig names f ps r h =
     sig names ps qs × (r ≡ applied_to g qs) =
     applied_parts sig names ps (symbol_image sig names f) r h in
     let c : (x : ℕ) × (number_in_names names (token_of_symbol sig f) ≡ Some x)
-        × (w.0 ≡ constant x) =
+    × (w.0 ≡ constant x) =
     map_some constant (number_in_names names (token_of_symbol sig f)) w.0 w.2 in (
       c.0,
       w.1,

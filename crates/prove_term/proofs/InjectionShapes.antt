@@ -28,7 +28,7 @@ symbol_shape : (sig : Signature) (names : List (List ℕ)) (o : Option ℕ) (p :
 symbol_shape sig names None p h = absurd (none_some p h)
 symbol_shape sig names (Some f) p h =
     let w : (c : ℕ) × (number_in_names names (token_of_symbol sig f) ≡ Some c)
-        × (p ≡ logic.constant c) =
+    × (p ≡ logic.constant c) =
     map_some logic.constant (number_in_names names (token_of_symbol sig f)) p h in
     (w.0, w.2)
 

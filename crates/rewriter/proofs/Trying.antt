@@ -114,9 +114,10 @@ pub no_test : (theory : RewriteTheory) (c : ℕ) (theta : List (Option Tree)) (p
     → p ≡ None
     → Meets theory theta p c (holds c)
     × ((o : OptionalRecord) × (o ≡ unconditional) × RecordsCondition theory theta p o)
-no_test theory c theta p is =
-    (subst (λ o. Meets theory theta o c (holds c)) (sym is) no_rule_condition,
-    (unconditional, refl, is))
+no_test theory c theta p is = (
+  subst (λ o. Meets theory theta o c (holds c)) (sym is) no_rule_condition,
+  (unconditional, refl, is),
+)
 
 pub test_holds : (tell : Record → Type 0) (theory : RewriteTheory) (c left : ℕ)
     (theta : List (Option Tree)) (p : Option Pattern) (q : Pattern) (t : Tree) → p ≡ Some q

@@ -161,7 +161,7 @@ values_only : {theory : RewriteTheory} {n c f d : ℕ} {theta : List (Option Tre
     → r ≡ s
 values_only {d = d} {ts = ts} only makes_only (from_blocked {cause = other} all) =
     let e : values ts d ≡ all_blocked other = only (all_blocked other) all in let no : ⊥ =
-        cc in absurd no
+    cc in absurd no
 values_only {theory} {n} {f = f} {d = d} {p = p} {ts = ts} {s = s} only makes_only
     (from_values {ts = us} {d = k} all makes) =
     let e : values ts d ≡ values us k = only (values us k) all in

@@ -41,7 +41,7 @@ mutual
   evaluates_more theory k (function_called all applied) zero le = absurd (omega arith)
   evaluates_more theory k (function_called all applied) (suc m) le =
       function_called (all_more theory k all m (omega arith)) (applies_more theory k applied m
-          (omega arith))
+      (omega arith))
 
   pub all_more : (theory : RewriteTheory) (k : ℕ) {n c d : ℕ} {theta : List (Option Tree)}
       {ps : Patterns} {ts : Forest} → EvaluateAll theory n theta ps c (values ts d) → (m : ℕ)
@@ -71,7 +71,7 @@ mutual
 
   pub tests_more : (theory : RewriteTheory) (k : ℕ) {n f c : ℕ} {theta : List (Option Tree)}
       {p : Option Pattern} {r : ConditionOutcome} → Tests theory n f theta p c r → IsTold r
-          → (m : ℕ)
+      → (m : ℕ)
       → n ≤ m → Tests theory m f theta p (c + k) (with_calls k r)
   tests_more theory k no_condition told m le = no_condition
   tests_more theory k (condition {e = value t d} e says) told m le =

@@ -41,8 +41,11 @@ mutual
   calls_fall (bound e) = omega arith
   calls_fall itself = omega arith
   calls_fall (made h all b low) = all_calls_fall all
-  calls_fall (function_called all applied) = omega (arith, all_calls_fall all,
-      applied_calls_fall applied)
+  calls_fall (function_called all applied) = omega (
+    arith,
+    all_calls_fall all,
+    applied_calls_fall applied,
+  )
 
   pub all_calls_fall : {theory : RewriteTheory} {n c d : ℕ} {theta : List (Option Tree)}
       {ps : Patterns} {ts : Forest} → EvaluateAll theory n theta ps c (values ts d) → d ≤ c

@@ -34,7 +34,7 @@ meets_fall (rule_condition {e = blocked cause} e says_nothing) = tt
 
 meets_record : (theory : RewriteTheory) {c : ℕ} {theta : List (Option Tree)} {p : Option Pattern}
     {r : ConditionOutcome} → Meets theory theta p c r → c ≤ most_calls
-        → ConditionRecord theory theta p r
+    → ConditionRecord theory theta p r
 meets_record theory no_rule_condition few = (unconditional, refl)
 meets_record theory (rule_condition {p = p} {e = value t d} e says) few =
     condition_record theory p says (has_record theory e (omega arith) few)

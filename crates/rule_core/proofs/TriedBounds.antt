@@ -37,14 +37,14 @@ called_once : (sig : Signature) (k c : ℕ) (right : Pattern) (r : Evaluated)
     → Evaluates (defined_by sig (always right ∷ [])) (suc k) [] (call 0 [] no_pattern) (suc c) r
 called_once sig k c right r d e =
     function_called none_left (by_equations d.there d.of_kind (used (match_nothing sig) no_condition
-        e))
+    e))
 
 pub tried_bounds : (sig : Signature) → Declares sig 0 Equations [] 0 → TriedBounds sig
 tried_bounds sig d = record {
   no_equation_used = function_called none_left (by_equations d.there d.of_kind no_equation_left);
   no_call_for_it =
       function_called none_left (without_call d.there (λ is.
-          defined_not_closed d.info.kind d.of_kind is));
+      defined_not_closed d.info.kind d.of_kind is));
   call_nested = nested_out of_call;
   right_side_nested = called_once sig 0 0 _ _ d no_nesting;
   value_reached = called_once sig 1 0 _ _ d (inside itself);

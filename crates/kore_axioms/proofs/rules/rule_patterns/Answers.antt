@@ -74,7 +74,7 @@ returns c =
       bound = bound
           ∙ ap (λ (o : Option PatternTree).
           is_bound (listed_pattern o) test
-              && is_bound (listed_pattern o) (Some f.right)) (sym f.is_left)
+          && is_bound (listed_pattern o) (Some f.right)) (sym f.is_left)
           ∙ ap (λ (o : Option PatternTree).
           is_bound (listed_pattern (left_of w)) test && is_bound (listed_pattern (left_of w)) o)
           (sym f.is_right);

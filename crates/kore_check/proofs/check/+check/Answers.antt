@@ -43,7 +43,7 @@ check_arguments-loop-i-preserved t c =
 pub check_only-returns-then-args-ne1-clause-sort : goal.check_only-returns-then-args-ne1-clause-sort
 check_only-returns-then-args-ne1-clause-sort t c =
     λ at. sym (ap (sort_of_pattern c.args.sig.now) (only_other at c.args.args.now
-        c.if-args-ne1.true))
+    c.if-args-ne1.true))
 
 pub check_only-returns-then-args-ne1-clause-first :
     goal.check_only-returns-then-args-ne1-clause-first

@@ -29,7 +29,7 @@ returns-in-OrdersSorts-clause-read c = λ axioms h.
       | inl e ↦ let class : axiom_class sig a ≡ orders_sorts =
           sym c.requires.class ∙ ap plain_class e in
           read_nothing sig axioms a c.args.readings.now (λ w f.
-              neither (axiom_class sig a) w class f)
+          neither (axiom_class sig a) w class f)
           (λ s f. nor (axiom_class sig a) s class f) h
       | inr e ↦ let class : axiom_class sig a ≡ passed_over =
           sym c.requires.class ∙ ap plain_class e in

@@ -3,8 +3,7 @@ use Rattle.std.specs.Prelude.{option_copied, option_map, slice_get}
 use Rattle.std.specs.Borrow.{Bor}
 use Rattle.std.proofs.lemmas.Option.{slice_get-map}
 use Rattle.term_core.specs.HookValues.{hooks}
-use Rattle.term_core.specs.HookSignatures.{signature}
-use Rattle.term_core.specs.HookValues as hook
+use Rattle.term_core.specs.HookSignatures.{Signature as HookSignature, signature}
 use Rattle.hook_table.specs.Rows.{plain_row}
 use Rattle.hook_table.specs.declared.table.HookRow.{HookRow}
 use Rattle.kore_rules.specs.ScalarSorts.{row_at, hook_row}
@@ -20,4 +19,4 @@ returns c =
     copied c.row_in.result
     ∙ ap (option_map plain_row) c.row_in.ensures
     ∙ sym (slice_get-map plain_row c.hook_rows.result.now c.args.number.0)
-    ∙ ap (λ (rs : List hook.Signature). slice_get rs c.args.number.0) c.hook_rows.ensures.rows
+    ∙ ap (λ (rs : List HookSignature). slice_get rs c.args.number.0) c.hook_rows.ensures.rows

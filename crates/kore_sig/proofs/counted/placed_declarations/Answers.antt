@@ -60,9 +60,9 @@ loop-i-preserved c =
     x.name) modules c.loop-i.i c.module-item.result c.module-item.result.name lt)) in
     let so_far = map (plain_placed names) c.loop-i.placed.items in
     let whole : so_far ++ declarations_placed here (m ∷ later)
-        ≡ declarations_placed [] (map plain_module modules) =
+    ≡ declarations_placed [] (map plain_module modules) =
     ap (λ (ms : List ModuleTree). so_far ++ declarations_placed here ms) (sym rest)
-        ∙ c.loop-i.invariant in
+    ∙ c.loop-i.invariant in
     elim c.if-index.branch [
       | then-index+in_ok-place w ↦ let grown : map (plain_placed names) c.if-index.placed.items
           ≡ so_far ++ map (placed_at here) m.declarations =
@@ -79,7 +79,7 @@ loop-i-preserved c =
           map (plain_placed names) c.if-index.placed.items ++ declarations_placed ns later) next
           ∙ ap (λ (v : Vec PlacedDecl Global).
           map (plain_placed names) v.items ++ declarations_placed (names_after here m) later)
-              w.placed-is
+          w.placed-is
           ∙ placed_without here m later c.index.result.now so_far is w.if-index.false
           ∙ whole
     ]
