@@ -1,7 +1,13 @@
 use Rattle.std.proofs.Common.{◌≡◌, ℕ, ◌+◌, List, [], ◌∷◌, ◌++◌, length, Bool, true, false, cond}
-use Rattle.std.proofs.Common.{Option, Some, None, refl, sym, ◌∙◌, ap, ◌≢◌, arith, add-zero}
-use Rattle.std.specs.List.{position_from}
+use Rattle.std.proofs.Common.{Option, Some, None, refl, sym, ◌∙◌, ap, ◌≢◌, arith, add-zero, String}
+use Rattle.std.proofs.Common.{map, string_bytes, ◌||◌, if◌then◌else◌}
+use Rattle.std.specs.List.{list_any, position, position_from}
+use Rattle.std.specs.Global.{Global}
 use Rattle.std.specs.Str.{bytes_eq}
+use Rattle.std.specs.String.{string_eq}
+use Rattle.indexmap.specs.IndexSet.{insert_key}
+use Rattle.std.proofs.lemmas.Iterator.Adapters.{position_from-zero}
+use Rattle.std.proofs.lemmas.List.{map-append}
 use Rattle.std.proofs.lemmas.Bool.{false≢true}
 use Rattle.std.proofs.lemmas.Bool.Decides.{same_from_decides}
 use Rattle.std.proofs.lemmas.Slice.Eq.{bytes_eq-Decides}
@@ -52,17 +58,6 @@ pub number_of-push : (es : List (List ℕ)) (k q : List ℕ) → token_number es
 number_of-push es k q h =
     from es 0 k q h ∙ ap (λ n. cond (bytes_eq k q) (Some n) (token_number es q)) (omega arith)
 
--- if a map has exactly the numbers of the old tokens, then with the new token's number it has
--- exactly the numbers of all tokens
-pub indexed-push : (f g : List ℕ → Option ℕ) (es new : List (List ℕ)) (k : List ℕ) (n : ℕ)
-    → ((q : List ℕ) → f q ≡ token_number es q) → token_number es k ≡ None → n ≡ length es
-    → ((q : List ℕ) → g q ≡ cond (bytes_eq k q) (Some n) (f q)) → new ≡ es ++ k ∷ [] → (q : List ℕ)
-    → g q ≡ token_number new q
-indexed-push f g es new k n had absent size got grown q =
-    got q ∙ ap (λ o. cond (bytes_eq k q) (Some n) o) (had q)
-    ∙ ap (λ m. cond (bytes_eq k q) (Some m) (token_number es q)) size
-    ∙ sym (number_of-push es k q absent) ∙ ap (λ xs. token_number xs q) (sym grown)
-
 -- different tokens stay different when a token is added that is none of them
 IsNoneOf-push : (name : List ℕ) (others : List (List ℕ)) (new : List ℕ) → IsNoneOf name others
     → name ≢ new → IsNoneOf name (others ++ new ∷ [])
@@ -82,3 +77,43 @@ differ (e ∷ es) i k had absent =
 pub AreDistinct-push : (es : List (List ℕ)) (k : List ℕ) → AreDistinct es → token_number es k ≡ None
     → AreDistinct (es ++ k ∷ [])
 AreDistinct-push es k had absent = differ es 0 k had absent
+
+-- ---- tokens in a set
+
+-- the tokens that the strings say
+abbrev pub tokens_in : List (String Global) → List (List ℕ)
+tokens_in ks = map (λ k. string_bytes k) ks
+
+found_at : (token : List ℕ) (i : ℕ) (ks : List (String Global))
+    → position_from (λ (k : String Global). bytes_eq token (string_bytes k)) i ks
+    ≡ position_from (λ (other : List ℕ). bytes_eq token other) i (tokens_in ks)
+found_at token i [] = refl
+found_at token i (k ∷ ks) =
+    ap (cond (bytes_eq token (string_bytes k)) (Some i)) (found_at token (i + 1) ks)
+
+-- a set finds a token at its number
+pub index-token : (token : List ℕ) (ks : List (String Global))
+    → position (λ (k : String Global). bytes_eq token (string_bytes k)) ks
+    ≡ number_of (tokens_in ks) token
+index-token token ks =
+    position_from-zero (λ (k : String Global). bytes_eq token (string_bytes k)) ks
+    ∙ found_at token 0 ks
+
+-- a set has no token that has no number
+absent : (token : List ℕ) (i : ℕ) (ks : List (String Global))
+    → position_from (λ (other : List ℕ). bytes_eq token other) i (tokens_in ks) ≡ None
+    → list_any (λ (k : String Global). bytes_eq token (string_bytes k)) ks ≡ false
+absent token i [] h = refl
+absent token i (k ∷ ks) h =
+    let o = not_found (string_bytes k) (tokens_in ks) i token h in
+    ap (λ b. b || list_any (λ (k' : String Global). bytes_eq token (string_bytes k')) ks) o.0
+    ∙ absent token (i + 1) ks o.1
+
+-- the tokens of a set after a new one is added
+pub tokens-added : (old new : List (String Global)) (k : String Global)
+    → number_of (tokens_in old) (string_bytes k) ≡ None → new ≡ insert_key string_eq old k
+    → tokens_in new ≡ tokens_in old ++ string_bytes k ∷ []
+tokens-added old new k none is =
+    ap tokens_in (is
+    ∙ ap (λ b. if b then old else old ++ k ∷ []) (absent (string_bytes k) 0 old none))
+    ∙ map-append _ _ _

@@ -71,13 +71,14 @@ impl<'p> Model for Cx<'p> {
 }
 
 impl<'p> Cx<'p> {
-    /// Makes a context without names, axioms and lemmas.
+    /// Makes a context without names, axioms and lemmas. Its names are hashed as those of the
+    /// program's symbols.
     pub fn new(alloc: Global, program: &'p Program) -> Cx<'p>
         ensures { result ≡ new_context program.now }
     {
         Cx {
             program,
-            names: Names::new(alloc),
+            names: Names::hashed_by(alloc, program.sig.symbols.hasher().start),
             theory: Theory::new(alloc),
             lemmas: Vec::new(alloc),
             theorems: Vec::new(alloc),
