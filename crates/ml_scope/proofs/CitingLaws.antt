@@ -2,8 +2,7 @@
 use Rattle.std.proofs.Common.{◌≡◌, ℕ, ◌<◌, List, [], ◌∷◌, slice_index_or, sym, ◌∙◌, subst, suc}
 use Rattle.std.proofs.Common.{zero, length, refl, arith}
 use Rattle.std.specs.Prelude.{Contains, Result, Ok, Err, IfOk}
-use Rattle.ml_pat.specs.Patterns.{Pattern, bot, top, imp, not, and, or, equal, member, fun, ex, all}
-use Rattle.ml_pat.specs.Patterns.{app, at_sort, next, ev, var, meta, constant}
+use Rattle.ml_pat.specs.Patterns.{Pattern, unary, binary, sorted, quantified, meta}
 use Rattle.ml_kernel.specs.Lemmas.{instance, IsMetaBelow}
 use Rattle.ml_kernel.specs.Theorems.{Theorem, hypothesis, IsByLemma}
 use Rattle.ml_kernel.specs.UsedLeaves.{EachUsed}
@@ -49,30 +48,14 @@ over_at s (m ∷ ms) (suc i) j over below = over_at s ms i j over.1 (omega (arit
 -- an instance at patterns of the scope has only leaves of the scope
 pub IsOver-instance : (s : Scope) (ms : List Pattern) (p : Pattern) → AreOver s ms
     → IsMetaBelow (length ms) p → IsOverPlaces s p → IsOver s (instance ms p)
-IsOver-instance s ms bot over below h = tt
-IsOver-instance s ms top over below h = tt
-IsOver-instance s ms (imp p q) over below h =
+IsOver-instance s ms (binary c p q) over below h =
     (IsOver-instance s ms p over below.0 h.0, IsOver-instance s ms q over below.1 h.1)
-IsOver-instance s ms (not p) over below h = IsOver-instance s ms p over below h
-IsOver-instance s ms (and p q) over below h =
-    (IsOver-instance s ms p over below.0 h.0, IsOver-instance s ms q over below.1 h.1)
-IsOver-instance s ms (or p q) over below h =
-    (IsOver-instance s ms p over below.0 h.0, IsOver-instance s ms q over below.1 h.1)
-IsOver-instance s ms (equal p q) over below h =
-    (IsOver-instance s ms p over below.0 h.0, IsOver-instance s ms q over below.1 h.1)
-IsOver-instance s ms (member p q) over below h =
-    (IsOver-instance s ms p over below.0 h.0, IsOver-instance s ms q over below.1 h.1)
-IsOver-instance s ms (fun p v) over below h = (IsOver-instance s ms p over below h.0, h.1)
-IsOver-instance s ms (ex x v p) over below h = (IsOver-instance s ms p over below h.0, h.1)
-IsOver-instance s ms (all x v p) over below h = (IsOver-instance s ms p over below h.0, h.1)
-IsOver-instance s ms (app p q) over below h =
-    (IsOver-instance s ms p over below.0 h.0, IsOver-instance s ms q over below.1 h.1)
-IsOver-instance s ms (at_sort p v) over below h = (IsOver-instance s ms p over below h.0, h.1)
-IsOver-instance s ms (next p) over below h = IsOver-instance s ms p over below h
-IsOver-instance s ms (ev p) over below h = IsOver-instance s ms p over below h
-IsOver-instance s ms (var x) over below h = h
+IsOver-instance s ms (unary c p) over below h = IsOver-instance s ms p over below h
+IsOver-instance s ms (sorted c p v) over below h = (IsOver-instance s ms p over below h.0, h.1)
+IsOver-instance s ms (quantified c x v p) over below h =
+    (IsOver-instance s ms p over below h.0, h.1)
 IsOver-instance s ms (meta i) over below h = over_at s ms i i over below
-IsOver-instance s ms (constant c) over below h = h
+IsOver-instance s ms p over below h = h
 
 pub citation_stays : {E : Type 0} (lemma : Theorem) (ms : List Pattern) (ts : List Theorem)
     (result : Result Theorem E) → IsMetaBelow (length ms) lemma.conclusion
