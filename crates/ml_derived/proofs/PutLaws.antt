@@ -1,8 +1,7 @@
 -- Substitution of patterns without variables, and the leaves of the result of a substitution.
 use Rattle.std.proofs.Common.{◌≡◌, ◌==◌, ◌||◌, ℕ, Bool, true, false, cond, Option, Some, None}
 use Rattle.std.proofs.Common.{option_map, refl, sym, ◌∙◌, ap, subst}
-use Rattle.ml_pat.specs.Patterns.{Pattern, bot, top, imp, not, and, or, equal, member, fun, ex, all}
-use Rattle.ml_pat.specs.Patterns.{app, at_sort, next, ev, var, meta, constant}
+use Rattle.ml_pat.specs.Patterns.{Pattern, unary, binary, sorted, quantified, var}
 use Rattle.ml_pat.specs.Judgements.{fresh, substituted, both_parts}
 use Rattle.ml_pat.specs.Leaves.{LeafFacts, EachLeaf}
 use Rattle.ml_pat.proofs.ReplacingLaws.{substituted-fresh}
@@ -20,7 +19,7 @@ some_same p q h = cc
 -- b: x is the bound variable; d: x is not free in p; e: the bound variable is not free in u
 bound_put : (f : Pattern → Pattern) (b d e : Bool) (p q : Pattern) (a : Option Pattern) → e ≡ true
     → a ≡ Some q → (d ≡ true → p ≡ q)
-    → cond (b || d) (Some (f p)) (cond e (option_map f a) None) ≡ Some (cond b (f p) (f q))
+    → cond (b || d) (Some (f p)) (cond e (option_map f a) None) ≡ Some (f (cond b p q))
 bound_put f true d e p q a h g k = refl
 bound_put f false true e p q a h g k = ap (λ (r : Pattern). Some (f r)) (k refl)
 bound_put f false false e p q a h g k = rw (h, g) refl
@@ -35,38 +34,17 @@ variable_put false u p = refl
 -- a pattern without variables can be substituted for every variable
 pub substituted-put : (x : ℕ) (u p : Pattern) → HasNoVariable u
     → substituted p x u ≡ Some (put x u p)
-substituted-put x u bot h = refl
-substituted-put x u top h = refl
-substituted-put x u (imp p q) h =
-    two_put imp (put x u p) (put x u q) _ _ (substituted-put x u p h) (substituted-put x u q h)
-substituted-put x u (not p) h = ap (option_map not) (substituted-put x u p h)
-substituted-put x u (and p q) h =
-    two_put and (put x u p) (put x u q) _ _ (substituted-put x u p h) (substituted-put x u q h)
-substituted-put x u (or p q) h =
-    two_put or (put x u p) (put x u q) _ _ (substituted-put x u p h) (substituted-put x u q h)
-substituted-put x u (equal p q) h =
-    two_put equal (put x u p) (put x u q) _ _ (substituted-put x u p h) (substituted-put x u q h)
-substituted-put x u (member p q) h =
-    two_put member (put x u p) (put x u q) _ _ (substituted-put x u p h) (substituted-put x u q h)
-substituted-put x u (fun p s) h =
-    ap (option_map (λ (r : Pattern). fun r s)) (substituted-put x u p h)
-substituted-put x u (ex y s p) h =
-    bound_put (ex y s) (x == y) (fresh x p) (fresh y u) p (put x u p) (substituted p x u)
+substituted-put x u (binary c p q) h =
+    two_put (binary c) _ _ _ _ (substituted-put x u p h) (substituted-put x u q h)
+substituted-put x u (unary c p) h = ap (option_map (unary c)) (substituted-put x u p h)
+substituted-put x u (sorted c p s) h =
+    ap (option_map (λ (r : Pattern). sorted c r s)) (substituted-put x u p h)
+substituted-put x u (quantified c y s p) h =
+    bound_put (quantified c y s) (x == y) (fresh x p) (fresh y u) p (put x u p) (substituted p x u)
     (fresh-without y u h) (substituted-put x u p h)
     (unchanged x u p (put x u p) (substituted-put x u p h))
-substituted-put x u (all y s p) h =
-    bound_put (all y s) (x == y) (fresh x p) (fresh y u) p (put x u p) (substituted p x u)
-    (fresh-without y u h) (substituted-put x u p h)
-    (unchanged x u p (put x u p) (substituted-put x u p h))
-substituted-put x u (app p q) h =
-    two_put app (put x u p) (put x u q) _ _ (substituted-put x u p h) (substituted-put x u q h)
-substituted-put x u (at_sort p s) h =
-    ap (option_map (λ (r : Pattern). at_sort r s)) (substituted-put x u p h)
-substituted-put x u (next p) h = ap (option_map next) (substituted-put x u p h)
-substituted-put x u (ev p) h = ap (option_map ev) (substituted-put x u p h)
 substituted-put x u (var y) h = variable_put (x == y) u (var y)
-substituted-put x u (meta i) h = refl
-substituted-put x u (constant c) h = refl
+substituted-put x u p h = refl
 
 -- each leaf has its fact, if there is a pattern
 abbrev pub EachLeafOf : LeafFacts → Option Pattern → Type 0
@@ -100,47 +78,19 @@ variable_leaves f false u p h i = i
 
 each_leaf : (f : LeafFacts) (x : ℕ) (u p : Pattern) → EachLeaf f u → EachLeaf f p
     → EachLeafOf f (substituted p x u)
-each_leaf f x u bot h k = k
-each_leaf f x u top h k = k
-each_leaf f x u (imp p q) h k =
-    two_leaves f imp (substituted p x u) (substituted q x u) (λ (r t : Pattern) i j. (i, j))
+each_leaf f x u (binary c p q) h k =
+    two_leaves f (binary c) (substituted p x u) (substituted q x u) (λ (r t : Pattern) i j. (i, j))
     (each_leaf f x u p h k.0) (each_leaf f x u q h k.1)
-each_leaf f x u (not p) h k =
-    one_leaves f not (substituted p x u) (λ (r : Pattern) i. i) (each_leaf f x u p h k)
-each_leaf f x u (and p q) h k =
-    two_leaves f and (substituted p x u) (substituted q x u) (λ (r t : Pattern) i j. (i, j))
-    (each_leaf f x u p h k.0) (each_leaf f x u q h k.1)
-each_leaf f x u (or p q) h k =
-    two_leaves f or (substituted p x u) (substituted q x u) (λ (r t : Pattern) i j. (i, j))
-    (each_leaf f x u p h k.0) (each_leaf f x u q h k.1)
-each_leaf f x u (equal p q) h k =
-    two_leaves f equal (substituted p x u) (substituted q x u) (λ (r t : Pattern) i j. (i, j))
-    (each_leaf f x u p h k.0) (each_leaf f x u q h k.1)
-each_leaf f x u (member p q) h k =
-    two_leaves f member (substituted p x u) (substituted q x u) (λ (r t : Pattern) i j. (i, j))
-    (each_leaf f x u p h k.0) (each_leaf f x u q h k.1)
-each_leaf f x u (fun p s) h k =
-    one_leaves f (λ (r : Pattern). fun r s) (substituted p x u) (λ (r : Pattern) i. (i, k.1))
+each_leaf f x u (unary c p) h k =
+    one_leaves f (unary c) (substituted p x u) (λ (r : Pattern) i. i) (each_leaf f x u p h k)
+each_leaf f x u (sorted c p s) h k =
+    one_leaves f (λ (r : Pattern). sorted c r s) (substituted p x u) (λ (r : Pattern) i. (i, k.1))
     (each_leaf f x u p h k.0)
-each_leaf f x u (ex y s p) h k =
-    bound_leaves f (ex y s) ((x == y) || fresh x p) (fresh y u) p (substituted p x u)
+each_leaf f x u (quantified c y s p) h k =
+    bound_leaves f (quantified c y s) ((x == y) || fresh x p) (fresh y u) p (substituted p x u)
     (λ (r : Pattern) i. (i, k.1)) k.0 (each_leaf f x u p h k.0)
-each_leaf f x u (all y s p) h k =
-    bound_leaves f (all y s) ((x == y) || fresh x p) (fresh y u) p (substituted p x u)
-    (λ (r : Pattern) i. (i, k.1)) k.0 (each_leaf f x u p h k.0)
-each_leaf f x u (app p q) h k =
-    two_leaves f app (substituted p x u) (substituted q x u) (λ (r t : Pattern) i j. (i, j))
-    (each_leaf f x u p h k.0) (each_leaf f x u q h k.1)
-each_leaf f x u (at_sort p s) h k =
-    one_leaves f (λ (r : Pattern). at_sort r s) (substituted p x u) (λ (r : Pattern) i. (i, k.1))
-    (each_leaf f x u p h k.0)
-each_leaf f x u (next p) h k =
-    one_leaves f next (substituted p x u) (λ (r : Pattern) i. i) (each_leaf f x u p h k)
-each_leaf f x u (ev p) h k =
-    one_leaves f ev (substituted p x u) (λ (r : Pattern) i. i) (each_leaf f x u p h k)
 each_leaf f x u (var y) h k = variable_leaves f (x == y) u (var y) h k
-each_leaf f x u (meta i) h k = k
-each_leaf f x u (constant c) h k = k
+each_leaf f x u p h k = k
 
 -- the leaves of the result are leaves of the pattern or of the replacement
 pub EachLeaf-substituted : (f : LeafFacts) (x : ℕ) (u p r : Pattern) → EachLeaf f u → EachLeaf f p

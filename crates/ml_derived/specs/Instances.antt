@@ -1,26 +1,16 @@
 -- Instances of sentences at closed patterns.
 use Rattle.std.specs.Prelude.{◌≡◌, ◌==◌, ℕ, List, [], ◌∷◌, if◌then◌else◌}
-use Rattle.ml_pat.specs.Patterns.{Pattern, bot, top, imp, not, and, or, equal, member, fun, ex, all}
-use Rattle.ml_pat.specs.Patterns.{app, at_sort, next, ev, var, meta, constant}
+use Rattle.ml_pat.specs.Patterns.{Pattern, nullary, unary, binary, sorted, quantified, fun, all}
+use Rattle.ml_pat.specs.Patterns.{var, meta, constant}
 use Rattle.ml_kernel.specs.Lemmas.{HasNoVariable}
 
 -- The pattern with u substituted for each free x. If u has no variable, nothing is captured.
 abbrev pub put : ℕ → Pattern → Pattern → Pattern
-put x u bot = bot
-put x u top = top
-put x u (imp p q) = imp (put x u p) (put x u q)
-put x u (not p) = not (put x u p)
-put x u (and p q) = and (put x u p) (put x u q)
-put x u (or p q) = or (put x u p) (put x u q)
-put x u (equal p q) = equal (put x u p) (put x u q)
-put x u (member p q) = member (put x u p) (put x u q)
-put x u (fun p s) = fun (put x u p) s
-put x u (ex y s p) = if x == y then ex y s p else ex y s (put x u p)
-put x u (all y s p) = if x == y then all y s p else all y s (put x u p)
-put x u (app p q) = app (put x u p) (put x u q)
-put x u (at_sort p s) = at_sort (put x u p) s
-put x u (next p) = next (put x u p)
-put x u (ev p) = ev (put x u p)
+put x u (nullary c) = nullary c
+put x u (binary c p q) = binary c (put x u p) (put x u q)
+put x u (unary c p) = unary c (put x u p)
+put x u (sorted c p s) = sorted c (put x u p) s
+put x u (quantified c y s p) = quantified c y s (if x == y then p else put x u p)
 put x u (var y) = if x == y then u else var y
 put x u (meta i) = meta i
 put x u (constant c) = constant c

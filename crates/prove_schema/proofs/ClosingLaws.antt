@@ -5,8 +5,7 @@ use Rattle.std.proofs.Common.{ap, subst, arith}
 use Rattle.std.specs.Prelude.{◌==◌, ◌⊎◌, cond}
 use Rattle.std.specs.List.{AllZip}
 use Rattle.std.proofs.lemmas.Bool.Decides.{eqb_tells}
-use Rattle.ml_pat.specs.Patterns.{Pattern, bot, top, imp, not, and, or, equal, member, fun, ex, all}
-use Rattle.ml_pat.specs.Patterns.{app, at_sort, next, ev, var, meta, constant}
+use Rattle.ml_pat.specs.Patterns.{Pattern, unary, binary, sorted, quantified, all, var, meta}
 use Rattle.rule_core.specs.declared.signature.Signature.{Signature}
 use Rattle.ml_image.specs.Images.{both, sort_image}
 use Rattle.ml_image.specs.Sentences.{Sentence, sentence_image, for_all}
@@ -24,7 +23,7 @@ put_bound k u y s p other = go (eqb_tells k y)
     go : (((k == y) ≡ true) × (k ≡ y)) ⊎ (((k == y) ≡ false) × (k ≢ y))
         → put k u (all y s p) ≡ all y s (put k u p)
     go (inl same) = absurd (other same.1)
-    go (inr differ) = ap (λ (b : Bool). cond b (all y s p) (all y s (put k u p))) differ.0
+    go (inr differ) = ap (λ (b : Bool). all y s (cond b p (put k u p))) differ.0
 
 put_closed : (k j : ℕ) (u : Pattern) (ss : List ℕ) (p : Pattern) → k < j
     → put k u (closed j ss p) ≡ closed j ss (put k u p)
@@ -57,46 +56,22 @@ put_var k n x from below = go (eqb_tells k x)
 
 -- the pattern is open from the next variable on
 put_open : (k n : ℕ) (p : Pattern) → IsOpenFrom k n p → IsOpenFrom (k + 1) n (put k (meta k) p)
-put_open k n bot h = tt
-put_open k n top h = tt
-put_open k n (imp p q) h = (put_open k n p h.0, put_open k n q h.1)
-put_open k n (not p) h = put_open k n p h
-put_open k n (and p q) h = (put_open k n p h.0, put_open k n q h.1)
-put_open k n (or p q) h = (put_open k n p h.0, put_open k n q h.1)
-put_open k n (equal p q) h = (put_open k n p h.0, put_open k n q h.1)
-put_open k n (member p q) h = (put_open k n p h.0, put_open k n q h.1)
-put_open k n (fun p s) h = put_open k n p h
-put_open k n (ex x s p) h = absurd h
-put_open k n (all x s p) h = absurd h
-put_open k n (app p q) h = (put_open k n p h.0, put_open k n q h.1)
-put_open k n (at_sort p s) h = put_open k n p h
-put_open k n (next p) h = put_open k n p h
-put_open k n (ev p) h = put_open k n p h
+put_open k n (binary c p q) h = (put_open k n p h.0, put_open k n q h.1)
+put_open k n (unary c p) h = put_open k n p h
+put_open k n (sorted c p s) h = put_open k n p h
+put_open k n (quantified c x s p) h = absurd h
 put_open k n (var x) h = (put_var k n x h.0 h.1).0
-put_open k n (meta i) h = h
-put_open k n (constant c) h = tt
+put_open k n p h = h
 
 -- the result has the same schema
 put_schema : (k n : ℕ) (p : Pattern) → IsOpenFrom k n p
     → with_metas (put k (meta k) p) ≡ with_metas p
-put_schema k n bot h = refl
-put_schema k n top h = refl
-put_schema k n (imp p q) h = rw (put_schema k n p h.0, put_schema k n q h.1) refl
-put_schema k n (not p) h = ap not (put_schema k n p h)
-put_schema k n (and p q) h = rw (put_schema k n p h.0, put_schema k n q h.1) refl
-put_schema k n (or p q) h = rw (put_schema k n p h.0, put_schema k n q h.1) refl
-put_schema k n (equal p q) h = rw (put_schema k n p h.0, put_schema k n q h.1) refl
-put_schema k n (member p q) h = rw (put_schema k n p h.0, put_schema k n q h.1) refl
-put_schema k n (fun p s) h = ap (λ (r : Pattern). fun r s) (put_schema k n p h)
-put_schema k n (ex x s p) h = absurd h
-put_schema k n (all x s p) h = absurd h
-put_schema k n (app p q) h = rw (put_schema k n p h.0, put_schema k n q h.1) refl
-put_schema k n (at_sort p s) h = ap (λ (r : Pattern). at_sort r s) (put_schema k n p h)
-put_schema k n (next p) h = ap next (put_schema k n p h)
-put_schema k n (ev p) h = ap ev (put_schema k n p h)
+put_schema k n (binary c p q) h = rw (put_schema k n p h.0, put_schema k n q h.1) refl
+put_schema k n (unary c p) h = ap (unary c) (put_schema k n p h)
+put_schema k n (sorted c p s) h = ap (λ (r : Pattern). sorted c r s) (put_schema k n p h)
+put_schema k n (quantified c x s p) h = absurd h
 put_schema k n (var x) h = (put_var k n x h.0 h.1).1
-put_schema k n (meta i) h = refl
-put_schema k n (constant c) h = refl
+put_schema k n p h = refl
 
 -- The instance of a closed pattern at pattern variables is its schema.
 pub schema_instance : (k n : ℕ) (ss : List ℕ) (p : Pattern) → k + length ss ≡ n → IsOpenFrom k n p
