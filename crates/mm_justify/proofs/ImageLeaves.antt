@@ -260,24 +260,12 @@ no_metas = record {
 }
 
 without_metas : (p : Pattern) → EachLeaf no_metas p → HasNoMeta p
-without_metas logic.bot h = tt
-without_metas logic.top h = tt
-without_metas (logic.imp p q) h = (without_metas p h.0, without_metas q h.1)
-without_metas (logic.not p) h = without_metas p h
-without_metas (logic.and p q) h = (without_metas p h.0, without_metas q h.1)
-without_metas (logic.or p q) h = (without_metas p h.0, without_metas q h.1)
-without_metas (logic.equal p q) h = (without_metas p h.0, without_metas q h.1)
-without_metas (logic.member p q) h = (without_metas p h.0, without_metas q h.1)
-without_metas (logic.fun p s) h = without_metas p h.0
-without_metas (logic.ex x s p) h = without_metas p h.0
-without_metas (logic.all x s p) h = without_metas p h.0
-without_metas (logic.app p q) h = (without_metas p h.0, without_metas q h.1)
-without_metas (logic.at_sort p s) h = without_metas p h.0
-without_metas (logic.next p) h = without_metas p h
-without_metas (logic.ev p) h = without_metas p h
-without_metas (logic.var x) h = tt
+without_metas (logic.binary c p q) h = (without_metas p h.0, without_metas q h.1)
+without_metas (logic.unary c p) h = without_metas p h
+without_metas (logic.sorted c p s) h = without_metas p h.0
+without_metas (logic.quantified c x s p) h = without_metas p h.0
 without_metas (logic.meta i) h = absurd h
-without_metas (logic.constant c) h = tt
+without_metas p h = tt
 
 pub sentence_has_no_meta : SentenceHasNoMeta
 sentence_has_no_meta sig names s p h =

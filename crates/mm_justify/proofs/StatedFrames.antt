@@ -9,8 +9,7 @@ use Rattle.std.proofs.lemmas.List.Elements.{All-nil, All-cons}
 use Rattle.std.proofs.lemmas.Slice.Eq.{bytes_eq-Decides}
 use Rattle.mm_text.specs.Bytes.{Token, has_token}
 use Rattle.mm_database.specs.Frames.{Hypothesis, Frame}
-use Rattle.ml_pat.specs.Patterns.{Pattern, bot, top, imp, not, and, or, equal, member, fun, ex, all}
-use Rattle.ml_pat.specs.Patterns.{app, at_sort, next, ev, var, meta, constant}
+use Rattle.ml_pat.specs.Patterns.{Pattern, unary, binary, sorted, quantified, meta}
 use Rattle.ml_kernel.specs.Lemmas.{HasNoMeta}
 use Rattle.mm_proof.specs.Tokens.{object_token}
 use Rattle.mm_claims.specs.Statements.{IsName as IsClaimedName, NameKind, sort_name, symbol_name}
@@ -78,24 +77,13 @@ two us vs xs ys h k = rw (h, k) (map_both xs ys)
 
 objects_in : (p : Pattern) → HasNoMeta p
     → all_variables_in p ≡ map object_variable (variables_in p)
-objects_in bot h = refl
-objects_in top h = refl
-objects_in (imp p q) h = two _ _ _ _ (objects_in p h.0) (objects_in q h.1)
-objects_in (not p) h = objects_in p h
-objects_in (and p q) h = two _ _ _ _ (objects_in p h.0) (objects_in q h.1)
-objects_in (or p q) h = two _ _ _ _ (objects_in p h.0) (objects_in q h.1)
-objects_in (equal p q) h = two _ _ _ _ (objects_in p h.0) (objects_in q h.1)
-objects_in (member p q) h = two _ _ _ _ (objects_in p h.0) (objects_in q h.1)
-objects_in (fun p s) h = objects_in p h
-objects_in (ex x s p) h = ap (λ (vs : List Variable). object_variable x ∷ vs) (objects_in p h)
-objects_in (all x s p) h = ap (λ (vs : List Variable). object_variable x ∷ vs) (objects_in p h)
-objects_in (app p q) h = two _ _ _ _ (objects_in p h.0) (objects_in q h.1)
-objects_in (at_sort p s) h = objects_in p h
-objects_in (next p) h = objects_in p h
-objects_in (ev p) h = objects_in p h
-objects_in (var x) h = refl
+objects_in (binary c p q) h = two _ _ _ _ (objects_in p h.0) (objects_in q h.1)
+objects_in (unary c p) h = objects_in p h
+objects_in (sorted c p s) h = objects_in p h
+objects_in (quantified c x s p) h =
+    ap (λ (vs : List Variable). object_variable x ∷ vs) (objects_in p h)
 objects_in (meta i) h = absurd (omega (arith, h))
-objects_in (constant c) h = refl
+objects_in p h = refl
 
 -- ---- each variable once
 

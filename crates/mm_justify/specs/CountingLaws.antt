@@ -7,8 +7,7 @@ use Rattle.mm_header.specs.HeaderText.{header_bytes}
 use Rattle.mm_database.specs.Frames.{Frame}
 use Rattle.mm_database.specs.Assertions.{Assertion}
 use Rattle.mm_database.specs.StatementTexts.{written_statements}
-use Rattle.ml_pat.specs.Patterns.{Pattern, bot, top, imp, not, and, or, equal, member, fun, ex, all}
-use Rattle.ml_pat.specs.Patterns.{app, at_sort, next, ev, var, meta, constant}
+use Rattle.ml_pat.specs.Patterns.{Pattern, equal, fun}
 use Rattle.ml_pat.specs.Named.{AreDistinct}
 use Rattle.ml_kernel.specs.Theorems.{Theorem}
 use Rattle.rule_core.specs.Theories.{RewriteTheory}
@@ -70,24 +69,9 @@ DeclaredCounts =
 
 -- the pattern says that a pattern is an element of a sort, or that two patterns are equal
 abbrev pub is_fact_form : Pattern → Bool
-is_fact_form bot = false
-is_fact_form top = false
-is_fact_form (imp p q) = false
-is_fact_form (not p) = false
-is_fact_form (and p q) = false
-is_fact_form (or p q) = false
 is_fact_form (equal p q) = true
-is_fact_form (member p q) = false
 is_fact_form (fun p s) = true
-is_fact_form (ex x s p) = false
-is_fact_form (all x s p) = false
-is_fact_form (app p q) = false
-is_fact_form (at_sort p s) = false
-is_fact_form (next p) = false
-is_fact_form (ev p) = false
-is_fact_form (var x) = false
-is_fact_form (meta i) = false
-is_fact_form (constant c) = false
+is_fact_form p = false
 
 -- an axiom that the program may assume is one statement; it is a fact if its image has that form
 abbrev pub AxiomCounts : Type 0
