@@ -94,7 +94,7 @@ found_at token i (k ∷ ks) =
 -- a set finds a token at its number
 pub index-token : (token : List ℕ) (ks : List (String Global))
     → position (λ (k : String Global). bytes_eq token (string_bytes k)) ks
-    ≡ number_of (tokens_in ks) token
+    ≡ token_number (tokens_in ks) token
 index-token token ks =
     position_from-zero (λ (k : String Global). bytes_eq token (string_bytes k)) ks
     ∙ found_at token 0 ks
@@ -111,7 +111,7 @@ absent token i (k ∷ ks) h =
 
 -- the tokens of a set after a new one is added
 pub tokens-added : (old new : List (String Global)) (k : String Global)
-    → number_of (tokens_in old) (string_bytes k) ≡ None → new ≡ insert_key string_eq old k
+    → token_number (tokens_in old) (string_bytes k) ≡ None → new ≡ insert_key string_eq old k
     → tokens_in new ≡ tokens_in old ++ string_bytes k ∷ []
 tokens-added old new k none is =
     ap tokens_in (is

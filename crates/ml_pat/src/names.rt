@@ -84,7 +84,7 @@ impl Names {
 
     // The number of the token, or None if it has no number yet.
     fn known(&self, token: &str) -> Option<usize>
-        ensures { result ≡ number_of self.now token.now }
+        ensures { result ≡ token_number self.now token.now }
     {
         self.tokens.get_index_of(token)
     }
