@@ -2,7 +2,7 @@
 use Rattle.std.specs.Prelude.{ℕ, List, ◌∷◌, ◌++◌, codes}
 use Rattle.mm_text.specs.Bytes.{Token}
 use Rattle.ml_pat.specs.Patterns.{Pattern}
-use Rattle.mm_proof.specs.Tokens.{Letters, object, text_by}
+use Rattle.mm_proof.specs.Tokens.{Letters, text_by}
 
 -- what a statement of the logic says: a pattern is one; a pattern holds; a variable is not free in
 -- a pattern; a pattern is another one with a pattern substituted for a variable; or a pattern is
