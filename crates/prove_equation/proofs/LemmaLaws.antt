@@ -4,8 +4,7 @@ use Rattle.std.proofs.Common.{arith}
 use Rattle.std.specs.Prelude.{IsTrue, Contains, ◌⊎◌}
 use Rattle.std.proofs.lemmas.List.Elements.{Contains-append_left, Contains-append_right}
 use Rattle.std.proofs.lemmas.List.Elements.{Contains-append_cases}
-use Rattle.ml_pat.specs.Patterns.{Pattern, bot, top, imp, not, and, or, equal, member, fun, ex, all}
-use Rattle.ml_pat.specs.Patterns.{app, at_sort, next, ev, var, meta, constant}
+use Rattle.ml_pat.specs.Patterns.{Pattern, top, imp, and}
 use Rattle.ml_kernel.specs.Theorems.{Theorem}
 use Rattle.ml_scope.specs.Scopes.{Scope, IsOver, AreAssumed, IsWithin}
 use Rattle.rule_core.specs.Rules.{Equation}
@@ -34,26 +33,11 @@ either f g (inl a) = f a
 either f g (inr b) = g b
 
 pub parts_over : (s : Scope) (p q : Pattern) → IsOver s p → Contains (parts_of p) q → IsOver s q
-parts_over s bot q over there = alone_over s bot q over there
 parts_over s top q over there = absurd (omega (arith, there.1))
-parts_over s (imp a b) q over there = alone_over s (imp a b) q over there
-parts_over s (not a) q over there = alone_over s (not a) q over there
 parts_over s (and a b) q over there =
     either (parts_over s a q over.0) (parts_over s b q over.1)
     (Contains-append_cases (parts_of a) (parts_of b) q there)
-parts_over s (or a b) q over there = alone_over s (or a b) q over there
-parts_over s (equal a b) q over there = alone_over s (equal a b) q over there
-parts_over s (member a b) q over there = alone_over s (member a b) q over there
-parts_over s (fun a n) q over there = alone_over s (fun a n) q over there
-parts_over s (ex x n a) q over there = alone_over s (ex x n a) q over there
-parts_over s (all x n a) q over there = alone_over s (all x n a) q over there
-parts_over s (app a b) q over there = alone_over s (app a b) q over there
-parts_over s (at_sort a n) q over there = alone_over s (at_sort a n) q over there
-parts_over s (next a) q over there = alone_over s (next a) q over there
-parts_over s (ev a) q over there = alone_over s (ev a) q over there
-parts_over s (var x) q over there = alone_over s (var x) q over there
-parts_over s (meta i) q over there = alone_over s (meta i) q over there
-parts_over s (constant c) q over there = alone_over s (constant c) q over there
+parts_over s p q over there = alone_over s p q over there
 
 facts_over : (s : Scope) (k : ℕ) (ns : List ℕ) (p q : Pattern) → ((i : ℕ) → IsTrue (s.meta i))
     → IsOver s (closed k ns p) → Contains (meta_facts k ns) q → IsOver s q
