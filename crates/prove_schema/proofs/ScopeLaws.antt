@@ -1,31 +1,14 @@
 -- Scopes and contexts: what theorems may assume.
-use Rattle.std.proofs.Common.{◌≡◌, ℕ, true, List, [], ◌∷◌, ◌++◌, map, zero, suc, refl, ap, arith}
+use Rattle.std.proofs.Common.{◌≡◌, true, List, [], ◌∷◌, ◌++◌, map, zero, suc, refl, ap, arith}
 use Rattle.std.specs.Prelude.{Contains}
 use Rattle.std.proofs.lemmas.List.Elements.{Contains-append_left, Contains-append_right}
-use Rattle.ml_pat.specs.Patterns.{Pattern, nullary, unary, binary, sorted, quantified, var, meta}
-use Rattle.ml_pat.specs.Patterns.{constant}
-use Rattle.ml_pat.specs.Leaves.{LeafFacts, EachLeaf}
+use Rattle.ml_pat.specs.Patterns.{Pattern}
 use Rattle.ml_kernel.specs.Theorems.{Theorem}
 use Rattle.ml_scope.specs.Scopes.{Scope, IsWithin}
 use Rattle.prove_term.specs.Contexts.{Context, HasContext, StaysIn, IsLemmaIn}
+use Rattle.prove_term.proofs.AssumingLaws.{all_leaves}
 
 -- ---- a scope of everything
-
-pub record HaveAll (f : LeafFacts) : Type 0 where
-  pub sort : (i : ℕ) → f.sort i
-  pub constant : (i : ℕ) → f.constant i
-  pub object : (i : ℕ) → f.object i
-  pub meta : (i : ℕ) → f.meta i
-
-all_leaves : (f : LeafFacts) (p : Pattern) → HaveAll f → EachLeaf f p
-all_leaves f (nullary c) h = tt
-all_leaves f (binary c p q) h = (all_leaves f p h, all_leaves f q h)
-all_leaves f (unary c p) h = all_leaves f p h
-all_leaves f (sorted c p s) h = (all_leaves f p h, h.sort s)
-all_leaves f (quantified c x s p) h = (all_leaves f p h, (h.object x, h.sort s))
-all_leaves f (var x) h = h.object x
-all_leaves f (meta i) h = h.meta i
-all_leaves f (constant c) h = h.constant c
 
 -- the scope of all numbers, with a context's claims and the given assumptions
 abbrev pub everything : Context → List Pattern → Scope

@@ -5,22 +5,41 @@ use Rattle.std.specs.Prelude.{Contains}
 use Rattle.std.proofs.lemmas.List.{take_more}
 use Rattle.std.proofs.Math.Seq.{take-length}
 use Rattle.std.proofs.lemmas.List.Elements.{Contains-append_right}
-use Rattle.ml_pat.specs.Patterns.{Pattern, bot, top, imp, not, and, or, equal, member, fun, ex, all}
-use Rattle.ml_pat.specs.Patterns.{app, at_sort, next, ev, var, meta, constant}
+use Rattle.ml_pat.specs.Patterns.{Pattern, nullary, unary, binary, sorted, quantified, equal, fun}
+use Rattle.ml_pat.specs.Patterns.{ex, all, var, meta, constant}
+use Rattle.ml_pat.specs.Leaves.{LeafFacts, EachLeaf}
 use Rattle.ml_pat.specs.Judgements.{substituted}
 use Rattle.ml_kernel.specs.Theorems.{Theorem, AddsNew, all_hypotheses}
 use Rattle.ml_scope.specs.Scopes.{Scope, leaves_of, IsOver, AreOver, IsWithin, AreAssumed}
 use Rattle.ml_scope.specs.Scopes.{StaysWithin, AssumesWithin}
+use Rattle.ml_derived.proofs.PutLaws.{EachLeaf-substituted}
 use Rattle.prove_term.specs.Contexts.{Context, StaysIn, IsLemmaIn}
 use Rattle.prove_term.specs.Schemas.{at_metas, meta_facts, reversed, totality_from}
 use Rattle.prove_term.specs.Falling.{Falls}
 use Rattle.prove_term.specs.Assuming.{TotalFrom, IsPartly, PartlyFrom, StaysFrom, Opens, OpenedFrom}
 use Rattle.prove_term.specs.Assuming.{IsSome, OneElementFrom}
-use Rattle.prove_term.proofs.Substituting.{over_substituted, totality_from-next, absent-metas}
+use Rattle.prove_term.proofs.Substituting.{totality_from-next, absent-metas}
 use Rattle.prove_term.proofs.Instances.{reversed-push, facts-push}
 use Rattle.prove_term.proofs.Hypotheses.{kept_as_they_are}
 
 -- ---- theorems that stay in every scope
+
+-- facts that are true of all leaves
+pub record HaveAll (f : LeafFacts) : Type 0 where
+  pub sort : (i : ℕ) → f.sort i
+  pub constant : (i : ℕ) → f.constant i
+  pub object : (i : ℕ) → f.object i
+  pub meta : (i : ℕ) → f.meta i
+
+pub all_leaves : (f : LeafFacts) (p : Pattern) → HaveAll f → EachLeaf f p
+all_leaves f (nullary c) h = tt
+all_leaves f (binary c p q) h = (all_leaves f p h, all_leaves f q h)
+all_leaves f (unary c p) h = all_leaves f p h
+all_leaves f (sorted c p s) h = (all_leaves f p h, h.sort s)
+all_leaves f (quantified c x s p) h = (all_leaves f p h, (h.object x, h.sort s))
+all_leaves f (var x) h = h.object x
+all_leaves f (meta i) h = h.meta i
+all_leaves f (constant c) h = h.constant c
 
 -- the scope that has everything and assumes nothing
 abbrev everything : Scope
@@ -34,24 +53,9 @@ everything = record {
 }
 
 over_everything : (p : Pattern) → IsOver everything p
-over_everything bot = tt
-over_everything top = tt
-over_everything (imp p q) = (over_everything p, over_everything q)
-over_everything (not p) = over_everything p
-over_everything (and p q) = (over_everything p, over_everything q)
-over_everything (or p q) = (over_everything p, over_everything q)
-over_everything (equal p q) = (over_everything p, over_everything q)
-over_everything (member p q) = (over_everything p, over_everything q)
-over_everything (fun p s) = (over_everything p, refl)
-over_everything (ex x s p) = (over_everything p, (refl, refl))
-over_everything (all x s p) = (over_everything p, (refl, refl))
-over_everything (app p q) = (over_everything p, over_everything q)
-over_everything (at_sort p s) = (over_everything p, refl)
-over_everything (next p) = over_everything p
-over_everything (ev p) = over_everything p
-over_everything (var x) = refl
-over_everything (meta i) = refl
-over_everything (constant c) = refl
+over_everything p =
+    all_leaves (leaves_of everything) p
+    (record { sort = λ i. refl; constant = λ i. refl; object = λ i. refl; meta = λ i. refl })
 
 all_over_everything : (ps : List Pattern) → AreOver everything ps
 all_over_everything [] = tt
@@ -132,7 +136,7 @@ opened_stays made rule under known t i x sort body by fact opened is by_is fact_
     let whole : IsOver s (all x sort body) = subst (IsOver s) is within.conclusion in
     let meta_over : IsOver s by = subst (IsOver s) (sym by_is) (metas i) in
     let opened_over : IsOver s opened =
-    over_substituted (leaves_of s) body x (meta i) opened whole.0 (metas i) put in
+    EachLeaf-substituted (leaves_of s) x (meta i) body opened (metas i) whole.0 put in
     let fact_over : IsOver s fact = subst (IsOver s) (sym fact_is) (meta_over, whole.1.1) in
     let fact_first : fun (meta i) sort ≡ fact =
     ap (λ (p : Pattern). fun p sort) (sym by_is) ∙ sym fact_is in
