@@ -66,7 +66,7 @@ record Used (theory : RewriteTheory) (t : Tree) (c left : ℕ) (rules : List Rew
   earlier : (j : ℕ) (other : RewriteRule) → j < place → slice_get rules j ≡ Some other
       → IsUnusedRule theory other t
   test : OptionalRecord
-  rule_condition : RecordsCondition theory theta rule.condition test
+  condition : RecordsCondition theory theta rule.condition test
   fewer : left ≤ c
 
 one_later : {theory : RewriteTheory} {t : Tree} {b c left : ℕ} {rules : List RewriteRule}
