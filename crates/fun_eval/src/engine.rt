@@ -118,7 +118,7 @@ impl<'p> Engine<'p> {
         Ok(answer.recorded)
     }
 
-    /// The same with another recording: the value, and what is recorded of its evaluation.
+    /// Evaluates as `eval` does, with another recording: the value, and what is recorded.
     pub fn eval_as<R: Recording>(
         &self,
         alloc: Global,

@@ -76,8 +76,7 @@ fn may_match(pat: &RulePat, term: &Term) -> bool
     }
 }
 
-/// The same as `find_match`, except that a pattern whose root differs from the term's costs one
-/// look and no memory.
+/// `find_match`, where a pattern whose root differs from the term's costs one look and no memory.
 pub fn match_term(
     alloc: Global,
     pat: &RulePat,
@@ -116,8 +115,7 @@ fn counted_match<L: Ledger>(
     find_match(alloc, pat, vars, subsorts, term, &mut steps)
 }
 
-// The same as `find_match_all`, except that it takes no memory if the root of a term differs from
-// its pattern's.
+// `find_match_all`, where no memory is taken if the root of a term differs from its pattern's.
 pub(crate) fn match_terms(
     alloc: Global,
     pats: &[RulePat],

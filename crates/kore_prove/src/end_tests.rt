@@ -5,8 +5,8 @@ use std::test::Fail;
 /// A database with two `$a` and one `$p` statement.
 const VALID: &str = "$c t $. $v x $. fx $f t x $. ax $a t x $. ay $a t t $. p $p t x $= fx ax $. ";
 
-/// The same with an invalid proof, which leaves one step too many. Its `$p` statement begins at
-/// byte 55.
+/// That database with an invalid proof, which leaves one step too many. Its `$p` statement begins
+/// at byte 55.
 const INVALID: &str =
     "$c t $. $v x $. fx $f t x $. ax $a t x $. ay $a t t $. p $p t x $= fx fx ax $. ";
 

@@ -94,7 +94,8 @@ pub fn proved_lines<D: Desk>(
     proved_and_closed(alloc, desk, accepted, bounds)
 }
 
-// The same, with the proof in the created file. The file is closed afterwards, even after a fault.
+// The run within these bounds, with its proof in the created file, which is closed afterwards, even
+// after a fault.
 fn proved_and_closed<D: Desk>(
     alloc: Global,
     desk: &mut D,

@@ -215,7 +215,8 @@ fn a_run_leaves_its_proof(rt: HostRuntime) -> Result<(), Fail> {
     Ok(())
 }
 
-/// The same with conditions, functions and hooks, and with a definition as kompile writes it.
+/// So is the proof of a run with conditions, functions and hooks, and of one of a definition as
+/// kompile writes it.
 #[test]
 fn a_run_that_computes_leaves_its_proof(rt: HostRuntime) -> Result<(), Fail> {
     assert_eq!(rt; first_unproved(rt.alloc(), &COMPUTED)?, None);

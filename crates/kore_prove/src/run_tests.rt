@@ -232,21 +232,21 @@ fn runs_print_their_two_lines(rt: HostRuntime) -> Result<(), Fail> {
     Ok(())
 }
 
-/// The same with hooks.
+/// So do runs with hooks.
 #[test]
 fn values_are_computed(rt: HostRuntime) -> Result<(), Fail> {
     assert_eq!(rt; first_failing(rt.alloc(), &COMPUTED)?, None);
     Ok(())
 }
 
-/// The same with conditions and equations.
+/// So do runs with conditions and equations.
 #[test]
 fn conditions_and_equations_are_tried_in_order(rt: HostRuntime) -> Result<(), Fail> {
     assert_eq!(rt; first_failing(rt.alloc(), &CONDITIONAL)?, None);
     Ok(())
 }
 
-/// The same with runs that are blocked, and with definitions as kompile writes them.
+/// So do runs that are blocked, and runs of definitions as kompile writes them.
 #[test]
 fn what_is_blocked_tells_why(rt: HostRuntime) -> Result<(), Fail> {
     assert_eq!(rt; first_failing(rt.alloc(), &BLOCKED)?, None);

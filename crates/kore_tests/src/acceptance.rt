@@ -74,7 +74,7 @@ fn refusal(alloc: Global, text: &str) -> Result<Option<(u8, u32)>, Fail> {
     }
 }
 
-/// The same for a term of an accepted definition.
+/// The number and the byte of the refusal of a term of an accepted definition.
 fn refusal_of_term(alloc: Global, definition: &str, term: &str) -> Result<Option<(u8, u32)>, Fail> {
     if definition.len() > LONGEST || term.len() > LONGEST {
         return Err(Fail::from("long"));

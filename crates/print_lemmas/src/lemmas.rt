@@ -18,7 +18,7 @@ pub(crate) fn next_lemma(alloc: Global) -> Result<Thm, AllocError>
     Thm::next_in(alloc, &leads, &x, &m)
 }
 
-// The same with the symbol a in place of m, by that lemma.
+// That lemma with the symbol a in place of m.
 pub(crate) fn next_of_a(alloc: Global, lemma: &Lemma) -> Result<Thm, AllocError>
     requires hypotheses { lemma.now.hypotheses ≡ imp (var 0) (meta 0) ∷ [] }
     requires conclusion { lemma.now.conclusion ≡ imp (next (var 0)) (next (meta 0)) }

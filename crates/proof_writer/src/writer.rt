@@ -242,7 +242,7 @@ impl Writer {
         Ok(())
     }
 
-    // The same, as the new last theorem of the run.
+    // States a theorem that may be proved as the new last theorem of the run.
     fn state_last(
         &mut self,
         made: &ProofParts<'_>,

@@ -30,7 +30,7 @@ pub(crate) fn joined(
     }
 }
 
-// The same if the first equality is there.
+// From `a = b` and `b = c`: `a = c`. If the second equality is missing, its sides are the same.
 pub(crate) fn followed(alloc: Global, first: Thm, second: &Option<Thm>) -> Result<Thm, AllocError>
     requires { (cx : Context) × (a b c : Pattern) × HasNoVariable a × Equates cx a b (Some first)
         × Equates cx b c second.now }

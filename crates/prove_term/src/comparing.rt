@@ -55,7 +55,8 @@ pub fn inj_eq(
     compared(alloc, cx, pat, &whole, &image)
 }
 
-// The same. `whole` is the pattern of the term that `pat` becomes, and `image` is its image.
+// `inj_eq` of `pat`, where `whole` is the pattern of the term that it becomes, and `image` is the
+// image of `whole`.
 #[cycle(compared)]
 fn compared(
     alloc: Global,
@@ -82,7 +83,7 @@ fn compared(
     }
 }
 
-// The same for a constructor of arguments.
+// `compared` for a constructor of arguments.
 #[cycle(compared)]
 fn constructor_compared(
     alloc: Global,
@@ -109,7 +110,7 @@ fn constructor_compared(
     all_compared(alloc, cx, args, wholes, &parts.head, &parts.arguments)
 }
 
-// The same for arguments, to whose images a head is applied.
+// `compared` for a head that is applied to the images of arguments.
 #[cycle(compared)]
 pub(crate) fn all_compared(
     alloc: Global,
@@ -141,7 +142,7 @@ pub(crate) fn all_compared(
     Ok(made)
 }
 
-// The same for an injection.
+// `compared` for an injection.
 #[cycle(compared)]
 fn injection_compared(
     alloc: Global,
@@ -173,7 +174,7 @@ fn injection_compared(
     Ok(Some(made))
 }
 
-// The same for an injection whose argument does not become an injection.
+// `compared` for an injection whose argument does not become an injection.
 #[cycle(compared)]
 fn beneath(
     alloc: Global,
@@ -202,8 +203,8 @@ fn beneath(
     applied(alloc, &None, head, &one, argument)
 }
 
-// The same for an injection whose argument becomes an injection. A theorem about an element of the
-// lowest sort is at hand.
+// `compared` for an injection whose argument becomes an injection. A theorem about an element of
+// the lowest sort is at hand.
 #[cycle(compared)]
 fn joined_compared(
     alloc: Global,
@@ -238,7 +239,7 @@ fn joined_compared(
     }
 }
 
-// The same for the injected pattern in that case.
+// `compared` for the pattern that is injected in that case.
 #[cycle(compared)]
 fn middle_compared(
     alloc: Global,

@@ -54,7 +54,7 @@ pub(crate) fn element(alloc: Global, cx: &mut Cx<'_>, pat: &RulePat) -> Result<T
     }
 }
 
-// The same for a constructor of arguments, by its lemma.
+// `element` for a constructor of arguments, by its lemma.
 #[cycle(element)]
 fn constructed(
     alloc: Global,
@@ -76,7 +76,7 @@ fn constructed(
     Thm::use_lemma(alloc, &cx.lemmas()[place], &made.images, &made.proofs)
 }
 
-// The same for an injection, by its lemma.
+// `element` for an injection, by its lemma.
 #[cycle(element)]
 fn injected(
     alloc: Global,

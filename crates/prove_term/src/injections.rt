@@ -42,7 +42,7 @@ impl<'p> Cx<'p> {
         }
     }
 
-    // The same along a chain of declared pairs.
+    // `injection` along a chain of declared pairs.
     fn injection_along(
         &mut self,
         alloc: Global,

@@ -59,7 +59,7 @@ pub(crate) fn at_meta(alloc: Global, made: &Thm, i: u32) -> Result<Thm, AllocErr
     }
 }
 
-// The same. `opened` is what the body becomes.
+// `at_meta` of a theorem whose body becomes `opened`.
 fn assumed(
     alloc: Global,
     made: &Thm,

@@ -75,7 +75,7 @@ impl Run {
         Run::new_as::<EvalRecord>(alloc, engine, start, calls)
     }
 
-    /// The same with another recording of the evaluation.
+    /// Begins a run as `new` does, with another recording of the evaluation.
     pub fn new_as<R: Recording>(
         alloc: Global,
         engine: &Engine<'_>,
@@ -141,7 +141,7 @@ impl Run {
         Ok(with_record(next))
     }
 
-    /// The same with another recording of the evaluations.
+    /// Makes a step as `step` does, with another recording of the evaluations.
     pub fn step_as<R: Recording>(
         &mut self,
         alloc: Global,

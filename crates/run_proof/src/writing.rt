@@ -66,7 +66,7 @@ pub(crate) fn ended<D: Desk>(
     Ok((end, summary))
 }
 
-/// The same for a run that has reached its limit.
+/// The end of a run that has reached its limit: the rest of its proof is written.
 pub(crate) fn at_limit<D: Desk>(
     desk: &mut D,
     limit: u32,
