@@ -1,9 +1,9 @@
 -- Which forms occur in a pattern after its folds are read. A fold of one argument is that argument,
 -- and its head is ignored.
 use Rattle.std.specs.Prelude.{List, [], ◌∷◌, Bool, true, false, not, ◌||◌, ◌&&◌}
-use Rattle.kore_text.specs.Trees.{PatternTree, set_variable, string, symbol_applied, connected}
-use Rattle.kore_text.specs.Trees.{binder_applied, folded, PatternTrees, no_patterns, pattern_then}
-use Rattle.kore_text.specs.Trees.{listed_patterns}
+use Rattle.kore_text.specs.Trees.{PatternTree, element_variable, set_variable, string}
+use Rattle.kore_text.specs.Trees.{symbol_applied, connected, binder_applied, value_written, folded}
+use Rattle.kore_text.specs.Trees.{PatternTrees, no_patterns, pattern_then, listed_patterns}
 use Rattle.kore_text.specs.declared.names.Op.{Op}
 use Rattle.kore_text.specs.declared.names.Op.TheVariants.{And}
 
@@ -57,13 +57,18 @@ abbrev mutual
   -- one of the sought forms occurs in the fold of this pattern; a fold can be of an application, or
   -- of a connective, with an argument
   pub fold_has_form : Sought → PatternTree → Bool
+  fold_has_form sought (element_variable at n s) = covers_others sought
+  fold_has_form sought (set_variable at n s) = covers_others sought
+  fold_has_form sought (string at text) = covers_others sought
   fold_has_form sought (symbol_applied at n ss ps) =
       (is_none (listed_patterns ps) && covers_others sought)
       || have_form sought ps
   fold_has_form sought (connected at op ss ps) =
       (not (is_one (listed_patterns ps)) && covers sought op)
       || have_form sought ps
-  fold_has_form sought p = covers_others sought
+  fold_has_form sought (binder_applied at b ss x p) = covers_others sought
+  fold_has_form sought (value_written at s text place) = covers_others sought
+  fold_has_form sought (folded at left p) = covers_others sought
 
 -- a quantifier, `\mu`, `\nu` or a set variable occurs in the pattern, or (`have_binder`) in one of
 -- the patterns

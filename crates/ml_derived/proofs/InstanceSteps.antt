@@ -6,7 +6,7 @@ use Rattle.ml_pat.specs.Patterns.{Pattern, fun, all}
 use Rattle.ml_kernel.specs.Theorems.{Theorem, conclusions}
 use Rattle.ml_derived.specs.Instances.{put, IsInstance, HasInstance}
 use Rattle.ml_derived.specs.Parts.{FitsBinder, IsPutIn}
-use Rattle.ml_scope.specs.Scopes.{Scope, IsWithin, AreWithin, StaysWithin}
+use Rattle.ml_derived.specs.Scopes.{Scope, IsWithin, AreWithin, StaysWithin}
 
 body_same : (x y s v : ℕ) (p q : Pattern) → all x s p ≡ all y v q → p ≡ q
 body_same x y s v p q h = cc

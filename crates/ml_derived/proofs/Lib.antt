@@ -1,3 +1,5 @@
+pub mod RuleLaws
+pub mod CitingLaws
 pub mod StayingLaws
 pub mod PutLaws
 pub mod ContextLaws

@@ -1,4 +1,5 @@
 -- Public: what public clauses say, and public definitions of other crates.
+pub mod Scopes
 pub mod Implications
 pub mod Instances
 pub mod Equalities

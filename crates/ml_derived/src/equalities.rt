@@ -8,11 +8,11 @@ ghost use Rattle.ml_derived.specs.Equalities.{hole, CanCarry, IsCarried, IsFromC
 ghost use Rattle.ml_derived.specs.Equalities.{AreJoinable, IsJoin};
 ghost use Rattle.ml_derived.specs.Equalities.{AreApplicable, IsApplied, IsAppliedTo, IsArgument};
 ghost use Rattle.ml_derived.specs.Parts.{IsEquality, CanReplace};
-ghost use Rattle.ml_scope.specs.Scopes.{StaysWithin};
+ghost use Rattle.ml_derived.specs.Scopes.{StaysWithin};
 
+use crate::rules::{eq_el, eq_refl, mp};
 use ml_kernel::Thm;
 use ml_pat::{MForm, MPat, VarNo, subst};
-use ml_scope::{eq_el, eq_refl, mp};
 use std::alloc::{AllocError, Global};
 
 // The variable that marks the place in the contexts of this module. The other parts of these

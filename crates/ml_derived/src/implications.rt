@@ -4,11 +4,11 @@ ghost use Rattle.ml_pat.specs.Patterns.{top, imp, and};
 ghost use Rattle.ml_derived.specs.Implications.{AreLinked, HasTopCondition, IsChain, IsFreed};
 ghost use Rattle.ml_derived.specs.Implications.{HasCondition, IsFreedOf};
 ghost use Rattle.ml_derived.specs.Parts.{IsConjunction, IsImplication};
-ghost use Rattle.ml_scope.specs.Scopes.{StaysWithin};
+ghost use Rattle.ml_derived.specs.Scopes.{StaysWithin};
 
+use crate::rules::{and_3, mp, p_1, p_2, top};
 use ml_kernel::Thm;
 use ml_pat::{MForm, MPat};
-use ml_scope::{and_3, mp, p_1, p_2, top};
 use std::alloc::{AllocError, Global};
 
 /// `p -> r`, from `p -> q` and `q -> r`. An error: out of memory.

@@ -5,11 +5,11 @@ ghost use Rattle.ml_kernel.specs.Lemmas.{HasNoVariable};
 ghost use Rattle.ml_kernel.specs.Theorems.{conclusions};
 ghost use Rattle.ml_derived.specs.Instances.{put, HasInstance, IsInstance};
 ghost use Rattle.ml_derived.specs.Parts.{IsElementOf, IsForAll, IsFunctional, IsPutIn, FitsBinder};
-ghost use Rattle.ml_scope.specs.Scopes.{StaysWithin};
+ghost use Rattle.ml_derived.specs.Scopes.{StaysWithin};
 
+use crate::rules::{inst, mp};
 use ml_kernel::Thm;
 use ml_pat::{MForm, MPat, MSort, VarNo, subst};
-use ml_scope::{inst, mp};
 use std::alloc::{AllocError, Global};
 
 /// The sentence with closed patterns substituted for its outermost bound variables, one for each

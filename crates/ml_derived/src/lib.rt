@@ -1,15 +1,26 @@
-// Derived rules of matching logic. Each is a fixed combination of the kernel's rules.
+// The rules of matching logic within scopes, and derived rules.
 //
-// The contract: a derived rule has the conclusion that its name says, and stays within its inputs.
-// It assumes, uses and cites nothing else (crate `ml_scope`).
+// The rules have the names of the kernel's calls, each with one more clause: the result stays within
+// every scope that contains the inputs (specs/Scopes.antt). So what a derived rule uses and cites
+// follows from its calls, and no contract has to state a derivation step by step. A derived rule is
+// a fixed combination of rules. It has the conclusion that its name says, and stays within its
+// inputs: it assumes, uses and cites nothing else.
 #![tactic(auto)]
 
+mod citing;
 mod equalities;
 mod implications;
 mod instances;
 mod reaching;
+mod rules;
 
+pub use citing::{assume, use_lemma};
 pub use equalities::{carry, cong_app, cong_arg, cong_fun, flip, join};
 pub use implications::{both, chain, free_of_condition, free_of_top};
 pub use instances::instance;
 pub use reaching::{reach_here, reach_step};
+pub use rules::{
+    and_1, and_2, and_3, apart, app_l, app_r, bot_l, bot_r, eq_el, eq_in, eq_refl, ev_1, ev_2,
+    ev_kt, ex_el, fun_ex, inst, mem_in, mem_no, mp, next_in, not_1, not_2, or_1, or_2, or_3, p_1,
+    p_2, p_3, top,
+};

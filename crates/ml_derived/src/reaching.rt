@@ -3,12 +3,12 @@ ghost use Rattle.std.specs.Prelude.{◌≡◌, [], ◌∷◌, IfOk};
 ghost use Rattle.ml_pat.specs.Patterns.{imp, next, ev};
 ghost use Rattle.ml_derived.specs.Implications.{IsOneStepOn, ReachesOneFurther};
 ghost use Rattle.ml_derived.specs.Parts.{IsNext};
-ghost use Rattle.ml_scope.specs.Scopes.{StaysWithin};
+ghost use Rattle.ml_derived.specs.Scopes.{StaysWithin};
 
 use crate::implications::{chained, sides};
+use crate::rules::{ev_1, ev_2, ev_kt, next_in};
 use ml_kernel::Thm;
 use ml_pat::{MForm, MPat};
-use ml_scope::{ev_1, ev_2, ev_kt, next_in};
 use std::alloc::{AllocError, Global};
 
 /// `a -> ev a`. An error: out of memory.

@@ -3,11 +3,11 @@ ghost use Rattle.std.specs.Prelude.{◌≡◌, IfOk};
 ghost use Rattle.ml_pat.specs.Patterns.{constant, equal, all, fun, imp, next, var};
 
 use ml_derived::{
-    both, carry, chain, cong_app, cong_arg, cong_fun, flip, instance, join, reach_here, reach_step,
+    assume, both, carry, chain, cong_app, cong_arg, cong_fun, flip, instance, join, reach_here,
+    reach_step,
 };
 use ml_kernel::Thm;
 use ml_pat::{ConstNo, MPat, MSort, VarNo};
-use ml_scope::assume;
 use std::alloc::{AllocError, Global};
 use std::test::Fail;
 

@@ -1,7 +1,7 @@
 // One successful call of each function that takes more than patterns.
+use ml_derived::{assume, use_lemma};
 use ml_kernel::{Lemma, Thm};
 use ml_pat::{ConstNo, MPat};
-use ml_scope::{assume, use_lemma};
 use std::test::Fail;
 
 // The assumed pattern is the only hypothesis.

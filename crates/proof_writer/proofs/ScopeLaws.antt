@@ -15,8 +15,8 @@ use Rattle.ml_kernel.specs.Theorems.{Theorem, Derivation, Derivations, hypothesi
 use Rattle.ml_kernel.specs.Theorems.{by_rule, cited, no_derivation, more_derivations}
 use Rattle.ml_kernel.specs.UsedLeaves.{EachInstance, EachUsed, AllUsed}
 use Rattle.ml_kernel.specs.MayCite.{EachCited, AllCited}
-use Rattle.ml_scope.specs.Scopes.{Scope, leaves_of, cites_of, IsOver, AreOver, IsStatedIn}
-use Rattle.ml_scope.specs.Scopes.{AreAssumed, IsWithin}
+use Rattle.ml_derived.specs.Scopes.{Scope, leaves_of, cites_of, IsOver, AreOver, IsStatedIn}
+use Rattle.ml_derived.specs.Scopes.{AreAssumed, IsWithin}
 use Rattle.mm_justify.specs.ImageLaws.{SentenceIsOver}
 use Rattle.prove_term.specs.Contexts.{Context, HasContext}
 use Rattle.proof_writer.specs.declared.writer.Writer.{Writer}

@@ -9,7 +9,7 @@ use Rattle.std.proofs.lemmas.List.Elements.{Contains-append_cases, Contains-appe
 use Rattle.std.proofs.lemmas.List.Elements.{Contains-append_right}
 use Rattle.ml_pat.specs.Patterns.{Pattern, bot}
 use Rattle.ml_kernel.specs.Theorems.{Theorem}
-use Rattle.ml_scope.specs.Scopes.{IsWithin}
+use Rattle.ml_derived.specs.Scopes.{IsWithin}
 use Rattle.mm_claims.specs.Rendered.{Rendered, all_stated, header_rendered}
 use Rattle.mm_claims.specs.Places.{IsStated, MayProve}
 use Rattle.mm_claims.specs.Blocks.{Claim, Stated}

@@ -2,7 +2,7 @@
 use Rattle.std.specs.Prelude.{◌≡◌, ℕ, ◌<◌, ◌≤◌, true, List, [], ◌++◌, length, slice_get, Some}
 use Rattle.ml_pat.specs.Patterns.{Pattern, imp, ev}
 use Rattle.ml_kernel.specs.Theorems.{Theorem}
-use Rattle.ml_scope.specs.Scopes.{Scope, IsStatedIn, IsWithin}
+use Rattle.ml_derived.specs.Scopes.{Scope, IsStatedIn, IsWithin}
 use Rattle.term_core.specs.Patterns.{Pattern as RulePattern}
 use Rattle.rule_core.specs.Matching.{OccursIn}
 use Rattle.rule_core.specs.ProgramView.{theory_of}

@@ -7,7 +7,7 @@ use Rattle.std.proofs.lemmas.List.Elements.{Contains-append_left}
 use Rattle.ml_pat.specs.Patterns.{Pattern, top, equal}
 use Rattle.ml_kernel.specs.Lemmas.{instance, HasNoVariable, HaveNoVariables, IsMetaBelow}
 use Rattle.ml_kernel.specs.Theorems.{Theorem}
-use Rattle.ml_scope.specs.Scopes.{Scope, AreWithin, IsOverPlaces}
+use Rattle.ml_derived.specs.Scopes.{Scope, AreWithin, IsOverPlaces}
 use Rattle.term_core.specs.Terms.{Tree, leaf, truth, IsNormal}
 use Rattle.term_core.specs.Patterns.{Pattern as RulePattern, variable, domain_value, application}
 use Rattle.term_core.specs.Patterns.{injection, call, binding, ground_pattern}

@@ -9,7 +9,7 @@ use Rattle.std.proofs.lemmas.Option.{slice_get_within, get_or_from_slice_get}
 use Rattle.ml_pat.specs.Patterns.{Pattern, top, and, equal, member, var, meta}
 use Rattle.ml_kernel.specs.Lemmas.{instance, IsMetaBelow}
 use Rattle.ml_kernel.specs.Theorems.{Theorem}
-use Rattle.ml_scope.specs.Scopes.{Scope, AreWithin}
+use Rattle.ml_derived.specs.Scopes.{Scope, AreWithin}
 use Rattle.term_core.specs.Terms.{Tree, leaf, truth, no_tree, AreNormal}
 use Rattle.term_core.specs.Forests.{forest}
 use Rattle.term_core.specs.Patterns.{Pattern as RulePattern, Patterns as RulePatterns, variable}

@@ -6,7 +6,7 @@ use Rattle.std.proofs.lemmas.List.Elements.{Contains-append_left, Contains-appen
 use Rattle.std.proofs.lemmas.List.Elements.{Contains-append_cases}
 use Rattle.ml_pat.specs.Patterns.{Pattern, top, imp, and}
 use Rattle.ml_kernel.specs.Theorems.{Theorem}
-use Rattle.ml_scope.specs.Scopes.{Scope, IsOver, AreAssumed, IsWithin}
+use Rattle.ml_derived.specs.Scopes.{Scope, IsOver, AreAssumed, IsWithin}
 use Rattle.rule_core.specs.Rules.{Equation}
 use Rattle.rule_core.specs.declared.rules.Program.{Program}
 use Rattle.ml_image.specs.HasImages.{HasEquationImage}

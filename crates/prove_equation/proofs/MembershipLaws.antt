@@ -10,7 +10,7 @@ use Rattle.ml_pat.specs.Judgements.{substituted as put_in}
 use Rattle.ml_kernel.specs.Lemmas.{HasNoVariable}
 use Rattle.ml_kernel.specs.Theorems.{Theorem}
 use Rattle.ml_kernel.proofs.InstanceLaws.{substituted-without}
-use Rattle.ml_scope.specs.Scopes.{IsOver, StaysWithin}
+use Rattle.ml_derived.specs.Scopes.{IsOver, StaysWithin}
 use Rattle.ml_derived.specs.Equalities.{CanCarry, IsCarried, IsFromClosed, IsFlip}
 use Rattle.term_core.specs.Terms.{Tree, Forest, node, inj, no_tree, more_trees, height, leaf}
 use Rattle.term_core.specs.Terms.{injected}

@@ -3,7 +3,7 @@ use Rattle.std.proofs.Common.{◌≡◌, ℕ, List, [], ◌∷◌, Option, Some,
 use Rattle.std.proofs.lemmas.List.Elements.{All-contains}
 use Rattle.ml_pat.specs.Patterns.{Pattern, equal, var}
 use Rattle.ml_kernel.specs.Theorems.{Theorem}
-use Rattle.ml_scope.specs.Scopes.{StaysWithin}
+use Rattle.ml_derived.specs.Scopes.{StaysWithin}
 use Rattle.ml_derived.specs.Equalities.{IsFromClosed, IsFlip, AreJoinable, IsJoin}
 use Rattle.term_core.specs.Terms.{Tree, Forest}
 use Rattle.term_core.specs.Patterns.{Patterns as RulePatterns, call, ground_patterns}

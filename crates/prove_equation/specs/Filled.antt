@@ -6,7 +6,7 @@ use Rattle.term_core.specs.Patterns.{call}
 use Rattle.ml_pat.specs.Patterns.{Pattern, equal, var}
 use Rattle.ml_kernel.specs.Lemmas.{HasNoVariable}
 use Rattle.ml_kernel.specs.Theorems.{Theorem}
-use Rattle.ml_scope.specs.Scopes.{StaysWithin}
+use Rattle.ml_derived.specs.Scopes.{StaysWithin}
 use Rattle.rule_core.specs.Rules.{Equation}
 use Rattle.rule_core.specs.Matching.{RespectsSorts}
 use Rattle.ml_image.specs.Images.{image_of}

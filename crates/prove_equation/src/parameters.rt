@@ -3,7 +3,7 @@
 ghost use Rattle.std.specs.Prelude.{◌≡◌, ◌≢◌, ◌++◌, [], ◌∷◌, ℕ, List, IfOk, Some};
 ghost use Rattle.std.specs.List.{AllZip};
 ghost use Rattle.ml_pat.specs.Patterns.{fun, imp, member};
-ghost use Rattle.ml_scope.specs.Scopes.{StaysWithin};
+ghost use Rattle.ml_derived.specs.Scopes.{StaysWithin};
 ghost use Rattle.term_core.specs.Forests.{forest};
 ghost use Rattle.term_core.specs.Patterns.{instance_of, instances_of};
 ghost use Rattle.term_core.specs.PatternLists.{plain_patterns};
@@ -25,10 +25,9 @@ ghost use Rattle.prove_equation.specs.Parameters.{IsMembership, IsEquality, IsIn
 ghost use Rattle.prove_equation.specs.Parameters.{StaysEntered};
 
 use crate::conditions::given;
-use ml_derived::{carry, flip};
+use ml_derived::{carry, flip, mp};
 use ml_kernel::{Lemma, Thm};
 use ml_pat::{MForm, MPat, MSort, VarNo};
-use ml_scope::mp;
 use prove_schema::{elements, schema_at, term_elements};
 use prove_term::{Cx, inj_eq};
 use rule_core::Equation;

@@ -3,7 +3,7 @@ use Rattle.std.proofs.Common.{◌∷◌, [], Option, Some, None, refl, sym, ◌�
 use Rattle.ml_pat.specs.Patterns.{Pattern, app, equal, var}
 use Rattle.ml_kernel.specs.Lemmas.{HasNoVariable}
 use Rattle.ml_kernel.specs.Theorems.{Theorem}
-use Rattle.ml_scope.specs.Scopes.{StaysWithin}
+use Rattle.ml_derived.specs.Scopes.{StaysWithin}
 use Rattle.ml_derived.specs.Equalities.{hole, AreJoinable, IsJoin}
 use Rattle.term_core.specs.Terms.{Tree}
 use Rattle.term_core.specs.Patterns.{Pattern as RulePattern, ground_pattern}

@@ -5,7 +5,7 @@ use Rattle.std.specs.Prelude.{IfSome}
 use Rattle.ml_pat.specs.Patterns.{Pattern, app, equal}
 use Rattle.ml_kernel.specs.Lemmas.{HasNoVariable}
 use Rattle.ml_kernel.specs.Theorems.{Theorem}
-use Rattle.ml_scope.specs.Scopes.{IsOver}
+use Rattle.ml_derived.specs.Scopes.{IsOver}
 use Rattle.term_core.specs.Terms.{Tree, inj, injected, IsNormal}
 use Rattle.term_core.specs.Patterns.{Pattern as RulePattern, variable, injection, ground_pattern}
 use Rattle.rule_core.specs.Subsorts.{IsBelow}

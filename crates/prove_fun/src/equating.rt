@@ -6,10 +6,9 @@ ghost use Rattle.prove_term.specs.Contexts.{Context};
 ghost use Rattle.prove_term.specs.Comparing.{IsOverContext};
 ghost use Rattle.prove_fun.specs.Evaluating.{Equates};
 
-use ml_derived::join;
+use ml_derived::{eq_refl, join};
 use ml_kernel::Thm;
 use ml_pat::MPat;
-use ml_scope::eq_refl;
 use std::alloc::{AllocError, Global};
 
 // From `a = b` and `b = c`: `a = c`. If an equality is missing, its sides are the same.

@@ -5,8 +5,8 @@ use Rattle.ml_pat.specs.Patterns.{Pattern, imp, next, ev}
 use Rattle.ml_kernel.specs.Theorems.{Theorem, IsByLemma}
 use Rattle.ml_kernel.specs.Lemmas.{HasNoMeta, HasNoVariable, instance}
 use Rattle.ml_kernel.proofs.InstanceLaws.{instance-empty}
-use Rattle.ml_scope.specs.Scopes.{Scope, IsOver, IsStatedIn, IsWithin}
-use Rattle.ml_scope.proofs.RuleLaws.{lemma_within}
+use Rattle.ml_derived.specs.Scopes.{Scope, IsOver, IsStatedIn, IsWithin}
+use Rattle.ml_derived.proofs.RuleLaws.{lemma_within}
 use Rattle.ml_derived.specs.Implications.{IsOneStepOn, ReachesOneFurther}
 use Rattle.term_core.specs.Terms.{Tree}
 use Rattle.term_core.specs.Patterns.{Pattern as RulePattern, ground_pattern}

@@ -8,8 +8,8 @@ use Rattle.ml_pat.specs.Patterns.{Pattern, imp, next, ev, meta}
 use Rattle.ml_kernel.specs.Lemmas.{instance, instances, AreMetasBelow, IsMetaBelow, HasNoVariable}
 use Rattle.ml_kernel.specs.Lemmas.{HaveNoVariables}
 use Rattle.ml_kernel.specs.Theorems.{Theorem, conclusions}
-use Rattle.ml_scope.specs.Scopes.{Scope, IsOver, AreOver, IsOverPlaces, IsWithin, AreWithin}
-use Rattle.ml_scope.specs.Scopes.{AssumesWithin, StaysWithin, CitesWithin}
+use Rattle.ml_derived.specs.Scopes.{Scope, IsOver, AreOver, IsOverPlaces, IsWithin, AreWithin}
+use Rattle.ml_derived.specs.Scopes.{AssumesWithin, StaysWithin, CitesWithin}
 use Rattle.ml_derived.specs.Implications.{ReachesOneFurther}
 use Rattle.prove_term.specs.Contexts.{Context, IsLemmaIn}
 use Rattle.prove_schema.proofs.ScopeLaws.{StaysAssuming, lemma_of}

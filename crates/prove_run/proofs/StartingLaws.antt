@@ -6,7 +6,7 @@ use Rattle.ml_pat.specs.Judgements.{substituted}
 use Rattle.ml_kernel.specs.Lemmas.{HasNoVariable}
 use Rattle.ml_kernel.specs.Theorems.{Theorem}
 use Rattle.ml_kernel.proofs.InstanceLaws.{substituted-without}
-use Rattle.ml_scope.specs.Scopes.{StaysWithin}
+use Rattle.ml_derived.specs.Scopes.{StaysWithin}
 use Rattle.ml_derived.specs.Equalities.{CanCarry, IsCarried}
 use Rattle.term_core.specs.Terms.{Tree}
 use Rattle.term_core.specs.Patterns.{Pattern as RulePattern, binding, ground_pattern}

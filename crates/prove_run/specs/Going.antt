@@ -7,7 +7,7 @@ use Rattle.rule_core.specs.ProgramView.{theory_of}
 use Rattle.rule_core.specs.Records.{StepRecord}
 use Rattle.rule_core.specs.WellSorted.{IsWellSorted}
 use Rattle.ml_kernel.specs.Theorems.{Theorem}
-use Rattle.ml_scope.specs.Scopes.{Scope, IsStatedIn, IsWithin}
+use Rattle.ml_derived.specs.Scopes.{Scope, IsStatedIn, IsWithin}
 use Rattle.prove_term.specs.Contexts.{Context, HasContext, HasGrown}
 use Rattle.prove_step.specs.Steps.{IsStepFrom}
 use Rattle.prove_run.specs.Reaching.{SaysReached}

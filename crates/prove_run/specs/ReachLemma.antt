@@ -2,7 +2,7 @@
 use Rattle.std.specs.Prelude.{◌≡◌, ◌⊎◌, [], ◌∷◌, All}
 use Rattle.ml_pat.specs.Patterns.{Pattern, imp, next, ev, meta}
 use Rattle.ml_kernel.specs.Theorems.{Theorem}
-use Rattle.ml_scope.specs.Scopes.{Scope, IsStatedIn, IsWithin, AreWithin}
+use Rattle.ml_derived.specs.Scopes.{Scope, IsStatedIn, IsWithin, AreWithin}
 
 -- what the run has reached, and the step from there
 abbrev pub sofar_form : Pattern

@@ -8,10 +8,9 @@ ghost use Rattle.prove_term.specs.Contexts.{Context, IsLemmaIn};
 ghost use Rattle.prove_run.specs.ReachLemma.{IsReachHypothesis, IsReachLemma, ProvesHypothesis};
 ghost use Rattle.prove_run.specs.ReachLemma.{CitesReachLemma};
 
-use ml_derived::reach_step;
+use ml_derived::{assume, reach_step, use_lemma};
 use ml_kernel::{Lemma, Thm};
 use ml_pat::{MForm, MPat};
-use ml_scope::{assume, use_lemma};
 use std::alloc::{AllocError, Global};
 
 // Proves `m:0 -> ev m:2` from `m:0 -> ev m:1` and `m:1 -> next m:2`.

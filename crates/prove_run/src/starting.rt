@@ -2,7 +2,7 @@
 ghost use Rattle.std.specs.Prelude.{◌≡◌, ◌∷◌, [], IfOk, IfSome, Some, option_copied};
 ghost use Rattle.ml_pat.specs.Patterns.{Pattern, imp, equal, ev, var};
 ghost use Rattle.ml_kernel.specs.Lemmas.{HasNoVariable};
-ghost use Rattle.ml_scope.specs.Scopes.{StaysWithin};
+ghost use Rattle.ml_derived.specs.Scopes.{StaysWithin};
 ghost use Rattle.term_core.specs.RulePatterns.{plain_pattern};
 ghost use Rattle.rule_core.specs.ProgramView.{theory_of};
 ghost use Rattle.rule_core.specs.Records.{Records, result_of};

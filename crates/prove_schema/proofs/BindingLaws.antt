@@ -4,7 +4,7 @@ use Rattle.std.proofs.Common.{slice_get, refl, sym, ◌∙◌, ap, arith}
 use Rattle.std.specs.Prelude.{Contains}
 use Rattle.ml_pat.specs.Patterns.{Pattern, fun, meta}
 use Rattle.ml_kernel.specs.Theorems.{Theorem}
-use Rattle.ml_scope.specs.Scopes.{Scope, AreWithin}
+use Rattle.ml_derived.specs.Scopes.{Scope, AreWithin}
 use Rattle.term_core.specs.Terms.{Tree, IsNormal}
 use Rattle.term_core.specs.Patterns.{Pattern as RulePattern, variable, domain_value, application}
 use Rattle.term_core.specs.Patterns.{injection, call, ground_pattern}

@@ -6,7 +6,7 @@ use Rattle.ml_pat.specs.Patterns.{Pattern, nullary, unary, binary, sorted, quant
 use Rattle.ml_pat.specs.Patterns.{var, meta, constant}
 use Rattle.ml_pat.specs.Leaves.{LeafFacts, EachLeaf}
 use Rattle.ml_kernel.specs.Lemmas.{IsMetaBelow, HasNoVariable}
-use Rattle.ml_scope.specs.Scopes.{Scope, IsOver}
+use Rattle.ml_derived.specs.Scopes.{Scope, IsOver}
 use Rattle.term_core.specs.Patterns.{Pattern as RulePattern, Patterns as RulePatterns, variable}
 use Rattle.term_core.specs.Patterns.{domain_value, application, injection, call, no_pattern}
 use Rattle.term_core.specs.Patterns.{more_patterns}

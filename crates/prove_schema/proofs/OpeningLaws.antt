@@ -8,7 +8,7 @@ use Rattle.ml_pat.specs.PatternView.{pattern_of}
 use Rattle.ml_pat.specs.declared.patterns.MForm.{MForm}
 use Rattle.ml_pat.specs.declared.patterns.MForm.TheVariants as form
 use Rattle.ml_kernel.specs.Theorems.{Theorem, conclusions}
-use Rattle.ml_scope.specs.Scopes.{Scope, AreAssumed, AreWithin, IsOver, AssumesWithin, StaysWithin}
+use Rattle.ml_derived.specs.Scopes.{Scope, AreAssumed, AreWithin, IsOver, AssumesWithin, StaysWithin}
 use Rattle.ml_derived.specs.Instances.{IsInstance, HasInstance}
 use Rattle.ml_derived.proofs.InstanceSteps.{IsInstance-unique}
 use Rattle.prove_schema.specs.Schemas.{with_metas, IsOpenFrom, closed, meta_facts, parts_of}

@@ -4,7 +4,7 @@ use Rattle.std.specs.Prelude.{Contains}
 use Rattle.std.proofs.lemmas.List.Elements.{Contains-append_left, Contains-append_right}
 use Rattle.ml_pat.specs.Patterns.{Pattern}
 use Rattle.ml_kernel.specs.Theorems.{Theorem}
-use Rattle.ml_scope.specs.Scopes.{Scope, IsWithin}
+use Rattle.ml_derived.specs.Scopes.{Scope, IsWithin}
 use Rattle.prove_term.specs.Contexts.{Context, HasContext, StaysIn, IsLemmaIn}
 use Rattle.prove_term.proofs.AssumingLaws.{all_leaves}
 

@@ -3,7 +3,7 @@ use Rattle.std.proofs.Common.{◌≡◌, ℕ, List, Option, Some, option_map, sy
 use Rattle.ml_pat.specs.Patterns.{Pattern}
 use Rattle.ml_pat.specs.Patterns as logic
 use Rattle.ml_pat.proofs.LeafLaws.{EachLeaf-implied}
-use Rattle.ml_scope.specs.Scopes.{Scope, IsOverPlaces, leaves_of, place_leaves_of}
+use Rattle.ml_derived.specs.Scopes.{Scope, IsOverPlaces, leaves_of, place_leaves_of}
 use Rattle.rule_core.specs.declared.signature.Signature.{Signature}
 use Rattle.ml_image.specs.Tokens.{token_of_symbol, number_in_names}
 use Rattle.ml_image.specs.Images.{both, sort_image}

@@ -15,7 +15,7 @@ use Rattle.ml_pat.specs.declared.numbers.MSort.{MSort}
 use Rattle.ml_kernel.specs.Lemmas.{instance, instances, IsMetaBelow, AreMetasBelow, HasNoVariable}
 use Rattle.ml_kernel.specs.Lemmas.{HaveNoVariables}
 use Rattle.ml_kernel.specs.Theorems.{Theorem, conclusions}
-use Rattle.ml_scope.specs.Scopes.{Scope, AreOver, AreWithin, IsOver, IsWithin, CitesWithin}
+use Rattle.ml_derived.specs.Scopes.{Scope, AreOver, AreWithin, IsOver, IsWithin, CitesWithin}
 use Rattle.ml_image.proofs.ImageLaws.{some_same}
 use Rattle.prove_schema.specs.Using.{AreFacts, IsProved, by_fact, by_member, by_condition, IsUsable}
 use Rattle.prove_schema.specs.Using.{IsUsed, StaysUsed}

@@ -2,7 +2,7 @@
 use Rattle.std.specs.Prelude.{List, [], ◌∷◌}
 use Rattle.ml_pat.specs.Patterns.{Pattern, fun, all, meta}
 use Rattle.ml_kernel.specs.Theorems.{Theorem}
-use Rattle.ml_scope.specs.Scopes.{Scope, AssumesWithin, AreAssumed, IsWithin}
+use Rattle.ml_derived.specs.Scopes.{Scope, AssumesWithin, AreAssumed, IsWithin}
 use Rattle.prove_schema.specs.Schemas.{parts_of}
 
 -- each theorem says what it assumes, and assumes nothing else

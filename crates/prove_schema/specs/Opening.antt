@@ -2,7 +2,7 @@
 use Rattle.std.specs.Prelude.{◌≡◌, ℕ, List}
 use Rattle.ml_pat.specs.Patterns.{Pattern, imp}
 use Rattle.ml_kernel.specs.Theorems.{Theorem}
-use Rattle.ml_scope.specs.Scopes.{Scope, AreAssumed, IsWithin}
+use Rattle.ml_derived.specs.Scopes.{Scope, AreAssumed, IsWithin}
 use Rattle.prove_schema.specs.Schemas.{with_metas, meta_facts, parts_of, IsSentence}
 
 -- the pattern says something of all elements of zero or more sorts

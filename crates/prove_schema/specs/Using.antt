@@ -3,7 +3,7 @@ use Rattle.std.specs.Prelude.{◌≡◌, ℕ, ◌+◌, List, [], ◌∷◌, All,
 use Rattle.ml_pat.specs.Patterns.{Pattern, equal, fun, member, meta}
 use Rattle.ml_kernel.specs.Lemmas.{instance, HasNoVariable, IsMetaBelow}
 use Rattle.ml_kernel.specs.Theorems.{Theorem}
-use Rattle.ml_scope.specs.Scopes.{Scope, IsStatedIn, IsOverPlaces, IsWithin, AreWithin}
+use Rattle.ml_derived.specs.Scopes.{Scope, IsStatedIn, IsOverPlaces, IsWithin, AreWithin}
 
 -- Each theorem says that the pattern at its place is one element of the sort with the number at its
 -- place. The patterns have no object variables.

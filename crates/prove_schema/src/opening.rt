@@ -6,10 +6,9 @@ ghost use Rattle.prove_schema.specs.Assumptions.{AreAssumptions, HoldsByParts, f
 ghost use Rattle.prove_schema.specs.Opening.{IsConditional, IsFollowing, IsForAll, IsSchemaOf};
 ghost use Rattle.prove_schema.specs.Opening.{StaysFollowing, StaysOpen};
 
-use ml_derived::{both, instance};
+use ml_derived::{assume, both, instance, mp, top};
 use ml_kernel::Thm;
 use ml_pat::{MForm, MPat};
-use ml_scope::{assume, mp, top};
 use std::alloc::{AllocError, Global};
 
 /// Turns a sentence for all elements of zero or more sorts into the same for pattern variables with

@@ -4,9 +4,9 @@ ghost use Rattle.ml_pat.specs.Patterns.{Pattern, fun, meta};
 ghost use Rattle.prove_schema.specs.Using.{AreFacts, IsProved, IsUsable, IsUsed, StaysUsed};
 ghost use Rattle.prove_schema.specs.Giving.{AreGiven, CanProve, IsGiven};
 
+use ml_derived::use_lemma;
 use ml_kernel::{Lemma, Thm};
 use ml_pat::{MForm, MPat};
-use ml_scope::use_lemma;
 use std::alloc::{AllocError, Global};
 
 /// Proves what a schema concludes when patterns replace its pattern variables. `facts` says of each

@@ -8,7 +8,7 @@ use Rattle.ml_pat.specs.declared.patterns.MForm.{MForm}
 use Rattle.ml_pat.specs.declared.patterns.MForm.TheVariants as form
 use Rattle.ml_pat.specs.Patterns.{Pattern, top, imp, and, fun, next, meta}
 use Rattle.ml_kernel.specs.Theorems.{Theorem}
-use Rattle.ml_scope.specs.Scopes.{Scope, IsOver, IsWithin, AreAssumed, StaysWithin}
+use Rattle.ml_derived.specs.Scopes.{Scope, IsOver, IsWithin, AreAssumed, StaysWithin}
 use Rattle.ml_derived.specs.Implications.{HasCondition, IsFreedOf}
 use Rattle.rule_core.specs.ProgramView.{rewrite_rule}
 use Rattle.rule_core.specs.declared.rules.Rule.{Rule}

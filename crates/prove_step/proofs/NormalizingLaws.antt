@@ -4,7 +4,7 @@ use Rattle.std.specs.Prelude.{IfSome}
 use Rattle.ml_pat.specs.Patterns.{Pattern, imp, equal, next}
 use Rattle.ml_kernel.specs.Lemmas.{HasNoVariable, HasNoMeta}
 use Rattle.ml_kernel.specs.Theorems.{Theorem}
-use Rattle.ml_scope.specs.Scopes.{Scope, IsWithin}
+use Rattle.ml_derived.specs.Scopes.{Scope, IsWithin}
 use Rattle.term_core.specs.Terms.{Tree}
 use Rattle.term_core.specs.Patterns.{Pattern as RulePattern, instance_of, ground_pattern}
 use Rattle.term_core.specs.RulePatterns.{plain_pattern}

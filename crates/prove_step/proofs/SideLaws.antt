@@ -6,7 +6,7 @@ use Rattle.std.proofs.lemmas.List.Elements.{Contains-append_left, Contains-appen
 use Rattle.ml_pat.specs.Patterns.{Pattern, equal, var, meta}
 use Rattle.ml_pat.specs.Judgements.{substituted}
 use Rattle.ml_kernel.specs.Theorems.{Theorem}
-use Rattle.ml_scope.specs.Scopes.{Scope, IsOver, IsWithin, AssumesWithin, StaysWithin}
+use Rattle.ml_derived.specs.Scopes.{Scope, IsOver, IsWithin, AssumesWithin, StaysWithin}
 use Rattle.ml_derived.specs.Equalities.{CanCarry, IsCarried}
 use Rattle.ml_image.proofs.ImageLaws.{some_same}
 use Rattle.prove_term.specs.Contexts.{Context, HasGrown, IsLemmaIn}

@@ -7,7 +7,7 @@ use Rattle.std.proofs.lemmas.List.{take_more}
 use Rattle.ml_pat.specs.Patterns.{Pattern, imp, equal, next, meta}
 use Rattle.ml_kernel.specs.Lemmas.{instance, instances, AreMetasBelow, IsMetaBelow}
 use Rattle.ml_kernel.specs.Theorems.{Theorem, conclusions}
-use Rattle.ml_scope.specs.Scopes.{Scope, IsOver, IsOverPlaces, IsWithin, AreWithin, CitesWithin}
+use Rattle.ml_derived.specs.Scopes.{Scope, IsOver, IsOverPlaces, IsWithin, AreWithin, CitesWithin}
 use Rattle.prove_step.specs.SideLemmas.{IsSideHypothesis, IsSideLemma, step_of}
 use Rattle.prove_term.specs.Contexts.{Context}
 use Rattle.prove_step.specs.KeptSides.{IsSideLemmaIn}

@@ -3,7 +3,7 @@ use Rattle.std.specs.Prelude.{◌≡◌, [], ◌∷◌, Option, Some, None, IfSo
 use Rattle.ml_pat.specs.Patterns.{Pattern, imp, equal}
 use Rattle.ml_kernel.specs.Lemmas.{HaveNoVariables}
 use Rattle.ml_kernel.specs.Theorems.{Theorem}
-use Rattle.ml_scope.specs.Scopes.{Scope, AreWithin, IsStatedIn, IsWithin}
+use Rattle.ml_derived.specs.Scopes.{Scope, AreWithin, IsStatedIn, IsWithin}
 use Rattle.prove_term.specs.Contexts.{Context, HasContext}
 use Rattle.prove_step.specs.SideLemmas.{step_of}
 use Rattle.prove_step.specs.declared.side_lemmas.Side.{Side}

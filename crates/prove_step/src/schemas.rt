@@ -6,10 +6,9 @@ ghost use Rattle.prove_term.specs.Contexts.{HasGrown, IsLemmaIn};
 ghost use Rattle.prove_term.specs.RuleAxioms.{HasImageAt};
 ghost use Rattle.prove_step.specs.RuleLemmas.{IsCondition, IsConditional, SaysSchemaAt};
 
-use ml_derived::free_of_condition;
+use ml_derived::{assume, free_of_condition, top};
 use ml_kernel::Thm;
 use ml_pat::{MForm, MPat};
-use ml_scope::{assume, top};
 use prove_schema::schema;
 use prove_term::Cx;
 use std::alloc::{AllocError, Global};

@@ -4,10 +4,9 @@ ghost use Rattle.prove_term.specs.Contexts.{Context, HasGrown, IsLemmaIn};
 ghost use Rattle.prove_step.specs.SideLemmas.{IsSideLemma, step_of};
 ghost use Rattle.prove_step.specs.KeptSides.{AreSideLemmas, IsSideLemmaIn};
 
-use ml_derived::carry;
+use ml_derived::{assume, carry};
 use ml_kernel::{Lemma, Thm};
 use ml_pat::{MPat, VarNo};
-use ml_scope::assume;
 use prove_term::Cx;
 use std::alloc::{AllocError, Global};
 

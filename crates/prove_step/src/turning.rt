@@ -8,9 +8,9 @@ ghost use Rattle.prove_step.specs.KeptSides.{AreSideLemmas};
 ghost use Rattle.prove_step.specs.Turning.{CanTurn, IsProofFor, IsTurned, StaysCiting, StaysTurned};
 
 use crate::side_lemmas::{Side, SideLemmas, side_lemma};
+use ml_derived::use_lemma;
 use ml_kernel::{Lemma, Thm};
 use ml_pat::{MForm, MPat};
-use ml_scope::use_lemma;
 use prove_term::Cx;
 use std::alloc::{AllocError, Global};
 

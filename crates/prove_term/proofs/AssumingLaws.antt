@@ -10,8 +10,8 @@ use Rattle.ml_pat.specs.Patterns.{ex, all, var, meta, constant}
 use Rattle.ml_pat.specs.Leaves.{LeafFacts, EachLeaf}
 use Rattle.ml_pat.specs.Judgements.{substituted}
 use Rattle.ml_kernel.specs.Theorems.{Theorem, AddsNew, all_hypotheses}
-use Rattle.ml_scope.specs.Scopes.{Scope, leaves_of, IsOver, AreOver, IsWithin, AreAssumed}
-use Rattle.ml_scope.specs.Scopes.{StaysWithin, AssumesWithin}
+use Rattle.ml_derived.specs.Scopes.{Scope, leaves_of, IsOver, AreOver, IsWithin, AreAssumed}
+use Rattle.ml_derived.specs.Scopes.{StaysWithin, AssumesWithin}
 use Rattle.ml_derived.proofs.PutLaws.{EachLeaf-substituted}
 use Rattle.prove_term.specs.Contexts.{Context, StaysIn, IsLemmaIn}
 use Rattle.prove_term.specs.Schemas.{at_metas, meta_facts, reversed, totality_from}

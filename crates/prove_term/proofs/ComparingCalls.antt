@@ -6,7 +6,7 @@ use Rattle.ml_pat.specs.Patterns.{Pattern, app, constant, equal, var}
 use Rattle.ml_kernel.specs.Lemmas.{HasNoVariable}
 use Rattle.ml_kernel.specs.Theorems.{Theorem}
 use Rattle.ml_derived.specs.Equalities.{AreJoinable, IsJoin}
-use Rattle.ml_scope.specs.Scopes.{StaysWithin}
+use Rattle.ml_derived.specs.Scopes.{StaysWithin}
 use Rattle.term_core.specs.Terms.{Tree, Forest, node, inj, DomainValue}
 use Rattle.term_core.specs.Patterns.{Pattern as RulePattern, Patterns as RulePatterns, variable}
 use Rattle.term_core.specs.Patterns.{domain_value, application, injection, call, instance_of}

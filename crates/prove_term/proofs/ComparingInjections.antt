@@ -4,8 +4,8 @@ use Rattle.std.proofs.Common.{ap, subst}
 use Rattle.std.specs.Prelude.{◌≢◌}
 use Rattle.ml_pat.specs.Patterns.{Pattern, app, at_sort, constant, equal, fun, var}
 use Rattle.ml_kernel.specs.Theorems.{Theorem}
-use Rattle.ml_scope.specs.Scopes.{IsOver, StaysWithin}
-use Rattle.ml_scope.proofs.RuleLaws.{lemma_within}
+use Rattle.ml_derived.specs.Scopes.{IsOver, StaysWithin}
+use Rattle.ml_derived.proofs.RuleLaws.{lemma_within}
 use Rattle.ml_derived.specs.Equalities.{IsJoin}
 use Rattle.term_core.specs.Terms.{Tree, inj, injected}
 use Rattle.term_core.specs.Patterns.{Pattern as RulePattern, injection, ground_pattern}

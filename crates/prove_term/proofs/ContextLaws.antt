@@ -8,7 +8,7 @@ use Rattle.ml_pat.specs.Patterns.{Pattern}
 use Rattle.ml_kernel.specs.Theorems.{Theorem, own_axiom}
 use Rattle.ml_kernel.specs.UsedLeaves.{EachUsed}
 use Rattle.ml_kernel.specs.MayCite.{EachCited}
-use Rattle.ml_scope.specs.Scopes.{Scope, AreAssumed, leaves_of, cites_of}
+use Rattle.ml_derived.specs.Scopes.{Scope, AreAssumed, leaves_of, cites_of}
 use Rattle.rule_core.specs.declared.rules.Program.{Program}
 use Rattle.rule_core.specs.declared.signature.Signature.{Signature}
 use Rattle.rule_core.specs.ProgramView.{theory_of}

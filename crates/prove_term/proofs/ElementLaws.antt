@@ -6,8 +6,8 @@ use Rattle.ml_pat.specs.Patterns.{Pattern, app, fun, constant}
 use Rattle.ml_kernel.specs.Lemmas.{instance, instances, HasNoVariable, HaveNoVariables, HasNoMeta}
 use Rattle.ml_kernel.specs.Lemmas.{IsMetaBelow, AreMetasBelow}
 use Rattle.ml_kernel.specs.Theorems.{Theorem, conclusions, all_hypotheses, AddsNew, IsByLemma}
-use Rattle.ml_scope.specs.Scopes.{Scope, IsOver, AreOver, AreWithin}
-use Rattle.ml_scope.proofs.RuleLaws.{lemma_within}
+use Rattle.ml_derived.specs.Scopes.{Scope, IsOver, AreOver, AreWithin}
+use Rattle.ml_derived.proofs.RuleLaws.{lemma_within}
 use Rattle.term_core.specs.Patterns.{Pattern as RulePattern, Patterns as RulePatterns, application}
 use Rattle.term_core.specs.Patterns.{no_pattern, more_patterns}
 use Rattle.rule_core.specs.Sorting.{HasSort, HaveSorts, IsSymbol, sort_at}

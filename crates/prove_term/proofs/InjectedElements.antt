@@ -3,7 +3,7 @@ use Rattle.std.proofs.Common.{◌≡◌, ℕ, List, [], ◌∷◌, ◌++◌, Som
 use Rattle.ml_pat.specs.Patterns.{Pattern, fun}
 use Rattle.ml_kernel.specs.Lemmas.{HasNoVariable, HasNoMeta}
 use Rattle.ml_kernel.specs.Theorems.{Theorem, AddsNew, IsByLemma}
-use Rattle.ml_scope.proofs.RuleLaws.{lemma_within}
+use Rattle.ml_derived.proofs.RuleLaws.{lemma_within}
 use Rattle.term_core.specs.Patterns.{Pattern as RulePattern, injection}
 use Rattle.rule_core.specs.WellSorted.{IsSignature}
 use Rattle.rule_core.specs.declared.rules.Program.{Program}

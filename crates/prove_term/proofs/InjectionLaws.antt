@@ -5,8 +5,8 @@ use Rattle.std.specs.Prelude.{Contains}
 use Rattle.ml_pat.specs.Patterns.{Pattern, ex, equal, fun, var, meta}
 use Rattle.ml_kernel.specs.Lemmas.{instance, instances, IsMetaBelow, AreMetasBelow}
 use Rattle.ml_kernel.specs.Theorems.{Theorem, AddsNew, all_hypotheses, conclusions, IsByLemma}
-use Rattle.ml_scope.specs.Scopes.{IsOver, IsWithin, StaysWithin, AssumesWithin}
-use Rattle.ml_scope.proofs.RuleLaws.{lemma_within}
+use Rattle.ml_derived.specs.Scopes.{IsOver, IsWithin, StaysWithin, AssumesWithin}
+use Rattle.ml_derived.proofs.RuleLaws.{lemma_within}
 use Rattle.prove_term.specs.Assuming.{Opens, OpenedFrom, IsSome, OneElementFrom}
 use Rattle.prove_term.specs.Injections.{inject, injecting, collapsing, SaysInjected, SaysCollapsed}
 use Rattle.prove_term.specs.Injections.{InjectedFrom, CollapsedFrom, Joins, StaysJoined}

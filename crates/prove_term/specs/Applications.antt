@@ -3,7 +3,7 @@ use Rattle.std.specs.Prelude.{◌≡◌, List, [], ◌∷◌, Option, Some, None
 use Rattle.ml_pat.specs.Patterns.{Pattern, app, equal, var}
 use Rattle.ml_kernel.specs.Lemmas.{HasNoVariable}
 use Rattle.ml_kernel.specs.Theorems.{Theorem}
-use Rattle.ml_scope.specs.Scopes.{StaysWithin}
+use Rattle.ml_derived.specs.Scopes.{StaysWithin}
 use Rattle.ml_derived.specs.Equalities.{IsApplied, IsAppliedTo, IsArgument}
 
 -- the head, applied to each pattern of the list in turn

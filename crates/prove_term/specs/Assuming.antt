@@ -3,7 +3,7 @@ use Rattle.std.specs.Prelude.{◌≡◌, ℕ, IsTrue, List, [], ◌∷◌, Conta
 use Rattle.ml_pat.specs.Patterns.{Pattern, all, ex, equal, fun, var, meta}
 use Rattle.ml_pat.specs.Judgements.{substituted, IsAbsent}
 use Rattle.ml_kernel.specs.Theorems.{Theorem}
-use Rattle.ml_scope.specs.Scopes.{Scope, IsWithin}
+use Rattle.ml_derived.specs.Scopes.{Scope, IsWithin}
 use Rattle.prove_term.specs.Schemas.{totality_from, meta_facts, reversed}
 use Rattle.prove_term.specs.Constructing.{totality, IsTotalLemma}
 

@@ -3,7 +3,7 @@ use Rattle.std.specs.Prelude.{◌≡◌, ℕ, IsTrue, [], ◌∷◌, Contains}
 use Rattle.ml_pat.specs.Patterns.{Pattern, equal, fun, meta}
 use Rattle.ml_kernel.specs.Lemmas.{HasNoVariable}
 use Rattle.ml_kernel.specs.Theorems.{Theorem, IsByLemma}
-use Rattle.ml_scope.specs.Scopes.{Scope, IsStatedIn, IsWithin}
+use Rattle.ml_derived.specs.Scopes.{Scope, IsStatedIn, IsWithin}
 use Rattle.prove_term.specs.Injections.{inject, SaysInjected, SaysCollapsed}
 
 -- the lemma is on an injection from s to t, and the proof says that p is one element of s

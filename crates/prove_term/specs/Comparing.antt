@@ -4,7 +4,7 @@ use Rattle.std.specs.Prelude.{◌≡◌, ◌≢◌, ℕ, List, [], Option, Some,
 use Rattle.ml_pat.specs.Patterns.{Pattern, equal, fun}
 use Rattle.ml_kernel.specs.Lemmas.{HasNoVariable}
 use Rattle.ml_kernel.specs.Theorems.{Theorem}
-use Rattle.ml_scope.specs.Scopes.{Scope, IsOver}
+use Rattle.ml_derived.specs.Scopes.{Scope, IsOver}
 use Rattle.term_core.specs.Terms.{Tree, Forest}
 use Rattle.term_core.specs.Patterns.{Pattern as RulePattern, Patterns as RulePatterns, instance_of}
 use Rattle.term_core.specs.Patterns.{instances_of, ground_pattern, ground_patterns}

@@ -3,7 +3,7 @@ use Rattle.std.specs.Prelude.{◌≡◌, ℕ, Some, List, [], map}
 use Rattle.ml_pat.specs.Patterns.{Pattern, fun}
 use Rattle.ml_kernel.specs.Lemmas.{HasNoVariable, HaveNoVariables, HasNoMeta, AreMetasBelow}
 use Rattle.ml_kernel.specs.Theorems.{Theorem, conclusions, all_hypotheses}
-use Rattle.ml_scope.specs.Scopes.{Scope, AreWithin}
+use Rattle.ml_derived.specs.Scopes.{Scope, AreWithin}
 use Rattle.term_core.specs.Patterns.{Pattern as RulePattern, Patterns as RulePatterns}
 use Rattle.rule_core.specs.Sorting.{HasSort, HaveSorts}
 use Rattle.rule_core.specs.declared.signature.Signature.{Signature}

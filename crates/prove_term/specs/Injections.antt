@@ -2,7 +2,7 @@
 use Rattle.std.specs.Prelude.{◌≡◌, ℕ, Some, IsTrue, List, [], ◌∷◌, Contains, slice_get}
 use Rattle.ml_pat.specs.Patterns.{Pattern, all, ex, equal, fun, app, at_sort, var, meta, constant}
 use Rattle.ml_kernel.specs.Theorems.{Theorem}
-use Rattle.ml_scope.specs.Scopes.{Scope, IsOver, IsStatedIn, IsWithin}
+use Rattle.ml_derived.specs.Scopes.{Scope, IsOver, IsStatedIn, IsWithin}
 use Rattle.rule_core.specs.declared.signature.Signature.{Signature}
 use Rattle.ml_image.specs.Images.{injection_symbol, some_symbol_image, sort_image}
 use Rattle.prove_term.specs.Contexts.{Context}

@@ -1,7 +1,7 @@
 // The lemmas on injections, from axioms.
 ghost use Rattle.std.specs.Prelude.{◌≡◌, ◌∷◌, ℕ, [], IfOk};
 ghost use Rattle.ml_pat.specs.Patterns.{Pattern, equal, fun, imp, var};
-ghost use Rattle.ml_scope.specs.Scopes.{StaysWithin};
+ghost use Rattle.ml_derived.specs.Scopes.{StaysWithin};
 ghost use Rattle.prove_term.specs.Assuming.{StaysFrom};
 ghost use Rattle.prove_term.specs.Injections.{injecting, collapsing, InjectedFrom, CollapsedFrom};
 ghost use Rattle.prove_term.specs.Injections.{Joins, JoinedFrom, StaysJoined};
@@ -12,9 +12,9 @@ ghost use Rattle.prove_term.specs.Carrying.{CollapsesBy};
 
 use crate::elements::subject;
 use crate::schemas::{at_meta, detach, one_element};
+use ml_derived::{assume, eq_el};
 use ml_kernel::{Lemma, Thm};
 use ml_pat::{MForm, MPat, VarNo};
-use ml_scope::{assume, eq_el};
 use std::alloc::{AllocError, Global};
 
 // The lemma that a pattern variable, one element of a sort, is one element of the sort directly

@@ -3,15 +3,15 @@ ghost use Rattle.std.specs.Prelude.{◌≡◌, ◌∷◌, ℕ, List, [], IfOk, S
 ghost use Rattle.ml_pat.specs.Patterns.{all, fun, imp, meta};
 ghost use Rattle.ml_pat.specs.Judgements.{substituted};
 ghost use Rattle.ml_kernel.specs.Theorems.{AddsNew, all_hypotheses};
-ghost use Rattle.ml_scope.specs.Scopes.{StaysWithin};
+ghost use Rattle.ml_derived.specs.Scopes.{StaysWithin};
 ghost use Rattle.prove_term.specs.Falling.{Falls};
 ghost use Rattle.prove_term.specs.Assuming.{IsTotality, TotalFrom, PartlyFrom, StaysFrom, Opens};
 ghost use Rattle.prove_term.specs.Assuming.{OpenedFrom, IsSome};
 ghost use Rattle.prove_term.specs.Assuming.{OneElementFrom};
 
+use ml_derived::{assume, fun_ex, inst};
 use ml_kernel::Thm;
 use ml_pat::{MForm, MPat, MSort, VarNo, subst};
-use ml_scope::{assume, fun_ex, inst};
 use std::alloc::{AllocError, Global};
 
 // The lemma that a constructor of `count` pattern variables makes one element, if each variable is

@@ -1,7 +1,7 @@
 use Rattle.std.proofs.Common.{◌≡◌, sym, ◌∙◌, ap, subst}
 use Rattle.ml_pat.specs.Patterns.{Pattern, equal, app, var}
 use Rattle.ml_kernel.specs.Lemmas.{HasNoVariable}
-use Rattle.ml_scope.specs.Scopes.{IsOver}
+use Rattle.ml_derived.specs.Scopes.{IsOver}
 use Rattle.ml_derived.proofs.ContextLaws.{at_function}
 use Rattle.ml_derived.proofs.StayingLaws.{if_ok, concluded}
 use Rattle.ml_derived.proofs.equalities.applied_to.Goals as goal

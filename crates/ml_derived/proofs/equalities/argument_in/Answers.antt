@@ -1,6 +1,6 @@
 use Rattle.std.proofs.Common.{◌≡◌, sym, ◌∙◌, ap, subst}
 use Rattle.ml_pat.specs.Patterns.{Pattern, equal, app, var}
-use Rattle.ml_scope.specs.Scopes.{IsOver}
+use Rattle.ml_derived.specs.Scopes.{IsOver}
 use Rattle.ml_derived.proofs.ContextLaws.{at_argument}
 use Rattle.ml_derived.proofs.StayingLaws.{if_ok, concluded}
 use Rattle.ml_derived.proofs.equalities.argument_in.Goals as goal

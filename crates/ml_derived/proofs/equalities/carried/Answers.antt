@@ -1,6 +1,6 @@
 use Rattle.std.proofs.Common.{sym}
 use Rattle.ml_pat.specs.Patterns.{equal}
-use Rattle.ml_scope.specs.Scopes.{leaves_of, IsOver}
+use Rattle.ml_derived.specs.Scopes.{leaves_of, IsOver}
 use Rattle.ml_derived.proofs.PutLaws.{EachLeaf-substituted}
 use Rattle.ml_derived.proofs.StayingLaws.{if_ok, concluded}
 use Rattle.ml_derived.proofs.equalities.carried.Goals as goal

@@ -1,5 +1,5 @@
 use Rattle.ml_pat.specs.Patterns.{imp}
-use Rattle.ml_scope.specs.Scopes.{IsOver}
+use Rattle.ml_derived.specs.Scopes.{IsOver}
 use Rattle.ml_derived.proofs.StayingLaws.{if_ok, concluded}
 use Rattle.ml_derived.proofs.implications.distributed.Goals as goal
 

@@ -1,7 +1,7 @@
 use Rattle.std.proofs.Common.{Some, sym, ◌∙◌, ap, subst}
 use Rattle.ml_pat.specs.Patterns.{Pattern, all, fun}
 use Rattle.ml_kernel.specs.Lemmas.{HasNoVariable}
-use Rattle.ml_scope.specs.Scopes.{leaves_of, IsOver}
+use Rattle.ml_derived.specs.Scopes.{leaves_of, IsOver}
 use Rattle.ml_derived.specs.Parts.{IsElementOf}
 use Rattle.ml_derived.proofs.PutLaws.{substituted-put, EachLeaf-put}
 use Rattle.ml_derived.proofs.ContextLaws.{closed_element}

@@ -1,6 +1,6 @@
 use Rattle.std.proofs.Common.{subst}
 use Rattle.ml_pat.specs.Patterns.{imp, ev}
-use Rattle.ml_scope.specs.Scopes.{IsOver}
+use Rattle.ml_derived.specs.Scopes.{IsOver}
 use Rattle.ml_derived.proofs.StayingLaws.{if_ok, concluded}
 use Rattle.ml_derived.proofs.reaching.kept_reaching.Goals as goal
 

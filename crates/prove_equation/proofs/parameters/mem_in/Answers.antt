@@ -2,7 +2,7 @@ use Rattle.std.proofs.Common.{[], ◌∷◌}
 use Rattle.ml_pat.specs.Patterns.{imp, fun, member}
 use Rattle.ml_kernel.specs.Rules.{pattern, sort}
 use Rattle.ml_kernel.specs.declared.rules.Rule.TheVariants as rule
-use Rattle.ml_scope.proofs.RuleLaws.{rule_stays}
+use Rattle.ml_derived.proofs.RuleLaws.{rule_stays}
 use Rattle.prove_equation.proofs.parameters.mem_in.Goals as goal
 
 pub returns-clause-stays : goal.returns-clause-stays

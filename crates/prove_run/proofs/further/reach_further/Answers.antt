@@ -4,7 +4,7 @@ use Rattle.std.specs.List.{AllZip}
 use Rattle.ml_pat.specs.Patterns.{Pattern}
 use Rattle.ml_kernel.specs.Lemmas.{instances, AreMetasBelow}
 use Rattle.ml_kernel.specs.Theorems.{Theorem, conclusions}
-use Rattle.ml_scope.specs.Scopes.{CitesWithin}
+use Rattle.ml_derived.specs.Scopes.{CitesWithin}
 use Rattle.prove_run.specs.ReachLemma.{IsReachHypothesis, ProvesHypothesis, CitesReachLemma}
 use Rattle.prove_run.proofs.ReachLaws.{three, hypotheses_metas, proofs_conclude, goes_further}
 use Rattle.prove_run.proofs.further.reach_further.Goals as goal

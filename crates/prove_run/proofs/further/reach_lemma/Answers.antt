@@ -1,7 +1,7 @@
 use Rattle.std.proofs.Common.{◌≡◌, [], ◌∷◌, Result, Ok, Err, IfOk, ◌∙◌, subst}
 use Rattle.ml_pat.specs.Patterns.{Pattern}
 use Rattle.ml_kernel.specs.Theorems.{Theorem}
-use Rattle.ml_scope.specs.Scopes.{AssumesWithin, StaysWithin}
+use Rattle.ml_derived.specs.Scopes.{AssumesWithin, StaysWithin}
 use Rattle.ml_derived.specs.Implications.{ReachesOneFurther}
 use Rattle.prove_term.specs.Contexts.{Context, IsLemmaIn}
 use Rattle.prove_run.specs.ReachLemma.{sofar_form, step_form, IsReachLemma}

@@ -1,6 +1,6 @@
 use Rattle.std.proofs.Common.{◌≡◌, ◌∷◌, [], sym, ◌∙◌, ap, subst}
 use Rattle.ml_pat.specs.Patterns.{Pattern, and}
-use Rattle.ml_scope.specs.Scopes.{AssumesWithin}
+use Rattle.ml_derived.specs.Scopes.{AssumesWithin}
 use Rattle.prove_schema.specs.Schemas.{parts_of}
 use Rattle.prove_schema.specs.Assumptions.{HoldsByParts}
 use Rattle.prove_schema.proofs.ResultLaws.{if_ok}

@@ -1,7 +1,7 @@
 use Rattle.std.proofs.Common.{rules, ◌≡◌, List, [], ◌∷◌, ◌++◌, sym, ◌∙◌, ap, subst}
 use Rattle.ml_pat.specs.Patterns.{Pattern, fun, all, meta}
 use Rattle.ml_kernel.specs.Theorems.{Theorem, conclusions}
-use Rattle.ml_scope.specs.Scopes.{AssumesWithin}
+use Rattle.ml_derived.specs.Scopes.{AssumesWithin}
 use Rattle.prove_schema.specs.Assumptions.{facts_of}
 use Rattle.prove_schema.specs.Assumptions.{AreAssumptions}
 use Rattle.prove_schema.proofs.OpeningLaws.{one_more_assumption, one_more_quantifier}

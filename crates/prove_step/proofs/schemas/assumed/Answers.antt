@@ -1,7 +1,7 @@
 use Rattle.std.proofs.Common.{◌≡◌, ◌∷◌, [], sym, subst}
 use Rattle.ml_pat.specs.Patterns.{Pattern}
 use Rattle.ml_pat.specs.PatternView.{pattern_of}
-use Rattle.ml_scope.specs.Scopes.{AssumesWithin}
+use Rattle.ml_derived.specs.Scopes.{AssumesWithin}
 use Rattle.prove_schema.specs.Schemas.{parts_of}
 use Rattle.prove_schema.proofs.ResultLaws.{if_ok}
 use Rattle.prove_schema.proofs.OpeningLaws.{whole_held}

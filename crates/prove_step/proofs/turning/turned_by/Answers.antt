@@ -3,7 +3,7 @@ use Rattle.std.specs.List.{AllZip}
 use Rattle.ml_pat.specs.Patterns.{Pattern}
 use Rattle.ml_kernel.specs.Lemmas.{instance, instances, AreMetasBelow, IsMetaBelow, HaveNoVariables}
 use Rattle.ml_kernel.specs.Theorems.{Theorem, conclusions}
-use Rattle.ml_scope.specs.Scopes.{CitesWithin}
+use Rattle.ml_derived.specs.Scopes.{CitesWithin}
 use Rattle.prove_term.proofs.ResultLaws.{if_ok}
 use Rattle.prove_step.specs.Turning.{IsProofFor}
 use Rattle.prove_step.proofs.TurningLaws.{three, conclusion_metas, hypotheses_metas, is_turned}

@@ -1,6 +1,6 @@
 use Rattle.std.proofs.Common.{◌≡◌, sym, ◌∙◌, subst, rules}
 use Rattle.ml_pat.specs.Patterns.{equal, fun}
-use Rattle.ml_scope.specs.Scopes.{IsOver}
+use Rattle.ml_derived.specs.Scopes.{IsOver}
 use Rattle.prove_term.proofs.ResultLaws.{if_ok, if_ok_two}
 use Rattle.prove_term.proofs.InjectionLaws.{carried_keeps, carried_as}
 use Rattle.prove_term.proofs.joining.carried.Goals as goal

@@ -1,6 +1,6 @@
 use Rattle.std.proofs.Common.{◌≡◌, [], ◌∷◌, ◌∙◌, ap, subst}
 use Rattle.ml_pat.specs.Patterns.{Pattern, all, fun, meta}
-use Rattle.ml_scope.specs.Scopes.{AssumesWithin}
+use Rattle.ml_derived.specs.Scopes.{AssumesWithin}
 use Rattle.prove_term.proofs.ResultLaws.{if_ok, if_ok_two}
 use Rattle.prove_term.proofs.AssumingLaws.{assumes_nothing, detached_rule, detached_fact}
 use Rattle.prove_term.proofs.AssumingLaws.{opened_stays}

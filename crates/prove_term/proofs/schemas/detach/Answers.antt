@@ -2,8 +2,8 @@ use Rattle.std.proofs.Common.{[], ◌∷◌, subst}
 use Rattle.ml_pat.specs.Patterns.{imp}
 use Rattle.ml_kernel.specs.Rules.{pattern}
 use Rattle.ml_kernel.specs.declared.rules.Rule.TheVariants as rule
-use Rattle.ml_scope.specs.Scopes.{IsOver}
-use Rattle.ml_scope.proofs.RuleLaws.{rule_stays}
+use Rattle.ml_derived.specs.Scopes.{IsOver}
+use Rattle.ml_derived.proofs.RuleLaws.{rule_stays}
 use Rattle.prove_term.proofs.schemas.detach.Goals as goal
 
 pub returns-clause-stays : goal.returns-clause-stays

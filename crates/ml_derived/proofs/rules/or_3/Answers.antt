@@ -1,0 +1,18 @@
+use Rattle.std.proofs.Common.{[], ◌∷◌}
+use Rattle.ml_pat.specs.Patterns.{imp, or}
+use Rattle.ml_kernel.specs.Rules.{pattern}
+use Rattle.ml_kernel.specs.declared.rules.Rule.TheVariants as rule
+use Rattle.ml_derived.proofs.RuleLaws.{rule_stays}
+use Rattle.ml_derived.proofs.rules.or_3.Goals as goal
+
+pub returns-clause-stays : goal.returns-clause-stays
+returns-clause-stays c =
+    rule_stays rule.Or3 (pattern c.args.p.now ∷ pattern c.args.q.now ∷ pattern c.args.r.now ∷ [])
+    (c.args.p.now ∷ c.args.q.now ∷ c.args.r.now ∷ []) []
+    (imp (imp c.args.p.now c.args.r.now) (imp (imp c.args.q.now c.args.r.now) (imp (or c.args.p.now c.args.q.now) c.args.r.now)))
+    c.or_3.result
+    (λ s hp ht. (
+      (hp.0, (hp.1.0, (hp.1.1.0, tt))),
+      ((hp.0, hp.1.1.0), ((hp.1.0, hp.1.1.0), ((hp.0, hp.1.0), hp.1.1.0))),
+    ))
+    c.or_3.ensures

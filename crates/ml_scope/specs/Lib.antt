@@ -1,2 +1,0 @@
--- Public: what public clauses say, and public definitions of other crates.
-pub mod Scopes
