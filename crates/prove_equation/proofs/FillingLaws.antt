@@ -8,18 +8,20 @@ use Rattle.ml_pat.specs.Patterns.{Pattern, top, equal}
 use Rattle.ml_kernel.specs.Lemmas.{instance, HasNoVariable, HaveNoVariables, IsMetaBelow}
 use Rattle.ml_kernel.specs.Theorems.{Theorem}
 use Rattle.ml_derived.specs.Scopes.{Scope, AreWithin, IsOverPlaces}
-use Rattle.term_core.specs.Terms.{Tree, leaf, truth, IsNormal}
+use Rattle.term_core.specs.Terms.{Tree, Forest, leaf, truth, IsNormal}
 use Rattle.term_core.specs.Patterns.{Pattern as RulePattern, variable, domain_value, application}
 use Rattle.term_core.specs.Patterns.{injection, call, binding, ground_pattern}
 use Rattle.rule_core.specs.Rules.{Equation}
 use Rattle.rule_core.specs.Sorting.{HasSort, HasValue, IsTermOf, IsSymbol, sort_at}
-use Rattle.rule_core.specs.Matching.{RespectsSorts}
+use Rattle.rule_core.specs.Matching.{MatchAll, RespectsSorts}
+use Rattle.rule_core.specs.ProgramView.{theory_of}
+use Rattle.rule_core.specs.WellSorted.{IsWellSorted}
 use Rattle.rule_core.specs.declared.signature.Signature.{Signature}
 use Rattle.rule_core.specs.declared.signature.SymInfo.{SymInfo}
 use Rattle.rule_core.specs.declared.rules.Program.{Program}
 use Rattle.ml_image.specs.Images.{both, image_of}
 use Rattle.ml_image.specs.HasImages.{HasImage, IsTruth, IsCondition, HasEquationImage}
-use Rattle.ml_image.specs.OwnAxioms.{condition_sentence, sort_of, made_sort, is_true}
+use Rattle.ml_image.specs.OwnAxioms.{IsEquationFor, condition_sentence, sort_of, made_sort, is_true}
 use Rattle.ml_image.specs.Sentences.{Sentence, sentence_image, term, equals}
 use Rattle.ml_image.specs.Sentences as says
 use Rattle.ml_image.proofs.ImageLaws.{some_same}
@@ -40,7 +42,7 @@ use Rattle.prove_schema.proofs.ElementLaws.{pattern_grown}
 use Rattle.prove_schema.proofs.BindingLaws.{HasImages, elements_have, elements_within, proved_fact}
 use Rattle.prove_schema.proofs.SentenceLaws.{schema_over_places}
 use Rattle.prove_equation.specs.EquationLemmas.{SaysEquationSchema, IsEquationLemma}
-use Rattle.prove_equation.specs.Conditions.{SaysCondition, BindsEach, listed}
+use Rattle.prove_equation.specs.Conditions.{CanUseAt, SaysCondition, BindsEach, listed}
 use Rattle.prove_equation.specs.Filled.{CanFill, SaysFilledEquation}
 use Rattle.prove_equation.proofs.ShapeLaws.{IsDirect, direct_shape, closed_same, condition_is}
 
@@ -317,6 +319,21 @@ equation_lemma_grown old new f e t g is = record {
     says = is.says.says;
     assumes = is.says.assumes;
   };
+}
+
+pub can_use_grown : {old new : Context} {f : ℕ} {e : Equation} {lemma : Theorem}
+    {theta : List (Option Tree)} {ts : Forest} {o : Option Theorem} → HasGrown old new
+    → CanUseAt old f e lemma theta ts o → CanUseAt new f e lemma theta ts o
+can_use_grown {old} {new} {f} {e} {lemma} {theta} {ts} {o} g can = record {
+  well_sorted = subst (λ (p : Program). IsWellSorted (theory_of p)) (sym g.program) can.well_sorted;
+  image = subst (λ (p : Program). HasEquationImage p.sig f e) (sym g.program) can.image;
+  own = subst (λ (p : Program). IsEquationFor (theory_of p) f e) (sym g.program) can.own;
+  is_lemma = equation_lemma_grown old new f e lemma g can.is_lemma;
+  matches =
+      subst (λ (p : Program). MatchAll p.sig e.variables e.arguments ts theta) (sym g.program)
+      can.matches;
+  bound = can.bound;
+  condition = condition_grown old new e.variables theta e.condition o g can.condition;
 }
 
 pub can_fill_grown : (old new : Context) (f : ℕ) (e : Equation) (lemma : Theorem)

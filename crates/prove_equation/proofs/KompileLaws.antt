@@ -2,7 +2,7 @@
 use Rattle.std.proofs.Common.{◌≡◌, ◌<◌, ◌+◌, ◌⊎◌, ℕ, zero, suc, true, List, [], ◌∷◌, ◌++◌, Option}
 use Rattle.std.proofs.Common.{Some, None, option_map, length, length-append, map, slice_get, inl}
 use Rattle.std.proofs.Common.{inr, refl, sym, ◌∙◌, ap, subst, arith}
-use Rattle.std.specs.Prelude.{Contains, slice_index_or}
+use Rattle.std.specs.Prelude.{◌≢◌, Contains, slice_index_or}
 use Rattle.std.specs.List.{AllZip}
 use Rattle.std.proofs.lemmas.List.Elements.{Contains-append_cases, All-contains}
 use Rattle.std.proofs.lemmas.Option.{slice_get_within, get_or_from_slice_get}
@@ -28,34 +28,39 @@ use Rattle.rule_core.proofs.SortedInstances.{instances_are_sorted}
 use Rattle.ml_image.specs.Images.{both, image_of, shifted, all_shifted}
 use Rattle.ml_image.specs.HasImages.{HasImage, HaveImages, IsTruth, IsCondition, HasEquationImage}
 use Rattle.ml_image.specs.OwnAxioms.{condition_sentence, is_true, meets, sort_numbered}
-use Rattle.ml_image.specs.Sentences.{sentence_image, term, symbol, apply_all, variables, is_in}
+use Rattle.ml_image.specs.Sentences.{sentence_image, symbol, variables}
 use Rattle.ml_image.specs.Sentences as sentence
 use Rattle.ml_image.proofs.ImageLaws.{none_some, some_same}
 use Rattle.ml_image.proofs.SentenceLaws.{one_symbol}
-use Rattle.prove_term.specs.Contexts.{Context, HasContext, StaysIn}
+use Rattle.prove_term.specs.Contexts.{Context, HasContext, HasGrown, StaysIn}
 use Rattle.prove_term.specs.Filling.{filled, all_filled}
 use Rattle.prove_term.specs.Values.{SaysValue, SaysEquationAt}
+use Rattle.prove_term.proofs.ContextLaws.{grown_twice}
 use Rattle.prove_term.proofs.ImageShapes.{both_some}
 use Rattle.prove_schema.specs.Schemas.{with_metas, parts_of, meta_facts}
 use Rattle.prove_schema.specs.Using.{IsProved, by_member, IsUsable, IsUsed, StaysUsed}
 use Rattle.prove_schema.specs.Elements.{IsElementOf, AreElementsFor}
+use Rattle.prove_schema.proofs.ElementLaws.{elements_grown}
 use Rattle.prove_schema.proofs.OpenLaws.{image_is_open, open_metas}
 use Rattle.prove_schema.proofs.ClosingLaws.{numbers_length}
 use Rattle.prove_schema.proofs.InstanceLaws.{AreImages, AllThere, filled_image}
+use Rattle.prove_schema.proofs.ScopeLaws.{stays_no_hypotheses}
 use Rattle.prove_schema.proofs.UsingLaws.{as_many_facts}
 use Rattle.prove_equation.specs.EquationLemmas.{SaysEquationSchema}
-use Rattle.prove_equation.specs.Conditions.{SaysCondition, listed}
-use Rattle.prove_equation.specs.Parameters.{behind_terms, IsMembership, AreMemberships, CanMeet}
+use Rattle.prove_equation.specs.Conditions.{CanUseAt, ProvesAt, SaysCondition, listed}
+use Rattle.prove_equation.specs.Parameters.{behind_terms, IsMembership, AreMemberships}
 use Rattle.prove_equation.proofs.ShapeLaws.{IsKompile, kompile_shape, closed_same, condition_is}
 use Rattle.prove_equation.proofs.ShapeLaws.{shifted_has, condition_behind, behind}
 use Rattle.prove_schema.proofs.BindingLaws.{HasImages, elements_have}
-use Rattle.prove_equation.proofs.FillingLaws.{IsEqualitySchema, SaysOfTerms, schema_usable}
-use Rattle.prove_equation.proofs.FillingLaws.{schema_says, schema_stays, condition_proved}
-use Rattle.prove_equation.proofs.FillingLaws.{condition_within, all_there, sort_of_sorted}
+use Rattle.prove_equation.proofs.FillingLaws.{IsEqualitySchema, SaysOfTerms, can_use_grown}
+use Rattle.prove_equation.proofs.FillingLaws.{schema_usable, schema_says, schema_stays}
+use Rattle.prove_equation.proofs.FillingLaws.{condition_proved, condition_within, all_there}
+use Rattle.prove_equation.proofs.FillingLaws.{sort_of_sorted}
 use Rattle.prove_equation.proofs.ParameterLaws.{length-behind, there-behind, elements-behind}
 use Rattle.prove_equation.proofs.ParameterLaws.{AreOfSorts, as_many_sorts, respects-behind}
 use Rattle.prove_equation.proofs.ParameterLaws.{filled-behind, variable_patterns, variables-image}
 use Rattle.prove_equation.proofs.ParameterLaws.{variables-have, variables-filled}
+use Rattle.prove_equation.proofs.MembershipLaws.{memberships_grown}
 
 -- ---- the sorts of the terms
 
@@ -241,10 +246,28 @@ bound_front (v ∷ us) theta (suc i) u h = bound_front us theta i u h
 pub record IsMet (cx : Context) (f : ℕ) (e : Equation) (lemma : Theorem)
     (theta : List (Option Tree)) (us : List Tree) (o : Option Theorem) (fs gs ms : List Theorem) :
     Type 0 where
-  pub can : CanMeet cx f e lemma theta us o
+  pub can : CanUseAt cx f e lemma theta (forest us) o
+  pub kompile : e.parameters ≢ 0
   pub terms : AllZip (IsElementOf cx) us fs
   pub elements : AreElementsFor cx theta gs
   pub members : AreMemberships cx theta e.arguments us ms
+
+-- all of it is still known when the context has grown
+pub met_later : {old cx : Context} {f : ℕ} {e : Equation} {lemma : Theorem}
+    {theta : List (Option Tree)} {o : Option Theorem} {fs gs ms : List Theorem} (a b : Context)
+    (us : List Tree) → HasGrown old a → HasGrown a b → HasGrown b cx
+    → CanUseAt old f e lemma theta (forest us) o → e.parameters ≢ 0 → AllZip (IsElementOf a) us fs
+    → AreMemberships b theta e.arguments us ms → AreElementsFor cx theta gs
+    → IsMet cx f e lemma theta us o fs gs ms
+met_later {old} {cx} {f} {e} {lemma} {theta} {o} {fs} {gs} {ms} a b us g h k can some terms members
+    elements =
+    record {
+      can = can_use_grown (grown_twice old b cx (grown_twice old a b g h) k) can;
+      kompile = some;
+      terms = elements_grown a cx us fs (grown_twice a b cx h k) terms;
+      elements = elements;
+      members = memberships_grown b cx theta e.arguments us ms k members;
+    }
 
 -- the equation after its parameters, and the terms before the bindings of the substitution
 record IsPlaced (cx : Context) (f : ℕ) (e : Equation) (p : Pattern) (theta : List (Option Tree))
@@ -265,7 +288,7 @@ placed : (cx : Context) (f : ℕ) (e : Equation) (lemma : Theorem) (theta : List
 placed cx f e lemma theta us o fs gs ms w =
     let sig : Signature = cx.program.sig in
     let d : IsKompile cx.program.sig cx.names f e w.can.is_lemma.says.sentence =
-    kompile_shape cx.program.sig cx.names f e w.can.is_lemma.says.sentence w.can.kompile
+    kompile_shape cx.program.sig cx.names f e w.can.is_lemma.says.sentence w.kompile
     w.can.is_lemma.says.is_sentence in
     let is : IsEquationOf cx.program.sig w.can.own.info e =
     All-contains (IsEquationOf cx.program.sig w.can.own.info)
@@ -278,19 +301,20 @@ placed cx f e lemma theta us o fs gs ms w =
     let sorted : AreTermsOf cx.program.sig [] (forest us) w.can.own.info.args.items × AreNormal
     (forest us) =
     instances_are_sorted cx.program.sig e.variables [] e.arguments w.can.own.info.args.items theta
-    (forest us) is.arguments w.can.respects w.can.makes in
+    (forest us) is.arguments w.can.matches.binds.sorted w.can.matches.makes in
     let ofs : AreOfSorts cx.program.sig us d.sorts =
     of_sorts cx.program.sig us d.sorts w.can.own.info.args.items takes sorted.0 sorted.1 in
     let count : length us ≡ length d.sorts = as_many_sorts cx.program.sig us d.sorts ofs in
     let total : length (d.sorts ++ e.variables) ≡ length d.sorts + length e.variables =
     length-append d.sorts e.variables in
     let room : length (behind_terms us theta) ≡ length (d.sorts ++ e.variables) =
-    omega (arith, length-behind us theta, total, count, w.can.room) in
+    omega (arith, length-behind us theta, total, count, w.can.matches.binds.room) in
     let elements : AreElementsFor cx (behind_terms us theta) (fs ++ gs) =
     elements-behind cx us theta fs gs w.terms w.elements in
     let images : HasImages cx (behind_terms us theta) d.numbers (fs ++ gs) =
     elements_have cx (behind_terms us theta) (d.sorts ++ e.variables) d.numbers (fs ++ gs) elements
-    d.are (respects-behind cx.program.sig us d.sorts e.variables theta ofs w.can.respects)
+    d.are (respects-behind cx.program.sig us d.sorts e.variables theta ofs
+    w.can.matches.binds.sorted)
     room in
     let there : AllThere theta (length e.variables) = all_there e.variables theta w.can.bound in
     let far : length us + length e.variables ≡ length (d.sorts ++ e.variables) =
@@ -464,7 +488,7 @@ met_usable cx f e lemma theta us o fs gs ms w =
           (kompile_proved cx f e lemma theta us o fs gs ms w i),
     )
 
-pub met_says : (cx : Context) (f : ℕ) (e : Equation) (lemma : Theorem) (theta : List (Option Tree))
+met_says : (cx : Context) (f : ℕ) (e : Equation) (lemma : Theorem) (theta : List (Option Tree))
     (us : List Tree) (o : Option Theorem) (fs gs ms : List Theorem) (t : Theorem)
     → IsMet cx f e lemma theta us o fs gs ms → IsUsed lemma (fs ++ gs) (ms ++ listed o) t
     → SaysEquationAt cx f e theta (forest us) t.conclusion
@@ -528,7 +552,7 @@ members_within s cx theta (more_patterns p ps) (u ∷ us) [] has h = absurd h
 members_within s cx theta (more_patterns p ps) (u ∷ us) (m ∷ ms) has h =
     (h.0.1 s has, members_within s cx theta ps us ms has h.1)
 
-pub met_stays : (cx : Context) (f : ℕ) (e : Equation) (lemma : Theorem) (theta : List (Option Tree))
+met_stays : (cx : Context) (f : ℕ) (e : Equation) (lemma : Theorem) (theta : List (Option Tree))
     (us : List Tree) (o : Option Theorem) (fs gs ms : List Theorem) (t : Theorem)
     → IsMet cx f e lemma theta us o fs gs ms → StaysUsed lemma (fs ++ gs) (ms ++ listed o) t
     → StaysIn cx t
@@ -545,3 +569,16 @@ met_stays cx f e lemma theta us o fs gs ms t w used =
     (λ s has. within-append s ms (listed o)
     (members_within s cx theta e.arguments us ms has w.members)
     (condition_within cx e.variables theta e.condition o w.can.condition s has)) used
+
+pub met_proves : (cx : Context) (f : ℕ) (e : Equation) (lemma : Theorem)
+    (theta : List (Option Tree)) (us : List Tree) (o : Option Theorem) (fs gs ms : List Theorem)
+    (t : Theorem) → IsMet cx f e lemma theta us o fs gs ms
+    → IsUsed lemma (fs ++ gs) (ms ++ listed o) t → StaysUsed lemma (fs ++ gs) (ms ++ listed o) t
+    → ProvesAt cx f e theta (forest us) t
+met_proves cx f e lemma theta us o fs gs ms t w used within =
+    let stays : StaysIn cx t = met_stays cx f e lemma theta us o fs gs ms t w within in
+    record {
+      says = met_says cx f e lemma theta us o fs gs ms t w used;
+      no_hypotheses = stays_no_hypotheses cx t stays;
+      stays = stays;
+    }

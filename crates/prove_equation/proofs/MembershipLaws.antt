@@ -2,7 +2,7 @@
 use Rattle.std.proofs.Common.{◌≡◌, ◌<◌, ◌≤◌, ◌+◌, ℕ, zero, suc, List, [], ◌∷◌, ◌++◌, Option, Some}
 use Rattle.std.proofs.Common.{None, option_map, length, get_or, take, refl, sym, ◌∙◌, ap, subst}
 use Rattle.std.proofs.Common.{arith}
-use Rattle.std.specs.Prelude.{IfSome, IsSomeAnd, ◌≢◌}
+use Rattle.std.specs.Prelude.{IfSome, IsSomeAnd}
 use Rattle.std.specs.List.{AllZip}
 use Rattle.std.proofs.lemmas.List.{take_more}
 use Rattle.ml_pat.specs.Patterns.{Pattern, equal, member, var}
@@ -25,17 +25,11 @@ use Rattle.term_core.specs.PatternLists.{plain_patterns}
 use Rattle.term_core.specs.declared.rule_patterns.RulePat.{RulePat}
 use Rattle.rule_core.specs.Rules.{Equation}
 use Rattle.rule_core.specs.Sorting.{HasSort, HaveSorts}
-use Rattle.rule_core.specs.Matching.{RespectsSorts, MatchAll}
 use Rattle.rule_core.specs.MatchLaws.{AreTermsOf}
-use Rattle.rule_core.specs.ProgramView.{theory_of}
-use Rattle.rule_core.specs.WellSorted.{IsWellSorted}
-use Rattle.rule_core.specs.declared.rules.Program.{Program}
 use Rattle.rule_core.specs.declared.signature.Signature.{Signature}
 use Rattle.rule_core.specs.declared.signature.SortRef.{SortRef}
 use Rattle.rule_core.proofs.SortedInstances.{mapped, both_there, instances_are_sorted}
 use Rattle.ml_image.specs.Images.{image_of}
-use Rattle.ml_image.specs.HasImages.{HasEquationImage}
-use Rattle.ml_image.specs.OwnAxioms.{IsEquationFor}
 use Rattle.ml_image.proofs.ImageLaws.{none_some, some_same}
 use Rattle.prove_term.specs.Contexts.{Context, HasGrown, StaysIn}
 use Rattle.prove_term.specs.Filling.{filled}
@@ -44,11 +38,9 @@ use Rattle.prove_term.proofs.ContextLaws.{stays_grown}
 use Rattle.prove_schema.specs.Elements.{AreTerms, IsElementOf}
 use Rattle.prove_term.proofs.FillingLaws.{filled_written}
 use Rattle.prove_schema.proofs.ElementLaws.{pattern_grown}
-use Rattle.prove_equation.specs.Conditions.{BindsEach, SaysCondition}
-use Rattle.prove_equation.specs.EquationLemmas.{IsEquationLemma}
-use Rattle.prove_equation.specs.Parameters.{SaysMember, IsMembership, AreMemberships, CanMeet}
-use Rattle.prove_equation.specs.Parameters.{IsInItself, CanEnter, IsEntered, StaysEntered, IsInHole}
-use Rattle.prove_equation.proofs.FillingLaws.{condition_grown, equation_lemma_grown}
+use Rattle.prove_equation.specs.Conditions.{CanUseAt}
+use Rattle.prove_equation.specs.Parameters.{SaysMember, IsMembership, AreMemberships, IsInItself}
+use Rattle.prove_equation.specs.Parameters.{CanEnter, IsEntered, StaysEntered, IsInHole}
 use Rattle.prove_equation.proofs.TurningLaws.{arguments_sorted}
 
 -- ---- `q in p`
@@ -396,48 +388,11 @@ terms_of sig (u ∷ us) [] h k d low = absurd h
 terms_of sig (u ∷ us) (r ∷ refs) h zero d low = (h.0, h.2)
 terms_of sig (u ∷ us) (r ∷ refs) h (suc k) d low = terms_of sig us refs h.3 k d (omega (arith, low))
 
-pub met_terms : (cx : Context) (f : ℕ) (e : Equation) (lemma : Theorem) (theta : List (Option Tree))
-    (us : List Tree) (o : Option Theorem) → CanMeet cx f e lemma theta us o
+pub met_terms : {cx : Context} {f : ℕ} {e : Equation} {lemma : Theorem} {theta : List (Option Tree)}
+    {o : Option Theorem} (us : List Tree) → CanUseAt cx f e lemma theta (forest us) o
     → AreTerms cx.program.sig us
-met_terms cx f e lemma theta us o can =
+met_terms {cx} {f} {e} {lemma} {theta} us can =
     let args : (refs : List SortRef) × HaveSorts cx.program.sig e.variables [] e.arguments refs =
     arguments_sorted cx f e can.well_sorted can.own in
     terms_of cx.program.sig us args.0 (instances_are_sorted cx.program.sig e.variables []
-    e.arguments args.0 theta (forest us) args.1 can.respects can.makes).0
-
-pub can_meet_grown : (old new : Context) (f : ℕ) (e : Equation) (lemma : Theorem)
-    (theta : List (Option Tree)) (us : List Tree) (o : Option Theorem) → HasGrown old new
-    → CanMeet old f e lemma theta us o → CanMeet new f e lemma theta us o
-can_meet_grown old new f e lemma theta us o g can = record {
-  well_sorted = subst (λ (p : Program). IsWellSorted (theory_of p)) (sym g.program) can.well_sorted;
-  image = subst (λ (p : Program). HasEquationImage p.sig f e) (sym g.program) can.image;
-  own = subst (λ (p : Program). IsEquationFor (theory_of p) f e) (sym g.program) can.own;
-  kompile = can.kompile;
-  is_lemma = equation_lemma_grown old new f e lemma g can.is_lemma;
-  room = can.room;
-  respects =
-      subst (λ (p : Program). RespectsSorts p.sig e.variables theta) (sym g.program) can.respects;
-  bound = can.bound;
-  makes = can.makes;
-  condition = condition_grown old new e.variables theta e.condition o g can.condition;
-}
-
-pub can_meet : (cx : Context) (f : ℕ) (e : Equation) (lemma : Theorem) (theta : List (Option Tree))
-    (us : List Tree) (o : Option Theorem) → IsWellSorted (theory_of cx.program)
-    → HasEquationImage cx.program.sig f e → IsEquationFor (theory_of cx.program) f e
-    → e.parameters ≢ 0 → IsEquationLemma cx f e lemma
-    → MatchAll cx.program.sig e.variables e.arguments (forest us) theta
-    → BindsEach e.variables theta → SaysCondition cx e.variables theta e.condition o
-    → CanMeet cx f e lemma theta us o
-can_meet cx f e lemma theta us o ok has own some is matches bound condition = record {
-  well_sorted = ok;
-  image = has;
-  own = own;
-  kompile = some;
-  is_lemma = is;
-  room = matches.binds.room;
-  respects = matches.binds.sorted;
-  bound = bound;
-  makes = matches.makes;
-  condition = condition;
-}
+    e.arguments args.0 theta (forest us) args.1 can.matches.binds.sorted can.matches.makes).0

@@ -24,6 +24,8 @@ use Rattle.prove_term.specs.Values.{SaysEquationAt}
 use Rattle.prove_term.proofs.ContextLaws.{stays_grown}
 use Rattle.prove_term.proofs.FillingLaws.{all_filled_written}
 use Rattle.prove_schema.proofs.ElementLaws.{pattern_grown}
+use Rattle.prove_schema.proofs.ScopeLaws.{stays_no_hypotheses}
+use Rattle.prove_equation.specs.Conditions.{ProvesAt}
 use Rattle.prove_equation.specs.Filled.{SaysFilledEquation, CanTurn, IsTurned, StaysTurned}
 
 -- ---- turning an equality
@@ -123,7 +125,7 @@ written_turns cx f e theta us made (Some t) w =
       call_says.no_variable.1,
     )
 
-pub written_says : (cx : Context) (f : ℕ) (e : Equation) (theta : List (Option Tree)) (us : Forest)
+written_says : (cx : Context) (f : ℕ) (e : Equation) (theta : List (Option Tree)) (us : Forest)
     (made turned : Theorem) (normal : Option Theorem) → IsWritten cx f e theta us made normal
     → IsTurned made normal turned → SaysEquationAt cx f e theta us turned.conclusion
 written_says cx f e theta us made turned None w is = record {
@@ -152,12 +154,24 @@ written_says cx f e theta us made turned (Some t) w is =
       no_variable = (call_says.no_variable.1, w.says.no_variable.1);
     }
 
-pub written_stays : (cx : Context) (f : ℕ) (e : Equation) (theta : List (Option Tree)) (us : Forest)
+written_stays : (cx : Context) (f : ℕ) (e : Equation) (theta : List (Option Tree)) (us : Forest)
     (made turned : Theorem) (normal : Option Theorem) → IsWritten cx f e theta us made normal
     → StaysTurned made normal turned → StaysIn cx turned
 written_stays cx f e theta us made turned None w is = subst (StaysIn cx) (sym is) w.stays
 written_stays cx f e theta us made turned (Some t) w within =
     λ s has. within s (has.objects 0, tt) (w.calls.3 s has, (w.stays s has, tt))
+
+pub written_proves : (cx : Context) (f : ℕ) (e : Equation) (theta : List (Option Tree))
+    (us : Forest) (made turned : Theorem) (normal : Option Theorem)
+    → IsWritten cx f e theta us made normal → IsTurned made normal turned
+    → StaysTurned made normal turned → ProvesAt cx f e theta us turned
+written_proves cx f e theta us made turned normal w is within =
+    let stays : StaysIn cx turned = written_stays cx f e theta us made turned normal w within in
+    record {
+      says = written_says cx f e theta us made turned normal w is;
+      no_hypotheses = stays_no_hypotheses cx turned stays;
+      stays = stays;
+    }
 
 -- ---- the equation's arguments
 

@@ -1,25 +1,16 @@
 -- Terms for an equation's parameters: what is bound to the parameters, and that each is a member of
 -- its argument.
-use Rattle.std.specs.Prelude.{◌≡◌, ◌≢◌, ℕ, List, [], ◌∷◌, Option, Some, None, length}
+use Rattle.std.specs.Prelude.{◌≡◌, ℕ, List, [], ◌∷◌, Option, Some, None}
 use Rattle.ml_pat.specs.Patterns.{Pattern, equal, fun, member, var}
 use Rattle.ml_kernel.specs.Lemmas.{HasNoVariable}
 use Rattle.ml_kernel.specs.Theorems.{Theorem}
 use Rattle.ml_derived.specs.Scopes.{StaysWithin}
 use Rattle.term_core.specs.Terms.{Tree}
-use Rattle.term_core.specs.Forests.{forest}
 use Rattle.term_core.specs.Patterns.{Pattern as RulePattern, Patterns as RulePatterns, no_pattern}
-use Rattle.term_core.specs.Patterns.{more_patterns, ground_pattern, instances_of}
-use Rattle.rule_core.specs.Rules.{Equation}
-use Rattle.rule_core.specs.Matching.{RespectsSorts}
-use Rattle.rule_core.specs.ProgramView.{theory_of}
-use Rattle.rule_core.specs.WellSorted.{IsWellSorted}
-use Rattle.ml_image.specs.HasImages.{HasEquationImage}
+use Rattle.term_core.specs.Patterns.{more_patterns, ground_pattern}
 use Rattle.ml_image.specs.Images.{image_of}
-use Rattle.ml_image.specs.OwnAxioms.{IsEquationFor}
 use Rattle.prove_term.specs.Contexts.{Context, StaysIn}
 use Rattle.prove_term.specs.Filling.{filled}
-use Rattle.prove_equation.specs.Conditions.{BindsEach, SaysCondition}
-use Rattle.prove_equation.specs.EquationLemmas.{IsEquationLemma}
 
 -- the terms of the list, and after them the bindings of the substitution
 abbrev pub behind_terms : List Tree → List (Option Tree) → List (Option Tree)
@@ -51,22 +42,6 @@ AreMemberships cx theta (more_patterns p ps) [] ts = ⊥
 AreMemberships cx theta (more_patterns p ps) (u ∷ us) [] = ⊥
 AreMemberships cx theta (more_patterns p ps) (u ∷ us) (t ∷ ts) =
     IsMembership cx theta p u t × AreMemberships cx theta ps us ts
-
--- the lemma of an equation in the form of kompile may be used at these terms, which its arguments
--- match
-pub record CanMeet (cx : Context) (f : ℕ) (e : Equation) (lemma : Theorem)
-    (theta : List (Option Tree)) (us : List Tree)
-    (o : Option Theorem) : Type 0 where
-  pub well_sorted : IsWellSorted (theory_of cx.program)
-  pub image : HasEquationImage cx.program.sig f e
-  pub own : IsEquationFor (theory_of cx.program) f e
-  pub kompile : e.parameters ≢ 0
-  pub is_lemma : IsEquationLemma cx f e lemma
-  pub room : length theta ≡ length e.variables
-  pub respects : RespectsSorts cx.program.sig e.variables theta
-  pub bound : BindsEach e.variables theta
-  pub makes : instances_of theta e.arguments ≡ Some (forest us)
-  pub condition : SaysCondition cx e.variables theta e.condition o
 
 -- the pattern says that some pattern is one element of a sort
 abbrev pub SaysElement : Pattern → Type 0

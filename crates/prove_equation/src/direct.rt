@@ -1,16 +1,10 @@
 // Direct equations, which have no parameters, at terms.
-ghost use Rattle.std.specs.Prelude.{◌≡◌, [], IfOk};
+ghost use Rattle.std.specs.Prelude.{◌≡◌, IfOk};
 ghost use Rattle.term_core.specs.Forests.{forest};
-ghost use Rattle.rule_core.specs.Matching.{MatchAll};
-ghost use Rattle.rule_core.specs.ProgramView.{function_equation, sorts_of, theory_of};
+ghost use Rattle.rule_core.specs.ProgramView.{function_equation, theory_of};
 ghost use Rattle.rule_core.specs.WellSorted.{IsWellSorted};
-ghost use Rattle.term_core.specs.PatternLists.{plain_patterns};
-ghost use Rattle.ml_image.specs.HasImages.{HasEquationImage};
-ghost use Rattle.ml_image.specs.OwnAxioms.{IsEquationFor};
 ghost use Rattle.prove_term.specs.Contexts.{HasGrown, StaysIn};
-ghost use Rattle.prove_term.specs.Values.{SaysEquationAt};
-ghost use Rattle.prove_equation.specs.Conditions.{BindsEach, SaysCondition};
-ghost use Rattle.prove_equation.specs.EquationLemmas.{IsEquationLemma};
+ghost use Rattle.prove_equation.specs.Conditions.{CanUseAt, ProvesAt};
 ghost use Rattle.prove_equation.specs.Filled.{CanFill, CanTurn, IsTurned, SaysFilledEquation};
 ghost use Rattle.prove_equation.specs.Filled.{StaysTurned};
 
@@ -34,24 +28,12 @@ pub(crate) fn direct_at(
     args: &[Term],
     condition: &Option<Thm>,
 ) -> Result<Thm, AllocError>
-    requires well_sorted { IsWellSorted (theory_of cx.old.program) }
-    requires image { HasEquationImage cx.old.program.sig equation.now.fun.0
-        (function_equation equation.now) }
-    requires own { IsEquationFor (theory_of cx.old.program) equation.now.fun.0
-        (function_equation equation.now) }
+    requires usable { CanUseAt cx.old equation.now.fun.0 (function_equation equation.now) lemma.now
+        subst.now (forest args.now) condition.now }
     requires direct { equation.now.params ≡ 0 }
-    requires lemma { IsEquationLemma cx.old equation.now.fun.0 (function_equation equation.now)
-        lemma.now }
-    requires matches { MatchAll cx.old.program.sig (sorts_of equation.now.vars.items)
-        (plain_patterns equation.now.args.items) (forest args.now) subst.now }
-    requires bound { BindsEach (sorts_of equation.now.vars.items) subst.now }
-    requires condition { SaysCondition cx.old (sorts_of equation.now.vars.items) subst.now
-        (function_equation equation.now).condition condition.now }
-    ensures says { IfOk result
-        (λ t. SaysEquationAt cx.new equation.now.fun.0 (function_equation equation.now)
-        subst.now (forest args.now) t.conclusion) }
-    ensures no_hypotheses { IfOk result (λ t. t.hypotheses ≡ []) }
-    ensures stays { IfOk result (StaysIn cx.new) }
+    ensures proves { IfOk result
+        (ProvesAt cx.new equation.now.fun.0 (function_equation equation.now) subst.now
+        (forest args.now)) }
     ensures grown { HasGrown cx.old cx.new }
 {
     let made = filled(alloc, cx, lemma, equation, subst, condition)?;

@@ -8,18 +8,14 @@ ghost use Rattle.term_core.specs.Forests.{forest};
 ghost use Rattle.term_core.specs.Patterns.{instance_of, instances_of};
 ghost use Rattle.term_core.specs.PatternLists.{plain_patterns};
 ghost use Rattle.term_core.specs.RulePatterns.{plain_pattern};
-ghost use Rattle.rule_core.specs.Matching.{MatchAll, RespectsSorts};
-ghost use Rattle.rule_core.specs.ProgramView.{function_equation, sorts_of, theory_of};
+ghost use Rattle.rule_core.specs.Matching.{RespectsSorts};
+ghost use Rattle.rule_core.specs.ProgramView.{function_equation};
 ghost use Rattle.rule_core.specs.Sorting.{HasSort, HaveSorts};
-ghost use Rattle.rule_core.specs.WellSorted.{IsSignature, IsWellSorted};
-ghost use Rattle.ml_image.specs.HasImages.{HasEquationImage};
-ghost use Rattle.ml_image.specs.OwnAxioms.{IsEquationFor};
+ghost use Rattle.rule_core.specs.WellSorted.{IsSignature};
 ghost use Rattle.rule_core.specs.declared.signature.SortRef.{SortRef};
-ghost use Rattle.prove_term.specs.Contexts.{HasGrown, StaysIn};
-ghost use Rattle.prove_term.specs.Values.{SaysEquationAt};
+ghost use Rattle.prove_term.specs.Contexts.{HasGrown};
 ghost use Rattle.prove_schema.specs.Elements.{IsElementOf};
-ghost use Rattle.prove_equation.specs.Conditions.{BindsEach, SaysCondition};
-ghost use Rattle.prove_equation.specs.EquationLemmas.{IsEquationLemma};
+ghost use Rattle.prove_equation.specs.Conditions.{CanUseAt, ProvesAt};
 ghost use Rattle.prove_equation.specs.Parameters.{AreMemberships, CanEnter, IsEntered, IsInItself};
 ghost use Rattle.prove_equation.specs.Parameters.{IsMembership, IsEquality, IsInHole, SaysElement};
 ghost use Rattle.prove_equation.specs.Parameters.{StaysEntered};
@@ -45,24 +41,12 @@ pub(crate) fn kompile_at(
     args: &[Term],
     condition: &Option<Thm>,
 ) -> Result<Thm, AllocError>
-    requires well_sorted { IsWellSorted (theory_of cx.old.program) }
-    requires image { HasEquationImage cx.old.program.sig equation.now.fun.0
-        (function_equation equation.now) }
-    requires own { IsEquationFor (theory_of cx.old.program) equation.now.fun.0
-        (function_equation equation.now) }
+    requires usable { CanUseAt cx.old equation.now.fun.0 (function_equation equation.now) lemma.now
+        subst.now (forest args.now) condition.now }
     requires kompile { equation.now.params ≢ 0 }
-    requires lemma { IsEquationLemma cx.old equation.now.fun.0 (function_equation equation.now)
-        lemma.now }
-    requires matches { MatchAll cx.old.program.sig (sorts_of equation.now.vars.items)
-        (plain_patterns equation.now.args.items) (forest args.now) subst.now }
-    requires bound { BindsEach (sorts_of equation.now.vars.items) subst.now }
-    requires condition { SaysCondition cx.old (sorts_of equation.now.vars.items) subst.now
-        (function_equation equation.now).condition condition.now }
-    ensures says { IfOk result
-        (λ t. SaysEquationAt cx.new equation.now.fun.0 (function_equation equation.now)
-        subst.now (forest args.now) t.conclusion) }
-    ensures no_hypotheses { IfOk result (λ t. t.hypotheses ≡ []) }
-    ensures stays { IfOk result (StaysIn cx.new) }
+    ensures proves { IfOk result
+        (ProvesAt cx.new equation.now.fun.0 (function_equation equation.now) subst.now
+        (forest args.now)) }
     ensures grown { HasGrown cx.old cx.new }
 {
     let first = term_elements(alloc, cx, args)?;

@@ -11,71 +11,45 @@ use Rattle.rule_core.specs.declared.signature.SortRef.{SortRef}
 use Rattle.prove_term.proofs.ContextLaws.{grown_twice}
 use Rattle.prove_schema.specs.Elements.{IsElementOf}
 use Rattle.prove_schema.specs.Using.{IsUsable, IsUsed, StaysUsed}
-use Rattle.prove_schema.proofs.ResultLaws.{if_ok}
-use Rattle.prove_schema.proofs.ElementLaws.{elements_grown}
-use Rattle.prove_schema.proofs.ScopeLaws.{stays_no_hypotheses}
+use Rattle.prove_schema.proofs.ResultLaws.{if_ok_two}
 use Rattle.prove_equation.specs.Conditions.{listed}
-use Rattle.prove_equation.specs.Parameters.{AreMemberships, CanMeet}
-use Rattle.prove_equation.proofs.FillingLaws.{all_bound}
+use Rattle.prove_equation.specs.Parameters.{AreMemberships}
+use Rattle.prove_equation.proofs.FillingLaws.{all_bound, can_use_grown}
 use Rattle.prove_equation.proofs.TurningLaws.{arguments_sorted}
-use Rattle.prove_equation.proofs.MembershipLaws.{can_meet, can_meet_grown, memberships_grown}
 use Rattle.prove_equation.proofs.MembershipLaws.{met_terms}
-use Rattle.prove_equation.proofs.KompileLaws.{IsMet, met_usable, met_says, met_stays}
+use Rattle.prove_equation.proofs.KompileLaws.{IsMet, met_later, met_usable, met_proves}
 use Rattle.prove_equation.proofs.parameters.kompile_at.Goals as goal
 
 pub term_elements-requires-clause-well_sorted : goal.term_elements-requires-clause-well_sorted
-term_elements-requires-clause-well_sorted c = c.requires.well_sorted
+term_elements-requires-clause-well_sorted c = c.requires.usable.well_sorted
 
 pub term_elements-requires-clause-sorted : goal.term_elements-requires-clause-sorted
-term_elements-requires-clause-sorted c =
-    met_terms c.args.cx.now c.args.equation.now.fun.0 (function_equation c.args.equation.now)
-    c.args.lemma.now c.args.subst.now c.args.args.now c.args.condition.now
-    (can_meet c.args.cx.now c.args.equation.now.fun.0 (function_equation c.args.equation.now)
-    c.args.lemma.now c.args.subst.now c.args.args.now c.args.condition.now
-    c.requires.well_sorted c.requires.image c.requires.own c.requires.kompile
-    c.requires.lemma c.requires.matches c.requires.bound c.requires.condition)
+term_elements-requires-clause-sorted c = met_terms c.args.args.now c.requires.usable
 
 pub memberships-requires-clause-signature : goal.memberships-requires-clause-signature
 memberships-requires-clause-signature c =
-    (can_meet_grown c.args.cx.now c.term_elements.new.cx c.args.equation.now.fun.0
-    (function_equation c.args.equation.now) c.args.lemma.now c.args.subst.now c.args.args.now
-    c.args.condition.now c.term_elements.ensures.grown
-    (can_meet c.args.cx.now c.args.equation.now.fun.0 (function_equation c.args.equation.now)
-    c.args.lemma.now c.args.subst.now c.args.args.now c.args.condition.now
-    c.requires.well_sorted c.requires.image c.requires.own c.requires.kompile
-    c.requires.lemma c.requires.matches c.requires.bound
-    c.requires.condition)).well_sorted.signature
+    (can_use_grown c.term_elements.ensures.grown c.requires.usable).well_sorted.signature
 
 pub memberships-requires-clause-sorted : goal.memberships-requires-clause-sorted
 memberships-requires-clause-sorted c =
-    let m : CanMeet c.term_elements.new.cx c.args.equation.now.fun.0
-    (function_equation c.args.equation.now) c.args.lemma.now c.args.subst.now
-    c.args.args.now c.args.condition.now =
-    can_meet_grown c.args.cx.now c.term_elements.new.cx c.args.equation.now.fun.0
-    (function_equation c.args.equation.now) c.args.lemma.now c.args.subst.now
-    c.args.args.now c.args.condition.now c.term_elements.ensures.grown
-    (can_meet c.args.cx.now c.args.equation.now.fun.0
-    (function_equation c.args.equation.now) c.args.lemma.now c.args.subst.now
-    c.args.args.now c.args.condition.now c.requires.well_sorted c.requires.image
-    c.requires.own c.requires.kompile c.requires.lemma c.requires.matches
-    c.requires.bound c.requires.condition) in
+    let can = can_use_grown c.term_elements.ensures.grown c.requires.usable in
     let args : (refs : List SortRef) × HaveSorts c.term_elements.new.cx.program.sig
     (function_equation c.args.equation.now).variables []
     (function_equation c.args.equation.now).arguments refs =
     arguments_sorted c.term_elements.new.cx c.args.equation.now.fun.0
-    (function_equation c.args.equation.now) m.well_sorted m.own in (
+    (function_equation c.args.equation.now) can.well_sorted can.own in (
       (function_equation c.args.equation.now).variables,
       args.0,
       subst (λ (ps : List RulePat). HaveSorts c.term_elements.new.cx.program.sig
           (function_equation c.args.equation.now).variables [] (plain_patterns ps) args.0)
           (sym c.deref.ensures.value) args.1,
-      m.respects,
+      can.matches.binds.sorted,
     )
 
 pub memberships-requires-clause-makes : goal.memberships-requires-clause-makes
 memberships-requires-clause-makes c =
     ap (λ (ps : List RulePat). instances_of c.args.subst.now (plain_patterns ps))
-    c.deref.ensures.value ∙ c.requires.matches.makes
+    c.deref.ensures.value ∙ c.requires.usable.matches.makes
 
 pub memberships-requires-clause-facts : goal.memberships-requires-clause-facts
 memberships-requires-clause-facts c =
@@ -84,34 +58,20 @@ memberships-requires-clause-facts c =
 
 pub elements-requires-clause-well_sorted : goal.elements-requires-clause-well_sorted
 elements-requires-clause-well_sorted c =
-    (can_meet_grown c.args.cx.now c.memberships.new.cx c.args.equation.now.fun.0
-    (function_equation c.args.equation.now) c.args.lemma.now c.args.subst.now c.args.args.now
-    c.args.condition.now (grown_twice c.args.cx.now c.term_elements.new.cx c.memberships.new.cx
-    c.term_elements.ensures.grown c.memberships.ensures.grown)
-    (can_meet c.args.cx.now c.args.equation.now.fun.0 (function_equation c.args.equation.now)
-    c.args.lemma.now c.args.subst.now c.args.args.now c.args.condition.now
-    c.requires.well_sorted c.requires.image c.requires.own c.requires.kompile
-    c.requires.lemma c.requires.matches c.requires.bound c.requires.condition)).well_sorted
+    (can_use_grown (grown_twice c.args.cx.now c.term_elements.new.cx c.memberships.new.cx
+    c.term_elements.ensures.grown c.memberships.ensures.grown) c.requires.usable).well_sorted
 
 pub elements-requires-clause-few : goal.elements-requires-clause-few
-elements-requires-clause-few c = omega (arith, c.requires.matches.binds.room, c.requires.image.few)
+elements-requires-clause-few c =
+    omega (arith, c.requires.usable.matches.binds.room, c.requires.usable.image.few)
 
 pub elements-requires-clause-bound : goal.elements-requires-clause-bound
 elements-requires-clause-bound c =
-    let m : CanMeet c.memberships.new.cx c.args.equation.now.fun.0
-    (function_equation c.args.equation.now) c.args.lemma.now c.args.subst.now
-    c.args.args.now c.args.condition.now =
-    can_meet_grown c.args.cx.now c.memberships.new.cx c.args.equation.now.fun.0
-    (function_equation c.args.equation.now) c.args.lemma.now c.args.subst.now
-    c.args.args.now c.args.condition.now (grown_twice c.args.cx.now c.term_elements.new.cx
-    c.memberships.new.cx c.term_elements.ensures.grown c.memberships.ensures.grown)
-    (can_meet c.args.cx.now c.args.equation.now.fun.0
-    (function_equation c.args.equation.now) c.args.lemma.now c.args.subst.now
-    c.args.args.now c.args.condition.now c.requires.well_sorted c.requires.image
-    c.requires.own c.requires.kompile c.requires.lemma c.requires.matches
-    c.requires.bound c.requires.condition) in
+    let can =
+    can_use_grown (grown_twice c.args.cx.now c.term_elements.new.cx c.memberships.new.cx
+    c.term_elements.ensures.grown c.memberships.ensures.grown) c.requires.usable in
     all_bound c.memberships.new.cx.program.sig (function_equation c.args.equation.now).variables
-    c.args.subst.now m.respects m.room m.bound
+    c.args.subst.now can.matches.binds.sorted can.matches.binds.room can.bound
 
 pub schema_at-requires : goal.schema_at-requires
 schema_at-requires c =
@@ -129,33 +89,12 @@ schema_at-requires c =
     (function_equation c.args.equation.now) c.args.lemma.now c.args.subst.now
     c.args.args.now c.args.condition.now c.in_ok-first.first.items c.in_ok-rest.rest.items
     c.in_ok-members.members.items =
-    record {
-      can =
-          can_meet_grown c.args.cx.now c.elements.new.cx c.args.equation.now.fun.0
-          (function_equation c.args.equation.now) c.args.lemma.now c.args.subst.now
-          c.args.args.now c.args.condition.now (grown_twice c.args.cx.now c.memberships.new.cx
-          c.elements.new.cx (grown_twice c.args.cx.now c.term_elements.new.cx
-          c.memberships.new.cx c.term_elements.ensures.grown
-          c.memberships.ensures.grown) c.elements.ensures.grown)
-          (can_meet c.args.cx.now c.args.equation.now.fun.0
-          (function_equation c.args.equation.now) c.args.lemma.now c.args.subst.now
-          c.args.args.now c.args.condition.now c.requires.well_sorted c.requires.image
-          c.requires.own c.requires.kompile c.requires.lemma c.requires.matches
-          c.requires.bound c.requires.condition);
-      terms =
-          elements_grown c.term_elements.new.cx c.elements.new.cx c.args.args.now
-          c.in_ok-first.first.items (grown_twice c.term_elements.new.cx c.memberships.new.cx
-          c.elements.new.cx c.memberships.ensures.grown c.elements.ensures.grown)
-          c.in_ok-first.ensures.facts;
-      elements = c.in_ok-rest.ensures.facts;
-      members =
-          memberships_grown c.memberships.new.cx c.elements.new.cx c.args.subst.now
-          (function_equation c.args.equation.now).arguments c.args.args.now
-          c.in_ok-members.members.items c.elements.ensures.grown
-          (subst (λ (ps : List RulePat). AreMemberships c.memberships.new.cx c.args.subst.now
-          (plain_patterns ps) c.args.args.now c.in_ok-members.members.items)
-          c.deref.ensures.value c.in_ok-members.ensures.members);
-    } in
+    met_later c.term_elements.new.cx c.memberships.new.cx c.args.args.now
+    c.term_elements.ensures.grown c.memberships.ensures.grown c.elements.ensures.grown
+    c.requires.usable c.requires.kompile c.in_ok-first.ensures.facts
+    (subst (λ (ps : List RulePat). AreMemberships c.memberships.new.cx c.args.subst.now
+    (plain_patterns ps) c.args.args.now c.in_ok-members.members.items) c.deref.ensures.value
+    c.in_ok-members.ensures.members) c.in_ok-rest.ensures.facts in
     subst (λ (ts : List Theorem). (qs : List Pattern) × (ns : List ℕ)
     × IsUsable qs ns c.args.lemma.now ts c.deref-8.result.now) (sym facts)
     (subst (λ (os : List Theorem). (qs : List Pattern) × (ns : List ℕ)
@@ -165,8 +104,8 @@ schema_at-requires c =
     c.args.lemma.now c.args.subst.now c.args.args.now c.args.condition.now
     c.in_ok-first.first.items c.in_ok-rest.rest.items c.in_ok-members.members.items w))
 
-pub returns-clause-says : goal.returns-clause-says
-returns-clause-says c =
+pub returns-clause-proves : goal.returns-clause-proves
+returns-clause-proves c =
     let facts : c.deref-7.result.now ≡ c.in_ok-first.first.items ++ c.in_ok-rest.rest.items =
     c.deref-7.ensures.value ∙ c.in_ok-facts.ensures
     ∙ ap (λ (ts : List Theorem). ts ++ c.deref-4.result.now) c.deref-3.ensures.value
@@ -181,152 +120,25 @@ returns-clause-says c =
     (function_equation c.args.equation.now) c.args.lemma.now c.args.subst.now
     c.args.args.now c.args.condition.now c.in_ok-first.first.items c.in_ok-rest.rest.items
     c.in_ok-members.members.items =
-    record {
-      can =
-          can_meet_grown c.args.cx.now c.elements.new.cx c.args.equation.now.fun.0
-          (function_equation c.args.equation.now) c.args.lemma.now c.args.subst.now
-          c.args.args.now c.args.condition.now (grown_twice c.args.cx.now c.memberships.new.cx
-          c.elements.new.cx (grown_twice c.args.cx.now c.term_elements.new.cx
-          c.memberships.new.cx c.term_elements.ensures.grown
-          c.memberships.ensures.grown) c.elements.ensures.grown)
-          (can_meet c.args.cx.now c.args.equation.now.fun.0
-          (function_equation c.args.equation.now) c.args.lemma.now c.args.subst.now
-          c.args.args.now c.args.condition.now c.requires.well_sorted c.requires.image
-          c.requires.own c.requires.kompile c.requires.lemma c.requires.matches
-          c.requires.bound c.requires.condition);
-      terms =
-          elements_grown c.term_elements.new.cx c.elements.new.cx c.args.args.now
-          c.in_ok-first.first.items (grown_twice c.term_elements.new.cx c.memberships.new.cx
-          c.elements.new.cx c.memberships.ensures.grown c.elements.ensures.grown)
-          c.in_ok-first.ensures.facts;
-      elements = c.in_ok-rest.ensures.facts;
-      members =
-          memberships_grown c.memberships.new.cx c.elements.new.cx c.args.subst.now
-          (function_equation c.args.equation.now).arguments c.args.args.now
-          c.in_ok-members.members.items c.elements.ensures.grown
-          (subst (λ (ps : List RulePat). AreMemberships c.memberships.new.cx c.args.subst.now
-          (plain_patterns ps) c.args.args.now c.in_ok-members.members.items)
-          c.deref.ensures.value c.in_ok-members.ensures.members);
-    } in
-    if_ok c.schema_at.result
-    (λ t used. met_says c.elements.new.cx c.args.equation.now.fun.0
+    met_later c.term_elements.new.cx c.memberships.new.cx c.args.args.now
+    c.term_elements.ensures.grown c.memberships.ensures.grown c.elements.ensures.grown
+    c.requires.usable c.requires.kompile c.in_ok-first.ensures.facts
+    (subst (λ (ps : List RulePat). AreMemberships c.memberships.new.cx c.args.subst.now
+    (plain_patterns ps) c.args.args.now c.in_ok-members.members.items) c.deref.ensures.value
+    c.in_ok-members.ensures.members) c.in_ok-rest.ensures.facts in
+    if_ok_two c.schema_at.result
+    (λ t used within. met_proves c.elements.new.cx c.args.equation.now.fun.0
     (function_equation c.args.equation.now) c.args.lemma.now c.args.subst.now c.args.args.now
     c.args.condition.now c.in_ok-first.first.items c.in_ok-rest.rest.items
     c.in_ok-members.members.items t w
     (subst (λ (os : List Theorem).
     IsUsed c.args.lemma.now (c.in_ok-first.first.items ++ c.in_ok-rest.rest.items) os t)
     others (subst (λ (ts : List Theorem). IsUsed c.args.lemma.now ts c.deref-8.result.now t)
-    facts used)))
-    c.schema_at.ensures.says
-
-pub returns-clause-stays : goal.returns-clause-stays
-returns-clause-stays c =
-    let facts : c.deref-7.result.now ≡ c.in_ok-first.first.items ++ c.in_ok-rest.rest.items =
-    c.deref-7.ensures.value ∙ c.in_ok-facts.ensures
-    ∙ ap (λ (ts : List Theorem). ts ++ c.deref-4.result.now) c.deref-3.ensures.value
-    ∙ ap (λ (ts : List Theorem). c.in_ok-first.first.items ++ ts) c.deref-4.ensures.value in
-    let others : c.deref-8.result.now ≡ c.in_ok-members.members.items ++ listed
-    c.args.condition.now =
-    c.deref-8.ensures.value ∙ c.in_ok-others.ensures
-    ∙ ap (λ (ts : List Theorem). ts ++ c.deref-6.result.now) c.deref-5.ensures.value
-    ∙ ap (λ (ts : List Theorem). c.in_ok-members.members.items ++ ts)
-    (c.deref-6.ensures.value ∙ c.in_ok-held.ensures) in
-    let w : IsMet c.elements.new.cx c.args.equation.now.fun.0
-    (function_equation c.args.equation.now) c.args.lemma.now c.args.subst.now
-    c.args.args.now c.args.condition.now c.in_ok-first.first.items c.in_ok-rest.rest.items
-    c.in_ok-members.members.items =
-    record {
-      can =
-          can_meet_grown c.args.cx.now c.elements.new.cx c.args.equation.now.fun.0
-          (function_equation c.args.equation.now) c.args.lemma.now c.args.subst.now
-          c.args.args.now c.args.condition.now (grown_twice c.args.cx.now c.memberships.new.cx
-          c.elements.new.cx (grown_twice c.args.cx.now c.term_elements.new.cx
-          c.memberships.new.cx c.term_elements.ensures.grown
-          c.memberships.ensures.grown) c.elements.ensures.grown)
-          (can_meet c.args.cx.now c.args.equation.now.fun.0
-          (function_equation c.args.equation.now) c.args.lemma.now c.args.subst.now
-          c.args.args.now c.args.condition.now c.requires.well_sorted c.requires.image
-          c.requires.own c.requires.kompile c.requires.lemma c.requires.matches
-          c.requires.bound c.requires.condition);
-      terms =
-          elements_grown c.term_elements.new.cx c.elements.new.cx c.args.args.now
-          c.in_ok-first.first.items (grown_twice c.term_elements.new.cx c.memberships.new.cx
-          c.elements.new.cx c.memberships.ensures.grown c.elements.ensures.grown)
-          c.in_ok-first.ensures.facts;
-      elements = c.in_ok-rest.ensures.facts;
-      members =
-          memberships_grown c.memberships.new.cx c.elements.new.cx c.args.subst.now
-          (function_equation c.args.equation.now).arguments c.args.args.now
-          c.in_ok-members.members.items c.elements.ensures.grown
-          (subst (λ (ps : List RulePat). AreMemberships c.memberships.new.cx c.args.subst.now
-          (plain_patterns ps) c.args.args.now c.in_ok-members.members.items)
-          c.deref.ensures.value c.in_ok-members.ensures.members);
-    } in
-    if_ok c.schema_at.result
-    (λ t used. met_stays c.elements.new.cx c.args.equation.now.fun.0
-    (function_equation c.args.equation.now) c.args.lemma.now c.args.subst.now c.args.args.now
-    c.args.condition.now c.in_ok-first.first.items c.in_ok-rest.rest.items
-    c.in_ok-members.members.items t w
+    facts used))
     (subst (λ (os : List Theorem).
     StaysUsed c.args.lemma.now (c.in_ok-first.first.items ++ c.in_ok-rest.rest.items) os t)
     others (subst (λ (ts : List Theorem). StaysUsed c.args.lemma.now ts c.deref-8.result.now t)
-    facts used)))
-    c.schema_at.ensures.stays
-
-pub returns-clause-no_hypotheses : goal.returns-clause-no_hypotheses
-returns-clause-no_hypotheses c =
-    let facts : c.deref-7.result.now ≡ c.in_ok-first.first.items ++ c.in_ok-rest.rest.items =
-    c.deref-7.ensures.value ∙ c.in_ok-facts.ensures
-    ∙ ap (λ (ts : List Theorem). ts ++ c.deref-4.result.now) c.deref-3.ensures.value
-    ∙ ap (λ (ts : List Theorem). c.in_ok-first.first.items ++ ts) c.deref-4.ensures.value in
-    let others : c.deref-8.result.now ≡ c.in_ok-members.members.items ++ listed
-    c.args.condition.now =
-    c.deref-8.ensures.value ∙ c.in_ok-others.ensures
-    ∙ ap (λ (ts : List Theorem). ts ++ c.deref-6.result.now) c.deref-5.ensures.value
-    ∙ ap (λ (ts : List Theorem). c.in_ok-members.members.items ++ ts)
-    (c.deref-6.ensures.value ∙ c.in_ok-held.ensures) in
-    let w : IsMet c.elements.new.cx c.args.equation.now.fun.0
-    (function_equation c.args.equation.now) c.args.lemma.now c.args.subst.now
-    c.args.args.now c.args.condition.now c.in_ok-first.first.items c.in_ok-rest.rest.items
-    c.in_ok-members.members.items =
-    record {
-      can =
-          can_meet_grown c.args.cx.now c.elements.new.cx c.args.equation.now.fun.0
-          (function_equation c.args.equation.now) c.args.lemma.now c.args.subst.now
-          c.args.args.now c.args.condition.now (grown_twice c.args.cx.now c.memberships.new.cx
-          c.elements.new.cx (grown_twice c.args.cx.now c.term_elements.new.cx
-          c.memberships.new.cx c.term_elements.ensures.grown
-          c.memberships.ensures.grown) c.elements.ensures.grown)
-          (can_meet c.args.cx.now c.args.equation.now.fun.0
-          (function_equation c.args.equation.now) c.args.lemma.now c.args.subst.now
-          c.args.args.now c.args.condition.now c.requires.well_sorted c.requires.image
-          c.requires.own c.requires.kompile c.requires.lemma c.requires.matches
-          c.requires.bound c.requires.condition);
-      terms =
-          elements_grown c.term_elements.new.cx c.elements.new.cx c.args.args.now
-          c.in_ok-first.first.items (grown_twice c.term_elements.new.cx c.memberships.new.cx
-          c.elements.new.cx c.memberships.ensures.grown c.elements.ensures.grown)
-          c.in_ok-first.ensures.facts;
-      elements = c.in_ok-rest.ensures.facts;
-      members =
-          memberships_grown c.memberships.new.cx c.elements.new.cx c.args.subst.now
-          (function_equation c.args.equation.now).arguments c.args.args.now
-          c.in_ok-members.members.items c.elements.ensures.grown
-          (subst (λ (ps : List RulePat). AreMemberships c.memberships.new.cx c.args.subst.now
-          (plain_patterns ps) c.args.args.now c.in_ok-members.members.items)
-          c.deref.ensures.value c.in_ok-members.ensures.members);
-    } in
-    if_ok c.schema_at.result
-    (λ t used. stays_no_hypotheses c.elements.new.cx t
-    (met_stays c.elements.new.cx c.args.equation.now.fun.0
-    (function_equation c.args.equation.now) c.args.lemma.now c.args.subst.now
-    c.args.args.now c.args.condition.now c.in_ok-first.first.items c.in_ok-rest.rest.items
-    c.in_ok-members.members.items t w
-    (subst (λ (os : List Theorem).
-    StaysUsed c.args.lemma.now (c.in_ok-first.first.items ++ c.in_ok-rest.rest.items) os t)
-    others (subst (λ (ts : List Theorem). StaysUsed c.args.lemma.now ts c.deref-8.result.now t)
-    facts used))))
-    c.schema_at.ensures.stays
+    facts within))) c.schema_at.ensures.says c.schema_at.ensures.stays
 
 pub returns-clause-grown : goal.returns-clause-grown
 returns-clause-grown c =

@@ -1,4 +1,5 @@
 use Rattle.std.proofs.Common.{◌≡◌, ℕ, sym, ◌∙◌, ap, subst}
+use Rattle.ml_kernel.specs.Theorems.{Theorem}
 use Rattle.term_core.specs.Terms.{Forest}
 use Rattle.term_core.specs.Forests.{forest}
 use Rattle.term_core.specs.PatternLists.{plain_patterns}
@@ -11,10 +12,11 @@ use Rattle.rule_core.specs.RecordView.{plain_record}
 use Rattle.rule_core.specs.declared.rules.Program.{Program}
 use Rattle.prove_term.specs.Values.{SaysEquationAt}
 use Rattle.prove_term.proofs.ResultLaws.{if_ok}
+use Rattle.prove_equation.specs.Conditions.{ProvesAt}
 use Rattle.prove_equation.proofs.FillingLaws.{condition_grown}
 use Rattle.prove_fun.specs.RecordParts.{children_of}
 use Rattle.prove_fun.proofs.KeptLaws.{kept_grown}
-use Rattle.prove_fun.proofs.Uses.{asked, asked_later, plain_there, same_equation}
+use Rattle.prove_fun.proofs.Uses.{asked, asked_later, plain_there, ready_later, same_equation}
 use Rattle.prove_fun.proofs.equations.equation_fact.Goals as goal
 
 pub lemma_of-requires-clause-image : goal.lemma_of-requires-clause-image
@@ -44,69 +46,42 @@ lemma_of-requires-clause-there c =
     (asked c.args.cx.now.program c.args.symbol.0 _ c.args.used.now.equation c.args.used.now.subst _
     _ c.equation_of-equation.result.now c.requires.ready c.requires.used.2 at).there
 
-pub equation_at-requires-clause-image : goal.equation_at-requires-clause-image
-equation_at-requires-clause-image c =
+pub equation_at-requires : goal.equation_at-requires
+equation_at-requires c =
     let at =
     subst (λ (p : Program). IsEquationAt p c.args.symbol.0 c.args.used.now.equation
     c.equation_of-equation.result.now) c.program.ensures
     c.equation_of-equation.ensures in
-    (asked_later c.args.cx.now c.lemma_of.new.cx c.args.symbol.0 _ c.args.used.now.equation
+    let is =
+    asked_later c.args.cx.now c.lemma_of.new.cx c.args.symbol.0 _ c.args.used.now.equation
     c.args.used.now.subst c.equation_of-equation.result.now c.in_ok-lemma.ensures.grown
     (asked c.args.cx.now.program c.args.symbol.0 _ c.args.used.now.equation c.args.used.now.subst _
-    _ c.equation_of-equation.result.now c.requires.ready c.requires.used.2 at)).image
-
-pub equation_at-requires-clause-own : goal.equation_at-requires-clause-own
-equation_at-requires-clause-own c =
-    let at =
-    subst (λ (p : Program). IsEquationAt p c.args.symbol.0 c.args.used.now.equation
-    c.equation_of-equation.result.now) c.program.ensures
-    c.equation_of-equation.ensures in
-    (asked_later c.args.cx.now c.lemma_of.new.cx c.args.symbol.0 _ c.args.used.now.equation
-    c.args.used.now.subst c.equation_of-equation.result.now c.in_ok-lemma.ensures.grown
-    (asked c.args.cx.now.program c.args.symbol.0 _ c.args.used.now.equation c.args.used.now.subst _
-    _ c.equation_of-equation.result.now c.requires.ready c.requires.used.2 at)).own
-
-pub equation_at-requires-clause-matches : goal.equation_at-requires-clause-matches
-equation_at-requires-clause-matches c =
-    let at =
-    subst (λ (p : Program). IsEquationAt p c.args.symbol.0 c.args.used.now.equation
-    c.equation_of-equation.result.now) c.program.ensures
-    c.equation_of-equation.ensures in
-    let matches =
-    (asked_later c.args.cx.now c.lemma_of.new.cx c.args.symbol.0 _ c.args.used.now.equation
-    c.args.used.now.subst c.equation_of-equation.result.now c.in_ok-lemma.ensures.grown
-    (asked c.args.cx.now.program c.args.symbol.0 _ c.args.used.now.equation c.args.used.now.subst _
-    _ c.equation_of-equation.result.now c.requires.ready c.requires.used.2 at)).matches in
+    _ c.equation_of-equation.result.now c.requires.ready c.requires.used.2 at) in
     let terms : forest c.deref.result.now ≡ results_of
     (children_of (plain_record c.args.evaluation.now)) =
     ap forest c.deref.ensures.value ∙ c.in_ok-terms.ensures in
-    subst (λ (ts : Forest). MatchAll c.lemma_of.new.cx.program.sig
-    (sorts_of c.equation_of-equation.result.now.vars.items)
-    (plain_patterns c.equation_of-equation.result.now.args.items) ts c.args.used.now.subst)
-    (sym terms) matches
-
-pub equation_at-requires-clause-bound : goal.equation_at-requires-clause-bound
-equation_at-requires-clause-bound c =
-    let at =
-    subst (λ (p : Program). IsEquationAt p c.args.symbol.0 c.args.used.now.equation
-    c.equation_of-equation.result.now) c.program.ensures
-    c.equation_of-equation.ensures in
-    (asked c.args.cx.now.program c.args.symbol.0 _ c.args.used.now.equation c.args.used.now.subst _
-    _ c.equation_of-equation.result.now c.requires.ready c.requires.used.2 at).bound
-
-pub equation_at-requires-clause-condition : goal.equation_at-requires-clause-condition
-equation_at-requires-clause-condition c =
-    let at =
-    subst (λ (p : Program). IsEquationAt p c.args.symbol.0 c.args.used.now.equation
-    c.equation_of-equation.result.now) c.program.ensures
-    c.equation_of-equation.ensures in
-    condition_grown c.args.cx.now c.lemma_of.new.cx
-    (sorts_of c.equation_of-equation.result.now.vars.items) c.args.used.now.subst
-    (function_equation c.equation_of-equation.result.now).condition c.args.condition.now
-    c.in_ok-lemma.ensures.grown
-    (c.requires.condition (function_equation c.equation_of-equation.result.now)
-    (plain_there c.args.cx.now.program c.args.symbol.0 c.args.used.now.equation
-    c.equation_of-equation.result.now at))
+    record {
+      well_sorted =
+          (ready_later c.args.cx.now c.lemma_of.new.cx c.in_ok-lemma.ensures.grown
+          c.requires.ready).well_sorted;
+      image = is.image;
+      own = is.own;
+      is_lemma = c.in_ok-lemma.ensures.lemma;
+      matches =
+          subst (λ (ts : Forest). MatchAll c.lemma_of.new.cx.program.sig
+          (sorts_of c.equation_of-equation.result.now.vars.items)
+          (plain_patterns c.equation_of-equation.result.now.args.items) ts c.args.used.now.subst)
+          (sym terms) is.matches;
+      bound = is.bound;
+      condition =
+          condition_grown c.args.cx.now c.lemma_of.new.cx
+          (sorts_of c.equation_of-equation.result.now.vars.items) c.args.used.now.subst
+          (function_equation c.equation_of-equation.result.now).condition c.args.condition.now
+          c.in_ok-lemma.ensures.grown
+          (c.requires.condition (function_equation c.equation_of-equation.result.now)
+          (plain_there c.args.cx.now.program c.args.symbol.0 c.args.used.now.equation
+          c.equation_of-equation.result.now at));
+    }
 
 pub returns-clause-says : goal.returns-clause-says
 returns-clause-says c =
@@ -122,7 +97,10 @@ returns-clause-says c =
     (children_of (plain_record c.args.evaluation.now)) =
     ap forest c.deref.ensures.value ∙ c.in_ok-terms.ensures in
     if_ok c.equation_at.result
-    (λ t says. λ e there.
+    (λ (t : Theorem) (proves : ProvesAt c.equation_at.new.cx
+    c.equation_of-equation.result.now.fun.0
+    (function_equation c.equation_of-equation.result.now) c.args.used.now.subst
+    (forest c.deref.result.now) t). λ e there.
     let same : function_equation c.equation_of-equation.result.now ≡ e =
     same_equation c.args.cx.now.program c.args.symbol.0 c.args.used.now.equation
     c.equation_of-equation.result.now e at there in
@@ -134,8 +112,16 @@ returns-clause-says c =
     (subst (λ (ts : Forest). SaysEquationAt c.equation_at.new.cx
     c.equation_of-equation.result.now.fun.0
     (function_equation c.equation_of-equation.result.now) c.args.used.now.subst ts
-    t.conclusion) terms says)))
-    c.equation_at.ensures.says
+    t.conclusion) terms proves.says)))
+    c.equation_at.ensures.proves
+
+pub returns-clause-stays : goal.returns-clause-stays
+returns-clause-stays c =
+    if_ok c.equation_at.result
+    (λ (t : Theorem) (proves : ProvesAt c.equation_at.new.cx
+    c.equation_of-equation.result.now.fun.0
+    (function_equation c.equation_of-equation.result.now) c.args.used.now.subst
+    (forest c.deref.result.now) t). proves.stays) c.equation_at.ensures.proves
 
 pub returns-clause-kept : goal.returns-clause-kept
 returns-clause-kept c =
