@@ -7,7 +7,7 @@ use Rattle.term_core.specs.Patterns.{Pattern}
 use Rattle.rule_core.specs.Theories.{RewriteTheory}
 use Rattle.rule_core.specs.Runs.{Run, kept_by}
 use Rattle.mm_justify.specs.Justifying.{JustifiesRun, IsFrontOfProof}
-use Rattle.kore_prove.specs.RunWords.{RunRequest, IsRun, proof}
+use Rattle.kore_prove.specs.RunWords.{RunRequest, IsRun}
 use Rattle.kore_prove.specs.Courses.{Call}
 use Rattle.kore_prove.specs.Files.{HoldsRun}
 use Rattle.kore_prove.specs.PrintedRun.{IsCodeOfRun, IsPrinted}

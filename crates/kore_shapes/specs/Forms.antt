@@ -32,8 +32,9 @@ covers_others all_forms = true
 
 -- there is exactly one pattern
 abbrev pub is_one : List PatternTree → Bool
+is_one [] = false
 is_one (p ∷ []) = true
-is_one ps = false
+is_one (p ∷ (q ∷ ps)) = false
 
 -- there is no pattern
 abbrev pub is_none : List PatternTree → Bool

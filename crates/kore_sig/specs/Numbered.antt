@@ -1,7 +1,6 @@
 -- Signatures whose sorts and symbols have numbers of 32 bits.
 use Rattle.std.specs.Prelude.{◌<◌, ◌^◌, length}
 use Rattle.rule_core.specs.declared.signature.Signature.{Signature}
-use Rattle.kore_sig.specs.Signatures.{sorts, symbols}
 
 -- the number of each sort and of each symbol fits in 32 bits
 abbrev pub IsNumbered : Signature → Type 0
