@@ -1,5 +1,5 @@
 -- The integer that a text is read as.
-use Rattle.std.proofs.Common.{◌≡◌, ◌<◌, ◌≤◌, ◌^◌, ℕ, Bool, true, false, List, [], ◌∷◌, length, Some}
+use Rattle.std.proofs.Common.{◌≡◌, ◌<◌, ◌≤◌, ◌^◌, ◌-◌, ℕ, Bool, true, false, List, [], ◌∷◌, length, Some}
 use Rattle.std.proofs.Common.{zero, suc, if◌then◌else◌, Option, None, eq-eqb, refl, sym, ◌∙◌, ap}
 use Rattle.std.proofs.Common.{arith, rules}
 use Rattle.std.specs.Prelude.{ℤ, pos, neg_ℤ, Result, Ok, Err, nat_lt, nat_le, ◌==◌, ◌&&◌}
@@ -26,10 +26,20 @@ in_range_up n = refl
 
 in_range_down : (n : ℕ) → is_in_range (neg_ℤ (pos n)) ≡ nat_le n (2 ^ 127)
 in_range_down zero = refl
-in_range_down (suc n) = and_true (nat_le (suc n) (2 ^ 127)) where
-  and_true : (b : Bool) → (b && true) ≡ b
-  and_true true = refl
-  and_true false = refl
+in_range_down (suc n) = by_case (nat_le n (2 ^ 127 - 1)) refl where
+  beyond : (t : Bool) → nat_le (suc n) (2 ^ 127) ≡ t → nat_le n (2 ^ 127 - 1) ≡ false
+      → false ≡ nat_le (suc n) (2 ^ 127)
+  beyond false f e = sym f
+  beyond true f e =
+      let le : suc n ≤ 2 ^ 127 = leb-true _ _ f in
+      absurd (false≢true (sym e ∙ le-leb n (2 ^ 127 - 1) (omega (arith, le))))
+
+  by_case : (t : Bool) → nat_le n (2 ^ 127 - 1) ≡ t
+      → is_in_range (neg_ℤ (pos (suc n))) ≡ nat_le (suc n) (2 ^ 127)
+  by_case true e =
+      let le : n ≤ 2 ^ 127 - 1 = leb-true _ _ e in
+      rw e (sym (le-leb (suc n) (2 ^ 127) (omega (arith, le))))
+  by_case false e = rw e (beyond (nat_le (suc n) (2 ^ 127)) refl e)
 
 own : IsNumeralModel (λ ds. all_ascii_digits ds ≡ true) (append_digits 0)
 own = numerals_by_fold _ (search rules) append_digits (search rules)

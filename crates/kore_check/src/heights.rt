@@ -103,7 +103,7 @@ fn right_height(args: &[Pat]) -> u32
 
 // One more than a height, or 501 if that is greater.
 fn one_more(height: u32) -> u32
-    ensures { result ≡ cut (unfolded_height + 1) }
+    ensures { result ≡ cut (height + 1) }
 {
     height.min(MAX_HEIGHT) + 1
 }

@@ -7,7 +7,7 @@ use Rattle.kore_check.proofs.Applications.{reads}
 use Rattle.kore_check.proofs.FoldChecks.{application_folded, fold_short}
 use Rattle.kore_check.proofs.HeightLaws.{left-more, left-end, left_whole, right-end, right_whole}
 use Rattle.kore_check.proofs.HeightLaws.{only_high, grown_left, cut-grown}
-use Rattle.kore_check.proofs.heights.+unfolded_height.Goals as goal
+use Rattle.kore_check.proofs.heights.+height.Goals as goal
 
 pub only_height-returns-then-args-ne1 : goal.only_height-returns-then-args-ne1
 only_height-returns-then-args-ne1 t c =

@@ -57,6 +57,10 @@ all_compared-loop-i-preserved = arguments.all_compared-loop-i-preserved
 pub all_compared-returns-clause-says : goal.all_compared-returns-clause-says
 all_compared-returns-clause-says = arguments.all_compared-returns-clause-says
 
+pub all_compared-returns-in_err-one-clause-grown : goal.all_compared-returns-in_err-one-clause-grown
+all_compared-returns-in_err-one-clause-grown =
+    arguments.all_compared-returns-in_err-one-clause-grown
+
 pub all_compared-returns-in_err-made-clause-grown :
     goal.all_compared-returns-in_err-made-clause-grown
 all_compared-returns-in_err-made-clause-grown =

@@ -194,6 +194,11 @@ all_compared-returns-clause-says t c =
     (subst (λ (n : ℕ). AreDoneBefore c.loop-i.cx c.args.args.now c.args.wholes.now n c.args.head.now
     c.loop-i.function c.loop-i.made) all c.loop-i.invariant.done)
 
+pub all_compared-returns-in_err-one-clause-grown : goal.all_compared-returns-in_err-one-clause-grown
+all_compared-returns-in_err-one-clause-grown t c =
+    grown_twice c.args.cx.now c.loop-i.cx c.compared.new.cx c.loop-i.invariant.grown
+    c.in_err-one.ensures.grown
+
 pub all_compared-returns-in_err-made-clause-grown :
     goal.all_compared-returns-in_err-made-clause-grown
 all_compared-returns-in_err-made-clause-grown t c =
