@@ -31,7 +31,8 @@ pub(crate) struct FoldSorts {
 #[cycle(check)]
 pub(crate) fn check(sig: &Signature, pat: &Pat, first: &mut Option<PatternFault>) -> Option<SortId>
     requires { IsNumbered sig.now }
-    ensures sort { option_map sort_no result ≡ sort_of_pattern sig.now (unfolded (pattern_tree pat.now)) }
+    ensures sort { option_map sort_no result
+        ≡ sort_of_pattern sig.now (unfolded (pattern_tree pat.now)) }
     ensures first { kept_fault first.new
         ≡ after first.old (pattern_faults sig.now (unfolded (pattern_tree pat.now))) }
 {
@@ -131,7 +132,8 @@ fn check_fold(
 fn check_only(args: &[Pat], sig: &Signature, first: &mut Option<PatternFault>) -> Option<SortId>
     requires { IsNumbered sig.now }
     ensures sort { (at : ℕ) → option_map sort_no result
-        ≡ sort_of_pattern sig.now (only_of at (all_unfolded (pattern_trees (map pattern_tree args.now)))) }
+        ≡ sort_of_pattern sig.now
+        (only_of at (all_unfolded (pattern_trees (map pattern_tree args.now)))) }
     ensures first { (at : ℕ) → kept_fault first.new
         ≡ after first.old (pattern_faults sig.now
         (only_of at (all_unfolded (pattern_trees (map pattern_tree args.now))))) }

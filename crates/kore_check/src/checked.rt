@@ -38,7 +38,8 @@ pub fn check_pattern(
     requires signature { IsSignature sig.now }
     requires form { IsApplicative (unfolded (plain_tree pat.now)) }
     ensures faultless { OnOk result (all_faults sig.now (unfolded (plain_tree pat.now)) ≡ []) }
-    ensures sort { IfOk result (λ r. sort_of_pattern sig.now (unfolded (plain_tree pat.now)) ≡ Some r.1.0) }
+    ensures sort { IfOk result
+        (λ r. sort_of_pattern sig.now (unfolded (plain_tree pat.now)) ≡ Some r.1.0) }
     ensures vars { OnOk result
         (vars.new ≡ with_variables sig.now vars.old (unfolded (plain_tree pat.now))) }
     ensures means { IfOk result

@@ -26,7 +26,8 @@ pub fn height_of(pat: &Pat) -> u32
 // The greatest height of these patterns, or 501 if it is greater. It is 0 if there are none.
 #[cycle(height)]
 fn highest(args: &[Pat]) -> u32
-    ensures { result ≡ cut (unfolded_heights (all_unfolded (pattern_trees (map pattern_tree args.now)))) }
+    ensures { result
+        ≡ cut (unfolded_heights (all_unfolded (pattern_trees (map pattern_tree args.now)))) }
 {
     let mut highest: u32 = 0;
     for arg in args {
@@ -60,7 +61,8 @@ fn fold_height(inner: &Pat, left: bool) -> u32
 #[cycle(height)]
 fn only_height(args: &[Pat]) -> u32
     ensures { (at : ℕ) → result
-        ≡ cut (unfolded_height (only_of at (all_unfolded (pattern_trees (map pattern_tree args.now))))) }
+        ≡ cut (unfolded_height
+        (only_of at (all_unfolded (pattern_trees (map pattern_tree args.now))))) }
 {
     if args.len() != 1 {
         return 1;

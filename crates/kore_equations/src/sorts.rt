@@ -41,7 +41,8 @@ pub(crate) fn is_sorted(
 
 /// Whether a symbol applied to these patterns is not too high.
 fn fits_height(pats: &[&Pat]) -> bool
-    ensures { result ≡ nat_le (unfolded_heights (all_read (map pattern_at pats.now)) + 1) most_height }
+    ensures { result
+        ≡ nat_le (unfolded_heights (all_read (map pattern_at pats.now)) + 1) most_height }
 {
     highest(pats) < MAX_HEIGHT
 }

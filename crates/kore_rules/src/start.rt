@@ -33,7 +33,8 @@ pub(crate) fn start_of(
 ) -> Result<RulePat, Refusal>
     requires numbered { IsNumbered sig.now }
     requires signature { IsSignature sig.now }
-    ensures faultless { OnOk result (FirstOfTerm sig.now (number_of_sort top) (plain_tree term.now) None) }
+    ensures faultless { OnOk result
+        (FirstOfTerm sig.now (number_of_sort top) (plain_tree term.now) None) }
     ensures means { IfOk result
         (λ p. Means sig.now [] (unfolded (plain_tree term.now)) (plain_pattern p)) }
     ensures sort { IfOk result (λ p. HasStartSort sig.now (number_of_sort top) (plain_pattern p)) }

@@ -1,4 +1,5 @@
-use Rattle.std.proofs.Common.{rules, ◌≡◌, ◌+◌, List, max, drop, sym, ◌∙◌, ap, arith, map}
+use Rattle.std.proofs.Common.{rules, ◌≡◌, ◌+◌, ◌-◌, ℕ, List, max, drop, sym, ◌∙◌, ap, arith, map}
+use Rattle.std.proofs.Common.{subst}
 use Rattle.kore_ast.specs.declared.tree.Pat.{Pat}
 use Rattle.kore_ast.specs.Plain.{plain_sort, pattern_tree}
 use Rattle.kore_check.specs.Folds.{only_of, unfolded_height, unfolded}
@@ -6,7 +7,7 @@ use Rattle.kore_check.specs.FoldHeights.{cut}
 use Rattle.kore_check.proofs.Applications.{reads}
 use Rattle.kore_check.proofs.FoldChecks.{application_folded, fold_short}
 use Rattle.kore_check.proofs.HeightLaws.{left-more, left-end, left_whole, right-end, right_whole}
-use Rattle.kore_check.proofs.HeightLaws.{only_high, grown_left, cut-grown}
+use Rattle.kore_check.proofs.HeightLaws.{right-more, only_high, grown_left, grown_from, cut-grown}
 use Rattle.kore_check.proofs.heights.+height.Goals as goal
 
 pub only_height-returns-then-args-ne1 : goal.only_height-returns-then-args-ne1
@@ -46,6 +47,19 @@ left_height-returns t c = λ byte name ss.
     (drop 1 c.args.args.now)
     ∙ ap cut (sym (left_whole byte name ss c.args.args.now c.index-args-0.result c.requires
     c.index-args-0.is))
+
+pub right_height-loop-i-preserved : goal.right_height-loop-i-preserved
+right_height-loop-i-preserved t c =
+    let made : c.one_more-height.result ≡ cut (max c.loop-i.height c.height_of.result + 1) =
+    c.one_more-height.ensures ∙ ap (λ k. cut (k + 1)) (search rules) in
+    let back : c.loop-i.i - 1 + 1 ≡ c.loop-i.i = omega (arith, c.loop-i-test.true) in
+    right-more c.loop-i.height c.height_of.result c.one_more-height.result c.args.args.now
+    (c.loop-i.i - 1)
+    c.index-args-i.result
+    (omega (arith, c.loop-i-test.true, c.loop-i.auto.i, c.requires))
+    c.index-args-i.is c.height_of.ensures made
+    (subst (λ (n : ℕ). c.loop-i.height ≡ cut (grown_from (drop n c.args.args.now))) (sym back)
+    c.loop-i.invariant)
 
 pub right_height-returns : goal.right_height-returns
 right_height-returns t c = λ byte name ss.
