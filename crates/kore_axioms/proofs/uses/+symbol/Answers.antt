@@ -1,13 +1,27 @@
 use Rattle.std.proofs.Common.{◌≡◌, Bool, ◌||◌, ◌&&◌, List, map, ap, sym, ◌∙◌}
-use Rattle.kore_text.specs.Trees.{pattern_trees}
+use Rattle.kore_text.specs.Trees.{PatternTree, pattern_trees}
 use Rattle.kore_ast.specs.declared.tree.Pat.{Pat}
+use Rattle.kore_ast.specs.declared.tree.PatForm.{PatForm}
 use Rattle.kore_ast.specs.Plain.{pattern_tree}
-use Rattle.kore_check.specs.Folds.{all_unfolded}
-use Rattle.kore_axioms.specs.Uses.{have_symbol}
+use Rattle.kore_ast.proofs.PlainLaws.{plain-pattern-Fold}
+use Rattle.kore_check.specs.Folds.{unfolded, inner_fold, all_unfolded}
+use Rattle.kore_axioms.specs.Uses.{has_symbol, have_symbol}
 use Rattle.kore_axioms.specs.UsedSymbols.{is_used}
 use Rattle.kore_axioms.specs.FoldUses.{are_two}
-use Rattle.kore_axioms.proofs.FoldUseLaws.{folded_uses}
+use Rattle.kore_axioms.proofs.FoldUseLaws.{has_symbol-standing, folded_uses}
 use Rattle.kore_axioms.proofs.uses.+symbol.Goals as goal
+
+pub has_symbol-returns-in-Fold : goal.has_symbol-returns-in-Fold
+has_symbol-returns-in-Fold t c =
+    let test = is_used c.args.which c.args.sig.now in
+    c.fold_has_symbol.ensures c.in-Fold.field-0
+    ∙ ap (λ (p : Pat). has_symbol test (inner_fold c.in-Fold.field-0 (pattern_tree p)))
+    c.deref-in-Fold.ensures
+    ∙ sym (has_symbol-standing test c.args.pat.now.at
+    (inner_fold c.in-Fold.field-0 (pattern_tree c.in-Fold.inner.value)))
+    ∙ sym (ap (λ (q : PatternTree). has_symbol test (unfolded q))
+    (ap (λ (f : PatForm). pattern_tree (record { at = c.args.pat.now.at; form = f })) c.in-Fold.is
+    ∙ plain-pattern-Fold c.args.pat.now.at c.in-Fold.field-0 c.in-Fold.inner))
 
 pub fold_has_symbol-returns-then-is_among_folded : goal.fold_has_symbol-returns-then-is_among_folded
 fold_has_symbol-returns-then-is_among_folded t c = λ (left : Bool).
