@@ -1,6 +1,7 @@
 use Rattle.std.proofs.Common.{◌≡◌, ℕ, ◌+◌, [], ◌++◌, Result, Ok, Err, IfOk, refl, sym, ◌∙◌, ap}
-use Rattle.std.proofs.Common.{subst, arith, add-one}
+use Rattle.std.proofs.Common.{subst, arith, add-one, ◌≤◌, inl, inr, rules}
 use Rattle.desk_io.specs.Changes.{WritesFront}
+use Rattle.desk_io.specs.Counts.{CountRose}
 use Rattle.desk_io.proofs.Told.{Writes-nil, Writes-then}
 use Rattle.term_core.specs.Terms.{Tree}
 use Rattle.term_core.specs.Patterns.{Pattern, ground_pattern}
@@ -161,6 +162,19 @@ returns-in-Blocked-clause-front g c =
     (g.D.Desk.state c.loop-made.desk).told (g.D.Desk.state c.ended-in-Blocked.new.desk).told
     c.args.engine.now (plain_pattern c.args.start.now) before.0 c.in-Blocked.left.text.items
     c.loop-made.steps before.1 before.2 going.2.same_text c.ended-in-Blocked.ensures.front
+
+-- a count that rose after it had not fallen has risen
+rose_more : (a b d : ℕ) → a ≤ b → CountRose b d → CountRose a d
+rose_more a b d le (inl lt) = inl (omega (arith, le, lt))
+rose_more a b d le (inr top) = inr top
+
+pub returns-in_err-handed-clause-failed : goal.returns-in_err-handed-clause-failed
+returns-in_err-handed-clause-failed g c = λ h.
+    rose_more (g.D.Desk.state c.args.desk.now).write_faults
+    (g.D.Desk.state c.loop-made.desk).write_faults
+    (g.D.Desk.state c.hand_on.new.desk).write_faults
+    c.loop-made.invariant.counts
+    (c.in_err-handed.ensures.failed (search rules))
 
 pub returns-in_err-handed-clause-front : goal.returns-in_err-handed-clause-front
 returns-in_err-handed-clause-front g c =
