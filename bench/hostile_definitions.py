@@ -11,9 +11,9 @@ Less than 0.05 s is `small`. A line with the proof also has the bytes of the pro
 name of these checks. Not part of the gate."""
 import argparse
 import collections
+import contextlib
 import os
 import random
-import shutil
 import sys
 import tempfile
 
@@ -109,8 +109,8 @@ def wide_fold_in_a_rule(n):
 def wide_fold_in_an_equation(n):
     """A fold of n + 500 arguments in an equation, which closes the function."""
     fold = f"\\right-assoc{{}}(p{{}}({','.join([A] * (n + 500))}))"
-    function = symbol("f", ["T"], "T", "function{}()")
-    return Case(definition(*CONSTANTS, PAIR, function, equation("f", [(A, "T")], "T", fold), rule(A, B)), "f{}(a{}())", "blocked 0 Closed f")
+    lines = [PAIR, symbol("f", ["T"], "T", "function{}()"), equation("f", [(A, "T")], "T", fold), rule(A, B)]
+    return Case(definition(*CONSTANTS, *lines), "f{}(a{}())", "blocked 0 Closed f")
 
 
 def wide_fold_in_the_term(n):
@@ -183,10 +183,10 @@ def variable_again_in_rules(n):
 
 
 def variable_again_unequal(n):
-    """n rules with a variable twice, on two terms of 1,000 leaves that differ in the last leaf. The last rule has two variables."""
+    """n rules with a variable twice, on two terms of 1,000 leaves that differ in the last leaf. One more rule matches."""
     one, other = (nested("p", [A, B] * 499 + [A, last]) for last in (B, C))
-    symbols = [*CONSTANTS, PAIR, symbol("t", ["T"] * 2, "T")]
-    return Case(definition(*symbols, *[rule("t{}(X:T{},X:T{})", A)] * n, rule("t{}(X:T{},Y:T{})", B)), applied("t", one, other))
+    rules = [*[rule("t{}(X:T{},X:T{})", A)] * n, rule("t{}(X:T{},Y:T{})", B)]
+    return Case(definition(*CONSTANTS, PAIR, symbol("t", ["T"] * 2, "T"), *rules), applied("t", one, other))
 
 
 def wide_condition(n):
@@ -229,7 +229,8 @@ def names_that_begin_alike(n):
     names = [f"{'n' * n}{i}" for i in range(100)]
     symbols = [symbol(name, [], "T") for name in names] + [symbol("t", ["T"] * 50, "T")]
     variables = [f"{name}:T{{}}" for name in names[:50]]
-    return Case(definition(*CONSTANTS, *symbols, rule(applied("t", *variables), variables[-1])), applied("t", *[A] * 49, f"{names[0]}{{}}()"))
+    text = definition(*CONSTANTS, *symbols, rule(applied("t", *variables), variables[-1]))
+    return Case(text, applied("t", *[A] * 49, f"{names[0]}{{}}()"))
 
 
 def escapes(n):
@@ -243,9 +244,9 @@ def escapes(n):
 
 def equations(n):
     """A function with n equations. The last is used."""
-    function = symbol("f", [INT], "T", "function{}()")
-    given = [equation("f", [(value(i), INT)], "T", B) for i in range(n)]
-    return Case(definition(*CONSTANTS, function, *given, symbol("t", [INT], "T"), rule("t{}(N:SortInt{})", "f{}(N:SortInt{})")), applied("t", value(n - 1)))
+    given = [symbol("f", [INT], "T", "function{}()"), *(equation("f", [(value(i), INT)], "T", B) for i in range(n))]
+    lines = [*CONSTANTS, symbol("t", [INT], "T"), *given, rule("t{}(N:SortInt{})", "f{}(N:SortInt{})")]
+    return Case(definition(*lines), applied("t", value(n - 1)))
 
 
 def equations_with_conditions(n):
@@ -261,15 +262,16 @@ def many_functions(n):
     """n functions, each of which calls the one before it, up to 300 deep."""
     names = [f"f{i}" for i in range(n)]
     symbols = [symbol(name, ["T"], "T", "function{}()") for name in names]
-    given = [equation(f, [("X:T{}", "T")], "T", f"{names[i - 1]}{{}}(X:T{{}})" if i % 300 else "X:T{}") for i, f in enumerate(names)]
+    rights = [f"{names[i - 1]}{{}}(X:T{{}})" if i % 300 else "X:T{}" for i in range(n)]
+    given = [equation(name, [("X:T{}", "T")], "T", right) for name, right in zip(names, rights)]
     return Case(definition(*CONSTANTS, *symbols, *given, rule(A, f"{names[-1]}{{}}(b{{}}())")), A)
 
 
 def calls(n):
     """A function that calls itself n times in all, from the two halves of a tree of its arguments."""
     function = symbol("f", ["T"], "T", "function{}()")
-    given = [equation("f", [("p{}(X:T{},Y:T{})", "T")], "T", "p{}(f{}(Y:T{}),f{}(X:T{}))"), equation("f", [(A, "T")], "T", B)]
-    lines = [*CONSTANTS, PAIR, function, *given, symbol("t", ["T"], "T")]
+    more = equation("f", [("p{}(X:T{},Y:T{})", "T")], "T", "p{}(f{}(Y:T{}),f{}(X:T{}))")
+    lines = [*CONSTANTS, PAIR, function, more, equation("f", [(A, "T")], "T", B), symbol("t", ["T"], "T")]
     return Case(definition(*lines, rule("t{}(X:T{})", "f{}(X:T{})")), applied("t", nested("p", [A] * max(n // 2, 1))))
 
 
@@ -413,7 +415,8 @@ def row(program, folder, name, make, n, proof):
     rows = [measured(program, folder, make, size, proof) for size in (n, 2 * n, 4 * n)]
     sizes, proofs = [it[3] for it in rows], [it[4] for it in rows]
     each = " ".join(f"{it[0].seconds:8.3f} {it[0].megabytes:6.0f}" for it in rows)
-    line = f"{name + (' +' if proof else ''):29} {n:7} {sizes[0]:9} {sizes[-1]:9} {each}  {grown([it[0].seconds for it in rows], sizes):13}"
+    growth = grown([it[0].seconds for it in rows], sizes)
+    line = f"{name + (' +' if proof else ''):29} {n:7} {sizes[0]:9} {sizes[-1]:9} {each}  {growth:13}"
     if proof:
         line += f" {proofs[-1]:10} {proofs[-1] / max(proofs[0], 1):5.1f}"
     wrong = [it[2] for it in rows if not it[1]]
@@ -524,7 +527,8 @@ def checked(program, folder, large):
         lines = run.err if code in range(1, 9) else run.out
         good = run.code == code and lines[:1] == [said] and (len(run.err) == 0 or len(run.out) == 0)
         all_good = all_good and good
-        found = "ok" if good else f"WRONG: code {run.code}, {(run.out + run.err + ['nothing'])[0][:80]}, not code {code}, {said}"
+        found = f"code {run.code}, {(run.out + run.err + ['nothing'])[0][:80]}"
+        found = "ok" if good else f"WRONG: {found}, not code {code}, {said}"
         print(f"{name:55} {run.seconds:7.3f} s {run.megabytes:6.0f} MB  {found}", flush=True)
     return all_good
 
@@ -539,22 +543,21 @@ def main():
     words.add_argument("--large", action="store_true", help="also databases of 268,435,456 bytes and one more")
     words.add_argument("--keep", help="a folder in which the files of the last case are left")
     words = words.parse_args()
-    program, folder, good = os.path.abspath(words.program), words.keep or tempfile.mkdtemp(prefix="hostile-"), True
-    os.makedirs(folder, exist_ok=True)
-    folder = os.path.abspath(folder)
-    each = " ".join(f"{'seconds':>8} {'MB':>6}" for _ in range(3))
-    if words.only != "limits":
-        print(f"{'case (+ with its proof)':29} {'n':>7} {'bytes n':>9} {'bytes 4n':>9} {each}  {'grows':13} {'proof 4n':>10} {'grows':>5}")
-    for name, (make, n, with_proof) in CASES.items():
-        if words.only and not name.startswith(words.only):
-            continue
-        good &= row(program, folder, name, make, max(int(n * words.scale), 64), False)
-        if not words.plain:
-            good &= row(program, folder, name, make, max(int(with_proof * words.scale * words.proof_scale), 64), True)
-    if words.only in (None, "limits"):
-        good &= checked(program, folder, words.large)
-    if not words.keep:
-        shutil.rmtree(folder)
+    program, good = os.path.abspath(words.program), True
+    with contextlib.nullcontext(words.keep) if words.keep else tempfile.TemporaryDirectory() as folder:
+        folder = os.path.abspath(folder)
+        os.makedirs(folder, exist_ok=True)
+        if words.only != "limits":
+            each = " ".join(f"{'seconds':>8} {'MB':>6}" for _ in range(3))
+            columns = f"{'n':>7} {'bytes n':>9} {'bytes 4n':>9} {each}  {'grows':13} {'proof 4n':>10} {'grows':>5}"
+            print(f"{'case (+ with its proof)':29} {columns}")
+        for name, (make, *sizes) in CASES.items():
+            for n, proof in zip(sizes, (False, True)):
+                if (not words.only or name.startswith(words.only)) and not (proof and words.plain):
+                    scale = words.scale * (words.proof_scale if proof else 1)
+                    good &= row(program, folder, name, make, max(int(n * scale), 64), proof)
+        if words.only in (None, "limits"):
+            good &= checked(program, folder, words.large)
     return 0 if good else 1
 
 
