@@ -104,8 +104,8 @@ def imp():
 def language():
     """(h) A language with cells, 48 rules with conditions, and functions, in the form of kompile."""
     text, term = loop_language.definition_and_terms()
-    for variables, later in ((2, 0), (8, 4), (16, 10)):
-        yield Case(f"language, {variables} variables", text, term(variables, later), 200, 400)
+    for variables, later in ((3, 0), (6, 2), (10, 5)):
+        yield Case(f"language, {variables} variables", text, term(variables, later), 300, 500)
 
 
 def wide_symbols():
