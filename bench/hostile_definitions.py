@@ -18,8 +18,8 @@ import sys
 import tempfile
 
 from kore_texts import (
-    BOOL, INJECTION, INT, PROGRAM, TOP, applied, definition, equation, hook, injected, module, nested, once, ran, rule, sort,
-    subsort, symbol, value, written,
+    BOOL, INJECTION, INT, PROGRAM, TOP, applied, definition, equation, hook, injected, module, nested, once, ran, rule,
+    sort, subsort, symbol, value, written,
 )
 
 Case = collections.namedtuple("Case", "definition term said limit", defaults=("stuck 1", 2))
@@ -424,9 +424,25 @@ def row(program, folder, name, make, n, proof):
     return not wrong
 
 
-def steps():
-    """A rule that never ends, and the term that it rewrites."""
-    return definition(*CONSTANTS, rule(A, A)), A
+Check = collections.namedtuple("Check", "name words files code said")
+MORE = [symbol("s", ["T"], "T"), PAIR, symbol("i", [INT], "T")]
+ONE = definition(*CONSTANTS, *MORE, rule(A, B))
+
+
+def check(name, code, said, given=ONE, term=A, *options):
+    """A run of a definition and a term, with the code and the line that it has to end with."""
+    words = ["run", "d.kore", "t.kore", *(options or ("--limit", "2"))]
+    return Check(name, words, {"d.kore": given, "t.kore": term}, code, said)
+
+
+def either(name, good, code, said, refusal, *texts):
+    """A run that ends with a line, or the refusal of one of its texts."""
+    refused = (6 if "definition" in refusal else 7, f"kore_prove: {refusal}")
+    return check(name, *((code, said) if good else refused), *texts)
+
+
+def padded(text, size):
+    return text + " " * (size - len(text))
 
 
 def deep(n):
@@ -437,6 +453,11 @@ def deep(n):
 def high(n):
     """A term of the height n, as a fold."""
     return f"\\right-assoc{{}}(p{{}}({','.join([B] * n)}))"
+
+
+def brackets(n):
+    """An attribute with n open brackets at its deepest place."""
+    return f"[{'x{}(' * (n - 1)}x{{}}(){')' * (n - 1)}]"
 
 
 def falling(around):
@@ -451,86 +472,93 @@ def falling(around):
     return definition(*lines), "s{}(" * around + applied("f", value(998)) + ")" * around
 
 
-def limits(large):
-    """The checks of limits: a name, the words of the command, the files, the code, and the line that is printed or said."""
-    two, one = definition(*CONSTANTS, symbol("s", ["T"], "T"), PAIR, symbol("i", [INT], "T"), rule(A, B)), A
-    no_rule = definition(*CONSTANTS, symbol("s", ["T"], "T"), PAIR, rule(A, B))
-    bad, run = "kore_prove: bad words", ["run", "d.kore", "t.kore"]
+def limits_of_words():
+    """The steps and the calls."""
+    bad, forever = "kore_prove: bad words", definition(*CONSTANTS, rule(A, A))
+    for number, good in ((0, True), (1000000, True), (1000001, False)):
+        code, said = (10, f"limit {number}") if good else (2, bad)
+        yield check(f"--limit {number}", code, said, forever, A, "--limit", str(number))
+    for number, good in ((10000000, True), (10000001, False)):
+        code, said = (0, "stuck 1") if good else (2, bad)
+        yield check(f"--calls {number}", code, said, ONE, A, "--limit", "2", "--calls", str(number))
+    for number, code in ((0, 2), (1, 0), (1000, 0), (1001, 2)):
+        yield Check(f"drill {number}", ["drill", str(number), "drill.mm"], {}, code, bad if code else f"stuck {number}")
 
-    def text(name, code, said, given=two, term=one, *options):
-        return name, [*run, *(options or ("--limit", "2"))], {"d.kore": given, "t.kore": term}, code, said
 
-    def padded(given, size):
-        return given + " " * (size - len(given))
+def limits_of_files(large):
+    """The bytes of the files."""
+    for size, code, said in ((1048576, 0, "stuck 1"), (1048577, 8, "kore_prove: too large t.kore")):
+        yield check(f"a term of {size:,} bytes", code, said, ONE, padded(A, size))
+    for size, code, said in ((33554432, 0, "stuck 1"), (33554433, 8, "kore_prove: too large d.kore")):
+        yield check(f"a definition of {size:,} bytes", code, said, padded(ONE, size))
+    database = (TOP / "examples/databases/one_step.mm").read_text()
+    for size, code, said in ((268435456, 0, "valid 3 1"), (268435457, 8, "kore_prove: too large big.mm")) if large else ():
+        yield Check(f"a database of {size:,} bytes", ["verify", "big.mm"], {"big.mm": padded(database, size)}, code, said)
 
-    yield text("--limit 1000000", 10, "limit 1000000", *steps(), "--limit", "1000000")
-    yield text("--limit 1000001", 2, bad, *steps(), "--limit", "1000001")
-    yield text("--limit 0", 10, "limit 0", *steps(), "--limit", "0")
-    yield text("--calls 10000000", 0, "stuck 1", two, one, "--limit", "2", "--calls", "10000000")
-    yield text("--calls 10000001", 2, bad, two, one, "--limit", "2", "--calls", "10000001")
-    yield text("term of 1,048,576 bytes", 0, "stuck 1", two, padded(one, 1048576))
-    yield text("term of 1,048,577 bytes", 8, "kore_prove: too large t.kore", two, padded(one, 1048577))
-    yield text("definition of 33,554,432 bytes", 0, "stuck 1", padded(two, 33554432))
-    yield text("definition of 33,554,433 bytes", 8, "kore_prove: too large d.kore", padded(two, 33554433))
 
-    def brackets(n):
-        """An attribute with n open brackets at its deepest place."""
-        return f"[{'x{}(' * (n - 1)}x{{}}(){')' * (n - 1)}]"
-
-    for n, code, said in ((500, 0, "stuck 1"), (501, 6, "kore_prove: definition refused 3 at 2002")):
-        yield text(f"{n} brackets in an attribute", code, said, brackets(n) + two[2:])
-    yield text("500 brackets in the term", 0, "stuck 0", no_rule, deep(499))
-    yield text("501 brackets in the term", 7, "kore_prove: term refused 3 at 2001", no_rule, deep(500))
-    yield text("a term 500 high", 0, "stuck 0", no_rule, high(500))
-    yield text("a term 501 high", 7, "kore_prove: term refused 3 at 0", no_rule, high(501))
+def limits_of_texts():
+    """The brackets, the height, the arguments, the numbers, and the digits of a priority."""
     for n in (500, 501):
-        fold = high(n)
+        good = n == 500
+        text, term, fold = brackets(n) + ONE[2:], deep(n - 1), high(n)
+        yield either(f"{n} brackets in an attribute", good, 0, "stuck 1", "definition refused 3 at 2002", text)
+        yield either(f"{n} brackets in the term", good, 0, "stuck 0", "term refused 3 at 2001", ONE, term)
+        yield either(f"a term {n} high", good, 0, "stuck 0", "term refused 3 at 0", ONE, fold)
         for name, sides, term in (("left", (fold, A), fold), ("right", (A, fold), A)):
-            given = definition(*CONSTANTS, PAIR, rule(*sides))
-            said = f"kore_prove: definition refused 3 at {given.index(fold)}"
-            yield text(f"a {name} side {n} high", *((10, "limit 1") if n == 500 else (6, said)), given, term, "--limit", "1")
+            text = definition(*CONSTANTS, PAIR, rule(*sides))
+            refused = f"definition refused 3 at {text.index(fold)}"
+            yield either(f"a {name} side {n} high", good, 0, "stuck 1", refused, text, term)
     for n in (64, 65):
-        given = definition(*CONSTANTS, symbol("many", ["T"] * n, "T"), rule(A, B))
-        refused = f"kore_prove: definition refused 8 at {given.index('symbol many')}"
-        yield text(f"{n} arguments", *((0, "stuck 1") if n == 64 else (6, refused)), given)
-    for number, fits in ((2**127 - 1, True), (2**127, False), (-(2**127), True), (-(2**127) - 1, False)):
+        text = definition(*CONSTANTS, symbol("many", ["T"] * n, "T"), rule(A, B))
+        yield either(f"{n} arguments", n == 64, 0, "stuck 1", f"definition refused 8 at {text.index('symbol many')}", text)
+    for number in (2**127 - 1, 2**127, -(2**127), -(2**127) - 1):
         term = applied("i", value(number))
-        refused = f"kore_prove: term refused 11 at {term.index(chr(34))}"
-        yield text(f"the number {number}", *((0, "stuck 0") if fits else (7, refused)), two, term)
-    for priority, fits in (("9" * 9, True), ("9" * 10, False)):
-        given = definition(*CONSTANTS, rule(A, B, attributes=f'priority{{}}("{priority}")'))
-        refused = f"kore_prove: definition refused 23 at {given.index('axiom')}"
-        yield text(f"a priority of {len(priority)} digits", *((0, "stuck 1") if fits else (6, refused)), given)
+        good, refused = -(2**127) <= number < 2**127, f"term refused 11 at {term.index(chr(34))}"
+        yield either(f"the number {number}", good, 0, "stuck 0", refused, ONE, term)
+    for n in (9, 10):
+        text = definition(*CONSTANTS, rule(A, B, attributes=f'priority{{}}("{"9" * n}")'))
+        refused = f"definition refused 23 at {text.index('axiom')}"
+        yield either(f"a priority of {n} digits", n == 9, 0, "stuck 1", refused, text)
+
+
+def limits_of_runs():
+    """The height, the nesting and the calls of a run."""
     growing = definition(*CONSTANTS, symbol("s", ["T"], "T"), rule("X:T{}", "s{}(X:T{})"))
-    yield text("a run up to the height 500", 10, "limit 499", growing, A, "--limit", "499")
-    yield text("a run up to the height 501", 11, "blocked 499 Height s", growing, A, "--limit", "500")
-    yield text("2,000 nested evaluations", 0, "stuck 0", *falling(1))
-    yield text("2,001 nested evaluations", 11, "blocked 0 Nest a", *falling(2))
-    yield text("2,995 calls with --calls 2995", 0, "stuck 0", *falling(0), "--limit", "2", "--calls", "2995")
-    yield text("2,995 calls with --calls 2994", 11, "blocked 0 Calls f", *falling(0), "--limit", "2", "--calls", "2994")
-    for n, code in ((0, 2), (1, 0), (1000, 0), (1001, 2)):
-        yield f"drill {n}", ["drill", str(n), "drill.mm"], {}, code, f"stuck {n}" if code == 0 else bad
-    if large:
-        database = (TOP / "examples/databases/one_step.mm").read_text()
-        for n, code, said in ((268435456, 0, "valid 3 1"), (268435457, 8, "kore_prove: too large big.mm")):
-            yield f"a database of {n} bytes", ["verify", "big.mm"], {"big.mm": padded(database, n)}, code, said
+    yield check("a run up to the height 500", 10, "limit 499", growing, A, "--limit", "499")
+    yield check("a run up to the height 501", 11, "blocked 499 Height s", growing, A, "--limit", "500")
+    yield check("2,000 nested evaluations", 0, "stuck 0", *falling(1))
+    yield check("2,001 nested evaluations", 11, "blocked 0 Nest a", *falling(2))
+    yield check("2,995 calls with --calls 2995", 0, "stuck 0", *falling(0), "--limit", "2", "--calls", "2995")
+    yield check("2,995 calls with --calls 2994", 11, "blocked 0 Calls f", *falling(0), "--limit", "2", "--calls", "2994")
+
+
+def answered(program, it, options):
+    """A run of the program in the folder of its files, and what is wrong with its answer."""
+    run, ended = once([program, *it.words, *options], "."), it.code in (0, 10, 11)
+    lines, others = (run.out, run.err) if ended else (run.err, run.out)
+    wrote = os.path.exists("proof.mm")
+    if wrote:
+        os.remove("proof.mm")
+    if run.code != it.code or lines[:1] != [it.said] or others:
+        return run, f"  WRONG: code {run.code}, {(run.out + run.err + ['nothing'])[0][:80]}, not code {it.code}, {it.said}"
+    return run, "" if wrote == (ended and len(options) > 0) else "  WRONG: a proof file, or none"
 
 
 def checked(program, folder, large):
-    """Runs the checks of limits, prints a line for each, and says whether all are as they should be."""
-    most, all_good = {"megabytes": 8000, "seconds": 300, "file": 4000}, True
+    """Runs the checks of limits, without and with a proof, prints a line for each, and says whether all are right."""
+    good = True
     os.chdir(folder)
-    for name, words, files, code, said in limits(large):
-        for file, text in files.items():
+    for it in [*limits_of_words(), *limits_of_texts(), *limits_of_runs(), *limits_of_files(large)]:
+        for file, text in it.files.items():
             written(folder, file, text)
-        run = once([program, *words], folder, most)
-        lines = run.err if code in range(1, 9) else run.out
-        good = run.code == code and lines[:1] == [said] and (len(run.err) == 0 or len(run.out) == 0)
-        all_good = all_good and good
-        found = f"code {run.code}, {(run.out + run.err + ['nothing'])[0][:80]}"
-        found = "ok" if good else f"WRONG: {found}, not code {code}, {said}"
-        print(f"{name:55} {run.seconds:7.3f} s {run.megabytes:6.0f} MB  {found}", flush=True)
-    return all_good
+        line, wrong = f"{it.name:55}", ""
+        for options in ([], ["--proof", "proof.mm"]) if it.words[0] == "run" else ([],):
+            run, fault = answered(program, it, options)
+            wrong = wrong or fault
+            line += f" {run.seconds:7.3f} s {run.megabytes:6.0f} MB"
+        print(f"{line}{wrong or '  ok'}", flush=True)
+        good = good and not wrong
+    return good
 
 
 def main():

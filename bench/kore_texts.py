@@ -90,14 +90,14 @@ def nested(name, parts):
     return parts[0]
 
 
-def once(words, folder, most):
+def once(words, folder):
     """The words run with a stack of 1,024 kilobytes: processor time, peak of memory, and what was printed. The peak is taken
     by `time`, since that of a child of this process begins with the memory of this process."""
     def bounds():
         resource.setrlimit(resource.RLIMIT_STACK, (2**20, 2**20))
-        resource.setrlimit(resource.RLIMIT_AS, (most["megabytes"] * 2**20,) * 2)
-        resource.setrlimit(resource.RLIMIT_FSIZE, (most["file"] * 2**20,) * 2)
-        resource.setrlimit(resource.RLIMIT_CPU, (most["seconds"],) * 2)
+        resource.setrlimit(resource.RLIMIT_AS, (8 * 2**30, 8 * 2**30))
+        resource.setrlimit(resource.RLIMIT_FSIZE, (4 * 2**30, 4 * 2**30))
+        resource.setrlimit(resource.RLIMIT_CPU, (300, 300))
         resource.setrlimit(resource.RLIMIT_CORE, (0, 0))
 
     with open(f"{folder}/out", "w+b") as out, open(f"{folder}/err", "w+b") as err:
@@ -112,12 +112,11 @@ def once(words, folder, most):
     return Ran(used.ru_utime + used.ru_stime, int(kilobytes or 0) / 1024, running.returncode, *said)
 
 
-def ran(words, folder, most=None):
+def ran(words, folder):
     """The least time of up to five short runs, and the most memory."""
-    most = {"megabytes": 8000, "seconds": 300, "file": 4000} | (most or {})
-    runs = [once(words, folder, most)]
+    runs = [once(words, folder)]
     while len(runs) < 5 and sum(run.seconds for run in runs) < 0.5:
-        runs.append(once(words, folder, most))
+        runs.append(once(words, folder))
     best = min(runs, key=lambda run: run.seconds)
     return best._replace(megabytes=max(run.megabytes for run in runs))
 
