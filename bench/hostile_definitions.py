@@ -562,15 +562,17 @@ def checked(program, folder, large):
 
 
 def main():
-    words = argparse.ArgumentParser(description=__doc__, formatter_class=argparse.RawDescriptionHelpFormatter)
-    words.add_argument("program", nargs="?", default=PROGRAM, metavar="PROGRAM")
-    words.add_argument("--only", help="the cases whose names begin so, or `limits`")
-    words.add_argument("--scale", type=float, default=1, help="what the sizes are multiplied by")
-    words.add_argument("--proof-scale", type=float, default=1, help="what the sizes with a proof are multiplied by besides")
-    words.add_argument("--plain", action="store_true", help="no runs with a proof")
-    words.add_argument("--large", action="store_true", help="also databases of 268,435,456 bytes and one more")
-    words.add_argument("--keep", help="a folder in which the files of the last case are left")
-    words = words.parse_args()
+    parser = argparse.ArgumentParser(description=__doc__, formatter_class=argparse.RawDescriptionHelpFormatter)
+    parser.add_argument("program", nargs="?", default=PROGRAM, metavar="PROGRAM")
+    parser.add_argument("--only", help="the cases whose names begin so, or `limits`")
+    parser.add_argument("--scale", type=float, default=1, help="what the sizes are multiplied by")
+    parser.add_argument("--proof-scale", type=float, default=1, help="what the sizes with a proof are multiplied by besides")
+    parser.add_argument("--plain", action="store_true", help="no runs with a proof")
+    parser.add_argument("--large", action="store_true", help="also databases of 268,435,456 bytes and one more")
+    parser.add_argument("--keep", help="a folder in which the files of the last case are left")
+    words = parser.parse_args()
+    if not os.access(words.program, os.X_OK):
+        parser.error(f"no program {words.program}")
     program, good = os.path.abspath(words.program), True
     with contextlib.nullcontext(words.keep) if words.keep else tempfile.TemporaryDirectory() as folder:
         folder = os.path.abspath(folder)

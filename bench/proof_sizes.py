@@ -197,12 +197,14 @@ def measured(program, folder, case):
 
 
 def main():
-    words = argparse.ArgumentParser(description=__doc__, formatter_class=argparse.RawDescriptionHelpFormatter)
-    words.add_argument("program", nargs="?", default=PROGRAM, metavar="PROGRAM")
-    words.add_argument("--only", help="the cases whose names have this text")
-    words.add_argument("--all", action="store_true", help="all steps of the deepest configuration too")
-    words.add_argument("--keep", help="a folder in which the files of the last case are left")
-    words = words.parse_args()
+    parser = argparse.ArgumentParser(description=__doc__, formatter_class=argparse.RawDescriptionHelpFormatter)
+    parser.add_argument("program", nargs="?", default=PROGRAM, metavar="PROGRAM")
+    parser.add_argument("--only", help="the cases whose names have this text")
+    parser.add_argument("--all", action="store_true", help="all steps of the deepest configuration too")
+    parser.add_argument("--keep", help="a folder in which the files of the last case are left")
+    words = parser.parse_args()
+    if not os.access(words.program, os.X_OK):
+        parser.error(f"no program {words.program}")
     good = True
     for titles in (
         ("", "", "nodes", "nodes", "bytes", "us a step", "us a step", "bytes", "MB", "MB"),
