@@ -39,8 +39,8 @@ pub fn note_pattern(sig: &Signature, pat: &Pat, first: &mut Option<PatternFault>
 
 // Notes a pattern that is too high.
 fn check_height(pat: &Pat, first: &mut Option<PatternFault>)
-    ensures { kept_fault first.new
-        ≡ after first.old (when (nat_lt most_height (unfolded_height (unfolded (pattern_tree pat.now)))) 3
+    ensures { kept_fault first.new ≡ after first.old (when
+        (nat_lt most_height (unfolded_height (unfolded (pattern_tree pat.now)))) 3
         (unfolded_byte (unfolded (pattern_tree pat.now)))) }
 {
     if height_of(pat) > MAX_HEIGHT {

@@ -65,8 +65,8 @@ fn is_earlier(modules: &Table<()>, own: usize, name: &Text) -> bool
 
 /// The first fault of a sort: its name is taken, or it has parameters.
 fn sort_fault(seen: &Table<()>, decl: &SortDecl) -> Option<SigFault>
-    ensures { IsFoundFault
-        (first_by_number (sort_declaration_faults (names_of seen.now) (plain_sort_decl decl.now))) result }
+    ensures { IsFoundFault (first_by_number
+        (sort_declaration_faults (names_of seen.now) (plain_sort_decl decl.now))) result }
 {
     if has_name(seen, &decl.name) {
         Some(SigFault::Duplicate(decl.at))

@@ -23,8 +23,8 @@ use std::alloc::Global;
 /// The greatest number of sorts, and of symbols: their numbers and the count fit in 32 bits.
 const MOST_NAMES: usize = 0xFFFF_FFFF;
 
-/// Returns the signature that a definition declares. `hasher` hashes its names. A function has the kind `Closed` if it has
-/// sort parameters, and `Equations` otherwise, whatever its hook.
+/// Returns the signature that a definition declares. `hasher` hashes its names. A function has the
+/// kind `Closed` if it has sort parameters, and `Equations` otherwise, whatever its hook.
 ///
 /// The error is the first fault of the declarations. The names of all modules come first, then the
 /// declarations of the modules that count, then the pairs of sorts that their axioms state. Each of

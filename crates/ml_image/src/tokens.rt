@@ -63,8 +63,8 @@ pub(crate) fn value_number(
     value: &Value,
 ) -> Result<ConstNo, AllocError>
     requires { HasValue sig.now sort.0 (value_of value.now) }
-    ensures number { IfOk result
-        (λ c. number_in_names names.new (token_of_value sig.now sort.0 (value_of value.now)) ≡ Some c.0) }
+    ensures number { IfOk result (λ c. number_in_names names.new
+        (token_of_value sig.now sort.0 (value_of value.now)) ≡ Some c.0) }
     ensures names { HasGained sig.now names.old names.new }
 {
     let Some(name) = sig.sorts.name(sort.0 as usize) else {
