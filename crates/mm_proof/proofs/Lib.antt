@@ -15,4 +15,5 @@ pub mod WrittenTogether
 pub mod Decimals
 pub mod AgreeLaws
 pub mod CitingDerivations
-pub mod EntryLaws
+pub mod TextStacking
+pub mod TableLaws
