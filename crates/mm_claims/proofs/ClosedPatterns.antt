@@ -1,7 +1,7 @@
 -- No variable occurs in a closed pattern.
 use Rattle.std.proofs.Common.{◌≡◌, ℕ, List, [], ◌++◌, map, refl, ap}
 use Rattle.mm_text.specs.Bytes.{Token}
-use Rattle.ml_pat.specs.Patterns.{Pattern, unary, binary, sorted, quantified, var, meta, constant}
+use Rattle.ml_pat.specs.Patterns.{Pattern, unary, binary, sorted, quantified, var, meta}
 use Rattle.ml_pat.specs.Leaves.{EachLeaf}
 use Rattle.ml_pat.proofs.LeafLaws.{EachLeaf-implied}
 use Rattle.mm_claims.specs.OverNames.{closed_over, over_names}
