@@ -188,14 +188,13 @@ mutual
 
 -- Other variables after some variables, each once.
 
-all_there : (vs us : List Variable) → are_once vs ≡ true → AreNumbered vs → AreNumbered us
-    → HaveNeeded us (vs ++ other_variables vs us)
-all_there vs [] once numbered others =
+pub others_are_enough : OthersAreEnough
+others_are_enough vs [] once numbered others =
     subst (λ (ws : List Variable). HaveNeeded [] ws) (sym (append-nil vs))
     (record { once = once; numbered = numbered; there = λ v none. absurd (false≢true none) })
-all_there vs (u ∷ us) once numbered others =
-    go (has_variable vs u) refl (λ is. all_there vs us once numbered others.1)
-    (λ new. all_there (vs ++ u ∷ []) us (once_more vs u once new)
+others_are_enough vs (u ∷ us) once numbered others =
+    go (has_variable vs u) refl (λ is. others_are_enough vs us once numbered others.1)
+    (λ new. others_are_enough (vs ++ u ∷ []) us (once_more vs u once new)
     (numbered_both vs (u ∷ []) numbered (others.0, tt)) others.1)
   where
     go : (b : Bool) → has_variable vs u ≡ b
@@ -223,10 +222,6 @@ all_there vs (u ∷ us) once numbered others =
               (in_front (vs ++ u ∷ []) (other_variables (vs ++ u ∷ []) us) u
               (behind vs (u ∷ []) u (first_there u []))) ((new is).there v);
         })
-
-pub others_are_enough : OthersAreEnough
-others_are_enough declared s needed claim numbered =
-    all_there s.variables needed claim.once claim.numbered numbered
 
 pub needed_are_enough : NeededAreEnough
 needed_are_enough declared claims s more d place premise_place w concludes used cites premises =

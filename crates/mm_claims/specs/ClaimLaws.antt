@@ -1,12 +1,12 @@
 -- Which patterns are a claim, and which variables its block needs.
-use Rattle.std.specs.Prelude.{◌<◌, ◌^◌, List, ◌∷◌, ◌++◌, length, ℕ}
+use Rattle.std.specs.Prelude.{◌≡◌, ◌<◌, ◌^◌, true, List, ◌∷◌, ◌++◌, length, ℕ}
 use Rattle.mm_text.specs.Bytes.{Token}
 use Rattle.ml_pat.specs.Patterns.{Pattern}
 use Rattle.ml_kernel.specs.Theorems.{Derivation}
 use Rattle.ml_kernel.specs.Concluding.{Concludes}
 use Rattle.ml_kernel.specs.UsedLeaves.{EachUsed}
 use Rattle.ml_kernel.specs.MayCite.{EachCited}
-use Rattle.mm_claims.specs.Variables.{Variable, AreNumbered}
+use Rattle.mm_claims.specs.Variables.{Variable, are_once, AreNumbered}
 use Rattle.mm_claims.specs.OverNames.{AreOverNames, over_names}
 use Rattle.mm_claims.specs.Blocks.{Claim, IsClaim}
 use Rattle.mm_claims.specs.OpenVariables.{other_variables, variables_of}
@@ -35,8 +35,8 @@ NeededAreEnough =
     → ArePremises s.hypotheses premise_place →
     IsProvable declared claims s more d place premise_place
 
--- These are among the variables of the claim and the others that the derivation needs.
+-- These are among some variables and the others that the derivation needs.
 abbrev pub OthersAreEnough : Type 0
 OthersAreEnough =
-    (declared : List Token) (s : Claim) (needed : List Variable) → IsClaim declared s
-    → AreNumbered needed → HaveNeeded needed (s.variables ++ other_variables s.variables needed)
+    (vs needed : List Variable) → are_once vs ≡ true → AreNumbered vs → AreNumbered needed →
+    HaveNeeded needed (vs ++ other_variables vs needed)

@@ -46,9 +46,9 @@ counts_one bytes appended k vs a just =
 pub theorem_counts : TheoremCounts
 theorem_counts names old new t buffer buffer' text appended states is may fits =
     let written : List ℕ =
-    written_statements (lemma_statements names old.count states.find states.premise_place t) in
+    written_statements (lemma_statements names old.count t states.more states.proof) in
     let same : written_statements
-    (lemma_statements names old.count states.find states.premise_place t) ≡ appended =
+    (lemma_statements names old.count t states.more states.proof) ≡ appended =
     same_appended buffer written appended (sym states.appended ∙ is) in
     subst (λ (bytes : List ℕ). AddsCounts 0 1 text (text ++ bytes)) same
     (counts_one text written old.count _

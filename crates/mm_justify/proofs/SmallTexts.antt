@@ -44,7 +44,7 @@ use Rattle.mm_claims.specs.Fitting.{AreNames}
 use Rattle.mm_claims.specs.OverNames.{closed_over}
 use Rattle.mm_claims.specs.Blocks.{Claim, IsClaim, open_frame, open_assertion}
 use Rattle.mm_claims.specs.CitedAt.{at_places, ArePremises}
-use Rattle.mm_claims.specs.Claiming.{FitsClaims, proved_statements, GainsExactly}
+use Rattle.mm_claims.specs.Claiming.{FitsClaims, GainsExactly}
 use Rattle.mm_claims.specs.Provable.{IsProvable}
 use Rattle.mm_justify.specs.Justifying.{header_row, declaration, assumption_of, HasOnlyAxiomsOf}
 use Rattle.mm_justify.specs.Justifying.{Justifies}
@@ -83,10 +83,14 @@ no_premise p = 0
 abbrev declarations : List ℕ
 declarations = written_statements (all_name_statements 0 names)
 
+-- the proof is its labels
+abbrev proof : List Token
+proof =
+    postorder
+    (derivation_tree (own_labels 0) (claims_citing 0 (at_places [] nowhere) no_premise) one_rule)
+
 abbrev theorem : List ℕ
-theorem =
-    written_statements
-    (proved_statements names 0 (at_places [] nowhere) no_premise claim [] one_rule)
+theorem = written_statements (theorem_statements names 0 claim [] proof)
 
 are_names : AreNames names
 are_names = (record { kind = symbol_name; rest = codes "a"; is = refl; bytes = refl }, tt)
