@@ -1,5 +1,5 @@
 -- Texts that gain allowed assertions, and what stays true when names and statements are added.
-use Rattle.std.proofs.Common.{◌≡◌, ℕ, Bool, true, false, List, [], ◌∷◌, ◌++◌, map, Some, length}
+use Rattle.std.proofs.Common.{◌≡◌, ℕ, Bool, true, false, List, [], ◌∷◌, ◌++◌, map, length}
 use Rattle.std.proofs.Common.{take, drop, zero, suc, refl, ap, sym, ◌∙◌, subst}
 use Rattle.ml_pat.specs.Named.{AreDistinct, IsNoneOf}
 use Rattle.mm_claims.specs.Fitting.{AreNames}

@@ -1,10 +1,9 @@
 -- How the counts of a text grow.
-use Rattle.std.proofs.Common.{◌≡◌, ℕ, ◌+◌, Bool, true, false, cond, List, [], ◌∷◌, ◌++◌, length}
-use Rattle.std.proofs.Common.{take, refl, sym, ap, ◌∙◌, subst, arith, length-append}
+use Rattle.std.proofs.Common.{◌≡◌, ℕ, ◌+◌, Bool, true, List, [], ◌∷◌, ◌++◌, length}
+use Rattle.std.proofs.Common.{take, refl, sym, ap, ◌∙◌, subst, length-append}
 use Rattle.std.specs.Prelude.{count_by, if◌then◌else◌}
 use Rattle.std.proofs.Math.Nat.{add-zero}
 use Rattle.std.proofs.lemmas.List.Sums.{sum_by-append, sum_by-cons}
-use Rattle.mm_text.specs.Bytes.{Token}
 use Rattle.mm_database.specs.Assertions.{Assertion, assertions_of}
 use Rattle.mm_database.specs.StatementTexts.{written_statements}
 use Rattle.mm_claims.specs.Variables.{Variable}
@@ -12,7 +11,7 @@ use Rattle.mm_claims.specs.Claiming.{GainsExactly}
 use Rattle.mm_claims.specs.Blocks.{open_assertion}
 use Rattle.mm_claims.specs.ClaimVariables.{claim_of}
 use Rattle.mm_claims.specs.Places.{lemma_statements}
-use Rattle.mm_justify.specs.Counting.{is_fact, fact_count, statement_count}
+use Rattle.mm_justify.specs.Counting.{is_fact}
 use Rattle.mm_justify.specs.CountingLaws.{AddsCounts, TheoremCounts}
 use Rattle.mm_justify.proofs.Allowing.{same_appended}
 

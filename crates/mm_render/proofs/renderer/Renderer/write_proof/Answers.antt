@@ -115,12 +115,12 @@ returns-clause-text c =
       appended = (written c).appended;
       gains =
           λ may. lemma_gains c.args.names.now k _ (find_of c) (premises_of c) t
-          (written c).more (written c).proof (one_stated_more k claim) few few_hypotheses (numbered c)
-          (needed c) c.hypotheses-hypotheses.ensures.kept (finds c) premises (written c).proves
-          may;
+          (written c).more (written c).proof (one_stated_more k claim) few few_hypotheses
+          (numbered c) (needed c) c.hypotheses-hypotheses.ensures.kept (finds c) premises
+          (written c).proves may;
       gains_last =
           λ may. lemma_gains c.args.names.now k _ (find_of c) (premises_of c) t
-          (written c).more (written c).proof (one_last_more k claim) few few_hypotheses (numbered c)
-          (needed c) c.hypotheses-hypotheses.ensures.kept (finds c) premises (written c).proves
-          may;
+          (written c).more (written c).proof (one_last_more k claim) few few_hypotheses
+          (numbered c) (needed c) c.hypotheses-hypotheses.ensures.kept (finds c) premises
+          (written c).proves may;
     }
