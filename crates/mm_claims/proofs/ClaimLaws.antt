@@ -9,8 +9,7 @@ use Rattle.ml_pat.proofs.LeafLaws.{both_true}
 use Rattle.mm_claims.specs.Variables.{Variable, object_variable, pattern_variable, same_variable}
 use Rattle.mm_claims.specs.Variables.{has_variable, are_once, occurs_in}
 use Rattle.mm_claims.specs.OverNames.{open_over, AreOpenOver, over_names, AreOverNames}
-use Rattle.mm_claims.specs.OpenVariables.{variables_in}
-use Rattle.mm_claims.specs.ClaimVariables.{claim_variables}
+use Rattle.mm_claims.specs.ClaimVariables.{claim_variables, variables_in}
 use Rattle.mm_claims.specs.ClaimLaws.{OverNamesIsClaim}
 use Rattle.mm_claims.proofs.OpenCitingTexts.{first_there, later_there}
 use Rattle.mm_claims.proofs.OpenVariableLaws.{leaves_among}

@@ -16,13 +16,13 @@ use Rattle.ml_pat.specs.Leaves.{EachLeaf}
 use Rattle.ml_kernel.specs.UsedLeaves.{EachInstance, EachUsed, AllUsed}
 use Rattle.ml_kernel.specs.MayCite.{EachCited, AllCited}
 use Rattle.mm_claims.specs.Variables.{Variable, object_variable, pattern_variable, has_variable}
-use Rattle.mm_claims.specs.Variables.{are_once, AreNumbered}
 use Rattle.mm_claims.specs.Blocks.{Claim}
 use Rattle.mm_claims.specs.OverNames.{open_over, over_names}
 use Rattle.mm_claims.specs.CitedAt.{at_places, claim_at, HaveInstances, IsCitable}
 use Rattle.mm_claims.specs.Citable.{citable}
-use Rattle.mm_claims.specs.OpenVariables.{variables_in, variables_for, variables_at, variables_of}
-use Rattle.mm_claims.specs.OpenVariables.{all_variables_of, other_variables}
+use Rattle.mm_claims.specs.ClaimVariables.{variables_in, other_variables}
+use Rattle.mm_claims.specs.OpenVariables.{variables_for, variables_at, variables_of}
+use Rattle.mm_claims.specs.OpenVariables.{all_variables_of}
 use Rattle.mm_claims.specs.Provable.{HaveNeeded}
 use Rattle.mm_claims.specs.ClaimLaws.{NeededAreEnough, OthersAreEnough}
 use Rattle.mm_claims.proofs.OpenCitingTexts.{case_variable, first_there, later_there}

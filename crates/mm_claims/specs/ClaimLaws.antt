@@ -9,8 +9,8 @@ use Rattle.ml_kernel.specs.MayCite.{EachCited}
 use Rattle.mm_claims.specs.Variables.{Variable, are_once, AreNumbered}
 use Rattle.mm_claims.specs.OverNames.{AreOverNames, over_names}
 use Rattle.mm_claims.specs.Blocks.{Claim, IsClaim}
-use Rattle.mm_claims.specs.OpenVariables.{other_variables, variables_of}
-use Rattle.mm_claims.specs.ClaimVariables.{claim_variables, claim_of}
+use Rattle.mm_claims.specs.OpenVariables.{variables_of}
+use Rattle.mm_claims.specs.ClaimVariables.{claim_variables, claim_of, other_variables}
 use Rattle.mm_claims.specs.CitedAt.{ArePremises, at_places}
 use Rattle.mm_claims.specs.Citable.{citable}
 use Rattle.mm_claims.specs.Provable.{HaveNeeded, IsProvable}

@@ -17,7 +17,8 @@ use Rattle.mm_claims.specs.Blocks.{Claim, head_statements, needs_block, theorem_
 use Rattle.mm_claims.specs.Blocks.{theorem_statements}
 use Rattle.mm_claims.specs.Statements.{theorem_statement}
 use Rattle.mm_claims.specs.Variables.{Variable, AreNumbered}
-use Rattle.mm_claims.specs.OpenVariables.{variables_of, other_variables}
+use Rattle.mm_claims.specs.OpenVariables.{variables_of}
+use Rattle.mm_claims.specs.ClaimVariables.{other_variables}
 use Rattle.mm_claims.proofs.OpenVariableLaws.{others_are_enough}
 use Rattle.mm_render.specs.declared.places.StatementContext.{StatementContext}
 use Rattle.mm_render.specs.Parts.{citing_at, proof_of}

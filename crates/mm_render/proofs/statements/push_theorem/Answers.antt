@@ -3,7 +3,8 @@ use Rattle.ml_pat.specs.Patterns.{Pattern}
 use Rattle.ml_kernel.specs.Theorems.{Derivation}
 use Rattle.mm_claims.specs.AddedVariables.{added}
 use Rattle.mm_claims.specs.Blocks.{Claim, needs_block}
-use Rattle.mm_claims.specs.OpenVariables.{variables_of, other_variables}
+use Rattle.mm_claims.specs.OpenVariables.{variables_of}
+use Rattle.mm_claims.specs.ClaimVariables.{other_variables}
 use Rattle.mm_claims.specs.Variables.{Variable}
 use Rattle.mm_render.specs.declared.variables.Variable as code
 use Rattle.mm_render.specs.ClaimView.{plain_claim}
