@@ -4,6 +4,7 @@ pub mod FittingLaws
 pub mod SpeltLaws
 pub mod StatedLaws
 pub mod KeepingLaws
+pub mod MandatoryLabels
 pub mod VariableLaws
 pub mod InsideLaws
 pub mod Separations

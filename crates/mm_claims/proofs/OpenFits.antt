@@ -13,6 +13,8 @@ use Rattle.mm_database.specs.Frames.{Hypothesis, label_of, Scope, Frame}
 use Rattle.mm_database.specs.Proofs.{hypothesis_of, ProofTree, Proves}
 use Rattle.mm_database.specs.Database.{Context, with_assertion}
 use Rattle.mm_database.specs.Assertions.{Assertion, assertions_of, typings_of}
+use Rattle.mm_database.specs.ProofText.{mandatory_labels}
+use Rattle.mm_database.specs.Compressing.{IsProofText}
 use Rattle.mm_database.specs.FrameLaws.{Adds}
 use Rattle.mm_database.proofs.Continued.{continued_leaves, leaves_is_valid}
 use Rattle.mm_database.proofs.Stated.{appended_states}
@@ -33,11 +35,12 @@ use Rattle.mm_claims.specs.Citable.{citable}
 use Rattle.mm_claims.specs.Variables.{Variable, object_variable, pattern_variable, are_once}
 use Rattle.mm_claims.specs.Variables.{AreNumbered, variable_token, variable_label}
 use Rattle.mm_claims.specs.Blocks.{Claim, IsClaim, head_statements, block, axiom_block}
-use Rattle.mm_claims.specs.Blocks.{theorem_block, axiom_statements, variable_float}
+use Rattle.mm_claims.specs.Blocks.{theorem_block, axiom_statements, theorem_statements}
+use Rattle.mm_claims.specs.Blocks.{variable_float}
 use Rattle.mm_claims.specs.Blocks.{premise_hypotheses, open_frame, open_assertion}
 use Rattle.mm_claims.specs.OverNames.{open_over, AreOpenOver}
 use Rattle.mm_claims.specs.Statements.{axiom_statement, theorem_statement}
-use Rattle.mm_claims.specs.Claiming.{FitsClaims, HoldsClaims, proved_statements, GainsExactly}
+use Rattle.mm_claims.specs.Claiming.{FitsClaims, HoldsClaims, IsProofOfClaim, GainsExactly}
 use Rattle.mm_claims.specs.Provable.{IsProvable}
 use Rattle.mm_claims.specs.StatementLaws.{ClaimsAreValid, HeaderFitsClaims, AxiomFits, TheoremFits}
 use Rattle.mm_claims.specs.StatementLaws.{AxiomIsGained, TheoremIsGained}
@@ -344,71 +347,83 @@ theorem_proves declared claims c at s more d place premise_place w few claim pro
 
 theorem_block_adds : (declared : List Token) (claims : List Claim) (c : Context) (at : ℕ)
     (s : Claim) (more : List Variable) (d : Derivation) (place : List Pattern → Pattern → ℕ)
-    (premise_place : Pattern → ℕ) → HoldsClaims declared claims c → length claims < 2 ^ 64
-    → IsClaim declared s → IsProvable declared claims s more d place premise_place
-    → AddsJust c at (theorem_block declared (length claims) s more
-    (claim_proof (length claims) claims place premise_place d))
+    (premise_place : Pattern → ℕ) (proof : List Token) → HoldsClaims declared claims c
+    → length claims < 2 ^ 64 → IsClaim declared s
+    → IsProvable declared claims s more d place premise_place
+    → IsProofOfClaim declared (length claims) (at_places claims place) premise_place s d proof
+    → AddsJust c at (theorem_block declared (length claims) s more proof)
     (behind_block declared (length claims) c s (s.variables ++ more))
     (open_assertion true declared (length claims) s)
     (map (variable_float (length claims)) (s.variables ++ more))
-theorem_block_adds declared claims c at s more d place premise_place w few claim provable =
+theorem_block_adds declared claims c at s more d place premise_place proof w few claim provable
+    text =
     let inner : Context =
     inside_block declared (length claims) c at (s.variables ++ more) s.hypotheses in
     let tree : ProofTree = claim_proof (length claims) claims place premise_place d in
-    let proof : Proves
+    let proved : Proves
     (inside_block declared (length claims) c at (s.variables ++ more) s.hypotheses)
     (claim_proof (length claims) claims place premise_place d)
     (holds_text (own_naming declared) s.conclusion) =
     theorem_proves declared claims c at s more d place premise_place w few claim provable in
-    block_adds_claim declared claims c at s more true (theorem_statement declared (length claims)
-    s.conclusion (claim_proof (length claims) claims place premise_place d)) w few claim
+    block_adds_claim declared claims c at s more true
+    (theorem_statement declared (length claims) s.conclusion proof) w few claim
     provable.once provable.numbered
-    (theorem_asserts declared (length claims) inner s.conclusion tree few
+    (theorem_asserts declared (length claims) inner s.conclusion tree proof few
     (open_symbols declared s.variables s.conclusion w.names claim.numbered claim.over.0)
     (claim_may_be_stated declared (length claims) c at s more (ground declared claims c w few) claim
     provable.numbered)
     (postorder_spelt inner tree (holds_text (own_naming declared) s.conclusion)
     (active_spelt declared (length claims) c at (s.variables ++ more) s.hypotheses w.base
-    few provable.numbered claim.few) w.spelt proof) proof)
+    few provable.numbered claim.few) w.spelt proved) proved
+    (subst (λ (f : Frame). IsProofText (mandatory_labels f)
+    (claim_proof (length claims) claims place premise_place d) proof)
+    (sym (frame_is declared (length claims) c at s more w.base w.names claim provable.once
+    provable.numbered)) text))
 
 -- in its block if it needs one
 theorem_adds : (declared : List Token) (claims : List Claim) (c : Context) (at : ℕ)
     (vs : List Variable) (ps : List Pattern) (q : Pattern) (more : List Variable)
     (d : Derivation) (place : List Pattern → Pattern → ℕ) (premise_place : Pattern → ℕ)
-    → HoldsClaims declared claims c → length claims < 2 ^ 64 → IsClaim declared (claim_of vs ps q)
+    (proof : List Token) → HoldsClaims declared claims c → length claims < 2 ^ 64
+    → IsClaim declared (claim_of vs ps q)
     → IsProvable declared claims (claim_of vs ps q) more d place premise_place
-    → AddsJust c at (proved_statements declared (length claims) (at_places claims place)
-    premise_place (claim_of vs ps q) more d)
+    → IsProofOfClaim declared (length claims) (at_places claims place) premise_place
+    (claim_of vs ps q) d proof
+    → AddsJust c at (theorem_statements declared (length claims) (claim_of vs ps q) more proof)
     (behind_block declared (length claims) c (claim_of vs ps q) (vs ++ more))
     (open_assertion true declared (length claims) (claim_of vs ps q))
     (map (variable_float (length claims)) (vs ++ more))
-theorem_adds declared claims c at [] [] q [] d place premise_place w few claim provable =
-    plain_theorem_adds declared claims c at q d place premise_place w few claim provable
-theorem_adds declared claims c at [] (p ∷ ps) q [] d place premise_place w few claim provable =
-    theorem_block_adds declared claims c at (claim_of [] (p ∷ ps) q) [] d place premise_place w few
-    claim provable
-theorem_adds declared claims c at [] ps q (v ∷ more) d place premise_place w few claim provable =
-    theorem_block_adds declared claims c at (claim_of [] ps q) (v ∷ more) d place premise_place w
-    few claim provable
-theorem_adds declared claims c at (v ∷ vs) ps q more d place premise_place w few claim provable =
-    theorem_block_adds declared claims c at (claim_of (v ∷ vs) ps q) more d place premise_place w
-    few claim provable
+theorem_adds declared claims c at [] [] q [] d place premise_place proof w few claim provable text =
+    plain_theorem_adds declared claims c at q d place premise_place proof w few claim provable text
+theorem_adds declared claims c at [] (p ∷ ps) q [] d place premise_place proof w few claim provable
+    text =
+    theorem_block_adds declared claims c at (claim_of [] (p ∷ ps) q) [] d place premise_place proof
+    w few claim provable text
+theorem_adds declared claims c at [] ps q (v ∷ more) d place premise_place proof w few claim
+    provable text =
+    theorem_block_adds declared claims c at (claim_of [] ps q) (v ∷ more) d place premise_place
+    proof w few claim provable text
+theorem_adds declared claims c at (v ∷ vs) ps q more d place premise_place proof w few claim
+    provable text =
+    theorem_block_adds declared claims c at (claim_of (v ∷ vs) ps q) more d place premise_place
+    proof w few claim provable text
 
 pub theorem_fits : TheoremFits
-theorem_fits declared claims bytes s more d place premise_place (c, leaves, w) few claim provable =
+theorem_fits declared claims bytes s more d place premise_place proof (c, leaves, w) few claim
+    provable text =
     fits_by declared claims bytes c s (s.variables ++ more)
-    (proved_statements declared (length claims) (at_places claims place) premise_place s more d)
+    (theorem_statements declared (length claims) s more proof)
     (open_assertion true declared (length claims) s)
     (map (variable_float (length claims)) (s.variables ++ more)) leaves w few claim
     (theorem_adds declared claims c (length bytes) s.variables s.hypotheses s.conclusion more d
-    place premise_place w few claim provable)
+    place premise_place proof w few claim provable text)
 
 pub theorem_is_gained : TheoremIsGained
-theorem_is_gained declared claims bytes s more d place premise_place (c, leaves, w) few claim
-    provable =
+theorem_is_gained declared claims bytes s more d place premise_place proof (c, leaves, w) few claim
+    provable text =
     gained_by c (behind_block declared (length claims) c s (s.variables ++ more)) bytes
-    (proved_statements declared (length claims) (at_places claims place) premise_place s more d)
+    (theorem_statements declared (length claims) s more proof)
     (open_assertion true declared (length claims) s) (length claims) (s.variables ++ more)
     leaves
     (theorem_adds declared claims c (length bytes) s.variables s.hypotheses s.conclusion more d
-    place premise_place w few claim provable)
+    place premise_place proof w few claim provable text)

@@ -10,8 +10,9 @@ use Rattle.mm_claims.specs.Statements.{all_name_statements}
 use Rattle.mm_claims.specs.Fitting.{AreNames}
 use Rattle.mm_claims.specs.Variables.{Variable}
 use Rattle.mm_claims.specs.Blocks.{Claim, IsClaim, open_assertion, axiom_statements}
+use Rattle.mm_claims.specs.Blocks.{theorem_statements}
 use Rattle.mm_claims.specs.CitedAt.{at_places}
-use Rattle.mm_claims.specs.Claiming.{FitsClaims, proved_statements, GainsExactly}
+use Rattle.mm_claims.specs.Claiming.{FitsClaims, IsProofOfClaim, GainsExactly}
 use Rattle.mm_claims.specs.Provable.{IsProvable}
 use Rattle.mm_database.specs.StatementTexts.{written_statements}
 
@@ -43,19 +44,17 @@ AxiomFits =
     FitsClaims declared (claims ++ s ∷ [])
     (bytes ++ written_statements (axiom_statements declared (length claims) s))
 
--- the same is true of a theorem
+-- the same is true of a theorem with its proof, in either notation
 abbrev pub TheoremFits : Type 0
 TheoremFits =
     (declared : List Token) (claims : List Claim) (bytes : List ℕ) (s : Claim)
     (more : List Variable) (d : Derivation) (place : List Pattern → Pattern → ℕ)
-    (premise_place : Pattern → ℕ) →
+    (premise_place : Pattern → ℕ) (proof : List Token) →
     FitsClaims declared claims bytes → length claims < 2 ^ 64 → IsClaim declared s
     → IsProvable declared claims s more d place premise_place →
+    IsProofOfClaim declared (length claims) (at_places claims place) premise_place s d proof →
     FitsClaims declared (claims ++ s ∷ [])
-    (bytes
-    ++ written_statements
-    (proved_statements declared (length claims) (at_places claims place) premise_place s
-    more d))
+    (bytes ++ written_statements (theorem_statements declared (length claims) s more proof))
 
 abbrev pub AxiomIsGained : Type 0
 AxiomIsGained =
@@ -69,10 +68,10 @@ abbrev pub TheoremIsGained : Type 0
 TheoremIsGained =
     (declared : List Token) (claims : List Claim) (bytes : List ℕ) (s : Claim)
     (more : List Variable) (d : Derivation) (place : List Pattern → Pattern → ℕ)
-    (premise_place : Pattern → ℕ) →
+    (premise_place : Pattern → ℕ) (proof : List Token) →
     FitsClaims declared claims bytes → length claims < 2 ^ 64 → IsClaim declared s
     → IsProvable declared claims s more d place premise_place →
+    IsProofOfClaim declared (length claims) (at_places claims place) premise_place s d proof →
     GainsExactly bytes
-    (written_statements (proved_statements declared (length claims) (at_places claims place)
-    premise_place s more
-    d)) (length claims) (s.variables ++ more) (open_assertion true declared (length claims) s)
+    (written_statements (theorem_statements declared (length claims) s more proof))
+    (length claims) (s.variables ++ more) (open_assertion true declared (length claims) s)

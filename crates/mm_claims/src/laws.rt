@@ -1,6 +1,6 @@
 // Laws on the definitions, and the definitions tried on small texts.
 ghost use Rattle.mm_claims.specs.BlockCases.{BlockTried};
-ghost use Rattle.mm_claims.specs.ClaimLaws.{NeededAreEnough, OverNamesIsClaim};
+ghost use Rattle.mm_claims.specs.ClaimLaws.{NeededAreEnough, OthersAreEnough, OverNamesIsClaim};
 ghost use Rattle.mm_claims.specs.ClosedLaws.{ClosedClaims, ClosedHasNoMeta, ClosedIsOver};
 ghost use Rattle.mm_claims.specs.KeepingLaws.{BegunFits, DeclaredFits, EmptyFits};
 ghost use Rattle.mm_claims.specs.LaterLaws.{AllDeclared, ClosedStays, FitsLater, LastIsStated};
@@ -39,11 +39,12 @@ pub fn statement_laws()
 
 /// A conclusion and hypotheses over declared names, with the variables that occur in them, are a
 /// claim if these variables have numbers of 64 bits and there are fewer than 2^64 hypotheses. A
-/// block that declares the variables of its claim, and then those that occur only in its proof, has
-/// all variables that the proof needs.
+/// derivation can be written in a block that declares all variables that it needs, as does a block
+/// that declares the variables of its claim, and then those that the derivation needs besides.
 pub fn claim_laws()
     ensures claims { OverNamesIsClaim }
     ensures enough { NeededAreEnough }
+    ensures others { OthersAreEnough }
 {}
 
 /// In the block of a statement, the label of a claim proves the conclusion of the claim there, over

@@ -10,6 +10,8 @@ use Rattle.std.proofs.lemmas.Slice.Eq.{bytes_eq-Decides}
 use Rattle.mm_text.specs.Bytes.{Token, has_token}
 use Rattle.mm_database.specs.Forms.{declares_constants, asserts}
 use Rattle.mm_database.specs.Assertions.{assertions_of}
+use Rattle.mm_database.specs.Compressing.{by_labels}
+use Rattle.mm_database.specs.Proofs.{postorder}
 use Rattle.mm_header.specs.Header.{Row, header_rows}
 use Rattle.mm_header.specs.HeaderText.{header_bytes}
 use Rattle.mm_header.specs.HeaderRows.{expression_of}
@@ -37,14 +39,16 @@ use Rattle.ml_image.specs.OwnTokens.{is_symbol_token}
 use Rattle.ml_image.proofs.ImageLaws.{none_some, some_same}
 use Rattle.ml_pat.specs.Leaves.{EachLeaf}
 use Rattle.mm_proof.specs.Tokens.{name_of}
+use Rattle.mm_proof.specs.Labels.{own_labels}
+use Rattle.mm_proof.specs.Derivations.{derivation_tree}
 use Rattle.mm_justify.specs.Stating.{holds_text}
 use Rattle.mm_justify.proofs.StatedFrames.{all_names}
 use Rattle.mm_claims.specs.Statements.{symbol_name, typecode_of, all_name_statements}
 use Rattle.mm_claims.specs.Fitting.{AreNames}
 use Rattle.mm_claims.specs.OverNames.{closed_over}
-use Rattle.mm_claims.specs.Blocks.{Claim, IsClaim, open_frame, open_assertion}
-use Rattle.mm_claims.specs.CitedAt.{at_places, ArePremises}
-use Rattle.mm_claims.specs.Claiming.{FitsClaims, proved_statements, GainsExactly}
+use Rattle.mm_claims.specs.Blocks.{Claim, IsClaim, open_frame, open_assertion, theorem_statements}
+use Rattle.mm_claims.specs.CitedAt.{at_places, claims_citing, ArePremises}
+use Rattle.mm_claims.specs.Claiming.{FitsClaims, GainsExactly}
 use Rattle.mm_claims.specs.Provable.{IsProvable}
 use Rattle.mm_justify.specs.Justifying.{header_row, declaration, assumption_of, HasOnlyAxiomsOf}
 use Rattle.mm_justify.specs.Justifying.{Justifies}
@@ -83,10 +87,14 @@ no_premise p = 0
 abbrev declarations : List ℕ
 declarations = written_statements (all_name_statements 0 names)
 
+-- the proof is its labels
+abbrev proof : List Token
+proof =
+    postorder
+    (derivation_tree (own_labels 0) (claims_citing 0 (at_places [] nowhere) no_premise) one_rule)
+
 abbrev theorem : List ℕ
-theorem =
-    written_statements
-    (proved_statements names 0 (at_places [] nowhere) no_premise claim [] one_rule)
+theorem = written_statements (theorem_statements names 0 claim [] proof)
 
 are_names : AreNames names
 are_names = (record { kind = symbol_name; rest = codes "a"; is = refl; bytes = refl }, tt)
@@ -161,12 +169,12 @@ small_text_justifies theory f there =
     declared_behind theory [] names [] header_bytes header_fits_claims are_names (tt, tt)
     (omega arith) (is_symbol_token f there, tt) (header_has_only theory) in
     let fits : FitsClaims names (claim ∷ []) ((header_bytes ++ declarations) ++ theorem) =
-    theorem_fits names [] (header_bytes ++ declarations) claim [] one_rule nowhere no_premise
-    declared_fits (omega arith) is_claim provable in
+    theorem_fits names [] (header_bytes ++ declarations) claim [] one_rule nowhere no_premise proof
+    declared_fits (omega arith) is_claim provable by_labels in
     let just : GainsExactly (header_bytes ++ declarations) theorem 0 []
     (open_assertion true names 0 claim) =
     theorem_is_gained names [] (header_bytes ++ declarations) claim [] one_rule nowhere
-    no_premise declared_fits (omega arith) is_claim provable in
+    no_premise proof declared_fits (omega arith) is_claim provable by_labels in
     subst (λ (bytes : List ℕ). Justifies bytes theory names (constant 0) (constant 0)) text_spelt
     (record {
       valid = claims_are_valid names (claim ∷ []) ((header_bytes ++ declarations) ++ theorem) fits;

@@ -6,3 +6,4 @@ pub mod HeadTexts
 pub mod StackedVariables
 pub mod RenamedVariables
 pub mod StatedTheorems
+pub mod TheoremTexts

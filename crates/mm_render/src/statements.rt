@@ -1,13 +1,11 @@
 // Whole statements, each in a block of its own if it has variables or hypotheses.
 ghost use Rattle.std.specs.Prelude.{◌≡◌, [], ◌∷◌, ◌++◌, OnOk};
 ghost use Rattle.mm_claims.specs.Blocks.{axiom_statements};
-ghost use Rattle.mm_claims.specs.Claiming.{proved_statements};
 ghost use Rattle.mm_render.specs.ClaimView.{plain_claim};
-ghost use Rattle.mm_claims.specs.OpenVariables.{other_variables, variables_of};
 ghost use Rattle.mm_render.specs.PlaceTable.{found_at, premises_at};
+ghost use Rattle.mm_render.specs.ProvedText.{WritesTheorem};
 ghost use Rattle.mm_claims.specs.Statements.{axiom_statement};
 ghost use Rattle.mm_render.specs.TheoremText.{statement_front, theorem_front};
-ghost use Rattle.mm_claims.specs.Variables.{AreNumbered};
 ghost use Rattle.mm_render.specs.VariablesView.{plain_variables};
 ghost use Rattle.mm_database.specs.StatementTexts.{written_statements};
 
@@ -76,8 +74,7 @@ fn push_plain_axiom(
     )
 }
 
-/// Adds a claim as the theorem of the statement `at`, with its proof by a derivation. The numbers
-/// of the variables of the proof fit in 64 bits.
+/// Adds a claim as the theorem of the statement `at`, with its proof by a derivation.
 pub(crate) fn push_theorem(
     to: &mut Vec<u8>,
     labels: &mut Vec<Label>,
@@ -85,13 +82,9 @@ pub(crate) fn push_theorem(
     claim: &Claim,
     derivation: &Deriv,
 ) -> Result<(), AllocError>
-    ensures text { OnOk result (to.new.items ≡ to.old.items ++ written_statements
-        (proved_statements at.now.names.now at.now.serial (found_at at.now) (premises_at at.now)
-        (plain_claim claim.now)
-        (other_variables (plain_variables claim.now.variables.items)
-        (variables_of (found_at at.now) derivation.now))
-        derivation.now)) }
-    ensures numbered { OnOk result (AreNumbered (variables_of (found_at at.now) derivation.now)) }
+    ensures { OnOk result
+        (WritesTheorem at.now.names.now at.now.serial (found_at at.now) (premises_at at.now)
+        (plain_claim claim.now) derivation.now to.old.items to.new.items) }
 {
     let variables = needed_variables(*to.allocator(), at, &claim.variables, derivation)?;
     if !needs_block(&variables, &claim.hypotheses) {
