@@ -11,7 +11,7 @@ use Rattle.mm_database.specs.Forms.{asserts, assumes}
 use Rattle.mm_database.specs.Assertions.{Assertion}
 use Rattle.mm_database.specs.Proofs.{ProofTree}
 use Rattle.mm_database.specs.ProofText.{mandatory_labels}
-use Rattle.mm_database.specs.Compressing.{IsProofText}
+use Rattle.mm_database.specs.Compressing.{Compresses, all_compressed}
 use Rattle.mm_header.specs.HeaderText.{header_bytes}
 use Rattle.ml_pat.specs.Patterns.{Pattern, meta}
 use Rattle.ml_kernel.specs.Theorems.{Theorem, Derivation, Derivations, hypothesis, own_axiom}
@@ -39,7 +39,7 @@ use Rattle.mm_claims.specs.Provable.{HaveNeeded, IsProvable}
 use Rattle.mm_claims.specs.ClaimVariables.{claim_of, claim_variables}
 use Rattle.mm_claims.specs.Keeping.{AreAmong, FitsStated, FitsWhen, Gains, MayState, axiom_at}
 use Rattle.mm_claims.specs.Keeping.{with_last, with_stated}
-use Rattle.mm_claims.specs.KeepingLaws.{EmptyFits, BegunFits, DeclaredFits}
+use Rattle.mm_claims.specs.KeepingLaws.{EmptyFits, FitsIsCompressed, BegunFits, DeclaredFits}
 use Rattle.mm_claims.specs.OpenVariables.{variables_of}
 use Rattle.mm_claims.specs.Places.{IsStated, IsFoundAs, Finds, stated_cites, lemma_statements}
 use Rattle.mm_claims.specs.Places.{MayProve}
@@ -49,7 +49,7 @@ use Rattle.mm_claims.proofs.LaterLaws.{at_end, there_still}
 use Rattle.mm_claims.proofs.MandatoryLabels.{mandatory_same}
 use Rattle.mm_claims.proofs.NamedClaims.{declared_fits_claims}
 use Rattle.mm_claims.proofs.OpenFits.{header_fits_claims, axiom_fits, axiom_is_gained, theorem_fits}
-use Rattle.mm_claims.proofs.OpenFits.{theorem_is_gained}
+use Rattle.mm_claims.proofs.OpenFits.{theorem_is_gained, claims_are_compressed}
 use Rattle.mm_claims.proofs.OpenVariableLaws.{needed_are_enough}
 use Rattle.mm_claims.proofs.ClaimLaws.{over_names_is_claim}
 use Rattle.mm_database.specs.StatementTexts.{written_statements, plain_tokens, proof_tokens}
@@ -69,6 +69,14 @@ begun_fits names bytes empty = record {
   counted = refl;
   among = λ s there. absurd (nothing_there s there);
 }
+
+pub fits_is_compressed : FitsIsCompressed
+fits_is_compressed names k bytes fits = go k.begun fits
+  where
+    go : (b : Bool) → FitsWhen b (take k.named names) k.count (all_stated k) bytes
+        → all_compressed bytes ≡ true
+    go false empty = ap all_compressed empty
+    go true fit = claims_are_compressed (take k.named names) fit.claims bytes fit.fits
 
 pub declared_fits : DeclaredFits
 declared_fits names k bytes each distinct few begun within fits = go k.begun begun fits
@@ -399,9 +407,9 @@ theorem_appends names k find premise_place t more proof few few_hypotheses numbe
     premise_place s d proof =
     subst (λ (n : ℕ). IsProofOfClaim declared n (at_places claims (places_of find)) premise_place s
     d proof) (sym counted)
-    (subst (λ (e : ProofTree). IsProofText (mandatory_labels (open_frame declared k.count s)) e
+    (subst (λ (e : ProofTree). Compresses (mandatory_labels (open_frame declared k.count s)) e
     proof) (sym tree)
-    (subst (λ (ls : List Token). IsProofText ls
+    (subst (λ (ls : List Token). Compresses ls
     (derivation_tree (own_labels k.count) (claims_citing k.count find premise_place) d) proof)
     (mandatory_same names declared k.count s) proves)) in
     let text : written_statements (theorem_statements declared (length claims) s more proof)

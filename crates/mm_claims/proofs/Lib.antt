@@ -12,6 +12,7 @@ pub mod HeadLaws
 pub mod OpenTexts
 pub mod HeadTypings
 pub mod OpenFrames
+pub mod CompressedTexts
 pub mod BlockLaws
 pub mod OpenFits
 pub mod OpenServes

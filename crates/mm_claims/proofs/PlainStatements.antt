@@ -7,12 +7,13 @@ use Rattle.std.proofs.lemmas.Bool.{false≢true}
 use Rattle.mm_text.specs.Bytes.{Token}
 use Rattle.mm_text.specs.Labels.{is_label}
 use Rattle.mm_text.specs.PlainTokens.{is_plain_token}
-use Rattle.mm_database.specs.Forms.{asserts, proves}
+use Rattle.mm_database.specs.Forms.{asserts, proves, form_of}
 use Rattle.mm_database.specs.Frames.{Frame, frame_of}
 use Rattle.mm_database.specs.Database.{Context, with_tokens, with_token, with_frame, with_assertion}
 use Rattle.mm_database.specs.Proofs.{ProofTree, Proves, postorder}
 use Rattle.mm_database.specs.ProofText.{mandatory_labels}
-use Rattle.mm_database.specs.Compressing.{IsProofText}
+use Rattle.mm_database.specs.Compressing.{Compresses, by_letters, begins_compressed}
+use Rattle.mm_database.specs.Compressing.{is_compressed}
 use Rattle.mm_database.specs.CleanTokens.{are_clean}
 use Rattle.mm_database.specs.Assertions.{with_typing_first}
 use Rattle.mm_database.specs.FrameLaws.{Adds}
@@ -28,6 +29,7 @@ use Rattle.mm_proof.specs.Labels.{name_label, statement_label, own_labels}
 use Rattle.mm_proof.specs.Serving.{IsAssertion, punctuation, Declares, Serves}
 use Rattle.mm_proof.specs.ClosedFrames.{closed_frame}
 use Rattle.mm_proof.specs.Derivations.{holds_text, derivation_tree}
+use Rattle.ml_pat.proofs.LeafLaws.{both_true}
 use Rattle.mm_proof.proofs.CitingDerivations.{cited_proves}
 use Rattle.mm_claims.specs.Statements.{typecode_of, axiom_statement, theorem_statement}
 use Rattle.mm_claims.specs.Fitting.{AreNames, Holds}
@@ -75,13 +77,16 @@ axiom_asserts declared k e p small symbols may = record {
   makes = refl;
   declares = refl;
   types_none = refl;
+  compressed =
+      ap is_compressed (plain_tokens_say (statement_label k ∷ []) asserts (codes "|-")
+      (text_by (letters_of (own_naming declared)) p) may.clean_label may.clean refl);
 }
 
 pub theorem_asserts : (declared : List Token) (k : ℕ) (e : Context) (p : Pattern) (tree : ProofTree)
     (proof : List Token) → k < 2 ^ 64 → AreSymbols (holds_text (own_naming declared) p)
     → MayBeStated e (statement_label k) (codes "|-") (text_by (letters_of (own_naming declared)) p)
     → list_all is_label (postorder tree) ≡ true → Proves e tree (holds_text (own_naming declared) p)
-    → IsProofText (mandatory_labels
+    → Compresses (mandatory_labels
     (frame_of e.scope (statement_label k) (holds_text (own_naming declared) p))) tree proof
     → Asserts e (statement_label k) (holds_text (own_naming declared) p) true
     (theorem_statement declared k p proof)
@@ -89,7 +94,7 @@ theorem_asserts declared k e p tree proof small symbols may spelt proof_of text 
     let tokens : (list_all is_plain_token proof ≡ true) × (are_clean proof ≡ true) =
     proof_text_is_plain (mandatory_labels
     (frame_of e.scope (statement_label k) (holds_text (own_naming declared) p))) tree proof
-    spelt text in
+    spelt (by_letters proof text) in
     record {
       plain_ones =
           theorem_plain (statement_label k) (holds_text (own_naming declared) p) proof
@@ -101,7 +106,8 @@ theorem_asserts declared k e p tree proof small symbols may spelt proof_of text 
           (clean_go_on proof tokens.1);
       fine =
           theorem_is_fine e (statement_label k) (codes "|-")
-          (text_by (letters_of (own_naming declared)) p) tree proof may proof_of spelt text;
+          (text_by (letters_of (own_naming declared)) p) tree proof may proof_of spelt
+          (by_letters proof text);
       keyword = proves;
       proof = proof;
       said =
@@ -110,6 +116,10 @@ theorem_asserts declared k e p tree proof small symbols may spelt proof_of text 
       makes = refl;
       declares = refl;
       types_none = refl;
+      compressed =
+          ap is_compressed (proof_tokens_say (statement_label k ∷ [])
+          (holds_text (own_naming declared) p) proof may.clean_label may.clean tokens.1)
+          ∙ ap begins_compressed text.is;
     }
 
 -- a claim without variables and hypotheses
@@ -193,6 +203,7 @@ plain_adds declared k c at p proved tokens w names claim says =
       types =
           ap (λ o. with_typing_first o []) (untyped c (statement_label k)
           (holds_text (own_naming declared) p) proved tokens says);
+      compressed = both_true (is_compressed (form_of tokens)) true says.compressed refl;
     }
 
 -- an axiom
@@ -303,7 +314,7 @@ plain_theorem_adds declared claims c at p d place premise_place proof w few clai
     (plain_may_be_stated declared claims c p w few claim)
     (postorder_spelt c tree (holds_text (own_naming declared) p)
     (header_active_spelt c w.base.scope) w.spelt proved) proved
-    (subst (λ (f : Frame). IsProofText (mandatory_labels f)
+    (subst (λ (f : Frame). Compresses (mandatory_labels f)
     (derivation_tree (own_labels (length claims))
     (claims_citing (length claims) (at_places claims place) premise_place) d) proof)
     (sym (plain_frame declared (length claims) c p w.base w.names claim)) text))

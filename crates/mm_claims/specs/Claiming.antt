@@ -7,7 +7,7 @@ use Rattle.mm_database.specs.Frames.{Frame}
 use Rattle.mm_database.specs.Database.{Context}
 use Rattle.mm_database.specs.Proofs.{active_hypothesis}
 use Rattle.mm_database.specs.ProofText.{mandatory_labels}
-use Rattle.mm_database.specs.Compressing.{IsProofText}
+use Rattle.mm_database.specs.Compressing.{Compresses, all_compressed}
 use Rattle.mm_database.specs.Assertions.{Assertion, assertions_of, typings_of}
 use Rattle.ml_pat.specs.Patterns.{Pattern}
 use Rattle.ml_kernel.specs.Theorems.{Derivation}
@@ -45,18 +45,19 @@ pub record HoldsClaims (declared : List Token) (claims : List Claim) (c : Contex
   pub no_hypothesis : (label : Token) (f : Frame) → c.frames label ≡ Some f
       → active_hypothesis c label ≡ None
 
--- a text that fits these names and claims
+-- a text that fits these names and claims, and in which each `$p` has a compressed proof
 abbrev pub FitsClaims : List Token → List Claim → List ℕ → Type 0
 FitsClaims declared claims bytes =
     (c : Context) × DeclaresInText bytes c × HoldsClaims declared claims c
+    × (all_compressed bytes ≡ true)
 
--- The tokens are a proof of the claim with a number by a derivation, whose citations are found by
--- `find` and `premise_place`. The mandatory labels are those of the variables of the claim, and
--- then those of its hypotheses; other variables of the proof are not among them.
+-- The tokens are a compressed proof of the claim with a number by a derivation, whose citations are
+-- found by `find` and `premise_place`. The mandatory labels are those of the variables of the claim,
+-- and then those of its hypotheses; other variables of the proof are not among them.
 abbrev pub IsProofOfClaim : List Token → ℕ → (List Pattern → Pattern → Stated) → (Pattern → ℕ)
     → Claim → Derivation → List Token → Type 0
 IsProofOfClaim declared k find premise_place s d proof =
-    IsProofText (mandatory_labels (open_frame declared k s))
+    Compresses (mandatory_labels (open_frame declared k s))
     (derivation_tree (own_labels k) (claims_citing k find premise_place) d) proof
 
 -- What a text has gained with a statement after it: exactly this assertion, and the typings of

@@ -1,6 +1,7 @@
 -- What follows for statements after a text that fits.
-use Rattle.std.specs.Prelude.{ℕ, ◌<◌, ◌^◌, true, false, List, [], ◌∷◌, ◌++◌, length}
+use Rattle.std.specs.Prelude.{◌≡◌, ℕ, ◌<◌, ◌^◌, true, false, List, [], ◌∷◌, ◌++◌, length}
 use Rattle.mm_text.specs.Bytes.{Token}
+use Rattle.mm_database.specs.Compressing.{all_compressed}
 use Rattle.mm_database.specs.Validity.{IsValid}
 use Rattle.mm_header.specs.HeaderText.{header_bytes}
 use Rattle.ml_pat.specs.Patterns.{Pattern}
@@ -20,6 +21,11 @@ use Rattle.mm_database.specs.StatementTexts.{written_statements}
 abbrev pub ClaimsAreValid : Type 0
 ClaimsAreValid = (declared : List Token) (claims : List Claim) (bytes : List ℕ)
     → FitsClaims declared claims bytes → IsValid bytes
+
+-- each of its `$p` has a compressed proof
+abbrev pub ClaimsAreCompressed : Type 0
+ClaimsAreCompressed = (declared : List Token) (claims : List Claim) (bytes : List ℕ)
+    → FitsClaims declared claims bytes → all_compressed bytes ≡ true
 
 -- the header fits if there are no names and no claims
 abbrev pub HeaderFitsClaims : Type 0
@@ -44,7 +50,7 @@ AxiomFits =
     FitsClaims declared (claims ++ s ∷ [])
     (bytes ++ written_statements (axiom_statements declared (length claims) s))
 
--- the same is true of a theorem with its proof, in either notation
+-- the same is true of a theorem with its compressed proof
 abbrev pub TheoremFits : Type 0
 TheoremFits =
     (declared : List Token) (claims : List Claim) (bytes : List ℕ) (s : Claim)
