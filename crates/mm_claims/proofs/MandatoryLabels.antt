@@ -6,13 +6,9 @@ use Rattle.mm_database.specs.Frames.{label_of}
 use Rattle.mm_database.specs.ProofText.{mandatory_labels}
 use Rattle.ml_pat.specs.Patterns.{Pattern}
 use Rattle.mm_proof.specs.Labels.{premise_label}
+use Rattle.mm_claims.specs.PremiseLabels.{premise_labels}
 use Rattle.mm_claims.specs.Variables.{Variable, variable_label}
 use Rattle.mm_claims.specs.Blocks.{Claim, variable_float, premise_hypotheses, open_frame}
-
--- those of hypotheses from a number on
-abbrev pub premise_labels : ℕ → ℕ → List Pattern → List Token
-premise_labels k j [] = []
-premise_labels k j (p ∷ ps) = premise_label k j ∷ premise_labels k (j + 1) ps
 
 float_labels : (k : ℕ) (vs : List Variable)
     → map label_of (map (variable_float k) vs) ≡ map (variable_label k) vs

@@ -13,6 +13,7 @@ pub mod ClaimVariables
 -- Laws: what follows from that. Each is a clause of a function that does nothing.
 pub mod Citable
 pub mod OpenVariables
+pub mod PremiseLabels
 pub mod Provable
 pub mod OpenCiting
 pub mod OpenCases

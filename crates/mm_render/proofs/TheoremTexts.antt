@@ -5,7 +5,8 @@ use Rattle.std.specs.Prelude.{if◌then◌else◌, codes}
 use Rattle.std.proofs.lemmas.Grind.{flat_map-append}
 use Rattle.mm_text.specs.Bytes.{Token}
 use Rattle.mm_text.specs.Written.{written}
-use Rattle.mm_database.specs.Compressing.{by_labels}
+use Rattle.mm_database.specs.Compressing.{Compresses}
+use Rattle.mm_database.specs.ProofText.{mandatory_labels}
 use Rattle.mm_database.specs.StatementTexts.{written_statements}
 use Rattle.ml_pat.specs.Patterns.{Pattern}
 use Rattle.ml_kernel.specs.Theorems.{Derivation}
@@ -14,14 +15,14 @@ use Rattle.mm_proof.specs.Labels.{statement_label}
 use Rattle.mm_proof.specs.Derivations.{holds_text}
 use Rattle.mm_proof.proofs.WrittenTogether.{written-append}
 use Rattle.mm_claims.specs.Blocks.{Claim, head_statements, needs_block, theorem_block}
-use Rattle.mm_claims.specs.Blocks.{theorem_statements}
+use Rattle.mm_claims.specs.Blocks.{open_frame, theorem_statements}
 use Rattle.mm_claims.specs.Statements.{theorem_statement}
 use Rattle.mm_claims.specs.Variables.{Variable, AreNumbered}
 use Rattle.mm_claims.specs.OpenVariables.{variables_of}
 use Rattle.mm_claims.specs.ClaimVariables.{other_variables}
 use Rattle.mm_claims.proofs.OpenVariableLaws.{others_are_enough}
 use Rattle.mm_render.specs.declared.places.StatementContext.{StatementContext}
-use Rattle.mm_render.specs.Parts.{citing_at, proof_of}
+use Rattle.mm_render.specs.Parts.{proof_by}
 use Rattle.mm_render.specs.PlaceTable.{found_at, premises_at}
 use Rattle.mm_render.specs.ProvedText.{WritesTheorem}
 use Rattle.mm_render.specs.TheoremText.{statement_front, theorem_front}
@@ -105,19 +106,20 @@ block_theorem_written names k s more proof start a b c needed first second third
     ∙ ap (λ (b : Bool). start ++ written_statements (if b then theorem_block names k s more proof
     else (theorem_statement names k s.conclusion proof ∷ []))) (sym needed)
 
--- the proof is the labels of the derivation, and the block has all variables that it needs
-pub written_by_labels : (at : StatementContext) (s : Claim) (d : Derivation) (text text' : List ℕ)
-    → AreNumbered (variables_of (found_at at) d)
+-- the block has all variables that the derivation needs
+pub written_theorem : (at : StatementContext) (s : Claim) (d : Derivation) (proof : List Token)
+    (text text' : List ℕ) → AreNumbered (variables_of (found_at at) d)
+    → Compresses (mandatory_labels (open_frame at.names.now at.serial s))
+    (proof_by at.serial at d) proof
     → text' ≡ text ++ written_statements (theorem_statements at.names.now at.serial s
-    (other_variables s.variables (variables_of (found_at at) d))
-    (proof_of at.serial (citing_at at) d))
+    (other_variables s.variables (variables_of (found_at at) d)) proof)
     → WritesTheorem at.names.now at.serial (found_at at) (premises_at at) s d text text'
-written_by_labels at s d text text' numbered appended = record {
+written_theorem at s d proof text text' numbered proves appended = record {
   more = other_variables s.variables (variables_of (found_at at) d);
-  proof = proof_of at.serial (citing_at at) d;
+  proof = proof;
   needed =
       λ once small. others_are_enough s.variables (variables_of (found_at at) d) once small
       numbered;
-  proves = by_labels;
+  proves = proves;
   appended = appended;
 }

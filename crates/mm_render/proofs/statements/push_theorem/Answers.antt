@@ -8,13 +8,12 @@ use Rattle.mm_claims.specs.ClaimVariables.{other_variables}
 use Rattle.mm_claims.specs.Variables.{Variable}
 use Rattle.mm_render.specs.declared.variables.Variable as code
 use Rattle.mm_render.specs.ClaimView.{plain_claim}
-use Rattle.mm_render.specs.Parts.{citing_at, proof_of}
 use Rattle.mm_render.specs.PlaceTable.{found_at}
 use Rattle.mm_render.specs.TheoremText.{theorem_front}
 use Rattle.mm_render.specs.VariablesView.{plain_variables}
 use Rattle.mm_proof.proofs.Stacking.{on_ok}
 use Rattle.mm_render.proofs.TheoremTexts.{plain_theorem_written, block_theorem_written}
-use Rattle.mm_render.proofs.TheoremTexts.{written_by_labels}
+use Rattle.mm_render.proofs.TheoremTexts.{written_theorem}
 use Rattle.mm_render.proofs.statements.push_theorem.Goals as goal
 
 pub returns-then-not-needs_block : goal.returns-then-not-needs_block
@@ -37,14 +36,15 @@ returns-then-not-needs_block c =
     ∙ ap (λ (ps : List Pattern). needs_block (plain_variables c.deref-2.result.now) ps)
     (sym c.deref-3.ensures.value)
     ∙ sym c.needs_block.ensures ∙ off in
-    on_ok c.push_word.result (λ text. written_by_labels at s d c.args.to.now.items
-    c.push_word.new.to.items c.in_ok-variables.ensures.numbered
+    let w = c.in_ok-write_derivation.ensures in
+    on_ok c.push_word.result (λ text. written_theorem at s d w.proof c.args.to.now.items
+    c.push_word.new.to.items c.in_ok-variables.ensures.numbered w.compresses
     (plain_theorem_written at.names.now at.serial s
     (other_variables s.variables (variables_of (found_at at) d))
-    (proof_of at.serial (citing_at at) d) c.args.to.now.items
+    w.proof c.args.to.now.items
     c.push_statement_front.new.to.items c.write_derivation.new.to.items
     c.push_word.new.to.items none c.in_ok-push_statement_front.ensures
-    c.in_ok-write_derivation.ensures text)) c.push_word.ensures
+    w.appended text)) c.push_word.ensures
 
 pub returns : goal.returns
 returns c =
@@ -76,11 +76,12 @@ returns c =
     c.deref-4.ensures.value
     ∙ ap (λ (vs : List Variable). c.args.to.now.items
     ++ theorem_front at.names.now at.serial vs s.hypotheses s.conclusion) all in
-    on_ok c.push_words.result (λ text. written_by_labels at s d c.args.to.now.items
-    c.push_words.new.to.items c.in_ok-variables.ensures.numbered
+    let w = c.in_ok-write_derivation-2.ensures in
+    on_ok c.push_words.result (λ text. written_theorem at s d w.proof c.args.to.now.items
+    c.push_words.new.to.items c.in_ok-variables.ensures.numbered w.compresses
     (block_theorem_written at.names.now at.serial s
     (other_variables s.variables (variables_of (found_at at) d))
-    (proof_of at.serial (citing_at at) d) c.args.to.now.items
+    w.proof c.args.to.now.items
     c.push_theorem_front.new.to.items c.write_derivation-2.new.to.items
-    c.push_words.new.to.items needed front c.in_ok-write_derivation-2.ensures text))
+    c.push_words.new.to.items needed front w.appended text))
     c.push_words.ensures
