@@ -4,7 +4,7 @@ use Rattle.std.proofs.Common.{get_or, inl, inr, refl, sym, ◌∙◌, ap, subst,
 use Rattle.std.specs.Prelude.{◌⊎◌, All, Contains, slice_index_or}
 use Rattle.std.specs.List.{AllZip}
 use Rattle.std.proofs.lemmas.List.{take_more}
-use Rattle.ml_pat.specs.Patterns.{Pattern, equal, app, meta}
+use Rattle.ml_pat.specs.Patterns.{Pattern, equal, app}
 use Rattle.ml_kernel.specs.Lemmas.{instance, instances, IsMetaBelow, AreMetasBelow, HasNoVariable}
 use Rattle.ml_kernel.specs.Lemmas.{HaveNoVariables}
 use Rattle.ml_kernel.specs.Theorems.{Theorem, conclusions}
