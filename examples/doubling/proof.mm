@@ -322,23 +322,50 @@ e.8.0 $e |- ( \fun m:0 s:Int ) $.
 t.8 $p |- ( \eq ( \app f:twice m:0 ) ( \app ( \app f:add m:0 ) m:0 ) ) $= w.top n.5 m.8.0 w.app n.8 m.8.0 w.app m.8.0 w.app w.eq top m.8.0 n.6 w.fun w.top n.5 m.8.0 w.app n.8 m.8.0 w.app m.8.0 w.app w.eq w.imp e.8.0 w.top n.5 x.8.0 w.var w.app n.8 x.8.0 w.var w.app x.8.0 w.var w.app w.eq w.imp x.8.0 n.6 w.all m.8.0 n.6 w.fun w.top n.5 m.8.0 w.app n.8 m.8.0 w.app m.8.0 w.app w.eq w.imp w.imp x.8.0 t.5 w.top n.5 x.8.0 w.var w.app n.8 x.8.0 w.var w.app x.8.0 w.var w.app w.eq w.imp m.8.0 w.top n.5 m.8.0 w.app n.8 m.8.0 w.app m.8.0 w.app w.eq w.imp x.8.0 n.6 w.top n.5 x.8.0 w.var w.app n.8 x.8.0 w.var w.app x.8.0 w.var w.app w.eq n.5 m.8.0 w.app n.8 m.8.0 w.app m.8.0 w.app w.eq w.top m.8.0 x.8.0 w.top m.8.0 x.8.0 w.top x.8.0 fr.d su.f n.5 x.8.0 w.var w.app n.8 x.8.0 w.var w.app x.8.0 w.var w.app n.8 m.8.0 w.app m.8.0 w.app n.5 m.8.0 w.app m.8.0 x.8.0 n.5 x.8.0 w.var m.8.0 n.5 m.8.0 x.8.0 n.5 m.8.0 x.8.0 n.5 x.8.0 fr.d su.f m.8.0 x.8.0 su.v su.app n.8 x.8.0 w.var w.app x.8.0 w.var m.8.0 n.8 m.8.0 w.app m.8.0 x.8.0 n.8 x.8.0 w.var m.8.0 n.8 m.8.0 x.8.0 n.8 m.8.0 x.8.0 n.8 x.8.0 fr.d su.f m.8.0 x.8.0 su.v su.app m.8.0 x.8.0 su.v su.app su.eq su.imp inst mp mp mp $.
 $}
 ${
+$v m:0 $.
+m.9.0 $f #Pattern m:0 $.
 $v m:2 $.
 m.9.2 $f #Pattern m:2 $.
 $v m:1 $.
 m.9.1 $f #Pattern m:1 $.
-$v m:0 $.
-m.9.0 $f #Pattern m:0 $.
 $v x:0 $.
 x.9.0 $f #Var x:0 $.
+$d x:0 m:0 $.
+$d x:0 m:2 $.
+$d x:0 m:1 $.
+e.9.0 $e |- ( \eq m:0 m:1 ) $.
+e.9.1 $e |- ( \eq m:1 m:2 ) $.
+t.9 $p |- ( \eq m:0 m:2 ) $= m.9.0 m.9.1 w.eq m.9.0 m.9.2 w.eq e.9.0 m.9.1 m.9.2 w.eq m.9.0 m.9.1 w.eq m.9.0 m.9.2 w.eq w.imp e.9.1 m.9.1 m.9.2 m.9.0 x.9.0 w.var w.eq m.9.0 m.9.1 w.eq m.9.0 m.9.2 w.eq x.9.0 m.9.0 x.9.0 w.var m.9.1 m.9.0 m.9.1 x.9.0 m.9.0 m.9.1 x.9.0 m.9.0 x.9.0 fr.d su.f m.9.1 x.9.0 su.v su.eq m.9.0 x.9.0 w.var m.9.2 m.9.0 m.9.2 x.9.0 m.9.0 m.9.2 x.9.0 m.9.0 x.9.0 fr.d su.f m.9.2 x.9.0 su.v su.eq eq.el mp mp $.
+$}
+${
+$v m:0 $.
+m.10.0 $f #Pattern m:0 $.
+$v m:1 $.
+m.10.1 $f #Pattern m:1 $.
+$v m:2 $.
+m.10.2 $f #Pattern m:2 $.
+$v x:0 $.
+x.10.0 $f #Var x:0 $.
+$d x:0 m:0 $.
+$d x:0 m:1 $.
+$d x:0 m:2 $.
+e.10.0 $e |- ( \eq m:1 m:2 ) $.
+t.10 $p |- ( \eq ( \app m:0 m:1 ) ( \app m:0 m:2 ) ) $= m.10.0 m.10.1 w.app m.10.0 m.10.1 w.app w.eq m.10.0 m.10.1 w.app m.10.0 m.10.2 w.app w.eq m.10.0 m.10.1 w.app eq.refl m.10.1 m.10.2 w.eq m.10.0 m.10.1 w.app m.10.0 m.10.1 w.app w.eq m.10.0 m.10.1 w.app m.10.0 m.10.2 w.app w.eq w.imp e.10.0 m.10.1 m.10.2 m.10.0 m.10.1 w.app m.10.0 x.10.0 w.var w.app w.eq m.10.0 m.10.1 w.app m.10.0 m.10.1 w.app w.eq m.10.0 m.10.1 w.app m.10.0 m.10.2 w.app w.eq x.10.0 m.10.0 m.10.1 w.app m.10.0 x.10.0 w.var w.app m.10.0 m.10.1 w.app m.10.0 m.10.1 w.app m.10.1 x.10.0 m.10.0 m.10.1 w.app m.10.1 x.10.0 m.10.0 m.10.1 w.app x.10.0 fr.d su.f m.10.0 x.10.0 w.var m.10.1 m.10.0 m.10.1 x.10.0 m.10.0 m.10.1 x.10.0 m.10.0 x.10.0 fr.d su.f m.10.1 x.10.0 su.v su.app su.eq m.10.0 m.10.1 w.app m.10.0 x.10.0 w.var w.app m.10.0 m.10.2 w.app m.10.0 m.10.1 w.app m.10.2 x.10.0 m.10.0 m.10.1 w.app m.10.2 x.10.0 m.10.0 m.10.1 w.app x.10.0 fr.d su.f m.10.0 x.10.0 w.var m.10.2 m.10.0 m.10.2 x.10.0 m.10.0 m.10.2 x.10.0 m.10.0 x.10.0 fr.d su.f m.10.2 x.10.0 su.v su.app su.eq eq.el mp mp $.
+$}
+${
+$v m:2 $.
+m.11.2 $f #Pattern m:2 $.
+$v m:1 $.
+m.11.1 $f #Pattern m:1 $.
+$v m:0 $.
+m.11.0 $f #Pattern m:0 $.
+$v x:0 $.
+x.11.0 $f #Var x:0 $.
 $d x:0 m:2 $.
 $d x:0 m:1 $.
 $d x:0 m:0 $.
-e.9.0 $e |- ( \imp m:2 ( \next m:0 ) ) $.
-e.9.1 $e |- ( \eq m:0 m:1 ) $.
-t.9 $p |- ( \imp m:2 ( \next m:1 ) ) $= m.9.2 m.9.0 w.next w.imp m.9.2 m.9.1 w.next w.imp e.9.0 m.9.0 m.9.1 w.eq m.9.2 m.9.0 w.next w.imp m.9.2 m.9.1 w.next w.imp w.imp e.9.1 m.9.0 m.9.1 m.9.2 x.9.0 w.var w.next w.imp m.9.2 m.9.0 w.next w.imp m.9.2 m.9.1 w.next w.imp x.9.0 m.9.2 x.9.0 w.var w.next m.9.0 w.next m.9.2 m.9.0 x.9.0 m.9.2 m.9.0 x.9.0 m.9.2 x.9.0 fr.d su.f x.9.0 w.var m.9.0 m.9.0 x.9.0 m.9.0 x.9.0 su.v su.next su.imp m.9.2 x.9.0 w.var w.next m.9.1 w.next m.9.2 m.9.1 x.9.0 m.9.2 m.9.1 x.9.0 m.9.2 x.9.0 fr.d su.f x.9.0 w.var m.9.1 m.9.1 x.9.0 m.9.1 x.9.0 su.v su.next su.imp eq.el mp mp $.
+e.11.0 $e |- ( \imp m:2 ( \next m:0 ) ) $.
+e.11.1 $e |- ( \eq m:0 m:1 ) $.
+t.11 $p |- ( \imp m:2 ( \next m:1 ) ) $= m.11.2 m.11.0 w.next w.imp m.11.2 m.11.1 w.next w.imp e.11.0 m.11.0 m.11.1 w.eq m.11.2 m.11.0 w.next w.imp m.11.2 m.11.1 w.next w.imp w.imp e.11.1 m.11.0 m.11.1 m.11.2 x.11.0 w.var w.next w.imp m.11.2 m.11.0 w.next w.imp m.11.2 m.11.1 w.next w.imp x.11.0 m.11.2 x.11.0 w.var w.next m.11.0 w.next m.11.2 m.11.0 x.11.0 m.11.2 m.11.0 x.11.0 m.11.2 x.11.0 fr.d su.f x.11.0 w.var m.11.0 m.11.0 x.11.0 m.11.0 x.11.0 su.v su.next su.imp m.11.2 x.11.0 w.var w.next m.11.1 w.next m.11.2 m.11.1 x.11.0 m.11.2 m.11.1 x.11.0 m.11.2 x.11.0 fr.d su.f x.11.0 w.var m.11.1 m.11.1 x.11.0 m.11.1 x.11.0 su.v su.next su.imp eq.el mp mp $.
 $}
-${
-$v x:0 $.
-x.10.0 $f #Var x:0 $.
-t.10 $p |- ( \imp ( \app f:t d:Int:33 ) ( \ev ( \app f:t d:Int:36 ) ) ) $= n.0 n.1 w.app n.0 n.7 w.app n.0 n.1 w.app t.1 n.0 n.1 w.app n.0 n.7 w.app n.0 n.5 n.1 w.app w.app n.1 t.3 t.4 t.7 n.0 n.5 n.1 w.app w.app n.0 n.5 n.1 w.app w.app w.eq n.0 n.5 n.1 w.app w.app n.0 n.7 w.app w.eq n.0 n.5 n.1 w.app w.app eq.refl n.5 n.1 w.app n.7 w.eq n.0 n.5 n.1 w.app w.app n.0 n.5 n.1 w.app w.app w.eq n.0 n.5 n.1 w.app w.app n.0 n.7 w.app w.eq w.imp n.5 n.1 w.app n.8 n.1 w.app n.1 w.app w.eq n.5 n.1 w.app n.7 w.eq n.1 t.4 t.8 n.8 n.1 w.app n.1 w.app n.7 w.eq n.5 n.1 w.app n.8 n.1 w.app n.1 w.app w.eq n.5 n.1 w.app n.7 w.eq w.imp t.6 n.8 n.1 w.app n.1 w.app n.7 n.5 n.1 w.app x.10.0 w.var w.eq n.5 n.1 w.app n.8 n.1 w.app n.1 w.app w.eq n.5 n.1 w.app n.7 w.eq x.10.0 n.5 n.1 w.app x.10.0 w.var n.8 n.1 w.app n.1 w.app n.5 n.1 w.app n.8 n.1 w.app n.1 w.app x.10.0 n.5 n.1 w.app n.8 n.1 w.app n.1 w.app x.10.0 n.5 n.1 w.app x.10.0 fr.d su.f n.8 n.1 w.app n.1 w.app x.10.0 su.v su.eq n.5 n.1 w.app x.10.0 w.var n.7 n.5 n.1 w.app n.7 x.10.0 n.5 n.1 w.app n.7 x.10.0 n.5 n.1 w.app x.10.0 fr.d su.f n.7 x.10.0 su.v su.eq eq.el mp mp n.5 n.1 w.app n.7 n.0 n.5 n.1 w.app w.app n.0 x.10.0 w.var w.app w.eq n.0 n.5 n.1 w.app w.app n.0 n.5 n.1 w.app w.app w.eq n.0 n.5 n.1 w.app w.app n.0 n.7 w.app w.eq x.10.0 n.0 n.5 n.1 w.app w.app n.0 x.10.0 w.var w.app n.0 n.5 n.1 w.app w.app n.0 n.5 n.1 w.app w.app n.5 n.1 w.app x.10.0 n.0 n.5 n.1 w.app w.app n.5 n.1 w.app x.10.0 n.0 n.5 n.1 w.app w.app x.10.0 fr.d su.f n.0 x.10.0 w.var n.5 n.1 w.app n.0 n.5 n.1 w.app x.10.0 n.0 n.5 n.1 w.app x.10.0 n.0 x.10.0 fr.d su.f n.5 n.1 w.app x.10.0 su.v su.app su.eq n.0 n.5 n.1 w.app w.app n.0 x.10.0 w.var w.app n.0 n.7 w.app n.0 n.5 n.1 w.app w.app n.7 x.10.0 n.0 n.5 n.1 w.app w.app n.7 x.10.0 n.0 n.5 n.1 w.app w.app x.10.0 fr.d su.f n.0 x.10.0 w.var n.7 n.0 n.7 x.10.0 n.0 n.7 x.10.0 n.0 x.10.0 fr.d su.f n.7 x.10.0 su.v su.app su.eq eq.el mp mp t.9 t.0 $.
-$}
+t.12 $p |- ( \imp ( \app f:t d:Int:33 ) ( \ev ( \app f:t d:Int:36 ) ) ) $= n.0 n.1 w.app n.0 n.7 w.app n.0 n.1 w.app t.1 n.0 n.1 w.app n.0 n.7 w.app n.0 n.5 n.1 w.app w.app n.1 t.3 t.4 t.7 n.0 n.5 n.1 w.app n.7 n.5 n.1 w.app n.7 n.8 n.1 w.app n.1 w.app n.1 t.4 t.8 t.6 t.9 t.10 t.11 t.0 $.
