@@ -1,0 +1,1 @@
+// Small proofs, and the labels and letters of their compressed proofs.
