@@ -1,0 +1,4 @@
+pub mod Growing
+pub mod Chains
+pub mod Trees
+pub mod Visiting

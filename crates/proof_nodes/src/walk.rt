@@ -156,11 +156,22 @@ fn push_visits(
 {
     let mut rest = chain;
     while rest > 0 {
-        let (before, part) = links[rest - 1];
+        let (before, part) = last_link(links, rest);
         tasks.push(Task::Visit(part))?;
         rest = before;
     }
     Ok(())
+}
+
+/// The chain before the last part of a chain, and that part.
+fn last_link(links: &[(usize, usize)], chain: usize) -> (usize, usize)
+    requires links { AreLinks links.now }
+    requires some { 0 < chain }
+    requires within { chain ≤ length links.now }
+    ensures before { result.0 < chain }
+    ensures parts { parts_of links.now chain ≡ parts_of links.now result.0 ++ result.1 ∷ [] }
+{
+    links[chain - 1]
 }
 
 /// How often each node is a part of another, at most 255.
@@ -186,7 +197,7 @@ fn count_parts(uses: &mut [u8], links: &[(usize, usize)], chain: usize)
 {
     let mut rest = chain;
     while rest > 0 {
-        let (before, part) = links[rest - 1];
+        let (before, part) = last_link(links, rest);
         if let Some(count) = uses.get_mut(part) {
             *count = count.saturating_add(1);
         }
