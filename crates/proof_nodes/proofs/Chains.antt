@@ -35,13 +35,15 @@ parts_of-link links i link are is =
     (omega (arith, le)) is)
 
 pub kept_chains : (link : Link) (old new : List Link) → Gains link old new → KeepsChains old new
-kept_chains link old new (inl same) =
-    (let e : length new ≡ length old = ap length same in omega (arith, e),
-    λ chain le. ap (λ ls. parts_of ls chain) same)
-kept_chains link old new (inr more) =
-    (let e : length new ≡ length old + 1 = ap length more ∙ length-append old (link ∷ []) in
-    omega (arith, e),
-    λ chain le. ap (λ ls. parts_of ls chain) more ∙ parts_of-push old link chain le)
+kept_chains link old new (inl same) = (
+  let e : length new ≡ length old = ap length same in omega (arith, e),
+  λ chain le. ap (λ ls. parts_of ls chain) same,
+)
+kept_chains link old new (inr more) = (
+  let e : length new ≡ length old + 1 = ap length more ∙ length-append old (link ∷ []) in
+      omega (arith, e),
+  λ chain le. ap (λ ls. parts_of ls chain) more ∙ parts_of-push old link chain le,
+)
 
 pub kept_twice : (old mid new : List Link) → KeepsChains old mid → KeepsChains mid new
     → KeepsChains old new

@@ -53,9 +53,10 @@ trees-gained token node old new (inl same) =
     append-nil-of : (xs : List ProofTree) → xs ++ [] ≡ xs
     append-nil-of [] = refl
     append-nil-of (x ∷ xs) = ap (λ ys. x ∷ ys) (append-nil-of xs)
-trees-gained token node old new (inr more) =
-    (node_over token (node_trees token old) node ∷ [],
-    ap (node_trees token) more ∙ grown-push (node_over token) [] old node)
+trees-gained token node old new (inr more) = (
+  node_over token (node_trees token old) node ∷ [],
+  ap (node_trees token) more ∙ grown-push (node_over token) [] old node,
+)
 
 pub tree-kept : (token : ℕ → Token) (node : Node) (old new : List Node) (n : ℕ)
     → Gains node old new → n < length old

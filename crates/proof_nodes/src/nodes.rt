@@ -5,6 +5,7 @@ ghost use Rattle.mm_text.specs.Bytes.{Token};
 ghost use Rattle.proof_nodes.specs.Tables.{depth_of, empty_table, stack_trees, tree_of, with_cited};
 ghost use Rattle.proof_nodes.specs.Tables.{IsNodeOf, IsOnTop, KeepsNodes, AllBelow, LabelsBelow};
 ghost use Rattle.proof_nodes.specs.Compression.{IsCompressed};
+ghost use Rattle.proof_nodes.specs.TableView.{nodes_of, AreKeys};
 ghost use Rattle.proof_nodes.specs.Links.{parts_of, AreLinks, Gains, KeepsChains};
 
 use crate::letters::{CompressedProof, compressed};
@@ -84,8 +85,7 @@ impl ProofNodes {
             → LabelsBelow bound self.new }
     {
         let below = self.stack.len() - takes;
-        let chain = chain_of(&mut self.links, &self.stack[below..])?;
-        let node = place_of(&mut self.keys, (label, chain))?;
+        let node = node_over(&mut self.links, &mut self.keys, label, &self.stack[below..])?;
         self.stack.truncate(below);
         self.stack.push(node)?;
         Ok(())
@@ -129,6 +129,28 @@ impl ProofNodes {
         let steps = steps_of_node(alloc, links, keys, self.stack[0])?;
         compressed(alloc, mandatory, &steps)
     }
+}
+
+/// The number of the node of a label over parts, which is added if it is not there.
+fn node_over(
+    links: &mut IndexSet<(usize, usize)>,
+    keys: &mut IndexSet<(usize, usize)>,
+    label: usize,
+    parts: &[usize],
+) -> Result<usize, AllocError>
+    requires links { AreLinks links.old.keys }
+    requires keys { AreKeys links.old.keys keys.old.keys }
+    requires parts { AllBelow (length keys.old.keys) parts.now }
+    ensures links { AreLinks links.new.keys }
+    ensures keys { AreKeys links.new.keys keys.new.keys }
+    ensures gains { Gains (label, parts.now) (nodes_of links.old.keys keys.old.keys)
+        (nodes_of links.new.keys keys.new.keys) }
+    ensures node { IfOk result (λ n.
+        slice_get (nodes_of links.new.keys keys.new.keys) n ≡ Some (label, parts.now)) }
+    ensures within { IfOk result (λ n. n < length keys.new.keys) }
+{
+    let chain = chain_of(links, parts)?;
+    place_of(keys, (label, chain))
 }
 
 /// The number of the chain of these parts, whose links are added if they are not there.
