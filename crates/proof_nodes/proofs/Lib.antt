@@ -3,3 +3,7 @@ pub mod Chains
 pub mod Trees
 pub mod Visiting
 pub mod TableLaws
+pub mod Placing
+pub mod Spelling
+pub mod Meaning
+pub mod Compressing

@@ -12,13 +12,13 @@ use Rattle.proof_nodes.specs.declared.walk.Task.TheVariants.{Visit, Finish}
 use Rattle.proof_nodes.specs.declared.walk.Walk.{Walk}
 
 -- what a step means, if labels are spelled in this way
-abbrev pub meaning_of : (ℕ → Token) → ProofStep → List (Step Token)
-meaning_of token (Cites label) = cites (token label) ∷ []
-meaning_of token (CitesAndSaves label) = cites (token label) ∷ (saves ∷ [])
-meaning_of token (Repeats n) = repeats n ∷ []
+abbrev pub step_meaning : (ℕ → Token) → ProofStep → List (Step Token)
+step_meaning token (Cites label) = cites (token label) ∷ []
+step_meaning token (CitesAndSaves label) = cites (token label) ∷ (saves ∷ [])
+step_meaning token (Repeats n) = repeats n ∷ []
 
 abbrev pub meanings_of : (ℕ → Token) → List ProofStep → List (Step Token)
-meanings_of token steps = flat_map (meaning_of token) steps
+meanings_of token steps = flat_map (step_meaning token) steps
 
 -- the label that a step cites
 abbrev pub label_of : ProofStep → List ℕ
