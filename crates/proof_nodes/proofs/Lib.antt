@@ -7,3 +7,7 @@ pub mod Placing
 pub mod Spelling
 pub mod Meaning
 pub mod Compressing
+pub mod Tasks
+pub mod Built
+pub mod Walks
+pub mod Weights

@@ -4,6 +4,7 @@ ghost use Rattle.std.specs.Prelude.{◌≡◌, ◌≤◌, ◌<◌, IfOk, OnOk, l
 ghost use Rattle.proof_nodes.specs.Links.{parts_of, AreLinks};
 ghost use Rattle.proof_nodes.specs.TableView.{nodes_of, AreKeys};
 ghost use Rattle.proof_nodes.specs.Walking.{node_of_task, visits, BuildsNode, CitesNodes, Takes};
+ghost use Rattle.proof_nodes.specs.declared.walk.ProofStep.TheVariants.{Cites, CitesAndSaves};
 ghost use Rattle.proof_nodes.specs.declared.walk.Task.TheVariants.{Visit, Finish};
 
 use indexmap::IndexSet;
@@ -118,13 +119,20 @@ fn finish(
     ensures { OnOk result (Takes (nodes_of links.now keys.now) (Finish node) walk.old walk.new) }
 {
     let (label, chain) = keys[node];
-    let step = if saves(&mut walk.saved, uses, node, chain)? {
+    let saved = saves(&mut walk.saved, uses, node, chain)?;
+    walk.steps.push(citing_step(label, saved))?;
+    Ok(())
+}
+
+/// The step that cites a label, and saves its tree or not.
+fn citing_step(label: usize, saved: bool) -> ProofStep
+    ensures { result ≡ (if saved then CitesAndSaves label else Cites label) }
+{
+    if saved {
         ProofStep::CitesAndSaves(label)
     } else {
         ProofStep::Cites(label)
-    };
-    walk.steps.push(step)?;
-    Ok(())
+    }
 }
 
 /// Saves a node that has parts and is used more than once, unless it is saved. Returns whether it
