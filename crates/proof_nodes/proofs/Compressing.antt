@@ -16,9 +16,9 @@ use Rattle.mm_database.specs.Steps.{Step, cites, saves, repeats, Builds, by_labe
 use Rattle.mm_database.specs.Steps.{by_repeating, AllBuild, no_steps, more_steps}
 use Rattle.mm_database.specs.ProofText.{lettered_steps}
 use Rattle.mm_database.specs.Compressing.{Compresses}
-use Rattle.proof_nodes.specs.Tables.{Node, AllBelow}
-use Rattle.proof_nodes.specs.Compression.{AreToldApart, proof_text}
-use Rattle.proof_nodes.specs.Walking.{label_of, labels_of, step_meaning, meanings_of}
+use Rattle.proof_nodes.specs.Tables.{Node, AllBelow, tree_at, node_trees}
+use Rattle.proof_nodes.specs.Compression.{AreToldApart, proof_text, IsCompressed}
+use Rattle.proof_nodes.specs.Walking.{labels_of, meanings_of, BuildsNode, CitesNodes}
 use Rattle.proof_nodes.specs.Numbering.{IsNoneOf, AreNew, AreAmong, MeansSteps}
 use Rattle.proof_nodes.specs.declared.walk.ProofStep.{ProofStep}
 use Rattle.proof_nodes.specs.declared.walk.ProofStep.TheVariants.{Cites, CitesAndSaves, Repeats}
@@ -50,10 +50,11 @@ and_true false b h k = absurd (let z : ⊥ = cc in z)
 new_other : (table labels : List ℕ) (l : ℕ) → ((i : ℕ) × (slice_get table i ≡ Some l))
     → AreNew table labels → IsNoneOf l labels
 new_other table [] l at h = tt
-new_other table (m ∷ labels) l at h =
-    (λ same. none_is m table at.0 h.0 (at.1 ∙ ap (λ n. Some n) (sym same)),
-    new_other (table ++ m ∷ []) labels l
-    (at.0, slice_get-left table (m ∷ []) at.0 l at.1) h.1)
+new_other table (m ∷ labels) l at h = (
+  λ same. none_is m table at.0 h.0 (at.1 ∙ ap (λ n. Some n) (sym same)),
+  new_other (table ++ m ∷ []) labels l
+      (at.0, slice_get-left table (m ∷ []) at.0 l at.1) h.1,
+)
 
 module _ (bound : ℕ) (token : ℕ → Token) (told : AreToldApart bound token) where
   token_apart : (x l : ℕ) → x < bound → l < bound → x ≢ l → bytes_eq (token x) (token l) ≡ false
@@ -221,3 +222,24 @@ compresses bound token tree saved mandatory listed letters steps told below labe
           (map-append token mandatory listed) (means.means token tree saved builds);
       builds = builds;
     }
+
+only : (f : ℕ → ProofTree) (ns : List ℕ) (n : ℕ) (tree : ProofTree) → slice_get ns 0 ≡ Some n
+    → map f ns ≡ tree ∷ [] → f n ≡ tree
+only f [] n tree at is = absurd (let z : ⊥ = cc in z)
+only f (m ∷ ns) n tree at is = let same : m ≡ n = cc in ap f (sym same) ∙ cc
+
+pub table_compressed : (nodes : List Node) (stack : List ℕ) (root : ℕ)
+    (mandatory listed letters : List ℕ) (steps : List ProofStep) → slice_get stack 0 ≡ Some root
+    → BuildsNode nodes root steps → CitesNodes nodes steps
+    → MeansSteps mandatory steps listed letters
+    → IsCompressed (nodes, stack) mandatory listed letters
+table_compressed nodes stack root mandatory listed letters steps at builds labels means bound token
+    tree told below required same =
+    let b : (saved : List ProofTree)
+    × Builds [] (meanings_of token steps) (tree_at (node_trees token nodes) root) saved =
+    builds token in
+    let top : tree_at (node_trees token nodes) root ≡ tree =
+    only (tree_at (node_trees token nodes)) stack root tree at same in
+    compresses bound token tree b.0 mandatory listed letters steps told required
+    (labels bound below) means
+    (subst (λ (t : ProofTree). Builds [] (meanings_of token steps) t b.0) top b.1)

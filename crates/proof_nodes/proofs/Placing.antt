@@ -58,9 +58,11 @@ places-more old new label len table more long is updates places q =
 pub AreNew-append : (table xs ys : List ℕ) → AreNew table xs → AreNew (table ++ xs) ys
     → AreNew table (xs ++ ys)
 AreNew-append table [] ys h k = subst (λ (ls : List ℕ). AreNew ls ys) (append-nil table) k
-AreNew-append table (x ∷ xs) ys h k =
-    (h.0, AreNew-append (table ++ x ∷ []) xs ys h.1
-    (subst (λ (ls : List ℕ). AreNew ls ys) (sym (append_assoc table (x ∷ []) xs)) k))
+AreNew-append table (x ∷ xs) ys h k = (
+  h.0,
+  AreNew-append (table ++ x ∷ []) xs ys h.1
+      (subst (λ (ls : List ℕ). AreNew ls ys) (sym (append_assoc table (x ∷ []) xs)) k),
+)
 
 among_left : (labels more : List ℕ) (l : ℕ) → (i : ℕ) × (slice_get labels i ≡ Some l)
     → (i : ℕ) × (slice_get (labels ++ more) i ≡ Some l)
@@ -98,18 +100,26 @@ IsPlaced-wider table more (Repeats n) placed is = is
 pub ArePlaced-wider : (table more : List ℕ) (steps placed : List ProofStep)
     → ArePlaced table steps placed → ArePlaced (table ++ more) steps placed
 ArePlaced-wider table more [] placed h = h
-ArePlaced-wider table more (step ∷ steps) placed (first, rest, is, one, all) =
-    (first, rest, is, IsPlaced-wider table more step first one,
-    ArePlaced-wider table more steps rest all)
+ArePlaced-wider table more (step ∷ steps) placed (first, rest, is, one, all) = (
+  first,
+  rest,
+  is,
+  IsPlaced-wider table more step first one,
+  ArePlaced-wider table more steps rest all,
+)
 
 pub ArePlaced-push : (table : List ℕ) (steps placed : List ProofStep) (step p : ProofStep)
     → ArePlaced table steps placed → IsPlaced table step p
     → ArePlaced table (steps ++ step ∷ []) (placed ++ p ∷ [])
 ArePlaced-push table [] placed step p h k =
     (p, [], ap (λ (ps : List ProofStep). ps ++ p ∷ []) h, k, refl)
-ArePlaced-push table (s ∷ steps) placed step p (first, rest, is, one, all) k =
-    (first, rest ++ p ∷ [], ap (λ (ps : List ProofStep). ps ++ p ∷ []) is, one,
-    ArePlaced-push table steps rest step p all k)
+ArePlaced-push table (s ∷ steps) placed step p (first, rest, is, one, all) k = (
+  first,
+  rest ++ p ∷ [],
+  ap (λ (ps : List ProofStep). ps ++ p ∷ []) is,
+  one,
+  ArePlaced-push table steps rest step p all k,
+)
 
 pub SpellsSteps-push : (count : ℕ) (steps : List ProofStep) (step : ProofStep)
     (old mid new : List ℕ) → SpellsSteps count steps old mid → SpellsStep count step mid new

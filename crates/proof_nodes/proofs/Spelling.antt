@@ -62,9 +62,11 @@ module _ (number : NumberInFront) (saved : SaveInFront) where
       ≡ joined_steps (Some (codes_of count step)) (steps_from (behind step) more))
   step-front count (Cites place) old new (letters, is, spells) =
       (letters, is, λ before more ready. number-front before ready letters more (place + 1) spells)
-  step-front count (Repeats n) old new (letters, is, spells) =
-      (letters, is,
-      λ before more ready. number-front before ready letters more (count + n + 1) spells)
+  step-front count (Repeats n) old new (letters, is, spells) = (
+    letters,
+    is,
+    λ before more ready. number-front before ready letters more (count + n + 1) spells,
+  )
   step-front count (CitesAndSaves place) old new (mid, (letters, is, spells), whole) = (
     letters ++ 90 ∷ [],
     whole ∙ ap (λ (ls : List ℕ). ls ++ 90 ∷ []) is ∙ append_assoc old letters (90 ∷ []),

@@ -70,12 +70,13 @@ pub holds_last : (token : ℕ → Token) (nodes : List Node) (root : ℕ) (saved
     (steps : List ProofStep) → Holds token nodes root [] saved steps
     → (behind : List ProofTree)
     × Builds [] (meanings_of token steps) (tree_at (node_trees token nodes) root) behind
-holds_last token nodes root saved steps h =
-    (map (tree_at (node_trees token nodes)) saved,
-    built-alone [] (meanings_of token steps) (tree_at (node_trees token nodes) root)
-    (map (tree_at (node_trees token nodes)) saved)
-    (subst (λ (d : List ProofTree). Built [] (meanings_of token steps) d
-    (map (tree_at (node_trees token nodes)) saved)) h.ends h.built))
+holds_last token nodes root saved steps h = (
+  map (tree_at (node_trees token nodes)) saved,
+  built-alone [] (meanings_of token steps) (tree_at (node_trees token nodes) root)
+      (map (tree_at (node_trees token nodes)) saved)
+      (subst (λ (d : List ProofTree). Built [] (meanings_of token steps) d
+      (map (tree_at (node_trees token nodes)) saved)) h.ends h.built),
+)
 
 meanings-push : (token : ℕ → Token) (steps : List ProofStep) (step : ProofStep)
     → meanings_of token (steps ++ step ∷ []) ≡ meanings_of token steps ++ step_meaning token step
@@ -125,9 +126,13 @@ module _ (token : ℕ → Token) (nodes : List Node) (root : ℕ) (rest : List T
         ends =
             tasks-joined trees nodes rest (Finish n ∷ visits node.1) goal h.done
             (after_visits trees nodes node.1
-            (after_task trees nodes (Finish n) (after_tasks trees nodes rest goal)) h.done
-            (h.done, node, is, refl,
-            tasks-split trees nodes rest (Visit n ∷ []) goal h.done h.ends));
+            (after_task trees nodes (Finish n) (after_tasks trees nodes rest goal)) h.done (
+              h.done,
+              node,
+              is,
+              refl,
+              tasks-split trees nodes rest (Visit n ∷ []) goal h.done h.ends,
+            ));
       }
 
   -- what a finished node takes
