@@ -1,9 +1,9 @@
 -- Steps that build trees one after another.
-use Rattle.std.proofs.Common.{◌≡◌, ℕ, List, [], ◌∷◌, ◌++◌, refl, sym, ap, ◌∙◌, subst}
+use Rattle.std.proofs.Common.{◌≡◌, List, [], ◌∷◌, ◌++◌, refl, sym, ap, ◌∙◌, subst}
 use Rattle.std.proofs.Common.{append-nil, append_assoc}
 use Rattle.mm_text.specs.Bytes.{Token}
 use Rattle.mm_database.specs.Proofs.{ProofTree, proof_node}
-use Rattle.mm_database.specs.Steps.{Step, cites, saves, repeats, Builds, by_label, by_saving}
+use Rattle.mm_database.specs.Steps.{Step, cites, saves, Builds, by_label, by_saving}
 use Rattle.mm_database.specs.Steps.{AllBuild, no_steps, more_steps}
 use Rattle.proof_nodes.specs.Tables.{forest_of}
 

@@ -4,13 +4,12 @@ use Rattle.std.proofs.Common.{◌∷◌, ◌++◌, map, Some, refl, sym, ap, ◌
 use Rattle.std.proofs.Common.{append_assoc}
 use Rattle.std.specs.Prelude.{slice_get, flat_map, bytes_eq}
 use Rattle.std.specs.List.{list_any, list_all}
-use Rattle.std.proofs.lemmas.Bool.{false≢true}
 use Rattle.std.proofs.lemmas.Slice.Eq.{bytes_eq-Decides}
 use Rattle.std.proofs.lemmas.List.{map-append}
 use Rattle.std.proofs.lemmas.List.Folds.{list_any-append}
 use Rattle.std.proofs.lemmas.Grind.{flat_map-append}
 use Rattle.mm_text.specs.Bytes.{Token, has_token, has_repeated}
-use Rattle.mm_database.specs.Proofs.{ProofTree, proof_node, ProofForest, no_proof, more_proofs}
+use Rattle.mm_database.specs.Proofs.{ProofTree, ProofForest}
 use Rattle.mm_database.specs.Proofs.{postorder, all_postorder}
 use Rattle.mm_database.specs.Steps.{Step, cites, saves, repeats, Builds, by_label, by_saving}
 use Rattle.mm_database.specs.Steps.{by_repeating, AllBuild, no_steps, more_steps}
@@ -22,8 +21,7 @@ use Rattle.proof_nodes.specs.Walking.{labels_of, meanings_of, BuildsNode, CitesN
 use Rattle.proof_nodes.specs.Numbering.{IsNoneOf, AreNew, AreAmong, MeansSteps}
 use Rattle.proof_nodes.specs.declared.walk.ProofStep.{ProofStep}
 use Rattle.proof_nodes.specs.declared.walk.ProofStep.TheVariants.{Cites, CitesAndSaves, Repeats}
-use Rattle.proof_nodes.proofs.Growing.{AllBelow-append, AllBelow-at, slice_get-left}
-use Rattle.proof_nodes.proofs.Growing.{slice_get-seam}
+use Rattle.proof_nodes.proofs.Growing.{AllBelow-at, slice_get-left}
 use Rattle.proof_nodes.proofs.Placing.{IsNoneOf-front, none_is}
 
 not_true : (b : Bool) → (b ≡ true → ⊥) → b ≡ false

@@ -1,8 +1,8 @@
 -- Numbers mean steps; and what holds of steps that build a tree.
-use Rattle.std.proofs.Common.{◌≡◌, ℕ, zero, suc, ◌+◌, ◌-◌, ◌<◌, ◌≤◌, Bool, true, false, ◌&&◌}
+use Rattle.std.proofs.Common.{◌≡◌, ℕ, zero, suc, ◌+◌, ◌-◌, Bool, true, false, ◌&&◌}
 use Rattle.std.proofs.Common.{List, [], ◌∷◌, ◌++◌, length, map, Some, None, refl, sym, ap, ◌∙◌}
 use Rattle.std.proofs.Common.{subst, append_assoc, append-nil, drop, arith}
-use Rattle.std.specs.Prelude.{slice_get, nat_lt, if◌then◌else◌, Option, option_and_then}
+use Rattle.std.specs.Prelude.{slice_get, nat_lt, if◌then◌else◌, option_and_then}
 use Rattle.std.proofs.lemmas.List.{length-append}
 use Rattle.std.proofs.lemmas.Option.{slice_get_within}
 use Rattle.std.proofs.lemmas.Bool.{lt-ltb}
@@ -14,11 +14,11 @@ use Rattle.mm_database.specs.Steps.{Step, cites, saves, repeats, Builds, by_labe
 use Rattle.mm_database.specs.Steps.{by_repeating, AllBuild, no_steps, more_steps}
 use Rattle.mm_database.specs.ProofText.{step_of_number, with_step, steps_of_numbers}
 use Rattle.mm_database.specs.ProofText.{lettered_steps}
-use Rattle.proof_nodes.specs.Walking.{step_meaning, meanings_of}
-use Rattle.proof_nodes.specs.Numbering.{ArePlaced, IsPlaced, SpellsSteps}
+use Rattle.proof_nodes.specs.Walking.{meanings_of}
+use Rattle.proof_nodes.specs.Numbering.{ArePlaced, SpellsSteps}
 use Rattle.proof_nodes.specs.declared.walk.ProofStep.{ProofStep}
 use Rattle.proof_nodes.specs.declared.walk.ProofStep.TheVariants.{Cites, CitesAndSaves, Repeats}
-use Rattle.proof_nodes.proofs.Spelling.{codes_of, all_codes, spelled}
+use Rattle.proof_nodes.proofs.Spelling.{all_codes, spelled}
 
 -- each repeated number is one of a step that was saved before; `saved` is how many there are
 abbrev pub known : ℕ → List (Step Token) → Bool

@@ -5,7 +5,6 @@ use Rattle.std.proofs.Common.{arith, Result, Ok, Err}
 use Rattle.std.specs.Prelude.{slice_get, IfOk, option_map}
 use Rattle.std.proofs.lemmas.List.{length-append, length-drop, map-append}
 use Rattle.std.proofs.lemmas.Option.{slice_get-map}
-use Rattle.mm_text.specs.Bytes.{Token}
 use Rattle.proof_nodes.specs.Tables.{Node, AllBelow, KeepsNodes}
 use Rattle.proof_nodes.specs.Links.{Link, parts_of, Gains, KeepsChains}
 use Rattle.proof_nodes.specs.TableView.{node_of, nodes_of, AreKeys}

@@ -11,7 +11,6 @@ use Rattle.proof_nodes.specs.Tables.{Node}
 use Rattle.proof_nodes.specs.Links.{Link, parts_of}
 use Rattle.proof_nodes.specs.TableView.{nodes_of, node_of, AreKeys}
 use Rattle.proof_nodes.specs.Walking.{visits, Takes, visits_parts, cites_node, saves_node}
-use Rattle.proof_nodes.specs.declared.walk.ProofStep.{ProofStep}
 use Rattle.proof_nodes.specs.declared.walk.ProofStep.TheVariants.{Cites, CitesAndSaves}
 use Rattle.proof_nodes.specs.declared.walk.Task.{Task}
 use Rattle.proof_nodes.specs.declared.walk.Task.TheVariants.{Visit, Finish}

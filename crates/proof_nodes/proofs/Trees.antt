@@ -1,13 +1,13 @@
 -- The trees of nodes, and what a label makes of the trees on the stack.
-use Rattle.std.proofs.Common.{◌≡◌, ℕ, zero, suc, ◌+◌, ◌-◌, ◌<◌, ◌≤◌, ◌⊎◌, inl, inr, List, [], ◌∷◌}
-use Rattle.std.proofs.Common.{◌++◌, length, get_or, map, take, drop, Some, refl, sym, ap, ◌∙◌}
+use Rattle.std.proofs.Common.{◌≡◌, ℕ, zero, suc, ◌-◌, ◌<◌, inl, inr, List, [], ◌∷◌}
+use Rattle.std.proofs.Common.{◌++◌, length, map, take, drop, Some, refl, sym, ap, ◌∙◌}
 use Rattle.std.proofs.Common.{subst, arith}
 use Rattle.std.specs.Prelude.{slice_get}
-use Rattle.std.proofs.lemmas.List.{length-append, get_or_append_left, map-append}
+use Rattle.std.proofs.lemmas.List.{get_or_append_left, map-append}
 use Rattle.std.proofs.lemmas.Option.{get_or_from_slice_get}
 use Rattle.mm_text.specs.Bytes.{Token}
 use Rattle.mm_database.specs.Proofs.{ProofTree, proof_node, no_proof}
-use Rattle.proof_nodes.specs.Tables.{Node, grown, tree_at, node_over, node_trees, forest_of}
+use Rattle.proof_nodes.specs.Tables.{Node, tree_at, node_over, node_trees, forest_of}
 use Rattle.proof_nodes.specs.Tables.{with_cited, AllBelow}
 use Rattle.proof_nodes.specs.Links.{Gains}
 use Rattle.proof_nodes.proofs.Growing.{grown-push, length-grown, grown-at}

@@ -2,7 +2,7 @@
 -- tree of the root.
 use Rattle.std.proofs.Common.{◌≡◌, ℕ, zero, suc, ◌<◌, List, [], ◌∷◌, ◌++◌, length, map, Some}
 use Rattle.std.proofs.Common.{refl, sym, ap, ◌∙◌, subst, append-nil, append_assoc, arith}
-use Rattle.std.specs.Prelude.{slice_get, flat_map}
+use Rattle.std.specs.Prelude.{slice_get}
 use Rattle.std.proofs.lemmas.List.{map-append}
 use Rattle.std.proofs.lemmas.Grind.{flat_map-append}
 use Rattle.mm_text.specs.Bytes.{Token}
@@ -17,7 +17,7 @@ use Rattle.proof_nodes.specs.declared.walk.ProofStep.TheVariants.{Cites, CitesAn
 use Rattle.proof_nodes.specs.declared.walk.Task.{Task}
 use Rattle.proof_nodes.specs.declared.walk.Task.TheVariants.{Visit, Finish}
 use Rattle.proof_nodes.specs.declared.walk.Walk.{Walk}
-use Rattle.proof_nodes.proofs.Growing.{AllBelow-append, AllBelow-wider, AllBelow-at}
+use Rattle.proof_nodes.proofs.Growing.{AllBelow-append, AllBelow-wider}
 use Rattle.proof_nodes.proofs.Trees.{AreOrdered, tree_of-node}
 use Rattle.proof_nodes.proofs.Placing.{labels_of-push}
 use Rattle.proof_nodes.proofs.Built.{Built, built-push, built-cited, built-saved, built-alone}

@@ -2,7 +2,7 @@
 -- the link at a place makes the chain with the next number.
 use Rattle.std.specs.Prelude.{◌≡◌, ◌≤◌, ◌⊎◌, ℕ, List, [], ◌∷◌, ◌++◌, length, get_or, slice_get}
 use Rattle.std.specs.Prelude.{Some}
-use Rattle.proof_nodes.specs.Tables.{Node, grown}
+use Rattle.proof_nodes.specs.Tables.{grown}
 
 abbrev pub Link : Type 0
 Link = ℕ × ℕ

@@ -1,10 +1,10 @@
 -- Labels and saved steps by number, and the letters of these numbers.
-use Rattle.std.specs.Prelude.{◌≡◌, ◌≢◌, ℕ, ◌+◌, ◌==◌, List, [], ◌∷◌, ◌++◌, map, slice_get, Some}
+use Rattle.std.specs.Prelude.{◌≡◌, ◌≢◌, ℕ, ◌+◌, List, [], ◌∷◌, ◌++◌, map, slice_get, Some}
 use Rattle.std.specs.Prelude.{MatchOption, nat_eq}
 use Rattle.indexmap.specs.IndexMap.{get}
 use Rattle.mm_text.specs.Bytes.{Token}
 use Rattle.mm_text.specs.Numbers.{Spells}
-use Rattle.mm_database.specs.Steps.{Step, Builds}
+use Rattle.mm_database.specs.Steps.{Builds}
 use Rattle.mm_database.specs.Proofs.{ProofTree}
 use Rattle.mm_database.specs.ProofText.{lettered_steps}
 use Rattle.proof_nodes.specs.Walking.{labels_of, meanings_of}

@@ -1,5 +1,5 @@
 // Proof trees on a stack, each distinct node held once.
-ghost use Rattle.std.specs.Prelude.{◌≡◌, ◌≤◌, ◌<◌, ◌↔◌, IfOk, OnOk, IfSome, IsSome, length};
+ghost use Rattle.std.specs.Prelude.{◌≡◌, ◌≤◌, ◌<◌, ◌↔◌, ◌+◌, ◌-◌, IfOk, OnOk, IfSome, IsSome, length};
 ghost use Rattle.std.specs.Prelude.{slice_get, Some, ℕ, ◌^◌, ◌++◌, ◌∷◌, []};
 ghost use Rattle.mm_text.specs.Bytes.{Token};
 ghost use Rattle.proof_nodes.specs.Tables.{depth_of, empty_table, stack_trees, tree_of, with_cited};
@@ -80,6 +80,7 @@ impl ProofNodes {
         ensures cited { OnOk result
             ((token : ℕ → Token) → stack_trees token self.new
             ≡ with_cited (token label) takes (stack_trees token self.old)) }
+        ensures depth { OnOk result (depth_of self.new ≡ depth_of self.old - takes + 1) }
         ensures kept { KeepsNodes self.old self.new }
         ensures labels { (bound : ℕ) → LabelsBelow bound self.old → label < bound
             → LabelsBelow bound self.new }
@@ -106,6 +107,7 @@ impl ProofNodes {
         ensures pushed { OnOk result
             ((token : ℕ → Token) → stack_trees token self.new
             ≡ stack_trees token self.old ++ tree_of token self.old node.0 ∷ []) }
+        ensures depth { OnOk result (depth_of self.new ≡ depth_of self.old + 1) }
         ensures kept { KeepsNodes self.old self.new }
         ensures labels { (bound : ℕ) → LabelsBelow bound self.old → LabelsBelow bound self.new }
     {

@@ -1,1 +1,74 @@
 // Small proofs, and the labels and letters of their compressed proofs.
+use crate::ProofNodes;
+use std::test::Fail;
+
+#[test]
+fn lists_labels_in_the_order_of_their_first_use(rt: HostRuntime) -> Result<(), Fail> {
+    let mut nodes = ProofNodes::new(rt.alloc());
+    nodes.cite(11, 0)?;
+    nodes.cite(30, 0)?;
+    nodes.cite(20, 2)?;
+    let proof = nodes.compress(&[10, 11])?;
+    assert_eq!(rt; proof.listed.as_slice(), &[30, 20]);
+    assert_eq!(rt; proof.letters.as_slice(), b"BCD");
+    Ok(())
+}
+
+#[test]
+fn saves_a_tree_once_and_repeats_it(rt: HostRuntime) -> Result<(), Fail> {
+    let mut nodes = ProofNodes::new(rt.alloc());
+    nodes.cite(10, 0)?;
+    nodes.cite(20, 1)?;
+    nodes.cite(10, 0)?;
+    nodes.cite(20, 1)?;
+    nodes.cite(30, 2)?;
+    let proof = nodes.compress(&[10])?;
+    assert_eq!(rt; proof.listed.as_slice(), &[20, 30]);
+    assert_eq!(rt; proof.letters.as_slice(), b"ABZDC");
+    Ok(())
+}
+
+#[test]
+fn pushes_a_known_node_again(rt: HostRuntime) -> Result<(), Fail> {
+    let mut nodes = ProofNodes::new(rt.alloc());
+    nodes.cite(10, 0)?;
+    nodes.cite(20, 1)?;
+    if let Some(node) = nodes.last() {
+        nodes.repeat(node)?;
+        nodes.cite(30, 2)?;
+        let proof = nodes.compress(&[10])?;
+        assert_eq!(rt; proof.letters.as_slice(), b"ABZDC");
+    }
+    Ok(())
+}
+
+#[test]
+fn never_saves_a_leaf(rt: HostRuntime) -> Result<(), Fail> {
+    let mut nodes = ProofNodes::new(rt.alloc());
+    nodes.cite(10, 0)?;
+    nodes.cite(10, 0)?;
+    nodes.cite(20, 0)?;
+    nodes.cite(20, 0)?;
+    nodes.cite(30, 4)?;
+    let proof = nodes.compress(&[10])?;
+    assert_eq!(rt; proof.letters.as_slice(), b"AABBC");
+    Ok(())
+}
+
+#[test]
+fn spells_numbers_past_20_and_past_120(rt: HostRuntime) -> Result<(), Fail> {
+    let mut mandatory = Vec::new(rt.alloc());
+    for label in 0..121 {
+        mandatory.push(label)?;
+    }
+    let mut nodes = ProofNodes::new(rt.alloc());
+    nodes.cite(19, 0)?;
+    nodes.cite(20, 0)?;
+    nodes.cite(119, 0)?;
+    nodes.cite(120, 0)?;
+    nodes.cite(121, 4)?;
+    let proof = nodes.compress(&mandatory)?;
+    assert_eq!(rt; proof.listed.as_slice(), &[121]);
+    assert_eq!(rt; proof.letters.as_slice(), b"TUAYTUUAUUB");
+    Ok(())
+}

@@ -1,4 +1,4 @@
-use Rattle.std.proofs.Common.{◌≡◌, ◌∷◌, [], length, arith}
+use Rattle.std.proofs.Common.{◌≡◌, length, arith}
 use Rattle.proof_nodes.proofs.Placing.{places-more}
 use Rattle.proof_nodes.proofs.letters.add_label.Goals as goal
 

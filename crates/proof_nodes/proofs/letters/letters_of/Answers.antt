@@ -1,4 +1,4 @@
-use Rattle.std.proofs.Common.{◌++◌, ◌∷◌, [], List, ℕ, sym, subst, take}
+use Rattle.std.proofs.Common.{[], List, sym, subst, take}
 use Rattle.std.proofs.lemmas.List.{take_more}
 use Rattle.proof_nodes.specs.Numbering.{SpellsSteps}
 use Rattle.proof_nodes.specs.declared.walk.ProofStep.{ProofStep}

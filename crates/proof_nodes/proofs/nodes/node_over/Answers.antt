@@ -1,8 +1,7 @@
 use Rattle.std.proofs.Common.{◌≡◌, List, ap, ◌∙◌, ℕ, Some}
 use Rattle.std.specs.Prelude.{slice_get}
-use Rattle.proof_nodes.proofs.TableLaws.{Extended, extended, links_only, key-node, if_ok}
-use Rattle.proof_nodes.specs.Tables.{Node}
-use Rattle.proof_nodes.specs.TableView.{node_of, nodes_of}
+use Rattle.proof_nodes.proofs.TableLaws.{extended, links_only, key-node, if_ok}
+use Rattle.proof_nodes.specs.TableView.{nodes_of}
 use Rattle.proof_nodes.proofs.TableLaws.{keys-kept}
 use Rattle.proof_nodes.proofs.nodes.node_over.Goals as goal
 

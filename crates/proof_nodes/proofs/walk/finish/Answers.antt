@@ -1,4 +1,4 @@
-use Rattle.std.proofs.Common.{◌≡◌, ◌++◌, ◌∷◌, [], List, refl, ap, ◌∙◌}
+use Rattle.std.proofs.Common.{◌++◌, ◌∷◌, [], refl, ap, ◌∙◌}
 use Rattle.proof_nodes.specs.TableView.{nodes_of}
 use Rattle.proof_nodes.specs.declared.walk.ProofStep.{ProofStep}
 use Rattle.proof_nodes.proofs.Tasks.{finishes, node-at}

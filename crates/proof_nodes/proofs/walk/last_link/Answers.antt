@@ -1,8 +1,7 @@
-use Rattle.std.proofs.Common.{◌≡◌, ◌<◌, ◌≤◌, ◌-◌, ◌+◌, ◌++◌, ◌∷◌, [], ℕ, length, arith, ap, ◌∙◌}
-use Rattle.std.proofs.Common.{slice_index_or, Some}
-use Rattle.std.specs.Prelude.{slice_get}
+use Rattle.std.proofs.Common.{◌≡◌, ◌<◌, ◌≤◌, ◌-◌, ◌+◌, length, arith, ap, ◌∙◌}
+use Rattle.std.proofs.Common.{slice_index_or}
 use Rattle.std.proofs.lemmas.Option.{slice_get-get_or}
-use Rattle.proof_nodes.specs.Links.{parts_of, Link}
+use Rattle.proof_nodes.specs.Links.{parts_of}
 use Rattle.proof_nodes.proofs.Chains.{parts_of-link}
 use Rattle.proof_nodes.proofs.walk.last_link.Goals as goal
 

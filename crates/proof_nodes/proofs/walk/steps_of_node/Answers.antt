@@ -1,4 +1,4 @@
-use Rattle.std.proofs.Common.{◌≡◌, ◌<◌, ◌++◌, ◌∷◌, [], ℕ, List, length, map, refl, subst, sym, ap, ◌∙◌, arith}
+use Rattle.std.proofs.Common.{◌≡◌, ◌<◌, ◌++◌, ◌∷◌, [], List, length, map, refl, subst, sym, ap, ◌∙◌, arith}
 use Rattle.std.proofs.lemmas.List.{nil_from_length}
 use Rattle.proof_nodes.specs.Tables.{AllBelow}
 use Rattle.proof_nodes.specs.TableView.{nodes_of}
@@ -7,7 +7,7 @@ use Rattle.proof_nodes.specs.declared.walk.Task.{Task}
 use Rattle.proof_nodes.specs.declared.walk.Task.TheVariants.{Visit}
 use Rattle.proof_nodes.proofs.Trees.{length-mapped}
 use Rattle.proof_nodes.proofs.TableLaws.{parts-below}
-use Rattle.proof_nodes.proofs.Walks.{Holds, holds_first, holds_last, keeps_next, left_of}
+use Rattle.proof_nodes.proofs.Walks.{Holds, holds_last, keeps_next, left_of}
 use Rattle.proof_nodes.proofs.Walks.{keeps_first, task-within}
 use Rattle.proof_nodes.proofs.Weights.{smaller}
 use Rattle.proof_nodes.proofs.walk.steps_of_node.Goals as goal

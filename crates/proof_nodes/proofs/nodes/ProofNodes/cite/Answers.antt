@@ -1,7 +1,6 @@
-use Rattle.std.proofs.Common.{◌≡◌, ℕ, ◌∷◌, [], ◌++◌, ◌-◌, ◌<◌, ◌≤◌, List, length, subst, sym, ap, ◌∙◌}
+use Rattle.std.proofs.Common.{◌≡◌, ℕ, ◌∷◌, [], ◌++◌, ◌-◌, List, length, subst, sym, ap, ◌∙◌}
 use Rattle.std.proofs.Common.{drop, take, Some, arith}
 use Rattle.std.specs.Prelude.{slice_get}
-use Rattle.mm_text.specs.Bytes.{Token}
 use Rattle.proof_nodes.specs.Tables.{Node, Table, AllBelow, KeepsNodes, LabelsBelow, stack_trees}
 use Rattle.proof_nodes.specs.Tables.{with_cited}
 use Rattle.proof_nodes.specs.TableView.{nodes_of}

@@ -1,6 +1,5 @@
 use Rattle.std.proofs.Common.{◌≡◌, ◌∷◌, [], ◌<◌, length, subst, sym, ap, ◌∙◌}
 use Rattle.proof_nodes.specs.Tables.{Table, AllBelow}
-use Rattle.proof_nodes.specs.TableView.{nodes_of}
 use Rattle.proof_nodes.proofs.Growing.{AllBelow-append}
 use Rattle.proof_nodes.proofs.Trees.{length-mapped}
 use Rattle.proof_nodes.proofs.nodes.ProofNodes.repeat.Goals as goal
