@@ -2,7 +2,7 @@
 use Rattle.std.proofs.Common.{◌≡◌, ℕ, ◌<◌, ◌≤◌, Bool, true, false, if◌then◌else◌, List, ◌∷◌, []}
 use Rattle.std.proofs.Common.{◌++◌, length, Some, refl, sym, ap, ◌∙◌, slice_index_or, get_or}
 use Rattle.std.proofs.Common.{append_assoc, Result, Ok, Err}
-use Rattle.std.specs.Prelude.{slice_get, nat_eq, OnOk}
+use Rattle.std.specs.Prelude.{slice_get, nat_eq, OnOk, OnErr}
 use Rattle.std.specs.List.{position}
 use Rattle.std.proofs.lemmas.Bool.{eqb-true}
 use Rattle.std.proofs.lemmas.List.Quantifiers.{position-Some}
@@ -59,3 +59,11 @@ visited links keys n old new tasks lt first whole b d =
 pub on_ok : {A E : Type 0} (r : Result A E) {P Q : Type 0} → (P → Q) → OnOk r P → OnOk r Q
 on_ok (Ok x) f h = f h
 on_ok (Err e) f h = tt
+
+pub on_err : {A E : Type 0} (r : Result A E) {P Q : Type 0} → (P → Q) → OnErr r P → OnErr r Q
+on_err (Ok x) f h = tt
+on_err (Err e) f h = f h
+
+pub if_err : {A E : Type 0} (r : Result A E) {P : Type 0} → P → OnErr r P
+if_err (Ok x) p = tt
+if_err (Err e) p = p

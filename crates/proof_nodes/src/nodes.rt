@@ -1,5 +1,5 @@
 // Proof trees on a stack, each distinct node held once.
-ghost use Rattle.std.specs.Prelude.{◌≡◌, ◌≤◌, ◌<◌, ◌↔◌, ◌+◌, ◌-◌, IfOk, OnOk, IfSome, IsSome, length};
+ghost use Rattle.std.specs.Prelude.{◌≡◌, ◌≤◌, ◌<◌, ◌↔◌, ◌+◌, ◌-◌, IfOk, OnOk, OnErr, IfSome, IsSome, length};
 ghost use Rattle.std.specs.Prelude.{slice_get, Some, ℕ, ◌^◌, ◌++◌, ◌∷◌, []};
 ghost use Rattle.mm_text.specs.Bytes.{Token};
 ghost use Rattle.proof_nodes.specs.Tables.{depth_of, empty_table, stack_trees, tree_of, with_cited};
@@ -73,22 +73,24 @@ impl ProofNodes {
 
     /// Takes that many trees from the stack, and pushes the tree with this label over them. The
     /// last tree on the stack is the last part. A node that is there already is not stored again.
-    /// `AllocError`: out of memory; then trees may be gone from the stack. It costs a look-up for
-    /// each part and one for the label.
+    /// `AllocError`: out of memory; then nothing changes. It costs a look-up for each part and one
+    /// for the label.
     pub fn cite(&mut self, label: usize, takes: usize) -> Result<(), AllocError>
         requires { takes ≤ depth_of self.old }
         ensures cited { OnOk result
             ((token : ℕ → Token) → stack_trees token self.new
             ≡ with_cited (token label) takes (stack_trees token self.old)) }
         ensures depth { OnOk result (depth_of self.new ≡ depth_of self.old - takes + 1) }
+        ensures err { OnErr result (self.new ≡ self.old) }
         ensures kept { KeepsNodes self.old self.new }
         ensures labels { (bound : ℕ) → LabelsBelow bound self.old → label < bound
             → LabelsBelow bound self.new }
     {
+        self.stack.reserve(1)?;
         let below = self.stack.len() - takes;
         let node = node_over(&mut self.links, &mut self.keys, label, &self.stack[below..])?;
         self.stack.truncate(below);
-        self.stack.push(node)?;
+        self.stack.push(node).unwrap();
         Ok(())
     }
 
@@ -108,6 +110,7 @@ impl ProofNodes {
             ((token : ℕ → Token) → stack_trees token self.new
             ≡ stack_trees token self.old ++ tree_of token self.old node.0 ∷ []) }
         ensures depth { OnOk result (depth_of self.new ≡ depth_of self.old + 1) }
+        ensures err { OnErr result (self.new ≡ self.old) }
         ensures kept { KeepsNodes self.old self.new }
         ensures labels { (bound : ℕ) → LabelsBelow bound self.old → LabelsBelow bound self.new }
     {
@@ -147,6 +150,8 @@ fn node_over(
     ensures keys { AreKeys links.new.keys keys.new.keys }
     ensures gains { Gains (label, parts.now) (nodes_of links.old.keys keys.old.keys)
         (nodes_of links.new.keys keys.new.keys) }
+    ensures err { OnErr result (nodes_of links.new.keys keys.new.keys
+        ≡ nodes_of links.old.keys keys.old.keys) }
     ensures node { IfOk result (λ n.
         slice_get (nodes_of links.new.keys keys.new.keys) n ≡ Some (label, parts.now)) }
     ensures within { IfOk result (λ n. n < length keys.new.keys) }
@@ -192,6 +197,7 @@ fn place_of(pairs: &mut IndexSet<(usize, usize)>, pair: (usize, usize)) -> Resul
     ensures place { IfOk result (λ i. slice_get pairs.new.keys i ≡ Some pair) }
     ensures within { IfOk result (λ i. i < length pairs.new.keys) }
     ensures gains { Gains pair pairs.old.keys pairs.new.keys }
+    ensures err { OnErr result (pairs.new.keys ≡ pairs.old.keys) }
     ensures small { IfOk result (λ i. i < 2 ^ 63) }
 {
     let (place, _) = pairs.insert_full(pair)?;

@@ -2,7 +2,8 @@ use Rattle.std.proofs.Common.{◌≡◌, List, ap, ◌∙◌, ℕ, Some}
 use Rattle.std.specs.Prelude.{slice_get}
 use Rattle.proof_nodes.proofs.TableLaws.{extended, links_only, key-node, if_ok}
 use Rattle.proof_nodes.specs.TableView.{nodes_of}
-use Rattle.proof_nodes.proofs.TableLaws.{keys-kept}
+use Rattle.proof_nodes.proofs.TableLaws.{keys-kept, nodes-kept}
+use Rattle.proof_nodes.proofs.Tasks.{if_err, on_err}
 use Rattle.proof_nodes.proofs.nodes.node_over.Goals as goal
 
 pub returns-in_err-chain-clause-keys : goal.returns-in_err-chain-clause-keys
@@ -39,3 +40,17 @@ returns-clause-node c =
     (c.args.label, c.in_ok-chain.chain) is
     ∙ ap (λ (ns : List ℕ). Some (c.args.label, ns)) c.in_ok-chain.ensures.parts)
     c.place_of.ensures.place
+
+pub returns-in_err-chain-clause-err : goal.returns-in_err-chain-clause-err
+returns-in_err-chain-clause-err c =
+    if_err c.from_residual.result
+    (nodes-kept c.args.links.now.keys c.chain_of.new.links.keys c.args.keys.now.keys
+    c.chain_of.ensures.kept (λ i key at. (c.requires.keys i key at).0))
+
+pub returns-clause-err : goal.returns-clause-err
+returns-clause-err c =
+    on_err c.place_of.result
+    (λ same. ap (nodes_of c.chain_of.new.links.keys) same
+    ∙ nodes-kept c.args.links.now.keys c.chain_of.new.links.keys c.args.keys.now.keys
+    c.chain_of.ensures.kept (λ i key at. (c.requires.keys i key at).0))
+    c.place_of.ensures.err
