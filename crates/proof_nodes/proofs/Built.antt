@@ -25,14 +25,15 @@ built-push before steps [] between more tree behind (none, same) one = (
   subst (λ (ts : List ProofTree). Builds ts more tree behind) same one,
   (refl, refl),
 )
-built-push before steps (t ∷ trees) between more tree behind (first, rest, mid, is, one, all) last = (
-  first,
-  rest ++ more,
-  mid,
-  ap (λ (ss : List (Step Token)). ss ++ more) is ∙ append_assoc first rest more,
-  one,
-  built-push mid rest trees between more tree behind all last,
-)
+built-push before steps (t ∷ trees) between more tree behind (first, rest, mid, is, one, all) last
+    = (
+      first,
+      rest ++ more,
+      mid,
+      ap (λ (ss : List (Step Token)). ss ++ more) is ∙ append_assoc first rest more,
+      one,
+      built-push mid rest trees between more tree behind all last,
+    )
 
 -- steps, cut after some of the trees
 pub record Cut (before : List ProofTree) (steps : List (Step Token)) (front back : List ProofTree)

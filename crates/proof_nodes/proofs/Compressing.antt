@@ -78,7 +78,9 @@ module _ (bound : ℕ) (token : ℕ → Token) (told : AreToldApart bound token)
     where
       seam : (ls : List ℕ) (n : ℕ) → (i : ℕ) × (slice_get (ls ++ n ∷ []) i ≡ Some n)
       seam [] n = (0, refl)
-      seam (m ∷ ls) n = let r : (i : ℕ) × (slice_get (ls ++ n ∷ []) i ≡ Some n) = seam ls n in (suc r.0, r.1)
+      seam (m ∷ ls) n =
+          let r : (i : ℕ) × (slice_get (ls ++ n ∷ []) i ≡ Some n) = seam ls n in
+          (suc r.0, r.1)
 
   pub others : (front more labels : List ℕ) → AllBelow bound front → AllBelow bound labels
       → AreNew (front ++ more) labels
@@ -166,7 +168,8 @@ mutual
 cited-labels : (token : ℕ → Token) (steps : List ProofStep)
     → cited_in (meanings_of token steps) ≡ map token (labels_of steps)
 cited-labels token [] = refl
-cited-labels token (Cites l ∷ steps) = ap (λ (ts : List Token). token l ∷ ts) (cited-labels token steps)
+cited-labels token (Cites l ∷ steps) =
+    ap (λ (ts : List Token). token l ∷ ts) (cited-labels token steps)
 cited-labels token (CitesAndSaves l ∷ steps) =
     ap (λ (ts : List Token). token l ∷ ts) (cited-labels token steps)
 cited-labels token (Repeats n ∷ steps) = cited-labels token steps
@@ -200,7 +203,8 @@ pub compresses : (bound : ℕ) (token : ℕ → Token) (tree : ProofTree) (saved
     → MeansSteps mandatory steps listed letters → Builds [] (meanings_of token steps) tree saved
     → Compresses (map token mandatory) tree (proof_text token listed letters)
 compresses bound token tree saved mandatory listed letters steps told below labels means builds =
-    let all : AllBelow bound listed = AllBelow-among bound (labels_of steps) listed labels means.used in
+    let all : AllBelow bound listed =
+    AllBelow-among bound (labels_of steps) listed labels means.used in
     record {
       listed = map token listed;
       letters = letters;

@@ -47,7 +47,8 @@ pub keys-more : (links : List Link) (keys new : List (ℕ × ℕ)) (key : ℕ ×
 keys-more links keys new key are le below (inl same) = subst (AreKeys links) (sym same) are
 keys-more links keys new key are le below (inr more) =
     subst (AreKeys links) (sym more)
-    (λ i other is. key_more links keys key i other are le below (slice_get-push keys key i other is))
+    (λ i other is. key_more links keys key i other are le below
+    (slice_get-push keys key i other is))
 
 pub nodes-gain : (links : List Link) (keys new : List (ℕ × ℕ)) (label chain : ℕ)
     (parts : List ℕ) → Gains (label, chain) keys new → parts_of links chain ≡ parts
@@ -59,7 +60,8 @@ nodes-gain links keys new label chain parts (inr more) is =
 
 pub length-gain : {A : Type 0} (x : A) (old new : List A) → Gains x old new
     → length old ≤ length new
-length-gain x old new (inl same) = let e : length new ≡ length old = ap length same in omega (arith, e)
+length-gain x old new (inl same) =
+    let e : length new ≡ length old = ap length same in omega (arith, e)
 length-gain x old new (inr more) =
     let e : length new ≡ length old + 1 = ap length more ∙ length-append old (x ∷ []) in
     omega (arith, e)

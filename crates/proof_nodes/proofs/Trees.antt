@@ -126,7 +126,8 @@ cited token label takes below n old new stack at all gains is fits =
     (AllBelow-drop (length old) below stack all)
     ∙ map-drop (tree_at (node_trees token old)) below stack in
     let top : tree_at (node_trees token new) n
-    ≡ proof_node (token label) (forest_of (drop below (map (tree_at (node_trees token old)) stack))) =
+    ≡ proof_node (token label)
+    (forest_of (drop below (map (tree_at (node_trees token old)) stack))) =
     tree_of-node token new n (label, drop below stack) fits is
     ∙ ap (λ ts. proof_node (token label) (forest_of ts)) back in
     map-append (tree_at (node_trees token new)) (take below stack) (n ∷ [])

@@ -41,7 +41,8 @@ Places label place old new =
 
 -- a step with a label, and the same step with the label's place in a table
 abbrev pub IsPlaced : List ℕ → ProofStep → ProofStep → Type 0
-IsPlaced table (Cites label) placed = (p : ℕ) × (placed ≡ Cites p) × (slice_get table p ≡ Some label)
+IsPlaced table (Cites label) placed =
+    (p : ℕ) × (placed ≡ Cites p) × (slice_get table p ≡ Some label)
 IsPlaced table (CitesAndSaves label) placed =
     (p : ℕ) × (placed ≡ CitesAndSaves p) × (slice_get table p ≡ Some label)
 IsPlaced table (Repeats n) placed = placed ≡ Repeats n

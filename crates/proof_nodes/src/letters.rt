@@ -1,5 +1,5 @@
 // The listed labels and the letters of a compressed proof, from its steps.
-ghost use Rattle.std.specs.Prelude.{◌≡◌, ◌≤◌, ◌+◌, ◌++◌, ◌∷◌, [], IfOk, OnOk, length, List, ℕ};
+ghost use Rattle.std.specs.Prelude.{◌≡◌, ◌+◌, ◌++◌, ◌∷◌, [], IfOk, OnOk, List, ℕ};
 ghost use Rattle.mm_text.specs.Numbers.{Spells};
 ghost use Rattle.proof_nodes.specs.Numbering.{AreAmong, AreNew, ArePlaced, HasPlaces, IsPlaced};
 ghost use Rattle.proof_nodes.specs.Numbering.{MeansSteps, Places, SpellsStep, SpellsSteps};
@@ -61,7 +61,8 @@ fn mandatory_places(alloc: Global, mandatory: &[usize]) -> Result<Numbering, All
 fn add_label(numbering: &mut Numbering, label: usize) -> Result<(), AllocError>
     requires { HasPlaces numbering.old }
     ensures places { OnOk result (HasPlaces numbering.new) }
-    ensures table { OnOk result (numbering.new.table.items ≡ numbering.old.table.items ++ label ∷ []) }
+    ensures table { OnOk result
+        (numbering.new.table.items ≡ numbering.old.table.items ++ label ∷ []) }
 {
     numbering.places.insert(label, numbering.table.len())?;
     numbering.table.push(label)?;

@@ -9,8 +9,6 @@
 
 mod letters;
 mod nodes;
-#[cfg(test)]
-mod tests;
 mod walk;
 
 pub use letters::CompressedProof;

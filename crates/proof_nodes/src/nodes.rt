@@ -1,6 +1,6 @@
 // Proof trees on a stack, each distinct node held once.
-ghost use Rattle.std.specs.Prelude.{◌≡◌, ◌≤◌, ◌<◌, ◌↔◌, ◌+◌, ◌-◌, IfOk, OnOk, OnErr, IfSome, IsSome, length};
-ghost use Rattle.std.specs.Prelude.{slice_get, Some, ℕ, ◌^◌, ◌++◌, ◌∷◌, []};
+ghost use Rattle.std.specs.Prelude.{◌≡◌, ◌≤◌, ◌<◌, ◌↔◌, ◌+◌, ◌-◌, ℕ, ◌++◌, ◌∷◌, [], length, slice_get};
+ghost use Rattle.std.specs.Prelude.{◌^◌, Some, IfSome, IsSome, IfOk, OnOk, OnErr};
 ghost use Rattle.mm_text.specs.Bytes.{Token};
 ghost use Rattle.proof_nodes.specs.Tables.{depth_of, empty_table, stack_trees, tree_of, with_cited};
 ghost use Rattle.proof_nodes.specs.Tables.{IsNodeOf, IsOnTop, KeepsNodes, AllBelow, LabelsBelow};
@@ -196,9 +196,9 @@ fn next_chain(
 fn place_of(pairs: &mut IndexSet<(usize, usize)>, pair: (usize, usize)) -> Result<usize, AllocError>
     ensures place { IfOk result (λ i. slice_get pairs.new.keys i ≡ Some pair) }
     ensures within { IfOk result (λ i. i < length pairs.new.keys) }
+    ensures small { IfOk result (λ i. i < 2 ^ 63) }
     ensures gains { Gains pair pairs.old.keys pairs.new.keys }
     ensures err { OnErr result (pairs.new.keys ≡ pairs.old.keys) }
-    ensures small { IfOk result (λ i. i < 2 ^ 63) }
 {
     let (place, _) = pairs.insert_full(pair)?;
     let _count = pairs.len();

@@ -1,6 +1,6 @@
 // The steps of a compressed proof, from a walk over the nodes of a tree. A stack of tasks replaces
 // recursion, so a deep tree needs no deep stack of calls.
-ghost use Rattle.std.specs.Prelude.{◌≡◌, ◌≤◌, ◌<◌, IfOk, OnOk, length, ◌++◌, ◌∷◌, [], if◌then◌else◌};
+ghost use Rattle.std.specs.Prelude.{◌≡◌, ◌≤◌, ◌<◌, ◌++◌, ◌∷◌, [], length, if◌then◌else◌, IfOk, OnOk};
 ghost use Rattle.proof_nodes.specs.Links.{parts_of, AreLinks};
 ghost use Rattle.proof_nodes.specs.TableView.{nodes_of, AreKeys};
 ghost use Rattle.proof_nodes.specs.Walking.{node_of_task, visits, BuildsNode, CitesNodes, Takes};

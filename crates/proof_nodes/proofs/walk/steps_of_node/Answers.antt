@@ -1,4 +1,5 @@
-use Rattle.std.proofs.Common.{◌≡◌, ◌<◌, ◌++◌, ◌∷◌, [], List, length, map, refl, subst, sym, ap, ◌∙◌, arith}
+use Rattle.std.proofs.Common.{◌≡◌, ◌<◌, ◌++◌, ◌∷◌, [], List, length, map, refl, subst, sym, ap}
+use Rattle.std.proofs.Common.{◌∙◌, arith}
 use Rattle.std.proofs.lemmas.List.{nil_from_length}
 use Rattle.proof_nodes.specs.Tables.{AllBelow}
 use Rattle.proof_nodes.specs.TableView.{nodes_of}
@@ -48,7 +49,8 @@ loop-task-init c =
 
 pub returns-clause-builds : goal.returns-clause-builds
 returns-clause-builds c token =
-    let none : length c.loop-task.walk.tasks.items ≡ 0 = omega (arith, c.in_default.ensures.cases) in
+    let none : length c.loop-task.walk.tasks.items ≡ 0 =
+    omega (arith, c.in_default.ensures.cases) in
     holds_last token (nodes_of c.args.links.now c.args.keys.now) c.args.root
     c.loop-task.walk.saved.keys c.loop-task.walk.steps.items
     (subst (λ (ts : List Task). Holds token (nodes_of c.args.links.now c.args.keys.now)

@@ -1,6 +1,5 @@
-use Rattle.std.proofs.Common.{rules}
 use Rattle.std.proofs.Common.{◌≡◌, ℕ, ◌∷◌, [], ◌++◌, ◌-◌, List, length, subst, sym, ap, ◌∙◌}
-use Rattle.std.proofs.Common.{drop, take, Some, arith}
+use Rattle.std.proofs.Common.{drop, take, Some, arith, rules}
 use Rattle.std.specs.Prelude.{slice_get}
 use Rattle.proof_nodes.specs.Tables.{Node, Table, AllBelow, KeepsNodes, LabelsBelow, stack_trees}
 use Rattle.proof_nodes.specs.Tables.{with_cited}
@@ -27,7 +26,8 @@ pub node_over-requires-clause-parts : goal.node_over-requires-clause-parts
 node_over-requires-clause-parts c =
     let below = c.len.result - c.args.takes in
     subst (AllBelow (length c.self.inside.keys.keys))
-    (sym (parts_taken c.deref.result.now c.self.inside.stack.items below (c.deref.ensures.value ∙ c.reserve.ensures.items)))
+    (sym (parts_taken c.deref.result.now c.self.inside.stack.items below
+    (c.deref.ensures.value ∙ c.reserve.ensures.items)))
     (AllBelow-drop (length c.self.inside.keys.keys) below c.self.inside.stack.items
     c.self.invariant.stack)
 
@@ -101,7 +101,8 @@ returns-clause-cited c token =
     let new = nodes_of c.node_over.new.links.keys c.node_over.new.keys.keys in
     let parts : take (length c.deref.result.now - below) (drop below c.deref.result.now)
     ≡ drop below c.self.inside.stack.items =
-    parts_taken c.deref.result.now c.self.inside.stack.items below (c.deref.ensures.value ∙ c.reserve.ensures.items) in
+    parts_taken c.deref.result.now c.self.inside.stack.items below
+    (c.deref.ensures.value ∙ c.reserve.ensures.items) in
     let gains : Gains {A = Node} (c.args.label, drop below c.self.inside.stack.items)
     (nodes_of c.self.inside.links.keys c.self.inside.keys.keys)
     (nodes_of c.node_over.new.links.keys c.node_over.new.keys.keys) =

@@ -1,5 +1,5 @@
 // Small proofs, and the labels and letters of their compressed proofs.
-use crate::ProofNodes;
+use proof_nodes::ProofNodes;
 use std::test::Fail;
 
 #[test]
