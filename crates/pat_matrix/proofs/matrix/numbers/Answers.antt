@@ -1,0 +1,9 @@
+use Rattle.std.proofs.Common.{◌∙◌, ◌++◌, ◌∷◌, [], ap, sym}
+use Rattle.pat_matrix.proofs.Loops.{numbers_from-more}
+use Rattle.pat_matrix.proofs.matrix.numbers.Goals as goal
+
+pub loop-number-preserved : goal.loop-number-preserved
+loop-number-preserved c =
+    c.in_ok-push.ensures.items
+    ∙ ap (λ ns. ns ++ c.loop-number.number ∷ []) c.loop-number.invariant
+    ∙ sym (numbers_from-more c.loop-number.number)

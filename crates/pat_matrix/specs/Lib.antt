@@ -1,0 +1,8 @@
+-- Public: what public clauses say, and public definitions of other crates.
+pub mod Collapsed
+pub mod Heads
+pub mod Positions
+pub mod Rows
+pub mod HeadView
+pub mod MatrixView
+pub mod MatrixLaws

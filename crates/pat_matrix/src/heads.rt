@@ -1,0 +1,150 @@
+// Heads of patterns.
+ghost use Rattle.std.specs.Prelude.{◌≡◌, ◌||◌, IfOk, OnOk};
+ghost use Rattle.term_core.specs.Values.{value_of};
+ghost use Rattle.term_core.specs.RulePatterns.{plain_pattern};
+ghost use Rattle.pat_matrix.specs.Heads.{PlainHead, of_value, head_eq, takes, lowers};
+ghost use Rattle.pat_matrix.specs.Heads.{lower_takes};
+ghost use Rattle.pat_matrix.specs.Rows.{width};
+ghost use Rattle.pat_matrix.specs.HeadView.{head_of, is_listed};
+
+use crate::order::Order;
+use indexmap::IndexSet;
+use rule_core::Subsorts;
+use std::alloc::AllocError;
+use std::rc::RcStr;
+use term_core::{RulePat, SortId, SymId, Value};
+
+/// The head of a term, as a row may ask for it. Contracts see it as a plain head.
+#[derive(PartialEq, Eq, Hash, Drop)]
+pub enum Head {
+    /// A whole number of a sort.
+    Int(SortId, i128),
+    /// A truth value of a sort.
+    Bool(SortId, bool),
+    /// A text of a sort.
+    Text(SortId, RcStr),
+    /// A constructor, and how many arguments it has.
+    Ctor(SymId, usize),
+    /// An injection: its source sort and its target sort.
+    Inj(SortId, SortId),
+}
+
+impl Head {
+    // The head of a domain value. An error: out of memory.
+    fn of_value(sort: SortId, value: &Value) -> Result<Head, AllocError>
+        ensures { IfOk result (λ h. head_of h ≡ of_value sort.0 (value_of value.now)) }
+    {
+        match value {
+            Value::Int(n) => Ok(Head::Int(sort, *n)),
+            Value::Bool(b) => Ok(Head::Bool(sort, *b)),
+            Value::Text(words) => Ok(Head::Text(sort, words.clone()?)),
+        }
+    }
+
+    // How many children a term with this head has.
+    pub(crate) fn width(&self) -> usize
+        ensures { result ≡ width (head_of self.now) }
+    {
+        match self {
+            Head::Ctor(_, count) => *count,
+            Head::Inj(..) => 1,
+            _ => 0,
+        }
+    }
+
+    // Whether it is the head of this domain value.
+    fn is_value(&self, sort: SortId, value: &Value) -> bool
+        ensures { result ≡ head_eq (of_value sort.0 (value_of value.now)) (head_of self.now) }
+    {
+        match (self, value) {
+            (Head::Int(own, n), Value::Int(m)) => sort == *own && *m == *n,
+            (Head::Bool(own, a), Value::Bool(b)) => sort == *own && *b == *a,
+            (Head::Text(own, a), Value::Text(b)) => sort == *own && b == a,
+            _ => false,
+        }
+    }
+}
+
+// Whether the pattern has this head.
+pub(crate) fn takes(pat: &RulePat, head: &Head, subsorts: &Subsorts) -> bool
+    ensures { result ≡ takes subsorts.now (plain_pattern pat.now) (head_of head.now) }
+{
+    match pat {
+        RulePat::Value(sort, value) => head.is_value(*sort, value),
+        RulePat::Ctor(sym, args) => match head {
+            Head::Ctor(own, count) => *sym == *own && args.len() == *count,
+            _ => false,
+        },
+        RulePat::Inj(from, to, below) => match head {
+            Head::Inj(own_from, own_to) => {
+                *to == *own_to && (*own_from == *from || lowers(below, *own_from, *from, subsorts))
+            }
+            _ => false,
+        },
+        RulePat::Var(_) => false,
+        RulePat::Call(..) => false,
+    }
+}
+
+// Whether the pattern is a variable, and the first sort is below the second.
+fn lowers(pat: &RulePat, a: SortId, b: SortId, subsorts: &Subsorts) -> bool
+    ensures { result ≡ lowers subsorts.now a.0 b.0 (plain_pattern pat.now) }
+{
+    match pat {
+        RulePat::Var(_) => subsorts.below(a, b),
+        _ => false,
+    }
+}
+
+// Adds the heads that the pattern has.
+pub(crate) fn add_heads(
+    pat: &RulePat,
+    order: &Order<'_>,
+    heads: &mut IndexSet<Head>,
+) -> Result<(), AllocError>
+    ensures { OnOk result ((h : PlainHead) → is_listed heads.new.keys h
+        ≡ (is_listed heads.old.keys h
+        || takes order.now.subsorts.now (plain_pattern pat.now) h)) }
+{
+    match pat {
+        RulePat::Value(sort, value) => add(Head::of_value(*sort, value)?, heads),
+        RulePat::Ctor(sym, args) => add(Head::Ctor(*sym, args.len()), heads),
+        RulePat::Inj(from, to, below) => {
+            add(Head::Inj(*from, *to), heads)?;
+            match &**below {
+                RulePat::Var(_) => add_lower(*from, *to, order, heads),
+                _ => Ok(()),
+            }
+        }
+        RulePat::Var(_) => Ok(()),
+        RulePat::Call(..) => Ok(()),
+    }
+}
+
+// Adds the injections to `to` from each sort below `from`.
+fn add_lower(
+    from: SortId,
+    to: SortId,
+    order: &Order<'_>,
+    heads: &mut IndexSet<Head>,
+) -> Result<(), AllocError>
+    ensures { OnOk result ((h : PlainHead) → is_listed heads.new.keys h
+        ≡ (is_listed heads.old.keys h
+        || lower_takes order.now.subsorts.now order.now.sorts from.0 to.0 h)) }
+{
+    for number in 0..order.sorts {
+        if order.subsorts.below(SortId(number), from) {
+            add(Head::Inj(SortId(number), to), heads)?;
+        }
+    }
+    Ok(())
+}
+
+// Adds one head.
+fn add(head: Head, heads: &mut IndexSet<Head>) -> Result<(), AllocError>
+    ensures { OnOk result ((h : PlainHead) → is_listed heads.new.keys h
+        ≡ (is_listed heads.old.keys h || head_eq (head_of head) h)) }
+{
+    heads.insert(head)?;
+    Ok(())
+}

@@ -1,0 +1,14 @@
+// Laws of rows, of positions and of heads.
+ghost use Rattle.pat_matrix.specs.MatrixLaws.{CollapsedMatchesTheSame, CollapsedIsCollapsed};
+ghost use Rattle.pat_matrix.specs.MatrixLaws.{CollapsedIsSorted, UntakenDoNotMatch};
+
+/// Has no effect at run time. It states facts about rows. Joining nested injections changes no
+/// match and no sort, and leaves no injection nested. A row does not match subjects that have,
+/// where it asks for a head, none that it takes: so the rows that `specialize` and `rest` leave out
+/// do not match.
+pub fn matrix_laws()
+    ensures same { CollapsedMatchesTheSame }
+    ensures collapsed { CollapsedIsCollapsed }
+    ensures sorted { CollapsedIsSorted }
+    ensures untaken { UntakenDoNotMatch }
+{}
