@@ -5,3 +5,6 @@ pub mod HeadLists
 pub mod LowerLaws
 pub mod Slices
 pub mod Loops
+pub mod TreeHits
+pub mod LinearRows
+pub mod TwinLaws

@@ -3,6 +3,9 @@ pub mod Collapsed
 pub mod Heads
 pub mod Positions
 pub mod Rows
+pub mod MatchTrees
+pub mod Occurrences
+pub mod TreeLaws
 pub mod HeadView
 pub mod MatrixView
 pub mod MatrixLaws

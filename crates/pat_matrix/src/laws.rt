@@ -1,6 +1,7 @@
 // Laws of rows, of positions and of heads.
 ghost use Rattle.pat_matrix.specs.MatrixLaws.{CollapsedMatchesTheSame, CollapsedIsCollapsed};
 ghost use Rattle.pat_matrix.specs.MatrixLaws.{CollapsedIsSorted, UntakenDoNotMatch};
+ghost use Rattle.pat_matrix.specs.TreeLaws.{TreeFindsMatches, FoundMatchByTwins};
 
 /// Has no effect at run time. It states facts about rows. Joining nested injections changes no
 /// match and no sort, and leaves no injection nested. A row does not match subjects that have,
@@ -11,4 +12,12 @@ pub fn matrix_laws()
     ensures collapsed { CollapsedIsCollapsed }
     ensures sorted { CollapsedIsSorted }
     ensures untaken { UntakenDoNotMatch }
+{}
+
+/// Has no effect at run time. It states that a matching tree for rows without nested injections
+/// finds just the rows that match, in their order. If every head for which a row asks was found,
+/// the row matches exactly if the occurrences of each variable stand for one term.
+pub fn tree_laws()
+    ensures hits { TreeFindsMatches }
+    ensures twins { FoundMatchByTwins }
 {}

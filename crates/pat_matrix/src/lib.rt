@@ -21,5 +21,5 @@ mod order;
 pub use cells::asked_at;
 pub use collapsing::collapsed;
 pub use heads::Head;
-pub use laws::matrix_laws;
+pub use laws::{matrix_laws, tree_laws};
 pub use matrix::Matrix;
