@@ -1,7 +1,8 @@
 -- Lists of heads that a set keeps.
 use Rattle.std.proofs.Common.{◌≡◌, Bool, true, false, List, [], ◌∷◌, ◌++◌, refl, sym, ◌∙◌, ap}
 use Rattle.std.specs.Prelude.{◌==◌, ◌&&◌, ◌||◌, if◌then◌else◌}
-use Rattle.std.specs.List.{list_any}
+use Rattle.std.specs.List.{list_any, position}
+use Rattle.std.proofs.Math.Path.{fun_ext}
 use Rattle.std.proofs.lemmas.List.Folds.{list_any-append}
 use Rattle.term_core.specs.TreeTest.{truth_eq}
 use mathlib.Core.Bool.{beq}
@@ -101,3 +102,10 @@ is_listed-insert ks k h = told (list_any (derived.ghosts.eq k) ks) refl where
       ap (λ (b : Bool). is_listed (if b then ks else ks ++ k ∷ []) h) is
       ∙ list_any-append (λ (l : Head). head_eq (head_of l) h) ks (k ∷ [])
       ∙ ap (λ (b : Bool). is_listed ks h || b) (or_false (head_eq (head_of k) h))
+
+-- the index of a head by the derived test
+pub found_index : (h : Head) (k : PlainHead) (ks : List Head) → head_of h ≡ k
+    → position (derived.ghosts.eq h) ks ≡ position (λ (l : Head). head_eq k (head_of l)) ks
+found_index h k ks is =
+    ap (λ (f : Head → Bool). position f ks)
+    (fun_ext (λ (l : Head). same_head h l ∙ ap (λ (j : PlainHead). head_eq j (head_of l)) is))

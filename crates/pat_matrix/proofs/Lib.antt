@@ -8,3 +8,5 @@ pub mod Loops
 pub mod TreeHits
 pub mod LinearRows
 pub mod TwinLaws
+pub mod AskedLoops
+pub mod ListedLaws

@@ -1,31 +1,27 @@
 -- When every head for which a row asks was found, matching only binds the occurrences of variables.
-use Rattle.std.proofs.Common.{◌≡◌, ◌+◌, ◌<◌, ◌≤◌, ℕ, zero, suc, Bool, true, false, List, [], ◌∷◌, ◌++◌}
-use Rattle.std.proofs.Common.{length, slice_get, Option, Some, None, refl, sym, ◌∙◌, ap, subst, arith}
-use Rattle.std.proofs.Common.{eq-eqb, max}
+use Rattle.std.proofs.Common.{◌≡◌, ◌+◌, ℕ, suc, Bool, true, false, List, [], ◌∷◌, ◌++◌}
+use Rattle.std.proofs.Common.{length, slice_get, Option, Some, None, refl, sym, ◌∙◌, ap, arith}
 use Rattle.std.specs.Prelude.{◌==◌, ◌&&◌, ◌||◌, if◌then◌else◌}
 use Rattle.std.specs.Option.{option_and_then}
 use Rattle.std.proofs.lemmas.Bool.{eqb-true, false≢true}
 use Rattle.term_core.specs.Terms.{Tree, leaf, node, inj, Forest, no_tree, more_trees}
 use Rattle.term_core.specs.Terms.{DomainValue}
-use Rattle.term_core.specs.Forests.{forest, trees, children}
-use Rattle.term_core.specs.TreeTest.{tree_eq, value_eq}
+use Rattle.term_core.specs.Forests.{trees, children}
+use Rattle.term_core.specs.TreeTest.{value_eq}
 use Rattle.term_core.specs.Patterns.{Pattern, Patterns, variable, domain_value, application}
 use Rattle.term_core.specs.Patterns.{injection, call, no_pattern, more_patterns, binding}
-use Rattle.term_core.specs.Instances.{patterns}
-use Rattle.term_core.proofs.Forests.{trees-forest}
 use Rattle.term_core.proofs.TreeTests.{Decides-tree_eq, Decides-value_eq}
 use Rattle.rule_core.specs.Subsorts.{is_below}
 use Rattle.rule_core.specs.MatchSteps.{lowered, bound_to, matched, all_matched}
 use Rattle.rule_core.proofs.Belows.{both_true}
 use Rattle.rule_core.proofs.MatchFound.{after}
 use Rattle.pat_matrix.specs.Collapsed.{IsCollapsed, AreCollapsed, HasOtherRoot}
-use Rattle.pat_matrix.specs.Heads.{PlainHead, of_value, of_constructor, of_injection, head_eq}
-use Rattle.pat_matrix.specs.Heads.{root, pattern_list, lowers, takes}
-use Rattle.pat_matrix.specs.Positions.{part, asking, asked, row_asks, tree_at, subject_at}
+use Rattle.pat_matrix.specs.Heads.{of_value, head_eq}
+use Rattle.pat_matrix.specs.Heads.{root, pattern_list, lowers}
+use Rattle.pat_matrix.specs.Positions.{asked, row_asks, tree_at, subject_at}
 use Rattle.pat_matrix.specs.MatrixLaws.{takes_root}
 use Rattle.pat_matrix.specs.Occurrences.{Place, Occurrence, occurrences, all_occurrences}
 use Rattle.pat_matrix.specs.Occurrences.{occurrences_under, lowered_child, tree_of_place}
-use Rattle.pat_matrix.proofs.PartLaws.{pattern_list-patterns}
 
 -- the substitution after each occurrence is bound in turn
 abbrev pub bind_occurrences : List Tree → List Occurrence → List (Option Tree)

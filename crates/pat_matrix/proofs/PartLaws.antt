@@ -290,3 +290,16 @@ constructor_head pairs p f ps n h is count =
     (ap (λ (k : ℕ). head_eq (of_constructor f k) h)
     (count ∙ sym (length-map ps plain_pattern)
     ∙ ap (λ (qs : List Pattern). length qs) (sym (pattern_list-patterns (map plain_pattern ps)))))
+
+-- a constructor takes the head of a term with the same symbol if the arguments are as many
+pub constructor_root : (pairs : List (ℕ × ℕ)) (p : Pattern) (t : Tree) (f g : ℕ)
+    (ps : List RulePat) (n m : ℕ) → p ≡ application f (plain_patterns ps)
+    → t ≡ node g (forest (children t)) → m ≡ length (children t) → (f == g) ≡ true
+    → n ≡ length ps → (n == m) ≡ takes pairs p (root t)
+constructor_root pairs p t f g ps n m is shows arity same count =
+    rw (is, ap root shows, same)
+    (ap (λ (k : ℕ). k == m)
+    (count ∙ sym (length-map ps plain_pattern)
+    ∙ ap (λ (qs : List Pattern). length qs) (sym (pattern_list-patterns (map plain_pattern ps))))
+    ∙ ap (λ (k : ℕ). length (pattern_list (plain_patterns ps)) == k)
+    (arity ∙ ap (λ (us : List Tree). length us) (sym (trees-forest (children t)))))

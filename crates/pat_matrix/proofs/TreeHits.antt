@@ -1,20 +1,18 @@
 -- A matching tree finds the rows that match, in their order.
-use Rattle.std.proofs.Common.{◌≡◌, ◌+◌, ◌<◌, ◌≤◌, nat_lt, arith, ◌⊎◌, inl, inr, ℕ, Bool, true, false, List, [], ◌∷◌, slice_get}
+use Rattle.std.proofs.Common.{◌≡◌, ◌+◌, ◌<◌, ◌≤◌, nat_lt, arith, ◌⊎◌, inl, inr, ℕ, Bool, true, false, List, [], ◌∷◌}
 use Rattle.std.proofs.Common.{Option, Some, None, option_map, refl, sym, ◌∙◌, ap, subst}
 use Rattle.std.specs.Prelude.{◌||◌, if◌then◌else◌, filter, is_some, not}
 use Rattle.std.specs.List.{list_any}
 use Rattle.std.proofs.lemmas.Bool.{false≢true, lt-ltb, le-ltb, ltb-true, ltb-false}
 use Rattle.term_core.specs.Terms.{Tree}
-use Rattle.term_core.specs.Forests.{forest}
 use Rattle.term_core.specs.Patterns.{Pattern}
 use Rattle.term_core.specs.Instances.{patterns}
-use Rattle.rule_core.specs.MatchSteps.{all_matched}
 use Rattle.pat_matrix.specs.Collapsed.{AreCollapsed}
-use Rattle.pat_matrix.specs.Heads.{PlainHead, head_eq, root, takes}
+use Rattle.pat_matrix.specs.Heads.{PlainHead, head_eq, root}
 use Rattle.pat_matrix.specs.Positions.{row_asks, subject_at}
 use Rattle.pat_matrix.specs.Rows.{Row, is_wild, wants, takes_there, specialized, others, some_takes}
 use Rattle.pat_matrix.specs.MatchTrees.{MatchTree, end, hit, test, in_order, Branches, no_branch}
-use Rattle.pat_matrix.specs.MatchTrees.{branch, has_branch, IsMatchTree, AreBranches, AllCollapsed}
+use Rattle.pat_matrix.specs.MatchTrees.{branch, has_branch, AreBranches, AllCollapsed}
 use Rattle.pat_matrix.specs.MatchTrees.{hits, branch_hits, matching_rows, row_match, rows_from, AreRising}
 use Rattle.pat_matrix.specs.MatchTrees.{Findings}
 use Rattle.pat_matrix.specs.MatrixLaws.{takes_root}
@@ -330,7 +328,7 @@ mutual
       (after_hit pairs all from n ps later ts up (subst R is same)) tree)
       ∙ ap (λ (rs : List Row). matching_rows pairs rs ts) (sym is)
   tree_finds_matches pairs all (test position bs other) from rows found ts coll rising same
-      (asks, new, heads, branches, tree) =
+      (asks, reached, new, heads, branches, tree) =
       test_finds pairs all bs position rows ts (hits pairs all other ts) (subject_at ts position)
       coll refl heads
       (branches_find pairs all bs position from rows found ts (hits pairs all other ts) coll

@@ -1,31 +1,31 @@
 -- A row of which every head was found matches exactly if its twins agree.
 use Rattle.std.proofs.Common.{◌≡◌, ◌≢◌, ◌⊎◌, inl, inr, ◌+◌, ◌<◌, ◌≤◌, ℕ, Bool, true, false, List, []}
-use Rattle.std.proofs.Common.{◌∷◌, ◌++◌, length, set, slice_get, Option, Some, None, refl, sym, ◌∙◌}
-use Rattle.std.proofs.Common.{ap, subst, arith, max, replicate, eq-eqb}
-use Rattle.std.specs.Prelude.{◌==◌, ◌&&◌, ◌||◌, if◌then◌else◌, is_some}
+use Rattle.std.proofs.Common.{◌∷◌, ◌++◌, length, set, Option, Some, None, refl, sym, ◌∙◌}
+use Rattle.std.proofs.Common.{ap, subst, arith, replicate, eq-eqb}
+use Rattle.std.specs.Prelude.{◌==◌, ◌&&◌, if◌then◌else◌, is_some}
 use Rattle.std.specs.Option.{option_and_then}
 use Rattle.std.proofs.lemmas.Bool.{eqb-true, false≢true}
 use Rattle.std.proofs.lemmas.List.{length-set, length-replicate}
-use Rattle.term_core.specs.Terms.{Tree, leaf, node, inj, Forest, no_tree, more_trees}
-use Rattle.term_core.specs.Forests.{forest, trees, children}
+use Rattle.term_core.specs.Terms.{Tree, leaf, node, inj}
+use Rattle.term_core.specs.Forests.{forest, trees}
 use Rattle.term_core.specs.TreeTest.{tree_eq}
 use Rattle.term_core.specs.Patterns.{Pattern, Patterns, variable, domain_value, application}
 use Rattle.term_core.specs.Patterns.{injection, call, no_pattern, more_patterns, binding}
 use Rattle.term_core.specs.Instances.{patterns}
 use Rattle.term_core.proofs.Forests.{trees-forest}
-use Rattle.rule_core.specs.MatchSteps.{lowered, bound_to, matched, all_matched}
+use Rattle.rule_core.specs.MatchSteps.{lowered, bound_to}
 use Rattle.rule_core.proofs.Belows.{both_true}
 use Rattle.rule_core.proofs.Bindings.{same_or_other, binding-set_same, binding-set_other}
 use Rattle.rule_core.proofs.Bindings.{binding-replicate}
 use Rattle.pat_matrix.specs.Collapsed.{IsCollapsed, AreCollapsed, HasOtherRoot}
-use Rattle.pat_matrix.specs.Heads.{pattern_list, lowers}
+use Rattle.pat_matrix.specs.Heads.{pattern_list}
 use Rattle.pat_matrix.specs.Positions.{subject_at}
-use Rattle.pat_matrix.specs.MatchTrees.{room, rooms, row_match}
+use Rattle.pat_matrix.specs.MatchTrees.{room, rooms}
 use Rattle.pat_matrix.specs.Occurrences.{Place, Occurrence, occurrences, all_occurrences}
 use Rattle.pat_matrix.specs.Occurrences.{occurrences_under, lowered_child, tree_of_place}
-use Rattle.pat_matrix.specs.Occurrences.{row_occurrences, first_place, twins, row_twins}
+use Rattle.pat_matrix.specs.Occurrences.{row_occurrences, first_place, twins}
 use Rattle.pat_matrix.specs.Occurrences.{seen_after, twin_before}
-use Rattle.pat_matrix.specs.Occurrences.{same_trees, twins_agree}
+use Rattle.pat_matrix.specs.Occurrences.{twins_agree}
 use Rattle.pat_matrix.specs.TreeLaws.{FoundMatchByTwins}
 use Rattle.pat_matrix.proofs.PartLaws.{pattern_list-patterns}
 use Rattle.pat_matrix.proofs.LinearRows.{bind_occurrences, Agrees, AllAgree, StandsAt}

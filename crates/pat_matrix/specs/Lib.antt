@@ -5,6 +5,7 @@ pub mod Positions
 pub mod Rows
 pub mod MatchTrees
 pub mod Occurrences
+pub mod PlaceView
 pub mod TreeLaws
 pub mod HeadView
 pub mod MatrixView

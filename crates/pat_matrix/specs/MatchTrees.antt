@@ -1,9 +1,10 @@
 -- Matching trees (Maranget 2008, "Compiling Pattern Matching to Good Decision Trees"). A tree looks
 -- at positions of the subjects, one after another, until a row's heads are all found. The rows that
 -- it finds are those that match, in their order.
-use Rattle.std.specs.Prelude.{◌≡◌, ◌+◌, ◌||◌, max, ℕ, Bool, true, false, List, [], ◌∷◌, Contains}
+use Rattle.std.specs.Prelude.{◌≡◌, ◌+◌, ◌||◌, max, ℕ, Bool, true, false, List, [], ◌∷◌, ◌++◌}
+use Rattle.std.specs.Prelude.{Contains}
 use Rattle.std.specs.Prelude.{Option, Some, None, option_map, is_some, if◌then◌else◌, replicate, not}
-use Rattle.std.specs.Prelude.{◌≤◌, filter, nat_lt}
+use Rattle.std.specs.Prelude.{◌≤◌, ◌<◌, ◌⊎◌, filter, nat_lt}
 use Rattle.std.specs.List.{list_any}
 use Rattle.term_core.specs.Terms.{Tree}
 use Rattle.term_core.specs.Forests.{forest}
@@ -14,7 +15,7 @@ use Rattle.rule_core.specs.MatchSteps.{all_matched}
 use Rattle.pat_matrix.specs.Collapsed.{AreCollapsed}
 use Rattle.pat_matrix.specs.Heads.{PlainHead, head_eq, root, takes}
 use Rattle.pat_matrix.specs.Positions.{row_asks, subject_at}
-use Rattle.pat_matrix.specs.Rows.{Row, is_wild, specialized, others, some_takes}
+use Rattle.pat_matrix.specs.Rows.{Row, is_wild, specialized, others, some_takes, width}
 
 -- A tree ends; or it finds a row, with its patterns, and goes on with the later rows; or it tests a
 -- position, with a branch for each head and a tree for every other head; or it tries all rows from a
@@ -46,13 +47,20 @@ IsFound pairs found ps =
     (position : List ℕ) (q : Pattern) → row_asks ps position ≡ Some q
     → (h : PlainHead) × Contains found (position, Some h) × (takes pairs q h ≡ true)
 
+-- the position is that of a subject, or of a child of a term whose head was found
+abbrev pub IsReached : Findings → List ℕ → Type 0
+IsReached found position =
+    (parent : List ℕ) × (i : ℕ) × (position ≡ parent ++ i ∷ [])
+    × ((parent ≡ [])
+    ⊎ ((h : PlainHead) × Contains found (parent, Some h) × (i < width h)))
+
 -- one of the rows asks the position
 abbrev pub some_asks : List ℕ → List Row → Bool
 some_asks position rows = list_any (λ (r : Row). not (is_wild (row_asks r.1 position))) rows
 
 -- The tree is one for these rows after these findings, when the rows before the number are done
 -- with. A hit is the first row, of which every head was found. A test is at a position that a row
--- asks and that was not tested. It has one branch for each head that a row takes there, for the rows
+-- asks, that is reached and that was not tested. It has one branch for each head that a row takes there, for the rows
 -- that can match subjects with that head. The rows that ask nothing there are left for every other
 -- head.
 abbrev mutual
@@ -62,11 +70,11 @@ abbrev mutual
       (later : List Row) × (rows ≡ (n, ps) ∷ later) × IsFound pairs found ps
       × IsMatchTree pairs next (n + 1) found later
   IsMatchTree pairs (test position bs other) from found rows =
-      (some_asks position rows ≡ true)
+      (some_asks position rows ≡ true) × IsReached found position
       × ((o : Option PlainHead) → Contains found (position, o) → ⊥)
       × ((h : PlainHead) → has_branch bs h ≡ some_takes pairs position h rows)
       × AreBranches pairs bs position from found rows
-      × IsMatchTree pairs other from ((position, None) ∷ found) (others position rows)
+      × IsMatchTree pairs other from (found ++ (position, None) ∷ []) (others position rows)
   IsMatchTree pairs (in_order k) from found rows = k ≡ from
 
   -- each head has one branch, which is a tree for the rows that can match subjects with the head
@@ -74,7 +82,8 @@ abbrev mutual
   AreBranches pairs no_branch position from found rows = Unit {0}
   AreBranches pairs (branch h t bs) position from found rows =
       (has_branch bs h ≡ false)
-      × IsMatchTree pairs t from ((position, Some h) ∷ found) (specialized pairs position h rows)
+      × IsMatchTree pairs t from (found ++ (position, Some h) ∷ [])
+      (specialized pairs position h rows)
       × AreBranches pairs bs position from found rows
 
 -- room for each variable of a pattern: one more than the greatest

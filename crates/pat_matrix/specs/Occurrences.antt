@@ -6,9 +6,9 @@ use Rattle.std.specs.Option.{option_and_then}
 use Rattle.term_core.specs.Terms.{Tree, leaf, node, inj}
 use Rattle.term_core.specs.TreeTest.{tree_eq}
 use Rattle.term_core.specs.Patterns.{Pattern, Patterns, variable, domain_value, application}
-use Rattle.term_core.specs.Patterns.{injection, call, no_pattern, more_patterns, binding}
+use Rattle.term_core.specs.Patterns.{injection, call, no_pattern, more_patterns}
 use Rattle.term_core.specs.Instances.{patterns}
-use Rattle.rule_core.specs.MatchSteps.{lowered, bound_to}
+use Rattle.rule_core.specs.MatchSteps.{lowered}
 use Rattle.pat_matrix.specs.Positions.{subject_at}
 
 -- A place is the position of the variable, and no sort; or the position of an injection of the

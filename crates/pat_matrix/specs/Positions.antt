@@ -1,10 +1,12 @@
 -- Positions of subjects: the number of a subject, and after it the numbers of the children on the
 -- way down. A row asks a position if it has a pattern there that is not a variable.
-use Rattle.std.specs.Prelude.{ℕ, zero, suc, List, [], ◌∷◌, Option, Some, None, slice_get}
+use Rattle.std.specs.Prelude.{◌+◌, ℕ, zero, suc, List, [], ◌∷◌, ◌++◌, Option, Some, None, slice_get}
 use Rattle.std.specs.Option.{option_and_then}
 use Rattle.term_core.specs.Terms.{Tree}
 use Rattle.term_core.specs.Forests.{children}
-use Rattle.term_core.specs.Patterns.{Pattern, variable, domain_value, application, injection, call}
+use Rattle.term_core.specs.Patterns.{Pattern, Patterns, variable, domain_value, application}
+use Rattle.term_core.specs.Patterns.{injection, call, no_pattern, more_patterns}
+use Rattle.term_core.specs.Instances.{patterns}
 use Rattle.pat_matrix.specs.Heads.{pattern_list}
 
 -- a child of a pattern: an argument of a constructor, or the pattern of an injection
@@ -43,3 +45,22 @@ tree_at t (i ∷ way) = option_and_then (λ (u : Tree). tree_at u way) (slice_ge
 abbrev pub subject_at : List Tree → List ℕ → Option Tree
 subject_at ts [] = None
 subject_at ts (i ∷ way) = option_and_then (λ (u : Tree). tree_at u way) (slice_get ts i)
+
+-- the positions that a pattern at this position asks, from the root down
+abbrev mutual
+  pub asked_below : List ℕ → Pattern → List (List ℕ)
+  asked_below position (variable x) = []
+  asked_below position (domain_value s v) = position ∷ []
+  asked_below position (application f ps) = position ∷ all_asked position 0 ps
+  asked_below position (injection a b p) = position ∷ asked_below (position ++ 0 ∷ []) p
+  asked_below position (call f ss ps) = position ∷ []
+
+  -- those of the children from k on
+  pub all_asked : List ℕ → ℕ → Patterns → List (List ℕ)
+  all_asked position k no_pattern = []
+  all_asked position k (more_patterns p ps) =
+      asked_below (position ++ k ∷ []) p ++ all_asked position (k + 1) ps
+
+-- the positions that a row asks
+abbrev pub asked_positions : List Pattern → List (List ℕ)
+asked_positions ps = all_asked [] 0 (patterns ps)

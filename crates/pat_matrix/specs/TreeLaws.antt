@@ -1,5 +1,5 @@
 -- Laws of matching trees.
-use Rattle.std.specs.Prelude.{◌≡◌, ℕ, true, List, length, Some, is_some}
+use Rattle.std.specs.Prelude.{◌≡◌, ℕ, true, List, length, Some, is_some, Contains}
 use Rattle.term_core.specs.Terms.{Tree}
 use Rattle.pat_matrix.specs.MatchTrees.{MatchTree, IsMatchTree, AllCollapsed, AreRising, hits}
 use Rattle.pat_matrix.specs.MatchTrees.{matching_rows, rows_from, Findings}
@@ -7,7 +7,7 @@ use Rattle.pat_matrix.specs.MatchTrees.{row_match}
 use Rattle.pat_matrix.specs.Collapsed.{AreCollapsed}
 use Rattle.pat_matrix.specs.MatrixLaws.{takes_root}
 use Rattle.pat_matrix.specs.Occurrences.{row_twins, twins_agree}
-use Rattle.pat_matrix.specs.Positions.{row_asks, subject_at}
+use Rattle.pat_matrix.specs.Positions.{row_asks, subject_at, asked_positions}
 use Rattle.pat_matrix.specs.Rows.{Row}
 use Rattle.term_core.specs.Instances.{patterns}
 use Rattle.term_core.specs.Patterns.{Pattern}
@@ -31,3 +31,9 @@ FoundMatchByTwins =
     ((position : List ℕ) (q : Pattern) → row_asks ps position ≡ Some q
     → takes_root pairs q (subject_at ts position) ≡ true) →
     is_some (row_match pairs ps ts) ≡ twins_agree ts (row_twins ps)
+
+-- The positions of a row are listed: each at which it has a pattern that is not a variable.
+abbrev pub AskedAreListed : Type 0
+AskedAreListed =
+    (ps : List Pattern) (position : List ℕ) (q : Pattern) → row_asks ps position ≡ Some q →
+    Contains (asked_positions ps) position

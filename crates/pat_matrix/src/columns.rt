@@ -42,13 +42,17 @@ pub(crate) fn add_below(
         (positions columns.new.items ≡ positions columns.old.items ++ below_from position.now 0 count) }
 {
     for child in 0..count {
-        columns.push(below(alloc, position, child)?)?;
+        columns.push(child_position(alloc, position, child)?)?;
     }
     Ok(())
 }
 
-// The position of one child of a position.
-fn below(alloc: Global, position: &[usize], child: usize) -> Result<Vec<usize>, AllocError>
+/// The position of one child of a position. An error: out of memory.
+pub fn child_position(
+    alloc: Global,
+    position: &[usize],
+    child: usize,
+) -> Result<Vec<usize>, AllocError>
     ensures { IfOk result (λ place. place.items ≡ position.now ++ child ∷ []) }
 {
     let mut place = position.to_vec(alloc)?;

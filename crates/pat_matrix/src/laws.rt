@@ -1,7 +1,7 @@
 // Laws of rows, of positions and of heads.
 ghost use Rattle.pat_matrix.specs.MatrixLaws.{CollapsedMatchesTheSame, CollapsedIsCollapsed};
 ghost use Rattle.pat_matrix.specs.MatrixLaws.{CollapsedIsSorted, UntakenDoNotMatch};
-ghost use Rattle.pat_matrix.specs.TreeLaws.{TreeFindsMatches, FoundMatchByTwins};
+ghost use Rattle.pat_matrix.specs.TreeLaws.{TreeFindsMatches, FoundMatchByTwins, AskedAreListed};
 
 /// Has no effect at run time. It states facts about rows. Joining nested injections changes no
 /// match and no sort, and leaves no injection nested. A row does not match subjects that have,
@@ -16,8 +16,10 @@ pub fn matrix_laws()
 
 /// Has no effect at run time. It states that a matching tree for rows without nested injections
 /// finds just the rows that match, in their order. If every head for which a row asks was found,
-/// the row matches exactly if the occurrences of each variable stand for one term.
+/// the row matches exactly if the occurrences of each variable stand for one term. Each position
+/// that a row asks is listed.
 pub fn tree_laws()
     ensures hits { TreeFindsMatches }
     ensures twins { FoundMatchByTwins }
+    ensures listed { AskedAreListed }
 {}

@@ -153,6 +153,13 @@ impl<'s> Matrix<'s> {
         }
     }
 
+    /// The order of sorts by which its rows match.
+    pub fn subsorts(&self) -> &'s Subsorts
+        ensures { result.now ≡ order_of self.now }
+    {
+        self.order.subsorts
+    }
+
     // The position of a column. It is empty if there is no such column.
     fn position_or_empty(&self, col: usize) -> &[usize]
         ensures { result.now ≡ position_of self.now col }
