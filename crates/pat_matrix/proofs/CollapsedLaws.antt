@@ -144,7 +144,8 @@ has_sort-joined : (sig : Signature) (variables : List ℕ) (a b : ℕ) (p : Patt
 has_sort-joined sig variables a b (variable x) sort h = h
 has_sort-joined sig variables a b (domain_value s v) sort h = h
 has_sort-joined sig variables a b (application f ps) sort h = h
-has_sort-joined sig variables a b (injection c d p) sort (has, to, below, (own, at, under, inside)) =
+has_sort-joined sig variables a b (injection c d p) sort
+    (has, to, below, (own, at, under, inside)) =
     let P : ℕ → Type 0 = λ s. IsBelow sig.subsorts c s in
     (has, to, IsBelow-trans sig.subsorts c a b (subst P at under) below, inside)
 has_sort-joined sig variables a b (call f ss ps) sort h = h
@@ -159,26 +160,28 @@ mutual
   has_sort-collapsed sig variables (injection a b p) sort (has, to, below, inside) =
       has_sort-joined sig variables a b (collapsed p) sort
       (has, to, below, has_sort-collapsed sig variables p a inside)
-  has_sort-collapsed sig variables (call f sorts ps) sort (info, is, fun, count, are, result, args) = (
-    info,
-    is,
-    fun,
-    count,
-    are,
-    result,
-    have_sorts-collapsed sig variables sorts ps info.args.items args,
-  )
+  has_sort-collapsed sig variables (call f sorts ps) sort
+      (info, is, fun, count, are, result, args) = (
+        info,
+        is,
+        fun,
+        count,
+        are,
+        result,
+        have_sorts-collapsed sig variables sorts ps info.args.items args,
+      )
 
   pub have_sorts-collapsed : CollapsedIsSorted
   have_sorts-collapsed sig variables sorts no_pattern [] h = h
   have_sorts-collapsed sig variables sorts no_pattern (of ∷ refs) h = absurd h
   have_sorts-collapsed sig variables sorts (more_patterns p ps) [] h = absurd h
-  have_sorts-collapsed sig variables sorts (more_patterns p ps) (of ∷ refs) (sort, at, first, rest) = (
-    sort,
-    at,
-    has_sort-collapsed sig variables p sort first,
-    have_sorts-collapsed sig variables sorts ps refs rest,
-  )
+  have_sorts-collapsed sig variables sorts (more_patterns p ps) (of ∷ refs)
+      (sort, at, first, rest) = (
+        sort,
+        at,
+        has_sort-collapsed sig variables p sort first,
+        have_sorts-collapsed sig variables sorts ps refs rest,
+      )
 
 -- ---- lists
 

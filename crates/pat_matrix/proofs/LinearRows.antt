@@ -163,9 +163,12 @@ injection_condition : (pairs : List (ℕ × ℕ)) (a b c d : ℕ) (p : Pattern)
     → (a == b || lowers pairs a b p) ≡ true → (c == d) ≡ true
     → ((c == d) && (a == b || is_below pairs a b)) ≡ true
 injection_condition pairs a b c d (variable x) low same = rw (same, low) refl
-injection_condition pairs a b c d (domain_value s v) low same = rw (same, just_left (a == b) low) refl
-injection_condition pairs a b c d (application f ps) low same = rw (same, just_left (a == b) low) refl
-injection_condition pairs a b c d (injection e f p) low same = rw (same, just_left (a == b) low) refl
+injection_condition pairs a b c d (domain_value s v) low same =
+    rw (same, just_left (a == b) low) refl
+injection_condition pairs a b c d (application f ps) low same =
+    rw (same, just_left (a == b) low) refl
+injection_condition pairs a b c d (injection e f p) low same =
+    rw (same, just_left (a == b) low) refl
 injection_condition pairs a b c d (call f ss ps) low same = rw (same, just_left (a == b) low) refl
 
 -- what an injection asks of its own root

@@ -192,7 +192,8 @@ pub collapsed_rows-next : (rows done new : List (Vec RulePat)) (i : ℕ) (row ma
     → map plain_pattern made.items ≡ map (λ (p : RulePat). collapsed (plain_pattern p)) row.items
     → plain_rows new ≡ collapsed_rows (plain_rows (take (i + 1) rows))
 collapsed_rows-next rows done new i row made lt is was more same =
-    ap plain_rows more ∙ map-append (λ (ps : Vec RulePat). map plain_pattern ps.items) done (made ∷ [])
+    ap plain_rows more
+    ∙ map-append (λ (ps : Vec RulePat). map plain_pattern ps.items) done (made ∷ [])
     ∙ ap (λ rs. rs ++ map plain_pattern made.items ∷ []) was
     ∙ ap (λ r. collapsed_rows (plain_rows (take i rows)) ++ r ∷ []) (same ∙ mapped_twice row.items)
     ∙ sym (map-append (λ (ps : List Pattern). map collapsed ps) (plain_rows (take i rows))

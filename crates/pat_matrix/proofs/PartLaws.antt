@@ -1,6 +1,7 @@
 -- A pattern that matches a term has, where it asks for a head, one that the term has there.
 use Rattle.std.proofs.Common.{◌≡◌, ℕ, zero, suc, Bool, true, false, List, [], ◌∷◌, length, Option}
-use Rattle.std.proofs.Common.{Some, None, slice_get, map, option_map, refl, sym, ◌∙◌, ap, subst, eq-eqb}
+use Rattle.std.proofs.Common.{Some, None, slice_get, map, option_map, refl, sym, ◌∙◌, ap, subst}
+use Rattle.std.proofs.Common.{eq-eqb}
 use Rattle.std.specs.Prelude.{◌==◌, ◌&&◌, ◌||◌, if◌then◌else◌}
 use Rattle.std.specs.Option.{option_and_then}
 use Rattle.std.proofs.lemmas.Bool.{eqb-true, false≢true}
@@ -105,7 +106,7 @@ asks-asked (call f ss ps) way q e = tt
 
 -- A pattern that is no variable and no injection, under an injection, matches only what the term
 -- injects from just that sort.
-not_lowered : (pairs : List (ℕ × ℕ)) (p : Pattern) (a b : ℕ) (t : Tree)
+pub not_lowered : (pairs : List (ℕ × ℕ)) (p : Pattern) (a b : ℕ) (t : Tree)
     (theta new : List (Option Tree)) (same : Bool) → (a == b) ≡ same → Asks p → HasOtherRoot p
     → matched pairs p (lowered a b t) theta ≡ Some new
     → (same ≡ true) × (matched pairs p t theta ≡ Some new)
@@ -208,7 +209,7 @@ part_matches pairs (call f ss ps) t theta new i q h asks there e = absurd (let n
 abbrev pub TakesThere : List (ℕ × ℕ) → Pattern → Option Tree → Type 0
 TakesThere pairs q o = takes_root pairs q o ≡ true
 
-asking-same : (p q : Pattern) → asking p ≡ Some q → p ≡ q
+pub asking-same : (p q : Pattern) → asking p ≡ Some q → p ≡ q
 asking-same (variable x) q e = absurd (let no : ⊥ = cc in no)
 asking-same (domain_value s v) q e = cc
 asking-same (application f ps) q e = cc

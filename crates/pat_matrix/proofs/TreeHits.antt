@@ -1,5 +1,6 @@
 -- A matching tree finds the rows that match, in their order.
-use Rattle.std.proofs.Common.{◌≡◌, ◌+◌, ◌<◌, ◌≤◌, nat_lt, arith, ◌⊎◌, inl, inr, ℕ, Bool, true, false, List, [], ◌∷◌}
+use Rattle.std.proofs.Common.{◌≡◌, ◌+◌, ◌<◌, ◌≤◌, nat_lt, arith, ◌⊎◌, inl, inr, ℕ, Bool, true}
+use Rattle.std.proofs.Common.{false, List, [], ◌∷◌}
 use Rattle.std.proofs.Common.{Option, Some, None, option_map, refl, sym, ◌∙◌, ap, subst}
 use Rattle.std.specs.Prelude.{◌||◌, if◌then◌else◌, filter, is_some, not}
 use Rattle.std.specs.List.{list_any}
@@ -13,7 +14,8 @@ use Rattle.pat_matrix.specs.Positions.{row_asks, subject_at}
 use Rattle.pat_matrix.specs.Rows.{Row, is_wild, wants, takes_there, specialized, others, some_takes}
 use Rattle.pat_matrix.specs.MatchTrees.{MatchTree, end, hit, test, in_order, Branches, no_branch}
 use Rattle.pat_matrix.specs.MatchTrees.{branch, has_branch, AreBranches, AllCollapsed}
-use Rattle.pat_matrix.specs.MatchTrees.{hits, branch_hits, matching_rows, row_match, rows_from, AreRising}
+use Rattle.pat_matrix.specs.MatchTrees.{hits, branch_hits, matching_rows, row_match, rows_from}
+use Rattle.pat_matrix.specs.MatchTrees.{AreRising}
 use Rattle.pat_matrix.specs.MatchTrees.{Findings}
 use Rattle.pat_matrix.specs.MatrixLaws.{takes_root}
 use Rattle.pat_matrix.specs.TreeLaws.{TreeFindsMatches}
@@ -236,7 +238,8 @@ rising-filter keep k (r ∷ rows) h =
 
 -- ---- trees
 
-branch_hits-none : (pairs : List (ℕ × ℕ)) (all : List Row) (bs : Branches) (ts : List Tree) (rest : List ℕ)
+branch_hits-none : (pairs : List (ℕ × ℕ)) (all : List Row) (bs : Branches) (ts : List Tree)
+    (rest : List ℕ)
     → branch_hits pairs all bs None ts rest ≡ rest
 branch_hits-none pairs all no_branch ts rest = refl
 branch_hits-none pairs all (branch h t bs) ts rest = refl
@@ -294,7 +297,8 @@ test_finds pairs all bs position rows ts rest (Some u) coll there heads find oth
           rw is (others_find same ∙ same)
 
 branch_step : (pairs : List (ℕ × ℕ)) (all : List Row) (h : PlainHead) (u : Tree) (t : MatchTree)
-    (bs : Branches) (position : List ℕ) (rows : List Row) (ts : List Tree) (rest : List ℕ) (b : Bool)
+    (bs : Branches) (position : List ℕ) (rows : List Row) (ts : List Tree) (rest : List ℕ)
+    (b : Bool)
     → head_eq h (root u) ≡ b
     → (h ≡ root u
     → hits pairs all t ts ≡ matching_rows pairs (specialized pairs position h rows) ts)

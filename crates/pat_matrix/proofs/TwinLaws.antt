@@ -1,5 +1,6 @@
 -- A row of which every head was found matches exactly if its twins agree.
-use Rattle.std.proofs.Common.{◌≡◌, ◌≢◌, ◌⊎◌, inl, inr, ◌+◌, ◌<◌, ◌≤◌, ℕ, Bool, true, false, List, []}
+use Rattle.std.proofs.Common.{◌≡◌, ◌≢◌, ◌⊎◌, inl, inr, ◌+◌, ◌<◌, ◌≤◌, ℕ, Bool, true, false, List}
+use Rattle.std.proofs.Common.{[]}
 use Rattle.std.proofs.Common.{◌∷◌, ◌++◌, length, set, Option, Some, None, refl, sym, ◌∙◌}
 use Rattle.std.proofs.Common.{ap, subst, arith, replicate, eq-eqb}
 use Rattle.std.specs.Prelude.{◌==◌, ◌&&◌, if◌then◌else◌, is_some}
@@ -40,7 +41,7 @@ abbrev pub AreThere : List Tree → List Occurrence → Type 0
 AreThere ts [] = Unit {0}
 AreThere ts (e ∷ es) = ((t : Tree) × (tree_of_place ts e.1 ≡ Some t)) × AreThere ts es
 
-are_there-append : (ts : List Tree) (xs ys : List Occurrence) → AreThere ts xs → AreThere ts ys
+pub are_there-append : (ts : List Tree) (xs ys : List Occurrence) → AreThere ts xs → AreThere ts ys
     → AreThere ts (xs ++ ys)
 are_there-append ts [] ys h k = k
 are_there-append ts (e ∷ xs) ys h k = (h.0, are_there-append ts xs ys h.1 k)
@@ -81,7 +82,7 @@ mutual
       (agrees-under pairs a b c d p t h))
   there pairs ts place (call f ss ps) t coll at h = tt
 
-  all_there : (pairs : List (ℕ × ℕ)) (ts : List Tree) (place : List ℕ) (k : ℕ) (ps : Patterns)
+  pub all_there : (pairs : List (ℕ × ℕ)) (ts : List Tree) (place : List ℕ) (k : ℕ) (ps : Patterns)
       (us : List Tree) → AreCollapsed ps → length (pattern_list ps) ≡ length us
       → StandsAt ts place k us → AllAgree pairs (pattern_list ps) us
       → AreThere ts (all_occurrences place k ps)

@@ -3,7 +3,8 @@
 -- it finds are those that match, in their order.
 use Rattle.std.specs.Prelude.{◌≡◌, ◌+◌, ◌||◌, max, ℕ, Bool, true, false, List, [], ◌∷◌, ◌++◌}
 use Rattle.std.specs.Prelude.{Contains}
-use Rattle.std.specs.Prelude.{Option, Some, None, option_map, is_some, if◌then◌else◌, replicate, not}
+use Rattle.std.specs.Prelude.{Option, Some, None, option_map, is_some, if◌then◌else◌, replicate}
+use Rattle.std.specs.Prelude.{not}
 use Rattle.std.specs.Prelude.{◌≤◌, ◌<◌, ◌⊎◌, filter, nat_lt}
 use Rattle.std.specs.List.{list_any}
 use Rattle.term_core.specs.Terms.{Tree}
@@ -18,8 +19,8 @@ use Rattle.pat_matrix.specs.Positions.{row_asks, subject_at}
 use Rattle.pat_matrix.specs.Rows.{Row, is_wild, specialized, others, some_takes, width}
 
 -- A tree ends; or it finds a row, with its patterns, and goes on with the later rows; or it tests a
--- position, with a branch for each head and a tree for every other head; or it tries all rows from a
--- number on, in order.
+-- position, with a branch for each head and a tree for every other head; or it tries all rows from
+-- a number on, in order.
 mutual
   pub data MatchTree : Type 0 where
     end : MatchTree
@@ -60,9 +61,9 @@ some_asks position rows = list_any (λ (r : Row). not (is_wild (row_asks r.1 pos
 
 -- The tree is one for these rows after these findings, when the rows before the number are done
 -- with. A hit is the first row, of which every head was found. A test is at a position that a row
--- asks, that is reached and that was not tested. It has one branch for each head that a row takes there, for the rows
--- that can match subjects with that head. The rows that ask nothing there are left for every other
--- head.
+-- asks, that is reached and that was not tested. It has one branch for each head that a row takes
+-- there, for the rows that can match subjects with that head. The rows that ask nothing there are
+-- left for every other head.
 abbrev mutual
   pub IsMatchTree : List (ℕ × ℕ) → MatchTree → ℕ → Findings → List Row → Type 0
   IsMatchTree pairs end from found rows = rows ≡ []
@@ -99,8 +100,8 @@ abbrev mutual
   rooms no_pattern = 0
   rooms (more_patterns p ps) = max (room p) (rooms ps)
 
--- the substitution by which a row matches subjects, with room for its own variables; none if it does
--- not match
+-- the substitution by which a row matches subjects, with room for its own variables; none if it
+-- does not match
 abbrev pub row_match : List (ℕ × ℕ) → List Pattern → List Tree → Option (List (Option Tree))
 row_match pairs ps ts =
     all_matched pairs (patterns ps) (forest ts) (replicate (rooms (patterns ps)) None)

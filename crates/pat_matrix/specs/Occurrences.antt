@@ -1,5 +1,5 @@
--- Occurrences of variables in a row. When every head for which a row asks was found, the row matches
--- exactly if the occurrences of each variable stand for one term.
+-- Occurrences of variables in a row. When every head for which a row asks was found, the row
+-- matches exactly if the occurrences of each variable stand for one term.
 use Rattle.std.specs.Prelude.{◌==◌, ◌+◌, ◌&&◌, ℕ, Bool, true, false, List, [], ◌∷◌, ◌++◌}
 use Rattle.std.specs.Prelude.{Option, Some, None, if◌then◌else◌}
 use Rattle.std.specs.Option.{option_and_then}

@@ -1,5 +1,6 @@
 -- Rows of patterns, with their numbers, and the rows that are left after a look at one position.
-use Rattle.std.specs.Prelude.{◌+◌, ℕ, zero, suc, Bool, true, false, List, [], ◌∷◌, ◌++◌, filter, map}
+use Rattle.std.specs.Prelude.{◌+◌, ℕ, zero, suc, Bool, true, false, List, [], ◌∷◌, ◌++◌, filter}
+use Rattle.std.specs.Prelude.{map}
 use Rattle.std.specs.Prelude.{Option, Some, None, take, drop, length}
 use Rattle.std.specs.List.{list_any}
 use Rattle.term_core.specs.Patterns.{Pattern}

@@ -39,7 +39,8 @@ pub(crate) fn add_below(
     columns: &mut Vec<Vec<usize>>,
 ) -> Result<(), AllocError>
     ensures { OnOk result
-        (positions columns.new.items ≡ positions columns.old.items ++ below_from position.now 0 count) }
+        (positions columns.new.items
+        ≡ positions columns.old.items ++ below_from position.now 0 count) }
 {
     for child in 0..count {
         columns.push(child_position(alloc, position, child)?)?;

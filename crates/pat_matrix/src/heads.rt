@@ -98,8 +98,8 @@ pub(crate) fn takes(pat: &RulePat, head: &Head, subsorts: &Subsorts) -> bool
     }
 }
 
-/// Whether the term has a head that the pattern takes. It looks at the term once, unless the pattern
-/// is a variable or a call.
+/// Whether the term has a head that the pattern takes. It looks at the term once, unless the
+/// pattern is a variable or a call.
 pub fn takes_root<L: Ledger>(
     pat: &RulePat,
     term: &Term,
@@ -147,7 +147,8 @@ pub fn find_head<L: Ledger>(
 // The index of the head of a domain value.
 fn find_value(heads: &IndexSet<Head>, sort: SortId, value: &Value) -> Option<usize>
     ensures { result
-        ≡ position (λ k. head_eq (of_value sort.0 (value_of value.now)) (head_of k)) heads.now.keys }
+        ≡ position (λ k. head_eq (of_value sort.0 (value_of value.now)) (head_of k))
+        heads.now.keys }
 {
     match Head::of_scalar(sort, value) {
         Some(head) => heads.get_index_of(&head),

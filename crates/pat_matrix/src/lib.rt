@@ -7,13 +7,13 @@
 // left out.
 //
 // A matching tree looks at positions of the subjects, one after another, until all heads of a row
-// are found. `tree_laws` says that it finds just the rows that match, in their order, and that a row
-// of which all heads were found matches exactly if the places of each variable have one term.
+// are found. `tree_laws` says that it finds just the rows that match, in their order, and that a
+// row of which all heads were found matches exactly if the places of each variable have one term.
 // `asked_positions` and `row_twins` list the positions and those places of a row.
 //
 // The definitions that other crates cite are also here: heads (specs/Heads.antt), positions
-// (specs/Positions.antt), rows (specs/Rows.antt), matching trees (specs/MatchTrees.antt), and places
-// of variables (specs/Occurrences.antt).
+// (specs/Positions.antt), rows (specs/Rows.antt), matching trees (specs/MatchTrees.antt), and
+// places of variables (specs/Occurrences.antt).
 #![tactic(auto)]
 
 mod asked;

@@ -92,7 +92,8 @@ fn join(
 
 // The first place of the variable.
 fn first_place(seen: &[Occurrence], var: u32) -> Option<&Place>
-    ensures { option_map place_of (option_copied result) ≡ first_place var (occurrences_of seen.now) }
+    ensures { option_map place_of (option_copied result)
+        ≡ first_place var (occurrences_of seen.now) }
 {
     for occurrence in seen {
         if occurrence.var == var {

@@ -14,5 +14,6 @@ returns-in-Ctor c =
     (plain_patterns c.in-Ctor.args.items) =
     ap plain_pattern c.in-Ctor.is ∙ plain-Ctor _ _ in
     ap (option_map plain_pattern)
-    (looked_up _ _ _ c.get.ensures.lookup.0 c.get.ensures.lookup.1 ∙ ap (λ (ps : List RulePat). slice_get ps c.args.no) c.deref.ensures.value)
+    (looked_up _ _ _ c.get.ensures.lookup.0 c.get.ensures.lookup.1
+    ∙ ap (λ (ps : List RulePat). slice_get ps c.args.no) c.deref.ensures.value)
     ∙ argument_part _ _ _ _ is

@@ -10,12 +10,14 @@ loop-number-preserved c h =
     elim c.if-below.branch [
       | then-below+in_ok-add w ↦
           ap (λ hs. is_listed hs.keys h) w.heads-is
-          ∙ lower_takes-on c.args.order.now.subsorts.now c.loop-number.number c.args.from.0 c.args.to.0 h _ _ _
+          ∙ lower_takes-on c.args.order.now.subsorts.now c.loop-number.number c.args.from.0
+          c.args.to.0 h _ _ _
           (sym (below_answer _ _ _ _ c.below.ensures) ∙ w.if-below.true)
           (w.in_ok-add.ensures h) (c.loop-number.invariant h)
       | else-below w ↦
           ap (λ hs. is_listed hs.keys h) w.heads-is
-          ∙ lower_takes-past c.args.order.now.subsorts.now c.loop-number.number c.args.from.0 c.args.to.0 h _ _
+          ∙ lower_takes-past c.args.order.now.subsorts.now c.loop-number.number c.args.from.0
+          c.args.to.0 h _ _
           (sym (below_answer _ _ _ _ c.below.ensures) ∙ w.if-below.false)
           (c.loop-number.invariant h)
     ]
