@@ -10,3 +10,4 @@ pub mod LinearRows
 pub mod TwinLaws
 pub mod AskedLoops
 pub mod ListedLaws
+pub mod FindingLaws

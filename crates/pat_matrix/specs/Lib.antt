@@ -7,6 +7,7 @@ pub mod MatchTrees
 pub mod Occurrences
 pub mod PlaceView
 pub mod TreeLaws
+pub mod Findings
 pub mod HeadView
 pub mod MatrixView
 pub mod MatrixLaws

@@ -2,6 +2,8 @@
 ghost use Rattle.pat_matrix.specs.MatrixLaws.{CollapsedMatchesTheSame, CollapsedIsCollapsed};
 ghost use Rattle.pat_matrix.specs.MatrixLaws.{CollapsedIsSorted, UntakenDoNotMatch};
 ghost use Rattle.pat_matrix.specs.TreeLaws.{TreeFindsMatches, FoundMatchByTwins, AskedAreListed};
+ghost use Rattle.pat_matrix.specs.Findings.{TestedRowIsFound, PositionsAreReached};
+ghost use Rattle.pat_matrix.specs.Findings.{BranchRowsFit, OtherRowsFit};
 
 /// Has no effect at run time. It states facts about rows. Joining nested injections changes no
 /// match and no sort, and leaves no injection nested. A row does not match subjects that have,
@@ -22,4 +24,15 @@ pub fn tree_laws()
     ensures hits { TreeFindsMatches }
     ensures twins { FoundMatchByTwins }
     ensures listed { AskedAreListed }
+{}
+
+/// Has no effect at run time. It states what the making of a tree rests on. If every position that
+/// a row asks was tested, and the row fits what was found, every head of the row was found. The
+/// first of its positions that was not tested is reached. The rows of a branch fit what was found
+/// there too, and so do the rows that are left for every other head.
+pub fn finding_laws()
+    ensures found { TestedRowIsFound }
+    ensures reached { PositionsAreReached }
+    ensures branch { BranchRowsFit }
+    ensures others { OtherRowsFit }
 {}

@@ -31,6 +31,6 @@ pub use cells::asked_at;
 pub use collapsing::collapsed;
 pub use columns::child_position;
 pub use heads::{Head, find_head, takes_root};
-pub use laws::{matrix_laws, tree_laws};
+pub use laws::{finding_laws, matrix_laws, tree_laws};
 pub use matrix::Matrix;
 pub use places::{Place, Twin, row_twins};
