@@ -1,3 +1,4 @@
 pub mod AgreementLaws
 pub mod TrialLaws
 pub mod Walks
+pub mod FlatLaws

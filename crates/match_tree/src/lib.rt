@@ -6,7 +6,9 @@
 #![tactic(auto)]
 
 mod agreement;
+mod laws;
 mod standing;
 mod trial;
 
+pub use laws::node_laws;
 pub use trial::row_matches;

@@ -1,0 +1,146 @@
+-- Where each node is one for its label, the nodes from each place on are those of a tree. A node
+-- that tries rows in order may be replaced.
+use Rattle.std.proofs.Common.{◌≡◌, ◌+◌, ◌<◌, ◌≤◌, ℕ, zero, suc, Bool}
+use Rattle.std.proofs.Common.{false, List, [], ◌∷◌, ◌++◌, length, Some, slice_get}
+use Rattle.std.proofs.Common.{refl, ◌∙◌, ap, subst, arith}
+use Rattle.std.specs.Prelude.{◌||◌}
+use Rattle.pat_matrix.specs.Heads.{PlainHead, head_eq}
+use Rattle.pat_matrix.specs.Rows.{specialized}
+use Rattle.pat_matrix.specs.MatchTrees.{MatchTree, end, hit, test, in_order, Branches, no_branch}
+use Rattle.pat_matrix.specs.MatchTrees.{branch, has_branch}
+use Rattle.pat_matrix.specs.MatchTrees.{IsMatchTree, AreBranches}
+use Rattle.match_tree.specs.FlatNodes.{PlainNode, end_node, hit_node, test_node, try_node, Label}
+use Rattle.match_tree.specs.FlatNodes.{has_head, AreBranchPlaces, IsNode, AllNodes, Grows}
+use Rattle.match_tree.specs.FlatNodes.{BranchesGrow}
+
+-- a tree for a label, whose nodes are these
+abbrev pub HasTree : List (ℕ × ℕ) → List PlainNode → ℕ → Label → Type 0
+HasTree pairs nodes k l =
+    (t : MatchTree) × Grows nodes k t × IsMatchTree pairs t l.from l.found l.rows
+
+-- trees for the places of branches
+abbrev pub HaveTrees : List (ℕ × ℕ) → List PlainNode → ℕ → List ℕ → Label → List PlainHead
+    → List ℕ → Type 0
+HaveTrees pairs nodes k position l hs js =
+    (bs : Branches) × BranchesGrow nodes k hs js bs
+    × AreBranches pairs bs position l.from l.found l.rows
+    × ((g : PlainHead) → has_branch bs g ≡ has_head hs g)
+
+moved : (pairs : List (ℕ × ℕ)) (nodes : List PlainNode) (j : ℕ) (l m : Label) → l ≡ m
+    → HasTree pairs nodes j l → HasTree pairs nodes j m
+moved pairs nodes j l m same h =
+    let P : Label → Type 0 = HasTree pairs nodes j in subst P same h
+
+-- one branch more
+more_trees : (pairs : List (ℕ × ℕ)) (nodes : List PlainNode) (k : ℕ) (position : List ℕ)
+    (l : Label) (h : PlainHead) (hs : List PlainHead) (j : ℕ) (js : List ℕ)
+    → has_head hs h ≡ false → k < j
+    → HasTree pairs nodes j (record {
+      from = l.from;
+      found = l.found ++ (position, Some h) ∷ [];
+      rows = specialized pairs position h l.rows;
+    })
+    → HaveTrees pairs nodes k position l hs js
+    → HaveTrees pairs nodes k position l (h ∷ hs) (j ∷ js)
+more_trees pairs nodes k position l h hs j js once lt own (bs, grow, are, heads) = (
+  branch h own.0 bs,
+  (hs, js, j, refl, refl, lt, own.1, grow),
+  (heads h ∙ once, own.2, are),
+  λ g. ap (λ (b : Bool). head_eq h g || b) (heads g),
+)
+
+branch_trees : (pairs : List (ℕ × ℕ)) (labels : ℕ → Label) (nodes : List PlainNode) (k : ℕ)
+    (position : List ℕ) (l : Label) (hs : List PlainHead) (js : List ℕ)
+    → AreBranchPlaces pairs labels (length nodes) k position l hs js
+    → ((j : ℕ) → k < j → j < length nodes → HasTree pairs nodes j (labels j))
+    → HaveTrees pairs nodes k position l hs js
+branch_trees pairs labels nodes k position l [] [] h trees =
+    (no_branch, (refl, refl), tt, λ g. refl)
+branch_trees pairs labels nodes k position l [] (j ∷ js) h trees = absurd h
+branch_trees pairs labels nodes k position l (g ∷ hs) [] h trees = absurd h
+branch_trees pairs labels nodes k position l (g ∷ hs) (j ∷ js) (once, lt, within, is, rest)
+    trees =
+    more_trees pairs nodes k position l g hs j js once lt
+    (moved pairs nodes j (labels j) _ is (trees j lt within))
+    (branch_trees pairs labels nodes k position l hs js rest trees)
+
+node_tree : (pairs : List (ℕ × ℕ)) (labels : ℕ → Label) (nodes : List PlainNode) (k : ℕ)
+    (n : PlainNode) → slice_get nodes k ≡ Some n
+    → IsNode pairs labels (length nodes) k (labels k) n
+    → ((j : ℕ) → k < j → j < length nodes → HasTree pairs nodes j (labels j))
+    → HasTree pairs nodes k (labels k)
+node_tree pairs labels nodes k end_node at h trees = (end, at, h)
+node_tree pairs labels nodes k (hit_node r j) at (ps, later, is, found, lt, within, label) trees =
+    let below = moved pairs nodes j (labels j) _ label (trees j lt within) in
+    (hit r ps below.0, (j, at, lt, below.1), (later, is, found, below.2))
+node_tree pairs labels nodes k (test_node position hs js other) at
+    (asks, reached, new, heads, places, lt, within, label) trees =
+    let below = moved pairs nodes other (labels other) _ label (trees other lt within) in
+    let bs = branch_trees pairs labels nodes k position (labels k) hs js places trees in (
+      test position bs.0 below.0,
+      (hs, js, other, at, lt, bs.1, below.1),
+      (asks, reached, new, λ h. bs.3 h ∙ heads h, bs.2, below.2),
+    )
+node_tree pairs labels nodes k (try_node m) at same trees = (in_order m, at, same)
+
+there_is : {X : Type 0} (xs : List X) (k : ℕ) → k < length xs → (x : X) × (slice_get xs k ≡ Some x)
+there_is [] k lt = absurd (omega arith)
+there_is (x ∷ xs) zero lt = (x, refl)
+there_is (x ∷ xs) (suc k) lt = there_is xs k (omega arith)
+
+-- by the number of places from there on
+grown_within : (pairs : List (ℕ × ℕ)) (labels : ℕ → Label) (nodes : List PlainNode)
+    → AllNodes pairs labels nodes → (fuel k : ℕ) → k < length nodes → length nodes ≤ k + fuel
+    → HasTree pairs nodes k (labels k)
+grown_within pairs labels nodes all zero k lt enough = absurd (omega arith)
+grown_within pairs labels nodes all (suc fuel) k lt enough =
+    let n = there_is nodes k lt in
+    node_tree pairs labels nodes k n.0 n.1 (all k n.0 n.1)
+    (λ j later within. grown_within pairs labels nodes all fuel j within (omega arith))
+
+pub grown : (pairs : List (ℕ × ℕ)) (labels : ℕ → Label) (nodes : List PlainNode) (k : ℕ)
+    → AllNodes pairs labels nodes → k < length nodes → HasTree pairs nodes k (labels k)
+grown pairs labels nodes k all lt =
+    grown_within pairs labels nodes all (length nodes) k lt (omega arith)
+
+-- ---- more places, and a node in the place of another
+
+-- the labels of the first places stay
+abbrev pub SameLabels : (ℕ → Label) → (ℕ → Label) → ℕ → Type 0
+SameLabels old new count = (j : ℕ) → j < count → new j ≡ old j
+
+branch_places-more : (pairs : List (ℕ × ℕ)) (old new : ℕ → Label) (few many k : ℕ)
+    (position : List ℕ) (l : Label) (hs : List PlainHead) (js : List ℕ) → few ≤ many
+    → SameLabels old new few → AreBranchPlaces pairs old few k position l hs js
+    → AreBranchPlaces pairs new many k position l hs js
+branch_places-more pairs old new few many k position l [] [] le same h = tt
+branch_places-more pairs old new few many k position l [] (j ∷ js) le same h = absurd h
+branch_places-more pairs old new few many k position l (g ∷ hs) [] le same h = absurd h
+branch_places-more pairs old new few many k position l (g ∷ hs) (j ∷ js) le same
+    (once, lt, within, is, rest) = (
+      once,
+      lt,
+      omega arith,
+      same j within ∙ is,
+      branch_places-more pairs old new few many k position l hs js le same rest,
+    )
+
+pub is_node-more : (pairs : List (ℕ × ℕ)) (old new : ℕ → Label) (few many k : ℕ) (l : Label)
+    (n : PlainNode) → few ≤ many → SameLabels old new few → IsNode pairs old few k l n
+    → IsNode pairs new many k l n
+is_node-more pairs old new few many k l end_node le same h = h
+is_node-more pairs old new few many k l (hit_node r j) le same
+    (ps, later, is, found, lt, within, label) =
+    (ps, later, is, found, lt, omega arith, same j within ∙ label)
+is_node-more pairs old new few many k l (test_node position hs js other) le same
+    (asks, reached, untested, heads, places, lt, within, label) = (
+      asks,
+      reached,
+      untested,
+      heads,
+      branch_places-more pairs old new few many k position l hs js le same places,
+      lt,
+      omega arith,
+      same other within ∙ label,
+    )
+is_node-more pairs old new few many k l (try_node m) le same h = h

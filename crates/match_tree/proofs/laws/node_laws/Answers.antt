@@ -1,0 +1,8 @@
+use Rattle.match_tree.proofs.FlatLaws.{grown, is_node-more}
+use Rattle.match_tree.proofs.laws.node_laws.Goals as goal
+
+pub returns-clause-trees : goal.returns-clause-trees
+returns-clause-trees c = grown
+
+pub returns-clause-stay : goal.returns-clause-stay
+returns-clause-stay c = is_node-more
