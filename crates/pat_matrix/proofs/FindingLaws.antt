@@ -45,7 +45,7 @@ tested_row_is_found pairs found ps fits tested position q asks =
 
 -- ---- rows that are left
 
-one_or_last : {X : Type 0} (xs : List X) (y x : X) → Contains (xs ++ y ∷ []) x
+pub one_or_last : {X : Type 0} (xs : List X) (y x : X) → Contains (xs ++ y ∷ []) x
     → Contains xs x ⊎ (y ≡ x)
 one_or_last [] y x (zero, lt, is) = inr is
 one_or_last [] y x (suc n, lt, is) = absurd (omega arith)

@@ -255,7 +255,7 @@ BranchesFind pairs all bs position rows ts rest =
     then matching_rows pairs (specialized pairs position (root u) rows) ts else rest)
 
 -- rows that cannot match make no difference
-unwanted_no_matter : (pairs : List (ℕ × ℕ)) (position : List ℕ) (u : Tree) (rows : List Row)
+pub unwanted_no_matter : (pairs : List (ℕ × ℕ)) (position : List ℕ) (u : Tree) (rows : List Row)
     (ts : List Tree) → AllCollapsed rows → subject_at ts position ≡ Some u
     → matching_rows pairs (specialized pairs position (root u) rows) ts
     ≡ matching_rows pairs rows ts
@@ -263,7 +263,7 @@ unwanted_no_matter pairs position u rows ts coll there =
     matching_rows-kept pairs _ rows ts (unwanted_left_out pairs position u rows ts coll there)
 
 -- rows that are left without a branch
-others_no_matter : (pairs : List (ℕ × ℕ)) (position : List ℕ) (found : Option Tree)
+pub others_no_matter : (pairs : List (ℕ × ℕ)) (position : List ℕ) (found : Option Tree)
     (rows : List Row) (ts : List Tree) → AllCollapsed rows → subject_at ts position ≡ found
     → none_found pairs position found rows ≡ false
     → matching_rows pairs (others position rows) ts ≡ matching_rows pairs rows ts
