@@ -83,7 +83,8 @@ node_tree pairs labels nodes k (test_node position hs js other) at
     )
 node_tree pairs labels nodes k (try_node m) at same trees = (in_order m, at, same)
 
-there_is : {X : Type 0} (xs : List X) (k : ℕ) → k < length xs → (x : X) × (slice_get xs k ≡ Some x)
+pub there_is : {X : Type 0} (xs : List X) (k : ℕ) → k < length xs
+    → (x : X) × (slice_get xs k ≡ Some x)
 there_is [] k lt = absurd (omega arith)
 there_is (x ∷ xs) zero lt = (x, refl)
 there_is (x ∷ xs) (suc k) lt = there_is xs k (omega arith)

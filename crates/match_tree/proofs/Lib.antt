@@ -2,3 +2,4 @@ pub mod AgreementLaws
 pub mod TrialLaws
 pub mod Walks
 pub mod FlatLaws
+pub mod WalkLaws

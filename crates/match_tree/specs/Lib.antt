@@ -1,6 +1,8 @@
 -- Public: what public clauses say.
 pub mod FlatNodes
 pub mod NodeLaws
+pub mod Walking
+pub mod WalkSteps
 -- Private: what clauses of private functions cite.
 pub mod Agreement
 pub mod Standing

@@ -1,5 +1,7 @@
 // Laws of trees as flat lists of nodes.
 ghost use Rattle.match_tree.specs.NodeLaws.{NodesAreTrees, NodesStay};
+ghost use Rattle.match_tree.specs.WalkSteps.{BranchTells, OtherTells, LaterTells};
+ghost use Rattle.match_tree.specs.WalkSteps.{HitMatchesByTwins, HitComesFirst};
 
 /// Has no effect at run time. It states facts about flat nodes. If each node is one for its label,
 /// the nodes from each place on are those of a matching tree for the label. A node stays one for
@@ -7,4 +9,15 @@ ghost use Rattle.match_tree.specs.NodeLaws.{NodesAreTrees, NodesStay};
 pub fn node_laws()
     ensures trees { NodesAreTrees }
     ensures stay { NodesStay }
+{}
+
+/// Has no effect at run time. It states the steps of a walk: from a test to the branch of the head
+/// that is there, or to the place for every other head, and from a hit to the later rows. The row
+/// of a hit matches exactly if its twins agree, and is then the first that matches.
+pub fn walk_laws()
+    ensures branch { BranchTells }
+    ensures others { OtherTells }
+    ensures later { LaterTells }
+    ensures twins { HitMatchesByTwins }
+    ensures first { HitComesFirst }
 {}

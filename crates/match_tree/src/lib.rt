@@ -1,8 +1,12 @@
-// Trials of rows of patterns that take no memory (Maranget 2008, "Compiling Pattern Matching to
-// Good Decision Trees").
+// Trials and walks that take no memory (Maranget 2008, "Compiling Pattern Matching to Good Decision
+// Trees").
 //
 // `row_matches` says whether a row matches subjects. It first looks at the heads for which the row
 // asks, and then compares the places of each variable. It builds no substitution.
+//
+// A matching tree is kept as a flat list of nodes, each with a label that says what is left to do
+// there (specs/FlatNodes.antt). `node_laws` says that such nodes are those of trees. `walk_laws`
+// says what each step of a walk over them leads to (specs/Walking.antt).
 #![tactic(auto)]
 
 mod agreement;
@@ -10,5 +14,5 @@ mod laws;
 mod standing;
 mod trial;
 
-pub use laws::node_laws;
+pub use laws::{node_laws, walk_laws};
 pub use trial::row_matches;
