@@ -2,8 +2,9 @@
 -- that tries rows in order may be replaced.
 use Rattle.std.proofs.Common.{◌≡◌, ◌+◌, ◌<◌, ◌≤◌, ℕ, zero, suc, Bool}
 use Rattle.std.proofs.Common.{false, List, [], ◌∷◌, ◌++◌, length, Some, slice_get}
-use Rattle.std.proofs.Common.{refl, ◌∙◌, ap, subst, arith}
+use Rattle.std.proofs.Common.{◌⊎◌, inl, inr, set, sym, refl, ◌∙◌, ap, subst, arith}
 use Rattle.std.specs.Prelude.{◌||◌}
+use Rattle.std.proofs.lemmas.List.{length-append, length-set}
 use Rattle.pat_matrix.specs.Heads.{PlainHead, head_eq}
 use Rattle.pat_matrix.specs.Rows.{specialized}
 use Rattle.pat_matrix.specs.MatchTrees.{MatchTree, end, hit, test, in_order, Branches, no_branch}
@@ -12,6 +13,7 @@ use Rattle.pat_matrix.specs.MatchTrees.{IsMatchTree, AreBranches}
 use Rattle.match_tree.specs.FlatNodes.{PlainNode, end_node, hit_node, test_node, try_node, Label}
 use Rattle.match_tree.specs.FlatNodes.{has_head, AreBranchPlaces, IsNode, AllNodes, Grows}
 use Rattle.match_tree.specs.FlatNodes.{BranchesGrow}
+use Rattle.match_tree.specs.NodeLaws.{NodeIsReplaced}
 
 -- a tree for a label, whose nodes are these
 abbrev pub HasTree : List (ℕ × ℕ) → List PlainNode → ℕ → Label → Type 0
@@ -145,3 +147,65 @@ is_node-more pairs old new few many k l (test_node position hs js other) le same
       same other within ∙ label,
     )
 is_node-more pairs old new few many k l (try_node m) le same h = h
+
+-- an item of two lists is one of the first or of the second
+append_cases : {X : Type 0} (xs ys : List X) (j : ℕ) (m : X) → slice_get (xs ++ ys) j ≡ Some m
+    → ((j < length xs) × (slice_get xs j ≡ Some m))
+    ⊎ ((i : ℕ) × ((j ≡ length xs + i) × (slice_get ys i ≡ Some m)))
+append_cases [] ys j m e = inr (j, (omega arith, e))
+append_cases (x ∷ xs) ys zero m e = inl (omega arith, e)
+append_cases (x ∷ xs) ys (suc j) m e = told (append_cases xs ys j m e) where
+  told : ((j < length xs) × (slice_get xs j ≡ Some m))
+      ⊎ ((i : ℕ) × ((j ≡ length xs + i) × (slice_get ys i ≡ Some m)))
+      → ((suc j < length (x ∷ xs)) × (slice_get (x ∷ xs) (suc j) ≡ Some m))
+      ⊎ ((i : ℕ) × ((suc j ≡ length (x ∷ xs) + i) × (slice_get ys i ≡ Some m)))
+  told (inl h) = inl (omega (arith, h.0), h.1)
+  told (inr h) = inr (h.0, (omega (arith, h.1.0), h.1.1))
+
+-- an item of a list in which one was replaced, with more behind: that one, another, or one of those
+abbrev AfterSet : {X : Type 0} → List X → List X → ℕ → X → ℕ → X → Type 0
+AfterSet xs ys k n j m =
+    ((j ≡ k) × (n ≡ m))
+    ⊎ (((j < length xs) × (slice_get xs j ≡ Some m))
+    ⊎ ((i : ℕ) × ((j ≡ length xs + i) × (slice_get ys i ≡ Some m))))
+
+after_set : {X : Type 0} (xs ys : List X) (k : ℕ) (n : X) (j : ℕ) (m : X) → k < length xs
+    → slice_get (set xs k n ++ ys) j ≡ Some m → AfterSet xs ys k n j m
+after_set [] ys k n j m lt e = absurd (omega arith)
+after_set (x ∷ xs) ys zero n zero m lt e = inl (refl, cc)
+after_set (x ∷ xs) ys zero n (suc j) m lt e = inr (append_cases (x ∷ xs) ys (suc j) m e)
+after_set (x ∷ xs) ys (suc k) n zero m lt e = inr (inl (omega arith, e))
+after_set (x ∷ xs) ys (suc k) n (suc j) m lt e = told (after_set xs ys k n j m (omega arith) e)
+  where
+    told : AfterSet xs ys k n j m → AfterSet (x ∷ xs) ys (suc k) n (suc j) m
+    told (inl h) = inl (ap suc h.0, h.1)
+    told (inr (inl h)) = inr (inl (omega (arith, h.0), h.1))
+    told (inr (inr h)) = inr (inr (h.0, (omega (arith, h.1.0), h.1.1)))
+
+pub node_is_replaced : NodeIsReplaced
+node_is_replaced pairs old new nodes more k n lt all same own others j m at =
+    let count : length (set nodes k n ++ more) ≡ length nodes + length more =
+    length-append (set nodes k n) more
+    ∙ ap (λ (c : ℕ). c + length more) (length-set nodes k n) in
+    let P : ℕ → Type 0 = λ c. IsNode pairs new c j (new j) m in
+    subst P (sym count) (told (after_set nodes more k n j m lt at)) where
+      told : AfterSet nodes more k n j m
+          → IsNode pairs new (length nodes + length more) j (new j) m
+      told (inl h) =
+          let Q : ℕ → PlainNode → Type 0 =
+          λ i c. IsNode pairs new (length nodes + length more) i (new i) c in
+          let R : Label → Type 0 =
+          λ l. IsNode pairs new (length nodes + length more) k l n in
+          let A : ℕ → Type 0 = λ i. Q i m in
+          let B : PlainNode → Type 0 = λ c. Q k c in
+          subst A (sym h.0) (subst B h.1 (subst R (sym (same k lt)) own))
+      told (inr (inl h)) =
+          let R : Label → Type 0 =
+          λ l. IsNode pairs new (length nodes + length more) j l m in
+          subst R (sym (same j h.0))
+          (is_node-more pairs old new (length nodes) (length nodes + length more) j (old j) m
+          (omega arith) same (all j m h.1))
+      told (inr (inr h)) =
+          let A : ℕ → Type 0 =
+          λ i. IsNode pairs new (length nodes + length more) i (new i) m in
+          subst A (sym h.1.0) (others h.0 m h.1.1)

@@ -1,14 +1,15 @@
 // Laws of trees as flat lists of nodes.
-ghost use Rattle.match_tree.specs.NodeLaws.{NodesAreTrees, NodesStay};
+ghost use Rattle.match_tree.specs.NodeLaws.{NodesAreTrees, NodesStay, NodeIsReplaced};
 ghost use Rattle.match_tree.specs.WalkSteps.{BranchTells, OtherTells, LaterTells};
 ghost use Rattle.match_tree.specs.WalkSteps.{HitMatchesByTwins, HitComesFirst};
 
 /// Has no effect at run time. It states facts about flat nodes. If each node is one for its label,
 /// the nodes from each place on are those of a matching tree for the label. A node stays one for
-/// its label when there are more places.
+/// its label when there are more places, and may be replaced by another one for the label.
 pub fn node_laws()
     ensures trees { NodesAreTrees }
     ensures stay { NodesStay }
+    ensures replaced { NodeIsReplaced }
 {}
 
 /// Has no effect at run time. It states the steps of a walk: from a test to the branch of the head
