@@ -3,3 +3,4 @@ pub mod TrialLaws
 pub mod Walks
 pub mod FlatLaws
 pub mod WalkLaws
+pub mod ResolvedLaws

@@ -3,6 +3,7 @@ pub mod FlatNodes
 pub mod NodeLaws
 pub mod Walking
 pub mod WalkSteps
+pub mod Resolved
 -- Private: what clauses of private functions cite.
 pub mod Agreement
 pub mod Standing

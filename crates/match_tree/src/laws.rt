@@ -2,6 +2,7 @@
 ghost use Rattle.match_tree.specs.NodeLaws.{NodesAreTrees, NodesStay, NodeIsReplaced};
 ghost use Rattle.match_tree.specs.WalkSteps.{BranchTells, OtherTells, LaterTells};
 ghost use Rattle.match_tree.specs.WalkSteps.{HitMatchesByTwins, HitComesFirst};
+ghost use Rattle.match_tree.specs.Resolved.{TwinsAreAsked, PlacesAreResolved};
 
 /// Has no effect at run time. It states facts about flat nodes. If each node is one for its label,
 /// the nodes from each place on are those of a matching tree for the label. A node stays one for
@@ -21,4 +22,11 @@ pub fn walk_laws()
     ensures later { LaterTells }
     ensures twins { HitMatchesByTwins }
     ensures first { HitComesFirst }
+{}
+
+/// Has no effect at run time. It states that what a variable stands for at a hit is known by what
+/// the tests have found, so that the places of a variable are compared without a look at a term.
+pub fn place_laws()
+    ensures asked { TwinsAreAsked }
+    ensures resolved { PlacesAreResolved }
 {}

@@ -6,7 +6,8 @@
 //
 // A matching tree is kept as a flat list of nodes, each with a label that says what is left to do
 // there (specs/FlatNodes.antt). `node_laws` says that such nodes are those of trees. `walk_laws`
-// says what each step of a walk over them leads to (specs/Walking.antt).
+// says what each step of a walk over them leads to (specs/Walking.antt). `place_laws` says that the
+// places of a variable are known at a hit by what was found (specs/Resolved.antt).
 #![tactic(auto)]
 
 mod agreement;
@@ -14,5 +15,5 @@ mod laws;
 mod standing;
 mod trial;
 
-pub use laws::{node_laws, walk_laws};
+pub use laws::{node_laws, place_laws, walk_laws};
 pub use trial::row_matches;
