@@ -4,3 +4,4 @@ pub mod Walks
 pub mod FlatLaws
 pub mod WalkLaws
 pub mod ResolvedLaws
+pub mod TestLaws

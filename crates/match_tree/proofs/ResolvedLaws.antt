@@ -40,7 +40,8 @@ head_step : (ts : List Tree) (place position : List ℕ) (h g : PlainHead) (rest
     → (if b then Some h else rest) ≡ option_map root (subject_at ts position)
 head_step ts place position h g rest true is own later =
     sym own
-    ∙ ap (λ (x : List ℕ). option_map root (subject_at ts x)) ((bytes_eq-Decides place position).0 is)
+    ∙ ap (λ (x : List ℕ). option_map root (subject_at ts x))
+    ((bytes_eq-Decides place position).0 is)
 head_step ts place position h g rest false is own later = later refl
 
 head_is_found : (ts : List Tree) (found : Findings) (position : List ℕ) (h : PlainHead)

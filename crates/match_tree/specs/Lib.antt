@@ -4,6 +4,7 @@ pub mod NodeLaws
 pub mod Walking
 pub mod WalkSteps
 pub mod Resolved
+pub mod TestView
 -- Private: what clauses of private functions cite.
 pub mod Agreement
 pub mod Standing

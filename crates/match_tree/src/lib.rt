@@ -13,7 +13,9 @@
 mod agreement;
 mod laws;
 mod standing;
+mod testing;
 mod trial;
 
 pub use laws::{node_laws, place_laws, walk_laws};
+pub use testing::Test;
 pub use trial::row_matches;
