@@ -1,4 +1,4 @@
--- Public: what public clauses say.
+-- Laws: what stands on definitions that are not public, and what follows from it.
 pub mod FlatNodes
 pub mod NodeLaws
 pub mod Walking

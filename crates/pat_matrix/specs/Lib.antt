@@ -1,5 +1,6 @@
 -- Public: what public clauses say, and public definitions of other crates.
 pub mod Collapsed
+-- Laws: what follows from that, and what stands on definitions that are not public.
 pub mod Heads
 pub mod Positions
 pub mod Rows
