@@ -77,7 +77,10 @@ fn proves_the_syntax_of_a_quantifier(rt: HostRuntime) -> Result<(), Fail> {
     let here = MPat::var(alloc, VarNo(4))?;
     let each = MPat::all(alloc, VarNo(4), MSort(0), &here)?;
     let text = proof_of(alloc, Goal::Syntax(&each))?;
-    assert_eq!(rt; text.as_slice(), b"( x.7.4 w.var n.0 w.all ) ABACD ".as_slice());
+    assert_eq!(rt;
+        text.as_slice(),
+        b"( x.7.4 w.var n.0 w.all ) ABACD ".as_slice()
+    );
     Ok(())
 }
 
@@ -130,7 +133,7 @@ fn substitutes_at_one_leaf(rt: HostRuntime) -> Result<(), Fail> {
         made = MPat::app(alloc, &made, &beside)?;
         beside = MPat::app(alloc, &beside, &beside)?;
     }
-    assert_eq!(rt; length(alloc, &pat, &made)?, 1);
+    assert_eq!(rt; length(alloc, &pat, &made)?, 167);
     Ok(())
 }
 
@@ -145,7 +148,7 @@ fn substitutes_at_the_end_of_a_list(rt: HostRuntime) -> Result<(), Fail> {
         pat = MPat::app(alloc, &item, &pat)?;
         made = MPat::app(alloc, &item, &made)?;
     }
-    assert_eq!(rt; length(alloc, &pat, &made)?, 2);
+    assert_eq!(rt; length(alloc, &pat, &made)?, 1932);
     Ok(())
 }
 
