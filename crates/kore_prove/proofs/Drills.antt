@@ -150,6 +150,6 @@ drilled_front asked told told' before after d = inr (record {
     bytes = d.proof.bytes;
     held = d.proof.held;
     front =
-        inr (proof_front d.theory d.start (kept_by d.start d.run) d.proof.bytes d.proof.proves);
+        inr (proof_front d.theory d.start (kept_by d.start d.run) d.proof.bytes d.proof.justifies);
   };
 })

@@ -10,7 +10,7 @@ use Rattle.desk_io.specs.Changes.{Same, TellsCreated, Creates, Writes, Closes, P
 use Rattle.term_core.specs.Patterns.{Pattern}
 use Rattle.rule_core.specs.Theories.{RewriteTheory}
 use Rattle.rule_core.specs.Runs.{Run, kept_by}
-use Rattle.mm_justify.specs.Justifying.{IsProofOfRun, IsFrontOfProof}
+use Rattle.mm_justify.specs.Justifying.{JustifiesRun, IsFrontOfProof}
 use Rattle.run_proof.specs.WrittenProofs.{WritesProof, WritesFrontOfProof}
 use Rattle.run_proof.specs.declared.summaries.Summary.{Summary}
 use Rattle.kore_prove.specs.ProofFiles.{PutsCreated, PutsProof, PutsFront, HoldsCounted}
@@ -144,12 +144,12 @@ front_others (Some made) mid new theory start h k told =
 
 -- a whole proof is a front of itself
 pub proof_front : (theory : RewriteTheory) (start end : Pattern) (bytes : List ℕ)
-    → IsProofOfRun bytes theory start end → IsFrontOfProof theory start bytes
+    → JustifiesRun bytes theory start end → IsFrontOfProof theory start bytes
 proof_front theory start end bytes h = (
   end,
   (
     [],
-    subst (λ (text : List ℕ). IsProofOfRun text theory start end) (sym (append-nil bytes)) h,
+    subst (λ (text : List ℕ). JustifiesRun text theory start end) (sym (append-nil bytes)) h,
   ),
 )
 
@@ -171,7 +171,7 @@ pub created_proof : (old made new : Option Told) (file : List ℕ) (theory : Rew
     (start : Pattern) (run : Run) (s : Summary) → Creates old made file
     → PutsProof made new theory start run s → HoldsCounted old new file theory start run s
 created_proof old made new file theory start run s h k = record {
-  proof = record { bytes = k.0; held = created_tells old made new file k.0 h k.1; proves = k.2 };
+  proof = record { bytes = k.0; held = created_tells old made new file k.0 h k.1; justifies = k.2 };
   counted = k.3;
 }
 
@@ -184,7 +184,7 @@ counted_front told told' file theory start run s h =
       bytes = h.proof.bytes;
       held = h.proof.held;
       front =
-          inr (proof_front theory start (kept_by start run) h.proof.bytes h.proof.proves);
+          inr (proof_front theory start (kept_by start run) h.proof.bytes h.proof.justifies);
     })
 
 -- the created file holds the front of a proof

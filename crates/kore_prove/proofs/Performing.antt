@@ -71,7 +71,7 @@ proof_kept (Some file) told read told' theory start run kept h =
     record {
       bytes = h.bytes;
       held = told_now told read told' file h.bytes kept h.held;
-      proves = h.proves;
+      justifies = h.justifies;
     }
 
 -- the front of a proof, for the desk before the files were read
@@ -104,7 +104,7 @@ proof_is_front (Some file) told told' theory start run h =
     inr (record {
       bytes = h.bytes;
       held = h.held;
-      front = inr (proof_front theory start (kept_by start run) h.bytes h.proves);
+      front = inr (proof_front theory start (kept_by start run) h.bytes h.justifies);
     })
 
 -- the run was printed

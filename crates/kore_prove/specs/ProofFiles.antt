@@ -6,7 +6,7 @@ use Rattle.desk_io.specs.Changes.{PutsFile}
 use Rattle.term_core.specs.Patterns.{Pattern}
 use Rattle.rule_core.specs.Theories.{RewriteTheory}
 use Rattle.rule_core.specs.Runs.{Run, kept_by}
-use Rattle.mm_justify.specs.Justifying.{IsProofOfRun, IsFrontOfProof}
+use Rattle.mm_justify.specs.Justifying.{JustifiesRun, IsFrontOfProof}
 use Rattle.run_proof.specs.WrittenProofs.{IsSummaryOf}
 use Rattle.run_proof.specs.declared.summaries.Summary.{Summary}
 use Rattle.kore_prove.specs.ProvedRun.{HoldsProof, HoldsFront}
@@ -27,20 +27,21 @@ KeepsOthersNow (Some old) new =
     × ((name other : List ℕ) → old.created ≡ Some name → other ≢ name →
     file_of now.files other ≡ file_of old.files other)
 
--- the created file grew by a proof of the run that has these counts, and is no longer created
+-- the created file grew by a database that justifies the run and has these counts, and is no longer
+-- created
 abbrev pub PutsProof : Option Told → Option Told → RewriteTheory → Pattern → Run → Summary → Type 0
 PutsProof old new theory start run summary =
-    (text : List ℕ) × PutsCreated old new text × IsProofOfRun text theory start (kept_by start run)
+    (text : List ℕ) × PutsCreated old new text × JustifiesRun text theory start (kept_by start run)
     × IsSummaryOf text summary
 
--- the file holds a proof of the run that has these counts
+-- the file holds a database that justifies the run and has these counts
 pub record HoldsCounted (told told' : Option Told) (file : List ℕ) (theory : RewriteTheory)
     (start : Pattern)
     (run : Run) (summary : Summary) : Type 0 where
   pub proof : HoldsProof told told' file theory start run
   pub counted : IsSummaryOf proof.bytes summary
 
--- the created file grew by the front of such a proof, or by nothing, and is no longer created
+-- the created file grew by the front of such a database, or by nothing, and is no longer created
 abbrev pub PutsFront : Option Told → Option Told → RewriteTheory → Pattern → Type 0
 PutsFront old new theory start =
     (bytes : List ℕ) × PutsCreated old new bytes

@@ -55,11 +55,11 @@ pub fn lines_of_run(
     Ok((end, lines))
 }
 
-/// How the run within these bounds ends, its two lines, and the counts of its proof. The proof is
-/// appended to the created file during the run.
+/// How the run within these bounds ends, its two lines, and the counts of its proof. A database
+/// that justifies the run is appended to the created file during the run.
 ///
-/// Errors: out of memory, or a fault that the desk counted. After an error the front of a proof,
-/// perhaps nothing, was appended.
+/// Errors: out of memory, or a fault that the desk counted. After an error the front of such a
+/// database, perhaps nothing, was appended.
 pub fn proved_lines_of_run<D: Desk>(
     alloc: Global,
     desk: &mut D,

@@ -15,5 +15,4 @@ pub mod WrittenTogether
 pub mod Decimals
 pub mod AgreeLaws
 pub mod CitingDerivations
-pub mod TextStacking
-pub mod TableLaws
+pub mod EntryLaws

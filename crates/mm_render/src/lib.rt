@@ -15,7 +15,6 @@
 mod claims;
 mod derivations;
 mod heads;
-mod mandatory;
 mod needed;
 mod places;
 mod renderer;

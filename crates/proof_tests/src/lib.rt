@@ -6,8 +6,6 @@
 #![tactic(auto)]
 
 #[cfg(test)]
-mod compressed;
-#[cfg(test)]
 mod derived;
 #[cfg(test)]
 mod entries;

@@ -14,7 +14,7 @@ use Rattle.rule_core.specs.declared.rules.Program.{Program}
 use Rattle.ml_kernel.specs.Theorems.{Theorem}
 use Rattle.mm_claims.specs.Rendered.{Rendered, all_stated}
 use Rattle.mm_claims.specs.Places.{IsStated}
-use Rattle.mm_justify.specs.Justifying.{IsProofOfRun}
+use Rattle.mm_justify.specs.Justifying.{JustifiesRun}
 use Rattle.prove_term.specs.Contexts.{Context, IsContext, HasGrown, new_context}
 use Rattle.prove_term.proofs.ContextLaws.{grown_twice}
 use Rattle.prove_step.specs.Steps.{IsStepFrom}
@@ -77,8 +77,8 @@ fits_now : (p : Inside) (old : Writer) (told : Option Tree) (thm : Theorem)
 fits_now p old told thm before after added text ground says made concludes whole was is = record {
   fits = is.fits;
   only = is.only;
-  proves =
-      subst (λ (o : Option Tree). IsProofOfRun (text ++ added) (theory_of p.prover.program)
+  justifies =
+      subst (λ (o : Option Tree). JustifiesRun (text ++ added) (theory_of p.prover.program)
       (plain_pattern p.start.now) (configuration (plain_pattern p.start.now) o)) (sym made)
       (concludes (plain_pattern p.start.now) (configuration (plain_pattern p.start.now) told)
       says.from says.to added text ground

@@ -10,18 +10,18 @@ use Rattle.rule_core.specs.RecordView.{plain_record}
 use Rattle.rule_core.specs.declared.records.EvalRecord.{EvalRecord}
 use Rattle.rule_core.specs.declared.rules.Program.{Program}
 use Rattle.mm_claims.specs.Keeping.{Fits}
-use Rattle.mm_justify.specs.Justifying.{HasOnlyAxiomsOf, IsProofOfRun}
+use Rattle.mm_justify.specs.Justifying.{HasOnlyAxiomsOf, JustifiesRun}
 use Rattle.mm_justify.specs.Counting.{HasCounts}
 use Rattle.prove_step.specs.Steps.{IsStepFrom}
 use Rattle.prove_run.specs.RunProof.{RunProof, reached}
 
 -- The text fits the proof. It has exactly what the proof keeps of it. It has only axioms of the
--- program. It is a proof of the run from the start to the present configuration. The proof has its
+-- program. It justifies the run from the start to the present configuration. The proof has its
 -- counts.
 pub record FitsProof (proof : RunProof) (text : List ℕ) : Type 0 where
   pub fits : Fits proof.names proof.kept text
   pub only : HasOnlyAxiomsOf (theory_of proof.program) text
-  pub proves : IsProofOfRun text (theory_of proof.program) (plain_pattern proof.start)
+  pub justifies : JustifiesRun text (theory_of proof.program) (plain_pattern proof.start)
       (reached proof)
   pub counts : HasCounts proof.facts proof.statements text
 

@@ -21,6 +21,5 @@ pub mod InjectionTables
 pub mod SortKeys
 pub mod Carrying
 pub mod Elements
-pub mod EqualityLemmas
 pub mod Comparing
 pub mod ContextView

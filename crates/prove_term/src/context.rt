@@ -43,8 +43,6 @@ pub struct Cx<'p> {
     pub(crate) injections: BTreeMap<(u32, u32), usize>,
     // The place of the lemma that makes two injections one, by the three sorts.
     pub(crate) collapses: BTreeMap<(u32, u32, u32), usize>,
-    // The place of each lemma on equalities that was used, by the lemma's number.
-    pub(crate) equalities: BTreeMap<u32, usize>,
 }
 
 /// The axiom of a value, and the sort in it.
@@ -90,7 +88,6 @@ impl<'p> Cx<'p> {
             constructors: BTreeMap::new(alloc),
             injections: BTreeMap::new(alloc),
             collapses: BTreeMap::new(alloc),
-            equalities: BTreeMap::new(alloc),
         }
     }
 

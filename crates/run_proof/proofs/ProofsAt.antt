@@ -11,7 +11,7 @@ use Rattle.rule_core.specs.Evaluation.{most_height}
 use Rattle.rule_core.specs.ProgramView.{theory_of}
 use Rattle.rule_core.specs.Records.{StepRecord, RecordsStep}
 use Rattle.rule_core.specs.declared.rules.Program.{Program}
-use Rattle.mm_justify.specs.Justifying.{IsProofOfRun}
+use Rattle.mm_justify.specs.Justifying.{JustifiesRun}
 use Rattle.mm_justify.specs.Counting.{HasCounts, capped}
 use Rattle.prove_step.specs.Steps.{IsStepFrom}
 use Rattle.prove_run.specs.RunProof.{RunProof, configuration, reached}
@@ -25,7 +25,7 @@ use Rattle.run_proof.specs.declared.steps.StartResult.{StartResult}
 use Rattle.run_proof.specs.declared.steps.StartResult.TheVariants as beginning
 use Rattle.run_proof.specs.declared.steps.StepResult.{StepResult}
 use Rattle.run_proof.specs.declared.steps.StepResult.TheVariants as going
-use Rattle.run_proof.specs.ProvedSteps.{IsProofAt, IsProvedRun, IsLeftOf, ProvesNoStep, BeginsAt}
+use Rattle.run_proof.specs.ProvedSteps.{IsProofAt, IsProvedRun, IsLeftOf, JustifiesNoStep, BeginsAt}
 use Rattle.run_proof.specs.ProvedSteps.{BeginsRun, ContinuesRun, IsFurther}
 use Rattle.run_proof.specs.WrittenPieces.{SumsUp}
 use Rattle.desk_io.specs.Told.{Told}
@@ -104,19 +104,19 @@ goes_further program old run (going.Further new) step sorted h =
 goes_further program old run (going.Stuck last left) step sorted h = absurd h
 goes_further program old run (going.Blocked why last left) step sorted h = absurd h
 
--- the text is a proof of the run so far
+-- the text justifies the run so far
 pub justified : (program : Program) (start at end : Pattern) (proof : RunProof) (text : List ℕ)
     → IsProofAt program start at proof text → at ≡ end
-    → IsProofOfRun text (theory_of program) start end
+    → JustifiesRun text (theory_of program) start end
 justified program start at end proof text h last =
-    let one : IsProofOfRun text (theory_of program) (plain_pattern proof.start) (reached proof) =
+    let one : JustifiesRun text (theory_of program) (plain_pattern proof.start) (reached proof) =
     subst (λ (p : Program).
-    IsProofOfRun text (theory_of p) (plain_pattern proof.start) (reached proof))
-    h.same_program h.fits.proves in
-    let two : IsProofOfRun text (theory_of program) start (reached proof) =
-    subst (λ (p : Pattern). IsProofOfRun text (theory_of program) p (reached proof))
+    JustifiesRun text (theory_of p) (plain_pattern proof.start) (reached proof))
+    h.same_program h.fits.justifies in
+    let two : JustifiesRun text (theory_of program) start (reached proof) =
+    subst (λ (p : Pattern). JustifiesRun text (theory_of program) p (reached proof))
     h.same_start one in
-    subst (λ (p : Pattern). IsProofOfRun text (theory_of program) start p) (h.is_reached ∙ last) two
+    subst (λ (p : Pattern). JustifiesRun text (theory_of program) start p) (h.is_reached ∙ last) two
 
 -- ---- the counts
 
@@ -175,11 +175,11 @@ pub no_proof_written : (told : Option Told) (theory : RewriteTheory) (start : Pa
     → TellsCreated true told → WritesFrontOfProof told told theory start
 no_proof_written told theory start h = ([], Writes-nil told h, inl refl)
 
--- some bytes of a text were written before, and then a front of the rest; the whole text is a proof
--- of the run
+-- some bytes of a text were written before, and then a front of the rest; the whole text justifies
+-- the run
 pub front_of_proof : (old mid new : Option Told) (theory : RewriteTheory) (start end : Pattern)
     (written text : List ℕ) → Writes old mid written → WritesFront mid new text
-    → IsProofOfRun (written ++ text) theory start end → WritesFrontOfProof old new theory start
+    → JustifiesRun (written ++ text) theory start end → WritesFrontOfProof old new theory start
 front_of_proof None mid new theory start end written text first front whole = ([], tt, inl refl)
 front_of_proof (Some old) None new theory start end written text
     (name, content, files, created, file, puts, is) front whole =
@@ -192,7 +192,7 @@ front_of_proof (Some old) (Some mid) new theory start end written text first
         end,
         (
           rest,
-          subst (λ (l : List ℕ). IsProofOfRun l theory start end)
+          subst (λ (l : List ℕ). JustifiesRun l theory start end)
               (ap (λ (l : List ℕ). written ++ l) is ∙ sym (append_assoc written front rest)) whole,
         ),
       ),
@@ -269,7 +269,7 @@ left_proof run_of (Ok e) end old mid new program start written count s left firs
 -- the same for a term without a value
 pub unstarted_proof : {T E : Type 0} (run_of : T → Run) (r : Result (T × Summary) E) (end : T)
     (old new : Option Told) (program : Program) (start : Pattern) (left : ProofRest)
-    → ProvesNoStep program start left → start ≡ kept_by start (run_of end)
+    → JustifiesNoStep program start left → start ≡ kept_by start (run_of end)
     → IfOk r (λ e. e.0 ≡ end)
     → IfOk r (λ e. SumsUp left.facts left.statements 0 left.text.items e.1)
     → OnOk r (Writes old new left.text.items)
@@ -278,8 +278,8 @@ unstarted_proof run_of (Err fault) end old new program start left none kept is s
 unstarted_proof run_of (Ok e) end old new program start left none kept is sums rest = (
   left.text.items,
   rest,
-  subst (IsProofOfRun left.text.items (theory_of program) start)
-      (kept ∙ ap (λ x. kept_by start (run_of x)) (sym is)) none.proves,
+  subst (JustifiesRun left.text.items (theory_of program) start)
+      (kept ∙ ap (λ x. kept_by start (run_of x)) (sym is)) none.justifies,
   summed_up left.facts left.statements 0 [] left.text.items e.1 none.counts refl sums,
 )
 

@@ -12,7 +12,7 @@ use Rattle.rule_core.specs.Runs.{Steps, steps_on, stays, stops, Reaches}
 use Rattle.rule_core.specs.WellSorted.{IsStart}
 use Rattle.rule_core.specs.declared.rules.Blocked.{Blocked}
 use Rattle.rule_core.specs.declared.rules.Program.{Program}
-use Rattle.mm_justify.specs.Justifying.{IsProofOfRun}
+use Rattle.mm_justify.specs.Justifying.{JustifiesRun}
 use Rattle.mm_justify.specs.Counting.{HasCounts}
 use Rattle.rewriter.specs.Configurations.{RunState, IsConfiguration}
 use Rattle.proof_writer.specs.PlainNames.{HasPlainNames}
@@ -57,9 +57,9 @@ pub record IsLeftOf (proof : RunProof) (text : List ℕ) (left : ProofRest) : Ty
   pub same_facts : left.facts ≡ proof.facts
   pub same_statements : left.statements ≡ proof.statements
 
--- the text that is left is a proof of the run of a term without a value, and it has these counts
-pub record ProvesNoStep (program : Program) (start : Pattern) (left : ProofRest) : Type 0 where
-  pub proves : IsProofOfRun left.text.items (theory_of program) start start
+-- the text that is left justifies the run of a term without a value, and it has these counts
+pub record JustifiesNoStep (program : Program) (start : Pattern) (left : ProofRest) : Type 0 where
+  pub justifies : JustifiesRun left.text.items (theory_of program) start start
   pub counts : HasCounts left.facts left.statements left.text.items
 
 -- the run of a term begins with the term's value, or the term has no value
@@ -69,7 +69,7 @@ BeginsRun program start calls (beginning.Begun s) =
     × IsProvedRun program start [] s
 BeginsRun program start calls (beginning.Unstarted why left) =
     Evaluates (theory_of program) most_nesting [] start calls (blocked (cause_of why))
-    × ProvesNoStep program start left
+    × JustifiesNoStep program start left
 
 -- the proof has reached the configuration of a run without steps
 abbrev pub BeginsAt : Program → Pattern → RunState → StartResult → Type 0
@@ -81,7 +81,7 @@ BeginsAt program start run (beginning.Unstarted why left) = ⊥
 abbrev pub IsUnstarted : Program → Pattern → Blocked → StartResult → Type 0
 IsUnstarted program start why (beginning.Begun s) = ⊥
 IsUnstarted program start why (beginning.Unstarted because left) =
-    (because ≡ why) × ProvesNoStep program start left
+    (because ≡ why) × JustifiesNoStep program start left
 
 -- the run and its proof have made a step, which is the step of the definition; or no step can be
 -- made

@@ -20,12 +20,11 @@ use std::alloc::Global;
 use term_core::RulePat;
 
 /// The run of an initial term, with at most `limit` steps and `calls` calls of functions, and the
-/// counts of its proof. The proof is a Metamath database that justifies the run, from the initial
-/// term to what it keeps, by compressed proofs. It is appended to the desk's created file during
-/// the run.
+/// counts of its proof. A Metamath database that justifies the run, from the initial term to what
+/// it keeps, is appended to the desk's created file during the run.
 ///
 /// Errors: out of memory, or a fault that the desk counted. After an error the front of such a
-/// proof, perhaps of a shorter run, or nothing was appended.
+/// database, perhaps of a shorter run, or nothing was appended.
 ///
 /// The text of a step grows with the configurations that it names, at most with the square of their
 /// sizes, and with the calls of functions that it makes. Memory holds the text of one step, at

@@ -64,7 +64,7 @@ returns-in-Unstarted-clause-front g c =
     (plain_pattern c.args.start.now) [] c.in-Unstarted.left.text.items
     (Writes-nil (g.D.Desk.state c.args.desk.now).told
     (rw c.requires.file at (g.met.D.Desk.tells_created c.args.desk.now)))
-    front begun.1.proves) c.ended.ensures.front
+    front begun.1.justifies) c.ended.ensures.front
 
 pub returns-in_err-further-clause-front : goal.returns-in_err-further-clause-front
 returns-in_err-further-clause-front g c =
