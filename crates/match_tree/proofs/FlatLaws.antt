@@ -10,7 +10,8 @@ use Rattle.pat_matrix.specs.Rows.{specialized}
 use Rattle.pat_matrix.specs.MatchTrees.{MatchTree, end, hit, test, in_order, Branches, no_branch}
 use Rattle.pat_matrix.specs.MatchTrees.{branch, has_branch}
 use Rattle.pat_matrix.specs.MatchTrees.{IsMatchTree, AreBranches}
-use Rattle.match_tree.specs.FlatNodes.{PlainNode, end_node, hit_node, test_node, try_node, Label}
+use Rattle.match_tree.specs.Labels.{Label}
+use Rattle.match_tree.specs.FlatNodes.{PlainNode, end_node, hit_node, test_node, try_node}
 use Rattle.match_tree.specs.FlatNodes.{has_head, AreBranchPlaces, IsNode, AllNodes, Grows}
 use Rattle.match_tree.specs.FlatNodes.{BranchesGrow}
 use Rattle.match_tree.specs.NodeLaws.{NodeIsReplaced}
@@ -72,9 +73,10 @@ node_tree : (pairs : List (ℕ × ℕ)) (labels : ℕ → Label) (nodes : List P
     → ((j : ℕ) → k < j → j < length nodes → HasTree pairs nodes j (labels j))
     → HasTree pairs nodes k (labels k)
 node_tree pairs labels nodes k end_node at h trees = (end, at, h)
-node_tree pairs labels nodes k (hit_node r j) at (ps, later, is, found, lt, within, label) trees =
+node_tree pairs labels nodes k (hit_node r spots j) at
+    (ps, later, is, found, own, lt, within, label) trees =
     let below = moved pairs nodes j (labels j) _ label (trees j lt within) in
-    (hit r ps below.0, (j, at, lt, below.1), (later, is, found, below.2))
+    (hit r ps below.0, (spots, j, at, lt, below.1), (later, is, found, below.2))
 node_tree pairs labels nodes k (test_node position hs js other) at
     (asks, reached, new, heads, places, lt, within, label) trees =
     let below = moved pairs nodes other (labels other) _ label (trees other lt within) in
@@ -132,9 +134,9 @@ pub is_node-more : (pairs : List (ℕ × ℕ)) (old new : ℕ → Label) (few ma
     (n : PlainNode) → few ≤ many → SameLabels old new few → IsNode pairs old few k l n
     → IsNode pairs new many k l n
 is_node-more pairs old new few many k l end_node le same h = h
-is_node-more pairs old new few many k l (hit_node r j) le same
-    (ps, later, is, found, lt, within, label) =
-    (ps, later, is, found, lt, omega arith, same j within ∙ label)
+is_node-more pairs old new few many k l (hit_node r spots j) le same
+    (ps, later, is, found, own, lt, within, label) =
+    (ps, later, is, found, own, lt, omega arith, same j within ∙ label)
 is_node-more pairs old new few many k l (test_node position hs js other) le same
     (asks, reached, untested, heads, places, lt, within, label) = (
       asks,
@@ -149,7 +151,7 @@ is_node-more pairs old new few many k l (test_node position hs js other) le same
 is_node-more pairs old new few many k l (try_node m) le same h = h
 
 -- an item of two lists is one of the first or of the second
-append_cases : {X : Type 0} (xs ys : List X) (j : ℕ) (m : X) → slice_get (xs ++ ys) j ≡ Some m
+pub append_cases : {X : Type 0} (xs ys : List X) (j : ℕ) (m : X) → slice_get (xs ++ ys) j ≡ Some m
     → ((j < length xs) × (slice_get xs j ≡ Some m))
     ⊎ ((i : ℕ) × ((j ≡ length xs + i) × (slice_get ys i ≡ Some m)))
 append_cases [] ys j m e = inr (j, (omega arith, e))
@@ -163,13 +165,13 @@ append_cases (x ∷ xs) ys (suc j) m e = told (append_cases xs ys j m e) where
   told (inr h) = inr (h.0, (omega (arith, h.1.0), h.1.1))
 
 -- an item of a list in which one was replaced, with more behind: that one, another, or one of those
-abbrev AfterSet : {X : Type 0} → List X → List X → ℕ → X → ℕ → X → Type 0
+abbrev pub AfterSet : {X : Type 0} → List X → List X → ℕ → X → ℕ → X → Type 0
 AfterSet xs ys k n j m =
     ((j ≡ k) × (n ≡ m))
     ⊎ (((j < length xs) × (slice_get xs j ≡ Some m))
     ⊎ ((i : ℕ) × ((j ≡ length xs + i) × (slice_get ys i ≡ Some m))))
 
-after_set : {X : Type 0} (xs ys : List X) (k : ℕ) (n : X) (j : ℕ) (m : X) → k < length xs
+pub after_set : {X : Type 0} (xs ys : List X) (k : ℕ) (n : X) (j : ℕ) (m : X) → k < length xs
     → slice_get (set xs k n ++ ys) j ≡ Some m → AfterSet xs ys k n j m
 after_set [] ys k n j m lt e = absurd (omega arith)
 after_set (x ∷ xs) ys zero n zero m lt e = inl (refl, cc)

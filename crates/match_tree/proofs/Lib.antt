@@ -5,3 +5,16 @@ pub mod FlatLaws
 pub mod WalkLaws
 pub mod ResolvedLaws
 pub mod TestLaws
+pub mod TrailLaws
+pub mod JoinLaws
+pub mod DraftLaws
+pub mod RefineLaws
+pub mod DraftSteps
+pub mod CompileLaws
+pub mod WayLaws
+pub mod HitLaws
+pub mod OrderLaws
+pub mod DescentLaws
+pub mod OnceLaws
+pub mod ArmLaws
+pub mod WalkEnds

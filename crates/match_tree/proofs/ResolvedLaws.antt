@@ -1,7 +1,7 @@
 -- What a variable stands for at a hit is known by what was found.
 use Rattle.std.proofs.Common.{◌≡◌, ◌+◌, ℕ, zero, suc, Bool, true, false, List, [], ◌∷◌, ◌++◌}
 use Rattle.std.proofs.Common.{Option, Some, None, option_map, slice_get, Contains, refl, sym, ◌∙◌}
-use Rattle.std.proofs.Common.{ap, subst, arith}
+use Rattle.std.proofs.Common.{◌⊎◌, inl, inr, ap, subst, arith}
 use Rattle.std.specs.Prelude.{◌==◌, if◌then◌else◌}
 use Rattle.std.specs.Option.{option_and_then}
 use Rattle.std.specs.Str.{bytes_eq}
@@ -12,9 +12,9 @@ use Rattle.term_core.specs.Terms.{Tree, leaf, node, inj}
 use Rattle.term_core.specs.Patterns.{Pattern, Patterns, variable, domain_value, application}
 use Rattle.term_core.specs.Patterns.{injection, call, no_pattern, more_patterns}
 use Rattle.term_core.specs.Instances.{patterns}
-use Rattle.rule_core.specs.MatchSteps.{lowered}
 use Rattle.rule_core.proofs.MatchFound.{after}
-use Rattle.pat_matrix.specs.Heads.{PlainHead, root, pattern_list}
+use Rattle.pat_matrix.specs.Heads.{PlainHead, of_value, of_constructor, of_injection, root}
+use Rattle.pat_matrix.specs.Heads.{pattern_list}
 use Rattle.pat_matrix.specs.Positions.{asked, row_asks, subject_at}
 use Rattle.pat_matrix.specs.MatchTrees.{Findings}
 use Rattle.pat_matrix.specs.Occurrences.{Place, Occurrence, occurrences, all_occurrences}
@@ -23,64 +23,93 @@ use Rattle.pat_matrix.specs.Occurrences.{first_place, seen_after, twin_before, t
 use Rattle.pat_matrix.proofs.PartLaws.{pattern_list-patterns}
 use Rattle.pat_matrix.proofs.LinearRows.{subject_at-append}
 use Rattle.match_tree.specs.Walking.{AreTrue}
-use Rattle.match_tree.specs.Resolved.{found_head, lowered_by, IsAskedPlace}
-use Rattle.match_tree.specs.Resolved.{AreAskedTwins, TwinsAreAsked, PlacesAreResolved}
+use Rattle.match_tree.specs.Trails.{trail_of, source_of, source_at}
+use Rattle.match_tree.specs.Spots.{lift_from, lifted, tree_of_spot, IsAskedPlace}
+use Rattle.match_tree.specs.Spots.{AreAskedTwins, TwinsAreAsked, PlacesAreResolved}
 
--- ---- the head that was found
+-- ---- the source sort that was found
 
 are_true-rest : (ts : List Tree) (e : List ℕ × Option PlainHead) (found : Findings)
     → AreTrue ts (e ∷ found) → AreTrue ts found
 are_true-rest ts e found h position k there =
     h position k (suc there.0, omega (arith, there.1), there.2)
 
-head_step : (ts : List Tree) (place position : List ℕ) (h g : PlainHead) (rest : Option PlainHead)
-    (b : Bool) → bytes_eq place position ≡ b
-    → option_map root (subject_at ts place) ≡ Some h
-    → (b ≡ false → rest ≡ option_map root (subject_at ts position))
-    → (if b then Some h else rest) ≡ option_map root (subject_at ts position)
-head_step ts place position h g rest true is own later =
-    sym own
-    ∙ ap (λ (x : List ℕ). option_map root (subject_at ts x))
-    ((bytes_eq-Decides place position).0 is)
-head_step ts place position h g rest false is own later = later refl
+-- one entry of a trail before the others
+source_step : (ts : List Tree) (place position : List ℕ) (g : PlainHead) (a d : ℕ)
+    (trail : List (List ℕ × Option ℕ)) → option_map root (subject_at ts place) ≡ Some g
+    → option_map root (subject_at ts position) ≡ Some (of_injection a d)
+    → (place ≡ position) ⊎ (source_at trail position ≡ Some a)
+    → source_at ((place, source_of (Some g)) ∷ trail) position ≡ Some a
+source_step ts place position (of_value s v) a d trail own there (inl same) =
+    absurd (let no : Some (of_value s v) ≡ Some (of_injection a d) =
+    sym own ∙ ap (λ (x : List ℕ). option_map root (subject_at ts x)) same ∙ there in
+    let never : ⊥ = cc in never)
+source_step ts place position (of_value s v) a d trail own there (inr rest) = rest
+source_step ts place position (of_constructor f n) a d trail own there (inl same) =
+    absurd (let no : Some (of_constructor f n) ≡ Some (of_injection a d) =
+    sym own ∙ ap (λ (x : List ℕ). option_map root (subject_at ts x)) same ∙ there in
+    let never : ⊥ = cc in never)
+source_step ts place position (of_constructor f n) a d trail own there (inr rest) = rest
+source_step ts place position (of_injection b c) a d trail own there tail =
+    told (bytes_eq place position) refl tail where
+      told : (t : Bool) → bytes_eq place position ≡ t
+          → (place ≡ position) ⊎ (source_at trail position ≡ Some a)
+          → (if t then Some b else source_at trail position) ≡ Some a
+      told true is later =
+          let same : place ≡ position = (bytes_eq-Decides place position).0 is in
+          let one : Some (of_injection b c) ≡ Some (of_injection a d) =
+          sym own ∙ ap (λ (x : List ℕ). option_map root (subject_at ts x)) same ∙ there in
+          let sorts : b ≡ a = cc in ap Some sorts
+      told false is (inl same) =
+          absurd (false≢true (sym is ∙ (bytes_eq-Decides place position).1 same))
+      told false is (inr rest) = rest
 
-head_is_found : (ts : List Tree) (found : Findings) (position : List ℕ) (h : PlainHead)
+source_is_found : (ts : List Tree) (found : Findings) (position : List ℕ) (h : PlainHead) (a d : ℕ)
     → AreTrue ts found → Contains found (position, Some h)
-    → found_head found position ≡ option_map root (subject_at ts position)
-head_is_found ts [] position h all there = absurd (omega (arith, there.1))
-head_is_found ts ((place, None) ∷ found) position h all (zero, lt, is) =
+    → option_map root (subject_at ts position) ≡ Some (of_injection a d)
+    → source_at (trail_of found) position ≡ Some a
+source_is_found ts [] position h a d all there is = absurd (omega (arith, there.1))
+source_is_found ts ((place, None) ∷ found) position h a d all (zero, lt, same) is =
     absurd (let no : None ≡ Some h =
-    ap (λ (e : List ℕ × Option PlainHead). e.1) is in let never : ⊥ = cc in never)
-head_is_found ts ((place, None) ∷ found) position h all (suc n, lt, is) =
-    head_is_found ts found position h (are_true-rest ts (place, None) found all)
-    (n, omega arith, is)
-head_is_found ts ((place, Some g) ∷ found) position h all (zero, lt, is) =
-    let same : place ≡ position = ap (λ (e : List ℕ × Option PlainHead). e.0) is in
-    head_step ts place position g h (found_head found position) (bytes_eq place position) refl
-    (all place g (zero, omega arith, refl))
-    (λ other. absurd (false≢true (sym other ∙ (bytes_eq-Decides place position).1 same)))
-head_is_found ts ((place, Some g) ∷ found) position h all (suc n, lt, is) =
-    head_step ts place position g h (found_head found position) (bytes_eq place position) refl
-    (all place g (zero, omega arith, refl))
-    (λ other. head_is_found ts found position h (are_true-rest ts (place, Some g) found all)
-    (n, omega arith, is))
+    ap (λ (e : List ℕ × Option PlainHead). e.1) same in let never : ⊥ = cc in never)
+source_is_found ts ((place, None) ∷ found) position h a d all (suc n, lt, same) is =
+    source_is_found ts found position h a d (are_true-rest ts (place, None) found all)
+    (n, omega arith, same) is
+source_is_found ts ((place, Some g) ∷ found) position h a d all (zero, lt, same) is =
+    source_step ts place position g a d (trail_of found)
+    (all place g (zero, omega arith, refl)) is
+    (inl (ap (λ (e : List ℕ × Option PlainHead). e.0) same))
+source_is_found ts ((place, Some g) ∷ found) position h a d all (suc n, lt, same) is =
+    source_step ts place position g a d (trail_of found)
+    (all place g (zero, omega arith, refl)) is
+    (inr (source_is_found ts found position h a d (are_true-rest ts (place, Some g) found all)
+    (n, omega arith, same) is))
 
-resolved_step : (ts : List Tree) (position : List ℕ) (b : ℕ) (v t : Tree) (o : Option PlainHead)
-    → subject_at ts position ≡ Some v → lowered_child b v ≡ Some t → o ≡ Some (root v)
-    → lowered_by b o (subject_at ts (position ++ 0 ∷ [])) ≡ Some t
+lifted_is : (a b : ℕ) (u : Tree) (t : Bool) → (a == b) ≡ t
+    → lifted (if t then None else Some (a, b)) u ≡ (if t then u else inj a b u)
+lifted_is a b u true is = refl
+lifted_is a b u false is = refl
+
+resolved_step : (ts : List Tree) (position : List ℕ) (b : ℕ) (v t : Tree) (o : Option ℕ)
+    → subject_at ts position ≡ Some v → lowered_child b v ≡ Some t
+    → ((a d : ℕ) → root v ≡ of_injection a d → o ≡ Some a)
+    → tree_of_spot ts (position ++ 0 ∷ [], lift_from b o) ≡ Some t
 resolved_step ts position b (leaf s w) t o there e is = absurd (let no : ⊥ = cc in no)
 resolved_step ts position b (node f us) t o there e is = absurd (let no : ⊥ = cc in no)
 resolved_step ts position b (inj a d u) t o there e is =
-    ap (λ (k : Option PlainHead). lowered_by b k (subject_at ts (position ++ 0 ∷ []))) is
-    ∙ ap (option_map (lowered a b)) (subject_at-append ts (inj a d u) position 0 there) ∙ e
+    ap (λ (k : Option ℕ). tree_of_spot ts (position ++ 0 ∷ [], lift_from b k)) (is a d refl)
+    ∙ ap (option_map (lifted (lift_from b (Some a))))
+    (subject_at-append ts (inj a d u) position 0 there)
+    ∙ ap Some (lifted_is a b u (a == b) refl) ∙ e
 
 pub places_are_resolved : PlacesAreResolved
-places_are_resolved pairs ts found ps (position, None) t all whole asks e = e
+places_are_resolved pairs ts found ps (position, None) t all whole asks e = ap (option_map (lifted None)) e
 places_are_resolved pairs ts found ps (position, Some b) t all whole (q, asks) e =
     let one = whole position q asks in
     let v = after (lowered_child b) (subject_at ts position) t e in
-    resolved_step ts position b v.0 t (found_head found position) v.1.0 v.1.1
-    (head_is_found ts found position one.0 all one.1 ∙ ap (option_map root) v.1.0)
+    resolved_step ts position b v.0 t (source_at (trail_of found) position) v.1.0 v.1.1
+    (λ a d is. source_is_found ts found position one.0 a d all one.1
+    (ap (option_map root) v.1.0 ∙ ap Some is))
 
 -- ---- the places are asked
 

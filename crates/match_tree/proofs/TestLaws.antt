@@ -2,25 +2,19 @@
 use Rattle.std.proofs.Common.{◌≡◌, ◌+◌, ◌<◌, ◌≤◌, ℕ, suc, Bool, true, false, List, [], ◌∷◌}
 use Rattle.std.proofs.Common.{length, map, Option, Some, None, slice_get, nat_lt, refl, sym, ◌∙◌}
 use Rattle.std.proofs.Common.{ap}
-use Rattle.std.proofs.Common.{arith, eq-eqb, get_or}
+use Rattle.std.proofs.Common.{arith, get_or}
 use Rattle.std.specs.Prelude.{not, if◌then◌else◌}
 use Rattle.std.specs.List.{position, position_or_len}
 use Rattle.std.specs.Option.{unwrap_or}
 use Rattle.std.proofs.lemmas.Bool.{false≢true, ltb-true, ltb-false}
 use Rattle.std.proofs.lemmas.Option.{slice_get_read}
-use Rattle.term_core.proofs.TreeTests.{Decides-value_eq}
-use Rattle.pat_matrix.specs.Heads.{PlainHead, of_value, of_constructor, of_injection, head_eq}
+use Rattle.pat_matrix.specs.Heads.{PlainHead, head_eq}
 use Rattle.pat_matrix.specs.HeadView.{head_of}
 use Rattle.pat_matrix.specs.declared.heads.Head.{Head}
-use Rattle.pat_matrix.proofs.HeadLaws.{head_eq-true}
+use Rattle.pat_matrix.proofs.HeadLaws.{head_eq-true, head_eq-same}
 use Rattle.match_tree.specs.Walking.{find_place}
 
-head_eq-same : (h : PlainHead) → head_eq h h ≡ true
-head_eq-same (of_value s v) = rw (eq-eqb s s refl, (Decides-value_eq v v).1 refl) refl
-head_eq-same (of_constructor f n) = rw (eq-eqb f f refl, eq-eqb n n refl) refl
-head_eq-same (of_injection a b) = rw (eq-eqb a a refl, eq-eqb b b refl) refl
-
-head_eq-turned : (g h : PlainHead) (b : Bool) → head_eq g h ≡ b → head_eq h g ≡ b
+pub head_eq-turned : (g h : PlainHead) (b : Bool) → head_eq g h ≡ b → head_eq h g ≡ b
 head_eq-turned g h true e =
     ap (λ (k : PlainHead). head_eq h k) (head_eq-true g h e) ∙ head_eq-same h
 head_eq-turned g h false e = told (head_eq h g) refl where

@@ -25,7 +25,8 @@ use Rattle.pat_matrix.proofs.LinearRows.{RowAgrees, subject_at-append}
 use Rattle.pat_matrix.proofs.TreeHits.{all_collapsed-filter, rising-filter, after_hit}
 use Rattle.pat_matrix.proofs.TreeHits.{unwanted_no_matter, others_no_matter}
 use Rattle.pat_matrix.proofs.TwinLaws.{found_match_by_twins}
-use Rattle.match_tree.specs.FlatNodes.{Label, has_head, AreBranchPlaces}
+use Rattle.match_tree.specs.Labels.{Label}
+use Rattle.match_tree.specs.FlatNodes.{has_head, AreBranchPlaces}
 use Rattle.match_tree.specs.Walking.{AreTrue, AreWide, Tells, find_place}
 use Rattle.match_tree.proofs.FlatLaws.{there_is}
 

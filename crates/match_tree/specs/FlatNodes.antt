@@ -7,22 +7,21 @@ use Rattle.term_core.specs.Patterns.{Pattern}
 use Rattle.pat_matrix.specs.Heads.{PlainHead, head_eq}
 use Rattle.pat_matrix.specs.Rows.{Row, specialized, others, some_takes}
 use Rattle.pat_matrix.specs.MatchTrees.{MatchTree, end, hit, test, in_order, Branches, no_branch}
-use Rattle.pat_matrix.specs.MatchTrees.{branch, Findings, IsFound, IsReached, some_asks}
+use Rattle.pat_matrix.specs.Occurrences.{row_twins}
+use Rattle.match_tree.specs.Labels.{Label}
+use Rattle.match_tree.specs.Trails.{trail_of}
+use Rattle.match_tree.specs.Spots.{Spot, spots_of}
+use Rattle.pat_matrix.specs.MatchTrees.{branch, IsFound, IsReached, some_asks}
 
--- A node is an end; or a hit, with its row and the place to go on at; or a test of a position, with
+-- A node is an end; or a hit, with its row, the spots of the row's twins and the place to go on at;
+-- or a test of a position, with
 -- heads, a place for each of them, and a place for every other head; or it tries all rows from a
 -- number on.
 pub data PlainNode : Type 0 where
   end_node : PlainNode
-  hit_node : ℕ → ℕ → PlainNode
+  hit_node : ℕ → List (Spot × Spot) → ℕ → PlainNode
   test_node : List ℕ → List PlainHead → List ℕ → ℕ → PlainNode
   try_node : ℕ → PlainNode
-
--- the number of the first row that is not done with, what was found, and the rows that are left
-pub record Label : Type 0 where
-  pub from : ℕ
-  pub found : Findings
-  pub rows : List Row
 
 -- the head is one of these
 abbrev pub has_head : List PlainHead → PlainHead → Bool
@@ -46,9 +45,10 @@ AreBranchPlaces pairs labels count k position l (h ∷ hs) (j ∷ js) =
 -- the node is one for its label, when its children are ones for theirs
 abbrev pub IsNode : List (ℕ × ℕ) → (ℕ → Label) → ℕ → ℕ → Label → PlainNode → Type 0
 IsNode pairs labels count k l end_node = l.rows ≡ []
-IsNode pairs labels count k l (hit_node r j) =
+IsNode pairs labels count k l (hit_node r spots j) =
     (ps : List Pattern) × (later : List Row) × (l.rows ≡ (r, ps) ∷ later)
-    × IsFound pairs l.found ps × (k < j) × (j < count)
+    × IsFound pairs l.found ps × (spots ≡ spots_of (trail_of l.found) (row_twins ps))
+    × (k < j) × (j < count)
     × (labels j ≡ record { from = r + 1; found = l.found; rows = later })
 IsNode pairs labels count k l (test_node position hs js other) =
     (some_asks position l.rows ≡ true) × IsReached l.found position
@@ -72,7 +72,8 @@ abbrev mutual
   pub Grows : List PlainNode → ℕ → MatchTree → Type 0
   Grows nodes k end = slice_get nodes k ≡ Some end_node
   Grows nodes k (hit n ps next) =
-      (j : ℕ) × (slice_get nodes k ≡ Some (hit_node n j)) × (k < j) × Grows nodes j next
+      (spots : List (Spot × Spot)) × (j : ℕ) × (slice_get nodes k ≡ Some (hit_node n spots j))
+      × (k < j) × Grows nodes j next
   Grows nodes k (test position bs other) =
       (hs : List PlainHead) × (js : List ℕ) × (j : ℕ)
       × (slice_get nodes k ≡ Some (test_node position hs js j)) × (k < j)

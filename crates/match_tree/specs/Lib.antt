@@ -1,10 +1,21 @@
 -- Laws: what stands on definitions that are not public, and what follows from it.
+pub mod Labels
+pub mod Trails
+pub mod Spots
 pub mod FlatNodes
 pub mod NodeLaws
 pub mod Walking
 pub mod WalkSteps
-pub mod Resolved
 pub mod TestView
 -- Private: what clauses of private functions cite.
 pub mod Agreement
 pub mod Standing
+pub mod TrailView
+pub mod Joining
+pub mod SpotView
+pub mod Drafting
+pub mod NodeView
+pub mod WorkView
+pub mod TreeView
+pub mod Ways
+pub mod SlotView

@@ -2,7 +2,8 @@
 use Rattle.std.specs.Prelude.{ℕ, ◌+◌, ◌<◌, ◌≤◌, ◌≡◌, ◌++◌, List, length, Some, slice_get}
 use Rattle.std.specs.Prelude.{slice_set}
 use Rattle.pat_matrix.specs.MatchTrees.{MatchTree, IsMatchTree}
-use Rattle.match_tree.specs.FlatNodes.{PlainNode, Label, AllNodes, Grows, IsNode}
+use Rattle.match_tree.specs.Labels.{Label}
+use Rattle.match_tree.specs.FlatNodes.{PlainNode, AllNodes, Grows, IsNode}
 
 -- If each node is one for its label, the nodes from each place on are those of a tree for its
 -- label.

@@ -8,7 +8,7 @@ use Rattle.pat_matrix.specs.Positions.{subject_at}
 use Rattle.pat_matrix.specs.Rows.{Row, specialized, others, some_takes}
 use Rattle.pat_matrix.specs.MatchTrees.{IsFound, matching_rows, rows_from, row_match}
 use Rattle.pat_matrix.specs.Occurrences.{row_twins, twins_agree}
-use Rattle.match_tree.specs.FlatNodes.{Label}
+use Rattle.match_tree.specs.Labels.{Label}
 use Rattle.match_tree.specs.Walking.{Tells}
 
 -- A test leads to the branch of the head that is there, or to the place for every other head.

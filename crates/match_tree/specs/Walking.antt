@@ -6,7 +6,7 @@ use Rattle.pat_matrix.specs.Heads.{PlainHead, head_eq, root}
 use Rattle.pat_matrix.specs.Positions.{subject_at}
 use Rattle.pat_matrix.specs.Rows.{Row}
 use Rattle.pat_matrix.specs.MatchTrees.{Findings, AllCollapsed, AreRising, matching_rows, rows_from}
-use Rattle.match_tree.specs.FlatNodes.{Label}
+use Rattle.match_tree.specs.Labels.{Label}
 
 -- each head that was found is the one that the subjects have there
 abbrev pub AreTrue : List Tree → Findings → Type 0

@@ -2,7 +2,7 @@
 ghost use Rattle.match_tree.specs.NodeLaws.{NodesAreTrees, NodesStay, NodeIsReplaced};
 ghost use Rattle.match_tree.specs.WalkSteps.{BranchTells, OtherTells, LaterTells};
 ghost use Rattle.match_tree.specs.WalkSteps.{HitMatchesByTwins, HitComesFirst};
-ghost use Rattle.match_tree.specs.Resolved.{TwinsAreAsked, PlacesAreResolved};
+ghost use Rattle.match_tree.specs.Spots.{TwinsAreAsked, PlacesAreResolved};
 
 /// Has no effect at run time. It states facts about flat nodes. If each node is one for its label,
 /// the nodes from each place on are those of a matching tree for the label. A node stays one for

@@ -1,21 +1,39 @@
-// Trials and walks that take no memory (Maranget 2008, "Compiling Pattern Matching to Good Decision
+// Matching trees, trials and walks (Maranget 2008, "Compiling Pattern Matching to Good Decision
 // Trees").
+//
+// `compile` makes the matching tree for the rows of a matrix, as a flat list of nodes. A node first
+// tries its rows in order, and is then refined, as long as there is room for more nodes
+// (specs/Drafting.antt). Nothing recurses along chains of nodes. Lists of rows are joined late.
+//
+// `Tree::walk` finds the first row that matches, from the start or after the last hit, and takes no
+// memory. `Slots` keep the nodes that it passed (specs/Ways.antt, specs/SlotView.antt).
+//
+// Each place of a tree has a label, which says what is left to do there (specs/FlatNodes.antt).
+// `node_laws` says that such nodes are those of trees. `walk_laws` says what each step of a walk
+// over them leads to (specs/Walking.antt). `place_laws` says that the places of a variable are
+// known at a hit by what was found (specs/Spots.antt), so that no term is looked at again.
 //
 // `row_matches` says whether a row matches subjects. It first looks at the heads for which the row
 // asks, and then compares the places of each variable. It builds no substitution.
-//
-// A matching tree is kept as a flat list of nodes, each with a label that says what is left to do
-// there (specs/FlatNodes.antt). `node_laws` says that such nodes are those of trees. `walk_laws`
-// says what each step of a walk over them leads to (specs/Walking.antt). `place_laws` says that the
-// places of a variable are known at a hit by what was found (specs/Resolved.antt).
 #![tactic(auto)]
 
 mod agreement;
+mod compiling;
+mod draft;
+mod joining;
 mod laws;
+mod nodes;
+mod slots;
+mod spots;
 mod standing;
 mod testing;
+mod trails;
 mod trial;
+mod walking;
 
+pub use compiling::{Tree, compile};
 pub use laws::{node_laws, place_laws, walk_laws};
+pub use nodes::MAX_NODES;
+pub use slots::{Hit, NodeNo, Slots};
 pub use testing::Test;
 pub use trial::row_matches;

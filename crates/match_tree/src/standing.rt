@@ -12,9 +12,9 @@ use term_core::{SortId, Steps, Term, View};
 
 // A term, or the injection of a term from a sort to another.
 #[derive(Clone, Copy)]
-struct Standing<'a> {
-    term: &'a Term,
-    lifted: Option<(SortId, SortId)>,
+pub(crate) struct Standing<'a> {
+    pub(crate) term: &'a Term,
+    pub(crate) lifted: Option<(SortId, SortId)>,
 }
 
 // The term at a position of the subjects.
@@ -67,7 +67,7 @@ fn stands_for<'a, L: Ledger>(
 }
 
 // Whether both are the same term.
-fn same(x: &Standing<'_>, y: &Standing<'_>) -> bool
+pub(crate) fn same(x: &Standing<'_>, y: &Standing<'_>) -> bool
     ensures { result ≡ tree_eq (standing_tree x.now) (standing_tree y.now) }
 {
     match (x.lifted, y.lifted) {

@@ -1,5 +1,5 @@
 -- Tests of heads, and lists of heads.
-use Rattle.std.proofs.Common.{◌≡◌, true}
+use Rattle.std.proofs.Common.{◌≡◌, true, refl, eq-eqb}
 use Rattle.std.proofs.lemmas.Bool.{eqb-true}
 use Rattle.term_core.proofs.TreeTests.{Decides-value_eq}
 use Rattle.rule_core.proofs.Belows.{both_true}
@@ -25,3 +25,8 @@ head_eq-true (of_constructor f n) (of_value r w) e = absurd (let no : ⊥ = cc i
 head_eq-true (of_constructor f n) (of_injection c d) e = absurd (let no : ⊥ = cc in no)
 head_eq-true (of_injection a b) (of_value r w) e = absurd (let no : ⊥ = cc in no)
 head_eq-true (of_injection a b) (of_constructor g m) e = absurd (let no : ⊥ = cc in no)
+
+pub head_eq-same : (h : PlainHead) → head_eq h h ≡ true
+head_eq-same (of_value s v) = rw (eq-eqb s s refl, (Decides-value_eq v v).1 refl) refl
+head_eq-same (of_constructor f n) = rw (eq-eqb f f refl, eq-eqb n n refl) refl
+head_eq-same (of_injection a b) = rw (eq-eqb a a refl, eq-eqb b b refl) refl

@@ -3,6 +3,7 @@ pub mod HeadLaws
 pub mod PartLaws
 pub mod HeadLists
 pub mod LowerLaws
+pub mod GroupLaws
 pub mod Slices
 pub mod Loops
 pub mod TreeHits

@@ -102,23 +102,6 @@ lower_takes-next pairs n b d (of_injection a c) below e =
           rw (is, own) refl
       same false is = rw is (dropped below)
 
--- a loop over the sorts below n goes on
-pub lower_takes-on : (pairs : List (ℕ × ℕ)) (n b d : ℕ) (h : PlainHead) (new old first : Bool)
-    → is_below pairs n b ≡ true → new ≡ (old || head_eq (of_injection n d) h)
-    → old ≡ (first || lower_takes pairs n b d h)
-    → new ≡ (first || lower_takes pairs (n + 1) b d h)
-lower_takes-on pairs n b d h new old first below is was =
-    is ∙ ap (λ (x : Bool). x || head_eq (of_injection n d) h) was
-    ∙ or_assoc first _ _
-    ∙ ap (λ (x : Bool). first || x) (sym (lower_takes-next pairs n b d h true below))
-
-pub lower_takes-past : (pairs : List (ℕ × ℕ)) (n b d : ℕ) (h : PlainHead) (old first : Bool)
-    → is_below pairs n b ≡ false → old ≡ (first || lower_takes pairs n b d h)
-    → old ≡ (first || lower_takes pairs (n + 1) b d h)
-lower_takes-past pairs n b d h old first below was =
-    was ∙ ap (λ (x : Bool). first || x)
-    (sym (lower_takes-next pairs n b d h false below ∙ or_false _))
-
 -- the heads of the injection of a variable: its own, and those from lower sorts
 pub variable_takes : (pairs : List (ℕ × ℕ)) (n b c x : ℕ) (h : PlainHead)
     → ((a t : ℕ) → IsBelow pairs a t → a < n)

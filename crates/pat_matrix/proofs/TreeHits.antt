@@ -134,16 +134,16 @@ later_or_not n k = told (nat_lt n k) refl where
   told true e = inr (ltb-true n k e)
   told false e = inl (ltb-false n k e)
 
-from_kept : (k : ℕ) (r : Row) (rows : List Row) → k ≤ r.0
+pub from_kept : (k : ℕ) (r : Row) (rows : List Row) → k ≤ r.0
     → rows_from k (r ∷ rows) ≡ r ∷ rows_from k rows
 from_kept k r rows le = rw (le-ltb r.0 k le) refl
 
-from_dropped : (k : ℕ) (r : Row) (rows : List Row) → r.0 < k
+pub from_dropped : (k : ℕ) (r : Row) (rows : List Row) → r.0 < k
     → rows_from k (r ∷ rows) ≡ rows_from k rows
 from_dropped k r rows lt = rw (lt-ltb r.0 k lt) refl
 
 -- rows that rise from a number on are all from there on
-rows_from-rising : (k n : ℕ) (rows : List Row) → k ≤ n → AreRising n rows → rows_from k rows ≡ rows
+pub rows_from-rising : (k n : ℕ) (rows : List Row) → k ≤ n → AreRising n rows → rows_from k rows ≡ rows
 rows_from-rising k n [] le h = refl
 rows_from-rising k n (r ∷ rows) le h =
     from_kept k r rows (omega (arith, h.0))

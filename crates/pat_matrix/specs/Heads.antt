@@ -1,6 +1,6 @@
 -- Heads of terms and of patterns (Maranget 2008, "Compiling Pattern Matching to Good Decision
 -- Trees"): a value of a sort, a constructor with its number of arguments, or an injection.
-use Rattle.std.specs.Prelude.{◌==◌, ◌&&◌, ◌||◌, ℕ, Bool, false, List, [], ◌∷◌, length, nat_lt}
+use Rattle.std.specs.Prelude.{◌==◌, ◌&&◌, ◌||◌, ℕ, Bool, true, false, List, [], ◌∷◌, length, nat_lt}
 use Rattle.term_core.specs.Terms.{DomainValue, Tree, leaf, node, inj}
 use Rattle.term_core.specs.Forests.{trees}
 use Rattle.term_core.specs.TreeTest.{value_eq}
@@ -29,6 +29,13 @@ root (inj a b t) = of_injection a b
 abbrev pub pattern_list : Patterns → List Pattern
 pattern_list no_pattern = []
 pattern_list (more_patterns p ps) = p ∷ pattern_list ps
+
+abbrev pub is_variable : Pattern → Bool
+is_variable (variable x) = true
+is_variable (domain_value s v) = false
+is_variable (application f ps) = false
+is_variable (injection a b p) = false
+is_variable (call f ss ps) = false
 
 -- an injection of a variable of the sort b is met by the injection of a term of a lower sort
 abbrev pub lowers : List (ℕ × ℕ) → ℕ → ℕ → Pattern → Bool

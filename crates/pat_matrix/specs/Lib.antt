@@ -11,4 +11,5 @@ pub mod TreeLaws
 pub mod Findings
 pub mod HeadView
 pub mod MatrixView
+pub mod Groups
 pub mod MatrixLaws

@@ -22,6 +22,10 @@ rows_at rows left = map (λ (number : ℕ). (number, patterns_at rows number)) l
 abbrev pub positions : List (Vec ℕ) → List (List ℕ)
 positions columns = map (λ (c : Vec ℕ). c.items) columns
 
+-- the rows of the matrix with these numbers
+abbrev pub numbered_rows : Matrix → List ℕ → List Row
+numbered_rows m numbers = rows_at m.rows.value.items numbers
+
 -- the rows that are left, with their numbers
 abbrev pub rows_of : Matrix → List Row
 rows_of m = rows_at m.rows.value.items m.left.items

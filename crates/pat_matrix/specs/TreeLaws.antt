@@ -37,3 +37,9 @@ abbrev pub AskedAreListed : Type 0
 AskedAreListed =
     (ps : List Pattern) (position : List ℕ) (q : Pattern) → row_asks ps position ≡ Some q →
     Contains (asked_positions ps) position
+
+-- No other position is listed.
+abbrev pub ListedAreAsked : Type 0
+ListedAreAsked =
+    (ps : List Pattern) (position : List ℕ) → Contains (asked_positions ps) position →
+    (q : Pattern) × (row_asks ps position ≡ Some q)

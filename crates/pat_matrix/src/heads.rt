@@ -7,7 +7,6 @@ ghost use Rattle.pat_matrix.specs.Heads.{lower_takes};
 ghost use Rattle.pat_matrix.specs.Rows.{width};
 ghost use Rattle.pat_matrix.specs.HeadView.{head_of, is_listed};
 
-use crate::order::Order;
 use indexmap::IndexSet;
 use rule_core::Subsorts;
 use std::alloc::AllocError;
@@ -43,7 +42,7 @@ impl Head {
     }
 
     // The head of a domain value. An error: out of memory.
-    fn of_value(sort: SortId, value: &Value) -> Result<Head, AllocError>
+    pub(crate) fn of_value(sort: SortId, value: &Value) -> Result<Head, AllocError>
         ensures { IfOk result (λ h. head_of h ≡ of_value sort.0 (value_of value.now)) }
     {
         match value {
@@ -172,57 +171,4 @@ fn lowers(pat: &RulePat, a: SortId, b: SortId, subsorts: &Subsorts) -> bool
         RulePat::Var(_) => subsorts.below(a, b),
         _ => false,
     }
-}
-
-// Adds the heads that the pattern has.
-pub(crate) fn add_heads(
-    pat: &RulePat,
-    order: &Order<'_>,
-    heads: &mut IndexSet<Head>,
-) -> Result<(), AllocError>
-    ensures { OnOk result ((h : PlainHead) → is_listed heads.new.keys h
-        ≡ (is_listed heads.old.keys h
-        || takes order.now.subsorts.now (plain_pattern pat.now) h)) }
-{
-    match pat {
-        RulePat::Value(sort, value) => add(Head::of_value(*sort, value)?, heads),
-        RulePat::Ctor(sym, args) => add(Head::Ctor(*sym, args.len()), heads),
-        RulePat::Inj(from, to, below) => {
-            add(Head::Inj(*from, *to), heads)?;
-            match &**below {
-                RulePat::Var(_) => add_lower(*from, *to, order, heads),
-                _ => Ok(()),
-            }
-        }
-        RulePat::Var(_) => Ok(()),
-        RulePat::Call(..) => Ok(()),
-    }
-}
-
-// Adds the injections to `to` from each sort below `from`.
-fn add_lower(
-    from: SortId,
-    to: SortId,
-    order: &Order<'_>,
-    heads: &mut IndexSet<Head>,
-) -> Result<(), AllocError>
-    ensures { OnOk result ((h : PlainHead) → is_listed heads.new.keys h
-        ≡ (is_listed heads.old.keys h
-        || lower_takes order.now.subsorts.now order.now.sorts from.0 to.0 h)) }
-{
-    for number in 0..order.sorts {
-        if order.subsorts.below(SortId(number), from) {
-            add(Head::Inj(SortId(number), to), heads)?;
-        }
-    }
-    Ok(())
-}
-
-// Adds one head.
-fn add(head: Head, heads: &mut IndexSet<Head>) -> Result<(), AllocError>
-    ensures { OnOk result ((h : PlainHead) → is_listed heads.new.keys h
-        ≡ (is_listed heads.old.keys h || head_eq (head_of head) h)) }
-{
-    heads.insert(head)?;
-    Ok(())
 }

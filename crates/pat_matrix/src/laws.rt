@@ -2,6 +2,7 @@
 ghost use Rattle.pat_matrix.specs.MatrixLaws.{CollapsedMatchesTheSame, CollapsedIsCollapsed};
 ghost use Rattle.pat_matrix.specs.MatrixLaws.{CollapsedIsSorted, UntakenDoNotMatch};
 ghost use Rattle.pat_matrix.specs.TreeLaws.{TreeFindsMatches, FoundMatchByTwins, AskedAreListed};
+ghost use Rattle.pat_matrix.specs.TreeLaws.{ListedAreAsked};
 ghost use Rattle.pat_matrix.specs.Findings.{TestedRowIsFound, PositionsAreReached};
 ghost use Rattle.pat_matrix.specs.Findings.{BranchRowsFit, OtherRowsFit};
 
@@ -19,11 +20,12 @@ pub fn matrix_laws()
 /// Has no effect at run time. It states that a matching tree for rows without nested injections
 /// finds just the rows that match, in their order. If every head for which a row asks was found,
 /// the row matches exactly if the occurrences of each variable stand for one term. Each position
-/// that a row asks is listed.
+/// that a row asks is listed, and no other.
 pub fn tree_laws()
     ensures hits { TreeFindsMatches }
     ensures twins { FoundMatchByTwins }
     ensures listed { AskedAreListed }
+    ensures asked { ListedAreAsked }
 {}
 
 /// Has no effect at run time. It states what the making of a tree rests on. If every position that

@@ -1,6 +1,6 @@
 // Matrices of patterns.
 ghost use Rattle.std.specs.Prelude.{◌≡◌, ◌≢◌, ◌<◌, ℕ, [], map, length, slice_get, Some, IfOk, ◌^◌};
-ghost use Rattle.std.specs.Prelude.{◌||◌, ◌+◌, ◌++◌, OnOk, take, drop};
+ghost use Rattle.std.specs.Prelude.{◌+◌, ◌++◌, ◌∷◌, List, OnOk, take, drop};
 ghost use Rattle.term_core.specs.RulePatterns.{plain_pattern};
 ghost use Rattle.rule_core.specs.Subsorts.{IsBelow};
 ghost use Rattle.pat_matrix.specs.Heads.{PlainHead};
@@ -9,14 +9,16 @@ ghost use Rattle.pat_matrix.specs.Positions.{row_asks};
 ghost use Rattle.pat_matrix.specs.Rows.{specialized, others, some_takes, replaced, below_from};
 ghost use Rattle.pat_matrix.specs.Rows.{width};
 ghost use Rattle.pat_matrix.specs.Rows.{collapsed_rows, numbered, first_columns, numbers_from};
-ghost use Rattle.pat_matrix.specs.Rows.{takes_there, wants, is_wild};
+ghost use Rattle.pat_matrix.specs.Rows.{wants, is_wild};
+ghost use Rattle.pat_matrix.specs.Groups.{IsSplit};
 ghost use Rattle.pat_matrix.specs.MatrixView.{plain_rows, rows_at, rows_of, row_of, columns_of};
 ghost use Rattle.pat_matrix.specs.MatrixView.{position_of, order_of, positions};
 
 use crate::cells::asked_at;
 use crate::collapsing::all_collapsed;
 use crate::columns::{add_below, add_columns, subjects};
-use crate::heads::{Head, add_heads, takes};
+use crate::groups::{Groups, Split, add_heads};
+use crate::heads::{Head, takes};
 use crate::order::Order;
 use indexmap::IndexSet;
 use rule_core::Subsorts;
@@ -75,12 +77,29 @@ impl<'s> Matrix<'s> {
         ensures { IfOk result (λ heads. (h : PlainHead) → is_listed heads.keys h
             ≡ some_takes (order_of self.now) (position_of self.now col) h (rows_of self.now)) }
     {
-        let position = self.position_or_empty(col);
-        let mut heads = IndexSet::new(alloc);
-        for no in &self.left {
-            self.add_heads_of(*no, position, &mut heads)?;
+        let split = self.split(alloc, &self.left, self.position_or_empty(col))?;
+        Ok(split.groups.heads)
+    }
+
+    /// These rows by what they ask at the position: the groups of those that have each head, and
+    /// those that ask nothing there. The injection of a variable has the heads of all injections
+    /// that it matches. An error: out of memory. It takes one step for each row and each number of
+    /// the position, and one for each sort for each row with such a variable.
+    pub fn split(
+        &self,
+        alloc: Global,
+        rows: &[u32],
+        position: &[usize],
+    ) -> Result<Split, AllocError>
+        ensures { IfOk result (IsSplit self.now position.now rows.now) }
+    {
+        let groups = Groups::new(alloc);
+        let wild = Vec::new(alloc);
+        let mut split = Split { groups, wild };
+        for row in rows {
+            self.put(alloc, *row, position, &mut split)?;
         }
-        Ok(heads)
+        Ok(split)
     }
 
     /// The rows that can match subjects with this head in the column, in order. One column for each
@@ -171,21 +190,23 @@ impl<'s> Matrix<'s> {
         }
     }
 
-    // Adds the heads that a row has at the position.
-    fn add_heads_of(
+    // Puts one row more into a split at the position.
+    fn put(
         &self,
+        alloc: Global,
         no: u32,
         position: &[usize],
-        heads: &mut IndexSet<Head>,
+        split: &mut Split,
     ) -> Result<(), AllocError>
-        ensures { OnOk result ((h : PlainHead) → is_listed heads.new.keys h
-            ≡ (is_listed heads.old.keys h
-            || takes_there (order_of self.now) h (row_asks (row_of self.now no) position.now))) }
+        requires { length split.old.groups.rows.items ≡ length split.old.groups.heads.keys }
+        ensures { OnOk result ((rows : List ℕ) → IsSplit self.now position.now rows split.old →
+            IsSplit self.now position.now (rows ++ no ∷ []) split.new) }
     {
         match asked_at(self.row(no), position) {
-            None => Ok(()),
-            Some(pat) => add_heads(pat, &self.order, heads),
+            None => split.wild.push(no)?,
+            Some(pat) => add_heads(alloc, pat, no, &self.order, &mut split.groups)?,
         }
+        Ok(())
     }
 
     // Whether a row can match subjects with this head at the position.

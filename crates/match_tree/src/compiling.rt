@@ -1,0 +1,86 @@
+// Trees, and how they are made.
+ghost use Rattle.std.specs.Prelude.{◌≡◌, ◌+◌, ℕ, length, map, IfOk, IfSome};
+ghost use Rattle.std.specs.List.{list_any};
+ghost use Rattle.pat_matrix.specs.Rows.{numbers_from};
+ghost use Rattle.pat_matrix.specs.MatchTrees.{AllCollapsed};
+ghost use Rattle.pat_matrix.specs.MatrixView.{rows_of, order_of};
+ghost use Rattle.pat_matrix.specs.Occurrences.{row_twins};
+ghost use Rattle.pat_matrix.specs.PlaceView.{twins_of};
+ghost use Rattle.match_tree.specs.TreeView.{IsTree, HasMatchTree, nodes_of, tries};
+
+use crate::draft::Draft;
+use crate::nodes::Node;
+use crate::slots::NodeNo;
+use pat_matrix::{Matrix, Twin, row_twins};
+use std::alloc::{AllocError, Global};
+
+/// A matching tree for the rows of a matrix. Its nodes are a flat list, and a node names its
+/// children by their places in the list.
+#[derive(Drop)]
+pub struct Tree<'s> {
+    pub(crate) matrix: Matrix<'s>,
+    pub(crate) twins: Vec<Vec<Twin>>,
+    pub(crate) nodes: Vec<Node>,
+}
+
+impl<'s> Tree<'s> {
+    /// The place from which a walk begins.
+    pub fn start(&self) -> NodeNo
+        ensures { result ≡ NodeNo.Start }
+    {
+        NodeNo::Start
+    }
+
+    /// Whether a node of the tree tries its rows in order. It looks at each node once.
+    pub fn tries_in_order(&self) -> bool
+        ensures { result ≡ list_any tries (nodes_of self.now) }
+    {
+        for node in &self.nodes {
+            if let Node::Try(_) = node {
+                return true;
+            }
+        }
+        false
+    }
+}
+
+/// The matching tree for the rows of the matrix (Maranget 2008, "Compiling Pattern Matching to Good
+/// Decision Trees"). No row of the matrix was left out, and its
+/// rows have no nested injections, as `Matrix::of` makes it. The tree has at most `MAX_NODES` nodes. A
+/// node tries its rows in order only if there is no room for more nodes. An error: out of memory.
+///
+/// A hit takes one step for each position that its row asks and each position that was tested. A
+/// test takes one step for each row that is left there. Lists of rows are joined only when their
+/// node is refined, so rows with distinct heads take a time that is linear in their number.
+pub fn compile<'s>(alloc: Global, matrix: Matrix<'s>) -> Result<Tree<'s>, AllocError>
+    requires collapsed { AllCollapsed (rows_of matrix) }
+    requires whole { map (λ r. r.0) (rows_of matrix) ≡ numbers_from 0 (length (rows_of matrix)) }
+    ensures tree { IfOk result HasMatchTree }
+    ensures nodes { IfOk result IsTree }
+    ensures matrix { IfOk result (λ t. t.matrix ≡ matrix.entry) }
+{
+    let mut draft = Draft::new(alloc)?;
+    draft.refine(alloc, &matrix, 0, 0, matrix.left(), Vec::new(alloc))?;
+    while let Some(opened) = draft.pending.pop() {
+        draft.refine_opened(alloc, &matrix, opened)?;
+    }
+    let twins = all_twins(alloc, &matrix)?;
+    let nodes = draft.nodes;
+    Ok(Tree {
+        matrix,
+        twins,
+        nodes,
+    })
+}
+
+// The twins of each row. An error: out of memory.
+fn all_twins(alloc: Global, matrix: &Matrix<'_>) -> Result<Vec<Vec<Twin>>, AllocError>
+    ensures { IfOk result (λ twins. map (λ v. twins_of v.items) twins.items
+        ≡ map (λ r. row_twins r.1) (rows_of matrix.now)) }
+{
+    let mut twins = Vec::with_capacity(alloc, matrix.left().len())?;
+    for no in matrix.left() {
+        twins.push(row_twins(alloc, matrix.row(*no))?)?;
+    }
+    Ok(twins)
+}
