@@ -272,9 +272,9 @@ $v m:1 $.
 m.0.1 $f #Pattern m:1 $.
 e.0.0 $e |- ( \imp m:0 ( \ev m:1 ) ) $.
 e.0.1 $e |- ( \imp m:1 ( \next m:2 ) ) $.
-t.0 $p |- ( \imp m:0 ( \ev m:2 ) ) $= m.0.0 m.0.1 w.ev w.imp m.0.0 m.0.2 w.ev w.imp e.0.0 m.0.0 m.0.1 w.ev m.0.2 w.ev w.imp w.imp m.0.0 m.0.1 w.ev w.imp m.0.0 m.0.2 w.ev w.imp w.imp m.0.1 w.ev m.0.2 w.ev w.imp m.0.0 m.0.1 w.ev m.0.2 w.ev w.imp w.imp m.0.1 m.0.2 w.ev m.0.1 m.0.2 w.next w.imp m.0.1 m.0.2 w.ev w.imp e.0.1 m.0.1 m.0.2 w.next m.0.2 w.ev w.imp w.imp m.0.1 m.0.2 w.next w.imp m.0.1 m.0.2 w.ev w.imp w.imp m.0.2 w.next m.0.2 w.ev w.imp m.0.1 m.0.2 w.next m.0.2 w.ev w.imp w.imp m.0.2 w.next m.0.2 w.ev w.next w.imp m.0.2 w.next m.0.2 w.ev w.imp m.0.2 m.0.2 w.ev m.0.2 ev.1 next.in m.0.2 w.next m.0.2 w.ev w.next m.0.2 w.ev w.imp w.imp m.0.2 w.next m.0.2 w.ev w.next w.imp m.0.2 w.next m.0.2 w.ev w.imp w.imp m.0.2 w.ev w.next m.0.2 w.ev w.imp m.0.2 w.next m.0.2 w.ev w.next m.0.2 w.ev w.imp w.imp m.0.2 ev.2 m.0.2 w.ev w.next m.0.2 w.ev w.imp m.0.2 w.next p.1 mp m.0.2 w.next m.0.2 w.ev w.next m.0.2 w.ev p.2 mp mp m.0.2 w.next m.0.2 w.ev w.imp m.0.1 p.1 mp m.0.1 m.0.2 w.next m.0.2 w.ev p.2 mp mp m.0.2 ev.2 ev.kt m.0.1 w.ev m.0.2 w.ev w.imp m.0.0 p.1 mp m.0.0 m.0.1 w.ev m.0.2 w.ev p.2 mp mp $.
+t.0 $p |- ( \imp m:0 ( \ev m:2 ) ) $= ( w.ev w.imp w.next ev.1 next.in ev.2 p.1 mp p.2 ev.kt ) ACFZGZABFZGZDAPRGZGZQSGTUACRCBHZGZCRGZECUBRGZGZUCUDGUEUFUBRHZGZUEBRBIJUBUGRGZGZUHUEGUIUJBKZUIUBLMUBUGRNMMUECLMCUBRNMMUKOTALMAPRNMM $.
 $}
-t.1 $p |- ( \imp ( \app f:t d:Int:33 ) ( \ev ( \app f:t d:Int:33 ) ) ) $= n.0 n.1 w.app ev.1 $.
+t.1 $p |- ( \imp ( \app f:t d:Int:33 ) ( \ev ( \app f:t d:Int:33 ) ) ) $= ( n.0 n.1 w.app ev.1 ) ABCD $.
 $c f:lt $.
 n.2 $a #Pattern f:lt $.
 $c d:Int:34 $.
@@ -310,7 +310,7 @@ x.7.0 $f #Var x:0 $.
 $d x:0 m:0 $.
 e.7.0 $e |- ( \eq ( \app ( \app f:lt m:0 ) d:Int:34 ) d:Bool:74727565 ) $.
 e.7.1 $e |- ( \fun m:0 s:Int ) $.
-t.7 $p |- ( \imp ( \app f:t m:0 ) ( \next ( \app f:t ( \app f:twice m:0 ) ) ) ) $= n.0 m.7.0 w.app n.0 m.7.0 w.app n.2 m.7.0 w.app n.3 w.app n.4 w.eq w.and w.imp n.0 m.7.0 w.app n.0 n.5 m.7.0 w.app w.app w.next w.imp n.0 m.7.0 w.app n.2 m.7.0 w.app n.3 w.app n.4 w.eq w.imp n.0 m.7.0 w.app n.0 m.7.0 w.app n.2 m.7.0 w.app n.3 w.app n.4 w.eq w.and w.imp n.2 m.7.0 w.app n.3 w.app n.4 w.eq n.0 m.7.0 w.app n.2 m.7.0 w.app n.3 w.app n.4 w.eq w.imp e.7.0 n.2 m.7.0 w.app n.3 w.app n.4 w.eq n.0 m.7.0 w.app p.1 mp n.0 m.7.0 w.app n.2 m.7.0 w.app n.3 w.app n.4 w.eq n.0 m.7.0 w.app n.2 m.7.0 w.app n.3 w.app n.4 w.eq w.and w.imp w.imp n.0 m.7.0 w.app n.2 m.7.0 w.app n.3 w.app n.4 w.eq w.imp n.0 m.7.0 w.app n.0 m.7.0 w.app n.2 m.7.0 w.app n.3 w.app n.4 w.eq w.and w.imp w.imp n.0 m.7.0 w.app n.2 m.7.0 w.app n.3 w.app n.4 w.eq and.3 n.0 m.7.0 w.app n.2 m.7.0 w.app n.3 w.app n.4 w.eq n.0 m.7.0 w.app n.2 m.7.0 w.app n.3 w.app n.4 w.eq w.and p.2 mp mp n.0 m.7.0 w.app n.0 m.7.0 w.app n.2 m.7.0 w.app n.3 w.app n.4 w.eq w.and n.0 n.5 m.7.0 w.app w.app w.next w.imp w.imp n.0 m.7.0 w.app n.0 m.7.0 w.app n.2 m.7.0 w.app n.3 w.app n.4 w.eq w.and w.imp n.0 m.7.0 w.app n.0 n.5 m.7.0 w.app w.app w.next w.imp w.imp n.0 m.7.0 w.app n.2 m.7.0 w.app n.3 w.app n.4 w.eq w.and n.0 n.5 m.7.0 w.app w.app w.next w.imp n.0 m.7.0 w.app n.0 m.7.0 w.app n.2 m.7.0 w.app n.3 w.app n.4 w.eq w.and n.0 n.5 m.7.0 w.app w.app w.next w.imp w.imp m.7.0 n.6 w.fun n.0 m.7.0 w.app n.2 m.7.0 w.app n.3 w.app n.4 w.eq w.and n.0 n.5 m.7.0 w.app w.app w.next w.imp e.7.1 n.0 x.7.0 w.var w.app n.2 x.7.0 w.var w.app n.3 w.app n.4 w.eq w.and n.0 n.5 x.7.0 w.var w.app w.app w.next w.imp x.7.0 n.6 w.all m.7.0 n.6 w.fun n.0 m.7.0 w.app n.2 m.7.0 w.app n.3 w.app n.4 w.eq w.and n.0 n.5 m.7.0 w.app w.app w.next w.imp w.imp x.7.0 t.2 n.0 x.7.0 w.var w.app n.2 x.7.0 w.var w.app n.3 w.app n.4 w.eq w.and n.0 n.5 x.7.0 w.var w.app w.app w.next w.imp m.7.0 n.0 m.7.0 w.app n.2 m.7.0 w.app n.3 w.app n.4 w.eq w.and n.0 n.5 m.7.0 w.app w.app w.next w.imp x.7.0 n.6 n.0 x.7.0 w.var w.app n.2 x.7.0 w.var w.app n.3 w.app n.4 w.eq w.and n.0 n.5 x.7.0 w.var w.app w.app w.next n.0 n.5 m.7.0 w.app w.app w.next n.0 m.7.0 w.app n.2 m.7.0 w.app n.3 w.app n.4 w.eq w.and m.7.0 x.7.0 n.0 x.7.0 w.var w.app n.2 x.7.0 w.var w.app n.3 w.app n.4 w.eq n.2 m.7.0 w.app n.3 w.app n.4 w.eq n.0 m.7.0 w.app m.7.0 x.7.0 n.0 x.7.0 w.var m.7.0 n.0 m.7.0 x.7.0 n.0 m.7.0 x.7.0 n.0 x.7.0 fr.d su.f m.7.0 x.7.0 su.v su.app n.2 x.7.0 w.var w.app n.3 w.app n.4 n.4 n.2 m.7.0 w.app n.3 w.app m.7.0 x.7.0 n.2 x.7.0 w.var w.app n.3 n.3 n.2 m.7.0 w.app m.7.0 x.7.0 n.2 x.7.0 w.var m.7.0 n.2 m.7.0 x.7.0 n.2 m.7.0 x.7.0 n.2 x.7.0 fr.d su.f m.7.0 x.7.0 su.v su.app n.3 m.7.0 x.7.0 n.3 x.7.0 fr.d su.f su.app n.4 m.7.0 x.7.0 n.4 x.7.0 fr.d su.f su.eq su.and n.0 n.5 x.7.0 w.var w.app w.app n.0 n.5 m.7.0 w.app w.app m.7.0 x.7.0 n.0 n.5 x.7.0 w.var w.app n.5 m.7.0 w.app n.0 m.7.0 x.7.0 n.0 m.7.0 x.7.0 n.0 x.7.0 fr.d su.f n.5 x.7.0 w.var m.7.0 n.5 m.7.0 x.7.0 n.5 m.7.0 x.7.0 n.5 x.7.0 fr.d su.f m.7.0 x.7.0 su.v su.app su.app su.next su.imp inst mp mp n.0 m.7.0 w.app n.2 m.7.0 w.app n.3 w.app n.4 w.eq w.and n.0 n.5 m.7.0 w.app w.app w.next w.imp n.0 m.7.0 w.app p.1 mp n.0 m.7.0 w.app n.0 m.7.0 w.app n.2 m.7.0 w.app n.3 w.app n.4 w.eq w.and n.0 n.5 m.7.0 w.app w.app w.next p.2 mp mp $.
+t.7 $p |- ( \imp ( \app f:t m:0 ) ( \next ( \app f:t ( \app f:twice m:0 ) ) ) ) $= ( n.0 w.app n.2 n.3 n.4 w.eq w.and w.imp n.5 w.next p.1 mp and.3 p.2 n.6 w.fun x.7.0 w.var w.all t.2 fr.d su.f su.v su.app su.eq su.and su.next su.imp inst ) DAEZUMFAEZGEZHIZJZKZUMDLAEZEZMZKZUMUPKZURUPVCBUPUMNOUMUPUQKKVCURKUMUPPUMUPUQQOOUMUQVAKZKZURVBKVDVEARSZVDCDTUAZEZFVGEZGEZHIZJZDLVGEZEZMZKZTRUBVFVDKTUCVPAVDTRVLVOVAUQATVHVKUPUMATDVGADATDATDTUDUEZATUFZUGVJHHUOATVIGGUNATFVGAFATFATFTUDUEVRUGGATGTUDUEUGHATHTUDUEUHUIVNUTATDVMUSDATVQLVGALATLATLTUDUEVRUGUGUJUKULOOVDUMNOUMUQVAQOO $.
 $}
 ${
 $v m:0 $.
@@ -319,26 +319,53 @@ $v x:0 $.
 x.8.0 $f #Var x:0 $.
 $d x:0 m:0 $.
 e.8.0 $e |- ( \fun m:0 s:Int ) $.
-t.8 $p |- ( \eq ( \app f:twice m:0 ) ( \app ( \app f:add m:0 ) m:0 ) ) $= w.top n.5 m.8.0 w.app n.8 m.8.0 w.app m.8.0 w.app w.eq top m.8.0 n.6 w.fun w.top n.5 m.8.0 w.app n.8 m.8.0 w.app m.8.0 w.app w.eq w.imp e.8.0 w.top n.5 x.8.0 w.var w.app n.8 x.8.0 w.var w.app x.8.0 w.var w.app w.eq w.imp x.8.0 n.6 w.all m.8.0 n.6 w.fun w.top n.5 m.8.0 w.app n.8 m.8.0 w.app m.8.0 w.app w.eq w.imp w.imp x.8.0 t.5 w.top n.5 x.8.0 w.var w.app n.8 x.8.0 w.var w.app x.8.0 w.var w.app w.eq w.imp m.8.0 w.top n.5 m.8.0 w.app n.8 m.8.0 w.app m.8.0 w.app w.eq w.imp x.8.0 n.6 w.top n.5 x.8.0 w.var w.app n.8 x.8.0 w.var w.app x.8.0 w.var w.app w.eq n.5 m.8.0 w.app n.8 m.8.0 w.app m.8.0 w.app w.eq w.top m.8.0 x.8.0 w.top m.8.0 x.8.0 w.top x.8.0 fr.d su.f n.5 x.8.0 w.var w.app n.8 x.8.0 w.var w.app x.8.0 w.var w.app n.8 m.8.0 w.app m.8.0 w.app n.5 m.8.0 w.app m.8.0 x.8.0 n.5 x.8.0 w.var m.8.0 n.5 m.8.0 x.8.0 n.5 m.8.0 x.8.0 n.5 x.8.0 fr.d su.f m.8.0 x.8.0 su.v su.app n.8 x.8.0 w.var w.app x.8.0 w.var m.8.0 n.8 m.8.0 w.app m.8.0 x.8.0 n.8 x.8.0 w.var m.8.0 n.8 m.8.0 x.8.0 n.8 m.8.0 x.8.0 n.8 x.8.0 fr.d su.f m.8.0 x.8.0 su.v su.app m.8.0 x.8.0 su.v su.app su.eq su.imp inst mp mp mp $.
+t.8 $p |- ( \eq ( \app f:twice m:0 ) ( \app ( \app f:add m:0 ) m:0 ) ) $= ( w.top n.5 w.app n.8 w.eq top n.6 w.fun w.imp x.8.0 w.var w.all t.5 fr.d su.f su.v su.app su.eq su.imp inst mp ) CDAEZFAEZAEZGZHAIJZCUGKZBCDLMZEZFUJEZUJEZGZKZLINUHUIKLOUOAUILICUNUGCALCALCLPQUKUMUFUDALDUJADALDALDLPQALRZSULUJAUEALFUJAFALFALFLPQUPSUPSTUAUBUCUCUC $.
 $}
 ${
+$v m:0 $.
+m.9.0 $f #Pattern m:0 $.
 $v m:2 $.
 m.9.2 $f #Pattern m:2 $.
 $v m:1 $.
 m.9.1 $f #Pattern m:1 $.
-$v m:0 $.
-m.9.0 $f #Pattern m:0 $.
 $v x:0 $.
 x.9.0 $f #Var x:0 $.
+$d x:0 m:0 $.
+$d x:0 m:2 $.
+$d x:0 m:1 $.
+e.9.0 $e |- ( \eq m:0 m:1 ) $.
+e.9.1 $e |- ( \eq m:1 m:2 ) $.
+t.9 $p |- ( \eq m:0 m:2 ) $= ( w.eq w.imp x.9.0 w.var fr.d su.f su.v su.eq eq.el mp ) ACFZABFZDCBFPQGECBAHIZFPQHARCACHACHAHJZKCHLMARBABHABHSKBHLMNOO $.
+$}
+${
+$v m:0 $.
+m.10.0 $f #Pattern m:0 $.
+$v m:1 $.
+m.10.1 $f #Pattern m:1 $.
+$v m:2 $.
+m.10.2 $f #Pattern m:2 $.
+$v x:0 $.
+x.10.0 $f #Var x:0 $.
+$d x:0 m:0 $.
+$d x:0 m:1 $.
+$d x:0 m:2 $.
+e.10.0 $e |- ( \eq m:1 m:2 ) $.
+t.10 $p |- ( \eq ( \app m:0 m:1 ) ( \app m:0 m:2 ) ) $= ( w.app w.eq eq.refl w.imp x.10.0 w.var fr.d su.f su.v su.app su.eq eq.el mp ) ABEZRFZRACEZFZRGBCFSUAHDBCRAIJZEZFSUAIRUCRRBIRBIRIKZLAUBBABIABIAIKZLBIMNORUCTRCIRCIUDLAUBCACIACIUELCIMNOPQQ $.
+$}
+${
+$v m:2 $.
+m.11.2 $f #Pattern m:2 $.
+$v m:1 $.
+m.11.1 $f #Pattern m:1 $.
+$v m:0 $.
+m.11.0 $f #Pattern m:0 $.
+$v x:0 $.
+x.11.0 $f #Var x:0 $.
 $d x:0 m:2 $.
 $d x:0 m:1 $.
 $d x:0 m:0 $.
-e.9.0 $e |- ( \imp m:2 ( \next m:0 ) ) $.
-e.9.1 $e |- ( \eq m:0 m:1 ) $.
-t.9 $p |- ( \imp m:2 ( \next m:1 ) ) $= m.9.2 m.9.0 w.next w.imp m.9.2 m.9.1 w.next w.imp e.9.0 m.9.0 m.9.1 w.eq m.9.2 m.9.0 w.next w.imp m.9.2 m.9.1 w.next w.imp w.imp e.9.1 m.9.0 m.9.1 m.9.2 x.9.0 w.var w.next w.imp m.9.2 m.9.0 w.next w.imp m.9.2 m.9.1 w.next w.imp x.9.0 m.9.2 x.9.0 w.var w.next m.9.0 w.next m.9.2 m.9.0 x.9.0 m.9.2 m.9.0 x.9.0 m.9.2 x.9.0 fr.d su.f x.9.0 w.var m.9.0 m.9.0 x.9.0 m.9.0 x.9.0 su.v su.next su.imp m.9.2 x.9.0 w.var w.next m.9.1 w.next m.9.2 m.9.1 x.9.0 m.9.2 m.9.1 x.9.0 m.9.2 x.9.0 fr.d su.f x.9.0 w.var m.9.1 m.9.1 x.9.0 m.9.1 x.9.0 su.v su.next su.imp eq.el mp mp $.
+e.11.0 $e |- ( \imp m:2 ( \next m:0 ) ) $.
+e.11.1 $e |- ( \eq m:0 m:1 ) $.
+t.11 $p |- ( \imp m:2 ( \next m:1 ) ) $= ( w.next w.imp w.eq x.11.0 w.var fr.d su.f su.v su.next su.imp eq.el mp ) ACFZGZABFZGZDCBHSUAGECBAIJZFZGSUAIAUCRACIACIAIKZLUBCCICIMNOAUCTABIABIUDLUBBBIBIMNOPQQ $.
 $}
-${
-$v x:0 $.
-x.10.0 $f #Var x:0 $.
-t.10 $p |- ( \imp ( \app f:t d:Int:33 ) ( \ev ( \app f:t d:Int:36 ) ) ) $= n.0 n.1 w.app n.0 n.7 w.app n.0 n.1 w.app t.1 n.0 n.1 w.app n.0 n.7 w.app n.0 n.5 n.1 w.app w.app n.1 t.3 t.4 t.7 n.0 n.5 n.1 w.app w.app n.0 n.5 n.1 w.app w.app w.eq n.0 n.5 n.1 w.app w.app n.0 n.7 w.app w.eq n.0 n.5 n.1 w.app w.app eq.refl n.5 n.1 w.app n.7 w.eq n.0 n.5 n.1 w.app w.app n.0 n.5 n.1 w.app w.app w.eq n.0 n.5 n.1 w.app w.app n.0 n.7 w.app w.eq w.imp n.5 n.1 w.app n.8 n.1 w.app n.1 w.app w.eq n.5 n.1 w.app n.7 w.eq n.1 t.4 t.8 n.8 n.1 w.app n.1 w.app n.7 w.eq n.5 n.1 w.app n.8 n.1 w.app n.1 w.app w.eq n.5 n.1 w.app n.7 w.eq w.imp t.6 n.8 n.1 w.app n.1 w.app n.7 n.5 n.1 w.app x.10.0 w.var w.eq n.5 n.1 w.app n.8 n.1 w.app n.1 w.app w.eq n.5 n.1 w.app n.7 w.eq x.10.0 n.5 n.1 w.app x.10.0 w.var n.8 n.1 w.app n.1 w.app n.5 n.1 w.app n.8 n.1 w.app n.1 w.app x.10.0 n.5 n.1 w.app n.8 n.1 w.app n.1 w.app x.10.0 n.5 n.1 w.app x.10.0 fr.d su.f n.8 n.1 w.app n.1 w.app x.10.0 su.v su.eq n.5 n.1 w.app x.10.0 w.var n.7 n.5 n.1 w.app n.7 x.10.0 n.5 n.1 w.app n.7 x.10.0 n.5 n.1 w.app x.10.0 fr.d su.f n.7 x.10.0 su.v su.eq eq.el mp mp n.5 n.1 w.app n.7 n.0 n.5 n.1 w.app w.app n.0 x.10.0 w.var w.app w.eq n.0 n.5 n.1 w.app w.app n.0 n.5 n.1 w.app w.app w.eq n.0 n.5 n.1 w.app w.app n.0 n.7 w.app w.eq x.10.0 n.0 n.5 n.1 w.app w.app n.0 x.10.0 w.var w.app n.0 n.5 n.1 w.app w.app n.0 n.5 n.1 w.app w.app n.5 n.1 w.app x.10.0 n.0 n.5 n.1 w.app w.app n.5 n.1 w.app x.10.0 n.0 n.5 n.1 w.app w.app x.10.0 fr.d su.f n.0 x.10.0 w.var n.5 n.1 w.app n.0 n.5 n.1 w.app x.10.0 n.0 n.5 n.1 w.app x.10.0 n.0 x.10.0 fr.d su.f n.5 n.1 w.app x.10.0 su.v su.app su.eq n.0 n.5 n.1 w.app w.app n.0 x.10.0 w.var w.app n.0 n.7 w.app n.0 n.5 n.1 w.app w.app n.7 x.10.0 n.0 n.5 n.1 w.app w.app n.7 x.10.0 n.0 n.5 n.1 w.app w.app x.10.0 fr.d su.f n.0 x.10.0 w.var n.7 n.0 n.7 x.10.0 n.0 n.7 x.10.0 n.0 x.10.0 fr.d su.f n.7 x.10.0 su.v su.app su.eq eq.el mp mp t.9 t.0 $.
-$}
+t.12 $p |- ( \imp ( \app f:t d:Int:33 ) ( \ev ( \app f:t d:Int:36 ) ) ) $= ( n.0 n.1 w.app n.7 t.1 n.5 t.3 t.4 t.7 n.8 t.8 t.6 t.9 t.10 t.11 t.0 ) ABCZADCZQEQRAFBCZCBGHIASDSDJBCBCBHKLMNOP $.

@@ -270,16 +270,16 @@ $v m:1 $.
 m.0.1 $f #Pattern m:1 $.
 e.0.0 $e |- ( \imp m:0 ( \ev m:1 ) ) $.
 e.0.1 $e |- ( \imp m:1 ( \next m:2 ) ) $.
-t.0 $p |- ( \imp m:0 ( \ev m:2 ) ) $= m.0.0 m.0.1 w.ev w.imp m.0.0 m.0.2 w.ev w.imp e.0.0 m.0.0 m.0.1 w.ev m.0.2 w.ev w.imp w.imp m.0.0 m.0.1 w.ev w.imp m.0.0 m.0.2 w.ev w.imp w.imp m.0.1 w.ev m.0.2 w.ev w.imp m.0.0 m.0.1 w.ev m.0.2 w.ev w.imp w.imp m.0.1 m.0.2 w.ev m.0.1 m.0.2 w.next w.imp m.0.1 m.0.2 w.ev w.imp e.0.1 m.0.1 m.0.2 w.next m.0.2 w.ev w.imp w.imp m.0.1 m.0.2 w.next w.imp m.0.1 m.0.2 w.ev w.imp w.imp m.0.2 w.next m.0.2 w.ev w.imp m.0.1 m.0.2 w.next m.0.2 w.ev w.imp w.imp m.0.2 w.next m.0.2 w.ev w.next w.imp m.0.2 w.next m.0.2 w.ev w.imp m.0.2 m.0.2 w.ev m.0.2 ev.1 next.in m.0.2 w.next m.0.2 w.ev w.next m.0.2 w.ev w.imp w.imp m.0.2 w.next m.0.2 w.ev w.next w.imp m.0.2 w.next m.0.2 w.ev w.imp w.imp m.0.2 w.ev w.next m.0.2 w.ev w.imp m.0.2 w.next m.0.2 w.ev w.next m.0.2 w.ev w.imp w.imp m.0.2 ev.2 m.0.2 w.ev w.next m.0.2 w.ev w.imp m.0.2 w.next p.1 mp m.0.2 w.next m.0.2 w.ev w.next m.0.2 w.ev p.2 mp mp m.0.2 w.next m.0.2 w.ev w.imp m.0.1 p.1 mp m.0.1 m.0.2 w.next m.0.2 w.ev p.2 mp mp m.0.2 ev.2 ev.kt m.0.1 w.ev m.0.2 w.ev w.imp m.0.0 p.1 mp m.0.0 m.0.1 w.ev m.0.2 w.ev p.2 mp mp $.
+t.0 $p |- ( \imp m:0 ( \ev m:2 ) ) $= ( w.ev w.imp w.next ev.1 next.in ev.2 p.1 mp p.2 ev.kt ) ACFZGZABFZGZDAPRGZGZQSGTUACRCBHZGZCRGZECUBRGZGZUCUDGUEUFUBRHZGZUEBRBIJUBUGRGZGZUHUEGUIUJBKZUIUBLMUBUGRNMMUECLMCUBRNMMUKOTALMAPRNMM $.
 $}
-t.1 $p |- ( \imp f:a ( \ev f:a ) ) $= n.0 ev.1 $.
+t.1 $p |- ( \imp f:a ( \ev f:a ) ) $= ( n.0 ev.1 ) AB $.
 $c f:b $.
 n.1 $a #Pattern f:b $.
 t.2 $a |- ( \imp ( \and f:a \top ) ( \next f:b ) ) $.
-t.3 $p |- ( \imp f:a ( \next f:b ) ) $= n.0 n.0 w.top w.and w.imp n.0 n.1 w.next w.imp n.0 w.top w.imp n.0 n.0 w.top w.and w.imp w.top n.0 w.top w.imp top w.top n.0 p.1 mp n.0 w.top n.0 w.top w.and w.imp w.imp n.0 w.top w.imp n.0 n.0 w.top w.and w.imp w.imp n.0 w.top and.3 n.0 w.top n.0 w.top w.and p.2 mp mp n.0 n.0 w.top w.and n.1 w.next w.imp w.imp n.0 n.0 w.top w.and w.imp n.0 n.1 w.next w.imp w.imp n.0 w.top w.and n.1 w.next w.imp n.0 n.0 w.top w.and n.1 w.next w.imp w.imp t.2 n.0 w.top w.and n.1 w.next w.imp n.0 p.1 mp n.0 n.0 w.top w.and n.1 w.next p.2 mp mp $.
-t.4 $p |- ( \imp f:a ( \ev f:b ) ) $= n.0 n.1 n.0 t.1 t.3 t.0 $.
+t.3 $p |- ( \imp f:a ( \next f:b ) ) $= ( n.0 w.top w.and w.imp n.1 w.next top p.1 mp and.3 p.2 t.2 ) AABCZDZAEFZDZABDZNBQGBAHIABMDDQNDABJABMKIIAMODZDZNPDRSLRAHIAMOKII $.
+t.4 $p |- ( \imp f:a ( \ev f:b ) ) $= ( n.0 n.1 t.1 t.3 t.0 ) ABACDE $.
 $c f:c $.
 n.2 $a #Pattern f:c $.
 t.5 $a |- ( \imp ( \and f:b \top ) ( \next f:c ) ) $.
-t.6 $p |- ( \imp f:b ( \next f:c ) ) $= n.1 n.1 w.top w.and w.imp n.1 n.2 w.next w.imp n.1 w.top w.imp n.1 n.1 w.top w.and w.imp w.top n.1 w.top w.imp top w.top n.1 p.1 mp n.1 w.top n.1 w.top w.and w.imp w.imp n.1 w.top w.imp n.1 n.1 w.top w.and w.imp w.imp n.1 w.top and.3 n.1 w.top n.1 w.top w.and p.2 mp mp n.1 n.1 w.top w.and n.2 w.next w.imp w.imp n.1 n.1 w.top w.and w.imp n.1 n.2 w.next w.imp w.imp n.1 w.top w.and n.2 w.next w.imp n.1 n.1 w.top w.and n.2 w.next w.imp w.imp t.5 n.1 w.top w.and n.2 w.next w.imp n.1 p.1 mp n.1 n.1 w.top w.and n.2 w.next p.2 mp mp $.
-t.7 $p |- ( \imp f:a ( \ev f:c ) ) $= n.0 n.2 n.1 t.4 t.6 t.0 $.
+t.6 $p |- ( \imp f:b ( \next f:c ) ) $= ( n.1 w.top w.and w.imp n.2 w.next top p.1 mp and.3 p.2 t.5 ) AABCZDZAEFZDZABDZNBQGBAHIABMDDQNDABJABMKIIAMODZDZNPDRSLRAHIAMOKII $.
+t.7 $p |- ( \imp f:a ( \ev f:c ) ) $= ( n.0 n.2 n.1 t.4 t.6 t.0 ) ABCDEF $.

@@ -1,11 +1,13 @@
 -- Calls of a desk one after the other.
-use Rattle.std.proofs.Common.{◌≡◌, ℕ, ◌+◌, ◌-◌, true, List, [], ◌++◌, length, take, drop, Option}
-use Rattle.std.proofs.Common.{Some, None, refl, sym, ◌∙◌, ap, append_assoc}
+use Rattle.std.proofs.Common.{◌≡◌, ℕ, ◌+◌, ◌-◌, ◌≤◌, true, List, [], ◌++◌, length, take, drop, Option}
+use Rattle.std.proofs.Common.{Some, None, refl, sym, ◌∙◌, ap, arith, append_assoc}
 use Rattle.std.proofs.lemmas.List.{append-nil, take-append-drop, take_rest}
-use Rattle.std.proofs.Math.Seq.{take-add}
+use Rattle.std.proofs.Math.Seq.{take-add, drop-append-add}
 use Rattle.desk_io.specs.Told.{Told, file_of}
 use Rattle.desk_io.specs.KeptFiles.{KeepsFiles}
 use Rattle.desk_io.specs.Changes.{Same, Passed, TellsCreated, PutsFile, Writes, WritesFront}
+use Rattle.desk_io.specs.CreatedFiles.{CreatedBecomes}
+use Rattle.desk_io.specs.ReadingOn.{PassedAtMost}
 
 pub Same-keeps : (a b : Option Told) → Same a b → KeepsFiles a b
 Same-keeps None b h = tt
@@ -19,6 +21,20 @@ KeepsFiles-then (Some old) b c p q =
 pub Passed-nil : (a : Option Told) → Passed a a []
 Passed-nil None = tt
 Passed-nil (Some old) = (old.unread, refl, refl)
+
+-- these bytes have been read, and then some more
+pub Passed-then_at_most : (a b c : Option Told) (bytes : List ℕ) (more most : ℕ)
+    → Passed a b bytes → PassedAtMost b c more → length bytes + more ≤ most
+    → PassedAtMost a c most
+Passed-then_at_most None b c bytes more most p q fits = tt
+Passed-then_at_most (Some old) b c bytes more most p q fits =
+    let r : PassedAtMost (Some (record old { unread = p.0 })) c more = rw p.2 at q in
+    let left : drop (length bytes + r.0) old.unread ≡ drop r.0 p.0 =
+    ap (λ xs. drop (length bytes + r.0) xs) p.1 ∙ drop-append-add bytes p.0 r.0 in (
+      length bytes + r.0,
+      omega (arith, fits, r.1),
+      r.2 ∙ ap (λ xs. Some (record old { unread = xs })) (sym left),
+    )
 
 -- a write of nothing
 pub Writes-nil : (a : Option Told) → TellsCreated true a → Writes a a []
@@ -79,3 +95,16 @@ Writes-fault (Some old) b c bytes at p q =
       sym (take-append-drop at bytes),
       (p.0, p.1, p.2, p.3, p.4, p.5, r),
     )
+
+-- the created file held a text of one kind, and grew to one of another kind
+pub Writes-becomes : (Before After : List ℕ → Type 0) (a b : Option Told) (added : List ℕ)
+    → Writes a b added → ((text : List ℕ) → Before text → After (text ++ added))
+    → CreatedBecomes Before After a b
+Writes-becomes Before After None b added p more = tt
+Writes-becomes Before After (Some old) b added p more = λ name held.
+    let named : p.0 ≡ name = cc (p.3, held.1) in
+    let found : file_of old.files name ≡ Some p.1 = rw named at p.4 in
+    let content : p.1 ≡ held.0 = cc (held.2, found) in
+    let put : file_of p.2 name ≡ Some (p.1 ++ added) = rw named at p.5.0 in
+    let now : file_of p.2 name ≡ Some (held.0 ++ added) = rw content at put in
+    rw p.6 (held.0 ++ added, held.1, now, more held.0 held.3)

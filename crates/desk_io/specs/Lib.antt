@@ -10,6 +10,8 @@ pub mod MissingFiles
 pub mod KeptFiles
 pub mod Told
 pub mod Changes
+pub mod ReadBounds
+pub mod CreatedFiles
 pub mod States
 -- Private: what clauses of private functions cite, and how private fields are seen.
 pub mod End

@@ -14,6 +14,12 @@ PassedMany None new n = Unit {0}
 PassedMany (Some old) new n =
     (n ≤ length old.unread) × (new ≡ Some (record old { unread = drop n old.unread }))
 
+-- at most this many of the first unread bytes have been read
+abbrev pub PassedAtMost : Option Told → Option Told → ℕ → Type 0
+PassedAtMost None new most = Unit {0}
+PassedAtMost (Some old) new most =
+    (n : ℕ) × (n ≤ most) × (new ≡ Some (record old { unread = drop n old.unread }))
+
 -- a list grew by bytes that were the first unread ones and have now been read
 abbrev pub PassedTo : Option Told → Option Told → List ℕ → List ℕ → Type 0
 PassedTo told told' list list' =

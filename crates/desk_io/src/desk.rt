@@ -28,7 +28,7 @@ impl From<AllocError> for DeskFault {
 }
 
 /// A place with named files. One file at a time is read, and one at a time is created and written.
-/// Each call changes only what its description names.
+/// Each call changes only what its description names. A call that succeeds counts no fault.
 pub trait Desk {
     // Its files, the unread bytes of the opened file and the name of the created one, if it tells
     // them. How many faults `open_file` and `read` have had, and how many `create_file`, `write`
@@ -45,6 +45,8 @@ pub trait Desk {
         ensures failed { IsErrOf result DeskFault.Failed
             → CountRose (state self.old).read_faults (state self.new).read_faults }
         ensures counts { (state self.old).read_faults ≤ (state self.new).read_faults }
+        ensures no_fault { OnOk result
+            ((state self.new).read_faults ≡ (state self.old).read_faults) }
         ensures writes { (state self.new).write_faults ≡ (state self.old).write_faults }
         ensures created { created self.new ≡ created self.old };
 
@@ -61,6 +63,8 @@ pub trait Desk {
         ensures failed { IsErrOf result DeskFault.Failed
             → CountRose (state self.old).read_faults (state self.new).read_faults }
         ensures counts { (state self.old).read_faults ≤ (state self.new).read_faults }
+        ensures no_fault { OnOk result
+            ((state self.new).read_faults ≡ (state self.old).read_faults) }
         ensures writes { (state self.new).write_faults ≡ (state self.old).write_faults }
         ensures created { created self.new ≡ created self.old };
 
@@ -75,6 +79,8 @@ pub trait Desk {
         ensures failed { IsErrOf result DeskFault.Failed
             → CountRose (state self.old).write_faults (state self.new).write_faults }
         ensures counts { (state self.old).write_faults ≤ (state self.new).write_faults }
+        ensures no_fault { OnOk result
+            ((state self.new).write_faults ≡ (state self.old).write_faults) }
         ensures reads { (state self.new).read_faults ≡ (state self.old).read_faults };
 
     /// Appends the first bytes of `piece` to the created file, and returns how many. It returns 0
@@ -90,6 +96,8 @@ pub trait Desk {
         ensures failed { IsErrOf result DeskFault.Failed
             → CountRose (state self.old).write_faults (state self.new).write_faults }
         ensures counts { (state self.old).write_faults ≤ (state self.new).write_faults }
+        ensures no_fault { OnOk result
+            ((state self.new).write_faults ≡ (state self.old).write_faults) }
         ensures reads { (state self.new).read_faults ≡ (state self.old).read_faults };
 
     /// Ends the writing of the created file, which keeps its bytes. No file is created afterwards,
@@ -101,6 +109,8 @@ pub trait Desk {
         ensures failed { IsErrOf result DeskFault.Failed
             → CountRose (state self.old).write_faults (state self.new).write_faults }
         ensures counts { (state self.old).write_faults ≤ (state self.new).write_faults }
+        ensures no_fault { OnOk result
+            ((state self.new).write_faults ≡ (state self.old).write_faults) }
         ensures reads { (state self.new).read_faults ≡ (state self.old).read_faults };
 
     // If it tells its files, the created one is among them.

@@ -1,6 +1,7 @@
 // Counts of faults, and faults that a test asks for.
 ghost use Rattle.std.specs.Prelude.{◌≡◌, ◌+◌, ◌-◌, ◌^◌, ◌≤◌, ◌↔◌, min, IsTrue, nat_eq};
 ghost use Rattle.std.specs.List.{list_any};
+ghost use Rattle.std.specs.IoError.{error_kind};
 ghost use Rattle.desk_io.specs.Counts.{CountRose};
 
 use crate::desk::DeskFault;
@@ -14,8 +15,11 @@ pub fn raised(count: u64) -> u64
     count.saturating_add(1)
 }
 
-/// The fault for an error of the system. It is counted, except if memory ran out.
+/// The fault for an error of the system: `Memory` for an error of that kind, and `Failed` for each
+/// other. It is counted, except if memory ran out.
 pub fn counted(error: &io::Error, faults: &mut u64) -> DeskFault
+    ensures memory { result ≡ DeskFault.Memory ↔ error_kind error.now ≡ ErrorKind.OutOfMemory }
+    ensures uncounted { result ≡ DeskFault.Memory → faults.new ≡ faults.old }
     ensures failed { result ≡ DeskFault.Failed → CountRose faults.old faults.new }
     ensures counts { faults.old ≤ faults.new }
 {

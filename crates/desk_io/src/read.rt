@@ -1,10 +1,12 @@
 // Reading a whole file.
-ghost use Rattle.std.specs.Prelude.{◌≡◌, ◌<◌, ◌≤◌, ◌+◌, ◌⊎◌, length, IfOk, IsOk, IsErrOf, vec_len};
+ghost use Rattle.std.specs.Prelude.{◌≡◌, ◌<◌, ◌≤◌, ◌+◌, ◌⊎◌, length, IfOk, IsOk, IsErrOf, OnOk};
+ghost use Rattle.std.specs.Prelude.{vec_len};
 ghost use Rattle.desk_io.specs.Told.{Holds};
 ghost use Rattle.desk_io.specs.KeptFiles.{KeepsFiles};
 ghost use Rattle.desk_io.specs.Changes.{Leaves, AtEnd};
+ghost use Rattle.desk_io.specs.ReadBounds.{LeavesMost};
 ghost use Rattle.desk_io.specs.MissingFiles.{Lacks, HoldsMore};
-ghost use Rattle.desk_io.specs.ReadingOn.{Drains, PassedMany, PassedTo};
+ghost use Rattle.desk_io.specs.ReadingOn.{Drains, PassedMany, PassedAtMost, PassedTo};
 ghost use Rattle.desk_io.specs.Counts.{CountRose};
 ghost use Rattle.desk_io.specs.End.{end_by};
 ghost use Rattle.desk_io.specs.declared.read.ReadEnd.TheVariants.{Memory};
@@ -50,8 +52,9 @@ fn end_of(fault: DeskFault) -> ReadEnd
 }
 
 /// All bytes of the named file, if they are at most `limit`, which is at most 256 MiB. Takes at
-/// most one byte more than the limit from the desk, and leaves the desk's files as they were.
-/// `Memory` may come at any time. Each other error has its cause below.
+/// most one byte more than the limit from the desk, also if it ends with an error, and leaves the
+/// desk's files as they were. `Memory` may come at any time. Each other error has its cause below. A
+/// call that succeeds counts no fault.
 pub fn read_file<D: Desk>(
     alloc: Global,
     desk: &mut D,
@@ -72,8 +75,11 @@ pub fn read_file<D: Desk>(
         (λ v. Leaves (D.state desk.old).told (D.state desk.new).told name.now (vec_len v)) }
     ensures taken_more { IsErrOf result ReadEnd.TooLarge
         → Leaves (D.state desk.old).told (D.state desk.new).told name.now (limit + 1) }
+    ensures bounded { LeavesMost (D.state desk.old).told (D.state desk.new).told name.now (limit + 1) }
     ensures files { KeepsFiles (D.state desk.old).told (D.state desk.new).told }
     ensures counts { (D.state desk.old).read_faults ≤ (D.state desk.new).read_faults }
+    ensures no_fault { OnOk result
+        ((D.state desk.new).read_faults ≡ (D.state desk.old).read_faults) }
     ensures writes { (D.state desk.new).write_faults ≡ (D.state desk.old).write_faults }
     ensures created { D.created desk.new ≡ D.created desk.old }
 {
@@ -92,11 +98,14 @@ fn read_rest<D: Desk>(alloc: Global, desk: &mut D, limit: usize) -> Result<Vec<u
     ensures within { IfOk result (λ v. vec_len v ≤ limit) }
     ensures too_large { IsErrOf result ReadEnd.TooLarge
         → PassedMany (D.state desk.old).told (D.state desk.new).told (limit + 1) }
+    ensures bounded { PassedAtMost (D.state desk.old).told (D.state desk.new).told (limit + 1) }
     ensures some_file { ¬ (IsErrOf result ReadEnd.NoFile) }
     ensures failed { IsErrOf result ReadEnd.Failed
         → CountRose (D.state desk.old).read_faults (D.state desk.new).read_faults }
     ensures files { KeepsFiles (D.state desk.old).told (D.state desk.new).told }
     ensures counts { (D.state desk.old).read_faults ≤ (D.state desk.new).read_faults }
+    ensures no_fault { OnOk result
+        ((D.state desk.new).read_faults ≡ (D.state desk.old).read_faults) }
     ensures writes { (D.state desk.new).write_faults ≡ (D.state desk.old).write_faults }
     ensures created { D.created desk.new ≡ D.created desk.old }
 {
@@ -125,12 +134,15 @@ fn read_more<D: Desk>(
     ensures passed { IfOk result (λ n. PassedTo
         (D.state desk.old).told (D.state desk.new).told bytes.old.items bytes.new.items) }
     ensures end { IfOk result (λ n. n ≡ 0 → AtEnd (D.state desk.old).told) }
+    ensures bounded { PassedAtMost (D.state desk.old).told (D.state desk.new).told (length buffer.old) }
     ensures fault { (IsErrOf result ReadEnd.Failed) ⊎ (IsErrOf result ReadEnd.Memory)
         ⊎ IsOk result }
     ensures failed { IsErrOf result ReadEnd.Failed
         → CountRose (D.state desk.old).read_faults (D.state desk.new).read_faults }
     ensures files { KeepsFiles (D.state desk.old).told (D.state desk.new).told }
     ensures counts { (D.state desk.old).read_faults ≤ (D.state desk.new).read_faults }
+    ensures no_fault { OnOk result
+        ((D.state desk.new).read_faults ≡ (D.state desk.old).read_faults) }
     ensures writes { (D.state desk.new).write_faults ≡ (D.state desk.old).write_faults }
     ensures created { D.created desk.new ≡ D.created desk.old }
 {

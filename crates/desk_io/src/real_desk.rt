@@ -1,6 +1,7 @@
 // The desk of the system: the edge for files.
 ghost use Rattle.std.specs.Prelude.{◌≡◌, ◌<◌, ◌≤◌, None, length, is_some, option_and_then, IsFalse};
-ghost use Rattle.std.specs.Prelude.{IsTrue, IfOk, IsErrOf};
+ghost use Rattle.std.specs.Prelude.{◌↔◌, ◌⊎◌, IsTrue, IfOk, OnOk, IsErrOf};
+ghost use Rattle.std.specs.IoError.{error_kind};
 ghost use Rattle.std.specs.Io.KnownBytes.{ReadConsumes, WriteAppends};
 ghost use Rattle.desk_io.specs.Counts.{CountRose};
 
@@ -15,7 +16,7 @@ use std::rt::Files;
 /// the open file gave. A write appends to the created file all bytes that it counts (clauses
 /// `bytes`). A call that the system interrupts is a fault like any other, because the program
 /// handles no signals. A write that takes none of some bytes is a fault. Each write goes to the
-/// system at once, and closing adds no call that could fail.
+/// system at once. Std loses the error of a closing, so closing is never a fault.
 #[derive(Drop)]
 pub struct RealDesk<R: Files> {
     files: R,
@@ -73,6 +74,7 @@ impl<R: Files> Desk for RealDesk<R> {
         ensures failed { IsErrOf result DeskFault.Failed
             → CountRose self.old.read_faults self.new.read_faults }
         ensures counts { self.old.read_faults ≤ self.new.read_faults }
+        ensures no_fault { OnOk result (self.new.read_faults ≡ self.old.read_faults) }
         ensures writes { self.new.write_faults ≡ self.old.write_faults }
         ensures created { self.new.created ≡ self.old.created }
     {
@@ -104,6 +106,7 @@ impl<R: Files> Desk for RealDesk<R> {
         ensures failed { IsErrOf result DeskFault.Failed
             → CountRose self.old.write_faults self.new.write_faults }
         ensures counts { self.old.write_faults ≤ self.new.write_faults }
+        ensures no_fault { OnOk result (self.new.write_faults ≡ self.old.write_faults) }
         ensures reads { self.new.read_faults ≡ self.old.read_faults }
     {
         let Some(file) = &mut self.created else {
@@ -120,6 +123,10 @@ impl<R: Files> Desk for RealDesk<R> {
 
 /// Whether there is no such file: the name leads nowhere, or through something that is not a
 /// folder.
-fn is_missing(error: &io::Error) -> bool {
+fn is_missing(error: &io::Error) -> bool
+    ensures { IsTrue result
+        ↔ (error_kind error.now ≡ ErrorKind.NotFound)
+        ⊎ (error_kind error.now ≡ ErrorKind.NotADirectory) }
+{
     matches!(error.kind(), ErrorKind::NotFound | ErrorKind::NotADirectory)
 }

@@ -1,5 +1,5 @@
 // One read and one write of the system. The contracts of std say which bytes they read or wrote.
-ghost use Rattle.std.specs.Prelude.{◌≡◌, ◌<◌, ◌≤◌, length, IfOk, IsErrOf};
+ghost use Rattle.std.specs.Prelude.{◌≡◌, ◌<◌, ◌≤◌, length, IfOk, OnOk, IsErrOf};
 ghost use Rattle.std.specs.Io.KnownBytes.{ReadConsumes, WriteAppends};
 ghost use Rattle.desk_io.specs.Counts.{CountRose};
 
@@ -18,6 +18,7 @@ pub fn read_some<F: Read>(
     ensures bytes { ReadConsumes (F.remaining file.old) (F.remaining file.new) result buf.new }
     ensures failed { IsErrOf result DeskFault.Failed → CountRose faults.old faults.new }
     ensures counts { faults.old ≤ faults.new }
+    ensures no_fault { OnOk result (faults.new ≡ faults.old) }
 {
     match file.read(buf) {
         Ok(n) => Ok(n),
@@ -38,6 +39,7 @@ pub fn write_some<W: Write>(
     ensures bytes { WriteAppends (W.contents writer.old) (W.contents writer.new) result piece.now }
     ensures failed { IsErrOf result DeskFault.Failed → CountRose faults.old faults.new }
     ensures counts { faults.old ≤ faults.new }
+    ensures no_fault { OnOk result (faults.new ≡ faults.old) }
 {
     match writer.write(piece) {
         Ok(0) if !piece.is_empty() => {

@@ -7,7 +7,7 @@ use crate::desk::{Desk, DeskFault};
 
 /// Appends all of `bytes` to the created file, in as many writes as the desk needs. After an error
 /// some bytes from the front of `bytes`, perhaps none, are appended. The other files, the unread
-/// bytes and the choice of the created file stay as they were.
+/// bytes and the choice of the created file stay as they were. A call that succeeds counts no fault.
 pub fn write_whole<D: Desk>(desk: &mut D, bytes: &[u8]) -> Result<(), DeskFault>
     requires { IsTrue (D.created desk.old) }
     ensures written { OnOk result
@@ -18,6 +18,8 @@ pub fn write_whole<D: Desk>(desk: &mut D, bytes: &[u8]) -> Result<(), DeskFault>
     ensures failed { IsErrOf result DeskFault.Failed
         → CountRose (D.state desk.old).write_faults (D.state desk.new).write_faults }
     ensures counts { (D.state desk.old).write_faults ≤ (D.state desk.new).write_faults }
+    ensures no_fault { OnOk result
+        ((D.state desk.new).write_faults ≡ (D.state desk.old).write_faults) }
     ensures reads { (D.state desk.new).read_faults ≡ (D.state desk.old).read_faults }
 {
     let mut at = 0;

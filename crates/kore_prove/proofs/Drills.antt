@@ -16,8 +16,8 @@ use Rattle.kore_sig.specs.FirstFault.{Fault}
 use Rattle.kore_rules.specs.Acceptance.{IsAccepted, IsAcceptedTerm}
 use Rattle.kore_rules.specs.RefusedTexts.{RefusesFor}
 use Rattle.mm_justify.specs.Counting.{fact_count, statement_count, capped}
-use Rattle.run_proof.specs.WrittenProofs.{IsSummaryOf}
-use Rattle.run_proof.specs.declared.summaries.Summary.{Summary}
+use Rattle.prove_run.specs.Summaries.{IsSummaryOf}
+use Rattle.prove_run.specs.declared.summaries.Summary.{Summary}
 use Rattle.kore_prove.specs.DrillWords.{DrillRequest}
 use Rattle.kore_prove.specs.ProofFiles.{HoldsCounted, MayHoldFront}
 use Rattle.kore_prove.specs.DrillProgram.{IsDrillProgram}
@@ -31,7 +31,8 @@ use Rattle.kore_prove.specs.CountedFaults.{CountsWriteFault, CountsOutputFault}
 use Rattle.kore_prove.specs.Requests.{IsDrillFile}
 use Rattle.kore_prove.specs.RunsDone.{HasLines, IsDrillDone, IsDrillEnded}
 use Rattle.kore_prove.proofs.Ending.{same_files, kept_output, files_at}
-use Rattle.kore_prove.proofs.FileProofs.{kept_file, kept_others, proof_front}
+use Rattle.kore_prove.proofs.FileProofs.{kept_file, kept_others}
+use Rattle.run_proof.proofs.ClosedLaws.{proof_front}
 use Rattle.kore_prove.proofs.Performing.{fault_output, fault_files}
 
 -- 1 MiB is less than the greatest length of a text
@@ -150,6 +151,6 @@ drilled_front asked told told' before after d = inr (record {
     bytes = d.proof.bytes;
     held = d.proof.held;
     front =
-        inr (proof_front d.theory d.start (kept_by d.start d.run) d.proof.bytes d.proof.justifies);
+        inr (proof_front d.theory d.start (kept_by d.start d.run) d.proof.bytes d.proof.proves);
   };
 })

@@ -10,11 +10,11 @@ use Rattle.desk_io.specs.Changes.{Same, TellsCreated, Creates, Writes, Closes, P
 use Rattle.term_core.specs.Patterns.{Pattern}
 use Rattle.rule_core.specs.Theories.{RewriteTheory}
 use Rattle.rule_core.specs.Runs.{Run, kept_by}
-use Rattle.mm_justify.specs.Justifying.{JustifiesRun, IsFrontOfProof}
-use Rattle.run_proof.specs.WrittenProofs.{WritesProof, WritesFrontOfProof}
-use Rattle.run_proof.specs.declared.summaries.Summary.{Summary}
-use Rattle.kore_prove.specs.ProofFiles.{PutsCreated, PutsProof, PutsFront, HoldsCounted}
-use Rattle.kore_prove.specs.ProofFiles.{MayHoldFront, KeepsOthersNow}
+use Rattle.mm_justify.specs.Justifying.{IsProofOfRun, IsFrontOfProof}
+use Rattle.prove_run.specs.declared.summaries.Summary.{Summary}
+use Rattle.run_proof.specs.ClosedProofs.{KeepsOthersNow, PutsCreated, PutsFront, PutsProof}
+use Rattle.run_proof.proofs.ClosedLaws.{proof_front}
+use Rattle.kore_prove.specs.ProofFiles.{HoldsCounted, MayHoldFront}
 
 -- what holds after an error
 pub on_err_more : {T E : Type 0} (r : Result T E) (P Q : Type 0) → (P → Q) → OnErr r P → OnErr r Q
@@ -96,82 +96,12 @@ pub same_others : (W : List ℕ → Type 0) (old new : Option Told) → Same old
 same_others W None new h = tt
 same_others W (Some old) new h = (old, h, λ name other. refl)
 
-pub closed_others : (made new : Option Told) → Closes made new → KeepsOthersNow made new
-closed_others None new h = tt
-closed_others (Some made) new h = (record made { created = None }, h, λ name other is differs. refl)
-
--- the bytes that were written before the file was closed
-pub written_closed : (made mid new : Option Told) (bytes : List ℕ) → Writes made mid bytes
-    → Closes mid new → PutsCreated made new bytes
-written_closed None mid new bytes h k = tt
-written_closed (Some made) mid new bytes h k =
-    let P : Option Told → Type 0 = λ o. Closes o new in
-    let closed : Closes (Some (record made { files = h.2 })) new = subst P h.6 k in (
-      record made { files = h.2; created = None },
-      closed,
-      λ name content is held. (
-          let same : h.0 ≡ name = some_same h.0 name (sym h.3 ∙ is) in
-          let one : h.1 ≡ content =
-          some_same h.1 content (sym h.4 ∙ ap (file_of made.files) same ∙ held) in
-          subst (λ (c : List ℕ). PutsFile made.files h.2 name (c ++ bytes)) one
-          (subst (λ (n : List ℕ). PutsFile made.files h.2 n (h.1 ++ bytes)) same h.5)),
-    )
-
-pub puts_others : (made new : Option Told) (name bytes : List ℕ) (told : TellsCreated true made)
-    → PutsCreated made new bytes → KeepsOthersNow made new
-puts_others None new name bytes told h = tt
-puts_others (Some made) new name bytes told h = (
-  h.0,
-  h.1,
-  λ created other is differs. (
-      let same : told.0 ≡ created = some_same told.0 created (sym told.2 ∙ is) in
-      let held : file_of made.files created ≡ Some told.1 =
-      ap (file_of made.files) (sym same) ∙ told.3 in
-      (h.2 created told.1 is held).1 other differs),
-)
-
--- the front of a proof was written, and the file was closed
-pub front_closed : (made mid new : Option Told) (theory : RewriteTheory) (start : Pattern)
-    → WritesFrontOfProof made mid theory start → Closes mid new → PutsFront made new theory start
-front_closed made mid new theory start h k = (h.0, written_closed made mid new h.0 h.1 k, h.2)
-
-pub front_others : (made mid new : Option Told) (theory : RewriteTheory) (start : Pattern)
-    → WritesFrontOfProof made mid theory start → Closes mid new → TellsCreated true made
-    → KeepsOthersNow made new
-front_others None mid new theory start h k told = tt
-front_others (Some made) mid new theory start h k told =
-    puts_others (Some made) new told.0 h.0 told (written_closed (Some made) mid new h.0 h.1 k)
-
--- a whole proof is a front of itself
-pub proof_front : (theory : RewriteTheory) (start end : Pattern) (bytes : List ℕ)
-    → JustifiesRun bytes theory start end → IsFrontOfProof theory start bytes
-proof_front theory start end bytes h = (
-  end,
-  (
-    [],
-    subst (λ (text : List ℕ). JustifiesRun text theory start end) (sym (append-nil bytes)) h,
-  ),
-)
-
-pub proof_written : (old new : Option Told) (theory : RewriteTheory) (start : Pattern) (run : Run)
-    (s : Summary) → WritesProof old new theory start run s
-    → WritesFrontOfProof old new theory start
-proof_written old new theory start run s h =
-    (h.0, h.1, inr (proof_front theory start (kept_by start run) h.0 h.2))
-
--- a proof was written, and the file was closed
-pub proof_closed : (made mid new : Option Told) (theory : RewriteTheory) (start : Pattern)
-    (run : Run) (s : Summary) → WritesProof made mid theory start run s → Closes mid new
-    → PutsProof made new theory start run s
-proof_closed made mid new theory start run s h k =
-    (h.0, written_closed made mid new h.0 h.1 k, h.2, h.3)
-
 -- the created file holds the proof
 pub created_proof : (old made new : Option Told) (file : List ℕ) (theory : RewriteTheory)
     (start : Pattern) (run : Run) (s : Summary) → Creates old made file
     → PutsProof made new theory start run s → HoldsCounted old new file theory start run s
 created_proof old made new file theory start run s h k = record {
-  proof = record { bytes = k.0; held = created_tells old made new file k.0 h k.1; justifies = k.2 };
+  proof = record { bytes = k.0; held = created_tells old made new file k.0 h k.1; proves = k.2 };
   counted = k.3;
 }
 
@@ -184,7 +114,7 @@ counted_front told told' file theory start run s h =
       bytes = h.proof.bytes;
       held = h.proof.held;
       front =
-          inr (proof_front theory start (kept_by start run) h.proof.bytes h.proof.justifies);
+          inr (proof_front theory start (kept_by start run) h.proof.bytes h.proof.proves);
     })
 
 -- the created file holds the front of a proof

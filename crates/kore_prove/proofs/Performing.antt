@@ -30,7 +30,7 @@ use Rattle.kore_prove.specs.Requests.{bounds_of, IsWanted}
 use Rattle.kore_prove.specs.RunsDone.{HasLines, IsRunDone, IsRunEnded}
 use Rattle.kore_prove.proofs.Ending.{kept_output, files_at}
 use Rattle.kore_prove.proofs.FileProofs.{kept_others, then_others, kept_file, then_file}
-use Rattle.kore_prove.proofs.FileProofs.{proof_front}
+use Rattle.run_proof.proofs.ClosedLaws.{proof_front}
 
 -- what the run keeps has a Kore pattern
 pub kept_shown : SortedIsShown → (theory : RewriteTheory) (start : Pattern) (run : Run)
@@ -71,7 +71,7 @@ proof_kept (Some file) told read told' theory start run kept h =
     record {
       bytes = h.bytes;
       held = told_now told read told' file h.bytes kept h.held;
-      justifies = h.justifies;
+      proves = h.proves;
     }
 
 -- the front of a proof, for the desk before the files were read
@@ -104,7 +104,7 @@ proof_is_front (Some file) told told' theory start run h =
     inr (record {
       bytes = h.bytes;
       held = h.held;
-      front = inr (proof_front theory start (kept_by start run) h.bytes h.justifies);
+      front = inr (proof_front theory start (kept_by start run) h.bytes h.proves);
     })
 
 -- the run was printed

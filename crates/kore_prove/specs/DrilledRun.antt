@@ -31,8 +31,8 @@ counts_line_of database =
     counts_line (capped (fact_count database)) (capped (statement_count database))
     (capped (length database))
 
--- The file holds a database that justifies the run of the drill's program. The limit of this run is
--- one more than the drill's steps. The output grew by the two lines of the run and the line of the
+-- The file holds a proof of the run of the drill's program. The limit of this run is one more than
+-- the drill's steps. The output grew by the two lines of the run and the line of the
 -- counts of the database.
 pub record IsDrilled (asked : DrillRequest) (told told' : Option Told)
     (before after : Option (List ℕ)) :
@@ -53,8 +53,7 @@ Drills c code =
     code ≡ 0 → (asked : DrillRequest) → IsDrill c.words asked
     → IsDrilled asked c.course.desk.told c.course.desk'.told c.course.out.bytes c.course.out'.bytes
 
--- the file of a drill is empty, or holds the front of a database that justifies a run of the
--- drill's program
+-- the file of a drill is empty, or holds the front of a proof of a run of the drill's program
 pub record HoldsFrontOfDrill (asked : DrillRequest) (told told' : Option Told) : Type 0 where
   pub theory : RewriteTheory
   pub start : Pattern

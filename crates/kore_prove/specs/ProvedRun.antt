@@ -1,4 +1,4 @@
--- What the file of a proof holds: a database that justifies the printed run, or the front of one.
+-- What the file of a proof holds: a proof of the printed run, or the front of one.
 use Rattle.std.specs.Prelude.{◌≡◌, ℕ, ◌⊎◌, List, [], Option, Some, None}
 use Rattle.desk_io.specs.Told.{Told}
 use Rattle.desk_io.specs.KeptFiles.{KeepsFile}
@@ -6,19 +6,19 @@ use Rattle.desk_io.specs.HeldFiles.{TellsNow}
 use Rattle.term_core.specs.Patterns.{Pattern}
 use Rattle.rule_core.specs.Theories.{RewriteTheory}
 use Rattle.rule_core.specs.Runs.{Run, kept_by}
-use Rattle.mm_justify.specs.Justifying.{JustifiesRun, IsFrontOfProof}
+use Rattle.mm_justify.specs.Justifying.{IsProofOfRun, IsFrontOfProof}
 use Rattle.kore_prove.specs.RunWords.{RunRequest, IsRun}
 use Rattle.kore_prove.specs.Courses.{Call}
 use Rattle.kore_prove.specs.Files.{HoldsRun}
 use Rattle.kore_prove.specs.PrintedRun.{IsCodeOfRun, IsPrinted}
 
--- the file holds a database that justifies the run, from the initial term to what the run keeps
+-- the file holds a proof of the run, from the initial term to what the run keeps
 pub record HoldsProof (told told' : Option Told) (file : List ℕ) (theory : RewriteTheory)
     (start : Pattern) (run : Run) :
     Type 0 where
   pub bytes : List ℕ
   pub held : TellsNow told told' file bytes
-  pub justifies : JustifiesRun bytes theory start (kept_by start run)
+  pub proves : IsProofOfRun bytes theory start (kept_by start run)
 
 -- if a proof is wanted, its file holds one
 abbrev pub HasWantedProof : Option (List ℕ) → Option Told → Option Told → RewriteTheory → Pattern
@@ -46,8 +46,8 @@ ProvesRun c code =
     c.course.out'.bytes
     code file
 
--- the file is empty, or holds the front of a database that justifies a run from the initial term to
--- some configuration
+-- the file is empty, or holds the front of a proof of a run from the initial term to some
+-- configuration
 pub record HoldsFront (told told' : Option Told) (file : List ℕ) (theory : RewriteTheory)
     (start : Pattern) :
     Type 0 where

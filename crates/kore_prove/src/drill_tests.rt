@@ -5,13 +5,13 @@ use std::test::Fail;
 
 const ONE_STEP: Case<'static> = Case {
     words: &["drill", "1", "p.mm"],
-    out: "stuck 1\nst{}(c1{}(),\\dv{SortInt{}}(\"0\"))\nfacts 3 statements 105 bytes 15572\n",
+    out: "stuck 1\nst{}(c1{}(),\\dv{SortInt{}}(\"0\"))\nfacts 3 statements 106 bytes 9395\n",
     ..BASE
 };
 
 const TWO_STEPS: Case<'static> = Case {
     words: &["drill", "2", "p.mm"],
-    out: "stuck 2\nst{}(c2{}(),\\dv{SortInt{}}(\"1\"))\nfacts 4 statements 111 bytes 22665\n",
+    out: "stuck 2\nst{}(c2{}(),\\dv{SortInt{}}(\"1\"))\nfacts 4 statements 112 bytes 10989\n",
     ..BASE
 };
 

@@ -26,7 +26,7 @@ use drill_accepted::drill_acceptance_laws;
 use drill_gen::{drill, drill_laws};
 use itoa::Buffer;
 use kore_rules::{Refusal, accept, accept_term};
-use run_proof::Summary;
+use prove_run::Summary;
 use std::alloc::{AllocError, Global};
 
 /// The greatest number of calls of functions in a drill.

@@ -1,12 +1,10 @@
 // The lines of a run and, if one is wanted, the file of its proof.
-ghost use Rattle.std.specs.Prelude.{◌≡◌, ◌≤◌, Some, IsTrue, IsFalse, IfOk, OnErr, IsErrOf};
+ghost use Rattle.std.specs.Prelude.{◌≡◌, Some, IsFalse, IfOk, OnErr, IsErrOf};
 ghost use Rattle.term_core.specs.RulePatterns.{plain_pattern};
 ghost use Rattle.rule_core.specs.ProgramView.{theory_of};
 ghost use Rattle.desk_io.specs.Counts.{CountRose};
 ghost use Rattle.run_loop.specs.RunEnds.{plain_run};
-ghost use Rattle.kore_prove.specs.ProofFiles.{PutsProof, PutsFront, HoldsCounted, MayHoldFront};
-ghost use Rattle.kore_prove.specs.ProofFiles.{HasWantedFront};
-ghost use Rattle.kore_prove.specs.ProofFiles.{KeepsOthersNow};
+ghost use Rattle.kore_prove.specs.ProofFiles.{HasWantedFront, HoldsCounted, MayHoldFront};
 ghost use Rattle.kore_prove.specs.ProvedRun.{HasWantedProof};
 ghost use Rattle.desk_io.specs.KeptFiles.{KeepsOthers};
 ghost use Rattle.kore_prove.specs.Requests.{request, bounds_of, IsWanted};
@@ -91,41 +89,5 @@ pub fn proved_lines<D: Desk>(
     ensures reads { (D.state desk.new).read_faults ≡ (D.state desk.old).read_faults }
 {
     desk.create_file(file)?;
-    proved_and_closed(alloc, desk, accepted, bounds)
-}
-
-// The run within these bounds, with its proof in the created file, which is closed afterwards, even
-// after a fault.
-fn proved_and_closed<D: Desk>(
-    alloc: Global,
-    desk: &mut D,
-    accepted: &Accepted,
-    bounds: Bounds,
-) -> Result<Proved, DeskFault>
-    requires file { IsTrue (D.created desk.old) }
-    requires runnable { IsRunnable accepted.now }
-    ensures run { IfOk result (λ r. HasLines bounds
-        (theory_of accepted.now.program) (plain_pattern accepted.now.start) (plain_run r.end)
-        r.lines.items) }
-    ensures proof { IfOk result (λ r. PutsProof (D.state desk.old).told (D.state desk.new).told
-        (theory_of accepted.now.program) (plain_pattern accepted.now.start) (plain_run r.end)
-        r.summary) }
-    ensures front { OnErr result (PutsFront (D.state desk.old).told (D.state desk.new).told
-        (theory_of accepted.now.program) (plain_pattern accepted.now.start)) }
-    ensures files { KeepsOthersNow (D.state desk.old).told (D.state desk.new).told }
-    ensures failed { IsErrOf result DeskFault.Failed
-        → CountRose (D.state desk.old).write_faults (D.state desk.new).write_faults }
-    ensures counts { (D.state desk.old).write_faults ≤ (D.state desk.new).write_faults }
-    ensures created { IsFalse (D.created desk.new) }
-    ensures reads { (D.state desk.new).read_faults ≡ (D.state desk.old).read_faults }
-{
-    let proved = proved_lines_of_run(alloc, desk, accepted, bounds);
-    let closed = desk.close_file();
-    match proved {
-        Ok(made) => match closed {
-            Ok(()) => Ok(made),
-            Err(fault) => Err(fault),
-        },
-        Err(fault) => Err(fault),
-    }
+    proved_lines_of_run(alloc, desk, accepted, bounds)
 }

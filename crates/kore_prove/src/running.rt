@@ -1,10 +1,10 @@
 // The requested run, its lines, and its proof.
-ghost use Rattle.std.specs.Prelude.{◌≡◌, ◌≤◌, IsTrue, IfOk, OnErr, IsErrOf};
+ghost use Rattle.std.specs.Prelude.{◌≡◌, ◌≤◌, IsTrue, IsFalse, IfOk, OnErr, IsErrOf};
 ghost use Rattle.term_core.specs.RulePatterns.{plain_pattern};
 ghost use Rattle.rule_core.specs.ProgramView.{theory_of};
 ghost use Rattle.desk_io.specs.Counts.{CountRose};
 ghost use Rattle.run_loop.specs.RunEnds.{plain_run};
-ghost use Rattle.run_proof.specs.WrittenProofs.{WritesProof, WritesFrontOfProof};
+ghost use Rattle.run_proof.specs.ClosedProofs.{KeepsOthersNow, PutsFront, PutsProof};
 ghost use Rattle.kore_prove.specs.Runnable.{IsRunnable};
 ghost use Rattle.kore_prove.specs.RunsDone.{HasLines};
 
@@ -12,9 +12,10 @@ use crate::files::Accepted;
 use desk_io::{Desk, DeskFault};
 use fun_eval::Engine;
 use kore_show::shown_laws;
+use prove_run::Summary;
 use run_lines::run_lines;
 use run_loop::{RunEnd, run};
-use run_proof::{Summary, proved_run};
+use run_proof::proved_run;
 use std::alloc::{AllocError, Global};
 
 /// How far a run may go.
@@ -55,11 +56,11 @@ pub fn lines_of_run(
     Ok((end, lines))
 }
 
-/// How the run within these bounds ends, its two lines, and the counts of its proof. A database
-/// that justifies the run is appended to the created file during the run.
+/// How the run within these bounds ends, its two lines, and the counts of its proof. The proof is
+/// appended to the created file during the run, and the file is closed, even after an error.
 ///
-/// Errors: out of memory, or a fault that the desk counted. After an error the front of such a
-/// database, perhaps nothing, was appended.
+/// Errors: out of memory, or a fault that the desk counted. After an error the front of a proof,
+/// perhaps nothing, was appended.
 pub fn proved_lines_of_run<D: Desk>(
     alloc: Global,
     desk: &mut D,
@@ -71,13 +72,14 @@ pub fn proved_lines_of_run<D: Desk>(
     ensures run { IfOk result (λ r. HasLines bounds
         (theory_of accepted.now.program) (plain_pattern accepted.now.start) (plain_run r.end)
         r.lines.items) }
-    ensures justified { IfOk result (λ r. WritesProof
+    ensures proof { IfOk result (λ r. PutsProof
         (D.state desk.old).told (D.state desk.new).told
         (theory_of accepted.now.program) (plain_pattern accepted.now.start) (plain_run r.end)
         r.summary) }
-    ensures front { OnErr result (WritesFrontOfProof (D.state desk.old).told (D.state desk.new).told
+    ensures front { OnErr result (PutsFront (D.state desk.old).told (D.state desk.new).told
         (theory_of accepted.now.program) (plain_pattern accepted.now.start)) }
-    ensures created { IsTrue (D.created desk.new) }
+    ensures files { KeepsOthersNow (D.state desk.old).told (D.state desk.new).told }
+    ensures created { IsFalse (D.created desk.new) }
     ensures failed { IsErrOf result DeskFault.Failed
         → CountRose (D.state desk.old).write_faults (D.state desk.new).write_faults }
     ensures counts { (D.state desk.old).write_faults ≤ (D.state desk.new).write_faults }

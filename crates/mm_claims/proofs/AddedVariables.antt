@@ -4,7 +4,7 @@ use Rattle.std.proofs.Common.{subst, append_assoc, append-nil}
 use Rattle.std.specs.Prelude.{◌||◌}
 use Rattle.std.proofs.lemmas.Bool.{false≢true}
 use Rattle.mm_claims.specs.Variables.{Variable, same_variable, has_variable, are_once}
-use Rattle.mm_claims.specs.OpenVariables.{other_variables}
+use Rattle.mm_claims.specs.ClaimVariables.{other_variables}
 use Rattle.mm_claims.specs.AddedVariables.{added}
 use Rattle.mm_claims.proofs.VariableLaws.{has_append, once_more, same_is}
 

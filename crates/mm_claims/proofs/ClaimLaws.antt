@@ -7,10 +7,9 @@ use Rattle.ml_pat.specs.Patterns.{Pattern, unary, binary, sorted, quantified, va
 use Rattle.ml_pat.specs.Leaves.{EachLeaf}
 use Rattle.ml_pat.proofs.LeafLaws.{both_true}
 use Rattle.mm_claims.specs.Variables.{Variable, object_variable, pattern_variable, same_variable}
-use Rattle.mm_claims.specs.Variables.{has_variable, occurs_in}
+use Rattle.mm_claims.specs.Variables.{has_variable, are_once, occurs_in}
 use Rattle.mm_claims.specs.OverNames.{open_over, AreOpenOver, over_names, AreOverNames}
-use Rattle.mm_claims.specs.OpenVariables.{variables_in}
-use Rattle.mm_claims.specs.ClaimVariables.{claim_variables}
+use Rattle.mm_claims.specs.ClaimVariables.{claim_variables, variables_in}
 use Rattle.mm_claims.specs.ClaimLaws.{OverNamesIsClaim}
 use Rattle.mm_claims.proofs.OpenCitingTexts.{first_there, later_there}
 use Rattle.mm_claims.proofs.OpenVariableLaws.{leaves_among}
@@ -67,6 +66,10 @@ all_known declared vs (p ∷ ps) w h = (
       (λ v there. w v (second_true (occurs_in v p) (list_any (occurs_in v) ps) there)) h.1,
 )
 
+pub claim_once : (hypotheses : List Pattern) (conclusion : Pattern)
+    → are_once (claim_variables hypotheses conclusion) ≡ true
+claim_once hypotheses conclusion = others_once (flat_map variables_in (conclusion ∷ hypotheses))
+
 pub over_names_is_claim : OverNamesIsClaim
 over_names_is_claim declared hypotheses conclusion over numbered few =
     let ps : List Pattern = conclusion ∷ hypotheses in
@@ -74,7 +77,7 @@ over_names_is_claim declared hypotheses conclusion over numbered few =
     (occurs_in v) ps =
     λ v. just_others (flat_map variables_in ps) v ∙ sym (stands-any v ps) in
     record {
-      once = others_once (flat_map variables_in ps);
+      once = claim_once hypotheses conclusion;
       numbered = numbered;
       stand =
           all_pass (λ v. list_any (occurs_in v) ps) (claim_variables hypotheses conclusion)

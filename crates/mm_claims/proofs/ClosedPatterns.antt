@@ -1,14 +1,13 @@
 -- No variable occurs in a closed pattern.
 use Rattle.std.proofs.Common.{◌≡◌, ℕ, List, [], ◌++◌, map, refl, ap}
 use Rattle.mm_text.specs.Bytes.{Token}
-use Rattle.ml_pat.specs.Patterns.{Pattern, unary, binary, sorted, quantified, var, meta, constant}
+use Rattle.ml_pat.specs.Patterns.{Pattern, unary, binary, sorted, quantified, var, meta}
 use Rattle.ml_pat.specs.Leaves.{EachLeaf}
 use Rattle.ml_pat.proofs.LeafLaws.{EachLeaf-implied}
 use Rattle.mm_claims.specs.OverNames.{closed_over, over_names}
 use Rattle.mm_claims.specs.Variables.{Variable}
 use Rattle.mm_claims.specs.Blocks.{variable_float, open_frame}
-use Rattle.mm_claims.specs.ClaimVariables.{claim_of}
-use Rattle.mm_claims.specs.OpenVariables.{variables_in, other_variables}
+use Rattle.mm_claims.specs.ClaimVariables.{claim_of, variables_in, other_variables}
 use Rattle.mm_claims.specs.ClosedLaws.{ClosedHasNoMeta, ClosedIsOver, ClosedClaims}
 
 -- No variable occurs in a closed pattern.

@@ -23,7 +23,8 @@ use Rattle.mm_claims.specs.Variables.{variable_token, variable_label, variable_t
 use Rattle.mm_claims.specs.Variables.{variable_tokens, is_variable_token}
 use Rattle.mm_claims.specs.Blocks.{variable_statements, variable_float, separation_statements}
 use Rattle.mm_claims.specs.Claiming.{IsFree}
-use Rattle.mm_claims.proofs.SpeltLaws.{LabelFacts, label_facts, statement_label-is_label}
+use Rattle.mm_claims.proofs.SpeltLaws.{statement_label-is_label}
+use Rattle.mm_database.proofs.LabelTokens.{LabelFacts, label_facts}
 use Rattle.mm_claims.proofs.StatedLaws.{itself, name_no_statement}
 use Rattle.mm_claims.proofs.VariableLaws.{VariableFacts, variable_facts, label_differs, label_spelt}
 use Rattle.mm_claims.proofs.VariableLaws.{premise_spelt, no_variable_among, no_other_among}

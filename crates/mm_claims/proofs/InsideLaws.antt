@@ -23,6 +23,7 @@ use Rattle.mm_database.specs.Assertions.{form_assertion, with_assertion_first, k
 use Rattle.mm_database.specs.Assertions.{form_typing, with_typing_first, typings_in}
 use Rattle.mm_database.specs.Validity.{IsProved, task, form_fault, declaration_fault, or_else}
 use Rattle.mm_database.specs.Validity.{HasNoFault}
+use Rattle.mm_database.specs.Compressing.{is_compressed}
 use Rattle.mm_database.specs.FrameLaws.{Adds}
 use Rattle.mm_database.proofs.WrittenForms.{plain_tokens_say}
 use Rattle.ml_pat.proofs.LeafLaws.{both_true, split_true}
@@ -389,6 +390,7 @@ pub record Asserts (c : Context) (label : Token) (symbols : List Token) (proved 
       ≡ Some (assertion c proved (label ∷ []) symbols)
   pub declares : with_declared c (label ∷ []) keyword symbols ≡ with_assertion c label symbols
   pub types_none : keyword_typing (label ∷ []) symbols keyword ≡ None
+  pub compressed : is_compressed (form_of tokens) ≡ true
 
 -- they type nothing
 pub untyped : (c : Context) (label : Token) (symbols : List Token) (proved : Bool)
@@ -488,9 +490,10 @@ typed_in c at (tokens ∷ sts) left (plain_ones, one, fine, rest) =
     rest)
 
 -- Statements without fault that lead to a context, make exactly this assertion and have exactly
--- these typings.
+-- these typings. Each `$p` has a compressed proof.
 pub record AddsJust (c : Context) (at : ℕ) (sts : List (List Token)) (left : Context)
     (a : Assertion) (hs : List Hypothesis) : Type 0 where
   pub adds : Adds c at sts left
   pub makes : asserted c at sts ≡ a ∷ []
   pub types : typed sts ≡ hs
+  pub compressed : list_all (λ ts. is_compressed (form_of ts)) sts ≡ true

@@ -9,7 +9,9 @@ use Rattle.std.proofs.lemmas.List.Elements.{Contains-append_cases, Contains-push
 use Rattle.mm_text.specs.Bytes.{Token}
 use Rattle.mm_database.specs.Forms.{asserts, assumes}
 use Rattle.mm_database.specs.Assertions.{Assertion}
-use Rattle.mm_database.specs.Proofs.{ProofTree, postorder}
+use Rattle.mm_database.specs.Proofs.{ProofTree}
+use Rattle.mm_database.specs.ProofText.{mandatory_labels}
+use Rattle.mm_database.specs.Compressing.{Compresses, all_compressed}
 use Rattle.mm_header.specs.HeaderText.{header_bytes}
 use Rattle.ml_pat.specs.Patterns.{Pattern, meta}
 use Rattle.ml_kernel.specs.Theorems.{Theorem, Derivation, Derivations, hypothesis, own_axiom}
@@ -28,24 +30,26 @@ use Rattle.mm_claims.specs.Variables.{Variable, object_variable, pattern_variabl
 use Rattle.mm_claims.specs.OverNames.{open_over, AreOpenOver, over_names, AreOverNames}
 use Rattle.mm_claims.specs.Blocks.{Claim, Stated, IsClaim, variable_statements, separations}
 use Rattle.mm_claims.specs.Blocks.{separation_statements, premise_statements, block, needs_block}
-use Rattle.mm_claims.specs.Blocks.{axiom_statements, theorem_statements, open_assertion}
+use Rattle.mm_claims.specs.Blocks.{axiom_statements, theorem_statements, open_frame}
+use Rattle.mm_claims.specs.Blocks.{open_assertion}
 use Rattle.mm_claims.specs.CitedAt.{at_places, claims_citing, HaveInstances, IsCitable, ArePremises}
 use Rattle.mm_claims.specs.Citable.{citable}
-use Rattle.mm_claims.specs.Claiming.{FitsClaims, GainsExactly, proved_statements}
-use Rattle.mm_claims.specs.Provable.{IsProvable}
+use Rattle.mm_claims.specs.Claiming.{FitsClaims, GainsExactly, IsProofOfClaim}
+use Rattle.mm_claims.specs.Provable.{HaveNeeded, IsProvable}
 use Rattle.mm_claims.specs.ClaimVariables.{claim_of, claim_variables}
 use Rattle.mm_claims.specs.Keeping.{AreAmong, FitsStated, FitsWhen, Gains, MayState, axiom_at}
 use Rattle.mm_claims.specs.Keeping.{with_last, with_stated}
-use Rattle.mm_claims.specs.KeepingLaws.{EmptyFits, BegunFits, DeclaredFits}
-use Rattle.mm_claims.specs.OpenVariables.{variables_of, other_variables}
+use Rattle.mm_claims.specs.KeepingLaws.{EmptyFits, FitsIsCompressed, BegunFits, DeclaredFits}
+use Rattle.mm_claims.specs.OpenVariables.{variables_of}
 use Rattle.mm_claims.specs.Places.{IsStated, IsFoundAs, Finds, stated_cites, lemma_statements}
-use Rattle.mm_claims.specs.Places.{more_variables, MayProve}
+use Rattle.mm_claims.specs.Places.{MayProve}
 use Rattle.mm_claims.proofs.FittingLaws.{name_of-front, take-all, take-drop}
 use Rattle.mm_claims.proofs.FoundCiting.{places_of, tree_found, variables_found}
 use Rattle.mm_claims.proofs.LaterLaws.{at_end, there_still}
+use Rattle.mm_claims.proofs.MandatoryLabels.{mandatory_same}
 use Rattle.mm_claims.proofs.NamedClaims.{declared_fits_claims}
 use Rattle.mm_claims.proofs.OpenFits.{header_fits_claims, axiom_fits, axiom_is_gained, theorem_fits}
-use Rattle.mm_claims.proofs.OpenFits.{theorem_is_gained}
+use Rattle.mm_claims.proofs.OpenFits.{theorem_is_gained, claims_are_compressed}
 use Rattle.mm_claims.proofs.OpenVariableLaws.{needed_are_enough}
 use Rattle.mm_claims.proofs.ClaimLaws.{over_names_is_claim}
 use Rattle.mm_database.specs.StatementTexts.{written_statements, plain_tokens, proof_tokens}
@@ -65,6 +69,14 @@ begun_fits names bytes empty = record {
   counted = refl;
   among = λ s there. absurd (nothing_there s there);
 }
+
+pub fits_is_compressed : FitsIsCompressed
+fits_is_compressed names k bytes fits = go k.begun fits
+  where
+    go : (b : Bool) → FitsWhen b (take k.named names) k.count (all_stated k) bytes
+        → all_compressed bytes ≡ true
+    go false empty = ap all_compressed empty
+    go true fit = claims_are_compressed (take k.named names) fit.claims bytes fit.fits
 
 pub declared_fits : DeclaredFits
 declared_fits names k bytes each distinct few begun within fits = go k.begun begun fits
@@ -134,17 +146,17 @@ kept_axiom names n k s claim =
     (plain_tokens (statement_label k ∷ []) asserts e))
     (kept_text names n s.variables s.conclusion claim.over.0)
 
-kept_theorem : (names : List Token) (n k : ℕ) (s : Claim) (more : List Variable) (tree : ProofTree)
-    → IsClaim (take n names) s
-    → theorem_statements (take n names) k s more tree ≡ theorem_statements names k s more tree
-kept_theorem names n k s more tree claim =
+kept_theorem : (names : List Token) (n k : ℕ) (s : Claim) (more : List Variable)
+    (proof : List Token) → IsClaim (take n names) s
+    → theorem_statements (take n names) k s more proof ≡ theorem_statements names k s more proof
+kept_theorem names n k s more proof claim =
     ap (λ (premises : List (List Token)). statement_of
     (needs_block (s.variables ++ more) s.hypotheses) k (s.variables ++ more) premises
-    (theorem_statement (take n names) k s.conclusion tree))
+    (theorem_statement (take n names) k s.conclusion proof))
     (kept_premises names n s.variables k 0 s.hypotheses claim.over.1)
     ∙ ap (λ (e : List Token). statement_of (needs_block (s.variables ++ more) s.hypotheses) k
     (s.variables ++ more) (premise_statements names k 0 s.hypotheses)
-    (proof_tokens (statement_label k ∷ []) e (postorder tree)))
+    (proof_tokens (statement_label k ∷ []) e proof))
     (kept_text names n s.variables s.conclusion claim.over.0)
 
 -- what is kept after one more claim: it has the next number, and no other claim is new
@@ -356,82 +368,83 @@ mutual
     all_citable declared claims kept find ds among finds h.1,
   )
 
--- A theorem by a derivation that cites what is kept. Its text is the same as the text by the places
--- in the claims of the text.
+-- A theorem by a derivation that cites what is kept. Its proof is also a proof by the places in the
+-- claims of the text.
 theorem_appends : (names : List Token) (k : Rendered) (find : List Pattern → Pattern → Stated)
-    (premise_place : Pattern → ℕ) (t : Theorem) → k.count < 2 ^ 64
-    → length t.hypotheses < 2 ^ 64 → AreNumbered (claim_variables t.hypotheses t.conclusion)
-    → AreNumbered (variables_of find t.derivation) → IsKept t → Finds (all_stated k) find
-    → ArePremises t.hypotheses premise_place → MayProve names k t
+    (premise_place : Pattern → ℕ) (t : Theorem) (more : List Variable) (proof : List Token)
+    → k.count < 2 ^ 64 → length t.hypotheses < 2 ^ 64
+    → AreNumbered (claim_variables t.hypotheses t.conclusion)
+    → HaveNeeded (variables_of find t.derivation)
+    (claim_variables t.hypotheses t.conclusion ++ more)
+    → IsKept t → Finds (all_stated k) find → ArePremises t.hypotheses premise_place
+    → IsProofOfClaim names k.count find premise_place (claim_of t.hypotheses t.conclusion)
+    t.derivation proof → MayProve names k t
     → AppendsClaim (take k.named names) (all_stated k) k.count (claim_of t.hypotheses t.conclusion)
-    (written_statements (lemma_statements names k.count find premise_place t))
-    (claim_variables t.hypotheses t.conclusion ++ more_variables find t)
+    (written_statements (lemma_statements names k.count t more proof))
+    (claim_variables t.hypotheses t.conclusion ++ more)
     (open_assertion true (take k.named names) k.count (claim_of t.hypotheses t.conclusion))
-theorem_appends names k find premise_place t few few_hypotheses numbered needed kept finds premises
-    may claims bytes counted among fits =
+theorem_appends names k find premise_place t more proof few few_hypotheses numbered needed kept
+    finds premises proves may claims bytes counted among fits =
     let declared : List Token = take k.named names in
     let s : Claim = claim_of t.hypotheses t.conclusion in
     let d : Derivation = t.derivation in
     let place : List Pattern → Pattern → ℕ = places_of find in
-    let there : List Pattern → Pattern → Stated = at_places claims (places_of find) in
     let low : length claims < 2 ^ 64 = subst (λ (n : ℕ). n < 2 ^ 64) (sym counted) few in
     let claim : IsClaim declared s =
     over_names_is_claim declared t.hypotheses t.conclusion may.over numbered few_hypotheses in
     let same : variables_of (at_places claims (places_of find)) d ≡ variables_of find d =
     variables_found claims (all_stated k) find declared d among finds may.cites in
-    let more : List Variable =
-    other_variables s.variables (variables_of (at_places claims (places_of find)) d) in
     let provable : IsProvable declared claims s more d (places_of find) premise_place =
-    needed_are_enough declared claims s d (places_of find) premise_place claim
-    (subst AreNumbered (sym same) needed) kept may.used
+    needed_are_enough declared claims s more d (places_of find) premise_place
+    (subst (λ (us : List Variable). HaveNeeded us (s.variables ++ more)) (sym same) needed) kept
+    may.used
     (cited_citable declared claims (all_stated k) find d among finds may.cites) premises in
     let tree : derivation_tree (own_labels k.count)
     (claims_citing k.count (at_places claims (places_of find)) premise_place) d ≡
     derivation_tree (own_labels k.count) (claims_citing k.count find premise_place) d =
     tree_found claims (all_stated k) find declared k.count premise_place d among finds may.cites in
-    let text : written_statements (proved_statements declared (length claims)
-    (at_places claims (places_of find)) premise_place s more d) ≡ written_statements
-    (lemma_statements names k.count find premise_place t) =
-    ap (λ (n : ℕ). written_statements (proved_statements declared n
-    (at_places claims (places_of find)) premise_place s more d)) counted
-    ∙ ap (λ (e : ProofTree). written_statements (theorem_statements declared k.count s more e)) tree
-    ∙ ap (λ (vs : List Variable). written_statements (theorem_statements declared k.count s
-    (other_variables s.variables vs)
-    (derivation_tree (own_labels k.count) (claims_citing k.count find premise_place) d)))
-    same
-    ∙ ap written_statements (kept_theorem names k.named k.count s (more_variables find t)
-    (derivation_tree (own_labels k.count) (claims_citing k.count find premise_place) d)
-    claim) in (
+    let placed : IsProofOfClaim declared (length claims) (at_places claims (places_of find))
+    premise_place s d proof =
+    subst (λ (n : ℕ). IsProofOfClaim declared n (at_places claims (places_of find)) premise_place s
+    d proof) (sym counted)
+    (subst (λ (e : ProofTree). Compresses (mandatory_labels (open_frame declared k.count s)) e
+    proof) (sym tree)
+    (subst (λ (ls : List Token). Compresses ls
+    (derivation_tree (own_labels k.count) (claims_citing k.count find premise_place) d) proof)
+    (mandatory_same names declared k.count s) proves)) in
+    let text : written_statements (theorem_statements declared (length claims) s more proof)
+    ≡ written_statements (lemma_statements names k.count t more proof) =
+    ap (λ (n : ℕ). written_statements (theorem_statements declared n s more proof)) counted
+    ∙ ap written_statements (kept_theorem names k.named k.count s more proof claim) in (
       subst (λ (added : List ℕ). FitsClaims declared (claims ++ s ∷ []) (bytes ++ added)) text
-          (theorem_fits declared claims bytes s more d (places_of find) premise_place fits low claim
-          provable),
-      subst (λ (vs : List Variable). GainsExactly bytes
-          (written_statements (lemma_statements names k.count find premise_place t)) k.count
-          (s.variables ++ other_variables s.variables vs)
-          (open_assertion true declared k.count s)) same
-          (subst (λ (n : ℕ). GainsExactly bytes
-          (written_statements (lemma_statements names k.count find premise_place t)) n
+          (theorem_fits declared claims bytes s more d (places_of find) premise_place proof fits low
+          claim provable placed),
+      subst (λ (n : ℕ). GainsExactly bytes
+          (written_statements (lemma_statements names k.count t more proof)) n
           (s.variables ++ more) (open_assertion true declared n s)) counted
           (subst (λ (added : List ℕ). GainsExactly bytes added (length claims) (s.variables ++ more)
           (open_assertion true declared (length claims) s)) text
-          (theorem_is_gained declared claims bytes s more d (places_of find) premise_place fits low
-          claim provable))),
+          (theorem_is_gained declared claims bytes s more d (places_of find) premise_place proof
+          fits low claim provable placed)),
     )
 
 pub lemma_gains : (names : List Token) (k k' : Rendered) (find : List Pattern → Pattern → Stated)
-    (premise_place : Pattern → ℕ) (t : Theorem)
+    (premise_place : Pattern → ℕ) (t : Theorem) (more : List Variable) (proof : List Token)
     → KeepsOneMore k k' (claim_of t.hypotheses t.conclusion) → k.count < 2 ^ 64
     → length t.hypotheses < 2 ^ 64 → AreNumbered (claim_variables t.hypotheses t.conclusion)
-    → AreNumbered (variables_of find t.derivation) → IsKept t → Finds (all_stated k) find
-    → ArePremises t.hypotheses premise_place → MayProve names k t
-    → Gains names k k' (written_statements (lemma_statements names k.count find premise_place t))
-    (claim_variables t.hypotheses t.conclusion ++ more_variables find t)
+    → HaveNeeded (variables_of find t.derivation)
+    (claim_variables t.hypotheses t.conclusion ++ more)
+    → IsKept t → Finds (all_stated k) find → ArePremises t.hypotheses premise_place
+    → IsProofOfClaim names k.count find premise_place (claim_of t.hypotheses t.conclusion)
+    t.derivation proof → MayProve names k t
+    → Gains names k k' (written_statements (lemma_statements names k.count t more proof))
+    (claim_variables t.hypotheses t.conclusion ++ more)
     (open_assertion true (take k.named names) k.count (claim_of t.hypotheses t.conclusion))
-lemma_gains names k k' find premise_place t one few few_hypotheses numbered needed kept finds
-    premises may =
+lemma_gains names k k' find premise_place t more proof one few few_hypotheses numbered needed kept
+    finds premises proves may =
     gains names k k' (claim_of t.hypotheses t.conclusion)
-    (claim_variables t.hypotheses t.conclusion ++ more_variables find t)
+    (claim_variables t.hypotheses t.conclusion ++ more)
     (open_assertion true (take k.named names) k.count (claim_of t.hypotheses t.conclusion))
-    (written_statements (lemma_statements names k.count find premise_place t)) may.begun one
-    (theorem_appends names k find premise_place t few few_hypotheses numbered needed kept finds
-    premises may)
+    (written_statements (lemma_statements names k.count t more proof)) may.begun one
+    (theorem_appends names k find premise_place t more proof few few_hypotheses numbered needed kept
+    finds premises proves may)

@@ -4,6 +4,7 @@ pub mod FittingLaws
 pub mod SpeltLaws
 pub mod StatedLaws
 pub mod KeepingLaws
+pub mod MandatoryLabels
 pub mod VariableLaws
 pub mod InsideLaws
 pub mod Separations
@@ -11,6 +12,7 @@ pub mod HeadLaws
 pub mod OpenTexts
 pub mod HeadTypings
 pub mod OpenFrames
+pub mod CompressedTexts
 pub mod BlockLaws
 pub mod OpenFits
 pub mod OpenServes

@@ -9,7 +9,8 @@ use Rattle.mm_text.specs.Labels.{is_label}
 use Rattle.mm_database.specs.Frames.{Hypothesis, essential, Scope, Frame, frame_of}
 use Rattle.mm_database.specs.Database.{Context}
 use Rattle.mm_database.specs.Proofs.{hypothesis_of}
-use Rattle.mm_database.proofs.Continued.{continued_leaves}
+use Rattle.mm_database.specs.Compressing.{all_compressed}
+use Rattle.mm_database.proofs.Continued.{continued_leaves, appended_compressed}
 use Rattle.mm_header.specs.HeaderContext.{header_context}
 use Rattle.ml_pat.specs.Patterns.{Pattern}
 use Rattle.ml_pat.specs.Named.{AreDistinct}
@@ -17,7 +18,7 @@ use Rattle.mm_proof.specs.Labels.{name_label, statement_label, premise_label}
 use Rattle.ml_pat.specs.Leaves.{EachLeaf}
 use Rattle.mm_proof.specs.Tokens.{own_naming}
 use Rattle.mm_proof.specs.Derivations.{holds_text}
-use Rattle.ml_pat.proofs.LeafLaws.{EachLeaf-implied}
+use Rattle.ml_pat.proofs.LeafLaws.{EachLeaf-implied, both_true}
 use Rattle.mm_proof.proofs.AgreeLaws.{agreeing, text-agrees}
 use Rattle.mm_claims.specs.Statements.{IsName, typecode_of, all_name_statements}
 use Rattle.mm_claims.specs.Fitting.{AreNames}
@@ -33,6 +34,7 @@ use Rattle.mm_claims.proofs.FittingLaws.{with_name, IsNew, name_holds, behind_na
 use Rattle.mm_claims.proofs.FittingLaws.{adds_names, none_has, AreNames-front, AreNames-next}
 use Rattle.mm_claims.proofs.FittingLaws.{name_of-front, take-drop, length-front}
 use Rattle.mm_claims.proofs.StatedLaws.{name_no_active}
+use Rattle.mm_claims.proofs.CompressedTexts.{each_compressed, names_compressed}
 use Rattle.mm_claims.proofs.BoolLaws.{both_false, either_true, second_true}
 use Rattle.mm_database.specs.StatementTexts.{written_statements}
 
@@ -230,14 +232,25 @@ all_named_claims done (t ∷ more) claims c w names distinct few =
     (λ (n : ℕ). HoldsClaims ((done ++ t ∷ []) ++ more) claims
     (behind_names (with_name c (length done) t) n more)) count rest)
 
+later_names : (declared more : List Token) → AreNames (declared ++ more) → AreNames more
+later_names [] more names = names
+later_names (t ∷ declared) more names = later_names declared more names.1
+
 pub names_fit_claims : NamesFitClaims
-names_fit_claims declared more claims bytes (c, leaves, w) names distinct few = (
+names_fit_claims declared more claims bytes (c, leaves, w, compressed) names distinct few = (
   behind_names c (length declared) more,
   continued_leaves bytes c (behind_names c (length declared) more)
       (all_name_statements (length declared) more) leaves
       (adds_names declared more c (length bytes) w.base leaves.closed names distinct few)
       (closed_names c (length declared) more ∙ leaves.closed),
   all_named_claims declared more claims c w names distinct few,
+  appended_compressed bytes (all_name_statements (length declared) more) c
+      (behind_names c (length declared) more) leaves
+      (adds_names declared more c (length bytes) w.base leaves.closed names distinct few)
+      ∙ both_true (all_compressed bytes)
+      (each_compressed (all_name_statements (length declared) more)) compressed
+      (names_compressed (length declared) more (later_names declared more names)
+      (omega (arith, few, length-append declared more))),
 )
 
 -- the same is true of the names from a number on

@@ -21,7 +21,8 @@ use Rattle.ml_pat.specs.Judgements.{absent}
 use Rattle.mm_proof.specs.Tokens.{Naming, own_naming, object_token, meta_token}
 use Rattle.mm_proof.specs.Labels.{statement_label, premise_label, own_labels}
 use Rattle.ml_pat.specs.Leaves.{LeafFacts}
-use Rattle.mm_proof.specs.Trees.{trees_of, cite}
+use Rattle.mm_proof.specs.Trees.{cite}
+use Rattle.proof_nodes.specs.Tables.{forest_of}
 use Rattle.mm_proof.specs.Derivations.{holds_text}
 use Rattle.mm_proof.specs.SoundCiting.{CitesSoundly}
 use Rattle.mm_proof.specs.Serving.{IsAssertion, Serves}
@@ -58,7 +59,7 @@ variable_proves c l n known new ms (pattern_variable i) w h =
 variables_prove : (c : Context) (l n : Naming) (known : LeafFacts) (new : List ℕ)
     (ms : List Pattern) (vs : List Variable) → Serves c l n known
     → HaveInstances known new ms vs
-    → AllProve c (trees_of (map (variable_tree l new ms) vs)) (map (entry n new ms) vs)
+    → AllProve c (forest_of (map (variable_tree l new ms) vs)) (map (entry n new ms) vs)
 variables_prove c l n known new ms [] w h = refl
 variables_prove c l n known new ms (v ∷ vs) w h = (
   entry n new ms v,
@@ -222,7 +223,7 @@ renamed_claim_proves : (c : Context) (l : Naming) (declared : List Token) (known
     → AreNames declared → Serves c l (own_naming declared) known → IsClaim declared s
     → IsAssertion c (statement_label i) (open_frame declared i s) → HaveNoVariables ms
     → StayApart new s.variables → HaveInstances known new ms s.variables
-    → AllProve c (trees_of trees) (map (holds_text (own_naming declared))
+    → AllProve c (forest_of trees) (map (holds_text (own_naming declared))
     (instances ms (map (renamed (by_place new)) s.hypotheses)))
     → Proves c (cite (statement_label i) (map (variable_tree l new ms) s.variables ++ trees))
     (holds_text (own_naming declared) (instance ms (renamed (by_place new) s.conclusion)))
@@ -264,7 +265,7 @@ pub claim_proves : (c : Context) (l : Naming) (declared : List Token) (known : L
     → Serves c l (own_naming declared) known → IsClaim declared s
     → IsAssertion c (statement_label i) (open_frame declared i s) → HaveNoVariables ms
     → HaveInstances known [] ms s.variables
-    → AllProve c (trees_of trees)
+    → AllProve c (forest_of trees)
     (map (holds_text (own_naming declared)) (instances ms s.hypotheses))
     → Proves c (cite (statement_label i) (map (variable_tree l [] ms) s.variables ++ trees))
     (holds_text (own_naming declared) (instance ms s.conclusion))
@@ -275,7 +276,7 @@ claim_proves c l declared known i s ms trees names w is there none given proved 
     (renamed_claim_proves c l declared known i s [] ms trees names w is there none
     (λ x y hx hy same. same) given
     (subst (λ (ps : List Pattern).
-    AllProve c (trees_of trees) (map (holds_text (own_naming declared)) (instances ms ps)))
+    AllProve c (forest_of trees) (map (holds_text (own_naming declared)) (instances ms ps)))
     (sym (all_renamed-none s.hypotheses)) proved))
 
 -- a claim at a place
@@ -292,7 +293,7 @@ lemma_proves : (c : Context) (declared : List Token) (known : LeafFacts) (claims
     → AreNames declared → Serves c (own_labels k) (own_naming declared) known
     → ServesClaims c declared claims k hypotheses → IsCitable known claims place own q [] ms
     → HaveNoVariables ms
-    → AllProve c (trees_of trees) (map (holds_text (own_naming declared)) (instances ms own))
+    → AllProve c (forest_of trees) (map (holds_text (own_naming declared)) (instances ms own))
     → Proves c (claim_tree (own_labels k) (at_places claims place own q) [] ms trees)
     (holds_text (own_naming declared) (instance ms q))
 lemma_proves c declared known claims k hypotheses place own q ms trees names w serves cited none
@@ -308,7 +309,7 @@ lemma_proves c declared known claims k hypotheses place own q ms trees names w s
     (serves.claimed (place own q) cited.claim cited.there)
     (serves.frames (place own q) cited.claim cited.there) none cited.instances
     (subst (λ (ps : List Pattern).
-    AllProve c (trees_of trees) (map (holds_text (own_naming declared)) (instances ms ps)))
+    AllProve c (forest_of trees) (map (holds_text (own_naming declared)) (instances ms ps)))
     (sym cited.hypotheses) proved)))
 
 -- a variable of a claim without hypotheses occurs in its conclusion
@@ -377,7 +378,7 @@ fact_proves c declared known claims k hypotheses place p q new names w serves ci
     (renamed_claim_proves c (own_labels k) declared known (place [] p) s new [] [] names w is
     (serves.frames (place [] p) s cited.there) tt
     (λ x y hx hy same. renames.one_to_one x y (there x hx) (there y hy) same) cited.instances
-    (subst (λ (ps : List Pattern). AllProve c (trees_of []) (map (holds_text (own_naming declared))
+    (subst (λ (ps : List Pattern). AllProve c (forest_of []) (map (holds_text (own_naming declared))
     (instances [] (map (renamed (by_place new)) ps)))) (sym cited.hypotheses) refl)))
 
 pub citing_is_sound : (c : Context) (declared : List Token) (known : LeafFacts)

@@ -13,8 +13,11 @@ use Rattle.mm_database.specs.Frames.{Hypothesis, label_of, Scope, Frame}
 use Rattle.mm_database.specs.Proofs.{hypothesis_of, ProofTree, Proves}
 use Rattle.mm_database.specs.Database.{Context, with_assertion}
 use Rattle.mm_database.specs.Assertions.{Assertion, assertions_of, typings_of}
+use Rattle.mm_database.specs.ProofText.{mandatory_labels}
+use Rattle.mm_database.specs.Compressing.{Compresses, is_compressed, all_compressed}
 use Rattle.mm_database.specs.FrameLaws.{Adds}
-use Rattle.mm_database.proofs.Continued.{continued_leaves, leaves_is_valid}
+use Rattle.mm_database.specs.Forms.{form_of}
+use Rattle.mm_database.proofs.Continued.{continued_leaves, leaves_is_valid, appended_compressed}
 use Rattle.mm_database.proofs.Stated.{appended_states}
 use Rattle.mm_header.specs.Header.{Row, header_rows}
 use Rattle.mm_header.specs.HeaderContext.{header_context, header_labels}
@@ -33,14 +36,15 @@ use Rattle.mm_claims.specs.Citable.{citable}
 use Rattle.mm_claims.specs.Variables.{Variable, object_variable, pattern_variable, are_once}
 use Rattle.mm_claims.specs.Variables.{AreNumbered, variable_token, variable_label}
 use Rattle.mm_claims.specs.Blocks.{Claim, IsClaim, head_statements, block, axiom_block}
-use Rattle.mm_claims.specs.Blocks.{theorem_block, axiom_statements, variable_float}
+use Rattle.mm_claims.specs.Blocks.{theorem_block, axiom_statements, theorem_statements}
+use Rattle.mm_claims.specs.Blocks.{variable_float}
 use Rattle.mm_claims.specs.Blocks.{premise_hypotheses, open_frame, open_assertion}
 use Rattle.mm_claims.specs.OverNames.{open_over, AreOpenOver}
 use Rattle.mm_claims.specs.Statements.{axiom_statement, theorem_statement}
-use Rattle.mm_claims.specs.Claiming.{FitsClaims, HoldsClaims, proved_statements, GainsExactly}
+use Rattle.mm_claims.specs.Claiming.{FitsClaims, HoldsClaims, IsProofOfClaim, GainsExactly}
 use Rattle.mm_claims.specs.Provable.{IsProvable}
 use Rattle.mm_claims.specs.StatementLaws.{ClaimsAreValid, HeaderFitsClaims, AxiomFits, TheoremFits}
-use Rattle.mm_claims.specs.StatementLaws.{AxiomIsGained, TheoremIsGained}
+use Rattle.mm_claims.specs.StatementLaws.{AxiomIsGained, TheoremIsGained, ClaimsAreCompressed}
 use Rattle.mm_claims.proofs.SpeltLaws.{header_spelt, hypothesis_spelt, types_spelt, postorder_spelt}
 use Rattle.mm_claims.proofs.FittingLaws.{header_holds, header_closed}
 use Rattle.mm_claims.proofs.StatedLaws.{header_no_active}
@@ -49,6 +53,7 @@ use Rattle.mm_claims.proofs.InsideLaws.{AddsAnywhere, AddsJust, Asserts, asserte
 use Rattle.mm_claims.proofs.InsideLaws.{assertion_adds, block_closes, typed_in, untyped}
 use Rattle.mm_claims.proofs.OpenTexts.{open_symbols, own_hypotheses}
 use Rattle.mm_claims.proofs.HeadTypings.{block_typed}
+use Rattle.mm_claims.proofs.CompressedTexts.{header_compressed, block_compressed}
 use Rattle.mm_claims.proofs.OpenFrames.{frame_is}
 use Rattle.mm_claims.proofs.OpenServes.{serves_inside}
 use Rattle.mm_claims.proofs.CitedLaws.{claims_sound}
@@ -60,7 +65,10 @@ use Rattle.mm_database.specs.Leaving.{DeclaresInText}
 use Rattle.mm_database.specs.StatementTexts.{written_statements}
 
 pub claims_are_valid : ClaimsAreValid
-claims_are_valid declared claims bytes (c, leaves, w) = leaves_is_valid bytes c leaves
+claims_are_valid declared claims bytes (c, leaves, w, compressed) = leaves_is_valid bytes c leaves
+
+pub claims_are_compressed : ClaimsAreCompressed
+claims_are_compressed declared claims bytes (c, leaves, w, compressed) = compressed
 
 -- the header
 
@@ -135,21 +143,25 @@ header_fits_claims = (
     labelled = header_labelled;
     no_hypothesis = header_no_active;
   },
+  header_compressed,
 )
 
 -- the context, assertions and typings of written statements are what the text has gained
 
 fits_by : (declared : List Token) (claims : List Claim) (bytes : List ℕ) (c : Context) (s : Claim)
     (vs : List Variable) (sts : List (List Token)) (a : Assertion) (hs : List Hypothesis)
-    → DeclaresInText bytes c → HoldsClaims declared claims c → length claims < 2 ^ 64
-    → IsClaim declared s
+    → DeclaresInText bytes c → HoldsClaims declared claims c → all_compressed bytes ≡ true
+    → length claims < 2 ^ 64 → IsClaim declared s
     → AddsJust c (length bytes) sts (behind_block declared (length claims) c s vs) a hs
     → FitsClaims declared (claims ++ s ∷ []) (bytes ++ written_statements sts)
-fits_by declared claims bytes c s vs sts a hs leaves w few claim just = (
+fits_by declared claims bytes c s vs sts a hs leaves w compressed few claim just = (
   behind_block declared (length claims) c s vs,
   continued_leaves bytes c (behind_block declared (length claims) c s vs) sts leaves just.adds
       leaves.closed,
   claims_hold declared claims c s vs w few claim,
+  appended_compressed bytes sts c (behind_block declared (length claims) c s vs) leaves just.adds
+      ∙ both_true (all_compressed bytes) (list_all (λ ts. is_compressed (form_of ts)) sts)
+      compressed just.compressed,
 )
 
 gained_by : (c left : Context) (bytes : List ℕ) (sts : List (List Token)) (a : Assertion) (k : ℕ)
@@ -216,6 +228,9 @@ block_adds_claim declared claims c at s more proved tokens w few claim once numb
           (untyped
           (inside_block declared (length claims) c at (s.variables ++ more) s.hypotheses)
           (statement_label k) text proved tokens says);
+      compressed =
+          block_compressed declared k vs s.hypotheses tokens w.names few numbered once over
+          claim.few says.compressed;
     }
 
 -- a claim with these parts
@@ -265,14 +280,14 @@ axiom_adds declared claims c at (v ∷ vs) ps q w few claim =
     axiom_block_adds declared claims c at (claim_of (v ∷ vs) ps q) w few claim
 
 pub axiom_fits : AxiomFits
-axiom_fits declared claims bytes s (c, leaves, w) few claim =
+axiom_fits declared claims bytes s (c, leaves, w, compressed) few claim =
     fits_by declared claims bytes c s s.variables (axiom_statements declared (length claims) s)
     (open_assertion false declared (length claims) s)
-    (map (variable_float (length claims)) s.variables) leaves w few claim
+    (map (variable_float (length claims)) s.variables) leaves w compressed few claim
     (axiom_adds declared claims c (length bytes) s.variables s.hypotheses s.conclusion w few claim)
 
 pub axiom_is_gained : AxiomIsGained
-axiom_is_gained declared claims bytes s (c, leaves, w) few claim =
+axiom_is_gained declared claims bytes s (c, leaves, w, compressed) few claim =
     gained_by c (behind_block declared (length claims) c s s.variables) bytes
     (axiom_statements declared (length claims) s)
     (open_assertion false declared (length claims) s) (length claims) s.variables leaves
@@ -344,71 +359,83 @@ theorem_proves declared claims c at s more d place premise_place w few claim pro
 
 theorem_block_adds : (declared : List Token) (claims : List Claim) (c : Context) (at : ℕ)
     (s : Claim) (more : List Variable) (d : Derivation) (place : List Pattern → Pattern → ℕ)
-    (premise_place : Pattern → ℕ) → HoldsClaims declared claims c → length claims < 2 ^ 64
-    → IsClaim declared s → IsProvable declared claims s more d place premise_place
-    → AddsJust c at (theorem_block declared (length claims) s more
-    (claim_proof (length claims) claims place premise_place d))
+    (premise_place : Pattern → ℕ) (proof : List Token) → HoldsClaims declared claims c
+    → length claims < 2 ^ 64 → IsClaim declared s
+    → IsProvable declared claims s more d place premise_place
+    → IsProofOfClaim declared (length claims) (at_places claims place) premise_place s d proof
+    → AddsJust c at (theorem_block declared (length claims) s more proof)
     (behind_block declared (length claims) c s (s.variables ++ more))
     (open_assertion true declared (length claims) s)
     (map (variable_float (length claims)) (s.variables ++ more))
-theorem_block_adds declared claims c at s more d place premise_place w few claim provable =
+theorem_block_adds declared claims c at s more d place premise_place proof w few claim provable
+    text =
     let inner : Context =
     inside_block declared (length claims) c at (s.variables ++ more) s.hypotheses in
     let tree : ProofTree = claim_proof (length claims) claims place premise_place d in
-    let proof : Proves
+    let proved : Proves
     (inside_block declared (length claims) c at (s.variables ++ more) s.hypotheses)
     (claim_proof (length claims) claims place premise_place d)
     (holds_text (own_naming declared) s.conclusion) =
     theorem_proves declared claims c at s more d place premise_place w few claim provable in
-    block_adds_claim declared claims c at s more true (theorem_statement declared (length claims)
-    s.conclusion (claim_proof (length claims) claims place premise_place d)) w few claim
+    block_adds_claim declared claims c at s more true
+    (theorem_statement declared (length claims) s.conclusion proof) w few claim
     provable.once provable.numbered
-    (theorem_asserts declared (length claims) inner s.conclusion tree few
+    (theorem_asserts declared (length claims) inner s.conclusion tree proof few
     (open_symbols declared s.variables s.conclusion w.names claim.numbered claim.over.0)
     (claim_may_be_stated declared (length claims) c at s more (ground declared claims c w few) claim
     provable.numbered)
     (postorder_spelt inner tree (holds_text (own_naming declared) s.conclusion)
     (active_spelt declared (length claims) c at (s.variables ++ more) s.hypotheses w.base
-    few provable.numbered claim.few) w.spelt proof) proof)
+    few provable.numbered claim.few) w.spelt proved) proved
+    (subst (λ (f : Frame). Compresses (mandatory_labels f)
+    (claim_proof (length claims) claims place premise_place d) proof)
+    (sym (frame_is declared (length claims) c at s more w.base w.names claim provable.once
+    provable.numbered)) text))
 
 -- in its block if it needs one
 theorem_adds : (declared : List Token) (claims : List Claim) (c : Context) (at : ℕ)
     (vs : List Variable) (ps : List Pattern) (q : Pattern) (more : List Variable)
     (d : Derivation) (place : List Pattern → Pattern → ℕ) (premise_place : Pattern → ℕ)
-    → HoldsClaims declared claims c → length claims < 2 ^ 64 → IsClaim declared (claim_of vs ps q)
+    (proof : List Token) → HoldsClaims declared claims c → length claims < 2 ^ 64
+    → IsClaim declared (claim_of vs ps q)
     → IsProvable declared claims (claim_of vs ps q) more d place premise_place
-    → AddsJust c at (proved_statements declared (length claims) (at_places claims place)
-    premise_place (claim_of vs ps q) more d)
+    → IsProofOfClaim declared (length claims) (at_places claims place) premise_place
+    (claim_of vs ps q) d proof
+    → AddsJust c at (theorem_statements declared (length claims) (claim_of vs ps q) more proof)
     (behind_block declared (length claims) c (claim_of vs ps q) (vs ++ more))
     (open_assertion true declared (length claims) (claim_of vs ps q))
     (map (variable_float (length claims)) (vs ++ more))
-theorem_adds declared claims c at [] [] q [] d place premise_place w few claim provable =
-    plain_theorem_adds declared claims c at q d place premise_place w few claim provable
-theorem_adds declared claims c at [] (p ∷ ps) q [] d place premise_place w few claim provable =
-    theorem_block_adds declared claims c at (claim_of [] (p ∷ ps) q) [] d place premise_place w few
-    claim provable
-theorem_adds declared claims c at [] ps q (v ∷ more) d place premise_place w few claim provable =
-    theorem_block_adds declared claims c at (claim_of [] ps q) (v ∷ more) d place premise_place w
-    few claim provable
-theorem_adds declared claims c at (v ∷ vs) ps q more d place premise_place w few claim provable =
-    theorem_block_adds declared claims c at (claim_of (v ∷ vs) ps q) more d place premise_place w
-    few claim provable
+theorem_adds declared claims c at [] [] q [] d place premise_place proof w few claim provable text =
+    plain_theorem_adds declared claims c at q d place premise_place proof w few claim provable text
+theorem_adds declared claims c at [] (p ∷ ps) q [] d place premise_place proof w few claim provable
+    text =
+    theorem_block_adds declared claims c at (claim_of [] (p ∷ ps) q) [] d place premise_place proof
+    w few claim provable text
+theorem_adds declared claims c at [] ps q (v ∷ more) d place premise_place proof w few claim
+    provable text =
+    theorem_block_adds declared claims c at (claim_of [] ps q) (v ∷ more) d place premise_place
+    proof w few claim provable text
+theorem_adds declared claims c at (v ∷ vs) ps q more d place premise_place proof w few claim
+    provable text =
+    theorem_block_adds declared claims c at (claim_of (v ∷ vs) ps q) more d place premise_place
+    proof w few claim provable text
 
 pub theorem_fits : TheoremFits
-theorem_fits declared claims bytes s more d place premise_place (c, leaves, w) few claim provable =
+theorem_fits declared claims bytes s more d place premise_place proof (c, leaves, w, compressed) few
+    claim provable text =
     fits_by declared claims bytes c s (s.variables ++ more)
-    (proved_statements declared (length claims) (at_places claims place) premise_place s more d)
+    (theorem_statements declared (length claims) s more proof)
     (open_assertion true declared (length claims) s)
-    (map (variable_float (length claims)) (s.variables ++ more)) leaves w few claim
+    (map (variable_float (length claims)) (s.variables ++ more)) leaves w compressed few claim
     (theorem_adds declared claims c (length bytes) s.variables s.hypotheses s.conclusion more d
-    place premise_place w few claim provable)
+    place premise_place proof w few claim provable text)
 
 pub theorem_is_gained : TheoremIsGained
-theorem_is_gained declared claims bytes s more d place premise_place (c, leaves, w) few claim
-    provable =
+theorem_is_gained declared claims bytes s more d place premise_place proof
+    (c, leaves, w, compressed) few claim provable text =
     gained_by c (behind_block declared (length claims) c s (s.variables ++ more)) bytes
-    (proved_statements declared (length claims) (at_places claims place) premise_place s more d)
+    (theorem_statements declared (length claims) s more proof)
     (open_assertion true declared (length claims) s) (length claims) (s.variables ++ more)
     leaves
     (theorem_adds declared claims c (length bytes) s.variables s.hypotheses s.conclusion more d
-    place premise_place w few claim provable)
+    place premise_place proof w few claim provable text)

@@ -16,14 +16,15 @@ use Rattle.ml_pat.specs.Leaves.{EachLeaf}
 use Rattle.ml_kernel.specs.UsedLeaves.{EachInstance, EachUsed, AllUsed}
 use Rattle.ml_kernel.specs.MayCite.{EachCited, AllCited}
 use Rattle.mm_claims.specs.Variables.{Variable, object_variable, pattern_variable, has_variable}
-use Rattle.mm_claims.specs.Variables.{are_once, AreNumbered}
 use Rattle.mm_claims.specs.Blocks.{Claim}
 use Rattle.mm_claims.specs.OverNames.{open_over, over_names}
 use Rattle.mm_claims.specs.CitedAt.{at_places, claim_at, HaveInstances, IsCitable}
 use Rattle.mm_claims.specs.Citable.{citable}
-use Rattle.mm_claims.specs.OpenVariables.{variables_in, variables_for, variables_at, variables_of}
-use Rattle.mm_claims.specs.OpenVariables.{all_variables_of, other_variables}
-use Rattle.mm_claims.specs.ClaimLaws.{NeededAreEnough}
+use Rattle.mm_claims.specs.ClaimVariables.{variables_in, other_variables}
+use Rattle.mm_claims.specs.OpenVariables.{variables_for, variables_at, variables_of}
+use Rattle.mm_claims.specs.OpenVariables.{all_variables_of}
+use Rattle.mm_claims.specs.Provable.{HaveNeeded}
+use Rattle.mm_claims.specs.ClaimLaws.{NeededAreEnough, OthersAreEnough}
 use Rattle.mm_claims.proofs.OpenCitingTexts.{case_variable, first_there, later_there}
 use Rattle.mm_claims.proofs.OpenCiting.{claim_is}
 use Rattle.mm_claims.proofs.BoolLaws.{second_true}
@@ -187,27 +188,20 @@ mutual
 
 -- Other variables after some variables, each once.
 
--- the variables of a block, with these others among them
-record HasThem (others vs : List Variable) : Type 0 where
-  once : are_once vs ≡ true
-  numbered : AreNumbered vs
-  there : Among others vs
-
-all_there : (vs us : List Variable) → are_once vs ≡ true → AreNumbered vs → AreNumbered us
-    → HasThem us (vs ++ other_variables vs us)
-all_there vs [] once numbered others =
-    subst (λ (ws : List Variable). HasThem [] ws) (sym (append-nil vs))
+pub others_are_enough : OthersAreEnough
+others_are_enough vs [] once numbered others =
+    subst (λ (ws : List Variable). HaveNeeded [] ws) (sym (append-nil vs))
     (record { once = once; numbered = numbered; there = λ v none. absurd (false≢true none) })
-all_there vs (u ∷ us) once numbered others =
-    go (has_variable vs u) refl (λ is. all_there vs us once numbered others.1)
-    (λ new. all_there (vs ++ u ∷ []) us (once_more vs u once new)
+others_are_enough vs (u ∷ us) once numbered others =
+    go (has_variable vs u) refl (λ is. others_are_enough vs us once numbered others.1)
+    (λ new. others_are_enough (vs ++ u ∷ []) us (once_more vs u once new)
     (numbered_both vs (u ∷ []) numbered (others.0, tt)) others.1)
   where
     go : (b : Bool) → has_variable vs u ≡ b
-        → (has_variable vs u ≡ true → HasThem us (vs ++ other_variables vs us))
+        → (has_variable vs u ≡ true → HaveNeeded us (vs ++ other_variables vs us))
         → (has_variable vs u ≡ false
-        → HasThem us ((vs ++ u ∷ []) ++ other_variables (vs ++ u ∷ []) us))
-        → HasThem (u ∷ us)
+        → HaveNeeded us ((vs ++ u ∷ []) ++ other_variables (vs ++ u ∷ []) us))
+        → HaveNeeded (u ∷ us)
         (vs ++ (if b then other_variables vs us else (u ∷ other_variables (vs ++ u ∷ []) us)))
     go true is old new = record {
       once = (old is).once;
@@ -217,7 +211,7 @@ all_there vs (u ∷ us) once numbered others =
           has (in_front vs (other_variables vs us) u is) ((old is).there v);
     }
     go false is old new =
-        subst (λ (ws : List Variable). HasThem (u ∷ us) ws)
+        subst (λ (ws : List Variable). HaveNeeded (u ∷ us) ws)
         (append_assoc vs (u ∷ []) (other_variables (vs ++ u ∷ []) us)) (record {
           once = (new is).once;
           numbered = (new is).numbered;
@@ -230,18 +224,12 @@ all_there vs (u ∷ us) once numbered others =
         })
 
 pub needed_are_enough : NeededAreEnough
-needed_are_enough declared claims s d place premise_place is numbered concludes used cites
-    premises =
-    let vs : List Variable =
-    s.variables ++ other_variables s.variables (variables_of (at_places claims place) d) in
-    let w : HasThem (variables_of (at_places claims place) d) vs =
-    all_there s.variables (variables_of (at_places claims place) d) is.once is.numbered
-    numbered in
+needed_are_enough declared claims s more d place premise_place w concludes used cites premises =
     record {
       once = w.once;
       numbered = w.numbered;
       concludes = concludes;
-      used = used_among declared vs claims place d w.there used;
-      cites = cited_among declared vs claims place d w.there cites;
+      used = used_among declared (s.variables ++ more) claims place d w.there used;
+      cites = cited_among declared (s.variables ++ more) claims place d w.there cites;
       premises = premises;
     }

@@ -6,15 +6,22 @@ use Rattle.std.specs.List.{list_all}
 use Rattle.std.proofs.lemmas.Bool.{false≢true}
 use Rattle.mm_text.specs.Bytes.{Token}
 use Rattle.mm_text.specs.Labels.{is_label}
-use Rattle.mm_database.specs.Forms.{asserts, proves}
+use Rattle.mm_text.specs.PlainTokens.{is_plain_token}
+use Rattle.mm_database.specs.Forms.{asserts, proves, form_of}
 use Rattle.mm_database.specs.Frames.{Frame, frame_of}
 use Rattle.mm_database.specs.Database.{Context, with_tokens, with_token, with_frame, with_assertion}
 use Rattle.mm_database.specs.Proofs.{ProofTree, Proves, postorder}
+use Rattle.mm_database.specs.ProofText.{mandatory_labels}
+use Rattle.mm_database.specs.Compressing.{Compresses, by_letters, begins_compressed}
+use Rattle.mm_database.specs.Compressing.{is_compressed}
+use Rattle.mm_database.specs.CleanTokens.{are_clean}
 use Rattle.mm_database.specs.Assertions.{with_typing_first}
 use Rattle.mm_database.specs.FrameLaws.{Adds}
 use Rattle.mm_database.specs.Writing.{MayBeStated}
 use Rattle.mm_database.proofs.WrittenForms.{plain_tokens_say, proof_tokens_say}
 use Rattle.mm_database.proofs.Continued.{axiom_is_fine, theorem_is_fine}
+use Rattle.mm_database.proofs.Compressed.{proof_text_is_plain}
+use Rattle.mm_database.proofs.LabelTokens.{label_facts}
 use Rattle.ml_pat.specs.Patterns.{Pattern}
 use Rattle.ml_kernel.specs.Theorems.{Derivation}
 use Rattle.mm_proof.specs.Tokens.{letters_of, text_by, name_of, own_naming}
@@ -22,6 +29,7 @@ use Rattle.mm_proof.specs.Labels.{name_label, statement_label, own_labels}
 use Rattle.mm_proof.specs.Serving.{IsAssertion, punctuation, Declares, Serves}
 use Rattle.mm_proof.specs.ClosedFrames.{closed_frame}
 use Rattle.mm_proof.specs.Derivations.{holds_text, derivation_tree}
+use Rattle.ml_pat.proofs.LeafLaws.{both_true}
 use Rattle.mm_proof.proofs.CitingDerivations.{cited_proves}
 use Rattle.mm_claims.specs.Statements.{typecode_of, axiom_statement, theorem_statement}
 use Rattle.mm_claims.specs.Fitting.{AreNames, Holds}
@@ -29,12 +37,11 @@ use Rattle.mm_claims.specs.Blocks.{Claim, IsClaim, open_frame, open_assertion}
 use Rattle.mm_claims.specs.OverNames.{open_over}
 use Rattle.mm_claims.specs.CitedAt.{at_places, claims_citing}
 use Rattle.mm_claims.specs.Citable.{citable}
-use Rattle.mm_claims.specs.Claiming.{HoldsClaims}
+use Rattle.mm_claims.specs.Claiming.{HoldsClaims, IsProofOfClaim}
 use Rattle.mm_claims.specs.Provable.{IsProvable}
 use Rattle.mm_claims.proofs.NameLaws.{name_facts}
-use Rattle.mm_claims.proofs.SpeltLaws.{label_facts, statement_label-is_label, header_active_spelt}
-use Rattle.mm_claims.proofs.SpeltLaws.{postorder_spelt, labels_clean, labels_plain, labels_go_on}
-use Rattle.mm_claims.proofs.SpeltLaws.{labels_uncompressed}
+use Rattle.mm_claims.proofs.SpeltLaws.{statement_label-is_label, header_active_spelt}
+use Rattle.mm_claims.proofs.SpeltLaws.{postorder_spelt}
 use Rattle.mm_claims.proofs.StatedLaws.{name_at, fixed_variables, fixed_constants, axiom_plain}
 use Rattle.mm_claims.proofs.StatedLaws.{axiom_one, theorem_plain, theorem_one}
 use Rattle.mm_claims.proofs.InsideLaws.{AddsJust, AreSymbols, Asserts, asserted, assertion_adds}
@@ -70,36 +77,50 @@ axiom_asserts declared k e p small symbols may = record {
   makes = refl;
   declares = refl;
   types_none = refl;
+  compressed =
+      ap is_compressed (plain_tokens_say (statement_label k ∷ []) asserts (codes "|-")
+      (text_by (letters_of (own_naming declared)) p) may.clean_label may.clean refl);
 }
 
 pub theorem_asserts : (declared : List Token) (k : ℕ) (e : Context) (p : Pattern) (tree : ProofTree)
-    → k < 2 ^ 64 → AreSymbols (holds_text (own_naming declared) p)
+    (proof : List Token) → k < 2 ^ 64 → AreSymbols (holds_text (own_naming declared) p)
     → MayBeStated e (statement_label k) (codes "|-") (text_by (letters_of (own_naming declared)) p)
     → list_all is_label (postorder tree) ≡ true → Proves e tree (holds_text (own_naming declared) p)
+    → Compresses (mandatory_labels
+    (frame_of e.scope (statement_label k) (holds_text (own_naming declared) p))) tree proof
     → Asserts e (statement_label k) (holds_text (own_naming declared) p) true
-    (theorem_statement declared k p tree)
-theorem_asserts declared k e p tree small symbols may spelt proof_of = record {
-  plain_ones =
-      theorem_plain (statement_label k) (holds_text (own_naming declared) p) (postorder tree)
-      (label_facts (statement_label k) (statement_label-is_label k small)).plain symbols.plain
-      (labels_plain (postorder tree) spelt);
-  one =
-      theorem_one k (holds_text (own_naming declared) p) (postorder tree)
-      (clean_go_on (holds_text (own_naming declared) p) symbols.clean)
-      (labels_go_on (postorder tree) spelt);
-  fine =
-      theorem_is_fine e (statement_label k) (codes "|-")
-      (text_by (letters_of (own_naming declared)) p) tree may proof_of
-      (labels_clean (postorder tree) spelt) (labels_uncompressed (postorder tree) spelt);
-  keyword = proves;
-  proof = postorder tree;
-  said =
-      proof_tokens_say (statement_label k ∷ []) (holds_text (own_naming declared) p)
-      (postorder tree) may.clean_label may.clean (labels_clean (postorder tree) spelt);
-  makes = refl;
-  declares = refl;
-  types_none = refl;
-}
+    (theorem_statement declared k p proof)
+theorem_asserts declared k e p tree proof small symbols may spelt proof_of text =
+    let tokens : (list_all is_plain_token proof ≡ true) × (are_clean proof ≡ true) =
+    proof_text_is_plain (mandatory_labels
+    (frame_of e.scope (statement_label k) (holds_text (own_naming declared) p))) tree proof
+    spelt (by_letters proof text) in
+    record {
+      plain_ones =
+          theorem_plain (statement_label k) (holds_text (own_naming declared) p) proof
+          (label_facts (statement_label k) (statement_label-is_label k small)).plain symbols.plain
+          tokens.0;
+      one =
+          theorem_one k (holds_text (own_naming declared) p) proof
+          (clean_go_on (holds_text (own_naming declared) p) symbols.clean)
+          (clean_go_on proof tokens.1);
+      fine =
+          theorem_is_fine e (statement_label k) (codes "|-")
+          (text_by (letters_of (own_naming declared)) p) tree proof may proof_of spelt
+          (by_letters proof text);
+      keyword = proves;
+      proof = proof;
+      said =
+          proof_tokens_say (statement_label k ∷ []) (holds_text (own_naming declared) p) proof
+          may.clean_label may.clean tokens.1;
+      makes = refl;
+      declares = refl;
+      types_none = refl;
+      compressed =
+          ap is_compressed (proof_tokens_say (statement_label k ∷ [])
+          (holds_text (own_naming declared) p) proof may.clean_label may.clean tokens.1)
+          ∙ ap begins_compressed text.is;
+    }
 
 -- a claim without variables and hypotheses
 
@@ -182,6 +203,7 @@ plain_adds declared k c at p proved tokens w names claim says =
       types =
           ap (λ o. with_typing_first o []) (untyped c (statement_label k)
           (holds_text (own_naming declared) p) proved tokens says);
+      compressed = both_true (is_compressed (form_of tokens)) true says.compressed refl;
     }
 
 -- an axiom
@@ -269,28 +291,30 @@ plain_proves declared claims c p d place premise_place w provable =
 
 pub plain_theorem_adds : (declared : List Token) (claims : List Claim) (c : Context) (at : ℕ)
     (p : Pattern) (d : Derivation) (place : List Pattern → Pattern → ℕ)
-    (premise_place : Pattern → ℕ) → HoldsClaims declared claims c → length claims < 2 ^ 64
-    → IsClaim declared (plain_claim p)
+    (premise_place : Pattern → ℕ) (proof : List Token) → HoldsClaims declared claims c
+    → length claims < 2 ^ 64 → IsClaim declared (plain_claim p)
     → IsProvable declared claims (plain_claim p) [] d place premise_place
-    → AddsJust c at (theorem_statement declared (length claims) p
-    (derivation_tree (own_labels (length claims))
-    (claims_citing (length claims) (at_places claims place) premise_place) d) ∷ [])
+    → IsProofOfClaim declared (length claims) (at_places claims place) premise_place
+    (plain_claim p) d proof
+    → AddsJust c at (theorem_statement declared (length claims) p proof ∷ [])
     (behind_block declared (length claims) c (plain_claim p) [])
     (open_assertion true declared (length claims) (plain_claim p)) []
-plain_theorem_adds declared claims c at p d place premise_place w few claim provable =
+plain_theorem_adds declared claims c at p d place premise_place proof w few claim provable text =
     let tree : ProofTree =
     derivation_tree (own_labels (length claims))
     (claims_citing (length claims) (at_places claims place) premise_place) d in
-    let proof : Proves c (derivation_tree (own_labels (length claims))
+    let proved : Proves c (derivation_tree (own_labels (length claims))
     (claims_citing (length claims) (at_places claims place) premise_place) d)
     (holds_text (own_naming declared) p) =
     plain_proves declared claims c p d place premise_place w provable in
-    plain_adds declared (length claims) c at p true (theorem_statement declared (length claims) p
-    (derivation_tree (own_labels (length claims))
-    (claims_citing (length claims) (at_places claims place) premise_place) d)) w.base
-    w.names claim
-    (theorem_asserts declared (length claims) c p tree few
+    plain_adds declared (length claims) c at p true
+    (theorem_statement declared (length claims) p proof) w.base w.names claim
+    (theorem_asserts declared (length claims) c p tree proof few
     (open_symbols declared [] p w.names tt claim.over.0)
     (plain_may_be_stated declared claims c p w few claim)
     (postorder_spelt c tree (holds_text (own_naming declared) p)
-    (header_active_spelt c w.base.scope) w.spelt proof) proof)
+    (header_active_spelt c w.base.scope) w.spelt proved) proved
+    (subst (λ (f : Frame). Compresses (mandatory_labels f)
+    (derivation_tree (own_labels (length claims))
+    (claims_citing (length claims) (at_places claims place) premise_place) d) proof)
+    (sym (plain_frame declared (length claims) c p w.base w.names claim)) text))

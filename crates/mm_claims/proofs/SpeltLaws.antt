@@ -1,20 +1,17 @@
 -- The labels of a proof are well spelled.
 use Rattle.std.proofs.Common.{◌≡◌, ℕ, ◌<◌, ◌^◌, Bool, true, false, List, [], ◌∷◌, refl, ap, ◌∙◌}
-use Rattle.std.proofs.Common.{sym, arith, map}
-use Rattle.std.specs.Prelude.{◌||◌, ◌==◌, not, if◌then◌else◌, codes, bytes_eq, Some, None}
+use Rattle.std.proofs.Common.{sym, map}
+use Rattle.std.specs.Prelude.{◌||◌, if◌then◌else◌, bytes_eq, Some, None}
 use Rattle.std.specs.List.{list_all}
 use Rattle.std.proofs.lemmas.Bool.{false≢true}
 use Rattle.std.proofs.lemmas.Slice.Eq.{bytes_eq-Decides}
-use Rattle.mm_text.specs.Bytes.{Token, has_token, class_of, is_printable_class}
+use Rattle.mm_text.specs.Bytes.{Token, has_token}
 use Rattle.mm_text.specs.Labels.{is_label_byte, is_label}
-use Rattle.mm_text.specs.Statements.{ends_statement}
-use Rattle.mm_database.specs.Forms.{has_dollar}
 use Rattle.mm_database.specs.Frames.{Hypothesis, label_of, Frame}
 use Rattle.mm_database.specs.Database.{Context}
 use Rattle.mm_database.specs.Proofs.{Expression, Leads, by_hypothesis, by_assertion, hypothesis_of}
 use Rattle.mm_database.specs.Proofs.{ProofTree, proof_node, ProofForest, no_proof, more_proofs}
 use Rattle.mm_database.specs.Proofs.{Proves, AllProve, postorder, all_postorder}
-use Rattle.mm_database.specs.Writing.{begins_compressed}
 use Rattle.mm_header.specs.Header.{Row, header_rows}
 use Rattle.mm_header.specs.HeaderContext.{header_context}
 use Rattle.mm_header.proofs.HeaderFrames.{header_only}
@@ -22,55 +19,7 @@ use Rattle.mm_proof.specs.Labels.{statement_label}
 use Rattle.ml_pat.proofs.LeafLaws.{both_true, split_true}
 use Rattle.mm_proof.proofs.LeafLaws.{list_all-append}
 use Rattle.mm_proof.proofs.Decimals.{list_all-decimal, decimal-same}
-use Rattle.mm_claims.specs.Statements.{is_name_byte}
-use Rattle.mm_claims.proofs.NameLaws.{all_printing, no_dollars, digit_of_label}
-use Rattle.mm_text.specs.PlainTokens.{is_plain_token}
-
--- what is known about the tokens of a label
-pub record LabelFacts (t : Token) : Type 0 where
-  pub plain : is_plain_token t ≡ true
-  pub clean : has_dollar t ≡ false
-  pub no_end : ends_statement t ≡ false
-  pub no_bracket : bytes_eq t (codes "(") ≡ false
-
-label_byte_prints : (b : ℕ) → is_label_byte b ≡ true → is_name_byte b ≡ true
-label_byte_prints b h = grind (arith, h)
-
-label_bytes_print : (bs : Token) → list_all is_label_byte bs ≡ true
-    → list_all is_name_byte bs ≡ true
-label_bytes_print [] h = refl
-label_bytes_print (b ∷ bs) h =
-    let both : (is_label_byte b ≡ true) × (list_all is_label_byte bs ≡ true) =
-    split_true (is_label_byte b) (list_all is_label_byte bs) h in
-    both_true (is_name_byte b) (list_all is_name_byte bs) (label_byte_prints b both.0)
-    (label_bytes_print bs both.1)
-
-no_first : (b c : ℕ) (bs cs : Token) → (b == c) ≡ false → bytes_eq (b ∷ bs) (c ∷ cs) ≡ false
-no_first b c bs cs h = rw h refl
-
-label_byte_no : (b : ℕ) → is_label_byte b ≡ true → ((b == 36) ≡ false) × ((b == 40) ≡ false)
-label_byte_no b h = (grind (arith, h), grind (arith, h))
-
-no_comment : (b : Token) (bs : Token) → bytes_eq b bs ≡ false → not (bytes_eq b bs) ≡ true
-no_comment b bs h = rw h refl
-
-pub label_facts : (t : Token) → is_label t ≡ true → LabelFacts t
-label_facts [] h = absurd (false≢true h)
-label_facts (b ∷ bs) h =
-    let first : is_label_byte b ≡ true =
-    (split_true (is_label_byte b) (list_all is_label_byte bs) h).0 in
-    let other : ((b == 36) ≡ false) × ((b == 40) ≡ false) = label_byte_no b first in
-    let prints : list_all is_name_byte (b ∷ bs) ≡ true = label_bytes_print (b ∷ bs) h in
-    record {
-      plain =
-          both_true (list_all (λ c. is_printable_class (class_of c)) (b ∷ bs)) _
-          (all_printing (b ∷ bs) prints)
-          (both_true _ _ (no_comment (b ∷ bs) (codes "$(") (no_first b 36 bs (40 ∷ []) other.0))
-          (no_comment (b ∷ bs) (codes "$)") (no_first b 36 bs (41 ∷ []) other.0)));
-      clean = no_dollars (b ∷ bs) prints;
-      no_end = no_first b 36 bs (46 ∷ []) other.0;
-      no_bracket = no_first b 40 bs [] other.1;
-    }
+use Rattle.mm_claims.proofs.NameLaws.{digit_of_label}
 
 -- the labels of the header's rows are well spelled
 
@@ -162,44 +111,6 @@ mutual
       list_all-append is_label (postorder tree) (all_postorder trees)
       (postorder_spelt c tree first active spelt proof)
       (all_postorder_spelt c trees rest active spelt all)
-
--- well spelled labels are clean tokens
-
-abbrev pub is_clean_token : Token → Bool
-is_clean_token t = not (has_dollar t)
-
-pub labels_clean : (ts : List Token) → list_all is_label ts ≡ true
-    → list_all is_clean_token ts ≡ true
-labels_clean [] h = refl
-labels_clean (t ∷ ts) h =
-    let both : (is_label t ≡ true) × (list_all is_label ts ≡ true) =
-    split_true (is_label t) (list_all is_label ts) h in
-    let here : has_dollar t ≡ false = (label_facts t both.0).clean in
-    rw here (labels_clean ts both.1)
-
-pub labels_plain : (ts : List Token) → list_all is_label ts ≡ true
-    → list_all is_plain_token ts ≡ true
-labels_plain [] h = refl
-labels_plain (t ∷ ts) h =
-    let both : (is_label t ≡ true) × (list_all is_label ts ≡ true) =
-    split_true (is_label t) (list_all is_label ts) h in
-    both_true (is_plain_token t) (list_all is_plain_token ts) (label_facts t both.0).plain
-    (labels_plain ts both.1)
-
-pub labels_go_on : (ts : List Token) → list_all is_label ts ≡ true
-    → list_all (λ t. not (ends_statement t)) ts ≡ true
-labels_go_on [] h = refl
-labels_go_on (t ∷ ts) h =
-    let both : (is_label t ≡ true) × (list_all is_label ts ≡ true) =
-    split_true (is_label t) (list_all is_label ts) h in
-    let here : ends_statement t ≡ false = (label_facts t both.0).no_end in
-    rw here (labels_go_on ts both.1)
-
-pub labels_uncompressed : (ts : List Token) → list_all is_label ts ≡ true
-    → begins_compressed ts ≡ false
-labels_uncompressed [] h = refl
-labels_uncompressed (t ∷ ts) h =
-    (label_facts t (split_true (is_label t) (list_all is_label ts) h).0).no_bracket
 
 -- the label of a statement
 

@@ -1,7 +1,7 @@
 -- Variables added one by one, each once.
 use Rattle.std.specs.Prelude.{List, ◌++◌}
 use Rattle.mm_claims.specs.Variables.{Variable}
-use Rattle.mm_claims.specs.OpenVariables.{other_variables}
+use Rattle.mm_claims.specs.ClaimVariables.{other_variables}
 
 -- some variables, and after them the others that are not among them, each once
 abbrev pub added : List Variable → List Variable → List Variable

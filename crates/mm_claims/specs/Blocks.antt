@@ -8,7 +8,6 @@ use Rattle.std.specs.List.{list_any, list_all}
 use Rattle.mm_text.specs.Bytes.{Token, has_token}
 use Rattle.mm_database.specs.Forms.{declares_variables, types_variable, separates, assumes}
 use Rattle.mm_database.specs.Frames.{Hypothesis, floating, essential, Frame}
-use Rattle.mm_database.specs.Proofs.{ProofTree}
 use Rattle.mm_database.specs.Assertions.{Assertion}
 use Rattle.ml_pat.specs.Patterns.{Pattern}
 use Rattle.mm_proof.specs.Tokens.{own_naming}
@@ -80,16 +79,16 @@ head_statements declared k vs ps =
 abbrev pub block : List (List Token) → List (List Token)
 block statements = (codes "${" ∷ []) ∷ (statements ++ (codes "$}" ∷ []) ∷ [])
 
--- an axiom, and a theorem with its proof, in which more variables may occur
+-- an axiom, and a theorem with the tokens of its proof, in which more variables may occur
 abbrev pub axiom_block : List Token → ℕ → Claim → List (List Token)
 axiom_block declared k s =
     block (head_statements declared k s.variables s.hypotheses
     ++ axiom_statement declared k s.conclusion ∷ [])
 
-abbrev pub theorem_block : List Token → ℕ → Claim → List Variable → ProofTree → List (List Token)
-theorem_block declared k s more tree =
+abbrev pub theorem_block : List Token → ℕ → Claim → List Variable → List Token → List (List Token)
+theorem_block declared k s more proof =
     block (head_statements declared k (s.variables ++ more) s.hypotheses
-    ++ theorem_statement declared k s.conclusion tree ∷ [])
+    ++ theorem_statement declared k s.conclusion proof ∷ [])
 
 -- a statement without variables and hypotheses needs no block
 abbrev pub needs_block : List Variable → List Pattern → Bool
@@ -104,11 +103,11 @@ axiom_statements declared k s =
     if needs_block s.variables s.hypotheses then axiom_block declared k s
     else (axiom_statement declared k s.conclusion ∷ [])
 
-abbrev pub theorem_statements : List Token → ℕ → Claim → List Variable → ProofTree
+abbrev pub theorem_statements : List Token → ℕ → Claim → List Variable → List Token
     → List (List Token)
-theorem_statements declared k s more tree =
-    if needs_block (s.variables ++ more) s.hypotheses then theorem_block declared k s more tree
-    else (theorem_statement declared k s.conclusion tree ∷ [])
+theorem_statements declared k s more proof =
+    if needs_block (s.variables ++ more) s.hypotheses then theorem_block declared k s more proof
+    else (theorem_statement declared k s.conclusion proof ∷ [])
 
 -- What is active in the block.
 abbrev pub variable_float : ℕ → Variable → Hypothesis

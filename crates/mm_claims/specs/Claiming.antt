@@ -6,6 +6,8 @@ use Rattle.mm_text.specs.Labels.{is_label}
 use Rattle.mm_database.specs.Frames.{Frame}
 use Rattle.mm_database.specs.Database.{Context}
 use Rattle.mm_database.specs.Proofs.{active_hypothesis}
+use Rattle.mm_database.specs.ProofText.{mandatory_labels}
+use Rattle.mm_database.specs.Compressing.{Compresses, all_compressed}
 use Rattle.mm_database.specs.Assertions.{Assertion, assertions_of, typings_of}
 use Rattle.ml_pat.specs.Patterns.{Pattern}
 use Rattle.ml_kernel.specs.Theorems.{Derivation}
@@ -14,7 +16,6 @@ use Rattle.mm_proof.specs.Derivations.{derivation_tree}
 use Rattle.mm_claims.specs.Fitting.{AreNames, Holds}
 use Rattle.mm_claims.specs.Variables.{Variable, number_of, variable_token, variable_label}
 use Rattle.mm_claims.specs.Blocks.{Claim, Stated, IsClaim, variable_float, open_frame}
-use Rattle.mm_claims.specs.Blocks.{theorem_statements}
 use Rattle.mm_claims.specs.CitedAt.{claims_citing}
 use Rattle.mm_database.specs.Leaving.{DeclaresInText}
 
@@ -44,18 +45,20 @@ pub record HoldsClaims (declared : List Token) (claims : List Claim) (c : Contex
   pub no_hypothesis : (label : Token) (f : Frame) → c.frames label ≡ Some f
       → active_hypothesis c label ≡ None
 
--- a text that fits these names and claims
+-- a text that fits these names and claims, and in which each `$p` has a compressed proof
 abbrev pub FitsClaims : List Token → List Claim → List ℕ → Type 0
 FitsClaims declared claims bytes =
     (c : Context) × DeclaresInText bytes c × HoldsClaims declared claims c
+    × (all_compressed bytes ≡ true)
 
--- what is written for a theorem with a derivation, whose citations are found by `find` and
--- `premise_place`
-abbrev pub proved_statements : List Token → ℕ → (List Pattern → Pattern → Stated) → (Pattern → ℕ)
-    → Claim → List Variable → Derivation → List (List Token)
-proved_statements declared k find premise_place s more d =
-    theorem_statements declared k s more
-    (derivation_tree (own_labels k) (claims_citing k find premise_place) d)
+-- The tokens are a compressed proof of the claim with a number by a derivation, whose citations are
+-- found by `find` and `premise_place`. The mandatory labels are those of the variables of the claim,
+-- and then those of its hypotheses; other variables of the proof are not among them.
+abbrev pub IsProofOfClaim : List Token → ℕ → (List Pattern → Pattern → Stated) → (Pattern → ℕ)
+    → Claim → Derivation → List Token → Type 0
+IsProofOfClaim declared k find premise_place s d proof =
+    Compresses (mandatory_labels (open_frame declared k s))
+    (derivation_tree (own_labels k) (claims_citing k find premise_place) d) proof
 
 -- What a text has gained with a statement after it: exactly this assertion, and the typings of
 -- these variables in its block.

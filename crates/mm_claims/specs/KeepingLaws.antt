@@ -1,6 +1,7 @@
 -- What fits after the header and after more names.
 use Rattle.std.specs.Prelude.{◌≡◌, ℕ, ◌<◌, ◌≤◌, ◌^◌, true, List, [], ◌++◌, length, drop}
 use Rattle.mm_text.specs.Bytes.{Token}
+use Rattle.mm_database.specs.Compressing.{all_compressed}
 use Rattle.mm_header.specs.HeaderText.{header_bytes}
 use Rattle.ml_pat.specs.Named.{AreDistinct}
 use Rattle.mm_claims.specs.Rendered.{Rendered, nothing_rendered, header_rendered}
@@ -12,6 +13,11 @@ use Rattle.mm_database.specs.StatementTexts.{written_statements}
 -- the empty text fits a new renderer
 abbrev pub EmptyFits : Type 0
 EmptyFits = (names : List Token) → Fits names nothing_rendered []
+
+-- each `$p` of a text that fits has a compressed proof
+abbrev pub FitsIsCompressed : Type 0
+FitsIsCompressed = (names : List Token) (k : Rendered) (bytes : List ℕ) → Fits names k bytes
+    → all_compressed bytes ≡ true
 
 -- if a text fits a new renderer, then with the header after it, it fits a renderer that has written
 -- only the header

@@ -9,10 +9,11 @@ pub mod Variables
 pub mod Blocks
 pub mod CitedAt
 pub mod Claiming
-pub mod OpenVariables
 pub mod ClaimVariables
 -- Laws: what follows from that. Each is a clause of a function that does nothing.
 pub mod Citable
+pub mod OpenVariables
+pub mod PremiseLabels
 pub mod Provable
 pub mod OpenCiting
 pub mod OpenCases

@@ -12,7 +12,8 @@ use Rattle.mm_proof.specs.Derivations.{derivation_tree}
 use Rattle.mm_claims.specs.Variables.{object_variable, pattern_variable}
 use Rattle.mm_claims.specs.Blocks.{Claim}
 use Rattle.mm_claims.specs.CitedAt.{at_places, claims_citing}
-use Rattle.mm_claims.specs.OpenVariables.{variables_of, other_variables}
+use Rattle.mm_claims.specs.OpenVariables.{variables_of}
+use Rattle.mm_claims.specs.ClaimVariables.{other_variables}
 
 -- the hypothesis of a small claim: x implies m; the claim concludes that each predecessor of x is
 -- one of m

@@ -13,7 +13,8 @@ use Rattle.mm_proof.specs.Tokens.{Naming, own_naming}
 use Rattle.mm_proof.specs.Judgements.{holds}
 use Rattle.mm_proof.specs.Labels.{statement_label, premise_label, own_labels}
 use Rattle.ml_pat.specs.KnownLeaves.{Known, are_known}
-use Rattle.mm_proof.specs.Trees.{trees_of, cite}
+use Rattle.mm_proof.specs.Trees.{cite}
+use Rattle.proof_nodes.specs.Tables.{forest_of}
 use Rattle.mm_proof.specs.Derivations.{holds_text, derivation_tree}
 use Rattle.mm_proof.specs.SoundCiting.{CitesSoundly}
 use Rattle.ml_kernel.specs.UsedLeaves.{EachUsed}
@@ -46,7 +47,7 @@ ClaimsAreCited =
     AreNames declared → Serves c l (own_naming declared) (are_known known) → IsClaim declared s
     → IsAssertion c (statement_label i) (open_frame declared i s) →
     HaveNoVariables ms → HaveInstances (are_known known) [] ms s.variables →
-    AllProve c (trees_of trees) (map (holds_text (own_naming declared)) (instances ms s.hypotheses))
+    AllProve c (forest_of trees) (map (holds_text (own_naming declared)) (instances ms s.hypotheses))
     →
     Proves c (cite (statement_label i) (map (variable_tree l [] ms) s.variables ++ trees))
     (holds_text (own_naming declared) (instance ms s.conclusion))

@@ -1,29 +1,18 @@
 -- The variables that a derivation needs in its block: those that occur in what is written for it.
 -- With these variables it can be written after a text that fits, if all that it uses besides them
 -- is declared names.
-use Rattle.std.specs.Prelude.{ℕ, if◌then◌else◌, List, [], ◌∷◌, ◌++◌, flat_map}
-use Rattle.ml_pat.specs.Patterns.{Pattern, nullary, unary, binary, sorted, quantified, var, meta}
-use Rattle.ml_pat.specs.Patterns.{constant}
+use Rattle.std.specs.Prelude.{ℕ, List, [], ◌∷◌, ◌++◌, flat_map}
+use Rattle.ml_pat.specs.Patterns.{Pattern, meta}
 use Rattle.ml_kernel.specs.Lemmas.{instance}
 use Rattle.ml_kernel.specs.Renamings.{by_place}
 use Rattle.ml_kernel.specs.Rules.{Instance, pattern, variable, sort}
 use Rattle.ml_kernel.specs.Theorems.{Derivation, Derivations, hypothesis, own_axiom, by_rule, cited}
 use Rattle.ml_kernel.specs.Theorems.{no_derivation, more_derivations}
-use Rattle.mm_claims.specs.Variables.{Variable, object_variable, pattern_variable, has_variable}
+use Rattle.mm_claims.specs.Variables.{Variable, object_variable, pattern_variable}
 use Rattle.mm_claims.specs.Blocks.{Stated}
+use Rattle.mm_claims.specs.ClaimVariables.{variables_in}
 
--- the variables that occur in a pattern, bound or free, one after another
-abbrev pub variables_in : Pattern → List Variable
-variables_in (nullary c) = []
-variables_in (binary c p q) = variables_in p ++ variables_in q
-variables_in (unary c p) = variables_in p
-variables_in (sorted c p s) = variables_in p
-variables_in (quantified c x s p) = object_variable x ∷ variables_in p
-variables_in (var x) = object_variable x ∷ []
-variables_in (meta i) = pattern_variable i ∷ []
-variables_in (constant c) = []
-
--- those in what is substituted for a variable of a rule, and for a variable of a claim
+-- the variables in what is substituted for a variable of a rule, and for a variable of a claim
 abbrev pub variables_for : Instance → List Variable
 variables_for (pattern p) = variables_in p
 variables_for (variable x) = object_variable x ∷ []
@@ -46,9 +35,3 @@ abbrev mutual
   pub all_variables_of : (List Pattern → Pattern → Stated) → Derivations → List Variable
   all_variables_of find no_derivation = []
   all_variables_of find (more_derivations d ds) = variables_of find d ++ all_variables_of find ds
-
--- those of some variables that are not among others, each once, in the order of first occurrence
-abbrev pub other_variables : List Variable → List Variable → List Variable
-other_variables vs [] = []
-other_variables vs (u ∷ us) =
-    if has_variable vs u then other_variables vs us else (u ∷ other_variables (vs ++ u ∷ []) us)

@@ -8,10 +8,9 @@ use Rattle.ml_kernel.specs.MayCite.{MayCite, EachCited}
 use Rattle.mm_claims.specs.Rendered.{Rendered, all_stated}
 use Rattle.mm_claims.specs.OverNames.{over_names, AreOverNames}
 use Rattle.mm_claims.specs.Variables.{Variable}
-use Rattle.mm_claims.specs.Blocks.{Stated, open_assertion}
+use Rattle.mm_claims.specs.Blocks.{Stated, theorem_statements, open_assertion}
 use Rattle.mm_claims.specs.CitedAt.{ArePremises}
-use Rattle.mm_claims.specs.Claiming.{proved_statements}
-use Rattle.mm_claims.specs.OpenVariables.{variables_of, other_variables}
+use Rattle.mm_claims.specs.Claiming.{IsProofOfClaim}
 use Rattle.mm_claims.specs.ClaimVariables.{claim_of, claim_variables}
 use Rattle.mm_claims.specs.Keeping.{Gains}
 use Rattle.mm_database.specs.StatementTexts.{written_statements}
@@ -48,32 +47,29 @@ Finds claims find =
     (hypotheses : List Pattern) (conclusion : Pattern) → IsStated claims hypotheses conclusion →
     IsFoundAs claims hypotheses conclusion (find hypotheses conclusion)
 
--- The variables that the proof of a lemma has in its block, in addition to those of the lemma.
-abbrev pub more_variables : (List Pattern → Pattern → Stated) → Theorem → List Variable
-more_variables find t =
-    other_variables (claim_variables t.hypotheses t.conclusion) (variables_of find t.derivation)
+-- a lemma as the theorem with a number, with more variables in its block and with its proof
+abbrev pub lemma_statements : List Token → ℕ → Theorem → List Variable → List Token
+    → List (List Token)
+lemma_statements names k t more proof =
+    theorem_statements names k (claim_of t.hypotheses t.conclusion) more proof
 
--- a lemma as the theorem with a number, whose citations are found by `find` and `premise_place`
-abbrev pub lemma_statements : List Token → ℕ → (List Pattern → Pattern → Stated) → (Pattern → ℕ)
-    → Theorem → List (List Token)
-lemma_statements names k find premise_place t =
-    proved_statements names k find premise_place (claim_of t.hypotheses t.conclusion)
-    (more_variables find t)
-    t.derivation
-
--- A lemma was stated. Its statements were appended, and each citation in them has the label of the
--- claim, or of the place of the hypothesis. If the lemma may be proved, exactly this theorem is
--- gained.
+-- A lemma was stated. Its statements were appended. Its proof is that of its derivation, and each
+-- citation in it has the label of the claim, or of the place of the hypothesis. If the lemma may be
+-- proved, exactly this theorem is gained, and the typings of its variables and of those that occur
+-- only in its proof.
 pub record StatesLemma (names : List Token) (old new : Rendered) (t : Theorem)
     (text text' : List ℕ) : Type 0 where
   pub find : List Pattern → Pattern → Stated
   pub premise_place : Pattern → ℕ
+  pub more : List Variable
+  pub proof : List Token
   pub finds : Finds (all_stated old) find
   pub premises : ArePremises t.hypotheses premise_place
+  pub proves : IsProofOfClaim names old.count find premise_place
+      (claim_of t.hypotheses t.conclusion) t.derivation proof
   pub appended : text'
-      ≡ text ++ written_statements (lemma_statements names old.count find premise_place t)
+      ≡ text ++ written_statements (lemma_statements names old.count t more proof)
   pub gains : MayProve names old t →
-      Gains names old new
-      (written_statements (lemma_statements names old.count find premise_place t))
-      (claim_variables t.hypotheses t.conclusion ++ more_variables find t)
+      Gains names old new (written_statements (lemma_statements names old.count t more proof))
+      (claim_variables t.hypotheses t.conclusion ++ more)
       (open_assertion true (take old.named names) old.count (claim_of t.hypotheses t.conclusion))

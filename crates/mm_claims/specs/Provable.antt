@@ -6,11 +6,18 @@ use Rattle.ml_kernel.specs.Theorems.{Derivation}
 use Rattle.ml_kernel.specs.Concluding.{Concludes}
 use Rattle.ml_kernel.specs.UsedLeaves.{EachUsed}
 use Rattle.ml_kernel.specs.MayCite.{EachCited}
-use Rattle.mm_claims.specs.Variables.{Variable, are_once, AreNumbered}
+use Rattle.mm_claims.specs.Variables.{Variable, has_variable, are_once, AreNumbered}
 use Rattle.mm_claims.specs.Blocks.{Claim}
 use Rattle.mm_claims.specs.OverNames.{open_over}
 use Rattle.mm_claims.specs.CitedAt.{ArePremises}
 use Rattle.mm_claims.specs.Citable.{citable}
+
+-- The variables of a block have numbers, each of them is there once, and the variables that a proof
+-- needs are among them.
+pub record HaveNeeded (needed vs : List Variable) : Type 0 where
+  pub once : are_once vs ≡ true
+  pub numbered : AreNumbered vs
+  pub there : (v : Variable) → has_variable needed v ≡ true → has_variable vs v ≡ true
 
 -- A theorem that may be claimed. Its derivation from its hypotheses uses only what is declared and
 -- the variables of the block, and cites only what was claimed before.

@@ -17,8 +17,8 @@ axiom_text = codes "t.0 $a |- ( \\app f:f f:a ) $.\n"
 -- a lemma that cites the axiom
 abbrev pub lemma_text : List ℕ
 lemma_text =
-    codes "t.1 $p |- ( \\ev ( \\app f:f f:a ) ) $= n.2 n.1 w.app n.2 n.1 w.app w.ev t.0 n.2 "
-    ++ codes "n.1 w.app ev.1 mp $.\n"
+    codes "t.1 $p |- ( \\ev ( \\app f:f f:a ) ) $= ( n.2 n.1 w.app w.ev t.0 ev.1 mp ) "
+    ++ codes "ABCZHDEHFG $.\n"
 
 -- a lemma with two variables and a hypothesis, one that cites it for the symbol, and one whose
 -- proof has a variable that the lemma does not have
@@ -27,20 +27,18 @@ hypothesis_block =
     codes "${\n$v x:0 $.\nx.0.0 $f #Var x:0 $.\n$v m:0 $.\n"
     ++ codes "m.0.0 $f #Pattern m:0 $.\n$d x:0 m:0 $.\n"
     ++ codes "e.0.0 $e |- ( \\imp x:0 m:0 ) $.\nt.0 $p |- ( \\imp ( \\next x:0 ) ( \\next m:0 ) ) "
-    ++ codes "$= x.0.0 w.var m.0.0 e.0.0 next.in $.\n$}\n"
+    ++ codes "$= ( w.var next.in ) ADBCE $.\n$}\n"
 
 abbrev pub citing_block : List ℕ
 citing_block =
     codes "${\n$v x:0 $.\nx.1.0 $f #Var x:0 $.\ne.1.0 $e |- ( \\imp x:0 f:a ) $.\n"
-    ++ codes "t.1 $p |- ( \\imp ( \\next x:0 ) ( \\next f:a ) ) $= x.1.0 n.1 e.1.0 t.0 $.\n"
+    ++ codes "t.1 $p |- ( \\imp ( \\next x:0 ) ( \\next f:a ) ) $= ( n.1 t.0 ) ACBD $.\n"
     ++ codes "$}\n"
 
 abbrev pub variable_block : List ℕ
 variable_block =
     codes "${\n$v m:3 $.\nm.2.3 $f #Pattern m:3 $.\n"
-    ++ codes "t.2 $p |- \\top $= m.2.3 m.2.3 m.2.3 w.imp w.imp w.top m.2.3 m.2.3 p.1 w.top m.2.3 "
-    ++ codes "m.2.3 m.2.3 w.imp w.imp w.top w.imp top w.top m.2.3 m.2.3 m.2.3 w.imp w.imp p.1 mp "
-    ++ codes "mp $.\n$}\n"
+    ++ codes "t.2 $p |- \\top $= ( m.2.3 w.imp w.top p.1 top mp ) AAABBZCAADCGCBECGDFF $.\n$}\n"
 
 -- an instance of a pattern: the variable does not occur in its first part; in its second part it is
 -- free and then bound
@@ -51,16 +49,9 @@ instance_block =
     ++ codes "$d x:0 x:1 $.\n$d x:0 x:1 m:0 $.\nt.3 $p |- ( \\imp ( \\all x:0 s:S ( \\imp ( \\ex "
     ++ codes "x:1 s:S ( \\app x:1 m:0 ) ) ( \\app x:0 ( \\all x:0 s:S ( \\fun x:0 s:S ) ) ) ) ) ( "
     ++ codes "\\imp ( \\fun f:a s:S ) ( \\imp ( \\ex x:1 s:S ( \\app x:1 m:0 ) ) ( \\app f:a ( "
-    ++ codes "\\all x:0 s:S ( \\fun x:0 s:S ) ) ) ) ) ) $= x.3.1 w.var m.3.0 w.app x.3.1 n.0 w.ex "
-    ++ codes "x.3.0 w.var x.3.0 w.var n.0 w.fun x.3.0 n.0 w.all w.app w.imp n.1 x.3.1 w.var m.3.0 "
-    ++ codes "w.app x.3.1 n.0 w.ex n.1 x.3.0 w.var n.0 w.fun x.3.0 n.0 w.all w.app w.imp x.3.0 "
-    ++ codes "n.0 x.3.1 w.var m.3.0 w.app x.3.1 n.0 w.ex x.3.0 w.var x.3.0 w.var n.0 w.fun x.3.0 "
-    ++ codes "n.0 w.all w.app n.1 x.3.0 w.var n.0 w.fun x.3.0 n.0 w.all w.app x.3.1 w.var m.3.0 "
-    ++ codes "w.app x.3.1 n.0 w.ex n.1 x.3.0 x.3.1 w.var m.3.0 w.app x.3.1 n.0 w.ex n.1 x.3.0 "
-    ++ codes "x.3.1 w.var m.3.0 w.app x.3.1 n.0 w.ex x.3.0 fr.d su.f x.3.0 w.var x.3.0 w.var n.0 "
-    ++ codes "w.fun x.3.0 n.0 w.all x.3.0 w.var n.0 w.fun x.3.0 n.0 w.all n.1 n.1 x.3.0 n.1 x.3.0 "
-    ++ codes "su.v x.3.0 w.var n.0 w.fun x.3.0 n.0 w.all n.1 x.3.0 x.3.0 w.var n.0 w.fun x.3.0 "
-    ++ codes "n.0 fr.allb su.f su.app su.imp inst $.\n$}\n"
+    ++ codes "\\all x:0 s:S ( \\fun x:0 s:S ) ) ) ) ) ) $= ( w.var w.app n.0 w.ex w.fun w.all "
+    ++ codes "w.imp n.1 fr.d su.f su.v fr.allb su.app su.imp inst ) "
+    ++ codes "BDCEBFGZADZTFHZAFIZEZJKSKUBEZJAFSUCUDSKASKASALMTUBUBKKAKANUBKAUAAFOMPQR $.\n$}\n"
 
 -- after the header, of 5968 bytes, there is no fault; without the axiom that it cites, the proof of
 -- the lemma has a text that does not name steps

@@ -1,6 +1,7 @@
 -- What follows for statements after a text that fits.
-use Rattle.std.specs.Prelude.{ℕ, ◌<◌, ◌^◌, true, false, List, [], ◌∷◌, ◌++◌, length}
+use Rattle.std.specs.Prelude.{◌≡◌, ℕ, ◌<◌, ◌^◌, true, false, List, [], ◌∷◌, ◌++◌, length}
 use Rattle.mm_text.specs.Bytes.{Token}
+use Rattle.mm_database.specs.Compressing.{all_compressed}
 use Rattle.mm_database.specs.Validity.{IsValid}
 use Rattle.mm_header.specs.HeaderText.{header_bytes}
 use Rattle.ml_pat.specs.Patterns.{Pattern}
@@ -10,8 +11,9 @@ use Rattle.mm_claims.specs.Statements.{all_name_statements}
 use Rattle.mm_claims.specs.Fitting.{AreNames}
 use Rattle.mm_claims.specs.Variables.{Variable}
 use Rattle.mm_claims.specs.Blocks.{Claim, IsClaim, open_assertion, axiom_statements}
+use Rattle.mm_claims.specs.Blocks.{theorem_statements}
 use Rattle.mm_claims.specs.CitedAt.{at_places}
-use Rattle.mm_claims.specs.Claiming.{FitsClaims, proved_statements, GainsExactly}
+use Rattle.mm_claims.specs.Claiming.{FitsClaims, IsProofOfClaim, GainsExactly}
 use Rattle.mm_claims.specs.Provable.{IsProvable}
 use Rattle.mm_database.specs.StatementTexts.{written_statements}
 
@@ -19,6 +21,11 @@ use Rattle.mm_database.specs.StatementTexts.{written_statements}
 abbrev pub ClaimsAreValid : Type 0
 ClaimsAreValid = (declared : List Token) (claims : List Claim) (bytes : List ℕ)
     → FitsClaims declared claims bytes → IsValid bytes
+
+-- each of its `$p` has a compressed proof
+abbrev pub ClaimsAreCompressed : Type 0
+ClaimsAreCompressed = (declared : List Token) (claims : List Claim) (bytes : List ℕ)
+    → FitsClaims declared claims bytes → all_compressed bytes ≡ true
 
 -- the header fits if there are no names and no claims
 abbrev pub HeaderFitsClaims : Type 0
@@ -43,19 +50,17 @@ AxiomFits =
     FitsClaims declared (claims ++ s ∷ [])
     (bytes ++ written_statements (axiom_statements declared (length claims) s))
 
--- the same is true of a theorem
+-- the same is true of a theorem with its compressed proof
 abbrev pub TheoremFits : Type 0
 TheoremFits =
     (declared : List Token) (claims : List Claim) (bytes : List ℕ) (s : Claim)
     (more : List Variable) (d : Derivation) (place : List Pattern → Pattern → ℕ)
-    (premise_place : Pattern → ℕ) →
+    (premise_place : Pattern → ℕ) (proof : List Token) →
     FitsClaims declared claims bytes → length claims < 2 ^ 64 → IsClaim declared s
     → IsProvable declared claims s more d place premise_place →
+    IsProofOfClaim declared (length claims) (at_places claims place) premise_place s d proof →
     FitsClaims declared (claims ++ s ∷ [])
-    (bytes
-    ++ written_statements
-    (proved_statements declared (length claims) (at_places claims place) premise_place s
-    more d))
+    (bytes ++ written_statements (theorem_statements declared (length claims) s more proof))
 
 abbrev pub AxiomIsGained : Type 0
 AxiomIsGained =
@@ -69,10 +74,10 @@ abbrev pub TheoremIsGained : Type 0
 TheoremIsGained =
     (declared : List Token) (claims : List Claim) (bytes : List ℕ) (s : Claim)
     (more : List Variable) (d : Derivation) (place : List Pattern → Pattern → ℕ)
-    (premise_place : Pattern → ℕ) →
+    (premise_place : Pattern → ℕ) (proof : List Token) →
     FitsClaims declared claims bytes → length claims < 2 ^ 64 → IsClaim declared s
     → IsProvable declared claims s more d place premise_place →
+    IsProofOfClaim declared (length claims) (at_places claims place) premise_place s d proof →
     GainsExactly bytes
-    (written_statements (proved_statements declared (length claims) (at_places claims place)
-    premise_place s more
-    d)) (length claims) (s.variables ++ more) (open_assertion true declared (length claims) s)
+    (written_statements (theorem_statements declared (length claims) s more proof))
+    (length claims) (s.variables ++ more) (open_assertion true declared (length claims) s)

@@ -4,7 +4,6 @@ use Rattle.std.specs.Prelude.{◌∷◌, ◌++◌, codes}
 use Rattle.std.specs.List.{list_all}
 use Rattle.mm_text.specs.Bytes.{Token, is_printable}
 use Rattle.mm_database.specs.Forms.{declares_constants, asserts}
-use Rattle.mm_database.specs.Proofs.{ProofTree, postorder}
 use Rattle.ml_pat.specs.Patterns.{Pattern}
 use Rattle.mm_proof.specs.Tokens.{own_naming}
 use Rattle.mm_proof.specs.Labels.{name_label, statement_label}
@@ -50,11 +49,11 @@ all_name_statements i [] = []
 all_name_statements i (token ∷ tokens) =
     name_statements i token ++ all_name_statements (i + 1) tokens
 
--- an axiom, and a theorem with its proof
+-- an axiom, and a theorem with the tokens of its proof
 abbrev pub axiom_statement : List Token → ℕ → Pattern → List Token
 axiom_statement declared k p =
     plain_tokens (statement_label k ∷ []) asserts (holds_text (own_naming declared) p)
 
-abbrev pub theorem_statement : List Token → ℕ → Pattern → ProofTree → List Token
-theorem_statement declared k p tree =
-    proof_tokens (statement_label k ∷ []) (holds_text (own_naming declared) p) (postorder tree)
+abbrev pub theorem_statement : List Token → ℕ → Pattern → List Token → List Token
+theorem_statement declared k p proof =
+    proof_tokens (statement_label k ∷ []) (holds_text (own_naming declared) p) proof

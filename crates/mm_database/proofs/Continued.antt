@@ -1,24 +1,28 @@
 -- A text that is written statement by statement.
-use Rattle.std.proofs.Common.{◌≡◌, ℕ, Bool, true, false, List, [], ◌∷◌, ◌++◌, length, refl, ap, ◌∙◌}
-use Rattle.std.proofs.Common.{sym, subst}
-use Rattle.std.specs.Prelude.{◌&&◌, ◌||◌, if◌then◌else◌, Option, Some, None, IfSome, is_some}
-use Rattle.std.specs.Prelude.{option_map}
+use Rattle.std.proofs.Common.{◌≡◌, ℕ, ◌+◌, Bool, true, false, List, [], ◌∷◌, ◌++◌, length, refl, ap}
+use Rattle.std.proofs.Common.{◌∙◌, sym, subst, arith}
+use Rattle.std.specs.Prelude.{◌&&◌, if◌then◌else◌, Option, Some, None, IfSome, option_map}
 use Rattle.std.specs.List.{list_all}
 use Rattle.mm_text.specs.Bytes.{Token, is_white}
-use Rattle.mm_text.specs.Statements.{is_whole}
+use Rattle.mm_text.specs.Statements.{is_whole, Statements, no_statement, unended, bad_statement}
+use Rattle.mm_text.specs.Statements.{next_statement, statement, statements_from, statements_of}
+use Rattle.mm_text.specs.TextLaws.{end_well, followed_by}
+use Rattle.mm_text.proofs.Appending.{appended_text}
+use Rattle.mm_text.proofs.Writing.{written_statement}
 use Rattle.mm_database.specs.Forms.{Form, asserts, proves, plain, form_of}
-use Rattle.mm_database.specs.Frames.{Frame, frame_of}
-use Rattle.mm_database.specs.Database.{Context}
-use Rattle.mm_database.specs.Proofs.{Expression, Leads, by_hypothesis, by_assertion, ProofTree}
-use Rattle.mm_database.specs.Proofs.{proof_node, ProofForest, no_proof, more_proofs, Proves}
-use Rattle.mm_database.specs.Proofs.{AllProve, postorder, all_postorder}
-use Rattle.mm_database.specs.Steps.{Step, BuildsAndProves}
-use Rattle.mm_database.specs.ProofText.{is_citable, proof_steps}
+use Rattle.mm_database.specs.Frames.{frame_of}
+use Rattle.mm_database.specs.Database.{Context, empty_context, context_after}
+use Rattle.mm_database.specs.Steps.{Step}
+use Rattle.mm_database.specs.ProofText.{mandatory_labels}
+use Rattle.mm_database.specs.Compressing.{is_compressed, are_compressed}
 use Rattle.mm_database.specs.Validity.{IsProved, Task, task, theorem_task, form_fault, is_typed}
-use Rattle.mm_database.specs.Writing.{LeavesIsValid, ContinuedLeaves, AxiomIsFine}
-use Rattle.mm_database.specs.Writing.{begins_compressed, TheoremIsFine}
-use Rattle.mm_database.proofs.Building.{citing, postorder-builds, built-one}
-use Rattle.mm_database.proofs.Texts.{appended_is_fine, written_is_fine}
+use Rattle.mm_database.specs.FrameLaws.{Adds}
+use Rattle.mm_database.specs.Writing.{LeavesIsValid, ContinuedLeaves, AxiomIsFine, TheoremIsFine}
+use Rattle.mm_database.specs.Writing.{AppendedCompressed}
+use Rattle.mm_database.specs.CleanTokens.{are_clean}
+use Rattle.mm_database.proofs.Compressed.{HasSteps, text_has_steps, steps_prove}
+use Rattle.mm_database.proofs.Compressed.{proof_text_is_plain}
+use Rattle.mm_database.proofs.Texts.{appended_is_fine, written_is_fine, end_well-HaveNoFault}
 use Rattle.mm_database.proofs.WrittenForms.{plain_tokens_say, proof_tokens_say}
 use Rattle.mm_text.specs.Written.{ends_white, white_after, written}
 use Rattle.mm_database.specs.StatementTexts.{written_statements, plain_tokens, proof_tokens}
@@ -88,89 +92,68 @@ axiom_is_fine c label typecode symbols w =
 
 -- a `$p`
 
-and_true : (a b : Bool) → a ≡ true → b ≡ true → (a && b) ≡ true
-and_true a b h k = rw (h, k) refl
-
-list_all-append : (test : Token → Bool) (xs ys : List Token) → list_all test xs ≡ true
-    → list_all test ys ≡ true → list_all test (xs ++ ys) ≡ true
-list_all-append test [] ys h k = k
-list_all-append test (x ∷ xs) ys h k = go (test x) h (list_all-append test xs ys)
-  where
-    go : (b : Bool) → (b && list_all test xs) ≡ true
-        → (list_all test xs ≡ true → list_all test ys ≡ true → list_all test (xs ++ ys) ≡ true)
-        → (b && list_all test (xs ++ ys)) ≡ true
-    go true all behind = behind all k
-    go false all behind = absurd (cc)
-
-is_citable-Leads : {c : Context} {label : Token} {given : List Expression} {result : Expression}
-    → Leads c label given result → is_citable c label ≡ true
-is_citable-Leads {c = c} {label = label} (by_hypothesis h is) =
-    ap (λ o. is_some o || is_some (c.frames label)) is
-is_citable-Leads {c = c} {label = label} (by_assertion f sigma given result none is applies) =
-    ap (λ o. is_some o || is_some (c.frames label)) none ∙ ap (λ (o : Option Frame). is_some o) is
-
-mutual
-  postorder-citable : (c : Context) (tree : ProofTree) (result : Expression) → Proves c tree result
-      → list_all (is_citable c) (postorder tree) ≡ true
-  postorder-citable c (proof_node label trees) result (given, leads, all) =
-      list_all-append (is_citable c) (all_postorder trees) (label ∷ [])
-      (all_postorder-citable c trees given all)
-      (and_true (is_citable c label) true (is_citable-Leads leads) refl)
-
-  all_postorder-citable : (c : Context) (trees : ProofForest) (results : List Expression)
-      → AllProve c trees results → list_all (is_citable c) (all_postorder trees) ≡ true
-  all_postorder-citable c no_proof results h = refl
-  all_postorder-citable c (more_proofs tree trees) results (first, rest, is, proof, all) =
-      list_all-append (is_citable c) (postorder tree) (all_postorder trees)
-      (postorder-citable c tree first proof) (all_postorder-citable c trees rest all)
-
--- labels that may all be cited are the labels of a proof as they are
-proof_steps-plain : (c : Context) (f : Frame) (token : Token) (tokens : List Token)
-    → list_all (is_citable c) (token ∷ tokens) ≡ true → begins_compressed (token ∷ tokens) ≡ false
-    → proof_steps c f (token ∷ tokens) ≡ Some (citing (token ∷ tokens))
-proof_steps-plain c f token tokens citable plain_proof = rw (plain_proof, citable) refl
-
-has_last : (xs : List Token) (label : Token) → xs ++ label ∷ [] ≡ [] → ⊥
-has_last [] label h = cc
-has_last (x ∷ xs) label h = cc
-
-proof_steps-tree : (c : Context) (f : Frame) (tree : ProofTree) (result : Expression)
-    → Proves c tree result → begins_compressed (postorder tree) ≡ false
-    → proof_steps c f (postorder tree) ≡ Some (citing (postorder tree))
-proof_steps-tree c f (proof_node label trees) result proof plain_proof =
-    go (all_postorder trees ++ label ∷ []) (has_last (all_postorder trees) label)
-    (postorder-citable c (proof_node label trees) result proof) plain_proof
-  where
-    go : (ls : List Token) → (ls ≡ [] → ⊥) → list_all (is_citable c) ls ≡ true
-        → begins_compressed ls ≡ false → proof_steps c f ls ≡ Some (citing ls)
-    go [] some citable p = absurd (some refl)
-    go (token ∷ tokens) some citable p = proof_steps-plain c f token tokens citable p
-
 pub theorem_is_fine : TheoremIsFine
-theorem_is_fine c label typecode symbols tree w proves_it clean plain_proof =
-    let said : form_of (proof_tokens (label ∷ []) (typecode ∷ symbols) (postorder tree)) ≡ Some
-    (plain (label ∷ []) proves (typecode ∷ symbols) (postorder tree)) =
-    proof_tokens_say (label ∷ []) (typecode ∷ symbols) (postorder tree) w.clean_label w.clean
-    clean in
-    let done : theorem_task c (label ∷ []) (typecode ∷ symbols) (postorder tree) ≡ Some
-    (record { conclusion = typecode ∷ symbols; steps = citing (postorder tree) }) =
+theorem_is_fine c label typecode symbols tree proof w proves_it spelt text =
+    let clean : are_clean proof ≡ true =
+    (proof_text_is_plain (mandatory_labels (frame_of c.scope label (typecode ∷ symbols))) tree proof
+    spelt text).1 in
+    let said : form_of (proof_tokens (label ∷ []) (typecode ∷ symbols) proof) ≡ Some
+    (plain (label ∷ []) proves (typecode ∷ symbols) proof) =
+    proof_tokens_say (label ∷ []) (typecode ∷ symbols) proof w.clean_label w.clean clean in
+    let has : HasSteps c (frame_of c.scope label (typecode ∷ symbols)) tree proof =
+    text_has_steps c (frame_of c.scope label (typecode ∷ symbols)) tree (typecode ∷ symbols) proof
+    proves_it spelt text in
+    let done : theorem_task c (label ∷ []) (typecode ∷ symbols) proof ≡ Some
+    (record { conclusion = typecode ∷ symbols; steps = has.steps }) =
     ap (λ (o : Option (List (Step Token))). option_map (λ (ss : List (Step Token)).
-    let t : Task = record { conclusion = typecode ∷ symbols; steps = ss } in t) o)
-    (proof_steps-tree c (frame_of c.scope label (typecode ∷ symbols)) tree (typecode ∷ symbols)
-    proves_it plain_proof) in
-    let well : form_fault c (Some (plain (label ∷ []) proves (typecode ∷ symbols) (postorder tree)))
-    ≡ None =
+    let t : Task = record { conclusion = typecode ∷ symbols; steps = ss } in t) o) has.means in
+    let well : form_fault c (Some (plain (label ∷ []) proves (typecode ∷ symbols) proof)) ≡ None =
     rw (w.typed, w.constant, w.new, done) refl in
-    let proof : BuildsAndProves c (citing (postorder tree)) ((typecode ∷ symbols) ∷ []) =
-    record {
-      forest = more_proofs tree no_proof;
-      saved = [];
-      builds = built-one [] (citing (postorder tree)) tree [] (postorder-builds tree []);
-      proves = (typecode ∷ symbols, [], refl, proves_it, refl);
-    } in
     record {
       form = ap (form_fault c) said ∙ well;
       proof =
           subst (λ (o : Option Form). IfSome (task c o) (IsProved c)) (sym said)
-          (subst (λ (o : Option Task). IfSome o (IsProved c)) (sym done) proof);
+          (subst (λ (o : Option Task). IfSome o (IsProved c)) (sym done)
+          (steps_prove (typecode ∷ symbols) proves_it has));
     }
+
+-- compressed proofs
+
+and_assoc : (a b c : Bool) → ((a && b) && c) ≡ (a && (b && c))
+and_assoc true b c = refl
+and_assoc false b c = refl
+
+are_compressed-followed : (statements more : Statements) → end_well statements ≡ true
+    → are_compressed (followed_by statements more)
+    ≡ (are_compressed statements && are_compressed more)
+are_compressed-followed no_statement more h = refl
+are_compressed-followed (unended at) more h = absurd (cc)
+are_compressed-followed (bad_statement f) more h = absurd (cc)
+are_compressed-followed (next_statement s statements) more h =
+    ap (λ b. is_compressed (form_of s.tokens) && b) (are_compressed-followed statements more h)
+    ∙ sym (and_assoc (is_compressed (form_of s.tokens)) (are_compressed statements)
+    (are_compressed more))
+
+written_compressed : (c : Context) (at : ℕ) (statements : List (List Token)) (left : Context)
+    → Adds c at statements left
+    → are_compressed (statements_from at (written_statements statements))
+    ≡ list_all (λ ts. is_compressed (form_of ts)) statements
+written_compressed c at [] left same = refl
+written_compressed c at (tokens ∷ statements) left (plain_ones, one, fine, behind) =
+    ap are_compressed (written_statement at tokens (written_statements statements) plain_ones one)
+    ∙ ap (λ b. is_compressed (form_of tokens) && b)
+    (written_compressed (context_after c (statement at tokens)) (at + length (written tokens))
+    statements left behind)
+
+pub appended_compressed : AppendedCompressed
+appended_compressed text statements c left w adds =
+    let well : end_well (statements_of text) ≡ true =
+    end_well-HaveNoFault empty_context c (statements_of text) w.fine in
+    let place : 0 + length text ≡ length text = omega arith in
+    ap are_compressed (appended_text 0 text (written_statements statements) w.white well)
+    ∙ are_compressed-followed (statements_of text)
+    (statements_from (0 + length text) (written_statements statements)) well
+    ∙ ap (λ (n : ℕ). are_compressed (statements_of text)
+    && are_compressed (statements_from n (written_statements statements))) place
+    ∙ ap (λ b. are_compressed (statements_of text) && b)
+    (written_compressed c (length text) statements left adds)

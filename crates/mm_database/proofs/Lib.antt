@@ -7,6 +7,8 @@ pub mod Faults
 pub mod Texts
 pub mod Stated
 pub mod WrittenForms
+pub mod LabelTokens
+pub mod Compressed
 pub mod Continued
 pub mod TypedOnce
 pub mod ClosedFrames

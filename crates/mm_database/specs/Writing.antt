@@ -1,13 +1,16 @@
 -- Laws on a text that is written statement by statement: the context after it, and which statements
 -- may follow.
-use Rattle.std.specs.Prelude.{◌≡◌, ℕ, Bool, true, false, List, [], ◌∷◌, ◌++◌, length, codes}
-use Rattle.std.specs.Prelude.{bytes_eq}
+use Rattle.std.specs.Prelude.{◌≡◌, ℕ, true, false, ◌&&◌, List, [], ◌∷◌, ◌++◌, length}
 use Rattle.std.specs.List.{list_all}
 use Rattle.mm_text.specs.Bytes.{Token, has_token}
-use Rattle.mm_database.specs.Forms.{asserts}
+use Rattle.mm_text.specs.Labels.{is_label}
+use Rattle.mm_text.specs.PlainTokens.{is_plain_token}
+use Rattle.mm_database.specs.Forms.{asserts, form_of}
 use Rattle.mm_database.specs.Frames.{Hypothesis, floating, essential, Scope, frame_of}
 use Rattle.mm_database.specs.Database.{Context}
 use Rattle.mm_database.specs.Proofs.{ProofTree, Proves, postorder}
+use Rattle.mm_database.specs.ProofText.{mandatory_labels}
+use Rattle.mm_database.specs.Compressing.{IsProofText, is_compressed, all_compressed}
 use Rattle.mm_database.specs.Validity.{is_typed, is_new_label, HasNoFault, IsValid}
 use Rattle.mm_database.specs.FrameLaws.{Adds}
 use Rattle.mm_database.specs.StatementTexts.{written_statements, plain_tokens, proof_tokens}
@@ -41,17 +44,31 @@ AxiomIsFine =
     → MayBeStated c label typecode symbols →
     HasNoFault c (plain_tokens (label ∷ []) asserts (typecode ∷ symbols))
 
-abbrev pub begins_compressed : List Token → Bool
-begins_compressed [] = false
-begins_compressed (token ∷ tokens) = bytes_eq token (codes "(")
-
--- such a `$p` has no fault either, if its proof is the labels of a tree that proves it
+-- such a `$p` has no fault either, if its proof is the text of a tree that proves it, and the labels
+-- of the tree are well spelled
 abbrev pub TheoremIsFine : Type 0
 TheoremIsFine =
-    (c : Context) (label typecode : Token) (symbols : List Token) (tree : ProofTree) →
-    MayBeStated c label typecode symbols → Proves c tree (typecode ∷ symbols) →
-    are_clean (postorder tree) ≡ true → begins_compressed (postorder tree) ≡ false →
-    HasNoFault c (proof_tokens (label ∷ []) (typecode ∷ symbols) (postorder tree))
+    (c : Context) (label typecode : Token) (symbols : List Token) (tree : ProofTree)
+    (proof : List Token) → MayBeStated c label typecode symbols →
+    Proves c tree (typecode ∷ symbols) → list_all is_label (postorder tree) ≡ true →
+    IsProofText (mandatory_labels (frame_of c.scope label (typecode ∷ symbols))) tree proof →
+    HasNoFault c (proof_tokens (label ∷ []) (typecode ∷ symbols) proof)
+
+-- the tokens of such a proof are plain and have no `$`
+abbrev pub ProofTextIsPlain : Type 0
+ProofTextIsPlain =
+    (mandatory : List Token) (tree : ProofTree) (proof : List Token) →
+    list_all is_label (postorder tree) ≡ true → IsProofText mandatory tree proof →
+    (list_all is_plain_token proof ≡ true) × (are_clean proof ≡ true)
+
+-- each `$p` of a text without fault that ends with white space, and of written statements after
+-- it, has a compressed proof if and only if this is so in the text and in the statements
+abbrev pub AppendedCompressed : Type 0
+AppendedCompressed =
+    (text : List ℕ) (statements : List (List Token)) (c left : Context) → DeclaresInText text c →
+    Adds c (length text) statements left →
+    all_compressed (text ++ written_statements statements)
+    ≡ (all_compressed text && list_all (λ ts. is_compressed (form_of ts)) statements)
 
 -- each of these hypotheses is a `$f` of a variable that does not occur among the symbols
 abbrev pub AreUnneeded : List Token → List Hypothesis → Type 0

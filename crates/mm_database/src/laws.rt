@@ -5,8 +5,9 @@ ghost use Rattle.mm_database.specs.FrameLaws.{FineWhereActive, FirstFaultIsCompu
 ghost use Rattle.mm_database.specs.FrameLaws.{LabelsArePostorder, PlainTokensSay, ProofTokensSay};
 ghost use Rattle.mm_database.specs.FrameLaws.{StacksAreForests, ValidIsFaultless, WrittenIsFine};
 ghost use Rattle.mm_database.specs.Orderly.{EmptyIsOrderly, OrderlyAfter};
-ghost use Rattle.mm_database.specs.Writing.{AxiomIsFine, ClosedHasNone, ContinuedLeaves};
-ghost use Rattle.mm_database.specs.Writing.{LeavesIsValid, TheoremIsFine};
+ghost use Rattle.mm_database.specs.Writing.{AppendedCompressed, AxiomIsFine, ClosedHasNone};
+ghost use Rattle.mm_database.specs.Writing.{ContinuedLeaves, LeavesIsValid, ProofTextIsPlain};
+ghost use Rattle.mm_database.specs.Writing.{TheoremIsFine};
 
 /// On some small texts, the definitions agree with the Metamath book: on which texts are valid, and
 /// on the first fault of the others. Each kind of fault occurs at least once.
@@ -30,6 +31,7 @@ pub fn proof_laws()
 
 /// A valid text stays valid if statements are appended that have no fault in what the text
 /// declares. It then also states what they state. Written statements are read as they are written.
+/// A `$p` has no fault if its proof is the text of a tree that proves it, in either notation.
 pub fn database_laws()
     ensures appended { AppendedIsFine }
     ensures states { AppendedStates }
@@ -40,5 +42,7 @@ pub fn database_laws()
     ensures continued { ContinuedLeaves }
     ensures axiom { AxiomIsFine }
     ensures theorem { TheoremIsFine }
+    ensures proof_text { ProofTextIsPlain }
+    ensures compressed { AppendedCompressed }
     ensures closed { ClosedHasNone }
 {}

@@ -1,5 +1,5 @@
 -- Texts that gain allowed assertions, and what stays true when names and statements are added.
-use Rattle.std.proofs.Common.{◌≡◌, ℕ, Bool, true, false, List, [], ◌∷◌, ◌++◌, map, Some, length}
+use Rattle.std.proofs.Common.{◌≡◌, ℕ, Bool, true, false, List, [], ◌∷◌, ◌++◌, map, length}
 use Rattle.std.proofs.Common.{take, drop, zero, suc, refl, ap, sym, ◌∙◌, subst}
 use Rattle.ml_pat.specs.Named.{AreDistinct, IsNoneOf}
 use Rattle.mm_claims.specs.Fitting.{AreNames}
@@ -20,7 +20,7 @@ use Rattle.mm_claims.specs.Blocks.{Claim, variable_float, open_frame, open_asser
 use Rattle.mm_claims.specs.Claiming.{GainsExactly}
 use Rattle.mm_claims.specs.ClaimVariables.{claim_of, claim_variables}
 use Rattle.mm_claims.specs.Keeping.{FitsWhen, Fits, Gains}
-use Rattle.mm_claims.specs.Places.{lemma_statements, more_variables}
+use Rattle.mm_claims.specs.Places.{lemma_statements}
 use Rattle.mm_justify.specs.Stating.{holds_text}
 use Rattle.mm_justify.specs.Justifying.{assumption_of, AreAllowed, AreTypings, HasOnlyAxiomsOf}
 use Rattle.mm_justify.specs.Justifying.{Justifies}
@@ -103,21 +103,21 @@ same_appended buffer xs ys same =
 pub theorem_has_only : TheoremHasOnly
 theorem_has_only theory names old new t buffer buffer' text appended states is may fits only =
     let written : List ℕ =
-    written_statements (lemma_statements names old.count states.find states.premise_place t) in
+    written_statements (lemma_statements names old.count t states.more states.proof) in
     let same : written_statements
-    (lemma_statements names old.count states.find states.premise_place t) ≡ appended =
+    (lemma_statements names old.count t states.more states.proof) ≡ appended =
     same_appended buffer written appended (sym states.appended ∙ is) in
     subst (λ (bytes : List ℕ). HasOnlyAxiomsOf theory (text ++ bytes)) same
     (theorem_behind theory names old new (claim_of t.hypotheses t.conclusion)
-    (claim_variables t.hypotheses t.conclusion ++ more_variables states.find t) text written
+    (claim_variables t.hypotheses t.conclusion ++ states.more) text written
     (states.gains may) fits only)
 
 pub theorem_fits_anywhere : TheoremFitsAnywhere
 theorem_fits_anywhere names old new t buffer buffer' text appended states is may fits =
     let written : List ℕ =
-    written_statements (lemma_statements names old.count states.find states.premise_place t) in
+    written_statements (lemma_statements names old.count t states.more states.proof) in
     let same : written_statements
-    (lemma_statements names old.count states.find states.premise_place t) ≡ appended =
+    (lemma_statements names old.count t states.more states.proof) ≡ appended =
     same_appended buffer written appended (sym states.appended ∙ is) in
     subst (λ (bytes : List ℕ). Fits names new (text ++ bytes)) same
     ((states.gains may).fits text fits)
@@ -173,12 +173,12 @@ pub theorem_justifies : TheoremJustifies
 theorem_justifies theory names old new t buffer buffer' text appended a b states is may fits only
     tokens distinct none concludes closed =
     let written : List ℕ =
-    written_statements (lemma_statements names old.count states.find states.premise_place t) in
+    written_statements (lemma_statements names old.count t states.more states.proof) in
     let same : written_statements
-    (lemma_statements names old.count states.find states.premise_place t) ≡ appended =
+    (lemma_statements names old.count t states.more states.proof) ≡ appended =
     same_appended buffer written appended (sym states.appended ∙ is) in
     let vs : List Variable =
-    claim_variables t.hypotheses t.conclusion ++ more_variables states.find t in
+    claim_variables t.hypotheses t.conclusion ++ states.more in
     subst (λ (bytes : List ℕ). Justifies (text ++ bytes) theory (take old.named names) a b) same
     (justifies_behind theory names old new t.conclusion vs text written a b
     (subst (λ (hs : List Pattern). Gains names old new written vs

@@ -1,10 +1,9 @@
 -- How the counts of a text grow.
-use Rattle.std.proofs.Common.{◌≡◌, ℕ, ◌+◌, Bool, true, false, cond, List, [], ◌∷◌, ◌++◌, length}
-use Rattle.std.proofs.Common.{take, refl, sym, ap, ◌∙◌, subst, arith, length-append}
+use Rattle.std.proofs.Common.{◌≡◌, ℕ, ◌+◌, Bool, true, List, [], ◌∷◌, ◌++◌, length}
+use Rattle.std.proofs.Common.{take, refl, sym, ap, ◌∙◌, subst, length-append}
 use Rattle.std.specs.Prelude.{count_by, if◌then◌else◌}
 use Rattle.std.proofs.Math.Nat.{add-zero}
 use Rattle.std.proofs.lemmas.List.Sums.{sum_by-append, sum_by-cons}
-use Rattle.mm_text.specs.Bytes.{Token}
 use Rattle.mm_database.specs.Assertions.{Assertion, assertions_of}
 use Rattle.mm_database.specs.StatementTexts.{written_statements}
 use Rattle.mm_claims.specs.Variables.{Variable}
@@ -12,7 +11,7 @@ use Rattle.mm_claims.specs.Claiming.{GainsExactly}
 use Rattle.mm_claims.specs.Blocks.{open_assertion}
 use Rattle.mm_claims.specs.ClaimVariables.{claim_of}
 use Rattle.mm_claims.specs.Places.{lemma_statements}
-use Rattle.mm_justify.specs.Counting.{is_fact, fact_count, statement_count}
+use Rattle.mm_justify.specs.Counting.{is_fact}
 use Rattle.mm_justify.specs.CountingLaws.{AddsCounts, TheoremCounts}
 use Rattle.mm_justify.proofs.Allowing.{same_appended}
 
@@ -46,9 +45,9 @@ counts_one bytes appended k vs a just =
 pub theorem_counts : TheoremCounts
 theorem_counts names old new t buffer buffer' text appended states is may fits =
     let written : List ℕ =
-    written_statements (lemma_statements names old.count states.find states.premise_place t) in
+    written_statements (lemma_statements names old.count t states.more states.proof) in
     let same : written_statements
-    (lemma_statements names old.count states.find states.premise_place t) ≡ appended =
+    (lemma_statements names old.count t states.more states.proof) ≡ appended =
     same_appended buffer written appended (sym states.appended ∙ is) in
     subst (λ (bytes : List ℕ). AddsCounts 0 1 text (text ++ bytes)) same
     (counts_one text written old.count _

@@ -166,7 +166,7 @@ gained_behind : (done more : List Token) (claims : List Claim) (bytes : List ℕ
     → length (done ++ more) < 2 ^ 64
     → GainsNames bytes (bytes ++ written_statements (all_name_statements (length done) more))
     (length done) more
-gained_behind done more claims bytes (c, leaves, w) names distinct few =
+gained_behind done more claims bytes (c, leaves, w, compressed) names distinct few =
     let appended : List ℕ = written_statements (all_name_statements (length done) more) in
     let gains : (assertions_of (bytes ++ appended)
     ≡ assertions_of bytes ++ assertions_in c (statements_from (length bytes) appended)) ×

@@ -1,6 +1,6 @@
 -- Which axioms of a program are counted as facts.
-use Rattle.std.proofs.Common.{◌≡◌, ℕ, ◌+◌, ◌<◌, Bool, true, false, List, [], ◌∷◌, ◌++◌, length}
-use Rattle.std.proofs.Common.{take, Option, Some, None, inl, inr, refl, sym, ap, ◌∙◌, subst}
+use Rattle.std.proofs.Common.{◌≡◌, ℕ, ◌+◌, Bool, true, false, List, [], ◌∷◌, ◌++◌, length}
+use Rattle.std.proofs.Common.{take, Some, None, inl, inr, refl, sym, ap, ◌∙◌, subst}
 use Rattle.std.specs.Prelude.{◌&&◌, if◌then◌else◌, filter, bytes_eq}
 use Rattle.std.specs.List.{list_any}
 use Rattle.std.proofs.lemmas.Bool.{false≢true}
@@ -32,15 +32,13 @@ use Rattle.ml_image.specs.TrueFacts.{value_patterns, IsTrueFact, of_value, of_ho
 use Rattle.mm_claims.specs.OverNames.{closed_over}
 use Rattle.mm_claims.specs.Blocks.{open_frame, open_assertion}
 use Rattle.mm_claims.specs.ClaimVariables.{claim_of, claim_variables}
-use Rattle.mm_claims.specs.Rendered.{Rendered}
-use Rattle.mm_claims.specs.Keeping.{Fits, Gains}
 use Rattle.mm_claims.proofs.ClosedPatterns.{closed_frame_has_none}
 use Rattle.mm_justify.specs.Stating.{holds_text, holds_frame}
 use Rattle.mm_justify.specs.Justifying.{typecode_in, premises_in, SaysNoMore, header_row}
 use Rattle.mm_justify.specs.Justifying.{declaration, assumption_of}
 use Rattle.ml_image.specs.Assumed.{IsAssumed}
 use Rattle.mm_justify.specs.Counting.{begins_as_fact, has_none, is_fact}
-use Rattle.mm_justify.specs.CountingLaws.{FactsAreTrue, TrueFactsAreFacts, IsFrameOfFact}
+use Rattle.mm_justify.specs.CountingLaws.{FactsAreTrue, TrueFactsAreFacts}
 use Rattle.mm_justify.specs.CountingLaws.{is_fact_form, AddsCounts, AxiomCounts}
 use Rattle.mm_justify.proofs.ImageLeaves.{Known, two_leaves, sorted_leaves, sort_fact, term_leaves}
 use Rattle.mm_justify.proofs.ImageLeaves.{sentence_has_no_meta}

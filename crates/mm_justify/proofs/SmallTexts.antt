@@ -10,6 +10,8 @@ use Rattle.std.proofs.lemmas.Slice.Eq.{bytes_eq-Decides}
 use Rattle.mm_text.specs.Bytes.{Token, has_token}
 use Rattle.mm_database.specs.Forms.{declares_constants, asserts}
 use Rattle.mm_database.specs.Assertions.{assertions_of}
+use Rattle.mm_database.specs.Proofs.{proof_node, no_proof, more_proofs}
+use Rattle.mm_database.specs.Steps.{cites, by_label, no_steps, more_steps}
 use Rattle.mm_header.specs.Header.{Row, header_rows}
 use Rattle.mm_header.specs.HeaderText.{header_bytes}
 use Rattle.mm_header.specs.HeaderRows.{expression_of}
@@ -37,14 +39,18 @@ use Rattle.ml_image.specs.OwnTokens.{is_symbol_token}
 use Rattle.ml_image.proofs.ImageLaws.{none_some, some_same}
 use Rattle.ml_pat.specs.Leaves.{EachLeaf}
 use Rattle.mm_proof.specs.Tokens.{name_of}
+use Rattle.mm_proof.specs.Labels.{name_label}
+use Rattle.ml_pat.proofs.LeafLaws.{both_true}
+use Rattle.mm_claims.proofs.BoolLaws.{either_true}
+use Rattle.mm_claims.proofs.StatedLaws.{itself}
 use Rattle.mm_justify.specs.Stating.{holds_text}
 use Rattle.mm_justify.proofs.StatedFrames.{all_names}
 use Rattle.mm_claims.specs.Statements.{symbol_name, typecode_of, all_name_statements}
 use Rattle.mm_claims.specs.Fitting.{AreNames}
 use Rattle.mm_claims.specs.OverNames.{closed_over}
-use Rattle.mm_claims.specs.Blocks.{Claim, IsClaim, open_frame, open_assertion}
+use Rattle.mm_claims.specs.Blocks.{Claim, IsClaim, open_frame, open_assertion, theorem_statements}
 use Rattle.mm_claims.specs.CitedAt.{at_places, ArePremises}
-use Rattle.mm_claims.specs.Claiming.{FitsClaims, proved_statements, GainsExactly}
+use Rattle.mm_claims.specs.Claiming.{FitsClaims, IsProofOfClaim, GainsExactly}
 use Rattle.mm_claims.specs.Provable.{IsProvable}
 use Rattle.mm_justify.specs.Justifying.{header_row, declaration, assumption_of, HasOnlyAxiomsOf}
 use Rattle.mm_justify.specs.Justifying.{Justifies}
@@ -83,10 +89,33 @@ no_premise p = 0
 abbrev declarations : List ℕ
 declarations = written_statements (all_name_statements 0 names)
 
+-- the proof lists its two labels
+abbrev proof : List Token
+proof =
+    codes "(" ∷ (name_label 0 ∷ (codes "ev.1" ∷ (codes ")" ∷ (codes "AB" ∷ []))))
+
+compressed : IsProofOfClaim names 0 (at_places [] nowhere) no_premise claim one_rule proof
+compressed = record {
+  listed = name_label 0 ∷ codes "ev.1" ∷ [];
+  letters = codes "AB";
+  steps = cites (name_label 0) ∷ cites (codes "ev.1") ∷ [];
+  saved = [];
+  is = refl;
+  once = refl;
+  others = refl;
+  used =
+      both_true (has_token (name_label 0 ∷ codes "ev.1" ∷ []) (name_label 0)) true
+      (either_true (bytes_eq (name_label 0) (name_label 0)) _ (itself (name_label 0))) refl;
+  means = refl;
+  builds =
+      by_label [] (cites (name_label 0) ∷ []) (codes "ev.1")
+      (more_proofs (proof_node (name_label 0) no_proof) no_proof) []
+      (more_steps [] (cites (name_label 0) ∷ []) (proof_node (name_label 0) no_proof) [] []
+      no_proof [] (by_label [] [] (name_label 0) no_proof [] (no_steps [])) (no_steps []));
+}
+
 abbrev theorem : List ℕ
-theorem =
-    written_statements
-    (proved_statements names 0 (at_places [] nowhere) no_premise claim [] one_rule)
+theorem = written_statements (theorem_statements names 0 claim [] proof)
 
 are_names : AreNames names
 are_names = (record { kind = symbol_name; rest = codes "a"; is = refl; bytes = refl }, tt)
@@ -136,7 +165,8 @@ spelt_with digits =
     ∷ plain_tokens ((codes "n." ++ digits) ∷ []) asserts (codes "#Pattern" ∷ codes "f:a" ∷ [])
     ∷ [])
     ++ written_statements (proof_tokens ((codes "t." ++ digits) ∷ [])
-    (holds_text names reached) ((codes "n." ++ digits) ∷ codes "ev.1" ∷ [])
+    (holds_text names reached) (codes "(" ∷ (codes "n." ++ digits) ∷ codes "ev.1" ∷ codes ")"
+    ∷ codes "AB" ∷ [])
     ∷ [])
 
 spelt_behind : declarations ++ theorem ≡ spelt_with (decimal 0)
@@ -161,12 +191,12 @@ small_text_justifies theory f there =
     declared_behind theory [] names [] header_bytes header_fits_claims are_names (tt, tt)
     (omega arith) (is_symbol_token f there, tt) (header_has_only theory) in
     let fits : FitsClaims names (claim ∷ []) ((header_bytes ++ declarations) ++ theorem) =
-    theorem_fits names [] (header_bytes ++ declarations) claim [] one_rule nowhere no_premise
-    declared_fits (omega arith) is_claim provable in
+    theorem_fits names [] (header_bytes ++ declarations) claim [] one_rule nowhere no_premise proof
+    declared_fits (omega arith) is_claim provable compressed in
     let just : GainsExactly (header_bytes ++ declarations) theorem 0 []
     (open_assertion true names 0 claim) =
     theorem_is_gained names [] (header_bytes ++ declarations) claim [] one_rule nowhere
-    no_premise declared_fits (omega arith) is_claim provable in
+    no_premise proof declared_fits (omega arith) is_claim provable compressed in
     subst (λ (bytes : List ℕ). Justifies bytes theory names (constant 0) (constant 0)) text_spelt
     (record {
       valid = claims_are_valid names (claim ∷ []) ((header_bytes ++ declarations) ++ theorem) fits;

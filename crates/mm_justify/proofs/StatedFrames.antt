@@ -16,9 +16,9 @@ use Rattle.mm_claims.specs.Statements.{IsName as IsClaimedName, NameKind, sort_n
 use Rattle.mm_claims.specs.Statements.{value_name, kind_front}
 use Rattle.mm_claims.specs.Fitting.{AreNames}
 use Rattle.mm_claims.specs.Variables.{Variable, object_variable, is_object, same_variable}
-use Rattle.mm_claims.specs.Variables.{has_variable, variable_token, variable_type, variable_tokens}
+use Rattle.mm_claims.specs.Variables.{has_variable, variable_token, variable_tokens}
 use Rattle.mm_claims.specs.Variables.{object_tokens}
-use Rattle.mm_claims.specs.OpenVariables.{variables_in as all_variables_in, other_variables}
+use Rattle.mm_claims.specs.ClaimVariables.{variables_in as all_variables_in, other_variables}
 use Rattle.mm_claims.specs.Blocks.{variable_float, open_frame, are_apart as are_claimed_apart}
 use Rattle.mm_claims.specs.ClaimVariables.{claim_of, claim_variables}
 use Rattle.mm_claims.proofs.VariableLaws.{same_is}

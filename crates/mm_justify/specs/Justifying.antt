@@ -6,6 +6,7 @@ use Rattle.std.specs.Prelude.{Contains, Option, Some, None, bytes_eq, codes}
 use Rattle.mm_text.specs.Bytes.{Token, has_token}
 use Rattle.mm_database.specs.Frames.{Hypothesis, floating, essential, Frame}
 use Rattle.mm_database.specs.Assertions.{Assertion, assertions_of, typings_of}
+use Rattle.mm_database.specs.Compressing.{all_compressed}
 use Rattle.mm_database.specs.Validity.{IsValid}
 use Rattle.mm_header.specs.Header.{Row, header_rows}
 use Rattle.mm_header.specs.HeaderRows.{IsFrameOfRow}
@@ -111,7 +112,14 @@ pub record JustifiesRun (bytes : List ℕ) (theory : RewriteTheory) (start end :
   pub to_image : image_of theory.sig names end ≡ Some to
   pub justifies : Justifies bytes theory names from to
 
--- the bytes are the front of a database that justifies a run from the start to some end
+-- A database is a proof of a run: it justifies the run, and each of its `$p`s has a compressed
+-- proof.
+pub record IsProofOfRun (bytes : List ℕ) (theory : RewriteTheory) (start end : RulePattern) :
+    Type 0 where
+  pub justifies : JustifiesRun bytes theory start end
+  pub compressed : all_compressed bytes ≡ true
+
+-- the bytes are the front of a proof of a run from the start to some end
 abbrev pub IsFrontOfProof : RewriteTheory → RulePattern → List ℕ → Type 0
 IsFrontOfProof theory start bytes =
-    (end : RulePattern) × ((rest : List ℕ) × JustifiesRun (bytes ++ rest) theory start end)
+    (end : RulePattern) × ((rest : List ℕ) × IsProofOfRun (bytes ++ rest) theory start end)

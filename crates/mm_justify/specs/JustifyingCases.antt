@@ -14,8 +14,8 @@ use Rattle.mm_justify.specs.Justifying.{SaysNoMore, IsAxiomOf, JustifiesRun}
 -- the header, the declaration of a symbol, and a theorem on it
 abbrev pub small_text : List ℕ
 small_text = header_bytes
-    ++ codes
-    "$c f:a $.\nn.0 $a #Pattern f:a $.\nt.0 $p |- ( \\imp f:a ( \\ev f:a ) ) $= n.0 ev.1 $.\n"
+    ++ (codes "$c f:a $.\nn.0 $a #Pattern f:a $.\n"
+    ++ codes "t.0 $p |- ( \\imp f:a ( \\ev f:a ) ) $= ( n.0 ev.1 ) AB $.\n")
 
 -- a constant
 abbrev pub alone : ℕ → RulePattern

@@ -8,7 +8,7 @@ use Rattle.ml_kernel.specs.Theorems.{Derivation, Derivations, hypothesis, own_ax
 use Rattle.ml_kernel.specs.Theorems.{no_derivation, more_derivations}
 use Rattle.ml_kernel.specs.Concluding.{Concludes, AllConclude}
 use Rattle.mm_proof.specs.Tokens.{Naming}
-use Rattle.mm_proof.specs.Trees.{trees_of}
+use Rattle.proof_nodes.specs.Tables.{forest_of}
 use Rattle.ml_pat.specs.Leaves.{LeafFacts}
 use Rattle.mm_proof.specs.Serving.{Serves}
 use Rattle.mm_proof.specs.Derivations.{holds_text, Citing, derivation_tree, derivation_trees}
@@ -40,7 +40,7 @@ mutual
   cited_prove : (c : Context) (l n : Naming) (known : LeafFacts) (hyps : List Pattern) (k : MayCite)
       (s : Citing) → Serves c l n known → CitesSoundly c n hyps k s
       → (ds : Derivations) (ps : List Pattern) → AllConclude hyps ds ps → AllUsed known ds
-      → AllCited k ds → AllProve c (trees_of (derivation_trees l s ds)) (map (holds_text n) ps)
+      → AllCited k ds → AllProve c (forest_of (derivation_trees l s ds)) (map (holds_text n) ps)
   cited_prove c l n known hyps k s w sound no_derivation [] every used cites = refl
   cited_prove c l n known hyps k s w sound no_derivation (p ∷ ps) every used cites = absurd every
   cited_prove c l n known hyps k s w sound (more_derivations d ds) [] every used cites =

@@ -15,4 +15,6 @@ pub mod WrittenTogether
 pub mod Decimals
 pub mod AgreeLaws
 pub mod CitingDerivations
-pub mod EntryLaws
+pub mod TextStacking
+pub mod TableLaws
+pub mod KnownLaws

@@ -7,7 +7,8 @@ use Rattle.mm_database.specs.Proofs.{Expression, instance_of, keeps_apart, Proof
 use Rattle.mm_database.specs.Proofs.{AllProve, symbols_apart}
 use Rattle.mm_database.specs.Stack.{bindings_of, text_of}
 use Rattle.mm_proof.specs.Judgements.{Judgement, judgement_by}
-use Rattle.mm_proof.specs.Trees.{trees_of, cite}
+use Rattle.mm_proof.specs.Trees.{cite}
+use Rattle.proof_nodes.specs.Tables.{forest_of}
 use Rattle.mm_proof.specs.Serving.{HasHeader}
 use Rattle.mm_proof.proofs.Schemes.{Leaves, under, judgement-under, leads-by}
 use Rattle.mm_proof.proofs.Rows.{header_naming, premises, frame, IsRow}
@@ -42,7 +43,7 @@ pub row_proves : (c : Context) (name : Token) (pairs : Token → Token → Bool)
     → keeps_apart (symbols_apart c) (frame name pairs floats js j) (sigma_of name floats js es)
     ≡ true → Leaves (sigma_of name floats js es)
     → judgement_by (under (sigma_of name floats js es) header_naming) j ≡ result
-    → AllProve c (trees_of trees) es → Proves c (cite name trees) result
+    → AllProve c (forest_of trees) es → Proves c (cite name trees) result
 row_proves c name pairs floats js j es result trees header row same apart leaves concludes all =
     let sigma : Token → Expression = sigma_of name floats js es in (
       es,
@@ -58,8 +59,8 @@ row_proves c name pairs floats js j es result trees header row same apart leaves
 
 -- proofs one after another
 pub all_proofs : (c : Context) (xs ys : List ProofTree) (es fs : List Expression)
-    → AllProve c (trees_of xs) es → AllProve c (trees_of ys) fs
-    → AllProve c (trees_of (xs ++ ys)) (es ++ fs)
+    → AllProve c (forest_of xs) es → AllProve c (forest_of ys) fs
+    → AllProve c (forest_of (xs ++ ys)) (es ++ fs)
 all_proofs c [] ys es fs h k = rw h k
 all_proofs c (x ∷ xs) ys es fs (first, rest, is, proof, all) k =
     (first, rest ++ fs, ap (λ gs. gs ++ fs) is, proof, all_proofs c xs ys rest fs all k)

@@ -11,7 +11,7 @@ use Rattle.mm_proof.specs.Judgements.{is_fresh, is_substituted, is_predicate, ho
 use Rattle.ml_pat.specs.Leaves.{LeafFacts}
 use Rattle.mm_proof.specs.Serving.{Serves}
 use Rattle.mm_proof.specs.Trees.{fresh_tree, instance_tree, rule_tree, trees_before, trees_after}
-use Rattle.mm_proof.specs.Trees.{trees_of}
+use Rattle.proof_nodes.specs.Tables.{forest_of}
 use Rattle.mm_proof.proofs.RowProofs.{row_proves, all_proofs}
 use Rattle.mm_proof.proofs.SyntaxLaws.{pattern_text, sort_text, object_text, sort_proves}
 use Rattle.mm_proof.proofs.SyntaxLaws.{object_proves, syntax_proves}
@@ -42,13 +42,13 @@ below l r is trees =
 
 -- if there is no judgement after them
 unbehind : (c : Context) (trees : List ProofTree) (es : List Expression)
-    → AllProve c (trees_of trees) es → AllProve c (trees_of (trees ++ [])) es
+    → AllProve c (forest_of trees) es → AllProve c (forest_of (trees ++ [])) es
 unbehind c trees es h =
-    subst (λ (ts : List ProofTree). AllProve c (trees_of ts) es) (sym (append-nil trees)) h
+    subst (λ (ts : List ProofTree). AllProve c (forest_of ts) es) (sym (append-nil trees)) h
 
 pub rule_proves : (c : Context) (l n : Naming) (known : LeafFacts) {r : Rule} {is : List Instance}
     {ps : List Pattern} {q : Pattern} (trees : List ProofTree) → Serves c l n known
-    → Infers r is ps q → EachInstance known is → AllProve c (trees_of trees) (map (holds_text n) ps)
+    → Infers r is ps q → EachInstance known is → AllProve c (forest_of trees) (map (holds_text n) ps)
     → Proves c (rule_tree l r is trees) (holds_text n q)
 rule_proves c l n known trees w (rules.p_1 p q) known_is all_hold =
     row_proves c (codes "p.1") no_pair (fp ∷ fq ∷ []) ([]) (holds (imp P (imp Q P)))

@@ -14,7 +14,8 @@ use Rattle.mm_proof.specs.Tokens.{Naming, letters_of}
 use Rattle.mm_proof.specs.Judgements.{Judgement, is_pattern, is_fresh, is_substituted, is_predicate}
 use Rattle.mm_proof.specs.Judgements.{holds, judgement_by}
 use Rattle.mm_proof.specs.Serving.{Serves}
-use Rattle.mm_proof.specs.Trees.{trees_of, syntax_tree, fresh_tree, substitution_tree}
+use Rattle.mm_proof.specs.Trees.{syntax_tree, fresh_tree, substitution_tree}
+use Rattle.proof_nodes.specs.Tables.{forest_of}
 use Rattle.mm_proof.specs.Trees.{predicate_tree, rule_tree}
 
 -- the labels of the tree are a proof of the judgement
@@ -55,5 +56,5 @@ RulesAreProved =
     (c : Context) (l n : Naming) (known : Known) (r : Rule) (is : List Instance) (ps : List Pattern)
     (q : Pattern) (trees : List ProofTree) →
     Serves c l n (are_known known) → Infers r is ps q → EachInstance (are_known known) is →
-    AllProve c (trees_of trees) (map (λ p. judgement_by (letters_of n) (holds p)) ps) →
+    AllProve c (forest_of trees) (map (λ p. judgement_by (letters_of n) (holds p)) ps) →
     IsWritten c n (rule_tree l r is trees) (holds q)

@@ -7,7 +7,7 @@ use Rattle.ml_kernel.specs.Lemmas.{instance, instances, HaveNoVariables}
 use Rattle.ml_kernel.specs.Renamings.{Renames, by_place}
 use Rattle.ml_kernel.specs.MayCite.{MayCite}
 use Rattle.mm_proof.specs.Tokens.{Naming}
-use Rattle.mm_proof.specs.Trees.{trees_of}
+use Rattle.proof_nodes.specs.Tables.{forest_of}
 use Rattle.mm_proof.specs.Derivations.{Citing, holds_text}
 
 -- each allowed citation proves what is cited
@@ -18,5 +18,5 @@ pub record CitesSoundly (c : Context) (n : Naming) (hypotheses : List Pattern) (
       → Proves c (s.fact p new) (holds_text n q)
   pub lemma : (own : List Pattern) (q : Pattern) (ms : List Pattern) (trees : List ProofTree)
       → k.lemma own q ms → HaveNoVariables ms
-      → AllProve c (trees_of trees) (map (holds_text n) (instances ms own))
+      → AllProve c (forest_of trees) (map (holds_text n) (instances ms own))
       → Proves c (s.lemma own q ms trees) (holds_text n (instance ms q))

@@ -2,7 +2,8 @@
 use Rattle.std.specs.Prelude.{ℕ, ◌==◌, if◌then◌else◌, List, [], ◌∷◌, ◌++◌, map, slice_index_or}
 use Rattle.std.specs.Prelude.{codes}
 use Rattle.mm_text.specs.Bytes.{Token}
-use Rattle.mm_database.specs.Proofs.{ProofTree, proof_node, ProofForest, no_proof, more_proofs}
+use Rattle.mm_database.specs.Proofs.{ProofTree, proof_node}
+use Rattle.proof_nodes.specs.Tables.{forest_of}
 use Rattle.ml_pat.specs.Patterns.{Pattern, nullary, unary, binary, sorted, quantified, bot, imp}
 use Rattle.ml_pat.specs.Patterns.{not, and, or, equal, member, fun, var, meta, constant}
 use Rattle.ml_pat.specs.Judgements.{absent, fresh}
@@ -12,13 +13,9 @@ use Rattle.ml_kernel.specs.declared.rules.Rule.TheVariants as rule
 use Rattle.mm_proof.specs.Tokens.{Naming, nullary_name, unary_name, binary_name, sorted_name}
 use Rattle.mm_proof.specs.Tokens.{quantifier_name}
 
-abbrev pub trees_of : List ProofTree → ProofForest
-trees_of [] = no_proof
-trees_of (tree ∷ trees) = more_proofs tree (trees_of trees)
-
 -- a label over trees
 abbrev pub cite : Token → List ProofTree → ProofTree
-cite label trees = proof_node label (trees_of trees)
+cite label trees = proof_node label (forest_of trees)
 
 -- The proof that a pattern is one. A naming gives the labels of the declarations of sorts and
 -- constants, and of the `$f`s of variables. The trees below a label are in the order of the

@@ -1,140 +1,161 @@
--- Stacks of works, and what is put on one for each form of a pattern.
+-- Stacks of works that build proofs, and what is put on one for each form of a pattern.
 use Rattle.std.specs.Prelude.{◌≡◌, ℕ, ◌+◌, ◌*◌, ◌<◌, ◌≤◌, ◌==◌, if◌then◌else◌, List, [], ◌∷◌, ◌++◌}
-use Rattle.std.specs.Prelude.{length}
+use Rattle.std.specs.Prelude.{codes}
+use Rattle.std.specs.Borrow.{Bor}
 use Rattle.mm_text.specs.Bytes.{Token}
+use Rattle.mm_database.specs.Proofs.{ProofTree, proof_node, ProofForest, no_proof, more_proofs}
+use Rattle.proof_nodes.specs.Tables.{with_cited}
 use Rattle.ml_pat.specs.Patterns.{Pattern}
-use Rattle.mm_proof.specs.Tokens.{Naming, name_of, object_token}
-use Rattle.mm_proof.specs.Entries.{Entry, entries_of}
+use Rattle.mm_proof.specs.Tokens.{Naming}
+use Rattle.mm_proof.specs.KnownTrees.{EndsWithSyntax}
 use Rattle.mm_proof.specs.Labels.{own_labels}
+use Rattle.mm_proof.specs.Listings.{Listing, trees_of}
 use Rattle.mm_proof.specs.Trees.{cite, first_part, second_part, syntax_tree, fresh_tree}
 use Rattle.mm_proof.specs.Trees.{substitution_tree, predicate_tree}
-use Rattle.mm_proof.specs.Writing.{work_entries, listed, plain, plain_bracketed, plain_bracket}
-use Rattle.mm_proof.specs.Writing.{text_entries}
-use Rattle.mm_proof.specs.declared.works.ListingTask.{ListingTask}
-use Rattle.mm_proof.specs.declared.words.Label.{Label}
-use Rattle.mm_proof.specs.declared.works.ListingTask.TheVariants as work
+use Rattle.mm_proof.specs.Writing.{label_token, goal_tree}
+use Rattle.mm_proof.specs.declared.works.Goal.TheVariants as goal
+use Rattle.mm_proof.specs.declared.works.Work.{Work}
+use Rattle.mm_proof.specs.declared.works.Work.TheVariants as work
 
--- what a stack of works lists, the top last
-abbrev pub stack_entries : List Token → ℕ → List ListingTask → List Entry
-stack_entries names k [] = []
-stack_entries names k (w ∷ ws) = stack_entries names k ws ++ work_entries names k w
+-- How many labels a tree has.
+abbrev mutual
+  pub size_of : ProofTree → ℕ
+  size_of (proof_node label trees) = size_below trees + 1
 
--- The weight of a work. A work that is split has a weight for its labels and for its parts.
-abbrev pub weight : List Token → ℕ → ListingTask → ℕ
-weight names k (work.One w) = 1
-weight names k (work.Taking w n) = 1
-weight names k w = 2 * length (work_entries names k w)
+  pub size_below : ProofForest → ℕ
+  size_below no_proof = 0
+  size_below (more_proofs tree trees) = size_of tree + size_below trees
 
-abbrev pub stack_weight : List Token → ℕ → List ListingTask → ℕ
-stack_weight names k [] = 0
-stack_weight names k (w ∷ ws) = stack_weight names k ws + weight names k w
+abbrev pub size_of_all : List ProofTree → ℕ
+size_of_all [] = 0
+size_of_all (tree ∷ trees) = size_of tree + size_of_all trees
 
--- works that list these labels were put on a stack; their weight is less than twice the number of
--- labels
-abbrev pub PutsOn : (List Token → ℕ → List Entry) → List ListingTask → List ListingTask → Type 0
-PutsOn entries old new =
-    (names : List Token) (k : ℕ)
-    → (stack_entries names k new ≡ entries names k ++ stack_entries names k old)
-    × (stack_weight names k new < stack_weight names k old + 2 * length (entries names k))
+-- what has to hold of the trees before a work, so that this holds of the trees after it
+abbrev pub before_work : ℕ → Work → (List ProofTree → Type 0) → List ProofTree → Type 0
+before_work k (work.Prove g) after trees = after (trees ++ goal_tree k g ∷ [])
+before_work k (work.Cite l n) after trees = after (with_cited (label_token k l) n trees)
+before_work k (work.Keep fingerprint p) after trees = EndsWithSyntax k p.now trees × after trees
 
--- the same, but the weight may also be twice the number of labels, because there may be no word
--- among the works
-abbrev pub PutsMore : (List Token → ℕ → List Entry) → List ListingTask → List ListingTask → Type 0
-PutsMore entries old new =
-    (names : List Token) (k : ℕ)
-    → (stack_entries names k new ≡ entries names k ++ stack_entries names k old)
-    × (stack_weight names k new ≤ stack_weight names k old + 2 * length (entries names k))
+-- the same before a stack of works, the top last and done first
+abbrev pub before_works : ℕ → List Work → (List ProofTree → Type 0) → List ProofTree → Type 0
+before_works k [] after = after
+before_works k (w ∷ ws) after = before_works k ws (before_work k w after)
 
--- The labels that are put on the stack for each form of a pattern.
+-- the works on a stack lead from some trees to others
+abbrev pub Leads : ℕ → List Work → List ProofTree → List ProofTree → Type 0
+Leads k ws trees last = before_works k ws (λ ts. ts ≡ last) trees
 
-abbrev pub quantifier_entries : List Token → Token → ℕ → ℕ → Pattern → List Entry
-quantifier_entries names connective x s p =
-    plain_bracketed connective (plain (object_token x) ∷
-    (plain (name_of names s) ∷ (text_entries names p ++ plain_bracket)))
+-- what a work needs of the trees: what is to be kept for a pattern is the proof that it is one
+abbrev pub IsReady : ℕ → Work → List ProofTree → Type 0
+IsReady k (work.Prove g) trees = Unit {0}
+IsReady k (work.Cite l n) trees = Unit {0}
+IsReady k (work.Keep fingerprint p) trees = EndsWithSyntax k p.now trees
 
-abbrev pub quantifier_steps : ℕ → ℕ → ℕ → Pattern → Token → List Entry
-quantifier_steps k x s p label = entries_of (
-    let l : Naming = own_labels k in
-    cite label (syntax_tree l p ∷ cite (l.object x) [] ∷ cite (l.sort s) [] ∷ []))
+-- The weight of a work. A goal has a weight for its labels, its parts and what is kept of it.
+abbrev pub weight : ℕ → Work → ℕ
+weight k (work.Prove g) = 3 * size_of (goal_tree k g)
+weight k (work.Cite l n) = 1
+weight k (work.Keep fingerprint p) = 1
 
-abbrev pub quantified_steps : ℕ → ℕ → ℕ → ℕ → Pattern → Token → Token → List Entry
-quantified_steps k x y s p bound other = entries_of (
+abbrev pub stack_weight : ℕ → List Work → ℕ
+stack_weight k [] = 0
+stack_weight k (w ∷ ws) = stack_weight k ws + weight k w
+
+-- works that build these trees were put on a stack; their weight is at most that of the trees
+pub record PutsMore (trees : ℕ → List ProofTree) (old new : List Work) : Type 0 where
+  pub builds : (k : ℕ) (ts last : List ProofTree) → Leads k old (ts ++ trees k) last
+      → Leads k new ts last
+  pub weight : (k : ℕ) → stack_weight k new ≤ stack_weight k old + 3 * size_of_all (trees k)
+
+-- works that build this tree were put on a stack; their weight and one more is less than that of
+-- the tree
+pub record PutsOn (tree : ℕ → ProofTree) (old new : List Work) : Type 0 where
+  pub builds : (k : ℕ) (ts last : List ProofTree) → Leads k old (ts ++ tree k ∷ []) last
+      → Leads k new ts last
+  pub weight : (k : ℕ) → stack_weight k new + 1 < stack_weight k old + 3 * size_of (tree k)
+
+-- a work was taken from a stack: trees were built or kept, or smaller works were put on the stack
+pub record IsTaken (w : Work) (old new : List Work) (table table' : Listing) : Type 0 where
+  pub serial : table'.serial ≡ table.serial
+  pub builds : (last : List ProofTree)
+      → before_work table.serial w (λ ts. Leads table.serial old ts last) (trees_of table)
+      → Leads table.serial new (trees_of table') last
+  pub weight : stack_weight table.serial new
+      < stack_weight table.serial old + weight table.serial w
+
+-- the goal that a pattern is one was taken from a stack
+abbrev pub IsSyntaxTaken : Bor Pattern → List Work → List Work → Listing → Listing → Type 0
+IsSyntaxTaken p old new table table' =
+    IsTaken (work.Prove (goal.Syntax p)) old new table table'
+
+-- The trees that are put on the stack for each form of a pattern.
+
+abbrev pub quantified_tree : ℕ → ℕ → ℕ → ℕ → Pattern → Token → ProofTree
+quantified_tree k x y s p name =
     let l : Naming = own_labels k in
     if x == y
-    then cite bound (syntax_tree l p ∷ cite (l.object x) [] ∷ cite (l.sort s) [] ∷ [])
-    else cite other
+    then cite (codes "fr." ++ (name ++ codes "b"))
+    (syntax_tree l p ∷ cite (l.object x) [] ∷ cite (l.sort s) [] ∷ [])
+    else cite (codes "fr." ++ name)
     (syntax_tree l p ∷ cite (l.object x) [] ∷ cite (l.object y) [] ∷ cite (l.sort s) []
-    ∷ fresh_tree l x p ∷ []))
+    ∷ fresh_tree l x p ∷ [])
 
-abbrev pub fresh_two_steps : ℕ → ℕ → Pattern → Pattern → Token → List Entry
-fresh_two_steps k x p q label = entries_of (
+abbrev pub fresh_two_tree : ℕ → ℕ → Pattern → Pattern → Token → ProofTree
+fresh_two_tree k x p q name =
     let l : Naming = own_labels k in
-    cite label (syntax_tree l p ∷ syntax_tree l q ∷ cite (l.object x) [] ∷ fresh_tree l x p
-    ∷ fresh_tree l x q ∷ []))
+    cite (codes "fr." ++ name) (syntax_tree l p ∷ syntax_tree l q ∷ cite (l.object x) [] ∷ fresh_tree l x p
+    ∷ fresh_tree l x q ∷ [])
 
-abbrev pub fresh_one_steps : ℕ → ℕ → Pattern → Token → List Entry
-fresh_one_steps k x p label = entries_of (
+abbrev pub fresh_one_tree : ℕ → ℕ → Pattern → Token → ProofTree
+fresh_one_tree k x p name =
     let l : Naming = own_labels k in
-    cite label (syntax_tree l p ∷ cite (l.object x) [] ∷ fresh_tree l x p ∷ []))
+    cite (codes "fr." ++ name) (syntax_tree l p ∷ cite (l.object x) [] ∷ fresh_tree l x p ∷ [])
 
-abbrev pub fresh_sorted_steps : ℕ → ℕ → Pattern → ℕ → Token → List Entry
-fresh_sorted_steps k x p s label = entries_of (
+abbrev pub fresh_sorted_tree : ℕ → ℕ → Pattern → ℕ → Token → ProofTree
+fresh_sorted_tree k x p s name =
     let l : Naming = own_labels k in
-    cite label
-    (syntax_tree l p ∷ cite (l.object x) [] ∷ cite (l.sort s) [] ∷ fresh_tree l x p ∷ []))
+    cite (codes "fr." ++ name)
+    (syntax_tree l p ∷ cite (l.object x) [] ∷ cite (l.sort s) [] ∷ fresh_tree l x p ∷ [])
 
-abbrev pub predicate_two_steps : ℕ → Pattern → Pattern → Token → List Entry
-predicate_two_steps k p q label = entries_of (
+abbrev pub predicate_two_tree : ℕ → Pattern → Pattern → Token → ProofTree
+predicate_two_tree k p q name =
     let l : Naming = own_labels k in
-    cite label (syntax_tree l p ∷ syntax_tree l q ∷ predicate_tree l p ∷ predicate_tree l q ∷ []))
+    cite (codes "pr." ++ name) (syntax_tree l p ∷ syntax_tree l q ∷ predicate_tree l p ∷ predicate_tree l q ∷ [])
 
-abbrev pub predicate_under_steps : ℕ → ℕ → ℕ → Pattern → Token → List Entry
-predicate_under_steps k x s p label = entries_of (
+abbrev pub predicate_under_tree : ℕ → ℕ → ℕ → Pattern → Token → ProofTree
+predicate_under_tree k x s p name =
     let l : Naming = own_labels k in
-    cite label
-    (syntax_tree l p ∷ cite (l.object x) [] ∷ cite (l.sort s) [] ∷ predicate_tree l p ∷ []))
+    cite (codes "pr." ++ name)
+    (syntax_tree l p ∷ cite (l.object x) [] ∷ cite (l.sort s) [] ∷ predicate_tree l p ∷ [])
 
-abbrev pub two_steps : ℕ → ℕ → Pattern → Pattern → Pattern → Pattern → Token → List Entry
-two_steps k x u p q r label = entries_of (
+abbrev pub two_tree : ℕ → ℕ → Pattern → Pattern → Pattern → Pattern → Token → ProofTree
+two_tree k x u p q r name =
     let l : Naming = own_labels k in
-    cite label
+    cite (codes "su." ++ name)
     (syntax_tree l p ∷ syntax_tree l q ∷ syntax_tree l (second_part r)
     ∷ syntax_tree l (first_part r) ∷
     syntax_tree l u ∷ cite (l.object x) [] ∷
-    substitution_tree l x u p (first_part r) ∷ substitution_tree l x u q (second_part r) ∷ []))
+    substitution_tree l x u p (first_part r) ∷ substitution_tree l x u q (second_part r) ∷ [])
 
-abbrev pub one_steps : ℕ → ℕ → Pattern → Pattern → Pattern → Token → List Entry
-one_steps k x u p r label = entries_of (
+abbrev pub one_tree : ℕ → ℕ → Pattern → Pattern → Pattern → Token → ProofTree
+one_tree k x u p r name =
     let l : Naming = own_labels k in
-    cite label
+    cite (codes "su." ++ name)
     (syntax_tree l p ∷ syntax_tree l (first_part r) ∷ syntax_tree l u ∷ cite (l.object x) [] ∷
-    substitution_tree l x u p (first_part r) ∷ []))
+    substitution_tree l x u p (first_part r) ∷ [])
 
-abbrev pub sorted_steps : ℕ → ℕ → Pattern → Pattern → ℕ → Pattern → Token → List Entry
-sorted_steps k x u p s r label = entries_of (
+abbrev pub sorted_tree : ℕ → ℕ → Pattern → Pattern → ℕ → Pattern → Token → ProofTree
+sorted_tree k x u p s r name =
     let l : Naming = own_labels k in
-    cite label
+    cite (codes "su." ++ name)
     (syntax_tree l p ∷ syntax_tree l (first_part r) ∷ syntax_tree l u ∷ cite (l.object x) []
     ∷ cite (l.sort s) [] ∷
-    substitution_tree l x u p (first_part r) ∷ []))
+    substitution_tree l x u p (first_part r) ∷ [])
 
-abbrev pub under_steps : ℕ → ℕ → Pattern → ℕ → ℕ → Pattern → Pattern → Token → List Entry
-under_steps k x u y s p r label = entries_of (
+abbrev pub under_tree : ℕ → ℕ → Pattern → ℕ → ℕ → Pattern → Pattern → Token → ProofTree
+under_tree k x u y s p r name =
     let l : Naming = own_labels k in
-    cite label
+    cite (codes "su." ++ name)
     (syntax_tree l p ∷ syntax_tree l (first_part r) ∷ syntax_tree l u ∷ cite (l.object x) []
     ∷ cite (l.object y) [] ∷
-    cite (l.sort s) [] ∷ fresh_tree l y u ∷ substitution_tree l x u p (first_part r) ∷ []))
-
--- a work was taken from a stack: a label of it was listed, or smaller works were put on the stack
-abbrev pub IsTaken : List Token → ℕ → ListingTask → List ListingTask → List ListingTask → List Label
-    → List Label → Type 0
-IsTaken names k w old new labels labels' =
-    (listed names k labels' ++ stack_entries names k new ≡ listed names k labels
-    ++ (work_entries names k w ++ stack_entries names k old))
-    × (stack_weight names k new < stack_weight names k old + weight names k w)
-
-abbrev pub TakesWork : ListingTask → List ListingTask → List ListingTask → List Label → List Label
-    → Type 0
-TakesWork w old new labels labels' =
-    (names : List Token) (k : ℕ) → IsTaken names k w old new labels labels'
+    cite (l.sort s) [] ∷ fresh_tree l y u ∷ substitution_tree l x u p (first_part r) ∷ [])

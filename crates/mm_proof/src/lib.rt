@@ -8,24 +8,33 @@
 //! `proof_laws` says of patterns, judgements and rules that these are proofs in every database that
 //! has the header and the declarations that they cite (`specs/Serving`, `specs/RenderLaws`).
 //!
-//! **How it is written.** A proof is a list of labels, each with the number of proofs that it takes
-//! (`specs/Entries`, `specs/Writing`). The text of the proof is made from the list in one pass
-//! (`push_labels`). What is still to be listed is on a stack of works. Each work is split into
-//! smaller ones, so deep patterns need no recursion. `list_works` lists patterns and proofs on
-//! them. `list_instances` and `list_before` list what a rule has before the proofs of its premises.
+//! **How it is written.** A proof is built as a table of its distinct nodes (`ProofTable`), so what
+//! occurs many times in it is held once. What is still to be built is on a stack of works. Each work
+//! is split into smaller ones, so deep patterns need no recursion. The proof that a pattern is one is
+//! kept, and found again where the pattern occurs again. `prove_goals` builds proofs on patterns.
+//! `prove_instances` and `prove_before` build what a rule has before the proofs of its premises.
+//! `push_proof` writes the proof that was built in compressed notation. `push_text` writes the text
+//! of a statement.
 #![tactic(auto)]
 
+mod fingerprints;
 mod freshness;
+mod known;
 mod laws;
 mod patterns;
 mod rules;
 mod searching;
+mod shapes;
 mod stacks;
 mod substitution;
+mod table;
+mod texts;
 mod words;
 mod works;
 
 pub use laws::{proof_laws, tried};
-pub use rules::{judgements, list_before, list_instances, pattern_at, variable_at};
-pub use words::{Label, Word, list_label, push_labels, push_word, push_words};
-pub use works::{ListingTask, list_works, write_works};
+pub use rules::{judgements, pattern_at, prove_before, prove_instances, variable_at};
+pub use table::ProofTable;
+pub use texts::{TextPart, push_text};
+pub use words::{Label, Word, push_word, push_words};
+pub use works::{Goal, prove_goal, prove_goals};

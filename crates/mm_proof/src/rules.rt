@@ -1,66 +1,66 @@
 // Rules: what is substituted for their variables, and their judgements.
-ghost use Rattle.std.specs.Prelude.{◌≡◌, ◌≤◌, ◌+◌, List, [], ◌∷◌, OnOk, length};
+ghost use Rattle.std.specs.Prelude.{◌≡◌, ◌≤◌, ◌+◌, List, [], ◌∷◌, OnOk, length, map};
 ghost use Rattle.ml_pat.specs.Patterns.{bot};
 ghost use Rattle.ml_kernel.specs.Rules.{Instance};
 ghost use Rattle.ml_kernel.specs.StepView.{instances_of};
 ghost use Rattle.mm_proof.specs.Tokens.{Naming};
 ghost use Rattle.mm_proof.specs.Labels.{own_labels};
-ghost use Rattle.mm_proof.specs.Entries.{all_entries, instance_entries};
-ghost use Rattle.mm_proof.specs.Writing.{Lists};
-ghost use Rattle.mm_proof.specs.Trees.{pattern_at, trees_before, trees_after, variable_at};
+ghost use Rattle.mm_proof.specs.Listings.{Builds};
+ghost use Rattle.mm_proof.specs.Trees.{instance_tree, pattern_at, trees_before, trees_after};
+ghost use Rattle.mm_proof.specs.Trees.{variable_at};
 
-use crate::words::{Label, Word, list_label};
-use crate::works::{ListingTask, list_works};
+use crate::table::ProofTable;
+use crate::words::Label;
+use crate::works::{Goal, prove_goal, prove_goals};
 use ml_kernel::{Inst, Rule};
 use ml_pat::{MPat, VarNo};
 use std::alloc::AllocError;
 
-/// Lists the labels of the proofs of what is substituted for the variables of a rule.
-pub fn list_instances(labels: &mut Vec<Label>, instances: &[Inst]) -> Result<(), AllocError>
+/// Builds the proofs of what is substituted for the variables of a rule.
+pub fn prove_instances(table: &mut ProofTable, instances: &[Inst]) -> Result<(), AllocError>
     ensures { OnOk result
-        (Lists (λ names k. instance_entries k (instances_of instances.now)) labels.old.items
-        labels.new.items) }
+        (Builds (λ k. map (instance_tree (own_labels k)) (instances_of instances.now)) table.old
+        table.new) }
 {
     for instance in instances {
-        list_instance(labels, instance)?;
+        prove_instance(table, instance)?;
     }
     Ok(())
 }
 
-/// Lists the proof of what is substituted for a variable of a rule.
-fn list_instance(labels: &mut Vec<Label>, instance: &Inst) -> Result<(), AllocError>
+/// Builds the proof of what is substituted for a variable of a rule.
+fn prove_instance(table: &mut ProofTable, instance: &Inst) -> Result<(), AllocError>
     ensures { OnOk result
-        (Lists (λ names k. instance_entries k (instances_of (instance.now ∷ []))) labels.old.items
-        labels.new.items) }
+        (Builds (λ k. map (instance_tree (own_labels k)) (instances_of (instance.now ∷ [])))
+        table.old table.new) }
 {
     match instance {
-        Inst::Pat(p) => list_works(labels, &[ListingTask::Syntax(p)]),
-        Inst::Var(x) => list_label(labels, Word::ObjectLabel(x.0), 0),
-        Inst::Sort(s) => list_label(labels, Word::Declared(s.0), 0),
+        Inst::Pat(p) => prove_goal(table, Goal::Syntax(p)),
+        Inst::Var(x) => prove_goal(table, Goal::Leaf(Label::Object(x.0))),
+        Inst::Sort(s) => prove_goal(table, Goal::Leaf(Label::Declared(s.0))),
     }
 }
 
-/// Lists the judgements of a rule that come before the proofs of its premises. A missing pattern is
+/// Builds the judgements of a rule that come before the proofs of its premises. A missing pattern is
 /// taken to be nothing.
-pub fn list_before(
-    labels: &mut Vec<Label>,
+pub fn prove_before(
+    table: &mut ProofTable,
     rule: Rule,
     instances: &[Inst],
     nothing: &MPat,
 ) -> Result<(), AllocError>
     requires { nothing.now ≡ bot }
     ensures { OnOk result
-        (Lists
-        (λ names k. all_entries (trees_before (own_labels k) rule (instances_of instances.now)))
-        labels.old.items labels.new.items) }
+        (Builds (λ k. trees_before (own_labels k) rule (instances_of instances.now)) table.old
+        table.new) }
 {
     match rule {
         Rule::Inst => {
             let p = pattern_at(instances, 0, nothing);
             let q = pattern_at(instances, 1, nothing);
             let r = pattern_at(instances, 2, nothing);
-            let judged = ListingTask::Substituted(variable_at(instances, 3), q, p, r);
-            list_works(labels, &[judged])
+            let judged = Goal::Substituted(variable_at(instances, 3), q, p, r);
+            prove_goal(table, judged)
         }
         Rule::EqEl => {
             let p = pattern_at(instances, 0, nothing);
@@ -69,15 +69,12 @@ pub fn list_before(
             let t = pattern_at(instances, 3, nothing);
             let u = pattern_at(instances, 4, nothing);
             let x = variable_at(instances, 5);
-            let judged = [
-                ListingTask::Substituted(x, p, r, t),
-                ListingTask::Substituted(x, q, r, u),
-            ];
-            list_works(labels, &judged)
+            let judged = [Goal::Substituted(x, p, r, t), Goal::Substituted(x, q, r, u)];
+            prove_goals(table, &judged)
         }
         Rule::MemNo | Rule::AppL | Rule::AppR => {
-            let judged = ListingTask::Predicate(pattern_at(instances, 2, nothing));
-            list_works(labels, &[judged])
+            let judged = Goal::Predicate(pattern_at(instances, 2, nothing));
+            prove_goal(table, judged)
         }
         _ => Ok(()),
     }

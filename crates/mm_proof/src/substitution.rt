@@ -1,16 +1,16 @@
 // How the proof of a substitution is split into smaller works.
 ghost use Rattle.std.specs.Prelude.{◌≡◌, OnOk};
-ghost use Rattle.mm_proof.specs.WorkStacks.{PutsOn, one_steps, sorted_steps, two_steps};
-ghost use Rattle.mm_proof.specs.WorkStacks.{under_steps};
+ghost use Rattle.mm_proof.specs.WorkStacks.{PutsOn, one_tree, sorted_tree, two_tree};
+ghost use Rattle.mm_proof.specs.WorkStacks.{under_tree};
 ghost use Rattle.mm_proof.specs.Labels.{own_labels};
-ghost use Rattle.mm_proof.specs.Entries.{entries_of};
 ghost use Rattle.mm_proof.specs.Trees.{first_part, second_part, substitution_by_form};
 ghost use Rattle.mm_proof.specs.Trees.{substitution_tree};
 
 use crate::freshness::expand_unchanged;
+use crate::shapes::{Shape, shape_of};
 use crate::stacks::put_steps;
-use crate::words::Word;
-use crate::works::ListingTask;
+use crate::words::Label;
+use crate::works::{Goal, Work};
 use ml_pat::{MForm, MPat, MSort, VarNo, fresh};
 use std::alloc::AllocError;
 
@@ -53,15 +53,15 @@ fn second_part(pat: &MPat) -> &MPat
 
 /// The proof of the substitution in two parts.
 fn put_two<'a>(
-    stack: &mut Vec<ListingTask<'a>>,
+    stack: &mut Vec<Work<'a>>,
     x: VarNo,
     u: &'a MPat,
     p: &'a MPat,
     q: &'a MPat,
     made: &'a MPat,
-    label: &'static str,
+    name: &'static str,
 ) -> Result<(), AllocError>
-    ensures { OnOk result (PutsOn (λ names k. two_steps k x.0 u.now p.now q.now made.now label.now)
+    ensures { OnOk result (PutsOn (λ k. two_tree k x.0 u.now p.now q.now made.now name.now)
         stack.old.items stack.new.items) }
 {
     let first = first_part(made);
@@ -69,101 +69,101 @@ fn put_two<'a>(
     put_steps(
         stack,
         &[
-            ListingTask::Syntax(p),
-            ListingTask::Syntax(q),
-            ListingTask::Syntax(second),
-            ListingTask::Syntax(first),
-            ListingTask::Syntax(u),
-            ListingTask::One(Word::ObjectLabel(x.0)),
-            ListingTask::Substituted(x, u, p, first),
-            ListingTask::Substituted(x, u, q, second),
+            Goal::Syntax(p),
+            Goal::Syntax(q),
+            Goal::Syntax(second),
+            Goal::Syntax(first),
+            Goal::Syntax(u),
+            Goal::Leaf(Label::Object(x.0)),
+            Goal::Substituted(x, u, p, first),
+            Goal::Substituted(x, u, q, second),
         ],
-        label,
+        Label::Form("su.", name),
     )
 }
 
 /// The proof of the substitution in one part, with the sort next to it.
 fn put_one<'a>(
-    stack: &mut Vec<ListingTask<'a>>,
+    stack: &mut Vec<Work<'a>>,
     x: VarNo,
     u: &'a MPat,
     p: &'a MPat,
     made: &'a MPat,
-    label: &'static str,
+    name: &'static str,
 ) -> Result<(), AllocError>
-    ensures { OnOk result (PutsOn (λ names k. one_steps k x.0 u.now p.now made.now label.now)
+    ensures { OnOk result (PutsOn (λ k. one_tree k x.0 u.now p.now made.now name.now)
         stack.old.items stack.new.items) }
 {
     let first = first_part(made);
     put_steps(
         stack,
         &[
-            ListingTask::Syntax(p),
-            ListingTask::Syntax(first),
-            ListingTask::Syntax(u),
-            ListingTask::One(Word::ObjectLabel(x.0)),
-            ListingTask::Substituted(x, u, p, first),
+            Goal::Syntax(p),
+            Goal::Syntax(first),
+            Goal::Syntax(u),
+            Goal::Leaf(Label::Object(x.0)),
+            Goal::Substituted(x, u, p, first),
         ],
-        label,
+        Label::Form("su.", name),
     )
 }
 
 fn put_sorted<'a>(
-    stack: &mut Vec<ListingTask<'a>>,
+    stack: &mut Vec<Work<'a>>,
     x: VarNo,
     u: &'a MPat,
     p: &'a MPat,
     s: MSort,
     made: &'a MPat,
-    label: &'static str,
+    name: &'static str,
 ) -> Result<(), AllocError>
-    ensures { OnOk result (PutsOn (λ names k. sorted_steps k x.0 u.now p.now s.0 made.now label.now)
+    ensures { OnOk result (PutsOn (λ k. sorted_tree k x.0 u.now p.now s.0 made.now name.now)
         stack.old.items stack.new.items) }
 {
     let first = first_part(made);
     put_steps(
         stack,
         &[
-            ListingTask::Syntax(p),
-            ListingTask::Syntax(first),
-            ListingTask::Syntax(u),
-            ListingTask::One(Word::ObjectLabel(x.0)),
-            ListingTask::One(Word::Declared(s.0)),
-            ListingTask::Substituted(x, u, p, first),
+            Goal::Syntax(p),
+            Goal::Syntax(first),
+            Goal::Syntax(u),
+            Goal::Leaf(Label::Object(x.0)),
+            Goal::Leaf(Label::Declared(s.0)),
+            Goal::Substituted(x, u, p, first),
         ],
-        label,
+        Label::Form("su.", name),
     )
 }
 
 /// The proof of the substitution under the quantifier of y, if x is free in the body.
 fn put_under<'a>(
-    stack: &mut Vec<ListingTask<'a>>,
+    stack: &mut Vec<Work<'a>>,
     x: VarNo,
     u: &'a MPat,
     y: VarNo,
     s: MSort,
     p: &'a MPat,
     made: &'a MPat,
-    label: &'static str,
+    name: &'static str,
 ) -> Result<(), AllocError>
     ensures { OnOk result
-        (PutsOn (λ names k. under_steps k x.0 u.now y.0 s.0 p.now made.now label.now)
+        (PutsOn (λ k. under_tree k x.0 u.now y.0 s.0 p.now made.now name.now)
         stack.old.items stack.new.items) }
 {
     let first = first_part(made);
     put_steps(
         stack,
         &[
-            ListingTask::Syntax(p),
-            ListingTask::Syntax(first),
-            ListingTask::Syntax(u),
-            ListingTask::One(Word::ObjectLabel(x.0)),
-            ListingTask::One(Word::ObjectLabel(y.0)),
-            ListingTask::One(Word::Declared(s.0)),
-            ListingTask::Fresh(y, u),
-            ListingTask::Substituted(x, u, p, first),
+            Goal::Syntax(p),
+            Goal::Syntax(first),
+            Goal::Syntax(u),
+            Goal::Leaf(Label::Object(x.0)),
+            Goal::Leaf(Label::Object(y.0)),
+            Goal::Leaf(Label::Declared(s.0)),
+            Goal::Fresh(y, u),
+            Goal::Substituted(x, u, p, first),
         ],
-        label,
+        Label::Form("su.", name),
     )
 }
 
@@ -171,14 +171,14 @@ fn put_under<'a>(
 /// in the pattern. The search for x takes no longer than writing the proof, because the proof has
 /// the syntax of the whole pattern. The only exception is the pattern x itself.
 pub(crate) fn expand_substituted<'a>(
-    stack: &mut Vec<ListingTask<'a>>,
+    stack: &mut Vec<Work<'a>>,
     x: VarNo,
     u: &'a MPat,
     pat: &'a MPat,
     made: &'a MPat,
 ) -> Result<(), AllocError>
     ensures { OnOk result (PutsOn
-        (λ names k. entries_of (substitution_tree (own_labels k) x.0 u.now pat.now made.now))
+        (λ k. substitution_tree (own_labels k) x.0 u.now pat.now made.now)
         stack.old.items stack.new.items) }
 {
     if fresh(x, pat) {
@@ -189,40 +189,26 @@ pub(crate) fn expand_substituted<'a>(
 
 /// The proof of the substitution by the form of a pattern, in which x is free.
 fn expand_by_form<'a>(
-    stack: &mut Vec<ListingTask<'a>>,
+    stack: &mut Vec<Work<'a>>,
     x: VarNo,
     u: &'a MPat,
     pat: &'a MPat,
     made: &'a MPat,
 ) -> Result<(), AllocError>
     ensures { OnOk result (PutsOn
-        (λ names k. entries_of (substitution_by_form (own_labels k) x.0 u.now pat.now made.now))
+        (λ k. substitution_by_form (own_labels k) x.0 u.now pat.now made.now)
         stack.old.items stack.new.items) }
 {
-    match pat.form() {
-        MForm::Imp(p, q) => put_two(stack, x, u, p, q, made, "su.imp"),
-        MForm::And(p, q) => put_two(stack, x, u, p, q, made, "su.and"),
-        MForm::Or(p, q) => put_two(stack, x, u, p, q, made, "su.or"),
-        MForm::Equal(p, q) => put_two(stack, x, u, p, q, made, "su.eq"),
-        MForm::Member(p, q) => put_two(stack, x, u, p, q, made, "su.mem"),
-        MForm::App(p, q) => put_two(stack, x, u, p, q, made, "su.app"),
-        MForm::Not(p) => put_one(stack, x, u, p, made, "su.not"),
-        MForm::Next(p) => put_one(stack, x, u, p, made, "su.next"),
-        MForm::Ev(p) => put_one(stack, x, u, p, made, "su.ev"),
-        MForm::At(p, s) => put_sorted(stack, x, u, p, *s, made, "su.at"),
-        MForm::Fun(p, s) => put_sorted(stack, x, u, p, *s, made, "su.fun"),
-        MForm::Ex(y, s, p) => put_under(stack, x, u, *y, *s, p, made, "su.ex"),
-        MForm::All(y, s, p) => put_under(stack, x, u, *y, *s, p, made, "su.all"),
-        MForm::Var(_) => put_steps(
+    match shape_of(pat) {
+        Shape::Unary(name, p) => put_one(stack, x, u, p, made, name),
+        Shape::Binary(name, p, q) => put_two(stack, x, u, p, q, made, name),
+        Shape::Sorted(name, p, s) => put_sorted(stack, x, u, p, s, made, name),
+        Shape::Quantified(name, y, s, p) => put_under(stack, x, u, y, s, p, made, name),
+        Shape::Var(_) => put_steps(
             stack,
-            &[
-                ListingTask::Syntax(u),
-                ListingTask::One(Word::ObjectLabel(x.0)),
-            ],
-            "su.v",
+            &[Goal::Syntax(u), Goal::Leaf(Label::Object(x.0))],
+            Label::Row("su.v"),
         ),
-        MForm::Bot | MForm::Top | MForm::Meta(_) | MForm::Const(_) => expand_unchanged(
-            stack, x, u, pat,
-        ),
+        Shape::Nullary(_) | Shape::Meta(_) | Shape::Const(_) => expand_unchanged(stack, x, u, pat),
     }
 }

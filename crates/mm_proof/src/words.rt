@@ -2,42 +2,49 @@
 ghost use Rattle.std.specs.Prelude.{◌≡◌, ◌∷◌, [], ◌++◌, OnOk, decimal, map};
 ghost use Rattle.mm_proof.specs.Labels.{two_numbers};
 ghost use Rattle.mm_proof.specs.Tokens.{name_of};
-ghost use Rattle.mm_proof.specs.Entries.{labels_in};
-ghost use Rattle.mm_proof.specs.Writing.{Lists, label_entry, listed, word_token};
+ghost use Rattle.mm_proof.specs.Writing.{label_token, word_token};
 ghost use Rattle.mm_text.specs.Written.{white_after, written};
 
 use itoa::Buffer;
 use ml_pat::Names;
 use std::alloc::AllocError;
 
+/// A label that a proof cites.
+#[derive(Clone, Copy)]
+pub enum Label {
+    /// A row of the header.
+    Row(&'static str),
+    /// The row of the header about a connective: a prefix, and the name of the connective.
+    Form(&'static str, &'static str),
+    /// The row about a quantifier of the variable itself: a prefix, and the name of the quantifier.
+    Bound(&'static str, &'static str),
+    /// The declaration of the name with this number.
+    Declared(u64),
+    /// The `$f` of an object variable.
+    Object(u32),
+    /// The `$f` of a pattern variable.
+    Meta(u32),
+    /// The `$e` with this number.
+    Premise(u64),
+    /// The statement with this number.
+    Stated(u64),
+}
+
 /// A token of a statement.
 #[derive(Clone, Copy)]
 pub enum Word {
-    /// A constant or label of the header, or a keyword.
+    /// A constant of the header, or a keyword.
     Fixed(&'static str),
+    /// The connective with this name.
+    Connective(&'static str),
     /// The token with this number among the names.
     Name(u64),
-    /// The label of the declaration of the name with this number.
-    Declared(u64),
     /// The token of an object variable.
     Object(u32),
     /// The token of a pattern variable.
     Meta(u32),
-    /// The label of the `$f` of an object variable.
-    ObjectLabel(u32),
-    /// The label of the `$f` of a pattern variable.
-    MetaLabel(u32),
-    /// The label of the `$e` with this number.
-    Premise(u64),
-    /// The label of the statement with this number.
-    Stated(u64),
-}
-
-/// A label of a proof, and how many of the proofs before it the label takes.
-#[derive(Clone, Copy)]
-pub struct Label {
-    pub word: Word,
-    pub takes: usize,
+    /// A label.
+    Label(Label),
 }
 
 /// Adds a token, in the block of the statement with the number `serial`, and white space.
@@ -46,9 +53,18 @@ pub fn push_word(to: &mut Vec<u8>, names: &Names, serial: u64, word: Word) -> Re
         (to.new.items ≡ to.old.items ++ written (word_token names.now serial word ∷ [])) }
 {
     let start = to.len();
-    push_token(to, names, serial, word)?;
+    push_bare(to, names, serial, word)?;
     let white = white_after(&to[start..]);
     to.push(white)?;
+    Ok(())
+}
+
+/// Adds a token and white space.
+pub(crate) fn push_token(to: &mut Vec<u8>, token: &[u8]) -> Result<(), AllocError>
+    ensures { OnOk result (to.new.items ≡ to.old.items ++ written (token.now ∷ [])) }
+{
+    to.extend_from_slice(token)?;
+    to.push(white_after(token))?;
     Ok(())
 }
 
@@ -79,46 +95,46 @@ pub fn push_words(
     Ok(())
 }
 
-/// Adds the text of a list of labels, each with white space after it.
-pub fn push_labels(
-    to: &mut Vec<u8>,
-    names: &Names,
-    serial: u64,
-    labels: &[Label],
-) -> Result<(), AllocError>
-    ensures { OnOk result
-        (to.new.items ≡ to.old.items ++ written (labels_in (listed names.now serial labels.now))) }
-{
-    for label in labels {
-        push_word(to, names, serial, label.word)?;
-    }
-    Ok(())
-}
-
-/// Puts a label that takes `takes` proofs after the other labels.
-pub fn list_label(labels: &mut Vec<Label>, word: Word, takes: usize) -> Result<(), AllocError>
-    ensures { OnOk result
-        (Lists (λ names k. label_entry names k (record { word = word; takes = takes }) ∷ [])
-        labels.old.items labels.new.items) }
-{
-    labels.push(Label { word, takes })?;
-    Ok(())
-}
-
-fn push_token(to: &mut Vec<u8>, names: &Names, serial: u64, word: Word) -> Result<(), AllocError>
+/// Adds a token without white space.
+fn push_bare(to: &mut Vec<u8>, names: &Names, serial: u64, word: Word) -> Result<(), AllocError>
     ensures { OnOk result (to.new.items ≡ to.old.items ++ word_token names.now serial word) }
 {
     match word {
         Word::Fixed(token) => to.extend_from_slice(token.as_bytes()),
+        Word::Connective(name) => push_both(to, "\\", name),
         Word::Name(no) => push_name(to, names, no),
-        Word::Declared(no) => push_numbered(to, "n.", no),
         Word::Object(x) => push_numbered(to, "x:", u64::from(x)),
         Word::Meta(i) => push_numbered(to, "m:", u64::from(i)),
-        Word::ObjectLabel(x) => push_twice(to, "x.", serial, u64::from(x)),
-        Word::MetaLabel(i) => push_twice(to, "m.", serial, u64::from(i)),
-        Word::Premise(j) => push_twice(to, "e.", serial, j),
-        Word::Stated(k) => push_numbered(to, "t.", k),
+        Word::Label(label) => push_label(to, serial, label),
     }
+}
+
+/// Adds the token of a label, in the block of the statement with the number `serial`.
+pub(crate) fn push_label(to: &mut Vec<u8>, serial: u64, label: Label) -> Result<(), AllocError>
+    ensures { OnOk result (to.new.items ≡ to.old.items ++ label_token serial label) }
+{
+    match label {
+        Label::Row(token) => to.extend_from_slice(token.as_bytes()),
+        Label::Form(prefix, name) => push_both(to, prefix, name),
+        Label::Bound(prefix, name) => {
+            push_both(to, prefix, name)?;
+            to.push(b'b')?;
+            Ok(())
+        }
+        Label::Declared(no) => push_numbered(to, "n.", no),
+        Label::Object(x) => push_twice(to, "x.", serial, u64::from(x)),
+        Label::Meta(i) => push_twice(to, "m.", serial, u64::from(i)),
+        Label::Premise(j) => push_twice(to, "e.", serial, j),
+        Label::Stated(k) => push_numbered(to, "t.", k),
+    }
+}
+
+/// Adds two texts.
+fn push_both(to: &mut Vec<u8>, front: &'static str, behind: &'static str) -> Result<(), AllocError>
+    ensures { OnOk result (to.new.items ≡ to.old.items ++ (front.now ++ behind.now)) }
+{
+    to.extend_from_slice(front.as_bytes())?;
+    to.extend_from_slice(behind.as_bytes())
 }
 
 /// Adds the token with this number, or nothing if there is none.

@@ -1,89 +1,113 @@
-// What is still to be listed, as works that are split into smaller ones. A stack of works replaces
-// recursion, so a deep pattern needs no deep stack of calls.
-ghost use Rattle.std.specs.Prelude.{◌≡◌, ◌++◌, OnOk};
-ghost use Rattle.mm_proof.specs.WorkStacks.{TakesWork};
-ghost use Rattle.mm_proof.specs.Writing.{Lists, all_tokens, works_entries};
-ghost use Rattle.mm_text.specs.Written.{written};
+// What is still to be built of a proof, as works that are split into smaller ones. A stack of works
+// replaces recursion, so a deep pattern needs no deep stack of calls.
+ghost use Rattle.std.specs.Prelude.{◌≡◌, ◌++◌, ◌∷◌, [], OnOk};
+ghost use Rattle.mm_proof.specs.WorkStacks.{IsReady, IsSyntaxTaken, IsTaken};
+ghost use Rattle.mm_proof.specs.Listings.{Builds, trees_of};
+ghost use Rattle.mm_proof.specs.Writing.{goal_tree, goal_trees};
 
+use crate::fingerprints::Fingerprints;
 use crate::freshness::{expand_fresh, expand_predicate, expand_unchanged};
-use crate::patterns::{expand_syntax, expand_text};
-use crate::stacks::put_all;
+use crate::patterns::expand_syntax;
 use crate::substitution::expand_substituted;
-use crate::words::{Label, Word, list_label, push_labels};
-use ml_pat::{MPat, Names, VarNo};
+use crate::table::ProofTable;
+use crate::words::Label;
+use ml_pat::{MPat, VarNo};
 use std::alloc::AllocError;
 
-/// Something to be listed.
+/// Something to be proved.
 #[derive(Clone, Copy)]
-pub enum ListingTask<'a> {
-    /// A token, or a label that takes no proof.
-    One(Word),
-    /// A label that takes this many proofs.
-    Taking(Word, usize),
-    /// The tokens of a pattern.
-    Text(&'a MPat),
-    /// The proof that it is a pattern.
+pub enum Goal<'a> {
+    /// What a label that takes no proof says.
+    Leaf(Label),
+    /// That it is a pattern.
     Syntax(&'a MPat),
-    /// The proof that the variable is not free in the pattern.
+    /// That the variable is not free in the pattern.
     Fresh(VarNo, &'a MPat),
-    /// The proof that a pattern stays the same: the variable, what would be substituted for it, and
-    /// the pattern.
+    /// That a pattern stays the same: the variable, what would be substituted for it, and the
+    /// pattern.
     Unchanged(VarNo, &'a MPat, &'a MPat),
-    /// The proof of a substitution: the variable, what is substituted for it, the pattern and the
-    /// result.
+    /// A substitution: the variable, what is substituted for it, the pattern and the result.
     Substituted(VarNo, &'a MPat, &'a MPat, &'a MPat),
-    /// The proof that the pattern is a predicate.
+    /// That the pattern is a predicate.
     Predicate(&'a MPat),
 }
 
-/// Writes works one after another, in the block of the statement with the number `serial`, in time
-/// linear in what is written. The old labels in `labels` are dropped. If one list is used for many
-/// calls, its memory is allocated once.
-pub fn write_works(
-    to: &mut Vec<u8>,
-    labels: &mut Vec<Label>,
-    names: &Names,
-    serial: u64,
-    works: &[ListingTask<'_>],
-) -> Result<(), AllocError>
-    ensures { OnOk result
-        (to.new.items ≡ to.old.items ++ written (all_tokens names.now serial works.now)) }
-{
-    labels.clear();
-    list_works(labels, works)?;
-    push_labels(to, names, serial, labels)
+/// A part of a proof that is still to be built.
+#[derive(Clone, Copy)]
+pub(crate) enum Work<'a> {
+    /// The proof of a goal.
+    Prove(Goal<'a>),
+    /// A label over this many proofs.
+    Cite(Label, usize),
+    /// The last proof, that the pattern is one, is kept under this fingerprint of the pattern.
+    Keep(u64, &'a MPat),
 }
 
-/// Puts the labels of works after the other labels, in time linear in the number of labels.
-pub fn list_works(labels: &mut Vec<Label>, works: &[ListingTask<'_>]) -> Result<(), AllocError>
-    ensures { OnOk result
-        (Lists (λ names k. works_entries names k works.now) labels.old.items labels.new.items) }
+/// Builds the proofs of goals, the last one on top. `AllocError`: out of memory. It takes time
+/// linear in the number of labels of these proofs.
+pub fn prove_goals(table: &mut ProofTable, goals: &[Goal<'_>]) -> Result<(), AllocError>
+    ensures { OnOk result (Builds (λ k. goal_trees k goals.now) table.old table.new) }
 {
-    let mut stack = Vec::new(*labels.allocator());
-    put_all(&mut stack, works)?;
-    while let Some(next) = stack.pop() {
-        list_step(labels, &mut stack, next)?;
+    for goal in goals {
+        prove_goal(table, *goal)?;
     }
     Ok(())
 }
 
-/// Lists a label, or splits a larger work.
-fn list_step<'a>(
-    labels: &mut Vec<Label>,
-    stack: &mut Vec<ListingTask<'a>>,
-    work: ListingTask<'a>,
+/// Builds the proof of a goal. `AllocError`: out of memory.
+pub fn prove_goal(table: &mut ProofTable, goal: Goal<'_>) -> Result<(), AllocError>
+    ensures { OnOk result (Builds (λ k. goal_tree k goal.entry ∷ []) table.old table.new) }
+{
+    let mut stack = Vec::new(table.allocator());
+    let mut fingerprints = Fingerprints::new(table.allocator());
+    stack.push(Work::Prove(goal))?;
+    while let Some(next) = stack.pop() {
+        take_work(table, &mut stack, &mut fingerprints, next)?;
+    }
+    Ok(())
+}
+
+/// Cites a label, splits a goal, or keeps a proof.
+fn take_work<'a>(
+    table: &mut ProofTable,
+    stack: &mut Vec<Work<'a>>,
+    fingerprints: &mut Fingerprints,
+    work: Work<'a>,
 ) -> Result<(), AllocError>
+    requires { IsReady table.old.serial work (trees_of table.old) }
     ensures { OnOk result
-        (TakesWork work.entry stack.old.items stack.new.items labels.old.items labels.new.items) }
+        (IsTaken work.entry stack.old.items stack.new.items table.old table.new) }
 {
     match work {
-        ListingTask::One(word) => list_label(labels, word, 0),
-        ListingTask::Taking(word, takes) => list_label(labels, word, takes),
-        ListingTask::Text(p) => expand_text(stack, p),
-        ListingTask::Syntax(p) => expand_syntax(stack, p),
-        ListingTask::Fresh(x, p) => expand_fresh(stack, x, p),
-        ListingTask::Unchanged(x, u, p) => expand_unchanged(stack, x, u, p),
-        ListingTask::Substituted(x, u, p, r) => expand_substituted(stack, x, u, p, r),
-        ListingTask::Predicate(p) => expand_predicate(stack, p),
+        Work::Cite(label, takes) => table.cite(label, takes),
+        Work::Prove(Goal::Leaf(label)) => table.cite(label, 0),
+        Work::Keep(fingerprint, p) => table.keep_syntax(fingerprint, p),
+        Work::Prove(Goal::Syntax(p)) => take_syntax(table, stack, fingerprints, p),
+        Work::Prove(Goal::Fresh(x, p)) => expand_fresh(stack, x, p),
+        Work::Prove(Goal::Unchanged(x, u, p)) => expand_unchanged(stack, x, u, p),
+        Work::Prove(Goal::Substituted(x, u, p, r)) => expand_substituted(stack, x, u, p, r),
+        Work::Prove(Goal::Predicate(p)) => expand_predicate(stack, p),
     }
+}
+
+/// Repeats the proof that a pattern is one, if it was kept, and otherwise splits the goal and keeps
+/// what is built. A small pattern is only split. The pattern comes next in `fingerprints`.
+fn take_syntax<'a>(
+    table: &mut ProofTable,
+    stack: &mut Vec<Work<'a>>,
+    fingerprints: &mut Fingerprints,
+    pat: &'a MPat,
+) -> Result<(), AllocError>
+    ensures { OnOk result
+        (IsSyntaxTaken pat.entry stack.old.items stack.new.items table.old table.new) }
+{
+    let Some(fingerprint) = fingerprints.take(pat)? else {
+        return expand_syntax(stack, pat);
+    };
+    if table.repeat_syntax(fingerprint, pat)? {
+        fingerprints.skip_parts();
+        return Ok(());
+    }
+    stack.push(Work::Keep(fingerprint, pat))?;
+    expand_syntax(stack, pat)
 }

@@ -3,6 +3,8 @@ pub mod PlaceLaws
 pub mod PartLaws
 pub mod NeededLaws
 pub mod HeadTexts
+pub mod MandatoryTexts
 pub mod StackedVariables
 pub mod RenamedVariables
 pub mod StatedTheorems
+pub mod TheoremTexts

@@ -9,7 +9,7 @@ use Rattle.ml_pat.specs.FormsIn.{forms_in}
 use Rattle.mm_proof.specs.Searching.{all_forms, patterns_of}
 use Rattle.mm_proof.proofs.Looking.{all_forms-push}
 use Rattle.mm_claims.specs.Variables.{Variable, AreNumbered}
-use Rattle.mm_claims.specs.OpenVariables.{variables_in}
+use Rattle.mm_claims.specs.ClaimVariables.{variables_in}
 use Rattle.mm_claims.specs.AddedVariables.{added}
 use Rattle.mm_render.specs.VariablesView.{HaveNumbers, stack_variables, VariablesAreTaken}
 use Rattle.mm_render.specs.VariablesView.{PutsVariables}

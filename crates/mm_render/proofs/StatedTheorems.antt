@@ -14,8 +14,7 @@ pub states_written : (names : List Token) (old new : Rendered) (t : Theorem)
     (keep : Rendered → Claim → Rendered) (claim : Claim)
     (before own text after : List ℕ) (w : WritesProof names old t own text)
     → (MayProve names old t
-    → GainsTheorem names old (keep old (claim_of t.hypotheses t.conclusion)) w.find
-    w.premise_place t)
+    → GainsTheorem names old (keep old (claim_of t.hypotheses t.conclusion)) t w.more w.proof)
     → own ≡ [] → claim ≡ claim_of t.hypotheses t.conclusion → after ≡ before ++ text
     → new ≡ keep old claim
     → StatesLemma names old new t before after
@@ -23,14 +22,17 @@ states_written names old new t keep claim before own text after w gains empty cl
     kept = record {
       find = w.find;
       premise_place = w.premise_place;
+      more = w.more;
+      proof = w.proof;
       finds = w.finds;
       premises = w.premises;
+      proves = w.proves;
       appended = appended ∙ ap (λ (bytes : List ℕ). before ++ bytes)
           (w.appended
           ∙ ap (λ (bytes : List ℕ). bytes
-          ++ written_statements (lemma_statements names old.count w.find w.premise_place t))
+          ++ written_statements (lemma_statements names old.count t w.more w.proof))
           empty);
       gains =
-          λ may. subst (λ (k : Rendered). GainsTheorem names old k w.find w.premise_place t)
+          λ may. subst (λ (k : Rendered). GainsTheorem names old k t w.more w.proof)
           (sym (kept ∙ ap (keep old) claimed)) (gains may);
     }

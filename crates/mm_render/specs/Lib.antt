@@ -8,6 +8,7 @@ pub mod VariablesView
 pub mod ListedVariables
 pub mod NeededView
 pub mod HeadText
+pub mod MandatoryLabels
 pub mod TheoremText
 pub mod KeptCode
 pub mod KeyPlaces

@@ -9,7 +9,7 @@ use Rattle.mm_proof.specs.Searching.{all_forms, patterns_of}
 use Rattle.mm_render.specs.declared.variables.Variable.{Variable}
 use Rattle.mm_render.specs.declared.variables.Variable.TheVariants as variable
 use Rattle.mm_claims.specs.Variables.{object_variable, pattern_variable, number_of, has_variable}
-use Rattle.mm_claims.specs.OpenVariables.{variables_in}
+use Rattle.mm_claims.specs.ClaimVariables.{variables_in}
 use Rattle.mm_claims.specs.AddedVariables.{added}
 
 abbrev pub variable_of : Variable → plain.Variable

@@ -9,16 +9,16 @@ ghost use Rattle.mm_render.specs.VariablesView.{plain_variables, variable_of};
 ghost use Rattle.mm_proof.specs.Writing.{word_token};
 ghost use Rattle.mm_database.specs.StatementTexts.{written_statements};
 
+use crate::mandatory::label_of;
 use crate::variables::Variable;
 use ml_pat::{MPat, Names};
-use mm_proof::{Label, ListingTask, Word, push_word, push_words, write_works};
+use mm_proof::{Label, TextPart, Word, push_text, push_word, push_words};
 use std::alloc::{AllocError, Global};
 
 /// Adds the head of the block with the number `serial`: its variables, which of them have to stay
 /// apart, and its hypotheses.
 pub(crate) fn push_head(
     to: &mut Vec<u8>,
-    labels: &mut Vec<Label>,
     names: &Names,
     serial: u64,
     variables: &[Variable],
@@ -31,7 +31,7 @@ pub(crate) fn push_head(
 {
     push_variables(to, names, serial, variables)?;
     push_separations(to, names, serial, variables)?;
-    push_premises(to, labels, names, serial, hypotheses)
+    push_premises(to, names, serial, hypotheses)
 }
 
 /// Adds the declarations of variables, each with its type.
@@ -75,7 +75,7 @@ fn push_variable(
             Word::Fixed("$v"),
             token,
             Word::Fixed("$."),
-            label_word(variable),
+            Word::Label(label_of(variable)),
             Word::Fixed("$f"),
             Word::Fixed(typecode),
             token,
@@ -91,16 +91,6 @@ fn token_word(variable: Variable) -> Word
     match variable {
         Variable::Object(x) => Word::Object(x.0),
         Variable::Pattern(i) => Word::Meta(i),
-    }
-}
-
-/// The label under which a variable is typed.
-fn label_word(variable: Variable) -> Word
-    ensures { IsWordOf (λ k. variable_label k (variable_of variable)) result }
-{
-    match variable {
-        Variable::Object(x) => Word::ObjectLabel(x.0),
-        Variable::Pattern(i) => Word::MetaLabel(i),
     }
 }
 
@@ -211,7 +201,6 @@ fn push_separation(
 /// Adds hypotheses.
 fn push_premises(
     to: &mut Vec<u8>,
-    labels: &mut Vec<Label>,
     names: &Names,
     serial: u64,
     hypotheses: &[MPat],
@@ -221,7 +210,7 @@ fn push_premises(
         ++ written_statements (premise_statements names.now serial 0 hypotheses.now)) }
 {
     for (no, hypothesis) in hypotheses.iter().enumerate() {
-        push_premise(to, labels, names, serial, no as u64, hypothesis)?;
+        push_premise(to, names, serial, no as u64, hypothesis)?;
     }
     Ok(())
 }
@@ -229,7 +218,6 @@ fn push_premises(
 /// Adds the hypothesis with the number `no`.
 fn push_premise(
     to: &mut Vec<u8>,
-    labels: &mut Vec<Label>,
     names: &Names,
     serial: u64,
     no: u64,
@@ -239,17 +227,16 @@ fn push_premise(
         ≡ to.old.items
         ++ written_statements (premise_statements names.now serial no (hypothesis.now ∷ []))) }
 {
-    write_works(
+    push_text(
         to,
-        labels,
         names,
         serial,
         &[
-            ListingTask::One(Word::Premise(no)),
-            ListingTask::One(Word::Fixed("$e")),
-            ListingTask::One(Word::Fixed("|-")),
-            ListingTask::Text(hypothesis),
-            ListingTask::One(Word::Fixed("$.")),
+            TextPart::One(Word::Label(Label::Premise(no))),
+            TextPart::One(Word::Fixed("$e")),
+            TextPart::One(Word::Fixed("|-")),
+            TextPart::Pattern(hypothesis),
+            TextPart::One(Word::Fixed("$.")),
         ],
     )
 }

@@ -15,6 +15,7 @@
 mod claims;
 mod derivations;
 mod heads;
+mod mandatory;
 mod needed;
 mod places;
 mod renderer;

@@ -23,14 +23,13 @@ use crate::statements::{push_axiom, push_theorem};
 use ml_kernel::{AxiomNo, Theory, Thm};
 use ml_pat::Names;
 use mm_header::header_text;
-use mm_proof::{Label, Word, push_words};
+use mm_proof::{Label, ProofTable, Word, push_words};
 use std::alloc::{AllocError, Global};
 use std::collections::BTreeMap;
 use std::marker::Model;
 
 /// What was written of a proof file. Contracts see it as what it keeps. The numbers of statements
 /// have 64 bits. After 2^64 - 1 statements, another one returns the error for out of memory.
-#[derive(Drop)]
 pub struct Renderer {
     begun: bool,
     named: u64,
@@ -41,9 +40,9 @@ pub struct Renderer {
     places: BTreeMap<Vec<u8>, u64>,
     // The last claim of a run.
     run: Option<Stated>,
-    // The labels of what is written. Each statement empties the list but keeps its capacity. So a
-    // statement that is no longer than those before it allocates nothing for its labels.
-    labels: Vec<Label>,
+    // The nodes of the proof that is written. Each proof empties the table but keeps its capacity.
+    // So a proof that is no longer than those before it allocates nothing for its nodes.
+    table: ProofTable,
 }
 
 impl Model for Renderer {
@@ -61,6 +60,21 @@ impl Model for Renderer {
     ghost invariant = { FindsKept };
 }
 
+// A renderer is dropped by one call, and not field by field at each end of each call that owns one.
+impl Drop for Renderer {
+    fn drop(self) {
+        let Renderer {
+            begun: _,
+            named: _,
+            written: _,
+            stated: _,
+            places: _,
+            run: _,
+            table: _,
+        } = self;
+    }
+}
+
 impl Renderer {
     /// A renderer that has written nothing.
     pub fn new(alloc: Global) -> Renderer
@@ -73,7 +87,7 @@ impl Renderer {
             stated: Vec::new(alloc),
             places: BTreeMap::new(alloc),
             run: None,
-            labels: Vec::new(alloc),
+            table: ProofTable::new(alloc),
         }
     }
 
@@ -150,7 +164,7 @@ impl Renderer {
         let alloc = *to.allocator();
         let claim = claim_of(alloc, &[], theory.at(no))?;
         let mut text = Vec::new(alloc);
-        push_axiom(&mut text, &mut self.labels, names, self.written, &claim)?;
+        push_axiom(&mut text, names, self.written, &claim)?;
         self.keep(claim, &text, to)
     }
 
@@ -227,7 +241,7 @@ impl Renderer {
             last: &self.run,
             premises: &premises,
         };
-        push_theorem(to, &mut self.labels, &at, &claim, theorem.derivation())?;
+        push_theorem(to, &mut self.table, &at, &claim, theorem.derivation())?;
         Ok(claim)
     }
 
@@ -302,7 +316,7 @@ fn push_declaration(to: &mut Vec<u8>, names: &Names, no: u64) -> Result<(), Allo
             Word::Fixed("$c"),
             Word::Name(no),
             Word::Fixed("$."),
-            Word::Declared(no),
+            Word::Label(Label::Declared(no)),
             Word::Fixed("$a"),
             Word::Fixed(typecode),
             Word::Name(no),

@@ -3,9 +3,8 @@ ghost use Rattle.std.specs.Prelude.{◌≡◌, ◌+◌, [], ◌∷◌, ◌++◌,
 ghost use Rattle.ml_pat.specs.FormsIn.{forms_in};
 ghost use Rattle.ml_kernel.specs.Renamings.{by_place};
 ghost use Rattle.ml_kernel.specs.StepView.{numbers_of};
-ghost use Rattle.mm_claims.specs.ClaimVariables.{claim_variables};
+ghost use Rattle.mm_claims.specs.ClaimVariables.{claim_variables, variables_in};
 ghost use Rattle.mm_claims.specs.AddedVariables.{added};
-ghost use Rattle.mm_claims.specs.OpenVariables.{variables_in};
 ghost use Rattle.mm_claims.specs.Variables.{AreNumbered, has_variable, object_variable};
 ghost use Rattle.mm_render.specs.VariablesView.{AreNumbersOf, HaveNumbers, PutsVariables};
 ghost use Rattle.mm_render.specs.VariablesView.{VariablesAreTaken, plain_variables, variable_of};

@@ -1,6 +1,6 @@
 // Worked examples, written by hand.
 use ml_pat::{ConstNo, MPat, MSort, Names, VarNo};
-use mm_proof::{ListingTask, write_works};
+use mm_proof::{Goal, ProofTable, TextPart, prove_goal, push_text};
 use std::alloc::{AllocError, Global};
 use std::test::Fail;
 
@@ -13,11 +13,21 @@ pub(crate) fn three_names(alloc: Global) -> Result<Names, AllocError> {
     Ok(names)
 }
 
-// What `work` writes, in the block of the statement 7.
-pub(crate) fn text_of(alloc: Global, work: ListingTask<'_>) -> Result<Vec<u8>, AllocError> {
+// The text of a pattern, in the block of the statement 7.
+pub(crate) fn text_of(alloc: Global, pat: &MPat) -> Result<Vec<u8>, AllocError> {
     let names = three_names(alloc)?;
     let mut text = Vec::new(alloc);
-    write_works(&mut text, &mut Vec::new(alloc), &names, 7, &[work])?;
+    push_text(&mut text, &names, 7, &[TextPart::Pattern(pat)])?;
+    Ok(text)
+}
+
+// The compressed proof of `goal`, in the block of the statement 7, without mandatory labels.
+pub(crate) fn proof_of(alloc: Global, goal: Goal<'_>) -> Result<Vec<u8>, AllocError> {
+    let mut table = ProofTable::new(alloc);
+    table.start(7);
+    prove_goal(&mut table, goal)?;
+    let mut text = Vec::new(alloc);
+    table.push_proof(&mut text, &[])?;
     Ok(text)
 }
 
@@ -29,7 +39,7 @@ fn writes_an_application(rt: HostRuntime) -> Result<(), Fail> {
         &MPat::constant(alloc, ConstNo(2))?,
         &MPat::constant(alloc, ConstNo(1))?,
     )?;
-    let text = text_of(alloc, ListingTask::Text(&applied))?;
+    let text = text_of(alloc, &applied)?;
     assert_eq!(rt; text.as_slice(), b"( \\app f:f f:a ) ".as_slice());
     Ok(())
 }
@@ -42,8 +52,8 @@ fn proves_the_syntax_of_an_application(rt: HostRuntime) -> Result<(), Fail> {
         &MPat::constant(alloc, ConstNo(2))?,
         &MPat::constant(alloc, ConstNo(1))?,
     )?;
-    let text = text_of(alloc, ListingTask::Syntax(&applied))?;
-    assert_eq!(rt; text.as_slice(), b"n.2 n.1 w.app ".as_slice());
+    let text = proof_of(alloc, Goal::Syntax(&applied))?;
+    assert_eq!(rt; text.as_slice(), b"( n.2 n.1 w.app ) ABC ".as_slice());
     Ok(())
 }
 
@@ -52,7 +62,7 @@ fn writes_a_quantifier(rt: HostRuntime) -> Result<(), Fail> {
     let alloc = rt.alloc();
     let here = MPat::fun(alloc, &MPat::var(alloc, VarNo(4))?, MSort(0))?;
     let each = MPat::all(alloc, VarNo(4), MSort(0), &here)?;
-    let text = text_of(alloc, ListingTask::Text(&each))?;
+    let text = text_of(alloc, &each)?;
     assert_eq!(rt;
         text.as_slice(),
         b"( \\all x:4 s:S ( \\fun x:4 s:S ) ) ".as_slice()
@@ -66,8 +76,11 @@ fn proves_the_syntax_of_a_quantifier(rt: HostRuntime) -> Result<(), Fail> {
     let alloc = rt.alloc();
     let here = MPat::var(alloc, VarNo(4))?;
     let each = MPat::all(alloc, VarNo(4), MSort(0), &here)?;
-    let text = text_of(alloc, ListingTask::Syntax(&each))?;
-    assert_eq!(rt; text.as_slice(), b"x.7.4 w.var x.7.4 n.0 w.all ".as_slice());
+    let text = proof_of(alloc, Goal::Syntax(&each))?;
+    assert_eq!(rt;
+        text.as_slice(),
+        b"( x.7.4 w.var n.0 w.all ) ABACD ".as_slice()
+    );
     Ok(())
 }
 
@@ -77,10 +90,10 @@ fn proves_that_a_bound_variable_is_not_free(rt: HostRuntime) -> Result<(), Fail>
     let alloc = rt.alloc();
     let here = MPat::var(alloc, VarNo(4))?;
     let each = MPat::all(alloc, VarNo(4), MSort(0), &here)?;
-    let text = text_of(alloc, ListingTask::Fresh(VarNo(4), &each))?;
+    let text = proof_of(alloc, Goal::Fresh(VarNo(4), &each))?;
     assert_eq!(rt;
         text.as_slice(),
-        b"x.7.4 w.var x.7.4 n.0 fr.allb ".as_slice()
+        b"( x.7.4 w.var n.0 fr.allb ) ABACD ".as_slice()
     );
     Ok(())
 }
@@ -92,19 +105,19 @@ fn proves_a_substitution(rt: HostRuntime) -> Result<(), Fail> {
     let a = MPat::constant(alloc, ConstNo(1))?;
     let pat = MPat::next(alloc, &MPat::var(alloc, VarNo(0))?)?;
     let made = MPat::next(alloc, &a)?;
-    let text = text_of(alloc, ListingTask::Substituted(VarNo(0), &a, &pat, &made))?;
+    let text = proof_of(alloc, Goal::Substituted(VarNo(0), &a, &pat, &made))?;
     assert_eq!(rt;
         text.as_slice(),
-        b"x.7.0 w.var n.1 n.1 x.7.0 n.1 x.7.0 su.v su.next ".as_slice()
+        b"( x.7.0 w.var n.1 su.v su.next ) ABCCACADE ".as_slice()
     );
     Ok(())
 }
 
-// Returns the number of labels in the proof that `pat` with a substituted for x is `made`.
-fn labels(alloc: Global, pat: &MPat, made: &MPat) -> Result<usize, AllocError> {
+// Returns how many bytes the proof has that `pat` with a substituted for x is `made`.
+fn length(alloc: Global, pat: &MPat, made: &MPat) -> Result<usize, AllocError> {
     let a = MPat::constant(alloc, ConstNo(1))?;
-    let text = text_of(alloc, ListingTask::Substituted(VarNo(0), &a, pat, made))?;
-    Ok(text.iter().filter(|byte| **byte == b' ').count())
+    let text = proof_of(alloc, Goal::Substituted(VarNo(0), &a, pat, made))?;
+    Ok(text.len())
 }
 
 // x occurs at one leaf of a configuration of 127 nodes. Each part next to the way there is left as
@@ -120,7 +133,7 @@ fn substitutes_at_one_leaf(rt: HostRuntime) -> Result<(), Fail> {
         made = MPat::app(alloc, &made, &beside)?;
         beside = MPat::app(alloc, &beside, &beside)?;
     }
-    assert_eq!(rt; labels(alloc, &pat, &made)?, 777);
+    assert_eq!(rt; length(alloc, &pat, &made)?, 167);
     Ok(())
 }
 
@@ -135,7 +148,7 @@ fn substitutes_at_the_end_of_a_list(rt: HostRuntime) -> Result<(), Fail> {
         pat = MPat::app(alloc, &item, &pat)?;
         made = MPat::app(alloc, &item, &made)?;
     }
-    assert_eq!(rt; labels(alloc, &pat, &made)?, 41903);
+    assert_eq!(rt; length(alloc, &pat, &made)?, 1932);
     Ok(())
 }
 
@@ -146,12 +159,50 @@ fn proves_freshness_of_a_part_in_one_step(rt: HostRuntime) -> Result<(), Fail> {
     let a = MPat::constant(alloc, ConstNo(1))?;
     let bound = MPat::all(alloc, VarNo(4), MSort(0), &a)?;
     let pat = MPat::imp(alloc, &MPat::next(alloc, &a)?, &bound)?;
-    let text = text_of(alloc, ListingTask::Fresh(VarNo(4), &pat))?;
+    let text = proof_of(alloc, Goal::Fresh(VarNo(4), &pat))?;
     assert_eq!(rt;
         text.as_slice(),
-        b"n.1 w.next n.1 x.7.4 n.0 w.all x.7.4 n.1 w.next x.7.4 fr.d n.1 x.7.4 n.0 fr.allb \
-            fr.imp "
-            .as_slice()
+        b"( n.1 w.next x.7.4 n.0 w.all fr.d fr.allb fr.imp ) ABZACDECICFACDGH ".as_slice()
+    );
+    Ok(())
+}
+
+// The pattern a with `next` before it that many times.
+fn nested(alloc: Global, times: usize) -> Result<MPat, AllocError> {
+    let mut pat = MPat::constant(alloc, ConstNo(1))?;
+    for _ in 0..times {
+        pat = MPat::next(alloc, &pat)?;
+    }
+    Ok(pat)
+}
+
+// The same pattern of 1,001 forms, made twice, is on both sides. Its proof is saved and repeated.
+#[test]
+fn repeats_the_proof_of_a_large_pattern(rt: HostRuntime) -> Result<(), Fail> {
+    let alloc = rt.alloc();
+    let both = MPat::app(alloc, &nested(alloc, 1000)?, &nested(alloc, 1000)?)?;
+    let text = proof_of(alloc, Goal::Syntax(&both))?;
+    let mut wanted = Vec::new(alloc);
+    wanted.extend_from_slice(b"( n.1 w.next w.app ) A")?;
+    for _ in 0..1000 {
+        wanted.push(b'B')?;
+    }
+    wanted.extend_from_slice(b"ZDC ")?;
+    assert_eq!(rt; text.as_slice(), wanted.as_slice());
+    Ok(())
+}
+
+// A part that was proved before is repeated between parts that are new.
+#[test]
+fn repeats_the_proof_of_a_part(rt: HostRuntime) -> Result<(), Fail> {
+    let alloc = rt.alloc();
+    let part = nested(alloc, 2)?;
+    let first = MPat::app(alloc, &part, &MPat::constant(alloc, ConstNo(2))?)?;
+    let second = MPat::app(alloc, &nested(alloc, 2)?, &nested(alloc, 3)?)?;
+    let text = proof_of(alloc, Goal::Syntax(&MPat::imp(alloc, &first, &second)?))?;
+    assert_eq!(rt;
+        text.as_slice(),
+        b"( n.1 w.next n.2 w.app w.imp ) ABBZCDFFBDE ".as_slice()
     );
     Ok(())
 }

@@ -6,6 +6,8 @@
 #![tactic(auto)]
 
 #[cfg(test)]
+mod compressed;
+#[cfg(test)]
 mod derived;
 #[cfg(test)]
 mod entries;

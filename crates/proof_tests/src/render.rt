@@ -97,9 +97,8 @@ fn proves_a_lemma(rt: HostRuntime) -> Result<(), Fail> {
     let text = stated(rt.alloc())?;
     assert_eq!(rt;
         text.as_slice(),
-        b"t.0 $a |- ( \\app f:f f:a ) $.\nt.1 $p |- ( \\ev ( \\app f:f f:a ) ) $= n.2 n.1 w.app \
-            n.2 n.1 \
-        w.app w.ev t.0 n.2 n.1 w.app ev.1 mp $.\n"
+        b"t.0 $a |- ( \\app f:f f:a ) $.\nt.1 $p |- ( \\ev ( \\app f:f f:a ) ) $= ( n.2 n.1 \
+            w.app w.ev t.0 ev.1 mp ) ABCZHDEHFG $.\n"
             .as_slice()
     );
     Ok(())
@@ -124,9 +123,8 @@ fn writes_the_database_that_was_judged(rt: HostRuntime) -> Result<(), Fail> {
         Some(
             b"$c s:S $.\nn.0 $a #Sort s:S $.\n$c f:a $.\nn.1 $a #Pattern f:a $.\n$c f:f $.\nn.2 $a \
                 #Pattern f:f \
-            $.\nt.0 $a |- ( \\app f:f f:a ) $.\nt.1 $p |- ( \\ev ( \\app f:f f:a ) ) $= n.2 n.1 \
-            w.app n.2 n.1 \
-            w.app w.ev t.0 n.2 n.1 w.app ev.1 mp $.\n"
+            $.\nt.0 $a |- ( \\app f:f f:a ) $.\nt.1 $p |- ( \\ev ( \\app f:f f:a ) ) $= ( n.2 \
+            n.1 w.app w.ev t.0 ev.1 mp ) ABCZHDEHFG $.\n"
                 .as_slice()
         )
     );
@@ -174,7 +172,7 @@ fn writes_which_variables_stay_apart(rt: HostRuntime) -> Result<(), Fail> {
         x:5 x:2 \
         m:0 $.\nt.0 $p |- ( \\imp ( \\all x:5 s:S ( \\imp x:2 m:1 ) ) ( \\imp m:0 ( \\all x:5 s:S \
         ( \\imp \
-        x:2 m:1 ) ) ) ) $= x.0.2 w.var m.0.1 w.imp x.0.5 n.0 w.all m.0.0 p.1 $.\n$}\n"
+        x:2 m:1 ) ) ) ) $= ( w.var w.imp n.0 w.all p.1 ) BECFAGHDI $.\n$}\n"
             .as_slice()
     );
     Ok(())

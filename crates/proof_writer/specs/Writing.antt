@@ -10,7 +10,7 @@ use Rattle.ml_image.specs.Images.{image_of}
 use Rattle.mm_claims.specs.Rendered.{Rendered, all_stated}
 use Rattle.mm_claims.specs.Keeping.{Fits}
 use Rattle.mm_claims.specs.Places.{IsStated}
-use Rattle.mm_justify.specs.Justifying.{HasOnlyAxiomsOf, JustifiesRun}
+use Rattle.mm_justify.specs.Justifying.{HasOnlyAxiomsOf, IsProofOfRun}
 use Rattle.mm_justify.specs.Counting.{HasCounts}
 use Rattle.prove_term.specs.Contexts.{Context, HasContext}
 use Rattle.proof_writer.specs.declared.writer.ProofParts.{ProofParts}
@@ -84,11 +84,11 @@ abbrev pub HasNoVariables : RulePattern → Type 0
 HasNoVariables a = (x : ℕ) → OccursIn x a → ⊥
 
 -- If the theorem says that the image of a pattern reaches the image of another, the appended bytes
--- turn each text into one that justifies the run between the two patterns.
+-- turn each text into a proof of the run between the two patterns.
 abbrev pub Concludes : Context → Writer → Theorem → List ℕ → List ℕ → Type 0
 Concludes cx old t before after =
     (a b : RulePattern) (from to : Pattern) (added text : List ℕ) → HasNoVariables a
     → HasNoVariables b →
     image_of cx.program.sig cx.names a ≡ Some from → image_of cx.program.sig cx.names b ≡ Some to →
     t.conclusion ≡ imp from (ev to) → after ≡ before ++ added → IsTextOf cx old text →
-    JustifiesRun (text ++ added) (theory_of cx.program) a b
+    IsProofOfRun (text ++ added) (theory_of cx.program) a b

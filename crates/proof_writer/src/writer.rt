@@ -15,7 +15,7 @@ ghost use Rattle.proof_writer.specs.WritingOn.{WritesOn};
 
 use ml_kernel::{AxiomNo, Theory, Thm};
 use ml_pat::{MForm, MPat, Names};
-use mm_claims::later_laws;
+use mm_claims::{fitting_laws, later_laws};
 use mm_justify::{counting_laws, image_laws, justifying_laws};
 use mm_render::Renderer;
 use rule_core::Program;
@@ -212,6 +212,7 @@ impl Writer {
     {
         justifying_laws();
         image_laws();
+        fitting_laws();
         later_laws();
         made.names.tokens_differ();
         self.state_last(made, thm, to)

@@ -1,10 +1,9 @@
 -- From the arguments as they are written to the terms that they become.
 use Rattle.std.proofs.Common.{◌≡◌, ℕ, List, [], ◌∷◌, Option, Some, None, sym, ◌∙◌, ap, subst}
 use Rattle.std.proofs.lemmas.List.Elements.{All-contains}
-use Rattle.ml_pat.specs.Patterns.{Pattern, equal, var}
+use Rattle.ml_pat.specs.Patterns.{Pattern, equal}
 use Rattle.ml_kernel.specs.Theorems.{Theorem}
-use Rattle.ml_derived.specs.Scopes.{StaysWithin}
-use Rattle.ml_derived.specs.Equalities.{IsFromClosed, IsFlip, AreJoinable, IsJoin}
+use Rattle.ml_derived.specs.Equalities.{IsFlip, AreJoinable, IsJoin}
 use Rattle.term_core.specs.Terms.{Tree, Forest}
 use Rattle.term_core.specs.Patterns.{Patterns as RulePatterns, call, ground_patterns}
 use Rattle.term_core.specs.Instances.{all_substituted}
@@ -17,11 +16,13 @@ use Rattle.rule_core.specs.declared.signature.SortRef.{SortRef}
 use Rattle.ml_image.specs.Images.{image_of}
 use Rattle.ml_image.specs.OwnAxioms.{IsEquationFor}
 use Rattle.ml_image.proofs.ImageLaws.{none_some, some_same}
-use Rattle.prove_term.specs.Contexts.{Context, HasGrown, StaysIn}
+use Rattle.prove_term.specs.Contexts.{Context, HasGrown, StaysIn, StaysInWith}
 use Rattle.prove_term.specs.Filling.{filled}
+use Rattle.prove_term.specs.Applications.{HasClosedSides}
 use Rattle.prove_term.specs.EqualCalls.{SaysEqualCall, SaysEqualCalls}
 use Rattle.prove_term.specs.Values.{SaysEquationAt}
 use Rattle.prove_term.proofs.ContextLaws.{stays_grown}
+use Rattle.prove_term.proofs.EqualityChains.{stays_with_grown}
 use Rattle.prove_term.proofs.FillingLaws.{all_filled_written}
 use Rattle.prove_schema.proofs.ElementLaws.{pattern_grown}
 use Rattle.prove_schema.proofs.ScopeLaws.{stays_no_hypotheses}
@@ -31,18 +32,25 @@ use Rattle.prove_equation.specs.Filled.{SaysFilledEquation, CanTurn, IsTurned, S
 -- ---- turning an equality
 
 pub can_flip : (made : Pattern) (o : Option Theorem) (t : Theorem) → o ≡ Some t → CanTurn made o
-    → IsFromClosed t.conclusion
+    → HasClosedSides t.conclusion
 can_flip made None t is can = absurd (none_some t is)
-can_flip made (Some u) t is (p, q, r, first, second, closed, other) =
-    subst (λ (v : Theorem). IsFromClosed v.conclusion) (some_same u t is) (p, (q, (first, closed)))
+can_flip made (Some u) t is (p, q, r, first, second, closed, other, last) =
+    subst (λ (v : Theorem). HasClosedSides v.conclusion) (some_same u t is)
+    (p, (q, (first, (closed, other))))
 
 pub can_join : (made turned : Pattern) (o : Option Theorem) (t : Theorem) → o ≡ Some t
     → CanTurn made o → IsFlip t.conclusion turned → AreJoinable turned made
 can_join made turned None t is can flips = absurd (none_some t is)
-can_join made turned (Some u) t is (p, q, r, first, second, closed, other) flips =
+can_join made turned (Some u) t is (p, q, r, first, second, closed, other, last) flips =
     let same : t.conclusion ≡ equal p q =
     ap (λ (v : Theorem). v.conclusion) (sym (some_same u t is)) ∙ first in
     (q, (p, (r, (flips p q same, (second, other)))))
+
+pub can_close : (made : Pattern) (o : Option Theorem) (t : Theorem) → o ≡ Some t → CanTurn made o
+    → HasClosedSides made
+can_close made None t is can = absurd (none_some t is)
+can_close made (Some u) t is (p, q, r, first, second, closed, other, last) =
+    (p, (r, (second, (closed, last))))
 
 pub turned_says : (made turned joined : Theorem) (o : Option Theorem) (t : Theorem) → o ≡ Some t
     → IsFlip t.conclusion turned.conclusion
@@ -53,14 +61,17 @@ turned_says made turned joined (Some u) t is flips joins = λ p q r first second
     ap (λ (v : Theorem). v.conclusion) (sym (some_same u t is)) ∙ first in
     joins q p r (flips p q same) second
 
-pub turned_stays : (made turned joined : Theorem) (o : Option Theorem) (t : Theorem) → o ≡ Some t
-    → StaysWithin (var 0 ∷ []) (t ∷ []) turned
-    → StaysWithin (var 0 ∷ []) (turned ∷ made ∷ []) joined → StaysTurned made o joined
-turned_stays made turned joined None t is first second = absurd (none_some t is)
-turned_stays made turned joined (Some u) t is first second =
-    subst (λ (v : Theorem). StaysWithin (var 0 ∷ []) (v ∷ made ∷ []) joined)
-    (sym (some_same u t is))
-    (λ s over within. second s over (first s over (within.0, tt), (within.1.0, tt)))
+pub turned_stays : (mid cx : Context) (made turned joined : Theorem) (o : Option Theorem)
+    (t : Theorem) → o ≡ Some t → HasGrown mid cx → StaysInWith mid [] (t ∷ []) turned
+    → StaysInWith cx [] (turned ∷ made ∷ []) joined → StaysTurned cx made o joined
+turned_stays mid cx made turned joined None t is g first second = absurd (none_some t is)
+turned_stays mid cx made turned joined (Some u) t is g first second =
+    subst (λ (v : Theorem). StaysInWith cx [] (v ∷ made ∷ []) joined) (sym (some_same u t is))
+    (λ s has over within.
+    second s has tt (
+      stays_with_grown mid cx [] (t ∷ []) turned g first s has tt (within.0, tt),
+      (within.1.0, tt),
+    ))
 
 -- ---- what an equation says of its function at terms
 
@@ -95,6 +106,36 @@ written_at old new f e theta us made normal g says stays calls =
       calls = calls;
     }
 
+calls_grown : (old new : Context) (f : ℕ) (theta : List (Option Tree)) (ps : RulePatterns)
+    (us : Forest) (o : Option Theorem) → HasGrown old new → SaysEqualCalls old f theta ps us o
+    → SaysEqualCalls new f theta ps us o
+calls_grown old new f theta ps us None g h = h
+calls_grown old new f theta ps us (Some t) g h =
+    let says : SaysEqualCall old f h.0 us t.conclusion = h.2 in (
+      h.0,
+      h.1,
+      record {
+        left = says.left;
+        left_image =
+            pattern_grown old new (call f [] (ground_patterns h.0)) says.left g says.left_image;
+        right = says.right;
+        right_image =
+            pattern_grown old new (call f [] (ground_patterns us)) says.right g says.right_image;
+        says = says.says;
+        no_variable = says.no_variable;
+      },
+      stays_grown old new t g h.3,
+    )
+
+pub written_grown : (old new : Context) (f : ℕ) (e : Equation) (theta : List (Option Tree))
+    (us : Forest) (made : Theorem) (normal : Option Theorem) → HasGrown old new
+    → IsWritten old f e theta us made normal → IsWritten new f e theta us made normal
+written_grown old new f e theta us made normal g h = record {
+  says = filled_grown old new f e theta made.conclusion g h.says;
+  stays = stays_grown old new made g h.stays;
+  calls = calls_grown old new f theta e.arguments us normal g h.calls;
+}
+
 -- the image of the function of the arguments as they are written
 left_is : (cx : Context) (f : ℕ) (e : Equation) (theta : List (Option Tree)) (ts : Forest)
     (p q : Pattern) → all_substituted theta e.arguments ≡ Some ts
@@ -123,6 +164,7 @@ written_turns cx f e theta us made (Some t) w =
           ∙ ap (λ (p : Pattern). equal p w.says.right) same,
       call_says.no_variable.0,
       call_says.no_variable.1,
+      w.says.no_variable.1,
     )
 
 written_says : (cx : Context) (f : ℕ) (e : Equation) (theta : List (Option Tree)) (us : Forest)
@@ -156,15 +198,15 @@ written_says cx f e theta us made turned (Some t) w is =
 
 written_stays : (cx : Context) (f : ℕ) (e : Equation) (theta : List (Option Tree)) (us : Forest)
     (made turned : Theorem) (normal : Option Theorem) → IsWritten cx f e theta us made normal
-    → StaysTurned made normal turned → StaysIn cx turned
+    → StaysTurned cx made normal turned → StaysIn cx turned
 written_stays cx f e theta us made turned None w is = subst (StaysIn cx) (sym is) w.stays
 written_stays cx f e theta us made turned (Some t) w within =
-    λ s has. within s (has.objects 0, tt) (w.calls.3 s has, (w.stays s has, tt))
+    λ s has. within s has tt (w.calls.3 s has, (w.stays s has, tt))
 
 pub written_proves : (cx : Context) (f : ℕ) (e : Equation) (theta : List (Option Tree))
     (us : Forest) (made turned : Theorem) (normal : Option Theorem)
     → IsWritten cx f e theta us made normal → IsTurned made normal turned
-    → StaysTurned made normal turned → ProvesAt cx f e theta us turned
+    → StaysTurned cx made normal turned → ProvesAt cx f e theta us turned
 written_proves cx f e theta us made turned normal w is within =
     let stays : StaysIn cx turned = written_stays cx f e theta us made turned normal w within in
     record {

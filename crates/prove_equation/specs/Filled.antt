@@ -3,15 +3,14 @@
 use Rattle.std.specs.Prelude.{◌≡◌, ℕ, List, [], ◌∷◌, Option, Some, None, length}
 use Rattle.term_core.specs.Terms.{Tree}
 use Rattle.term_core.specs.Patterns.{call}
-use Rattle.ml_pat.specs.Patterns.{Pattern, equal, var}
+use Rattle.ml_pat.specs.Patterns.{Pattern, equal}
 use Rattle.ml_kernel.specs.Lemmas.{HasNoVariable}
 use Rattle.ml_kernel.specs.Theorems.{Theorem}
-use Rattle.ml_derived.specs.Scopes.{StaysWithin}
 use Rattle.rule_core.specs.Rules.{Equation}
 use Rattle.rule_core.specs.Matching.{RespectsSorts}
 use Rattle.ml_image.specs.Images.{image_of}
 use Rattle.ml_image.specs.HasImages.{HasEquationImage}
-use Rattle.prove_term.specs.Contexts.{Context}
+use Rattle.prove_term.specs.Contexts.{Context, StaysInWith}
 use Rattle.prove_term.specs.Filling.{filled}
 use Rattle.prove_equation.specs.Conditions.{BindsEach, SaysCondition}
 use Rattle.prove_equation.specs.EquationLemmas.{IsEquationLemma}
@@ -47,6 +46,7 @@ CanTurn made (Some t) =
     (p : Pattern) × (q : Pattern) × (r : Pattern) × (t.conclusion ≡ equal p q) × (made ≡ equal p r)
     × HasNoVariable p
     × HasNoVariable q
+    × HasNoVariable r
 
 -- the result is `q = r`, or `made` itself if there is no theorem
 abbrev pub IsTurned : Theorem → Option Theorem → Theorem → Type 0
@@ -55,6 +55,6 @@ IsTurned made (Some t) turned =
     (p q r : Pattern) → t.conclusion ≡ equal p q → made.conclusion ≡ equal p r
     → turned.conclusion ≡ equal q r
 
-abbrev pub StaysTurned : Theorem → Option Theorem → Theorem → Type 0
-StaysTurned made None turned = turned ≡ made
-StaysTurned made (Some t) turned = StaysWithin (var 0 ∷ []) (t ∷ made ∷ []) turned
+abbrev pub StaysTurned : Context → Theorem → Option Theorem → Theorem → Type 0
+StaysTurned cx made None turned = turned ≡ made
+StaysTurned cx made (Some t) turned = StaysInWith cx [] (t ∷ made ∷ []) turned

@@ -9,10 +9,9 @@ ghost use Rattle.prove_equation.specs.Filled.{CanFill, CanTurn, IsTurned, SaysFi
 ghost use Rattle.prove_equation.specs.Filled.{StaysTurned};
 
 use crate::conditions::given;
-use ml_derived::{flip, join};
 use ml_kernel::{Lemma, Thm};
 use prove_schema::{elements, schema_at};
-use prove_term::{Cx, call_eq};
+use prove_term::{Cx, call_eq, flip, join};
 use rule_core::Equation;
 use std::alloc::{AllocError, Global};
 use term_core::{Subst, Term};
@@ -38,7 +37,7 @@ pub(crate) fn direct_at(
 {
     let made = filled(alloc, cx, lemma, equation, subst, condition)?;
     let normal = call_eq(alloc, cx, equation.fun, &equation.args, subst, args)?;
-    from_normal(alloc, made, &normal)
+    from_normal(alloc, cx, made, &normal)
 }
 
 // Proves what the lemma says when its variables are replaced by what they were matched with, with
@@ -67,15 +66,21 @@ fn filled(
 }
 
 // Proves `q = r` from `p = r` and `p = q`. Without the second, q is p, and the result is `p = r`.
-fn from_normal(alloc: Global, made: Thm, normal: &Option<Thm>) -> Result<Thm, AllocError>
+fn from_normal(
+    alloc: Global,
+    cx: &mut Cx<'_>,
+    made: Thm,
+    normal: &Option<Thm>,
+) -> Result<Thm, AllocError>
     requires { CanTurn made.conclusion normal.now }
     ensures says { IfOk result (IsTurned made normal.now) }
-    ensures stays { IfOk result (StaysTurned made normal.now) }
+    ensures stays { IfOk result (StaysTurned cx.new made normal.now) }
+    ensures grown { HasGrown cx.old cx.new }
 {
     match normal {
         Some(equality) => {
-            let turned = flip(alloc, equality)?;
-            join(alloc, &turned, &made)
+            let turned = flip(alloc, cx, equality)?;
+            join(alloc, cx, &turned, &made)
         }
         None => Ok(made),
     }

@@ -1,15 +1,14 @@
 -- Equalities: what stays true when a context grows, and what follows from them.
 use Rattle.std.proofs.Common.{◌∷◌, [], Option, Some, None, refl, sym, ◌∙◌, ap, subst}
-use Rattle.ml_pat.specs.Patterns.{Pattern, app, equal, var}
+use Rattle.ml_pat.specs.Patterns.{Pattern, app, equal}
 use Rattle.ml_kernel.specs.Lemmas.{HasNoVariable}
 use Rattle.ml_kernel.specs.Theorems.{Theorem}
-use Rattle.ml_derived.specs.Scopes.{StaysWithin}
-use Rattle.ml_derived.specs.Equalities.{hole, AreJoinable, IsJoin}
+use Rattle.ml_derived.specs.Equalities.{AreJoinable, IsJoin}
 use Rattle.term_core.specs.Terms.{Tree}
 use Rattle.term_core.specs.Patterns.{Pattern as RulePattern, ground_pattern}
 use Rattle.ml_image.specs.Sentences.{term}
-use Rattle.prove_term.specs.Contexts.{Context, HasGrown}
-use Rattle.prove_term.specs.Applications.{SaysEqualTo, IsApplication}
+use Rattle.prove_term.specs.Contexts.{Context, HasGrown, StaysInWith}
+use Rattle.prove_term.specs.Applications.{HasClosedSides, SaysEqualTo, IsApplication}
 use Rattle.prove_term.specs.Comparing.{IsOverContext}
 use Rattle.prove_term.proofs.ContextLaws.{stays_grown, image_grown}
 use Rattle.prove_term.proofs.ComparingLaws.{image_closed}
@@ -52,7 +51,7 @@ says_equal_to cx p q (Some t) closed h = (p, h.says, closed)
 -- ---- applications
 
 pub application : (cx : Context) (f g a b : Pattern) (d e o : Option Theorem) → IsOverContext cx g
-    → IsOverContext cx b → Equates cx f g d → Equates cx a b e → IsApplication g b d e o
+    → IsOverContext cx b → Equates cx f g d → Equates cx a b e → IsApplication cx g b d e o
     → Equates cx (app f a) (app g b) o
 application cx f g a b None None o over_g over_b function argument is =
     subst (Equates cx (app f a) (app g b)) (sym is)
@@ -61,20 +60,19 @@ application cx f g a b (Some d) None o over_g over_b function argument is =
     subst (Equates cx (app f a) (app g b)) (sym is.is) (record {
       says = is.says f g function.says
           ∙ ap (λ (x : Pattern). equal (app f x) (app g b)) (sym argument);
-      stays = λ s has. is.stays s (over_b s has, (has.objects 0, tt)) (function.stays s has, tt);
+      stays = λ s has. is.stays s has (over_b s has, tt) (function.stays s has, tt);
     })
 application cx f g a b None (Some e) o over_g over_b function argument is =
     subst (Equates cx (app f a) (app g b)) (sym is.is) (record {
       says = is.says a b argument.says
           ∙ ap (λ (x : Pattern). equal (app x a) (app g b)) (sym function);
-      stays = λ s has. is.stays s (over_g s has, (has.objects 0, tt)) (argument.stays s has, tt);
+      stays = λ s has. is.stays s has (over_g s has, tt) (argument.stays s has, tt);
     })
 application cx f g a b (Some d) (Some e) o over_g over_b function argument is =
     subst (Equates cx (app f a) (app g b)) (sym is.is) (record {
       says = is.says f g a b function.says argument.says;
       stays =
-          λ s has.
-          is.stays s (has.objects 0, tt) (function.stays s has, (argument.stays s has, tt));
+          λ s has. is.stays s has tt (function.stays s has, (argument.stays s has, tt));
     })
 
 -- ---- one after another
@@ -83,24 +81,19 @@ pub joinable : (cx : Context) (a b c : Pattern) (d e : Theorem) → HasNoVariabl
     → SaysEqual cx a b d → SaysEqual cx b c e → AreJoinable d.conclusion e.conclusion
 joinable cx a b c d e closed first second = (a, (b, (c, (first.says, (second.says, closed)))))
 
-pub joined_says : (cx : Context) (a b c : Pattern) (d e t : Theorem) → SaysEqual cx a b d
-    → SaysEqual cx b c e → IsJoin d.conclusion e.conclusion t.conclusion
-    → StaysWithin (var hole ∷ []) (d ∷ e ∷ []) t → SaysEqual cx a c t
-joined_says cx a b c d e t first second is stays =
+pub closed_sides : (cx : Context) (a b : Pattern) (e : Theorem) → HasNoVariable a → HasNoVariable b
+    → SaysEqual cx a b e → HasClosedSides e.conclusion
+closed_sides cx a b e left right says = (a, (b, (says.says, (left, right))))
+
+pub joined_says : (old cx : Context) (a b c : Pattern) (d e t : Theorem) → HasGrown old cx
+    → SaysEqual old a b d → SaysEqual old b c e → IsJoin d.conclusion e.conclusion t.conclusion
+    → StaysInWith cx [] (d ∷ e ∷ []) t → SaysEqual cx a c t
+joined_says old cx a b c d e t g first second is stays =
     record {
       says = is a b c first.says second.says;
-      stays = λ s has. stays s (has.objects 0, tt) (first.stays s has, (second.stays s has, tt));
+      stays = λ s has.
+          stays s has tt (
+            stays_grown old cx d g first.stays s has,
+            (stays_grown old cx e g second.stays s has, tt),
+          );
     }
-
-pub joined_both : (cx : Context) (a b c : Pattern) (d e t : Theorem) → Equates cx a b (Some d)
-    → Equates cx b c (Some e) → IsJoin d.conclusion e.conclusion t.conclusion
-    → StaysWithin (var hole ∷ []) (d ∷ e ∷ []) t → Equates cx a c (Some t)
-joined_both cx a b c d e t first second is stays = joined_says cx a b c d e t first second is stays
-
-pub joined_second : (cx : Context) (a b c : Pattern) (o : Option Theorem) → Equates cx a b None
-    → Equates cx b c o → Equates cx a c o
-joined_second cx a b c o first second = subst (λ (x : Pattern). Equates cx x c o) (sym first) second
-
-pub joined_first : (cx : Context) (a b c : Pattern) (o : Option Theorem) → Equates cx a b o
-    → Equates cx b c None → Equates cx a c o
-joined_first cx a b c o first second = subst (λ (x : Pattern). Equates cx a x o) second first

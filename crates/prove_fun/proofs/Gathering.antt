@@ -78,7 +78,7 @@ pub gathered_next : (a b : Context) (theta : List (Option Tree)) (args : List Ru
     ≡ more_patterns (plain_pattern p) (plain_patterns (drop (i + 1) args))
     → IsOverContext b function → IsOverContext b image
     → IsGathered a theta args i head function made → IsEvaluated b theta (plain_pattern p) image one
-    → IsApplication function image made one next
+    → IsApplication b function image made one next
     → IsGathered b theta args (i + 1) head (app function image) next
 gathered_next a b theta args i p head function image made one next g split over over' before
     evaluated is = record {

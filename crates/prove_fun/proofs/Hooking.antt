@@ -207,6 +207,7 @@ hook_call cx f ts t vs fact image h are (s, says, image_is) stays is =
       left = w.0;
       left_image = left;
       closed = image_closed cx.program.sig cx.names (node f ts) w.0 left;
+      closed_right = image_closed cx.program.sig cx.names t image is;
       equal = record {
         says = w.4 ∙ ap (equal w.0) (sym (same_image image w.1 result));
         stays = stays;

@@ -25,6 +25,7 @@ use Rattle.prove_term.proofs.ContextLaws.{image_grown}
 use Rattle.prove_term.proofs.ComparingLaws.{image_closed, closed-injection}
 use Rattle.prove_term.proofs.ComparingInjections.{HasHalves, halves_of, applied_image}
 use Rattle.prove_fun.specs.Evaluating.{IsImage, Equates, HasEqual, IsEvaluated, IsInjectedOnce}
+use Rattle.prove_fun.specs.Evaluating.{AreLinked}
 use Rattle.prove_fun.proofs.Equalities.{application}
 
 same_image : (p q : Pattern) → Some p ≡ Some q → p ≡ q
@@ -83,7 +84,7 @@ only_child rs q r is there =
 pub beneath_evaluated : (old cx : Context) (theta : List (Option Tree)) (x y : ℕ) (p : RulePattern)
     (t : Tree) (whole head argument : Pattern) (one o : Option Theorem) → HasGrown old cx
     → IsImage old (injection x y (ground_pattern t)) whole → whole ≡ app head argument
-    → IsEvaluated cx theta p argument one → IsApplication head argument None one o
+    → IsEvaluated cx theta p argument one → IsApplication cx head argument None one o
     → IsEvaluated cx theta (injection x y p) whole o
 beneath_evaluated old cx theta x y p t whole head argument one o g image split evaluated is =
     let later : IsImage cx (injection x y (ground_pattern t)) whole =
@@ -105,15 +106,22 @@ beneath_evaluated old cx theta x y p t whole head argument one o g image split e
     }
 
 -- a pattern that equals the whole also equals what the whole equals
-pub joined_equal : (cx : Context) (p : RulePattern) (whole image : Pattern)
-    (first second o : Option Theorem) → HasEqual cx p whole first
-    → Equates cx whole image second
-    → ((cx : Context) (a b c : Pattern) → HasNoVariable a → Equates cx a b first
-    → Equates cx b c second → Equates cx a c o) → HasEqual cx p image o
-joined_equal cx p whole image first second o h equates join =
+pub injected_linked : (cx : Context) (p : RulePattern) (whole image : Pattern)
+    (first second : Option Theorem) (h : HasEqual cx p whole first) → HasNoVariable whole
+    → HasNoVariable image → Equates cx whole image second
+    → AreLinked cx h.left whole image first second
+injected_linked cx p whole image first second h middle last equates =
+    record { closed = (h.closed, (middle, last)); one = h.equates; two = equates }
+
+pub joined_equal : (old cx : Context) (p : RulePattern) (whole image : Pattern)
+    (first second o : Option Theorem) → HasGrown old cx → (h : HasEqual old p whole first)
+    → AreLinked old h.left whole image first second
+    → ((a b c : Pattern) → AreLinked old a b c first second → Equates cx a c o)
+    → HasEqual cx p image o
+joined_equal old cx p whole image first second o g h linked join =
     record {
       left = h.left;
-      left_image = h.left_image;
+      left_image = image_grown old cx (term p) h.left g h.left_image;
       closed = h.closed;
-      equates = join cx h.left whole image h.closed h.equates equates;
+      equates = join h.left whole image linked;
     }

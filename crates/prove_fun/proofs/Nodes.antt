@@ -1,9 +1,8 @@
 -- Constructors and calls, with their arguments.
 use Rattle.std.proofs.Common.{◌≡◌, ℕ, List, [], ◌∷◌, Option, Some, None, length, refl, sym, ◌∙◌, ap}
 use Rattle.std.proofs.Common.{subst}
-use Rattle.ml_pat.specs.Patterns.{Pattern, equal, constant, var}
-use Rattle.ml_derived.specs.Scopes.{StaysWithin}
-use Rattle.ml_derived.specs.Equalities.{hole, AreJoinable, IsJoin}
+use Rattle.ml_pat.specs.Patterns.{Pattern, equal, constant}
+use Rattle.ml_derived.specs.Equalities.{AreJoinable, IsJoin}
 use Rattle.ml_kernel.specs.Lemmas.{HasNoVariable}
 use Rattle.ml_kernel.specs.Theorems.{Theorem}
 use Rattle.term_core.specs.Terms.{Tree, Forest, node}
@@ -15,11 +14,13 @@ use Rattle.rule_core.specs.declared.rules.Program.{Program}
 use Rattle.rule_core.specs.Records.{Record, RecordList, RecordAll, result_of, results_of}
 use Rattle.rule_core.specs.ProgramView.{theory_of}
 use Rattle.ml_image.specs.Images.{applied, symbol_image}
-use Rattle.prove_term.specs.Contexts.{Context, HasGrown}
+use Rattle.ml_image.specs.Sentences.{term}
+use Rattle.prove_term.specs.Contexts.{Context, HasGrown, StaysInWith}
 use Rattle.prove_term.specs.Schemas.{AreImages}
-use Rattle.prove_term.specs.Applications.{applied_to}
+use Rattle.prove_term.specs.Applications.{HasClosedSides, applied_to}
 use Rattle.prove_term.specs.Comparing.{IsOverContext}
 use Rattle.prove_term.specs.Filling.{all_filled}
+use Rattle.prove_term.proofs.ContextLaws.{image_grown}
 use Rattle.prove_term.proofs.KeptLaws.{symbol_grown}
 use Rattle.prove_term.proofs.ComparingLaws.{application_image}
 use Rattle.prove_term.proofs.ComparingCalls.{head_over}
@@ -27,7 +28,8 @@ use Rattle.prove_fun.specs.RecordParts.{children_of}
 use Rattle.prove_fun.specs.Evaluating.{IsRecorded, AreRecorded, IsImage, SaysEqual, HasEqual}
 use Rattle.prove_fun.specs.Evaluating.{IsEvaluated, AreEvaluated, SaysCall}
 use Rattle.prove_fun.proofs.Recording.{as_many_records, constructor_recorded}
-use Rattle.prove_fun.proofs.Equalities.{says_grown, joinable, joined_says}
+use Rattle.prove_fun.proofs.Equalities.{closed_sides, says_grown, joinable}
+use Rattle.prove_fun.proofs.Equalities.{joined_says}
 use Rattle.prove_fun.proofs.Gathering.{as_many_images}
 
 -- an image that is a symbol's constant applied to the images of the results, one for each argument
@@ -168,19 +170,24 @@ call_joinable old cx f ts p left right same fact g s is h =
     (λ (q : Pattern). SaysEqual cx q right fact) (sym is)
     (says_grown old cx s.left right fact g s.equal))
 
-pub call_joined : (old cx : Context) (f : ℕ) (ts : Forest) (p : RulePattern) (left right : Pattern)
-    (same fact t : Theorem) → HasGrown old cx → (s : SaysCall old f ts right fact)
-    → left ≡ s.left → HasEqual cx p left (Some same)
+pub call_closed : (old : Context) (f : ℕ) (ts : Forest) (right : Pattern) (fact : Theorem)
+    → SaysCall old f ts right fact → HasClosedSides fact.conclusion
+call_closed old f ts right fact s =
+    closed_sides old s.left right fact s.closed s.closed_right s.equal
+
+pub call_joined : (old mid cx : Context) (f : ℕ) (ts : Forest) (p : RulePattern)
+    (left right : Pattern) (same fact t : Theorem) → HasGrown old mid → HasGrown mid cx
+    → (s : SaysCall old f ts right fact) → left ≡ s.left → HasEqual mid p left (Some same)
     → IsJoin same.conclusion fact.conclusion t.conclusion
-    → StaysWithin (var hole ∷ []) (same ∷ fact ∷ []) t → HasEqual cx p right (Some t)
-call_joined old cx f ts p left right same fact t g s is h joins stays = record {
-  left = h.left;
-  left_image = h.left_image;
-  closed = h.closed;
+    → StaysInWith cx [] (same ∷ fact ∷ []) t → HasEqual cx p right (Some t)
+call_joined old mid cx f ts p left right same fact t g k s is before joins stays = record {
+  left = before.left;
+  left_image = image_grown mid cx (term p) before.left k before.left_image;
+  closed = before.closed;
   equates =
-      joined_says cx h.left left right same fact t h.equates (subst
-      (λ (q : Pattern). SaysEqual cx q right fact) (sym is)
-      (says_grown old cx s.left right fact g s.equal)) joins stays;
+      joined_says mid cx before.left left right same fact t k before.equates (subst
+      (λ (q : Pattern). SaysEqual mid q right fact) (sym is)
+      (says_grown old mid s.left right fact g s.equal)) joins stays;
 }
 
 pub call_alone : (old cx : Context) (f : ℕ) (ts : Forest) (p : RulePattern) (left right : Pattern)

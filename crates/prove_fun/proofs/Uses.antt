@@ -5,6 +5,7 @@ use Rattle.std.proofs.Common.{◌∙◌, ap, subst, arith}
 use Rattle.std.specs.Prelude.{true, Vec, slice_index_or, ◌⊎◌}
 use Rattle.std.specs.Global.{Global}
 use Rattle.ml_pat.specs.Patterns.{Pattern}
+use Rattle.ml_kernel.specs.Lemmas.{HasNoVariable}
 use Rattle.ml_kernel.specs.Theorems.{Theorem}
 use Rattle.term_core.specs.Terms.{Tree, Forest, more_trees, leaf, truth}
 use Rattle.term_core.specs.Forests.{forest}
@@ -146,6 +147,7 @@ equation_call cx f e sigma ts t s stays = record {
   left = s.left;
   left_image = s.left_image;
   closed = s.no_variable.0;
+  closed_right = s.no_variable.1;
   equal = record { says = s.says; stays = stays };
 }
 
@@ -197,15 +199,18 @@ pub then_parts : (old mid cx : Context) (sigma : List (Option Tree))
     (second : Option Theorem) → HasGrown old mid → HasGrown mid cx
     → IsImage old (filled sigma e_right) right → e_right ≡ q_right
     → HasEqual mid p right (Some first) → HasEqual cx (filled sigma q_right) image second
-    → HasEqual cx p right (Some first) × Equates cx right image second
+    → HasEqual cx p right (Some first) × (Equates cx right image second × HasNoVariable right)
 then_parts old mid cx sigma p e_right q_right right image first second g k own is before after =
     let later : IsImage cx (filled sigma q_right) right =
     subst (λ (q : RulePattern). IsImage cx (filled sigma q) right) is (image_grown old cx
     (term (filled sigma e_right)) right (grown_twice old mid cx g k) own) in
     let both : Some after.left ≡ Some right = sym after.left_image ∙ later in (
       has_equal_grown mid cx p right (Some first) k before,
-      subst (λ (q : Pattern). Equates cx q image second) (first_same after.left right both)
-          after.equates,
+      (
+        subst (λ (q : Pattern). Equates cx q image second) (first_same after.left right both)
+            after.equates,
+        subst HasNoVariable (first_same after.left right both) after.closed,
+      ),
     )
   where
     first_same : (p q : Pattern) → Some p ≡ Some q → p ≡ q

@@ -67,6 +67,13 @@ abbrev pub Equates : Context → Pattern → Pattern → Option Theorem → Type
 Equates cx a b None = a ≡ b
 Equates cx a b (Some t) = SaysEqual cx a b t
 
+-- Of three patterns without object variables, the first equals the second, and the second the
+-- third. Where there is no theorem, the two are the same.
+pub record AreLinked (cx : Context) (a b c : Pattern) (first second : Option Theorem) : Type 0 where
+  pub closed : HasNoVariable a × (HasNoVariable b × HasNoVariable c)
+  pub one : Equates cx a b first
+  pub two : Equates cx b c second
+
 -- the image of p and the given pattern are the same, or the theorem says that they are equal
 pub record HasEqual (cx : Context) (p : RulePattern) (image : Pattern) (o : Option Theorem) :
     Type 0 where
@@ -96,13 +103,14 @@ pub record AreEvaluated (cx : Context) (theta : List (Option Tree)) (ps : RulePa
   pub closed : HasNoVariable left
   pub equates : Equates cx left whole o
 
--- The theorem says that the image of the function of these terms equals the given pattern. The
--- image has no object variable.
+-- The theorem says that the image of the function of these terms equals the given pattern. Neither
+-- has an object variable.
 pub record SaysCall (cx : Context) (f : ℕ) (ts : Forest) (right : Pattern) (t : Theorem) :
     Type 0 where
   pub left : Pattern
   pub left_image : IsImage cx (call f [] (ground_patterns ts)) left
   pub closed : HasNoVariable left
+  pub closed_right : HasNoVariable right
   pub equal : SaysEqual cx left right t
 
 -- the function has a hook; at these terms, which are of its arguments' sorts, the hook has the

@@ -1,44 +1,49 @@
 // Chains of equalities, some of which may be missing.
-ghost use Rattle.std.specs.Prelude.{◌≡◌, IfOk, Some};
+ghost use Rattle.std.specs.Prelude.{IfOk, Some};
 ghost use Rattle.ml_pat.specs.Patterns.{Pattern};
-ghost use Rattle.ml_kernel.specs.Lemmas.{HasNoVariable};
-ghost use Rattle.prove_term.specs.Contexts.{Context};
+ghost use Rattle.prove_term.specs.Contexts.{Context, HasGrown};
 ghost use Rattle.prove_term.specs.Comparing.{IsOverContext};
-ghost use Rattle.prove_fun.specs.Evaluating.{Equates};
+ghost use Rattle.prove_fun.specs.Evaluating.{AreLinked, Equates};
 
-use ml_derived::{eq_refl, join};
+use ml_derived::eq_refl;
 use ml_kernel::Thm;
 use ml_pat::MPat;
+use prove_term::{Cx, join};
 use std::alloc::{AllocError, Global};
 
 // From `a = b` and `b = c`: `a = c`. If an equality is missing, its sides are the same.
 pub(crate) fn joined(
     alloc: Global,
+    cx: &mut Cx<'_>,
     first: Option<Thm>,
     second: Option<Thm>,
 ) -> Result<Option<Thm>, AllocError>
-    requires { (cx : Context) × (a b c : Pattern) × HasNoVariable a × Equates cx a b first
-        × Equates cx b c second }
-    ensures { IfOk result
-        (λ o. (cx : Context) (a b c : Pattern) → HasNoVariable a → Equates cx a b first →
-        Equates cx b c second → Equates cx a c o) }
+    requires { (a b c : Pattern) × AreLinked cx.old a b c first second }
+    ensures says { IfOk result
+        (λ o. (a b c : Pattern) → AreLinked cx.old a b c first second → Equates cx.new a c o) }
+    ensures grown { HasGrown cx.old cx.new }
 {
     match (first, second) {
-        (Some(d), Some(e)) => Ok(Some(join(alloc, &d, &e)?)),
+        (Some(d), Some(e)) => Ok(Some(join(alloc, cx, &d, &e)?)),
         (None, o) | (o, None) => Ok(o),
     }
 }
 
 // From `a = b` and `b = c`: `a = c`. If the second equality is missing, its sides are the same.
-pub(crate) fn followed(alloc: Global, first: Thm, second: &Option<Thm>) -> Result<Thm, AllocError>
-    requires { (cx : Context) × (a b c : Pattern) × HasNoVariable a × Equates cx a b (Some first)
-        × Equates cx b c second.now }
-    ensures { IfOk result
-        (λ t. (cx : Context) (a b c : Pattern) → HasNoVariable a → Equates cx a b (Some first) →
-        Equates cx b c second.now → Equates cx a c (Some t)) }
+pub(crate) fn followed(
+    alloc: Global,
+    cx: &mut Cx<'_>,
+    first: Thm,
+    second: &Option<Thm>,
+) -> Result<Thm, AllocError>
+    requires { (a b c : Pattern) × AreLinked cx.old a b c (Some first) second.now }
+    ensures says { IfOk result
+        (λ t. (a b c : Pattern) → AreLinked cx.old a b c (Some first) second.now →
+        Equates cx.new a c (Some t)) }
+    ensures grown { HasGrown cx.old cx.new }
 {
     match second {
-        Some(equality) => join(alloc, &first, equality),
+        Some(equality) => join(alloc, cx, &first, equality),
         None => Ok(first),
     }
 }

@@ -34,10 +34,9 @@ use crate::equations::{equation_fact, equation_of};
 use crate::hooks::hook_fact;
 use crate::lemma_places::LemmaPlaces;
 use crate::parts::{child, sides};
-use ml_derived::join;
 use ml_kernel::Thm;
 use ml_pat::MPat;
-use prove_term::{Cx, applied, halves, inj_eq, taken_apart};
+use prove_term::{Cx, applied, halves, inj_eq, join, taken_apart};
 use rule_core::{EqRecord, Equation, EvalRecord};
 use std::alloc::{AllocError, Global};
 use term_core::{MAX_HEIGHT, RulePat, SortId, Subst, SymId, Term, pattern_of};
@@ -211,7 +210,7 @@ fn all_evaluated(
             child(evaluation, i),
             argument,
         )?;
-        made = applied(alloc, &made, &function, &one, argument)?;
+        made = applied(alloc, cx, &made, &function, &one, argument)?;
         function = MPat::app(alloc, &function, argument)?;
     }
     Ok(made)
@@ -245,8 +244,8 @@ fn injected(
     let whole = as_written(&once, image)?;
     let (head, argument) = halves(&whole);
     let one = evaluated(alloc, cx, kept, below, subst, inner, argument)?;
-    let beneath = applied(alloc, &None, head, &one, argument)?;
-    joined(alloc, beneath, once)
+    let beneath = applied(alloc, cx, &None, head, &one, argument)?;
+    joined(alloc, cx, beneath, once)
 }
 
 // The same for a call of a function.
@@ -329,7 +328,7 @@ fn by_equation(
         &used.body,
         image,
     )?;
-    followed(alloc, first, &right)
+    followed(alloc, cx, first, &right)
 }
 
 // Proves that the condition of the used equation holds, if it has one.
@@ -424,7 +423,7 @@ fn at_values(
         &parts.arguments,
     )?;
     match values {
-        Some(same) => join(alloc, &same, fact),
+        Some(same) => join(alloc, cx, &same, fact),
         None => fact.share(alloc),
     }
 }

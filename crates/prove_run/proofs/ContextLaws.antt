@@ -1,6 +1,7 @@
 -- What stays true of what was written when a context grows, and laws of terms without variables.
 use Rattle.std.proofs.Common.{◌≡◌, ℕ, ◌<◌, ◌≤◌, List, [], ◌∷◌, ◌++◌, Some, None, length, zero, suc}
-use Rattle.std.proofs.Common.{inl, inr, sym, subst, arith, length-append}
+use Rattle.std.proofs.Common.{get_or, inl, inr, sym, ◌∙◌, ap, subst, arith, length-append}
+use Rattle.std.proofs.Math.Seq.{get_or-append_seam}
 use Rattle.std.specs.Prelude.{slice_get, Contains}
 use Rattle.std.proofs.lemmas.List.Elements.{Contains-append_left, Contains-append_right}
 use Rattle.ml_pat.specs.Patterns.{Pattern}
@@ -84,7 +85,16 @@ lemma_grown old new t g there =
     subst (λ (ts : List Theorem). Contains ts t) (sym g.more_lemmas)
     (Contains-append_left old.lemmas g.lemmas t there)
 
--- the last kept lemma is there
+-- the last kept lemma is the one that was added
+pub last_lemma : (old new : Context) (t lemma shared : Theorem) (place : ℕ)
+    → new ≡ record old { lemmas = old.lemmas ++ t ∷ [] } → place ≡ length old.lemmas
+    → lemma ≡ get_or new.lemmas place lemma → shared ≡ lemma → shared ≡ t
+last_lemma old new t lemma shared place is at found same =
+    same ∙ found ∙ ap (λ (cx : Context). get_or cx.lemmas place lemma) is
+    ∙ ap (λ (i : ℕ). get_or (old.lemmas ++ t ∷ []) i lemma) at
+    ∙ get_or-append_seam old.lemmas t [] lemma
+
+-- it is there
 pub kept_lemma : (old new : Context) (t lemma : Theorem)
     → new ≡ record old { lemmas = old.lemmas ++ t ∷ [] } → lemma ≡ t → Contains new.lemmas lemma
 kept_lemma old new t lemma is same =

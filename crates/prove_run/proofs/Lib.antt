@@ -4,3 +4,4 @@ pub mod ProofLaws
 pub mod WritingOn
 pub mod ReachLaws
 pub mod StartingLaws
+pub mod FileLaws

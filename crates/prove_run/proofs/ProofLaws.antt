@@ -1,6 +1,6 @@
 -- What is true of a proof at its beginning and after a step, and which texts fit it.
 use Rattle.std.proofs.Common.{◌≡◌, ◌≤◌, ℕ, List, [], ◌++◌, Option, Some, length, refl, ap, ◌∙◌, sym}
-use Rattle.std.proofs.Common.{subst}
+use Rattle.std.proofs.Common.{◌+◌, ◌-◌, ◌^◌, min, Bool, true, false, subst, arith, length-append}
 use Rattle.std.specs.Prelude.{Contains}
 use Rattle.std.proofs.lemmas.List.{append_assoc}
 use Rattle.term_core.specs.Terms.{Tree}
@@ -14,7 +14,8 @@ use Rattle.rule_core.specs.declared.rules.Program.{Program}
 use Rattle.ml_kernel.specs.Theorems.{Theorem}
 use Rattle.mm_claims.specs.Rendered.{Rendered, all_stated}
 use Rattle.mm_claims.specs.Places.{IsStated}
-use Rattle.mm_justify.specs.Justifying.{JustifiesRun}
+use Rattle.mm_justify.specs.Justifying.{IsProofOfRun}
+use Rattle.mm_justify.specs.Counting.{capped}
 use Rattle.prove_term.specs.Contexts.{Context, IsContext, HasGrown, new_context}
 use Rattle.prove_term.proofs.ContextLaws.{grown_twice}
 use Rattle.prove_step.specs.Steps.{IsStepFrom}
@@ -27,7 +28,7 @@ use Rattle.prove_run.specs.Proving.{FitsProof, Begins, CanStep, StepsTo}
 use Rattle.prove_run.specs.Reaching.{SaysReached}
 use Rattle.prove_run.specs.ReachLemma.{IsReachLemma}
 use Rattle.prove_run.specs.Going.{MayGoOn, ExtendsRun}
-use Rattle.prove_run.specs.ProofView.{run_proof, IsProof}
+use Rattle.prove_run.specs.ProofView.{run_proof, IsProof, IsProofOrFailed, IsProofUnless}
 use Rattle.prove_run.specs.declared.proof.Proof.TheInside.{Inside}
 use Rattle.prove_run.proofs.ContextLaws.{written_grown, text_grown, lemma_grown}
 use Rattle.prove_run.proofs.StartingLaws.{begun_has_none}
@@ -67,25 +68,49 @@ is_proof program told thm p same well_sorted bound names ground says made last r
       listed = listed;
     }
 
+-- the invariant of a proof that has not failed
+pub not_failed : (p : Inside) (v : RunProof) → run_proof p ≡ v → v.failed ≡ false
+    → IsProofOrFailed p → IsProof p
+not_failed p v is sound h =
+    let e : p.failed ≡ false = ap (λ (x : RunProof). x.failed) is ∙ sound in
+    subst (λ (b : Bool). IsProofUnless b p) e h
+
+min-add : (n more most : ℕ) → min (min n most + more) most ≡ min (n + more) most
+min-add n more most = omega arith
+
+-- a sum that stays at its limit
+capped-add : (n more : ℕ) → capped (capped n + more) ≡ capped (n + more)
+capped-add n more = min-add n more (2 ^ 64 - 1)
+
+-- more bytes were appended and counted
+pub counted_more : (text added : List ℕ) (count : ℕ) → count ≡ capped (length text)
+    → capped (count + length added) ≡ capped (length (text ++ added))
+counted_more text added count counted =
+    ap (λ (n : ℕ). capped (n + length added)) counted ∙ capped-add (length text) (length added)
+    ∙ ap capped (sym (length-append text added))
+
 -- a text of what was written before, followed by the appended bytes, fits the proof
 fits_now : (p : Inside) (old : Writer) (told : Option Tree) (thm : Theorem)
     (before after added text : List ℕ) → HasNoVariables (plain_pattern p.start.now)
     → SaysReached p.prover (plain_pattern p.start.now)
     (configuration (plain_pattern p.start.now) told) thm → p.reached ≡ told
     → Concludes p.prover old thm before after → after ≡ before ++ added → IsTextOf p.prover old text
-    → IsTextOf p.prover p.writer (text ++ added) → FitsProof (run_proof p) (text ++ added)
-fits_now p old told thm before after added text ground says made concludes whole was is = record {
-  fits = is.fits;
-  only = is.only;
-  justifies =
-      subst (λ (o : Option Tree). JustifiesRun (text ++ added) (theory_of p.prover.program)
-      (plain_pattern p.start.now) (configuration (plain_pattern p.start.now) o)) (sym made)
-      (concludes (plain_pattern p.start.now) (configuration (plain_pattern p.start.now) told)
-      says.from says.to added text ground
-      (begun_has_none (plain_pattern p.start.now) told ground)
-      says.from_image says.to_image says.says whole was);
-  counts = is.counts;
-}
+    → IsTextOf p.prover p.writer (text ++ added) → p.bytes ≡ capped (length (text ++ added))
+    → FitsProof (run_proof p) (text ++ added)
+fits_now p old told thm before after added text ground says made concludes whole was is bytes =
+    record {
+      fits = is.fits;
+      only = is.only;
+      proves =
+          subst (λ (o : Option Tree). IsProofOfRun (text ++ added) (theory_of p.prover.program)
+          (plain_pattern p.start.now) (configuration (plain_pattern p.start.now) o)) (sym made)
+          (concludes (plain_pattern p.start.now) (configuration (plain_pattern p.start.now) told)
+          says.from says.to added text ground
+          (begun_has_none (plain_pattern p.start.now) told ground)
+          says.from_image says.to_image says.says whole was);
+      counts = is.counts;
+      bytes_are = bytes;
+    }
 
 -- ---- the beginning
 
@@ -106,22 +131,25 @@ pub begins : (program : Program) (told : Option Tree) (w : Writer) (thm : Theore
     → SaysReached p.prover (plain_pattern p.start.now)
     (configuration (plain_pattern p.start.now) told) thm → p.reached ≡ told
     → HasWrittenAll w (new_context program) → BeginsText (new_context program) w before middle
-    → Concludes p.prover w thm middle after → Adds p.prover w p.writer middle after
-    → Begins program p.start.now told (run_proof p) before after
+    → Concludes p.prover w thm middle after → Adds p.prover w p.writer middle after → before ≡ []
+    → p.steps ≡ 0 → p.failed ≡ false → p.bytes ≡ capped (length after)
+    → Begins program p.start.now told (run_proof p) after
 begins program told w thm p before middle after grown ground says made written (text, is, fits)
-    concludes (added, is', adds) =
+    concludes (added, is', adds) none steps sound bytes =
     let was : IsTextOf p.prover w text =
     text_grown (new_context program) p.prover w text written.written.named grown fits in
+    let whole : after ≡ text ++ added =
+    is' ∙ ap (λ (l : List ℕ). l ++ added) (is ∙ ap (λ (l : List ℕ). l ++ text) none) in
     record {
       same_program = grown.program;
       starts = refl;
       made = made;
-      text = (
-        text ++ added,
-        is' ∙ ap (λ (l : List ℕ). l ++ added) is ∙ append_assoc before text added,
-        fits_now p w told thm middle after added text ground says made concludes is' was
-            (adds text was),
-      );
+      none_made = steps;
+      sound = sound;
+      fits =
+          subst (FitsProof (run_proof p)) (sym whole)
+          (fits_now p w told thm middle after added text ground says made concludes is' was
+          (adds text was) (bytes ∙ ap (λ (l : List ℕ). capped (length l)) whole));
     }
 
 -- ---- a step
@@ -171,17 +199,28 @@ says_now p new u further proof goes =
     proof.has_reached.says
 
 -- the proof with the results of the step
-abbrev pub after_step : Inside → Context → Writer → Theorem → Tree → Inside
-after_step p new w last made =
-    record p { prover = new; writer = w; reached = Some made; last = last }
+abbrev pub after_step : Inside → Context → Writer → Theorem → Tree → ℕ → ℕ → Inside
+after_step p new w last made steps bytes =
+    record p {
+      prover = new;
+      writer = w;
+      reached = Some made;
+      last = last;
+      steps = steps;
+      bytes = bytes;
+      failed = false;
+    }
 
 pub goes_proof : (p : Inside) (new : Context) (w : Writer) (further last : Theorem) (u made : Tree)
+    (steps bytes : ℕ)
     → IsProof p → ExtendsRun p.prover new p.last u further → made ≡ u → last ≡ further
     → IsContext new → HasWrittenAll w new → further.hypotheses ≡ []
     → IsStated (all_stated w.renderer) further.hypotheses further.conclusion
-    → IsProof (after_step p new w last made)
-goes_proof p new w further last u made proof goes same same_last context written none stated =
-    is_proof p.prover.program (Some u) further (after_step p new w last made) goes.grown.program
+    → IsProof (after_step p new w last made steps bytes)
+goes_proof p new w further last u made steps bytes proof goes same same_last context written none
+    stated =
+    is_proof p.prover.program (Some u) further (after_step p new w last made steps bytes)
+    goes.grown.program
     proof.well_sorted proof.bound proof.names proof.has_reached.ground
     (says_now p new u further proof goes) (ap (λ (t : Tree). Some t) same) same_last proof.reach
     (lemma_grown p.prover new p.reach goes.grown proof.listed) context written none stated
@@ -196,22 +235,32 @@ fitted_text p v new text is proof grown h =
     (record { fits = fits.fits; only = fits.only; counts = fits.counts })
 
 pub steps_to : (p : Inside) (v : RunProof) (new : Context) (w : Writer) (further last : Theorem)
-    (u made : Tree) (before after : List ℕ) → run_proof p ≡ v → IsProof p
+    (u made : Tree) (before after : List ℕ) (steps bytes : ℕ) → run_proof p ≡ v → IsProof p
     → ExtendsRun p.prover new p.last u further → made ≡ u
     → Concludes new p.writer further before after → Adds new p.writer w before after
-    → StepsTo v (run_proof (after_step p new w last made)) u before after
-steps_to p v new w further last u made before after is proof goes same concludes
-    (added, whole, adds) = record {
+    → before ≡ [] → steps ≡ capped (p.steps + 1) → bytes ≡ capped (p.bytes + length after)
+    → StepsTo v (run_proof (after_step p new w last made steps bytes)) u after
+steps_to p v new w further last u made before after steps bytes is proof goes same concludes
+    (added, whole, adds) none one_made counted = record {
       same_program = goes.grown.program ∙ ap (λ (x : RunProof). x.program) is;
       same_start = ap (λ (x : RunProof). x.start) is;
       made = ap (λ (t : Tree). Some t) same;
-      text = (added, whole, λ text h. fits text (fitted_text p v new text is proof goes.grown h));
+      one_made = one_made ∙ ap (λ (x : RunProof). capped (x.steps + 1)) is;
+      sound = refl;
+      fits = λ text h.
+          subst (λ (l : List ℕ).
+          FitsProof (run_proof (after_step p new w last made steps bytes)) (text ++ l)) (sym all)
+          (fits text (fitted_text p v new text is proof goes.grown h) h.bytes_are);
     }
   where
-    fits : (text : List ℕ) → IsTextOf new p.writer text
-        → FitsProof (run_proof (after_step p new w last made)) (text ++ added)
-    fits text was =
-        fits_now (after_step p new w last made) p.writer (Some u) further before after added text
-        proof.has_reached.ground (says_now p new u further proof goes)
-        (ap (λ (t : Tree). Some t) same)
-        concludes whole was (adds text was)
+    all : after ≡ added
+    all = whole ∙ ap (λ (l : List ℕ). l ++ added) none
+
+    fits : (text : List ℕ) → IsTextOf new p.writer text → v.bytes ≡ capped (length text)
+        → FitsProof (run_proof (after_step p new w last made steps bytes)) (text ++ added)
+    fits text was before_bytes =
+        fits_now (after_step p new w last made steps bytes) p.writer (Some u) further before after
+        added text proof.has_reached.ground (says_now p new u further proof goes)
+        (ap (λ (t : Tree). Some t) same) concludes whole was (adds text was)
+        (counted ∙ ap (λ (l : List ℕ). capped (p.bytes + length l)) all
+        ∙ counted_more text added p.bytes (ap (λ (x : RunProof). x.bytes) is ∙ before_bytes))

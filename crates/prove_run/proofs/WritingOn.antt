@@ -7,7 +7,7 @@ use Rattle.ml_kernel.specs.Theorems.{Theorem}
 use Rattle.rule_core.specs.declared.rules.Program.{Program}
 use Rattle.rule_core.specs.ProgramView.{theory_of}
 use Rattle.mm_claims.specs.Rendered.{Rendered}
-use Rattle.mm_justify.specs.Justifying.{JustifiesRun}
+use Rattle.mm_justify.specs.Justifying.{IsProofOfRun}
 use Rattle.prove_term.specs.Contexts.{Context}
 use Rattle.proof_writer.specs.declared.writer.ProofParts.{ProofParts}
 use Rattle.proof_writer.specs.declared.writer.Writer.{Writer}
@@ -52,6 +52,6 @@ concludes_after cx a b c t x y z (m, is, f) (n, is', g) concludes start end from
     let same : m ++ n ≡ added =
     added_same x (m ++ n) added
     (sym (append_assoc x m n) ∙ ap (λ (l : List ℕ). l ++ n) (sym is) ∙ sym is' ∙ whole) in
-    subst (λ (l : List ℕ). JustifiesRun l (theory_of cx.program) start end)
+    subst (λ (l : List ℕ). IsProofOfRun l (theory_of cx.program) start end)
     (append_assoc text m n ∙ ap (λ (l : List ℕ). text ++ l) same)
     (concludes start end from to n (text ++ m) none none' image image' says is' (f text h))

@@ -1,6 +1,9 @@
 -- Public: what public clauses say, and public definitions of other crates.
 pub mod RunProof
 pub mod Proving
+pub mod WrittenProofs
+pub mod Summaries
+pub mod Ends
 -- Private: what clauses of private functions cite, and how private fields are seen.
 pub mod Reaching
 pub mod ReachLemma

@@ -1,5 +1,5 @@
 -- How contracts see a `Proof` of the code, and what is true of it.
-use Rattle.std.specs.Prelude.{Contains}
+use Rattle.std.specs.Prelude.{Bool, true, false, Contains}
 use Rattle.term_core.specs.RulePatterns.{plain_pattern}
 use Rattle.rule_core.specs.BoundVariables.{HasBoundVariables}
 use Rattle.rule_core.specs.ProgramView.{theory_of}
@@ -19,8 +19,11 @@ run_proof p = record {
   made = p.reached;
   names = p.prover.names;
   kept = p.writer.renderer;
+  steps = p.steps;
   facts = p.writer.facts;
   statements = p.writer.statements;
+  bytes = p.bytes;
+  failed = p.failed;
 }
 
 -- The program is well sorted, its rules and equations bind their variables, and its names can be
@@ -36,3 +39,11 @@ pub record IsProof (p : Inside) : Type 0 where
       (configuration (plain_pattern p.start.now) p.reached)
   pub reach : IsReachLemma p.reach
   pub listed : Contains p.prover.lemmas p.reach
+
+-- the same, unless the proof has failed
+abbrev pub IsProofUnless : Bool → Inside → Type 0
+IsProofUnless true p = Unit {0}
+IsProofUnless false p = IsProof p
+
+abbrev pub IsProofOrFailed : Inside → Type 0
+IsProofOrFailed p = IsProofUnless p.failed p

@@ -5,9 +5,10 @@
 //! concludes `a -> ev c` from `a -> ev b` and the theorem of the step, `b -> next c`. Each such
 //! theorem is in the database, and the next one cites it. Both theorems are made from records, of
 //! the evaluation and of the step. The contract is about texts that fit a proof. Such a text
-//! justifies the run from the start to the present configuration. If a text fits before a step, it
-//! fits after the step when the step's bytes are appended to it. So the text can be written to a
-//! file as the run goes.
+//! justifies the run from the start to the present configuration, and has compressed proofs only.
+//! If a text fits before a step, it fits after the step when the step's bytes are appended to it.
+//! Each call appends its bytes to the created file of a desk. So after the beginning and after each
+//! step that file is a proof of the run so far, and not only at the end of the run.
 //!
 //! The text of a step has the names of the configurations in it, and each part of the terms that
 //! are bound to the rule's variables. It is linear in the sizes of the configurations if these are
@@ -16,9 +17,14 @@
 //! on. A fact on a hook, a value or a symbol is stated once in a file. Later steps cite them.
 #![tactic(auto)]
 
+mod ends;
 mod further;
 mod going;
 mod proof;
 mod starting;
+mod summaries;
+mod writing;
 
+pub use ends::ProveEnd;
 pub use proof::Proof;
+pub use summaries::Summary;

@@ -1,5 +1,8 @@
 // A proof of a run, step by step.
-ghost use Rattle.std.specs.Prelude.{◌≡◌, [], Contains, IfOk, IfSome, OnOk, option_copied};
+ghost use Rattle.std.specs.Prelude.{◌≡◌, ◌≤◌, [], Contains, IfOk, IfSome, IsErrOf, IsFalse, IsTrue};
+ghost use Rattle.std.specs.Prelude.{OnErr, OnOk, option_copied};
+ghost use Rattle.desk_io.specs.Changes.{Closes};
+ghost use Rattle.desk_io.specs.Counts.{CountRose};
 ghost use Rattle.term_core.specs.RulePatterns.{plain_pattern};
 ghost use Rattle.rule_core.specs.BoundVariables.{HasBoundVariables};
 ghost use Rattle.rule_core.specs.ProgramView.{theory_of};
@@ -14,10 +17,17 @@ ghost use Rattle.proof_writer.specs.Writing.{Adds, Concludes, HasWritten, HasWri
 ghost use Rattle.proof_writer.specs.Writing.{MayFollow};
 ghost use Rattle.prove_run.specs.Proving.{Begins, CanStep, StepsTo, value_told};
 ghost use Rattle.prove_run.specs.ReachLemma.{IsReachLemma};
+ghost use Rattle.prove_run.specs.Summaries.{summary_of};
+ghost use Rattle.prove_run.specs.WrittenProofs.{JustifiesFirst, JustifiesFurther, WritesBeginning};
+ghost use Rattle.prove_run.specs.WrittenProofs.{WritesFrontAfter, WritesFrontOfProof, WritesStep};
 
+use crate::ends::ProveEnd;
 use crate::further::reach_lemma;
 use crate::going::goes_further;
 use crate::starting::start_reaches;
+use crate::summaries::Summary;
+use crate::writing::{close_text, write_text};
+use desk_io::Desk;
 use ml_kernel::{Lemma, Thm};
 use mm_justify::image_laws;
 use proof_writer::{ProofParts, Writer};
@@ -28,8 +38,8 @@ use std::marker::Model;
 use term_core::{RulePat, Term};
 
 /// A proof that the start of a run reaches the present configuration. Contracts see the start, the
-/// configuration, the program, the names, and what is kept of the text.
-#[derive(Drop)]
+/// configuration, the program, the names, what is kept of the text, its counts, and whether a call
+/// has answered an error.
 pub struct Proof<'p> {
     prover: Prover<'p>,
     writer: Writer,
@@ -40,6 +50,28 @@ pub struct Proof<'p> {
     last: Lemma,
     // The lemma by which the run goes one step further.
     reach: Lemma,
+    // How many steps were made, and how many bytes the text has, or 2^64 - 1 if there are more.
+    steps: u64,
+    bytes: u64,
+    // Whether a call has answered an error.
+    failed: bool,
+}
+
+// A proof is dropped by one call, and not field by field at each end of each call that owns one.
+impl Drop for Proof<'_> {
+    fn drop(self) {
+        let Proof {
+            prover: _,
+            writer: _,
+            start: _,
+            reached: _,
+            last: _,
+            reach: _,
+            steps: _,
+            bytes: _,
+            failed: _,
+        } = self;
+    }
 }
 
 impl<'p> Model for Proof<'p> {
@@ -53,24 +85,68 @@ impl<'p> Model for Proof<'p> {
 
     ghost coded = { Prim.hlevel (codes, rule_pattern.the_row.coded, tree_code, kept_code) };
 
-    ghost use Rattle.prove_run.specs.ProofView.{run_proof, IsProof};
+    ghost use Rattle.prove_run.specs.ProofView.{run_proof, IsProofOrFailed};
 
     ghost view = { run_proof };
 
-    ghost invariant = { IsProof };
+    ghost invariant = { IsProofOrFailed };
 }
 
 impl<'p> Proof<'p> {
     /// Begins the proof of a run with no steps: the start reaches its value, by the record of its
     /// evaluation. If there is no record, the start reaches itself. The text of the proof is
-    /// appended to the buffer. The error: out of memory. Then a part of the text was appended.
-    pub fn begin(
+    /// appended to the created file. If that file was empty, it now justifies the run up to there.
+    ///
+    /// Errors: out of memory, or a fault that the desk counted. Then the front of a proof of a run
+    /// from the start, or nothing, was appended.
+    pub fn begin<D: Desk>(
+        alloc: Global,
+        program: &'p Program,
+        start: &'p RulePat,
+        value: Option<&EvalRecord>,
+        desk: &mut D,
+    ) -> Result<Proof<'p>, ProveEnd>
+        requires file { IsTrue (D.created desk.old) }
+        requires names { HasPlainNames program.now.sig }
+        requires well_sorted { IsWellSorted (theory_of program.now) }
+        requires bound { HasBoundVariables program.now }
+        requires start { IsStart (theory_of program.now) (plain_pattern start.now) }
+        requires value { IfSome value
+            (λ r.
+            Records (theory_of program.now) [] (plain_pattern start.now) (plain_record r.now)) }
+        ensures begins { IfOk result
+            (λ proof. WritesBeginning (D.state desk.old).told (D.state desk.new).told program.now
+            start.now (value_told (option_copied value.entry)) proof) }
+        ensures justifies { IfOk result
+            (JustifiesFirst (D.state desk.old).told (D.state desk.new).told) }
+        ensures front { OnErr result
+            (WritesFrontOfProof (D.state desk.old).told (D.state desk.new).told
+            (theory_of program.now) (plain_pattern start.now)) }
+        ensures created { IsTrue (D.created desk.new) }
+        ensures failed { IsErrOf result ProveEnd.Failed
+            → CountRose (D.state desk.old).write_faults (D.state desk.new).write_faults }
+        ensures counts { (D.state desk.old).write_faults ≤ (D.state desk.new).write_faults }
+        ensures no_fault { OnOk result
+            ((D.state desk.new).write_faults ≡ (D.state desk.old).write_faults) }
+        ensures reads { (D.state desk.new).read_faults ≡ (D.state desk.old).read_faults }
+    {
+        let mut text = Vec::new(alloc);
+        let proof = Proof::begun(alloc, program, start, value, &mut text)?;
+        match write_text(desk, &text) {
+            Ok(()) => Ok(proof),
+            Err(end) => Err(end),
+        }
+    }
+
+    // Begins the proof, and appends its text to the empty buffer. The error: out of memory.
+    fn begun(
         alloc: Global,
         program: &'p Program,
         start: &'p RulePat,
         value: Option<&EvalRecord>,
         to: &mut Vec<u8>,
     ) -> Result<Proof<'p>, AllocError>
+        requires none { to.old.items ≡ [] }
         requires names { HasPlainNames program.now.sig }
         requires well_sorted { IsWellSorted (theory_of program.now) }
         requires bound { HasBoundVariables program.now }
@@ -80,7 +156,7 @@ impl<'p> Proof<'p> {
             Records (theory_of program.now) [] (plain_pattern start.now) (plain_record r.now)) }
         ensures { IfOk result
             (λ proof. Begins program.now start.now (value_told (option_copied value.entry)) proof
-            to.old.items to.new.items) }
+            to.new.items) }
     {
         let mut prover = Prover::new(alloc, program)?;
         let mut writer = Writer::begin(alloc, program, to)?;
@@ -95,51 +171,115 @@ impl<'p> Proof<'p> {
             reached,
             last,
             reach,
+            steps: 0,
+            bytes: to.len() as u64,
+            failed: false,
         })
     }
 
     /// Adds one step, by the record of a step from the present configuration. The value of the
     /// rule's right side is the new present configuration. The text of the step is appended to the
-    /// buffer. The error: out of memory. Then a part of the text was appended, and the proof is
-    /// gone.
-    pub fn step(
-        self,
+    /// created file. If that file had a text that fitted the proof, it has one again: it justifies
+    /// the run up to the new configuration, so at each moment between two steps it justifies the
+    /// run so far.
+    ///
+    /// Errors: out of memory, or a fault that the desk counted. Then the front of the text of the
+    /// step, or nothing, was appended, and the proof has failed: it takes no further call.
+    pub fn step<D: Desk>(
+        &mut self,
+        alloc: Global,
+        desk: &mut D,
+        step: &StepRecord,
+    ) -> Result<(), ProveEnd>
+        requires file { IsTrue (D.created desk.old) }
+        requires sound { IsFalse self.old.failed }
+        requires applies { CanStep self.old (plain_step step.now) }
+        ensures steps { OnOk result
+            (WritesStep (D.state desk.old).told (D.state desk.new).told self.old self.new
+            (result_of (plain_step step.now).right)) }
+        ensures justifies { OnOk result (JustifiesFurther
+            (D.state desk.old).told (D.state desk.new).told self.old self.new) }
+        ensures front { OnErr result
+            (WritesFrontAfter (D.state desk.old).told (D.state desk.new).told self.old) }
+        ensures over { OnErr result (IsTrue self.new.failed) }
+        ensures created { IsTrue (D.created desk.new) }
+        ensures failed { IsErrOf result ProveEnd.Failed
+            → CountRose (D.state desk.old).write_faults (D.state desk.new).write_faults }
+        ensures counts { (D.state desk.old).write_faults ≤ (D.state desk.new).write_faults }
+        ensures no_fault { OnOk result
+            ((D.state desk.new).write_faults ≡ (D.state desk.old).write_faults) }
+        ensures reads { (D.state desk.new).read_faults ≡ (D.state desk.old).read_faults }
+    {
+        let mut text = Vec::new(alloc);
+        self.state_step(alloc, step, &mut text)?;
+        match write_text(desk, &text) {
+            Ok(()) => Ok(()),
+            Err(end) => {
+                self.failed = true;
+                Err(end)
+            }
+        }
+    }
+
+    // Adds one step, and appends its text to the empty buffer. The error: out of memory.
+    fn state_step(
+        &mut self,
         alloc: Global,
         step: &StepRecord,
         to: &mut Vec<u8>,
-    ) -> Result<Proof<'p>, AllocError>
-        requires applies { CanStep self (plain_step step.now) }
-        ensures { IfOk result (λ further.
-            StepsTo self.entry further (result_of (plain_step step.now).right) to.old.items
-            to.new.items) }
+    ) -> Result<(), AllocError>
+        requires none { to.old.items ≡ [] }
+        requires sound { IsFalse self.old.failed }
+        requires applies { CanStep self.old (plain_step step.now) }
+        ensures steps { OnOk result (StepsTo self.old self.new
+            (result_of (plain_step step.now).right) to.new.items) }
+        ensures over { OnErr result (IsTrue self.new.failed) }
     {
-        let mut prover = self.prover;
-        let mut writer = self.writer;
-        let further = goes_further(alloc, &mut prover, &self.last, &self.reach, step)?;
-        let last = state(&prover, &mut writer, further, to)?;
+        self.failed = true;
+        let further = goes_further(alloc, &mut self.prover, &self.last, &self.reach, step)?;
+        let last = state(&self.prover, &mut self.writer, further, to)?;
         let made = step.right.result().share()?;
-        Ok(Proof {
-            prover,
-            writer,
-            start: self.start,
-            reached: Some(made),
-            last,
-            reach: self.reach,
-        })
+        self.reached = Some(made);
+        self.last = last;
+        self.steps = self.steps.saturating_add(1);
+        self.bytes = self.bytes.saturating_add(to.len() as u64);
+        self.failed = false;
+        Ok(())
     }
 
-    /// Returns how many facts on built-ins the text has, or 2^64 - 1 if it has more.
-    pub fn facts(&self) -> u64
-        ensures { result ≡ self.now.facts }
+    /// Ends the proof: closes the created file, which keeps its bytes, and returns the counts of
+    /// the proof.
+    ///
+    /// Errors: a fault that the desk counted, or out of memory. No file is created afterwards, even
+    /// after an error.
+    pub fn close<D: Desk>(self, desk: &mut D) -> Result<Summary, ProveEnd>
+        requires file { IsTrue (D.created desk.old) }
+        requires sound { IsFalse self.failed }
+        ensures summary { IfOk result (λ summary. summary ≡ summary_of self.entry) }
+        ensures closes { Closes (D.state desk.old).told (D.state desk.new).told }
+        ensures created { IsFalse (D.created desk.new) }
+        ensures failed { IsErrOf result ProveEnd.Failed
+            → CountRose (D.state desk.old).write_faults (D.state desk.new).write_faults }
+        ensures counts { (D.state desk.old).write_faults ≤ (D.state desk.new).write_faults }
+        ensures no_fault { OnOk result
+            ((D.state desk.new).write_faults ≡ (D.state desk.old).write_faults) }
+        ensures reads { (D.state desk.new).read_faults ≡ (D.state desk.old).read_faults }
     {
-        self.writer.facts
+        let summary = self.summary();
+        close_text(desk)?;
+        Ok(summary)
     }
 
-    /// Returns how many `$a` and `$p` statements the text has, or 2^64 - 1 if it has more.
-    pub fn statements(&self) -> u64
-        ensures { result ≡ self.now.statements }
+    // The counts of the proof so far.
+    fn summary(&self) -> Summary
+        ensures { result ≡ summary_of self.now }
     {
-        self.writer.statements
+        Summary {
+            steps: self.steps,
+            facts: self.writer.facts,
+            statements: self.writer.statements,
+            bytes: self.bytes,
+        }
     }
 }
 
@@ -159,11 +299,10 @@ fn keep_reach_lemma(alloc: Global, prover: &mut Prover<'_>) -> Result<Lemma, All
     ensures there { IfOk result (Contains prover.new.lemmas) }
     ensures grown { HasGrown prover.old prover.new }
 {
+    let place = prover.cx().lemmas().len();
     let thm = reach_lemma(alloc)?;
-    let shared = thm.share(alloc)?;
-    let lemma = Lemma::close(shared)?;
     prover.add_lemma(alloc, thm)?;
-    Ok(lemma)
+    prover.cx().lemmas()[place].share(alloc)
 }
 
 // Writes what was made, and then a theorem that follows from it.

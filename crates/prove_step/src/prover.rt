@@ -33,7 +33,6 @@ use term_core::{RulePat, Subst};
 
 /// Proves the steps of a program's runs. It holds a context, in which each used rule and equation
 /// is a lemma. Contracts see it as its context.
-#[derive(Drop)]
 pub struct Prover<'p> {
     cx: Cx<'p>,
     // The place of the lemma of each rule that was used.
@@ -60,6 +59,18 @@ impl<'p> Model for Prover<'p> {
     ghost view = { context_of };
 
     ghost invariant = { HasLemmas };
+}
+
+// A prover is dropped by one call, and not field by field at each end of each call that owns one.
+impl Drop for Prover<'_> {
+    fn drop(self) {
+        let Prover {
+            cx: _,
+            rules: _,
+            kept: _,
+            sides: _,
+        } = self;
+    }
 }
 
 impl<'p> Prover<'p> {

@@ -2,11 +2,10 @@
 use Rattle.std.proofs.Common.{◌≡◌, ℕ, List, [], ◌∷◌, Option, Some, None, option_map, length, sym}
 use Rattle.std.proofs.Common.{◌∙◌, ap, subst}
 use Rattle.std.specs.Prelude.{◌≢◌, IfSome}
-use Rattle.ml_pat.specs.Patterns.{Pattern, app, constant, equal, var}
+use Rattle.ml_pat.specs.Patterns.{Pattern, app, constant, equal}
 use Rattle.ml_kernel.specs.Lemmas.{HasNoVariable}
 use Rattle.ml_kernel.specs.Theorems.{Theorem}
 use Rattle.ml_derived.specs.Equalities.{AreJoinable, IsJoin}
-use Rattle.ml_derived.specs.Scopes.{StaysWithin}
 use Rattle.term_core.specs.Terms.{Tree, Forest, node, inj, DomainValue}
 use Rattle.term_core.specs.Patterns.{Pattern as RulePattern, Patterns as RulePatterns, variable}
 use Rattle.term_core.specs.Patterns.{domain_value, application, injection, call, instance_of}
@@ -22,13 +21,14 @@ use Rattle.rule_core.specs.declared.rules.Program.{Program}
 use Rattle.ml_image.specs.Images.{image_of, applied, symbol_image}
 use Rattle.ml_image.specs.Sentences.{symbol, term}
 use Rattle.ml_image.proofs.ImageLaws.{none_some}
-use Rattle.prove_term.specs.Contexts.{Context, HasGrown, StaysIn}
+use Rattle.prove_term.specs.Contexts.{Context, HasGrown, StaysIn, StaysInWith}
 use Rattle.prove_term.specs.Schemas.{AreImages}
-use Rattle.prove_term.specs.Applications.{applied_to, IsApplication}
+use Rattle.prove_term.specs.Applications.{HasClosedSides, applied_to, IsApplication}
 use Rattle.prove_term.specs.EqualImages.{SaysEqualImages}
 use Rattle.prove_term.specs.Comparing.{IsInstance, AreInstances, MakesTerm, MakeTerms, IsJoined}
 use Rattle.prove_term.specs.Comparing.{IsCompared, Compares, AreCompared, AllCompare, IsOverContext}
-use Rattle.prove_term.proofs.ContextLaws.{image_grown, has_before}
+use Rattle.prove_term.proofs.ContextLaws.{image_grown, has_before, stays_grown}
+use Rattle.prove_term.proofs.EqualityChains.{stays_with_grown}
 use Rattle.prove_term.proofs.KeptLaws.{symbol_grown}
 use Rattle.prove_term.proofs.ImageShapes.{applied_images}
 use Rattle.prove_term.proofs.ComparingLaws.{image_closed, closed-injection, application_image}
@@ -50,6 +50,63 @@ value_compares cx s v w image = λ variables theta sort u h is. h.makes
 pub call_makes_nothing : (sig : Signature) (f : ℕ) (ss : List ℕ) (ps : RulePatterns)
     (w : RulePattern) → MakesTerm sig (call f ss ps) w → ⊥
 call_makes_nothing sig f ss ps w (variables, theta, sort, u, h, is) = none_some u h.makes
+
+-- ---- a context that grows
+
+pub made_closed : (cx : Context) (p w : RulePattern) (q : Pattern) → MakesTerm cx.program.sig p w
+    → image_of cx.program.sig cx.names w ≡ Some q → HasNoVariable q
+made_closed cx p w q (variables, theta, sort, u, h, ground) is =
+    image_closed cx.program.sig cx.names u q
+    (ap (image_of cx.program.sig cx.names) (sym ground) ∙ is)
+
+joined_grown : (a b : Context) (theta : List (Option Tree)) (p : RulePattern) (u : Tree)
+    (image : Pattern) (t : Theorem) → HasGrown a b → IsJoined a theta p u image t
+    → IsJoined b theta p u image t
+joined_grown a b theta p u image t g h = record {
+  written = h.written;
+  is_written = h.is_written;
+  differs = h.differs;
+  left = h.left;
+  is_left = image_grown a b (term (ground_pattern h.written)) h.left g h.is_left;
+  closed = h.closed;
+  says = h.says;
+  stays = stays_grown a b t g h.stays;
+}
+
+compared_grown : (a b : Context) (theta : List (Option Tree)) (p : RulePattern) (u : Tree)
+    (image : Pattern) (o : Option Theorem) → HasGrown a b → IsCompared a theta p u image o
+    → IsCompared b theta p u image o
+compared_grown a b theta p u image None g h = h
+compared_grown a b theta p u image (Some t) g h = joined_grown a b theta p u image t g h
+
+pub compares_grown : (a b : Context) (p w : RulePattern) (image : Pattern) (o : Option Theorem)
+    → HasGrown a b → Compares a p w image o → Compares b p w image o
+compares_grown a b p w image o g h = λ variables theta sort u instance is.
+    compared_grown a b theta p u image o g (h variables theta sort u
+    (subst (λ (program : Program). IsInstance program.sig variables theta p sort u) g.program
+    instance) is)
+
+pub application_grown : (a b : Context) (f q : Pattern) (d e o : Option Theorem) → HasGrown a b
+    → IsApplication a f q d e o → IsApplication b f q d e o
+application_grown a b f q None None o g h = h
+application_grown a b f q (Some d) None o g h = record {
+  made = h.made;
+  is = h.is;
+  says = h.says;
+  stays = stays_with_grown a b (q ∷ []) (d ∷ []) h.made g h.stays;
+}
+application_grown a b f q None (Some e) o g h = record {
+  made = h.made;
+  is = h.is;
+  says = h.says;
+  stays = stays_with_grown a b (f ∷ []) (e ∷ []) h.made g h.stays;
+}
+application_grown a b f q (Some d) (Some e) o g h = record {
+  made = h.made;
+  is = h.is;
+  says = h.says;
+  stays = stays_with_grown a b [] (d ∷ e ∷ []) h.made g h.stays;
+}
 
 -- ---- constructors
 
@@ -189,7 +246,7 @@ pub beneath_compares : (old cx : Context) (a b : ℕ) (p w : RulePattern)
     (image head argument : Pattern) (one o : Option Theorem) → IsSignature cx.program.sig
     → HasGrown old cx → image_of old.program.sig old.names (injection a b w) ≡ Some image
     → image ≡ app head argument → Compares cx p w argument one
-    → IsApplication head argument None one o
+    → IsApplication cx head argument None one o
     → Compares cx (injection a b p) (injection a b w) image o
 beneath_compares old cx a b p w image head argument one o ok g is split compared made =
     λ variables theta sort u h ground.
@@ -228,7 +285,7 @@ once_splits cx a b d w once o = (o.head, o.middle, o.last, o.says)
 -- there is no further collapse
 pub once_compares : (cx : Context) (a b d : ℕ) (p w : RulePattern) (once : Theorem)
     (o : IsOnce cx a b d w once) (head middle : Pattern) (one r : Option Theorem) → a ≢ b
-    → Compares cx p (injection a b w) middle one → IsApplication head middle None one r → r ≡ None
+    → Compares cx p (injection a b w) middle one → IsApplication cx head middle None one r → r ≡ None
     → (image : Pattern) → image_of cx.program.sig cx.names (injection a d w) ≡ Some image
     → Compares cx (injection b d p) (injection a d w) image (Some once)
 once_compares cx a b d p w once o head middle None r apart compared made none image is =
@@ -250,37 +307,58 @@ once_compares cx a b d p w once o head middle None r apart compared made none im
 once_compares cx a b d p w once o head middle (Some x) r apart compared made none image is =
     absurd (none_some made.made (sym none ∙ made.is))
 
+-- both sides of that equality are closed
+pub once_closed : (cx : Context) (a b d : ℕ) (p q w : RulePattern) (once : Theorem)
+    → IsOnce cx a b d w once → MakesTerm cx.program.sig p (injection a b w)
+    → MakesTerm cx.program.sig q (injection a d w) → HasClosedSides once.conclusion
+once_closed cx a b d p q w once o middle last = (
+  app o.head o.middle,
+  (
+    o.last,
+    (
+      o.says,
+      (
+        (
+          closed-injection cx.program.sig cx.names b d o.head o.is_head,
+          made_closed cx p (injection a b w) o.middle middle o.is_middle,
+        ),
+        made_closed cx q (injection a d w) o.last last o.is_last,
+      ),
+    ),
+  ),
+)
+
 -- the halves at the sides of the result
-record HasSides (head middle : Pattern) (x e : Theorem) : Type 0 where
+record HasSides (cx : Context) (head middle : Pattern) (x e : Theorem) : Type 0 where
   pub says : (left : Pattern) → x.conclusion ≡ equal left middle
       → e.conclusion ≡ equal (app head left) (app head middle)
-  pub stays : StaysWithin (head ∷ var 0 ∷ []) (x ∷ []) e
+  pub stays : StaysInWith cx (head ∷ []) (x ∷ []) e
 
 same_thm : (x y : Theorem) → Some x ≡ Some y → x ≡ y
 same_thm x y e = cc
 
-sides_of : (head middle : Pattern) (x e : Theorem) (r : Option Theorem)
-    → IsApplication head middle None (Some x) r → r ≡ Some e → HasSides head middle x e
-sides_of head middle x e r made is =
+sides_of : (cx : Context) (head middle : Pattern) (x e : Theorem) (r : Option Theorem)
+    → IsApplication cx head middle None (Some x) r → r ≡ Some e → HasSides cx head middle x e
+sides_of cx head middle x e r made is =
     let same : made.made ≡ e = same_thm made.made e (sym made.is ∙ is) in
     record {
       says =
           λ left says. ap (λ (t : Theorem). t.conclusion) (sym same) ∙ made.says left middle says;
-      stays = subst (λ (t : Theorem). StaysWithin (head ∷ var 0 ∷ []) (x ∷ []) t) same made.stays;
+      stays = subst (λ (t : Theorem). StaysInWith cx (head ∷ []) (x ∷ []) t) same made.stays;
     }
 
 -- both can be joined
 pub joinable : (cx : Context) (a b d : ℕ) (p w : RulePattern) (once e : Theorem)
     (o : IsOnce cx a b d w once) (one r : Option Theorem)
     → MakesTerm cx.program.sig p (injection a b w) → Compares cx p (injection a b w) o.middle one
-    → IsApplication o.head o.middle None one r → r ≡ Some e
+    → IsApplication cx o.head o.middle None one r → r ≡ Some e
     → AreJoinable e.conclusion once.conclusion
 joinable cx a b d p w once e o None r made compared applies is =
     absurd (none_some e (sym applies ∙ is))
 joinable cx a b d p w once e o (Some x) r (variables, theta, sort, u, h, ground) compared applies
     is =
     let j : IsJoined cx theta p u o.middle x = compared variables theta sort u h ground in
-    let sides : HasSides o.head o.middle x e = sides_of o.head o.middle x e r applies is in (
+    let sides : HasSides cx o.head o.middle x e = sides_of cx o.head o.middle x e r applies is in (
       app o.head j.left,
       (
         app o.head o.middle,
@@ -297,9 +375,9 @@ joinable cx a b d p w once e o (Some x) r (variables, theta, sort, u, h, ground)
 further_joined : (cx : Context) (theta : List (Option Tree)) (a b d : ℕ) (p w : RulePattern)
     (v : Tree) (image : Pattern) (once x e t : Theorem) → w ≡ ground_pattern v → a ≢ b
     → IsJoin e.conclusion once.conclusion t.conclusion
-    → StaysWithin (var 0 ∷ []) (e ∷ (once ∷ [])) t → (o : IsOnce cx a b d w once)
+    → StaysInWith cx [] (e ∷ (once ∷ [])) t → (o : IsOnce cx a b d w once)
     → image_of cx.program.sig cx.names (injection a d w) ≡ Some image
-    → IsJoined cx theta p (inj a b v) o.middle x → HasSides o.head o.middle x e
+    → IsJoined cx theta p (inj a b v) o.middle x → HasSides cx o.head o.middle x e
     → IsJoined cx theta (injection b d p) (inj a d v) image t
 further_joined cx theta a b d p w v image once x e t ground apart join within =
     subst P (sym ground) at_ground
@@ -307,27 +385,27 @@ further_joined cx theta a b d p w v image once x e t ground apart join within =
     P : RulePattern → Type 0
     P q = (o : IsOnce cx a b d q once)
         → image_of cx.program.sig cx.names (injection a d q) ≡ Some image
-        → IsJoined cx theta p (inj a b v) o.middle x → HasSides o.head o.middle x e
+        → IsJoined cx theta p (inj a b v) o.middle x → HasSides cx o.head o.middle x e
         → IsJoined cx theta (injection b d p) (inj a d v) image t
 
     at_ground : P (ground_pattern v)
     at_ground o is j sides =
         joined_further cx theta a b d p v image once x e t o apart is j (sides.says j.left j.says)
-        (λ s has. sides.stays s (
-          ((has.images
+        (λ s has. sides.stays s has (
+          (has.images
               (term (injection b d (injection a b (ground_pattern v)))) (app o.head o.middle)
               (applied_image cx b d (injection a b (ground_pattern v)) o.head o.middle
-              o.is_head o.is_middle)).0),
-          (has.objects 0, tt),
+              o.is_head o.is_middle)).0,
+          tt,
         ) (j.stays s has, tt))
         join within
 
 -- there is a further collapse inside
 pub further_compares : (cx : Context) (a b d : ℕ) (p w : RulePattern) (once e t : Theorem)
     (o : IsOnce cx a b d w once) (one r : Option Theorem) → a ≢ b
-    → Compares cx p (injection a b w) o.middle one → IsApplication o.head o.middle None one r
+    → Compares cx p (injection a b w) o.middle one → IsApplication cx o.head o.middle None one r
     → r ≡ Some e → IsJoin e.conclusion once.conclusion t.conclusion
-    → StaysWithin (var 0 ∷ []) (e ∷ (once ∷ [])) t → (image : Pattern)
+    → StaysInWith cx [] (e ∷ (once ∷ [])) t → (image : Pattern)
     → image_of cx.program.sig cx.names (injection a d w) ≡ Some image
     → Compares cx (injection b d p) (injection a d w) image (Some t)
 further_compares cx a b d p w once e t o None r apart compared applies is join within image at =
@@ -345,19 +423,13 @@ further_compares cx a b d p w once e t o (Some x) r apart compared applies is jo
     compared variables theta b (inj a b tree.0) below.2 (ap (injection a b) tree.2) in
     subst (λ (q : Tree). IsJoined cx theta (injection b d p) q image t) (sym tree.1)
     (further_joined cx theta a b d p w tree.0 image once x e t tree.2 apart join within o at j
-    (sides_of o.head o.middle x e r applies is))
+    (sides_of cx o.head o.middle x e r applies is))
 
 -- the converse
 pub made_again : (old new : Context) (p w : RulePattern) → HasGrown old new
     → MakesTerm old.program.sig p w → MakesTerm new.program.sig p w
 made_again old new p w g h =
     subst (λ (program : Program). MakesTerm program.sig p w) (sym g.program) h
-
-pub made_closed : (cx : Context) (p w : RulePattern) (q : Pattern) → MakesTerm cx.program.sig p w
-    → image_of cx.program.sig cx.names w ≡ Some q → HasNoVariable q
-made_closed cx p w q (variables, theta, sort, u, h, ground) is =
-    image_closed cx.program.sig cx.names u q
-    (ap (image_of cx.program.sig cx.names) (sym ground) ∙ is)
 
 pub over_applied : (old cx : Context) (f q : Pattern) (w : RulePattern) → HasGrown old cx
     → IsOverContext old f → image_of cx.program.sig cx.names w ≡ Some q → IsOverContext cx (app f q)

@@ -2,9 +2,9 @@
 use Rattle.std.proofs.Common.{◌≡◌, ℕ, List, [], ◌∷◌, Option, Some, None, option_map, refl, sym, ◌∙◌}
 use Rattle.std.proofs.Common.{ap, subst}
 use Rattle.std.specs.Prelude.{◌≢◌}
-use Rattle.ml_pat.specs.Patterns.{Pattern, app, at_sort, constant, equal, fun, var}
+use Rattle.ml_pat.specs.Patterns.{Pattern, app, at_sort, constant, equal, fun}
 use Rattle.ml_kernel.specs.Theorems.{Theorem}
-use Rattle.ml_derived.specs.Scopes.{IsOver, StaysWithin}
+use Rattle.ml_derived.specs.Scopes.{IsOver}
 use Rattle.ml_derived.proofs.RuleLaws.{lemma_within}
 use Rattle.ml_derived.specs.Equalities.{IsJoin}
 use Rattle.term_core.specs.Terms.{Tree, inj, injected}
@@ -19,7 +19,7 @@ use Rattle.ml_image.specs.Images.{both, image_of, injection_image}
 use Rattle.ml_image.specs.Sentences.{term}
 use Rattle.ml_image.proofs.ImageLaws.{some_same}
 use Rattle.ml_image.proofs.WellSortedLaws.{sorted_has_image}
-use Rattle.prove_term.specs.Contexts.{Context, HasGrown, StaysIn}
+use Rattle.prove_term.specs.Contexts.{Context, HasGrown, StaysIn, StaysInWith}
 use Rattle.prove_term.specs.Injections.{inject, HasEnds, IsCollapseAt}
 use Rattle.prove_term.specs.InjectionTables.{InjectsBelow}
 use Rattle.prove_term.specs.Carrying.{Collapses, CollapsesTo, CollapsesBy}
@@ -87,7 +87,7 @@ pub stays_injected : (cx : Context) (theta : List (Option Tree)) (a b : ℕ) (p 
     (v : Tree) (head argument : Pattern) (one o : Option Theorem)
     → IsCompared cx theta p v argument one
     → image_of cx.program.sig cx.names (ground_pattern (inj a b v)) ≡ Some (app head argument)
-    → IsApplication head argument None one o
+    → IsApplication cx head argument None one o
     → IsCompared cx theta (injection a b p) (inj a b v) (app head argument) o
 stays_injected cx theta a b p v head argument None o same is made =
     subst (λ (x : Option Theorem).
@@ -109,10 +109,9 @@ stays_injected cx theta a b p v head argument (Some e) o joined is made =
       closed = (closed-injection cx.program.sig cx.names a b head split.is_head, joined.closed);
       says = made.says joined.left argument joined.says;
       stays =
-          λ s has. made.stays s (
-            (has.images (term (ground_pattern (inj a b v))) (app head argument)
-                is).0,
-            (has.objects 0, tt),
+          λ s has. made.stays s has (
+            (has.images (term (ground_pattern (inj a b v))) (app head argument) is).0,
+            tt,
           ) (joined.stays s has, tt);
     })
 
@@ -255,7 +254,7 @@ pub joined_further : (cx : Context) (theta : List (Option Tree)) (a b d : ℕ) (
     → (j : IsJoined cx theta p (inj a b v) o.middle one)
     → e.conclusion ≡ equal (app o.head j.left) (app o.head o.middle) → StaysIn cx e
     → IsJoin e.conclusion once.conclusion t.conclusion
-    → StaysWithin (var 0 ∷ []) (e ∷ (once ∷ [])) t
+    → StaysInWith cx [] (e ∷ (once ∷ [])) t
     → IsJoined cx theta (injection b d p) (inj a d v) image t
 joined_further cx theta a b d p v image once one e t o apart is j says stays join within =
     let last : o.last ≡ image = some_same o.last image (sym o.is_last ∙ is) in
@@ -268,7 +267,7 @@ joined_further cx theta a b d p v image once one e t o apart is j says stays joi
       closed = (closed-injection cx.program.sig cx.names b d o.head o.is_head, j.closed);
       says = join (app o.head j.left) (app o.head o.middle) o.last says o.says
           ∙ ap (equal (app o.head j.left)) last;
-      stays = λ s has. within s (has.objects 0, tt) (stays s has, (o.stays s has, tt));
+      stays = λ s has. within s has tt (stays s has, (o.stays s has, tt));
     }
 
 -- ---- results of injections

@@ -231,7 +231,7 @@ pub one_more : (cx : Context) (theta : List (Option Tree)) (head : Pattern) (ps 
     → IsOverContext cx function → image_of cx.program.sig cx.names (ground_pattern u) ≡ Some image
     → instance_of theta p ≡ Some u → instances_of theta rest ≡ Some us
     → AreDone cx theta head ps (more_patterns p rest) function made
-    → IsCompared cx theta p u image one → IsApplication function image made one next
+    → IsCompared cx theta p u image one → IsApplication cx function image made one next
     → AreDone cx theta head ps rest (app function image) next
 one_more cx theta head ps p rest function image u us None None next closed closed' over is makes
     make before one is_next =
@@ -261,7 +261,7 @@ one_more cx theta head ps p rest function image u us None (Some e) next closed c
           one.is_left before.written;
       closed = (closed, one.closed);
       says = is_next.says one.left image one.says;
-      stays = λ s has. is_next.stays s (over s has, (has.objects 0, tt)) (one.stays s has, tt);
+      stays = λ s has. is_next.stays s has (over s has, tt) (one.stays s has, tt);
     })
 one_more cx theta head ps p rest function image u us (Some d) None next closed closed' over is makes
     make before one is_next =
@@ -273,8 +273,7 @@ one_more cx theta head ps p rest function image u us (Some d) None next closed c
       closed = (before.closed, closed');
       says = is_next.says before.left function before.says;
       stays =
-          λ s has. is_next.stays s
-          (has.images (term (ground_pattern u)) image is, (has.objects 0, tt))
+          λ s has. is_next.stays s has (has.images (term (ground_pattern u)) image is, tt)
           (before.stays s has, tt);
     })
 one_more cx theta head ps p rest function image u us (Some d) (Some e) next closed closed' over is
@@ -289,7 +288,7 @@ one_more cx theta head ps p rest function image u us (Some d) (Some e) next clos
       closed = (before.closed, one.closed);
       says = is_next.says before.left function one.left image before.says one.says;
       stays =
-          λ s has. is_next.stays s (has.objects 0, tt) (before.stays s has, (one.stays s has, tt));
+          λ s has. is_next.stays s has tt (before.stays s has, (one.stays s has, tt));
     })
 
 -- when all are done
@@ -347,7 +346,7 @@ pub done_before_next : (a b : Context) (args ws : List RulePat) (i : ℕ) (p w :
     → image_of b.program.sig b.names (plain_pattern w) ≡ Some image
     → AreDoneBefore a args ws i head function made
     → Compares b (plain_pattern p) (plain_pattern w) image one
-    → IsApplication function image made one next
+    → IsApplication b function image made one next
     → AreDoneBefore b args ws (i + 1) head (app function image) next
 done_before_next a b args ws i p w head function image made one next g low at on split closed
     closed' over is before compared is_next =

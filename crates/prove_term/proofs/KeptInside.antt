@@ -17,6 +17,7 @@ use Rattle.prove_term.proofs.ContextLaws.{grown_none, grown_names, grown_axiom, 
 use Rattle.prove_term.proofs.ContextLaws.{context_gains, context_states, context_learns}
 use Rattle.prove_term.proofs.KeptLaws.{rules_grown, values_grown, constructors_grown}
 use Rattle.prove_term.proofs.InjectionGrown.{injections_grown, collapses_grown}
+use Rattle.prove_term.proofs.KeptEqualities.{equalities_grown}
 use Rattle.prove_term.proofs.ImageShapes.{sentence_has_no_meta}
 
 either_way : {A E P Q : Type 0} (r : Result A E) → OnOk r P → OnErr r Q → P ⊎ Q
@@ -45,6 +46,9 @@ kept_gains a names h gained =
       collapses =
           collapses_grown (context_of a) (context_of (record a { names = names })) a.collapses g
           h.collapses;
+      equalities =
+          equalities_grown (context_of a) (context_of (record a { names = names })) a.equalities g
+          h.equalities;
     }
 
 pub grown_gains : (a : Inside) (v : Context) (names : List (List ℕ)) → context_of a ≡ v
@@ -94,6 +98,10 @@ kept_states {A} {E} r a v p theory is h image ok err = go (either_way r ok err)
           collapses =
               collapses_grown (context_of a) (context_of (record a { theory = a.theory ++ p ∷ [] }))
               a.collapses g h.collapses;
+          equalities =
+              equalities_grown (context_of a)
+              (context_of (record a { theory = a.theory ++ p ∷ [] })) a.equalities g
+              h.equalities;
         })
     go (inr same) = subst (λ (t : List Pattern). IsKept (record a { theory = t })) (sym same) h
 
@@ -142,6 +150,9 @@ kept_learns a v t lemmas theorems is h stays more told =
       collapses =
           collapses_grown (context_of a) (context_of (record a { lemmas = lemmas })) a.collapses g
           h.collapses;
+      equalities =
+          equalities_grown (context_of a) (context_of (record a { lemmas = lemmas })) a.equalities g
+          h.equalities;
     }
 
 pub last_there : {A : Type 0} (xs : List A) (x : A) (n : ℕ) → n ≡ length xs

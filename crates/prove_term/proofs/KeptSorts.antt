@@ -18,10 +18,10 @@ both_equal Less q h = absurd (false≢true h)
 both_equal Equal q h = (refl, h)
 both_equal Greater q h = absurd (false≢true h)
 
-same_number : (a b : ℕ) → is_eq (nat_cmp a b) ≡ true → a ≡ b
+pub same_number : (a b : ℕ) → is_eq (nat_cmp a b) ≡ true → a ≡ b
 same_number a b h = eqb-true a b (unsigned_ties a b ∙ h)
 
-kept_at : (P : ℕ → Type 0) (t : Bool) (before after : Option ℕ) (k : ℕ)
+pub kept_at : (P : ℕ → Type 0) (t : Bool) (before after : Option ℕ) (k : ℕ)
     → after ≡ cond t (Some k) before → IfSome before P → (t ≡ true → P k) → IfSome after P
 kept_at P true before after k e h f = subst (λ (o : Option ℕ). IfSome o P) (sym e) (f refl)
 kept_at P false before after k e h f = subst (λ (o : Option ℕ). IfSome o P) (sym e) h

@@ -8,6 +8,8 @@ pub mod ComparingLoop
 pub mod ConstructingLaws
 pub mod ContextLaws
 pub mod ElementLaws
+pub mod EqualityChains
+pub mod EqualityLaws
 pub mod EquationLaws
 pub mod ElementLoop
 pub mod FillingLaws
@@ -19,6 +21,7 @@ pub mod InjectionLaws
 pub mod InjectionShapes
 pub mod InjectionSteps
 pub mod Instances
+pub mod KeptEqualities
 pub mod KeptInside
 pub mod KeptLaws
 pub mod KeptSorts

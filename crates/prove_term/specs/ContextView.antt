@@ -8,6 +8,8 @@ use Rattle.prove_term.specs.Stated.{IsRuleAxiom}
 use Rattle.prove_term.specs.ValueAxioms.{IsValueAxiom}
 use Rattle.prove_term.specs.Constructing.{IsConstructorAt}
 use Rattle.prove_term.specs.Injections.{IsInjectionAt, IsCollapseAt}
+use Rattle.prove_term.specs.EqualityLemmas.{IsEqualityAt, number_of}
+use Rattle.prove_term.specs.declared.equality_lemmas.EqualityLemma.{EqualityLemma}
 use Rattle.prove_term.specs.SortKeys.{pair_cmp, triple_cmp}
 
 abbrev pub context_of : Inside → Context
@@ -33,3 +35,5 @@ pub record IsKept (a : Inside) : Type 0 where
       IfSome (tree.get pair_cmp a.injections q) (IsInjectionAt (context_of a) q.0 q.1)
   pub collapses : (q : ℕ × ℕ × ℕ) →
       IfSome (tree.get triple_cmp a.collapses q) (IsCollapseAt (context_of a) q.0 q.1 q.2)
+  pub equalities : (which : EqualityLemma) →
+      IfSome (tree.get nat_cmp a.equalities (number_of which)) (IsEqualityAt (context_of a) which)

@@ -3,7 +3,7 @@
 use Rattle.std.specs.Prelude.{◌≡◌, ℕ, IsTrue, List, [], ◌++◌, Contains, Some, take, slice_get}
 use Rattle.ml_pat.specs.Patterns.{Pattern}
 use Rattle.ml_kernel.specs.Theorems.{Theorem}
-use Rattle.ml_derived.specs.Scopes.{Scope, IsOver, IsStatedIn, IsWithin}
+use Rattle.ml_derived.specs.Scopes.{Scope, IsOver, AreOver, IsStatedIn, IsWithin, AreWithin}
 use Rattle.rule_core.specs.declared.rules.Program.{Program}
 use Rattle.rule_core.specs.ProgramView.{theory_of}
 use Rattle.ml_image.specs.Assumed.{IsAssumed}
@@ -31,6 +31,11 @@ pub record HasContext (s : Scope) (cx : Context) : Type 0 where
 -- the theorem assumes, uses and cites only what the context has
 abbrev pub StaysIn : Context → Theorem → Type 0
 StaysIn cx t = (s : Scope) → HasContext s cx → IsWithin s t
+
+-- each scope that has the context, these patterns and these theorems has the theorem
+abbrev pub StaysInWith : Context → List Pattern → List Theorem → Theorem → Type 0
+StaysInWith cx ps ts t =
+    (s : Scope) → HasContext s cx → AreOver s ps → AreWithin s ts → IsWithin s t
 
 -- the theorem uses and cites only what the context has, and assumes only its own hypotheses
 abbrev pub IsLemmaIn : Context → Theorem → Type 0

@@ -21,5 +21,6 @@ pub mod InjectionTables
 pub mod SortKeys
 pub mod Carrying
 pub mod Elements
+pub mod EqualityLemmas
 pub mod Comparing
 pub mod ContextView

@@ -21,8 +21,8 @@ ghost use Rattle.prove_term.specs.Comparing.{IsOverContext};
 use crate::congruence::{applied, halves, taken_apart};
 use crate::context::Cx;
 use crate::elements::element;
+use crate::equalities::join;
 use crate::joining::at_once;
-use ml_derived::join;
 use ml_kernel::Thm;
 use ml_pat::{MForm, MPat};
 use std::alloc::{AllocError, Global};
@@ -136,7 +136,7 @@ pub(crate) fn all_compared(
     for i in 0..args.len() {
         let argument = &images[i];
         let one = compared(alloc, cx, &args[i], &wholes[i], argument)?;
-        made = applied(alloc, &made, &function, &one, argument)?;
+        made = applied(alloc, cx, &made, &function, &one, argument)?;
         function = MPat::app(alloc, &function, argument)?;
     }
     Ok(made)
@@ -200,7 +200,7 @@ fn beneath(
 {
     let (head, argument) = halves(image);
     let one = compared(alloc, cx, below, base, argument)?;
-    applied(alloc, &None, head, &one, argument)
+    applied(alloc, cx, &None, head, &one, argument)
 }
 
 // `compared` for an injection whose argument becomes an injection. A theorem about an element of
@@ -232,9 +232,9 @@ fn joined_compared(
     let once = at_once(alloc, &cx.lemmas()[place], fact)?;
     let (head, middle) = twice(&once);
     let one = middle_compared(alloc, cx, from, below, lowest, base, fact, middle)?;
-    let further = applied(alloc, &None, head, &one, middle)?;
+    let further = applied(alloc, cx, &None, head, &one, middle)?;
     match further {
-        Some(e) => join(alloc, &e, &once),
+        Some(e) => join(alloc, cx, &e, &once),
         None => Ok(once),
     }
 }

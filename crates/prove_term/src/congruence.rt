@@ -2,9 +2,11 @@
 ghost use Rattle.std.specs.Prelude.{◌≡◌, ℕ, List, IfOk, length};
 ghost use Rattle.ml_pat.specs.Patterns.{Pattern, app};
 ghost use Rattle.ml_kernel.specs.Lemmas.{HasNoVariable};
+ghost use Rattle.prove_term.specs.Contexts.{HasGrown};
 ghost use Rattle.prove_term.specs.Applications.{applied_to, IsApplication, SaysEqualTo};
 
-use ml_derived::{cong_app, cong_arg, cong_fun};
+use crate::context::Cx;
+use crate::equalities::{cong_app, cong_arg, cong_fun};
 use ml_kernel::Thm;
 use ml_pat::{MForm, MPat};
 use std::alloc::{AllocError, Global};
@@ -48,9 +50,11 @@ pub fn halves(p: &MPat) -> (&MPat, &MPat)
 }
 
 /// Proves that an application equals the one in which function and argument are replaced by what
-/// equals them. Without any equality there is no theorem. `AllocError`: out of memory.
+/// equals them. Without any equality there is no theorem. `AllocError`: out of memory. After an
+/// error the context may have grown.
 pub fn applied(
     alloc: Global,
+    cx: &mut Cx<'_>,
     function: &Option<Thm>,
     f: &MPat,
     argument: &Option<Thm>,
@@ -59,12 +63,13 @@ pub fn applied(
     requires function { SaysEqualTo f.now function.now }
     requires argument { SaysEqualTo a.now argument.now }
     requires closed { HasNoVariable f.now × HasNoVariable a.now }
-    ensures { IfOk result (IsApplication f.now a.now function.now argument.now) }
+    ensures says { IfOk result (IsApplication cx.new f.now a.now function.now argument.now) }
+    ensures grown { HasGrown cx.old cx.new }
 {
     match (function, argument) {
         (None, None) => Ok(None),
-        (Some(d), None) => Ok(Some(cong_fun(alloc, d, a)?)),
-        (None, Some(e)) => Ok(Some(cong_arg(alloc, f, e)?)),
-        (Some(d), Some(e)) => Ok(Some(cong_app(alloc, d, e)?)),
+        (Some(d), None) => Ok(Some(cong_fun(alloc, cx, d, a)?)),
+        (None, Some(e)) => Ok(Some(cong_arg(alloc, cx, f, e)?)),
+        (Some(d), Some(e)) => Ok(Some(cong_app(alloc, cx, d, e)?)),
     }
 }

@@ -23,7 +23,6 @@ use term_core::RulePat;
 
 /// What the proofs about a program use: the names of its sorts, symbols and values, the axioms, and
 /// the lemmas. Contracts see it as a plain `Context`.
-#[derive(Drop)]
 pub struct Cx<'p> {
     pub(crate) program: &'p Program,
     pub(crate) names: Names,
@@ -43,6 +42,8 @@ pub struct Cx<'p> {
     pub(crate) injections: BTreeMap<(u32, u32), usize>,
     // The place of the lemma that makes two injections one, by the three sorts.
     pub(crate) collapses: BTreeMap<(u32, u32, u32), usize>,
+    // The place of each lemma on equalities that was used, by the lemma's number.
+    pub(crate) equalities: BTreeMap<u32, usize>,
 }
 
 /// The axiom of a value, and the sort in it.
@@ -70,6 +71,26 @@ impl<'p> Model for Cx<'p> {
     ghost invariant = { IsKept };
 }
 
+// A context is dropped by one call, and not field by field at each end of each call that owns one.
+impl Drop for Cx<'_> {
+    fn drop(self) {
+        let Cx {
+            program: _,
+            names: _,
+            theory: _,
+            lemmas: _,
+            theorems: _,
+            rules: _,
+            values: _,
+            hooks: _,
+            constructors: _,
+            injections: _,
+            collapses: _,
+            equalities: _,
+        } = self;
+    }
+}
+
 impl<'p> Cx<'p> {
     /// Makes a context without names, axioms and lemmas. Its names are hashed as those of the
     /// program's symbols.
@@ -88,6 +109,7 @@ impl<'p> Cx<'p> {
             constructors: BTreeMap::new(alloc),
             injections: BTreeMap::new(alloc),
             collapses: BTreeMap::new(alloc),
+            equalities: BTreeMap::new(alloc),
         }
     }
 

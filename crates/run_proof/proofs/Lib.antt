@@ -1,1 +1,2 @@
-pub mod ProofsAt
+pub mod ClosedLaws
+pub mod StepLaws

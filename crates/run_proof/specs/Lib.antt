@@ -1,5 +1,4 @@
--- Public: what public clauses say.
-pub mod WrittenProofs
+-- Public: what public clauses say, and public definitions of other crates.
+pub mod ClosedProofs
 -- Private: what clauses of private functions cite, and how private fields are seen.
 pub mod ProvedSteps
-pub mod WrittenPieces

@@ -1,29 +1,24 @@
 -- A run and its proof, step by step. Only clauses of private functions cite it.
-use Rattle.std.specs.Prelude.{◌≡◌, ℕ, List, [], ◌++◌}
-use Rattle.term_core.specs.Terms.{Tree}
+use Rattle.std.specs.Prelude.{◌≡◌, ℕ, ◌+◌, false, List, ◌++◌, length, Option}
+use Rattle.desk_io.specs.Told.{Told}
+use Rattle.desk_io.specs.Changes.{Writes}
 use Rattle.term_core.specs.Patterns.{Pattern, ground_pattern}
-use Rattle.term_core.specs.RulePatterns.{plain_pattern}
 use Rattle.rule_core.specs.BoundVariables.{HasBoundVariables}
 use Rattle.rule_core.specs.ProgramView.{theory_of}
 use Rattle.rule_core.specs.RunView.{cause_of}
-use Rattle.rule_core.specs.Evaluation.{Evaluates, blocked}
-use Rattle.rule_core.specs.FirstRule.{most_nesting}
-use Rattle.rule_core.specs.Runs.{Steps, steps_on, stays, stops, Reaches}
+use Rattle.rule_core.specs.Runs.{Run, kept_by, Steps, steps_on, stays, stops}
+use Rattle.rule_core.specs.Theories.{RewriteTheory}
 use Rattle.rule_core.specs.WellSorted.{IsStart}
-use Rattle.rule_core.specs.declared.rules.Blocked.{Blocked}
 use Rattle.rule_core.specs.declared.rules.Program.{Program}
-use Rattle.mm_justify.specs.Justifying.{JustifiesRun}
-use Rattle.mm_justify.specs.Counting.{HasCounts}
+use Rattle.mm_justify.specs.Justifying.{IsProofOfRun}
+use Rattle.mm_justify.specs.Counting.{HasCounts, capped}
 use Rattle.rewriter.specs.Configurations.{RunState, IsConfiguration}
 use Rattle.proof_writer.specs.PlainNames.{HasPlainNames}
 use Rattle.prove_run.specs.RunProof.{RunProof, reached}
-use Rattle.prove_run.specs.Proving.{FitsProof, StepsTo}
-use Rattle.run_proof.specs.declared.steps.ProvedSteps.{ProvedSteps}
-use Rattle.run_proof.specs.declared.steps.ProofRest.{ProofRest}
-use Rattle.run_proof.specs.declared.steps.StartResult.{StartResult}
-use Rattle.run_proof.specs.declared.steps.StartResult.TheVariants as beginning
-use Rattle.run_proof.specs.declared.steps.StepResult.{StepResult}
-use Rattle.run_proof.specs.declared.steps.StepResult.TheVariants as going
+use Rattle.prove_run.specs.Proving.{FitsProof}
+use Rattle.run_proof.specs.ClosedProofs.{steps_of}
+use Rattle.run_proof.specs.declared.steps.Progress.{Progress}
+use Rattle.run_proof.specs.declared.steps.Progress.TheVariants.{Made, Stuck, Blocked}
 
 -- the run of this initial term by this program can be proved
 pub record CanProveRun (program : Program) (start : Pattern) : Type 0 where
@@ -31,89 +26,45 @@ pub record CanProveRun (program : Program) (start : Pattern) : Type 0 where
   pub plain : HasPlainNames program.sig
   pub is_start : IsStart (theory_of program) start
 
--- a proof for this program and this start has reached a configuration, and the text fits it
-pub record IsProofAt (program : Program) (start at : Pattern) (proof : RunProof) (text : List ℕ) :
-    Type 0 where
+-- the proof has not failed, and has reached the configuration of the run
+pub record IsProvedAt (program : Program) (run : RunState) (proof : RunProof) : Type 0 where
   pub same_program : proof.program ≡ program
-  pub same_start : plain_pattern proof.start ≡ start
-  pub is_reached : reached proof ≡ at
-  pub fits : FitsProof proof text
+  pub is_reached : reached proof ≡ ground_pattern run.config
+  pub sound : proof.failed ≡ false
+  pub sorted : IsConfiguration (theory_of program) run.config
 
--- the proof has reached the same configuration as the run of a program from some start; its text is
--- what has been written and what has not
-abbrev pub IsProvedRun : Program → Pattern → List ℕ → ProvedSteps → Type 0
-IsProvedRun program start written s =
-    IsConfiguration (theory_of program) s.run.config
-    × IsProofAt program start (ground_pattern s.run.config) s.proof (written ++ s.text.items)
-
--- the same, from the proof's own start
-abbrev pub IsAtStep : Program → ProvedSteps → Type 0
-IsAtStep program s =
-    (written : List ℕ) × IsProvedRun program (plain_pattern s.proof.start) written s
-
--- what is left of a proof and of its text
-pub record IsLeftOf (proof : RunProof) (text : List ℕ) (left : ProofRest) : Type 0 where
-  pub same_text : left.text.items ≡ text
-  pub same_facts : left.facts ≡ proof.facts
-  pub same_statements : left.statements ≡ proof.statements
-
--- the text that is left justifies the run of a term without a value, and it has these counts
-pub record JustifiesNoStep (program : Program) (start : Pattern) (left : ProofRest) : Type 0 where
-  pub justifies : JustifiesRun left.text.items (theory_of program) start start
-  pub counts : HasCounts left.facts left.statements left.text.items
-
--- the run of a term begins with the term's value, or the term has no value
-abbrev pub BeginsRun : Program → Pattern → ℕ → StartResult → Type 0
-BeginsRun program start calls (beginning.Begun s) =
-    Reaches (theory_of program) start calls 0 s.run.config s.run.calls
-    × IsProvedRun program start [] s
-BeginsRun program start calls (beginning.Unstarted why left) =
-    Evaluates (theory_of program) most_nesting [] start calls (blocked (cause_of why))
-    × JustifiesNoStep program start left
-
--- the proof has reached the configuration of a run without steps
-abbrev pub BeginsAt : Program → Pattern → RunState → StartResult → Type 0
-BeginsAt program start run (beginning.Begun s) =
-    (s.run ≡ run) × IsProofAt program start (ground_pattern run.config) s.proof s.text.items
-BeginsAt program start run (beginning.Unstarted why left) = ⊥
-
--- the term has no value, and the proof states its run
-abbrev pub IsUnstarted : Program → Pattern → Blocked → StartResult → Type 0
-IsUnstarted program start why (beginning.Begun s) = ⊥
-IsUnstarted program start why (beginning.Unstarted because left) =
-    (because ≡ why) × JustifiesNoStep program start left
+-- the proof went on, and the created file grew by the text of its steps
+pub record GoesOn (old new : Option Told) (before after : RunProof) : Type 0 where
+  pub same_program : after.program ≡ before.program
+  pub same_start : after.start ≡ before.start
+  pub text : (added : List ℕ) × Writes old new added
+      × ((text : List ℕ) → FitsProof before text → FitsProof after (text ++ added))
 
 -- the run and its proof have made a step, which is the step of the definition; or no step can be
--- made
-abbrev pub ContinuesRun : Program → ProvedSteps → StepResult → Type 0
-ContinuesRun program old (going.Further new) =
-    Steps (theory_of program) old.run.config old.run.calls (steps_on new.run.config new.run.calls)
-    × ((start : Pattern) (written : List ℕ) → IsProvedRun program start written old →
-    IsProvedRun program start written new)
-ContinuesRun program old (going.Stuck last left) =
-    Steps (theory_of program) old.run.config old.run.calls stays × (last ≡ old.run.config)
-    × IsLeftOf old.proof old.text.items left
-ContinuesRun program old (going.Blocked why last left) =
-    Steps (theory_of program) old.run.config old.run.calls (stops (cause_of why))
-    × (last ≡ old.run.config)
-    × IsLeftOf old.proof old.text.items left
+-- made, and they are as before
+abbrev pub Progresses : Program → RunState → RunState → RunProof → RunProof → Progress → Type 0
+Progresses program run run' proof proof' Made =
+    Steps (theory_of program) run.config run.calls (steps_on run'.config run'.calls)
+    × (proof'.steps ≡ capped (proof.steps + 1))
+Progresses program run run' proof proof' (Stuck last) =
+    Steps (theory_of program) run.config run.calls stays × (last ≡ run.config) × (run' ≡ run)
+    × (proof' ≡ proof)
+Progresses program run run' proof proof' (Blocked why last) =
+    Steps (theory_of program) run.config run.calls (stops (cause_of why)) × (last ≡ run.config)
+    × (run' ≡ run)
+    × (proof' ≡ proof)
 
--- a proof was continued to the configuration of a run
-abbrev pub IsFurther : RunState → RunProof → List ℕ → StepResult → Type 0
-IsFurther run proof text (going.Further new) =
-    (new.run ≡ run) × StepsTo proof new.proof run.config text new.text.items
-IsFurther run proof text (going.Stuck last left) = ⊥
-IsFurther run proof text (going.Blocked why last left) = ⊥
+-- the text is a proof of the run, whose counts and steps the proof has; it has not failed
+pub record IsWholeProof (theory : RewriteTheory) (start : Pattern) (run : Run) (proof : RunProof)
+    (text : List ℕ) : Type 0 where
+  pub proves : IsProofOfRun text theory start (kept_by start run)
+  pub counts : HasCounts proof.facts proof.statements text
+  pub bytes_are : proof.bytes ≡ capped (length text)
+  pub steps_are : proof.steps ≡ steps_of run
+  pub sound : proof.failed ≡ false
 
--- what is left of a run that is stuck
-abbrev pub IsStuckAt : Tree → RunProof → List ℕ → StepResult → Type 0
-IsStuckAt config proof text (going.Further new) = ⊥
-IsStuckAt config proof text (going.Stuck last left) = (last ≡ config) × IsLeftOf proof text left
-IsStuckAt config proof text (going.Blocked why last left) = ⊥
-
--- what is left of a run that is blocked
-abbrev pub IsBlockedAt : Blocked → Tree → RunProof → List ℕ → StepResult → Type 0
-IsBlockedAt why config proof text (going.Further new) = ⊥
-IsBlockedAt why config proof text (going.Stuck last left) = ⊥
-IsBlockedAt why config proof text (going.Blocked because last left) =
-    (because ≡ why) × (last ≡ config) × IsLeftOf proof text left
+-- the created file grew by such a text
+abbrev pub WritesProof : Option Told → Option Told → RewriteTheory → Pattern → Run → RunProof
+    → Type 0
+WritesProof old new theory start run proof =
+    (text : List ℕ) × Writes old new text × IsWholeProof theory start run proof text

@@ -2,14 +2,12 @@
 //
 // `proved_run` takes the steps of `rewriter`, as `run` of `run_loop` does. It states each step in a
 // Metamath database by `prove_run`, from the records of the step's evaluations. It returns the run
-// of the definition and the counts of a database that justifies it. The database is in the created
-// file of a desk, and is written during the run.
+// of the definition and the counts of its proof: a database that justifies the run, in which each
+// `$p` has a compressed proof. The database is in the created file of a desk. It is written step by
+// step, so that after each step the file is a proof of the run so far, and is closed at the end.
 #![tactic(auto)]
 
 mod proved;
 mod steps;
-mod summaries;
-mod writing;
 
 pub use proved::proved_run;
-pub use summaries::Summary;

@@ -1,35 +1,42 @@
-// The loop of a run that is proved step by step.
-ghost use Rattle.std.specs.Prelude.{◌≡◌, ◌≤◌, IsTrue, IfOk, OnErr, IsErrOf};
+// A run that is proved step by step.
+ghost use Rattle.std.specs.Prelude.{◌≡◌, ◌≤◌, ℕ, [], IsTrue, IsFalse, IfOk, OnOk, OnErr};
+ghost use Rattle.std.specs.Prelude.{IsErrOf};
 ghost use Rattle.term_core.specs.RulePatterns.{plain_pattern};
 ghost use Rattle.rule_core.specs.BoundVariables.{HasBoundVariables};
 ghost use Rattle.rule_core.specs.ProgramView.{theory_of};
-ghost use Rattle.rule_core.specs.Runs.{IsRunOf};
+ghost use Rattle.rule_core.specs.Records.{Records, result_of};
+ghost use Rattle.rule_core.specs.RecordView.{plain_record};
+ghost use Rattle.rule_core.specs.Runs.{IsRunOf, Reaches};
 ghost use Rattle.rule_core.specs.WellSorted.{IsStart};
+ghost use Rattle.rewriter.specs.Configurations.{IsConfiguration};
 ghost use Rattle.desk_io.specs.Counts.{CountRose};
 ghost use Rattle.proof_writer.specs.PlainNames.{HasPlainNames};
 ghost use Rattle.run_loop.specs.RunEnds.{plain_run, IsSortedEnd};
-ghost use Rattle.run_proof.specs.WrittenProofs.{WritesFrontOfProof, WritesProof};
+ghost use Rattle.prove_run.specs.WrittenProofs.{WritesFrontOfProof};
+ghost use Rattle.run_proof.specs.ProvedSteps.{CanProveRun, WritesProof};
+ghost use Rattle.run_proof.specs.ClosedProofs.{KeepsOthersNow, PutsFront, PutsProof};
 
-use crate::steps::{StartResult, StepResult, proved_beginning, proved_step};
-use crate::summaries::Summary;
-use crate::writing::{at_limit, ended, hand_on};
+use crate::steps::proved_steps;
 use desk_io::{Desk, DeskFault};
-use fun_eval::Engine;
+use fun_eval::{Engine, EvalEnd};
+use prove_run::{Proof, ProveEnd, Summary};
+use rewriter::Run;
+use rule_core::{Blocked, EvalRecord};
 use run_loop::RunEnd;
 use std::alloc::Global;
 use term_core::RulePat;
 
 /// The run of an initial term, with at most `limit` steps and `calls` calls of functions, and the
-/// counts of its proof. A Metamath database that justifies the run, from the initial term to what
-/// it keeps, is appended to the desk's created file during the run.
+/// counts of its proof. The proof is a Metamath database that justifies the run, from the initial
+/// term to what it keeps, by compressed proofs. It is appended to the desk's created file during
+/// the run, step by step. The file is closed at the end, even after an error.
 ///
 /// Errors: out of memory, or a fault that the desk counted. After an error the front of such a
-/// database, perhaps of a shorter run, or nothing was appended.
+/// proof, perhaps of a shorter run, or nothing was appended.
 ///
 /// The text of a step grows with the configurations that it names, at most with the square of their
-/// sizes, and with the calls of functions that it makes. Memory holds the text of one step, at
-/// most 64 KiB of text before it, and the records of what the step evaluated. Until the first
-/// step is proved, it holds all the text up to the value of the initial term too.
+/// sizes, and with the calls of functions that it makes. Memory holds the text of one step, and the
+/// records of what the step evaluated.
 pub fn proved_run<'p, D: Desk>(
     alloc: Global,
     desk: &mut D,
@@ -46,34 +53,134 @@ pub fn proved_run<'p, D: Desk>(
         (λ r.
         IsRunOf (theory_of engine.now) limit calls (plain_pattern start.now) (plain_run r.0)) }
     ensures sorted { IfOk result (λ r. IsSortedEnd (theory_of engine.now) (plain_run r.0)) }
-    ensures justified { IfOk result (λ r. WritesProof
+    ensures justified { IfOk result (λ r. PutsProof
+        (D.state desk.old).told (D.state desk.new).told
+        (theory_of engine.now) (plain_pattern start.now) (plain_run r.0) r.1) }
+    ensures front { OnErr result (PutsFront (D.state desk.old).told (D.state desk.new).told
+        (theory_of engine.now) (plain_pattern start.now)) }
+    ensures files { KeepsOthersNow (D.state desk.old).told (D.state desk.new).told }
+    ensures created { IsFalse (D.created desk.new) }
+    ensures failed { IsErrOf result DeskFault.Failed
+        → CountRose (D.state desk.old).write_faults (D.state desk.new).write_faults }
+    ensures counts { (D.state desk.old).write_faults ≤ (D.state desk.new).write_faults }
+    ensures no_fault { OnOk result
+        ((D.state desk.new).write_faults ≡ (D.state desk.old).write_faults) }
+    ensures reads { (D.state desk.new).read_faults ≡ (D.state desk.old).read_faults }
+{
+    match run_with_proof(alloc, desk, engine, start, limit, calls) {
+        Ok((end, proof)) => match proof.close(desk) {
+            Ok(summary) => Ok((end, summary)),
+            Err(why) => Err(DeskFault::from(why)),
+        },
+        Err(why) => {
+            let _closed = desk.close_file();
+            Err(DeskFault::from(why))
+        }
+    }
+}
+
+// The run, and its proof, of which all is written. The file is not closed.
+fn run_with_proof<'p, D: Desk>(
+    alloc: Global,
+    desk: &mut D,
+    engine: &Engine<'p>,
+    start: &'p RulePat,
+    limit: u32,
+    calls: u32,
+) -> Result<(RunEnd, Proof<'p>), ProveEnd>
+    requires file { IsTrue (D.created desk.old) }
+    requires ready { CanProveRun engine.now (plain_pattern start.now) }
+    ensures run { IfOk result
+        (λ r.
+        IsRunOf (theory_of engine.now) limit calls (plain_pattern start.now) (plain_run r.0)) }
+    ensures sorted { IfOk result (λ r. IsSortedEnd (theory_of engine.now) (plain_run r.0)) }
+    ensures proved { IfOk result (λ r. WritesProof
         (D.state desk.old).told (D.state desk.new).told
         (theory_of engine.now) (plain_pattern start.now) (plain_run r.0) r.1) }
     ensures front { OnErr result (WritesFrontOfProof (D.state desk.old).told (D.state desk.new).told
         (theory_of engine.now) (plain_pattern start.now)) }
     ensures created { IsTrue (D.created desk.new) }
-    ensures failed { IsErrOf result DeskFault.Failed
+    ensures failed { IsErrOf result ProveEnd.Failed
         → CountRose (D.state desk.old).write_faults (D.state desk.new).write_faults }
     ensures counts { (D.state desk.old).write_faults ≤ (D.state desk.new).write_faults }
+    ensures no_fault { OnOk result
+        ((D.state desk.new).write_faults ≡ (D.state desk.old).write_faults) }
     ensures reads { (D.state desk.new).read_faults ≡ (D.state desk.old).read_faults }
 {
-    let mut steps = match proved_beginning(alloc, engine, start, calls)? {
-        StartResult::Begun(steps) => steps,
-        StartResult::Unstarted(why, left) => return ended(desk, 0, &left, RunEnd::Unstarted(why)),
-    };
-    let mut written = 0;
-    for made in 0..limit {
-        match proved_step(alloc, engine, steps)? {
-            StepResult::Further(further) => steps = further,
-            StepResult::Stuck(last, left) => {
-                return ended(desk, written, &left, RunEnd::Stuck(made, last));
-            }
-            StepResult::Blocked(why, last, left) => {
-                return ended(desk, written, &left, RunEnd::Blocked(made, why, last));
-            }
-        }
-        let handed = hand_on(desk, &mut steps.text)?;
-        written = written.saturating_add(handed);
+    match Run::new(alloc, engine, start, calls) {
+        Ok((run, evaluation)) => started(alloc, desk, engine, start, limit, run, &evaluation),
+        Err(EvalEnd::Blocked(why)) => unstarted(alloc, desk, engine, start, why),
+        Err(EvalEnd::Memory) => Err(ProveEnd::Memory),
     }
-    at_limit(desk, limit, written, steps)
+}
+
+// The run from the value of its initial term on, and its proof.
+fn started<'p, D: Desk>(
+    alloc: Global,
+    desk: &mut D,
+    engine: &Engine<'p>,
+    start: &'p RulePat,
+    limit: u32,
+    run: Run,
+    evaluation: &EvalRecord,
+) -> Result<(RunEnd, Proof<'p>), ProveEnd>
+    requires file { IsTrue (D.created desk.old) }
+    requires ready { CanProveRun engine.now (plain_pattern start.now) }
+    requires recorded { Records (theory_of engine.now) [] (plain_pattern start.now)
+        (plain_record evaluation.now) }
+    requires value { result_of (plain_record evaluation.now) ≡ run.config }
+    requires sorted { IsConfiguration (theory_of engine.now) run.config }
+    ensures run { IfOk result (λ r. (calls : ℕ) →
+        Reaches (theory_of engine.now) (plain_pattern start.now) calls 0 run.config run.calls →
+        IsRunOf (theory_of engine.now) limit calls (plain_pattern start.now) (plain_run r.0)) }
+    ensures sorted { IfOk result (λ r. IsSortedEnd (theory_of engine.now) (plain_run r.0)) }
+    ensures proved { IfOk result (λ r. WritesProof
+        (D.state desk.old).told (D.state desk.new).told
+        (theory_of engine.now) (plain_pattern start.now) (plain_run r.0) r.1) }
+    ensures front { OnErr result (WritesFrontOfProof (D.state desk.old).told (D.state desk.new).told
+        (theory_of engine.now) (plain_pattern start.now)) }
+    ensures created { IsTrue (D.created desk.new) }
+    ensures failed { IsErrOf result ProveEnd.Failed
+        → CountRose (D.state desk.old).write_faults (D.state desk.new).write_faults }
+    ensures counts { (D.state desk.old).write_faults ≤ (D.state desk.new).write_faults }
+    ensures no_fault { OnOk result
+        ((D.state desk.new).write_faults ≡ (D.state desk.old).write_faults) }
+    ensures reads { (D.state desk.new).read_faults ≡ (D.state desk.old).read_faults }
+{
+    let mut run = run;
+    let mut proof = Proof::begin(alloc, engine.program(), start, Some(evaluation), desk)?;
+    match proved_steps(alloc, desk, engine, limit, &mut run, &mut proof) {
+        Ok(end) => Ok((end, proof)),
+        Err(why) => Err(why),
+    }
+}
+
+// The run of a term that has no value, and its proof.
+fn unstarted<'p, D: Desk>(
+    alloc: Global,
+    desk: &mut D,
+    engine: &Engine<'p>,
+    start: &'p RulePat,
+    why: Blocked,
+) -> Result<(RunEnd, Proof<'p>), ProveEnd>
+    requires file { IsTrue (D.created desk.old) }
+    requires ready { CanProveRun engine.now (plain_pattern start.now) }
+    ensures end { IfOk result (λ r. r.0 ≡ RunEnd.Unstarted why) }
+    ensures proved { IfOk result (λ r. WritesProof
+        (D.state desk.old).told (D.state desk.new).told
+        (theory_of engine.now) (plain_pattern start.now) (plain_run (RunEnd.Unstarted why)) r.1) }
+    ensures front { OnErr result (WritesFrontOfProof (D.state desk.old).told (D.state desk.new).told
+        (theory_of engine.now) (plain_pattern start.now)) }
+    ensures created { IsTrue (D.created desk.new) }
+    ensures failed { IsErrOf result ProveEnd.Failed
+        → CountRose (D.state desk.old).write_faults (D.state desk.new).write_faults }
+    ensures counts { (D.state desk.old).write_faults ≤ (D.state desk.new).write_faults }
+    ensures no_fault { OnOk result
+        ((D.state desk.new).write_faults ≡ (D.state desk.old).write_faults) }
+    ensures reads { (D.state desk.new).read_faults ≡ (D.state desk.old).read_faults }
+{
+    match Proof::begin(alloc, engine.program(), start, None, desk) {
+        Ok(proof) => Ok((RunEnd::Unstarted(why), proof)),
+        Err(end) => Err(end),
+    }
 }

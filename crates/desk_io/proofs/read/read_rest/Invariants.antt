@@ -9,6 +9,7 @@ invariant-loop-buffer g l = record {
   counts : (g.D.Desk.state l.initial.desk).read_faults ≤ (g.D.Desk.state l.desk).read_faults;
   writes : (g.D.Desk.state l.desk).write_faults ≡ (g.D.Desk.state l.initial.desk).write_faults;
   created : g.D.Desk.created l.desk ≡ g.D.Desk.created l.initial.desk;
+  no_fault : (g.D.Desk.state l.desk).read_faults ≡ (g.D.Desk.state l.initial.desk).read_faults;
 }
 
 abbrev pub decreases-loop-buffer : goal.decreases-loop-buffer

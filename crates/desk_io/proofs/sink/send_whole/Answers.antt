@@ -1,4 +1,4 @@
-use Rattle.std.proofs.Common.{rules, ℕ, arith, length-drop}
+use Rattle.std.proofs.Common.{rules, ℕ, ◌∙◌, arith, length-drop}
 use Rattle.std.proofs.lemmas.List.{length-take}
 use Rattle.desk_io.specs.SinkChanges.{AppendsFront}
 use Rattle.desk_io.proofs.Sent.{Appends-more, Appends-fault}
@@ -11,6 +11,7 @@ loop-at-preserved g c = record {
       Appends-more _ _ _ c.args.bytes.now c.loop-at.at c.in_ok-at.field-0 c.loop-at.invariant.within
       c.loop-at.invariant.appends c.in_ok-at.ensures.appends;
   counts = omega (arith, c.in_ok-at.ensures.counts);
+  no_fault = c.in_ok-at.ensures.no_fault ∙ c.loop-at.invariant.no_fault;
 }
 
 pub returns-in_err-at-clause-prefix : goal.returns-in_err-at-clause-prefix

@@ -10,6 +10,7 @@ loop-at-init g c = record {
   writes = Writes-nil _ (rw c.requires at (g.met.D.Desk.tells_created c.args.desk.now));
   created = c.requires;
   counts = omega arith;
+  no_fault = refl;
   reads = refl;
 }
 
@@ -21,6 +22,7 @@ loop-at-preserved g c = record {
       c.in_ok-at.ensures.writes;
   created = c.in_ok-at.ensures.created;
   counts = omega (arith, c.in_ok-at.ensures.counts);
+  no_fault = c.in_ok-at.ensures.no_fault ∙ c.loop-at.invariant.no_fault;
   reads = c.in_ok-at.ensures.reads ∙ c.loop-at.invariant.reads;
 }
 

@@ -11,6 +11,8 @@ invariant-loop-at g l = record {
   created : IsTrue (g.D.Desk.created l.desk);
   counts : (g.D.Desk.state l.initial.desk).write_faults ≤ (g.D.Desk.state l.desk).write_faults;
   reads : (g.D.Desk.state l.desk).read_faults ≡ (g.D.Desk.state l.initial.desk).read_faults;
+  no_fault : (g.D.Desk.state l.desk).write_faults
+      ≡ (g.D.Desk.state l.initial.desk).write_faults;
 }
 
 abbrev pub decreases-loop-at : goal.decreases-loop-at

@@ -2,7 +2,8 @@ use Rattle.std.proofs.Common.{Result, Ok, Err, IfOk}
 use Rattle.term_core.specs.RulePatterns.{plain_pattern}
 use Rattle.rule_core.specs.ProgramView.{theory_of}
 use Rattle.run_loop.specs.RunEnds.{plain_run}
-use Rattle.kore_prove.specs.ProofFiles.{PutsProof, PutsFront, HoldsCounted, MayHoldFront}
+use Rattle.run_proof.specs.ClosedProofs.{PutsFront, PutsProof}
+use Rattle.kore_prove.specs.ProofFiles.{HoldsCounted, MayHoldFront}
 use Rattle.kore_prove.proofs.FileProofs.{created_proof, created_front, created_others, on_err_more}
 use Rattle.kore_prove.proofs.proof_file.proved_lines.Goals as goal
 
@@ -15,32 +16,32 @@ pub returns-clause-proof : goal.returns-clause-proof
 returns-clause-proof g c =
     let old = (g.D.Desk.state c.args.desk.now).told in
     let made = (g.D.Desk.state c.create_file.new.self).told in
-    let new = (g.D.Desk.state c.proved_and_closed.new.desk).told in
+    let new = (g.D.Desk.state c.proved_lines_of_run.new.desk).told in
     let theory = theory_of c.args.accepted.now.program in
     let start = plain_pattern c.args.accepted.now.start in
-    if_ok c.proved_and_closed.result
+    if_ok c.proved_lines_of_run.result
     (λ r. PutsProof made new theory start (plain_run r.end) r.summary)
     (λ r. HoldsCounted old new c.args.file.now theory start (plain_run r.end) r.summary)
     (λ r h. created_proof old made new c.args.file.now theory start (plain_run r.end) r.summary
-    c.in_ok-create_file.ensures.creates h) c.proved_and_closed.ensures.proof
+    c.in_ok-create_file.ensures.creates h) c.proved_lines_of_run.ensures.proof
 
 pub returns-clause-front : goal.returns-clause-front
 returns-clause-front g c =
     let old = (g.D.Desk.state c.args.desk.now).told in
     let made = (g.D.Desk.state c.create_file.new.self).told in
-    let new = (g.D.Desk.state c.proved_and_closed.new.desk).told in
+    let new = (g.D.Desk.state c.proved_lines_of_run.new.desk).told in
     let theory = theory_of c.args.accepted.now.program in
     let start = plain_pattern c.args.accepted.now.start in
-    on_err_more c.proved_and_closed.result (PutsFront made new theory start)
+    on_err_more c.proved_lines_of_run.result (PutsFront made new theory start)
     (MayHoldFront old new c.args.file.now theory start)
     (λ h. created_front old made new c.args.file.now theory start
     c.in_ok-create_file.ensures.creates h)
-    c.proved_and_closed.ensures.front
+    c.proved_lines_of_run.ensures.front
 
 pub returns-clause-files : goal.returns-clause-files
 returns-clause-files g c =
     created_others (g.D.Desk.state c.args.desk.now).told
     (g.D.Desk.state c.create_file.new.self).told
-    (g.D.Desk.state c.proved_and_closed.new.desk).told c.args.file.now
+    (g.D.Desk.state c.proved_lines_of_run.new.desk).told c.args.file.now
     c.in_ok-create_file.ensures.creates
-    c.proved_and_closed.ensures.files
+    c.proved_lines_of_run.ensures.files

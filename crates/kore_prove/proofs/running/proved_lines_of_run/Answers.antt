@@ -4,9 +4,9 @@ use Rattle.term_core.specs.RulePatterns.{plain_pattern}
 use Rattle.rule_core.specs.ProgramView.{theory_of}
 use Rattle.rule_core.specs.declared.rules.Program.{Program}
 use Rattle.run_loop.specs.RunEnds.{plain_run}
-use Rattle.run_proof.specs.WrittenProofs.{WritesFrontOfProof}
+use Rattle.run_proof.specs.ClosedProofs.{PutsFront}
 use Rattle.proof_writer.specs.PlainNames.{HasPlainNames}
-use Rattle.kore_prove.proofs.FileProofs.{proof_written}
+use Rattle.run_proof.proofs.ClosedLaws.{put_front}
 use Rattle.kore_prove.proofs.PlainNames.{plain_names}
 use Rattle.kore_prove.proofs.running.proved_lines_of_run.Goals as goal
 
@@ -21,7 +21,7 @@ returns-in_err-end-clause-front g c =
     let new = (g.D.Desk.state c.proved_run.new.desk).told in
     let start = plain_pattern c.args.accepted.now.start in
     let p = err_from_is_err_and c.from_residual.result c.from_residual.ensures.1 in
-    rw p.1 (subst (λ (p : Program). WritesFrontOfProof old new (theory_of p) start)
+    rw p.1 (subst (λ (p : Program). PutsFront old new (theory_of p) start)
     c.new-engine.ensures
     c.in_err-end.ensures.front)
 
@@ -32,7 +32,7 @@ returns-in_err-lines-clause-front g c =
     let start = plain_pattern c.args.accepted.now.start in
     let p = err_from_is_err_and c.from_residual-in_err-lines.result
     c.from_residual-in_err-lines.ensures.1 in
-    rw p.1 (subst (λ (p : Program). WritesFrontOfProof old new (theory_of p) start)
+    rw p.1 (subst (λ (p : Program). PutsFront old new (theory_of p) start)
     c.new-engine.ensures
-    (proof_written old new (theory_of c.new-engine.result) start (plain_run c.in_ok-end.end)
+    (put_front old new (theory_of c.new-engine.result) start (plain_run c.in_ok-end.end)
     c.in_ok-end.summary c.in_ok-end.ensures.justified))

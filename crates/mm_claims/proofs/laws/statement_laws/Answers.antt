@@ -1,10 +1,14 @@
-use Rattle.mm_claims.proofs.OpenFits.{claims_are_valid, header_fits_claims, axiom_fits}
+use Rattle.mm_claims.proofs.OpenFits.{claims_are_valid, claims_are_compressed}
+use Rattle.mm_claims.proofs.OpenFits.{header_fits_claims, axiom_fits}
 use Rattle.mm_claims.proofs.OpenFits.{axiom_is_gained, theorem_fits, theorem_is_gained}
 use Rattle.mm_claims.proofs.NamedClaims.{names_fit_claims}
 use Rattle.mm_claims.proofs.laws.statement_laws.Goals as goal
 
 pub returns-clause-valid : goal.returns-clause-valid
 returns-clause-valid a = claims_are_valid
+
+pub returns-clause-compressed : goal.returns-clause-compressed
+returns-clause-compressed a = claims_are_compressed
 
 pub returns-clause-header : goal.returns-clause-header
 returns-clause-header a = header_fits_claims

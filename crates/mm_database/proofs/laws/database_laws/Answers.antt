@@ -1,6 +1,7 @@
 use Rattle.mm_database.proofs.ClosedFrames.{closed_has_none}
 use Rattle.mm_database.proofs.Continued.{leaves_is_valid, continued_leaves, axiom_is_fine}
-use Rattle.mm_database.proofs.Continued.{theorem_is_fine}
+use Rattle.mm_database.proofs.Continued.{appended_compressed, theorem_is_fine}
+use Rattle.mm_database.proofs.Compressed.{proof_text_is_plain}
 use Rattle.mm_database.proofs.Texts.{appended_is_fine, written_is_fine}
 use Rattle.mm_database.proofs.Stated.{appended_states}
 use Rattle.mm_database.proofs.WrittenForms.{plain_tokens_say, proof_tokens_say}
@@ -32,6 +33,12 @@ returns-clause-axiom a = axiom_is_fine
 
 pub returns-clause-theorem : goal.returns-clause-theorem
 returns-clause-theorem a = theorem_is_fine
+
+pub returns-clause-proof_text : goal.returns-clause-proof_text
+returns-clause-proof_text a = proof_text_is_plain
+
+pub returns-clause-compressed : goal.returns-clause-compressed
+returns-clause-compressed a = appended_compressed
 
 pub returns-clause-closed : goal.returns-clause-closed
 returns-clause-closed a = closed_has_none

@@ -1,8 +1,8 @@
-use Rattle.std.proofs.Common.{◌≡◌, [], ◌∷◌, ◌++◌, ◌∙◌, ap, sym, refl, rules}
+use Rattle.std.proofs.Common.{◌≡◌, [], ◌∷◌, ◌++◌, ◌∙◌, ap, sym, rules}
 use Rattle.std.proofs.Common.{append-nil, append_assoc, subst}
 use Rattle.std.proofs.lemmas.List.{nil_from_length}
 use Rattle.mm_proof.specs.WorkStacks.{PutsMore}
-use Rattle.mm_proof.specs.Writing.{works_entries}
+use Rattle.mm_proof.specs.Writing.{goal_trees}
 use Rattle.mm_proof.proofs.Stacking.{put_more, put_none}
 use Rattle.mm_proof.proofs.stacks.put_all.Goals as goal
 
@@ -11,7 +11,7 @@ loop-part-init c =
     let rest : c.into_iter-part-iterator.result.iter.rest.now ≡ c.args.parts.now = search rules in (
       [],
       sym (append-nil c.args.parts.now) ∙ ap (λ ws. ws ++ []) (sym rest),
-      put_none c.args.stack.now.items (λ names k. []) (λ names k. refl),
+      put_none c.args.stack.now.items,
     )
 
 pub loop-part-preserved : goal.loop-part-preserved
@@ -20,10 +20,8 @@ loop-part-preserved c =
       c.in-Some.part.now ∷ put,
       c.loop-part.invariant.1 ∙ ap (λ ws. ws ++ put) c.in-Some.ensures.steps
           ∙ append_assoc c.next.new.self.iter.rest.now (c.in-Some.part.now ∷ []) put,
-      put_more (λ names k. works_entries names k put)
-          (λ names k. works_entries names k (c.in-Some.part.now ∷ put)) c.in-Some.part.now
-          c.args.stack.now.items c.loop-part.stack.items c.push.new.self.items
-          c.loop-part.invariant.2 c.in_ok-push.ensures.items (λ names k. refl),
+      put_more c.in-Some.part.now put c.args.stack.now.items c.loop-part.stack.items
+          c.push.new.self.items c.loop-part.invariant.2 c.in_ok-push.ensures.items,
     )
 
 pub returns : goal.returns
@@ -32,5 +30,5 @@ returns c =
     let all : c.args.parts.now ≡ put =
     c.loop-part.invariant.1
     ∙ ap (λ ws. ws ++ put) (nil_from_length _ c.in-None.ensures.steps.0) in
-    subst (λ ws. PutsMore (λ names k. works_entries names k ws) c.args.stack.now.items
-    c.loop-part.stack.items) (sym all) c.loop-part.invariant.2
+    subst (λ ws. PutsMore (λ k. goal_trees k ws) c.args.stack.now.items c.loop-part.stack.items)
+    (sym all) c.loop-part.invariant.2

@@ -1,10 +1,10 @@
-use Rattle.std.proofs.Common.{List, ◌≡◌, [], ◌∷◌, ◌++◌, ◌*◌, ◌∙◌, ap, sym, refl, arith, rules}
+use Rattle.std.proofs.Common.{List, ◌≡◌, [], ◌∷◌, ◌++◌, ◌*◌, ◌∙◌, ap, sym, rules}
 use Rattle.std.proofs.Common.{append-nil, append_assoc, subst}
 use Rattle.std.proofs.lemmas.List.{nil_from_length}
 use Rattle.ml_kernel.specs.StepsIn.{all_steps}
 use Rattle.ml_kernel.specs.Theorems.{Derivation, derivations}
-use Rattle.mm_render.specs.Parts.{PutsParts, all_entries_by}
-use Rattle.mm_render.proofs.PartLaws.{part_more, part_none}
+use Rattle.mm_render.specs.Parts.{PutsTrees, proofs_by}
+use Rattle.mm_render.proofs.PartLaws.{put_more, put_none}
 use Rattle.mm_render.proofs.derivations.put_derived.Goals as goal
 
 pub loop-part-init : goal.loop-part-init
@@ -12,7 +12,7 @@ loop-part-init c =
     let rest : c.into_iter-part-iterator.result.iter.rest.now ≡ c.args.parts.now = search rules in (
       [],
       sym (append-nil c.args.parts.now) ∙ ap (λ (ds : List Derivation). ds ++ []) (sym rest),
-      part_none (λ names k s. []) 0 c.args.stack.now.items (λ names k s. refl),
+      put_none c.args.stack.now.items,
     )
 
 pub loop-part-preserved : goal.loop-part-preserved
@@ -21,12 +21,8 @@ loop-part-preserved c =
       c.in-Some.part.now ∷ put,
       c.loop-part.invariant.1 ∙ ap (λ (ds : List Derivation). ds ++ put) c.in-Some.ensures.steps
           ∙ append_assoc c.next.new.self.iter.rest.now (c.in-Some.part.now ∷ []) put,
-      part_more (λ names k s. all_entries_by k s (derivations put))
-          (λ names k s. all_entries_by k s (derivations (c.in-Some.part.now ∷ put)))
-          (3 * all_steps (derivations put))
-          (3 * all_steps (derivations (c.in-Some.part.now ∷ put))) _ c.args.stack.now.items
-          c.loop-part.stack.items c.push.new.self.items c.loop-part.invariant.2
-          c.in_ok-push.ensures.items (λ names k s. refl) (omega arith),
+      put_more c.in-Some.part put c.args.stack.now.items c.loop-part.stack.items
+          c.push.new.self.items c.loop-part.invariant.2 c.in_ok-push.ensures.items,
     )
 
 pub returns : goal.returns
@@ -36,5 +32,5 @@ returns c =
     c.loop-part.invariant.1
     ∙ ap (λ (ds : List Derivation). ds ++ put) (nil_from_length _ c.in-None.ensures.steps.0) in
     subst (λ (ds : List Derivation).
-    PutsParts (λ names k s. all_entries_by k s (derivations ds)) (3 * all_steps (derivations ds))
+    PutsTrees (λ k at. proofs_by k at (derivations ds)) (3 * all_steps (derivations ds))
     c.args.stack.now.items c.loop-part.stack.items) (sym all) c.loop-part.invariant.2

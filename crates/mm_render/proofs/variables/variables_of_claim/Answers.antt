@@ -2,10 +2,9 @@ use Rattle.std.proofs.Common.{arith, ◌≡◌, ◌+◌, [], ◌∷◌, ◌++◌
 use Rattle.std.proofs.Common.{flat_map}
 use Rattle.std.proofs.lemmas.List.{take_all, take_more}
 use Rattle.ml_pat.specs.Patterns.{Pattern}
-use Rattle.mm_claims.specs.ClaimVariables.{claim_variables}
+use Rattle.mm_claims.specs.ClaimVariables.{claim_variables, variables_in}
 use Rattle.mm_claims.specs.AddedVariables.{added}
 use Rattle.mm_render.specs.ListedVariables.{listed}
-use Rattle.mm_claims.specs.OpenVariables.{variables_in}
 use Rattle.mm_render.specs.VariablesView.{HaveNumbers}
 use Rattle.mm_render.proofs.StackedVariables.{item_added, are_numbered}
 use Rattle.mm_render.proofs.variables.variables_of_claim.Goals as goal

@@ -9,8 +9,8 @@ use Rattle.prove_term.specs.EqualCalls.{SaysEqualCalls}
 use Rattle.prove_term.proofs.ContextLaws.{grown_twice}
 use Rattle.prove_schema.proofs.ResultLaws.{if_ok_two}
 use Rattle.prove_equation.proofs.FillingLaws.{can_use_grown}
-use Rattle.prove_equation.proofs.TurningLaws.{IsWritten, written_at, written_turns, written_proves}
-use Rattle.prove_equation.proofs.TurningLaws.{arguments_sorted}
+use Rattle.prove_equation.proofs.TurningLaws.{IsWritten, written_at, written_grown, written_turns}
+use Rattle.prove_equation.proofs.TurningLaws.{written_proves, arguments_sorted}
 use Rattle.prove_equation.proofs.direct.direct_at.Goals as goal
 
 pub filled-requires-clause-used : goal.filled-requires-clause-used
@@ -82,15 +82,19 @@ returns-clause-proves c =
     c.in_ok-made.made c.in_ok-normal.normal
     c.call_eq.ensures.grown c.in_ok-made.ensures.says c.in_ok-made.ensures.stays calls in
     if_ok_two c.from_normal.result
-    (λ t is within. written_proves c.call_eq.new.cx c.args.equation.now.fun.0
+    (λ t is within. written_proves c.from_normal.new.cx c.args.equation.now.fun.0
     (function_equation c.args.equation.now) c.args.subst.now (forest c.args.args.now)
-    c.in_ok-made.made t c.in_ok-normal.normal w is within) c.from_normal.ensures.says
-    c.from_normal.ensures.stays
+    c.in_ok-made.made t c.in_ok-normal.normal
+    (written_grown c.call_eq.new.cx c.from_normal.new.cx c.args.equation.now.fun.0
+    (function_equation c.args.equation.now) c.args.subst.now (forest c.args.args.now)
+    c.in_ok-made.made c.in_ok-normal.normal c.from_normal.ensures.grown w) is within)
+    c.from_normal.ensures.says c.from_normal.ensures.stays
 
 pub returns-clause-grown : goal.returns-clause-grown
 returns-clause-grown c =
-    grown_twice c.args.cx.now c.filled.new.cx c.call_eq.new.cx c.filled.ensures.grown
-    c.call_eq.ensures.grown
+    grown_twice c.args.cx.now c.call_eq.new.cx c.from_normal.new.cx
+    (grown_twice c.args.cx.now c.filled.new.cx c.call_eq.new.cx c.filled.ensures.grown
+    c.call_eq.ensures.grown) c.from_normal.ensures.grown
 
 pub returns-in_err-normal-clause-grown : goal.returns-in_err-normal-clause-grown
 returns-in_err-normal-clause-grown c =

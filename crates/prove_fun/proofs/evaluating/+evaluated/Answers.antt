@@ -6,6 +6,7 @@ mod Forms
 mod Injections
 mod UsedEquations
 use Rattle.prove_term.proofs.ContextLaws.{grown_twice}
+use Rattle.prove_fun.proofs.KeptLaws.{kept_grown}
 use Rattle.prove_fun.proofs.evaluating.+evaluated.Goals as goal
 
 -- ---- by the form of the pattern
@@ -141,8 +142,11 @@ at_values-taken_apart-requires = Calls.at_values-taken_apart-requires
 pub at_values-all_evaluated-requires : goal.at_values-all_evaluated-requires
 at_values-all_evaluated-requires = Calls.at_values-all_evaluated-requires
 
-pub at_values-join-requires : goal.at_values-join-requires
-at_values-join-requires = Calls.at_values-join-requires
+pub at_values-join-requires-clause-joinable : goal.at_values-join-requires-clause-joinable
+at_values-join-requires-clause-joinable = Calls.at_values-join-requires-clause-joinable
+
+pub at_values-join-requires-clause-closed : goal.at_values-join-requires-clause-closed
+at_values-join-requires-clause-closed = Calls.at_values-join-requires-clause-closed
 
 pub at_values-returns-in-Some-clause-says : goal.at_values-returns-in-Some-clause-says
 at_values-returns-in-Some-clause-says = Calls.at_values-returns-in-Some-clause-says
@@ -220,19 +224,24 @@ condition_held-unreachable-requires = Conditions.condition_held-unreachable-requ
 pub all_evaluated-returns-in_err-made-clause-grown :
     goal.all_evaluated-returns-in_err-made-clause-grown
 all_evaluated-returns-in_err-made-clause-grown t c =
-    grown_twice c.args.cx.now c.loop-i.cx c.evaluated.new.cx c.loop-i.invariant.grown
-    c.in_ok-one.ensures.grown
+    grown_twice c.args.cx.now c.evaluated.new.cx c.applied.new.cx
+    (grown_twice c.args.cx.now c.loop-i.cx c.evaluated.new.cx c.loop-i.invariant.grown
+    c.in_ok-one.ensures.grown) c.applied.ensures.grown
 
 pub all_evaluated-returns-in_err-function-2-clause-grown :
     goal.all_evaluated-returns-in_err-function-2-clause-grown
 all_evaluated-returns-in_err-function-2-clause-grown t c =
-    grown_twice c.args.cx.now c.loop-i.cx c.evaluated.new.cx c.loop-i.invariant.grown
-    c.in_ok-one.ensures.grown
+    grown_twice c.args.cx.now c.evaluated.new.cx c.applied.new.cx
+    (grown_twice c.args.cx.now c.loop-i.cx c.evaluated.new.cx c.loop-i.invariant.grown
+    c.in_ok-one.ensures.grown) c.in_ok-made.ensures.grown
 
 pub injected-returns-clause-grown : goal.injected-returns-clause-grown
 injected-returns-clause-grown t c =
-    grown_twice c.args.cx.now c.injected_once.new.cx c.evaluated.new.cx c.in_ok-once.ensures.grown
-    c.in_ok-one.ensures.grown
+    grown_twice c.args.cx.now c.evaluated.new.cx c.joined.new.cx
+    (grown_twice c.args.cx.now c.injected_once.new.cx c.evaluated.new.cx c.in_ok-once.ensures.grown
+    c.in_ok-one.ensures.grown)
+    (grown_twice c.evaluated.new.cx c.applied.new.cx c.joined.new.cx c.in_ok-beneath.ensures.grown
+    c.joined.ensures.grown)
 
 pub injected-returns-in_err-one-clause-grown : goal.injected-returns-in_err-one-clause-grown
 injected-returns-in_err-one-clause-grown t c =
@@ -241,8 +250,9 @@ injected-returns-in_err-one-clause-grown t c =
 
 pub injected-returns-in_err-beneath-clause-grown : goal.injected-returns-in_err-beneath-clause-grown
 injected-returns-in_err-beneath-clause-grown t c =
-    grown_twice c.args.cx.now c.injected_once.new.cx c.evaluated.new.cx c.in_ok-once.ensures.grown
-    c.in_ok-one.ensures.grown
+    grown_twice c.args.cx.now c.evaluated.new.cx c.applied.new.cx
+    (grown_twice c.args.cx.now c.injected_once.new.cx c.evaluated.new.cx c.in_ok-once.ensures.grown
+    c.in_ok-one.ensures.grown) c.applied.ensures.grown
 
 pub called-returns-in_ok-fact-in-ByHook-clause-grown :
     goal.called-returns-in_ok-fact-in-ByHook-clause-grown
@@ -272,10 +282,12 @@ by_equation-returns-in_err-right-clause-grown t c =
 
 pub by_equation-returns-clause-grown : goal.by_equation-returns-clause-grown
 by_equation-returns-clause-grown t c =
-    grown_twice c.args.cx.now c.condition_held.new.cx c.evaluated.new.cx c.in_ok-held.ensures.grown
+    grown_twice c.args.cx.now c.evaluated.new.cx c.followed.new.cx
+    (grown_twice c.args.cx.now c.condition_held.new.cx c.evaluated.new.cx c.in_ok-held.ensures.grown
     (grown_twice c.condition_held.new.cx c.equation_fact.new.cx c.evaluated.new.cx
     c.in_ok-fact.ensures.grown (grown_twice c.equation_fact.new.cx c.at_values.new.cx
-    c.evaluated.new.cx c.in_ok-first.ensures.grown c.in_ok-right.ensures.grown))
+    c.evaluated.new.cx c.in_ok-first.ensures.grown c.in_ok-right.ensures.grown)))
+    c.followed.ensures.grown
 
 pub value_held-returns-in_err-found-clause-grown : goal.value_held-returns-in_err-found-clause-grown
 value_held-returns-in_err-found-clause-grown t c =
@@ -286,3 +298,43 @@ pub value_held-returns-clause-grown : goal.value_held-returns-clause-grown
 value_held-returns-clause-grown t c =
     grown_twice c.args.cx.now c.image.new.self c.evaluated.new.cx c.in_ok-image.ensures.grown
     c.in_ok-found.ensures.grown
+
+pub at_values-returns-in-Some-clause-grown : goal.at_values-returns-in-Some-clause-grown
+at_values-returns-in-Some-clause-grown t c =
+    grown_twice c.args.cx.now c.all_evaluated.new.cx c.join.new.cx c.in_ok-values.ensures.grown
+    c.join.ensures.grown
+
+-- ---- the kept lemmas in grown contexts
+
+pub all_evaluated-returns-in_err-made-clause-kept :
+    goal.all_evaluated-returns-in_err-made-clause-kept
+all_evaluated-returns-in_err-made-clause-kept t c =
+    kept_grown c.evaluated.new.cx c.applied.new.cx c.evaluated.new.kept c.applied.ensures.grown
+    c.in_ok-one.ensures.kept
+
+pub all_evaluated-returns-in_err-function-2-clause-kept :
+    goal.all_evaluated-returns-in_err-function-2-clause-kept
+all_evaluated-returns-in_err-function-2-clause-kept t c =
+    kept_grown c.evaluated.new.cx c.applied.new.cx c.evaluated.new.kept c.in_ok-made.ensures.grown
+    c.in_ok-one.ensures.kept
+
+pub injected-returns-in_err-beneath-clause-kept : goal.injected-returns-in_err-beneath-clause-kept
+injected-returns-in_err-beneath-clause-kept t c =
+    kept_grown c.evaluated.new.cx c.applied.new.cx c.evaluated.new.kept c.applied.ensures.grown
+    c.in_ok-one.ensures.kept
+
+pub injected-returns-clause-kept : goal.injected-returns-clause-kept
+injected-returns-clause-kept t c =
+    kept_grown c.evaluated.new.cx c.joined.new.cx c.evaluated.new.kept
+    (grown_twice c.evaluated.new.cx c.applied.new.cx c.joined.new.cx c.in_ok-beneath.ensures.grown
+    c.joined.ensures.grown) c.in_ok-one.ensures.kept
+
+pub at_values-returns-in-Some-clause-kept : goal.at_values-returns-in-Some-clause-kept
+at_values-returns-in-Some-clause-kept t c =
+    kept_grown c.all_evaluated.new.cx c.join.new.cx c.all_evaluated.new.kept c.join.ensures.grown
+    c.in_ok-values.ensures.kept
+
+pub by_equation-returns-clause-kept : goal.by_equation-returns-clause-kept
+by_equation-returns-clause-kept t c =
+    kept_grown c.evaluated.new.cx c.followed.new.cx c.evaluated.new.kept c.followed.ensures.grown
+    c.in_ok-right.ensures.kept

@@ -4,6 +4,7 @@ use Rattle.prove_term.proofs.comparing.+compared.Answers.Arguments as arguments
 use Rattle.prove_term.proofs.comparing.+compared.Answers.Injections as injections
 use Rattle.prove_term.proofs.comparing.+compared.Answers.JoinedInjections as joined
 use Rattle.prove_term.proofs.comparing.+compared.Answers.InjectedPatterns as injected
+use Rattle.prove_term.proofs.ContextLaws.{grown_twice}
 use Rattle.prove_term.proofs.comparing.+compared.Goals as goal
 mod Constructors
 mod Arguments
@@ -145,8 +146,14 @@ pub joined_compared-applied-requires-clause-closed :
 joined_compared-applied-requires-clause-closed =
     joined.joined_compared-applied-requires-clause-closed
 
-pub joined_compared-join-requires : goal.joined_compared-join-requires
-joined_compared-join-requires = joined.joined_compared-join-requires
+pub joined_compared-join-requires-clause-joinable :
+    goal.joined_compared-join-requires-clause-joinable
+joined_compared-join-requires-clause-joinable =
+    joined.joined_compared-join-requires-clause-joinable
+
+pub joined_compared-join-requires-clause-closed : goal.joined_compared-join-requires-clause-closed
+joined_compared-join-requires-clause-closed =
+    joined.joined_compared-join-requires-clause-closed
 
 pub joined_compared-returns-in-Some-clause-says : goal.joined_compared-returns-in-Some-clause-says
 joined_compared-returns-in-Some-clause-says = joined.joined_compared-returns-in-Some-clause-says
@@ -167,3 +174,31 @@ pub middle_compared-returns-in_ok-made-in-Inj-clause-says :
     goal.middle_compared-returns-in_ok-made-in-Inj-clause-says
 middle_compared-returns-in_ok-made-in-Inj-clause-says =
     injected.middle_compared-returns-in_ok-made-in-Inj-clause-says
+
+-- ---- growing contexts
+
+pub beneath-returns-clause-grown : goal.beneath-returns-clause-grown
+beneath-returns-clause-grown t c =
+    grown_twice c.args.cx.now c.compared.new.cx c.applied.new.cx c.in_ok-one.ensures.grown
+    c.applied.ensures.grown
+
+pub joined_compared-returns-in_err-further-clause-grown :
+    goal.joined_compared-returns-in_err-further-clause-grown
+joined_compared-returns-in_err-further-clause-grown t c =
+    grown_twice c.args.cx.now c.middle_compared.new.cx c.applied.new.cx
+    (grown_twice c.args.cx.now c.collapse.new.self c.middle_compared.new.cx
+    c.in_ok-place.ensures.grown c.in_ok-one.ensures.grown) c.applied.ensures.grown
+
+pub joined_compared-returns-in-Some-clause-grown : goal.joined_compared-returns-in-Some-clause-grown
+joined_compared-returns-in-Some-clause-grown t c =
+    grown_twice c.args.cx.now c.middle_compared.new.cx c.join.new.cx
+    (grown_twice c.args.cx.now c.collapse.new.self c.middle_compared.new.cx
+    c.in_ok-place.ensures.grown c.in_ok-one.ensures.grown)
+    (grown_twice c.middle_compared.new.cx c.applied.new.cx c.join.new.cx
+    c.in_ok-further.ensures.grown c.join.ensures.grown)
+
+pub joined_compared-returns-in-None-clause-grown : goal.joined_compared-returns-in-None-clause-grown
+joined_compared-returns-in-None-clause-grown t c =
+    grown_twice c.args.cx.now c.middle_compared.new.cx c.applied.new.cx
+    (grown_twice c.args.cx.now c.collapse.new.self c.middle_compared.new.cx
+    c.in_ok-place.ensures.grown c.in_ok-one.ensures.grown) c.in_ok-further.ensures.grown

@@ -1,39 +1,52 @@
-use Rattle.std.proofs.Common.{Result, Ok, Err, IfOk, ◌++◌, ◌≤◌, subst, arith}
+use Rattle.std.proofs.Common.{◌≤◌, refl, ap, ◌∙◌, subst, arith}
 use Rattle.term_core.specs.Terms.{Tree, height}
 use Rattle.rule_core.specs.Evaluation.{most_height}
+use Rattle.rule_core.specs.Records.{result_of}
 use Rattle.rule_core.specs.RecordView.{plain_step}
-use Rattle.term_core.specs.RulePatterns.{plain_pattern}
-use Rattle.run_proof.specs.declared.steps.StepResult.{StepResult}
-use Rattle.run_proof.specs.ProvedSteps.{ContinuesRun, IsFurther}
-use Rattle.run_proof.proofs.ProofsAt.{can_step, goes_further}
+use Rattle.prove_run.specs.WrittenProofs.{WritesFrontAfter}
+use Rattle.prove_run.proofs.FileLaws.{on_err, none_added}
+use Rattle.run_proof.proofs.StepLaws.{can_step, proved_at, goes_step, stays_on, same_place}
 use Rattle.run_proof.proofs.steps.proved_step.Goals as goal
 
-if_ok : {T E : Type 0} (r : Result T E) (P Q : T → Type 0) → ((t : T) → P t → Q t) → IfOk r P
-    → IfOk r Q
-if_ok (Ok t) P Q f h = f t h
-if_ok (Err e) P Q f h = tt
-
 pub step-requires : goal.step-requires
-step-requires c = c.requires.1.0
+step-requires g c = c.requires.at.sorted
 
-pub further-requires-clause-applies : goal.further-requires-clause-applies
-further-requires-clause-applies c =
-    let s = c.args.steps in
-    let told = rw c.in-Made.is at c.in_ok-step.ensures.recorded in
+pub step-requires-in-Made-clause-applies : goal.step-requires-in-Made-clause-applies
+step-requires-in-Made-clause-applies g c =
     let low : height c.config.result.now ≤ most_height =
     omega (arith, c.height-high.ensures.value, c.height-high.ensures.bound) in
-    let low' : height s.run.config ≤ most_height =
+    let low' : height c.args.run.now.config ≤ most_height =
     subst (λ (t : Tree). height t ≤ most_height) c.config.ensures low in
-    can_step c.args.engine.now (plain_pattern s.proof.start) s.proof (c.requires.0 ++ s.text.items)
-    s.run.config (plain_step c.in-Made.step) c.requires.1.1 low' told.0
+    can_step c.args.engine.now c.args.run.now c.args.proof.now (plain_step c.in-Made.step)
+    c.requires.at low' (rw c.in-Made.is at c.in_ok-step.ensures.recorded).0
 
-pub further-requires-clause-makes : goal.further-requires-clause-makes
-further-requires-clause-makes c = (rw c.in-Made.is at c.in_ok-step.ensures.recorded).1
+pub returns-in_err-step-clause-front : goal.returns-in_err-step-clause-front
+returns-in_err-step-clause-front g c =
+    let told = (g.D.Desk.state c.args.desk.now).told in
+    on_err c.from_residual.result (WritesFrontAfter told told c.args.proof.now)
+    (none_added told c.args.proof.now
+    (rw c.requires.file at (g.met.D.Desk.tells_created c.args.desk.now)))
 
-pub returns-in-Made : goal.returns-in-Made
-returns-in-Made c =
-    let s = c.args.steps in
-    let run = c.step.new.self in
-    if_ok c.further.result (IsFurther run s.proof s.text.items) (ContinuesRun c.args.engine.now s)
-    (λ (g : StepResult). goes_further c.args.engine.now s run g
-    (rw c.in-Made.is at c.in_ok-step.ensures.next) c.step.ensures.sorted) c.further.ensures
+pub returns-in_err-share-in-Stuck-clause-front : goal.returns-in_err-share-in-Stuck-clause-front
+returns-in_err-share-in-Stuck-clause-front g c =
+    let told = (g.D.Desk.state c.args.desk.now).told in
+    on_err c.from_residual-in_err-share-in-Stuck.result (WritesFrontAfter told told c.args.proof.now)
+    (none_added told c.args.proof.now
+    (rw c.requires.file at (g.met.D.Desk.tells_created c.args.desk.now)))
+
+pub returns-in_err-share-in-Blocked-clause-front : goal.returns-in_err-share-in-Blocked-clause-front
+returns-in_err-share-in-Blocked-clause-front g c =
+    let told = (g.D.Desk.state c.args.desk.now).told in
+    on_err c.from_residual-in_err-share-in-Blocked.result (WritesFrontAfter told told c.args.proof.now)
+    (none_added told c.args.proof.now
+    (rw c.requires.file at (g.met.D.Desk.tells_created c.args.desk.now)))
+
+pub returns-in-Stuck-clause-goes : goal.returns-in-Stuck-clause-goes
+returns-in-Stuck-clause-goes g c =
+    stays_on (g.D.Desk.state c.args.desk.now).told c.args.proof.now
+    (rw c.requires.file at (g.met.D.Desk.tells_created c.args.desk.now))
+
+pub returns-clause-goes : goal.returns-clause-goes
+returns-clause-goes g c =
+    stays_on (g.D.Desk.state c.args.desk.now).told c.args.proof.now
+    (rw c.requires.file at (g.met.D.Desk.tells_created c.args.desk.now))

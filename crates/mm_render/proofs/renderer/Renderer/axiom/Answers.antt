@@ -33,6 +33,5 @@ returns-clause-gains c =
     on_ok c.keep.result (λ h may. subst (λ (k : Rendered). Gains c.args.names.now c.args.self.now k
     text (claim_variables [] p) (open_assertion false
     (take c.args.self.now.named c.args.names.now) c.args.self.now.count (claim_of [] p)))
-    (sym (h ∙ ap (λ (k : Rendered). with_stated k (plain_claim
-    c.in_ok-claim.claim)) c.self.view_is ∙ ap (with_stated c.args.self.now) (stated c)))
+    (sym (h ∙ ap (with_stated c.args.self.now) (stated c)))
     (axiom_gains c.args.names.now c.args.self.now p few numbered may)) c.keep.ensures.kept

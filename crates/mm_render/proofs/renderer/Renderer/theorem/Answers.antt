@@ -3,7 +3,7 @@ use Rattle.mm_claims.specs.Keeping.{with_last}
 use Rattle.mm_claims.specs.Rendered.{Rendered}
 use Rattle.mm_render.specs.ClaimView.{plain_claim}
 use Rattle.mm_render.specs.ProvedText.{WritesProof}
-use Rattle.mm_proof.proofs.Stacking.{both_ok}
+use Rattle.mm_render.proofs.PartLaws.{both_ok}
 use Rattle.mm_render.proofs.StatedTheorems.{states_written}
 use Rattle.mm_render.proofs.renderer.Renderer.theorem.Goals as goal
 

@@ -3,18 +3,19 @@ use Rattle.ml_pat.specs.Patterns.{Pattern}
 use Rattle.ml_kernel.specs.Theorems.{Theorem, Derivation}
 use Rattle.mm_claims.specs.Blocks.{Claim, Stated}
 use Rattle.mm_claims.specs.CitedAt.{ArePremises}
-use Rattle.mm_claims.specs.Claiming.{proved_statements}
 use Rattle.mm_claims.specs.ClaimVariables.{claim_of, claim_variables}
 use Rattle.mm_claims.specs.Rendered.{Rendered, all_stated}
-use Rattle.mm_claims.specs.OpenVariables.{variables_of, other_variables}
-use Rattle.mm_claims.specs.Places.{Finds, lemma_statements}
+use Rattle.mm_claims.specs.OpenVariables.{variables_of}
+use Rattle.mm_claims.specs.Places.{Finds}
+use Rattle.mm_claims.specs.Provable.{HaveNeeded}
 use Rattle.mm_claims.specs.Variables.{AreNumbered}
 use Rattle.mm_render.specs.declared.claims.Stated as code
 use Rattle.mm_render.specs.ClaimView.{last_of, plain_claim, plain_stated_all}
 use Rattle.mm_render.specs.KeyPlaces.{find_by, premise_place_by}
 use Rattle.mm_render.specs.PlaceTable.{found_in}
 use Rattle.mm_claims.proofs.KeepingLaws.{lemma_gains, one_last_more, one_stated_more}
-use Rattle.mm_database.specs.StatementTexts.{written_statements}
+use Rattle.mm_render.specs.ProvedText.{WritesTheorem}
+use Rattle.mm_claims.proofs.ClaimLaws.{claim_once}
 use Rattle.mm_render.proofs.PlaceLaws.{all_found}
 use Rattle.mm_render.proofs.renderer.Renderer.write_proof.Goals as goal
 
@@ -39,37 +40,33 @@ stated c =
     c.hypotheses-hypotheses.ensures.value
     ∙ ap (claim_of c.args.theorem.now.hypotheses) c.conclusion.ensures
 
--- what is written for a claim with a number and a derivation
-abbrev text_of : goal.After-drop-premises-2 → ℕ → (List Pattern → Pattern → Stated) → Claim
-    → Derivation → List ℕ
-text_of c k find s d =
-    written_statements (proved_statements c.args.names.now k find (premises_of c) s
-    (other_variables s.variables (variables_of find d)) d)
-
 -- how the statement finds claims
 abbrev found : goal.After-drop-premises-2 → List code.Stated → List Pattern → Pattern → Stated
 found c ss =
     find_by (plain_stated_all ss) (last_of c.self.inside.run) (found_in c.self.inside.places)
 
-text_is : (c : goal.After-drop-premises-2)
-    → c.push_theorem.new.to.items
-    ≡ c.args.to.now.items
-    ++ written_statements (lemma_statements c.args.names.now c.args.self.now.count
-    (find_of c) (premises_of c) c.args.theorem.now)
-text_is c =
-    let s : Claim = plain_claim c.in_ok-claim.claim in
-    let k : ℕ = c.args.self.now.count in
-    let before : List ℕ = c.args.to.now.items in
-    c.in_ok-push_theorem.ensures.text
-    ∙ ap (λ (ss : List code.Stated).
-    before ++ text_of c c.serial-serial.result (found c ss) s c.derivation.result.now)
-    c.deref.ensures.value
-    ∙ ap (λ (n : ℕ). before ++ text_of c n (find_of c) s c.derivation.result.now) (count c)
-    ∙ ap (λ (q : Claim). before ++ text_of c k (find_of c) q c.derivation.result.now) (stated c)
-    ∙ ap (λ (d : Derivation). before
-    ++ text_of c k (find_of c)
-    (claim_of c.args.theorem.now.hypotheses c.args.theorem.now.conclusion) d)
+-- what is written for a claim with a number and a derivation
+abbrev Written : goal.After-drop-premises-2 → ℕ → (List Pattern → Pattern → Stated) → Claim
+    → Derivation → Type 0
+Written c k find s d =
+    WritesTheorem c.args.names.now k find (premises_of c) s d c.args.to.now.items
+    c.push_theorem.new.to.items
+
+written : (c : goal.After-drop-premises-2)
+    → Written c c.args.self.now.count (find_of c)
+    (claim_of c.args.theorem.now.hypotheses c.args.theorem.now.conclusion)
+    c.args.theorem.now.derivation
+written c =
+    let t : Theorem = c.args.theorem.now in
+    subst (Written c c.args.self.now.count (find_of c) (claim_of t.hypotheses t.conclusion))
     c.derivation.ensures
+    (subst (λ (q : Claim). Written c c.args.self.now.count (find_of c) q c.derivation.result.now)
+    (stated c)
+    (subst (λ (n : ℕ). Written c n (find_of c) (plain_claim c.in_ok-claim.claim)
+    c.derivation.result.now) (count c)
+    (subst (λ (ss : List code.Stated). Written c c.serial-serial.result (found c ss)
+    (plain_claim c.in_ok-claim.claim) c.derivation.result.now) c.deref.ensures.value
+    c.in_ok-push_theorem.ensures)))
 
 numbered : (c : goal.After-drop-premises-2)
     → AreNumbered (claim_variables c.args.theorem.now.hypotheses c.args.theorem.now.conclusion)
@@ -80,12 +77,12 @@ numbered c =
     c.hypotheses-hypotheses.ensures.value c.in_ok-claim.ensures.numbered)
 
 needed : (c : goal.After-drop-premises-2)
-    → AreNumbered (variables_of (find_of c) c.args.theorem.now.derivation)
+    → HaveNeeded (variables_of (find_of c) c.args.theorem.now.derivation)
+    (claim_variables c.args.theorem.now.hypotheses c.args.theorem.now.conclusion
+    ++ (written c).more)
 needed c =
-    subst (λ (d : Derivation). AreNumbered (variables_of (find_of c) d)) c.derivation.ensures
-    (subst
-    (λ (ss : List code.Stated). AreNumbered (variables_of (found c ss) c.derivation.result.now))
-    c.deref.ensures.value c.in_ok-push_theorem.ensures.numbered)
+    (written c).needed
+    (claim_once c.args.theorem.now.hypotheses c.args.theorem.now.conclusion) (numbered c)
 
 finds : (c : goal.After-drop-premises-2) → Finds (all_stated c.args.self.now) (find_of c)
 finds c =
@@ -110,15 +107,20 @@ returns-clause-text c =
     record {
       find = find_of c;
       premise_place = premises_of c;
+      more = (written c).more;
+      proof = (written c).proof;
       finds = finds c;
       premises = premises;
-      appended = text_is c;
+      proves = (written c).proves;
+      appended = (written c).appended;
       gains =
           λ may. lemma_gains c.args.names.now k _ (find_of c) (premises_of c) t
-          (one_stated_more k claim) few few_hypotheses (numbered c) (needed c)
-          c.hypotheses-hypotheses.ensures.kept (finds c) premises may;
+          (written c).more (written c).proof (one_stated_more k claim) few few_hypotheses
+          (numbered c) (needed c) c.hypotheses-hypotheses.ensures.kept (finds c) premises
+          (written c).proves may;
       gains_last =
           λ may. lemma_gains c.args.names.now k _ (find_of c) (premises_of c) t
-          (one_last_more k claim) few few_hypotheses (numbered c) (needed c)
-          c.hypotheses-hypotheses.ensures.kept (finds c) premises may;
+          (written c).more (written c).proof (one_last_more k claim) few few_hypotheses
+          (numbered c) (needed c) c.hypotheses-hypotheses.ensures.kept (finds c) premises
+          (written c).proves may;
     }

@@ -1,7 +1,7 @@
 use Rattle.std.proofs.Common.{◌≡◌}
 use Rattle.mm_claims.specs.AddedVariables.{added}
 use Rattle.mm_render.specs.ListedVariables.{listed}
-use Rattle.mm_claims.specs.OpenVariables.{variables_in}
+use Rattle.mm_claims.specs.ClaimVariables.{variables_in}
 use Rattle.mm_proof.specs.Searching.{all_forms, patterns_of}
 use Rattle.mm_render.specs.VariablesView.{stack_variables}
 use Rattle.mm_render.proofs.variables.VariableList.add_all.Given as goal

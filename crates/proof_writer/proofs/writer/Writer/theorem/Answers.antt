@@ -66,14 +66,21 @@ returns-clause-concludes c =
       c.image_laws.ensures.closed cx.program.sig (take w.renderer.named cx.names) a from none here,
       c.image_laws.ensures.closed cx.program.sig (take w.renderer.named cx.names) b to none' there,
     ) in
-    c.justifying_laws.ensures.run (theory_of cx.program) (take w.renderer.named cx.names)
-    (text ++ added) a b from to here there
-    (c.justifying_laws.ensures.justifies (theory_of cx.program) cx.names w.renderer
-    c.state_last.new.self.renderer t c.args.to.now.items c.state_last.new.to.items text added
-    from to states is
-    (theorem_may cx w t c.image_laws.ensures.over c.requires.all c.requires.follows) h.fits h.only
-    (own_names cx.program.sig c.requires.names cx.names c.requires.context.own)
-    c.tokens_differ.ensures
-    (theorem_assumes_nothing cx w t c.image_laws.ensures.over c.requires.all c.requires.follows)
-    says closed))
+    let may = theorem_may cx w t c.image_laws.ensures.over c.requires.all c.requires.follows in
+    record {
+      justifies =
+          c.justifying_laws.ensures.run (theory_of cx.program) (take w.renderer.named cx.names)
+          (text ++ added) a b from to here there
+          (c.justifying_laws.ensures.justifies (theory_of cx.program) cx.names w.renderer
+          c.state_last.new.self.renderer t c.args.to.now.items c.state_last.new.to.items text added
+          from to states is may h.fits h.only
+          (own_names cx.program.sig c.requires.names cx.names c.requires.context.own)
+          c.tokens_differ.ensures
+          (theorem_assumes_nothing cx w t c.image_laws.ensures.over c.requires.all
+          c.requires.follows) says closed);
+      compressed =
+          c.fitting_laws.ensures.compressed cx.names c.state_last.new.self.renderer (text ++ added)
+          (c.justifying_laws.ensures.anywhere cx.names w.renderer c.state_last.new.self.renderer t
+          c.args.to.now.items c.state_last.new.to.items text added states is may h.fits);
+    })
     c.state_last.ensures.states

@@ -20,8 +20,8 @@ use Rattle.prove_fun.proofs.PlainRecords.{plain-ByHook, plain-ByEquation}
 use Rattle.prove_fun.proofs.Recording.{as_many_records, call_recorded, hook_recorded, bound_no_call}
 use Rattle.prove_fun.proofs.Recording.{itself_no_call, made_no_call}
 use Rattle.prove_fun.proofs.KeptLaws.{kept_grown}
-use Rattle.prove_fun.proofs.Nodes.{call_parts, values_evaluated, call_joinable, call_joined}
-use Rattle.prove_fun.proofs.Nodes.{call_alone}
+use Rattle.prove_fun.proofs.Nodes.{call_parts, values_evaluated, call_closed, call_joinable}
+use Rattle.prove_fun.proofs.Nodes.{call_joined, call_alone}
 use Rattle.prove_fun.proofs.evaluating.+evaluated.Goals as goal
 
 -- ---- calls
@@ -156,8 +156,14 @@ at_values-all_evaluated-requires t c =
       ),
     )
 
-pub at_values-join-requires : goal.at_values-join-requires
-at_values-join-requires t c =
+pub at_values-join-requires-clause-closed : goal.at_values-join-requires-clause-closed
+at_values-join-requires-clause-closed t c =
+    call_closed c.args.cx.now c.requires.fact.0
+    (results_of (children_of (plain_record c.args.evaluation.now))) c.requires.fact.1
+    c.args.fact.now c.requires.fact.2
+
+pub at_values-join-requires-clause-joinable : goal.at_values-join-requires-clause-joinable
+at_values-join-requires-clause-joinable t c =
     let says = ap (λ (p : Pattern). p) (sym c.conclusion.ensures) ∙ c.sides.ensures in
     let rs = children_of (plain_record c.args.evaluation.now) in
     let parts =
@@ -197,8 +203,9 @@ at_values-returns-in-Some-clause-says t c =
     c.sides.result.0.now c.in_ok-parts.parts.head c.deref.result.now c.in_ok-values.values n
     c.in_ok-values.ensures.grown taken.0 (c.deref.ensures.value ∙ taken.1)
     c.in_ok-values.ensures.says in
-    call_joined c.args.cx.now c.all_evaluated.new.cx f (results_of rs) _ c.sides.result.0.now right
-    c.in-Some.same c.args.fact.now made c.in_ok-values.ensures.grown fact parts.1
+    call_joined c.args.cx.now c.all_evaluated.new.cx c.join.new.cx f (results_of rs) _
+    c.sides.result.0.now right c.in-Some.same c.args.fact.now made c.in_ok-values.ensures.grown
+    c.join.ensures.grown fact parts.1
     (subst (HasEqual c.all_evaluated.new.cx _ c.sides.result.0.now) c.in-Some.is values) joins
     stays)
     c.join.ensures.conclusion c.join.ensures.stays

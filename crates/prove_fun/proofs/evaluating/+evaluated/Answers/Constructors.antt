@@ -4,6 +4,7 @@ use Rattle.std.proofs.Common.{arith}
 use Rattle.ml_pat.specs.Patterns.{Pattern, constant}
 use Rattle.ml_kernel.specs.Lemmas.{HasNoVariable}
 use Rattle.term_core.specs.Patterns.{ground_pattern, ground_patterns}
+use Rattle.term_core.specs.RulePatterns.{plain_pattern}
 use Rattle.term_core.specs.PatternLists.{plain_patterns}
 use Rattle.rule_core.specs.declared.rules.Program.{Program}
 use Rattle.rule_core.specs.Records.{Record, result_of, results_of}
@@ -13,6 +14,7 @@ use Rattle.prove_term.specs.Contexts.{HasGrown}
 use Rattle.prove_term.specs.Schemas.{AreImages}
 use Rattle.prove_term.specs.Applications.{applied_to}
 use Rattle.prove_term.specs.Comparing.{IsOverContext}
+use Rattle.prove_term.specs.Filling.{filled}
 use Rattle.prove_term.proofs.ResultLaws.{if_ok}
 use Rattle.prove_term.proofs.ContextLaws.{grown_none, grown_twice, image_grown}
 use Rattle.prove_term.proofs.ElementLaws.{images_grown}
@@ -21,7 +23,8 @@ use Rattle.prove_term.proofs.ComparingCalls.{over_applied, over_grown}
 use Rattle.prove_term.proofs.ComparingLoop.{left_applied, none_left, next_pattern}
 use Rattle.prove_fun.specs.RecordParts.{children_of}
 use Rattle.prove_fun.specs.Evaluating.{AreRecorded, IsImage}
-use Rattle.prove_fun.proofs.Equalities.{says_equal_to}
+use Rattle.prove_fun.proofs.Equalities.{has_equal_grown, says_equal_to}
+use Rattle.prove_fun.proofs.KeptLaws.{kept_grown}
 use Rattle.prove_fun.proofs.Recording.{as_many_records, argument_recorded}
 use Rattle.prove_fun.proofs.Sizes.{child_size}
 use Rattle.prove_fun.proofs.Gathering.{IsGathered, as_many_images, image_at, gathered_none}
@@ -171,14 +174,16 @@ pub all_evaluated-loop-i-preserved : goal.all_evaluated-loop-i-preserved
 all_evaluated-loop-i-preserved t c =
     let rs = children_of (plain_record c.args.evaluation.now) in
     let q : Record = plain_record c.child.result.now in
-    let g : HasGrown c.loop-i.cx c.evaluated.new.cx = c.in_ok-one.ensures.grown in
-    let all : HasGrown c.args.cx.now c.evaluated.new.cx =
-    grown_twice c.args.cx.now c.loop-i.cx c.evaluated.new.cx c.loop-i.invariant.grown g in
+    let further : HasGrown c.evaluated.new.cx c.applied.new.cx = c.in_ok-made.ensures.grown in
+    let g : HasGrown c.loop-i.cx c.applied.new.cx =
+    grown_twice c.loop-i.cx c.evaluated.new.cx c.applied.new.cx c.in_ok-one.ensures.grown further in
+    let all : HasGrown c.args.cx.now c.applied.new.cx =
+    grown_twice c.args.cx.now c.loop-i.cx c.applied.new.cx c.loop-i.invariant.grown g in
     let image : IsImage c.args.cx.now (ground_pattern (result_of q)) c.index-images-i.result =
     image_at c.args.cx.now.program.sig c.args.cx.now.names rs c.args.images.now c.loop-i.i q
     c.index-images-i.result c.requires.images c.child.ensures c.index-images-i.is in
-    let later : IsImage c.evaluated.new.cx (ground_pattern (result_of q)) c.index-images-i.result =
-    image_grown c.args.cx.now c.evaluated.new.cx (term (ground_pattern (result_of q)))
+    let later : IsImage c.applied.new.cx (ground_pattern (result_of q)) c.index-images-i.result =
+    image_grown c.args.cx.now c.applied.new.cx (term (ground_pattern (result_of q)))
     c.index-images-i.result all image in
     let closed : HasNoVariable c.index-images-i.result =
     image_closed c.args.cx.now.program.sig c.args.cx.now.names (result_of q)
@@ -194,22 +199,24 @@ all_evaluated-loop-i-preserved t c =
     ) in
     record {
       done =
-          subst (λ (f : Pattern). IsGathered c.evaluated.new.cx c.args.subst.now c.args.args.now
+          subst (λ (f : Pattern). IsGathered c.applied.new.cx c.args.subst.now c.args.args.now
           (c.loop-i.i + 1) c.args.head.now f c.in_ok-made.made)
           (sym c.in_ok-function-2.ensures)
-          (gathered_next c.loop-i.cx c.evaluated.new.cx c.args.subst.now c.args.args.now c.loop-i.i
+          (gathered_next c.loop-i.cx c.applied.new.cx c.args.subst.now c.args.args.now c.loop-i.i
           c.index-args-i.result c.args.head.now c.loop-i.function c.index-images-i.result
           c.loop-i.made c.in_ok-one.one c.in_ok-made.made
           g (next_pattern c.args.args.now c.loop-i.i c.index-args-i.result c.loop-i-test.true
-          c.index-args-i.is) (over_grown c.loop-i.cx c.evaluated.new.cx c.loop-i.function g
+          c.index-args-i.is) (over_grown c.loop-i.cx c.applied.new.cx c.loop-i.function g
           c.loop-i.invariant.over)
           (λ s has. has.images (term (ground_pattern (result_of q))) c.index-images-i.result later)
-          c.loop-i.invariant.done c.in_ok-one.ensures.says c.in_ok-made.ensures);
+          c.loop-i.invariant.done (has_equal_grown c.evaluated.new.cx c.applied.new.cx
+          (filled c.args.subst.now (plain_pattern c.index-args-i.result)) c.index-images-i.result
+          c.in_ok-one.one further c.in_ok-one.ensures.says) c.in_ok-made.ensures.says);
       closed =
           subst HasNoVariable (sym c.in_ok-function-2.ensures) (c.loop-i.invariant.closed, closed);
       over =
-          subst (IsOverContext c.evaluated.new.cx) (sym c.in_ok-function-2.ensures)
-          (over_applied c.loop-i.cx c.evaluated.new.cx c.loop-i.function c.index-images-i.result
+          subst (IsOverContext c.applied.new.cx) (sym c.in_ok-function-2.ensures)
+          (over_applied c.loop-i.cx c.applied.new.cx c.loop-i.function c.index-images-i.result
           (ground_pattern (result_of q)) g c.loop-i.invariant.over later);
       left =
           ap (λ (f : Pattern). applied_to f (drop (c.loop-i.i + 1) c.args.images.now))
@@ -218,7 +225,8 @@ all_evaluated-loop-i-preserved t c =
           sym (left_applied c.args.images.now c.loop-i.i c.loop-i.function
           c.index-images-i.result low c.index-images-i.is) ∙ c.loop-i.invariant.left;
       grown = all;
-      kept = c.in_ok-one.ensures.kept;
+      kept =
+          kept_grown c.evaluated.new.cx c.applied.new.cx c.evaluated.new.kept further c.in_ok-one.ensures.kept;
     }
 
 pub all_evaluated-returns-clause-says : goal.all_evaluated-returns-clause-says

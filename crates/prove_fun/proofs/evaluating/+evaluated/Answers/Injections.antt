@@ -14,17 +14,19 @@ use Rattle.rule_core.specs.Sorting.{IsTermOf}
 use Rattle.ml_image.specs.Sentences.{term}
 use Rattle.prove_term.specs.Contexts.{Context, HasGrown}
 use Rattle.prove_term.proofs.ResultLaws.{if_ok}
-use Rattle.prove_term.proofs.ContextLaws.{image_grown}
+use Rattle.prove_term.proofs.ContextLaws.{grown_twice, image_grown}
 use Rattle.prove_term.proofs.ComparingLaws.{image_closed, closed-injection}
 use Rattle.prove_term.proofs.ComparingInjections.{HasHalves, halves_of, halves_there}
+use Rattle.prove_term.specs.Filling.{filled}
 use Rattle.prove_fun.specs.RecordParts.{children}
 use Rattle.prove_fun.specs.Evaluating.{IsRecorded, IsImage, Equates, HasEqual, IsEvaluated}
 use Rattle.prove_fun.specs.Evaluating.{IsInjectedOnce}
-use Rattle.prove_fun.proofs.Equalities.{equates_grown}
+use Rattle.prove_fun.proofs.Equalities.{equates_grown, has_equal_grown}
 use Rattle.prove_fun.proofs.Recording.{IsInjection, injection_recorded}
 use Rattle.prove_fun.proofs.Sizes.{child_size}
 use Rattle.prove_fun.proofs.KeptLaws.{kept_grown}
-use Rattle.prove_fun.proofs.Injecting.{only_child, beneath_evaluated, joined_equal}
+use Rattle.prove_fun.proofs.Injecting.{only_child, beneath_evaluated, injected_linked}
+use Rattle.prove_fun.proofs.Injecting.{joined_equal}
 use Rattle.prove_fun.proofs.evaluating.+evaluated.Goals as goal
 
 pub injected-child-inner-requires : goal.injected-child-inner-requires
@@ -219,22 +221,29 @@ injected-joined-requires t c =
     c.in_ok-once.once once
     (c.in_ok-whole.ensures c.injected_once.new.cx once.left once.equates)
     c.halves.ensures in
-    let beneath : IsEvaluated c.evaluated.new.cx c.args.subst.now
+    let g : HasGrown c.injected_once.new.cx c.applied.new.cx =
+    grown_twice c.injected_once.new.cx c.evaluated.new.cx c.applied.new.cx
+    c.in_ok-one.ensures.grown c.in_ok-beneath.ensures.grown in
+    let beneath : IsEvaluated c.applied.new.cx c.args.subst.now
     (injection c.args.from.0 c.args.to.0 (plain_pattern c.args.below.now)) c.in_ok-whole.whole
     c.in_ok-beneath.beneath =
-    beneath_evaluated c.injected_once.new.cx c.evaluated.new.cx c.args.subst.now c.args.from.0
+    beneath_evaluated c.injected_once.new.cx c.applied.new.cx c.args.subst.now c.args.from.0
     c.args.to.0 (plain_pattern c.args.below.now) c.result.result.now c.in_ok-whole.whole
     c.halves.result.0.now c.halves.result.1.now c.in_ok-one.one c.in_ok-beneath.beneath
-    c.in_ok-one.ensures.grown split.is_whole c.halves.ensures c.in_ok-one.ensures.says
-    c.in_ok-beneath.ensures in (
-      c.evaluated.new.cx,
+    g split.is_whole c.halves.ensures (has_equal_grown c.evaluated.new.cx c.applied.new.cx
+    (filled c.args.subst.now (plain_pattern c.args.below.now)) c.halves.result.1.now c.in_ok-one.one
+    c.in_ok-beneath.ensures.grown c.in_ok-one.ensures.says)
+    c.in_ok-beneath.ensures.says in (
       beneath.left,
       c.in_ok-whole.whole,
       c.args.image.now,
-      beneath.closed,
-      beneath.equates,
-      equates_grown c.injected_once.new.cx c.evaluated.new.cx c.in_ok-whole.whole c.args.image.now
-          c.in_ok-once.once c.in_ok-one.ensures.grown split.equates,
+      injected_linked c.applied.new.cx _ c.in_ok-whole.whole c.args.image.now
+          c.in_ok-beneath.beneath c.in_ok-once.once beneath (subst HasNoVariable (sym c.halves.ensures)
+          (split.closed_head, split.closed_argument))
+          (image_closed c.args.cx.now.program.sig c.args.cx.now.names
+          (result_of (plain_record c.args.evaluation.now)) c.args.image.now c.requires.image)
+          (equates_grown c.injected_once.new.cx c.applied.new.cx c.in_ok-whole.whole
+          c.args.image.now c.in_ok-once.once g split.equates),
     )
 
 pub injected-returns-clause-says : goal.injected-returns-clause-says
@@ -253,17 +262,27 @@ injected-returns-clause-says t c =
     c.in_ok-once.once once
     (c.in_ok-whole.ensures c.injected_once.new.cx once.left once.equates)
     c.halves.ensures in
-    let beneath : IsEvaluated c.evaluated.new.cx c.args.subst.now
+    let g : HasGrown c.injected_once.new.cx c.applied.new.cx =
+    grown_twice c.injected_once.new.cx c.evaluated.new.cx c.applied.new.cx
+    c.in_ok-one.ensures.grown c.in_ok-beneath.ensures.grown in
+    let beneath : IsEvaluated c.applied.new.cx c.args.subst.now
     (injection c.args.from.0 c.args.to.0 (plain_pattern c.args.below.now)) c.in_ok-whole.whole
     c.in_ok-beneath.beneath =
-    beneath_evaluated c.injected_once.new.cx c.evaluated.new.cx c.args.subst.now c.args.from.0
+    beneath_evaluated c.injected_once.new.cx c.applied.new.cx c.args.subst.now c.args.from.0
     c.args.to.0 (plain_pattern c.args.below.now) c.result.result.now c.in_ok-whole.whole
     c.halves.result.0.now c.halves.result.1.now c.in_ok-one.one c.in_ok-beneath.beneath
-    c.in_ok-one.ensures.grown split.is_whole c.halves.ensures c.in_ok-one.ensures.says
-    c.in_ok-beneath.ensures in
+    g split.is_whole c.halves.ensures (has_equal_grown c.evaluated.new.cx c.applied.new.cx
+    (filled c.args.subst.now (plain_pattern c.args.below.now)) c.halves.result.1.now c.in_ok-one.one
+    c.in_ok-beneath.ensures.grown c.in_ok-one.ensures.says)
+    c.in_ok-beneath.ensures.says in
     if_ok c.joined.result
-    (λ o join. joined_equal c.evaluated.new.cx _ c.in_ok-whole.whole c.args.image.now
-    c.in_ok-beneath.beneath c.in_ok-once.once o beneath
-    (equates_grown c.injected_once.new.cx c.evaluated.new.cx c.in_ok-whole.whole c.args.image.now
-    c.in_ok-once.once c.in_ok-one.ensures.grown split.equates) join)
-    c.joined.ensures
+    (λ o join. joined_equal c.applied.new.cx c.joined.new.cx _ c.in_ok-whole.whole
+    c.args.image.now c.in_ok-beneath.beneath c.in_ok-once.once o c.joined.ensures.grown beneath
+    (injected_linked c.applied.new.cx _ c.in_ok-whole.whole c.args.image.now
+    c.in_ok-beneath.beneath c.in_ok-once.once beneath (subst HasNoVariable (sym c.halves.ensures)
+    (split.closed_head, split.closed_argument))
+    (image_closed c.args.cx.now.program.sig c.args.cx.now.names
+    (result_of (plain_record c.args.evaluation.now)) c.args.image.now c.requires.image)
+    (equates_grown c.injected_once.new.cx c.applied.new.cx c.in_ok-whole.whole c.args.image.now
+    c.in_ok-once.once g split.equates)) join)
+    c.joined.ensures.says

@@ -2,6 +2,7 @@
 use Rattle.std.proofs.Common.{◌≡◌, [], ℕ, List, Option, Some, map, slice_get, refl, sym, ◌∙◌, ap}
 use Rattle.std.proofs.Common.{subst, arith}
 use Rattle.ml_pat.specs.Patterns.{Pattern}
+use Rattle.ml_kernel.specs.Lemmas.{HasNoVariable}
 use Rattle.ml_kernel.specs.Theorems.{Theorem}
 use Rattle.term_core.specs.Terms.{Tree}
 use Rattle.term_core.specs.Patterns.{Pattern as RulePattern, call, ground_pattern}
@@ -24,6 +25,7 @@ use Rattle.rule_core.specs.BoundVariables.{IsEquationAt}
 use Rattle.prove_fun.specs.Using.{IsUse, condition_record, used_record}
 use Rattle.prove_term.proofs.ResultLaws.{if_ok}
 use Rattle.prove_term.proofs.ContextLaws.{grown_twice, image_grown}
+use Rattle.prove_term.proofs.ComparingLaws.{image_closed}
 use Rattle.prove_fun.specs.RecordParts.{children_of}
 use Rattle.prove_fun.specs.Evaluating.{IsRecorded, AreRecorded, IsImage, Equates, HasEqual}
 use Rattle.prove_fun.specs.Evaluating.{IsEvaluated, SaysCall}
@@ -228,7 +230,7 @@ both_of : (old mid cx next last : Context) (theta : List (Option Tree)) (f : ℕ
     → IsEvaluated next theta (call g [] (plain_patterns args)) right (Some first))
     → IsEvaluated last used.subst q image second
     → HasEqual last (filled theta (call f [] (plain_patterns args))) known.right (Some first)
-    × Equates last known.right image second
+    × (Equates last known.right image second × HasNoVariable known.right)
 both_of old mid cx next last theta f args r used q image fact first second known is g k says right =
     then_parts cx next last used.subst (filled theta (call f [] (plain_patterns args)))
     known.equation_right q known.right image first second g k known.is_right
@@ -261,13 +263,21 @@ by_equation-followed-requires t c =
     c.in_ok-fact.fact c.in_ok-first.first c.in_ok-right.right fact right
     c.in_ok-first.ensures.grown c.in_ok-right.ensures.grown c.in_ok-first.ensures.says
     c.in_ok-right.ensures.says in (
-      c.evaluated.new.cx,
       both.0.left,
       fact.right,
       c.args.image.now,
-      both.0.closed,
-      both.0.equates,
-      both.1,
+      record {
+        closed = (
+          both.0.closed,
+          (
+            both.1.1,
+            image_closed c.args.cx.now.program.sig c.args.cx.now.names
+                (result_of (plain_record c.args.evaluation.now)) c.args.image.now c.requires.image,
+          ),
+        );
+        one = both.0.equates;
+        two = both.1.0;
+      },
     )
 
 pub by_equation-returns-clause-says : goal.by_equation-returns-clause-says
@@ -300,10 +310,22 @@ by_equation-returns-clause-says t c =
     if_ok c.followed.result
     (λ made joins. record {
       left = both.0.left;
-      left_image = both.0.left_image;
+      left_image =
+          image_grown c.evaluated.new.cx c.followed.new.cx (term (filled c.args.subst.now
+          (call c.args.symbol.0 [] (plain_patterns c.args.args.now)))) both.0.left
+          c.followed.ensures.grown both.0.left_image;
       closed = both.0.closed;
-      equates =
-          joins c.evaluated.new.cx both.0.left fact.right c.args.image.now both.0.closed
-          both.0.equates both.1;
+      equates = joins both.0.left fact.right c.args.image.now (record {
+        closed = (
+          both.0.closed,
+          (
+            both.1.1,
+            image_closed c.args.cx.now.program.sig c.args.cx.now.names
+                (result_of (plain_record c.args.evaluation.now)) c.args.image.now c.requires.image,
+          ),
+        );
+        one = both.0.equates;
+        two = both.1.0;
+      });
     })
-    c.followed.ensures
+    c.followed.ensures.says

@@ -1,46 +1,34 @@
-use Rattle.std.proofs.Common.{◌≡◌, ◌∙◌}
+use Rattle.std.proofs.Common.{subst}
+use Rattle.desk_io.specs.Changes.{Writes, WritesFront}
 use Rattle.rule_core.specs.Records.{result_of}
 use Rattle.rule_core.specs.RecordView.{plain_step}
-use Rattle.prove_run.proofs.ProofLaws.{may_go_on, names_kept, written_before, further_follows}
-use Rattle.prove_run.proofs.ProofLaws.{goes_proof, steps_to}
+use Rattle.prove_run.specs.WrittenProofs.{WritesFrontAfter}
+use Rattle.prove_run.proofs.FileLaws.{on_err, none_added, front_added, further_justified}
 use Rattle.prove_run.proofs.proof.Proof.step.Goals as goal
 
-pub goes_further-requires : goal.goes_further-requires
-goes_further-requires c =
-    may_go_on c.self.inside c.args.self (plain_step c.args.step.now) c.self.view_is c.self.invariant
-    c.requires.applies
+pub returns-in_err-state_step-clause-front : goal.returns-in_err-state_step-clause-front
+returns-in_err-state_step-clause-front g c =
+    let told = (g.D.Desk.state c.args.desk.now).told in
+    on_err c.from_residual.result (WritesFrontAfter told told c.args.self.now)
+    (none_added told c.args.self.now
+    (rw c.requires.file at (g.met.D.Desk.tells_created c.args.desk.now)))
 
-pub state-requires-clause-names : goal.state-requires-clause-names
-state-requires-clause-names c =
-    names_kept c.self.inside c.goes_further.new.prover
-    (result_of (plain_step c.args.step.now).right) c.in_ok-further.further c.self.invariant
-    c.in_ok-further.ensures
+pub returns-in-Ok-clause-justifies : goal.returns-in-Ok-clause-justifies
+returns-in-Ok-clause-justifies g c =
+    let old = (g.D.Desk.state c.args.desk.now).told in
+    let new = (g.D.Desk.state c.write_text.new.desk).told in
+    further_justified old new c.args.self.now c.state_step.new.self
+    (result_of (plain_step c.args.step.now).right) (
+      c.state_step.new.to.items,
+      subst (Writes old new) c.deref.ensures.value c.in-Ok.ensures.written,
+      c.in_ok-state_step.ensures.steps,
+    )
 
-pub state-requires-clause-written : goal.state-requires-clause-written
-state-requires-clause-written c =
-    written_before c.self.inside c.goes_further.new.prover
-    (result_of (plain_step c.args.step.now).right) c.in_ok-further.further c.self.invariant
-    c.in_ok-further.ensures
-
-pub state-requires-clause-follows : goal.state-requires-clause-follows
-state-requires-clause-follows c =
-    further_follows c.self.inside c.goes_further.new.prover
-    (result_of (plain_step c.args.step.now).right) c.in_ok-further.further c.self.invariant
-    c.in_ok-further.ensures
-
-pub invariant_of-result : goal.invariant_of-result
-invariant_of-result c =
-    goes_proof c.self.inside c.goes_further.new.prover c.state.new.writer c.in_ok-further.further
-    c.in_ok-last.last (result_of (plain_step c.args.step.now).right) c.in_ok-made.made
-    c.self.invariant c.in_ok-further.ensures (c.in_ok-made.ensures.same ∙ c.result.ensures)
-    c.in_ok-last.ensures.lemma c.in_ok-last.ensures.context c.in_ok-last.ensures.all
-    c.in_ok-last.ensures.no_hypotheses c.in_ok-last.ensures.stated
-
-pub returns : goal.returns
-returns c =
-    steps_to c.self.inside c.args.self c.goes_further.new.prover c.state.new.writer
-    c.in_ok-further.further c.in_ok-last.last (result_of (plain_step c.args.step.now).right)
-    c.in_ok-made.made
-    c.args.to.now.items c.state.new.to.items c.self.view_is c.self.invariant c.in_ok-further.ensures
-    (c.in_ok-made.ensures.same ∙ c.result.ensures)
-    c.in_ok-last.ensures.concludes c.in_ok-last.ensures.text
+pub returns-clause-front : goal.returns-clause-front
+returns-clause-front g c =
+    let old = (g.D.Desk.state c.args.desk.now).told in
+    let new = (g.D.Desk.state c.write_text.new.desk).told in
+    front_added old new c.args.self.now c.state_step.new.self
+    (result_of (plain_step c.args.step.now).right) c.state_step.new.to.items
+    (subst (WritesFront old new) c.deref.ensures.value c.in-Err.ensures.prefix)
+    c.in_ok-state_step.ensures.steps

@@ -13,10 +13,11 @@ use Rattle.rule_core.specs.declared.signature.Signature.{Signature}
 use Rattle.ml_image.specs.Images.{image_of}
 use Rattle.ml_image.specs.Sentences.{term}
 use Rattle.prove_term.specs.Applications.{applied_to}
-use Rattle.prove_term.specs.Comparing.{MakesTerm, MakeTerms, IsOverContext}
+use Rattle.prove_term.specs.Comparing.{MakesTerm, MakeTerms, Compares, IsOverContext}
 use Rattle.prove_term.specs.Contexts.{HasGrown}
 use Rattle.prove_term.proofs.ContextLaws.{grown_none, grown_twice, image_grown}
-use Rattle.prove_term.proofs.ComparingCalls.{made_closed, made_again, over_applied, over_grown}
+use Rattle.prove_term.proofs.ComparingCalls.{compares_grown, made_closed, made_again}
+use Rattle.prove_term.proofs.ComparingCalls.{over_applied, over_grown}
 use Rattle.prove_term.proofs.ComparingLoop.{AreDoneBefore, done_before_none, done_before_next}
 use Rattle.prove_term.proofs.ComparingLoop.{done_before_all, made_item, made_says, compared_says}
 use Rattle.prove_term.proofs.ComparingLoop.{left_applied, none_left, next_pattern}
@@ -132,10 +133,17 @@ pub all_compared-loop-i-preserved : goal.all_compared-loop-i-preserved
 all_compared-loop-i-preserved t c =
     let at = (goal.at.all_compared-loop-i-preserved t c).After-index-wholes-i in
     let low : c.loop-i.i < length c.args.args.now = c.loop-i-test.true in
-    let g : HasGrown c.loop-i.cx c.compared.new.cx = c.in_ok-one.ensures.grown in
-    let later : image_of c.compared.new.cx.program.sig c.compared.new.cx.names
+    let g : HasGrown c.loop-i.cx c.applied.new.cx =
+    grown_twice c.loop-i.cx c.compared.new.cx c.applied.new.cx c.in_ok-one.ensures.grown
+    c.in_ok-made.ensures.grown in
+    let says : Compares c.applied.new.cx (plain_pattern c.index-args-i.result)
+    (plain_pattern c.index-wholes-i.result) c.index-images-i.result c.in_ok-one.one =
+    compares_grown c.compared.new.cx c.applied.new.cx (plain_pattern c.index-args-i.result)
+    (plain_pattern c.index-wholes-i.result) c.index-images-i.result c.in_ok-one.one
+    c.in_ok-made.ensures.grown c.in_ok-one.ensures.says in
+    let later : image_of c.applied.new.cx.program.sig c.applied.new.cx.names
     (plain_pattern c.index-wholes-i.result) ≡ Some c.index-images-i.result =
-    image_grown c.loop-i.cx c.compared.new.cx (term (plain_pattern c.index-wholes-i.result))
+    image_grown c.loop-i.cx c.applied.new.cx (term (plain_pattern c.index-wholes-i.result))
     c.index-images-i.result g (image_there t at) in
     let closed : HasNoVariable c.index-images-i.result =
     made_closed c.loop-i.cx (plain_pattern c.index-args-i.result)
@@ -143,24 +151,24 @@ all_compared-loop-i-preserved t c =
     (image_there t at) in
     record {
       done =
-          subst (λ (q : Pattern). AreDoneBefore c.compared.new.cx c.args.args.now c.args.wholes.now
+          subst (λ (q : Pattern). AreDoneBefore c.applied.new.cx c.args.args.now c.args.wholes.now
           (c.loop-i.i + 1) c.args.head.now q c.in_ok-made.made)
           (sym c.in_ok-function-2.ensures)
-          (done_before_next c.loop-i.cx c.compared.new.cx c.args.args.now c.args.wholes.now
+          (done_before_next c.loop-i.cx c.applied.new.cx c.args.args.now c.args.wholes.now
           c.loop-i.i c.index-args-i.result c.index-wholes-i.result c.args.head.now
           c.loop-i.function c.index-images-i.result c.loop-i.made c.in_ok-one.one
           c.in_ok-made.made
           g low c.index-args-i.is c.index-wholes-i.is
           (next_pattern c.args.args.now c.loop-i.i c.index-args-i.result low c.index-args-i.is)
           c.loop-i.invariant.closed closed
-          (over_grown c.loop-i.cx c.compared.new.cx c.loop-i.function g c.loop-i.invariant.over)
+          (over_grown c.loop-i.cx c.applied.new.cx c.loop-i.function g c.loop-i.invariant.over)
           later
-          c.loop-i.invariant.done c.in_ok-one.ensures.says c.in_ok-made.ensures);
+          c.loop-i.invariant.done says c.in_ok-made.ensures.says);
       closed =
           subst HasNoVariable (sym c.in_ok-function-2.ensures) (c.loop-i.invariant.closed, closed);
       over =
-          subst (IsOverContext c.compared.new.cx) (sym c.in_ok-function-2.ensures)
-          (over_applied c.loop-i.cx c.compared.new.cx c.loop-i.function c.index-images-i.result
+          subst (IsOverContext c.applied.new.cx) (sym c.in_ok-function-2.ensures)
+          (over_applied c.loop-i.cx c.applied.new.cx c.loop-i.function c.index-images-i.result
           (plain_pattern c.index-wholes-i.result) g c.loop-i.invariant.over later);
       left =
           ap (λ (q : Pattern). applied_to q (drop (c.loop-i.i + 1) c.args.images.now))
@@ -175,7 +183,7 @@ all_compared-loop-i-preserved t c =
                 c.args.wholes.now c.args.images.now c.requires.images,
           ))
           c.index-images-i.is) ∙ c.loop-i.invariant.left;
-      grown = grown_twice c.args.cx.now c.loop-i.cx c.compared.new.cx c.loop-i.invariant.grown g;
+      grown = grown_twice c.args.cx.now c.loop-i.cx c.applied.new.cx c.loop-i.invariant.grown g;
     }
 
 pub all_compared-returns-clause-says : goal.all_compared-returns-clause-says
@@ -202,11 +210,13 @@ all_compared-returns-in_err-one-clause-grown t c =
 pub all_compared-returns-in_err-made-clause-grown :
     goal.all_compared-returns-in_err-made-clause-grown
 all_compared-returns-in_err-made-clause-grown t c =
-    grown_twice c.args.cx.now c.loop-i.cx c.compared.new.cx c.loop-i.invariant.grown
-    c.in_ok-one.ensures.grown
+    grown_twice c.args.cx.now c.compared.new.cx c.applied.new.cx
+    (grown_twice c.args.cx.now c.loop-i.cx c.compared.new.cx c.loop-i.invariant.grown
+    c.in_ok-one.ensures.grown) c.in_err-made.ensures.grown
 
 pub all_compared-returns-in_err-function-2-clause-grown :
     goal.all_compared-returns-in_err-function-2-clause-grown
 all_compared-returns-in_err-function-2-clause-grown t c =
-    grown_twice c.args.cx.now c.loop-i.cx c.compared.new.cx c.loop-i.invariant.grown
-    c.in_ok-one.ensures.grown
+    grown_twice c.args.cx.now c.compared.new.cx c.applied.new.cx
+    (grown_twice c.args.cx.now c.loop-i.cx c.compared.new.cx c.loop-i.invariant.grown
+    c.in_ok-one.ensures.grown) c.in_ok-made.ensures.grown

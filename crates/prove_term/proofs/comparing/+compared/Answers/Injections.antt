@@ -22,7 +22,8 @@ use Rattle.prove_term.proofs.ComparingInjections.{base_sorted, fact_of, same_end
 use Rattle.prove_term.proofs.ResultLaws.{if_ok}
 use Rattle.prove_term.specs.Contexts.{HasGrown}
 use Rattle.prove_term.proofs.ContextLaws.{grown_twice, image_grown}
-use Rattle.prove_term.proofs.ComparingCalls.{beneath_compares, made_closed, made_again}
+use Rattle.prove_term.proofs.ComparingCalls.{beneath_compares, compares_grown, made_closed}
+use Rattle.prove_term.proofs.ComparingCalls.{made_again}
 use Rattle.prove_term.proofs.ComparingLoop.{compared_says}
 use Rattle.prove_term.proofs.ComparingLaws.{closed-injection}
 use Rattle.prove_term.proofs.comparing.+compared.Goals as goal
@@ -104,14 +105,19 @@ beneath-applied-requires-clause-closed t c =
 
 pub beneath-returns-clause-says : goal.beneath-returns-clause-says
 beneath-returns-clause-says t c =
+    let g : HasGrown c.args.cx.now c.applied.new.cx =
+    grown_twice c.args.cx.now c.compared.new.cx c.applied.new.cx c.in_ok-one.ensures.grown
+    c.applied.ensures.grown in
     if_ok c.applied.result
-    (λ o made. λ a b is one. beneath_compares c.args.cx.now c.compared.new.cx a b
+    (λ o made. λ a b is one. beneath_compares c.args.cx.now c.applied.new.cx a b
     (plain_pattern c.args.below.now) (plain_pattern c.args.base.now) c.args.image.now
     c.halves.result.0.now c.halves.result.1.now c.in_ok-one.one o
-    (subst (λ (program : Program). IsSignature program.sig) (sym c.in_ok-one.ensures.grown.program)
-    c.requires.signature) c.in_ok-one.ensures.grown is c.halves.ensures
-    c.in_ok-one.ensures.says made)
-    c.applied.ensures
+    (subst (λ (program : Program). IsSignature program.sig) (sym g.program)
+    c.requires.signature) g is c.halves.ensures
+    (compares_grown c.compared.new.cx c.applied.new.cx (plain_pattern c.args.below.now)
+    (plain_pattern c.args.base.now) c.halves.result.1.now c.in_ok-one.one c.applied.ensures.grown
+    c.in_ok-one.ensures.says) made)
+    c.applied.ensures.says
 
 -- ---- both injections
 

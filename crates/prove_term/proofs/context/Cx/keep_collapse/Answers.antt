@@ -20,4 +20,5 @@ invariant_of-self-2 c = record {
       IsCollapseAt v c.args.from.0 c.args.through.0 c.args.to.0 c.args.place)
       (sym c.self.view_is) c.requires) c.in_ok-insert.ensures.updates
       c.self.invariant.collapses;
+  equalities = c.self.invariant.equalities;
 }

@@ -19,4 +19,5 @@ invariant_of-self-2 c = record {
       (sym c.self.view_is) c.requires) c.in_ok-insert.ensures.updates
       c.self.invariant.injections;
   collapses = c.self.invariant.collapses;
+  equalities = c.self.invariant.equalities;
 }

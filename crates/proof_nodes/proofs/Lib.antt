@@ -1,0 +1,13 @@
+pub mod Growing
+pub mod Chains
+pub mod Trees
+pub mod Visiting
+pub mod TableLaws
+pub mod Placing
+pub mod Spelling
+pub mod Meaning
+pub mod Compressing
+pub mod Tasks
+pub mod Built
+pub mod Walks
+pub mod Weights

@@ -1,0 +1,45 @@
+use Rattle.ml_pat.specs.Patterns.{meta}
+use Rattle.prove_term.specs.EqualityLemmas.{same_metas}
+use Rattle.prove_term.proofs.ResultLaws.{if_ok_two}
+use Rattle.prove_term.proofs.EqualityLaws.{first_there, second_there}
+use Rattle.prove_term.proofs.equality_lemmas.cong_app_lemma.Goals as goal
+
+pub cong_app-requires : goal.cong_app-requires
+cong_app-requires c = (
+  meta 0,
+  (
+    meta 1,
+    (
+      meta 2,
+      (
+        meta 3,
+        (
+          c.in_ok-first.ensures.conclusion,
+          (c.in_ok-second.ensures.conclusion, (tt, (tt, tt))),
+        ),
+      ),
+    ),
+  ),
+)
+
+pub returns : goal.returns
+returns c =
+    if_ok_two c.cong_app.result
+    (λ t says stays. record {
+      says =
+          says (meta 0) (meta 1) (meta 2) (meta 3) c.in_ok-first.ensures.conclusion
+          c.in_ok-second.ensures.conclusion;
+      stays = λ s objects metas may.
+          stays s (objects 0, tt) (
+            c.in_ok-first.ensures.stays s
+                (may (same_metas 0 1) (first_there (same_metas 0 1) (same_metas 2 3)))
+                (metas 0, metas 1),
+            (
+              c.in_ok-second.ensures.stays s
+                  (may (same_metas 2 3) (second_there (same_metas 0 1) (same_metas 2 3)))
+                  (metas 2, metas 3),
+              tt,
+            ),
+          );
+    })
+    c.cong_app.ensures.conclusion c.cong_app.ensures.stays

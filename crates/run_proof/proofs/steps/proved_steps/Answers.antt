@@ -1,0 +1,125 @@
+use Rattle.std.proofs.Common.{ℕ, refl, sym, ◌∙◌, ap, arith}
+use Rattle.rule_core.specs.ProgramView.{theory_of}
+use Rattle.rule_core.specs.RunView.{cause_of}
+use Rattle.prove_run.specs.RunProof.{RunProof}
+use Rattle.prove_run.proofs.FileLaws.{on_err}
+use Rattle.prove_run.specs.WrittenProofs.{WritesFrontAfter}
+use Rattle.run_proof.proofs.StepLaws.{one_more, counted, stays_on, goes_then, front_later}
+use Rattle.run_proof.proofs.StepLaws.{front_so_far, stuck_run, stopped_run, limited_run, kept_config}
+use Rattle.run_proof.proofs.steps.proved_steps.Goals as goal
+
+pub loop-made-init : goal.loop-made-init
+loop-made-init g c = record {
+  created = c.requires.file;
+  counts = omega arith;
+  no_fault = refl;
+  reads = refl;
+  at = c.requires.at;
+  goes =
+      stays_on (g.D.Desk.state c.args.desk.now).told c.args.proof.now
+      (rw c.requires.file at (g.met.D.Desk.tells_created c.args.desk.now));
+  steps = c.requires.none_made;
+  reached = λ start calls h. h;
+}
+
+pub loop-made-preserved : goal.loop-made-preserved
+loop-made-preserved g c =
+    let progress = rw c.in-Made.is at c.in_ok-proved_step.ensures.progress in record {
+      created = c.proved_step.ensures.created;
+      counts = omega (arith, c.loop-made.invariant.counts, c.proved_step.ensures.counts);
+      no_fault = c.in_ok-proved_step.ensures.no_fault ∙ c.loop-made.invariant.no_fault;
+      reads = c.proved_step.ensures.reads ∙ c.loop-made.invariant.reads;
+      at = c.in_ok-proved_step.ensures.at;
+      goes =
+          goes_then (g.D.Desk.state c.args.desk.now).told (g.D.Desk.state c.loop-made.desk).told
+          (g.D.Desk.state c.proved_step.new.desk).told c.args.proof.now c.loop-made.proof
+          c.proved_step.new.proof c.loop-made.invariant.goes c.in_ok-proved_step.ensures.goes;
+      steps =
+          progress.1 ∙ counted c.loop-made.proof.steps c.loop-made.made c.args.limit
+          c.loop-made.invariant.steps (omega arith) (omega arith);
+      reached = λ start calls h. one_more _ start calls _ _ _ _ _
+          (c.loop-made.invariant.reached start calls h) progress.0;
+    }
+
+pub returns-in-Stuck-clause-goes : goal.returns-in-Stuck-clause-goes
+returns-in-Stuck-clause-goes g c =
+    goes_then (g.D.Desk.state c.args.desk.now).told (g.D.Desk.state c.loop-made.desk).told
+    (g.D.Desk.state c.proved_step.new.desk).told c.args.proof.now c.loop-made.proof
+    c.proved_step.new.proof c.loop-made.invariant.goes c.in_ok-proved_step.ensures.goes
+
+pub returns-in-Stuck-clause-reached : goal.returns-in-Stuck-clause-reached
+returns-in-Stuck-clause-reached g c =
+    let progress = rw c.in-Stuck.is at c.in_ok-proved_step.ensures.progress in
+    (kept_config c.args.engine.now c.loop-made.run c.proved_step.new.run c.proved_step.new.proof
+    c.in-Stuck.last c.in_ok-proved_step.ensures.at progress.2 progress.1).0
+
+pub returns-in-Stuck-clause-made : goal.returns-in-Stuck-clause-made
+returns-in-Stuck-clause-made g c =
+    let progress = rw c.in-Stuck.is at c.in_ok-proved_step.ensures.progress in
+    ap (λ (p : RunProof). p.steps) progress.3 ∙ c.loop-made.invariant.steps
+
+pub returns-in-Stuck-clause-run : goal.returns-in-Stuck-clause-run
+returns-in-Stuck-clause-run g c =
+    let progress = rw c.in-Stuck.is at c.in_ok-proved_step.ensures.progress in
+    λ start calls h. stuck_run (theory_of c.args.engine.now) start calls c.args.limit
+    c.loop-made.made c.loop-made.run c.in-Stuck.last (c.loop-made.invariant.reached start calls h)
+    (omega arith) progress.0 progress.1
+
+pub returns-in-Stuck-clause-sorted : goal.returns-in-Stuck-clause-sorted
+returns-in-Stuck-clause-sorted g c =
+    let progress = rw c.in-Stuck.is at c.in_ok-proved_step.ensures.progress in
+    (kept_config c.args.engine.now c.loop-made.run c.proved_step.new.run c.proved_step.new.proof
+    c.in-Stuck.last c.in_ok-proved_step.ensures.at progress.2 progress.1).1
+
+pub returns-in-Blocked-clause-goes : goal.returns-in-Blocked-clause-goes
+returns-in-Blocked-clause-goes g c =
+    goes_then (g.D.Desk.state c.args.desk.now).told (g.D.Desk.state c.loop-made.desk).told
+    (g.D.Desk.state c.proved_step.new.desk).told c.args.proof.now c.loop-made.proof
+    c.proved_step.new.proof c.loop-made.invariant.goes c.in_ok-proved_step.ensures.goes
+
+pub returns-in-Blocked-clause-reached : goal.returns-in-Blocked-clause-reached
+returns-in-Blocked-clause-reached g c =
+    let progress = rw c.in-Blocked.is at c.in_ok-proved_step.ensures.progress in
+    (kept_config c.args.engine.now c.loop-made.run c.proved_step.new.run c.proved_step.new.proof
+    c.in-Blocked.last c.in_ok-proved_step.ensures.at progress.2 progress.1).0
+
+pub returns-in-Blocked-clause-made : goal.returns-in-Blocked-clause-made
+returns-in-Blocked-clause-made g c =
+    let progress = rw c.in-Blocked.is at c.in_ok-proved_step.ensures.progress in
+    ap (λ (p : RunProof). p.steps) progress.3 ∙ c.loop-made.invariant.steps
+
+pub returns-in-Blocked-clause-run : goal.returns-in-Blocked-clause-run
+returns-in-Blocked-clause-run g c =
+    let progress = rw c.in-Blocked.is at c.in_ok-proved_step.ensures.progress in
+    λ start calls h. stopped_run (theory_of c.args.engine.now) start calls c.args.limit
+    c.loop-made.made (cause_of c.in-Blocked.why) c.loop-made.run c.in-Blocked.last
+    (c.loop-made.invariant.reached start calls h) (omega arith) progress.0 progress.1
+
+pub returns-in-Blocked-clause-sorted : goal.returns-in-Blocked-clause-sorted
+returns-in-Blocked-clause-sorted g c =
+    let progress = rw c.in-Blocked.is at c.in_ok-proved_step.ensures.progress in
+    (kept_config c.args.engine.now c.loop-made.run c.proved_step.new.run c.proved_step.new.proof
+    c.in-Blocked.last c.in_ok-proved_step.ensures.at progress.2 progress.1).1
+
+pub returns-in_err-proved_step-clause-front : goal.returns-in_err-proved_step-clause-front
+returns-in_err-proved_step-clause-front g c =
+    on_err c.from_residual.result (WritesFrontAfter (g.D.Desk.state c.args.desk.now).told
+    (g.D.Desk.state c.proved_step.new.desk).told c.args.proof.now)
+    (front_later (g.D.Desk.state c.args.desk.now).told (g.D.Desk.state c.loop-made.desk).told
+    (g.D.Desk.state c.proved_step.new.desk).told c.args.proof.now c.loop-made.proof
+    c.loop-made.invariant.goes c.in_err-proved_step.ensures.front)
+
+pub returns-in_err-share-clause-front : goal.returns-in_err-share-clause-front
+returns-in_err-share-clause-front g c =
+    on_err c.from_residual-in_err-share.result (WritesFrontAfter
+    (g.D.Desk.state c.args.desk.now).told (g.D.Desk.state c.loop-made.desk).told c.args.proof.now)
+    (front_so_far (g.D.Desk.state c.args.desk.now).told (g.D.Desk.state c.loop-made.desk).told
+    c.args.proof.now c.loop-made.proof c.loop-made.invariant.goes
+    (rw c.loop-made.invariant.created at (g.met.D.Desk.tells_created c.loop-made.desk)))
+
+pub returns-clause-run : goal.returns-clause-run
+returns-clause-run g c =
+    λ start calls h. limited_run (theory_of c.args.engine.now) start calls c.args.limit
+    c.loop-made.made c.loop-made.run c.in_ok-share.field-0
+    (c.loop-made.invariant.reached start calls h) (omega arith)
+    (c.in_ok-share.ensures.same ∙ c.config.ensures)
