@@ -7,15 +7,15 @@ pub mod NodeLaws
 pub mod Walking
 pub mod WalkSteps
 pub mod TestView
+pub mod Drafting
+pub mod NodeView
+pub mod TreeView
+pub mod Ways
+pub mod SlotView
 -- Private: what clauses of private functions cite.
 pub mod Agreement
 pub mod Standing
 pub mod TrailView
 pub mod Joining
 pub mod SpotView
-pub mod Drafting
-pub mod NodeView
 pub mod WorkView
-pub mod TreeView
-pub mod Ways
-pub mod SlotView
