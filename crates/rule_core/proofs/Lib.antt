@@ -24,6 +24,7 @@ pub mod MatchAnswers
 pub mod Searches
 pub mod Trials
 pub mod RunUnique
+pub mod RunEnds
 pub mod FirstApplies
 pub mod StepsKept
 pub mod RunAnswers

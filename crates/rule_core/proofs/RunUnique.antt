@@ -258,18 +258,18 @@ passes (suc m) n {d} {u} r lt =
     (λ (less : n < m). passes m n (before r).reached less) (eq-or-lt_of_le (omega arith))
 
 -- a configuration is the last one: the limit is reached, or there is no next one
-record Last (theory : RewriteTheory) (limit : ℕ) (start : Pattern) (calls n : ℕ) (t : Tree)
+pub record Last (theory : RewriteTheory) (limit : ℕ) (start : Pattern) (calls n : ℕ) (t : Tree)
     (c : ℕ) : Type 0 where
-  reached : Reaches theory start calls n t c
-  within : n ≤ limit
-  ends : n < limit → (w : Tree) (e : ℕ) → Steps theory t c (steps_on w e) → ⊥
+  pub reached : Reaches theory start calls n t c
+  pub within : n ≤ limit
+  pub ends : n < limit → (w : Tree) (e : ℕ) → Steps theory t c (steps_on w e) → ⊥
 
-not_before : (theory : RewriteTheory) → IsWellSorted theory
+-- nothing is reached after it within the limit
+pub not_after : (theory : RewriteTheory) → IsWellSorted theory
     → {start : Pattern} {calls : ℕ} (limit n m : ℕ) {c d : ℕ} {t u : Tree}
-    → Last theory limit start calls n t c → Last theory limit start calls m u d → n < m → ⊥
-not_before theory good limit n m {c} {d} {t} {u} a b lt =
-    let on = passes m n b.reached lt in
-    let le : m ≤ limit = b.within in
+    → Last theory limit start calls n t c → Reaches theory start calls m u d → m ≤ limit → n < m → ⊥
+not_after theory good limit n m {c} {d} {t} {u} a b le lt =
+    let on = passes m n b lt in
     let places = same_place theory good n on.2.reached a.reached in
     let step : Steps theory t c (steps_on on.0 on.1) =
     subst (λ k. Steps theory t k (steps_on on.0 on.1)) places.1
@@ -280,8 +280,8 @@ same_count : (theory : RewriteTheory) → IsWellSorted theory
     → {start : Pattern} {calls : ℕ} (limit n m : ℕ) {c d : ℕ} {t u : Tree}
     → Last theory limit start calls n t c → Last theory limit start calls m u d → n ≡ m
 same_count theory good limit n m a b =
-    let less : n < m → ⊥ = not_before theory good limit n m a b in
-    let more : m < n → ⊥ = not_before theory good limit m n b a in
+    let less : n < m → ⊥ = not_after theory good limit n m a b.reached b.within in
+    let more : m < n → ⊥ = not_after theory good limit m n b a.reached a.within in
     omega arith
 
 same_last : (theory : RewriteTheory) → IsWellSorted theory
@@ -295,7 +295,7 @@ same_last theory good {start} {calls} limit n m {c} {d} {t} {u} a b =
     (subst (λ k. Reaches theory start calls k u d) (sym counts) b.reached) in
     (counts, places.0, places.1)
 
-stuck_last : (theory : RewriteTheory) → IsWellSorted theory
+pub stuck_last : (theory : RewriteTheory) → IsWellSorted theory
     → {start : Pattern} {calls : ℕ} (limit n : ℕ) (t : Tree)
     → (h : IsRunOf theory limit calls start (stuck n t)) → Last theory limit start calls n t h.0
 stuck_last theory good limit n t (c, r, lt, s) = record {
@@ -307,7 +307,7 @@ stuck_last theory good limit n t (c, r, lt, s) = record {
       let no : ⊥ = cc in no;
 }
 
-stopped_last : (theory : RewriteTheory) → IsWellSorted theory
+pub stopped_last : (theory : RewriteTheory) → IsWellSorted theory
     → {start : Pattern} {calls : ℕ} (limit n : ℕ) (cause : Cause) (t : Tree)
     → (h : IsRunOf theory limit calls start (stopped n cause t))
     → Last theory limit start calls n t h.0
@@ -320,7 +320,7 @@ stopped_last theory good limit n cause t (c, r, lt, s) = record {
       let no : ⊥ = cc in no;
 }
 
-limited_last : (theory : RewriteTheory) {start : Pattern} {calls : ℕ} (limit n : ℕ) (t : Tree)
+pub limited_last : (theory : RewriteTheory) {start : Pattern} {calls : ℕ} (limit n : ℕ) (t : Tree)
     → (h : IsRunOf theory limit calls start (limited n t)) → Last theory limit start calls n t h.0
 limited_last theory limit n t (c, r, e) = record {
   reached = r;
@@ -329,7 +329,7 @@ limited_last theory limit n t (c, r, e) = record {
 }
 
 -- an initial term whose evaluation is blocked reaches no configuration
-unstarted_reaches : (theory : RewriteTheory) → IsWellSorted theory
+pub unstarted_reaches : (theory : RewriteTheory) → IsWellSorted theory
     → {start : Pattern} {calls n c : ℕ} {t : Tree} (cause : Cause)
     → Evaluates theory most_nesting [] start calls (blocked cause)
     → Reaches theory start calls n t c → ⊥

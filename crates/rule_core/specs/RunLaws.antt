@@ -1,14 +1,15 @@
 -- Laws of steps and runs.
 use Rattle.std.specs.Prelude.{◌≡◌, ◌≤◌, ◌⊎◌, ℕ, List, [], Option, Some, slice_get, All}
 use Rattle.term_core.specs.Terms.{Tree, height, IsNormal}
-use Rattle.term_core.specs.Patterns.{Pattern}
+use Rattle.term_core.specs.Patterns.{Pattern, ground_pattern}
 use Rattle.rule_core.specs.Rules.{RewriteRule, ComesBefore}
 use Rattle.rule_core.specs.Theories.{RewriteTheory}
 use Rattle.rule_core.specs.Sorting.{HasSort, IsTermOf}
 use Rattle.rule_core.specs.Evaluation.{holds, fails, most_height}
 use Rattle.rule_core.specs.FirstRule.{Matches, IsUnmatched, Meets, Trial, applies, none_applies}
 use Rattle.rule_core.specs.FirstRule.{Tries}
-use Rattle.rule_core.specs.Runs.{Stepped, steps_on, Steps, Reaches, Run, IsRunOf}
+use Rattle.rule_core.specs.Runs.{Stepped, steps_on, Steps, Reaches, Run, stuck, limited, stopped}
+use Rattle.rule_core.specs.Runs.{unstarted, IsRunOf, kept_by, MayEndAt}
 use Rattle.rule_core.specs.Records.{StepRecord, RecordsStep, most_calls, result_of}
 use Rattle.rule_core.specs.WellSorted.{IsWellSorted, IsRuleOf}
 
@@ -25,6 +26,32 @@ abbrev pub RunIsUnique : Type 0
 RunIsUnique =
     (theory : RewriteTheory) (limit calls : ℕ) (start : Pattern) (r s : Run) → IsWellSorted theory →
     IsRunOf theory limit calls start r → IsRunOf theory limit calls start s → r ≡ s
+
+-- the pattern is a configuration that is reached after at most this many steps
+abbrev pub IsReachedWithin : RewriteTheory → ℕ → Pattern → ℕ → Pattern → Type 0
+IsReachedWithin theory calls start most end =
+    (n : ℕ) × (c : ℕ) × (t : Tree) × Reaches theory start calls n t c × (n ≤ most)
+    × (end ≡ ground_pattern t)
+
+-- the pattern is a configuration of the run, or the initial term of a run that has none
+abbrev pub IsOfRun : RewriteTheory → ℕ → Pattern → Run → Pattern → Type 0
+IsOfRun theory calls start (stuck n t) end = IsReachedWithin theory calls start n end
+IsOfRun theory calls start (limited n t) end = IsReachedWithin theory calls start n end
+IsOfRun theory calls start (stopped n cause t) end = IsReachedWithin theory calls start n end
+IsOfRun theory calls start (unstarted cause) end = end ≡ start
+
+-- Where a run may be cut is a configuration of the one run of the term, or its initial term if there
+-- is none. A run may be cut where it ends.
+abbrev pub EndsAreOfRun : Type 0
+EndsAreOfRun =
+    (theory : RewriteTheory) (limit calls : ℕ) (start end : Pattern) (r : Run) → IsWellSorted theory →
+    IsRunOf theory limit calls start r → MayEndAt theory limit calls start end →
+    IsOfRun theory calls start r end
+
+abbrev pub RunMayEnd : Type 0
+RunMayEnd =
+    (theory : RewriteTheory) (limit calls : ℕ) (start : Pattern) (r : Run) →
+    IsRunOf theory limit calls start r → MayEndAt theory limit calls start (kept_by start r)
 
 -- a trial passed over the rule: it does not match, or its condition failed with the number of calls
 -- that were left then

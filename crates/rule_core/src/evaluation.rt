@@ -4,9 +4,9 @@ ghost use Rattle.rule_core.specs.EvaluationLaws.{CallsFall, EvaluationHasAnswer}
 ghost use Rattle.rule_core.specs.EvaluationLaws.{EvaluationIsUnique, MoreLeftKeepsValue};
 ghost use Rattle.rule_core.specs.EvaluationLaws.{RecordDetermines, RecordTells, RecordsAgree};
 ghost use Rattle.rule_core.specs.EvaluationLaws.{ValueHasRecord, ValuesAreSorted};
-ghost use Rattle.rule_core.specs.RunLaws.{ConfigurationsAreSorted, FirstApplies, HasRun};
-ghost use Rattle.rule_core.specs.RunLaws.{NoneApplies, RunIsUnique, StepHasRecord, StepIsUnique};
-ghost use Rattle.rule_core.specs.RunLaws.{StepRecordDetermines, TrialIsUnique};
+ghost use Rattle.rule_core.specs.RunLaws.{ConfigurationsAreSorted, EndsAreOfRun, FirstApplies};
+ghost use Rattle.rule_core.specs.RunLaws.{HasRun, NoneApplies, RunIsUnique, RunMayEnd, StepHasRecord};
+ghost use Rattle.rule_core.specs.RunLaws.{StepIsUnique, StepRecordDetermines, TrialIsUnique};
 
 /// Has no effect at run time. It states that evaluation in a well-sorted theory is a function. A
 /// pattern that has a sort has exactly one answer under a substitution that gives its variables
@@ -41,7 +41,8 @@ pub fn tried()
 /// trial of the rules, a step and a run each have one outcome. An initial term of the rules' sort
 /// has a run. Its configurations are normal terms of this sort, of height at most 500. The rule
 /// that applies is the first one, by priority and position, that matches and whose condition holds.
-/// A step has a record, which determines the next term.
+/// A step has a record, which determines the next term. A run may be cut only at its configurations,
+/// or at its initial term if it has none; it may be cut where it ends.
 pub fn run_laws()
     ensures first { FirstApplies }
     ensures none { NoneApplies }
@@ -52,4 +53,6 @@ pub fn run_laws()
     ensures sorted { ConfigurationsAreSorted }
     ensures kept { StepHasRecord }
     ensures recorded { StepRecordDetermines }
+    ensures cut { EndsAreOfRun }
+    ensures ends { RunMayEnd }
 {}

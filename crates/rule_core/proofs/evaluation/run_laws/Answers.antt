@@ -1,4 +1,5 @@
 use Rattle.rule_core.proofs.RunUnique.{trial_is_unique, step_is_unique, run_is_unique}
+use Rattle.rule_core.proofs.RunEnds.{ends_are_of_run, run_may_end}
 use Rattle.rule_core.proofs.RunAnswers.{has_run, configurations_are_sorted, step_record_determines}
 use Rattle.rule_core.proofs.FirstApplies.{first_applies, none_applies_over}
 use Rattle.rule_core.proofs.StepsKept.{step_has_record}
@@ -32,3 +33,9 @@ returns-clause-none a = none_applies_over
 
 pub returns-clause-kept : goal.returns-clause-kept
 returns-clause-kept a = step_has_record
+
+pub returns-clause-cut : goal.returns-clause-cut
+returns-clause-cut a = ends_are_of_run
+
+pub returns-clause-ends : goal.returns-clause-ends
+returns-clause-ends a = run_may_end
