@@ -4,4 +4,4 @@ use Rattle.ml_pat.specs.PatternView.{pattern_of}
 use Rattle.ml_pat.specs.declared.patterns.MPat.TheInside.{Inside}
 
 abbrev pub whole_pattern : Inside → Pattern
-whole_pattern a = pattern_of a.node.value
+whole_pattern a = pattern_of a.node.value.form

@@ -5,6 +5,7 @@
 // on plain patterns in specs/Judgements.antt. `Names` gives each token one number.
 #![tactic(auto)]
 
+mod fingerprints;
 mod judgements;
 mod names;
 mod numbers;

@@ -5,6 +5,7 @@ ghost use Rattle.ml_pat.specs.Patterns.{bot, top, imp, not, and, or, equal, memb
 ghost use Rattle.ml_pat.specs.Patterns.{app, at_sort, next, ev, var, meta, constant};
 ghost use Rattle.ml_pat.specs.PatternView.{pattern_of};
 
+use crate::fingerprints::fingerprint_of;
 use crate::numbers::{ConstNo, MSort, VarNo};
 use std::alloc::{AllocError, Global};
 use std::marker::Model;
@@ -13,7 +14,15 @@ use std::rc::Rc;
 /// A pattern. Contracts see it as a plain `Pattern`.
 #[cycle(pattern)]
 pub struct MPat {
-    node: Rc<MForm>,
+    node: Rc<Node>,
+}
+
+// A form, and a number that is made from it.
+#[cycle(pattern)]
+#[derive(Drop)]
+struct Node {
+    form: MForm,
+    fingerprint: u64,
 }
 
 /// The form at the root of a pattern, with its parts.
@@ -76,7 +85,7 @@ impl Model for MPat {
     ghost use Rattle.std.proofs.Common.{arith};
     ghost use Rattle.ml_pat.specs.PatternSize.{deep-forms_in};
 
-    ghost size_decreases = { λ a h. Prim.omega (arith, deep-forms_in a.node.value) };
+    ghost size_decreases = { λ a h. Prim.omega (arith, deep-forms_in a.node.value.form) };
 }
 
 // It loops along first parts, because patterns are deep there: the image of an application has one
@@ -88,7 +97,7 @@ impl Drop for MPat {
             let MPat { node } = self;
             match Rc::into_inner(node) {
                 None => return,
-                Some(form) => match form.into_first() {
+                Some(root) => match root.form.into_first() {
                     None => return,
                     Some(first) => self = first,
                 },
@@ -131,7 +140,8 @@ impl MPat {
     fn of(alloc: Global, form: MForm) -> Result<MPat, AllocError>
         ensures { IfOk result (λ made. made ≡ pattern_of form) }
     {
-        let node = Rc::new(alloc, form)?;
+        let fingerprint = fingerprint_of(&form);
+        let node = Rc::new(alloc, Node { form, fingerprint })?;
         Ok(MPat { node })
     }
 
@@ -265,7 +275,14 @@ impl MPat {
     pub fn form(&self) -> &MForm
         ensures { pattern_of result.now ≡ self.now }
     {
-        &self.node
+        &self.node.form
+    }
+
+    /// A number that is made from the pattern, the same for equal patterns. Others may have it too,
+    /// so no clause says which number it is, and what is found by it is to be compared by `same`.
+    /// The cost does not depend on the pattern.
+    pub fn fingerprint(&self) -> u64 {
+        self.node.fingerprint
     }
 
     /// The same pattern, shared. The cost does not depend on the pattern.

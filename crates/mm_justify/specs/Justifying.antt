@@ -15,6 +15,7 @@ use Rattle.ml_pat.specs.Named.{AreDistinct}
 use Rattle.ml_pat.specs.Leaves.{EachLeaf}
 use Rattle.term_core.specs.Patterns.{Pattern as RulePattern}
 use Rattle.rule_core.specs.Theories.{RewriteTheory}
+use Rattle.rule_core.specs.Runs.{MayEndAt}
 use Rattle.ml_image.specs.Assumed.{IsAssumed}
 use Rattle.ml_image.specs.Images.{image_of}
 use Rattle.ml_image.specs.Sentences.{Sentence, sentence_image}
@@ -119,7 +120,13 @@ pub record IsProofOfRun (bytes : List ℕ) (theory : RewriteTheory) (start end :
   pub justifies : JustifiesRun bytes theory start end
   pub compressed : all_compressed bytes ≡ true
 
--- the bytes are the front of a proof of a run from the start to some end
-abbrev pub IsFrontOfProof : RewriteTheory → RulePattern → List ℕ → Type 0
-IsFrontOfProof theory start bytes =
-    (end : RulePattern) × ((rest : List ℕ) × IsProofOfRun (bytes ++ rest) theory start end)
+-- the bytes are the front of a proof of a run from the start to this end
+abbrev pub IsFrontOfProof : RewriteTheory → RulePattern → RulePattern → List ℕ → Type 0
+IsFrontOfProof theory start end bytes =
+    (rest : List ℕ) × IsProofOfRun (bytes ++ rest) theory start end
+
+-- the bytes are the front of a proof of the run of the start, up to a pattern at which it may be cut
+abbrev pub IsFrontOfRun : RewriteTheory → ℕ → ℕ → RulePattern → List ℕ → Type 0
+IsFrontOfRun theory limit calls start bytes =
+    (end : RulePattern) × MayEndAt theory limit calls start end
+    × IsFrontOfProof theory start end bytes

@@ -27,17 +27,6 @@ pub all_forms-push : (ps : List (Bor Pattern)) (p : Bor Pattern)
 all_forms-push [] p = omega arith
 all_forms-push (q ∷ ps) p = omega (arith, all_forms-push ps p)
 
-pub forms_with : (p : Bor Pattern) (old new : List (Bor Pattern)) → new ≡ old ++ p ∷ []
-    → all_forms (patterns_of new) ≡ all_forms (patterns_of old) + forms_in p.now
-forms_with p old new is = ap (λ ps. all_forms (patterns_of ps)) is ∙ all_forms-push old p
-
-pub fewer_forms : (next : Bor Pattern) (before popped new : List (Bor Pattern))
-    → before ≡ popped ++ next ∷ []
-    → all_forms (patterns_of new) < all_forms (patterns_of popped) + forms_in next.now
-    → all_forms (patterns_of new) < all_forms (patterns_of before)
-fewer_forms next before popped new is fewer =
-    omega (arith, forms_with next popped before is, fewer)
-
 pub one_left : (x : ℕ) (p : Bor Pattern) (old new : List (Bor Pattern)) → new ≡ old ++ p ∷ []
     → IsLeft x (absent x p.now) (forms_in p.now + 1) old new true
 one_left x p old new is = (

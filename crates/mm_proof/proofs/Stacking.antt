@@ -188,11 +188,11 @@ repeated_syntax p stack old new b = record {
   weight = omega (arith, has_label (syntax_tree (own_labels old.serial) p.now));
 }
 
-pub kept_syntax : (fingerprint : ℕ) (p : Bor Pattern) (old mid new : List Work) (table : Listing)
-    → mid ≡ old ++ work.Keep fingerprint p ∷ []
+pub kept_syntax : (p : Bor Pattern) (old mid new : List Work) (table : Listing)
+    → mid ≡ old ++ work.Keep p ∷ []
     → PutsOn (λ k. syntax_tree (own_labels k) p.now) mid new
     → IsSyntaxTaken p old new table table
-kept_syntax fingerprint p old mid new table is w =
+kept_syntax p old mid new table is w =
     let k : ℕ = table.serial in
     let ts : List ProofTree = trees_of table in
     let tree : ProofTree = syntax_tree (own_labels k) p.now in record {
@@ -200,10 +200,10 @@ kept_syntax fingerprint p old mid new table is w =
       builds = λ last h.
           w.builds k ts last
           (subst (λ (ws : List Work). Leads k ws (ts ++ tree ∷ []) last) (sym is)
-          (pushed k old (work.Keep fingerprint p) (λ us. us ≡ last) (ts ++ tree ∷ []) ((ts, refl), h)));
+          (pushed k old (work.Keep p) (λ us. us ≡ last) (ts ++ tree ∷ []) ((ts, refl), h)));
       weight =
           let e : stack_weight k mid ≡ stack_weight k old + 1 =
-          ap (stack_weight k) is ∙ stack_weight-push k old (work.Keep fingerprint p) in
+          ap (stack_weight k) is ∙ stack_weight-push k old (work.Keep p) in
           omega (arith, e, w.weight k);
     }
 
@@ -218,7 +218,7 @@ ready_before : (k : ℕ) (w : Work) (after : List ProofTree → Type 0) (ts : Li
     → before_work k w after ts → IsReady k w ts
 ready_before k (work.Prove g) after ts h = tt
 ready_before k (work.Cite l n) after ts h = tt
-ready_before k (work.Keep fingerprint p) after ts h = h.0
+ready_before k (work.Keep p) after ts h = h.0
 
 pub next_is_ready : (k : ℕ) (w : Work) (before stack : List Work) (ts last : List ProofTree)
     → before ≡ stack ++ w ∷ [] → Leads k before ts last → IsReady k w ts

@@ -34,7 +34,7 @@ size_of_all (tree ∷ trees) = size_of tree + size_of_all trees
 abbrev pub before_work : ℕ → Work → (List ProofTree → Type 0) → List ProofTree → Type 0
 before_work k (work.Prove g) after trees = after (trees ++ goal_tree k g ∷ [])
 before_work k (work.Cite l n) after trees = after (with_cited (label_token k l) n trees)
-before_work k (work.Keep fingerprint p) after trees = EndsWithSyntax k p.now trees × after trees
+before_work k (work.Keep p) after trees = EndsWithSyntax k p.now trees × after trees
 
 -- the same before a stack of works, the top last and done first
 abbrev pub before_works : ℕ → List Work → (List ProofTree → Type 0) → List ProofTree → Type 0
@@ -49,13 +49,13 @@ Leads k ws trees last = before_works k ws (λ ts. ts ≡ last) trees
 abbrev pub IsReady : ℕ → Work → List ProofTree → Type 0
 IsReady k (work.Prove g) trees = Unit {0}
 IsReady k (work.Cite l n) trees = Unit {0}
-IsReady k (work.Keep fingerprint p) trees = EndsWithSyntax k p.now trees
+IsReady k (work.Keep p) trees = EndsWithSyntax k p.now trees
 
 -- The weight of a work. A goal has a weight for its labels, its parts and what is kept of it.
 abbrev pub weight : ℕ → Work → ℕ
 weight k (work.Prove g) = 3 * size_of (goal_tree k g)
 weight k (work.Cite l n) = 1
-weight k (work.Keep fingerprint p) = 1
+weight k (work.Keep p) = 1
 
 abbrev pub stack_weight : ℕ → List Work → ℕ
 stack_weight k [] = 0

@@ -17,7 +17,6 @@
 //! of a statement.
 #![tactic(auto)]
 
-mod fingerprints;
 mod freshness;
 mod known;
 mod laws;

@@ -90,30 +90,29 @@ impl ProofTable {
         self.nodes.cite(number, takes)
     }
 
-    /// Pushes the proof that a pattern is one again, if it is kept under this fingerprint. The
-    /// result says whether it is; if not, nothing changes. `AllocError`: out of memory, and nothing
-    /// changes.
-    pub(crate) fn repeat_syntax(&mut self, fingerprint: u64, pat: &MPat) -> Result<bool, AllocError>
+    /// Pushes the proof that a pattern is one again, if it is kept. The result says whether it is; if
+    /// not, nothing changes. `AllocError`: out of memory, and nothing changes.
+    pub(crate) fn repeat_syntax(&mut self, pat: &MPat) -> Result<bool, AllocError>
         ensures repeated { IfOk result (λ found. MatchBool found
             (Builds (λ k. syntax_tree (own_labels k) pat.now ∷ []) self.old self.new)
             (self.new ≡ self.old)) }
         ensures err { OnErr result (self.new ≡ self.old) }
     {
-        let Some(node) = known_node(&self.known, fingerprint, pat) else {
+        let Some(node) = known_node(&self.known, pat) else {
             return Ok(false);
         };
         self.nodes.repeat(node)?;
         Ok(true)
     }
 
-    /// Keeps the last tree, which is the proof that a pattern is one, to be found again by this
-    /// fingerprint of the pattern. `AllocError`: out of memory.
-    pub(crate) fn keep_syntax(&mut self, fingerprint: u64, pat: &MPat) -> Result<(), AllocError>
+    /// Keeps the last tree, which is the proof that a pattern is one, to be found again for the
+    /// pattern. `AllocError`: out of memory.
+    pub(crate) fn keep_syntax(&mut self, pat: &MPat) -> Result<(), AllocError>
         requires { EndsWithSyntax self.old.serial pat.now (trees_of self.old) }
         ensures { self.new ≡ self.old }
     {
         let node = self.nodes.last().unwrap();
-        keep_node(&mut self.known, fingerprint, pat, node)
+        keep_node(&mut self.known, pat, node)
     }
 
     /// Writes the only tree as a compressed proof, in a statement with these mandatory labels: its

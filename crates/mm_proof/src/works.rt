@@ -5,8 +5,8 @@ ghost use Rattle.mm_proof.specs.WorkStacks.{IsReady, IsSyntaxTaken, IsTaken};
 ghost use Rattle.mm_proof.specs.Listings.{Builds, trees_of};
 ghost use Rattle.mm_proof.specs.Writing.{goal_tree, goal_trees};
 
-use crate::fingerprints::Fingerprints;
 use crate::freshness::{expand_fresh, expand_predicate, expand_unchanged};
+use crate::known::is_small;
 use crate::patterns::expand_syntax;
 use crate::substitution::expand_substituted;
 use crate::table::ProofTable;
@@ -39,8 +39,8 @@ pub(crate) enum Work<'a> {
     Prove(Goal<'a>),
     /// A label over this many proofs.
     Cite(Label, usize),
-    /// The last proof, that the pattern is one, is kept under this fingerprint of the pattern.
-    Keep(u64, &'a MPat),
+    /// The last proof, that the pattern is one, is kept for the pattern.
+    Keep(&'a MPat),
 }
 
 /// Builds the proofs of goals, the last one on top. `AllocError`: out of memory. It takes time
@@ -59,10 +59,9 @@ pub fn prove_goal(table: &mut ProofTable, goal: Goal<'_>) -> Result<(), AllocErr
     ensures { OnOk result (Builds (λ k. goal_tree k goal.entry ∷ []) table.old table.new) }
 {
     let mut stack = Vec::new(table.allocator());
-    let mut fingerprints = Fingerprints::new(table.allocator());
     stack.push(Work::Prove(goal))?;
     while let Some(next) = stack.pop() {
-        take_work(table, &mut stack, &mut fingerprints, next)?;
+        take_work(table, &mut stack, next)?;
     }
     Ok(())
 }
@@ -71,7 +70,6 @@ pub fn prove_goal(table: &mut ProofTable, goal: Goal<'_>) -> Result<(), AllocErr
 fn take_work<'a>(
     table: &mut ProofTable,
     stack: &mut Vec<Work<'a>>,
-    fingerprints: &mut Fingerprints,
     work: Work<'a>,
 ) -> Result<(), AllocError>
     requires { IsReady table.old.serial work (trees_of table.old) }
@@ -81,8 +79,8 @@ fn take_work<'a>(
     match work {
         Work::Cite(label, takes) => table.cite(label, takes),
         Work::Prove(Goal::Leaf(label)) => table.cite(label, 0),
-        Work::Keep(fingerprint, p) => table.keep_syntax(fingerprint, p),
-        Work::Prove(Goal::Syntax(p)) => take_syntax(table, stack, fingerprints, p),
+        Work::Keep(p) => table.keep_syntax(p),
+        Work::Prove(Goal::Syntax(p)) => take_syntax(table, stack, p),
         Work::Prove(Goal::Fresh(x, p)) => expand_fresh(stack, x, p),
         Work::Prove(Goal::Unchanged(x, u, p)) => expand_unchanged(stack, x, u, p),
         Work::Prove(Goal::Substituted(x, u, p, r)) => expand_substituted(stack, x, u, p, r),
@@ -91,23 +89,21 @@ fn take_work<'a>(
 }
 
 /// Repeats the proof that a pattern is one, if it was kept, and otherwise splits the goal and keeps
-/// what is built. A small pattern is only split. The pattern comes next in `fingerprints`.
+/// what is built. A small pattern is only split.
 fn take_syntax<'a>(
     table: &mut ProofTable,
     stack: &mut Vec<Work<'a>>,
-    fingerprints: &mut Fingerprints,
     pat: &'a MPat,
 ) -> Result<(), AllocError>
     ensures { OnOk result
         (IsSyntaxTaken pat.entry stack.old.items stack.new.items table.old table.new) }
 {
-    let Some(fingerprint) = fingerprints.take(pat)? else {
+    if is_small(pat) {
         return expand_syntax(stack, pat);
-    };
-    if table.repeat_syntax(fingerprint, pat)? {
-        fingerprints.skip_parts();
+    }
+    if table.repeat_syntax(pat)? {
         return Ok(());
     }
-    stack.push(Work::Keep(fingerprint, pat))?;
+    stack.push(Work::Keep(pat))?;
     expand_syntax(stack, pat)
 }

@@ -9,5 +9,5 @@ decreases-MForm::into_first l = 2 * forms_in (pattern_of l.self)
 abbrev pub decreases-MPat::drop : goal.decreases-MPat::drop
 decreases-MPat::drop l = 2 * forms_in l.self + 1
 
-abbrev pub invariant-MPat::drop-loop-form : goal.invariant-MPat::drop-loop-form
-invariant-MPat::drop-loop-form l = forms_in l.self ≤ forms_in l.fn.self
+abbrev pub invariant-MPat::drop-loop-root : goal.invariant-MPat::drop-loop-root
+invariant-MPat::drop-loop-root l = forms_in l.self ≤ forms_in l.fn.self

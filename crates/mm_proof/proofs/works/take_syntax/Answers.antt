@@ -12,6 +12,6 @@ returns c =
     same_table c.args.pat c.args.stack.now.items c.expand_syntax-2.new.stack.items
     c.args.table.now c.repeat_syntax.new.self
     (rw c.if-branch.false at c.in_ok-repeat_syntax.ensures.repeated)
-    (kept_syntax c.in-Some.fingerprint c.args.pat c.args.stack.now.items c.push.new.self.items
+    (kept_syntax c.args.pat c.args.stack.now.items c.push.new.self.items
     c.expand_syntax-2.new.stack.items c.repeat_syntax.new.self c.in_ok-push.ensures.items put))
     c.expand_syntax-2.ensures
