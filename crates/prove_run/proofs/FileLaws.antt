@@ -14,10 +14,11 @@ use Rattle.rule_core.specs.ProgramView.{theory_of}
 use Rattle.rule_core.specs.Theories.{RewriteTheory}
 use Rattle.rule_core.specs.declared.rules.Program.{Program}
 use Rattle.mm_justify.specs.Justifying.{IsProofOfRun, IsFrontOfProof}
-use Rattle.prove_run.specs.RunProof.{RunProof, reached}
+use Rattle.prove_run.specs.RunProof.{RunProof, configuration, reached}
 use Rattle.prove_run.specs.Proving.{FitsProof, Begins, StepsTo}
 use Rattle.prove_run.specs.WrittenProofs.{JustifiesFirst, JustifiesFurther, WritesBeginning}
 use Rattle.prove_run.specs.WrittenProofs.{WritesStep, WritesFrontOfProof, WritesFrontAfter}
+use Rattle.prove_run.specs.WrittenProofs.{EndsStep}
 
 pub on_err : {T E : Type 0} (r : Result T E) (P : Type 0) → P → OnErr r P
 on_err (Ok t) P h = tt
@@ -50,55 +51,65 @@ proves_for program start proof text same starts fits =
     (reached proof)) same fits.proves)
 
 -- nothing was written
-pub none_begun : (told : Option Told) (theory : RewriteTheory) (start : Pattern)
-    → TellsCreated true told → WritesFrontOfProof told told theory start
-none_begun told theory start h = ([], Writes-nil told h, inl refl)
+pub none_begun : (told : Option Told) (theory : RewriteTheory) (start end : Pattern)
+    → TellsCreated true told → WritesFrontOfProof told told theory start end
+none_begun told theory start end h = ([], Writes-nil told h, inl refl)
+
+-- the front of a proof that reaches the value of its start
+begun_front : (program : Program) (start : RulePat) (value : Option Tree) (proof : RunProof)
+    (text front rest : List ℕ) → text ≡ front ++ rest → Begins program start value proof text
+    → IsFrontOfProof (theory_of program) (plain_pattern start)
+    (configuration (plain_pattern start) value) front
+begun_front program start value proof text front rest is begins =
+    let proves : IsProofOfRun text (theory_of program) (plain_pattern start) (reached proof) =
+    proves_for program start proof text begins.same_program begins.starts begins.fits in
+    let ends : reached proof ≡ configuration (plain_pattern start) value =
+    ap (λ (s : RulePat). configuration (plain_pattern s) proof.made) begins.starts
+    ∙ ap (configuration (plain_pattern start)) begins.made in (
+      rest,
+      subst (λ (l : List ℕ). IsProofOfRun l (theory_of program) (plain_pattern start)
+          (configuration (plain_pattern start) value)) is
+          (subst (IsProofOfRun text (theory_of program) (plain_pattern start)) ends proves),
+    )
 
 pub front_begun : (old new : Option Told) (program : Program) (start : RulePat)
     (value : Option Tree) (proof : RunProof) (text : List ℕ) → WritesFront old new text
     → Begins program start value proof text
     → WritesFrontOfProof old new (theory_of program) (plain_pattern start)
+    (configuration (plain_pattern start) value)
 front_begun None new program start value proof text front begins = ([], tt, inl refl)
-front_begun (Some old) new program start value proof text (front, rest, is, writes) begins = (
-  front,
-  writes,
-  inr (
-    reached proof,
-    (
-      rest,
-      subst (λ (l : List ℕ). IsProofOfRun l (theory_of program) (plain_pattern start)
-          (reached proof)) is
-          (proves_for program start proof text begins.same_program begins.starts begins.fits),
-    ),
-  ),
-)
+front_begun (Some old) new program start value proof text (front, rest, is, writes) begins =
+    (front, writes, inr (begun_front program start value proof text front rest is begins))
 
 -- a text that fits the proof is a front of itself
 front_of_itself : (proof : RunProof) (text : List ℕ) → FitsProof proof text
-    → IsFrontOfProof (theory_of proof.program) (plain_pattern proof.start) (text ++ [])
+    → IsFrontOfProof (theory_of proof.program) (plain_pattern proof.start) (reached proof)
+    (text ++ [])
 front_of_itself proof text fits =
     let whole : text ≡ (text ++ []) ++ [] =
     sym (append-nil (text ++ []) ∙ append-nil text) in (
-      reached proof,
-      (
-        [],
-        subst (λ (l : List ℕ). IsProofOfRun l (theory_of proof.program) (plain_pattern proof.start)
-            (reached proof)) whole fits.proves,
-      ),
+      [],
+      subst (λ (l : List ℕ). IsProofOfRun l (theory_of proof.program) (plain_pattern proof.start)
+          (reached proof)) whole fits.proves,
     )
 
-pub none_added : (told : Option Told) (proof : RunProof) → TellsCreated true told
-    → WritesFrontAfter told told proof
-none_added told proof h = ([], Writes-nil told h, front_of_itself proof)
+-- nothing was added to it
+pub none_added : (told : Option Told) (proof : RunProof) (ends : Pattern → Type 0)
+    → ends (reached proof) → TellsCreated true told → WritesFrontAfter told told proof ends
+none_added told proof ends here h =
+    ([], Writes-nil told h, λ text fits. (reached proof, here, front_of_itself proof text fits))
 
 pub front_added : (old new : Option Told) (before after : RunProof) (u : Tree) (added : List ℕ)
-    → WritesFront old new added → StepsTo before after u added → WritesFrontAfter old new before
-front_added None new before after u added front steps = ([], tt, front_of_itself before)
+    → WritesFront old new added → StepsTo before after u added
+    → WritesFrontAfter old new before (EndsStep before u)
+front_added None new before after u added front steps =
+    ([], tt, λ text fits. (reached before, inl refl, front_of_itself before text fits))
 front_added (Some old) new before after u added (front, rest, is, writes) steps = (
   front,
   writes,
   λ text fits. (
     reached after,
+    inr (ap (configuration (plain_pattern after.start)) steps.made),
     (
       rest,
       subst (λ (l : List ℕ). IsProofOfRun l (theory_of before.program)

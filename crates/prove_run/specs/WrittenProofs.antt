@@ -4,14 +4,14 @@ use Rattle.desk_io.specs.Told.{Told}
 use Rattle.desk_io.specs.Changes.{Writes}
 use Rattle.desk_io.specs.CreatedFiles.{CreatedBecomes}
 use Rattle.term_core.specs.Terms.{Tree}
-use Rattle.term_core.specs.Patterns.{Pattern}
+use Rattle.term_core.specs.Patterns.{Pattern, ground_pattern}
 use Rattle.term_core.specs.RulePatterns.{plain_pattern}
 use Rattle.term_core.specs.declared.rule_patterns.RulePat.{RulePat}
 use Rattle.rule_core.specs.ProgramView.{theory_of}
 use Rattle.rule_core.specs.Theories.{RewriteTheory}
 use Rattle.rule_core.specs.declared.rules.Program.{Program}
 use Rattle.mm_justify.specs.Justifying.{IsFrontOfProof}
-use Rattle.prove_run.specs.RunProof.{RunProof}
+use Rattle.prove_run.specs.RunProof.{RunProof, reached}
 use Rattle.prove_run.specs.Proving.{FitsProof, Begins, StepsTo}
 
 -- if the created file was empty before, it now holds a text that fits the proof, so it justifies the
@@ -35,15 +35,20 @@ abbrev pub WritesStep : Option Told → Option Told → RunProof → RunProof �
 WritesStep old new before after u =
     (added : List ℕ) × Writes old new added × StepsTo before after u added
 
--- the created file grew by the front of a proof of a run, or by nothing
-abbrev pub WritesFrontOfProof : Option Told → Option Told → RewriteTheory → Pattern → Type 0
-WritesFrontOfProof old new theory start =
-    (bytes : List ℕ) × Writes old new bytes × ((bytes ≡ []) ⊎ IsFrontOfProof theory start bytes)
+-- the created file grew by the front of a proof of a run from the start to this end, or by nothing
+abbrev pub WritesFrontOfProof : Option Told → Option Told → RewriteTheory → Pattern → Pattern
+    → Type 0
+WritesFrontOfProof old new theory start end =
+    (bytes : List ℕ) × Writes old new bytes × ((bytes ≡ []) ⊎ IsFrontOfProof theory start end bytes)
 
 -- the created file grew by some bytes; each text that fits the proof, followed by these bytes, is
--- the front of a proof of a run from the same start
-abbrev pub WritesFrontAfter : Option Told → Option Told → RunProof → Type 0
-WritesFrontAfter old new proof =
+-- the front of a proof of a run from the same start to one of these patterns
+abbrev pub WritesFrontAfter : Option Told → Option Told → RunProof → (Pattern → Type 0) → Type 0
+WritesFrontAfter old new proof ends =
     (added : List ℕ) × Writes old new added
-    × ((text : List ℕ) → FitsProof proof text →
-    IsFrontOfProof (theory_of proof.program) (plain_pattern proof.start) (text ++ added))
+    × ((text : List ℕ) → FitsProof proof text → (end : Pattern) × ends end
+    × IsFrontOfProof (theory_of proof.program) (plain_pattern proof.start) end (text ++ added))
+
+-- the present configuration of the proof, or the term u to which it was to go on
+abbrev pub EndsStep : RunProof → Tree → Pattern → Type 0
+EndsStep proof u end = (end ≡ reached proof) ⊎ (end ≡ ground_pattern u)

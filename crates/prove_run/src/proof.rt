@@ -17,8 +17,10 @@ ghost use Rattle.proof_writer.specs.Writing.{Adds, Concludes, HasWritten, HasWri
 ghost use Rattle.proof_writer.specs.Writing.{MayFollow};
 ghost use Rattle.prove_run.specs.Proving.{Begins, CanStep, StepsTo, value_told};
 ghost use Rattle.prove_run.specs.ReachLemma.{IsReachLemma};
+ghost use Rattle.prove_run.specs.RunProof.{configuration};
 ghost use Rattle.prove_run.specs.Summaries.{summary_of};
-ghost use Rattle.prove_run.specs.WrittenProofs.{JustifiesFirst, JustifiesFurther, WritesBeginning};
+ghost use Rattle.prove_run.specs.WrittenProofs.{EndsStep, JustifiesFirst, JustifiesFurther};
+ghost use Rattle.prove_run.specs.WrittenProofs.{WritesBeginning};
 ghost use Rattle.prove_run.specs.WrittenProofs.{WritesFrontAfter, WritesFrontOfProof, WritesStep};
 
 use crate::ends::ProveEnd;
@@ -98,7 +100,7 @@ impl<'p> Proof<'p> {
     /// appended to the created file. If that file was empty, it now justifies the run up to there.
     ///
     /// Errors: out of memory, or a fault that the desk counted. Then the front of a proof of a run
-    /// from the start, or nothing, was appended.
+    /// from the start to its value, or nothing, was appended.
     pub fn begin<D: Desk>(
         alloc: Global,
         program: &'p Program,
@@ -121,7 +123,8 @@ impl<'p> Proof<'p> {
             (JustifiesFirst (D.state desk.old).told (D.state desk.new).told) }
         ensures front { OnErr result
             (WritesFrontOfProof (D.state desk.old).told (D.state desk.new).told
-            (theory_of program.now) (plain_pattern start.now)) }
+            (theory_of program.now) (plain_pattern start.now)
+            (configuration (plain_pattern start.now) (value_told (option_copied value.entry)))) }
         ensures created { IsTrue (D.created desk.new) }
         ensures failed { IsErrOf result ProveEnd.Failed
             → CountRose (D.state desk.old).write_faults (D.state desk.new).write_faults }
@@ -200,7 +203,8 @@ impl<'p> Proof<'p> {
         ensures justifies { OnOk result (JustifiesFurther
             (D.state desk.old).told (D.state desk.new).told self.old self.new) }
         ensures front { OnErr result
-            (WritesFrontAfter (D.state desk.old).told (D.state desk.new).told self.old) }
+            (WritesFrontAfter (D.state desk.old).told (D.state desk.new).told self.old
+            (EndsStep self.old (result_of (plain_step step.now).right))) }
         ensures over { OnErr result (IsTrue self.new.failed) }
         ensures created { IsTrue (D.created desk.new) }
         ensures failed { IsErrOf result ProveEnd.Failed

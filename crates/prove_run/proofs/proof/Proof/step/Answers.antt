@@ -1,16 +1,17 @@
-use Rattle.std.proofs.Common.{subst}
+use Rattle.std.proofs.Common.{inl, refl, subst}
 use Rattle.desk_io.specs.Changes.{Writes, WritesFront}
 use Rattle.rule_core.specs.Records.{result_of}
 use Rattle.rule_core.specs.RecordView.{plain_step}
-use Rattle.prove_run.specs.WrittenProofs.{WritesFrontAfter}
+use Rattle.prove_run.specs.WrittenProofs.{EndsStep, WritesFrontAfter}
 use Rattle.prove_run.proofs.FileLaws.{on_err, none_added, front_added, further_justified}
 use Rattle.prove_run.proofs.proof.Proof.step.Goals as goal
 
 pub returns-in_err-state_step-clause-front : goal.returns-in_err-state_step-clause-front
 returns-in_err-state_step-clause-front g c =
     let told = (g.D.Desk.state c.args.desk.now).told in
-    on_err c.from_residual.result (WritesFrontAfter told told c.args.self.now)
-    (none_added told c.args.self.now
+    let ends = EndsStep c.args.self.now (result_of (plain_step c.args.step.now).right) in
+    on_err c.from_residual.result (WritesFrontAfter told told c.args.self.now ends)
+    (none_added told c.args.self.now ends (inl refl)
     (rw c.requires.file at (g.met.D.Desk.tells_created c.args.desk.now)))
 
 pub returns-in-Ok-clause-justifies : goal.returns-in-Ok-clause-justifies
