@@ -27,7 +27,7 @@ use Rattle.prove_term.specs.Contexts.{Context, HasGrown}
 use Rattle.prove_schema.specs.Schemas.{IsOpenFrom}
 use Rattle.prove_schema.proofs.OpenLaws.{open_no_variable, open_closed, image_is_open}
 use Rattle.proof_writer.specs.declared.writer.Writer.{Writer}
-use Rattle.proof_writer.specs.Writing.{HasNoVariables, HasWritten, HasWrittenAll, IsTextOf}
+use Rattle.proof_writer.specs.Writing.{HasNoVariables, HasWritten, IsTextOf}
 
 -- ---- growing contexts
 
@@ -46,7 +46,7 @@ length_later : {A : Type 0} (xs more ys : List A) → ys ≡ xs ++ more → leng
 length_later {A} xs more ys is =
     subst (λ (l : List A). length xs ≤ length l) (sym is) (omega (arith, length-append xs more))
 
-pub written_grown : (old new : Context) (w : Writer) → HasWrittenAll w old → HasGrown old new
+pub written_grown : (old new : Context) (w : Writer) → HasWritten w old → HasGrown old new
     → HasWritten w new
 written_grown old new w h g =
     let names : length old.names ≤ length new.names =
@@ -56,16 +56,16 @@ written_grown old new w h g =
     let lemmas : length old.lemmas ≤ length new.lemmas =
     length_later old.lemmas g.lemmas new.lemmas g.more_lemmas in
     record {
-      begun = h.written.begun;
-      named = omega (arith, h.names, names);
-      few_axioms = omega (arith, h.axioms, axioms);
-      few_lemmas = omega (arith, h.lemmas, lemmas);
+      begun = h.begun;
+      named = omega (arith, h.named, names);
+      few_axioms = omega (arith, h.few_axioms, axioms);
+      few_lemmas = omega (arith, h.few_lemmas, lemmas);
       axioms =
-          λ i p few at. h.written.axioms i p few (there_later old.axioms g.axioms new.axioms i p
-          g.more_axioms (omega (arith, few, h.axioms)) at);
+          λ i p few at. h.axioms i p few (there_later old.axioms g.axioms new.axioms i p
+          g.more_axioms (omega (arith, few, h.few_axioms)) at);
       lemmas =
-          λ i t few at. h.written.lemmas i t few (there_later old.lemmas g.lemmas new.lemmas i t
-          g.more_lemmas (omega (arith, few, h.lemmas)) at);
+          λ i t few at. h.lemmas i t few (there_later old.lemmas g.lemmas new.lemmas i t
+          g.more_lemmas (omega (arith, few, h.few_lemmas)) at);
     }
 
 pub text_grown : (old new : Context) (w : Writer) (text : List ℕ)

@@ -33,7 +33,7 @@ next_from : (p q r s : Pattern) → p ≡ imp q (next s) → q ≡ r → p ≡ i
 next_from p q r s h k = cc
 
 -- a theorem without pattern variables, cited without any, says the same
-cited_says : (p q : Pattern) → HasNoMeta p → q ≡ instance [] p → q ≡ p
+pub cited_says : (p q : Pattern) → HasNoMeta p → q ≡ instance [] p → q ≡ p
 cited_says p q no_meta is = is ∙ instance-empty [] p refl no_meta
 
 -- ---- the last theorem
@@ -142,7 +142,7 @@ further_says old new last reach sofar moved t step m reaches start reached h =
     }
 
 -- what the last theorem says is over each scope that has the context
-last_over : (old new : Context) (last : Theorem) (start reached : RulePattern) (s : Scope)
+pub last_over : (old new : Context) (last : Theorem) (start reached : RulePattern) (s : Scope)
     → HasGrown old new → HasContext s new → (h : SaysReached old start reached last)
     → IsOver s (imp h.from (ev h.to))
 last_over old new last start reached s grown has h = (

@@ -1,5 +1,7 @@
 pub mod ContextLaws
 pub mod GoingLaws
+pub mod LemmaLaws
+pub mod PartLaws
 pub mod ProofLaws
 pub mod WritingOn
 pub mod ReachLaws

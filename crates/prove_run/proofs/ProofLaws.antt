@@ -16,7 +16,7 @@ use Rattle.mm_claims.specs.Rendered.{Rendered, all_stated}
 use Rattle.mm_claims.specs.Places.{IsStated}
 use Rattle.mm_justify.specs.Justifying.{IsProofOfRun}
 use Rattle.mm_justify.specs.Counting.{capped}
-use Rattle.prove_term.specs.Contexts.{Context, IsContext, HasGrown, new_context}
+use Rattle.prove_term.specs.Contexts.{Context, HasGrown, new_context}
 use Rattle.prove_term.proofs.ContextLaws.{grown_twice}
 use Rattle.prove_step.specs.Steps.{IsStepFrom}
 use Rattle.proof_writer.specs.PlainNames.{HasPlainNames}
@@ -41,15 +41,14 @@ pub is_proof : (program : Program) (told : Option Tree) (thm : Theorem) (p : Ins
     → HasPlainNames program.sig → HasNoVariables (plain_pattern p.start.now)
     → SaysReached p.prover (plain_pattern p.start.now)
     (configuration (plain_pattern p.start.now) told) thm → p.reached ≡ told → p.last ≡ thm
-    → IsReachLemma p.reach → Contains p.prover.lemmas p.reach → IsContext p.prover
-    → HasWrittenAll p.writer p.prover → thm.hypotheses ≡ []
+    → IsReachLemma p.reach → Contains p.prover.lemmas p.reach → HasWritten p.writer p.prover
+    → thm.hypotheses ≡ []
     → IsStated (all_stated p.writer.renderer) thm.hypotheses thm.conclusion → IsProof p
-is_proof program told thm p same well_sorted bound names ground says made last reach listed context
-    written none stated = record {
+is_proof program told thm p same well_sorted bound names ground says made last reach listed written
+    none stated = record {
       well_sorted = subst (λ (q : Program). IsWellSorted (theory_of q)) (sym same) well_sorted;
       bound = subst HasBoundVariables (sym same) bound;
       names = subst (λ (q : Program). HasPlainNames q.sig) (sym same) names;
-      context = context;
       written = written;
       has_reached = record {
         says =
@@ -90,7 +89,7 @@ counted_more text added count counted =
     ∙ ap capped (sym (length-append text added))
 
 -- a text of what was written before, followed by the appended bytes, fits the proof
-fits_now : (p : Inside) (old : Writer) (told : Option Tree) (thm : Theorem)
+pub fits_now : (p : Inside) (old : Writer) (told : Option Tree) (thm : Theorem)
     (before after added text : List ℕ) → HasNoVariables (plain_pattern p.start.now)
     → SaysReached p.prover (plain_pattern p.start.now)
     (configuration (plain_pattern p.start.now) told) thm → p.reached ≡ told
@@ -123,7 +122,7 @@ pub begun_written : (program : Program) (first middle new : Context) (w : Writer
     → first ≡ new_context program → HasGrown first middle → HasGrown middle new
     → HasWrittenAll w (new_context program) → HasWritten w new
 begun_written program first middle new w is g h all =
-    written_grown (new_context program) new w all (begun_grown program first middle new is g h)
+    written_grown (new_context program) new w all.written (begun_grown program first middle new is g h)
 
 pub begins : (program : Program) (told : Option Tree) (w : Writer) (thm : Theorem) (p : Inside)
     (before middle after : List ℕ) → HasGrown (new_context program) p.prover
@@ -214,24 +213,23 @@ after_step p new w last made steps bytes =
 pub goes_proof : (p : Inside) (new : Context) (w : Writer) (further last : Theorem) (u made : Tree)
     (steps bytes : ℕ)
     → IsProof p → ExtendsRun p.prover new p.last u further → made ≡ u → last ≡ further
-    → IsContext new → HasWrittenAll w new → further.hypotheses ≡ []
+    → HasWritten w new → further.hypotheses ≡ []
     → IsStated (all_stated w.renderer) further.hypotheses further.conclusion
     → IsProof (after_step p new w last made steps bytes)
-goes_proof p new w further last u made steps bytes proof goes same same_last context written none
-    stated =
+goes_proof p new w further last u made steps bytes proof goes same same_last written none stated =
     is_proof p.prover.program (Some u) further (after_step p new w last made steps bytes)
     goes.grown.program
     proof.well_sorted proof.bound proof.names proof.has_reached.ground
     (says_now p new u further proof goes) (ap (λ (t : Tree). Some t) same) same_last proof.reach
-    (lemma_grown p.prover new p.reach goes.grown proof.listed) context written none stated
+    (lemma_grown p.prover new p.reach goes.grown proof.listed) written none stated
 
 -- a text that fits the proof is a text of what was written
-fitted_text : (p : Inside) (v : RunProof) (new : Context) (text : List ℕ) → run_proof p ≡ v
+pub fitted_text : (p : Inside) (v : RunProof) (new : Context) (text : List ℕ) → run_proof p ≡ v
     → IsProof p → HasGrown p.prover new → FitsProof v text → IsTextOf new p.writer text
 fitted_text p v new text is proof grown h =
     let fits : FitsProof (run_proof p) text =
     subst (λ (x : RunProof). FitsProof x text) (sym is) h in
-    text_grown p.prover new p.writer text proof.written.written.named grown
+    text_grown p.prover new p.writer text proof.written.named grown
     (record { fits = fits.fits; only = fits.only; counts = fits.counts })
 
 pub steps_to : (p : Inside) (v : RunProof) (new : Context) (w : Writer) (further last : Theorem)

@@ -4,9 +4,8 @@ use Rattle.term_core.specs.RulePatterns.{plain_pattern}
 use Rattle.rule_core.specs.BoundVariables.{HasBoundVariables}
 use Rattle.rule_core.specs.ProgramView.{theory_of}
 use Rattle.rule_core.specs.WellSorted.{IsWellSorted}
-use Rattle.prove_term.specs.Contexts.{IsContext}
 use Rattle.proof_writer.specs.PlainNames.{HasPlainNames}
-use Rattle.proof_writer.specs.Writing.{HasWrittenAll}
+use Rattle.proof_writer.specs.Writing.{HasWritten}
 use Rattle.prove_run.specs.RunProof.{RunProof, configuration}
 use Rattle.prove_run.specs.Reaching.{HasReached}
 use Rattle.prove_run.specs.ReachLemma.{IsReachLemma}
@@ -18,6 +17,8 @@ run_proof p = record {
   start = p.start.now;
   made = p.reached;
   names = p.prover.names;
+  axioms = p.prover.axioms;
+  lemmas = p.prover.lemmas;
   kept = p.writer.renderer;
   steps = p.steps;
   facts = p.writer.facts;
@@ -27,14 +28,13 @@ run_proof p = record {
 }
 
 -- The program is well sorted, its rules and equations bind their variables, and its names can be
--- written in a text. All that was made is written. The last theorem says how far the run has come.
--- The lemma by which it goes further is in the context.
+-- written in a text. What is written is of the context. The last theorem says how far the run has
+-- come. The lemma by which it goes further is in the context.
 pub record IsProof (p : Inside) : Type 0 where
   pub well_sorted : IsWellSorted (theory_of p.prover.program)
   pub bound : HasBoundVariables p.prover.program
   pub names : HasPlainNames p.prover.program.sig
-  pub context : IsContext p.prover
-  pub written : HasWrittenAll p.writer p.prover
+  pub written : HasWritten p.writer p.prover
   pub has_reached : HasReached p.prover p.writer p.last (plain_pattern p.start.now)
       (configuration (plain_pattern p.start.now) p.reached)
   pub reach : IsReachLemma p.reach

@@ -10,6 +10,10 @@
 //! Each call appends its bytes to the created file of a desk. So after the beginning and after each
 //! step that file is a proof of the run so far, and not only at the end of the run.
 //!
+//! A proof can be taken apart into its prover and the rest. The prover may make further theorems, and
+//! the rest is then joined with it. A theorem can be added as a lemma. Then the file has its proof
+//! too, and the theorem of the run stays the last one.
+//!
 //! The text of a step has the names of the configurations in it, and each part of the terms that
 //! are bound to the rule's variables. It is linear in the sizes of the configurations if these are
 //! not deep, and at most quadratic. Each call of a function, in a condition or a right side, adds
@@ -17,6 +21,7 @@
 //! on. A fact on a hook, a value or a symbol is stated once in a file. Later steps cite them.
 #![tactic(auto)]
 
+mod again;
 mod ends;
 mod further;
 mod going;
@@ -26,5 +31,5 @@ mod summaries;
 mod writing;
 
 pub use ends::ProveEnd;
-pub use proof::Proof;
+pub use proof::{Proof, Rest};
 pub use summaries::Summary;

@@ -1,6 +1,6 @@
 // A proof of a run, step by step.
-ghost use Rattle.std.specs.Prelude.{◌≡◌, ◌≤◌, [], Contains, IfOk, IfSome, IsErrOf, IsFalse, IsTrue};
-ghost use Rattle.std.specs.Prelude.{OnErr, OnOk, option_copied};
+ghost use Rattle.std.specs.Prelude.{◌≡◌, ◌≤◌, ℕ, List, [], Contains, IfOk, IfSome, IsErrOf};
+ghost use Rattle.std.specs.Prelude.{IsFalse, IsTrue, OnErr, OnOk, option_copied};
 ghost use Rattle.desk_io.specs.Changes.{Closes};
 ghost use Rattle.desk_io.specs.Counts.{CountRose};
 ghost use Rattle.term_core.specs.RulePatterns.{plain_pattern};
@@ -11,18 +11,20 @@ ghost use Rattle.rule_core.specs.RecordView.{plain_record, plain_step};
 ghost use Rattle.rule_core.specs.WellSorted.{IsStart, IsWellSorted};
 ghost use Rattle.mm_claims.specs.Rendered.{all_stated};
 ghost use Rattle.mm_claims.specs.Places.{IsStated};
-ghost use Rattle.prove_term.specs.Contexts.{HasGrown, IsContext};
+ghost use Rattle.prove_term.specs.Contexts.{HasGrown, StaysIn};
 ghost use Rattle.proof_writer.specs.PlainNames.{HasPlainNames};
 ghost use Rattle.proof_writer.specs.Writing.{Adds, Concludes, HasWritten, HasWrittenAll, Keeps};
 ghost use Rattle.proof_writer.specs.Writing.{MayFollow};
-ghost use Rattle.prove_run.specs.Proving.{Begins, CanStep, StepsTo, value_told};
+ghost use Rattle.prove_run.specs.AddedLemmas.{AddsLemma, EndsHere, WritesLemma};
+ghost use Rattle.prove_run.specs.Proving.{Begins, CanStep, FitsProof, StepsTo, value_told};
 ghost use Rattle.prove_run.specs.ReachLemma.{IsReachLemma};
-ghost use Rattle.prove_run.specs.RunProof.{configuration};
+ghost use Rattle.prove_run.specs.RunProof.{configuration, proof_context, with_context};
 ghost use Rattle.prove_run.specs.Summaries.{summary_of};
 ghost use Rattle.prove_run.specs.WrittenProofs.{EndsStep, JustifiesFirst, JustifiesFurther};
 ghost use Rattle.prove_run.specs.WrittenProofs.{WritesBeginning};
 ghost use Rattle.prove_run.specs.WrittenProofs.{WritesFrontAfter, WritesFrontOfProof, WritesStep};
 
+use crate::again::once_more;
 use crate::ends::ProveEnd;
 use crate::further::reach_lemma;
 use crate::going::goes_further;
@@ -37,6 +39,7 @@ use prove_step::Prover;
 use rule_core::{EvalRecord, Program, StepRecord};
 use std::alloc::{AllocError, Global};
 use std::marker::Model;
+use std::snapshot::Snapshot;
 use term_core::{RulePat, Term};
 
 /// A proof that the start of a run reaches the present configuration. Contracts see the start, the
@@ -81,11 +84,20 @@ impl<'p> Model for Proof<'p> {
     ghost use Rattle.prove_run.specs.RunProof.{RunProof};
     ghost use Rattle.term_core.specs.TermCode.{tree_code};
     ghost use Rattle.term_core.specs.contracts.rule_patterns.RulePat as rule_pattern;
+    ghost use Rattle.ml_pat.specs.PatternCode.{pattern_code};
+    ghost use Rattle.ml_kernel.specs.TheoremCode.{theorem_code};
     ghost use Rattle.mm_render.specs.KeptCode.{kept_code};
 
     ghost Value = { RunProof };
 
-    ghost coded = { Prim.hlevel (codes, rule_pattern.the_row.coded, tree_code, kept_code) };
+    ghost coded = { Prim.hlevel (
+      codes,
+      rule_pattern.the_row.coded,
+      tree_code,
+      pattern_code,
+      theorem_code,
+      kept_code,
+    ) };
 
     ghost use Rattle.prove_run.specs.ProofView.{run_proof, IsProofOrFailed};
 
@@ -274,6 +286,100 @@ impl<'p> Proof<'p> {
         Ok(summary)
     }
 
+    /// Adds a theorem as a lemma. The theorem may use only what the context of the proof has, and it
+    /// assumes nothing. To the created file are appended what the context has and the text has not,
+    /// the theorem with its proof, and the theorem of the run once more. If the file had a text that
+    /// fitted the proof, it has one again: its last theorem is that of the run.
+    ///
+    /// Errors: out of memory, or a fault that the desk counted. Then the front of this text, or
+    /// nothing, was appended, and the proof has failed: it takes no further call.
+    pub fn add_lemma<D: Desk>(
+        &mut self,
+        alloc: Global,
+        desk: &mut D,
+        thm: &Thm,
+    ) -> Result<(), ProveEnd>
+        requires file { IsTrue (D.created desk.old) }
+        requires sound { IsFalse self.old.failed }
+        requires stays { StaysIn (proof_context self.old) thm.now }
+        ensures adds { OnOk result (WritesLemma
+            (D.state desk.old).told (D.state desk.new).told self.old self.new thm.now) }
+        ensures justifies { OnOk result (JustifiesFurther
+            (D.state desk.old).told (D.state desk.new).told self.old self.new) }
+        ensures front { OnErr result (WritesFrontAfter
+            (D.state desk.old).told (D.state desk.new).told self.old (EndsHere self.old)) }
+        ensures over { OnErr result (IsTrue self.new.failed) }
+        ensures created { IsTrue (D.created desk.new) }
+        ensures failed { IsErrOf result ProveEnd.Failed
+            → CountRose (D.state desk.old).write_faults (D.state desk.new).write_faults }
+        ensures counts { (D.state desk.old).write_faults ≤ (D.state desk.new).write_faults }
+        ensures no_fault { OnOk result
+            ((D.state desk.new).write_faults ≡ (D.state desk.old).write_faults) }
+        ensures reads { (D.state desk.new).read_faults ≡ (D.state desk.old).read_faults }
+    {
+        let mut text = Vec::new(alloc);
+        self.state_lemma(alloc, thm, &mut text)?;
+        match write_text(desk, &text) {
+            Ok(()) => Ok(()),
+            Err(end) => {
+                self.failed = true;
+                Err(end)
+            }
+        }
+    }
+
+    // Adds a theorem as a lemma, and appends its text to the empty buffer. The error: out of
+    // memory.
+    fn state_lemma(&mut self, alloc: Global, thm: &Thm, to: &mut Vec<u8>) -> Result<(), AllocError>
+        requires none { to.old.items ≡ [] }
+        requires sound { IsFalse self.old.failed }
+        requires stays { StaysIn (proof_context self.old) thm.now }
+        ensures adds { OnOk result (AddsLemma self.old self.new thm.now to.new.items) }
+        ensures over { OnErr result (IsTrue self.new.failed) }
+    {
+        self.failed = true;
+        let lemma = thm.share(alloc)?;
+        self.prover.add_lemma(alloc, lemma)?;
+        let again = once_more(alloc, &self.last)?;
+        let last = state(&self.prover, &mut self.writer, again, to)?;
+        self.last = last;
+        self.bytes = self.bytes.saturating_add(to.len() as u64);
+        self.failed = false;
+        Ok(())
+    }
+
+    /// Takes the proof apart: returns its prover and the rest. The prover may be used for further
+    /// theorems, and then be joined with the rest.
+    pub fn part(self) -> (Prover<'p>, Rest<'p>)
+        ensures prover { result.0 ≡ proof_context self.entry }
+        ensures rest { result.1 ≡ self.entry }
+    {
+        let Proof {
+            prover,
+            writer,
+            start,
+            reached,
+            last,
+            reach,
+            steps,
+            bytes,
+            failed,
+        } = self;
+        let was = Snapshot::of(&prover);
+        let rest = Rest {
+            was,
+            writer,
+            start,
+            reached,
+            last,
+            reach,
+            steps,
+            bytes,
+            failed,
+        };
+        (prover, rest)
+    }
+
     // The counts of the proof so far.
     fn summary(&self) -> Summary
         ensures { result ≡ summary_of self.now }
@@ -283,6 +389,98 @@ impl<'p> Proof<'p> {
             facts: self.writer.facts,
             statements: self.writer.statements,
             bytes: self.bytes,
+        }
+    }
+}
+
+/// A proof without its prover. Contracts see it as the proof that was taken apart.
+pub struct Rest<'p> {
+    // The prover when the proof was taken apart, for contracts alone.
+    was: Snapshot<Prover<'p>>,
+    writer: Writer,
+    start: &'p RulePat,
+    reached: Option<Term>,
+    last: Lemma,
+    reach: Lemma,
+    steps: u64,
+    bytes: u64,
+    failed: bool,
+}
+
+// As that of a proof, its drop is one call.
+impl Drop for Rest<'_> {
+    fn drop(self) {
+        let Rest {
+            was: _,
+            writer: _,
+            start: _,
+            reached: _,
+            last: _,
+            reach: _,
+            steps: _,
+            bytes: _,
+            failed: _,
+        } = self;
+    }
+}
+
+impl<'p> Model for Rest<'p> {
+    ghost use Rattle.std.specs.Coded.{codes};
+    ghost use Rattle.prove_run.specs.RunProof.{RunProof};
+    ghost use Rattle.term_core.specs.TermCode.{tree_code};
+    ghost use Rattle.term_core.specs.contracts.rule_patterns.RulePat as rule_pattern;
+    ghost use Rattle.ml_pat.specs.PatternCode.{pattern_code};
+    ghost use Rattle.ml_kernel.specs.TheoremCode.{theorem_code};
+    ghost use Rattle.mm_render.specs.KeptCode.{kept_code};
+
+    ghost Value = { RunProof };
+
+    ghost coded = { Prim.hlevel (
+      codes,
+      rule_pattern.the_row.coded,
+      tree_code,
+      pattern_code,
+      theorem_code,
+      kept_code,
+    ) };
+
+    ghost use Rattle.prove_run.specs.RestView.{proof_of_rest, IsRestOrFailed};
+
+    ghost view = { proof_of_rest };
+
+    ghost invariant = { IsRestOrFailed };
+}
+
+impl<'p> Rest<'p> {
+    /// Puts the proof together again, with a prover that has only grown since. It is the proof that
+    /// was taken apart, with the context of this prover. A text that fitted it fits it still.
+    pub fn join(self, prover: Prover<'p>) -> Proof<'p>
+        requires { HasGrown (proof_context self) prover }
+        ensures same { result ≡ with_context self.entry prover.entry }
+        ensures fits { IsFalse self.entry.failed → (text : List ℕ) → FitsProof self.entry text →
+            FitsProof result text }
+    {
+        let Rest {
+            was: _,
+            writer,
+            start,
+            reached,
+            last,
+            reach,
+            steps,
+            bytes,
+            failed,
+        } = self;
+        Proof {
+            prover,
+            writer,
+            start,
+            reached,
+            last,
+            reach,
+            steps,
+            bytes,
+            failed,
         }
     }
 }
@@ -321,7 +519,6 @@ fn state(
     requires follows { MayFollow prover.now writer.old.renderer thm }
     ensures lemma { IfOk result (λ lemma. lemma ≡ thm) }
     ensures no_hypotheses { OnOk result (thm.hypotheses ≡ []) }
-    ensures context { OnOk result (IsContext prover.now) }
     ensures all { OnOk result (HasWrittenAll writer.new prover.now) }
     ensures stated { OnOk result
         (IsStated (all_stated writer.new.renderer) thm.hypotheses thm.conclusion) }

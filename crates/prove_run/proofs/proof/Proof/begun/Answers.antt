@@ -80,8 +80,7 @@ invariant_of-result c =
     c.in_ok-reach.ensures.says
     (lemma_grown c.keep_reach_lemma.new.prover c.start_reaches.new.prover c.in_ok-reach.reach
     c.in_ok-first.ensures.grown c.in_ok-reach.ensures.there)
-    c.in_ok-last.ensures.context c.in_ok-last.ensures.all c.in_ok-last.ensures.no_hypotheses
-    c.in_ok-last.ensures.stated
+    c.in_ok-last.ensures.all.written c.in_ok-last.ensures.no_hypotheses c.in_ok-last.ensures.stated
 
 pub returns : goal.returns
 returns c =

@@ -47,8 +47,8 @@ invariant_of-self-2 c =
     c.saturating_add-self-inside.result
     c.saturating_add-self-inside-2.result
     proof c.in_ok-further.ensures (c.in_ok-made.ensures.same ∙ c.result.ensures)
-    c.in_ok-last.ensures.lemma c.in_ok-last.ensures.context c.in_ok-last.ensures.all
-    c.in_ok-last.ensures.no_hypotheses c.in_ok-last.ensures.stated
+    c.in_ok-last.ensures.lemma c.in_ok-last.ensures.all.written c.in_ok-last.ensures.no_hypotheses
+    c.in_ok-last.ensures.stated
 
 pub returns-clause-steps : goal.returns-clause-steps
 returns-clause-steps c =
