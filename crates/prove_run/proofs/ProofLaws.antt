@@ -122,7 +122,8 @@ pub begun_written : (program : Program) (first middle new : Context) (w : Writer
     → first ≡ new_context program → HasGrown first middle → HasGrown middle new
     → HasWrittenAll w (new_context program) → HasWritten w new
 begun_written program first middle new w is g h all =
-    written_grown (new_context program) new w all.written (begun_grown program first middle new is g h)
+    written_grown (new_context program) new w all.written
+    (begun_grown program first middle new is g h)
 
 pub begins : (program : Program) (told : Option Tree) (w : Writer) (thm : Theorem) (p : Inside)
     (before middle after : List ℕ) → HasGrown (new_context program) p.prover

@@ -286,10 +286,10 @@ impl<'p> Proof<'p> {
         Ok(summary)
     }
 
-    /// Adds a theorem as a lemma. The theorem may use only what the context of the proof has, and it
-    /// assumes nothing. To the created file are appended what the context has and the text has not,
-    /// the theorem with its proof, and the theorem of the run once more. If the file had a text that
-    /// fitted the proof, it has one again: its last theorem is that of the run.
+    /// Adds a theorem as a lemma. The theorem may use only what the context of the proof has, and
+    /// it assumes nothing. To the created file are appended what the context has and the text has
+    /// not, the theorem with its proof, and the theorem of the run once more. If the file had a
+    /// text that fitted the proof, it has one again: its last theorem is that of the run.
     ///
     /// Errors: out of memory, or a fault that the desk counted. Then the front of this text, or
     /// nothing, was appended, and the proof has failed: it takes no further call.
