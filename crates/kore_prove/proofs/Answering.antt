@@ -76,7 +76,8 @@ front_of_run asked c run done =
     let files = done.printed.of_files.files in
     left_front asked c.desk.told c.desk.told c.desk'.told done.theory done.start files
     (same_files c.desk.told)
-    (proof_is_front asked.proof c.desk.told c.desk'.told done.theory done.start run done.proof)
+    (proof_is_front asked.proof c.desk.told c.desk'.told done.theory asked.limit asked.calls done.start
+    run done.printed.of_files.is_run done.proof)
 
 -- words that do not ask for a verdict get no verdict
 no_verdict : (words : List (List ℕ)) (told : Option Told) (before after : Option (List ℕ))

@@ -8,7 +8,7 @@ use Rattle.desk_io.specs.declared.desk.DeskFault.{DeskFault}
 use Rattle.desk_io.specs.declared.desk.DeskFault.TheVariants as fault
 use Rattle.term_core.specs.Patterns.{Pattern}
 use Rattle.rule_core.specs.Theories.{RewriteTheory}
-use Rattle.rule_core.specs.Runs.{Run, kept_by}
+use Rattle.rule_core.specs.Runs.{Run}
 use Rattle.drill_gen.specs.Drill.{drill_definition, drill_term}
 use Rattle.kore_axioms.specs.declared.refusals.Refusal.{Refusal}
 use Rattle.kore_axioms.specs.declared.refusals.Refusal.TheVariants as refusal
@@ -118,7 +118,8 @@ unwritten_cause steps c fault.Memory drill rose = tt
 
 left_drill : (asked : DrillRequest) (told told' : Option Told) (theory : RewriteTheory)
     (start : Pattern) → IsDrillProgram asked.steps theory start
-    → MayHoldFront told told' asked.file theory start → LeavesDrill asked told told'
+    → MayHoldFront told told' asked.file theory (asked.steps + 1) drill_calls start
+    → LeavesDrill asked told told'
 left_drill asked told told' theory start program (inl same) = inl same
 left_drill asked told told' theory start program (inr made) =
     inr (record { theory = theory; start = start; program = program; holds = made })
@@ -126,7 +127,7 @@ left_drill asked told told' theory start program (inr made) =
 pub drill_unwritten : (asked : DrillRequest) (c : Course) (e : Ending) (f : DeskFault)
     (theory : RewriteTheory) (start : Pattern) → e ≡ fault_end f
     → IsDrillProgram asked.steps theory start → MayHoldFront c.desk.told c.desk'.told asked.file
-    theory start
+    theory (asked.steps + 1) drill_calls start
     → KeepsOthers (IsDrillFile asked) c.desk.told c.desk'.told
     → (f ≡ fault.Failed → CountsOutputFault c ⊎ CountsWriteFault c)
     → Grows c.out.bytes c.out'.bytes → IsDrillEnded asked c e
@@ -151,6 +152,7 @@ drilled_front asked told told' before after d = inr (record {
     bytes = d.proof.bytes;
     held = d.proof.held;
     front =
-        inr (proof_front d.theory d.start (kept_by d.start d.run) d.proof.bytes d.proof.proves);
+        inr (proof_front d.theory (asked.steps + 1) drill_calls d.start d.run d.proof.bytes d.is_run
+        d.proof.proves);
   };
 })

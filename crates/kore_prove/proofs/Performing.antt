@@ -11,7 +11,7 @@ use Rattle.desk_io.specs.declared.desk.DeskFault.{DeskFault}
 use Rattle.desk_io.specs.declared.desk.DeskFault.TheVariants as fault
 use Rattle.term_core.specs.Patterns.{Pattern, ground_pattern}
 use Rattle.rule_core.specs.Theories.{RewriteTheory}
-use Rattle.rule_core.specs.Runs.{Run, stuck, limited, stopped, unstarted, kept_by}
+use Rattle.rule_core.specs.Runs.{Run, stuck, limited, stopped, unstarted, IsRunOf}
 use Rattle.rule_core.specs.WellSorted.{IsSignature, IsStart}
 use Rattle.run_loop.specs.RunEnds.{IsSortedEnd}
 use Rattle.kore_show.specs.ShownLaws.{SortedIsShown}
@@ -77,10 +77,12 @@ proof_kept (Some file) told read told' theory start run kept h =
 -- the front of a proof, for the desk before the files were read
 pub left_front : (asked : RunRequest) (told read told' : Option Told) (theory : RewriteTheory)
     (start : Pattern) → HoldsRun asked told theory start → KeepsFiles told read
-    → HasWantedFront asked.proof read told' theory start → LeavesFront asked told told'
+    → HasWantedFront asked.proof read told' theory asked.limit asked.calls start
+    → LeavesFront asked told told'
 left_front asked told read told' theory start held kept h = λ file wanted. (
-    let front : HasWantedFront (Some file) read told' theory start =
-    subst (λ (p : Option (List ℕ)). HasWantedFront p read told' theory start) wanted h in
+    let front : HasWantedFront (Some file) read told' theory asked.limit asked.calls start =
+    subst (λ (p : Option (List ℕ)). HasWantedFront p read told' theory asked.limit asked.calls start)
+    wanted h in
     elim front [
       | inl same ↦ inl (then_file told read told' file kept same)
       | inr made ↦ inr (record {
@@ -95,16 +97,17 @@ left_front asked told read told' theory start held kept h = λ file wanted. (
       })
     ])
 
--- a whole proof is a front of itself
+-- a whole proof of the run is a front of one
 pub proof_is_front : (proof : Option (List ℕ)) (told told' : Option Told) (theory : RewriteTheory)
-    (start : Pattern) (run : Run) → HasWantedProof proof told told' theory start run
-    → HasWantedFront proof told told' theory start
-proof_is_front None told told' theory start run h = tt
-proof_is_front (Some file) told told' theory start run h =
+    (limit calls : ℕ) (start : Pattern) (run : Run) → IsRunOf theory limit calls start run
+    → HasWantedProof proof told told' theory start run
+    → HasWantedFront proof told told' theory limit calls start
+proof_is_front None told told' theory limit calls start run is h = tt
+proof_is_front (Some file) told told' theory limit calls start run is h =
     inr (record {
       bytes = h.bytes;
       held = h.held;
-      front = inr (proof_front theory start (kept_by start run) h.bytes h.proves);
+      front = inr (proof_front theory limit calls start run h.bytes is h.proves);
     })
 
 -- the run was printed
@@ -161,7 +164,7 @@ fault_files fault.Memory old new = tt
 pub write_ended : (asked : RunRequest) (c : Course) (e : Ending) (f : DeskFault)
     (read : Option Told) (theory : RewriteTheory) (start : Pattern) → e ≡ fault_end f
     → HoldsRun asked c.desk.told theory start → KeepsFiles c.desk.told read
-    → HasWantedFront asked.proof read c.desk'.told theory start
+    → HasWantedFront asked.proof read c.desk'.told theory asked.limit asked.calls start
     → KeepsOthers (IsWanted asked) read c.desk'.told
     → (f ≡ fault.Failed → CountsOutputFault c ⊎ CountsWriteFault c)
     → Grows c.out.bytes c.out'.bytes → IsRunEnded asked c e

@@ -53,12 +53,12 @@ Drills c code =
     code ≡ 0 → (asked : DrillRequest) → IsDrill c.words asked
     → IsDrilled asked c.course.desk.told c.course.desk'.told c.course.out.bytes c.course.out'.bytes
 
--- the file of a drill is empty, or holds the front of a proof of a run of the drill's program
+-- the file of a drill is empty, or holds the front of a proof of the run of the drill's program
 pub record HoldsFrontOfDrill (asked : DrillRequest) (told told' : Option Told) : Type 0 where
   pub theory : RewriteTheory
   pub start : Pattern
   pub program : IsDrillProgram asked.steps theory start
-  pub holds : HoldsFront told told' asked.file theory start
+  pub holds : HoldsFront told told' asked.file theory (asked.steps + 1) drill_calls start
 
 -- the file of a drill is as before, or it was created and holds the front of a proof
 abbrev pub LeavesDrill : DrillRequest → Option Told → Option Told → Type 0

@@ -37,7 +37,8 @@ returns-clause-ended g c =
     (plain_pattern c.in-Ok.accepted.start)
     c.write_end-in-Err-send_whole.ensures c.in-Ok.ensures.found c.in-Ok.ensures.files
     (proof_is_front (request c.args.asked.now).proof _ _ (theory_of c.in-Ok.accepted.program)
-    (plain_pattern c.in-Ok.accepted.start) (plain_run c.in-Ok-made_lines.made.0)
+    c.args.asked.now.limit c.args.asked.now.calls (plain_pattern c.in-Ok.accepted.start)
+    (plain_run c.in-Ok-made_lines.made.0) c.in-Ok-made_lines.ensures.run.is_run
     c.in-Ok-made_lines.ensures.proof)
     c.in-Ok-made_lines.ensures.files
     (λ is. inl (c.in-Err-send_whole.ensures.failed (ap (λ (f : DeskFault). Err f) is)))

@@ -42,8 +42,9 @@ returns-clause-ended g c =
     drill_unwritten (drill_request c.args.asked.now) _ _ c.in-Err-send_lines.fault
     (theory_of c.in-Ok.accepted.program) (plain_pattern c.in-Ok.accepted.start)
     c.write_end-in-Err-send_lines.ensures c.in-Ok.ensures.program
-    (counted_front _ _ _ (theory_of c.in-Ok.accepted.program) (plain_pattern c.in-Ok.accepted.start)
-    (plain_run c.in-Ok-proved_lines.proved.end) c.in-Ok-proved_lines.proved.summary
+    (counted_front _ _ _ (theory_of c.in-Ok.accepted.program) _ _
+    (plain_pattern c.in-Ok.accepted.start) (plain_run c.in-Ok-proved_lines.proved.end)
+    c.in-Ok-proved_lines.proved.summary c.in-Ok-proved_lines.ensures.run.is_run
     c.in-Ok-proved_lines.ensures.proof)
     c.in-Ok-proved_lines.ensures.files
     (λ is. inl (c.in-Err-send_lines.ensures.failed (ap (λ (f : DeskFault). Err f) is)))
