@@ -147,7 +147,9 @@ fn both_streams_may_fail(rt: HostRuntime) -> Result<(), Fail> {
         ..NO_FAULTS
     };
     let left = call_with(alloc, &ADDS, faults)?;
-    assert!(rt; left.code == 4 && left.out.bytes() == "stuck".as_bytes() && left.err.bytes().is_empty());
+    assert!(rt;
+        left.code == 4 && left.out.bytes() == "stuck".as_bytes() && left.err.bytes().is_empty()
+    );
     assert!(rt; left.desk.file("p.mm").is_some());
     assert!(rt; left.desk.file("p.mm") == whole.desk.file("p.mm"));
     Ok(())
