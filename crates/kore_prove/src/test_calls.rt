@@ -11,7 +11,7 @@ use std::alloc::{AllocError, Global};
 #[derive(Clone, Copy)]
 pub(crate) struct Case<'t> {
     pub(crate) words: &'static [&'static str],
-    pub(crate) definition: &'static str,
+    pub(crate) definition: &'t str,
     pub(crate) term: &'t str,
     pub(crate) desk_fails: &'static [u64],
     pub(crate) out_fails: &'static [u64],
