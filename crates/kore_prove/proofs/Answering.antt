@@ -1,7 +1,6 @@
 -- What holds of a call, for each of its results.
-use Rattle.std.proofs.Common.{◌≡◌, ℕ, ◌⊎◌, inl, inr, List, Option, Some, None, refl, ◌∙◌, ap, subst}
+use Rattle.std.proofs.Common.{◌≡◌, ℕ, ◌⊎◌, inl, inr, List, Option, Some, refl, ◌∙◌, ap, subst}
 use Rattle.std.proofs.Common.{arith}
-use Rattle.desk_io.specs.Told.{Told}
 use Rattle.desk_io.specs.KeptFiles.{KeepsFiles}
 use Rattle.desk_io.specs.SinkChanges.{SameBytes}
 use Rattle.rule_core.specs.Runs.{Run, stuck, limited, stopped, unstarted}
@@ -12,12 +11,12 @@ use Rattle.kore_prove.specs.BadWords.{AreBad}
 use Rattle.kore_prove.specs.Words.{IsProofFile}
 use Rattle.kore_prove.specs.PrintedRun.{code_of, IsCodeOfRun, IsPrinted}
 use Rattle.kore_prove.specs.ProvedRun.{HoldsProof, HasWantedProof, LeavesFront}
-use Rattle.kore_prove.specs.Verdicts.{PrintsVerdictOf}
+use Rattle.kore_prove.specs.Verdicts.{PrintsVerdict}
 use Rattle.kore_prove.specs.DrilledRun.{IsDrilled, Drills, LeavesDrill, LeavesFrontOfDrill}
 use Rattle.kore_prove.specs.DatabaseVerdicts.{PrintsVerdictOn, verdict_code}
 use Rattle.kore_prove.specs.declared.verification.Verdict.{Verdict}
 use Rattle.kore_prove.specs.Reports.{Ending, out_of_memory, bad_words, Reports}
-use Rattle.kore_prove.specs.Causes.{VerifyCause, KeepsOutput, without_memory, with_bad_words}
+use Rattle.kore_prove.specs.Causes.{VerifyCause, without_memory, with_bad_words}
 use Rattle.kore_prove.specs.Causes.{of_run, of_verify, of_drill, run_done, verify_done, drill_done}
 use Rattle.kore_prove.specs.Courses.{Course, Call}
 use Rattle.kore_prove.specs.Unwritten.{IsUnwritten}
@@ -30,9 +29,11 @@ use Rattle.kore_prove.proofs.CommandWords.{drill_good, not_both, run_no_drill, v
 use Rattle.kore_prove.proofs.CommandWords.{bad_no_drill}
 use Rattle.kore_prove.proofs.Completing.{run_ends_without_memory, verify_ends_without_memory}
 use Rattle.kore_prove.proofs.Completing.{code_of_drill, ready_run, ready_verify}
-use Rattle.kore_prove.proofs.Ending.{code_of_no_end, code_of_run, code_of_one, unwritten}
-use Rattle.kore_prove.proofs.Ending.{same_files}
+use Rattle.kore_prove.proofs.Ending.{code_of_no_end, code_of_run, code_of_one}
+use Rattle.kore_prove.proofs.Ending.{run_files, drill_files}
+use Rattle.kore_prove.proofs.Ending.{same_files, code_reported}
 use Rattle.kore_prove.proofs.Verifying.{code_of_verdict, prints_verdict}
+use Rattle.kore_prove.proofs.Printing.{stopped_never, failed_never, stopped_with, failed_with}
 use Rattle.kore_prove.proofs.FileProofs.{some_same, kept_others, fewer_others, kept_file}
 use Rattle.kore_prove.proofs.Drills.{drilled_front}
 use Rattle.kore_prove.proofs.Performing.{left_front, proof_is_front}
@@ -76,13 +77,12 @@ front_of_run asked c run done =
     let files = done.printed.of_files.files in
     left_front asked c.desk.told c.desk.told c.desk'.told done.theory done.start files
     (same_files c.desk.told)
-    (proof_is_front asked.proof c.desk.told c.desk'.told done.theory done.start run done.proof)
+    (proof_is_front asked.proof c.desk.told c.desk'.told done.theory asked.limit asked.calls done.start
+    run done.printed.of_files.is_run done.proof)
 
 -- words that do not ask for a verdict get no verdict
-no_verdict : (words : List (List ℕ)) (told : Option Told) (before after : Option (List ℕ))
-    (code : ℕ) → IsNoVerify words → PrintsVerdictOf words told before after code
-no_verdict words None before after code unasked = tt
-no_verdict words (Some told) before after code unasked = λ file verify. absurd (unasked file verify)
+no_verdict : (c : Call) (code : ℕ) → IsNoVerify c.words → PrintsVerdict c code
+no_verdict c code unasked = λ file verify. absurd (unasked file verify)
 
 -- words that do not ask for a drill get no drill
 no_drilled : (c : Call) (code : ℕ) → IsNoDrill c.words
@@ -127,11 +127,13 @@ run_answered c code asked run command done is silent =
           (one_request c.words asked asked' command command')
           (front_of_run asked c.course run done);
       verdict =
-          no_verdict c.words c.course.desk.told c.course.out.bytes c.course.out'.bytes code
+          no_verdict c code
           (λ file verify. not_both c.words asked file command verify);
       drilled = no_drilled c code (run_no_drill c.words asked command);
       drill_front = no_drill_front c (run_no_drill c.words asked command);
       ends = inl (record { done = run_done command codes; silent = silent });
+      stops_printing = stopped_never c code (run_done command codes);
+      fails_in_printing = failed_never c code (run_done command codes);
       complete = λ _ _. more_code code codes;
       complete_verdict =
           λ ready _ _. (let v = ready_verify c.words c.course.desk.told ready in
@@ -155,17 +157,13 @@ run_ended c code asked e command ended said = record {
       λ asked' command'. same_front asked asked' c.course
       (one_request c.words asked asked' command command') ended.front;
   verdict =
-      no_verdict c.words c.course.desk.told c.course.out.bytes c.course.out'.bytes code
+      no_verdict c code
       (λ file verify. not_both c.words asked file command verify);
   drilled = no_drilled c code (run_no_drill c.words asked command);
   drill_front = no_drill_front c (run_no_drill c.words asked command);
-  ends =
-      inr (record {
-        end = e;
-        cause = of_run command ended.cause;
-        output = ended.output;
-        said = said;
-      });
+  ends = inr (record { end = e; cause = of_run command ended.cause; said = said });
+  stops_printing = stopped_with c code e (of_run command ended.cause);
+  fails_in_printing = failed_with c code e (of_run command ended.cause) said;
   complete =
       λ ready free. inr (inr (inr (code_of_one e _ _ _ _ code said
       (run_ends_without_memory c.words c.course.desk.told asked c.course e refl ready command free
@@ -178,7 +176,7 @@ run_ended c code asked e command ended said = record {
   others =
       fewer_others (IsWanted asked) (IsProofFile c.words) c.course.desk.told c.course.desk'.told
       (λ file wanted. inl (asked, command, wanted)) ended.others;
-  files = unwritten e _ _ _ _ code c.course.desk.told c.course.desk'.told said ended.files;
+  files = run_files asked c.course e _ _ _ _ code said ended.cause;
 }
 
 -- the code of a verdict is not the code of a run
@@ -205,13 +203,12 @@ verify_answered c code file v command printed kept is silent = record {
   printed_run = λ h. verdict_no_run c.words file v code _ command is h;
   proved_run = λ h _ _. verdict_no_run c.words file v code _ command is h;
   proof_front = λ _ _ name _. inl (kept_file c.course.desk.told c.course.desk'.told name kept);
-  verdict =
-      prints_verdict c.words c.course.desk.told c.course.out.bytes c.course.out'.bytes file v code
-      command
-      printed is;
+  verdict = prints_verdict c file v code command printed is;
   drilled = no_drilled c code (verify_no_drill c.words file command);
   drill_front = no_drill_front c (verify_no_drill c.words file command);
   ends = inl (record { done = verify_done command (code_of_verdict v code is); silent = silent });
+  stops_printing = stopped_never c code (verify_done command (code_of_verdict v code is));
+  fails_in_printing = failed_never c code (verify_done command (code_of_verdict v code is));
   complete =
       λ ready _. (let r = ready_run c.words c.course.desk.told ready in
       absurd (not_both c.words r.0 file r.1 command));
@@ -223,30 +220,26 @@ verify_answered c code file v command printed kept is silent = record {
 }
 
 -- the code of an end is not the code of a verdict
-ended_no_verdict : (words : List (List ℕ)) (told : Option Told) (output output' : Option (List ℕ))
-    (e : Ending) (before after : Option (List ℕ)) (old new code : ℕ)
-    → Reports e before after old new code → PrintsVerdictOf words told output output' code
-ended_no_verdict words None output output' e before after old new code said = tt
-ended_no_verdict words (Some told) output output' e before after old new code said =
-    λ file verify. (
-      λ zero. absurd (code_of_no_end e before after old new code said (inl zero)),
-      λ twelve. absurd (code_of_no_end e before after old new code said (inr (inr (inr twelve)))),
-    )
+ended_no_verdict : (c : Call) (code : ℕ) (e : Ending)
+    → Reports e c.err.bytes c.err'.bytes c.err.faults c.err'.faults code → PrintsVerdict c code
+ended_no_verdict c code e said = λ file verify. (
+  λ zero. absurd (code_of_no_end e _ _ _ _ code said (inl zero)),
+  λ twelve. absurd (code_of_no_end e _ _ _ _ code said (inr (inr (inr twelve)))),
+)
 
 pub verify_ended : (c : Call) (code : ℕ) (file : List ℕ) (e : Ending) → IsVerify c.words file
-    → VerifyCause file c.course e → KeepsOutput e c.course.out.bytes c.course.out'.bytes
-    → KeepsFiles c.course.desk.told c.course.desk'.told
+    → VerifyCause file c.course e → KeepsFiles c.course.desk.told c.course.desk'.told
     → Reports e c.err.bytes c.err'.bytes c.err.faults c.err'.faults code → IsAnswered c code
-verify_ended c code file e command cause output kept said = record {
+verify_ended c code file e command cause kept said = record {
   printed_run = λ h. absurd (code_of_no_end e _ _ _ _ code said (code_of_run c.words code h));
   proved_run = λ h _ _. absurd (code_of_no_end e _ _ _ _ code said (code_of_run c.words code h));
   proof_front = λ _ _ name _. inl (kept_file c.course.desk.told c.course.desk'.told name kept);
-  verdict =
-      ended_no_verdict c.words c.course.desk.told c.course.out.bytes c.course.out'.bytes e _ _ _ _
-      code said;
+  verdict = ended_no_verdict c code e said;
   drilled = no_drilled c code (verify_no_drill c.words file command);
   drill_front = no_drill_front c (verify_no_drill c.words file command);
-  ends = inr (record { end = e; cause = of_verify command cause; output = output; said = said });
+  ends = inr (record { end = e; cause = of_verify command cause; said = said });
+  stops_printing = stopped_with c code e (of_verify command cause);
+  fails_in_printing = failed_with c code e (of_verify command cause) said;
   complete =
       λ ready _. (let r = ready_run c.words c.course.desk.told ready in
       absurd (not_both c.words r.0 file r.1 command));
@@ -284,7 +277,7 @@ drill_answered c code asked command done is silent =
       proved_run = λ h _ _. drill_no_run c.words asked code _ command is h;
       proof_front = λ run ran. absurd (run_no_drill c.words run ran asked command);
       verdict =
-          no_verdict c.words c.course.desk.told c.course.out.bytes c.course.out'.bytes code
+          no_verdict c code
           (λ file verify. verify_no_drill c.words file verify asked command);
       drilled =
           λ _ asked' command'. subst (λ (d : DrillRequest).
@@ -295,6 +288,8 @@ drill_answered c code asked command done is silent =
           (one_drill c.words asked asked' command command') (drilled_front asked c.course.desk.told
           c.course.desk'.told c.course.out.bytes c.course.out'.bytes made);
       ends = inl (record { done = drill_done command is; silent = silent });
+      stops_printing = stopped_never c code (drill_done command is);
+      fails_in_printing = failed_never c code (drill_done command is);
       complete =
           λ ready _. (let r = ready_run c.words c.course.desk.told ready in
           absurd (run_no_drill c.words r.0 r.1 asked command));
@@ -319,37 +314,28 @@ drill_ended c code asked e command ended said = record {
   proved_run = λ h _ _. absurd (code_of_no_end e _ _ _ _ code said (code_of_run c.words code h));
   proof_front = λ run ran. absurd (run_no_drill c.words run ran asked command);
   verdict =
-      no_verdict c.words c.course.desk.told c.course.out.bytes c.course.out'.bytes code
+      no_verdict c code
       (λ file verify. verify_no_drill c.words file verify asked command);
   drilled = λ zero _ _. absurd (code_of_no_end e _ _ _ _ code said (inl zero));
   drill_front =
       λ asked' command'. same_drill asked asked' c.course
       (one_drill c.words asked asked' command command') ended.front;
-  ends =
-      inr (record {
-        end = e;
-        cause = of_drill command ended.cause;
-        output = ended.output;
-        said = said;
-      });
+  ends = inr (record { end = e; cause = of_drill command ended.cause; said = said });
+  stops_printing = stopped_with c code e (of_drill command ended.cause);
+  fails_in_printing = failed_with c code e (of_drill command ended.cause) said;
   complete =
       λ ready _. (let r = ready_run c.words c.course.desk.told ready in
       absurd (run_no_drill c.words r.0 r.1 asked command));
   complete_verdict =
       λ ready _ _. (let v = ready_verify c.words c.course.desk.told ready in
       absurd (verify_no_drill c.words v.0 v.1 asked command));
-  complete_drill = λ _ _. inr (code_of_drill asked.steps c.course e _ _ _ _ code said ended.cause);
+  complete_drill = λ _ _. inr (code_of_drill asked c.course e _ _ _ _ code said ended.cause);
   bad_words = λ bad. absurd (drill_good c.words asked command bad);
   others =
       fewer_others (IsDrillFile asked) (IsProofFile c.words) c.course.desk.told c.course.desk'.told
       (λ file wanted. inr (asked, command, some_same asked.file file wanted)) ended.others;
-  files = unwritten e _ _ _ _ code c.course.desk.told c.course.desk'.told said ended.files;
+  files = drill_files asked c.course e _ _ _ _ code said ended.cause;
 }
-
-bad_code : (code : ℕ) (before after : Option (List ℕ)) (old new : ℕ)
-    → Reports bad_words before after old new code → (code ≡ 2) ⊎ (code ≡ 1)
-bad_code code before after old new (inl said) = inl said.0
-bad_code code before after old new (inr cut) = inr cut.0
 
 pub bad_answered : (c : Call) (code : ℕ) → AreBad c.words
     → SameBytes c.course.out.bytes c.course.out'.bytes → KeepsFiles c.course.desk.told
@@ -361,13 +347,12 @@ bad_answered c code bad output kept said = record {
   proved_run =
       λ h _ _. absurd (code_of_no_end bad_words _ _ _ _ code said (code_of_run c.words code h));
   proof_front = λ _ _ name _. inl (kept_file c.course.desk.told c.course.desk'.told name kept);
-  verdict =
-      ended_no_verdict c.words c.course.desk.told c.course.out.bytes c.course.out'.bytes bad_words _
-      _ _ _ code
-      said;
+  verdict = ended_no_verdict c code bad_words said;
   drilled = no_drilled c code (bad_no_drill c.words bad);
   drill_front = no_drill_front c (bad_no_drill c.words bad);
-  ends = inr (record { end = bad_words; cause = with_bad_words bad; output = output; said = said });
+  ends = inr (record { end = bad_words; cause = with_bad_words bad (output, kept); said = said });
+  stops_printing = stopped_with c code bad_words (with_bad_words bad (output, kept));
+  fails_in_printing = failed_with c code bad_words (with_bad_words bad (output, kept)) said;
   complete =
       λ ready _.
       (let r = ready_run c.words c.course.desk.told ready in absurd (run_good c.words r.0 r.1 bad));
@@ -375,13 +360,13 @@ bad_answered c code bad output kept said = record {
       λ ready _ _. (let v = ready_verify c.words c.course.desk.told ready in
       absurd (verify_good c.words v.0 v.1 bad));
   complete_drill = no_drill_completed c code (bad_no_drill c.words bad);
-  bad_words = λ _. bad_code code _ _ _ _ said;
+  bad_words = λ _. code_reported bad_words _ _ _ _ code said;
   others = kept_others (IsProofFile c.words) c.course.desk.told c.course.desk'.told kept;
   files = λ _. kept;
 }
 
 pub memory_answered : (c : Call) (code : ℕ)
-    → KeepsOutput out_of_memory c.course.out.bytes c.course.out'.bytes
+    → SameBytes c.course.out.bytes c.course.out'.bytes
     → KeepsFiles c.course.desk.told c.course.desk'.told
     → Reports out_of_memory c.err.bytes c.err'.bytes c.err.faults c.err'.faults code
     → IsAnswered c code
@@ -393,20 +378,18 @@ memory_answered c code output kept said =
           λ h _ _.
           absurd (code_of_no_end out_of_memory _ _ _ _ code said (code_of_run c.words code h));
       proof_front = λ _ _ name _. inl (kept_file c.course.desk.told c.course.desk'.told name kept);
-      verdict =
-          ended_no_verdict c.words c.course.desk.told c.course.out.bytes c.course.out'.bytes
-          out_of_memory _ _
-          _ _ code said;
+      verdict = ended_no_verdict c code out_of_memory said;
       drilled = λ zero _ _. absurd (code_of_no_end out_of_memory _ _ _ _ code said (inl zero));
       drill_front = λ asked _. inl (kept_file c.course.desk.told c.course.desk'.told asked.file
           kept);
       ends =
           inr (record {
             end = out_of_memory;
-            cause = without_memory;
-            output = output;
+            cause = without_memory (output, kept);
             said = said;
           });
+      stops_printing = stopped_with c code out_of_memory (without_memory (output, kept));
+      fails_in_printing = failed_with c code out_of_memory (without_memory (output, kept)) said;
       complete = λ _ _. inr (inr (inr one));
       complete_verdict = λ _ _ _. inr (inr one);
       complete_drill = λ _ _. inr (inl one);

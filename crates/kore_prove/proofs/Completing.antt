@@ -1,12 +1,13 @@
 -- A call that can run or verify, and that nothing hinders, ends as out of memory, if it does not
 -- come to that. A call that is to drill always can.
-use Rattle.std.proofs.Common.{◌≡◌, ℕ, ◌⊎◌, inl, inr, List, Option, None, Some, refl, sym, subst}
+use Rattle.std.proofs.Common.{◌≡◌, ℕ, ◌⊎◌, inl, inr, List, Option, None, Some, refl, sym, ap, subst}
 use Rattle.desk_io.specs.Told.{Told, Holds}
 use Rattle.desk_io.specs.MissingFiles.{Lacks, HoldsMore}
 use Rattle.desk_io.specs.Counts.{CountRose}
 use Rattle.rule_core.specs.Theories.{RewriteTheory}
 use Rattle.kore_rules.specs.Acceptance.{IsAccepted}
 use Rattle.kore_rules.specs.Refused.{IsRefused, IsRefusedTerm}
+use Rattle.kore_prove.specs.DrillWords.{DrillRequest}
 use Rattle.kore_prove.specs.RunWords.{RunRequest, IsRun}
 use Rattle.kore_prove.specs.VerifyWords.{IsVerify}
 use Rattle.kore_prove.specs.Limits.{HoldsWithin, definition_limit, term_limit}
@@ -15,14 +16,17 @@ use Rattle.kore_prove.specs.Files.{HoldsProgram}
 use Rattle.kore_prove.specs.Reports.{Ending, out_of_memory, bad_words, read_fault, write_fault}
 use Rattle.kore_prove.specs.Reports.{no_such_file, definition_refused, term_refused, too_large}
 use Rattle.kore_prove.specs.Reports.{end_code, Reports}
-use Rattle.kore_prove.specs.Causes.{ReadCause, RunCause, VerifyCause, DrillCause}
+use Rattle.kore_prove.specs.Causes.{ReadCause, RunCause, run_unread, run_unproved, run_unprinted}
+use Rattle.kore_prove.specs.Causes.{DatabaseCause, VerifyCause, file_unverified, verdict_unprinted}
+use Rattle.kore_prove.specs.Causes.{DrillCause, drill_unmade, drill_unproved, drill_unprinted}
 use Rattle.kore_prove.specs.Courses.{Course}
 use Rattle.kore_prove.specs.CountedFaults.{CountsReadFault, CountsWriteFault, CountsOutputFault}
 use Rattle.kore_prove.specs.CompleteRuns.{CanRun, IsReadyToRun, IsFaultless, IsFaultlessTerm}
 use Rattle.kore_prove.specs.CompleteRuns.{IsUnhindered}
 use Rattle.kore_prove.specs.CompleteVerdicts.{CanVerify, IsReadyToVerify}
 use Rattle.kore_prove.proofs.CommandWords.{one_request, one_file}
-use Rattle.kore_prove.proofs.Ending.{one_content, not_lacking, not_more}
+use Rattle.kore_prove.proofs.Ending.{one_content, not_lacking, not_more, code_reported}
+use Rattle.kore_prove.proofs.Ending.{stopped_unfaulted}
 
 -- the files of the request can be run
 record StandsFor (told : Told) (asked : RunRequest) : Type 0 where
@@ -85,12 +89,14 @@ no_read_cause told asked s reads reads' (too_large name) free (inr h) =
 no_cause : (words : List (List ℕ)) (told : Told) (r : CanRun words told) (asked : RunRequest)
     (c : Course) (e : Ending) → c.desk.told ≡ Some told → IsRun words asked → IsUnhindered c
     → RunCause asked c e → end_code e ≡ 1
-no_cause words told r asked c e is command free (inl h) =
+no_cause words told r asked c e is command free (run_unread h kept) =
     no_read_cause told asked (stands words told r asked command) c.desk.read_faults
     c.desk'.read_faults e free.reads
     (subst (λ (o : Option Told). ReadCause asked o c.desk.read_faults c.desk'.read_faults e) is h)
-no_cause words told r asked c e is command free (inr h) =
-    absurd (elim h.1.rose [ inl out ↦ free.writes out | inr desk ↦ free.files desk ])
+no_cause words told r asked c e is command free (run_unproved has stopped same) =
+    stopped_unfaulted (CountsWriteFault c) e free.files stopped
+no_cause words told r asked c e is command free (run_unprinted begun stopped) =
+    stopped_unfaulted (CountsOutputFault c) e free.writes stopped
 
 pub run_ends_without_memory : (words : List (List ℕ)) (told : Option Told) (asked : RunRequest)
     (c : Course) (e : Ending) → c.desk.told ≡ told → IsReadyToRun words told → IsRun words asked
@@ -99,27 +105,35 @@ run_ends_without_memory words None asked c e is ready command free cause = absur
 run_ends_without_memory words (Some told) asked c e is ready command free cause =
     no_cause words told ready asked c e is command free cause
 
-no_verify_cause : (words : List (List ℕ)) (told : Told) (r : CanVerify words told) (file : List ℕ)
+no_database_cause : (words : List (List ℕ)) (told : Told) (r : CanVerify words told) (file : List ℕ)
     (c : Course) (e : Ending) → c.desk.told ≡ Some told → IsVerify words file
-    → (CountsReadFault c → ⊥) → (CountsOutputFault c → ⊥) → VerifyCause file c e
-    → end_code e ≡ 1
-no_verify_cause words told r file c out_of_memory is command reads writes h = refl
-no_verify_cause words told r file c bad_words is command reads writes h = absurd h
-no_verify_cause words told r file c read_fault is command reads writes h = absurd (reads h)
-no_verify_cause words told r file c write_fault is command reads writes h = absurd (writes h.0)
-no_verify_cause words told r file c (no_such_file name) is command reads writes h =
+    → (CountsReadFault c → ⊥) → DatabaseCause file c e → end_code e ≡ 1
+no_database_cause words told r file c out_of_memory is command reads h = refl
+no_database_cause words told r file c bad_words is command reads h = absurd h
+no_database_cause words told r file c read_fault is command reads h = absurd (reads h)
+no_database_cause words told r file c write_fault is command reads h = absurd h
+no_database_cause words told r file c (no_such_file name) is command reads h =
     absurd (not_lacking told file name r.bytes h.0 (subst
     (λ (n : List ℕ). Holds (Some told) n r.bytes)
     (one_file words r.file file r.command command) r.held.0)
     (subst (λ (o : Option Told). Lacks o name) is h.1))
-no_verify_cause words told r file c (definition_refused number byte) is command reads writes h =
+no_database_cause words told r file c (definition_refused number byte) is command reads h =
     absurd h
-no_verify_cause words told r file c (term_refused number byte) is command reads writes h = absurd h
-no_verify_cause words told r file c (too_large name) is command reads writes h =
+no_database_cause words told r file c (term_refused number byte) is command reads h = absurd h
+no_database_cause words told r file c (too_large name) is command reads h =
     absurd (not_more told file name r.bytes database_limit h.0 (subst
     (λ (n : List ℕ). Holds (Some told) n r.bytes)
     (one_file words r.file file r.command command) r.held.0) r.held.1
     (subst (λ (o : Option Told). HoldsMore o name database_limit) is h.1))
+
+no_verify_cause : (words : List (List ℕ)) (told : Told) (r : CanVerify words told) (file : List ℕ)
+    (c : Course) (e : Ending) → c.desk.told ≡ Some told → IsVerify words file
+    → (CountsReadFault c → ⊥) → (CountsOutputFault c → ⊥) → VerifyCause file c e
+    → end_code e ≡ 1
+no_verify_cause words told r file c e is command reads writes (file_unverified h kept) =
+    no_database_cause words told r file c e is command reads h
+no_verify_cause words told r file c e is command reads writes (verdict_unprinted begun stopped) =
+    stopped_unfaulted (CountsOutputFault c) e writes stopped
 
 pub verify_ends_without_memory : (words : List (List ℕ)) (told : Option Told) (file : List ℕ)
     (c : Course) (e : Ending) → c.desk.told ≡ told → IsReadyToVerify words told
@@ -134,23 +148,24 @@ abbrev pub StopsDrill : Course → ℕ → Type 0
 StopsDrill c code =
     (code ≡ 1) ⊎ ((code ≡ 4) × (CountsOutputFault c ⊎ CountsWriteFault c))
 
-drill_stops : (steps : ℕ) (c : Course) (e : Ending) → DrillCause steps c e
+drill_stops : (asked : DrillRequest) (c : Course) (e : Ending) → DrillCause asked c e
     → StopsDrill c (end_code e)
-drill_stops steps c out_of_memory h = inl refl
-drill_stops steps c bad_words h = absurd h
-drill_stops steps c read_fault h = absurd h
-drill_stops steps c write_fault h = inr (refl, h.0)
-drill_stops steps c (no_such_file name) h = absurd h
-drill_stops steps c (definition_refused number byte) h = absurd h
-drill_stops steps c (term_refused number byte) h = absurd h
-drill_stops steps c (too_large name) h = absurd h
+drill_stops asked c e (drill_unmade memory kept) = inl (ap end_code memory)
+drill_stops asked c e (drill_unproved has (inl memory) same) = inl (ap end_code memory)
+drill_stops asked c e (drill_unproved has (inr failed) same) =
+    inr (ap end_code failed.0, inr failed.1)
+drill_stops asked c e (drill_unprinted begun (inl memory)) = inl (ap end_code memory)
+drill_stops asked c e (drill_unprinted begun (inr failed)) =
+    inr (ap end_code failed.0, inl failed.1)
 
-pub code_of_drill : (steps : ℕ) (c : Course) (e : Ending) (before after : Option (List ℕ))
-    (old new code : ℕ) → Reports e before after old new code → DrillCause steps c e
+pub code_of_drill : (asked : DrillRequest) (c : Course) (e : Ending)
+    (before after : Option (List ℕ)) (old new code : ℕ) → Reports e before after old new code → DrillCause asked c e
     → StopsDrill c code
-code_of_drill steps c e before after old new code (inl said) cause =
-    subst (StopsDrill c) (sym said.0) (drill_stops steps c e cause)
-code_of_drill steps c e before after old new code (inr cut) cause = inl cut.0
+code_of_drill asked c e before after old new code r cause =
+    elim (code_reported e before after old new code r) [
+      | inl own ↦ subst (StopsDrill c) (sym own) (drill_stops asked c e cause)
+      | inr one ↦ inl one
+    ]
 
 -- words that can run or verify ask for that
 pub ready_run : (words : List (List ℕ)) (told : Option Told) → IsReadyToRun words told

@@ -1,14 +1,15 @@
 -- From the parts of a drill to its result.
-use Rattle.std.proofs.Common.{◌≡◌, ℕ, ◌+◌, ◌≤◌, ◌<◌, ◌^◌, arith, ◌⊎◌, inl, inr, List, ◌++◌, Option}
-use Rattle.std.proofs.Common.{refl, sym, ◌∙◌, ap, subst}
+use Rattle.std.proofs.Common.{◌≡◌, ℕ, ◌+◌, ◌≤◌, ◌<◌, ◌^◌, arith, inl, inr, List, ◌++◌, Option}
+use Rattle.std.proofs.Common.{refl, ◌∙◌, ap, subst}
 use Rattle.desk_io.specs.Told.{Told}
 use Rattle.desk_io.specs.KeptFiles.{KeepsFiles, KeepsOthers}
 use Rattle.desk_io.specs.Sent.{Appends}
+use Rattle.desk_io.specs.SinkChanges.{SameBytes, AppendsFront}
 use Rattle.desk_io.specs.declared.desk.DeskFault.{DeskFault}
 use Rattle.desk_io.specs.declared.desk.DeskFault.TheVariants as fault
 use Rattle.term_core.specs.Patterns.{Pattern}
 use Rattle.rule_core.specs.Theories.{RewriteTheory}
-use Rattle.rule_core.specs.Runs.{Run, kept_by}
+use Rattle.rule_core.specs.Runs.{Run}
 use Rattle.drill_gen.specs.Drill.{drill_definition, drill_term}
 use Rattle.kore_axioms.specs.declared.refusals.Refusal.{Refusal}
 use Rattle.kore_axioms.specs.declared.refusals.Refusal.TheVariants as refusal
@@ -21,19 +22,18 @@ use Rattle.prove_run.specs.declared.summaries.Summary.{Summary}
 use Rattle.kore_prove.specs.DrillWords.{DrillRequest}
 use Rattle.kore_prove.specs.ProofFiles.{HoldsCounted, MayHoldFront}
 use Rattle.kore_prove.specs.DrillProgram.{IsDrillProgram}
-use Rattle.kore_prove.specs.DrilledRun.{IsDrilled, LeavesDrill, counts_line, counts_line_of}
-use Rattle.kore_prove.specs.DrilledRun.{drill_calls}
+use Rattle.kore_prove.specs.DrilledRun.{SendsDrill, IsDrilled, LeavesDrill, counts_line}
+use Rattle.kore_prove.specs.DrilledRun.{counts_line_of, drill_calls}
 use Rattle.kore_prove.specs.Reports.{Ending, out_of_memory}
 use Rattle.kore_prove.specs.PlainEnds.{fault_end}
-use Rattle.kore_prove.specs.Causes.{DrillCause, HasDrill, Grows, KeepsOutput}
+use Rattle.kore_prove.specs.Causes.{drill_unmade, drill_unproved, drill_unprinted}
 use Rattle.kore_prove.specs.Courses.{Course}
 use Rattle.kore_prove.specs.CountedFaults.{CountsWriteFault, CountsOutputFault}
 use Rattle.kore_prove.specs.Requests.{IsDrillFile}
 use Rattle.kore_prove.specs.RunsDone.{HasLines, IsDrillDone, IsDrillEnded}
-use Rattle.kore_prove.proofs.Ending.{same_files, kept_output, files_at}
-use Rattle.kore_prove.proofs.FileProofs.{kept_file, kept_others}
+use Rattle.kore_prove.proofs.Ending.{stops}
+use Rattle.kore_prove.proofs.FileProofs.{kept_file, kept_others, counted_front}
 use Rattle.run_proof.proofs.ClosedLaws.{proof_front}
-use Rattle.kore_prove.proofs.Performing.{fault_output, fault_files}
 
 -- 1 MiB is less than the greatest length of a text
 pub few_bytes : (n : ℕ) → n ≤ 2 ^ 20 → n < 2 ^ 32
@@ -68,6 +68,28 @@ counts_are database s h =
     counts_line (capped (fact_count database)) (capped (statement_count database)) n)
     h.bytes_are
 
+-- the lines of the drill were sent, or a part of them
+drill_sent : (Grew : Option (List ℕ) → Option (List ℕ) → List ℕ → Type 0) (asked : DrillRequest)
+    (c : Course) (theory : RewriteTheory) (start : Pattern) (run : Run) (lines : List ℕ)
+    (s : Summary) → IsDrillProgram asked.steps theory start
+    → HasLines (record { limit = asked.steps + 1; calls = drill_calls }) theory start run lines
+    → HoldsCounted c.desk.told c.desk'.told asked.file theory start run s
+    → Grew c.out.bytes c.out'.bytes (lines ++ counts_line s.facts s.statements s.bytes)
+    → SendsDrill Grew asked c.desk.told c.desk'.told c.out.bytes c.out'.bytes
+drill_sent Grew asked c theory start run lines s program h held grew = record {
+  theory = theory;
+  start = start;
+  program = program;
+  run = run;
+  is_run = h.is_run;
+  proof = held.proof;
+  lines = lines;
+  lines_are = h.lines_are;
+  grew =
+      subst (λ (line : List ℕ). Grew c.out.bytes c.out'.bytes (lines ++ line))
+      (counts_are held.proof.bytes s held.counted) grew;
+}
+
 -- the drill was made and printed
 pub drill_made : (asked : DrillRequest) (c : Course) (theory : RewriteTheory) (start : Pattern)
     (run : Run) (lines : List ℕ) (s : Summary) → IsDrillProgram asked.steps theory start
@@ -77,67 +99,63 @@ pub drill_made : (asked : DrillRequest) (c : Course) (theory : RewriteTheory) (s
     → Appends c.out.bytes c.out'.bytes (lines ++ counts_line s.facts s.statements s.bytes)
     → IsDrillDone asked c
 drill_made asked c theory start run lines s program h held others grew = record {
-  drilled = record {
-    theory = theory;
-    start = start;
-    program = program;
-    run = run;
-    is_run = h.is_run;
-    proof = held.proof;
-    lines = lines;
-    lines_are = h.lines_are;
-    grew =
-        subst (λ (line : List ℕ). Appends c.out.bytes c.out'.bytes (lines ++ line))
-        (counts_are held.proof.bytes s held.counted) grew;
-  };
+  drilled = drill_sent Appends asked c theory start run lines s program h held grew;
   others = others;
 }
 
 -- memory ran out before it was run
-pub texts_ended : (asked : DrillRequest) (c : Course) → c.out'.bytes ≡ c.out.bytes
-    → c.desk'.told ≡ c.desk.told
-    → IsDrillEnded asked c out_of_memory
-texts_ended asked c output told =
-    let kept : KeepsFiles c.desk.told c.desk'.told =
-    subst (λ (o : Option Told). KeepsFiles c.desk.told o) (sym told) (same_files c.desk.told) in
-    record {
-      cause = tt;
-      output = subst (λ (o : Option (List ℕ)). KeepsOutput out_of_memory c.out.bytes o) (sym output)
-          (kept_output out_of_memory c.out.bytes);
-      front = inl (kept_file c.desk.told c.desk'.told asked.file kept);
-      others = kept_others (IsDrillFile asked) c.desk.told c.desk'.told kept;
-      files = files_at out_of_memory c.desk.told c.desk'.told kept;
-    }
-
--- the drill was not written
-unwritten_cause : (steps : ℕ) (c : Course) (f : DeskFault) → HasDrill steps
-    → (f ≡ fault.Failed → CountsOutputFault c ⊎ CountsWriteFault c)
-    → DrillCause steps c (fault_end f)
-unwritten_cause steps c fault.Failed drill rose = (rose refl, drill)
-unwritten_cause steps c fault.Memory drill rose = tt
+pub texts_ended : (asked : DrillRequest) (c : Course) → SameBytes c.out.bytes c.out'.bytes
+    → KeepsFiles c.desk.told c.desk'.told → IsDrillEnded asked c out_of_memory
+texts_ended asked c same kept = record {
+  cause = drill_unmade refl (same, kept);
+  front = inl (kept_file c.desk.told c.desk'.told asked.file kept);
+  others = kept_others (IsDrillFile asked) c.desk.told c.desk'.told kept;
+}
 
 left_drill : (asked : DrillRequest) (told told' : Option Told) (theory : RewriteTheory)
     (start : Pattern) → IsDrillProgram asked.steps theory start
-    → MayHoldFront told told' asked.file theory start → LeavesDrill asked told told'
+    → MayHoldFront told told' asked.file theory (asked.steps + 1) drill_calls start
+    → LeavesDrill asked told told'
 left_drill asked told told' theory start program (inl same) = inl same
 left_drill asked told told' theory start program (inr made) =
     inr (record { theory = theory; start = start; program = program; holds = made })
 
-pub drill_unwritten : (asked : DrillRequest) (c : Course) (e : Ending) (f : DeskFault)
+-- the drill was not proved
+pub drill_ended_unproved : (asked : DrillRequest) (c : Course) (e : Ending) (f : DeskFault)
     (theory : RewriteTheory) (start : Pattern) → e ≡ fault_end f
     → IsDrillProgram asked.steps theory start → MayHoldFront c.desk.told c.desk'.told asked.file
-    theory start
+    theory (asked.steps + 1) drill_calls start
     → KeepsOthers (IsDrillFile asked) c.desk.told c.desk'.told
-    → (f ≡ fault.Failed → CountsOutputFault c ⊎ CountsWriteFault c)
-    → Grows c.out.bytes c.out'.bytes → IsDrillEnded asked c e
-drill_unwritten asked c e f theory start is program front others rose grows =
-    subst (λ (end : Ending). IsDrillEnded asked c end) (sym is) (record {
-      cause = unwritten_cause asked.steps c f (theory, start, program) rose;
-      output = fault_output f c.out.bytes c.out'.bytes grows;
-      front = left_drill asked c.desk.told c.desk'.told theory start program front;
+    → (f ≡ fault.Failed → CountsWriteFault c)
+    → SameBytes c.out.bytes c.out'.bytes → IsDrillEnded asked c e
+drill_ended_unproved asked c e f theory start is program front others rose same = record {
+  cause = drill_unproved (theory, start, program) (stops f e (CountsWriteFault c) is rose) same;
+  front = left_drill asked c.desk.told c.desk'.told theory start program front;
+  others = others;
+}
+
+-- the lines of the drill were not sent as a whole
+pub drill_ended_unprinted : (asked : DrillRequest) (c : Course) (e : Ending) (f : DeskFault)
+    (theory : RewriteTheory) (start : Pattern) (run : Run) (lines : List ℕ) (s : Summary)
+    → e ≡ fault_end f → IsDrillProgram asked.steps theory start
+    → HasLines (record { limit = asked.steps + 1; calls = drill_calls }) theory start run lines
+    → HoldsCounted c.desk.told c.desk'.told asked.file theory start run s
+    → KeepsOthers (IsDrillFile asked) c.desk.told c.desk'.told
+    → (f ≡ fault.Failed → CountsOutputFault c)
+    → AppendsFront c.out.bytes c.out'.bytes (lines ++ counts_line s.facts s.statements s.bytes)
+    → IsDrillEnded asked c e
+drill_ended_unprinted asked c e f theory start run lines s is program h held others rose grew =
+    record {
+      cause =
+          drill_unprinted
+          (drill_sent AppendsFront asked c theory start run lines s program h held grew)
+          (stops f e (CountsOutputFault c) is rose);
+      front =
+          left_drill asked c.desk.told c.desk'.told theory start program
+          (counted_front c.desk.told c.desk'.told asked.file theory (asked.steps + 1) drill_calls
+          start run s h.is_run held);
       others = others;
-      files = fault_files f c.desk.told c.desk'.told;
-    })
+    }
 
 -- after a drill its file holds the front of a proof
 pub drilled_front : (asked : DrillRequest) (told told' : Option Told)
@@ -151,6 +169,7 @@ drilled_front asked told told' before after d = inr (record {
     bytes = d.proof.bytes;
     held = d.proof.held;
     front =
-        inr (proof_front d.theory d.start (kept_by d.start d.run) d.proof.bytes d.proof.proves);
+        inr (proof_front d.theory (asked.steps + 1) drill_calls d.start d.run d.proof.bytes d.is_run
+        d.proof.proves);
   };
 })

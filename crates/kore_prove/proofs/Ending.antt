@@ -1,11 +1,15 @@
 -- Ends of a call that prints no run, and their causes.
-use Rattle.std.proofs.Common.{◌≡◌, ℕ, ◌≤◌, ◌⊎◌, inl, inr, List, [], length, Option, None, Some}
-use Rattle.std.proofs.Common.{refl, sym, ◌∙◌, ap, subst, arith}
-use Rattle.std.proofs.lemmas.List.{append-nil}
+use Rattle.std.proofs.Common.{◌≡◌, ℕ, ◌≤◌, ◌⊎◌, inl, inr, List, length, Option, None, Some}
+use Rattle.std.proofs.Common.{Result, Ok, Err, refl, sym, ◌∙◌, ap, subst, arith}
+use Rattle.std.specs.Prelude.{OnOk, OnErr, IsErrOf}
 use Rattle.desk_io.specs.Told.{Told, Holds, file_of}
 use Rattle.desk_io.specs.KeptFiles.{KeepsFiles}
 use Rattle.desk_io.specs.MissingFiles.{Lacks, HoldsMore}
-use Rattle.desk_io.specs.SinkChanges.{SameBytes}
+use Rattle.desk_io.specs.Sent.{Appends}
+use Rattle.desk_io.specs.SinkChanges.{SameBytes, AppendsFront}
+use Rattle.desk_io.specs.Counts.{CountRose}
+use Rattle.desk_io.specs.declared.desk.DeskFault.{DeskFault}
+use Rattle.desk_io.specs.declared.desk.DeskFault.TheVariants as fault
 use Rattle.desk_io.specs.declared.read.ReadEnd.TheVariants as read
 use Rattle.desk_io.proofs.Counts.{CountRose-later}
 use Rattle.kore_axioms.specs.declared.refusals.Refusal.TheVariants as refusal
@@ -18,10 +22,16 @@ use Rattle.kore_prove.specs.Limits.{HoldsWithin}
 use Rattle.kore_prove.specs.PrintedRun.{IsCodeOfRun}
 use Rattle.kore_prove.specs.Reports.{Ending, out_of_memory, bad_words, read_fault, write_fault}
 use Rattle.kore_prove.specs.Reports.{no_such_file, definition_refused, term_refused, too_large}
-use Rattle.kore_prove.specs.Reports.{end_code, Reports}
-use Rattle.kore_prove.specs.Causes.{Grows, KeepsOutput}
+use Rattle.kore_prove.specs.Reports.{end_code, report_line, Gets, code_after, Reports}
+use Rattle.kore_prove.specs.PlainEnds.{fault_end}
+use Rattle.kore_prove.specs.DrillWords.{DrillRequest}
+use Rattle.kore_prove.specs.RunWords.{RunRequest}
+use Rattle.kore_prove.specs.Courses.{Course}
+use Rattle.kore_prove.specs.CountedFaults.{CountsWriteFault, CountsOutputFault}
+use Rattle.kore_prove.specs.Causes.{StopsWriting, RunCause, run_unread, run_unproved, run_unprinted}
+use Rattle.kore_prove.specs.Causes.{DrillCause, drill_unmade, drill_unproved, drill_unprinted}
 use Rattle.kore_prove.specs.Unwritten.{IsUnwritten}
-use Rattle.kore_prove.specs.FileCauses.{FileCause, KeepsFilesAt}
+use Rattle.kore_prove.specs.FileCauses.{FileCause}
 
 pub same_bytes : (told : Option (List ℕ)) → SameBytes told told
 same_bytes None = tt
@@ -35,6 +45,21 @@ same_files (Some told) = (told.unread, refl)
 abbrev pub IsDoneCode : ℕ → Type 0
 IsDoneCode code = (code ≡ 0) ⊎ (code ≡ 10) ⊎ (code ≡ 11) ⊎ (code ≡ 12)
 
+after_answer : (e : Ending) (answer : Result (Unit {0}) DeskFault) (code : ℕ)
+    → code ≡ code_after e answer → (code ≡ end_code e) ⊎ (code ≡ 1)
+after_answer e (Ok done) code is = inl is
+after_answer e (Err fault.Failed) code is = inl is
+after_answer e (Err fault.Memory) code is = inr is
+
+-- what sending a line says, by its answer
+pub gets : (e : Ending) (answer : Result (Unit {0}) DeskFault) (before after : Option (List ℕ))
+    (old new : ℕ) → OnOk answer (Appends before after (report_line e))
+    → OnErr answer (AppendsFront before after (report_line e))
+    → (IsErrOf answer fault.Failed → CountRose old new) → Gets e answer before after old new
+gets e (Ok done) before after old new sent cut rose = sent
+gets e (Err fault.Failed) before after old new sent cut rose = (cut, rose refl)
+gets e (Err fault.Memory) before after old new sent cut rose = cut
+
 -- no end has such a code
 no_done_code : (e : Ending) (code : ℕ) → code ≡ end_code e → IsDoneCode code → ⊥
 no_done_code out_of_memory code is h = grind arith
@@ -46,10 +71,18 @@ no_done_code (definition_refused number byte) code is h = grind arith
 no_done_code (term_refused number byte) code is h = grind arith
 no_done_code (too_large name) code is h = grind arith
 
+-- the code after a report is the one of the end, or of out of memory
+pub code_reported : (e : Ending) (before after : Option (List ℕ)) (old new code : ℕ)
+    → Reports e before after old new code → (code ≡ end_code e) ⊎ (code ≡ 1)
+code_reported e before after old new code r = after_answer e r.answer code r.code_is
+
 pub code_of_no_end : (e : Ending) (before after : Option (List ℕ)) (old new code : ℕ)
     → Reports e before after old new code → IsDoneCode code → ⊥
-code_of_no_end e before after old new code (inl said) h = no_done_code e code said.0 h
-code_of_no_end e before after old new code (inr cut) h = no_done_code out_of_memory code cut.0 h
+code_of_no_end e before after old new code r h =
+    elim (code_reported e before after old new code r) [
+      | inl own ↦ no_done_code e code own h
+      | inr one ↦ no_done_code out_of_memory code one h
+    ]
 
 pub code_of_run : (words : List (List ℕ)) (code : ℕ) → IsCodeOfRun words code → IsDoneCode code
 code_of_run words code (inl ten) = inr (inl ten)
@@ -59,8 +92,8 @@ code_of_run words code (inr (inr zero)) = inl zero.0
 -- a call that reports an end has the end's code, or the code of out of memory
 pub code_of_one : (e : Ending) (before after : Option (List ℕ)) (old new code : ℕ)
     → Reports e before after old new code → end_code e ≡ 1 → code ≡ 1
-code_of_one e before after old new code (inl said) one = said.0 ∙ one
-code_of_one e before after old new code (inr cut) one = cut.0
+code_of_one e before after old new code r one =
+    elim (code_reported e before after old new code r) [ inl own ↦ own ∙ one | inr other ↦ other ]
 
 -- if a desk kept its files, what it tells of a file held before too
 pub kept_holds : (told told' : Option Told) (name bytes : List ℕ) → KeepsFiles told told'
@@ -107,49 +140,58 @@ kept_then (Some old) between new h k =
     let q : KeepsFiles (Some (record old { unread = h.0 })) new = subst P h.1 k in
     (q.0, q.1)
 
--- an unchanged output is kept at each end
-pub same_grows : (bytes : Option (List ℕ)) → Grows bytes bytes
-same_grows None = tt
-same_grows (Some bytes) = ([], ap (λ (bs : List ℕ). Some bs) (sym (append-nil bytes)))
+-- if writing was stopped, the end is the one of out of memory or of a fault in writing
+pub stops : (f : DeskFault) (e : Ending) (Counted : Type 0) → e ≡ fault_end f
+    → (f ≡ fault.Failed → Counted) → StopsWriting Counted e
+stops fault.Failed e Counted is counted = inr (is, counted refl)
+stops fault.Memory e Counted is counted = inl is
 
-pub kept_output : (e : Ending) (bytes : Option (List ℕ)) → KeepsOutput e bytes bytes
-kept_output out_of_memory bytes = same_grows bytes
-kept_output bad_words bytes = same_bytes bytes
-kept_output read_fault bytes = same_bytes bytes
-kept_output write_fault bytes = same_grows bytes
-kept_output (no_such_file name) bytes = same_bytes bytes
-kept_output (definition_refused number byte) bytes = same_bytes bytes
-kept_output (term_refused number byte) bytes = same_bytes bytes
-kept_output (too_large name) bytes = same_bytes bytes
+pub stopped_unfaulted : (Counted : Type 0) (e : Ending) → (Counted → ⊥) → StopsWriting Counted e
+    → end_code e ≡ 1
+stopped_unfaulted Counted e free (inl memory) = ap end_code memory
+stopped_unfaulted Counted e free (inr failed) = absurd (free failed.1)
 
-pub files_at : (e : Ending) (old new : Option Told) → KeepsFiles old new → KeepsFilesAt e old new
-files_at out_of_memory old new h = tt
-files_at bad_words old new h = h
-files_at read_fault old new h = h
-files_at write_fault old new h = tt
-files_at (no_such_file name) old new h = h
-files_at (definition_refused number byte) old new h = h
-files_at (term_refused number byte) old new h = h
-files_at (too_large name) old new h = h
+-- a call that stopped in writing may have written a file
+stopped_written : (Counted P : Type 0) (e : Ending) (code : ℕ) → StopsWriting Counted e
+    → code ≡ end_code e → IsUnwritten code → P
+stopped_written Counted P e code (inl memory) is un = absurd (un.1 (is ∙ ap end_code memory))
+stopped_written Counted P e code (inr failed) is un = absurd (un.2 (is ∙ ap end_code failed.0))
 
 -- an end that writes no file keeps all files
-no_file : (e : Ending) (code : ℕ) (old new : Option Told) → code ≡ end_code e → IsUnwritten code
-    → KeepsFilesAt e old new → KeepsFiles old new
-no_file out_of_memory code old new is un h = absurd (un.1 is)
-no_file bad_words code old new is un h = h
-no_file read_fault code old new is un h = h
-no_file write_fault code old new is un h = absurd (un.2 is)
-no_file (no_such_file name) code old new is un h = h
-no_file (definition_refused number byte) code old new is un h = h
-no_file (term_refused number byte) code old new is un h = h
-no_file (too_large name) code old new is un h = h
+run_unwritten : (asked : RunRequest) (c : Course) (e : Ending) (code : ℕ) → RunCause asked c e
+    → code ≡ end_code e → IsUnwritten code → KeepsFiles c.desk.told c.desk'.told
+run_unwritten asked c e code (run_unread cause kept) is un = kept.1
+run_unwritten asked c e code (run_unproved has stopped same) is un =
+    stopped_written (CountsWriteFault c) _ e code stopped is un
+run_unwritten asked c e code (run_unprinted begun stopped) is un =
+    stopped_written (CountsOutputFault c) _ e code stopped is un
 
-pub unwritten : (e : Ending) (before after : Option (List ℕ)) (count count' code : ℕ)
-    (old new : Option Told) → Reports e before after count count' code → KeepsFilesAt e old new
-    → IsUnwritten code → KeepsFiles old new
-unwritten e before after count count' code old new (inl said) h un =
-    no_file e code old new said.0 un h
-unwritten e before after count count' code old new (inr cut) h un = absurd (un.1 cut.0)
+drill_unwritten : (asked : DrillRequest) (c : Course) (e : Ending) (code : ℕ)
+    → DrillCause asked c e → code ≡ end_code e → IsUnwritten code
+    → KeepsFiles c.desk.told c.desk'.told
+drill_unwritten asked c e code (drill_unmade memory kept) is un = kept.1
+drill_unwritten asked c e code (drill_unproved has stopped same) is un =
+    stopped_written (CountsWriteFault c) _ e code stopped is un
+drill_unwritten asked c e code (drill_unprinted begun stopped) is un =
+    stopped_written (CountsOutputFault c) _ e code stopped is un
+
+pub run_files : (asked : RunRequest) (c : Course) (e : Ending) (before after : Option (List ℕ))
+    (old new code : ℕ) → Reports e before after old new code → RunCause asked c e
+    → IsUnwritten code → KeepsFiles c.desk.told c.desk'.told
+run_files asked c e before after old new code r cause un =
+    elim (code_reported e before after old new code r) [
+      | inl own ↦ run_unwritten asked c e code cause own un
+      | inr one ↦ absurd (un.1 one)
+    ]
+
+pub drill_files : (asked : DrillRequest) (c : Course) (e : Ending) (before after : Option (List ℕ))
+    (old new code : ℕ) → Reports e before after old new code → DrillCause asked c e
+    → IsUnwritten code → KeepsFiles c.desk.told c.desk'.told
+drill_files asked c e before after old new code r cause un =
+    elim (code_reported e before after old new code r) [
+      | inl own ↦ drill_unwritten asked c e code cause own un
+      | inr one ↦ absurd (un.1 one)
+    ]
 
 -- a file has one content
 pub one_content : (told : Told) (name bytes bytes' : List ℕ) → Holds (Some told) name bytes

@@ -9,8 +9,7 @@ use Rattle.desk_io.specs.HeldFiles.{Tells, TellsNow}
 use Rattle.desk_io.specs.Changes.{Same, TellsCreated, Creates, Writes, Closes, PutsFile}
 use Rattle.term_core.specs.Patterns.{Pattern}
 use Rattle.rule_core.specs.Theories.{RewriteTheory}
-use Rattle.rule_core.specs.Runs.{Run, kept_by}
-use Rattle.mm_justify.specs.Justifying.{IsProofOfRun, IsFrontOfProof}
+use Rattle.rule_core.specs.Runs.{Run, IsRunOf}
 use Rattle.prove_run.specs.declared.summaries.Summary.{Summary}
 use Rattle.run_proof.specs.ClosedProofs.{KeepsOthersNow, PutsCreated, PutsFront, PutsProof}
 use Rattle.run_proof.proofs.ClosedLaws.{proof_front}
@@ -105,26 +104,28 @@ created_proof old made new file theory start run s h k = record {
   counted = k.3;
 }
 
--- a file that holds a proof holds the front of one
+-- a file that holds a proof of the run holds the front of one
 pub counted_front : (told told' : Option Told) (file : List ℕ) (theory : RewriteTheory)
-    (start : Pattern) (run : Run) (s : Summary)
-    → HoldsCounted told told' file theory start run s → MayHoldFront told told' file theory start
-counted_front told told' file theory start run s h =
+    (limit calls : ℕ) (start : Pattern) (run : Run) (s : Summary)
+    → IsRunOf theory limit calls start run → HoldsCounted told told' file theory start run s
+    → MayHoldFront told told' file theory limit calls start
+counted_front told told' file theory limit calls start run s is h =
     inr (record {
       bytes = h.proof.bytes;
       held = h.proof.held;
       front =
-          inr (proof_front theory start (kept_by start run) h.proof.bytes h.proof.proves);
+          inr (proof_front theory limit calls start run h.proof.bytes is h.proof.proves);
     })
 
 -- the created file holds the front of a proof
 pub created_front : (old made new : Option Told) (file : List ℕ) (theory : RewriteTheory)
-    (start : Pattern) → Creates old made file → PutsFront made new theory start
-    → MayHoldFront old new file theory start
-created_front old made new file theory start h k =
+    (limit calls : ℕ) (start : Pattern) → Creates old made file
+    → PutsFront made new theory limit calls start
+    → MayHoldFront old new file theory limit calls start
+created_front old made new file theory limit calls start h k =
     inr (record { bytes = k.0; held = created_tells old made new file k.0 h k.1; front = k.2 })
 
 -- if no file was created, the file is as before
-pub not_created : (old new : Option Told) (file : List ℕ) (theory : RewriteTheory) (start : Pattern)
-    → Same old new → MayHoldFront old new file theory start
-not_created old new file theory start h = inl (same_file old new file h)
+pub not_created : (old new : Option Told) (file : List ℕ) (theory : RewriteTheory) (limit calls : ℕ)
+    (start : Pattern) → Same old new → MayHoldFront old new file theory limit calls start
+not_created old new file theory limit calls start h = inl (same_file old new file h)

@@ -4,6 +4,7 @@ pub mod Ending
 pub mod FileProofs
 pub mod Verifying
 pub mod Completing
+pub mod Printing
 pub mod Answering
 pub mod Performing
 pub mod PlainNames

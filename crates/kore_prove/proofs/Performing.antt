@@ -1,17 +1,17 @@
 -- From the parts of a run command to its result.
-use Rattle.std.proofs.Common.{◌≡◌, ℕ, ◌⊎◌, inl, inr, List, Option, Some, None, IsSome, refl, sym}
+use Rattle.std.proofs.Common.{◌≡◌, ℕ, inl, inr, List, Option, Some, None, IsSome}
 use Rattle.std.proofs.Common.{subst}
 use Rattle.desk_io.specs.Told.{Told, Holds}
 use Rattle.desk_io.specs.KeptFiles.{KeepsFiles, KeepsOthers}
 use Rattle.desk_io.specs.HeldFiles.{TellsNow}
 use Rattle.desk_io.specs.Counts.{CountRose}
 use Rattle.desk_io.specs.Sent.{Appends}
-use Rattle.desk_io.specs.SinkChanges.{AppendsFront}
+use Rattle.desk_io.specs.SinkChanges.{SameBytes, AppendsFront}
 use Rattle.desk_io.specs.declared.desk.DeskFault.{DeskFault}
 use Rattle.desk_io.specs.declared.desk.DeskFault.TheVariants as fault
 use Rattle.term_core.specs.Patterns.{Pattern, ground_pattern}
 use Rattle.rule_core.specs.Theories.{RewriteTheory}
-use Rattle.rule_core.specs.Runs.{Run, stuck, limited, stopped, unstarted, kept_by}
+use Rattle.rule_core.specs.Runs.{Run, stuck, limited, stopped, unstarted, IsRunOf}
 use Rattle.rule_core.specs.WellSorted.{IsSignature, IsStart}
 use Rattle.run_loop.specs.RunEnds.{IsSortedEnd}
 use Rattle.kore_show.specs.ShownLaws.{SortedIsShown}
@@ -20,15 +20,15 @@ use Rattle.kore_prove.specs.RunWords.{RunRequest}
 use Rattle.kore_prove.specs.Files.{HoldsStart, HoldsRun}
 use Rattle.kore_prove.specs.ProvedRun.{HasWantedProof, LeavesFront}
 use Rattle.kore_prove.specs.ProofFiles.{HasWantedFront}
-use Rattle.kore_prove.specs.Causes.{HasRun, RunCause, ReadCause, Grows, KeepsOutput}
+use Rattle.kore_prove.specs.PrintedRun.{SendsLines}
+use Rattle.kore_prove.specs.Causes.{ReadCause, run_unread, run_unproved, run_unprinted}
 use Rattle.kore_prove.specs.Courses.{Course}
 use Rattle.kore_prove.specs.CountedFaults.{CountsWriteFault, CountsOutputFault}
-use Rattle.kore_prove.specs.FileCauses.{KeepsFilesAt}
 use Rattle.kore_prove.specs.PlainEnds.{fault_end}
 use Rattle.kore_prove.specs.Reports.{Ending}
 use Rattle.kore_prove.specs.Requests.{bounds_of, IsWanted}
 use Rattle.kore_prove.specs.RunsDone.{HasLines, IsRunDone, IsRunEnded}
-use Rattle.kore_prove.proofs.Ending.{kept_output, files_at}
+use Rattle.kore_prove.proofs.Ending.{stops}
 use Rattle.kore_prove.proofs.FileProofs.{kept_others, then_others, kept_file, then_file}
 use Rattle.run_proof.proofs.ClosedLaws.{proof_front}
 
@@ -77,10 +77,12 @@ proof_kept (Some file) told read told' theory start run kept h =
 -- the front of a proof, for the desk before the files were read
 pub left_front : (asked : RunRequest) (told read told' : Option Told) (theory : RewriteTheory)
     (start : Pattern) → HoldsRun asked told theory start → KeepsFiles told read
-    → HasWantedFront asked.proof read told' theory start → LeavesFront asked told told'
+    → HasWantedFront asked.proof read told' theory asked.limit asked.calls start
+    → LeavesFront asked told told'
 left_front asked told read told' theory start held kept h = λ file wanted. (
-    let front : HasWantedFront (Some file) read told' theory start =
-    subst (λ (p : Option (List ℕ)). HasWantedFront p read told' theory start) wanted h in
+    let front : HasWantedFront (Some file) read told' theory asked.limit asked.calls start =
+    subst (λ (p : Option (List ℕ)). HasWantedFront p read told' theory asked.limit asked.calls start)
+    wanted h in
     elim front [
       | inl same ↦ inl (then_file told read told' file kept same)
       | inr made ↦ inr (record {
@@ -95,17 +97,31 @@ left_front asked told read told' theory start held kept h = λ file wanted. (
       })
     ])
 
--- a whole proof is a front of itself
+-- a whole proof of the run is a front of one
 pub proof_is_front : (proof : Option (List ℕ)) (told told' : Option Told) (theory : RewriteTheory)
-    (start : Pattern) (run : Run) → HasWantedProof proof told told' theory start run
-    → HasWantedFront proof told told' theory start
-proof_is_front None told told' theory start run h = tt
-proof_is_front (Some file) told told' theory start run h =
+    (limit calls : ℕ) (start : Pattern) (run : Run) → IsRunOf theory limit calls start run
+    → HasWantedProof proof told told' theory start run
+    → HasWantedFront proof told told' theory limit calls start
+proof_is_front None told told' theory limit calls start run is h = tt
+proof_is_front (Some file) told told' theory limit calls start run is h =
     inr (record {
       bytes = h.bytes;
       held = h.held;
-      front = inr (proof_front theory start (kept_by start run) h.bytes h.proves);
+      front = inr (proof_front theory limit calls start run h.bytes is h.proves);
     })
+
+-- the lines of the run were sent, or a part of them
+lines_sent : (Grew : Option (List ℕ) → Option (List ℕ) → List ℕ → Type 0) (asked : RunRequest)
+    (c : Course) (theory : RewriteTheory) (start : Pattern) (run : Run) (lines : List ℕ)
+    → HoldsRun asked c.desk.told theory start → HasLines (bounds_of asked) theory start run lines
+    → Grew c.out.bytes c.out'.bytes lines
+    → SendsLines Grew c.desk.told asked c.out.bytes c.out'.bytes theory start run
+lines_sent Grew asked c theory start run lines held h grew = record {
+  of_files = record { files = held; is_run = h.is_run };
+  lines = lines;
+  lines_are = h.lines_are;
+  grew = grew;
+}
 
 -- the run was printed
 pub run_done : (asked : RunRequest) (c : Course) (read : Option Told) (theory : RewriteTheory)
@@ -117,69 +133,63 @@ pub run_done : (asked : RunRequest) (c : Course) (read : Option Told) (theory : 
 run_done asked c read theory start run lines held kept h proof others grew = record {
   theory = theory;
   start = start;
-  printed = record {
-    of_files = record { files = held; is_run = h.is_run };
-    lines = lines;
-    lines_are = h.lines_are;
-    grew = grew;
-  };
+  printed = lines_sent Appends asked c theory start run lines held h grew;
   proof = proof_kept asked.proof c.desk.told read c.desk'.told theory start run kept proof;
   others = then_others (IsWanted asked) c.desk.told read c.desk'.told kept others;
 }
 
 -- the files do not give a run
-pub read_ended : (asked : RunRequest) (c : Course) (e : Ending) (bytes : Option (List ℕ))
-    → c.out.bytes ≡ bytes → c.out'.bytes ≡ bytes → ReadCause asked c.desk.told c.desk.read_faults
+pub read_ended : (asked : RunRequest) (c : Course) (e : Ending)
+    → SameBytes c.out.bytes c.out'.bytes → ReadCause asked c.desk.told c.desk.read_faults
     c.desk'.read_faults e
     → KeepsFiles c.desk.told c.desk'.told → IsRunEnded asked c e
-read_ended asked c e bytes before after cause kept = record {
-  cause = inl cause;
-  output =
-      subst (λ (o : Option (List ℕ)). KeepsOutput e o c.out'.bytes) (sym before) (subst
-      (λ (o : Option (List ℕ)). KeepsOutput e bytes o) (sym after) (kept_output e bytes));
+read_ended asked c e same cause kept = record {
+  cause = run_unread cause (same, kept);
   front = λ file wanted. inl (kept_file c.desk.told c.desk'.told file kept);
   others = kept_others (IsWanted asked) c.desk.told c.desk'.told kept;
-  files = files_at e c.desk.told c.desk'.told kept;
 }
 
--- the run was not written
-fault_cause : (asked : RunRequest) (c : Course) (f : DeskFault) → HasRun asked c.desk.told
-    → (f ≡ fault.Failed → CountsOutputFault c ⊎ CountsWriteFault c)
-    → RunCause asked c (fault_end f)
-fault_cause asked c fault.Failed run h = inr (refl, record { rose = h refl; accepted = run })
-fault_cause asked c fault.Memory run h = inl tt
-
-pub fault_output : (f : DeskFault) (before after : Option (List ℕ)) → Grows before after
-    → KeepsOutput (fault_end f) before after
-fault_output fault.Failed before after h = h
-fault_output fault.Memory before after h = h
-
-pub fault_files : (f : DeskFault) (old new : Option Told) → KeepsFilesAt (fault_end f) old new
-fault_files fault.Failed old new = tt
-fault_files fault.Memory old new = tt
-
-pub write_ended : (asked : RunRequest) (c : Course) (e : Ending) (f : DeskFault)
+-- the run was not proved
+pub proof_ended : (asked : RunRequest) (c : Course) (e : Ending) (f : DeskFault)
     (read : Option Told) (theory : RewriteTheory) (start : Pattern) → e ≡ fault_end f
     → HoldsRun asked c.desk.told theory start → KeepsFiles c.desk.told read
-    → HasWantedFront asked.proof read c.desk'.told theory start
+    → HasWantedFront asked.proof read c.desk'.told theory asked.limit asked.calls start
     → KeepsOthers (IsWanted asked) read c.desk'.told
-    → (f ≡ fault.Failed → CountsOutputFault c ⊎ CountsWriteFault c)
-    → Grows c.out.bytes c.out'.bytes → IsRunEnded asked c e
-write_ended asked c e f read theory start is held kept front others rose grows =
-    subst (λ (end : Ending). IsRunEnded asked c end) (sym is) (record {
-      cause = fault_cause asked c f (theory, start, held) rose;
-      output = fault_output f c.out.bytes c.out'.bytes grows;
-      front = left_front asked c.desk.told read c.desk'.told theory start held kept front;
+    → (f ≡ fault.Failed → CountsWriteFault c)
+    → SameBytes c.out.bytes c.out'.bytes → IsRunEnded asked c e
+proof_ended asked c e f read theory start is held kept front others rose same = record {
+  cause = run_unproved (theory, start, held) (stops f e (CountsWriteFault c) is rose) same;
+  front = left_front asked c.desk.told read c.desk'.told theory start held kept front;
+  others = then_others (IsWanted asked) c.desk.told read c.desk'.told kept others;
+}
+
+-- the lines of the run were not sent as a whole
+pub lines_ended : (asked : RunRequest) (c : Course) (e : Ending) (f : DeskFault)
+    (read : Option Told) (theory : RewriteTheory) (start : Pattern) (run : Run) (lines : List ℕ)
+    → e ≡ fault_end f → HoldsRun asked c.desk.told theory start → KeepsFiles c.desk.told read
+    → HasLines (bounds_of asked) theory start run lines
+    → HasWantedProof asked.proof read c.desk'.told theory start run
+    → KeepsOthers (IsWanted asked) read c.desk'.told
+    → (f ≡ fault.Failed → CountsOutputFault c)
+    → AppendsFront c.out.bytes c.out'.bytes lines → IsRunEnded asked c e
+lines_ended asked c e f read theory start run lines is held kept h proof others rose grew =
+    record {
+      cause =
+          run_unprinted (record {
+            theory = theory;
+            start = start;
+            run = run;
+            begun = lines_sent AppendsFront asked c theory start run lines held h grew;
+            proof =
+                proof_kept asked.proof c.desk.told read c.desk'.told theory start run kept proof;
+          }) (stops f e (CountsOutputFault c) is rose);
+      front =
+          left_front asked c.desk.told read c.desk'.told theory start held kept
+          (proof_is_front asked.proof read c.desk'.told theory asked.limit asked.calls start run
+          h.is_run proof);
       others = then_others (IsWanted asked) c.desk.told read c.desk'.told kept others;
-      files = fault_files f c.desk.told c.desk'.told;
-    })
+    }
 
 -- a count of faults in writing, compared with the count before the files were read
 pub rose_files : (a b c : ℕ) → b ≡ a → CountRose b c → CountRose a c
 rose_files a b c same rose = subst (λ (n : ℕ). CountRose n c) same rose
-
--- an output that got the front of some bytes grew
-pub part_grows : (before after : Option (List ℕ)) (bytes : List ℕ) → AppendsFront before after bytes
-    → Grows before after
-part_grows None after bytes h = tt
-part_grows (Some before) after bytes h = (h.0, h.3)

@@ -8,6 +8,7 @@ use Rattle.kore_prove.specs.PrintedRun.{PrintsRun}
 use Rattle.kore_prove.specs.ProvedRun.{ProvesRun, LeavesFrontOfRun}
 use Rattle.kore_prove.specs.Verdicts.{PrintsVerdict}
 use Rattle.kore_prove.specs.DrilledRun.{Drills, LeavesFrontOfDrill}
+use Rattle.kore_prove.specs.BegunLines.{StopsPrinting, FailsInPrinting}
 use Rattle.kore_prove.specs.Causes.{Ends}
 use Rattle.kore_prove.specs.CompleteRuns.{Completes}
 use Rattle.kore_prove.specs.CompleteVerdicts.{CompletesVerdict}
@@ -23,6 +24,8 @@ pub record IsAnswered (c : Call) (code : ℕ) : Type 0 where
   pub drilled : Drills c code
   pub drill_front : LeavesFrontOfDrill c
   pub ends : Ends c code
+  pub stops_printing : StopsPrinting c code
+  pub fails_in_printing : FailsInPrinting c code
   pub complete : Completes c code
   pub complete_verdict : CompletesVerdict c code
   pub complete_drill : CompletesDrill c code

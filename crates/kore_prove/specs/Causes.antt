@@ -1,7 +1,8 @@
--- The cause of each end of a call that did not print its lines. For a desk that tells nothing, only
--- its counts say something.
-use Rattle.std.specs.Prelude.{◌≡◌, ℕ, ◌⊎◌, List, ◌++◌, Option, None, Some}
+-- The cause of each end of a call that did not print its lines, and what it left of the output. For
+-- a desk that tells nothing, only its counts say something of its files.
+use Rattle.std.specs.Prelude.{◌≡◌, ℕ, ◌⊎◌, List, Option}
 use Rattle.desk_io.specs.Told.{Told}
+use Rattle.desk_io.specs.KeptFiles.{KeepsFiles}
 use Rattle.desk_io.specs.MissingFiles.{Lacks, HoldsMore}
 use Rattle.desk_io.specs.SinkChanges.{SameBytes}
 use Rattle.desk_io.specs.Counts.{CountRose}
@@ -19,6 +20,7 @@ use Rattle.kore_prove.specs.Limits.{HoldsWithin, definition_limit, term_limit}
 use Rattle.kore_prove.specs.Verdicts.{database_limit}
 use Rattle.kore_prove.specs.Files.{HoldsProgram, HoldsRun}
 use Rattle.kore_prove.specs.DrillProgram.{IsDrillProgram}
+use Rattle.kore_prove.specs.BegunLines.{BeginsRun, BeginsVerdict, BeginsDrill}
 use Rattle.kore_prove.specs.Reports.{Ending, out_of_memory, bad_words, read_fault, write_fault}
 use Rattle.kore_prove.specs.Reports.{no_such_file, definition_refused, term_refused, too_large}
 use Rattle.kore_prove.specs.Reports.{Reports}
@@ -65,72 +67,67 @@ ReadCause asked told reads reads' (too_large name) =
     ((name ≡ asked.definition) × HoldsMore told name definition_limit)
     ⊎ ((name ≡ asked.term) × HasProgram asked told × HoldsMore told name term_limit)
 
--- a write failed because a count of faults rose, and both files were accepted
-pub record WriteCause (asked : RunRequest) (c : Course) : Type 0 where
-  pub rose : CountsOutputFault c ⊎ CountsWriteFault c
-  pub accepted : HasRun asked c.desk.told
+-- writing stopped: memory ran out, or a fault was counted
+abbrev pub StopsWriting : Type 0 → Ending → Type 0
+StopsWriting Counted e = (e ≡ out_of_memory) ⊎ ((e ≡ write_fault) × Counted)
 
--- each end of a run command has its cause
-abbrev pub RunCause : RunRequest → Course → Ending → Type 0
-RunCause asked c e =
-    ReadCause asked c.desk.told c.desk.read_faults c.desk'.read_faults e ⊎ ((e ≡ write_fault)
-    × WriteCause asked c)
+-- the output and the files are as before
+abbrev pub KeepsAll : Course → Type 0
+KeepsAll c = SameBytes c.out.bytes c.out'.bytes × KeepsFiles c.desk.told c.desk'.told
 
--- each end of a verify command has its cause
-abbrev pub VerifyCause : List ℕ → Course → Ending → Type 0
-VerifyCause file c out_of_memory = Unit {0}
-VerifyCause file c bad_words = ⊥
-VerifyCause file c read_fault = CountsReadFault c
-VerifyCause file c write_fault =
-    CountsOutputFault c × ((bytes : List ℕ) × HoldsWithin c.desk.told file database_limit bytes)
-VerifyCause file c (no_such_file name) = (name ≡ file) × Lacks c.desk.told name
-VerifyCause file c (definition_refused number byte) = ⊥
-VerifyCause file c (term_refused number byte) = ⊥
-VerifyCause file c (too_large name) = (name ≡ file) × HoldsMore c.desk.told name database_limit
+-- Why the lines of a run were not printed. Its files were not accepted, and all is as before. Or
+-- they were accepted, it was not proved, and the output is as before. Or its lines were not sent as
+-- a whole.
+pub data RunCause (asked : RunRequest) (c : Course) (e : Ending) : Type 0 where
+  run_unread : ReadCause asked c.desk.told c.desk.read_faults c.desk'.read_faults e → KeepsAll c
+      → RunCause asked c e
+  run_unproved : HasRun asked c.desk.told → StopsWriting (CountsWriteFault c) e
+      → SameBytes c.out.bytes c.out'.bytes → RunCause asked c e
+  run_unprinted : BeginsRun asked c → StopsWriting (CountsOutputFault c) e → RunCause asked c e
+
+-- why there is no verdict on the file
+abbrev pub DatabaseCause : List ℕ → Course → Ending → Type 0
+DatabaseCause file c out_of_memory = Unit {0}
+DatabaseCause file c bad_words = ⊥
+DatabaseCause file c read_fault = CountsReadFault c
+DatabaseCause file c write_fault = ⊥
+DatabaseCause file c (no_such_file name) = (name ≡ file) × Lacks c.desk.told name
+DatabaseCause file c (definition_refused number byte) = ⊥
+DatabaseCause file c (term_refused number byte) = ⊥
+DatabaseCause file c (too_large name) =
+    (name ≡ file) × HoldsMore c.desk.told name database_limit
+
+-- Why the line of a verdict was not printed. There is no verdict, and all is as before. Or its line
+-- was not sent as a whole.
+pub data VerifyCause (file : List ℕ) (c : Course) (e : Ending) : Type 0 where
+  file_unverified : DatabaseCause file c e → KeepsAll c → VerifyCause file c e
+  verdict_unprinted : BeginsVerdict file c → StopsWriting (CountsOutputFault c) e
+      → VerifyCause file c e
 
 -- the texts of a drill were accepted
 abbrev pub HasDrill : ℕ → Type 0
 HasDrill steps = (theory : RewriteTheory) × (start : Pattern) × IsDrillProgram steps theory start
 
--- The end of a command that drills has its cause. Its texts are never refused, and it reads no
--- file.
-abbrev pub DrillCause : ℕ → Course → Ending → Type 0
-DrillCause steps c out_of_memory = Unit {0}
-DrillCause steps c bad_words = ⊥
-DrillCause steps c read_fault = ⊥
-DrillCause steps c write_fault =
-    (CountsOutputFault c ⊎ CountsWriteFault c) × HasDrill steps
-DrillCause steps c (no_such_file name) = ⊥
-DrillCause steps c (definition_refused number byte) = ⊥
-DrillCause steps c (term_refused number byte) = ⊥
-DrillCause steps c (too_large name) = ⊥
-
--- what the output tells grew by some bytes
-abbrev pub Grows : Option (List ℕ) → Option (List ℕ) → Type 0
-Grows None after = Unit {0}
-Grows (Some before) after = (more : List ℕ) × (after ≡ Some (before ++ more))
-
--- The output is as before. If it could not be written or memory ran out, it may have got a part.
-abbrev pub KeepsOutput : Ending → Option (List ℕ) → Option (List ℕ) → Type 0
-KeepsOutput out_of_memory before after = Grows before after
-KeepsOutput bad_words before after = SameBytes before after
-KeepsOutput read_fault before after = SameBytes before after
-KeepsOutput write_fault before after = Grows before after
-KeepsOutput (no_such_file name) before after = SameBytes before after
-KeepsOutput (definition_refused number byte) before after = SameBytes before after
-KeepsOutput (term_refused number byte) before after = SameBytes before after
-KeepsOutput (too_large name) before after = SameBytes before after
+-- Why the lines of a drill were not printed. It reads no file, and its texts are never refused.
+-- Memory ran out before they were accepted, and all is as before. Or they were accepted, the drill
+-- was not proved, and the output is as before. Or its lines were not sent as a whole.
+pub data DrillCause (asked : DrillRequest) (c : Course) (e : Ending) : Type 0 where
+  drill_unmade : e ≡ out_of_memory → KeepsAll c → DrillCause asked c e
+  drill_unproved : HasDrill asked.steps → StopsWriting (CountsWriteFault c) e
+      → SameBytes c.out.bytes c.out'.bytes → DrillCause asked c e
+  drill_unprinted : BeginsDrill asked c → StopsWriting (CountsOutputFault c) e
+      → DrillCause asked c e
 
 -- why a call did not print its lines; memory may run out before the words are read
 pub data HasCause (c : Call) : Ending → Type 0 where
-  without_memory : HasCause c out_of_memory
-  with_bad_words : AreBad c.words → HasCause c bad_words
+  without_memory : KeepsAll c.course → HasCause c out_of_memory
+  with_bad_words : AreBad c.words → KeepsAll c.course → HasCause c bad_words
   of_run : {asked : RunRequest} {e : Ending} → IsRun c.words asked → RunCause asked c.course e
       → HasCause c e
   of_verify : {file : List ℕ} {e : Ending} → IsVerify c.words file → VerifyCause file c.course e
       → HasCause c e
   of_drill : {asked : DrillRequest} {e : Ending} → IsDrill c.words asked
-      → DrillCause asked.steps c.course e → HasCause c e
+      → DrillCause asked c.course e → HasCause c e
 
 -- the words are a command, and the code says that the call printed its lines
 pub data IsDone (words : List (List ℕ)) (code : ℕ) : Type 0 where
@@ -144,11 +141,10 @@ pub record EndsInLines (c : Call) (code : ℕ) : Type 0 where
   pub done : IsDone c.words code
   pub silent : SameBytes c.err.bytes c.err'.bytes
 
--- the call had another end, with a cause, kept the output, and reported the reason
+-- the call had another end, with a cause, and reported the reason
 pub record EndsOtherwise (c : Call) (code : ℕ) : Type 0 where
   pub end : Ending
   pub cause : HasCause c end
-  pub output : KeepsOutput end c.course.out.bytes c.course.out'.bytes
   pub said : Reports end c.err.bytes c.err'.bytes c.err.faults c.err'.faults code
 
 abbrev pub Ends : Call → ℕ → Type 0

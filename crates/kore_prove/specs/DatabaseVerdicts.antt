@@ -1,14 +1,15 @@
 -- The verdict of the code on a database, and its line.
-use Rattle.std.specs.Prelude.{◌≡◌, ℕ, List, Option, Some, None}
+use Rattle.std.specs.Prelude.{◌≡◌, ℕ, List, Option}
 use Rattle.mm_text.specs.declared.fault.MmFault.{MmFault}
 use Rattle.mm_database.specs.Validity.{IsValid, IsFirstFault}
 use Rattle.mm_database.specs.Assertions.{axiom_count, theorem_count}
 use Rattle.desk_io.specs.Told.{Told}
+use Rattle.desk_io.specs.Sent.{Appends}
 use Rattle.kore_prove.specs.declared.verification.Verdict.{Verdict}
 use Rattle.kore_prove.specs.declared.verification.Verdict.TheVariants as verdict
 use Rattle.kore_prove.specs.Limits.{HoldsWithin}
-use Rattle.kore_prove.specs.Verdicts.{database_limit, valid_line, invalid_line, SaysValid}
-use Rattle.kore_prove.specs.Verdicts.{SaysInvalid}
+use Rattle.kore_prove.specs.Verdicts.{database_limit, valid_line, invalid_line, SendsValid}
+use Rattle.kore_prove.specs.Verdicts.{SendsInvalid}
 
 -- the bytes are not a valid database, and this is their first fault
 pub record IsInvalidBy (bytes : List ℕ) (fault : MmFault) : Type 0 where
@@ -35,11 +36,15 @@ abbrev pub HoldsDatabase : Option Told → List ℕ → Verdict → Type 0
 HoldsDatabase told name v =
     (bytes : List ℕ) × HoldsWithin told name database_limit bytes × IsVerdictOn bytes v
 
+-- the output grew by the line of this verdict on the file, or by a part from its front
+abbrev pub SendsVerdictOn : (Option (List ℕ) → Option (List ℕ) → List ℕ → Type 0) → List ℕ
+    → Option Told → Option (List ℕ) → Option (List ℕ) → Verdict → Type 0
+SendsVerdictOn Grew file told before after (verdict.Valid report) =
+    SendsValid Grew told file before after
+SendsVerdictOn Grew file told before after (verdict.Invalid fault) =
+    SendsInvalid Grew told file before after
+
 -- the output grew by the line of this verdict on the file
 abbrev pub PrintsVerdictOn : List ℕ → Option Told → Option (List ℕ) → Option (List ℕ) → Verdict
     → Type 0
-PrintsVerdictOn file None before after v = Unit {0}
-PrintsVerdictOn file (Some told) before after (verdict.Valid report) =
-    SaysValid told file before after
-PrintsVerdictOn file (Some told) before after (verdict.Invalid fault) =
-    SaysInvalid told file before after
+PrintsVerdictOn = SendsVerdictOn Appends

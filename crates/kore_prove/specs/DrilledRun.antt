@@ -32,10 +32,10 @@ counts_line_of database =
     (capped (length database))
 
 -- The file holds a proof of the run of the drill's program. The limit of this run is one more than
--- the drill's steps. The output grew by the two lines of the run and the line of the
--- counts of the database.
-pub record IsDrilled (asked : DrillRequest) (told told' : Option Told)
-    (before after : Option (List ℕ)) :
+-- the drill's steps. The output grew by the two lines of the run and the line of the counts of the
+-- database, or by a part from the front of these lines: `Grew` is `Appends` or `AppendsFront`.
+pub record SendsDrill (Grew : Option (List ℕ) → Option (List ℕ) → List ℕ → Type 0)
+    (asked : DrillRequest) (told told' : Option Told) (before after : Option (List ℕ)) :
     Type 0 where
   pub theory : RewriteTheory
   pub start : Pattern
@@ -45,7 +45,12 @@ pub record IsDrilled (asked : DrillRequest) (told told' : Option Told)
   pub proof : HoldsProof told told' asked.file theory start run
   pub lines : List ℕ
   pub lines_are : lines_of theory.sig start run ≡ Some lines
-  pub grew : Appends before after (lines ++ counts_line_of proof.bytes)
+  pub grew : Grew before after (lines ++ counts_line_of proof.bytes)
+
+-- the drill was made, and its three lines were printed
+abbrev pub IsDrilled : DrillRequest → Option Told → Option Told → Option (List ℕ)
+    → Option (List ℕ) → Type 0
+IsDrilled = SendsDrill Appends
 
 -- if the words ask for a drill, the exit code 0 says that it was made
 abbrev pub Drills : Call → ℕ → Type 0
@@ -53,12 +58,12 @@ Drills c code =
     code ≡ 0 → (asked : DrillRequest) → IsDrill c.words asked
     → IsDrilled asked c.course.desk.told c.course.desk'.told c.course.out.bytes c.course.out'.bytes
 
--- the file of a drill is empty, or holds the front of a proof of a run of the drill's program
+-- the file of a drill is empty, or holds the front of a proof of the run of the drill's program
 pub record HoldsFrontOfDrill (asked : DrillRequest) (told told' : Option Told) : Type 0 where
   pub theory : RewriteTheory
   pub start : Pattern
   pub program : IsDrillProgram asked.steps theory start
-  pub holds : HoldsFront told told' asked.file theory start
+  pub holds : HoldsFront told told' asked.file theory (asked.steps + 1) drill_calls start
 
 -- the file of a drill is as before, or it was created and holds the front of a proof
 abbrev pub LeavesDrill : DrillRequest → Option Told → Option Told → Type 0

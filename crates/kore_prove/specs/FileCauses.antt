@@ -1,7 +1,6 @@
--- The cause of each error in reading a file, and how the desk's files changed.
+-- The cause of each error in reading a file.
 use Rattle.std.specs.Prelude.{ℕ, List, Option}
 use Rattle.desk_io.specs.Told.{Told}
-use Rattle.desk_io.specs.KeptFiles.{KeepsFiles}
 use Rattle.desk_io.specs.MissingFiles.{Lacks, HoldsMore}
 use Rattle.desk_io.specs.Counts.{CountRose}
 use Rattle.desk_io.specs.declared.read.ReadEnd.{ReadEnd}
@@ -11,8 +10,6 @@ use Rattle.kore_sig.specs.FirstFault.{Fault}
 use Rattle.kore_prove.specs.declared.files.FileEnd.{FileEnd}
 use Rattle.kore_prove.specs.declared.files.FileEnd.TheVariants as file
 use Rattle.kore_prove.specs.Limits.{HoldsWithin}
-use Rattle.kore_prove.specs.Reports.{Ending, out_of_memory, bad_words, read_fault, write_fault}
-use Rattle.kore_prove.specs.Reports.{no_such_file, definition_refused, term_refused, too_large}
 
 -- the file of that name holds bytes within the limit that are refused with this fault
 abbrev pub HoldsWhat : (List ℕ → Fault → Type 0) → Option Told → List ℕ → ℕ → Fault → Type 0
@@ -35,15 +32,3 @@ FileCause IsWhy told name limit reads reads' (file.Unread end) =
 FileCause IsWhy told name limit reads reads' (file.Refused (refusal.Refused number byte)) =
     HoldsWhat IsWhy told name limit (record { number = number; byte = byte })
 FileCause IsWhy told name limit reads reads' (file.Refused refusal.Memory) = Unit {0}
-
--- The desk's files are as before. If a write failed or memory ran out, the file of a proof may have
--- been created.
-abbrev pub KeepsFilesAt : Ending → Option Told → Option Told → Type 0
-KeepsFilesAt out_of_memory old new = Unit {0}
-KeepsFilesAt bad_words old new = KeepsFiles old new
-KeepsFilesAt read_fault old new = KeepsFiles old new
-KeepsFilesAt write_fault old new = Unit {0}
-KeepsFilesAt (no_such_file name) old new = KeepsFiles old new
-KeepsFilesAt (definition_refused number byte) old new = KeepsFiles old new
-KeepsFilesAt (term_refused number byte) old new = KeepsFiles old new
-KeepsFilesAt (too_large name) old new = KeepsFiles old new

@@ -13,6 +13,7 @@ pub mod PrintedRun
 pub mod ProvedRun
 pub mod DrillProgram
 pub mod DrilledRun
+pub mod BegunLines
 pub mod Reports
 pub mod Causes
 pub mod CompleteRuns

@@ -19,14 +19,20 @@ code_of (limited n t) = 10
 code_of (stopped n cause t) = 11
 code_of (unstarted cause) = 11
 
--- the output grew by the two lines of the run for the files
-pub record PrintsLines (told : Option Told) (asked : RunRequest) (before after : Option (List ℕ))
-    (theory : RewriteTheory)
-    (start : Pattern) (run : Run) : Type 0 where
+-- the output grew by the two lines of the run for the files, or by a part from their front: `Grew`
+-- is `Appends` or `AppendsFront`
+pub record SendsLines (Grew : Option (List ℕ) → Option (List ℕ) → List ℕ → Type 0)
+    (told : Option Told) (asked : RunRequest) (before after : Option (List ℕ))
+    (theory : RewriteTheory) (start : Pattern) (run : Run) : Type 0 where
   pub of_files : IsRunOfFiles told asked theory start run
   pub lines : List ℕ
   pub lines_are : lines_of theory.sig start run ≡ Some lines
-  pub grew : Appends before after lines
+  pub grew : Grew before after lines
+
+-- the output grew by the two lines of the run for the files
+abbrev pub PrintsLines : Option Told → RunRequest → Option (List ℕ) → Option (List ℕ)
+    → RewriteTheory → Pattern → Run → Type 0
+PrintsLines = SendsLines Appends
 
 -- the words ask for a run, its lines were printed, and the code is the one of its end
 pub record IsPrinted (words : List (List ℕ)) (told : Option Told) (before after : Option (List ℕ))

@@ -1,12 +1,10 @@
 -- The file of a proof, after it was written and closed.
-use Rattle.std.specs.Prelude.{◌≡◌, ◌≢◌, ℕ, ◌⊎◌, List, [], ◌++◌, Option, Some, None}
-use Rattle.desk_io.specs.Told.{Told, file_of}
+use Rattle.std.specs.Prelude.{ℕ, ◌⊎◌, List, Option, Some, None}
+use Rattle.desk_io.specs.Told.{Told}
 use Rattle.desk_io.specs.KeptFiles.{KeepsFile}
-use Rattle.desk_io.specs.Changes.{PutsFile}
 use Rattle.term_core.specs.Patterns.{Pattern}
 use Rattle.rule_core.specs.Theories.{RewriteTheory}
-use Rattle.rule_core.specs.Runs.{Run, kept_by}
-use Rattle.mm_justify.specs.Justifying.{IsProofOfRun, IsFrontOfProof}
+use Rattle.rule_core.specs.Runs.{Run}
 use Rattle.prove_run.specs.Summaries.{IsSummaryOf}
 use Rattle.prove_run.specs.declared.summaries.Summary.{Summary}
 use Rattle.kore_prove.specs.ProvedRun.{HoldsProof, HoldsFront}
@@ -19,12 +17,14 @@ pub record HoldsCounted (told told' : Option Told) (file : List ℕ) (theory : R
   pub counted : IsSummaryOf proof.bytes summary
 
 -- the file is as before, or it was created and holds the front of a proof
-abbrev pub MayHoldFront : Option Told → Option Told → List ℕ → RewriteTheory → Pattern → Type 0
-MayHoldFront told told' file theory start =
-    KeepsFile told told' file ⊎ HoldsFront told told' file theory start
+abbrev pub MayHoldFront : Option Told → Option Told → List ℕ → RewriteTheory → ℕ → ℕ → Pattern
+    → Type 0
+MayHoldFront told told' file theory limit calls start =
+    KeepsFile told told' file ⊎ HoldsFront told told' file theory limit calls start
 
 -- the same, if a proof is wanted
-abbrev pub HasWantedFront : Option (List ℕ) → Option Told → Option Told → RewriteTheory → Pattern
-    → Type 0
-HasWantedFront None told told' theory start = Unit {0}
-HasWantedFront (Some file) told told' theory start = MayHoldFront told told' file theory start
+abbrev pub HasWantedFront : Option (List ℕ) → Option Told → Option Told → RewriteTheory → ℕ → ℕ
+    → Pattern → Type 0
+HasWantedFront None told told' theory limit calls start = Unit {0}
+HasWantedFront (Some file) told told' theory limit calls start =
+    MayHoldFront told told' file theory limit calls start

@@ -6,7 +6,7 @@ use Rattle.desk_io.specs.HeldFiles.{TellsNow}
 use Rattle.term_core.specs.Patterns.{Pattern}
 use Rattle.rule_core.specs.Theories.{RewriteTheory}
 use Rattle.rule_core.specs.Runs.{Run, kept_by}
-use Rattle.mm_justify.specs.Justifying.{IsProofOfRun, IsFrontOfProof}
+use Rattle.mm_justify.specs.Justifying.{IsProofOfRun, IsFrontOfRun}
 use Rattle.kore_prove.specs.RunWords.{RunRequest, IsRun}
 use Rattle.kore_prove.specs.Courses.{Call}
 use Rattle.kore_prove.specs.Files.{HoldsRun}
@@ -46,22 +46,22 @@ ProvesRun c code =
     c.course.out'.bytes
     code file
 
--- the file is empty, or holds the front of a proof of a run from the initial term to some
--- configuration
+-- the file is empty, or holds the front of a proof of the run of the initial term, up to one of its
+-- configurations
 pub record HoldsFront (told told' : Option Told) (file : List ℕ) (theory : RewriteTheory)
-    (start : Pattern) :
+    (limit calls : ℕ) (start : Pattern) :
     Type 0 where
   pub bytes : List ℕ
   pub held : TellsNow told told' file bytes
-  pub front : (bytes ≡ []) ⊎ IsFrontOfProof theory start bytes
+  pub front : (bytes ≡ []) ⊎ IsFrontOfRun theory limit calls start bytes
 
--- the same, for the program and the initial term of the files
+-- the same, for the program and the initial term of the files, and the limits of the request
 pub record HoldsFrontOfRun (asked : RunRequest) (told told' : Option Told) (file : List ℕ) :
     Type 0 where
   pub theory : RewriteTheory
   pub start : Pattern
   pub of_files : HoldsRun asked told theory start
-  pub holds : HoldsFront told told' file theory start
+  pub holds : HoldsFront told told' file theory asked.limit asked.calls start
 
 -- if a proof is wanted, its file is as before, or it was created and holds the front of one
 abbrev pub LeavesFront : RunRequest → Option Told → Option Told → Type 0

@@ -1,6 +1,8 @@
 -- How a call that prints no run ends: its exit code, and the line on the error stream that states
 -- the reason.
-use Rattle.std.specs.Prelude.{◌≡◌, ℕ, ◌⊎◌, List, [], ◌∷◌, ◌++◌, Option, codes, decimal}
+use Rattle.std.specs.Prelude.{◌≡◌, ℕ, List, [], ◌∷◌, ◌++◌, Option, Result, Ok, Err, codes, decimal}
+use Rattle.desk_io.specs.declared.desk.DeskFault.{DeskFault}
+use Rattle.desk_io.specs.declared.desk.DeskFault.TheVariants as fault
 use Rattle.desk_io.specs.Sent.{Appends}
 use Rattle.desk_io.specs.SinkChanges.{AppendsFront}
 use Rattle.desk_io.specs.Counts.{CountRose}
@@ -47,14 +49,23 @@ reason (too_large name) = codes "too large " ++ name
 abbrev pub report_line : Ending → List ℕ
 report_line e = codes "kore_prove: " ++ (reason e ++ 10 ∷ [])
 
--- the stream got the whole line, or a part from its front and its count of faults rose
-abbrev pub SaysLine : Ending → Option (List ℕ) → Option (List ℕ) → ℕ → ℕ → Type 0
-SaysLine e before after old new = Appends before after (report_line e)
-    ⊎ (AppendsFront before after (report_line e) × CountRose old new)
+-- What the stream got, by the answer to sending the line: the whole line; or, after a fault, a part
+-- from its front. If the fault is a failure of the stream, its count of faults rose.
+abbrev pub Gets : Ending → Result (Unit {0}) DeskFault → Option (List ℕ) → Option (List ℕ) → ℕ → ℕ
+    → Type 0
+Gets e (Ok done) before after old new = Appends before after (report_line e)
+Gets e (Err fault.Failed) before after old new =
+    AppendsFront before after (report_line e) × CountRose old new
+Gets e (Err fault.Memory) before after old new = AppendsFront before after (report_line e)
 
--- The code is the one of the end and the stream got its line. Or memory ran out in writing it: then
--- the code is 1, out of memory, and the stream got a part of the line from its front.
-abbrev pub Reports : Ending → Option (List ℕ) → Option (List ℕ) → ℕ → ℕ → ℕ → Type 0
-Reports e before after old new code =
-    ((code ≡ end_code e) × SaysLine e before after old new)
-    ⊎ ((code ≡ 1) × AppendsFront before after (report_line e))
+-- the exit code: that of the end, or 1 if the answer to sending its line is that memory ran out
+abbrev pub code_after : Ending → Result (Unit {0}) DeskFault → ℕ
+code_after e (Ok done) = end_code e
+code_after e (Err fault.Failed) = end_code e
+code_after e (Err fault.Memory) = end_code out_of_memory
+
+-- the line was sent to the stream, and the code is the one after the answer
+pub record Reports (e : Ending) (before after : Option (List ℕ)) (old new code : ℕ) : Type 0 where
+  pub answer : Result (Unit {0}) DeskFault
+  pub got : Gets e answer before after old new
+  pub code_is : code ≡ code_after e answer

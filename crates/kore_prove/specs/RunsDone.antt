@@ -6,9 +6,8 @@ use Rattle.rule_core.specs.Runs.{Run, IsRunOf}
 use Rattle.run_lines.specs.Lines.{lines_of}
 use Rattle.kore_prove.specs.DrillWords.{DrillRequest}
 use Rattle.kore_prove.specs.RunWords.{RunRequest}
-use Rattle.kore_prove.specs.Causes.{RunCause, DrillCause, KeepsOutput}
+use Rattle.kore_prove.specs.Causes.{RunCause, DrillCause}
 use Rattle.kore_prove.specs.Courses.{Course}
-use Rattle.kore_prove.specs.FileCauses.{KeepsFilesAt}
 use Rattle.kore_prove.specs.PrintedRun.{PrintsLines}
 use Rattle.kore_prove.specs.ProvedRun.{HasWantedProof, LeavesFront}
 use Rattle.desk_io.specs.KeptFiles.{KeepsOthers}
@@ -35,10 +34,8 @@ pub record IsRunDone (asked : RunRequest) (c : Course) (run : Run) : Type 0 wher
 -- no run was printed
 pub record IsRunEnded (asked : RunRequest) (c : Course) (e : Ending) : Type 0 where
   pub cause : RunCause asked c e
-  pub output : KeepsOutput e c.out.bytes c.out'.bytes
   pub front : LeavesFront asked c.desk.told c.desk'.told
   pub others : KeepsOthers (IsWanted asked) c.desk.told c.desk'.told
-  pub files : KeepsFilesAt e c.desk.told c.desk'.told
 
 -- the drill was made and printed
 pub record IsDrillDone (asked : DrillRequest) (c : Course) : Type 0 where
@@ -47,8 +44,6 @@ pub record IsDrillDone (asked : DrillRequest) (c : Course) : Type 0 where
 
 -- the drill was not made
 pub record IsDrillEnded (asked : DrillRequest) (c : Course) (e : Ending) : Type 0 where
-  pub cause : DrillCause asked.steps c e
-  pub output : KeepsOutput e c.out.bytes c.out'.bytes
+  pub cause : DrillCause asked c e
   pub front : LeavesDrill asked c.desk.told c.desk'.told
   pub others : KeepsOthers (IsDrillFile asked) c.desk.told c.desk'.told
-  pub files : KeepsFilesAt e c.desk.told c.desk'.told

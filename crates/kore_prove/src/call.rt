@@ -2,6 +2,7 @@
 ghost use Rattle.std.specs.Prelude.{◌≡◌, ◌⊎◌, IsFalse, IfOk, IfErr, Err, map, string_bytes};
 ghost use Rattle.desk_io.specs.KeptFiles.{KeepsFiles, KeepsOthers};
 ghost use Rattle.run_loop.specs.RunEnds.{plain_run};
+ghost use Rattle.kore_prove.specs.BegunLines.{StopsPrinting, FailsInPrinting};
 ghost use Rattle.kore_prove.specs.Calls.{IsAnswered};
 ghost use Rattle.kore_prove.specs.Causes.{Ends};
 ghost use Rattle.kore_prove.specs.CompleteDrills.{CompletesDrill};
@@ -26,7 +27,7 @@ use crate::reading::read_run;
 use crate::report::{End, send_report, write_end};
 use crate::verification::verify_command;
 use command_words::{Command, RunWords, WordsEnd, read_words};
-use desk_io::{Desk, DeskFault, Sink, send_whole};
+use desk_io::{Desk, Sink, send_whole};
 use run_loop::RunEnd;
 use std::alloc::Global;
 
@@ -41,7 +42,8 @@ pub struct Status {
 /// verification prints the line of the verdict on the database. A drill runs a definition of its
 /// own, writes the proof to its file, and prints the two lines of the run and one line with the
 /// counts of the file. If the call does not print these lines, `err` gets one line that states the
-/// reason, and the file of the proof is as before or holds the front of a proof.
+/// reason, and the file of the proof is as before or holds the front of a proof. The output then
+/// got nothing, or a part of the lines from the front; the proof is whole before the first of them.
 ///
 /// The status has the exit code. A run: 0 if it is stuck, 10 if it reached its limit, 11 if it is
 /// blocked. A verification: 0 if the database is valid, 12 if it is not. A drill: 0. Any other end:
@@ -73,6 +75,12 @@ pub fn kore_main<D: Desk, O: Sink, E: Sink>(
         (map string_bytes words.now) (D.state desk.old) (D.state desk.new) (O.state out.old)
         (O.state out.new) (E.state err.old) (E.state err.new)) }
     ensures ends { Ends (call_of
+        (map string_bytes words.now) (D.state desk.old) (D.state desk.new) (O.state out.old)
+        (O.state out.new) (E.state err.old) (E.state err.new)) result.code }
+    ensures stops_printing { StopsPrinting (call_of
+        (map string_bytes words.now) (D.state desk.old) (D.state desk.new) (O.state out.old)
+        (O.state out.new) (E.state err.old) (E.state err.new)) result.code }
+    ensures fails_in_printing { FailsInPrinting (call_of
         (map string_bytes words.now) (D.state desk.old) (D.state desk.new) (O.state out.old)
         (O.state out.new) (E.state err.old) (E.state err.new)) result.code }
     ensures complete { Completes (call_of
@@ -161,11 +169,9 @@ pub fn report<E: Sink>(err: &mut E, end: &End) -> Status
         (E.state err.old).bytes (E.state err.new).bytes (E.state err.old).faults
         (E.state err.new).faults result.code }
 {
-    match send_report(err, end) {
-        Err(DeskFault::Memory) => Status {
-            code: End::OutOfMemory.code(),
-        },
-        _ => Status { code: end.code() },
+    let answer = send_report(err, end);
+    Status {
+        code: end.code_after(answer),
     }
 }
 

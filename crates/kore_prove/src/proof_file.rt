@@ -21,8 +21,8 @@ use std::alloc::Global;
 /// How the requested run ends, and its two lines. If a file for the proof is named, it is created
 /// before the run, written during the run, and closed after it.
 ///
-/// Errors: out of memory, or a fault that the desk counted. After an error the file is as before or
-/// holds the front of a proof.
+/// Errors: out of memory, or a fault that the desk counted. After an error the file is as before, is
+/// empty, or holds the front of a proof of this run up to one of its configurations.
 pub fn made_lines<D: Desk>(
     alloc: Global,
     desk: &mut D,
@@ -39,7 +39,8 @@ pub fn made_lines<D: Desk>(
         (theory_of accepted.now.program) (plain_pattern accepted.now.start) (plain_run r.0)) }
     ensures front { OnErr result
         (HasWantedFront (request asked.now).proof (D.state desk.old).told (D.state desk.new).told
-        (theory_of accepted.now.program) (plain_pattern accepted.now.start)) }
+        (theory_of accepted.now.program) asked.now.limit asked.now.calls
+        (plain_pattern accepted.now.start)) }
     ensures failed { IsErrOf result DeskFault.Failed
         → CountRose (D.state desk.old).write_faults (D.state desk.new).write_faults }
     ensures files { KeepsOthers (IsWanted (request asked.now)) (D.state desk.old).told
@@ -80,7 +81,8 @@ pub fn proved_lines<D: Desk>(
         r.summary) }
     ensures front { OnErr result (MayHoldFront
         (D.state desk.old).told (D.state desk.new).told file.now
-        (theory_of accepted.now.program) (plain_pattern accepted.now.start)) }
+        (theory_of accepted.now.program) bounds.limit bounds.calls
+        (plain_pattern accepted.now.start)) }
     ensures failed { IsErrOf result DeskFault.Failed
         → CountRose (D.state desk.old).write_faults (D.state desk.new).write_faults }
     ensures files { KeepsOthers (λ other. Some file.now ≡ Some other) (D.state desk.old).told

@@ -5,7 +5,7 @@ ghost use Rattle.std.specs.Borrow.{Bor};
 ghost use Rattle.desk_io.specs.Sent.{Appends};
 ghost use Rattle.desk_io.specs.SinkChanges.{AppendsFront};
 ghost use Rattle.desk_io.specs.Counts.{CountRose};
-ghost use Rattle.kore_prove.specs.Reports.{end_code, refusal, report_line};
+ghost use Rattle.kore_prove.specs.Reports.{end_code, code_after, refusal, report_line};
 ghost use Rattle.kore_prove.specs.PlainEnds.{fault_end, plain_end};
 
 use desk_io::{DeskFault, Sink, send_whole};
@@ -46,6 +46,16 @@ impl End<'_> {
             End::DefinitionRefused(..) => 6,
             End::TermRefused(..) => 7,
             End::TooLarge(_) => 8,
+        }
+    }
+
+    /// The exit code after this answer to sending the line of the end.
+    pub fn code_after(&self, answer: Result<(), DeskFault>) -> u8
+        ensures { result ≡ code_after (plain_end self.now) answer }
+    {
+        match answer {
+            Err(DeskFault::Memory) => End::OutOfMemory.code(),
+            _ => self.code(),
         }
     }
 }

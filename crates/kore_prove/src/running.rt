@@ -59,8 +59,8 @@ pub fn lines_of_run(
 /// How the run within these bounds ends, its two lines, and the counts of its proof. The proof is
 /// appended to the created file during the run, and the file is closed, even after an error.
 ///
-/// Errors: out of memory, or a fault that the desk counted. After an error the front of a proof,
-/// perhaps nothing, was appended.
+/// Errors: out of memory, or a fault that the desk counted. After an error nothing was appended, or
+/// the front of a proof of this run up to one of its configurations.
 pub fn proved_lines_of_run<D: Desk>(
     alloc: Global,
     desk: &mut D,
@@ -77,7 +77,8 @@ pub fn proved_lines_of_run<D: Desk>(
         (theory_of accepted.now.program) (plain_pattern accepted.now.start) (plain_run r.end)
         r.summary) }
     ensures front { OnErr result (PutsFront (D.state desk.old).told (D.state desk.new).told
-        (theory_of accepted.now.program) (plain_pattern accepted.now.start)) }
+        (theory_of accepted.now.program) bounds.limit bounds.calls
+        (plain_pattern accepted.now.start)) }
     ensures files { KeepsOthersNow (D.state desk.old).told (D.state desk.new).told }
     ensures created { IsFalse (D.created desk.new) }
     ensures failed { IsErrOf result DeskFault.Failed

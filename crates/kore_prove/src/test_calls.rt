@@ -1,5 +1,5 @@
 // Calls of the program over a desk and sinks in memory.
-ghost use Rattle.std.specs.Prelude.{IfOk, IsFalse};
+ghost use Rattle.std.specs.Prelude.{◌<◌, IfOk, IsFalse};
 
 use crate::call::kore_main;
 use crate::test_definitions::TWO_STEPS;
@@ -11,7 +11,7 @@ use std::alloc::{AllocError, Global};
 #[derive(Clone, Copy)]
 pub(crate) struct Case<'t> {
     pub(crate) words: &'static [&'static str],
-    pub(crate) definition: &'static str,
+    pub(crate) definition: &'t str,
     pub(crate) term: &'t str,
     pub(crate) desk_fails: &'static [u64],
     pub(crate) out_fails: &'static [u64],
@@ -58,15 +58,57 @@ pub(crate) fn first_failing(
 
 /// The desk after the call, and whether the result is exactly the expected one.
 pub(crate) fn call(alloc: Global, case: &Case<'_>) -> Result<(MemDesk, bool), AllocError> {
+    let faults = Faults {
+        most: 5_000,
+        desk: case.desk_fails,
+        out: case.out_fails,
+        err: case.err_fails,
+    };
+    let left = call_with(alloc, case, faults)?;
+    let holds = left.code == case.code
+        && left.out.bytes() == case.out.as_bytes()
+        && left.err.bytes() == case.err.as_bytes();
+    Ok((left.desk, holds))
+}
+
+/// The numbers of the calls of the desk and of the streams that fail, and how many bytes the desk
+/// reads or writes in each call at most.
+#[derive(Clone, Copy)]
+pub(crate) struct Faults<'f> {
+    pub(crate) most: usize,
+    pub(crate) desk: &'f [u64],
+    pub(crate) out: &'f [u64],
+    pub(crate) err: &'f [u64],
+}
+
+/// What a call leaves.
+#[derive(Drop)]
+pub(crate) struct Left {
+    pub(crate) code: u8,
+    pub(crate) desk: MemDesk,
+    pub(crate) out: MemSink,
+    pub(crate) err: MemSink,
+}
+
+/// What a call with these words and files leaves if these faults occur.
+pub(crate) fn call_with(
+    alloc: Global,
+    case: &Case<'_>,
+    faults: Faults<'_>,
+) -> Result<Left, AllocError>
+    requires { 0 < faults.most }
+{
     let words = words_of(alloc, case.words)?;
-    let mut desk = two_files(alloc, case.definition, case.term, case.desk_fails)?;
-    let mut out = MemSink::new(alloc, 5, Vec::from_slice(alloc, case.out_fails)?);
-    let mut err = MemSink::new(alloc, 5, Vec::from_slice(alloc, case.err_fails)?);
+    let mut desk = two_files(alloc, case, faults)?;
+    let mut out = MemSink::new(alloc, 5, Vec::from_slice(alloc, faults.out)?);
+    let mut err = MemSink::new(alloc, 5, Vec::from_slice(alloc, faults.err)?);
     let status = kore_main(alloc, &words, &mut desk, &mut out, &mut err);
-    let holds = status.code == case.code
-        && out.bytes() == case.out.as_bytes()
-        && err.bytes() == case.err.as_bytes();
-    Ok((desk, holds))
+    Ok(Left {
+        code: status.code,
+        desk,
+        out,
+        err,
+    })
 }
 
 /// The words as the program gets them.
@@ -78,23 +120,18 @@ fn words_of(alloc: Global, given: &[&str]) -> Result<Vec<String>, AllocError> {
     Ok(words)
 }
 
-/// A desk with a definition and a term. It reads at most 5,000 bytes in each call, and fails the
-/// calls with these numbers.
-fn two_files(
-    alloc: Global,
-    definition: &str,
-    term: &str,
-    fail_at: &[u64],
-) -> Result<MemDesk, AllocError>
+/// A desk with a definition and a term.
+fn two_files(alloc: Global, case: &Case<'_>, faults: Faults<'_>) -> Result<MemDesk, AllocError>
+    requires { 0 < faults.most }
     ensures { IfOk result (λ desk. IsFalse (⟦<MemDesk as Desk>⟧.created desk)) }
 {
     let mut files = Vec::new(alloc);
-    let definition_bytes = Vec::from_slice(alloc, definition.as_bytes())?;
-    let term_bytes = Vec::from_slice(alloc, term.as_bytes())?;
+    let definition_bytes = Vec::from_slice(alloc, case.definition.as_bytes())?;
+    let term_bytes = Vec::from_slice(alloc, case.term.as_bytes())?;
     let definition_name = String::from_str(alloc, "d.kore")?;
     let term_name = String::from_str(alloc, "t.kore")?;
     files.push((definition_name, definition_bytes))?;
     files.push((term_name, term_bytes))?;
-    let faults = Vec::from_slice(alloc, fail_at)?;
-    Ok(MemDesk::new(files, 5_000, faults))
+    let failing = Vec::from_slice(alloc, faults.desk)?;
+    Ok(MemDesk::new(files, faults.most, failing))
 }

@@ -411,3 +411,17 @@ axiom{} \rewrites{T{}}(\and{T{}}(both{}(X:L{},Y:L{}),\top{T{}}()),
   \and{T{}}(done{}(append{}(X:L{},Y:L{})),\top{T{}}())) []
 endmodule []
 "#;
+
+pub(crate) const WITH_FUNCTION: &str = r#"[]
+module D
+hooked-sort SortInt{} [hook{}("INT.Int")]
+sort T{} []
+symbol t{}(SortInt{}) : T{} [constructor{}()]
+hooked-symbol sub{}(SortInt{},SortInt{}) : SortInt{} [function{}(),hook{}("INT.sub")]
+symbol down{}(SortInt{}) : SortInt{} [function{}()]
+axiom{R} \equals{SortInt{},R}(down{}(\dv{SortInt{}}("0")),
+  \and{SortInt{}}(\dv{SortInt{}}("0"),\top{SortInt{}}())) []
+axiom{R} \equals{SortInt{},R}(down{}(N:SortInt{}),
+  \and{SortInt{}}(down{}(sub{}(N:SortInt{},\dv{SortInt{}}("1"))),\top{SortInt{}}())) []
+endmodule []
+"#;

@@ -1,18 +1,18 @@
 // The verdict on a database, and its line.
-ghost use Rattle.std.specs.Prelude.{◌≡◌, ◌≤◌, List, ℕ, Option, IfOk, IfErr, OnOk, OnErr, IsErrOf};
+ghost use Rattle.std.specs.Prelude.{◌≡◌, ◌≤◌, IfOk, IfErr, OnOk, OnErr, IsErrOf};
 ghost use Rattle.desk_io.specs.KeptFiles.{KeepsFiles};
 ghost use Rattle.desk_io.specs.Sent.{Appends};
 ghost use Rattle.desk_io.specs.SinkChanges.{AppendsFront};
 ghost use Rattle.desk_io.specs.Counts.{CountRose};
 ghost use Rattle.kore_prove.specs.FileCauses.{UnreadCause};
-ghost use Rattle.kore_prove.specs.Causes.{VerifyCause, KeepsOutput};
+ghost use Rattle.kore_prove.specs.Causes.{DatabaseCause, VerifyCause};
 ghost use Rattle.kore_prove.specs.Courses.{Course, course_of};
 ghost use Rattle.kore_prove.specs.Verdicts.{database_limit, valid_line, invalid_line};
 ghost use Rattle.kore_prove.specs.PlainEnds.{plain_end};
 ghost use Rattle.kore_prove.specs.DatabaseVerdicts.{IsVerdictOn, HoldsDatabase, PrintsVerdictOn};
 ghost use Rattle.kore_prove.specs.DatabaseVerdicts.{verdict_code, verdict_line};
 
-use crate::report::{End, send_pieces};
+use crate::report::{End, send_pieces, write_end};
 use desk_io::{Desk, DeskFault, ReadEnd, Sink, read_file};
 use itoa::Buffer;
 use mm_text::MmFault;
@@ -55,8 +55,6 @@ pub fn verify_command<'a, D: Desk, O: Sink>(
     ensures cause { IfErr result (λ end. VerifyCause file.now (course_of
         (D.state desk.old) (D.state desk.new) (O.state out.old) (O.state out.new))
         (plain_end end)) }
-    ensures output { IfErr result (λ end.
-        KeepsOutput (plain_end end) (O.state out.old).bytes (O.state out.new).bytes) }
     ensures files { KeepsFiles (D.state desk.old).told (D.state desk.new).told }
     ensures created { D.created desk.new ≡ D.created desk.old }
 {
@@ -66,8 +64,7 @@ pub fn verify_command<'a, D: Desk, O: Sink>(
     };
     match send_verdict(out, &verdict) {
         Ok(()) => Ok(verdict),
-        Err(DeskFault::Failed) => Err(End::WriteFault),
-        Err(DeskFault::Memory) => Err(End::OutOfMemory),
+        Err(fault) => Err(write_end(fault)),
     }
 }
 
@@ -104,10 +101,9 @@ fn verdict_on(alloc: Global, bytes: &[u8]) -> Result<Verdict, AllocError>
 
 /// The end of a call whose file was not read as a whole.
 fn unread_end(end: ReadEnd, name: &str) -> End<'_>
-    ensures cause { (c : Course) → UnreadCause c.desk.told name.now database_limit
+    ensures { (c : Course) → UnreadCause c.desk.told name.now database_limit
         c.desk.read_faults c.desk'.read_faults end
-        → VerifyCause name.now c (plain_end result) }
-    ensures output { (output : Option (List ℕ)) → KeepsOutput (plain_end result) output output }
+        → DatabaseCause name.now c (plain_end result) }
 {
     match end {
         ReadEnd::NoFile => End::NoSuchFile(name),

@@ -7,14 +7,14 @@ use Rattle.desk_io.specs.Told.{Told, file_of}
 use Rattle.desk_io.specs.Changes.{TellsCreated, Writes, Closes, PutsFile}
 use Rattle.term_core.specs.Patterns.{Pattern}
 use Rattle.rule_core.specs.Theories.{RewriteTheory}
-use Rattle.rule_core.specs.Runs.{Run, kept_by}
-use Rattle.mm_justify.specs.Justifying.{IsProofOfRun, IsFrontOfProof}
+use Rattle.rule_core.specs.Runs.{Run, IsRunOf, kept_by}
+use Rattle.rule_core.proofs.RunEnds.{run_may_end}
+use Rattle.mm_justify.specs.Justifying.{IsProofOfRun, IsFrontOfRun}
 use Rattle.prove_run.specs.RunProof.{RunProof}
 use Rattle.prove_run.specs.Summaries.{IsSummaryOf, summary_of}
-use Rattle.prove_run.specs.WrittenProofs.{WritesFrontOfProof}
 use Rattle.prove_run.specs.declared.summaries.Summary.{Summary}
 use Rattle.run_proof.specs.ClosedProofs.{KeepsOthersNow, PutsCreated, PutsFront, PutsProof}
-use Rattle.run_proof.specs.ProvedSteps.{WritesProof}
+use Rattle.run_proof.specs.ProvedSteps.{WritesFrontOfRun, WritesProof}
 
 some_same : {A : Type 0} (a b : A) → Some a ≡ Some b → a ≡ b
 some_same a b h = cc
@@ -54,34 +54,41 @@ puts_others (Some made) new name bytes told h = (
 )
 
 -- the front of a proof was written, and the file was closed
-pub front_closed : (made mid new : Option Told) (theory : RewriteTheory) (start : Pattern)
-    → WritesFrontOfProof made mid theory start → Closes mid new → PutsFront made new theory start
-front_closed made mid new theory start h k = (h.0, written_closed made mid new h.0 h.1 k, h.2)
+pub front_closed : (made mid new : Option Told) (theory : RewriteTheory) (limit calls : ℕ)
+    (start : Pattern) → WritesFrontOfRun made mid theory limit calls start → Closes mid new
+    → PutsFront made new theory limit calls start
+front_closed made mid new theory limit calls start h k =
+    (h.0, written_closed made mid new h.0 h.1 k, h.2)
 
-pub front_others : (made mid new : Option Told) (theory : RewriteTheory) (start : Pattern)
-    → WritesFrontOfProof made mid theory start → Closes mid new → TellsCreated true made
-    → KeepsOthersNow made new
-front_others None mid new theory start h k told = tt
-front_others (Some made) mid new theory start h k told =
+pub front_others : (made mid new : Option Told) (theory : RewriteTheory) (limit calls : ℕ)
+    (start : Pattern) → WritesFrontOfRun made mid theory limit calls start → Closes mid new
+    → TellsCreated true made → KeepsOthersNow made new
+front_others None mid new theory limit calls start h k told = tt
+front_others (Some made) mid new theory limit calls start h k told =
     puts_others (Some made) new told.0 h.0 told (written_closed (Some made) mid new h.0 h.1 k)
 
--- a whole proof is a front of itself
-pub proof_front : (theory : RewriteTheory) (start end : Pattern) (bytes : List ℕ)
-    → IsProofOfRun bytes theory start end → IsFrontOfProof theory start bytes
-proof_front theory start end bytes h = (
-  end,
+-- a whole proof of the run is a front of one
+pub proof_front : (theory : RewriteTheory) (limit calls : ℕ) (start : Pattern) (run : Run)
+    (bytes : List ℕ) → IsRunOf theory limit calls start run
+    → IsProofOfRun bytes theory start (kept_by start run)
+    → IsFrontOfRun theory limit calls start bytes
+proof_front theory limit calls start run bytes is h = (
+  kept_by start run,
+  run_may_end theory limit calls start run is,
   (
     [],
-    subst (λ (text : List ℕ). IsProofOfRun text theory start end) (sym (append-nil bytes)) h,
+    subst (λ (text : List ℕ). IsProofOfRun text theory start (kept_by start run))
+        (sym (append-nil bytes)) h,
   ),
 )
 
 -- the front of a proof that was written whole
-pub proof_written : (old new : Option Told) (theory : RewriteTheory) (start : Pattern) (run : Run)
-    (proof : RunProof) → WritesProof old new theory start run proof
-    → WritesFrontOfProof old new theory start
-proof_written old new theory start run proof h =
-    (h.0, h.1, inr (proof_front theory start (kept_by start run) h.0 h.2.proves))
+pub proof_written : (old new : Option Told) (theory : RewriteTheory) (limit calls : ℕ)
+    (start : Pattern) (run : Run) (proof : RunProof) → IsRunOf theory limit calls start run
+    → WritesProof old new theory start run proof
+    → WritesFrontOfRun old new theory limit calls start
+proof_written old new theory limit calls start run proof is h =
+    (h.0, h.1, inr (proof_front theory limit calls start run h.0 is h.2.proves))
 
 -- a proof was written, and the file was closed
 pub proof_closed : (made mid new : Option Told) (theory : RewriteTheory) (start : Pattern)
@@ -96,8 +103,9 @@ proof_closed made mid new theory start run proof s h k is = (
   ap (λ (x : Summary). x.steps) is ∙ h.2.steps_are,
 )
 
--- a proof that was put is a front of itself
-pub put_front : (made new : Option Told) (theory : RewriteTheory) (start : Pattern) (run : Run)
-    (s : Summary) → PutsProof made new theory start run s → PutsFront made new theory start
-put_front made new theory start run s h =
-    (h.0, h.1, inr (proof_front theory start (kept_by start run) h.0 h.2))
+-- a proof of the run that was put is a front of one
+pub put_front : (made new : Option Told) (theory : RewriteTheory) (limit calls : ℕ)
+    (start : Pattern) (run : Run) (s : Summary) → IsRunOf theory limit calls start run
+    → PutsProof made new theory start run s → PutsFront made new theory limit calls start
+put_front made new theory limit calls start run s is h =
+    (h.0, h.1, inr (proof_front theory limit calls start run h.0 is h.2))

@@ -12,9 +12,10 @@ use Rattle.term_core.specs.RulePatterns.{plain_pattern}
 use Rattle.term_core.specs.declared.rule_patterns.RulePat.{RulePat}
 use Rattle.rule_core.specs.Evaluation.{most_height, Cause}
 use Rattle.rule_core.specs.ProgramView.{theory_of}
-use Rattle.rule_core.specs.Records.{StepRecord, RecordsStep}
-use Rattle.rule_core.specs.Runs.{Run, stuck, limited, stopped, unstarted, kept_by, IsRunOf}
-use Rattle.rule_core.specs.Runs.{Steps, steps_on, stays, stops, Reaches, after_step}
+use Rattle.rule_core.specs.Records.{StepRecord, RecordsStep, result_of}
+use Rattle.rule_core.specs.Runs.{Run, stuck, limited, stopped, unstarted, kept_by, steps_of, IsRunOf}
+use Rattle.rule_core.specs.Runs.{Steps, steps_on, stays, stops, Reaches, after_step, MayEndAt}
+use Rattle.rule_core.specs.Runs.{at_configuration}
 use Rattle.rule_core.specs.Theories.{RewriteTheory}
 use Rattle.rule_core.specs.declared.rules.Program.{Program}
 use Rattle.mm_justify.specs.Justifying.{IsProofOfRun, IsFrontOfProof}
@@ -24,10 +25,10 @@ use Rattle.rewriter.specs.Configurations.{RunState, IsConfiguration}
 use Rattle.prove_run.specs.RunProof.{RunProof, configuration, reached}
 use Rattle.prove_run.specs.Proving.{FitsProof, CanStep, StepsTo}
 use Rattle.prove_run.specs.WrittenProofs.{WritesBeginning, WritesStep, WritesFrontOfProof}
-use Rattle.prove_run.specs.WrittenProofs.{WritesFrontAfter}
+use Rattle.prove_run.specs.WrittenProofs.{WritesFrontAfter, EndsStep}
 use Rattle.prove_run.proofs.FileLaws.{none_added}
-use Rattle.run_proof.specs.ClosedProofs.{steps_of}
-use Rattle.run_proof.specs.ProvedSteps.{IsProvedAt, GoesOn, WritesProof}
+use Rattle.run_proof.specs.ProvedSteps.{IsProvedAt, GoesOn, WritesProof, WritesFrontOfRun}
+use Rattle.run_proof.specs.ProvedSteps.{EndsNext}
 
 -- ---- a step
 
@@ -117,43 +118,114 @@ goes_then a b c p q r first second = record {
 -- ---- the front that is left after an error
 
 -- the same front, for the program and the start of another proof
-front_for : (p q : RunProof) (bytes : List ℕ) → q.program ≡ p.program → q.start ≡ p.start
-    → IsFrontOfProof (theory_of q.program) (plain_pattern q.start) bytes
-    → IsFrontOfProof (theory_of p.program) (plain_pattern p.start) bytes
-front_for p q bytes same starts h =
-    subst (λ (s : RulePat). IsFrontOfProof (theory_of p.program) (plain_pattern s) bytes) starts
-    (subst (λ (o : Program). IsFrontOfProof (theory_of o) (plain_pattern q.start) bytes) same h)
+front_for : (p q : RunProof) (end : Pattern) (bytes : List ℕ) → q.program ≡ p.program
+    → q.start ≡ p.start
+    → IsFrontOfProof (theory_of q.program) (plain_pattern q.start) end bytes
+    → IsFrontOfProof (theory_of p.program) (plain_pattern p.start) end bytes
+front_for p q end bytes same starts h =
+    subst (λ (s : RulePat). IsFrontOfProof (theory_of p.program) (plain_pattern s) end bytes) starts
+    (subst (λ (o : Program). IsFrontOfProof (theory_of o) (plain_pattern q.start) end bytes) same h)
 
-pub front_later : (a b c : Option Told) (p q : RunProof) → GoesOn a b p q → WritesFrontAfter b c q
-    → WritesFrontAfter a c p
-front_later a b c p q goes (more, writes, front) = (
+-- the front of a proof that ends at more patterns
+pub front_more : (old new : Option Told) (proof : RunProof) (ends more : Pattern → Type 0)
+    → ((end : Pattern) → ends end → more end) → WritesFrontAfter old new proof ends
+    → WritesFrontAfter old new proof more
+front_more old new proof ends more f (added, writes, front) = (
+  added,
+  writes,
+  λ text fits. let h = front text fits in (h.0, f h.0 h.1, h.2),
+)
+
+pub front_later : (a b c : Option Told) (p q : RunProof) (ends : Pattern → Type 0)
+    → GoesOn a b p q → WritesFrontAfter b c q ends → WritesFrontAfter a c p ends
+front_later a b c p q ends goes (more, writes, front) = (
   goes.text.0 ++ more,
   Writes-then a b c goes.text.0 more goes.text.1 writes,
-  λ text fits. front_for p q (text ++ (goes.text.0 ++ more)) goes.same_program goes.same_start
-      (subst (IsFrontOfProof (theory_of q.program) (plain_pattern q.start))
-      (append_assoc text goes.text.0 more)
-      (front (text ++ goes.text.0) (goes.text.2 text fits))),
+  λ text fits. let h = front (text ++ goes.text.0) (goes.text.2 text fits) in (
+    h.0,
+    h.1,
+    front_for p q h.0 (text ++ (goes.text.0 ++ more)) goes.same_program goes.same_start
+        (subst (IsFrontOfProof (theory_of q.program) (plain_pattern q.start) h.0)
+        (append_assoc text goes.text.0 more) h.2),
+  ),
 )
 
 -- all that was made was written
-pub front_so_far : (a b : Option Told) (p q : RunProof) → GoesOn a b p q → TellsCreated true b
-    → WritesFrontAfter a b p
-front_so_far a b p q goes h = front_later a b b p q goes (none_added b q h)
+pub front_so_far : (a b : Option Told) (p q : RunProof) (ends : Pattern → Type 0) → ends (reached q)
+    → GoesOn a b p q → TellsCreated true b → WritesFrontAfter a b p ends
+front_so_far a b p q ends here goes h =
+    front_later a b b p q ends goes (none_added b q ends here h)
+
+-- where a proof ends whose step was not written whole
+pub ends_next : (program : Program) (run now : RunState) (proof : RunProof) (step : StepRecord)
+    → IsProvedAt program run proof
+    → Steps (theory_of program) run.config run.calls (steps_on now.config now.calls)
+    → result_of step.right ≡ now.config → (end : Pattern)
+    → EndsStep proof (result_of step.right) end → EndsNext program run end
+ends_next program run now proof step at steps is end (inl here) = inl (here ∙ at.is_reached)
+ends_next program run now proof step at steps is end (inr there) =
+    inr (now.config, now.calls, steps, there ∙ ap ground_pattern is)
+
+-- it is where the run may be cut
+pub may_end : (program : Program) (limit calls n : ℕ) (start : Pattern) (run : RunState)
+    → Reaches (theory_of program) start calls n run.config run.calls → n < limit → (end : Pattern)
+    → EndsNext program run end → MayEndAt (theory_of program) limit calls start end
+may_end program limit calls n start run reached less end (inl here) =
+    subst (MayEndAt (theory_of program) limit calls start) (sym here)
+    (at_configuration reached (omega (arith, less)))
+may_end program limit calls n start run reached less end (inr (u, d, step, there)) =
+    subst (MayEndAt (theory_of program) limit calls start) (sym there)
+    (at_configuration (one_more (theory_of program) start calls n run.calls d run.config u reached step)
+    (omega (arith, less)))
+
+pub may_end_here : (program : Program) (limit calls n : ℕ) (start : Pattern) (run : RunState)
+    (proof : RunProof) → Reaches (theory_of program) start calls n run.config run.calls → n ≤ limit
+    → IsProvedAt program run proof
+    → MayEndAt (theory_of program) limit calls start (reached proof)
+may_end_here program limit calls n start run proof reached le at =
+    subst (MayEndAt (theory_of program) limit calls start) (sym at.is_reached)
+    (at_configuration reached le)
+
+-- what follows from what holds after an error
+pub on_err_more : {T E : Type 0} (r : Result T E) (P Q : Type 0) → (P → Q) → OnErr r P → OnErr r Q
+on_err_more (Ok t) P Q f h = tt
+on_err_more (Err e) P Q f h = f h
+
+-- nothing was written
+pub none_of_run : (told : Option Told) (theory : RewriteTheory) (limit calls : ℕ) (start : Pattern)
+    → TellsCreated true told → WritesFrontOfRun told told theory limit calls start
+none_of_run told theory limit calls start h = ([], Writes-nil told h, inl refl)
+
+-- the front of a proof of a run, up to a pattern at which the run may be cut
+pub front_of_run : (old new : Option Told) (theory : RewriteTheory) (limit calls : ℕ)
+    (start end : Pattern) → MayEndAt theory limit calls start end
+    → WritesFrontOfProof old new theory start end → WritesFrontOfRun old new theory limit calls start
+front_of_run old new theory limit calls start end cut (bytes, writes, inl none) =
+    (bytes, writes, inl none)
+front_of_run old new theory limit calls start end cut (bytes, writes, inr front) =
+    (bytes, writes, inr (end, cut, front))
 
 -- the front of a proof from its beginning on
 pub front_started : (old mid new : Option Told) (program : Program) (start : RulePat)
-    (value : Option Tree) (proof : RunProof) → WritesBeginning old mid program start value proof
-    → WritesFrontAfter mid new proof
-    → WritesFrontOfProof old new (theory_of program) (plain_pattern start)
-front_started old mid new program start value proof (text, writes, begins) (more, writes', front) = (
-  text ++ more,
-  Writes-then old mid new text more writes writes',
-  inr (subst (λ (s : RulePat).
-      IsFrontOfProof (theory_of program) (plain_pattern s) (text ++ more)) begins.starts
-      (subst (λ (p : Program).
-      IsFrontOfProof (theory_of p) (plain_pattern proof.start) (text ++ more))
-      begins.same_program (front text begins.fits))),
-)
+    (limit calls : ℕ) (value : Option Tree) (proof : RunProof)
+    → WritesBeginning old mid program start value proof
+    → WritesFrontAfter mid new proof (MayEndAt (theory_of program) limit calls (plain_pattern start))
+    → WritesFrontOfRun old new (theory_of program) limit calls (plain_pattern start)
+front_started old mid new program start limit calls value proof (text, writes, begins)
+    (more, writes', front) =
+    let h = front text begins.fits in (
+      text ++ more,
+      Writes-then old mid new text more writes writes',
+      inr (
+        h.0,
+        h.1,
+        subst (λ (s : RulePat).
+            IsFrontOfProof (theory_of program) (plain_pattern s) h.0 (text ++ more)) begins.starts
+            (subst (λ (p : Program).
+            IsFrontOfProof (theory_of p) (plain_pattern proof.start) h.0 (text ++ more))
+            begins.same_program h.2),
+      ),
+    )
 
 -- ---- the whole proof
 

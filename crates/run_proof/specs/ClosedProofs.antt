@@ -5,7 +5,7 @@ use Rattle.desk_io.specs.Changes.{PutsFile}
 use Rattle.term_core.specs.Patterns.{Pattern}
 use Rattle.rule_core.specs.Theories.{RewriteTheory}
 use Rattle.rule_core.specs.Runs.{Run, kept_by, steps_of}
-use Rattle.mm_justify.specs.Justifying.{IsProofOfRun, IsFrontOfProof}
+use Rattle.mm_justify.specs.Justifying.{IsProofOfRun, IsFrontOfRun}
 use Rattle.prove_run.specs.Summaries.{IsSummaryOf}
 use Rattle.prove_run.specs.declared.summaries.Summary.{Summary}
 
@@ -33,8 +33,8 @@ PutsProof old new theory start run summary =
     × IsSummaryOf text summary
     × (summary.steps ≡ steps_of run)
 
--- the created file grew by the front of such a proof, or by nothing, and is no longer created
-abbrev pub PutsFront : Option Told → Option Told → RewriteTheory → Pattern → Type 0
-PutsFront old new theory start =
+-- the created file grew by the front of a proof of the run, or by nothing, and is no longer created
+abbrev pub PutsFront : Option Told → Option Told → RewriteTheory → ℕ → ℕ → Pattern → Type 0
+PutsFront old new theory limit calls start =
     (bytes : List ℕ) × PutsCreated old new bytes
-    × ((bytes ≡ []) ⊎ IsFrontOfProof theory start bytes)
+    × ((bytes ≡ []) ⊎ IsFrontOfRun theory limit calls start bytes)

@@ -1,22 +1,22 @@
 -- A run and its proof, step by step. Only clauses of private functions cite it.
-use Rattle.std.specs.Prelude.{◌≡◌, ℕ, ◌+◌, false, List, ◌++◌, length, Option}
+use Rattle.std.specs.Prelude.{◌≡◌, ℕ, ◌+◌, false, ◌⊎◌, List, [], ◌++◌, length, Option}
 use Rattle.desk_io.specs.Told.{Told}
 use Rattle.desk_io.specs.Changes.{Writes}
+use Rattle.term_core.specs.Terms.{Tree}
 use Rattle.term_core.specs.Patterns.{Pattern, ground_pattern}
 use Rattle.rule_core.specs.BoundVariables.{HasBoundVariables}
 use Rattle.rule_core.specs.ProgramView.{theory_of}
 use Rattle.rule_core.specs.RunView.{cause_of}
-use Rattle.rule_core.specs.Runs.{Run, kept_by, Steps, steps_on, stays, stops}
+use Rattle.rule_core.specs.Runs.{Run, kept_by, steps_of, Steps, steps_on, stays, stops}
 use Rattle.rule_core.specs.Theories.{RewriteTheory}
 use Rattle.rule_core.specs.WellSorted.{IsStart}
 use Rattle.rule_core.specs.declared.rules.Program.{Program}
-use Rattle.mm_justify.specs.Justifying.{IsProofOfRun}
+use Rattle.mm_justify.specs.Justifying.{IsProofOfRun, IsFrontOfRun}
 use Rattle.mm_justify.specs.Counting.{HasCounts, capped}
 use Rattle.rewriter.specs.Configurations.{RunState, IsConfiguration}
 use Rattle.proof_writer.specs.PlainNames.{HasPlainNames}
 use Rattle.prove_run.specs.RunProof.{RunProof, reached}
 use Rattle.prove_run.specs.Proving.{FitsProof}
-use Rattle.run_proof.specs.ClosedProofs.{steps_of}
 use Rattle.run_proof.specs.declared.steps.Progress.{Progress}
 use Rattle.run_proof.specs.declared.steps.Progress.TheVariants.{Made, Stuck, Blocked}
 
@@ -68,3 +68,16 @@ abbrev pub WritesProof : Option Told → Option Told → RewriteTheory → Patte
     → Type 0
 WritesProof old new theory start run proof =
     (text : List ℕ) × Writes old new text × IsWholeProof theory start run proof text
+
+-- the created file grew by the front of a proof of the run, or by nothing
+abbrev pub WritesFrontOfRun : Option Told → Option Told → RewriteTheory → ℕ → ℕ → Pattern → Type 0
+WritesFrontOfRun old new theory limit calls start =
+    (bytes : List ℕ) × Writes old new bytes
+    × ((bytes ≡ []) ⊎ IsFrontOfRun theory limit calls start bytes)
+
+-- the configuration of the run, or the one to which its next step leads
+abbrev pub EndsNext : Program → RunState → Pattern → Type 0
+EndsNext program run end =
+    (end ≡ ground_pattern run.config)
+    ⊎ ((u : Tree) × (d : ℕ) × Steps (theory_of program) run.config run.calls (steps_on u d)
+    × (end ≡ ground_pattern u))

@@ -13,7 +13,7 @@ ghost use Rattle.desk_io.specs.Counts.{CountRose};
 ghost use Rattle.proof_writer.specs.PlainNames.{HasPlainNames};
 ghost use Rattle.run_loop.specs.RunEnds.{plain_run, IsSortedEnd};
 ghost use Rattle.prove_run.specs.WrittenProofs.{WritesFrontOfProof};
-ghost use Rattle.run_proof.specs.ProvedSteps.{CanProveRun, WritesProof};
+ghost use Rattle.run_proof.specs.ProvedSteps.{CanProveRun, WritesFrontOfRun, WritesProof};
 ghost use Rattle.run_proof.specs.ClosedProofs.{KeepsOthersNow, PutsFront, PutsProof};
 
 use crate::steps::proved_steps;
@@ -31,8 +31,8 @@ use term_core::RulePat;
 /// term to what it keeps, by compressed proofs. It is appended to the desk's created file during
 /// the run, step by step. The file is closed at the end, even after an error.
 ///
-/// Errors: out of memory, or a fault that the desk counted. After an error the front of such a
-/// proof, perhaps of a shorter run, or nothing was appended.
+/// Errors: out of memory, or a fault that the desk counted. After an error nothing was appended, or
+/// the front of a proof of this run up to one of its configurations.
 ///
 /// The text of a step grows with the configurations that it names, at most with the square of their
 /// sizes, and with the calls of functions that it makes. Memory holds the text of one step, and the
@@ -57,7 +57,7 @@ pub fn proved_run<'p, D: Desk>(
         (D.state desk.old).told (D.state desk.new).told
         (theory_of engine.now) (plain_pattern start.now) (plain_run r.0) r.1) }
     ensures front { OnErr result (PutsFront (D.state desk.old).told (D.state desk.new).told
-        (theory_of engine.now) (plain_pattern start.now)) }
+        (theory_of engine.now) limit calls (plain_pattern start.now)) }
     ensures files { KeepsOthersNow (D.state desk.old).told (D.state desk.new).told }
     ensures created { IsFalse (D.created desk.new) }
     ensures failed { IsErrOf result DeskFault.Failed
@@ -97,8 +97,8 @@ fn run_with_proof<'p, D: Desk>(
     ensures proved { IfOk result (λ r. WritesProof
         (D.state desk.old).told (D.state desk.new).told
         (theory_of engine.now) (plain_pattern start.now) (plain_run r.0) r.1) }
-    ensures front { OnErr result (WritesFrontOfProof (D.state desk.old).told (D.state desk.new).told
-        (theory_of engine.now) (plain_pattern start.now)) }
+    ensures front { OnErr result (WritesFrontOfRun (D.state desk.old).told (D.state desk.new).told
+        (theory_of engine.now) limit calls (plain_pattern start.now)) }
     ensures created { IsTrue (D.created desk.new) }
     ensures failed { IsErrOf result ProveEnd.Failed
         → CountRose (D.state desk.old).write_faults (D.state desk.new).write_faults }
@@ -137,8 +137,10 @@ fn started<'p, D: Desk>(
     ensures proved { IfOk result (λ r. WritesProof
         (D.state desk.old).told (D.state desk.new).told
         (theory_of engine.now) (plain_pattern start.now) (plain_run r.0) r.1) }
-    ensures front { OnErr result (WritesFrontOfProof (D.state desk.old).told (D.state desk.new).told
-        (theory_of engine.now) (plain_pattern start.now)) }
+    ensures front { OnErr result ((calls : ℕ) →
+        Reaches (theory_of engine.now) (plain_pattern start.now) calls 0 run.config run.calls →
+        WritesFrontOfRun (D.state desk.old).told (D.state desk.new).told
+        (theory_of engine.now) limit calls (plain_pattern start.now)) }
     ensures created { IsTrue (D.created desk.new) }
     ensures failed { IsErrOf result ProveEnd.Failed
         → CountRose (D.state desk.old).write_faults (D.state desk.new).write_faults }
@@ -170,7 +172,7 @@ fn unstarted<'p, D: Desk>(
         (D.state desk.old).told (D.state desk.new).told
         (theory_of engine.now) (plain_pattern start.now) (plain_run (RunEnd.Unstarted why)) r.1) }
     ensures front { OnErr result (WritesFrontOfProof (D.state desk.old).told (D.state desk.new).told
-        (theory_of engine.now) (plain_pattern start.now)) }
+        (theory_of engine.now) (plain_pattern start.now) (plain_pattern start.now)) }
     ensures created { IsTrue (D.created desk.new) }
     ensures failed { IsErrOf result ProveEnd.Failed
         → CountRose (D.state desk.old).write_faults (D.state desk.new).write_faults }

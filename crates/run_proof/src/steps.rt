@@ -3,13 +3,12 @@ ghost use Rattle.std.specs.Prelude.{◌≡◌, ◌≤◌, ℕ, IsTrue, IsFalse, 
 ghost use Rattle.term_core.specs.Patterns.{Pattern};
 ghost use Rattle.term_core.specs.RulePatterns.{plain_pattern};
 ghost use Rattle.rule_core.specs.ProgramView.{theory_of};
-ghost use Rattle.rule_core.specs.Runs.{IsRunOf, Reaches, kept_by};
+ghost use Rattle.rule_core.specs.Runs.{IsRunOf, MayEndAt, Reaches, kept_by, steps_of};
 ghost use Rattle.desk_io.specs.Counts.{CountRose};
 ghost use Rattle.run_loop.specs.RunEnds.{plain_run, IsSortedEnd};
 ghost use Rattle.prove_run.specs.RunProof.{reached};
 ghost use Rattle.prove_run.specs.WrittenProofs.{WritesFrontAfter};
-ghost use Rattle.run_proof.specs.ClosedProofs.{steps_of};
-ghost use Rattle.run_proof.specs.ProvedSteps.{GoesOn, IsProvedAt, Progresses};
+ghost use Rattle.run_proof.specs.ProvedSteps.{EndsNext, GoesOn, IsProvedAt, Progresses};
 
 use desk_io::Desk;
 use fun_eval::Engine;
@@ -55,8 +54,10 @@ pub(crate) fn proved_steps<'p, D: Desk>(
         Reaches (theory_of engine.now) start calls 0 run.old.config run.old.calls →
         IsRunOf (theory_of engine.now) limit calls start (plain_run end)) }
     ensures sorted { IfOk result (λ end. IsSortedEnd (theory_of engine.now) (plain_run end)) }
-    ensures front { OnErr result
-        (WritesFrontAfter (D.state desk.old).told (D.state desk.new).told proof.old) }
+    ensures front { OnErr result ((start : Pattern) (calls : ℕ) →
+        Reaches (theory_of engine.now) start calls 0 run.old.config run.old.calls →
+        WritesFrontAfter (D.state desk.old).told (D.state desk.new).told proof.old
+        (MayEndAt (theory_of engine.now) limit calls start)) }
     ensures created { IsTrue (D.created desk.new) }
     ensures failed { IsErrOf result ProveEnd.Failed
         → CountRose (D.state desk.old).write_faults (D.state desk.new).write_faults }
@@ -91,7 +92,8 @@ fn proved_step<'p, D: Desk>(
     ensures progress { IfOk result
         (Progresses engine.now run.old run.new proof.old proof.new) }
     ensures front { OnErr result
-        (WritesFrontAfter (D.state desk.old).told (D.state desk.new).told proof.old) }
+        (WritesFrontAfter (D.state desk.old).told (D.state desk.new).told proof.old
+        (EndsNext engine.now run.old)) }
     ensures created { IsTrue (D.created desk.new) }
     ensures failed { IsErrOf result ProveEnd.Failed
         → CountRose (D.state desk.old).write_faults (D.state desk.new).write_faults }

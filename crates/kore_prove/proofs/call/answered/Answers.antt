@@ -4,7 +4,7 @@ use Rattle.command_words.specs.declared.commands.WordsEnd.{WordsEnd}
 use Rattle.run_loop.specs.RunEnds.{plain_run}
 use Rattle.kore_prove.specs.PlainEnds.{plain_end}
 use Rattle.kore_prove.specs.Requests.{request, drill_request}
-use Rattle.kore_prove.proofs.Ending.{same_bytes, same_files, same_grows}
+use Rattle.kore_prove.proofs.Ending.{same_bytes, same_files}
 use Rattle.kore_prove.proofs.Answering.{run_answered, run_ended, verify_answered, verify_ended}
 use Rattle.kore_prove.proofs.Answering.{drill_answered, drill_ended, bad_answered, memory_answered}
 use Rattle.kore_prove.proofs.call.answered.Goals as goal
@@ -32,7 +32,7 @@ pub returns-in-Err-verify_command-clause-answered :
 returns-in-Err-verify_command-clause-answered g c =
     verify_ended _ _ c.in-Verify.file.now (plain_end c.in-Err-verify_command.end)
     (rw c.in-Verify.is at c.in-Ok.ensures.asked) c.in-Err-verify_command.ensures.cause
-    c.in-Err-verify_command.ensures.output c.verify_command.ensures.files
+    c.verify_command.ensures.files
     c.report-in-Err-verify_command.ensures
 
 pub returns-in-Ok-drill_command-clause-answered : goal.returns-in-Ok-drill_command-clause-answered
@@ -55,4 +55,4 @@ returns-in-Bad-clause-answered g c =
 
 pub returns-in-Memory-clause-answered : goal.returns-in-Memory-clause-answered
 returns-in-Memory-clause-answered g c =
-    memory_answered _ _ (same_grows _) (same_files _) c.report-in-Memory.ensures
+    memory_answered _ _ (same_bytes _) (same_files _) c.report-in-Memory.ensures

@@ -1,4 +1,4 @@
-use Rattle.kore_prove.proofs.Ending.{same_files, same_grows}
+use Rattle.kore_prove.proofs.Ending.{same_bytes, same_files}
 use Rattle.kore_prove.proofs.Answering.{memory_answered}
 use Rattle.kore_prove.proofs.in_out.exit_of_call.Goals as goal
 
@@ -13,6 +13,8 @@ returns-in-Ok-clause-answered g c =
       drilled = main.drilled;
       drill_front = main.drill_front;
       ends = main.ends;
+      stops_printing = main.stops_printing;
+      fails_in_printing = main.fails_in_printing;
       complete = main.complete;
       complete_verdict = main.complete_verdict;
       complete_drill = main.complete_drill;
@@ -24,4 +26,4 @@ returns-in-Ok-clause-answered g c =
 pub returns-in-Err-Memory-clause-unknown : goal.returns-in-Err-Memory-clause-unknown
 returns-in-Err-Memory-clause-unknown g c = λ is given.
     rw c.exit-in-Err-Memory.ensures
-    (memory_answered _ _ (same_grows _) (same_files _) c.report.ensures)
+    (memory_answered _ _ (same_bytes _) (same_files _) c.report.ensures)

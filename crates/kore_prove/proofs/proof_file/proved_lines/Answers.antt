@@ -32,9 +32,11 @@ returns-clause-front g c =
     let new = (g.D.Desk.state c.proved_lines_of_run.new.desk).told in
     let theory = theory_of c.args.accepted.now.program in
     let start = plain_pattern c.args.accepted.now.start in
-    on_err_more c.proved_lines_of_run.result (PutsFront made new theory start)
-    (MayHoldFront old new c.args.file.now theory start)
-    (λ h. created_front old made new c.args.file.now theory start
+    on_err_more c.proved_lines_of_run.result (PutsFront made new theory c.args.bounds.limit
+    c.args.bounds.calls start)
+    (MayHoldFront old new c.args.file.now theory c.args.bounds.limit c.args.bounds.calls start)
+    (λ h. created_front old made new c.args.file.now theory c.args.bounds.limit c.args.bounds.calls
+    start
     c.in_ok-create_file.ensures.creates h)
     c.proved_lines_of_run.ensures.front
 

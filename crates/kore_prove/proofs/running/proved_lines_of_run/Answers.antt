@@ -21,9 +21,8 @@ returns-in_err-end-clause-front g c =
     let new = (g.D.Desk.state c.proved_run.new.desk).told in
     let start = plain_pattern c.args.accepted.now.start in
     let p = err_from_is_err_and c.from_residual.result c.from_residual.ensures.1 in
-    rw p.1 (subst (λ (p : Program). PutsFront old new (theory_of p) start)
-    c.new-engine.ensures
-    c.in_err-end.ensures.front)
+    rw p.1 (subst (λ (p : Program). PutsFront old new (theory_of p) c.args.bounds.limit
+    c.args.bounds.calls start) c.new-engine.ensures c.in_err-end.ensures.front)
 
 pub returns-in_err-lines-clause-front : goal.returns-in_err-lines-clause-front
 returns-in_err-lines-clause-front g c =
@@ -32,7 +31,8 @@ returns-in_err-lines-clause-front g c =
     let start = plain_pattern c.args.accepted.now.start in
     let p = err_from_is_err_and c.from_residual-in_err-lines.result
     c.from_residual-in_err-lines.ensures.1 in
-    rw p.1 (subst (λ (p : Program). PutsFront old new (theory_of p) start)
-    c.new-engine.ensures
-    (put_front old new (theory_of c.new-engine.result) start (plain_run c.in_ok-end.end)
-    c.in_ok-end.summary c.in_ok-end.ensures.justified))
+    rw p.1 (subst (λ (p : Program). PutsFront old new (theory_of p) c.args.bounds.limit
+    c.args.bounds.calls start) c.new-engine.ensures
+    (put_front old new (theory_of c.new-engine.result) c.args.bounds.limit c.args.bounds.calls start
+    (plain_run c.in_ok-end.end) c.in_ok-end.summary c.in_ok-end.ensures.run
+    c.in_ok-end.ensures.justified))

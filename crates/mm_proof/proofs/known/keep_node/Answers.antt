@@ -11,7 +11,7 @@ returns-in_err-insert c = λ serial tokens nodes are is.
 
 pub returns : goal.returns
 returns c = λ serial tokens nodes are is.
-    known-one_more serial tokens nodes c.args.known.now c.insert.new.self c.fingerprint.result
+    known-one_more serial tokens nodes c.args.known.now c.insert.new.self c.fingerprint-fingerprint.result
     (record { pattern = c.in_ok-pattern.pattern; node = c.args.node })
     c.in_ok-insert.ensures.updates
     (subst (λ (p : Pattern). IsSyntaxAt serial tokens nodes p c.args.node.0)

@@ -148,6 +148,12 @@ all_elements-loop-i-preserved t c =
           c.in_ok-made.ensures.grown;
     }
 
+pub all_elements-returns-in_err-push-clause-grown :
+    goal.all_elements-returns-in_err-push-clause-grown
+all_elements-returns-in_err-push-clause-grown t c =
+    grown_twice c.args.cx.now c.loop-i.cx c.element.new.cx c.loop-i.invariant.grown
+    c.in_ok-made.ensures.grown
+
 pub all_elements-returns-in_err-push-2-clause-grown :
     goal.all_elements-returns-in_err-push-2-clause-grown
 all_elements-returns-in_err-push-2-clause-grown t c =

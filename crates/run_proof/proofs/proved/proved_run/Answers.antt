@@ -17,14 +17,15 @@ returns-in-Err-close-clause-front g c =
     let mid = (g.D.Desk.state c.run_with_proof.new.desk).told in
     let theory = theory_of c.args.engine.now in
     let start = plain_pattern c.args.start.now in
-    front_closed old mid (g.D.Desk.state c.close.new.desk).told theory start
-    (proof_written old mid theory start (plain_run c.in-Ok.end) c.in-Ok.proof
-    c.in-Ok.ensures.proved)
+    front_closed old mid (g.D.Desk.state c.close.new.desk).told theory c.args.limit c.args.calls start
+    (proof_written old mid theory c.args.limit c.args.calls start (plain_run c.in-Ok.end) c.in-Ok.proof
+    c.in-Ok.ensures.run c.in-Ok.ensures.proved)
     c.close.ensures.closes
 
 pub returns-in-Err-clause-front : goal.returns-in-Err-clause-front
 returns-in-Err-clause-front g c =
     front_closed (g.D.Desk.state c.args.desk.now).told
     (g.D.Desk.state c.run_with_proof.new.desk).told (g.D.Desk.state c.close_file-closed.new.self).told
-    (theory_of c.args.engine.now) (plain_pattern c.args.start.now) c.in-Err.ensures.front
+    (theory_of c.args.engine.now) c.args.limit c.args.calls (plain_pattern c.args.start.now)
+    c.in-Err.ensures.front
     c.close_file-closed.ensures.closes

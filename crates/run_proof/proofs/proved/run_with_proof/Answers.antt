@@ -1,9 +1,11 @@
 use Rattle.std.proofs.Common.{ℕ, Result, Ok, Err, IfOk}
 use Rattle.term_core.specs.RulePatterns.{plain_pattern}
 use Rattle.rule_core.specs.ProgramView.{theory_of}
-use Rattle.rule_core.specs.Runs.{IsRunOf, Reaches}
-use Rattle.prove_run.proofs.FileLaws.{none_begun}
+use Rattle.rule_core.specs.Runs.{IsRunOf, Reaches, at_blocked_start}
+use Rattle.prove_run.specs.WrittenProofs.{WritesFrontOfProof}
 use Rattle.run_loop.specs.RunEnds.{plain_run}
+use Rattle.run_proof.specs.ProvedSteps.{WritesFrontOfRun}
+use Rattle.run_proof.proofs.StepLaws.{front_of_run, none_of_run, on_err_more}
 use Rattle.run_proof.proofs.proved.run_with_proof.Goals as goal
 
 if_ok : {T E : Type 0} (P Q : T → Type 0) (r : Result T E) → ((t : T) → P t → Q t) → IfOk r P
@@ -20,8 +22,31 @@ returns-in-Ok-clause-run g c =
     (λ r. IsRunOf theory c.args.limit c.args.calls start (plain_run r.0)) c.started.result
     (λ r h. h c.args.calls c.in-Ok.ensures.starts) c.started.ensures.run
 
+pub returns-in-Ok-clause-front : goal.returns-in-Ok-clause-front
+returns-in-Ok-clause-front g c =
+    let theory = theory_of c.args.engine.now in
+    let start = plain_pattern c.args.start.now in
+    let old = (g.D.Desk.state c.args.desk.now).told in
+    let new = (g.D.Desk.state c.started.new.desk).told in
+    on_err_more c.started.result ((calls : ℕ)
+    → Reaches theory start calls 0 c.in-Ok.run'.config c.in-Ok.run'.calls
+    → WritesFrontOfRun old new theory c.args.limit calls start)
+    (WritesFrontOfRun old new theory c.args.limit c.args.calls start)
+    (λ h. h c.args.calls c.in-Ok.ensures.starts) c.started.ensures.front
+
+pub returns-in-Err-Blocked-clause-front : goal.returns-in-Err-Blocked-clause-front
+returns-in-Err-Blocked-clause-front g c =
+    let theory = theory_of c.args.engine.now in
+    let start = plain_pattern c.args.start.now in
+    let old = (g.D.Desk.state c.args.desk.now).told in
+    let new = (g.D.Desk.state c.unstarted.new.desk).told in
+    on_err_more c.unstarted.result (WritesFrontOfProof old new theory start start)
+    (WritesFrontOfRun old new theory c.args.limit c.args.calls start)
+    (front_of_run old new theory c.args.limit c.args.calls start start
+    (at_blocked_start (rw c.in-Err.is at c.in-Err.ensures.blocked))) c.unstarted.ensures.front
+
 pub returns-in-Err-Memory-clause-front : goal.returns-in-Err-Memory-clause-front
 returns-in-Err-Memory-clause-front g c =
-    none_begun (g.D.Desk.state c.args.desk.now).told (theory_of c.args.engine.now)
-    (plain_pattern c.args.start.now)
+    none_of_run (g.D.Desk.state c.args.desk.now).told (theory_of c.args.engine.now) c.args.limit
+    c.args.calls (plain_pattern c.args.start.now)
     (rw c.requires.file at (g.met.D.Desk.tells_created c.args.desk.now))

@@ -1,17 +1,20 @@
-use Rattle.std.proofs.Common.{rules, Some, sym, subst}
+use Rattle.std.proofs.Common.{ℕ, arith, rules, Some, sym, subst}
 use Rattle.desk_io.proofs.Counts.{CountRose-later}
 use Rattle.std.specs.Prelude.{option_copied}
+use Rattle.term_core.specs.Terms.{Tree}
+use Rattle.term_core.specs.Patterns.{ground_pattern}
 use Rattle.term_core.specs.RulePatterns.{plain_pattern}
 use Rattle.rule_core.specs.ProgramView.{theory_of}
 use Rattle.rule_core.specs.Records.{result_of}
 use Rattle.rule_core.specs.RecordView.{plain_record}
+use Rattle.rule_core.specs.Runs.{MayEndAt, Reaches, at_configuration}
 use Rattle.rule_core.specs.declared.rules.Program.{Program}
 use Rattle.rewriter.specs.Configurations.{IsConfiguration}
 use Rattle.run_loop.specs.RunEnds.{plain_run}
 use Rattle.prove_run.proofs.FileLaws.{on_err}
-use Rattle.prove_run.specs.WrittenProofs.{WritesFrontOfProof}
-use Rattle.run_proof.specs.ProvedSteps.{IsProvedAt, WritesProof}
-use Rattle.run_proof.proofs.StepLaws.{front_started, started_at, whole_proof}
+use Rattle.prove_run.specs.WrittenProofs.{WritesFrontAfter, WritesFrontOfProof}
+use Rattle.run_proof.specs.ProvedSteps.{IsProvedAt, WritesFrontOfRun, WritesProof}
+use Rattle.run_proof.proofs.StepLaws.{front_of_run, front_started, started_at, whole_proof}
 use Rattle.run_proof.proofs.proved.started.Goals as goal
 
 pub proved_steps-requires-clause-at : goal.proved_steps-requires-clause-at
@@ -31,10 +34,17 @@ pub returns-in_err-proof-clause-front : goal.returns-in_err-proof-clause-front
 returns-in_err-proof-clause-front g c =
     let old = (g.D.Desk.state c.args.desk.now).told in
     let new = (g.D.Desk.state c.begin.new.desk).told in
-    on_err c.from_residual.result (WritesFrontOfProof old new (theory_of c.args.engine.now)
-    (plain_pattern c.args.start.now))
-    (subst (λ (p : Program). WritesFrontOfProof old new (theory_of p)
-    (plain_pattern c.args.start.now)) c.program.ensures.program c.in_err-proof.ensures.front)
+    let theory = theory_of c.args.engine.now in
+    let start = plain_pattern c.args.start.now in
+    let value = result_of (plain_record c.args.evaluation.now) in
+    on_err c.from_residual.result ((calls : ℕ)
+    → Reaches theory start calls 0 c.args.run.config c.args.run.calls
+    → WritesFrontOfRun old new theory c.args.limit calls start)
+    (λ calls h. front_of_run old new theory c.args.limit calls start (ground_pattern value)
+    (subst (λ (t : Tree). MayEndAt theory c.args.limit calls start (ground_pattern t))
+    (sym c.requires.value) (at_configuration h (omega arith)))
+    (subst (λ (p : Program). WritesFrontOfProof old new (theory_of p) start (ground_pattern value))
+    c.program.ensures.program c.in_err-proof.ensures.front))
 
 pub returns-in-Ok-clause-proved : goal.returns-in-Ok-clause-proved
 returns-in-Ok-clause-proved g c =
@@ -53,11 +63,15 @@ returns-clause-front g c =
     let old = (g.D.Desk.state c.args.desk.now).told in
     let mid = (g.D.Desk.state c.begin.new.desk).told in
     let new = (g.D.Desk.state c.proved_steps.new.desk).told in
-    subst (λ (p : Program). WritesFrontOfProof old new (theory_of p)
-    (plain_pattern c.args.start.now)) c.program.ensures.program
-    (front_started old mid new c.program.result.now c.args.start.now
+    let start = plain_pattern c.args.start.now in
+    λ calls h. subst (λ (p : Program). WritesFrontOfRun old new (theory_of p) c.args.limit calls start)
+    c.program.ensures.program
+    (front_started old mid new c.program.result.now c.args.start.now c.args.limit calls
     (Some (result_of (plain_record c.args.evaluation.now))) c.in_ok-proof.proof
-    c.in_ok-proof.ensures.begins c.in-Err.ensures.front)
+    c.in_ok-proof.ensures.begins
+    (subst (λ (p : Program). WritesFrontAfter mid new c.in_ok-proof.proof
+    (MayEndAt (theory_of p) c.args.limit calls start)) (sym c.program.ensures.program)
+    (c.in-Err.ensures.front start calls h)))
 
 pub returns-clause-failed : goal.returns-clause-failed
 returns-clause-failed g c = λ h.

@@ -22,5 +22,5 @@ returns-in-Ok-clause-proved g c =
 pub returns-in-Err-clause-front : goal.returns-in-Err-clause-front
 returns-in-Err-clause-front g c =
     subst (λ (p : Program). WritesFrontOfProof (g.D.Desk.state c.args.desk.now).told
-    (g.D.Desk.state c.begin.new.desk).told (theory_of p) (plain_pattern c.args.start.now))
-    c.program.ensures.program c.in-Err.ensures.front
+    (g.D.Desk.state c.begin.new.desk).told (theory_of p) (plain_pattern c.args.start.now)
+    (plain_pattern c.args.start.now)) c.program.ensures.program c.in-Err.ensures.front

@@ -1,10 +1,11 @@
-use Rattle.std.proofs.Common.{◌≤◌, refl, ap, ◌∙◌, subst, arith}
+use Rattle.std.proofs.Common.{◌≤◌, inl, refl, ap, ◌∙◌, subst, arith}
 use Rattle.term_core.specs.Terms.{Tree, height}
 use Rattle.rule_core.specs.Evaluation.{most_height}
 use Rattle.rule_core.specs.Records.{result_of}
 use Rattle.rule_core.specs.RecordView.{plain_step}
 use Rattle.prove_run.specs.WrittenProofs.{WritesFrontAfter}
 use Rattle.prove_run.proofs.FileLaws.{on_err, none_added}
+use Rattle.run_proof.specs.ProvedSteps.{EndsNext}
 use Rattle.run_proof.proofs.StepLaws.{can_step, proved_at, goes_step, stays_on, same_place}
 use Rattle.run_proof.proofs.steps.proved_step.Goals as goal
 
@@ -23,22 +24,25 @@ step-requires-in-Made-clause-applies g c =
 pub returns-in_err-step-clause-front : goal.returns-in_err-step-clause-front
 returns-in_err-step-clause-front g c =
     let told = (g.D.Desk.state c.args.desk.now).told in
-    on_err c.from_residual.result (WritesFrontAfter told told c.args.proof.now)
-    (none_added told c.args.proof.now
+    let ends = EndsNext c.args.engine.now c.args.run.now in
+    on_err c.from_residual.result (WritesFrontAfter told told c.args.proof.now ends)
+    (none_added told c.args.proof.now ends (inl c.requires.at.is_reached)
     (rw c.requires.file at (g.met.D.Desk.tells_created c.args.desk.now)))
 
 pub returns-in_err-share-in-Stuck-clause-front : goal.returns-in_err-share-in-Stuck-clause-front
 returns-in_err-share-in-Stuck-clause-front g c =
     let told = (g.D.Desk.state c.args.desk.now).told in
-    on_err c.from_residual-in_err-share-in-Stuck.result (WritesFrontAfter told told c.args.proof.now)
-    (none_added told c.args.proof.now
+    let ends = EndsNext c.args.engine.now c.args.run.now in
+    on_err c.from_residual-in_err-share-in-Stuck.result (WritesFrontAfter told told c.args.proof.now ends)
+    (none_added told c.args.proof.now ends (inl c.requires.at.is_reached)
     (rw c.requires.file at (g.met.D.Desk.tells_created c.args.desk.now)))
 
 pub returns-in_err-share-in-Blocked-clause-front : goal.returns-in_err-share-in-Blocked-clause-front
 returns-in_err-share-in-Blocked-clause-front g c =
     let told = (g.D.Desk.state c.args.desk.now).told in
-    on_err c.from_residual-in_err-share-in-Blocked.result (WritesFrontAfter told told c.args.proof.now)
-    (none_added told c.args.proof.now
+    let ends = EndsNext c.args.engine.now c.args.run.now in
+    on_err c.from_residual-in_err-share-in-Blocked.result (WritesFrontAfter told told c.args.proof.now ends)
+    (none_added told c.args.proof.now ends (inl c.requires.at.is_reached)
     (rw c.requires.file at (g.met.D.Desk.tells_created c.args.desk.now)))
 
 pub returns-in-Stuck-clause-goes : goal.returns-in-Stuck-clause-goes

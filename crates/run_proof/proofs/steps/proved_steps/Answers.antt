@@ -1,9 +1,13 @@
 use Rattle.std.proofs.Common.{ℕ, refl, sym, ◌∙◌, ap, arith}
+use Rattle.term_core.specs.Patterns.{Pattern}
 use Rattle.rule_core.specs.ProgramView.{theory_of}
 use Rattle.rule_core.specs.RunView.{cause_of}
+use Rattle.rule_core.specs.Runs.{MayEndAt, Reaches}
 use Rattle.prove_run.specs.RunProof.{RunProof}
 use Rattle.prove_run.proofs.FileLaws.{on_err}
 use Rattle.prove_run.specs.WrittenProofs.{WritesFrontAfter}
+use Rattle.run_proof.specs.ProvedSteps.{EndsNext}
+use Rattle.run_proof.proofs.StepLaws.{front_more, may_end, may_end_here}
 use Rattle.run_proof.proofs.StepLaws.{one_more, counted, stays_on, goes_then, front_later}
 use Rattle.run_proof.proofs.StepLaws.{front_so_far, stuck_run, stopped_run, limited_run, kept_config}
 use Rattle.run_proof.proofs.steps.proved_steps.Goals as goal
@@ -103,18 +107,35 @@ returns-in-Blocked-clause-sorted g c =
 
 pub returns-in_err-proved_step-clause-front : goal.returns-in_err-proved_step-clause-front
 returns-in_err-proved_step-clause-front g c =
-    on_err c.from_residual.result (WritesFrontAfter (g.D.Desk.state c.args.desk.now).told
-    (g.D.Desk.state c.proved_step.new.desk).told c.args.proof.now)
-    (front_later (g.D.Desk.state c.args.desk.now).told (g.D.Desk.state c.loop-made.desk).told
-    (g.D.Desk.state c.proved_step.new.desk).told c.args.proof.now c.loop-made.proof
-    c.loop-made.invariant.goes c.in_err-proved_step.ensures.front)
+    on_err c.from_residual.result ((start : Pattern) (calls : ℕ)
+    → Reaches (theory_of c.args.engine.now) start calls 0 c.args.run.now.config c.args.run.now.calls
+    → WritesFrontAfter (g.D.Desk.state c.args.desk.now).told
+    (g.D.Desk.state c.proved_step.new.desk).told c.args.proof.now
+    (MayEndAt (theory_of c.args.engine.now) c.args.limit calls start))
+    (λ start calls h. front_later (g.D.Desk.state c.args.desk.now).told
+    (g.D.Desk.state c.loop-made.desk).told (g.D.Desk.state c.proved_step.new.desk).told
+    c.args.proof.now c.loop-made.proof
+    (MayEndAt (theory_of c.args.engine.now) c.args.limit calls start) c.loop-made.invariant.goes
+    (front_more (g.D.Desk.state c.loop-made.desk).told (g.D.Desk.state c.proved_step.new.desk).told
+    c.loop-made.proof (EndsNext c.args.engine.now c.loop-made.run)
+    (MayEndAt (theory_of c.args.engine.now) c.args.limit calls start)
+    (may_end c.args.engine.now c.args.limit calls c.loop-made.made start c.loop-made.run
+    (c.loop-made.invariant.reached start calls h) (omega arith))
+    c.in_err-proved_step.ensures.front))
 
 pub returns-in_err-share-clause-front : goal.returns-in_err-share-clause-front
 returns-in_err-share-clause-front g c =
-    on_err c.from_residual-in_err-share.result (WritesFrontAfter
-    (g.D.Desk.state c.args.desk.now).told (g.D.Desk.state c.loop-made.desk).told c.args.proof.now)
-    (front_so_far (g.D.Desk.state c.args.desk.now).told (g.D.Desk.state c.loop-made.desk).told
-    c.args.proof.now c.loop-made.proof c.loop-made.invariant.goes
+    on_err c.from_residual-in_err-share.result ((start : Pattern) (calls : ℕ)
+    → Reaches (theory_of c.args.engine.now) start calls 0 c.args.run.now.config c.args.run.now.calls
+    → WritesFrontAfter (g.D.Desk.state c.args.desk.now).told (g.D.Desk.state c.loop-made.desk).told
+    c.args.proof.now (MayEndAt (theory_of c.args.engine.now) c.args.limit calls start))
+    (λ start calls h. front_so_far (g.D.Desk.state c.args.desk.now).told
+    (g.D.Desk.state c.loop-made.desk).told c.args.proof.now c.loop-made.proof
+    (MayEndAt (theory_of c.args.engine.now) c.args.limit calls start)
+    (may_end_here c.args.engine.now c.args.limit calls c.loop-made.made start c.loop-made.run
+    c.loop-made.proof (c.loop-made.invariant.reached start calls h) (omega arith)
+    c.loop-made.invariant.at)
+    c.loop-made.invariant.goes
     (rw c.loop-made.invariant.created at (g.met.D.Desk.tells_created c.loop-made.desk)))
 
 pub returns-clause-run : goal.returns-clause-run
