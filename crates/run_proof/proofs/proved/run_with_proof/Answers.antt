@@ -43,7 +43,7 @@ returns-in-Err-Blocked-clause-front g c =
     on_err_more c.unstarted.result (WritesFrontOfProof old new theory start start)
     (WritesFrontOfRun old new theory c.args.limit c.args.calls start)
     (front_of_run old new theory c.args.limit c.args.calls start start
-    (at_blocked_start (rw c.in-Err.is at c.in-Err.ensures.blocked))) c.unstarted.ensures.front
+    (at_blocked_start c.in-Err-Blocked.ensures.blocked)) c.unstarted.ensures.front
 
 pub returns-in-Err-Memory-clause-front : goal.returns-in-Err-Memory-clause-front
 returns-in-Err-Memory-clause-front g c =

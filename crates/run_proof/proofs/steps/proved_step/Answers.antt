@@ -3,9 +3,10 @@ use Rattle.term_core.specs.Terms.{Tree, height}
 use Rattle.rule_core.specs.Evaluation.{most_height}
 use Rattle.rule_core.specs.Records.{result_of}
 use Rattle.rule_core.specs.RecordView.{plain_step}
-use Rattle.prove_run.specs.WrittenProofs.{WritesFrontAfter}
+use Rattle.prove_run.specs.WrittenProofs.{EndsStep, WritesFrontAfter}
 use Rattle.prove_run.proofs.FileLaws.{on_err, none_added}
 use Rattle.run_proof.specs.ProvedSteps.{EndsNext}
+use Rattle.run_proof.proofs.StepLaws.{ends_next, front_more}
 use Rattle.run_proof.proofs.StepLaws.{can_step, proved_at, goes_step, stays_on, same_place}
 use Rattle.run_proof.proofs.steps.proved_step.Goals as goal
 
@@ -54,3 +55,16 @@ pub returns-clause-goes : goal.returns-clause-goes
 returns-clause-goes g c =
     stays_on (g.D.Desk.state c.args.desk.now).told c.args.proof.now
     (rw c.requires.file at (g.met.D.Desk.tells_created c.args.desk.now))
+
+-- the step is one of the run
+pub returns-in-Made-clause-front : goal.returns-in-Made-clause-front
+returns-in-Made-clause-front g c =
+    let old = (g.D.Desk.state c.args.desk.now).told in
+    let new = (g.D.Desk.state c.step-in-Made.new.desk).told in
+    front_more old new c.args.proof.now
+    (EndsStep c.args.proof.now (result_of (plain_step c.in-Made.step).right))
+    (EndsNext c.args.engine.now c.args.run.now)
+    (ends_next c.args.engine.now c.args.run.now c.step.new.self c.args.proof.now
+    (plain_step c.in-Made.step) c.requires.at (rw c.in-Made.is at c.in_ok-step.ensures.next)
+    (rw c.in-Made.is at c.in_ok-step.ensures.recorded).1)
+    c.in-Err.ensures.front
