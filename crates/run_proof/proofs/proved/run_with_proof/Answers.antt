@@ -2,6 +2,7 @@ use Rattle.std.proofs.Common.{ℕ, Result, Ok, Err, IfOk}
 use Rattle.term_core.specs.RulePatterns.{plain_pattern}
 use Rattle.rule_core.specs.ProgramView.{theory_of}
 use Rattle.rule_core.specs.Runs.{IsRunOf, Reaches, at_blocked_start}
+use Rattle.fun_eval.specs.EvalEnds.{EndsBy}
 use Rattle.prove_run.specs.WrittenProofs.{WritesFrontOfProof}
 use Rattle.run_loop.specs.RunEnds.{plain_run}
 use Rattle.run_proof.specs.ProvedSteps.{WritesFrontOfRun}
@@ -43,7 +44,8 @@ returns-in-Err-Blocked-clause-front g c =
     on_err_more c.unstarted.result (WritesFrontOfProof old new theory start start)
     (WritesFrontOfRun old new theory c.args.limit c.args.calls start)
     (front_of_run old new theory c.args.limit c.args.calls start start
-    (at_blocked_start c.in-Err-Blocked.ensures.blocked)) c.unstarted.ensures.front
+    (at_blocked_start (rw c.in-Err-Blocked.is at c.in-Err-Blocked.ensures.blocked)))
+    c.unstarted.ensures.front
 
 pub returns-in-Err-Memory-clause-front : goal.returns-in-Err-Memory-clause-front
 returns-in-Err-Memory-clause-front g c =
