@@ -18,3 +18,5 @@ pub mod DescentLaws
 pub mod OnceLaws
 pub mod ArmLaws
 pub mod WalkEnds
+pub mod BindingLaws
+pub mod KeptLaws

@@ -19,3 +19,4 @@ pub mod TrailView
 pub mod Joining
 pub mod SpotView
 pub mod WorkView
+pub mod Binding

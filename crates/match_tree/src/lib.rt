@@ -7,6 +7,7 @@
 //
 // `Tree::walk` finds the first row that matches, from the start or after the last hit, and takes no
 // memory. `Slots` keep the nodes that it passed (specs/Ways.antt, specs/SlotView.antt).
+// `Slots::subst` is the substitution by which the row of the last hit matches.
 //
 // Each place of a tree has a label, which says what is left to do there (specs/FlatNodes.antt).
 // `node_laws` says that such nodes are those of trees. `walk_laws` says what each step of a walk
@@ -18,6 +19,7 @@
 #![tactic(auto)]
 
 mod agreement;
+mod binding;
 mod compiling;
 mod draft;
 mod joining;
