@@ -16,6 +16,7 @@ pub mod HitLaws
 pub mod OrderLaws
 pub mod DescentLaws
 pub mod OnceLaws
+pub mod AskedLaws
 pub mod ArmLaws
 pub mod WalkEnds
 pub mod BindingLaws
