@@ -16,5 +16,8 @@ pub mod HitLaws
 pub mod OrderLaws
 pub mod DescentLaws
 pub mod OnceLaws
+pub mod AskedLaws
 pub mod ArmLaws
 pub mod WalkEnds
+pub mod BindingLaws
+pub mod KeptLaws

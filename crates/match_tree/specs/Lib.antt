@@ -12,6 +12,7 @@ pub mod NodeView
 pub mod TreeView
 pub mod Ways
 pub mod SlotView
+pub mod Asking
 -- Private: what clauses of private functions cite.
 pub mod Agreement
 pub mod Standing
@@ -19,3 +20,4 @@ pub mod TrailView
 pub mod Joining
 pub mod SpotView
 pub mod WorkView
+pub mod Binding

@@ -1,8 +1,12 @@
 -- What contracts see of `Slots`: the nodes that were passed since the start, and the last hit.
 use Rattle.std.specs.Prelude.{◌≡◌, ◌≢◌, ◌≤◌, ◌+◌, ◌++◌, ℕ, true, List, [], ◌∷◌, Option, Some, None}
-use Rattle.std.specs.Prelude.{length, is_some, slice_get, vec_capacity}
+use Rattle.std.specs.Prelude.{length, is_some, slice_get, vec_capacity, replicate}
 use Rattle.std.specs.Prelude.{Contains}
 use Rattle.term_core.specs.Terms as terms
+use Rattle.term_core.specs.Forests.{forest}
+use Rattle.term_core.specs.Instances.{patterns}
+use Rattle.term_core.specs.Patterns.{Pattern}
+use Rattle.rule_core.specs.MatchSteps.{all_matched}
 use Rattle.pat_matrix.specs.MatchTrees.{matching_rows, rows_from, row_match}
 use Rattle.pat_matrix.specs.MatrixView.{rows_of, row_of, order_of}
 use Rattle.pat_matrix.specs.Positions.{subject_at}
@@ -128,3 +132,17 @@ AreNew ts old (position ∷ positions) =
 abbrev pub kept_of : Hit → Option Kept
 kept_of answer.None = None
 kept_of (answer.Row row resume) = Some (record { row = row; resume = resume })
+
+-- they keep a hit of this row
+abbrev pub IsKept : Option Kept → ℕ → Type 0
+IsKept None row = ⊥
+IsKept (Some kept) row = kept.row ≡ row
+
+abbrev pub IsKeptRow : Slots → ℕ → Type 0
+IsKeptRow slots row = IsKept slots.hit row
+
+-- the row matches the subjects by this substitution, which has room for so many variables
+abbrev pub IsRowMatch : List (ℕ × ℕ) → ℕ → List Pattern → List terms.Tree
+    → List (Option terms.Tree) → Type 0
+IsRowMatch pairs vars ps ts theta =
+    all_matched pairs (patterns ps) (forest ts) (replicate vars None) ≡ Some theta

@@ -6,7 +6,9 @@
 // (specs/Drafting.antt). Nothing recurses along chains of nodes. Lists of rows are joined late.
 //
 // `Tree::walk` finds the first row that matches, from the start or after the last hit, and takes no
-// memory. `Slots` keep the nodes that it passed (specs/Ways.antt, specs/SlotView.antt).
+// memory. `Slots` keep the nodes that it passed (specs/Ways.antt, specs/SlotView.antt). Each
+// position that it looked at is asked by a row that can still match (specs/Asking.antt).
+// `Slots::subst` is the substitution by which the row of the last hit matches.
 //
 // Each place of a tree has a label, which says what is left to do there (specs/FlatNodes.antt).
 // `node_laws` says that such nodes are those of trees. `walk_laws` says what each step of a walk
@@ -18,6 +20,7 @@
 #![tactic(auto)]
 
 mod agreement;
+mod binding;
 mod compiling;
 mod draft;
 mod joining;

@@ -8,6 +8,7 @@ ghost use Rattle.match_tree.specs.Ways.{IsWay};
 ghost use Rattle.match_tree.specs.SlotView.{HasRoom, CanBegin, first_row, path_before, FindsFirst};
 ghost use Rattle.match_tree.specs.SlotView.{Keeps, kept_positions, IsTried, IsReachedBy};
 ghost use Rattle.match_tree.specs.SlotView.{StartsFrom, AreNew};
+ghost use Rattle.match_tree.specs.Asking.{AreAskedInTurn};
 
 use crate::compiling::Tree;
 use crate::nodes::Node;
@@ -24,7 +25,8 @@ impl<'s> Tree<'s> {
     ///
     /// A walk from the start forgets what the slots keep. After a row they keep it, and fit. If no
     /// node tries its rows in order, a walk takes one step for each position that it adds to the
-    /// kept ones, and adds none twice. It takes no memory.
+    /// kept ones, and adds none twice. Each of them is asked by a row that can still match. It
+    /// takes no memory.
     #[tactic(none)]
     pub fn walk<L: Ledger>(
         &self,
@@ -46,6 +48,8 @@ impl<'s> Tree<'s> {
         ensures more { (more : List ℕ)
             × (slots.new.path.items ≡ path_before slots.old from ++ more) }
         ensures once { AreNew subjects.now []
+            (kept_positions self.now slots.new.path.items) }
+        ensures asked { AreAskedInTurn self.now.matrix subjects.now []
             (kept_positions self.now slots.new.path.items) }
     {
         match from {

@@ -10,7 +10,9 @@ use Rattle.match_tree.specs.declared.slots.NodeNo.{NodeNo}
 use Rattle.match_tree.specs.declared.slots.NodeNo.TheVariants as place
 use Rattle.match_tree.specs.declared.slots.Hit.{Hit}
 use Rattle.match_tree.proofs.ArmLaws.{some_tries, tried_reached}
+use Rattle.match_tree.specs.Asking.{AreAskedInTurn}
 use Rattle.match_tree.proofs.OnceLaws.{tested_once}
+use Rattle.match_tree.proofs.AskedLaws.{tested_asked}
 use Rattle.match_tree.proofs.WalkEnds.{start_is, keeps_by, resumed_at, hit_starts, tried_lower}
 use Rattle.match_tree.proofs.compiling.Tree.walk.Goals as goal
 
@@ -173,3 +175,24 @@ returns-in-Rows-clause-once g c =
     let P : List ℕ → Type 0 = λ p. AreNew c.args.subjects.now [] (kept_positions c.args.self.now p) in
     subst P (sym c.keep-in-Rows.ensures.path)
     (tested_once c.args.self.now c.args.subjects.now c.args.slots.now.path.items r.1.1.0 c.requires.tree c.requires.wide r.1.1.2)
+
+pub returns-in-Start-clause-asked : goal.returns-in-Start-clause-asked
+returns-in-Start-clause-asked g c =
+    let P : List ℕ → Type 0 = λ p. AreAskedInTurn c.args.self.now.matrix c.args.subjects.now [] (kept_positions c.args.self.now p) in
+    subst P (sym c.keep.ensures.path)
+    (tested_asked c.args.self.now c.args.subjects.now c.descend-hit.new.slots.path.items c.descend-hit.ensures.way.0 c.requires.tree c.descend-hit.ensures.way.1)
+
+pub returns-in-Node-clause-asked : goal.returns-in-Node-clause-asked
+returns-in-Node-clause-asked g c =
+    let P : List ℕ → Type 0 = λ p. AreAskedInTurn c.args.self.now.matrix c.args.subjects.now [] (kept_positions c.args.self.now p) in
+    subst P (sym c.keep-in-Node.ensures.path)
+    (tested_asked c.args.self.now c.args.subjects.now c.descend-hit-in-Node.new.slots.path.items c.descend-hit-in-Node.ensures.way.0 c.requires.tree c.descend-hit-in-Node.ensures.way.1)
+
+pub returns-in-Rows-clause-asked : goal.returns-in-Rows-clause-asked
+returns-in-Rows-clause-asked g c =
+    let B : NodeNo → Type 0 = CanBegin c.args.self.now c.args.subjects.now c.args.slots.now in
+    let b = subst B c.in-Rows.is c.requires.begins in
+    let r = resumed_at c.args.self.now c.args.subjects.now c.args.slots.now (place.Rows c.in-Rows.row) b.0 b.1 in
+    let P : List ℕ → Type 0 = λ p. AreAskedInTurn c.args.self.now.matrix c.args.subjects.now [] (kept_positions c.args.self.now p) in
+    subst P (sym c.keep-in-Rows.ensures.path)
+    (tested_asked c.args.self.now c.args.subjects.now c.args.slots.now.path.items r.1.1.0 c.requires.tree r.1.1.2)
