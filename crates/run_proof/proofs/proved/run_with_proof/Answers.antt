@@ -1,6 +1,7 @@
-use Rattle.std.proofs.Common.{ℕ, Result, Ok, Err, IfOk}
+use Rattle.std.proofs.Common.{ℕ, Result, Ok, Err, IfOk, rules}
 use Rattle.term_core.specs.RulePatterns.{plain_pattern}
 use Rattle.rule_core.specs.ProgramView.{theory_of}
+use Rattle.rule_core.specs.RunView.{cause_of}
 use Rattle.rule_core.specs.Runs.{IsRunOf, Reaches, at_blocked_start}
 use Rattle.fun_eval.specs.EvalEnds.{EndsBy}
 use Rattle.prove_run.specs.WrittenProofs.{WritesFrontOfProof}
@@ -44,7 +45,7 @@ returns-in-Err-Blocked-clause-front g c =
     on_err_more c.unstarted.result (WritesFrontOfProof old new theory start start)
     (WritesFrontOfRun old new theory c.args.limit c.args.calls start)
     (front_of_run old new theory c.args.limit c.args.calls start start
-    (at_blocked_start (rw c.in-Err-Blocked.is at c.in-Err-Blocked.ensures.blocked)))
+    (at_blocked_start {cause = cause_of c.in-Err-Blocked.why} (search rules)))
     c.unstarted.ensures.front
 
 pub returns-in-Err-Memory-clause-front : goal.returns-in-Err-Memory-clause-front
