@@ -21,3 +21,4 @@ pub mod ArmLaws
 pub mod WalkEnds
 pub mod BindingLaws
 pub mod KeptLaws
+pub mod KnownLaws

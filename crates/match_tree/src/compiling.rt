@@ -49,10 +49,10 @@ impl<'s> Tree<'s> {
 /// `Matrix::of` makes it. The tree has at most `MAX_NODES` nodes. A node tries its rows in order
 /// only if there is no room for more nodes. An error: out of memory.
 ///
-/// A hit, and a test for its first row, compare each position that the row asks with those that
-/// were tested. A test also takes one step for each row that is left there, and copies the
+/// A hit, and a test for its first row, take one step for each position that the row asks and each
+/// that was tested. A test also takes one step for each row that is left there, and copies the
 /// positions that were tested for each of its places. So a row alone takes a time that grows with
-/// the cube of the positions that it asks. Lists of rows are joined only when their node is
+/// the square of the positions that it asks. Lists of rows are joined only when their node is
 /// refined, so rows with distinct heads take a time that is linear in their number.
 pub fn compile<'s>(alloc: Global, matrix: Matrix<'s>) -> Result<Tree<'s>, AllocError>
     requires collapsed { AllCollapsed (rows_of matrix) }

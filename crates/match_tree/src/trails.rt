@@ -2,9 +2,10 @@
 ghost use Rattle.std.specs.Prelude.{◌≡◌, ◌++◌, ◌∷◌, [], map, IfOk, option_map};
 ghost use Rattle.term_core.specs.RulePatterns.{plain_pattern};
 ghost use Rattle.pat_matrix.specs.Positions.{asked_positions};
-ghost use Rattle.match_tree.specs.Trails.{was_tested, first_untested, source_at};
-ghost use Rattle.match_tree.specs.TrailView.{plain_trail, sort_number};
+ghost use Rattle.match_tree.specs.Trails.{first_untested, source_at};
+ghost use Rattle.match_tree.specs.TrailView.{plain_trail, sort_number, HasTested};
 
+use indexmap::IndexSet;
 use pat_matrix::asked_positions;
 use std::alloc::{AllocError, Global};
 use term_core::{RulePat, SortId};
@@ -17,6 +18,7 @@ pub(crate) struct Tested {
 }
 
 // The first of the positions that the row asks and that were not tested. An error: out of memory.
+// It takes one step for each of the positions and each place of the trail.
 pub(crate) fn untested(
     alloc: Global,
     row: &[RulePat],
@@ -25,25 +27,25 @@ pub(crate) fn untested(
     ensures { IfOk result (λ found. option_map (λ p. p.items) found
         ≡ first_untested (plain_trail trail.now) (asked_positions (map plain_pattern row.now))) }
 {
+    let known = tested_positions(alloc, trail)?;
     let asked = asked_positions(alloc, row)?;
     for position in &asked {
-        if !was_tested(trail, position) {
+        if !known.contains(position.as_slice()) {
             return Ok(Some(position.to_vec(alloc)?));
         }
     }
     Ok(None)
 }
 
-// Whether the position was tested.
-fn was_tested(trail: &[Tested], position: &[usize]) -> bool
-    ensures { result ≡ was_tested (plain_trail trail.now) position.now }
+// The positions that were tested. An error: out of memory.
+fn tested_positions(alloc: Global, trail: &[Tested]) -> Result<IndexSet<Vec<usize>>, AllocError>
+    ensures { IfOk result (λ known. HasTested known.keys (plain_trail trail.now)) }
 {
+    let mut known = IndexSet::new(alloc);
     for tested in trail {
-        if tested.position.as_slice() == position {
-            return true;
-        }
+        known.insert(tested.position.to_vec(alloc)?)?;
     }
-    false
+    Ok(known)
 }
 
 // The source sort of the injection that was found at the position.
@@ -58,7 +60,7 @@ pub(crate) fn source_at(trail: &[Tested], position: &[usize]) -> Option<SortId>
     None
 }
 
-// The trail with one more position. An error: out of memory.
+// The trail with one more position. An error: out of memory. It copies the trail.
 pub(crate) fn extended(
     alloc: Global,
     trail: &[Tested],
