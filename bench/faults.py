@@ -1,13 +1,13 @@
 #!/usr/bin/env python3
-"""Refuses each request for memory of a proved run in turn, then each of its reads, writes and closings of a file.
+"""Refuses each request for memory of a proved run in turn, then each of its reads and writes.
 
     bench/faults.py PROGRAM [DEFINITION TERM]
 
 The run is that of examples/addition if no other is named. A small library, made by `cc` and loaded in front of the C library,
 counts the calls and fails the one with the number that it is given. Each end has to be that of the undisturbed run, or code 1
-for memory, and code 3 or 4 for a file; the file of the proof has to be absent, or a front of the proof of the undisturbed run,
-and the output a front of its lines. With code 1 or 4 and no lines missing, it has to be the whole proof. It prints for how many
-numbers each kind was tried, and what came of them."""
+for memory, 3 for a read and 4 for a write. The file of the proof has to be absent or a front of the proof of the undisturbed
+run, and the output a front of its lines; if the output has got anything, the proof has to be whole. It prints how many calls
+of each kind failed, and the codes of the ends."""
 import collections
 import os
 import pathlib
@@ -60,14 +60,12 @@ ssize_t write(int file, const void *from, size_t size) {
     if (fails("write")) { errno = ENOSPC; return -1; }
     return REAL(write)(file, from, size);
 }
-
-int close(int file) {
-    if (fails("close")) { REAL(close)(file); errno = EIO; return -1; }
-    return REAL(close)(file);
-}
 """
 
-CODES = {"memory": {1}, "read": {3}, "write": {4}, "close": {4}}
+CODES = {"memory": 1, "read": 3, "write": 4}
+
+# How many runs in a row have to meet no failure before there is no call left to fail.
+QUIET = 3
 
 
 def main():
@@ -102,17 +100,18 @@ def ended(program, folder, kind, number):
 def tried(program, folder, kind, whole):
     """Fails each call of this kind until a run meets no failure. Returns how many ends are wrong."""
     codes, bad, number, same = collections.Counter(), 0, 0, 0
-    while same < 3:
+    while same < QUIET:
         code, out, proof = ended(program, folder, kind, number)
-        front = whole[1].startswith(out) and whole[2].startswith(proof)
-        right = (code, out, proof) == whole or (code in CODES[kind] and front)
+        front = whole[1].startswith(out) and whole[2].startswith(proof) and (not out or proof == whole[2])
+        right = (code, out, proof) == whole or (code == CODES[kind] and front)
         if not right:
             bad += 1
             print(f"{kind} {number}: code {code}, {len(out)} bytes of output, {len(proof)} bytes of proof")
         codes[code] += 1
         same = same + 1 if (code, out, proof) == whole else 0
         number += 1
-    print(f"{kind}: {number} numbers, codes {dict(sorted(codes.items()))}, {bad} wrong")
+    codes[whole[0]] -= QUIET
+    print(f"{kind}: {number - QUIET} calls failed, ends by code {dict(sorted(codes.items()))}, {bad} wrong")
     return bad
 
 
