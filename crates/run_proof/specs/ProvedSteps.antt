@@ -7,7 +7,8 @@ use Rattle.term_core.specs.Patterns.{Pattern, ground_pattern}
 use Rattle.rule_core.specs.BoundVariables.{HasBoundVariables}
 use Rattle.rule_core.specs.ProgramView.{theory_of}
 use Rattle.rule_core.specs.RunView.{cause_of}
-use Rattle.rule_core.specs.Runs.{Run, kept_by, steps_of, Steps, steps_on, stays, stops}
+use Rattle.rule_core.specs.Runs.{Run, kept_by, Steps, steps_on, stays, stops}
+use Rattle.run_proof.specs.ClosedProofs.{steps_of}
 use Rattle.rule_core.specs.Theories.{RewriteTheory}
 use Rattle.rule_core.specs.WellSorted.{IsStart}
 use Rattle.rule_core.specs.declared.rules.Program.{Program}

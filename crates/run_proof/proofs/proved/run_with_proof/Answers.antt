@@ -2,7 +2,8 @@ use Rattle.std.proofs.Common.{ℕ, Result, Ok, Err, IfOk, rules}
 use Rattle.term_core.specs.RulePatterns.{plain_pattern}
 use Rattle.rule_core.specs.ProgramView.{theory_of}
 use Rattle.rule_core.specs.RunView.{cause_of}
-use Rattle.rule_core.specs.Runs.{IsRunOf, Reaches, at_blocked_start}
+use Rattle.rule_core.specs.Runs.{IsRunOf, Reaches}
+use Rattle.rule_core.specs.RunCuts.{at_blocked_start}
 use Rattle.fun_eval.specs.EvalEnds.{EndsBy}
 use Rattle.prove_run.specs.WrittenProofs.{WritesFrontOfProof}
 use Rattle.run_loop.specs.RunEnds.{plain_run}

@@ -7,7 +7,8 @@ use Rattle.term_core.specs.RulePatterns.{plain_pattern}
 use Rattle.rule_core.specs.ProgramView.{theory_of}
 use Rattle.rule_core.specs.Records.{result_of}
 use Rattle.rule_core.specs.RecordView.{plain_record}
-use Rattle.rule_core.specs.Runs.{MayEndAt, Reaches, at_configuration}
+use Rattle.rule_core.specs.Runs.{Reaches}
+use Rattle.rule_core.specs.RunCuts.{MayEndAt, at_configuration}
 use Rattle.rule_core.specs.declared.rules.Program.{Program}
 use Rattle.rewriter.specs.Configurations.{IsConfiguration}
 use Rattle.run_loop.specs.RunEnds.{plain_run}
