@@ -28,7 +28,8 @@ use Rattle.prove_run.specs.Proving.{FitsProof, CanStep, StepsTo}
 use Rattle.prove_run.specs.WrittenProofs.{WritesBeginning, WritesStep, WritesFrontOfProof}
 use Rattle.prove_run.specs.WrittenProofs.{WritesFrontAfter, EndsStep}
 use Rattle.prove_run.proofs.FileLaws.{none_added}
-use Rattle.run_proof.specs.ProvedSteps.{IsProvedAt, GoesOn, WritesProof, WritesFrontOfRun}
+use Rattle.run_proof.specs.ProvedSteps.{IsProvedAt, GoesOn}
+use Rattle.run_proof.specs.OpenProofs.{WritesProof, WritesFrontOfRun}
 use Rattle.run_proof.specs.ProvedSteps.{EndsNext}
 
 -- ---- a step

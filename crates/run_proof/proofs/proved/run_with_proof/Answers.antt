@@ -7,7 +7,7 @@ use Rattle.rule_core.specs.RunCuts.{at_blocked_start}
 use Rattle.fun_eval.specs.EvalEnds.{EndsBy}
 use Rattle.prove_run.specs.WrittenProofs.{WritesFrontOfProof}
 use Rattle.run_loop.specs.RunEnds.{plain_run}
-use Rattle.run_proof.specs.ProvedSteps.{WritesFrontOfRun}
+use Rattle.run_proof.specs.OpenProofs.{WritesFrontOfRun}
 use Rattle.run_proof.proofs.StepLaws.{front_of_run, none_of_run, on_err_more}
 use Rattle.run_proof.proofs.proved.run_with_proof.Goals as goal
 
