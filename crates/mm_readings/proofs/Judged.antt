@@ -2,10 +2,10 @@
 use Rattle.std.proofs.Common.{◌≡◌, ℕ, Bool, true, false, Option, Some, None, option_map, refl, sym}
 use Rattle.std.proofs.Common.{ap, ◌∙◌}
 use Rattle.std.proofs.Common as std
-use Rattle.std.specs.Prelude.{◌==◌, ◌||◌, ◌&&◌, if◌then◌else◌}
+use Rattle.std.specs.Prelude.{◌==◌, ◌||◌, if◌then◌else◌}
 use Rattle.ml_pat.specs.Patterns.{Binary, Quantifier, Pattern, nullary, unary, binary, sorted}
 use Rattle.ml_pat.specs.Patterns.{quantified, var, meta, constant}
-use Rattle.ml_pat.specs.Judgements.{fresh, absent, both_parts, under_quantifier, substituted}
+use Rattle.ml_pat.specs.Judgements.{fresh, absent, both_parts, substituted}
 use Rattle.ml_pat.proofs.LeafLaws.{both_true, split_true, not_true}
 use Rattle.ml_pat.proofs.ReplacingLaws.{substituted-fresh}
 

@@ -1,3 +1,9 @@
 pub mod ReadBack
 pub mod Texts
 pub mod Judged
+pub mod Schemes
+pub mod HeaderSchemes
+pub mod SchemeLaws
+pub mod Meanings
+pub mod RowTokens
+pub mod RowReadings

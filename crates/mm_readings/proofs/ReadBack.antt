@@ -2,8 +2,8 @@
 use Rattle.std.proofs.Common.{◌≡◌, List, [], ◌∷◌, refl, ap, ◌∙◌}
 use Rattle.ml_pat.specs.Patterns.{Pattern, nullary, unary, binary, sorted, quantified, var, meta}
 use Rattle.ml_pat.specs.Patterns.{constant}
-use Rattle.mm_readings.specs.Letters.{Letter, closing, unary_letter, binary_letter, sorted_letter}
-use Rattle.mm_readings.specs.Letters.{quantifier_letter, sort_letter}
+use Rattle.mm_readings.specs.Letters.{Letter, closing}
+use Rattle.mm_readings.specs.Letters.{sort_letter}
 use Rattle.mm_readings.specs.Pieces.{Piece, word_piece, pattern_piece, sort_piece, spell, spell_all}
 use Rattle.mm_readings.specs.Pieces.{read_unary, read_binary, read_sorted, read_quantifier, read}
 

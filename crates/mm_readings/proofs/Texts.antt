@@ -10,7 +10,7 @@ use Rattle.mm_readings.specs.Letters.{sorted_letter, quantifier_letter, object_l
 use Rattle.mm_readings.specs.Pieces.{spell}
 use Rattle.mm_readings.specs.Readings.{has_object}
 
-in_front : (l : Letter) {xs ys : List Letter} → xs ≡ ys → (l ∷ xs) ≡ (l ∷ ys)
+pub in_front : (l : Letter) {xs ys : List Letter} → xs ≡ ys → (l ∷ xs) ≡ (l ∷ ys)
 in_front l e = ap (λ (zs : List Letter). l ∷ zs) e
 
 pub spell-append : (p : Pattern) (xs ys : List Letter) → (spell p xs ++ ys) ≡ spell p (xs ++ ys)

@@ -1,7 +1,15 @@
 // Laws on readings.
-ghost use Rattle.mm_readings.specs.ReadingLaws.{SpelledIsRead};
+ghost use Rattle.mm_readings.specs.ReadingLaws.{RowsAreSound, SpelledIsRead};
 
 /// A text of letters is that of one list of pieces at most: what is spelled is read back.
 pub fn text_laws()
     ensures read { SpelledIsRead }
+{}
+
+/// Take the frame of any of the 88 rows of the header. Under each reading that is fit for it, its
+/// statement holds. A pattern holds if it has a derivation from the axioms by the rules of matching
+/// logic, and the judgements hold by their definitions on patterns. A reading is fit if it reads
+/// each variable by its type, if the hypotheses hold, and if the pairs share no object variable.
+pub fn row_laws()
+    ensures rows { RowsAreSound }
 {}

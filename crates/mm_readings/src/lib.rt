@@ -10,4 +10,4 @@
 
 mod laws;
 
-pub use laws::text_laws;
+pub use laws::{row_laws, text_laws};
