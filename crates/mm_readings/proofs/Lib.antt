@@ -7,3 +7,6 @@ pub mod SchemeLaws
 pub mod Meanings
 pub mod RowTokens
 pub mod RowReadings
+pub mod Objects
+pub mod Applied
+pub mod ProofTrees

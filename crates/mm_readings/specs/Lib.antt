@@ -4,3 +4,5 @@ pub mod Pieces
 pub mod Holding
 pub mod Readings
 pub mod ReadingLaws
+pub mod Proving
+pub mod ProvingLaws

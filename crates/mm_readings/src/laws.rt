@@ -1,4 +1,5 @@
 // Laws on readings.
+ghost use Rattle.mm_readings.specs.ProvingLaws.{FitAfterSubstitution, ProvedHolds};
 ghost use Rattle.mm_readings.specs.ReadingLaws.{RowsAreSound, SpelledIsRead};
 
 /// A text of letters is that of one list of pieces at most: what is spelled is read back.
@@ -12,4 +13,12 @@ pub fn text_laws()
 /// each variable by its type, if the hypotheses hold, and if the pairs share no object variable.
 pub fn row_laws()
     ensures rows { RowsAreSound }
+{}
+
+/// What a proof tree proves holds under each reading that is fit where the proof stands, if the
+/// assertions declared there are sound. An assertion is cited under a substitution: then its frame is
+/// read after the substitution, and that reading is fit for it.
+pub fn proof_laws()
+    ensures substitution { FitAfterSubstitution }
+    ensures proved { ProvedHolds }
 {}
