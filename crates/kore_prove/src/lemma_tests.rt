@@ -30,7 +30,10 @@ fn a_lemma_leaves_the_run_last(rt: HostRuntime) -> Result<(), Fail> {
     let mut desk = two_files(alloc, &PROVES, UNDISTURBED)?;
     assert_eq!(rt; added(alloc, &mut desk, None), Some(Ok(())));
     let database = desk.file("p.mm").unwrap_or_default();
-    assert_eq!(rt; last_stated(database), Some("p |- ( \\imp f:a ( \\ev f:c ) ) "));
+    assert_eq!(rt;
+        last_stated(database),
+        Some("p |- ( \\imp f:a ( \\ev f:c ) ) ")
+    );
     assert!(rt; verify(alloc, database).is_ok());
     Ok(())
 }

@@ -19,9 +19,7 @@ pub struct Theory {
 // A theory is dropped by one call, and not field by field at each end of each call that owns one.
 impl Drop for Theory {
     fn drop(self) {
-        let Theory {
-            axioms: _,
-        } = self;
+        let Theory { axioms: _ } = self;
     }
 }
 
