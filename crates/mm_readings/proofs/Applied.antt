@@ -14,7 +14,7 @@ use Rattle.ml_pat.proofs.LeafLaws.{split_true}
 use Rattle.mm_readings.specs.Letters.{Letter, letter_of}
 use Rattle.mm_readings.specs.Holding.{Holds}
 use Rattle.mm_readings.specs.Readings.{Reading, put, has_object, ShareNone, AllHold, IsFit}
-use Rattle.mm_readings.specs.Proving.{IsFitIn, after, AllHoldThere, is_in_any, HaveTypecodes}
+use Rattle.mm_readings.specs.Proving.{IsFitIn, after_substitution, EachHolds, is_in_any, HaveTypecodes}
 use Rattle.mm_readings.specs.Proving.{TypesItsVariables}
 use Rattle.mm_readings.proofs.Objects.{no_object, stands_in, passes}
 
@@ -38,7 +38,7 @@ after_token : (A : Pattern → Type 0) (number : Token → ℕ) (c : Context) (m
     (sigma : Token → Expression) → IsFitIn A number c m
     → ((t : Token) → list_any (types t) f.hypotheses ≡ false → sigma t ≡ t ∷ [])
     → (t : Token) → list_any (types t) f.hypotheses ≡ c.variables t
-    → after number m f sigma t ≡ put m (sigma t)
+    → after_substitution number m f sigma t ≡ put m (sigma t)
 after_token A number c m f sigma fit others t kind =
     go (list_any (types t) f.hypotheses) refl
   where
@@ -54,10 +54,10 @@ after_text : (A : Pattern → Type 0) (number : Token → ℕ) (c : Context) (m 
     → ((t : Token) → list_any (types t) f.hypotheses ≡ false → sigma t ≡ t ∷ [])
     → (tokens : List Token)
     → ((t : Token) → has_token tokens t ≡ true → list_any (types t) f.hypotheses ≡ c.variables t)
-    → put (after number m f sigma) tokens ≡ put m (substituted sigma tokens)
+    → put (after_substitution number m f sigma) tokens ≡ put m (substituted sigma tokens)
 after_text A number c m f sigma fit others [] kinds = refl
 after_text A number c m f sigma fit others (t ∷ tokens) kinds =
-    ap (λ (ls : List Letter). ls ++ put (after number m f sigma) tokens)
+    ap (λ (ls : List Letter). ls ++ put (after_substitution number m f sigma) tokens)
     (after_token A number c m f sigma fit others t
     (kinds t (or_left (bytes_eq t t) (has_token tokens t) ((bytes_eq-Decides t t).1 refl))))
     ∙ ap (λ (ls : List Letter). put m (sigma t) ++ ls)
@@ -72,8 +72,8 @@ after_hypotheses : (A : Pattern → Type 0) (number : Token → ℕ) (c : Contex
     → ((t : Token) → list_any (types t) f.hypotheses ≡ false → sigma t ≡ t ∷ [])
     → (hs : List Hypothesis)
     → ((t : Token) → is_in_any hs t ≡ true → list_any (types t) f.hypotheses ≡ c.variables t)
-    → HaveTypecodes c hs → AllHoldThere A m (map (instance_of sigma) hs)
-    → AllHold A (after number m f sigma) hs
+    → HaveTypecodes c hs → EachHolds A m (map (instance_of sigma) hs)
+    → AllHold A (after_substitution number m f sigma) hs
 after_hypotheses A number c m f sigma fit others [] kinds codes hold = tt
 after_hypotheses A number c m f sigma fit others (essential label statement ∷ hs) kinds codes hold = (
   subst (Holds A) (sym (after_text A number c m f sigma fit others statement
@@ -92,14 +92,14 @@ after_hypotheses A number c m f sigma fit others (floating label typecode variab
     (or_left (bytes_eq variable variable) false ((bytes_eq-Decides variable variable).1 refl)) in
     let kind' : list_any (types variable) f.hypotheses ≡ c.variables variable =
     kinds variable (or_left (has_token (typecode ∷ (variable ∷ [])) variable) _ there) in
-    let first : after number m f sigma typecode ≡ m typecode =
+    let first : after_substitution number m f sigma typecode ≡ m typecode =
     after_token A number c m f sigma fit others typecode kind
     ∙ ap (put m) (others typecode (kind ∙ codes.0)) ∙ append-nil (m typecode) in
-    let second : after number m f sigma variable ++ [] ≡ put m (sigma variable) =
-    append-nil (after number m f sigma variable)
+    let second : after_substitution number m f sigma variable ++ [] ≡ put m (sigma variable) =
+    append-nil (after_substitution number m f sigma variable)
     ∙ after_token A number c m f sigma fit others variable kind' in (
       subst (Holds A)
-          (sym (ap (λ (ls : List Letter). ls ++ (after number m f sigma variable ++ [])) first
+          (sym (ap (λ (ls : List Letter). ls ++ (after_substitution number m f sigma variable ++ [])) first
           ∙ ap (λ (ls : List Letter). m typecode ++ ls) second)) hold.0,
       after_hypotheses A number c m f sigma fit others hs
           (λ t k. kinds t (or_right (has_token (typecode ∷ (variable ∷ [])) t) (is_in_any hs t) k))
@@ -163,7 +163,7 @@ typed_passes test (floating label typecode variable ∷ hs) t h k =
 after_apart : (A : Pattern → Type 0) (number : Token → ℕ) (c : Context) (m : Reading) (f : Frame)
     (sigma : Token → Expression) → IsFitIn A number c m
     → keeps_apart (symbols_apart c) f sigma ≡ true → (a b : Token) → f.apart a b ≡ true
-    → ShareNone (after number m f sigma a) (after number m f sigma b)
+    → ShareNone (after_substitution number m f sigma a) (after_substitution number m f sigma b)
 after_apart A number c m f sigma fit kept a b pair =
     go (list_any (types a) f.hypotheses) (list_any (types b) f.hypotheses) refl refl
   where
@@ -194,9 +194,9 @@ after_apart A number c m f sigma fit kept a b pair =
 pub fit_after : (A : Pattern → Type 0) (number : Token → ℕ) (c : Context) (m : Reading) (f : Frame)
     (sigma : Token → Expression) (given : List Expression) (result : Expression)
     → IsFitIn A number c m → TypesItsVariables c f → Applies c f sigma given result
-    → AllHoldThere A m given
-    → IsFit A number f (after number m f sigma)
-    × (put (after number m f sigma) f.statement ≡ put m result)
+    → EachHolds A m given
+    → IsFit A number f (after_substitution number m f sigma)
+    × (put (after_substitution number m f sigma) f.statement ≡ put m result)
 fit_after A number c m f sigma given result fit typed applies hold = (
   record {
     constants = λ t none. rw none refl;
@@ -204,7 +204,7 @@ fit_after A number c m f sigma given result fit typed applies hold = (
         after_hypotheses A number c m f sigma fit applies.others f.hypotheses
         (λ t there. typed.tokens t
         (or_right (has_token f.statement t) (is_in_any f.hypotheses t) there)) typed.typecodes
-        (subst (AllHoldThere A m) applies.hypotheses hold);
+        (subst (EachHolds A m) applies.hypotheses hold);
     apart = after_apart A number c m f sigma fit applies.apart;
   },
   after_text A number c m f sigma fit applies.others f.statement

@@ -10,7 +10,7 @@ use Rattle.mm_database.specs.Proofs.{Proves, AllProve}
 use Rattle.ml_pat.specs.Patterns.{Pattern}
 use Rattle.mm_readings.specs.Holding.{Holds}
 use Rattle.mm_readings.specs.Readings.{Reading, put, AllHold}
-use Rattle.mm_readings.specs.Proving.{IsFitIn, after, AllHoldThere, HasSoundFrames}
+use Rattle.mm_readings.specs.Proving.{IsFitIn, after_substitution, EachHolds, HasSoundFrames}
 use Rattle.mm_readings.proofs.Applied.{fit_after}
 
 active_holds : (A : Pattern → Type 0) (m : Reading) (label : Token) (hs : List Hypothesis)
@@ -30,14 +30,14 @@ active_holds A m label (one ∷ hs) h found hold =
 
 leads_hold : (A : Pattern → Type 0) (number : Token → ℕ) (c : Context) (m : Reading)
     (label : Token) (given : List Expression) (e : Expression) → IsFitIn A number c m
-    → HasSoundFrames A number c → Leads c label given e → AllHoldThere A m given
+    → HasSoundFrames A number c → Leads c label given e → EachHolds A m given
     → Holds A (put m e)
 leads_hold A number c m label given e fit sound (by_hypothesis h found) hold =
     active_holds A m label c.scope.hypotheses h found fit.hypotheses
 leads_hold A number c m label given e fit sound (by_assertion f sigma ps result none found applies)
     hold =
     let w = fit_after A number c m f sigma ps result fit (sound.typed label f found) applies hold in
-    subst (Holds A) w.1 (sound.sound label f found (after number m f sigma) w.0)
+    subst (Holds A) w.1 (sound.sound label f found (after_substitution number m f sigma) w.0)
 
 mutual
   pub proved_holds : (A : Pattern → Type 0) (number : Token → ℕ) (c : Context) (m : Reading)
@@ -49,12 +49,12 @@ mutual
 
   pub all_proved_hold : (A : Pattern → Type 0) (number : Token → ℕ) (c : Context) (m : Reading)
       (trees : ProofForest) (given : List Expression) → IsFitIn A number c m
-      → HasSoundFrames A number c → AllProve c trees given → AllHoldThere A m given
+      → HasSoundFrames A number c → AllProve c trees given → EachHolds A m given
   all_proved_hold A number c m no_proof given fit sound none =
-      subst (AllHoldThere A m) (sym none) tt
+      subst (EachHolds A m) (sym none) tt
   all_proved_hold A number c m (more_proofs tree trees) given fit sound
       (first, rest, same, one, others) =
-      subst (AllHoldThere A m) (sym same) (
+      subst (EachHolds A m) (sym same) (
         proved_holds A number c m tree first fit sound one,
         all_proved_hold A number c m trees rest fit sound others,
       )

@@ -23,13 +23,13 @@ pub record IsFitIn (IsAxiom : Pattern → Type 0) (number : Token → ℕ) (c : 
 
 -- The reading of a frame after a substitution: a variable of the frame is read as the text that
 -- replaces it.
-abbrev pub after : (Token → ℕ) → Reading → Frame → (Token → Expression) → Reading
-after number m f sigma = λ t.
+abbrev pub after_substitution : (Token → ℕ) → Reading → Frame → (Token → Expression) → Reading
+after_substitution number m f sigma = λ t.
     if list_any (types t) f.hypotheses then put m (sigma t) else letter_of number t ∷ []
 
-abbrev pub AllHoldThere : (Pattern → Type 0) → Reading → List Expression → Type 0
-AllHoldThere IsAxiom m [] = Unit {0}
-AllHoldThere IsAxiom m (e ∷ es) = Holds IsAxiom (put m e) × AllHoldThere IsAxiom m es
+abbrev pub EachHolds : (Pattern → Type 0) → Reading → List Expression → Type 0
+EachHolds IsAxiom m [] = Unit {0}
+EachHolds IsAxiom m (e ∷ es) = Holds IsAxiom (put m e) × EachHolds IsAxiom m es
 
 -- the token stands in a hypothesis of the list
 abbrev pub is_in_any : List Hypothesis → Token → Bool

@@ -7,7 +7,7 @@ use Rattle.mm_database.specs.Proofs.{Expression, Applies, ProofTree, Proves}
 use Rattle.ml_pat.specs.Patterns.{Pattern}
 use Rattle.mm_readings.specs.Holding.{Holds}
 use Rattle.mm_readings.specs.Readings.{Reading, put, IsFit}
-use Rattle.mm_readings.specs.Proving.{IsFitIn, after, AllHoldThere, TypesItsVariables}
+use Rattle.mm_readings.specs.Proving.{IsFitIn, after_substitution, EachHolds, TypesItsVariables}
 use Rattle.mm_readings.specs.Proving.{HasSoundFrames}
 
 -- An assertion is applied under a substitution where a reading is fit. If what is given holds, the
@@ -18,9 +18,9 @@ FitAfterSubstitution =
     (axioms : List Pattern) (number : Token → ℕ) (c : Context) (m : Reading) (f : Frame)
     (sigma : Token → Expression) (given : List Expression) (result : Expression) →
     IsFitIn (Contains axioms) number c m → TypesItsVariables c f →
-    Applies c f sigma given result → AllHoldThere (Contains axioms) m given →
-    IsFit (Contains axioms) number f (after number m f sigma)
-    × (put (after number m f sigma) f.statement ≡ put m result)
+    Applies c f sigma given result → EachHolds (Contains axioms) m given →
+    IsFit (Contains axioms) number f (after_substitution number m f sigma)
+    × (put (after_substitution number m f sigma) f.statement ≡ put m result)
 
 -- what a proof tree proves holds, under each reading that is fit where the proof stands
 abbrev pub ProvedHolds : Type 0
