@@ -16,8 +16,8 @@ pub fn row_laws()
 {}
 
 /// What a proof tree proves holds under each reading that is fit where the proof stands, if the
-/// assertions declared there are sound. An assertion is cited under a substitution: then its frame is
-/// read after the substitution, and that reading is fit for it.
+/// assertions that are declared there are sound. For a frame that is cited under a substitution, the
+/// reading after the substitution is fit.
 pub fn proof_laws()
     ensures substitution { FitAfterSubstitution }
     ensures proved { ProvedHolds }
