@@ -14,8 +14,8 @@ use Rattle.ml_pat.proofs.LeafLaws.{split_true}
 use Rattle.mm_readings.specs.Letters.{Letter, letter_of}
 use Rattle.mm_readings.specs.Holding.{Holds}
 use Rattle.mm_readings.specs.Readings.{Reading, put, has_object, ShareNone, AllHold, IsFit}
-use Rattle.mm_readings.specs.Proving.{IsFitIn, after_substitution, EachHolds, is_in_any, HaveTypecodes}
-use Rattle.mm_readings.specs.Proving.{TypesItsVariables}
+use Rattle.mm_readings.specs.Proving.{IsFitIn, after_substitution, EachHolds, is_in_any}
+use Rattle.mm_readings.specs.Proving.{HaveTypecodes, TypesItsVariables}
 use Rattle.mm_readings.proofs.Objects.{no_object, stands_in, passes}
 
 or_right : (a b : Bool) → b ≡ true → (a || b) ≡ true
@@ -75,7 +75,7 @@ after_hypotheses : (A : Pattern → Type 0) (number : Token → ℕ) (c : Contex
     → HaveTypecodes c hs → EachHolds A m (map (instance_of sigma) hs)
     → AllHold A (after_substitution number m f sigma) hs
 after_hypotheses A number c m f sigma fit others [] kinds codes hold = tt
-after_hypotheses A number c m f sigma fit others (essential label statement ∷ hs) kinds codes hold = (
+after_hypotheses A number c m f sigma fit others (essential l statement ∷ hs) kinds codes hold = (
   subst (Holds A) (sym (after_text A number c m f sigma fit others statement
       (λ t there. kinds t (or_left (has_token statement t) (is_in_any hs t) there)))) hold.0,
   after_hypotheses A number c m f sigma fit others hs
@@ -95,11 +95,12 @@ after_hypotheses A number c m f sigma fit others (floating label typecode variab
     let first : after_substitution number m f sigma typecode ≡ m typecode =
     after_token A number c m f sigma fit others typecode kind
     ∙ ap (put m) (others typecode (kind ∙ codes.0)) ∙ append-nil (m typecode) in
-    let second : after_substitution number m f sigma variable ++ [] ≡ put m (sigma variable) =
+    let text : List Letter = after_substitution number m f sigma variable ++ [] in
+    let second : text ≡ put m (sigma variable) =
     append-nil (after_substitution number m f sigma variable)
     ∙ after_token A number c m f sigma fit others variable kind' in (
       subst (Holds A)
-          (sym (ap (λ (ls : List Letter). ls ++ (after_substitution number m f sigma variable ++ [])) first
+          (sym (ap (λ (ls : List Letter). ls ++ text) first
           ∙ ap (λ (ls : List Letter). m typecode ++ ls) second)) hold.0,
       after_hypotheses A number c m f sigma fit others hs
           (λ t k. kinds t (or_right (has_token (typecode ∷ (variable ∷ [])) t) (is_in_any hs t) k))

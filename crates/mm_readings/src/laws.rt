@@ -16,8 +16,8 @@ pub fn row_laws()
 {}
 
 /// What a proof tree proves holds under each reading that is fit where the proof stands, if the
-/// assertions that are declared there are sound. For a frame that is cited under a substitution, the
-/// reading after the substitution is fit.
+/// assertions that are declared there are sound. If an assertion is cited under a substitution, the
+/// reading after the substitution is fit for its frame.
 pub fn proof_laws()
     ensures substitution { FitAfterSubstitution }
     ensures proved { ProvedHolds }
