@@ -10,6 +10,7 @@ pub mod TestView
 pub mod Drafting
 pub mod NodeView
 pub mod TreeView
+pub mod Programs
 pub mod Ways
 pub mod SlotView
 pub mod Asking
