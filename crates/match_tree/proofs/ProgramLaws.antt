@@ -214,17 +214,17 @@ first_rule theory t u sort from row well is each term normal first =
     subst P same first.there in
     let own = mapped_at rule_row theory.rules row first.ps at in
     let are = rule_sorted theory sort own.0 u well
-    (item_at (IsRuleOf theory.sig sort) theory.rules row own.0 each own.1.0) term normal in
+    (item_at (IsRuleOf theory.sig sort) theory.rules row own.0 each own.1) term normal in
     let refs : List SortRef = Sort (record { 0 = sort }) ∷ [] in
     let ps : Patterns = more_patterns own.0.left no_pattern in
     let hit : is_some (row_match theory.sig.subsorts (rule_row own.0) (u ∷ [])) ≡ true =
-    ap (λ (qs : List Pattern). is_some (row_match theory.sig.subsorts qs (u ∷ []))) own.1.1
+    ap (λ (qs : List Pattern). is_some (row_match theory.sig.subsorts qs (u ∷ []))) own.2
     ∙ first.hit in
     let mine : row_of t.matrix row ≡ rule_row own.0 =
-    row_numbered t.matrix (map rule_row theory.rules) row first.ps is.rows at ∙ sym own.1.1 in
+    row_numbered t.matrix (map rule_row theory.rules) row first.ps is.rows at ∙ sym own.2 in
     record {
       rule = own.0;
-      there = own.1.0;
+      there = own.1;
       not_before = first.low;
       earlier = no_rules theory u sort from row well each term normal first.earlier;
       matches = hit_matches theory.sig own.0.variables refs ps (rule_row own.0) (u ∷ []) are
@@ -254,7 +254,7 @@ rule_tree_is_wide theory t is =
     numbered_wide 1 (rows_of t.matrix) (map rule_row theory.rules) is.rows
     (λ i ps at.
     let own = mapped_at rule_row theory.rules i ps at in
-    ap (λ (qs : List Pattern). length qs) (sym own.1.1))
+    ap (λ (qs : List Pattern). length qs) (sym own.2))
 
 -- ---- equations
 
@@ -298,15 +298,15 @@ first_equation theory f info t ts from row well is there terms normal first =
     let P : ℕ → Type 0 = λ i. slice_get (map equation_row es) i ≡ Some first.ps in
     let at : slice_get (map equation_row es) row ≡ Some first.ps = subst P same first.there in
     let own = mapped_at equation_row es row first.ps at in
-    let are = equation_sorted theory f info ts row own.0 well there terms normal own.1.0 in
+    let are = equation_sorted theory f info ts row own.0 well there terms normal own.1 in
     let hit : is_some (row_match theory.sig.subsorts (equation_row own.0) ts) ≡ true =
-    ap (λ (qs : List Pattern). is_some (row_match theory.sig.subsorts qs ts)) own.1.1
+    ap (λ (qs : List Pattern). is_some (row_match theory.sig.subsorts qs ts)) own.2
     ∙ first.hit in
     let mine : row_of t.matrix row ≡ equation_row own.0 =
-    row_numbered t.matrix (map equation_row es) row first.ps is.rows at ∙ sym own.1.1 in
+    row_numbered t.matrix (map equation_row es) row first.ps is.rows at ∙ sym own.2 in
     record {
       equation = own.0;
-      there = own.1.0;
+      there = own.1;
       not_before = first.low;
       earlier = no_equations theory f info ts from row well there terms normal first.earlier;
       matches = hit_matches theory.sig own.0.variables info.args.items own.0.arguments
@@ -359,8 +359,8 @@ equation_tree_is_wide theory f info t ts well is there terms =
     (λ i ps at.
     let own = mapped_at equation_row es i ps at in
     let one : IsEquationOf theory.sig info own.0 =
-    item_at (IsEquationOf theory.sig info) es i own.0 (well.equations f info there) own.1.0 in
-    ap (λ (qs : List Pattern). length qs) (sym own.1.1)
+    item_at (IsEquationOf theory.sig info) es i own.0 (well.equations f info there) own.1 in
+    ap (λ (qs : List Pattern). length qs) (sym own.2)
     ∙ length-map (pattern_list own.0.arguments) collapsed
     ∙ have_sorts-count theory.sig own.0.variables [] own.0.arguments info.args.items one.arguments
     ∙ sym count)
@@ -392,6 +392,6 @@ unmatched_equations_are_skipped theory f n from (suc count) calls ts r room none
     unmatched_equations_are_skipped theory f n (from + 1) count calls ts r (omega arith)
     (λ j e low high at. none j e (omega arith) (omega arith) at) (subst P same later) in
     let Q : List Equation → Type 0 = λ xs. Equates theory n f xs ts calls r in
-    subst Q
-    (sym (drop_at es from own.0 own.1 ∙ ap (λ (j : ℕ). own.0 ∷ drop j es) (omega arith)))
+    let next : suc from ≡ from + 1 = omega arith in
+    subst Q (sym (drop_at es from own.0 own.1 ∙ ap (λ (j : ℕ). own.0 ∷ drop j es) next))
     (unmatched (none from own.0 (omega arith) (omega arith) own.1) rest)

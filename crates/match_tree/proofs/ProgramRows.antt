@@ -72,7 +72,7 @@ get_within [] i x at = absurd (let no : ⊥ = cc in no)
 get_within (y ∷ xs) zero x at = omega arith
 get_within (y ∷ xs) (suc i) x at = omega (arith, get_within xs i x at)
 
-patterns_in : Option Row → List Pattern
+abbrev patterns_in : Option Row → List Pattern
 patterns_in None = []
 patterns_in (Some r) = r.1
 
