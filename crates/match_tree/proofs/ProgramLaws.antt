@@ -36,15 +36,40 @@ use Rattle.pat_matrix.specs.MatrixView.{rows_of, row_of, order_of}
 use Rattle.pat_matrix.proofs.CollapsedLaws.{collapsed_matches_the_same, have_sorts-collapsed}
 use Rattle.pat_matrix.proofs.CollapsedLaws.{all_collapsed-patterns}
 use Rattle.match_tree.specs.Programs.{rule_row, equation_row, IsTreeOf, IsRuleTree, IsEquationTree}
-use Rattle.match_tree.specs.ProgramLaws.{RuleTreeIsWide, RuleWalkTells, IsFirstRule}
+use Rattle.match_tree.specs.SlotView.{FitsHit, IsResume, IsKept, IsKeptRow, after_kept}
+use Rattle.match_tree.specs.ProgramLaws.{WalkGoesOn, RuleTreeIsWide, RuleWalkTells, IsFirstRule}
 use Rattle.match_tree.specs.ProgramLaws.{EquationTreeIsWide, EquationWalkTells, IsFirstEquation}
 use Rattle.match_tree.specs.ProgramLaws.{NoEquationMatches}
 use Rattle.match_tree.specs.ProgramLaws.{UnmatchedEquationsAreSkipped}
 use Rattle.match_tree.specs.declared.compiling.Tree.{Tree as MatchingTree}
 use Rattle.match_tree.specs.declared.slots.Hit.TheVariants as answer
+use Rattle.match_tree.specs.declared.slots.Kept.{Kept}
+use Rattle.match_tree.specs.declared.slots.NodeNo.{NodeNo}
+use Rattle.match_tree.specs.declared.slots.NodeNo.TheVariants as place
+use Rattle.match_tree.specs.declared.slots.Slots.{Slots}
 use Rattle.match_tree.proofs.BindingLaws.{match_with_room, match_with_own_room, some_of}
 use Rattle.match_tree.proofs.ProgramRows.{IsFirst, NoneMatch, first_of, none_of, numbered_wide}
 use Rattle.match_tree.proofs.ProgramRows.{row_numbered}
+
+-- ---- the next walk
+
+kept_goes_on : (t : MatchingTree) (ts : List Tree) (slots : Slots) (row : ℕ) (resume : NodeNo)
+    → slots.hit ≡ Some (record { row = row; resume = resume })
+    → (after_kept slots.hit ≡ row + 1) × IsResume slots.hit resume × IsKeptRow slots row
+kept_goes_on t ts slots row resume is =
+    let P : Option Kept → Type 0 = λ h. IsResume h resume in
+    let Q : Option Kept → Type 0 = λ h. IsKept h row in
+    (ap after_kept is, subst P (sym is) refl, subst Q (sym is) refl)
+
+pub walk_goes_on : WalkGoesOn
+walk_goes_on t ts slots row place.Start (is, fits) =
+    let P : Option Kept → Type 0 = FitsHit t ts slots.path.items in absurd (subst P is fits).0
+walk_goes_on t ts slots row (place.Node k) (is, fits) =
+    let own = kept_goes_on t ts slots row (place.Node k) is in
+    ((fits, own.1), own.0, fits, own.2)
+walk_goes_on t ts slots row (place.Rows n) (is, fits) =
+    let own = kept_goes_on t ts slots row (place.Rows n) is in
+    ((fits, own.1), own.0, fits, own.2)
 
 -- ---- matching by a row and by the patterns that it is made of
 
