@@ -10,9 +10,11 @@ pub mod TestView
 pub mod Drafting
 pub mod NodeView
 pub mod TreeView
+pub mod Programs
 pub mod Ways
 pub mod SlotView
 pub mod Asking
+pub mod ProgramLaws
 -- Private: what clauses of private functions cite.
 pub mod Agreement
 pub mod Standing

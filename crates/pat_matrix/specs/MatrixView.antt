@@ -1,5 +1,6 @@
 -- What contracts see of a `Matrix`: its rows that are left, its columns, and the order of sorts.
 use Rattle.std.specs.Prelude.{ℕ, List, [], map, slice_index_or}
+use Rattle.std.specs.Borrow.{Bor}
 use Rattle.std.specs.Global.{Vec}
 use Rattle.term_core.specs.Patterns.{Pattern}
 use Rattle.term_core.specs.RulePatterns.{plain_pattern}
@@ -10,6 +11,10 @@ use Rattle.pat_matrix.specs.declared.matrix.Matrix.{Matrix}
 -- each row's patterns
 abbrev pub plain_rows : List (Vec RulePat) → List (List Pattern)
 plain_rows rows = map (λ (ps : Vec RulePat). map plain_pattern ps.items) rows
+
+-- the same of rows that are lent
+abbrev pub lent_rows : List (Bor (List RulePat)) → List (List Pattern)
+lent_rows rows = map (λ (ps : Bor (List RulePat)). map plain_pattern ps.now) rows
 
 -- the patterns of the row with this number; none if there is no such row
 abbrev pub patterns_at : List (Vec RulePat) → ℕ → List Pattern

@@ -1,5 +1,6 @@
 // Matrices of patterns.
-ghost use Rattle.std.specs.Prelude.{◌≡◌, ◌≢◌, ◌<◌, ℕ, [], map, length, slice_get, Some, IfOk, ◌^◌};
+ghost use Rattle.std.specs.Prelude.{◌≡◌, ◌≢◌, ◌<◌, ◌≤◌, ℕ, [], map, length, slice_get, Some, IfOk};
+ghost use Rattle.std.specs.Prelude.{◌^◌};
 ghost use Rattle.std.specs.Prelude.{◌+◌, ◌++◌, ◌∷◌, List, OnOk, take, drop};
 ghost use Rattle.term_core.specs.RulePatterns.{plain_pattern};
 ghost use Rattle.rule_core.specs.Subsorts.{IsBelow};
@@ -11,8 +12,8 @@ ghost use Rattle.pat_matrix.specs.Rows.{width};
 ghost use Rattle.pat_matrix.specs.Rows.{collapsed_rows, numbered, first_columns, numbers_from};
 ghost use Rattle.pat_matrix.specs.Rows.{wants, is_wild};
 ghost use Rattle.pat_matrix.specs.Groups.{IsSplit};
-ghost use Rattle.pat_matrix.specs.MatrixView.{plain_rows, rows_at, rows_of, row_of, columns_of};
-ghost use Rattle.pat_matrix.specs.MatrixView.{position_of, order_of, positions};
+ghost use Rattle.pat_matrix.specs.MatrixView.{plain_rows, lent_rows, rows_at, rows_of, row_of};
+ghost use Rattle.pat_matrix.specs.MatrixView.{columns_of, position_of, order_of, positions};
 
 use crate::cells::asked_at;
 use crate::collapsing::all_collapsed;
@@ -43,22 +44,22 @@ impl<'s> Matrix<'s> {
     /// another. An error: out of memory.
     pub fn of(
         alloc: Global,
-        rows: &[Vec<RulePat>],
+        rows: &[&[RulePat]],
         subsorts: &'s Subsorts,
         sorts: u32,
     ) -> Result<Matrix<'s>, AllocError>
-        requires count { length rows.now < 2 ^ 32 }
+        requires count { length rows.now ≤ 2 ^ 32 }
         requires sorts { (a b : ℕ) → IsBelow subsorts.now a b → a < sorts }
         ensures rows { IfOk result
-            (λ m. rows_of m ≡ numbered 0 (collapsed_rows (plain_rows rows.now))) }
-        ensures columns { IfOk result (λ m. columns_of m ≡ first_columns (plain_rows rows.now)) }
+            (λ m. rows_of m ≡ numbered 0 (collapsed_rows (lent_rows rows.now))) }
+        ensures columns { IfOk result (λ m. columns_of m ≡ first_columns (lent_rows rows.now)) }
         ensures order { IfOk result (λ m. order_of m ≡ subsorts.now) }
     {
         let columns = match rows.first() {
             None => Vec::new(alloc),
             Some(row) => subjects(alloc, row.len())?,
         };
-        let left = numbers(alloc, rows.len() as u32)?;
+        let left = numbers(alloc, rows.len())?;
         let rows = Rc::new(alloc, collapsed_rows(alloc, rows)?)?;
         Ok(Matrix {
             rows,
@@ -311,20 +312,21 @@ impl<'s> Matrix<'s> {
 }
 
 // The numbers below a number.
-fn numbers(alloc: Global, count: u32) -> Result<Vec<u32>, AllocError>
+fn numbers(alloc: Global, count: usize) -> Result<Vec<u32>, AllocError>
+    requires { count ≤ 2 ^ 32 }
     ensures { IfOk result (λ numbers. numbers.items ≡ numbers_from 0 count) }
 {
-    let mut numbers = Vec::with_capacity(alloc, count as usize)?;
+    let mut numbers = Vec::with_capacity(alloc, count)?;
     for number in 0..count {
-        numbers.push(number)?;
+        numbers.push(number as u32)?;
     }
     Ok(numbers)
 }
 
 // The rows, with nested injections joined.
-fn collapsed_rows(alloc: Global, rows: &[Vec<RulePat>]) -> Result<Vec<Vec<RulePat>>, AllocError>
+fn collapsed_rows(alloc: Global, rows: &[&[RulePat]]) -> Result<Vec<Vec<RulePat>>, AllocError>
     ensures { IfOk result
-        (λ done. plain_rows done.items ≡ collapsed_rows (plain_rows rows.now)) }
+        (λ done. plain_rows done.items ≡ collapsed_rows (lent_rows rows.now)) }
 {
     let mut done = Vec::with_capacity(alloc, rows.len())?;
     for row in rows {
