@@ -19,4 +19,4 @@ pub use answer::{Answer, EvalEnd};
 pub use engine::{Budget, Engine, MAX_NESTING};
 pub use equations::Trial;
 pub use recording::{Recording, Unrecorded};
-pub use terms::{is_true, match_term};
+pub use terms::is_true;
