@@ -216,6 +216,20 @@ match_with_room pairs ps ts vars scoped some =
     (λ x. binding-replicate n x ∙ sym (binding-replicate vars x)) own.1 in
     not_none _ one.out one.is
 
+-- a row that matches with so much room also matches with its own room
+pub match_with_own_room : (pairs : List (ℕ × ℕ)) (ps : List Pattern) (ts : List Tree) (vars : ℕ)
+    (theta : List (Option Tree)) → UseFirst vars (patterns ps)
+    → all_matched pairs (patterns ps) (forest ts) (replicate vars None) ≡ Some theta
+    → is_some (row_match pairs ps ts) ≡ true
+match_with_own_room pairs ps ts vars theta scoped e =
+    let n = rooms (patterns ps) in
+    let P : ℕ → Type 0 = λ k. (x : ℕ) → OccursInSome x (patterns ps) → x < k in
+    let one = all_alike pairs (patterns ps) (forest ts) (replicate vars None) (replicate n None)
+    theta (subst P (sym (length-replicate vars None)) scoped)
+    (subst P (sym (length-replicate n None)) (λ x h. all_within x (patterns ps) h))
+    (λ x. binding-replicate vars x ∙ sym (binding-replicate n x)) e in
+    ap is_some one.is
+
 -- its patterns are as many as the subjects
 pub match_as_many : (pairs : List (ℕ × ℕ)) (ps : List Pattern) (ts : List Tree)
     → is_some (row_match pairs ps ts) ≡ true → length ps ≡ length ts

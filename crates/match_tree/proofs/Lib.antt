@@ -22,3 +22,5 @@ pub mod WalkEnds
 pub mod BindingLaws
 pub mod KeptLaws
 pub mod KnownLaws
+pub mod ProgramRows
+pub mod ProgramLaws

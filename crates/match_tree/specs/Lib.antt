@@ -14,6 +14,7 @@ pub mod Programs
 pub mod Ways
 pub mod SlotView
 pub mod Asking
+pub mod ProgramLaws
 -- Private: what clauses of private functions cite.
 pub mod Agreement
 pub mod Standing

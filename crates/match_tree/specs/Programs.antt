@@ -20,11 +20,11 @@ abbrev pub equation_row : Equation → List Pattern
 equation_row e = map collapsed (pattern_list e.arguments)
 
 -- The tree is one for just these rows, and its rows match by this order of sorts.
-pub record IsTreeOf (pairs : List (ℕ × ℕ)) (rows : List (List Pattern)) (t : Tree) : Type 0 where
+pub record IsTreeOf (pairs : List (ℕ × ℕ)) (lists : List (List Pattern)) (t : Tree) : Type 0 where
   pub tree : IsTree t
   pub finds : HasMatchTree t
   pub order : order_of t.matrix ≡ pairs
-  pub rows : rows_of t.matrix ≡ numbered 0 rows
+  pub rows : rows_of t.matrix ≡ numbered 0 lists
 
 -- It is one for the rules.
 abbrev pub IsRuleTree : RewriteTheory → Tree → Type 0

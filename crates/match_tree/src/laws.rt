@@ -1,8 +1,10 @@
-// Laws of trees as flat lists of nodes.
+// Laws of trees as flat lists of nodes, and of the trees of a program.
 ghost use Rattle.match_tree.specs.NodeLaws.{NodesAreTrees, NodesStay, NodeIsReplaced};
 ghost use Rattle.match_tree.specs.WalkSteps.{BranchTells, OtherTells, LaterTells};
 ghost use Rattle.match_tree.specs.WalkSteps.{HitMatchesByTwins, HitComesFirst};
 ghost use Rattle.match_tree.specs.Spots.{TwinsAreAsked, PlacesAreResolved};
+ghost use Rattle.match_tree.specs.ProgramLaws.{RuleTreeIsWide, RuleWalkTells, EquationTreeIsWide};
+ghost use Rattle.match_tree.specs.ProgramLaws.{EquationWalkTells, UnmatchedEquationsAreSkipped};
 
 /// Has no effect at run time. It states facts about flat nodes. If each node is one for its label,
 /// the nodes from each place on are those of a matching tree for the label. A node stays one for
@@ -29,4 +31,17 @@ pub fn walk_laws()
 pub fn place_laws()
     ensures asked { TwinsAreAsked }
     ensures resolved { PlacesAreResolved }
+{}
+
+/// Has no effect at run time. It states what walks over the trees of a program say of its rules and
+/// equations. A walk over the tree of the rules finds the first rule, from a number on, that
+/// matches the term: those before it do not match, and if it finds none, no rule from there on
+/// matches. A substitution of the row matches the rule's own left side. The same holds for the
+/// equations of a function. Equations that do not match may be skipped.
+pub fn program_laws()
+    ensures rule_width { RuleTreeIsWide }
+    ensures rules { RuleWalkTells }
+    ensures equation_width { EquationTreeIsWide }
+    ensures equations { EquationWalkTells }
+    ensures skipped { UnmatchedEquationsAreSkipped }
 {}

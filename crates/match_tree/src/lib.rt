@@ -15,6 +15,10 @@
 // over them leads to (specs/Walking.antt). `place_laws` says that the places of a variable are
 // known at a hit by what was found (specs/Spots.antt), so that no term is looked at again.
 //
+// `rule_tree` and `equation_tree` make the trees of a program (specs/Programs.antt). `program_laws`
+// says that a walk over them finds the first rule, or the first equation, that matches
+// (specs/ProgramLaws.antt).
+//
 // `row_matches` says whether a row matches subjects. It first looks at the heads for which the row
 // asks, and then compares the places of each variable. It builds no substitution.
 #![tactic(auto)]
@@ -36,7 +40,7 @@ mod trial;
 mod walking;
 
 pub use compiling::{Tree, compile};
-pub use laws::{node_laws, place_laws, walk_laws};
+pub use laws::{node_laws, place_laws, program_laws, walk_laws};
 pub use nodes::MAX_NODES;
 pub use programs::{equation_tree, rule_tree};
 pub use slots::{Hit, NodeNo, Slots};

@@ -15,8 +15,9 @@ use Rattle.term_core.specs.declared.rule_patterns.RulePat.{RulePat}
 use Rattle.pat_matrix.specs.Collapsed.{collapsed, all_collapsed}
 use Rattle.pat_matrix.specs.Rows.{Row, below_from, subjects_from, numbers_from, numbered}
 use Rattle.pat_matrix.specs.Rows.{collapsed_rows, replaced}
+use Rattle.std.specs.Borrow.{Bor}
 use Rattle.std.specs.Global.{Vec}
-use Rattle.pat_matrix.specs.MatrixView.{positions, plain_rows, rows_at}
+use Rattle.pat_matrix.specs.MatrixView.{positions, plain_rows, lent_rows, rows_at}
 use Rattle.pat_matrix.proofs.CollapsedLaws.{all_collapsed-patterns}
 
 -- the first items of a list, and the next one
@@ -186,26 +187,27 @@ rows_at-all made rows left n are numbers count =
     ∙ numbered-at rows rows 0 (λ i. ap (λ m. slice_index_or rows m []) (omega arith))
 
 -- one more row with nested injections joined
-pub collapsed_rows-next : (rows done new : List (Vec RulePat)) (i : ℕ) (row made : Vec RulePat)
+pub collapsed_rows-next : (rows : List (Bor (List RulePat))) (done new : List (Vec RulePat))
+    (i : ℕ) (row : Bor (List RulePat)) (made : Vec RulePat)
     → i < length rows → row ≡ get_or rows i row
-    → plain_rows done ≡ collapsed_rows (plain_rows (take i rows)) → new ≡ done ++ made ∷ []
-    → map plain_pattern made.items ≡ map (λ (p : RulePat). collapsed (plain_pattern p)) row.items
-    → plain_rows new ≡ collapsed_rows (plain_rows (take (i + 1) rows))
+    → plain_rows done ≡ collapsed_rows (lent_rows (take i rows)) → new ≡ done ++ made ∷ []
+    → map plain_pattern made.items ≡ map (λ (p : RulePat). collapsed (plain_pattern p)) row.now
+    → plain_rows new ≡ collapsed_rows (lent_rows (take (i + 1) rows))
 collapsed_rows-next rows done new i row made lt is was more same =
     ap plain_rows more
     ∙ map-append (λ (ps : Vec RulePat). map plain_pattern ps.items) done (made ∷ [])
     ∙ ap (λ rs. rs ++ map plain_pattern made.items ∷ []) was
-    ∙ ap (λ r. collapsed_rows (plain_rows (take i rows)) ++ r ∷ []) (same ∙ mapped_twice row.items)
-    ∙ sym (map-append (λ (ps : List Pattern). map collapsed ps) (plain_rows (take i rows))
-    (map plain_pattern row.items ∷ []))
-    ∙ ap collapsed_rows (sym (take_next (λ (ps : Vec RulePat). map plain_pattern ps.items) rows i
-    row lt is))
+    ∙ ap (λ r. collapsed_rows (lent_rows (take i rows)) ++ r ∷ []) (same ∙ mapped_twice row.now)
+    ∙ sym (map-append (λ (ps : List Pattern). map collapsed ps) (lent_rows (take i rows))
+    (map plain_pattern row.now ∷ []))
+    ∙ ap collapsed_rows
+    (sym (take_next (λ (ps : Bor (List RulePat)). map plain_pattern ps.now) rows i row lt is))
 
-pub length-collapsed_rows : (rows : List (Vec RulePat))
-    → length rows ≡ length (collapsed_rows (plain_rows rows))
+pub length-collapsed_rows : (rows : List (Bor (List RulePat)))
+    → length rows ≡ length (collapsed_rows (lent_rows rows))
 length-collapsed_rows rows =
-    sym (length-map rows (λ (ps : Vec RulePat). map plain_pattern ps.items))
-    ∙ sym (length-map (plain_rows rows) (λ (ps : List Pattern). map collapsed ps))
+    sym (length-map rows (λ (ps : Bor (List RulePat)). map plain_pattern ps.now))
+    ∙ sym (length-map (lent_rows rows) (λ (ps : List Pattern). map collapsed ps))
 
 -- columns in front of a place, new ones, and the columns behind it
 pub three_parts : (columns none front middle whole : List (Vec ℕ)) (col : ℕ)

@@ -1,7 +1,3 @@
-use Rattle.std.proofs.Common.{◌∙◌, ap, map}
-use Rattle.term_core.specs.RulePatterns.{plain_pattern}
-use Rattle.term_core.specs.declared.rule_patterns.RulePat.{RulePat}
-use Rattle.pat_matrix.specs.Collapsed.{collapsed}
 use Rattle.pat_matrix.proofs.Loops.{collapsed_rows-next}
 use Rattle.pat_matrix.proofs.matrix.collapsed_rows.Goals as goal
 
@@ -9,5 +5,4 @@ pub loop-row-preserved : goal.loop-row-preserved
 loop-row-preserved c =
     collapsed_rows-next c.args.rows.now _ _ c.loop-row.row-index c.row-item.result _
     c.loop-row-test.true c.row-item.is c.loop-row.invariant c.in_ok-push.ensures.items
-    (c.in_ok-all_collapsed.ensures
-    ∙ ap (map (λ (p : RulePat). collapsed (plain_pattern p))) c.deref.ensures.value)
+    c.in_ok-all_collapsed.ensures
