@@ -3,14 +3,13 @@ use Rattle.std.proofs.Common.{rules, ◌≡◌, ℕ, suc, zero, ◌+◌, ◌-◌
 use Rattle.std.proofs.Common.{[], ◌∷◌, length, drop, Option, Some, None, refl, sym, ◌∙◌, ap, subst}
 use Rattle.std.proofs.Common.{arith}
 use Rattle.std.specs.Prelude.{Err, slice_get, IfSome}
-use Rattle.std.proofs.lemmas.List.{drop_all, length-map}
+use Rattle.std.proofs.lemmas.List.{drop_all}
 use Rattle.std.proofs.lemmas.Option.{slice_get_within}
 use Rattle.std.proofs.Math.Nat.{eq-or-lt_of_le}
 use Rattle.term_core.specs.Terms.{Tree, no_tree, more_trees, height}
 use Rattle.term_core.specs.Patterns.{Pattern, no_pattern, more_patterns}
 use Rattle.rule_core.specs.Rules.{RewriteRule}
 use Rattle.rule_core.specs.Theories.{RewriteTheory}
-use Rattle.rule_core.specs.ProgramView.{rewrite_rule, rewrite_rules, theory_of}
 use Rattle.rule_core.specs.WellSorted.{IsWellSorted, IsRuleOf, IsCondition}
 use Rattle.rule_core.specs.Evaluation.{value, blocked, ConditionOutcome, holds, fails, untested}
 use Rattle.rule_core.specs.Evaluation.{IsTrueValue, says_true, says_other, says_nothing, Evaluates}
@@ -23,7 +22,6 @@ use Rattle.rule_core.specs.Records.{Record, OptionalRecord, unconditional, condi
 use Rattle.rule_core.specs.Records.{RecordsCondition, IsUnusedRule, most_calls, Records}
 use Rattle.rule_core.specs.Runs.{Steps, steps_on, by_rule, in_condition, in_right_side}
 use Rattle.rule_core.specs.RunView.{cause_of}
-use Rattle.rule_core.specs.declared.rules.Program.{Program}
 use Rattle.rule_core.proofs.FirstApplies.{all_at}
 use Rattle.rule_core.proofs.EvaluationAnswers.{serves_match}
 use Rattle.rule_core.proofs.Determined.{values_are_sorted}
@@ -323,13 +321,8 @@ step_made tells theory t u c number left rest theta cond rule recorded good is l
     )
 
 -- the number of the chosen rule is the number of a rule
-pub chosen_within : (p q : Program) (t : Tree) (c number left : ℕ) (theta : List (Option Tree))
-    → q ≡ p → IsChosen (theory_of p) t c number theta left → number < length q.rules.items
-chosen_within p q t c number left theta same picked =
-    let within : number < length (rewrite_rules p.rules.items) =
-    slice_get_within (rewrite_rules p.rules.items) number picked.rule picked.there in
-    let len : length (rewrite_rules p.rules.items) ≡ length p.rules.items =
-    length-map p.rules.items rewrite_rule in
-    let own : length q.rules.items ≡ length p.rules.items =
-    ap (λ (r : Program). length r.rules.items) same in
-    omega arith
+pub chosen_within : (theory : RewriteTheory) (t : Tree) (c number left : ℕ)
+    (theta : List (Option Tree)) → IsChosen theory t c number theta left
+    → number < length theory.rules
+chosen_within theory t c number left theta picked =
+    slice_get_within theory.rules number picked.rule picked.there

@@ -1,6 +1,6 @@
 -- How a trial of rules goes on from one rule that matches to the next, and what the slots keep.
 use Rattle.std.proofs.Common.{rules, ◌≡◌, ℕ, ◌+◌, ◌-◌, ◌<◌, ◌≤◌, ⊎_elim, inl, List, [], ◌∷◌, length, drop}
-use Rattle.std.proofs.Common.{get_or, Option, Some, refl, sym, ◌∙◌, ap, subst, arith}
+use Rattle.std.proofs.Common.{Option, Some, refl, sym, ◌∙◌, ap, subst, arith}
 use Rattle.std.specs.Prelude.{Err, slice_get, vec_len}
 use Rattle.std.proofs.lemmas.Bool.{cases_lt}
 use Rattle.std.proofs.lemmas.List.{length-map}
@@ -15,9 +15,7 @@ use Rattle.rule_core.specs.Records.{Record, most_calls}
 use Rattle.rule_core.specs.MatchSearch.{FindsMatch, UseFirst}
 use Rattle.rule_core.specs.Trial.{NoRuleMatches}
 use Rattle.rule_core.proofs.Skips.{unmatched_are_skipped}
-use Rattle.rule_core.proofs.Trials.{rule_at}
-use Rattle.rule_core.specs.ProgramView.{rewrite_rule, rewrite_rules, sorts_of, theory_of}
-use Rattle.rule_core.specs.declared.rules.Program.{Program}
+use Rattle.rule_core.specs.ProgramView.{rewrite_rule, sorts_of}
 use Rattle.rule_core.specs.declared.rules.Rule.{Rule}
 use Rattle.pat_matrix.specs.MatrixView.{row_of, order_of}
 use Rattle.match_tree.specs.ProgramLaws.{IsFirstRule}
@@ -114,24 +112,6 @@ count_of r n many =
     let mapped : length (sorts_of r.vars.items) ≡ vec_len r.vars = search (rules, length-map) in
     many ∙ sym mapped
 
--- its number is that of a rule of the program
-pub row_within : (p q : Program) (row : ℕ) → q ≡ p → row < length (theory_of p).rules
-    → row < length q.rules.items
-row_within p q row same within =
-    let len : length (rewrite_rules p.rules.items) ≡ length p.rules.items =
-    length-map p.rules.items rewrite_rule in
-    let own : length q.rules.items ≡ length p.rules.items =
-    ap (λ (r : Program). length r.rules.items) same in
-    omega arith
-
-pub row_rule : (p q : Program) (row : ℕ) (rule : Rule) → q ≡ p → row < length q.rules.items
-    → rule ≡ get_or q.rules.items row rule
-    → slice_get (theory_of p).rules row ≡ Some (rewrite_rule rule)
-row_rule p q row rule same within item =
-    let P : Program → Type 0 =
-    λ r. slice_get (rewrite_rules r.rules.items) row ≡ Some (rewrite_rule rule) in
-    subst P same (rule_at q.rules.items row rule within item)
-
 -- ---- a trial by walks
 
 -- The rules before the place were tried and are not used.
@@ -168,7 +148,7 @@ tried_before theory tree t slots from c left row done first = (
 )
 
 -- it is used, with what its condition leaves
-pub rule_chosen : (theory : RewriteTheory) (tree : code.Tree) (t : Tree) (slots : Slots)
+abbrev pub rule_chosen : (theory : RewriteTheory) (tree : code.Tree) (t : Tree) (slots : Slots)
     (from : NodeNo) (c left rest row : ℕ) (rule : RewriteRule) (theta : List (Option Tree))
     → HasTried theory tree t slots from c left
     → IsFirstRule theory tree t (first_row slots from) row

@@ -1,5 +1,5 @@
 // Trying the rules whose left sides match, in their order.
-ghost use Rattle.std.specs.Prelude.{◌≡◌, ◌∷◌, ◌<◌, [], Some, IfOk};
+ghost use Rattle.std.specs.Prelude.{◌≡◌, ◌∷◌, ◌<◌, [], length, slice_get, Some, IfOk};
 ghost use Rattle.term_core.specs.Terms.{more_trees, no_tree};
 ghost use Rattle.term_core.specs.Instances.{patterns};
 ghost use Rattle.rule_core.specs.FirstRule.{Matches};
@@ -90,11 +90,10 @@ fn first_used<R: Recording, L: Ledger>(
     ensures kept { IfOk result (λ r. KeepsChoice tree.now term.now slots.new r.0) }
     ensures room { HasRoom tree.now slots.new }
 {
-    let rules = &engine.program().rules;
     let mut left = calls;
     let mut from = tree.start();
     while let Hit::Row { row, resume } = next_match(engine, tree, from, slots, term, steps) {
-        let rule = &rules[row as usize];
+        let rule = rule_of(engine, row);
         let subst = bindings(alloc, tree, slots, term, row, rule.vars.len(), steps)?;
         let (trial, rest) = try_rule(alloc, engine, rule, subst, term, left)?;
         match trial {
@@ -114,6 +113,14 @@ fn first_used<R: Recording, L: Ledger>(
         }
     }
     Ok((None, left))
+}
+
+// The rule with this number.
+pub(crate) fn rule_of<'p>(engine: &Engine<'p>, number: u32) -> &'p Rule
+    requires { number < length (theory_of engine.now).rules }
+    ensures { slice_get (theory_of engine.now).rules number ≡ Some (rewrite_rule result.now) }
+{
+    &engine.program().rules[number as usize]
 }
 
 // The first rule from a place on whose left side matches the term.

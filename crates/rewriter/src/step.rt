@@ -7,7 +7,7 @@ ghost use Rattle.rewriter.specs.Configurations.{IsConfiguration};
 ghost use Rattle.rewriter.specs.Stepping.{Advances};
 ghost use Rattle.rewriter.specs.Keeping.{KeepsFurther};
 
-use crate::rules::{Choice, choose_rule};
+use crate::rules::{Choice, choose_rule, rule_of};
 use fun_eval::{Answer, Budget, Engine, EvalEnd, MAX_NESTING, Recording};
 use match_tree::{Slots, Tree};
 use std::alloc::Global;
@@ -59,12 +59,12 @@ pub(crate) fn advance<R: Recording>(
         subst,
         cond,
     } = chosen;
-    let rules = &engine.program().rules;
-    // The height of the configuration is at most the greatest height.
+    let rule = rule_of(engine, number);
+    // The program is well-sorted, and the height of the configuration is at most the greatest one.
+    let _program = engine.program();
     let _high = config.height();
     let mut budget = Budget { calls: left };
-    let right = &rules[number as usize].right;
-    let answer = engine.eval_as::<R>(alloc, right, &subst, &mut budget, MAX_NESTING)?;
+    let answer = engine.eval_as::<R>(alloc, &rule.right, &subst, &mut budget, MAX_NESTING)?;
     let Answer { term, recorded } = answer;
     let made = Made {
         rule: number,
