@@ -7,6 +7,7 @@ ghost use Rattle.rule_core.specs.ProgramView.{theory_of};
 ghost use Rattle.rule_core.specs.Records.{Records, result_of};
 ghost use Rattle.rule_core.specs.RecordView.{plain_record};
 ghost use Rattle.rule_core.specs.WellSorted.{IsWellSorted};
+ghost use Rattle.match_tree.specs.Programs.{IsRuleTree};
 ghost use Rattle.fun_eval.specs.Evaluable.{IsEvaluable, HasNumbers};
 ghost use Rattle.fun_eval.specs.EvalEnds.{EndsBy};
 ghost use Rattle.fun_eval.specs.Recorded.{IsRecorded};
@@ -16,8 +17,9 @@ use crate::answer::{Answer, EvalEnd};
 use crate::evaluation::evaluate;
 use crate::functions::symbol;
 use crate::recording::Recording;
+use match_tree::{Tree, rule_tree};
 use rule_core::{EvalRecord, Program, SymKind};
-use std::alloc::Global;
+use std::alloc::{AllocError, Global};
 use std::marker::Model;
 use term_core::{RulePat, Subst, SymId};
 
@@ -75,6 +77,15 @@ impl<'p> Engine<'p> {
         ensures numbers { HasNumbers (theory_of self.now) }
     {
         self.program
+    }
+
+    /// The matching tree for the left sides of the program's rules, by which a run tries them. The
+    /// number of a row is that of its rule. An error: out of memory. Each call makes the tree anew,
+    /// at the cost of `match_tree::rule_tree`.
+    pub fn rule_tree(&self, alloc: Global) -> Result<Tree<'p>, AllocError>
+        ensures { IfOk result (IsRuleTree (theory_of self.now)) }
+    {
+        rule_tree(alloc, self.program)
     }
 
     // The symbol of a node that is an injection.

@@ -4,7 +4,8 @@
 // as `Evaluates` defines it (specs/Evaluation.antt of `rule_core`), with a record that satisfies
 // `Records`. It takes from the budget exactly the calls that the evaluation takes. If there is no
 // value, it returns the cause. `Engine::eval_as` is the same for any `Recording`. With
-// `Unrecorded`, only the value is kept.
+// `Unrecorded`, only the value is kept. `Engine::rule_tree` makes the matching tree of the
+// program's rules.
 #![tactic(auto)]
 
 mod answer;
@@ -19,4 +20,4 @@ pub use answer::{Answer, EvalEnd};
 pub use engine::{Budget, Engine, MAX_NESTING};
 pub use equations::Trial;
 pub use recording::{Recording, Unrecorded};
-pub use terms::{is_true, match_term};
+pub use terms::is_true;

@@ -1,17 +1,16 @@
 // Looks at terms, and matching, without a count of the looks.
 ghost use Rattle.std.specs.Prelude.{◌≡◌, ◌<◌, ◌↔◌, length, IsTrue, IfOk, Some};
-ghost use Rattle.term_core.specs.Terms.{leaf, no_tree, more_trees};
+ghost use Rattle.term_core.specs.Terms.{leaf};
 ghost use Rattle.term_core.specs.Forests.{forest};
 ghost use Rattle.term_core.specs.Heads.{Shows};
 ghost use Rattle.term_core.specs.Values.{scalar_value, value_of};
-ghost use Rattle.term_core.specs.Patterns.{no_pattern, more_patterns};
 ghost use Rattle.term_core.specs.RulePatterns.{plain_pattern};
 ghost use Rattle.term_core.specs.PatternLists.{plain_patterns};
 ghost use Rattle.rule_core.specs.Evaluation.{IsTrueValue};
 ghost use Rattle.rule_core.specs.MatchSearch.{FindsMatch, UseFirst};
 ghost use Rattle.fun_eval.specs.Roots.{IsScalar, MayMatch};
 
-use rule_core::{Subsorts, find_match, find_match_all};
+use rule_core::{Subsorts, find_match_all};
 use std::alloc::{AllocError, Global};
 use std::marker::Brand;
 use std::sync::ledger::{Blank, Ledger};
@@ -74,45 +73,6 @@ fn may_match(pat: &RulePat, term: &Term) -> bool
         },
         RulePat::Call(..) => false,
     }
-}
-
-/// `find_match`, where a pattern whose root differs from the term's costs one look and no memory.
-pub fn match_term(
-    alloc: Global,
-    pat: &RulePat,
-    vars: usize,
-    subsorts: &Subsorts,
-    term: &Term,
-) -> Result<Option<Subst>, AllocError>
-    requires { UseFirst vars (more_patterns (plain_pattern pat.now) no_pattern) }
-    ensures { IfOk result
-        (FindsMatch subsorts.now vars (more_patterns (plain_pattern pat.now) no_pattern)
-        (more_trees term.now no_tree)) }
-{
-    if !may_match(pat, term) {
-        return Ok(None);
-    }
-    counted_match::<Brand>(alloc, pat, vars, subsorts, term, Blank::new(1))
-}
-
-fn counted_match<L: Ledger>(
-    alloc: Global,
-    pat: &RulePat,
-    vars: usize,
-    subsorts: &Subsorts,
-    term: &Term,
-    blank: Blank,
-) -> Result<Option<Subst>, AllocError>
-    requires scoped { UseFirst vars (more_patterns (plain_pattern pat.now) no_pattern) }
-    requires name { blank.name ≡ L.name }
-    requires parts { blank.parts ≡ L.parts }
-    requires some { 0 < L.parts }
-    ensures { IfOk result
-        (FindsMatch subsorts.now vars (more_patterns (plain_pattern pat.now) no_pattern)
-        (more_trees term.now no_tree)) }
-{
-    let mut steps = Steps::<L>::new(blank);
-    find_match(alloc, pat, vars, subsorts, term, &mut steps)
 }
 
 // `find_match_all`, where no memory is taken if the root of a term differs from its pattern's.

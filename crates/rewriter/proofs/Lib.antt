@@ -1,3 +1,4 @@
 pub mod Trying
+pub mod Walks
 pub mod Started
 pub mod StepRecords

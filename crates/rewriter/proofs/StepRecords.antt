@@ -10,8 +10,11 @@ use Rattle.rule_core.specs.Records.{IsUnusedRule, result_of}
 use Rattle.rule_core.specs.RecordView.{optional, plain_record}
 use Rattle.rule_core.specs.declared.records.EvalRecord.{EvalRecord}
 use Rattle.rule_core.specs.declared.records.StepRecord.{StepRecord}
+use Rattle.match_tree.specs.declared.compiling.Tree as code
+use Rattle.match_tree.specs.declared.slots.Slots.{Slots}
 use Rattle.fun_eval.specs.RecordLists.{TellsOption}
 use Rattle.rewriter.specs.NextSteps.{TellsStep, RecordsNext, RecordedNext}
+use Rattle.rewriter.specs.KeptRules.{KeepsRule, KeepsMadeRule}
 use Rattle.rewriter.specs.WithRecords.{IsWithRecord}
 use Rattle.rewriter.specs.declared.run.Next.{Next}
 use Rattle.rewriter.specs.declared.run.Next.TheVariants as answer
@@ -59,3 +62,11 @@ next_recorded theory t u (answer.Made s) m is h =
     subst (RecordsNext theory t u) (sym is) (made_recorded theory t u s h)
 next_recorded theory t u answer.Stuck m is h = subst (RecordsNext theory t u) (sym is) tt
 next_recorded theory t u (answer.Blocked why) m is h = subst (RecordsNext theory t u) (sym is) tt
+
+-- what the slots keep of a step is the same
+pub next_kept : (tree : code.Tree) (t : Tree) (slots : Slots) (n : Next (Made EvalRecord))
+    (m : Next StepRecord) → IsWithRecord n m → KeepsMadeRule tree t slots n
+    → KeepsRule tree t slots m
+next_kept tree t slots (answer.Made s) m is h = subst (KeepsRule tree t slots) (sym is) h
+next_kept tree t slots answer.Stuck m is h = subst (KeepsRule tree t slots) (sym is) tt
+next_kept tree t slots (answer.Blocked why) m is h = subst (KeepsRule tree t slots) (sym is) tt

@@ -2,22 +2,18 @@
 use Rattle.std.proofs.Common.{rules, ◌≡◌, ℕ, suc, zero, ◌+◌, ◌-◌, ◌<◌, ◌≤◌, ⊎_elim, inl, inr, List}
 use Rattle.std.proofs.Common.{[], ◌∷◌, length, drop, Option, Some, None, refl, sym, ◌∙◌, ap, subst}
 use Rattle.std.proofs.Common.{arith}
-use Rattle.std.specs.Prelude.{Err, slice_get, IfSome, MatchOption, vec_len}
-use Rattle.std.proofs.lemmas.List.{drop_all, length-map}
+use Rattle.std.specs.Prelude.{Err, slice_get, IfSome}
+use Rattle.std.proofs.lemmas.List.{drop_all}
 use Rattle.std.proofs.lemmas.Option.{slice_get_within}
 use Rattle.std.proofs.Math.Nat.{eq-or-lt_of_le}
 use Rattle.term_core.specs.Terms.{Tree, no_tree, more_trees, height}
 use Rattle.term_core.specs.Patterns.{Pattern, no_pattern, more_patterns}
-use Rattle.term_core.specs.RulePatterns.{plain_pattern}
 use Rattle.rule_core.specs.Rules.{RewriteRule}
 use Rattle.rule_core.specs.Theories.{RewriteTheory}
-use Rattle.rule_core.specs.ProgramView.{rewrite_rule, rewrite_rules, sorts_of, theory_of}
-use Rattle.rule_core.specs.Matching.{OccursInSome}
-use Rattle.rule_core.specs.MatchSearch.{FindsMatch}
 use Rattle.rule_core.specs.WellSorted.{IsWellSorted, IsRuleOf, IsCondition}
 use Rattle.rule_core.specs.Evaluation.{value, blocked, ConditionOutcome, holds, fails, untested}
 use Rattle.rule_core.specs.Evaluation.{IsTrueValue, says_true, says_other, says_nothing, Evaluates}
-use Rattle.rule_core.specs.FirstRule.{most_nesting, Matches, IsUnmatched, Meets, no_rule_condition}
+use Rattle.rule_core.specs.FirstRule.{most_nesting, Matches, Meets, no_rule_condition}
 use Rattle.rule_core.specs.FirstRule.{rule_condition, applies, none_applies, trial_blocked, Tries}
 use Rattle.rule_core.specs.FirstRule.{no_rule_left, rule_unmatched, rule_condition_fails}
 use Rattle.rule_core.specs.FirstRule.{rule_condition_blocked, condition_holds}
@@ -26,10 +22,6 @@ use Rattle.rule_core.specs.Records.{Record, OptionalRecord, unconditional, condi
 use Rattle.rule_core.specs.Records.{RecordsCondition, IsUnusedRule, most_calls, Records}
 use Rattle.rule_core.specs.Runs.{Steps, steps_on, by_rule, in_condition, in_right_side}
 use Rattle.rule_core.specs.RunView.{cause_of}
-use Rattle.rule_core.specs.declared.rules.Program.{Program}
-use Rattle.rule_core.specs.declared.rules.Rule.{Rule}
-use Rattle.rule_core.specs.declared.signature.SortRef.TheVariants.{Sort}
-use Rattle.rule_core.proofs.SortedInstances.{sorted_use_first}
 use Rattle.rule_core.proofs.FirstApplies.{all_at}
 use Rattle.rule_core.proofs.EvaluationAnswers.{serves_match}
 use Rattle.rule_core.proofs.Determined.{values_are_sorted}
@@ -46,51 +38,6 @@ use Rattle.rewriter.specs.NextSteps.{TellsStep}
 use Rattle.rewriter.specs.Choosing.{IsTriable, IsRecordedCondition, RuleSays, TriesRule, IsChosen}
 use Rattle.rewriter.specs.Choosing.{Chooses}
 use Rattle.rewriter.specs.Stepping.{Advances}
-
--- ---- matching
-
-count_of : (r : Rule) → length (sorts_of r.vars.items) ≡ vec_len r.vars
-count_of r = search (rules, length-map)
-
-pub own_variables : (theory : RewriteTheory) (r : Rule) (t : Tree) (n : ℕ)
-    → IsTriable theory (rewrite_rule r) t → n ≡ vec_len r.vars → (x : ℕ)
-    → OccursInSome x (more_patterns (plain_pattern r.left) no_pattern) → x < n
-own_variables theory r t n fits many x stands =
-    let within : x < length (sorts_of r.vars.items) =
-    sorted_use_first theory.sig (sorts_of r.vars.items) []
-    (more_patterns (plain_pattern r.left) no_pattern) (Sort (record { 0 = fits.0 }) ∷ [])
-    (fits.0, refl, fits.1.left, tt) x stands in
-    omega (arith, count_of r)
-
-rule_matches : (theory : RewriteTheory) (r : Rule) (t : Tree) (n : ℕ)
-    (found : Option (List (Option Tree))) → IsTriable theory (rewrite_rule r) t
-    → n ≡ vec_len r.vars
-    → FindsMatch theory.sig.subsorts n (more_patterns (plain_pattern r.left) no_pattern)
-    (more_trees t no_tree) found
-    → MatchOption found (IsUnmatched theory (rewrite_rule r) t) (Matches theory (rewrite_rule r) t)
-rule_matches theory r t n found fits many finds =
-    finds theory.sig (sorts_of r.vars.items) [] (Sort (record { 0 = fits.0 }) ∷ []) refl
-    (count_of r ∙ sym many) (fits.0, refl, fits.1.left, tt) (fits.0, refl, fits.2, tt)
-
-pub matched_none : (theory : RewriteTheory) (r : Rule) (t : Tree) (n : ℕ)
-    (found : Option (List (Option Tree))) → IsTriable theory (rewrite_rule r) t
-    → n ≡ vec_len r.vars
-    → FindsMatch theory.sig.subsorts n (more_patterns (plain_pattern r.left) no_pattern)
-    (more_trees t no_tree) found → found ≡ None → IsUnmatched theory (rewrite_rule r) t
-matched_none theory r t n found fits many finds is =
-    subst (λ o. MatchOption o (IsUnmatched theory (rewrite_rule r) t)
-    (Matches theory (rewrite_rule r) t)) is
-    (rule_matches theory r t n found fits many finds)
-
-pub matched_some : (theory : RewriteTheory) (r : Rule) (t : Tree) (n : ℕ)
-    (found : Option (List (Option Tree))) (theta : List (Option Tree))
-    → IsTriable theory (rewrite_rule r) t → n ≡ vec_len r.vars
-    → FindsMatch theory.sig.subsorts n (more_patterns (plain_pattern r.left) no_pattern)
-    (more_trees t no_tree) found → found ≡ Some theta → Matches theory (rewrite_rule r) t theta
-matched_some theory r t n found theta fits many finds is =
-    subst (λ o. MatchOption o (IsUnmatched theory (rewrite_rule r) t)
-    (Matches theory (rewrite_rule r) t)) is
-    (rule_matches theory r t n found fits many finds)
 
 -- ---- one rule
 
@@ -374,13 +321,8 @@ step_made tells theory t u c number left rest theta cond rule recorded good is l
     )
 
 -- the number of the chosen rule is the number of a rule
-pub chosen_within : (p q : Program) (t : Tree) (c number left : ℕ) (theta : List (Option Tree))
-    → q ≡ p → IsChosen (theory_of p) t c number theta left → number < length q.rules.items
-chosen_within p q t c number left theta same picked =
-    let within : number < length (rewrite_rules p.rules.items) =
-    slice_get_within (rewrite_rules p.rules.items) number picked.rule picked.there in
-    let len : length (rewrite_rules p.rules.items) ≡ length p.rules.items =
-    length-map p.rules.items rewrite_rule in
-    let own : length q.rules.items ≡ length p.rules.items =
-    ap (λ (r : Program). length r.rules.items) same in
-    omega arith
+pub chosen_within : (theory : RewriteTheory) (t : Tree) (c number left : ℕ)
+    (theta : List (Option Tree)) → IsChosen theory t c number theta left
+    → number < length theory.rules
+chosen_within theory t c number left theta picked =
+    slice_get_within theory.rules number picked.rule picked.there

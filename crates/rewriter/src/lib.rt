@@ -6,6 +6,9 @@
 // `Run::step_as` are the same for any `Recording`. With `Unrecorded`, a step allocates only for its
 // terms and substitutions. A run keeps its last configuration and a number, so its memory does not
 // grow with its steps. The caller limits the number of steps.
+//
+// A step finds the rules that match by walks over their matching tree. It is lent the tree and the
+// slots of its walks. After the step the slots keep the rule that was used (specs/KeptRules.antt).
 #![tactic(auto)]
 
 mod rules;

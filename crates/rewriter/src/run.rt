@@ -7,15 +7,19 @@ ghost use Rattle.rule_core.specs.ProgramView.{theory_of};
 ghost use Rattle.rule_core.specs.Records.{Records, result_of};
 ghost use Rattle.rule_core.specs.RecordView.{plain_record};
 ghost use Rattle.rule_core.specs.Runs.{Reaches};
+ghost use Rattle.match_tree.specs.Programs.{IsRuleTree};
+ghost use Rattle.match_tree.specs.SlotView.{HasRoom};
 ghost use Rattle.fun_eval.specs.EvalEnds.{EndsBy};
 ghost use Rattle.fun_eval.specs.Recorded.{IsRecorded};
 ghost use Rattle.rewriter.specs.Configurations.{IsConfiguration};
 ghost use Rattle.rule_core.specs.WellSorted.{IsStart};
 ghost use Rattle.rewriter.specs.NextSteps.{TakesStep, RecordsNext, RecordedNext};
+ghost use Rattle.rewriter.specs.KeptRules.{KeepsRule, KeepsMadeRule};
 ghost use Rattle.rewriter.specs.WithRecords.{IsWithRecord};
 
 use crate::step::{Made, advance};
 use fun_eval::{Answer, Budget, Engine, EvalEnd, MAX_NESTING, Recording};
+use match_tree::{Slots, Tree};
 use rule_core::{Blocked, EvalRecord, StepRecord};
 use std::alloc::{AllocError, Global};
 use std::marker::Model;
@@ -120,24 +124,34 @@ impl Run {
         self.calls
     }
 
-    /// One step, by the engine with which the run was made. After `Stuck`, `Blocked` or an error
-    /// the run is as before, and a further call returns the same. `AllocError`: out of memory.
+    /// One step, by the engine with which the run was made, and the tree of its program's rules.
+    /// After `Stuck`, `Blocked` or an error the run is as before, and a further call returns the
+    /// same. `AllocError`: out of memory.
     ///
-    /// Rules are tried one by one. A rule whose root differs from the configuration's root costs
-    /// one look.
+    /// The slots have room for the tree. After a step they keep the rule that was used, and fit the
+    /// tree and the configuration before the step. They keep their room after every answer.
+    ///
+    /// The tree is walked from one rule that matches to the next, until a condition holds. Memory
+    /// is taken only for the rules that match, and for what is evaluated.
     pub fn step(
         &mut self,
         alloc: Global,
         engine: &Engine<'_>,
+        tree: &Tree<'_>,
+        slots: &mut Slots,
     ) -> Result<Next<StepRecord>, AllocError>
-        requires { IsConfiguration (theory_of engine.now) self.old.config }
+        requires config { IsConfiguration (theory_of engine.now) self.old.config }
+        requires tree { IsRuleTree (theory_of engine.now) tree.now }
+        requires room { HasRoom tree.now slots.old }
         ensures next { IfOk result (TakesStep (theory_of engine.now) self.old self.new) }
         ensures recorded { IfOk result
             (RecordsNext (theory_of engine.now) self.old.config self.new.config) }
         ensures sorted { IsConfiguration (theory_of engine.now) self.new.config }
         ensures err { OnErr result (self.new ≡ self.old) }
+        ensures kept { IfOk result (KeepsRule tree.now self.old.config slots.new) }
+        ensures room { HasRoom tree.now slots.new }
     {
-        let next = self.step_as::<EvalRecord>(alloc, engine)?;
+        let next = self.step_as::<EvalRecord>(alloc, engine, tree, slots)?;
         Ok(with_record(next))
     }
 
@@ -146,15 +160,21 @@ impl Run {
         &mut self,
         alloc: Global,
         engine: &Engine<'_>,
+        tree: &Tree<'_>,
+        slots: &mut Slots,
     ) -> Result<Next<Made<R>>, AllocError>
-        requires { IsConfiguration (theory_of engine.now) self.old.config }
+        requires config { IsConfiguration (theory_of engine.now) self.old.config }
+        requires tree { IsRuleTree (theory_of engine.now) tree.now }
+        requires room { HasRoom tree.now slots.old }
         ensures next { IfOk result (TakesStep (theory_of engine.now) self.old self.new) }
         ensures recorded { IfOk result
             (RecordedNext R.tells (theory_of engine.now) self.old.config self.new.config) }
         ensures sorted { IsConfiguration (theory_of engine.now) self.new.config }
         ensures err { OnErr result (self.new ≡ self.old) }
+        ensures kept { IfOk result (KeepsMadeRule tree.now self.old.config slots.new) }
+        ensures room { HasRoom tree.now slots.new }
     {
-        match advance::<R>(alloc, engine, &self.config, self.calls) {
+        match advance::<R>(alloc, engine, tree, slots, &self.config, self.calls) {
             Ok(Some(further)) => {
                 self.config = further.config;
                 self.calls = further.calls;

@@ -1,11 +1,15 @@
 // A step by the first rule that applies.
-ghost use Rattle.std.specs.Prelude.{◌≡◌};
+ghost use Rattle.std.specs.Prelude.{◌≡◌, IfOk};
 ghost use Rattle.rule_core.specs.ProgramView.{theory_of};
+ghost use Rattle.match_tree.specs.Programs.{IsRuleTree};
+ghost use Rattle.match_tree.specs.SlotView.{HasRoom};
 ghost use Rattle.rewriter.specs.Configurations.{IsConfiguration};
 ghost use Rattle.rewriter.specs.Stepping.{Advances};
+ghost use Rattle.rewriter.specs.Keeping.{KeepsFurther};
 
-use crate::rules::{Choice, choose_rule};
+use crate::rules::{Choice, choose_rule, rule_of};
 use fun_eval::{Answer, Budget, Engine, EvalEnd, MAX_NESTING, Recording};
+use match_tree::{Slots, Tree};
 use std::alloc::Global;
 use term_core::{Subst, Term};
 
@@ -34,13 +38,19 @@ pub(crate) struct Further<R> {
 pub(crate) fn advance<R: Recording>(
     alloc: Global,
     engine: &Engine<'_>,
+    tree: &Tree<'_>,
+    slots: &mut Slots,
     config: &Term,
     calls: u32,
 ) -> Result<Option<Further<R>>, EvalEnd>
-    requires { IsConfiguration (theory_of engine.now) config.now }
-    ensures { Advances R.tells (theory_of engine.now) config.now calls result }
+    requires config { IsConfiguration (theory_of engine.now) config.now }
+    requires tree { IsRuleTree (theory_of engine.now) tree.now }
+    requires room { HasRoom tree.now slots.old }
+    ensures advances { Advances R.tells (theory_of engine.now) config.now calls result }
+    ensures kept { IfOk result (KeepsFurther tree.now config.now slots.new) }
+    ensures room { HasRoom tree.now slots.new }
 {
-    let (chosen, left) = choose_rule::<R>(alloc, engine, config, calls)?;
+    let (chosen, left) = choose_rule::<R>(alloc, engine, tree, slots, config, calls)?;
     let Some(chosen) = chosen else {
         return Ok(None);
     };
@@ -49,12 +59,12 @@ pub(crate) fn advance<R: Recording>(
         subst,
         cond,
     } = chosen;
-    let rules = &engine.program().rules;
-    // The height of the configuration is at most the greatest height.
+    let rule = rule_of(engine, number);
+    // The program is well-sorted, and the height of the configuration is at most the greatest one.
+    let _program = engine.program();
     let _high = config.height();
     let mut budget = Budget { calls: left };
-    let right = &rules[number as usize].right;
-    let answer = engine.eval_as::<R>(alloc, right, &subst, &mut budget, MAX_NESTING)?;
+    let answer = engine.eval_as::<R>(alloc, &rule.right, &subst, &mut budget, MAX_NESTING)?;
     let Answer { term, recorded } = answer;
     let made = Made {
         rule: number,

@@ -8,6 +8,7 @@ ghost use Rattle.run_loop.specs.RunEnds.{plain_run, IsSortedEnd};
 
 use crate::ends::RunEnd;
 use fun_eval::{Engine, EvalEnd, Unrecorded};
+use match_tree::Slots;
 use rewriter::{Next, Run};
 use std::alloc::{AllocError, Global};
 use term_core::RulePat;
@@ -15,7 +16,8 @@ use term_core::RulePat;
 /// The run of an initial term, with at most this many steps and this many calls of functions. If
 /// there are rules, the term has their sort. `AllocError`: out of memory.
 ///
-/// The cost of a step is stated at `Run::step_as`. Memory does not grow with the number of steps.
+/// The rules' tree is made once. The cost of a step is stated at `Run::step_as`. Memory does not
+/// grow with the number of steps.
 pub fn run(
     alloc: Global,
     engine: &Engine<'_>,
@@ -34,8 +36,10 @@ pub fn run(
         Err(EvalEnd::Blocked(why)) => return Ok(RunEnd::Unstarted(why)),
         Err(EvalEnd::Memory) => return Err(AllocError),
     };
+    let tree = engine.rule_tree(alloc)?;
+    let mut slots = Slots::for_tree(alloc, &tree)?;
     for made in 0..limit {
-        match run.step_as::<Unrecorded>(alloc, engine)? {
+        match run.step_as::<Unrecorded>(alloc, engine, &tree, &mut slots)? {
             Next::Made(_) => {}
             Next::Stuck => return Ok(RunEnd::Stuck(made, run.config().share()?)),
             Next::Blocked(why) => return Ok(RunEnd::Blocked(made, why, run.config().share()?)),

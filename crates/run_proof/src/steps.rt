@@ -6,6 +6,8 @@ ghost use Rattle.rule_core.specs.ProgramView.{theory_of};
 ghost use Rattle.rule_core.specs.Runs.{IsRunOf, Reaches, kept_by};
 ghost use Rattle.rule_core.specs.RunCuts.{MayEndAt};
 ghost use Rattle.run_proof.specs.ClosedProofs.{steps_of};
+ghost use Rattle.match_tree.specs.Programs.{IsRuleTree};
+ghost use Rattle.match_tree.specs.SlotView.{HasRoom};
 ghost use Rattle.desk_io.specs.Counts.{CountRose};
 ghost use Rattle.run_loop.specs.RunEnds.{plain_run, IsSortedEnd};
 ghost use Rattle.prove_run.specs.RunProof.{reached};
@@ -14,6 +16,7 @@ ghost use Rattle.run_proof.specs.ProvedSteps.{EndsNext, GoesOn, IsProvedAt, Prog
 
 use desk_io::Desk;
 use fun_eval::Engine;
+use match_tree::{Slots, Tree};
 use prove_run::{Proof, ProveEnd};
 use rewriter::{Next, Run};
 use rule_core::Blocked;
@@ -32,7 +35,8 @@ pub(crate) enum Progress {
     Blocked(Blocked, Term),
 }
 
-/// The steps of a run, at most `limit` of them, and their proof. Returns how the run ends.
+/// The steps of a run, at most `limit` of them, and their proof. Returns how the run ends. The
+/// rules' tree is made once.
 ///
 /// Errors: out of memory, or a fault that the desk counted.
 pub(crate) fn proved_steps<'p, D: Desk>(
@@ -68,8 +72,10 @@ pub(crate) fn proved_steps<'p, D: Desk>(
         ((D.state desk.new).write_faults ≡ (D.state desk.old).write_faults) }
     ensures reads { (D.state desk.new).read_faults ≡ (D.state desk.old).read_faults }
 {
+    let tree = engine.rule_tree(alloc)?;
+    let mut slots = Slots::for_tree(alloc, &tree)?;
     for made in 0..limit {
-        match proved_step(alloc, desk, engine, run, proof)? {
+        match proved_step(alloc, desk, engine, &tree, &mut slots, run, proof)? {
             Progress::Made => {}
             Progress::Stuck(last) => return Ok(RunEnd::Stuck(made, last)),
             Progress::Blocked(why, last) => return Ok(RunEnd::Blocked(made, why, last)),
@@ -83,13 +89,18 @@ fn proved_step<'p, D: Desk>(
     alloc: Global,
     desk: &mut D,
     engine: &Engine<'p>,
+    tree: &Tree<'_>,
+    slots: &mut Slots,
     run: &mut Run,
     proof: &mut Proof<'p>,
 ) -> Result<Progress, ProveEnd>
     requires file { IsTrue (D.created desk.old) }
     requires at { IsProvedAt engine.now run.old proof.old }
+    requires tree { IsRuleTree (theory_of engine.now) tree.now }
+    requires room { HasRoom tree.now slots.old }
     ensures goes { OnOk result
         (GoesOn (D.state desk.old).told (D.state desk.new).told proof.old proof.new) }
+    ensures room { HasRoom tree.now slots.new }
     ensures at { OnOk result (IsProvedAt engine.now run.new proof.new) }
     ensures progress { IfOk result
         (Progresses engine.now run.old run.new proof.old proof.new) }
@@ -105,7 +116,7 @@ fn proved_step<'p, D: Desk>(
     ensures reads { (D.state desk.new).read_faults ≡ (D.state desk.old).read_faults }
 {
     let _high = run.config().height();
-    match run.step(alloc, engine)? {
+    match run.step(alloc, engine, tree, slots)? {
         Next::Made(step) => match proof.step(alloc, desk, &step) {
             Ok(()) => Ok(Progress::Made),
             Err(why) => Err(why),

@@ -6,6 +6,7 @@ ghost use Rattle.fun_eval.specs.Evaluable.{HasNumbers};
 ghost use Rattle.fun_eval.specs.TestPrograms.{HasIntegers};
 
 use fun_eval::{Engine, Unrecorded};
+use match_tree::Slots;
 use rewriter::{Next, Run};
 use rule_core::{Program, Signature, SortInfo, SortKind, Subsorts, Table};
 use std::alloc::{AllocError, Global};
@@ -50,8 +51,11 @@ fn is_stuck_without_a_rule(rt: HostRuntime) -> Result<(), Fail> {
     let Ok((mut run, record)) = Run::new(alloc, &engine, &five, 3) else {
         return Err(Fail::from("blocked"));
     };
-    assert!(rt; matches!(run.step(alloc, &engine)?, Next::Stuck));
-    assert!(rt; matches!(run.step_as::<Unrecorded>(alloc, &engine)?, Next::Stuck));
+    let tree = engine.rule_tree(alloc)?;
+    let mut slots = Slots::for_tree(alloc, &tree)?;
+    let slots = &mut slots;
+    assert!(rt; matches!(run.step(alloc, &engine, &tree, slots)?, Next::Stuck));
+    assert!(rt; matches!(run.step_as::<Unrecorded>(alloc, &engine, &tree, slots)?, Next::Stuck));
     assert!(rt; run.config().same(record.result()));
     assert_eq!(rt; run.calls_left(), 3);
     Ok(())

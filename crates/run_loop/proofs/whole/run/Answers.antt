@@ -23,6 +23,7 @@ loop-made-preserved c = record {
       one_more _ _ _ _ _ _ _ _ c.loop-made.invariant.reached
       (rw c.in-Made.is at c.in_ok-step_as.ensures.next);
   sorted = c.step_as.ensures.sorted;
+  room = c.step_as.ensures.room;
 }
 
 pub returns-clause-run : goal.returns-clause-run

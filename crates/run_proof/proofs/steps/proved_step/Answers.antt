@@ -10,8 +10,8 @@ use Rattle.run_proof.proofs.StepLaws.{ends_next, front_more}
 use Rattle.run_proof.proofs.StepLaws.{can_step, proved_at, goes_step, stays_on, same_place}
 use Rattle.run_proof.proofs.steps.proved_step.Goals as goal
 
-pub step-requires : goal.step-requires
-step-requires g c = c.requires.at.sorted
+pub step-requires-clause-config : goal.step-requires-clause-config
+step-requires-clause-config g c = c.requires.at.sorted
 
 pub step-requires-in-Made-clause-applies : goal.step-requires-in-Made-clause-applies
 step-requires-in-Made-clause-applies g c =

@@ -19,6 +19,7 @@ loop-made-init g c = record {
   counts = omega arith;
   no_fault = refl;
   reads = refl;
+  room = c.in_ok-slots.ensures;
   at = c.requires.at;
   goes =
       stays_on (g.D.Desk.state c.args.desk.now).told c.args.proof.now
@@ -34,6 +35,7 @@ loop-made-preserved g c =
       counts = omega (arith, c.loop-made.invariant.counts, c.proved_step.ensures.counts);
       no_fault = c.in_ok-proved_step.ensures.no_fault ∙ c.loop-made.invariant.no_fault;
       reads = c.proved_step.ensures.reads ∙ c.loop-made.invariant.reads;
+      room = c.proved_step.ensures.room;
       at = c.in_ok-proved_step.ensures.at;
       goes =
           goes_then (g.D.Desk.state c.args.desk.now).told (g.D.Desk.state c.loop-made.desk).told

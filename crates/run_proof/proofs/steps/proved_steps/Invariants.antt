@@ -3,6 +3,7 @@ use Rattle.std.specs.Prelude.{IsTrue}
 use Rattle.term_core.specs.Patterns.{Pattern}
 use Rattle.rule_core.specs.ProgramView.{theory_of}
 use Rattle.rule_core.specs.Runs.{Reaches}
+use Rattle.match_tree.specs.SlotView.{HasRoom}
 use Rattle.run_proof.specs.ProvedSteps.{GoesOn, IsProvedAt}
 use Rattle.run_proof.proofs.steps.proved_steps.Given as goal
 
@@ -12,6 +13,7 @@ invariant-loop-made g l = record {
   counts : (g.D.Desk.state l.initial.desk).write_faults ≤ (g.D.Desk.state l.desk).write_faults;
   no_fault : (g.D.Desk.state l.desk).write_faults ≡ (g.D.Desk.state l.initial.desk).write_faults;
   reads : (g.D.Desk.state l.desk).read_faults ≡ (g.D.Desk.state l.initial.desk).read_faults;
+  room : HasRoom l.tree l.slots;
   at : IsProvedAt l.engine l.run l.proof;
   goes : GoesOn (g.D.Desk.state l.initial.desk).told (g.D.Desk.state l.desk).told l.initial.proof
       l.proof;

@@ -1,4 +1,0 @@
-use Rattle.fun_eval.proofs.terms.match_term.Given as goal
-
-abbrev pub ghosts-counted_match : goal.ghosts-counted_match
-ghosts-counted_match a = record { name = a.blank.name; parts = a.blank.parts }
