@@ -25,7 +25,6 @@ struct Place {
 
 /// A desk over files in memory, for tests. It tells its files, reads and writes a few bytes in each
 /// call, and fails the calls that it is asked to fail. The created file is the first one.
-#[derive(Drop)]
 pub struct MemDesk {
     files: Vec<(String, Vec<u8>)>,
     most: usize,
@@ -39,6 +38,21 @@ pub struct MemDesk {
     ghost within: { passed_of reading ≤ end_of reading },
     ghost ended: { end_of reading ≤ length (content_of (named_bytes files.items) reading) },
     ghost first: { IsTrue created → 0 < vec_len files },
+}
+
+// A desk is dropped by one call, and not field by field at each end of each call that owns one.
+impl Drop for MemDesk {
+    fn drop(self) {
+        let MemDesk {
+            files: _,
+            most: _,
+            plan: _,
+            reading: _,
+            created: _,
+            read_faults: _,
+            write_faults: _,
+        } = self;
+    }
 }
 
 impl MemDesk {

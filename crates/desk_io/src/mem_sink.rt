@@ -8,13 +8,24 @@ use std::alloc::Global;
 
 /// A sink that keeps its bytes, for tests. It tells them, takes a few bytes in each call, and fails
 /// the calls that it is asked to fail.
-#[derive(Drop)]
 pub struct MemSink {
     taken: Vec<u8>,
     most: usize,
     plan: FaultPlan,
     faults: u64,
     ghost some: { 0 < most },
+}
+
+// A sink is dropped by one call, and not field by field at each end of each call that owns one.
+impl Drop for MemSink {
+    fn drop(self) {
+        let MemSink {
+            taken: _,
+            most: _,
+            plan: _,
+            faults: _,
+        } = self;
+    }
 }
 
 impl MemSink {

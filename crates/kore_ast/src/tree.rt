@@ -9,10 +9,19 @@ use std::alloc::{AllocError, AllocFailed};
 
 /// A definition: its attributes, and its modules in the order of the text. The main module is the
 /// last.
-#[derive(Drop)]
 pub struct Definition {
     pub attrs: Vec<Pat>,
     pub modules: Vec<Module>,
+}
+
+// A definition is dropped by one call, and not field by field at each end of each call that owns one.
+impl Drop for Definition {
+    fn drop(self) {
+        let Definition {
+            attrs: _,
+            modules: _,
+        } = self;
+    }
 }
 
 /// A module.

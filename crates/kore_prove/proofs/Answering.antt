@@ -10,7 +10,8 @@ use Rattle.kore_prove.specs.VerifyWords.{IsVerify, IsNoVerify}
 use Rattle.kore_prove.specs.BadWords.{AreBad}
 use Rattle.kore_prove.specs.Words.{IsProofFile}
 use Rattle.kore_prove.specs.PrintedRun.{code_of, IsCodeOfRun, IsPrinted}
-use Rattle.kore_prove.specs.ProvedRun.{HoldsProof, HasWantedProof, LeavesFront}
+use Rattle.kore_prove.specs.ProvedRun.{HoldsProof, HasWantedProof}
+use Rattle.kore_prove.specs.RunFronts.{LeavesFront}
 use Rattle.kore_prove.specs.Verdicts.{PrintsVerdict}
 use Rattle.kore_prove.specs.DrilledRun.{IsDrilled, Drills, LeavesDrill, LeavesFrontOfDrill}
 use Rattle.kore_prove.specs.DatabaseVerdicts.{PrintsVerdictOn, verdict_code}

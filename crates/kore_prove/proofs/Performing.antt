@@ -18,7 +18,8 @@ use Rattle.kore_show.specs.ShownLaws.{SortedIsShown}
 use Rattle.run_lines.specs.Lines.{kept_pattern}
 use Rattle.kore_prove.specs.RunWords.{RunRequest}
 use Rattle.kore_prove.specs.Files.{HoldsStart, HoldsRun}
-use Rattle.kore_prove.specs.ProvedRun.{HasWantedProof, LeavesFront}
+use Rattle.kore_prove.specs.ProvedRun.{HasWantedProof}
+use Rattle.kore_prove.specs.RunFronts.{LeavesFront}
 use Rattle.kore_prove.specs.ProofFiles.{HasWantedFront}
 use Rattle.kore_prove.specs.PrintedRun.{SendsLines}
 use Rattle.kore_prove.specs.Causes.{ReadCause, run_unread, run_unproved, run_unprinted}

@@ -5,7 +5,8 @@ use Rattle.kore_prove.specs.Words.{IsProofFile}
 use Rattle.kore_prove.specs.BadWords.{AreBad}
 use Rattle.kore_prove.specs.Courses.{Call}
 use Rattle.kore_prove.specs.PrintedRun.{PrintsRun}
-use Rattle.kore_prove.specs.ProvedRun.{ProvesRun, LeavesFrontOfRun}
+use Rattle.kore_prove.specs.ProvedRun.{ProvesRun}
+use Rattle.kore_prove.specs.RunFronts.{LeavesFrontOfRun}
 use Rattle.kore_prove.specs.Verdicts.{PrintsVerdict}
 use Rattle.kore_prove.specs.DrilledRun.{Drills, LeavesFrontOfDrill}
 use Rattle.kore_prove.specs.BegunLines.{StopsPrinting, FailsInPrinting}

@@ -13,7 +13,8 @@ use Rattle.mm_justify.specs.Counting.{fact_count, statement_count, capped}
 use Rattle.kore_prove.specs.DrillWords.{DrillRequest, IsDrill}
 use Rattle.kore_prove.specs.Courses.{Call}
 use Rattle.kore_prove.specs.DrillProgram.{IsDrillProgram}
-use Rattle.kore_prove.specs.ProvedRun.{HoldsProof, HoldsFront}
+use Rattle.kore_prove.specs.ProvedRun.{HoldsProof}
+use Rattle.kore_prove.specs.RunFronts.{HoldsFront}
 
 -- the greatest number of calls of functions in a drill
 abbrev pub drill_calls : ℕ

@@ -11,6 +11,7 @@ pub mod Files
 pub mod AcceptedRuns
 pub mod PrintedRun
 pub mod ProvedRun
+pub mod RunFronts
 pub mod DrillProgram
 pub mod DrilledRun
 pub mod BegunLines

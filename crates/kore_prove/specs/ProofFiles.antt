@@ -7,7 +7,8 @@ use Rattle.rule_core.specs.Theories.{RewriteTheory}
 use Rattle.rule_core.specs.Runs.{Run}
 use Rattle.prove_run.specs.Summaries.{IsSummaryOf}
 use Rattle.prove_run.specs.declared.summaries.Summary.{Summary}
-use Rattle.kore_prove.specs.ProvedRun.{HoldsProof, HoldsFront}
+use Rattle.kore_prove.specs.ProvedRun.{HoldsProof}
+use Rattle.kore_prove.specs.RunFronts.{HoldsFront}
 
 -- the file holds a proof of the run that has these counts
 pub record HoldsCounted (told told' : Option Told) (file : List ℕ) (theory : RewriteTheory)

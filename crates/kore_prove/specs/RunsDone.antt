@@ -9,7 +9,8 @@ use Rattle.kore_prove.specs.RunWords.{RunRequest}
 use Rattle.kore_prove.specs.Causes.{RunCause, DrillCause}
 use Rattle.kore_prove.specs.Courses.{Course}
 use Rattle.kore_prove.specs.PrintedRun.{PrintsLines}
-use Rattle.kore_prove.specs.ProvedRun.{HasWantedProof, LeavesFront}
+use Rattle.kore_prove.specs.ProvedRun.{HasWantedProof}
+use Rattle.kore_prove.specs.RunFronts.{LeavesFront}
 use Rattle.desk_io.specs.KeptFiles.{KeepsOthers}
 use Rattle.kore_prove.specs.DrilledRun.{IsDrilled, LeavesDrill}
 use Rattle.kore_prove.specs.Reports.{Ending}

@@ -19,7 +19,7 @@ const VERIFIES: Case<'static> = Case {
     ..BASE
 };
 
-const ENDS: [Case<'static>; 14] = [
+const ENDS: [Case<'static>; 15] = [
     VERIFIES,
     Case {
         words: &["verify", "t.kore"],
@@ -79,6 +79,13 @@ const ENDS: [Case<'static>; 14] = [
         out: "",
         err: "kore_prove: read fault\n",
         ..PROVES
+    },
+    Case {
+        desk_fails: &[1],
+        code: 3,
+        out: "",
+        err: "kore_prove: read fault\n",
+        ..BASE
     },
     Case {
         desk_fails: &[5],

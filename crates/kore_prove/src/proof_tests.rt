@@ -237,7 +237,7 @@ fn first_unproved(alloc: Global, cases: &[(Case<'_>, &str)]) -> Result<Option<us
 
 /// What the last `$p` statement of a database states: a `p` and its symbols. Each piece between two
 /// `$` begins with the letter of its keyword.
-fn last_stated(database: &[u8]) -> Option<&str> {
+pub(crate) fn last_stated(database: &[u8]) -> Option<&str> {
     let Ok(text) = str::from_utf8(database) else {
         return None;
     };

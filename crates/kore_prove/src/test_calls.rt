@@ -121,7 +121,11 @@ fn words_of(alloc: Global, given: &[&str]) -> Result<Vec<String>, AllocError> {
 }
 
 /// A desk with a definition and a term.
-fn two_files(alloc: Global, case: &Case<'_>, faults: Faults<'_>) -> Result<MemDesk, AllocError>
+pub(crate) fn two_files(
+    alloc: Global,
+    case: &Case<'_>,
+    faults: Faults<'_>,
+) -> Result<MemDesk, AllocError>
     requires { 0 < faults.most }
     ensures { IfOk result (λ desk. IsFalse (⟦<MemDesk as Desk>⟧.created desk)) }
 {

@@ -27,8 +27,7 @@ HasFittingHook sig info name row =
 -- fits. It is closed if its hook does not fit, or if it has no hook and an equation that is not
 -- readable. Any other function has its equations.
 pub data HasKind (sig : Signature) (axioms : List AxiomDeclaration) (f : List ℕ) (info : SymInfo) :
-    SymKind
-    → Type 0 where
+    SymKind → Type 0 where
   as_declared : (info.kind ≡ Equations → ⊥) → HasKind sig axioms f info info.kind
   hooked_kind : {name : List ℕ} {row : ℕ} → info.kind ≡ Equations
       → option_map string_bytes info.hook ≡ Some name → HasFittingHook sig info name row

@@ -1,12 +1,12 @@
 -- Walks over the trees of a program find the first rule, or the first equation, that matches.
-use Rattle.std.proofs.Common.{◌≡◌, ◌<◌, ◌≤◌, ◌+◌, ℕ, zero, suc, Bool, true, false}
+use Rattle.std.proofs.Common.{◌≡◌, ◌<◌, ◌+◌, ℕ, zero, suc, true, false}
 use Rattle.std.proofs.Common.{List, [], ◌∷◌, length, map, drop, get_or, slice_get, Option, Some}
 use Rattle.std.proofs.Common.{None, option_map, replicate, All, refl, sym, ◌∙◌, ap, subst, arith}
 use Rattle.std.specs.Prelude.{is_some}
 use Rattle.std.proofs.lemmas.Bool.{false≢true}
 use Rattle.std.proofs.lemmas.List.{length-map}
 use Rattle.std.proofs.lemmas.Option.{slice_get-map, slice_get_within}
-use Rattle.term_core.specs.Terms.{Tree, Forest, IsNormal, AreNormal}
+use Rattle.term_core.specs.Terms.{Tree, IsNormal, AreNormal}
 use Rattle.term_core.specs.Forests.{forest}
 use Rattle.term_core.specs.Instances.{patterns}
 use Rattle.term_core.specs.Patterns.{Pattern, Patterns, no_pattern, more_patterns}
@@ -21,7 +21,7 @@ use Rattle.rule_core.specs.MatchSearch.{UseFirst, FindsMatch}
 use Rattle.rule_core.specs.MatchLaws.{AreTermsOf}
 use Rattle.rule_core.specs.MatchSteps.{all_matched}
 use Rattle.rule_core.specs.Trial.{NoRuleMatches}
-use Rattle.rule_core.specs.Evaluation.{Evaluated, Equates, unmatched}
+use Rattle.rule_core.specs.Evaluation.{Equates, unmatched}
 use Rattle.rule_core.specs.declared.signature.Signature.{Signature}
 use Rattle.rule_core.specs.declared.signature.SymInfo.{SymInfo}
 use Rattle.rule_core.specs.declared.signature.SortRef.{SortRef}
@@ -35,19 +35,41 @@ use Rattle.pat_matrix.specs.MatchTrees.{row_match, matching_rows, rows_from}
 use Rattle.pat_matrix.specs.MatrixView.{rows_of, row_of, order_of}
 use Rattle.pat_matrix.proofs.CollapsedLaws.{collapsed_matches_the_same, have_sorts-collapsed}
 use Rattle.pat_matrix.proofs.CollapsedLaws.{all_collapsed-patterns}
-use Rattle.match_tree.specs.Walking.{AreWide}
-use Rattle.match_tree.specs.SlotView.{FindsFirst}
 use Rattle.match_tree.specs.Programs.{rule_row, equation_row, IsTreeOf, IsRuleTree, IsEquationTree}
-use Rattle.match_tree.specs.ProgramLaws.{RuleTreeIsWide, RuleWalkTells, IsFirstRule, TellsOfRules}
+use Rattle.match_tree.specs.SlotView.{FitsHit, IsResume, IsKept, IsKeptRow, after_kept}
+use Rattle.match_tree.specs.ProgramLaws.{WalkGoesOn, RuleTreeIsWide, RuleWalkTells, IsFirstRule}
 use Rattle.match_tree.specs.ProgramLaws.{EquationTreeIsWide, EquationWalkTells, IsFirstEquation}
-use Rattle.match_tree.specs.ProgramLaws.{TellsOfEquations, NoEquationMatches}
+use Rattle.match_tree.specs.ProgramLaws.{NoEquationMatches}
 use Rattle.match_tree.specs.ProgramLaws.{UnmatchedEquationsAreSkipped}
 use Rattle.match_tree.specs.declared.compiling.Tree.{Tree as MatchingTree}
-use Rattle.match_tree.specs.declared.slots.Hit.{Hit}
 use Rattle.match_tree.specs.declared.slots.Hit.TheVariants as answer
+use Rattle.match_tree.specs.declared.slots.Kept.{Kept}
+use Rattle.match_tree.specs.declared.slots.NodeNo.{NodeNo}
+use Rattle.match_tree.specs.declared.slots.NodeNo.TheVariants as place
+use Rattle.match_tree.specs.declared.slots.Slots.{Slots}
 use Rattle.match_tree.proofs.BindingLaws.{match_with_room, match_with_own_room, some_of}
 use Rattle.match_tree.proofs.ProgramRows.{IsFirst, NoneMatch, first_of, none_of, numbered_wide}
 use Rattle.match_tree.proofs.ProgramRows.{row_numbered}
+
+-- ---- the next walk
+
+kept_goes_on : (t : MatchingTree) (ts : List Tree) (slots : Slots) (row : ℕ) (resume : NodeNo)
+    → slots.hit ≡ Some (record { row = row; resume = resume })
+    → (after_kept slots.hit ≡ row + 1) × IsResume slots.hit resume × IsKeptRow slots row
+kept_goes_on t ts slots row resume is =
+    let P : Option Kept → Type 0 = λ h. IsResume h resume in
+    let Q : Option Kept → Type 0 = λ h. IsKept h row in
+    (ap after_kept is, subst P (sym is) refl, subst Q (sym is) refl)
+
+pub walk_goes_on : WalkGoesOn
+walk_goes_on t ts slots row place.Start (is, fits) =
+    let P : Option Kept → Type 0 = FitsHit t ts slots.path.items in absurd (subst P is fits).0
+walk_goes_on t ts slots row (place.Node k) (is, fits) =
+    let own = kept_goes_on t ts slots row (place.Node k) is in
+    ((fits, own.1), own.0, fits, own.2)
+walk_goes_on t ts slots row (place.Rows n) (is, fits) =
+    let own = kept_goes_on t ts slots row (place.Rows n) is in
+    ((fits, own.1), own.0, fits, own.2)
 
 -- ---- matching by a row and by the patterns that it is made of
 
@@ -98,10 +120,12 @@ hit_matches sig variables refs ps qs ts are is hit =
     let own = some_of
     (all_matched sig.subsorts (patterns qs) (forest ts) (replicate (length variables) None))
     (match_with_room sig.subsorts qs ts (length variables)
-    (row_scoped sig variables refs ps qs is are.sorted) hit) in
-    (own.0, own_match sig variables ps qs ts own.0 is
-    (found_matches sig variables [] (patterns qs) refs (forest ts) own.0
-    (row_sorted sig variables refs ps qs is are.sorted) are.terms are.normal own.1))
+    (row_scoped sig variables refs ps qs is are.sorted) hit) in (
+      own.0,
+      own_match sig variables ps qs ts own.0 is
+          (found_matches sig variables [] (patterns qs) refs (forest ts) own.0
+          (row_sorted sig variables refs ps qs is are.sorted) are.terms are.normal own.1),
+    )
 
 -- where it does not, none does
 miss_does_not : (sig : Signature) (variables : List ℕ) (refs : List SortRef) (ps : Patterns)

@@ -1,21 +1,42 @@
 -- Numbered rows, and the first of them that matches.
 use Rattle.std.proofs.Common.{◌≡◌, ◌<◌, ◌≤◌, ◌+◌, ◌⊎◌, inl, inr, ℕ, zero, suc, Bool, true, false}
-use Rattle.std.proofs.Common.{List, [], ◌∷◌, length, map, slice_get, Option, Some, None, option_map}
-use Rattle.std.proofs.Common.{refl, sym, ◌∙◌, ap, subst, arith, nat_lt}
-use Rattle.std.specs.Prelude.{is_some, if◌then◌else◌}
+use Rattle.std.proofs.Common.{List, [], ◌∷◌, length, map, slice_get, Option, Some, None}
+use Rattle.std.proofs.Common.{refl, sym, ◌∙◌, ap, subst, arith, nat_lt, ◌++◌, take, get_or, All}
+use Rattle.std.specs.Prelude.{is_some, IfOk, Result, Ok, Err}
+use Rattle.std.specs.Prelude.{slice_index_or}
+use Rattle.std.specs.Borrow.{Bor}
+use Rattle.std.specs.Global.{Vec}
+use Rattle.std.specs.declared.alloc.AllocError.{AllocError}
 use Rattle.std.proofs.lemmas.Bool.{ltb-true, ltb-false}
-use Rattle.term_core.specs.Terms.{Tree}
+use Rattle.std.proofs.lemmas.List.{length-map, map-append}
+use Rattle.term_core.specs.Terms as terms
 use Rattle.term_core.specs.Instances.{patterns}
 use Rattle.term_core.specs.Patterns.{Pattern}
+use Rattle.term_core.specs.PatternLists.{plain_patterns}
+use Rattle.term_core.specs.RulePatterns.{plain_pattern}
+use Rattle.term_core.specs.declared.rule_patterns.RulePat.{RulePat}
+use Rattle.rule_core.specs.Subsorts.{IsBelow, by_pair, by_chain}
+use Rattle.rule_core.specs.WellSorted.{IsPair}
+use Rattle.rule_core.specs.ProgramView.{theory_of, function_equation}
+use Rattle.rule_core.specs.Theories.{equations_of}
+use Rattle.rule_core.specs.declared.rules.Equation.{Equation}
+use Rattle.rule_core.specs.declared.rules.Program.{Program}
+use Rattle.rule_core.specs.declared.signature.Signature.{Signature}
 use Rattle.pat_matrix.specs.Collapsed.{collapsed, AreCollapsed}
 use Rattle.pat_matrix.specs.Rows.{Row, numbered, numbers_from, collapsed_rows}
 use Rattle.pat_matrix.specs.MatchTrees.{AllCollapsed, matching_rows, rows_from, row_match}
-use Rattle.pat_matrix.specs.MatrixView.{rows_of, row_of}
+use Rattle.pat_matrix.specs.Heads.{pattern_list}
+use Rattle.pat_matrix.specs.MatrixView.{rows_of, row_of, order_of, lent_rows}
 use Rattle.pat_matrix.specs.declared.matrix.Matrix.{Matrix}
 use Rattle.pat_matrix.proofs.CollapsedLaws.{are_collapsed-collapsed, all_collapsed-patterns}
+use Rattle.pat_matrix.proofs.Loops.{take_next, length-collapsed_rows}
+use Rattle.pat_matrix.proofs.PartLaws.{pattern_list-patterns}
 use Rattle.pat_matrix.proofs.TreeHits.{from_kept, from_dropped}
 use Rattle.match_tree.specs.Walking.{AreWide}
-use Rattle.match_tree.proofs.OrderLaws.{IsWhole, whole_at}
+use Rattle.match_tree.specs.TreeView.{IsTree, HasMatchTree}
+use Rattle.match_tree.specs.Programs.{IsTreeOf}
+use Rattle.match_tree.specs.declared.compiling.Tree.{Tree}
+use Rattle.match_tree.proofs.OrderLaws.{whole_at}
 
 -- ---- numbered rows
 
@@ -38,9 +59,10 @@ numbered_whole rows all are =
 collapsed_numbered : (k : ℕ) (rows : List (List Pattern))
     → AllCollapsed (numbered k (collapsed_rows rows))
 collapsed_numbered k [] = tt
-collapsed_numbered k (ps ∷ rows) =
-    (subst AreCollapsed (all_collapsed-patterns ps) (are_collapsed-collapsed (patterns ps)),
-    collapsed_numbered (k + 1) rows)
+collapsed_numbered k (ps ∷ rows) = (
+  subst AreCollapsed (all_collapsed-patterns ps) (are_collapsed-collapsed (patterns ps)),
+  collapsed_numbered (k + 1) rows,
+)
 
 pub numbered_collapsed : (rows : List Row) (all : List (List Pattern))
     → rows ≡ numbered 0 (collapsed_rows all) → AllCollapsed rows
@@ -87,16 +109,95 @@ row_numbered m all i ps are at =
     whole_at m i (numbered_whole (rows_of m) all are) (get_within (rows_of m) i (i, ps) here) in
     ap patterns_in (sym own ∙ here)
 
+-- ---- rows that are lent
+
+-- one more row
+pub rows_next : {X : Type 0} (f : X → List Pattern) (xs : List X) (i : ℕ) (x : X)
+    (rows more : List (Bor (List RulePat))) (row : Bor (List RulePat)) → i < length xs
+    → x ≡ get_or xs i x → more ≡ rows ++ row ∷ []
+    → map collapsed (map plain_pattern row.now) ≡ f x
+    → collapsed_rows (lent_rows rows) ≡ map f (take i xs)
+    → collapsed_rows (lent_rows more) ≡ map f (take (i + 1) xs)
+rows_next f xs i x rows more row lt is added own was =
+    ap (λ (rs : List (Bor (List RulePat))). collapsed_rows (lent_rows rs)) added
+    ∙ ap collapsed_rows
+    (map-append (λ (ps : Bor (List RulePat)). map plain_pattern ps.now) rows (row ∷ []))
+    ∙ map-append (λ (ps : List Pattern). map collapsed ps) (lent_rows rows)
+    (map plain_pattern row.now ∷ [])
+    ∙ ap (λ (rs : List (List Pattern)). rs ++ map collapsed (map plain_pattern row.now) ∷ []) was
+    ∙ ap (λ (ps : List Pattern). map f (take i xs) ++ ps ∷ []) own
+    ∙ sym (take_next f xs i x lt is)
+
+-- as many as what they are made of
+pub rows_count : {X : Type 0} (f : X → List Pattern) (xs : List X)
+    (rows : List (Bor (List RulePat))) → collapsed_rows (lent_rows rows) ≡ map f xs
+    → length rows ≡ length xs
+rows_count f xs rows e =
+    length-collapsed_rows rows ∙ ap (λ (rs : List (List Pattern)). length rs) e ∙ length-map xs f
+
+pub arguments_row : (ps : List RulePat)
+    → map collapsed (map plain_pattern ps) ≡ map collapsed (pattern_list (plain_patterns ps))
+arguments_row ps = ap (map collapsed) (sym (pattern_list-patterns (map plain_pattern ps)))
+
+pub mapped_after : {X Y Z : Type 0} (g : Y → Z) (f : X → Y) (xs : List X)
+    → map (λ (x : X). g (f x)) xs ≡ map g (map f xs)
+mapped_after g f [] = refl
+mapped_after g f (x ∷ xs) = ap (λ (zs : List _). g (f x) ∷ zs) (mapped_after g f xs)
+
+mapped_item : {X Y : Type 0} (f : X → Y) (xs : List X) (i : ℕ) (x : X) (d : Y) → i < length xs
+    → x ≡ get_or xs i x → slice_index_or (map f xs) i d ≡ f x
+mapped_item f [] i x d lt is = absurd (omega arith)
+mapped_item f (y ∷ xs) zero x d lt is = ap f (sym is)
+mapped_item f (y ∷ xs) (suc i) x d lt is = mapped_item f xs i x d (omega arith) is
+
+-- the equations of a function
+pub own_equations : (p : Program) (f : ℕ) (v : Vec Equation) → f < length p.equations.items
+    → v ≡ get_or p.equations.items f v
+    → map function_equation v.items ≡ equations_of (theory_of p) f
+own_equations p f v lt is =
+    sym (mapped_item (λ (es : Vec Equation). map function_equation es.items) p.equations.items f v
+    [] lt is)
+
+-- ---- trees of rows
+
+-- the tree of a matrix
+pub tree_is_of : (answer : Result Tree AllocError) (m : Matrix) (pairs : List (ℕ × ℕ))
+    (lists : List (List Pattern)) → IfOk answer HasMatchTree → IfOk answer IsTree
+    → IfOk answer (λ (t : Tree). t.matrix ≡ m) → order_of m ≡ pairs
+    → rows_of m ≡ numbered 0 lists → IfOk answer (IsTreeOf pairs lists)
+tree_is_of (Err e) m pairs lists finds tree of order rows = tt
+tree_is_of (Ok t) m pairs lists finds tree of order rows = record {
+  tree = tree;
+  finds = finds;
+  order = ap order_of of ∙ order;
+  rows = ap rows_of of ∙ rows;
+}
+
+pub other_lists : (answer : Result Tree AllocError) (pairs : List (ℕ × ℕ))
+    (lists others : List (List Pattern)) → lists ≡ others → IfOk answer (IsTreeOf pairs lists)
+    → IfOk answer (IsTreeOf pairs others)
+other_lists answer pairs lists others same h =
+    let P : List (List Pattern) → Type 0 = λ ls. IfOk answer (IsTreeOf pairs ls) in
+    subst P same h
+
+-- a sort that is below another is declared
+pub lower_is_declared : (sig : Signature) (a b : ℕ) → All (IsPair sig) sig.subsorts
+    → IsBelow sig.subsorts a b → a < length sig.sorts
+lower_is_declared sig a b all (by_pair (k, lt, at)) =
+    let P : ℕ × ℕ → Type 0 = IsPair sig in (subst P at (all k (a, b) lt)).0
+lower_is_declared sig a b all (by_chain {b = m} (k, lt, at) rest) =
+    let P : ℕ × ℕ → Type 0 = IsPair sig in (subst P at (all k (a, m) lt)).0
+
 -- ---- the first row that matches
 
 -- Of the rows with numbers from k on, those from one number up to another one do not match.
-abbrev pub NoneMatch : List (ℕ × ℕ) → List Tree → ℕ → List (List Pattern) → ℕ → ℕ → Type 0
+abbrev pub NoneMatch : List (ℕ × ℕ) → List terms.Tree → ℕ → List (List Pattern) → ℕ → ℕ → Type 0
 NoneMatch pairs ts k rows from to =
     (i : ℕ) (ps : List Pattern) → slice_get rows i ≡ Some ps → from ≤ k + i → k + i < to
     → is_some (row_match pairs ps ts) ≡ false
 
 -- The row with the number is the first that matches.
-pub record IsFirst (pairs : List (ℕ × ℕ)) (ts : List Tree) (k : ℕ) (rows : List (List Pattern))
+pub record IsFirst (pairs : List (ℕ × ℕ)) (ts : List terms.Tree) (k : ℕ) (rows : List (List Pattern))
     (from row : ℕ) : Type 0
   where
     pub index : ℕ
@@ -113,7 +214,7 @@ low_or_not from k = told (nat_lt k from) refl where
   told true e = inr (ltb-true k from e)
   told false e = inl (ltb-false k from e)
 
-none_more : (pairs : List (ℕ × ℕ)) (ts : List Tree) (k : ℕ) (ps : List Pattern)
+none_more : (pairs : List (ℕ × ℕ)) (ts : List terms.Tree) (k : ℕ) (ps : List Pattern)
     (rows : List (List Pattern)) (from to : ℕ)
     → (from ≤ k → k < to → is_some (row_match pairs ps ts) ≡ false)
     → NoneMatch pairs ts (k + 1) rows from to → NoneMatch pairs ts k (ps ∷ rows) from to
@@ -124,7 +225,7 @@ none_more pairs ts k ps rows from to first rest zero qs at low high =
 none_more pairs ts k ps rows from to first rest (suc i) qs at low high =
     rest i qs at (omega arith) (omega arith)
 
-first_more : (pairs : List (ℕ × ℕ)) (ts : List Tree) (k : ℕ) (ps : List Pattern)
+first_more : (pairs : List (ℕ × ℕ)) (ts : List terms.Tree) (k : ℕ) (ps : List Pattern)
     (rows : List (List Pattern)) (from row : ℕ)
     → (from ≤ k → is_some (row_match pairs ps ts) ≡ false)
     → IsFirst pairs ts (k + 1) rows from row → IsFirst pairs ts k (ps ∷ rows) from row
@@ -138,7 +239,7 @@ first_more pairs ts k ps rows from row none rest = record {
   earlier = none_more pairs ts k ps rows from row (λ low high. none low) rest.earlier;
 }
 
-first_step : (pairs : List (ℕ × ℕ)) (ts : List Tree) (k : ℕ) (ps : List Pattern)
+first_step : (pairs : List (ℕ × ℕ)) (ts : List terms.Tree) (k : ℕ) (ps : List Pattern)
     (rows : List (List Pattern)) (from row : ℕ) (later : List ℕ) → (from ≤ k) ⊎ (k < from)
     → (b : Bool) → is_some (row_match pairs ps ts) ≡ b
     → (matching_rows pairs (rows_from from (numbered (k + 1) rows)) ts ≡ row ∷ later
@@ -175,7 +276,7 @@ first_step pairs ts k ps rows from row later (inr high) b is rest e =
     (rest (ap (λ (rs : List Row). matching_rows pairs rs ts)
     (sym (from_dropped from (k, ps) (numbered (k + 1) rows) high)) ∙ e))
 
-pub first_of : (pairs : List (ℕ × ℕ)) (ts : List Tree) (k : ℕ) (rows : List (List Pattern))
+pub first_of : (pairs : List (ℕ × ℕ)) (ts : List terms.Tree) (k : ℕ) (rows : List (List Pattern))
     (from row : ℕ) (later : List ℕ)
     → matching_rows pairs (rows_from from (numbered k rows)) ts ≡ row ∷ later
     → IsFirst pairs ts k rows from row
@@ -184,7 +285,7 @@ first_of pairs ts k (ps ∷ rows) from row later e =
     first_step pairs ts k ps rows from row later (low_or_not from k)
     (is_some (row_match pairs ps ts)) refl (first_of pairs ts (k + 1) rows from row later) e
 
-none_step : (pairs : List (ℕ × ℕ)) (ts : List Tree) (k : ℕ) (ps : List Pattern)
+none_step : (pairs : List (ℕ × ℕ)) (ts : List terms.Tree) (k : ℕ) (ps : List Pattern)
     (rows : List (List Pattern)) (from to : ℕ) → (from ≤ k) ⊎ (k < from)
     → (b : Bool) → is_some (row_match pairs ps ts) ≡ b
     → (matching_rows pairs (rows_from from (numbered (k + 1) rows)) ts ≡ []
@@ -210,7 +311,7 @@ none_step pairs ts k ps rows from to (inr high) b is rest e =
     (rest (ap (λ (rs : List Row). matching_rows pairs rs ts)
     (sym (from_dropped from (k, ps) (numbered (k + 1) rows) high)) ∙ e))
 
-pub none_of : (pairs : List (ℕ × ℕ)) (ts : List Tree) (k : ℕ) (rows : List (List Pattern))
+pub none_of : (pairs : List (ℕ × ℕ)) (ts : List terms.Tree) (k : ℕ) (rows : List (List Pattern))
     (from to : ℕ) → matching_rows pairs (rows_from from (numbered k rows)) ts ≡ []
     → NoneMatch pairs ts k rows from to
 none_of pairs ts k [] from to e = λ i ps at low high. absurd (let no : ⊥ = cc in no)

@@ -20,9 +20,11 @@ use Rattle.rule_core.specs.Evaluation.{Evaluated, Equates, IsUnmatchedBy}
 use Rattle.rule_core.specs.declared.signature.SymInfo.{SymInfo}
 use Rattle.pat_matrix.specs.MatrixView.{rows_of, row_of, order_of}
 use Rattle.match_tree.specs.Walking.{AreWide}
-use Rattle.match_tree.specs.SlotView.{FindsFirst}
+use Rattle.match_tree.specs.SlotView.{FindsFirst, Keeps, CanBegin, Fits, IsKeptRow, first_row}
 use Rattle.match_tree.specs.Programs.{IsRuleTree, IsEquationTree}
 use Rattle.match_tree.specs.declared.compiling.Tree.{Tree}
+use Rattle.match_tree.specs.declared.slots.NodeNo.{NodeNo}
+use Rattle.match_tree.specs.declared.slots.Slots.{Slots}
 use Rattle.match_tree.specs.declared.slots.Hit.{Hit}
 use Rattle.match_tree.specs.declared.slots.Hit.TheVariants as answer
 
@@ -35,6 +37,15 @@ EquationTreeIsWide =
     (theory : RewriteTheory) (f : ℕ) (info : SymInfo) (t : Tree) (ts : List terms.Tree) →
     IsWellSorted theory → IsEquationTree theory f t → IsSymbol theory.sig f info →
     AreTermsOf theory.sig [] (forest ts) info.args.items → AreWide (length ts) (rows_of t.matrix)
+
+-- After a hit of the subjects, a walk may go on from the place that the hit gives, at the next row.
+-- The substitution of the hit's row may be asked for.
+abbrev pub WalkGoesOn : Type 0
+WalkGoesOn =
+    (t : Tree) (ts : List terms.Tree) (slots : Slots) (row : ℕ) (resume : NodeNo) →
+    Keeps t ts slots (answer.Row row resume) →
+    CanBegin t ts slots resume × (first_row slots resume ≡ row + 1) × Fits t ts slots
+    × IsKeptRow slots row
 
 -- The rule with the row's number is the first from a number on that matches the term. Its row uses
 -- only its own variables, and each substitution that is found for the row matches its left side.

@@ -1,18 +1,22 @@
 // Trees, and how they are made.
-ghost use Rattle.std.specs.Prelude.{◌≡◌, ◌+◌, ℕ, length, map, IfOk, IfSome};
+ghost use Rattle.std.specs.Prelude.{◌≡◌, ◌<◌, ◌≤◌, ◌^◌, ◌+◌, ℕ, length, map, IfOk, IfSome};
 ghost use Rattle.std.specs.List.{list_any};
-ghost use Rattle.pat_matrix.specs.Rows.{numbers_from};
+ghost use Rattle.rule_core.specs.Subsorts.{IsBelow};
+ghost use Rattle.pat_matrix.specs.Rows.{numbers_from, collapsed_rows};
 ghost use Rattle.pat_matrix.specs.MatchTrees.{AllCollapsed};
-ghost use Rattle.pat_matrix.specs.MatrixView.{rows_of, order_of};
+ghost use Rattle.pat_matrix.specs.MatrixView.{rows_of, order_of, lent_rows};
 ghost use Rattle.pat_matrix.specs.Occurrences.{row_twins};
 ghost use Rattle.pat_matrix.specs.PlaceView.{twins_of};
 ghost use Rattle.match_tree.specs.TreeView.{IsTree, HasMatchTree, nodes_of, tries};
+ghost use Rattle.match_tree.specs.Programs.{IsTreeOf};
 
 use crate::draft::Draft;
 use crate::nodes::Node;
 use crate::slots::NodeNo;
 use pat_matrix::{Matrix, Twin, row_twins};
+use rule_core::Subsorts;
 use std::alloc::{AllocError, Global};
+use term_core::RulePat;
 
 /// A matching tree for the rows of a matrix. Its nodes are a flat list, and a node names its
 /// children by their places in the list.
@@ -24,6 +28,23 @@ pub struct Tree<'s> {
 }
 
 impl<'s> Tree<'s> {
+    /// The tree of `compile` for these rows, numbered from 0, with nested injections joined, which
+    /// changes no match. `sorts` is more than each sort that is below another. An error: out of
+    /// memory. It copies each row once.
+    pub fn of(
+        alloc: Global,
+        rows: &[&[RulePat]],
+        subsorts: &'s Subsorts,
+        sorts: u32,
+    ) -> Result<Tree<'s>, AllocError>
+        requires count { length rows.now ≤ 2 ^ 32 }
+        requires sorts { (a b : ℕ) → IsBelow subsorts.now a b → a < sorts }
+        ensures { IfOk result (IsTreeOf subsorts.now (collapsed_rows (lent_rows rows.now))) }
+    {
+        let matrix = Matrix::of(alloc, rows, subsorts, sorts)?;
+        compile(alloc, matrix)
+    }
+
     /// The place from which a walk begins.
     pub fn start(&self) -> NodeNo
         ensures { result ≡ NodeNo.Start }

@@ -5,6 +5,7 @@ ghost use Rattle.match_tree.specs.WalkSteps.{HitMatchesByTwins, HitComesFirst};
 ghost use Rattle.match_tree.specs.Spots.{TwinsAreAsked, PlacesAreResolved};
 ghost use Rattle.match_tree.specs.ProgramLaws.{RuleTreeIsWide, RuleWalkTells, EquationTreeIsWide};
 ghost use Rattle.match_tree.specs.ProgramLaws.{EquationWalkTells, UnmatchedEquationsAreSkipped};
+ghost use Rattle.match_tree.specs.ProgramLaws.{WalkGoesOn};
 
 /// Has no effect at run time. It states facts about flat nodes. If each node is one for its label,
 /// the nodes from each place on are those of a matching tree for the label. A node stays one for
@@ -37,8 +38,10 @@ pub fn place_laws()
 /// equations. A walk over the tree of the rules finds the first rule, from a number on, that
 /// matches the term: those before it do not match, and if it finds none, no rule from there on
 /// matches. A substitution of the row matches the rule's own left side. The same holds for the
-/// equations of a function. Equations that do not match may be skipped.
+/// equations of a function. Equations that do not match may be skipped. After a hit a walk may go
+/// on, at the next row.
 pub fn program_laws()
+    ensures goes_on { WalkGoesOn }
     ensures rule_width { RuleTreeIsWide }
     ensures rules { RuleWalkTells }
     ensures equation_width { EquationTreeIsWide }

@@ -52,11 +52,21 @@ pub enum DerivStep {
 
 /// A theorem that may be cited with other patterns for its pattern variables. Contracts see it as a
 /// plain `Theorem`. Its derivation exists only for contracts.
-#[derive(Drop)]
 pub struct Lemma {
     pub(crate) hypotheses: Vec<MPat>,
     pub(crate) conclusion: MPat,
     pub(crate) erased: ErasedDerivation,
+}
+
+// A lemma is dropped by one call, and not field by field at each end of each call that owns one.
+impl Drop for Lemma {
+    fn drop(self) {
+        let Lemma {
+            hypotheses: _,
+            conclusion: _,
+            erased: _,
+        } = self;
+    }
 }
 
 impl Model for Deriv {

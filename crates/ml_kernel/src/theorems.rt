@@ -20,11 +20,21 @@ use std::marker::Model;
 
 /// A theorem: a conclusion, the hypotheses that it depends on, each once, and a derivation.
 /// Contracts see it as a plain `Theorem`.
-#[derive(Drop)]
 pub struct Thm {
     hypotheses: Vec<MPat>,
     conclusion: MPat,
     derivation: Deriv,
+}
+
+// A theorem is dropped by one call, and not field by field at each end of each call that owns one.
+impl Drop for Thm {
+    fn drop(self) {
+        let Thm {
+            hypotheses: _,
+            conclusion: _,
+            derivation: _,
+        } = self;
+    }
 }
 
 /// What a call passes for a variable of its rule.
@@ -141,6 +151,22 @@ impl Thm {
         })
     }
 
+    // The theorem as a lemma. Its derivation is dropped.
+    fn into_lemma(self) -> Lemma
+        ensures { result ≡ self }
+    {
+        let Thm {
+            hypotheses,
+            conclusion,
+            derivation,
+        } = self;
+        Lemma {
+            hypotheses,
+            conclusion,
+            erased: ErasedDerivation::of(&derivation),
+        }
+    }
+
     // The theorem of an axiom.
     pub(crate) fn of_axiom(alloc: Global, no: AxiomNo, pattern: MPat) -> Result<Thm, AllocError>
         requires { HasNoMeta pattern }
@@ -190,11 +216,7 @@ impl Lemma {
     pub fn close(thm: Thm) -> Result<Lemma, AllocError>
         ensures { IfOk result (λ lemma. lemma ≡ thm) }
     {
-        Ok(Lemma {
-            hypotheses: thm.hypotheses,
-            conclusion: thm.conclusion,
-            erased: ErasedDerivation::of(&thm.derivation),
-        })
+        Ok(thm.into_lemma())
     }
 }
 

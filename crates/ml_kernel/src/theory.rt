@@ -12,9 +12,15 @@ use std::marker::Model;
 
 /// The axioms that theorems may depend on. The number of an axiom is its index. No pattern variable
 /// occurs in them.
-#[derive(Drop)]
 pub struct Theory {
     axioms: Vec<MPat>,
+}
+
+// A theory is dropped by one call, and not field by field at each end of each call that owns one.
+impl Drop for Theory {
+    fn drop(self) {
+        let Theory { axioms: _ } = self;
+    }
 }
 
 impl Model for Theory {

@@ -11,7 +11,8 @@ use Rattle.mm_database.specs.Forms.{asserts, assumes}
 use Rattle.mm_database.specs.Assertions.{Assertion}
 use Rattle.mm_database.specs.Proofs.{ProofTree}
 use Rattle.mm_database.specs.ProofText.{mandatory_labels}
-use Rattle.mm_database.specs.Compressing.{Compresses, all_compressed}
+use Rattle.mm_database.specs.Compressing.{all_compressed}
+use Rattle.mm_database.specs.ProofTexts.{Compresses}
 use Rattle.mm_header.specs.HeaderText.{header_bytes}
 use Rattle.ml_pat.specs.Patterns.{Pattern, meta}
 use Rattle.ml_kernel.specs.Theorems.{Theorem, Derivation, Derivations, hypothesis, own_axiom}

@@ -14,7 +14,8 @@ use Rattle.mm_database.specs.Proofs.{hypothesis_of, ProofTree, Proves}
 use Rattle.mm_database.specs.Database.{Context, with_assertion}
 use Rattle.mm_database.specs.Assertions.{Assertion, assertions_of, typings_of}
 use Rattle.mm_database.specs.ProofText.{mandatory_labels}
-use Rattle.mm_database.specs.Compressing.{Compresses, is_compressed, all_compressed}
+use Rattle.mm_database.specs.Compressing.{is_compressed, all_compressed}
+use Rattle.mm_database.specs.ProofTexts.{Compresses}
 use Rattle.mm_database.specs.FrameLaws.{Adds}
 use Rattle.mm_database.specs.Forms.{form_of}
 use Rattle.mm_database.proofs.Continued.{continued_leaves, leaves_is_valid, appended_compressed}

@@ -12,7 +12,8 @@ use Rattle.mm_database.specs.Frames.{Frame, frame_of}
 use Rattle.mm_database.specs.Database.{Context, with_tokens, with_token, with_frame, with_assertion}
 use Rattle.mm_database.specs.Proofs.{ProofTree, Proves, postorder}
 use Rattle.mm_database.specs.ProofText.{mandatory_labels}
-use Rattle.mm_database.specs.Compressing.{Compresses, by_letters, begins_compressed}
+use Rattle.mm_database.specs.Compressing.{begins_compressed}
+use Rattle.mm_database.specs.ProofTexts.{Compresses, by_letters}
 use Rattle.mm_database.specs.Compressing.{is_compressed}
 use Rattle.mm_database.specs.CleanTokens.{are_clean}
 use Rattle.mm_database.specs.Assertions.{with_typing_first}

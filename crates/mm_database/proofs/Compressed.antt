@@ -22,8 +22,8 @@ use Rattle.mm_database.specs.ProofText.{is_citable, before_close, behind_close, 
 use Rattle.mm_database.specs.ProofText.{mandatory_labels, lettered_steps, steps_of_numbers}
 use Rattle.mm_database.specs.ProofText.{compressed_steps, proof_steps}
 use Rattle.mm_database.specs.CleanTokens.{are_clean}
-use Rattle.mm_database.specs.Compressing.{Compresses, IsProofText, by_labels}
-use Rattle.mm_database.specs.Compressing.{by_letters}
+use Rattle.mm_database.specs.ProofTexts.{Compresses, IsProofText, by_labels}
+use Rattle.mm_database.specs.ProofTexts.{by_letters}
 use Rattle.mm_database.specs.Writing.{ProofTextIsPlain}
 use Rattle.mm_database.proofs.Building.{citing, postorder-builds, built-one}
 use Rattle.mm_database.proofs.LabelTokens.{label_facts, labels_clean, labels_plain}

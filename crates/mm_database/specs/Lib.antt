@@ -8,6 +8,7 @@ pub mod ProofText
 pub mod Validity
 pub mod StatementTexts
 pub mod Compressing
+pub mod ProofTexts
 pub mod Assertions
 pub mod Leaving
 -- Laws: what follows from that. Each is a clause of a function that does nothing.

@@ -10,7 +10,8 @@ use Rattle.mm_database.specs.Frames.{Hypothesis, floating, essential, Scope, fra
 use Rattle.mm_database.specs.Database.{Context}
 use Rattle.mm_database.specs.Proofs.{ProofTree, Proves, postorder}
 use Rattle.mm_database.specs.ProofText.{mandatory_labels}
-use Rattle.mm_database.specs.Compressing.{IsProofText, is_compressed, all_compressed}
+use Rattle.mm_database.specs.Compressing.{is_compressed, all_compressed}
+use Rattle.mm_database.specs.ProofTexts.{IsProofText}
 use Rattle.mm_database.specs.Validity.{is_typed, is_new_label, HasNoFault, IsValid}
 use Rattle.mm_database.specs.FrameLaws.{Adds}
 use Rattle.mm_database.specs.StatementTexts.{written_statements, plain_tokens, proof_tokens}

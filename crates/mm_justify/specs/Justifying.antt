@@ -15,7 +15,7 @@ use Rattle.ml_pat.specs.Named.{AreDistinct}
 use Rattle.ml_pat.specs.Leaves.{EachLeaf}
 use Rattle.term_core.specs.Patterns.{Pattern as RulePattern}
 use Rattle.rule_core.specs.Theories.{RewriteTheory}
-use Rattle.rule_core.specs.Runs.{MayEndAt}
+use Rattle.rule_core.specs.RunCuts.{MayEndAt}
 use Rattle.ml_image.specs.Assumed.{IsAssumed}
 use Rattle.ml_image.specs.Images.{image_of}
 use Rattle.ml_image.specs.Sentences.{Sentence, sentence_image}

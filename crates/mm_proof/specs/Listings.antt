@@ -3,7 +3,7 @@ use Rattle.std.specs.Prelude.{◌≡◌, ℕ, List, [], ◌∷◌, ◌++◌, map
 use Rattle.mm_text.specs.Bytes.{Token}
 use Rattle.mm_text.specs.Written.{written}
 use Rattle.mm_database.specs.Proofs.{ProofTree}
-use Rattle.mm_database.specs.Compressing.{Compresses}
+use Rattle.mm_database.specs.ProofTexts.{Compresses}
 use Rattle.proof_nodes.specs.Tables.{Table, empty_table, stack_trees}
 use Rattle.mm_proof.specs.Writing.{label_token}
 use Rattle.mm_proof.specs.declared.words.Label.{Label}

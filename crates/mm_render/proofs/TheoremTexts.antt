@@ -5,7 +5,7 @@ use Rattle.std.specs.Prelude.{if◌then◌else◌, codes}
 use Rattle.std.proofs.lemmas.Grind.{flat_map-append}
 use Rattle.mm_text.specs.Bytes.{Token}
 use Rattle.mm_text.specs.Written.{written}
-use Rattle.mm_database.specs.Compressing.{Compresses}
+use Rattle.mm_database.specs.ProofTexts.{Compresses}
 use Rattle.mm_database.specs.ProofText.{mandatory_labels}
 use Rattle.mm_database.specs.StatementTexts.{written_statements}
 use Rattle.ml_pat.specs.Patterns.{Pattern}

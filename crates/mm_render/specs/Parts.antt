@@ -2,7 +2,7 @@
 use Rattle.std.specs.Prelude.{◌≡◌, ℕ, ◌+◌, ◌*◌, ◌<◌, ◌≤◌, List, [], ◌∷◌, ◌++◌, map}
 use Rattle.mm_text.specs.Bytes.{Token}
 use Rattle.mm_text.specs.Written.{written}
-use Rattle.mm_database.specs.Compressing.{Compresses}
+use Rattle.mm_database.specs.ProofTexts.{Compresses}
 use Rattle.mm_database.specs.ProofText.{mandatory_labels}
 use Rattle.mm_database.specs.Proofs.{ProofTree}
 use Rattle.proof_nodes.specs.Tables.{with_cited}

@@ -14,7 +14,7 @@ use Rattle.mm_database.specs.Proofs.{postorder, all_postorder}
 use Rattle.mm_database.specs.Steps.{Step, cites, saves, repeats, Builds, by_label, by_saving}
 use Rattle.mm_database.specs.Steps.{by_repeating, AllBuild, no_steps, more_steps}
 use Rattle.mm_database.specs.ProofText.{lettered_steps}
-use Rattle.mm_database.specs.Compressing.{Compresses}
+use Rattle.mm_database.specs.ProofTexts.{Compresses}
 use Rattle.proof_nodes.specs.Tables.{Node, AllBelow, tree_at, node_trees}
 use Rattle.proof_nodes.specs.Compression.{AreToldApart, proof_text, IsCompressed}
 use Rattle.proof_nodes.specs.Walking.{labels_of, meanings_of, BuildsNode, CitesNodes}

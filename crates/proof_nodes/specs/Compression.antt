@@ -2,7 +2,7 @@
 use Rattle.std.specs.Prelude.{◌≡◌, ◌<◌, ℕ, List, [], ◌∷◌, ◌++◌, map, codes}
 use Rattle.mm_text.specs.Bytes.{Token}
 use Rattle.mm_database.specs.Proofs.{ProofTree}
-use Rattle.mm_database.specs.Compressing.{Compresses}
+use Rattle.mm_database.specs.ProofTexts.{Compresses}
 use Rattle.proof_nodes.specs.Tables.{Table, stack_trees, AllBelow, LabelsBelow}
 
 -- two labels below this number are spelled alike only if they are the same

@@ -19,7 +19,7 @@ use Rattle.prove_term.specs.Contexts.{Context, HasContext, HasGrown, StaysIn}
 use Rattle.prove_term.proofs.ImageShapes.{sentence_has_no_meta}
 use Rattle.prove_schema.proofs.ElementLaws.{pattern_grown}
 use Rattle.prove_step.specs.Steps.{IsStepFrom, SaysStep}
-use Rattle.prove_run.specs.Reaching.{SaysReached}
+use Rattle.prove_run.specs.Starting.{SaysReached}
 use Rattle.prove_run.specs.ReachLemma.{CitesReachLemma}
 use Rattle.prove_run.specs.Going.{MayGoOn, ExtendsRun}
 use Rattle.prove_run.proofs.ContextLaws.{lemma_grown}

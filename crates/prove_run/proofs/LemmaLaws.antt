@@ -32,7 +32,7 @@ use Rattle.prove_run.specs.Proving.{FitsProof}
 use Rattle.prove_run.specs.AddedLemmas.{AddsLemma, EndsHere, WritesLemma, with_lemma}
 use Rattle.prove_run.specs.WrittenProofs.{JustifiesFurther, WritesFrontAfter}
 use Rattle.prove_run.specs.Again.{CitesLast}
-use Rattle.prove_run.specs.Reaching.{SaysReached}
+use Rattle.prove_run.specs.Starting.{SaysReached}
 use Rattle.prove_run.specs.ProofView.{run_proof, IsProof}
 use Rattle.prove_run.specs.declared.proof.Proof.TheInside.{Inside}
 use Rattle.prove_run.proofs.ContextLaws.{written_grown, lemma_grown}

@@ -14,7 +14,7 @@ use Rattle.proof_writer.specs.PlainNames.{HasPlainNames}
 use Rattle.proof_writer.specs.Writing.{IsTextOf}
 use Rattle.prove_run.specs.RunProof.{RunProof, configuration, proof_context}
 use Rattle.prove_run.specs.Proving.{FitsProof}
-use Rattle.prove_run.specs.Reaching.{SaysReached}
+use Rattle.prove_run.specs.Starting.{SaysReached}
 use Rattle.prove_run.specs.ProofView.{run_proof, IsProof, IsProofOrFailed, IsProofUnless}
 use Rattle.prove_run.specs.declared.proof.Proof.TheInside.{Inside}
 use Rattle.prove_run.proofs.ContextLaws.{written_grown, text_grown, lemma_grown}

@@ -25,7 +25,7 @@ use Rattle.proof_writer.specs.Writing.{Begins as BeginsText, Adds, Concludes, Ma
 use Rattle.proof_writer.specs.declared.writer.Writer.{Writer}
 use Rattle.prove_run.specs.RunProof.{RunProof, configuration, reached}
 use Rattle.prove_run.specs.Proving.{FitsProof, Begins, CanStep, StepsTo}
-use Rattle.prove_run.specs.Reaching.{SaysReached}
+use Rattle.prove_run.specs.Starting.{SaysReached}
 use Rattle.prove_run.specs.ReachLemma.{IsReachLemma}
 use Rattle.prove_run.specs.Going.{MayGoOn, ExtendsRun}
 use Rattle.prove_run.specs.ProofView.{run_proof, IsProof, IsProofOrFailed, IsProofUnless}

@@ -28,7 +28,7 @@ use Rattle.prove_schema.proofs.ElementLaws.{pattern_grown}
 use Rattle.prove_fun.specs.Valuing.{HasImageOf}
 use Rattle.proof_writer.specs.Writing.{HasNoVariables}
 use Rattle.prove_run.specs.RunProof.{configuration}
-use Rattle.prove_run.specs.Reaching.{SaysReached}
+use Rattle.prove_run.specs.Starting.{SaysReached}
 use Rattle.prove_run.proofs.ContextLaws.{image_wherever, image_is_closed, sorted_has_none}
 use Rattle.prove_run.proofs.ContextLaws.{ground_has_none}
 

@@ -10,7 +10,7 @@ use Rattle.ml_kernel.specs.Theorems.{Theorem}
 use Rattle.ml_derived.specs.Scopes.{Scope, IsStatedIn, IsWithin}
 use Rattle.prove_term.specs.Contexts.{Context, HasContext, HasGrown}
 use Rattle.prove_step.specs.Steps.{IsStepFrom}
-use Rattle.prove_run.specs.Reaching.{SaysReached}
+use Rattle.prove_run.specs.Starting.{SaysReached}
 use Rattle.prove_run.specs.ReachLemma.{IsReachLemma}
 
 -- The last theorem has no hypotheses, and says that a start reaches a term. The record is about a

@@ -1,5 +1,6 @@
 -- Public: what public clauses say, and public definitions of other crates.
 pub mod RunProof
+pub mod Starting
 pub mod Proving
 pub mod WrittenProofs
 pub mod AddedLemmas

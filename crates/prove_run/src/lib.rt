@@ -32,4 +32,5 @@ mod writing;
 
 pub use ends::ProveEnd;
 pub use proof::{Proof, Rest};
+pub use starting::start_reaches;
 pub use summaries::Summary;

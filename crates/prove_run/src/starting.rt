@@ -10,7 +10,7 @@ ghost use Rattle.rule_core.specs.RecordView.{plain_record};
 ghost use Rattle.prove_term.specs.Contexts.{HasGrown, StaysIn};
 ghost use Rattle.prove_run.specs.RunProof.{configuration};
 ghost use Rattle.prove_run.specs.Proving.{value_told};
-ghost use Rattle.prove_run.specs.Reaching.{IsStarting, SaysReached};
+ghost use Rattle.prove_run.specs.Starting.{IsStarting, SaysReached};
 
 use ml_derived::{carry, reach_here};
 use ml_kernel::Thm;
@@ -23,9 +23,10 @@ use term_core::{RulePat, Subst};
 // The variable that marks the place in the context of `to_other`.
 const HOLE: VarNo = VarNo(0);
 
-// Proves that an initial term reaches its value, by the record of its evaluation. If there is no
-// record, it reaches itself.
-pub(crate) fn start_reaches(
+/// Proves that an initial term reaches its value, by the record of its evaluation. If there is no
+/// record, it reaches itself. `AllocError`: out of memory. After an error the context may have
+/// grown.
+pub fn start_reaches(
     alloc: Global,
     prover: &mut Prover<'_>,
     start: &RulePat,

@@ -5,8 +5,8 @@ use Rattle.term_core.specs.Patterns.{Pattern, ground_pattern}
 use Rattle.rule_core.specs.Theories.{RewriteTheory}
 use Rattle.rule_core.specs.Evaluation.{value, blocked}
 use Rattle.rule_core.specs.FirstRule.{most_nesting}
-use Rattle.rule_core.specs.Runs.{Reaches, stuck, limited, stopped, unstarted, MayEndAt}
-use Rattle.rule_core.specs.Runs.{at_blocked_start, at_configuration}
+use Rattle.rule_core.specs.Runs.{Reaches, stuck, limited, stopped, unstarted}
+use Rattle.rule_core.specs.RunCuts.{MayEndAt, at_blocked_start, at_configuration}
 use Rattle.rule_core.specs.RunLaws.{EndsAreOfRun, RunMayEnd, IsReachedWithin}
 use Rattle.rule_core.specs.WellSorted.{IsWellSorted}
 use Rattle.rule_core.proofs.RunUnique.{Last, stuck_last, stopped_last, limited_last}

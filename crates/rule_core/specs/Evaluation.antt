@@ -167,8 +167,7 @@ mutual
 
   -- the condition of an equation of this function, if it has one
   pub data Tests (theory : RewriteTheory) : ℕ → ℕ → List (Option Tree) → Option Pattern → ℕ
-      → ConditionOutcome
-      → Type 0 where
+      → ConditionOutcome → Type 0 where
     no_condition : {n f c : ℕ} {theta : List (Option Tree)}
         → Tests theory n f theta None c (holds c)
     condition : {n f c : ℕ} {theta : List (Option Tree)} {p : Pattern} {e : Evaluated}

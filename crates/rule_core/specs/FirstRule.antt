@@ -26,8 +26,7 @@ IsUnmatched theory rule t =
 
 -- the condition of a rule, if it has one
 pub data Meets (theory : RewriteTheory) (theta : List (Option Tree)) : Option Pattern → ℕ
-    → ConditionOutcome
-    → Type 0 where
+    → ConditionOutcome → Type 0 where
   no_rule_condition : {c : ℕ} → Meets theory theta None c (holds c)
   rule_condition : {c : ℕ} {p : Pattern} {e : Evaluated} {r : ConditionOutcome}
       → Evaluates theory most_nesting theta p c e → Says e r → Meets theory theta (Some p) c r

@@ -17,6 +17,7 @@ pub mod HookSorts
 pub mod WellSorted
 pub mod Records
 pub mod Runs
+pub mod RunCuts
 pub mod RunView
 pub mod ProgramView
 pub mod BoundVariables

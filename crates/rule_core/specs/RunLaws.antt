@@ -9,7 +9,8 @@ use Rattle.rule_core.specs.Evaluation.{holds, fails, most_height}
 use Rattle.rule_core.specs.FirstRule.{Matches, IsUnmatched, Meets, Trial, applies, none_applies}
 use Rattle.rule_core.specs.FirstRule.{Tries}
 use Rattle.rule_core.specs.Runs.{Stepped, steps_on, Steps, Reaches, Run, stuck, limited, stopped}
-use Rattle.rule_core.specs.Runs.{unstarted, IsRunOf, kept_by, MayEndAt}
+use Rattle.rule_core.specs.Runs.{unstarted, IsRunOf, kept_by}
+use Rattle.rule_core.specs.RunCuts.{MayEndAt}
 use Rattle.rule_core.specs.Records.{StepRecord, RecordsStep, most_calls, result_of}
 use Rattle.rule_core.specs.WellSorted.{IsWellSorted, IsRuleOf}
 

@@ -1,7 +1,7 @@
 -- Runs. A term is rewritten by the first rule that applies. The run ends when none applies, when
 -- the limit of steps is reached, or when an evaluation is blocked. Calls of functions are counted
 -- over the whole run.
-use Rattle.std.specs.Prelude.{◌≡◌, ℕ, suc, ◌<◌, ◌≤◌, List, [], Option}
+use Rattle.std.specs.Prelude.{◌≡◌, ℕ, suc, ◌<◌, List, [], Option}
 use Rattle.term_core.specs.Terms.{Tree}
 use Rattle.term_core.specs.Patterns.{Pattern, ground_pattern}
 use Rattle.rule_core.specs.Rules.{RewriteRule}
@@ -55,28 +55,10 @@ kept_by start (unstarted cause) = start
 -- The run of a term. If the limit is reached, no rule is tried.
 abbrev pub IsRunOf : RewriteTheory → ℕ → ℕ → Pattern → Run → Type 0
 IsRunOf theory limit calls start (stuck n t) =
-    (c : ℕ) × Reaches theory start calls n t c × (n < limit)
-    × Steps theory t c stays
+    (c : ℕ) × Reaches theory start calls n t c × (n < limit) × Steps theory t c stays
 IsRunOf theory limit calls start (limited n t) =
     (c : ℕ) × Reaches theory start calls n t c × (n ≡ limit)
 IsRunOf theory limit calls start (stopped n cause t) =
-    (c : ℕ) × Reaches theory start calls n t c × (n < limit)
-    × Steps theory t c (stops cause)
+    (c : ℕ) × Reaches theory start calls n t c × (n < limit) × Steps theory t c (stops cause)
 IsRunOf theory limit calls start (unstarted cause) =
     Evaluates theory most_nesting [] start calls (blocked cause)
-
--- how many steps a run has
-abbrev pub steps_of : Run → ℕ
-steps_of (stuck n t) = n
-steps_of (limited n t) = n
-steps_of (stopped n cause t) = n
-steps_of (unstarted cause) = 0
-
--- The patterns at which the run of a term may be cut: the initial term as it was read, if
--- evaluating it is blocked; else each configuration that the run reaches within the limit.
-pub data MayEndAt (theory : RewriteTheory) (limit calls : ℕ) (start : Pattern) : Pattern
-    → Type 0 where
-  at_blocked_start : {cause : Cause} → Evaluates theory most_nesting [] start calls (blocked cause)
-      → MayEndAt theory limit calls start start
-  at_configuration : {n c : ℕ} {t : Tree} → Reaches theory start calls n t c → n ≤ limit
-      → MayEndAt theory limit calls start (ground_pattern t)

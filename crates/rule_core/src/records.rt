@@ -43,7 +43,6 @@ pub struct EqRecord {
 }
 
 /// A step by a rewrite rule. Contracts see it as the plain `plain_step`.
-#[derive(Drop)]
 pub struct StepRecord {
     /// The number of the rule.
     pub rule: u32,
@@ -53,6 +52,18 @@ pub struct StepRecord {
     pub cond: Option<EvalRecord>,
     /// The record of its right side, whose value is the next term.
     pub right: EvalRecord,
+}
+
+// A record is dropped by one call, and not field by field at each end of each call that owns one.
+impl Drop for StepRecord {
+    fn drop(self) {
+        let StepRecord {
+            rule: _,
+            subst: _,
+            cond: _,
+            right: _,
+        } = self;
+    }
 }
 
 impl EvalRecord {

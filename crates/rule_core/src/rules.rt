@@ -13,7 +13,6 @@ pub struct VarInfo {
 
 /// A rewrite rule. If its condition evaluates to `true`, it rewrites an instance of its left side
 /// to the instance of its right side. Contracts see it as the plain `rewrite_rule`.
-#[derive(Drop)]
 pub struct Rule {
     /// The byte offset of its keyword in the definition. Of two rules with the same priority, the
     /// earlier one is tried first.
@@ -30,10 +29,23 @@ pub struct Rule {
     pub priority: u32,
 }
 
+// A rule is dropped by one call, and not field by field at each end of each call that owns one.
+impl Drop for Rule {
+    fn drop(self) {
+        let Rule {
+            at: _,
+            left: _,
+            cond: _,
+            right: _,
+            vars: _,
+            priority: _,
+        } = self;
+    }
+}
+
 /// An equation of a function. If its condition evaluates to `true`, the value of the function at an
 /// instance of its arguments is the value of its right side. Contracts see it as the plain
 /// `function_equation`.
-#[derive(Drop)]
 pub struct Equation {
     /// The byte offset of its keyword in the definition. Of two equations with the same priority,
     /// the earlier one is tried first.
@@ -55,10 +67,25 @@ pub struct Equation {
     pub priority: u32,
 }
 
+// An equation is dropped by one call, and not field by field at each end of each call that owns one.
+impl Drop for Equation {
+    fn drop(self) {
+        let Equation {
+            at: _,
+            fun: _,
+            params: _,
+            args: _,
+            cond: _,
+            right: _,
+            vars: _,
+            priority: _,
+        } = self;
+    }
+}
+
 /// An accepted definition. Contracts see it as the plain `theory_of`. The type does not require
 /// anything of its fields. A function that needs the rules in the order of trial requires that
 /// itself.
-#[derive(Drop)]
 pub struct Program {
     /// The sorts and symbols. The rules refer to them by number.
     pub sig: Signature,
@@ -68,6 +95,18 @@ pub struct Program {
     pub rules: Vec<Rule>,
     /// The equations of each symbol, indexed by its number, in the order of trial.
     pub equations: Vec<Vec<Equation>>,
+}
+
+// A program is dropped by one call, and not field by field at each end of each call that owns one.
+impl Drop for Program {
+    fn drop(self) {
+        let Program {
+            sig: _,
+            top: _,
+            rules: _,
+            equations: _,
+        } = self;
+    }
 }
 
 /// Why an evaluation has no value.

@@ -14,7 +14,7 @@ use Rattle.prove_run.specs.RunProof.{RunProof}
 use Rattle.prove_run.specs.Summaries.{IsSummaryOf, summary_of}
 use Rattle.prove_run.specs.declared.summaries.Summary.{Summary}
 use Rattle.run_proof.specs.ClosedProofs.{KeepsOthersNow, PutsCreated, PutsFront, PutsProof}
-use Rattle.run_proof.specs.ProvedSteps.{WritesFrontOfRun, WritesProof}
+use Rattle.run_proof.specs.OpenProofs.{WritesFrontOfRun, WritesProof}
 
 some_same : {A : Type 0} (a b : A) → Some a ≡ Some b → a ≡ b
 some_same a b h = cc

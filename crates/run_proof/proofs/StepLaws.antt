@@ -13,9 +13,10 @@ use Rattle.term_core.specs.declared.rule_patterns.RulePat.{RulePat}
 use Rattle.rule_core.specs.Evaluation.{most_height, Cause}
 use Rattle.rule_core.specs.ProgramView.{theory_of}
 use Rattle.rule_core.specs.Records.{StepRecord, RecordsStep, result_of}
-use Rattle.rule_core.specs.Runs.{Run, stuck, limited, stopped, unstarted, kept_by, steps_of, IsRunOf}
-use Rattle.rule_core.specs.Runs.{Steps, steps_on, stays, stops, Reaches, after_step, MayEndAt}
-use Rattle.rule_core.specs.Runs.{at_configuration}
+use Rattle.rule_core.specs.Runs.{Run, stuck, limited, stopped, unstarted, kept_by, IsRunOf}
+use Rattle.run_proof.specs.ClosedProofs.{steps_of}
+use Rattle.rule_core.specs.Runs.{Steps, steps_on, stays, stops, Reaches, after_step}
+use Rattle.rule_core.specs.RunCuts.{MayEndAt, at_configuration}
 use Rattle.rule_core.specs.Theories.{RewriteTheory}
 use Rattle.rule_core.specs.declared.rules.Program.{Program}
 use Rattle.mm_justify.specs.Justifying.{IsProofOfRun, IsFrontOfProof}
@@ -27,7 +28,8 @@ use Rattle.prove_run.specs.Proving.{FitsProof, CanStep, StepsTo}
 use Rattle.prove_run.specs.WrittenProofs.{WritesBeginning, WritesStep, WritesFrontOfProof}
 use Rattle.prove_run.specs.WrittenProofs.{WritesFrontAfter, EndsStep}
 use Rattle.prove_run.proofs.FileLaws.{none_added}
-use Rattle.run_proof.specs.ProvedSteps.{IsProvedAt, GoesOn, WritesProof, WritesFrontOfRun}
+use Rattle.run_proof.specs.ProvedSteps.{IsProvedAt, GoesOn}
+use Rattle.run_proof.specs.OpenProofs.{WritesProof, WritesFrontOfRun}
 use Rattle.run_proof.specs.ProvedSteps.{EndsNext}
 
 -- ---- a step

@@ -4,10 +4,17 @@ use Rattle.desk_io.specs.Told.{Told, file_of}
 use Rattle.desk_io.specs.Changes.{PutsFile}
 use Rattle.term_core.specs.Patterns.{Pattern}
 use Rattle.rule_core.specs.Theories.{RewriteTheory}
-use Rattle.rule_core.specs.Runs.{Run, kept_by, steps_of}
+use Rattle.rule_core.specs.Runs.{Run, stuck, limited, stopped, unstarted, kept_by}
 use Rattle.mm_justify.specs.Justifying.{IsProofOfRun, IsFrontOfRun}
 use Rattle.prove_run.specs.Summaries.{IsSummaryOf}
 use Rattle.prove_run.specs.declared.summaries.Summary.{Summary}
+
+-- how many steps a run has
+abbrev pub steps_of : Run → ℕ
+steps_of (stuck n t) = n
+steps_of (limited n t) = n
+steps_of (stopped n cause t) = n
+steps_of (unstarted cause) = 0
 
 -- the created file grew by these bytes and is no longer created, and the others are as before
 abbrev pub PutsCreated : Option Told → Option Told → List ℕ → Type 0

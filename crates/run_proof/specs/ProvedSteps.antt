@@ -1,30 +1,19 @@
 -- A run and its proof, step by step. Only clauses of private functions cite it.
-use Rattle.std.specs.Prelude.{◌≡◌, ℕ, ◌+◌, false, ◌⊎◌, List, [], ◌++◌, length, Option}
+use Rattle.std.specs.Prelude.{◌≡◌, ℕ, ◌+◌, false, ◌⊎◌, List, ◌++◌, Option}
 use Rattle.desk_io.specs.Told.{Told}
 use Rattle.desk_io.specs.Changes.{Writes}
 use Rattle.term_core.specs.Terms.{Tree}
 use Rattle.term_core.specs.Patterns.{Pattern, ground_pattern}
-use Rattle.rule_core.specs.BoundVariables.{HasBoundVariables}
 use Rattle.rule_core.specs.ProgramView.{theory_of}
 use Rattle.rule_core.specs.RunView.{cause_of}
-use Rattle.rule_core.specs.Runs.{Run, kept_by, steps_of, Steps, steps_on, stays, stops}
-use Rattle.rule_core.specs.Theories.{RewriteTheory}
-use Rattle.rule_core.specs.WellSorted.{IsStart}
+use Rattle.rule_core.specs.Runs.{Steps, steps_on, stays, stops}
 use Rattle.rule_core.specs.declared.rules.Program.{Program}
-use Rattle.mm_justify.specs.Justifying.{IsProofOfRun, IsFrontOfRun}
-use Rattle.mm_justify.specs.Counting.{HasCounts, capped}
+use Rattle.mm_justify.specs.Counting.{capped}
 use Rattle.rewriter.specs.Configurations.{RunState, IsConfiguration}
-use Rattle.proof_writer.specs.PlainNames.{HasPlainNames}
 use Rattle.prove_run.specs.RunProof.{RunProof, reached}
 use Rattle.prove_run.specs.Proving.{FitsProof}
 use Rattle.run_proof.specs.declared.steps.Progress.{Progress}
 use Rattle.run_proof.specs.declared.steps.Progress.TheVariants.{Made, Stuck, Blocked}
-
--- the run of this initial term by this program can be proved
-pub record CanProveRun (program : Program) (start : Pattern) : Type 0 where
-  pub bound : HasBoundVariables program
-  pub plain : HasPlainNames program.sig
-  pub is_start : IsStart (theory_of program) start
 
 -- the proof has not failed, and has reached the configuration of the run
 pub record IsProvedAt (program : Program) (run : RunState) (proof : RunProof) : Type 0 where
@@ -53,27 +42,6 @@ Progresses program run run' proof proof' (Blocked why last) =
     Steps (theory_of program) run.config run.calls (stops (cause_of why)) × (last ≡ run.config)
     × (run' ≡ run)
     × (proof' ≡ proof)
-
--- the text is a proof of the run, whose counts and steps the proof has; it has not failed
-pub record IsWholeProof (theory : RewriteTheory) (start : Pattern) (run : Run) (proof : RunProof)
-    (text : List ℕ) : Type 0 where
-  pub proves : IsProofOfRun text theory start (kept_by start run)
-  pub counts : HasCounts proof.facts proof.statements text
-  pub bytes_are : proof.bytes ≡ capped (length text)
-  pub steps_are : proof.steps ≡ steps_of run
-  pub sound : proof.failed ≡ false
-
--- the created file grew by such a text
-abbrev pub WritesProof : Option Told → Option Told → RewriteTheory → Pattern → Run → RunProof
-    → Type 0
-WritesProof old new theory start run proof =
-    (text : List ℕ) × Writes old new text × IsWholeProof theory start run proof text
-
--- the created file grew by the front of a proof of the run, or by nothing
-abbrev pub WritesFrontOfRun : Option Told → Option Told → RewriteTheory → ℕ → ℕ → Pattern → Type 0
-WritesFrontOfRun old new theory limit calls start =
-    (bytes : List ℕ) × Writes old new bytes
-    × ((bytes ≡ []) ⊎ IsFrontOfRun theory limit calls start bytes)
 
 -- the configuration of the run, or the one to which its next step leads
 abbrev pub EndsNext : Program → RunState → Pattern → Type 0

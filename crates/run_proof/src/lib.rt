@@ -10,4 +10,4 @@
 mod proved;
 mod steps;
 
-pub use proved::proved_run;
+pub use proved::{proved_run, run_with_proof};

@@ -13,7 +13,7 @@ ghost use Rattle.desk_io.specs.Counts.{CountRose};
 ghost use Rattle.proof_writer.specs.PlainNames.{HasPlainNames};
 ghost use Rattle.run_loop.specs.RunEnds.{plain_run, IsSortedEnd};
 ghost use Rattle.prove_run.specs.WrittenProofs.{WritesFrontOfProof};
-ghost use Rattle.run_proof.specs.ProvedSteps.{CanProveRun, WritesFrontOfRun, WritesProof};
+ghost use Rattle.run_proof.specs.OpenProofs.{CanProveRun, WritesFrontOfRun, WritesProof};
 ghost use Rattle.run_proof.specs.ClosedProofs.{KeepsOthersNow, PutsFront, PutsProof};
 
 use crate::steps::proved_steps;
@@ -79,8 +79,12 @@ pub fn proved_run<'p, D: Desk>(
     }
 }
 
-// The run, and its proof, of which all is written. The file is not closed.
-fn run_with_proof<'p, D: Desk>(
+/// The run as in `proved_run`, and its proof, of which all is written. The file is not closed, so
+/// that lemmas can be added.
+///
+/// Errors: out of memory, or a fault that the desk counted. Then nothing was appended, or the front
+/// of a proof of this run up to one of its configurations.
+pub fn run_with_proof<'p, D: Desk>(
     alloc: Global,
     desk: &mut D,
     engine: &Engine<'p>,
@@ -97,6 +101,7 @@ fn run_with_proof<'p, D: Desk>(
     ensures proved { IfOk result (λ r. WritesProof
         (D.state desk.old).told (D.state desk.new).told
         (theory_of engine.now) (plain_pattern start.now) (plain_run r.0) r.1) }
+    ensures program { IfOk result (λ r. r.1.program ≡ engine.now) }
     ensures front { OnErr result (WritesFrontOfRun (D.state desk.old).told (D.state desk.new).told
         (theory_of engine.now) limit calls (plain_pattern start.now)) }
     ensures created { IsTrue (D.created desk.new) }
@@ -137,6 +142,7 @@ fn started<'p, D: Desk>(
     ensures proved { IfOk result (λ r. WritesProof
         (D.state desk.old).told (D.state desk.new).told
         (theory_of engine.now) (plain_pattern start.now) (plain_run r.0) r.1) }
+    ensures program { IfOk result (λ r. r.1.program ≡ engine.now) }
     ensures front { OnErr result ((calls : ℕ) →
         Reaches (theory_of engine.now) (plain_pattern start.now) calls 0 run.config run.calls →
         WritesFrontOfRun (D.state desk.old).told (D.state desk.new).told
@@ -171,6 +177,7 @@ fn unstarted<'p, D: Desk>(
     ensures proved { IfOk result (λ r. WritesProof
         (D.state desk.old).told (D.state desk.new).told
         (theory_of engine.now) (plain_pattern start.now) (plain_run (RunEnd.Unstarted why)) r.1) }
+    ensures program { IfOk result (λ r. r.1.program ≡ engine.now) }
     ensures front { OnErr result (WritesFrontOfProof (D.state desk.old).told (D.state desk.new).told
         (theory_of engine.now) (plain_pattern start.now) (plain_pattern start.now)) }
     ensures created { IsTrue (D.created desk.new) }

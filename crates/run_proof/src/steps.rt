@@ -3,7 +3,9 @@ ghost use Rattle.std.specs.Prelude.{◌≡◌, ◌≤◌, ℕ, IsTrue, IsFalse, 
 ghost use Rattle.term_core.specs.Patterns.{Pattern};
 ghost use Rattle.term_core.specs.RulePatterns.{plain_pattern};
 ghost use Rattle.rule_core.specs.ProgramView.{theory_of};
-ghost use Rattle.rule_core.specs.Runs.{IsRunOf, MayEndAt, Reaches, kept_by, steps_of};
+ghost use Rattle.rule_core.specs.Runs.{IsRunOf, Reaches, kept_by};
+ghost use Rattle.rule_core.specs.RunCuts.{MayEndAt};
+ghost use Rattle.run_proof.specs.ClosedProofs.{steps_of};
 ghost use Rattle.match_tree.specs.Programs.{IsRuleTree};
 ghost use Rattle.match_tree.specs.SlotView.{HasRoom};
 ghost use Rattle.desk_io.specs.Counts.{CountRose};

@@ -3,10 +3,11 @@ ghost use Rattle.std.specs.Prelude.{◌≡◌, ◌<◌, IfOk};
 ghost use Rattle.rule_core.specs.RuleVariables.{MatchesByOwnVariables};
 
 use rule_core::{
-    Rule, Signature, SortInfo, SortKind, SortRef, Subsorts, SymInfo, SymKind, Table, VarInfo,
-    find_match_all, first_match,
+    Rule, Signature, SortInfo, SortKind, SortRef, Subsorts, SymInfo, SymKind, Table, TextHasher,
+    VarInfo, find_match_all, first_match,
 };
 use std::alloc::{AllocError, Global};
+use std::hash::Hasher;
 use std::marker::Brand;
 use std::sync::ledger::{Blank, Ledger};
 use std::test::Fail;
@@ -239,6 +240,20 @@ fn small_signature(alloc: Global) -> Result<Signature, AllocError> {
         symbols,
         subsorts: Subsorts::new(alloc),
     })
+}
+
+// A table hashes its names by the whole text that they come from.
+#[test]
+fn hashes_names_by_their_text(rt: HostRuntime) -> Result<(), Fail> {
+    let alloc = rt.alloc();
+    let hasher = TextHasher::of_text(b"sort S{} []");
+    let of_text: Table<u32> = Table::hashed_by(alloc, hasher);
+    assert_eq!(rt; of_text.hasher().start.finish(), hasher.start.finish());
+    let of_none: Table<u32> = Table::new(alloc);
+    let without = TextHasher::without_text();
+    assert_eq!(rt; of_none.hasher().start.finish(), without.start.finish());
+    assert!(rt; hasher.start.finish() != without.start.finish());
+    Ok(())
 }
 
 // Sorts and symbols are numbered separately, and the sorts of a symbol are given by their numbers.

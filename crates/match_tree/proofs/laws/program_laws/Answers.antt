@@ -1,7 +1,10 @@
-use Rattle.match_tree.proofs.ProgramLaws.{rule_tree_is_wide, rule_walk_tells}
+use Rattle.match_tree.proofs.ProgramLaws.{walk_goes_on, rule_tree_is_wide, rule_walk_tells}
 use Rattle.match_tree.proofs.ProgramLaws.{equation_tree_is_wide, equation_walk_tells}
 use Rattle.match_tree.proofs.ProgramLaws.{unmatched_equations_are_skipped}
 use Rattle.match_tree.proofs.laws.program_laws.Goals as goal
+
+pub returns-clause-goes_on : goal.returns-clause-goes_on
+returns-clause-goes_on c = walk_goes_on
 
 pub returns-clause-rule_width : goal.returns-clause-rule_width
 returns-clause-rule_width c = rule_tree_is_wide

@@ -1,6 +1,6 @@
 use Rattle.std.proofs.Common.{◌≡◌, ℕ, List, [], ◌∷◌, map, ap, ◌∙◌, subst}
 use Rattle.mm_text.specs.Bytes.{Token}
-use Rattle.mm_database.specs.Compressing.{Compresses}
+use Rattle.mm_database.specs.ProofTexts.{Compresses}
 use Rattle.mm_database.specs.ProofText.{mandatory_labels}
 use Rattle.mm_database.specs.Proofs.{ProofTree}
 use Rattle.mm_claims.specs.Blocks.{open_frame}

@@ -12,7 +12,7 @@ use Rattle.prove_term.proofs.ContextLaws.{grown_twice}
 use Rattle.prove_term.proofs.ResultLaws.{if_ok}
 use Rattle.prove_run.specs.RunProof.{configuration}
 use Rattle.prove_run.specs.Proving.{value_told}
-use Rattle.prove_run.specs.Reaching.{IsStarting, SaysReached}
+use Rattle.prove_run.specs.Starting.{IsStarting, SaysReached}
 use Rattle.prove_run.proofs.StartingLaws.{start_has_image, itself_reached, itself_stays}
 use Rattle.prove_run.proofs.starting.start_reaches.Goals as goal
 

@@ -2,11 +2,12 @@ use Rattle.std.proofs.Common.{ℕ, Result, Ok, Err, IfOk, rules}
 use Rattle.term_core.specs.RulePatterns.{plain_pattern}
 use Rattle.rule_core.specs.ProgramView.{theory_of}
 use Rattle.rule_core.specs.RunView.{cause_of}
-use Rattle.rule_core.specs.Runs.{IsRunOf, Reaches, at_blocked_start}
+use Rattle.rule_core.specs.Runs.{IsRunOf, Reaches}
+use Rattle.rule_core.specs.RunCuts.{at_blocked_start}
 use Rattle.fun_eval.specs.EvalEnds.{EndsBy}
 use Rattle.prove_run.specs.WrittenProofs.{WritesFrontOfProof}
 use Rattle.run_loop.specs.RunEnds.{plain_run}
-use Rattle.run_proof.specs.ProvedSteps.{WritesFrontOfRun}
+use Rattle.run_proof.specs.OpenProofs.{WritesFrontOfRun}
 use Rattle.run_proof.proofs.StepLaws.{front_of_run, none_of_run, on_err_more}
 use Rattle.run_proof.proofs.proved.run_with_proof.Goals as goal
 

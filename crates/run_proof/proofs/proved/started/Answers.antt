@@ -1,4 +1,4 @@
-use Rattle.std.proofs.Common.{ℕ, arith, rules, Some, sym, subst}
+use Rattle.std.proofs.Common.{ℕ, ◌∙◌, arith, rules, Some, sym, subst}
 use Rattle.desk_io.proofs.Counts.{CountRose-later}
 use Rattle.std.specs.Prelude.{option_copied}
 use Rattle.term_core.specs.Terms.{Tree}
@@ -7,13 +7,15 @@ use Rattle.term_core.specs.RulePatterns.{plain_pattern}
 use Rattle.rule_core.specs.ProgramView.{theory_of}
 use Rattle.rule_core.specs.Records.{result_of}
 use Rattle.rule_core.specs.RecordView.{plain_record}
-use Rattle.rule_core.specs.Runs.{MayEndAt, Reaches, at_configuration}
+use Rattle.rule_core.specs.Runs.{Reaches}
+use Rattle.rule_core.specs.RunCuts.{MayEndAt, at_configuration}
 use Rattle.rule_core.specs.declared.rules.Program.{Program}
 use Rattle.rewriter.specs.Configurations.{IsConfiguration}
 use Rattle.run_loop.specs.RunEnds.{plain_run}
 use Rattle.prove_run.proofs.FileLaws.{on_err}
 use Rattle.prove_run.specs.WrittenProofs.{WritesFrontAfter, WritesFrontOfProof}
-use Rattle.run_proof.specs.ProvedSteps.{IsProvedAt, WritesFrontOfRun, WritesProof}
+use Rattle.run_proof.specs.ProvedSteps.{IsProvedAt}
+use Rattle.run_proof.specs.OpenProofs.{WritesFrontOfRun, WritesProof}
 use Rattle.run_proof.proofs.StepLaws.{front_of_run, front_started, started_at, whole_proof}
 use Rattle.run_proof.proofs.proved.started.Goals as goal
 
@@ -79,3 +81,8 @@ returns-clause-failed g c = λ h.
     (g.D.Desk.state c.begin.new.desk).write_faults
     (g.D.Desk.state c.proved_steps.new.desk).write_faults c.begin.ensures.counts
     (c.in-Err.ensures.failed (search rules))
+
+pub returns-in-Ok-clause-program : goal.returns-in-Ok-clause-program
+returns-in-Ok-clause-program g c =
+    c.in-Ok.ensures.goes.same_program ∙ (c.in_ok-proof.ensures.begins.2.same_program
+    ∙ c.program.ensures.program)

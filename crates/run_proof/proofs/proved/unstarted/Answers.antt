@@ -1,11 +1,11 @@
-use Rattle.std.proofs.Common.{subst}
+use Rattle.std.proofs.Common.{◌∙◌, subst}
 use Rattle.term_core.specs.RulePatterns.{plain_pattern}
 use Rattle.rule_core.specs.ProgramView.{theory_of}
 use Rattle.rule_core.specs.RunView.{cause_of}
 use Rattle.rule_core.specs.Runs.{unstarted}
 use Rattle.rule_core.specs.declared.rules.Program.{Program}
 use Rattle.prove_run.specs.WrittenProofs.{WritesFrontOfProof}
-use Rattle.run_proof.specs.ProvedSteps.{WritesProof}
+use Rattle.run_proof.specs.OpenProofs.{WritesProof}
 use Rattle.run_proof.proofs.StepLaws.{unstarted_proof}
 use Rattle.run_proof.proofs.proved.unstarted.Goals as goal
 
@@ -24,3 +24,7 @@ returns-in-Err-clause-front g c =
     subst (λ (p : Program). WritesFrontOfProof (g.D.Desk.state c.args.desk.now).told
     (g.D.Desk.state c.begin.new.desk).told (theory_of p) (plain_pattern c.args.start.now)
     (plain_pattern c.args.start.now)) c.program.ensures.program c.in-Err.ensures.front
+
+pub returns-in-Ok-clause-program : goal.returns-in-Ok-clause-program
+returns-in-Ok-clause-program g c =
+    c.in-Ok.ensures.begins.2.same_program ∙ c.program.ensures.program

@@ -2,7 +2,8 @@ use Rattle.std.proofs.Common.{ℕ, refl, sym, ◌∙◌, ap, arith}
 use Rattle.term_core.specs.Patterns.{Pattern}
 use Rattle.rule_core.specs.ProgramView.{theory_of}
 use Rattle.rule_core.specs.RunView.{cause_of}
-use Rattle.rule_core.specs.Runs.{MayEndAt, Reaches}
+use Rattle.rule_core.specs.Runs.{Reaches}
+use Rattle.rule_core.specs.RunCuts.{MayEndAt}
 use Rattle.prove_run.specs.RunProof.{RunProof}
 use Rattle.prove_run.proofs.FileLaws.{on_err}
 use Rattle.prove_run.specs.WrittenProofs.{WritesFrontAfter}

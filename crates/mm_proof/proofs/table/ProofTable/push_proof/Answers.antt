@@ -2,7 +2,7 @@ use Rattle.std.proofs.Common.{ℕ, List, ◌++◌, length, map, ap, ◌∙◌, s
 use Rattle.std.specs.Global.{Vec}
 use Rattle.mm_text.specs.Bytes.{Token}
 use Rattle.mm_text.specs.Written.{written}
-use Rattle.mm_database.specs.Compressing.{Compresses}
+use Rattle.mm_database.specs.ProofTexts.{Compresses}
 use Rattle.proof_nodes.specs.Compression.{proof_text}
 use Rattle.mm_proof.specs.Listings.{Listing, token_at, trees_of}
 use Rattle.mm_proof.specs.TableView.{AreNumbersOf, tokens_of}

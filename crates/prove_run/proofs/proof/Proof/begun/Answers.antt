@@ -8,7 +8,7 @@ use Rattle.rule_core.specs.declared.rules.Program.{Program}
 use Rattle.prove_term.specs.Contexts.{Context, new_context, HasGrown}
 use Rattle.proof_writer.specs.PlainNames.{HasPlainNames}
 use Rattle.prove_run.specs.Proving.{value_told}
-use Rattle.prove_run.specs.Reaching.{IsStarting}
+use Rattle.prove_run.specs.Starting.{IsStarting}
 use Rattle.prove_run.proofs.ContextLaws.{sorted_has_none, lemma_grown}
 use Rattle.prove_run.proofs.ProofLaws.{is_proof, begun_grown, begun_written, begins}
 use Rattle.prove_run.specs.declared.proof.Proof.TheInside.{Inside}
