@@ -137,7 +137,7 @@ none_tried theory tree t slots from c is =
     })
 
 -- up to the rule that a walk found, none is used
-tried_before : (theory : RewriteTheory) (tree : code.Tree) (t : Tree) (slots : Slots)
+pub tried_before : (theory : RewriteTheory) (tree : code.Tree) (t : Tree) (slots : Slots)
     (from : NodeNo) (c left row : ℕ) → HasTried theory tree t slots from c left
     → IsFirstRule theory tree t (first_row slots from) row
     → TriedUpTo theory t c row left × UnusedUpTo theory t row
