@@ -10,3 +10,5 @@ pub mod RowReadings
 pub mod Objects
 pub mod Applied
 pub mod ProofTrees
+pub mod Dummies
+pub mod TheoremFrames

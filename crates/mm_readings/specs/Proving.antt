@@ -1,12 +1,13 @@
 -- Readings of what stands in a proof: of all that is active where the proof stands, and of what an
 -- assertion says after a substitution.
 use Rattle.std.specs.Prelude.{◌≡◌, ℕ, Bool, false, true, ◌||◌, if◌then◌else◌, List, [], ◌∷◌, Some}
-use Rattle.std.specs.Prelude.{bytes_eq}
+use Rattle.std.specs.Prelude.{bytes_eq, codes}
 use Rattle.std.specs.List.{list_any}
 use Rattle.mm_text.specs.Bytes.{Token, has_token}
 use Rattle.mm_database.specs.Frames.{Hypothesis, floating, essential, statement_of, types, Frame}
 use Rattle.mm_database.specs.Database.{Context}
 use Rattle.mm_database.specs.Proofs.{Expression}
+use Rattle.mm_database.specs.Orderly.{TypeOnce}
 use Rattle.ml_pat.specs.Patterns.{Pattern}
 use Rattle.mm_readings.specs.Letters.{letter_of}
 use Rattle.mm_readings.specs.Holding.{Holds}
@@ -54,3 +55,21 @@ pub record HasSoundFrames (IsAxiom : Pattern → Type 0) (number : Token → ℕ
     Type 0 where
   pub sound : (label : Token) (f : Frame) → c.frames label ≡ Some f → IsSound IsAxiom number f
   pub typed : (label : Token) (f : Frame) → c.frames label ≡ Some f → TypesItsVariables c f
+
+-- the words of the three types
+abbrev pub typecodes : List Token
+typecodes = codes "#Pattern" ∷ (codes "#Sort" ∷ (codes "#Var" ∷ []))
+
+abbrev pub HaveKnownTypes : List Hypothesis → Type 0
+HaveKnownTypes [] = Unit {0}
+HaveKnownTypes (floating label typecode variable ∷ hypotheses) =
+    (has_token typecodes typecode ≡ true) × HaveKnownTypes hypotheses
+HaveKnownTypes (essential label statement ∷ hypotheses) = HaveKnownTypes hypotheses
+
+-- each active `$f` gives one of the three types to a variable that no other one types
+pub record TypesWell (c : Context) : Type 0 where
+  pub once : TypeOnce c.scope.hypotheses
+  pub variables : (t : Token) → list_any (types t) c.scope.hypotheses ≡ true
+      → c.variables t ≡ true
+  pub typecodes : HaveTypecodes c c.scope.hypotheses
+  pub known : HaveKnownTypes c.scope.hypotheses

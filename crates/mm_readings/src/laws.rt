@@ -1,5 +1,6 @@
 // Laws on readings.
 ghost use Rattle.mm_readings.specs.ProvingLaws.{FitAfterSubstitution, ProvedHolds};
+ghost use Rattle.mm_readings.specs.ProvingLaws.{TheoremIsSound};
 ghost use Rattle.mm_readings.specs.ReadingLaws.{RowsAreSound, SpelledIsRead};
 
 /// A text of letters is that of one list of pieces at most: what is spelled is read back.
@@ -17,8 +18,10 @@ pub fn row_laws()
 
 /// What a proof tree proves holds under each reading that is fit where the proof stands, if the
 /// assertions that are declared there are sound. If an assertion is cited under a substitution, the
-/// reading after the substitution is fit for its frame.
+/// reading after the substitution is fit for its frame. So the frame of a proved theorem is sound,
+/// also if its proof uses variables that the frame does not have.
 pub fn proof_laws()
     ensures substitution { FitAfterSubstitution }
     ensures proved { ProvedHolds }
+    ensures theorem { TheoremIsSound }
 {}

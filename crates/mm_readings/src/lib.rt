@@ -1,6 +1,6 @@
 //! How the statements of a proof file are read as statements on patterns of matching logic, and why
-//! each row of the header is sound under such readings. What a proof tree proves then holds, if the
-//! assertions that it may cite are sound.
+//! each row of the header is sound under such readings. A theorem is sound too, if the assertions
+//! that its proof may cite are.
 //!
 //! The definitions are in `specs/`. `Letters` and `Pieces` define how a statement is spelled and
 //! read back. `Holding` defines when a text of letters holds, `Readings` what a reading of a frame
