@@ -69,9 +69,10 @@ well_sorted p symbols subsorts rules equations = record {
       (slice_index_or (function_equations es) f []))) (sym equations) (none_listed f);
 }
 
-pub has_numbers : (p : Program) → p.sig.symbols ≡ [] → p.rules.items ≡ [] → p.equations.items ≡ []
-    → HasNumbers (theory_of p)
-has_numbers p symbols rules equations = record {
+pub has_numbers : (p : Program) → length p.sig.sorts < 2 ^ 32 → p.sig.symbols ≡ []
+    → p.rules.items ≡ [] → p.equations.items ≡ [] → HasNumbers (theory_of p)
+has_numbers p sorts symbols rules equations = record {
+  sorts = sorts;
   symbols =
       subst (λ (xs : List (List ℕ × SymInfo)). length xs ≤ 2 ^ 32) (sym symbols) (omega arith);
   rules = subst (λ (rs : List Rule). length (rewrite_rules rs) ≤ 2 ^ 32) (sym rules) (omega arith);
