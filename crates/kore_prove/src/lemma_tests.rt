@@ -48,11 +48,11 @@ fn a_fault_of_a_lemma_is_reported(rt: HostRuntime) -> Result<(), Fail> {
         ..UNDISTURBED
     };
     let mut other = two_files(alloc, &PROVES, faults)?;
-    if other.create_file("q.mm").is_ok() {
-        let end = added(alloc, &mut desk, Some(&mut other));
-        assert_eq!(rt; end, Some(Err(ProveEnd::Failed)));
-    }
-    assert!(rt; other.created());
+    let Ok(()) = other.create_file("q.mm") else {
+        return Err(Fail::from("no file was created"));
+    };
+    let end = added(alloc, &mut desk, Some(&mut other));
+    assert_eq!(rt; end, Some(Err(ProveEnd::Failed)));
     Ok(())
 }
 
