@@ -55,7 +55,12 @@ fn is_stuck_without_a_rule(rt: HostRuntime) -> Result<(), Fail> {
     let mut slots = Slots::for_tree(alloc, &tree)?;
     let slots = &mut slots;
     assert!(rt; matches!(run.step(alloc, &engine, &tree, slots)?, Next::Stuck));
-    assert!(rt; matches!(run.step_as::<Unrecorded>(alloc, &engine, &tree, slots)?, Next::Stuck));
+    assert!(rt;
+        matches!(
+            run.step_as::<Unrecorded>(alloc, &engine, &tree, slots)?,
+            Next::Stuck
+        )
+    );
     assert!(rt; run.config().same(record.result()));
     assert_eq!(rt; run.calls_left(), 3);
     Ok(())
