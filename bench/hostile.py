@@ -152,6 +152,30 @@ def many_pairs(n):
     return HEAD + declared + pairs + rules + "th $p u x y $= " + "fx fy " * n + "fx fy ax " + "go " * n + "$.\n"
 
 
+def pair_in_large_groups(n):
+    """Two variables in n / 32 groups of 18 each, the pair of both in the last, and n / 32 citations that require it."""
+    many = max(n // 32, 2)
+    (xs, declared), (ys, others) = variables(18, "a"), variables(18, "b")
+    without = lambda names, i: " ".join(names[: i % 18] + names[i % 18 + 1 :])
+    groups = "".join(f"$d x {without(xs, i)} $. $d y {without(ys, i)} $.\n" for i in range(many)) + f"$d x y {' '.join(xs)} $.\n"
+    rules = "${ $d x y $. ax $a u x y $. $}\n${ $d x y $. e $e u x y $. go $a u x y $. $}\n"
+    return HEAD + declared + others + rules + groups + "th $p u x y $= " + "fx fy " * many + "fx fy ax " + "go " * many + "$.\n"
+
+
+def premises_in_one_group(n):
+    """n variables that one `$d` keeps apart, and n active `$e`, each of one of them, with an axiom after each."""
+    names, declared = variables(n)
+    premises = "".join(f"e{i} $e t {v} $. a{i} $a t u $.\n" for i, v in enumerate(names))
+    return HEAD + declared + "${\n" + f"$d {' '.join(names)} $.\n" + premises + "$}\n"
+
+
+def large_group_under_premise(n):
+    """n variables that one `$d` keeps apart, and n axioms under a long `$e`, each with one of them."""
+    names, declared = variables(n)
+    axioms = "".join(f"a{i} $a t {v} $.\n" for i, v in enumerate(names))
+    return HEAD + declared + f"$d {' '.join(names)} $.\n${{ e $e t {' '.join(['u'] * 300)} $.\n" + axioms + "$}\n"
+
+
 def one_group(n):
     """A group of many variables, and citations that require all its pairs."""
     many = max(int(n**0.5), 2)
@@ -168,6 +192,19 @@ def wide_group(n):
     text = " ".join(names)
     given = " ".join("f" + v for v in names)
     return HEAD + declared + f"$d {text} $.\nax $a u {text} $.\nth $p u {text} $= {given} ax $.\n"
+
+
+def wide_texts_again(n):
+    """Two texts of √n variables each, whose pairs two `$d` keep apart, and √n citations that require it."""
+    many = max(int(n**0.5), 2)
+    (xs, declared), (ys, others) = variables(many, "a"), variables(many, "b")
+    groups = "".join(f"$d {' '.join(xs + half)} $.\n" for half in (ys[: many // 2], ys[many // 2 :]))
+    rules = "jo $a t x y $. ${ $d x y $. e $e t x y $. no $a t $. $}\n"
+    labels = " ".join(f"f{name}" for name in xs + ys)
+    join, apart, one, two, both = (number(2 * many + i) for i in range(1, 6))
+    texts = [number(k + 1) + "".join(number(k + i + 1) + join for i in range(1, many)) + "Z" for k in (0, many)]
+    steps = "".join(texts) + one + two + join + "Z" + apart + (one + two + both + apart + join) * (many - 1)
+    return HEAD + declared + others + rules + groups + f"th $p t $= ( {labels} jo no ) {steps} $.\n"
 
 
 def groups_at_long_text(n):
@@ -224,6 +261,10 @@ CASES = {
     "many_pairs": (many_pairs, 12500),
     "one_group": (one_group, 20000),
     "wide_group": (wide_group, 10000),
+    "wide_texts_again": (wide_texts_again, 60000),
+    "pair_in_large_groups": (pair_in_large_groups, 50000),
+    "premises_in_one_group": (premises_in_one_group, 3000),
+    "large_group_under_premise": (large_group_under_premise, 3000),
     "groups_at_long_text": (groups_at_long_text, 2**15),
     "letters_alone": (letters_alone, 25000),
     "one_long_proof": (one_long_proof, 200000),
