@@ -10,6 +10,9 @@ use Rattle.std.specs.List.Sorted.{IsPermutation}
 use Rattle.std.proofs.lemmas.Bool.{or_left, or_right}
 use Rattle.std.proofs.lemmas.List.{length-append, length-set, length-replicate, get_or_append_left}
 use Rattle.std.proofs.lemmas.List.{get_or_push}
+use Rattle.std.proofs.lemmas.List.Folds.{list_all-append}
+use Rattle.std.proofs.Math.Seq.{take-append_seam, drop-append_seam}
+use Rattle.std.specs.Global.{Vec}
 use Rattle.mm_frame.proofs.FramePlaces.{sorted-has}
 use Rattle.mm_frame.proofs.Groups.{has_number-filter}
 use Rattle.mm_frame.specs.PlainFrames.{has_number}
@@ -21,7 +24,7 @@ use Rattle.mm_verify.specs.Places.{symbol_of, place_in}
 use Rattle.mm_verify.specs.Filling.{text_at, text_for, places_apart, are_parts_apart}
 use Rattle.mm_verify.specs.Filling.{is_group_apart}
 use Rattle.mm_verify.specs.Pairs.{each_pair, HasVariables, AreKnown, Keeps, is_variable_apart}
-use Rattle.mm_verify.specs.Pairs.{are_variables_apart}
+use Rattle.mm_verify.specs.Pairs.{are_variables_apart, AreNoted, written_pair, is_pair_apart}
 use Rattle.mm_verify.specs.Turned.{and-turned, same-turned}
 use Rattle.mm_verify.proofs.Resolving.{same-test, both-true, and-true}
 
@@ -244,7 +247,7 @@ module _ (p : NumberedPlace) (entries : List (List ℕ)) (s t : Spreads) (i k : 
     (none : slice_get s.numbers.items i ≡ Some 0) (has : HasVariables p (text_at entries i) vs)
     (numbers : t.numbers.items ≡ slice_set s.numbers.items i (suc k))
     (lists : t.lists ≡ s.lists ++ vs ∷ []) (last : k ≡ length s.lists)
-    (tested : t.tested ≡ s.tested) where
+    (tested : t.tested ≡ s.tested) (notes : t.notes ≡ s.notes) where
   pub keeps-more : Keeps s t
   keeps-more j m at =
       ap (λ (ns : List ℕ). slice_get ns j) numbers ∙ get-kept s.numbers.items i j (suc k) m none at
@@ -279,7 +282,50 @@ module _ (p : NumberedPlace) (entries : List (List ℕ)) (s t : Spreads) (i k : 
         []) lists ∙ get_or_push s.lists vs [] m (omega (arith, is, last))))
         (subst (λ (n : ℕ). HasVariables p (text_at entries n) vs) same has));
     tested = λ m pair at. known.tested m pair (ap (λ ts. get nat_cmp ts m) (sym tested) ∙ at);
+    noted = subst (AreNoted p) (sym notes) known.noted;
   }
+
+-- more is noted of lists
+pub known-noted : (p : NumberedPlace) (entries : List (List ℕ)) (s t : Spreads)
+    → AreKnown p entries s → t.lists ≡ s.lists → t.numbers ≡ s.numbers → t.tested ≡ s.tested
+    → AreNoted p t.notes → AreKnown p entries t
+known-noted p entries s t known lists numbers tested noted = record {
+  room = ap (λ (ns : Vec ℕ). length ns.items) numbers ∙ known.room;
+  lists =
+      λ i k at. subst (λ (ls : List (List ℕ)). k < length ls) (sym lists)
+      (known.lists i k (ap (λ (ns : Vec ℕ). slice_get ns.items i) (sym numbers) ∙ at));
+  variables =
+      λ i k at. subst (λ (ls : List (List ℕ)).
+      HasVariables p (text_at entries i) (slice_index_or ls k [])) (sym lists)
+      (known.variables i k (ap (λ (ns : Vec ℕ). slice_get ns.items i) (sym numbers) ∙ at));
+  tested = λ m pair at. known.tested m pair (ap (λ ts. get nat_cmp ts m) (sym tested) ∙ at);
+  noted = noted;
+}
+
+-- pairs of lists that are noted
+
+pub pair-read : (p : NumberedPlace) (xs ys : List ℕ)
+    → is_pair_apart p (written_pair xs ys) ≡ are_variables_apart p xs ys
+pair-read p xs ys =
+    ap (λ (vs : List ℕ). are_variables_apart p vs (drop (length xs) (xs ++ ys)))
+    (take-append_seam xs ys)
+    ∙ ap (λ (ws : List ℕ). are_variables_apart p xs ws) (drop-append_seam xs ys)
+
+pub all-get : (f : List ℕ → Bool) (xs : List (List ℕ)) (i : ℕ) (d : List ℕ)
+    → list_all f xs ≡ true → i < length xs → f (slice_index_or xs i d) ≡ true
+all-get f [] i d all lt = absurd (nowhere i lt)
+  where
+    nowhere : (i : ℕ) → i < 0 → ⊥
+    nowhere i lt = omega (arith, lt)
+all-get f (x ∷ xs) zero d all lt = (both-true (f x) (list_all f xs) all).0
+all-get f (x ∷ xs) (suc i) d all lt =
+    all-get f xs i d (both-true (f x) (list_all f xs) all).1 (omega (arith, lt))
+
+pub all-more : (f : List ℕ → Bool) (xs : List (List ℕ)) (x : List ℕ) → list_all f xs ≡ true
+    → f x ≡ true → list_all f (xs ++ x ∷ []) ≡ true
+all-more f xs x all one =
+    list_all-append f xs (x ∷ []) ∙ and-true (list_all f xs) (f x && true) all
+    (and-true (f x) true one refl)
 
 -- the texts of two entries, by their lists
 pub lists-apart : (p : NumberedPlace) (entries : List (List ℕ)) (s : Spreads) (i j x y : ℕ)
@@ -295,12 +341,13 @@ lists-apart p entries s i j x y known at there =
 -- nothing is known
 pub nothing-known : (p : NumberedPlace) (entries : List (List ℕ)) (s : Spreads) (n : ℕ)
     → s.numbers.items ≡ replicate n 0 → length entries ≡ n
-    → ((k : ℕ) → get nat_cmp s.tested k ≡ None) → AreKnown p entries s
-nothing-known p entries s n zeros size untested = record {
+    → ((k : ℕ) → get nat_cmp s.tested k ≡ None) → AreNoted p s.notes → AreKnown p entries s
+nothing-known p entries s n zeros size untested noted = record {
   room = ap length zeros ∙ length-replicate n 0 ∙ sym size;
   lists = λ i k at. absurd (none n i k (ap (λ (ns : List ℕ). slice_get ns i) (sym zeros) ∙ at));
   variables = λ i k at. absurd (none n i k (ap (λ (ns : List ℕ). slice_get ns i) (sym zeros) ∙ at));
   tested = λ k pair at. absurd (let wrong = sym (untested k) ∙ at in cc);
+  noted = noted;
 }
   where
     none : (n i k : ℕ) → slice_get (replicate n 0) i ≡ Some (suc k) → ⊥

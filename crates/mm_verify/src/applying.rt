@@ -4,6 +4,7 @@ ghost use Rattle.mm_database.specs.Stack.{stack_with};
 ghost use Rattle.mm_frame.specs.NumberedSteps.{numbered_applied};
 ghost use Rattle.mm_verify.specs.AssertionView.{assertion_frame};
 ghost use Rattle.mm_verify.specs.Applied.{bindings_in, AgreesWithStep};
+ghost use Rattle.mm_verify.specs.Pairs.{AreNoted};
 
 use crate::assertion::Assertion;
 use crate::place::Place;
@@ -25,6 +26,8 @@ pub(crate) fn apply<P: Place>(
     buffer: &mut Vec<u32>,
     spreads: &mut Spreads,
 ) -> Result<bool, AllocError>
+    requires noted { AreNoted (P.place place.now) spreads.old.notes }
+    ensures noted { IfOk result (λ _. AreNoted (P.place place.now) spreads.new.notes) }
     ensures step { IfOk result (AgreesWithStep
         (stack_with (numbered_applied (P.place place.now) (assertion_frame assertion.now))
         (length (assertion_frame assertion.now).hypotheses) stack.old) stack.old stack.new) }

@@ -34,6 +34,7 @@ pub(crate) struct Assertion<'a> {
 impl<'a> Assertion<'a> {
     ghost use Rattle.std.specs.Prelude.{◌≡◌, ◌++◌, ◌≤◌, length, drop, IfOk, OnOk};
     ghost use Rattle.mm_verify.specs.Applied.{bindings_in, is_met as met};
+    ghost use Rattle.mm_verify.specs.Pairs.{AreNoted};
     ghost use Rattle.mm_frame.specs.PlainFrames.{plain_frame, plain_hypotheses, in_groups};
     ghost use Rattle.mm_frame.specs.PlainFrames.{groups_of};
     ghost use Rattle.mm_frame.specs.ExpressionView.{expression_symbols};
@@ -101,8 +102,11 @@ impl<'a> Assertion<'a> {
         base: usize,
         spreads: &mut Spreads,
     ) -> Result<bool, AllocError>
-        requires { length (assertion_frame self.now).hypotheses ≡ length (drop base stack.now) }
-        ensures { IfOk result
+        requires count { length (assertion_frame self.now).hypotheses
+            ≡ length (drop base stack.now) }
+        requires noted { AreNoted (P.place place.now) spreads.old.notes }
+        ensures noted { IfOk result (λ _. AreNoted (P.place place.now) spreads.new.notes) }
+        ensures met { IfOk result
             (λ r. r ≡ met (P.place place.now) (assertion_frame self.now) (drop base stack.now)) }
     {
         if self.agrees(stack, base, &mut spreads.present)? {
@@ -131,8 +135,11 @@ impl<'a> Assertion<'a> {
         base: usize,
         spreads: &mut Spreads,
     ) -> Result<bool, AllocError>
-        requires { length (assertion_frame self.now).hypotheses ≡ length (drop base stack.now) }
-        ensures { IfOk result (λ r. r
+        requires count { length (assertion_frame self.now).hypotheses
+            ≡ length (drop base stack.now) }
+        requires noted { AreNoted (P.place place.now) spreads.old.notes }
+        ensures noted { IfOk result (λ _. AreNoted (P.place place.now) spreads.new.notes) }
+        ensures apart { IfOk result (λ r. r
             ≡ keeps_apart (numbers_apart (P.place place.now)) (assertion_frame self.now)
             (bindings_in (assertion_frame self.now) (drop base stack.now))) }
     {

@@ -25,6 +25,7 @@ mod label_marks;
 mod letters;
 mod long_statement;
 mod machine;
+mod notes;
 mod parts;
 mod place;
 mod present;

@@ -5,7 +5,9 @@ ghost use Rattle.mm_database.specs.Steps.{cites, saves, repeats};
 ghost use Rattle.mm_database.specs.Stack.{saving};
 ghost use Rattle.mm_frame.specs.NumberedSteps.{gives};
 ghost use Rattle.mm_frame.specs.PlainFrames.{plain_hypothesis};
+ghost use Rattle.mm_frame.specs.NumberedSteps.{NumberedPlace};
 ghost use Rattle.mm_verify.specs.Applied.{AgreesWithStep};
+ghost use Rattle.mm_verify.specs.Pairs.{AreNoted};
 ghost use Rattle.mm_verify.specs.Running.{step_of, saving_of, numbered_step};
 ghost use Rattle.mm_verify.specs.Running.{left_fault as left_fault_of, steps_fault};
 
@@ -69,10 +71,12 @@ impl Machine {
 
     /// Leaves nothing on the stack, and nothing saved.
     fn clear(&mut self)
-        ensures { saving_of self.new ≡ saving [] [] }
+        ensures saving { saving_of self.new ≡ saving [] [] }
+        ensures noted { (p : NumberedPlace) → AreNoted p self.new.spreads.notes }
     {
         self.stack.truncate(0);
         self.saved.truncate(0);
+        self.spreads.begin_proof();
     }
 
     /// Does a step. Returns whether the step fits. If it does not, nothing changes.
@@ -82,7 +86,9 @@ impl Machine {
         place: &P,
         step: Step<'_, '_>,
     ) -> Result<bool, AllocError>
-        ensures { IfOk result (AgreesWithStep
+        requires noted { AreNoted (P.place place.now) self.old.spreads.notes }
+        ensures noted { IfOk result (λ _. AreNoted (P.place place.now) self.new.spreads.notes) }
+        ensures step { IfOk result (AgreesWithStep
             (numbered_step (P.place place.now) (step_of step.entry) (saving_of self.old))
             (saving_of self.old) (saving_of self.new)) }
     {
@@ -104,7 +110,8 @@ impl Machine {
 
     /// Puts the statement of a hypothesis on top.
     fn give<P: Place>(&mut self, place: &P, hyp: &Hyp<'_>) -> Result<bool, AllocError>
-        ensures { IfOk result (AgreesWithStep
+        ensures spreads { self.new.spreads ≡ self.old.spreads }
+        ensures step { IfOk result (AgreesWithStep
             (numbered_step (P.place place.now)
             (cites (gives (statement_of (plain_hypothesis hyp.now))))
             (saving_of self.old)) (saving_of self.old) (saving_of self.new)) }
@@ -118,7 +125,8 @@ impl Machine {
 
     /// Saves the last entry. Returns false if there is none.
     fn save<P: Place>(&mut self, place: &P) -> Result<bool, AllocError>
-        ensures { IfOk result (AgreesWithStep
+        ensures spreads { self.new.spreads ≡ self.old.spreads }
+        ensures step { IfOk result (AgreesWithStep
             (numbered_step (P.place place.now) saves (saving_of self.old))
             (saving_of self.old) (saving_of self.new)) }
     {
@@ -132,7 +140,8 @@ impl Machine {
 
     /// Puts the saved entry with this number on top. Returns false if there is none.
     fn repeat<P: Place>(&mut self, place: &P, number: usize) -> Result<bool, AllocError>
-        ensures { IfOk result (AgreesWithStep
+        ensures spreads { self.new.spreads ≡ self.old.spreads }
+        ensures step { IfOk result (AgreesWithStep
             (numbered_step (P.place place.now) (repeats number) (saving_of self.old))
             (saving_of self.old) (saving_of self.new)) }
     {

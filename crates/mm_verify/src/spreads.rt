@@ -9,11 +9,12 @@ ghost use Rattle.mm_verify.specs.Filling.{GroupWithin, AreWithin, IsWithin, text
 ghost use Rattle.mm_verify.specs.Filling.{are_groups_apart as groups_apart};
 ghost use Rattle.mm_verify.specs.Filling.{is_group_apart as group_apart};
 ghost use Rattle.mm_verify.specs.Filling.{are_parts_apart as parts_apart};
-ghost use Rattle.mm_verify.specs.Pairs.{HasVariables, AreKnown, Keeps, IsTested};
+ghost use Rattle.mm_verify.specs.Pairs.{HasVariables, AreKnown, AreNoted, Keeps, IsTested};
 ghost use Rattle.mm_verify.specs.Pairs.{are_variables_apart as variables_apart};
 ghost use Rattle.mm_verify.specs.Pairs.{is_variable_apart as variable_apart};
 
 use crate::filling::text_at;
+use crate::notes::{LONGEST, Notes};
 use crate::parts::Part;
 use crate::place::Place;
 use crate::present::Present;
@@ -27,14 +28,16 @@ const MANY: usize = 64;
 
 /// The variables in the texts of entries. Each text is looked at once. The number at the place of
 /// an entry is 0 if its text was not looked at yet, and else one more than the number of its list.
-/// If two texts with many variables were found to be kept apart, the pair of their places is noted.
-/// The parts of a long statement whose texts are not empty are kept next to these.
+/// If two texts with many variables were found to be kept apart, the pair of their places is noted,
+/// and the pair of the lists of their variables, which holds for the whole proof. The parts of a
+/// long statement whose texts are not empty are kept next to these.
 #[derive(Drop)]
 pub(crate) struct Spreads {
     numbers: Vec<usize>,
     lists: Stack,
     gathered: Vec<u32>,
     tested: BTreeMap<usize, (usize, usize)>,
+    notes: Notes,
     pub(crate) present: Present,
 }
 
@@ -46,15 +49,23 @@ impl Spreads {
             lists: Stack::new(alloc)?,
             gathered: Vec::with_capacity(alloc, 64)?,
             tested: BTreeMap::new(alloc),
+            notes: Notes::new(alloc)?,
             present: Present::new(alloc),
         })
     }
 
-    /// Forgets everything, and prepares for the entries of `count` places.
+    /// Forgets what was noted of lists, for the next proof.
+    pub(crate) fn begin_proof(&mut self)
+        ensures { (p : NumberedPlace) → AreNoted p self.new.notes }
+    {
+        self.notes.clear();
+    }
+
+    /// Forgets the entries, and prepares for those of `count` places.
     fn clear(&mut self, count: usize) -> Result<(), AllocError>
         ensures { IfOk result
             (λ _. (p : NumberedPlace) (entries : List (List ℕ)) → length entries ≡ count
-            → AreKnown p entries self.new) }
+            → AreNoted p self.old.notes → AreKnown p entries self.new) }
     {
         self.lists.truncate(0);
         self.tested.clear();
@@ -96,6 +107,7 @@ impl Spreads {
             (λ k. self.new.lists ≡ self.old.lists ++ self.old.gathered.items ∷ []) }
         ensures last { IfOk result (λ k. k ≡ length self.old.lists) }
         ensures tested { self.new.tested ≡ self.old.tested }
+        ensures notes { self.new.notes ≡ self.old.notes }
     {
         let number = self.lists.len();
         self.lists.push(&self.gathered)?;
@@ -159,7 +171,9 @@ pub(crate) fn are_groups_apart<P: Place>(
     spreads: &mut Spreads,
 ) -> Result<bool, AllocError>
     requires within { All (GroupWithin (length (drop base stack.now))) groups.now }
-    ensures { IfOk result
+    requires noted { AreNoted (P.place place.now) spreads.old.notes }
+    ensures noted { IfOk result (λ _. AreNoted (P.place place.now) spreads.new.notes) }
+    ensures apart { IfOk result
         (λ r. r ≡ groups_apart (P.place place.now) (drop base stack.now) groups.now) }
 {
     if groups.is_empty() {
@@ -287,6 +301,7 @@ fn are_long_apart<P: Place>(
 ) -> Result<bool, AllocError>
     requires one { x < length spreads.old.lists }
     requires other { y < length spreads.old.lists }
+    requires noted { AreNoted (P.place place.now) spreads.old.notes }
     ensures { IfOk result
         (λ r. (entries : List (List ℕ)) → AreKnown (P.place place.now) entries spreads.old
         → slice_get spreads.old.numbers.items i ≡ Some (suc x)
@@ -296,9 +311,42 @@ fn are_long_apart<P: Place>(
     if spreads.is_tested(i, j) {
         return Ok(true);
     }
-    let are_apart = are_variables_apart(place, spreads.list(x), spreads.list(y));
+    let are_apart = are_lists_apart(place, x, y, spreads)?;
     if are_apart {
         spreads.note(i, j)?;
+    }
+    Ok(are_apart)
+}
+
+/// Whether the variables of two lists are kept apart. A pair of lists that the proof found to be
+/// kept apart is not tested again.
+fn are_lists_apart<P: Place>(
+    place: &P,
+    x: usize,
+    y: usize,
+    spreads: &mut Spreads,
+) -> Result<bool, AllocError>
+    requires one { x < length spreads.old.lists }
+    requires other { y < length spreads.old.lists }
+    requires noted { AreNoted (P.place place.now) spreads.old.notes }
+    ensures apart { IfOk result (λ r. r ≡ variables_apart (P.place place.now)
+        (slice_index_or spreads.old.lists x []) (slice_index_or spreads.old.lists y [])) }
+    ensures noted { IfOk result (λ _. AreNoted (P.place place.now) spreads.new.notes) }
+    ensures lists { spreads.new.lists ≡ spreads.old.lists }
+    ensures numbers { spreads.new.numbers ≡ spreads.old.numbers }
+    ensures tested { spreads.new.tested ≡ spreads.old.tested }
+{
+    let xs = spreads.lists.entry(x);
+    let ys = spreads.lists.entry(y);
+    if xs.len() > LONGEST {
+        return Ok(are_variables_apart(place, xs, ys));
+    }
+    if spreads.notes.have(xs, ys)? {
+        return Ok(true);
+    }
+    let are_apart = are_variables_apart(place, xs, ys);
+    if are_apart {
+        spreads.notes.note_last()?;
     }
     Ok(are_apart)
 }

@@ -5,6 +5,7 @@ ghost use Rattle.mm_frame.specs.PlainFrames.{plain_frame};
 ghost use Rattle.mm_frame.specs.NumberedSteps.{numbered_applied};
 ghost use Rattle.mm_verify.specs.StoredView.{stored_frame};
 ghost use Rattle.mm_verify.specs.Applied.{AgreesWithStep};
+ghost use Rattle.mm_verify.specs.Pairs.{AreNoted};
 
 use crate::applying::apply;
 use crate::assertion::Assertion;
@@ -44,7 +45,9 @@ impl<'a> StoredAssertion<'a> {
         buffer: &mut Vec<u32>,
         spreads: &mut Spreads,
     ) -> Result<bool, AllocError>
-        ensures { IfOk result
+        requires noted { AreNoted (P.place place.now) spreads.old.notes }
+        ensures noted { IfOk result (λ _. AreNoted (P.place place.now) spreads.new.notes) }
+        ensures step { IfOk result
             (AgreesWithStep
             (stack_with (numbered_applied (P.place place.now) (stored_frame self.now))
             (length (stored_frame self.now).hypotheses) stack.old) stack.old stack.new) }

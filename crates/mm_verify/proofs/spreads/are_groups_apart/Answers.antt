@@ -14,6 +14,6 @@ loop-group-init g c =
       c.len.ensures,
     ) in
     record {
-      known = c.in_ok-clear.ensures p entries size;
+      known = c.in_ok-clear.ensures p entries size c.requires.noted;
       all = refl;
     }

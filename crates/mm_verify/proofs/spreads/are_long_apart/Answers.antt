@@ -1,25 +1,25 @@
-use Rattle.std.proofs.Common.{◌≡◌, ◌∙◌, ap, sym, ℕ, List, []}
-use Rattle.std.specs.Prelude.{slice_index_or}
+use Rattle.std.proofs.Common.{◌≡◌, ◌∙◌, sym}
 use Rattle.mm_database.specs.Proofs.{texts_apart}
 use Rattle.mm_frame.specs.NumberedSteps.{numbers_apart}
 use Rattle.mm_verify.specs.Filling.{text_at}
-use Rattle.mm_verify.specs.Pairs.{are_variables_apart}
-use Rattle.mm_verify.proofs.Spreading.{lists-apart}
+use Rattle.mm_verify.proofs.Spreading.{lists-apart, known-noted}
 use Rattle.mm_verify.proofs.spreads.are_long_apart.Goals as goal
 
 pub returns-in_ok-note : goal.returns-in_ok-note
 returns-in_ok-note g c entries known at there =
     let p = g.P.Place.place c.args.place.now in
     let s = c.args.spreads.now in
-    let is : c.are_variables_apart-are_apart.result
+    let is : c.in_ok-are_apart.are_apart
     ≡ texts_apart (numbers_apart p) (text_at entries c.args.i) (text_at entries c.args.j) =
-    c.are_variables_apart-are_apart.ensures
-    ∙ ap (λ (vs : List ℕ). are_variables_apart p vs c.list-2.result.now) c.list.ensures
-    ∙ ap (λ (ws : List ℕ). are_variables_apart p (slice_index_or s.lists c.args.x []) ws)
-    c.list-2.ensures
+    c.in_ok-are_apart.ensures.apart
     ∙ lists-apart p entries s c.args.i c.args.j c.args.x c.args.y known at there in
     record {
-      known = c.in_ok-note.ensures p entries known (sym is ∙ c.if-are_apart.true);
+      known =
+          c.in_ok-note.ensures p entries
+          (known-noted p entries s c.are_lists_apart.new.spreads known
+          c.in_ok-are_apart.ensures.lists c.in_ok-are_apart.ensures.numbers
+          c.in_ok-are_apart.ensures.tested c.in_ok-are_apart.ensures.noted)
+          (sym is ∙ c.if-are_apart.true);
       is = is;
     }
 
@@ -28,10 +28,11 @@ returns-else-are_apart g c entries known at there =
     let p = g.P.Place.place c.args.place.now in
     let s = c.args.spreads.now in
     record {
-      known = known;
-      is = c.are_variables_apart-are_apart.ensures
-          ∙ ap (λ (vs : List ℕ). are_variables_apart p vs c.list-2.result.now) c.list.ensures
-          ∙ ap (λ (ws : List ℕ). are_variables_apart p (slice_index_or s.lists c.args.x []) ws)
-          c.list-2.ensures
+      known =
+          known-noted p entries s c.are_lists_apart.new.spreads known
+          c.in_ok-are_apart.ensures.lists c.in_ok-are_apart.ensures.numbers
+          c.in_ok-are_apart.ensures.tested c.in_ok-are_apart.ensures.noted;
+      is =
+          c.in_ok-are_apart.ensures.apart
           ∙ lists-apart p entries s c.args.i c.args.j c.args.x c.args.y known at there;
     }

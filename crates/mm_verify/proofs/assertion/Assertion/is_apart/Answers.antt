@@ -18,17 +18,18 @@ are_groups_apart-requires g c = record {
       All (GroupWithin (length (drop c.args.base c.args.stack.now))) gs)
       (sym c.deref.ensures.value)
       (placed-within-each parts_of (hypotheses_of c.args.self.now.wanted.items)
-      (length (drop c.args.base c.args.stack.now)) c.args.self.now.apart.items c.requires
+      (length (drop c.args.base c.args.stack.now)) c.args.self.now.apart.items c.requires.count
       c.args.self.now.apart_placed);
+  noted = c.requires.noted;
 }
 
-pub returns : goal.returns
-returns g c =
+pub returns-clause-apart : goal.returns-clause-apart
+returns-clause-apart g c =
     IfOk-weaker c.are_groups_apart.result _ _
     (λ r is. is
     ∙ ap (λ (gs : List (Vec Part)). are_groups_apart (g.P.Place.place c.args.place.now)
     (drop c.args.base c.args.stack.now) gs) c.deref.ensures.value
     ∙ groups-apart-is (g.P.Place.place c.args.place.now) (assertion_frame c.args.self.now)
-    (drop c.args.base c.args.stack.now) c.args.self.now.apart.items c.requires
+    (drop c.args.base c.args.stack.now) c.args.self.now.apart.items c.requires.count
     c.args.self.now.apart_placed (λ a b. refl))
-    c.are_groups_apart.ensures
+    c.are_groups_apart.ensures.apart

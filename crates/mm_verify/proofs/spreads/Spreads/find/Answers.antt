@@ -16,7 +16,7 @@ returns-clause-known g c =
     known-more p entries s c.add.new.self c.args.i c.in_ok-number.number c.gather.new.to.items
     c.requires.known within none (search rules)
     c.in_ok-number.ensures.numbers c.in_ok-number.ensures.lists c.in_ok-number.ensures.last
-    c.in_ok-number.ensures.tested
+    c.in_ok-number.ensures.tested c.in_ok-number.ensures.notes
 
 pub returns-clause-keeps : goal.returns-clause-keeps
 returns-clause-keeps g c =
@@ -31,7 +31,7 @@ returns-clause-keeps g c =
     keeps-more p entries s c.add.new.self c.args.i c.in_ok-number.number c.gather.new.to.items
     c.requires.known within none (search rules)
     c.in_ok-number.ensures.numbers c.in_ok-number.ensures.lists c.in_ok-number.ensures.last
-    c.in_ok-number.ensures.tested
+    c.in_ok-number.ensures.tested c.in_ok-number.ensures.notes
 
 pub returns-clause-found : goal.returns-clause-found
 returns-clause-found g c =
@@ -46,4 +46,4 @@ returns-clause-found g c =
     found-more p entries s c.add.new.self c.args.i c.in_ok-number.number c.gather.new.to.items
     c.requires.known within none (search rules)
     c.in_ok-number.ensures.numbers c.in_ok-number.ensures.lists c.in_ok-number.ensures.last
-    c.in_ok-number.ensures.tested
+    c.in_ok-number.ensures.tested c.in_ok-number.ensures.notes

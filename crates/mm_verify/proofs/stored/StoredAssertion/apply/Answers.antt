@@ -7,15 +7,16 @@ use Rattle.mm_verify.specs.StoredView.{stored_frame}
 use Rattle.mm_verify.specs.Applied.{AgreesWithStep}
 use Rattle.mm_verify.proofs.stored.StoredAssertion.apply.Goals as goal
 
-pub returns-in-Built : goal.returns-in-Built
-returns-in-Built g c =
+pub returns-in-Built-clause-step : goal.returns-in-Built-clause-step
+returns-in-Built-clause-step g c =
     subst (λ (f : NumberedFrame). IfOk c.apply.result (AgreesWithStep
     (stack_with (numbered_applied (g.P.Place.place c.args.place.now) f) (length f.hypotheses)
     c.args.stack.now) c.args.stack.now c.apply.new.stack))
     (ap stored_frame (sym c.in-Built.is)) c.apply.ensures.step
 
-pub returns-in_ok-assertion-in-Shared : goal.returns-in_ok-assertion-in-Shared
-returns-in_ok-assertion-in-Shared g c =
+pub returns-in_ok-assertion-in-Shared-clause-step :
+    goal.returns-in_ok-assertion-in-Shared-clause-step
+returns-in_ok-assertion-in-Shared-clause-step g c =
     subst (λ (f : NumberedFrame). IfOk c.apply-in-Shared.result
     (AgreesWithStep (stack_with (numbered_applied (g.P.Place.place c.args.place.now) f)
     (length f.hypotheses) c.args.stack.now) c.args.stack.now
