@@ -19,7 +19,7 @@ loop-made-init g c = record {
   counts = omega arith;
   no_fault = refl;
   reads = refl;
-  room = c.in_ok-slots.ensures;
+  room = c.in_ok-slots.ensures.room;
   at = c.requires.at;
   goes =
       stays_on (g.D.Desk.state c.args.desk.now).told c.args.proof.now
@@ -108,9 +108,37 @@ returns-in-Blocked-clause-sorted g c =
     (kept_config c.args.engine.now c.loop-made.run c.proved_step.new.run c.proved_step.new.proof
     c.in-Blocked.last c.in_ok-proved_step.ensures.at progress.2 progress.1).1
 
+pub returns-in_err-tree-clause-front : goal.returns-in_err-tree-clause-front
+returns-in_err-tree-clause-front g c =
+    let told = (g.D.Desk.state c.args.desk.now).told in
+    let created = rw c.requires.file at (g.met.D.Desk.tells_created c.args.desk.now) in
+    on_err c.from_residual.result ((start : Pattern) (calls : ℕ)
+    → Reaches (theory_of c.args.engine.now) start calls 0 c.args.run.now.config c.args.run.now.calls
+    → WritesFrontAfter told told c.args.proof.now
+    (MayEndAt (theory_of c.args.engine.now) c.args.limit calls start))
+    (λ start calls h. front_so_far told told c.args.proof.now c.args.proof.now
+    (MayEndAt (theory_of c.args.engine.now) c.args.limit calls start)
+    (may_end_here c.args.engine.now c.args.limit calls 0 start c.args.run.now c.args.proof.now h
+    (omega arith) c.requires.at)
+    (stays_on told c.args.proof.now created) created)
+
+pub returns-in_err-slots-clause-front : goal.returns-in_err-slots-clause-front
+returns-in_err-slots-clause-front g c =
+    let told = (g.D.Desk.state c.args.desk.now).told in
+    let created = rw c.requires.file at (g.met.D.Desk.tells_created c.args.desk.now) in
+    on_err c.from_residual-in_err-slots.result ((start : Pattern) (calls : ℕ)
+    → Reaches (theory_of c.args.engine.now) start calls 0 c.args.run.now.config c.args.run.now.calls
+    → WritesFrontAfter told told c.args.proof.now
+    (MayEndAt (theory_of c.args.engine.now) c.args.limit calls start))
+    (λ start calls h. front_so_far told told c.args.proof.now c.args.proof.now
+    (MayEndAt (theory_of c.args.engine.now) c.args.limit calls start)
+    (may_end_here c.args.engine.now c.args.limit calls 0 start c.args.run.now c.args.proof.now h
+    (omega arith) c.requires.at)
+    (stays_on told c.args.proof.now created) created)
+
 pub returns-in_err-proved_step-clause-front : goal.returns-in_err-proved_step-clause-front
 returns-in_err-proved_step-clause-front g c =
-    on_err c.from_residual.result ((start : Pattern) (calls : ℕ)
+    on_err c.from_residual-in_err-proved_step.result ((start : Pattern) (calls : ℕ)
     → Reaches (theory_of c.args.engine.now) start calls 0 c.args.run.now.config c.args.run.now.calls
     → WritesFrontAfter (g.D.Desk.state c.args.desk.now).told
     (g.D.Desk.state c.proved_step.new.desk).told c.args.proof.now
