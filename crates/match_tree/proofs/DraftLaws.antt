@@ -12,8 +12,10 @@ use Rattle.pat_matrix.specs.MatrixView.{order_of, numbered_rows}
 use Rattle.pat_matrix.specs.declared.matrix.Matrix.{Matrix}
 use Rattle.pat_matrix.proofs.FindingLaws.{one_or_last}
 use Rattle.match_tree.specs.Labels.{Label}
+use Rattle.match_tree.specs.Trails.{Trail, source_of}
 use Rattle.match_tree.specs.FlatNodes.{PlainNode, end_node, try_node, IsNode}
-use Rattle.match_tree.specs.Drafting.{IsForced, Work, IsLabelled, AreWorks, places_of, IsLabelling}
+use Rattle.match_tree.specs.Drafting.{IsForced, MayTry, Work, IsLabelled, AreWorks, places_of}
+use Rattle.match_tree.specs.Drafting.{IsLabelling, most_tested}
 use Rattle.match_tree.specs.Drafting.{IsDraft}
 use Rattle.match_tree.proofs.FlatLaws.{node_is_replaced, AfterSet, after_set}
 
@@ -72,11 +74,13 @@ forced_longer : (pairs : List (ℕ × ℕ)) (few many : ℕ) (rows : List Row) �
 forced_longer pairs few many rows le (position, hs, apart, heads, past) =
     (position, hs, apart, heads, omega arith)
 
-forced_as : (pairs : List (ℕ × ℕ)) (few many : ℕ) (l k : Label) → few ≤ many → k ≡ l
-    → IsForced pairs few l.rows → IsForced pairs many k.rows
-forced_as pairs few many l k le same h =
-    let P : Label → Type 0 = λ i. IsForced pairs many i.rows in
-    subst P (sym same) (forced_longer pairs few many l.rows le h)
+may_try_as : (pairs : List (ℕ × ℕ)) (few many : ℕ) (l k : Label) → few ≤ many → k ≡ l
+    → MayTry pairs few l → MayTry pairs many k
+may_try_as pairs few many l k le same (inl no_room) =
+    let P : Label → Type 0 = λ i. MayTry pairs many i in
+    subst P (sym same) (inl (forced_longer pairs few many l.rows le no_room))
+may_try_as pairs few many l k le same (inr enough) =
+    let P : Label → Type 0 = λ i. MayTry pairs many i in subst P (sym same) (inr enough)
 
 -- an opened place that is another one than the first
 abbrev Opened : List ℕ → ℕ → Type 0
@@ -125,19 +129,19 @@ labelling_grows m labels nodes place places wider more n h lt settled own old ne
   Result : ℕ → Type 0
   Result k =
       Contains wider k
-      ⊎ IsForced (order_of m) (length (set nodes place n ++ map try_of more))
-      (longer labels (length nodes) more k).rows
+      ⊎ MayTry (order_of m) (length (set nodes place n ++ map try_of more))
+      (longer labels (length nodes) more k)
 
   still : (k i : ℕ) → (place ≡ k → ⊥) → k < length nodes
       → Contains (place ∷ places) k
-      ⊎ IsForced (order_of m) (length nodes) (labels k).rows
+      ⊎ MayTry (order_of m) (length nodes) (labels k)
       → Result k
   still k i other within (inl there) = inl (old k (other_place place places k other there))
-  still k i other within (inr no_room) =
-      inr (forced_as (order_of m) (length nodes)
+  still k i other within (inr may) =
+      inr (may_try_as (order_of m) (length nodes)
       (length (set nodes place n ++ map try_of more)) (labels k)
       (longer labels (length nodes) more k) (omega (arith, count))
-      (longer-old labels (length nodes) more k within) no_room)
+      (longer-old labels (length nodes) more k within) may)
 
   elsewhere : (k i : ℕ) → (place ≡ k → ⊥)
       → AfterSet nodes (map try_of more) place n k (try_node i) → Result k
@@ -205,23 +209,36 @@ draft_end m nodes w ws (labels, h, (within, own, works)) none =
     (sym (ap length (append-nil (set nodes w.place end_node))
     ∙ length-set nodes w.place end_node))
 
--- a node for which there is no room
+-- a node that is not refined
 pub draft_leave : (m : Matrix) (nodes : List PlainNode) (w : Work) (ws : List Work)
     → IsDraft m nodes (w ∷ ws)
-    → IsForced (order_of m) (length nodes) (numbered_rows m w.rows) → IsDraft m nodes ws
-draft_leave m nodes w ws (labels, h, (within, own, works)) no_room = (
+    → IsForced (order_of m) (length nodes) (numbered_rows m w.rows)
+    ⊎ (most_tested ≤ length w.trail)
+    → IsDraft m nodes ws
+draft_leave m nodes w ws (labels, h, (within, own, works)) why = (
   labels,
   record { root = h.root; are = h.are; forced = λ k n at. told k (h.forced k n at) },
   works,
 ) where
+  here : IsForced (order_of m) (length nodes) (numbered_rows m w.rows)
+      ⊎ (most_tested ≤ length w.trail)
+      → MayTry (order_of m) (length nodes) (labels w.place)
+  here (inl no_room) =
+      let Q : List Row → Type 0 = IsForced (order_of m) (length nodes) in
+      inl (subst Q (sym own.rows) no_room)
+  here (inr enough) =
+      let count : length w.trail ≡ length (labels w.place).found =
+      sym (ap (λ (t : Trail). length t) own.trail)
+      ∙ length-map (labels w.place).found (λ e. (e.0, source_of e.1)) in
+      inr (subst (λ (n : ℕ). most_tested ≤ n) count enough)
+
   told : (k : ℕ)
       → Contains (w.place ∷ places_of ws) k
-      ⊎ IsForced (order_of m) (length nodes) (labels k).rows
-      → Contains (places_of ws) k ⊎ IsForced (order_of m) (length nodes) (labels k).rows
+      ⊎ MayTry (order_of m) (length nodes) (labels k)
+      → Contains (places_of ws) k ⊎ MayTry (order_of m) (length nodes) (labels k)
   told k (inl (zero, lt, is)) =
-      let P : ℕ → Type 0 = λ i. IsForced (order_of m) (length nodes) (labels i).rows in
-      let Q : List Row → Type 0 = IsForced (order_of m) (length nodes) in
-      inr (subst P is (subst Q (sym own.rows) no_room))
+      let P : ℕ → Type 0 = λ i. MayTry (order_of m) (length nodes) (labels i) in
+      inr (subst P is (here why))
   told k (inl (suc i, lt, is)) = inl (i, omega arith, is)
   told k (inr forced) = inr forced
 
@@ -247,9 +264,9 @@ draft_last m nodes ws w (labels, h, works) = (
 
   told : (k : ℕ)
       → Contains (places_of (ws ++ w ∷ [])) k
-      ⊎ IsForced (order_of m) (length nodes) (labels k).rows
+      ⊎ MayTry (order_of m) (length nodes) (labels k)
       → Contains (w.place ∷ places_of ws) k
-      ⊎ IsForced (order_of m) (length nodes) (labels k).rows
+      ⊎ MayTry (order_of m) (length nodes) (labels k)
   told k (inl there) =
       let P : List ℕ → Type 0 = λ places. Contains places k in
       inl (moved k (one_or_last (places_of ws) w.place k

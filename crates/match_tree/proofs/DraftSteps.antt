@@ -1,7 +1,7 @@
 -- What the steps of the code make of a draft.
 use Rattle.std.proofs.Common.{◌≡◌, ◌<◌, ◌≤◌, ◌+◌, ℕ, zero, suc, Bool, false, List, [], ◌∷◌, ◌++◌, length, map}
 use Rattle.std.proofs.Common.{set, drop, get_or, replicate, Option, Some, None, option_map, refl}
-use Rattle.std.proofs.Common.{sym, ◌∙◌, ap, subst, arith}
+use Rattle.std.proofs.Common.{inl, inr, sym, ◌∙◌, ap, subst, arith}
 use Rattle.std.specs.Prelude.{◌||◌}
 use Rattle.std.specs.Global.{Vec, Box}
 use Rattle.std.specs.List.{IsDistinct, All}
@@ -39,6 +39,7 @@ use Rattle.match_tree.specs.Trails.{Trail, source_of, first_untested}
 use Rattle.match_tree.specs.Spots.{spots_of}
 use Rattle.match_tree.specs.SpotView.{plain_spots}
 use Rattle.match_tree.specs.Drafting.{Work, IsDraft, branch_works, AreApart, most_nodes}
+use Rattle.match_tree.specs.Drafting.{most_tested}
 use Rattle.match_tree.specs.NodeView.{plain_node, plain_nodes}
 use Rattle.match_tree.specs.declared.nodes.Node.{Node}
 use Rattle.match_tree.specs.declared.nodes.Node.TheVariants as form
@@ -213,13 +214,13 @@ pub no_room : (m : Matrix) (nodes : List Node) (w : Work) (ws : List Work) (posi
     → AreApart (map head_of s.groups.heads.keys)
     → most_nodes ≤ length nodes + length s.groups.heads.keys → IsDraft m (plain_nodes nodes) ws
 no_room m nodes w ws position s draft split apart past =
-    draft_leave m (plain_nodes nodes) w ws draft (
+    draft_leave m (plain_nodes nodes) w ws draft (inl (
       position,
       map head_of s.groups.heads.keys,
       apart,
       λ h. has_head-keys s.groups.heads.keys h ∙ split.listed h,
       omega (arith, length-map nodes plain_node, length-map s.groups.heads.keys head_of),
-    )
+    ))
 
 pub length-branch_works : (place from : ℕ) (wild : List ℕ) (trail : Trail) (position : List ℕ)
     (hs : List PlainHead) (lists : List (List ℕ))
@@ -381,13 +382,26 @@ pub no_room_for_hit : (m : Matrix) (nodes : List Node) (w : Work) (ws : List Wor
     → IsDraft m (plain_nodes nodes) (w ∷ ws) → most_nodes ≤ length nodes
     → IsDraft m (plain_nodes nodes) ws
 no_room_for_hit m nodes w ws draft past =
-    draft_leave m (plain_nodes nodes) w ws draft (
+    draft_leave m (plain_nodes nodes) w ws draft (inl (
       [],
       [],
       tt,
       λ h. none_asked (order_of m) h (numbered_rows m w.rows),
       omega (arith, length-map nodes plain_node),
-    )
+    ))
+
+-- enough was tested on the way
+pub enough_tested : (m : Matrix) (nodes : List Node) (place from : ℕ) (rows : List ℕ)
+    (trail : List Tested) (ws : List Work)
+    → IsDraft m (plain_nodes nodes)
+    (record { place = place; from = from; rows = rows; trail = plain_trail trail } ∷ ws)
+    → most_tested ≤ length trail → IsDraft m (plain_nodes nodes) ws
+enough_tested m nodes place from rows trail ws draft enough =
+    let count : length trail ≡ length (plain_trail trail) =
+    sym (length-map trail (λ e. (e.position.items, option_map sort_number e.source))) in
+    draft_leave m (plain_nodes nodes)
+    (record { place = place; from = from; rows = rows; trail = plain_trail trail }) ws draft
+    (inr (subst (λ (n : ℕ). most_tested ≤ n) count enough))
 
 pub end_added : (m : Matrix) (nodes : List Node) (place from : ℕ) (rows : List ℕ) (trail : Trail)
     (ws : List Work)

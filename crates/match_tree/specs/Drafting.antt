@@ -1,6 +1,7 @@
 -- Trees in the making. Each number that is handed out is at once a node that tries its rows in
--- order. Such a node is refined, or stays as it is when there is no room for more nodes.
-use Rattle.std.specs.Prelude.{◌≡◌, ◌+◌, ◌<◌, ◌⊎◌, ◌++◌, ℕ, false, List, [], ◌∷◌, length, map}
+-- order. Such a node is refined, or stays as it is when there is no room for more nodes or enough
+-- was tested on the way to it.
+use Rattle.std.specs.Prelude.{◌≡◌, ◌+◌, ◌<◌, ◌≤◌, ◌⊎◌, ◌++◌, ℕ, false, List, [], ◌∷◌, length, map}
 use Rattle.std.specs.Prelude.{Some, Contains, slice_get}
 use Rattle.pat_matrix.specs.Heads.{PlainHead}
 use Rattle.pat_matrix.specs.Rows.{Row, some_takes}
@@ -16,6 +17,10 @@ use Rattle.match_tree.specs.Joining.{joined}
 abbrev pub most_nodes : ℕ
 most_nodes = 100000
 
+-- a place below so many tests is not refined by further tests
+abbrev pub most_tested : ℕ
+most_tested = 256
+
 -- no head stands twice among these
 abbrev pub AreApart : List PlainHead → Type 0
 AreApart [] = Unit {0}
@@ -28,6 +33,10 @@ IsForced pairs count rows =
     (position : List ℕ) × (hs : List PlainHead) × AreApart hs
     × ((h : PlainHead) → has_head hs h ≡ some_takes pairs position h rows)
     × (most_nodes < count + length hs + 1)
+
+-- A node may try the rows of its label in order: there is no room, or enough was tested on the way.
+abbrev pub MayTry : List (ℕ × ℕ) → ℕ → Label → Type 0
+MayTry pairs count l = IsForced pairs count l.rows ⊎ (most_tested ≤ length l.found)
 
 -- the numbers rise
 abbrev mutual
@@ -68,13 +77,13 @@ abbrev pub root_label : Matrix → Label
 root_label m = record { from = 0; found = []; rows = rows_of m }
 
 -- Each node is one for its label, and the first one is for all rows. A node tries its rows in order
--- only at these places, or if there is no room.
+-- only at these places, or if it may.
 pub record IsLabelling (m : Matrix) (labels : ℕ → Label) (nodes : List PlainNode)
     (places : List ℕ) : Type 0 where
   pub root : labels 0 ≡ root_label m
   pub are : AllNodes (order_of m) labels nodes
   pub forced : (k n : ℕ) → slice_get nodes k ≡ Some (try_node n)
-      → Contains places k ⊎ IsForced (order_of m) (length nodes) (labels k).rows
+      → Contains places k ⊎ MayTry (order_of m) (length nodes) (labels k)
 
 -- The nodes are those of a tree for the matrix, where this is left to do.
 abbrev pub IsDraft : Matrix → List PlainNode → List Work → Type 0

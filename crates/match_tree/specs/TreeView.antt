@@ -29,8 +29,8 @@ HasMatchTree t =
     × IsMatchTree (order_of t.matrix) u 0 [] (rows_of t.matrix)
 
 -- Each node is one for what is left to do there, and the first one is for all rows. A node tries
--- its rows in order only if there is no room for more nodes, of which there are not too many. Each
--- row has its own twins, and no nested injections.
+-- its rows in order only if there is no room for more nodes, of which there are not too many, or if
+-- enough was tested on the way. Each row has its own twins, and no nested injections.
 pub record IsTree (t : Tree) : Type 0 where
   pub draft : IsDraft t.matrix (nodes_of t) []
   pub some : 0 < length (nodes_of t)

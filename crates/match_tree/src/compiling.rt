@@ -68,12 +68,12 @@ impl<'s> Tree<'s> {
 /// The matching tree for the rows of the matrix (Maranget 2008, "Compiling Pattern Matching to Good
 /// Decision Trees"). No row of the matrix was left out, and its rows have no nested injections, as
 /// `Matrix::of` makes it. The tree has at most `MAX_NODES` nodes. A node tries its rows in order
-/// only if there is no room for more nodes. An error: out of memory.
+/// only if there is no room for more nodes, or if it stands below `MAX_TESTS` tests. An error: out
+/// of memory.
 ///
-/// A hit, and a test for its first row, take one step for each position that the row asks and each
-/// that was tested. A test also takes one step for each row that is left there, and copies the
-/// positions that were tested for each of its places. So a row alone takes a time that grows with
-/// the square of the positions that it asks. Lists of rows are joined only when their node is
+/// A hit, and a test for its first row, take one step for each number of a position that the row
+/// asks and of one that was tested. A test also takes one step for each row that is left there, and
+/// copies the positions that were tested for each of its places. Lists of rows are joined only when their node is
 /// refined, so rows with distinct heads take a time that is linear in their number.
 pub fn compile<'s>(alloc: Global, matrix: Matrix<'s>) -> Result<Tree<'s>, AllocError>
     requires collapsed { AllCollapsed (rows_of matrix) }

@@ -17,7 +17,7 @@ ghost use Rattle.match_tree.specs.WorkView.{branch_trail, works_of, IsDraftOf, I
 ghost use Rattle.match_tree.specs.WorkView.{IsHanded, IsTestOf};
 
 use crate::joining::joined;
-use crate::nodes::{MAX_NODES, Node, RowHit};
+use crate::nodes::{MAX_NODES, MAX_TESTS, Node, RowHit};
 use crate::spots::spots_of;
 use crate::testing::Test;
 use crate::trails::{Tested, extended, untested};
@@ -94,7 +94,8 @@ impl Draft {
     }
 
     // Refines a node: as hits, as long as every position that the first row asks was tested, and
-    // then as a test, or as an end if no row is left. It stays as it is if there is no room.
+    // then as a test, or as an end if no row is left. It stays as it is if there is no room, or
+    // instead of a test if enough was tested before.
     pub(crate) fn refine(
         &mut self,
         alloc: Global,
@@ -120,6 +121,9 @@ impl Draft {
         for (i, row) in rows.iter().enumerate() {
             match untested(alloc, matrix.row(*row), &trail)? {
                 Some(position) => {
+                    if trail.len() >= MAX_TESTS {
+                        return Ok(());
+                    }
                     let rest = &rows[i..];
                     return self.add_test(alloc, matrix, place, from, rest, position, trail);
                 }

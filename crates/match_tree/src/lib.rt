@@ -41,7 +41,7 @@ mod walking;
 
 pub use compiling::{Tree, compile};
 pub use laws::{node_laws, place_laws, program_laws, walk_laws};
-pub use nodes::MAX_NODES;
+pub use nodes::{MAX_NODES, MAX_TESTS};
 pub use programs::{equation_tree, rule_tree};
 pub use slots::{Hit, NodeNo, Slots};
 pub use testing::Test;

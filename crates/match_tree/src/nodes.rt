@@ -5,6 +5,9 @@ use crate::testing::Test;
 /// How many nodes a tree may have.
 pub const MAX_NODES: usize = 100_000;
 
+/// How many tests may come one after another. Below so many the rows are tried in order.
+pub const MAX_TESTS: usize = 256;
+
 // A node of a tree.
 #[derive(Drop)]
 pub(crate) enum Node {

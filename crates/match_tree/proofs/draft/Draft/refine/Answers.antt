@@ -2,7 +2,7 @@ use Rattle.std.proofs.Common.{◌≡◌, ap, drop, length, arith}
 use Rattle.std.proofs.lemmas.List.{drop_all}
 use Rattle.match_tree.specs.TrailView.{plain_trail}
 use Rattle.match_tree.specs.WorkView.{works_of}
-use Rattle.match_tree.proofs.DraftSteps.{no_room_for_hit, end_added, hit_goes_on}
+use Rattle.match_tree.proofs.DraftSteps.{no_room_for_hit, enough_tested, end_added, hit_goes_on}
 use Rattle.match_tree.proofs.draft.Draft.refine.Goals as goal
 
 pub returns-then-len-ge-MAX_NODES-clause-draft : goal.returns-then-len-ge-MAX_NODES-clause-draft
@@ -14,6 +14,12 @@ returns-then-len-ge-MAX_NODES-clause-draft c =
       rows = drop c.loop-i.i c.args.rows.now;
       trail = plain_trail c.args.trail.items;
     })
+    (works_of c.loop-i.self.pending.items) c.loop-i.invariant.draft (omega arith)
+
+pub returns-then-len-ge-MAX_TESTS-clause-draft : goal.returns-then-len-ge-MAX_TESTS-clause-draft
+returns-then-len-ge-MAX_TESTS-clause-draft c =
+    enough_tested c.args.matrix.now c.loop-i.self.nodes.items c.loop-i.place c.loop-i.from
+    (drop c.loop-i.i c.args.rows.now) c.args.trail.items
     (works_of c.loop-i.self.pending.items) c.loop-i.invariant.draft (omega arith)
 
 pub loop-i-preserved : goal.loop-i-preserved
