@@ -1,0 +1,26 @@
+-- What a database justifies has a derivation in matching logic.
+use Rattle.std.specs.Prelude.{ℕ, List, []}
+use Rattle.mm_text.specs.Bytes.{Token}
+use Rattle.ml_pat.specs.Patterns.{Pattern, imp, ev}
+use Rattle.ml_kernel.specs.Derivability.{Derives}
+use Rattle.term_core.specs.Patterns.{Pattern as RulePattern}
+use Rattle.rule_core.specs.Theories.{RewriteTheory}
+use Rattle.mm_justify.specs.Justifying.{Justifies, JustifiesRun}
+use Rattle.mm_adequate.specs.Assuming.{numbered, IsNumberedImage, IsAssumedPattern, AssumesClosed}
+
+-- If a database justifies that a reaches b, it has a derivation from what the program may assume.
+abbrev pub JustifiedIsDerived : Type 0
+JustifiedIsDerived =
+    (bytes : List ℕ) (theory : RewriteTheory) (names : List Token) (a b : Pattern)
+    (number : Token → ℕ) → AssumesClosed theory → Justifies bytes theory names a b →
+    Derives [] (IsAssumedPattern theory number)
+    (imp (numbered number names a) (ev (numbered number names b)))
+
+-- So if it justifies a run, it has a derivation that the image of the start reaches the image of
+-- the end.
+abbrev pub RunIsDerived : Type 0
+RunIsDerived =
+    (bytes : List ℕ) (theory : RewriteTheory) (start end : RulePattern) (number : Token → ℕ) →
+    AssumesClosed theory → JustifiesRun bytes theory start end →
+    (a b : Pattern) × IsNumberedImage theory number start a × IsNumberedImage theory number end b
+    × Derives [] (IsAssumedPattern theory number) (imp a (ev b))
