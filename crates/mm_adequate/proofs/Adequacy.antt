@@ -13,6 +13,7 @@ use Rattle.ml_kernel.specs.Derivability.{Derives}
 use Rattle.ml_kernel.specs.Renamings.{renamed}
 use Rattle.term_core.specs.Patterns.{Pattern as RulePattern}
 use Rattle.rule_core.specs.Theories.{RewriteTheory}
+use Rattle.rule_core.specs.WellSorted.{IsWellSorted}
 use Rattle.mm_proof.specs.Tokens.{name_of, pattern_tokens}
 use Rattle.mm_readings.specs.Letters.{Letter, letter_of, word_letter, says_holds}
 use Rattle.mm_readings.specs.Pieces.{word_piece, pattern_piece, spell}
@@ -27,6 +28,8 @@ use Rattle.mm_justify.specs.Justifying.{header_row, declaration, assumption_of}
 use Rattle.mm_justify.specs.Justifying.{Justifies, JustifiesRun}
 use Rattle.mm_justify.proofs.ImageLeaves.{is_sort_token, is_constant_token, sentence_leaves}
 use Rattle.mm_adequate.specs.Assuming.{numbered, IsNumberedImage, IsAssumedPattern, AssumesClosed}
+use Rattle.mm_adequate.specs.Assuming.{HasFewVariables}
+use Rattle.mm_adequate.proofs.OwnAxioms.{assumes_closed}
 use Rattle.mm_adequate.proofs.Allowed.{allowed_sound, row_gives}
 use Rattle.mm_adequate.proofs.Databases.{AxiomsSound, AreSound, database_sound}
 use Rattle.mm_adequate.proofs.Spelling.{named_leaves, ReadsNames, spells}
@@ -189,13 +192,15 @@ justified_derived bytes theory names a b number closed w =
     ∙ closed_text number names (imp a (ev b)) w.are_names w.closed)
 
 pub run_derived : (bytes : List ℕ) (theory : RewriteTheory) (start end : RulePattern)
-    (number : Token → ℕ) → AssumesClosed theory → JustifiesRun bytes theory start end
+    (number : Token → ℕ) → IsWellSorted theory → HasFewVariables theory
+    → JustifiesRun bytes theory start end
     → (a b : Pattern) × IsNumberedImage theory number start a × IsNumberedImage theory number end b
     × Derives [] (IsAssumedPattern theory number) (imp a (ev b))
-run_derived bytes theory start end number closed w = (
+run_derived bytes theory start end number well few w = (
   numbered number w.names w.from,
   numbered number w.names w.to,
   record { names = w.names; image = w.from; image_is = w.from_image; is = refl },
   record { names = w.names; image = w.to; image_is = w.to_image; is = refl },
-  justified_derived bytes theory w.names w.from w.to number closed w.justifies,
+  justified_derived bytes theory w.names w.from w.to number (assumes_closed theory well few)
+      w.justifies,
 )

@@ -7,9 +7,9 @@ use Rattle.std.proofs.lemmas.Slice.Eq.{bytes_eq-Decides}
 use Rattle.mm_text.specs.Bytes.{Token}
 use Rattle.mm_database.specs.Frames.{Hypothesis, floating, essential, types, Frame}
 use Rattle.mm_database.specs.Orderly.{TypeOnce}
-use Rattle.ml_pat.specs.Patterns.{Pattern}
 use Rattle.mm_header.specs.Header.{Row}
 use Rattle.mm_header.specs.HeaderRows.{header_types, premises, premise_of, is_in_row, IsFrameOfRow}
+use Rattle.ml_pat.specs.Patterns.{Pattern}
 use Rattle.mm_readings.specs.Holding.{Holds}
 use Rattle.mm_readings.specs.Readings.{Reading, put, AllHold, IsSound}
 use Rattle.mm_readings.specs.Proving.{EachHolds}

@@ -13,13 +13,13 @@ use Rattle.mm_database.specs.Database.{with_hypothesis, with_assertion, with_dec
 use Rattle.mm_database.specs.Database.{with_block_closed, after_form}
 use Rattle.mm_database.specs.Assertions.{form_typing}
 use Rattle.mm_database.specs.Validity.{is_typed, is_typing, form_fault}
+use Rattle.mm_readings.proofs.Dummies.{or_left, or_right, not_both}
 use Rattle.mm_justify.specs.Justifying.{AreTypings}
 use Rattle.mm_adequate.proofs.Contexts.{AreFine, Grows, typed_by, IsFramed}
 use Rattle.mm_adequate.proofs.Contexts.{AreFineBlocks, IsFine, neither, either, both, not_not}
 use Rattle.mm_adequate.proofs.Contexts.{none_among, stays, fine_grows, fine_append, typed_append}
 use Rattle.mm_adequate.proofs.Contexts.{framed_grows, scope_grows, blocks_grow, frame_fine}
 use Rattle.mm_adequate.proofs.Contexts.{typed_known, NoneFound, tests_of, no_faults}
-use Rattle.mm_readings.proofs.Dummies.{or_left, or_right, not_both}
 
 -- the `$f` of a statement, if it is one, gives one of the three types
 abbrev pub IsTyping : Option Hypothesis → Type 0

@@ -4,4 +4,6 @@ pub mod Declaring
 pub mod Databases
 pub mod Spelling
 pub mod Assumptions
+pub mod ClosedAxioms
+pub mod OwnAxioms
 pub mod Adequacy

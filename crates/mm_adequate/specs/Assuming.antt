@@ -1,12 +1,13 @@
 -- What a program may assume, as patterns under a numbering of tokens.
-use Rattle.std.specs.Prelude.{◌≡◌, ℕ, ◌<◌, ◌^◌, true, List, Some}
+use Rattle.std.specs.Prelude.{◌≡◌, ℕ, ◌+◌, ◌<◌, ◌≤◌, ◌^◌, true, List, length, Contains, Some}
 use Rattle.mm_text.specs.Bytes.{Token}
 use Rattle.ml_pat.specs.Patterns.{Pattern, nullary, unary, binary, sorted, quantified, var, meta}
 use Rattle.ml_pat.specs.Patterns.{constant}
 use Rattle.ml_pat.specs.Judgements.{fresh}
 use Rattle.ml_pat.specs.Leaves.{LeafFacts, EachLeaf}
 use Rattle.term_core.specs.Patterns.{Pattern as RulePattern}
-use Rattle.rule_core.specs.Theories.{RewriteTheory}
+use Rattle.rule_core.specs.Rules.{RewriteRule, Equation}
+use Rattle.rule_core.specs.Theories.{RewriteTheory, equations_of}
 use Rattle.ml_image.specs.Assumed.{IsAssumed}
 use Rattle.ml_image.specs.Images.{image_of}
 use Rattle.ml_image.specs.Sentences.{Sentence, sentence_image}
@@ -63,3 +64,9 @@ pub record AssumesClosed (theory : RewriteTheory) : Type 0 where
       → sentence_image theory.sig names s ≡ Some p → fresh x p ≡ true
   pub few : (s : Sentence) (names : List Token) (p : Pattern) → IsAssumed theory s
       → sentence_image theory.sig names s ≡ Some p → EachLeaf few_variables p
+
+-- a rule, and an equation with its parameters, have at most 2^64 variables
+pub record HasFewVariables (theory : RewriteTheory) : Type 0 where
+  pub rules : (r : RewriteRule) → Contains theory.rules r → length r.variables ≤ 2 ^ 64
+  pub equations : (f : ℕ) (e : Equation) → Contains (equations_of theory f) e
+      → e.parameters + length e.variables ≤ 2 ^ 64
