@@ -28,7 +28,7 @@ numbered number names (var x) = var x
 numbered number names (meta i) = meta i
 numbered number names (constant c) = constant (number (name_of names c))
 
--- the pattern is the image of this one, under a numbering of tokens
+-- p is the image of a, under a numbering of tokens
 pub record IsNumberedImage (theory : RewriteTheory) (number : Token → ℕ) (a : RulePattern)
     (p : Pattern) : Type 0 where
   pub names : List Token
@@ -36,7 +36,7 @@ pub record IsNumberedImage (theory : RewriteTheory) (number : Token → ℕ) (a 
   pub image_is : image_of theory.sig names a ≡ Some image
   pub is : p ≡ numbered number names image
 
--- the pattern is the image of what a program may assume, under a numbering of tokens
+-- p is the image of what a program may assume, under a numbering of tokens
 pub record IsAssumedPattern (theory : RewriteTheory) (number : Token → ℕ) (p : Pattern) :
     Type 0 where
   pub names : List Token
