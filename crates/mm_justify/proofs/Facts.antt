@@ -172,7 +172,7 @@ no_variable (s ∷ ss) (v ∷ vs) x (inl h) = h
 no_variable (s ∷ ss) (v ∷ vs) x (inr h) = no_variable ss vs x h
 
 closed_known : (names : List Token) → Known names (closed_over names)
-closed_known names = record { sorts = λ n k. k; constants = λ n k. k }
+closed_known names = record { sorts = λ n k t. k; constants = λ n k t. k }
 
 -- the image of a true fact has its form, and is closed
 fact_image : (sig : Signature) (names : List Token) (s : Sentence) (p : Pattern) → IsTrueFact sig s

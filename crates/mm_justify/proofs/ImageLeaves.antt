@@ -2,7 +2,7 @@
 use Rattle.std.proofs.Common.{◌≡◌, ℕ, ◌+◌, ◌<◌, Bool, true, false, cond, List, [], ◌∷◌, length, suc}
 use Rattle.std.proofs.Common.{Option, Some, None, option_map, inl, inr, refl, sym, ap, ◌∙◌, subst}
 use Rattle.std.proofs.Common.{arith}
-use Rattle.std.specs.Prelude.{codes, bytes_eq}
+use Rattle.std.specs.Prelude.{codes, bytes_eq, take, ◌||◌}
 use Rattle.std.specs.List.{position_from}
 use Rattle.std.proofs.lemmas.Slice.Eq.{bytes_eq-Decides}
 use Rattle.mm_text.specs.Bytes.{Token}
@@ -95,13 +95,49 @@ value_leaf sig names s v n h =
     named names (λ (name : Token). value_token name v) (codes "#Pattern") (name_at sig.sorts s) n
     (λ name. refl) h
 
+-- ---- the first bytes of the token
+
+abbrev pub is_sort_token : Token → Bool
+is_sort_token t = bytes_eq (take 2 t) (codes "s:")
+
+abbrev pub is_constant_token : Token → Bool
+is_constant_token t = bytes_eq (take 2 t) (codes "f:") || bytes_eq (take 2 t) (codes "d:")
+
+passed : (names : List Token) (test : Token → Bool) (f : Token → Token) (o : Option Token) (n : ℕ)
+    → ((name : Token) → test (f name) ≡ true) → number_in_names names (option_map f o) ≡ Some n
+    → test (name_of names n) ≡ true
+passed names test f None n each h = absurd (none_some n h)
+passed names test f (Some name) n each h =
+    ap test (number_found names (f name) n h).1 ∙ each name
+
+sort_front : (sig : Signature) (names : List Token) (s n : ℕ)
+    → number_in_names names (token_of_sort sig s) ≡ Some n
+    → is_sort_token (name_of names n) ≡ true
+sort_front sig names s n h =
+    passed names is_sort_token sort_token (name_at sig.sorts s) n (λ name. refl) h
+
+symbol_front : (sig : Signature) (names : List Token) (f n : ℕ)
+    → number_in_names names (token_of_symbol sig f) ≡ Some n
+    → is_constant_token (name_of names n) ≡ true
+symbol_front sig names f n h =
+    passed names is_constant_token symbol_token (name_at sig.symbols f) n (λ name. refl) h
+
+value_front : (sig : Signature) (names : List Token) (s : ℕ) (v : DomainValue) (n : ℕ)
+    → number_in_names names (token_of_value sig s v) ≡ Some n
+    → is_constant_token (name_of names n) ≡ true
+value_front sig names s v n h =
+    passed names is_constant_token (λ (name : Token). value_token name v) (name_at sig.sorts s) n
+    (λ name. refl) h
+
 -- ---- facts about leaves that numbers of tokens have
 
 -- facts that are true of the numbers of the tokens of sorts, of the tokens of symbols and values,
 -- and of each object variable
 pub record Known (names : List Token) (f : LeafFacts) : Type 0 where
-  pub sorts : (n : ℕ) → IsNumber names (codes "#Sort") n → f.sort n
-  pub constants : (n : ℕ) → IsNumber names (codes "#Pattern") n → f.constant n
+  pub sorts : (n : ℕ) → IsNumber names (codes "#Sort") n → is_sort_token (name_of names n) ≡ true
+      → f.sort n
+  pub constants : (n : ℕ) → IsNumber names (codes "#Pattern") n
+      → is_constant_token (name_of names n) ≡ true → f.constant n
 
 abbrev Each : LeafFacts → Option Pattern → Type 0
 Each f o = (p : Pattern) → o ≡ Some p → EachLeaf f p
@@ -148,13 +184,13 @@ bound_leaves f k keeps (Some n) (Some x) ks ka p h =
 
 pub sort_fact : (sig : Signature) (names : List Token) (f : LeafFacts) → Known names f → (s : ℕ)
     → EachSort f (sort_image sig names s)
-sort_fact sig names f known s n h = known.sorts n (sort_leaf sig names s n h)
+sort_fact sig names f known s n h = known.sorts n (sort_leaf sig names s n h) (sort_front sig names s n h)
 
 symbol_leaves : (sig : Signature) (names : List Token) (f : LeafFacts) → Known names f → (g : ℕ)
     → Each f (symbol_image sig names g)
 symbol_leaves sig names f known g =
     constant_leaves f (number_in_names names (token_of_symbol sig g))
-    (λ n h. known.constants n (symbol_leaf sig names g n h))
+    (λ n h. known.constants n (symbol_leaf sig names g n h) (symbol_front sig names g n h))
 
 sorts_leaves : (sig : Signature) (names : List Token) (f : LeafFacts) → Known names f
     → (ss : List ℕ) (head : Option Pattern) → Each f head → Each f (at_sorts sig names head ss)
@@ -177,7 +213,7 @@ mutual
       subst (EachLeaf f) (some_same (logic.var x) p h) (objects x refl)
   term_leaves sig names f known (domain_value s v) objects p h =
       constant_leaves f (number_in_names names (token_of_value sig s v))
-      (λ n k. known.constants n (value_leaf sig names s v n k)) p h
+      (λ n k. known.constants n (value_leaf sig names s v n k) (value_front sig names s v n k)) p h
   term_leaves sig names f known (application g ps) objects p h =
       applied_leaves sig names f known ps (symbol_image sig names g) objects
       (symbol_leaves sig names f known g) p h
@@ -203,7 +239,7 @@ mutual
       p h
 
 -- the image of a sentence, if the fact is true of each object variable
-sentence_leaves : (sig : Signature) (names : List Token) (f : LeafFacts) → Known names f
+pub sentence_leaves : (sig : Signature) (names : List Token) (f : LeafFacts) → Known names f
     → ((x : ℕ) → f.object x) → (s : Sentence) → Each f (sentence_image sig names s)
 sentence_leaves sig names f known objects (term a) =
     term_leaves sig names f known a (λ x h. objects x)
@@ -241,12 +277,12 @@ sentence_leaves sig names f known objects (next a) =
 
 pub sentence_is_over : SentenceIsOver
 sentence_is_over sig names s p h =
-    sentence_leaves sig names (over_names names) (record { sorts = λ n k. k; constants = λ n k. k })
+    sentence_leaves sig names (over_names names) (record { sorts = λ n k t. k; constants = λ n k t. k })
     (λ x. tt) s p h
 
 pub image_is_closed : ImageIsClosed
 image_is_closed sig names a p none h =
-    term_leaves sig names (closed_over names) (record { sorts = λ n k. k; constants = λ n k. k }) a
+    term_leaves sig names (closed_over names) (record { sorts = λ n k t. k; constants = λ n k t. k }) a
     none p h
 
 -- ---- no pattern variables
@@ -270,4 +306,4 @@ without_metas p h = tt
 pub sentence_has_no_meta : SentenceHasNoMeta
 sentence_has_no_meta sig names s p h =
     without_metas p (sentence_leaves sig names no_metas
-    (record { sorts = λ n k. tt; constants = λ n k. tt }) (λ x. tt) s p h)
+    (record { sorts = λ n k t. tt; constants = λ n k t. tt }) (λ x. tt) s p h)

@@ -25,7 +25,7 @@ or_right false b h = h
 or_left : (a b : Bool) → a ≡ true → (a || b) ≡ true
 or_left a b h = rw h refl
 
-put-append : (m : Reading) (xs ys : List Token) → put m (xs ++ ys) ≡ put m xs ++ put m ys
+pub put-append : (m : Reading) (xs ys : List Token) → put m (xs ++ ys) ≡ put m xs ++ put m ys
 put-append m [] ys = refl
 put-append m (x ∷ xs) ys =
     ap (λ (ls : List Letter). m x ++ ls) (put-append m xs ys)

@@ -141,7 +141,7 @@ typing_holds A number n typecode h =
 
 -- ---- the variables of a theorem's frame
 
-filter_types : (test : Hypothesis → Bool) (t : Token) (hs : List Hypothesis)
+pub filter_types : (test : Hypothesis → Bool) (t : Token) (hs : List Hypothesis)
     → list_any (types t) (filter test hs) ≡ true → list_any (types t) hs ≡ true
 filter_types test t [] h = h
 filter_types test t (k ∷ hs) h = go (test k) h (filter_types test t hs)
@@ -157,7 +157,7 @@ filter_types test t (k ∷ hs) h = go (test k) h (filter_types test t hs)
     go false l rest = or_right (types t k) (list_any (types t) hs) (rest l)
 
 -- each `$f` of a variable that is needed is mandatory
-needed_typed : (s : Scope) (symbols : List Token) (t : Token) (hs : List Hypothesis)
+pub needed_typed : (s : Scope) (symbols : List Token) (t : Token) (hs : List Hypothesis)
     → is_needed s symbols t ≡ true → list_any (types t) hs ≡ true
     → list_any (types t) (filter (is_mandatory s symbols) hs) ≡ true
 needed_typed s symbols t [] needed h = h

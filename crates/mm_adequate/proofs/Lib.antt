@@ -1,0 +1,9 @@
+pub mod Allowed
+pub mod Contexts
+pub mod Declaring
+pub mod Databases
+pub mod Spelling
+pub mod Assumptions
+pub mod ClosedAxioms
+pub mod OwnAxioms
+pub mod Adequacy
