@@ -56,8 +56,9 @@ fn a_fault_of_a_lemma_is_reported(rt: HostRuntime) -> Result<(), Fail> {
     Ok(())
 }
 
-/// What it comes to if the theorem that the start reaches itself is added to the proof of the run of
-/// two steps. The proof is written to the desk, and the lemma to the other desk, if there is one.
+/// What it comes to if the theorem that the start reaches itself is added to the proof of the run
+/// of two steps. The proof is written to the desk, and the lemma to the other desk, if there is
+/// one.
 fn added(
     alloc: Global,
     desk: &mut MemDesk,
