@@ -46,32 +46,34 @@ fn takes_a_million_calls_where_none_are_stated(rt: HostRuntime) -> Result<(), Fa
     Ok(())
 }
 
+static BAD_LINES: [&str; 22] = [
+    "",
+    "Run d t --limit 5",
+    "run d t",
+    "run d --limit 5",
+    "run d t u --limit 5",
+    "run d t --limit 1000001",
+    "run d t --limit 000000005",
+    "run d t --limit +5",
+    "run d t --limit 5 --limit 5",
+    "run d t --lim 5",
+    "run d t --limit 5 --calls 10000001",
+    "run d t --limit 5 --proof",
+    "run d t --limit 5 --proof -x",
+    "run d t --limit 5 --help",
+    "verify",
+    "verify a b",
+    "verify -h",
+    "drill 5",
+    "drill 0 p.mm",
+    "drill 1001 p.mm",
+    "drill 000000001 p.mm",
+    "drill 5 --help",
+];
+
 #[test]
 fn refuses_bad_words(rt: HostRuntime) -> Result<(), Fail> {
-    for line in [
-        "",
-        "Run d t --limit 5",
-        "run d t",
-        "run d --limit 5",
-        "run d t u --limit 5",
-        "run d t --limit 1000001",
-        "run d t --limit 000000005",
-        "run d t --limit +5",
-        "run d t --limit 5 --limit 5",
-        "run d t --lim 5",
-        "run d t --limit 5 --calls 10000001",
-        "run d t --limit 5 --proof",
-        "run d t --limit 5 --proof -x",
-        "run d t --limit 5 --help",
-        "verify",
-        "verify a b",
-        "verify -h",
-        "drill 5",
-        "drill 0 p.mm",
-        "drill 1001 p.mm",
-        "drill 000000001 p.mm",
-        "drill 5 --help",
-    ] {
+    for line in &BAD_LINES {
         let words = words_of(rt.alloc(), line)?;
         let is_bad = matches!(read_words(rt.alloc(), words.as_slice()), Err(WordsEnd::Bad));
         assert!(rt; is_bad, "{line}");

@@ -19,7 +19,7 @@ const VERIFIES: Case<'static> = Case {
     ..BASE
 };
 
-const ENDS: [Case<'static>; 15] = [
+static ENDS: [Case<'static>; 15] = [
     VERIFIES,
     Case {
         words: &["verify", "t.kore"],

@@ -92,8 +92,8 @@ fn holds_front(left: &Left, proof: &[u8], created: bool) -> bool {
 /// and the file of the proof is whole.
 #[test]
 fn each_write_of_the_output_fails_in_turn(rt: HostRuntime) -> Result<(), Fail> {
-    for case in [ADDS, VERIFIES, DRILLS] {
-        assert!(rt; fails_at_each_write(rt.alloc(), &case)?);
+    for case in [&ADDS, &VERIFIES, &DRILLS] {
+        assert!(rt; fails_at_each_write(rt.alloc(), case)?);
     }
     Ok(())
 }

@@ -49,7 +49,7 @@ fn a_fault_of_a_lemma_is_reported(rt: HostRuntime) -> Result<(), Fail> {
     };
     let mut other = two_files(alloc, &PROVES, faults)?;
     let Ok(()) = other.create_file("q.mm") else {
-        return Err(Fail::from("no file was created"));
+        panic!(rt; "no file was created");
     };
     let end = added(alloc, &mut desk, Some(&mut other));
     assert_eq!(rt; end, Some(Err(ProveEnd::Failed)));

@@ -11,7 +11,7 @@ const VERIFIES: Case<'static> = Case {
 };
 
 /// Databases that are invalid at once, and the empty one.
-const DATABASES: [Case<'static>; 6] = [
+static DATABASES: [Case<'static>; 6] = [
     Case {
         definition: "",
         code: 0,
@@ -46,7 +46,7 @@ const DATABASES: [Case<'static>; 6] = [
 ];
 
 /// The greatest numbers of steps and of calls of functions.
-const GREATEST: [Case<'static>; 2] = [
+static GREATEST: [Case<'static>; 2] = [
     Case {
         words: &["run", "d.kore", "t.kore", "--limit", "1000000"],
         definition: COUNTING,
@@ -78,7 +78,7 @@ fn a_definition_that_is_cut_off_is_refused(rt: HostRuntime) -> Result<(), Fail> 
     let whole = TWO_STEPS.trim_ascii_end();
     for end in 0..whole.len() - 1 {
         let Some(definition) = whole.get(..end) else {
-            return Err(Fail::from("a character is cut"));
+            panic!(rt; "a character is cut");
         };
         let case = Case { definition, ..BASE };
         assert!(rt; is_unreadable(&call_with(rt.alloc(), &case, PLAIN)?));
@@ -165,29 +165,31 @@ fn with_arguments(alloc: Global, arguments: usize) -> Result<String, AllocError>
     Ok(text)
 }
 
+/// A run with a function that calls itself as often as its argument says.
+const NESTED: Case<'static> = Case {
+    definition: WITH_FUNCTION,
+    ..BASE
+};
+
+/// The deepest call that has a value, and one call deeper.
+static DEEPEST: [Case<'static>; 2] = [
+    Case {
+        term: r#"t{}(down{}(\dv{SortInt{}}("998")))"#,
+        out: "stuck 0\nt{}(\\dv{SortInt{}}(\"0\"))\n",
+        ..NESTED
+    },
+    Case {
+        term: r#"t{}(down{}(\dv{SortInt{}}("999")))"#,
+        code: 11,
+        out: "blocked 0 Nest sub\nt{}(down{}(\\dv{SortInt{}}(\"999\")))\n",
+        ..NESTED
+    },
+];
+
 /// At most 2,000 evaluations are nested. A call in the right side of an equation takes two levels:
 /// one for the right side, and one for the arguments of the call.
 #[test]
 fn evaluations_nest_two_thousand_deep(rt: HostRuntime) -> Result<(), Fail> {
-    let cases = [
-        Case {
-            term: r#"t{}(down{}(\dv{SortInt{}}("998")))"#,
-            out: "stuck 0\nt{}(\\dv{SortInt{}}(\"0\"))\n",
-            ..NESTED
-        },
-        Case {
-            term: r#"t{}(down{}(\dv{SortInt{}}("999")))"#,
-            code: 11,
-            out: "blocked 0 Nest sub\nt{}(down{}(\\dv{SortInt{}}(\"999\")))\n",
-            ..NESTED
-        },
-    ];
-    assert_eq!(rt; first_failing(rt.alloc(), &cases)?, None);
+    assert_eq!(rt; first_failing(rt.alloc(), &DEEPEST)?, None);
     Ok(())
 }
-
-const NESTED: Case<'static> = Case {
-    words: &["run", "d.kore", "t.kore", "--limit", "5"],
-    definition: WITH_FUNCTION,
-    ..BASE
-};

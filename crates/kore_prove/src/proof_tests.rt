@@ -7,7 +7,7 @@ use std::alloc::{AllocError, Global};
 use std::test::Fail;
 
 /// Runs that are proved, and what the last theorem of each states.
-const CONSTRUCTED: [(Case<'static>, &str); 7] = [
+static CONSTRUCTED: [(Case<'static>, &str); 7] = [
     (PROVES, "p |- ( \\imp f:a ( \\ev f:c ) ) "),
     (
         Case {
@@ -76,7 +76,7 @@ const CONSTRUCTED: [(Case<'static>, &str); 7] = [
 ];
 
 /// Runs whose values are computed by hooks and equations, and what the last theorem of each states.
-const COMPUTED: [(Case<'static>, &str); 9] = [
+static COMPUTED: [(Case<'static>, &str); 9] = [
     (
         Case {
             definition: INTEGER_FUNCTIONS,

@@ -3,7 +3,7 @@ use crate::test_calls::{BASE, Case, first_failing};
 use crate::test_definitions::*;
 use std::test::Fail;
 
-const REFUSALS: [Case<'static>; 22] = [
+static REFUSALS: [Case<'static>; 22] = [
     Case {
         definition: r#"[a{}("x"#,
         code: 6,

@@ -3,7 +3,7 @@ use crate::test_calls::{BASE, Case, first_failing};
 use crate::test_definitions::*;
 use std::test::Fail;
 
-const CONSTRUCTED: [Case<'static>; 8] = [
+static CONSTRUCTED: [Case<'static>; 8] = [
     Case {
         words: &["run", "d.kore", "t.kore", "--limit", "0"],
         code: 10,
@@ -60,7 +60,7 @@ const CONSTRUCTED: [Case<'static>; 8] = [
     },
 ];
 
-const COMPUTED: [Case<'static>; 7] = [
+static COMPUTED: [Case<'static>; 7] = [
     Case {
         definition: INTEGER_FUNCTIONS,
         term: r#"n{}(tdiv{}(\dv{SortInt{}}("-7"),\dv{SortInt{}}("2")))"#,
@@ -117,7 +117,7 @@ const COMPUTED: [Case<'static>; 7] = [
     },
 ];
 
-const CONDITIONAL: [Case<'static>; 7] = [
+static CONDITIONAL: [Case<'static>; 7] = [
     Case {
         definition: GUARDED_RULES,
         term: r#"t{}(\dv{SortInt{}}("3"))"#,
@@ -172,7 +172,7 @@ const CONDITIONAL: [Case<'static>; 7] = [
     },
 ];
 
-const BLOCKED: [Case<'static>; 6] = [
+static BLOCKED: [Case<'static>; 6] = [
     Case {
         words: &["run", "d.kore", "t.kore", "--limit", "100"],
         definition: ADDITION,

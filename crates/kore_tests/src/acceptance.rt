@@ -89,171 +89,206 @@ fn refusal_of_term(alloc: Global, definition: &str, term: &str) -> Result<Option
     }
 }
 
+/// Definitions with the number and the byte of their refusal.
+static DEFINITIONS: [(&str, Option<(u8, u32)>); 16] = [
+    ("[] module M # endmodule []", Some((1, 12))),
+    (
+        "[] module M sort S{} [hook{}(\"\\q\")] endmodule []",
+        Some((1, 30)),
+    ),
+    ("[] module M sort S{} endmodule []", Some((2, 21))),
+    ("[] module M endmodule [", Some((2, 23))),
+    (
+        "[] module M import X [] endmodule [] module M endmodule []",
+        Some((5, 37)),
+    ),
+    ("[] module M import N [] endmodule []", Some((4, 12))),
+    (
+        "[] module M endmodule [] module N import M [] import O [] sort S{X} [] \
+            endmodule []",
+        Some((4, 46)),
+    ),
+    (
+        "[] module M import X [] sort S{X} [] axiom{} \\rewrites{U{}}(a{}(),a{}()) [] \
+            endmodule [] module N endmodule []",
+        None,
+    ),
+    (
+        "[] module M sort S{} [] sort S{X} [] endmodule []",
+        Some((5, 24)),
+    ),
+    (
+        "[] module M sort S{} [] symbol a{}() : S{} [] symbol a{}() : U{} [] endmodule \
+            []",
+        Some((5, 46)),
+    ),
+    (
+        "[] module M symbol a{}() : U{} [] sort S{X} [] endmodule []",
+        Some((6, 27)),
+    ),
+    (
+        "[] module M sort S{} [] symbol a{}(\
+            S{},S{},S{},S{},S{},S{},S{},S{},S{},S{},S{},S{},S{},S{},S{},S{},S{},S{},S{},S{},\
+            S{},S{},S{},S{},S{},S{},S{},S{},S{},S{},S{},S{},S{},S{},S{},S{},S{},S{},S{},S{},\
+            S{},S{},S{},S{},S{},S{},S{},S{},S{},S{},S{},S{},S{},S{},S{},S{},S{},S{},S{},S{},\
+            S{},S{},S{},S{},S{}\
+            ) : S{} [] symbol b{}() : U{} [] endmodule []",
+        Some((8, 24)),
+    ),
+    (
+        "[] module M sort S{X} [] symbol a{}() : U{} [] endmodule []",
+        Some((10, 12)),
+    ),
+    (
+        "[] module M sort S{} [] axiom{} \\top{S{}}() [subsort{S{},S{}}()] symbol a{}() \
+            : U{} [] endmodule []",
+        Some((6, 80)),
+    ),
+    (
+        "[] module M sort S{} [] axiom{} \\top{S{}}() [anywhere{}()] axiom{} \
+            \\top{S{}}() [subsort{S{},U{}}()] endmodule []",
+        Some((6, 92)),
+    ),
+    (
+        "[] module M sort S{} [] axiom{} \\top{S{}}() [anywhere{}()] axiom{} \
+            \\top{S{}}() [subsort{S{},S{}}()] endmodule []",
+        Some((24, 59)),
+    ),
+];
+
 /// Faults in the text come first, then those in the names of modules, the declarations, the pairs
 /// of sorts and the axioms.
 #[test]
 fn whole_definitions(rt: HostRuntime) -> Result<(), Fail> {
-    let cases = [
-        ("[] module M # endmodule []", Some((1, 12))),
-        (
-            "[] module M sort S{} [hook{}(\"\\q\")] endmodule []",
-            Some((1, 30)),
-        ),
-        ("[] module M sort S{} endmodule []", Some((2, 21))),
-        ("[] module M endmodule [", Some((2, 23))),
-        (
-            "[] module M import X [] endmodule [] module M endmodule []",
-            Some((5, 37)),
-        ),
-        ("[] module M import N [] endmodule []", Some((4, 12))),
-        (
-            "[] module M endmodule [] module N import M [] import O [] sort S{X} [] \
-                endmodule []",
-            Some((4, 46)),
-        ),
-        (
-            "[] module M import X [] sort S{X} [] axiom{} \\rewrites{U{}}(a{}(),a{}()) [] \
-                endmodule [] module N endmodule []",
-            None,
-        ),
-        (
-            "[] module M sort S{} [] sort S{X} [] endmodule []",
-            Some((5, 24)),
-        ),
-        (
-            "[] module M sort S{} [] symbol a{}() : S{} [] symbol a{}() : U{} [] endmodule \
-                []",
-            Some((5, 46)),
-        ),
-        (
-            "[] module M symbol a{}() : U{} [] sort S{X} [] endmodule []",
-            Some((6, 27)),
-        ),
-        (
-            "[] module M sort S{} [] symbol a{}(\
-                S{},S{},S{},S{},S{},S{},S{},S{},S{},S{},S{},S{},S{},S{},S{},S{},S{},S{},S{},S{},\
-                S{},S{},S{},S{},S{},S{},S{},S{},S{},S{},S{},S{},S{},S{},S{},S{},S{},S{},S{},S{},\
-                S{},S{},S{},S{},S{},S{},S{},S{},S{},S{},S{},S{},S{},S{},S{},S{},S{},S{},S{},S{},\
-                S{},S{},S{},S{},S{}\
-                ) : S{} [] symbol b{}() : U{} [] endmodule []",
-            Some((8, 24)),
-        ),
-        (
-            "[] module M sort S{X} [] symbol a{}() : U{} [] endmodule []",
-            Some((10, 12)),
-        ),
-        (
-            "[] module M sort S{} [] axiom{} \\top{S{}}() [subsort{S{},S{}}()] symbol a{}() \
-                : U{} [] endmodule []",
-            Some((6, 80)),
-        ),
-        (
-            "[] module M sort S{} [] axiom{} \\top{S{}}() [anywhere{}()] axiom{} \
-                \\top{S{}}() [subsort{S{},U{}}()] endmodule []",
-            Some((6, 92)),
-        ),
-        (
-            "[] module M sort S{} [] axiom{} \\top{S{}}() [anywhere{}()] axiom{} \
-                \\top{S{}}() [subsort{S{},S{}}()] endmodule []",
-            Some((24, 59)),
-        ),
-    ];
-    for (text, expected) in cases {
-        assert!(rt; refusal(rt.alloc(), text)? == expected, "{text}");
+    for (text, expected) in &DEFINITIONS {
+        assert!(rt; refusal(rt.alloc(), text)? == *expected, "{text}");
     }
     Ok(())
 }
+
+/// The number of the refusal of these axioms, and its byte after the declarations.
+fn refusal_of_axioms(alloc: Global, axioms: &str) -> Result<Option<(u8, u32)>, Fail> {
+    let text = format!(in alloc; "{DECLARED}{axioms} endmodule []")?;
+    match refusal(alloc, text.as_str())? {
+        Some((number, byte)) => Ok(Some((number, byte.saturating_sub(DECLARED.len() as u32)))),
+        None => Ok(None),
+    }
+}
+
+/// Axioms with the number of their refusal and its byte after the declarations.
+static AXIOMS: [(&str, Option<(u8, u32)>); 23] = [
+    ("axiom{} \\rewrites{S{}}(a{}(),b{}()) []", None),
+    (
+        "axiom{} \\top{S{}}() [overload{}()] axiom{} \\top{S{}}() [anywhere{}()]",
+        Some((21, 0)),
+    ),
+    (
+        "axiom{} \\top{S{}}() [overload{}(),anywhere{}()] axiom{} \
+            \\rewrites{U{}}(x{}(),a{}()) []",
+        Some((20, 0)),
+    ),
+    ("axiom{} \\top{S{}}() [subsort{I{},S{}}(),owise{}()]", None),
+    (
+        "axiom{} \\rewrites{S{}}(a{}(),x{}()) [] axiom{} \\rewrites{U{}}(x{}(),a{}()) \
+            []",
+        Some((7, 29)),
+    ),
+    (
+        "axiom{} \\rewrites{U{}}(\\or{S{}}(a{}()),\\exists{S{}}(X:S{},b{}())) \
+            [priority{}(\"x\")]",
+        Some((13, 0)),
+    ),
+    (
+        "axiom{} \\rewrites{U{}}(a{}(),\\exists{S{}}(X:S{},b{}())) [priority{}(\"x\")]",
+        Some((15, 0)),
+    ),
+    (
+        "axiom{} \\rewrites{S{}}(a{}(),\\and{S{}}(a{}(),b{}())) [priority{}(\"x\")]",
+        Some((16, 0)),
+    ),
+    (
+        "axiom{} \\rewrites{S{}}(\\and{S{}}(a{}(),b{}()),b{}()) [priority{}(\"x\")]",
+        Some((17, 0)),
+    ),
+    (
+        "axiom{} \\rewrites{S{}}(c{}(\\and{S{}}(a{}(),b{}()),x{}()),b{}()) \
+            [priority{}(\"x\")]",
+        Some((22, 0)),
+    ),
+    (
+        "axiom{} \\rewrites{U{}}(a{}(),b{}()) [priority{}(\"\")]",
+        Some((23, 0)),
+    ),
+    ("axiom{} \\rewrites{U{}}(x{}(),b{}()) []", Some((6, 18))),
+    (
+        "axiom{} \\rewrites{S{}}(a{}(b{}()),x{}()) []",
+        Some((8, 23)),
+    ),
+    ("axiom{} \\rewrites{S{}}(t{}(),x{}()) []", Some((9, 23))),
+    (
+        "axiom{} \\rewrites{S{}}(i{}(\\dv{I{}}(\"x\")),n{}()) []",
+        Some((11, 36)),
+    ),
+    ("axiom{} \\rewrites{S{}}(n{}(),x{}()) []", Some((25, 23))),
+    (
+        "axiom{} \\rewrites{S{}}(c{}(f{}(a{}()),b{}()),X:S{}) []",
+        Some((12, 0)),
+    ),
+    (
+        "axiom{} \\rewrites{S{}}(c{}(a{}(),b{}()),X:S{}) []",
+        Some((14, 0)),
+    ),
+    ("axiom{} \\rewrites{S{}}(a{}(),X:S{}) []", Some((18, 0))),
+    (
+        "axiom{} \\rewrites{S{}}(a{}(),b{}()) [] axiom{} \\rewrites{T{}}(t{}(),t{}()) \
+            []",
+        Some((19, 39)),
+    ),
+    (
+        "axiom{} \\rewrites{S{}}(a{}(),b{}()) [] axiom{} \\rewrites{T{}}(t{}(),X:T{}) \
+            []",
+        Some((18, 39)),
+    ),
+    ("axiom{R} \\equals{S{},R}(f{}(x{}()),X:S{}) []", None),
+    ("claim{} \\rewrites{U{}}(x{}(),b{}()) []", None),
+];
 
 /// Each refusal of an axiom, by its byte after the declarations. The axioms come in the order of
 /// the file. In one axiom its form comes first, then its sorts, then its uses.
 #[test]
 fn axioms(rt: HostRuntime) -> Result<(), Fail> {
-    let cases = [
-        ("axiom{} \\rewrites{S{}}(a{}(),b{}()) []", None),
-        (
-            "axiom{} \\top{S{}}() [overload{}()] axiom{} \\top{S{}}() [anywhere{}()]",
-            Some((21, 0)),
-        ),
-        (
-            "axiom{} \\top{S{}}() [overload{}(),anywhere{}()] axiom{} \
-                \\rewrites{U{}}(x{}(),a{}()) []",
-            Some((20, 0)),
-        ),
-        ("axiom{} \\top{S{}}() [subsort{I{},S{}}(),owise{}()]", None),
-        (
-            "axiom{} \\rewrites{S{}}(a{}(),x{}()) [] axiom{} \\rewrites{U{}}(x{}(),a{}()) \
-                []",
-            Some((7, 29)),
-        ),
-        (
-            "axiom{} \\rewrites{U{}}(\\or{S{}}(a{}()),\\exists{S{}}(X:S{},b{}())) \
-                [priority{}(\"x\")]",
-            Some((13, 0)),
-        ),
-        (
-            "axiom{} \\rewrites{U{}}(a{}(),\\exists{S{}}(X:S{},b{}())) [priority{}(\"x\")]",
-            Some((15, 0)),
-        ),
-        (
-            "axiom{} \\rewrites{S{}}(a{}(),\\and{S{}}(a{}(),b{}())) [priority{}(\"x\")]",
-            Some((16, 0)),
-        ),
-        (
-            "axiom{} \\rewrites{S{}}(\\and{S{}}(a{}(),b{}()),b{}()) [priority{}(\"x\")]",
-            Some((17, 0)),
-        ),
-        (
-            "axiom{} \\rewrites{S{}}(c{}(\\and{S{}}(a{}(),b{}()),x{}()),b{}()) \
-                [priority{}(\"x\")]",
-            Some((22, 0)),
-        ),
-        (
-            "axiom{} \\rewrites{U{}}(a{}(),b{}()) [priority{}(\"\")]",
-            Some((23, 0)),
-        ),
-        ("axiom{} \\rewrites{U{}}(x{}(),b{}()) []", Some((6, 18))),
-        (
-            "axiom{} \\rewrites{S{}}(a{}(b{}()),x{}()) []",
-            Some((8, 23)),
-        ),
-        ("axiom{} \\rewrites{S{}}(t{}(),x{}()) []", Some((9, 23))),
-        (
-            "axiom{} \\rewrites{S{}}(i{}(\\dv{I{}}(\"x\")),n{}()) []",
-            Some((11, 36)),
-        ),
-        ("axiom{} \\rewrites{S{}}(n{}(),x{}()) []", Some((25, 23))),
-        (
-            "axiom{} \\rewrites{S{}}(c{}(f{}(a{}()),b{}()),X:S{}) []",
-            Some((12, 0)),
-        ),
-        (
-            "axiom{} \\rewrites{S{}}(c{}(a{}(),b{}()),X:S{}) []",
-            Some((14, 0)),
-        ),
-        ("axiom{} \\rewrites{S{}}(a{}(),X:S{}) []", Some((18, 0))),
-        (
-            "axiom{} \\rewrites{S{}}(a{}(),b{}()) [] axiom{} \\rewrites{T{}}(t{}(),t{}()) \
-                []",
-            Some((19, 39)),
-        ),
-        (
-            "axiom{} \\rewrites{S{}}(a{}(),b{}()) [] axiom{} \\rewrites{T{}}(t{}(),X:T{}) \
-                []",
-            Some((18, 39)),
-        ),
-        ("axiom{R} \\equals{S{},R}(f{}(x{}()),X:S{}) []", None),
-        ("claim{} \\rewrites{U{}}(x{}(),b{}()) []", None),
-    ];
-    for (axioms, expected) in cases {
-        let text = format!(in rt.alloc(); "{DECLARED}{axioms} endmodule []")?;
-        let found = match refusal(rt.alloc(), text.as_str())? {
-            Some((number, byte)) => Some((number, byte.saturating_sub(DECLARED.len() as u32))),
-            None => None,
-        };
-        assert!(rt; found == expected, "{axioms}");
+    for (axioms, expected) in &AXIOMS {
+        assert!(rt;
+            refusal_of_axioms(rt.alloc(), axioms)? == *expected,
+            "{axioms}"
+        );
     }
     Ok(())
 }
+
+/// Terms with the number and the byte of their refusal.
+static TERMS: [(&str, Option<(u8, u32)>); 20] = [
+    ("a{}()", None),
+    (" a{}() // c", None),
+    ("f{}(a{}())", None),
+    ("i{}(\\dv{I{}}(\"007\"))", None),
+    ("\\left-assoc{}(c{}(a{}()))", None),
+    ("\\left-assoc{}(c{}(a{}(),b{}(),a{}()))", None),
+    ("a{}(", Some((2, 4))),
+    ("\"x\"", Some((2, 0))),
+    ("#", Some((1, 0))),
+    ("c{}(x{}(),X:S{})", Some((26, 10))),
+    ("c{}(x{}(),\\top{S{}}())", Some((26, 10))),
+    ("\\and{S{}}(x{}(),X:S{})", Some((26, 0))),
+    ("\\left-assoc{}(\\and{S{}}(a{}(),b{}()))", Some((26, 14))),
+    ("c{}(x{}(),t{}())", Some((7, 4))),
+    ("c{}(t{}(),x{}())", Some((9, 4))),
+    ("a{}(x{}())", Some((8, 0))),
+    ("i{}(\\dv{I{}}(\"x\"))", Some((11, 13))),
+    ("i{}(\\dv{U{}}(\"x\"))", Some((6, 8))),
+    ("n{}()", Some((25, 0))),
+    (" t{}()", Some((19, 0))),
+];
 
 /// Each refusal of a term, and their order.
 #[test]
@@ -261,31 +296,9 @@ fn terms(rt: HostRuntime) -> Result<(), Fail> {
     let definition = format!(in rt.alloc();
         "{DECLARED}axiom{{}} \\rewrites{{S{{}}}}(a{{}}(),b{{}}()) [] endmodule []"
     )?;
-    let cases = [
-        ("a{}()", None),
-        (" a{}() // c", None),
-        ("f{}(a{}())", None),
-        ("i{}(\\dv{I{}}(\"007\"))", None),
-        ("\\left-assoc{}(c{}(a{}()))", None),
-        ("\\left-assoc{}(c{}(a{}(),b{}(),a{}()))", None),
-        ("a{}(", Some((2, 4))),
-        ("\"x\"", Some((2, 0))),
-        ("#", Some((1, 0))),
-        ("c{}(x{}(),X:S{})", Some((26, 10))),
-        ("c{}(x{}(),\\top{S{}}())", Some((26, 10))),
-        ("\\and{S{}}(x{}(),X:S{})", Some((26, 0))),
-        ("\\left-assoc{}(\\and{S{}}(a{}(),b{}()))", Some((26, 14))),
-        ("c{}(x{}(),t{}())", Some((7, 4))),
-        ("c{}(t{}(),x{}())", Some((9, 4))),
-        ("a{}(x{}())", Some((8, 0))),
-        ("i{}(\\dv{I{}}(\"x\"))", Some((11, 13))),
-        ("i{}(\\dv{U{}}(\"x\"))", Some((6, 8))),
-        ("n{}()", Some((25, 0))),
-        (" t{}()", Some((19, 0))),
-    ];
-    for (term, expected) in cases {
+    for (term, expected) in &TERMS {
         assert!(rt;
-            refusal_of_term(rt.alloc(), definition.as_str(), term)? == expected,
+            refusal_of_term(rt.alloc(), definition.as_str(), term)? == *expected,
             "{term}"
         );
     }
@@ -353,13 +366,13 @@ fn equations_of(program: &Program, name: &str) -> usize {
 /// A definition as kompile writes it is accepted, and so is its term. `append` has two equations.
 /// The sum of numbers has the values of its hook. The function with the hook of maps is closed.
 #[test]
-fn addition(rt: HostRuntime) -> Result<(), Fail> {
+fn addition(rt: HostRuntime) {
     let term = "Lbl'-LT-'k'-GT-'{}(kseq{}(inj{SortExp{},SortKItem{}}(Lbl'UndsPlusUnds'{}(inj\
         {SortInt{},SortExp{}}(\\dv{SortInt{}}(\"2\")),inj{SortInt{},\
         SortExp{}}(\\dv{SortInt{}}(\"3\")))),dotk{}()))";
     assert!(rt; ADDITION.len() < LONGEST, "long");
     let Ok(program) = accept(rt.alloc(), ADDITION.as_bytes()) else {
-        return Err(Fail::from("refused"));
+        panic!(rt; "refused");
     };
     assert!(rt;
         accept_term(rt.alloc(), &program, term.as_bytes()).is_ok(),
@@ -388,7 +401,6 @@ fn addition(rt: HostRuntime) -> Result<(), Fail> {
         kind_of(&program, "Lbl'Unds'Map'Unds'") == Some(SymKind::Closed),
         "the map"
     );
-    Ok(())
 }
 
 /// Rules are ordered by priority, and those with the same priority by the order of the file.
@@ -400,11 +412,9 @@ fn order_of_trial(rt: HostRuntime) -> Result<(), Fail> {
         axiom{{}} \\rewrites{{S{{}}}}(X:S{{}},a{{}}()) [] \
         axiom{{}} \\rewrites{{S{{}}}}(a{{}}(),b{{}}()) [] endmodule []"
     )?;
-    if text.len() > LONGEST {
-        return Err(Fail::from("long"));
-    }
+    assert!(rt; text.len() <= LONGEST, "long");
     let Ok(program) = accept(rt.alloc(), text.as_bytes()) else {
-        return Err(Fail::from("refused"));
+        panic!(rt; "refused");
     };
     let mut last = (0, 0);
     for rule in &program.rules {
@@ -417,15 +427,13 @@ fn order_of_trial(rt: HostRuntime) -> Result<(), Fail> {
 
 /// No proper prefix of a definition is accepted.
 #[test]
-fn prefixes(rt: HostRuntime) -> Result<(), Fail> {
+fn prefixes(rt: HostRuntime) {
     let text = "[] module A sort S{} [] symbol a{}() : S{} [constructor{}()] symbol b{}() : S{} \
             [constructor{}()] \
         axiom{} \\rewrites{S{}}(\\and{S{}}(a{}(),\\top{S{}}()),\\and{S{}}(b{}(),\\top{S{}}())) [] \
         endmodule []";
     let bytes = text.as_bytes();
-    if bytes.len() > LONGEST {
-        return Err(Fail::from("long"));
-    }
+    assert!(rt; bytes.len() <= LONGEST, "long");
     for len in 0..bytes.len() {
         match accept(rt.alloc(), &bytes[..len]) {
             Err(Refusal::Refused(number, byte)) => {
@@ -434,8 +442,7 @@ fn prefixes(rt: HostRuntime) -> Result<(), Fail> {
                     "{len}"
                 );
             }
-            _ => return Err(Fail::from("accepted")),
+            _ => panic!(rt; "accepted at {len}"),
         }
     }
-    Ok(())
 }

@@ -35,46 +35,54 @@ fn of_definition(alloc: Global, text: &str) -> Result<String, AllocError> {
     shown(alloc, read_definition(alloc, text.as_bytes()))
 }
 
+/// Patterns, and how they are read.
+static PATTERNS: [(&str, &str); 10] = [
+    ("a{}()", "read"),
+    (" a // \n{ /* ) */ } (\t) //", "read"),
+    ("f{S,T{U{}}}(X:S{},@Y:T,\\top{S}())", "read"),
+    ("\\exists{S}(X:S,\\mu{}(@Y:S,@Y:S))", "read"),
+    ("\\dv{S{}}(\"\\x41\")", "read"),
+    ("\\left-assoc{}(f{}(a{}(),b{}()))", "read"),
+    ("", "syntax 0"),
+    ("a{}() a{}()", "syntax 6"),
+    ("\"text\"", "syntax 0"),
+    ("a_b{}()", "lex 1"),
+];
+
 #[test]
 fn patterns(rt: HostRuntime) -> Result<(), Fail> {
-    let cases = [
-        ("a{}()", "read"),
-        (" a // \n{ /* ) */ } (\t) //", "read"),
-        ("f{S,T{U{}}}(X:S{},@Y:T,\\top{S}())", "read"),
-        ("\\exists{S}(X:S,\\mu{}(@Y:S,@Y:S))", "read"),
-        ("\\dv{S{}}(\"\\x41\")", "read"),
-        ("\\left-assoc{}(f{}(a{}(),b{}()))", "read"),
-        ("", "syntax 0"),
-        ("a{}() a{}()", "syntax 6"),
-        ("\"text\"", "syntax 0"),
-        ("a_b{}()", "lex 1"),
-    ];
-    for (text, result) in cases {
-        assert_eq!(rt; of_pattern(rt.alloc(), text)?.as_str(), result, "{text}");
+    for (text, result) in &PATTERNS {
+        assert_eq!(rt; of_pattern(rt.alloc(), text)?.as_str(), *result, "{text}");
     }
     Ok(())
 }
 
+/// Definitions, and how they are read.
+static DEFINITIONS: [(&str, &str); 7] = [
+    ("[] module M endmodule []", "read"),
+    (
+        "[a{}(\"x\"), b{}()] module M import N [] hooked-sort S{A} [] symbol a{}() : S{} [] \
+         axiom{R} \\top{R}() [] claim{} a{}() [c{}(\"\")] endmodule [] module N endmodule []",
+        "read",
+    ),
+    (
+        "[] module M alias a{}(S) : S where a{S}(X:S) := a{}() [] endmodule []",
+        "read",
+    ),
+    ("[] module module sort sort{} [] endmodule []", "read"),
+    ("", "syntax 0"),
+    ("[a{}(\"x", "lex 5"),
+    ("[] module M", "syntax 11"),
+];
+
 #[test]
 fn definitions(rt: HostRuntime) -> Result<(), Fail> {
-    let cases = [
-        ("[] module M endmodule []", "read"),
-        (
-            "[a{}(\"x\"), b{}()] module M import N [] hooked-sort S{A} [] symbol a{}() : S{} [] \
-             axiom{R} \\top{R}() [] claim{} a{}() [c{}(\"\")] endmodule [] module N endmodule []",
-            "read",
-        ),
-        (
-            "[] module M alias a{}(S) : S where a{S}(X:S) := a{}() [] endmodule []",
-            "read",
-        ),
-        ("[] module module sort sort{} [] endmodule []", "read"),
-        ("", "syntax 0"),
-        ("[a{}(\"x", "lex 5"),
-        ("[] module M", "syntax 11"),
-    ];
-    for (text, result) in cases {
-        assert_eq!(rt; of_definition(rt.alloc(), text)?.as_str(), result, "{text}");
+    for (text, result) in &DEFINITIONS {
+        assert_eq!(rt;
+            of_definition(rt.alloc(), text)?.as_str(),
+            *result,
+            "{text}"
+        );
     }
     Ok(())
 }

@@ -74,118 +74,120 @@ fn fault_of<'a>(
     }
 }
 
+/// Axioms with their first fault.
+static FAULTS: [(&str, Option<(u8, u32)>); 30] = [
+    ("axiom{} \\rewrites{S{}}(a{}(),b{}()) []", None),
+    (
+        "axiom{} \\rewrites{S{}}(\\and{S{}}(a{}(),\\top{S{}}()),\\and{S{}}(b{}(),\
+            \\top{S{}}())) [assoc{}()]",
+        None,
+    ),
+    (
+        "axiom{} \\rewrites{S{}}(c{}(a{}(),b{}()),b{}()) [overload{}(),anywhere{}()]",
+        Some((20, 0)),
+    ),
+    ("axiom{} \\top{S{}}() [symbol-overload{}()]", Some((21, 0))),
+    (
+        "axiom{} \\top{S{}}() [subsort{S{},T{}}(),anywhere{}()]",
+        Some((20, 0)),
+    ),
+    (
+        "axiom{} \\rewrites{U{}}(\\or{S{}}(a{}()),\\exists{S{}}(X:S{},b{}())) []",
+        Some((13, 0)),
+    ),
+    (
+        "axiom{} \\rewrites{U{}}(\\and{T{}}(a{}(),\\top{S{}}()),b{}()) [priority{}(\"x\")]",
+        Some((13, 0)),
+    ),
+    (
+        "axiom{} \\rewrites{U{}}(a{}(),\\exists{S{}}(X:S{},b{}())) [priority{}(\"x\")]",
+        Some((15, 0)),
+    ),
+    (
+        "axiom{} \\rewrites{S{}}(a{}(),\\and{S{}}(a{}(),b{}())) [priority{}(\"x\")]",
+        Some((16, 0)),
+    ),
+    (
+        "axiom{} \\rewrites{S{}}(\\and{S{}}(a{}(),b{}()),b{}()) [priority{}(\"x\")]",
+        Some((17, 0)),
+    ),
+    (
+        "axiom{} \\rewrites{S{}}(\\and{S{}}(a{}(),\\equals{T{},S{}}(t{}(),\
+            \\dv{T{}}(\"true\"))),b{}()) []",
+        Some((17, 0)),
+    ),
+    (
+        "axiom{} \\rewrites{S{}}(f{}(\\and{S{}}(a{}(),b{}())),b{}()) [priority{}(\"x\")]",
+        Some((22, 0)),
+    ),
+    (
+        "axiom{} \\rewrites{U{}}(a{}(),b{}()) [priority{}(\"+1\")]",
+        Some((23, 0)),
+    ),
+    (
+        "axiom{} \\rewrites{U{}}(a{}(),b{}()) [priority{}(\"1234567890\")]",
+        Some((23, 0)),
+    ),
+    ("axiom{} \\rewrites{U{}}(x{}(),b{}()) []", Some((6, 18))),
+    (
+        "axiom{} \\rewrites{S{}}(x{}(),a{}(b{}())) []",
+        Some((7, 23)),
+    ),
+    (
+        "axiom{} \\rewrites{S{}}(a{}(b{}()),x{}()) []",
+        Some((8, 23)),
+    ),
+    ("axiom{} \\rewrites{S{}}(t{}(),b{}()) []", Some((9, 23))),
+    (
+        "axiom{} \\rewrites{S{}}(i{}(\\dv{I{}}(\"x\")),b{}()) []",
+        Some((11, 36)),
+    ),
+    ("axiom{} \\rewrites{S{}}(n{}(),b{}()) []", Some((25, 23))),
+    (
+        "axiom{} \\rewrites{S{}}(a{}(),\\and{S{}}(\\top{T{}}(),b{}())) []",
+        Some((9, 39)),
+    ),
+    (
+        "axiom{} \\rewrites{S{}}(c{}(f{}(a{}()),b{}()),X:S{}) []",
+        Some((12, 0)),
+    ),
+    (
+        "axiom{} \\rewrites{S{}}(m{}(a{}(),b{}()),X:S{}) []",
+        Some((14, 0)),
+    ),
+    (
+        "axiom{} \\rewrites{S{}}(\\left-assoc{}(c{}(a{}(),b{}())),X:S{}) []",
+        Some((14, 0)),
+    ),
+    (
+        "axiom{} \\rewrites{S{}}(\\left-assoc{}(c{}(a{}())),b{}()) []",
+        None,
+    ),
+    ("axiom{} \\rewrites{S{}}(a{}(),X:S{}) []", Some((18, 0))),
+    (
+        "axiom{} \\rewrites{S{}}(\\and{S{}}(a{}(),\\equals{B{},S{}}(is{}(X:S{}),\
+            \\dv{B{}}(\"true\"))),b{}()) []",
+        Some((18, 0)),
+    ),
+    (
+        "axiom{} \\rewrites{S{}}(\\and{S{}}(i{}(X:I{}),\\equals{B{},S{}}(is{}(i{}(X:I{})),\
+            \\dv{B{}}(\"true\"))),\
+            i{}(X:I{})) []",
+        None,
+    ),
+    (
+        "axiom{} \\rewrites{S{}}(a{}(),b{}()) [] axiom{} \\rewrites{T{}}(t{}(),t{}()) []",
+        Some((19, 39)),
+    ),
+    ("axiom{R} \\equals{S{},R}(f{}(a{}()),x{}()) []", None),
+];
+
 /// Each refusal of an axiom, and their order in one axiom: by number in the form and in the uses,
 /// by byte in the sorts.
 #[test]
 fn first_faults(rt: HostRuntime) -> Result<(), Fail> {
-    let cases = [
-        ("axiom{} \\rewrites{S{}}(a{}(),b{}()) []", None),
-        (
-            "axiom{} \\rewrites{S{}}(\\and{S{}}(a{}(),\\top{S{}}()),\\and{S{}}(b{}(),\
-                \\top{S{}}())) [assoc{}()]",
-            None,
-        ),
-        (
-            "axiom{} \\rewrites{S{}}(c{}(a{}(),b{}()),b{}()) [overload{}(),anywhere{}()]",
-            Some((20, 0)),
-        ),
-        ("axiom{} \\top{S{}}() [symbol-overload{}()]", Some((21, 0))),
-        (
-            "axiom{} \\top{S{}}() [subsort{S{},T{}}(),anywhere{}()]",
-            Some((20, 0)),
-        ),
-        (
-            "axiom{} \\rewrites{U{}}(\\or{S{}}(a{}()),\\exists{S{}}(X:S{},b{}())) []",
-            Some((13, 0)),
-        ),
-        (
-            "axiom{} \\rewrites{U{}}(\\and{T{}}(a{}(),\\top{S{}}()),b{}()) [priority{}(\"x\")]",
-            Some((13, 0)),
-        ),
-        (
-            "axiom{} \\rewrites{U{}}(a{}(),\\exists{S{}}(X:S{},b{}())) [priority{}(\"x\")]",
-            Some((15, 0)),
-        ),
-        (
-            "axiom{} \\rewrites{S{}}(a{}(),\\and{S{}}(a{}(),b{}())) [priority{}(\"x\")]",
-            Some((16, 0)),
-        ),
-        (
-            "axiom{} \\rewrites{S{}}(\\and{S{}}(a{}(),b{}()),b{}()) [priority{}(\"x\")]",
-            Some((17, 0)),
-        ),
-        (
-            "axiom{} \\rewrites{S{}}(\\and{S{}}(a{}(),\\equals{T{},S{}}(t{}(),\
-                \\dv{T{}}(\"true\"))),b{}()) []",
-            Some((17, 0)),
-        ),
-        (
-            "axiom{} \\rewrites{S{}}(f{}(\\and{S{}}(a{}(),b{}())),b{}()) [priority{}(\"x\")]",
-            Some((22, 0)),
-        ),
-        (
-            "axiom{} \\rewrites{U{}}(a{}(),b{}()) [priority{}(\"+1\")]",
-            Some((23, 0)),
-        ),
-        (
-            "axiom{} \\rewrites{U{}}(a{}(),b{}()) [priority{}(\"1234567890\")]",
-            Some((23, 0)),
-        ),
-        ("axiom{} \\rewrites{U{}}(x{}(),b{}()) []", Some((6, 18))),
-        (
-            "axiom{} \\rewrites{S{}}(x{}(),a{}(b{}())) []",
-            Some((7, 23)),
-        ),
-        (
-            "axiom{} \\rewrites{S{}}(a{}(b{}()),x{}()) []",
-            Some((8, 23)),
-        ),
-        ("axiom{} \\rewrites{S{}}(t{}(),b{}()) []", Some((9, 23))),
-        (
-            "axiom{} \\rewrites{S{}}(i{}(\\dv{I{}}(\"x\")),b{}()) []",
-            Some((11, 36)),
-        ),
-        ("axiom{} \\rewrites{S{}}(n{}(),b{}()) []", Some((25, 23))),
-        (
-            "axiom{} \\rewrites{S{}}(a{}(),\\and{S{}}(\\top{T{}}(),b{}())) []",
-            Some((9, 39)),
-        ),
-        (
-            "axiom{} \\rewrites{S{}}(c{}(f{}(a{}()),b{}()),X:S{}) []",
-            Some((12, 0)),
-        ),
-        (
-            "axiom{} \\rewrites{S{}}(m{}(a{}(),b{}()),X:S{}) []",
-            Some((14, 0)),
-        ),
-        (
-            "axiom{} \\rewrites{S{}}(\\left-assoc{}(c{}(a{}(),b{}())),X:S{}) []",
-            Some((14, 0)),
-        ),
-        (
-            "axiom{} \\rewrites{S{}}(\\left-assoc{}(c{}(a{}())),b{}()) []",
-            None,
-        ),
-        ("axiom{} \\rewrites{S{}}(a{}(),X:S{}) []", Some((18, 0))),
-        (
-            "axiom{} \\rewrites{S{}}(\\and{S{}}(a{}(),\\equals{B{},S{}}(is{}(X:S{}),\
-                \\dv{B{}}(\"true\"))),b{}()) []",
-            Some((18, 0)),
-        ),
-        (
-            "axiom{} \\rewrites{S{}}(\\and{S{}}(i{}(X:I{}),\\equals{B{},S{}}(is{}(i{}(X:I{})),\
-                \\dv{B{}}(\"true\"))),\
-                i{}(X:I{})) []",
-            None,
-        ),
-        (
-            "axiom{} \\rewrites{S{}}(a{}(),b{}()) [] axiom{} \\rewrites{T{}}(t{}(),t{}()) []",
-            Some((19, 39)),
-        ),
-        ("axiom{R} \\equals{S{},R}(f{}(a{}()),x{}()) []", None),
-    ];
-    for (axioms, expected) in cases {
-        assert!(rt; first_fault(rt.alloc(), axioms)? == expected, "{axioms}");
+    for (axioms, expected) in &FAULTS {
+        assert!(rt; first_fault(rt.alloc(), axioms)? == *expected, "{axioms}");
     }
     Ok(())
 }

@@ -124,7 +124,7 @@ fn builds_a_pattern(rt: HostRuntime) -> Result<(), Fail> {
     let mut first = None;
     note_pattern(&sig, &pat, &mut first);
     if let Some(_fault) = first {
-        return Err("a fault".into());
+        panic!(rt; "a fault");
     }
     let mut vars = Variables::new(alloc);
     let made = build_pattern(alloc, &sig, &pat, &mut vars)?;

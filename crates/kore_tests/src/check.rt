@@ -40,6 +40,19 @@ pub(crate) fn small_signature(rt: &impl Abort, alloc: Global) -> Result<Signatur
     Ok(sig)
 }
 
+// The number and the byte of the first fault of a pattern's text.
+fn first_fault(alloc: Global, sig: &Signature, text: &str) -> Result<Option<(u8, u32)>, Fail>
+    requires { IsNumbered sig.now }
+{
+    if text.len() >= 10_000 {
+        return Err(Fail::from("long"));
+    }
+    let pat = read_pattern(alloc, text.as_bytes())?;
+    let mut first = None;
+    note_pattern(sig, &pat, &mut first);
+    Ok(first.map(|fault| (fault.kind.number(), fault.at)))
+}
+
 // Each pattern has the fault with this number at this byte.
 fn expect_faults(
     rt: &impl Abort,
@@ -48,126 +61,130 @@ fn expect_faults(
 ) -> Result<(), Fail> {
     let sig = small_signature(rt, alloc)?;
     for (text, expected) in rows {
-        let bytes = text.as_bytes();
-        assert!(rt; bytes.len() < 10_000);
-        let pat = read_pattern(alloc, bytes)?;
-        let mut first = None;
-        note_pattern(&sig, &pat, &mut first);
-        assert_eq!(rt;
-            first.map(|fault| (fault.kind.number(), fault.at)),
-            *expected,
-            "{text}"
-        );
+        let found = first_fault(alloc, &sig, text);
+        assert!(rt; matches!(found, Ok(fault) if fault == *expected), "{text}");
     }
     Ok(())
 }
 
+/// Patterns without a fault.
+static FAULTLESS: [(&str, Option<(u8, u32)>); 11] = [
+    ("a{}()", None),
+    ("X:Exp{}", None),
+    ("pair{}(a{}(),X:Exp{})", None),
+    (r#"inj{Int{},Exp{}}(\dv{Int{}}("1"))"#, None),
+    (r#"\dv{Exp{}}(" any \"text\" ")"#, None),
+    (r#"\dv{Bool{}}("true")"#, None),
+    (r#"\dv{Int{}}("007")"#, None),
+    (r#"\dv{Int{}}("-0")"#, None),
+    (r#"\dv{Int{}}("+7")"#, None),
+    (
+        r#"\dv{Int{}}("170141183460469231731687303715884105727")"#,
+        None,
+    ),
+    (
+        r#"\dv{Int{}}("-170141183460469231731687303715884105728")"#,
+        None,
+    ),
+];
+
 #[test]
 fn finds_no_fault(rt: HostRuntime) -> Result<(), Fail> {
-    let rows = [
-        ("a{}()", None),
-        ("X:Exp{}", None),
-        ("pair{}(a{}(),X:Exp{})", None),
-        (r#"inj{Int{},Exp{}}(\dv{Int{}}("1"))"#, None),
-        (r#"\dv{Exp{}}(" any \"text\" ")"#, None),
-        (r#"\dv{Bool{}}("true")"#, None),
-        (r#"\dv{Int{}}("007")"#, None),
-        (r#"\dv{Int{}}("-0")"#, None),
-        (r#"\dv{Int{}}("+7")"#, None),
-        (
-            r#"\dv{Int{}}("170141183460469231731687303715884105727")"#,
-            None,
-        ),
-        (
-            r#"\dv{Int{}}("-170141183460469231731687303715884105728")"#,
-            None,
-        ),
-    ];
-    expect_faults(&rt, rt.alloc(), &rows)
+    expect_faults(&rt, rt.alloc(), &FAULTLESS)
 }
+
+/// Patterns with a name that is not declared.
+static UNKNOWN_NAMES: [(&str, Option<(u8, u32)>); 7] = [
+    ("X:Foo{}", Some((6, 2))),
+    ("X:S", Some((6, 2))),
+    ("X:Exp{Int{}}", Some((6, 2))),
+    (r#"\dv{Foo{}}("1")"#, Some((6, 4))),
+    ("inj{Foo{},Exp{}}(a{}())", Some((6, 4))),
+    ("b{}()", Some((7, 0))),
+    ("none{}()", Some((25, 0))),
+];
 
 #[test]
 fn finds_unknown_names(rt: HostRuntime) -> Result<(), Fail> {
-    let rows = [
-        ("X:Foo{}", Some((6, 2))),
-        ("X:S", Some((6, 2))),
-        ("X:Exp{Int{}}", Some((6, 2))),
-        (r#"\dv{Foo{}}("1")"#, Some((6, 4))),
-        ("inj{Foo{},Exp{}}(a{}())", Some((6, 4))),
-        ("b{}()", Some((7, 0))),
-        ("none{}()", Some((25, 0))),
-    ];
-    expect_faults(&rt, rt.alloc(), &rows)
+    expect_faults(&rt, rt.alloc(), &UNKNOWN_NAMES)
 }
+
+/// Patterns with another number or another sort than is declared.
+static OTHER_NUMBERS_AND_SORTS: [(&str, Option<(u8, u32)>); 9] = [
+    ("a{}(a{}())", Some((8, 0))),
+    ("a{Exp{}}()", Some((8, 0))),
+    ("pair{}(a{}())", Some((8, 0))),
+    ("inj{Int{}}(a{}())", Some((8, 0))),
+    (r#"pair{}(a{}(),\dv{Int{}}("1"))"#, Some((9, 13))),
+    ("pair{}(nil{}(),a{}())", Some((9, 7))),
+    ("inj{Exp{},Exp{}}(a{}())", Some((9, 0))),
+    ("inj{Exp{},Int{}}(a{}())", Some((9, 0))),
+    ("inj{Int{},Exp{}}(a{}())", Some((9, 17))),
+];
 
 #[test]
 fn finds_other_numbers_and_sorts(rt: HostRuntime) -> Result<(), Fail> {
-    let rows = [
-        ("a{}(a{}())", Some((8, 0))),
-        ("a{Exp{}}()", Some((8, 0))),
-        ("pair{}(a{}())", Some((8, 0))),
-        ("inj{Int{}}(a{}())", Some((8, 0))),
-        (r#"pair{}(a{}(),\dv{Int{}}("1"))"#, Some((9, 13))),
-        ("pair{}(nil{}(),a{}())", Some((9, 7))),
-        ("inj{Exp{},Exp{}}(a{}())", Some((9, 0))),
-        ("inj{Exp{},Int{}}(a{}())", Some((9, 0))),
-        ("inj{Int{},Exp{}}(a{}())", Some((9, 17))),
-    ];
-    expect_faults(&rt, rt.alloc(), &rows)
+    expect_faults(&rt, rt.alloc(), &OTHER_NUMBERS_AND_SORTS)
 }
+
+/// Values that are not of their sort.
+static NO_VALUES: [(&str, Option<(u8, u32)>); 8] = [
+    (r#"\dv{Int{}}(" 1")"#, Some((11, 11))),
+    (r#"\dv{Int{}}("1 ")"#, Some((11, 11))),
+    (r#"\dv{Int{}}("")"#, Some((11, 11))),
+    (r#"\dv{Int{}}("-")"#, Some((11, 11))),
+    (r#"\dv{Int{}}("+-1")"#, Some((11, 11))),
+    (
+        r#"\dv{Int{}}("170141183460469231731687303715884105728")"#,
+        Some((11, 11)),
+    ),
+    (
+        r#"\dv{Int{}}("-170141183460469231731687303715884105729")"#,
+        Some((11, 11)),
+    ),
+    (r#"\dv{Bool{}}("True")"#, Some((11, 12))),
+];
 
 #[test]
 fn finds_texts_that_are_no_values(rt: HostRuntime) -> Result<(), Fail> {
-    let rows = [
-        (r#"\dv{Int{}}(" 1")"#, Some((11, 11))),
-        (r#"\dv{Int{}}("1 ")"#, Some((11, 11))),
-        (r#"\dv{Int{}}("")"#, Some((11, 11))),
-        (r#"\dv{Int{}}("-")"#, Some((11, 11))),
-        (r#"\dv{Int{}}("+-1")"#, Some((11, 11))),
-        (
-            r#"\dv{Int{}}("170141183460469231731687303715884105728")"#,
-            Some((11, 11)),
-        ),
-        (
-            r#"\dv{Int{}}("-170141183460469231731687303715884105729")"#,
-            Some((11, 11)),
-        ),
-        (r#"\dv{Bool{}}("True")"#, Some((11, 12))),
-    ];
-    expect_faults(&rt, rt.alloc(), &rows)
+    expect_faults(&rt, rt.alloc(), &NO_VALUES)
 }
+
+/// Patterns with more than one fault.
+static FIRST_OF_TWO: [(&str, Option<(u8, u32)>); 5] = [
+    ("pair{}(b{}(),c{}())", Some((7, 7))),
+    ("pair{}(X:Foo{},b{}())", Some((6, 9))),
+    ("pair{}(nil{}(),b{}())", Some((9, 7))),
+    ("none{}(b{}())", Some((8, 0))),
+    ("inj{Exp{},Exp{}}(b{}())", Some((9, 0))),
+];
 
 // The first of two faults, and at one byte the smaller number.
 #[test]
 fn finds_the_first_fault(rt: HostRuntime) -> Result<(), Fail> {
-    let rows = [
-        ("pair{}(b{}(),c{}())", Some((7, 7))),
-        ("pair{}(X:Foo{},b{}())", Some((6, 9))),
-        ("pair{}(nil{}(),b{}())", Some((9, 7))),
-        ("none{}(b{}())", Some((8, 0))),
-        ("inj{Exp{},Exp{}}(b{}())", Some((9, 0))),
-    ];
-    expect_faults(&rt, rt.alloc(), &rows)
+    expect_faults(&rt, rt.alloc(), &FIRST_OF_TWO)
 }
+
+/// Folds from the left and from the right.
+static FOLDS: [(&str, Option<(u8, u32)>); 10] = [
+    (r"\left-assoc{}(pair{}(a{}(),a{}(),a{}()))", None),
+    (r"\left-assoc{}(b{}(a{}()))", None),
+    (r"\left-assoc{}(\and{Foo{}}(a{}()))", None),
+    (r"\left-assoc{}(a{}(a{}(),a{}()))", Some((8, 14))),
+    (r"\left-assoc{}(b{}(a{}(),a{}()))", Some((7, 14))),
+    (r"\right-assoc{}(cons{}(a{}(),a{}(),nil{}()))", None),
+    (r"\left-assoc{}(cons{}(a{}(),a{}(),nil{}()))", Some((9, 14))),
+    (r"\left-assoc{}(cons{}(a{}(),nil{}()))", None),
+    (r"\right-assoc{}(cons{}(a{}(),a{}()))", Some((9, 28))),
+    (
+        r#"pair{}(\left-assoc{}(b{}(\dv{Int{}}("1"))),a{}())"#,
+        Some((9, 7)),
+    ),
+];
 
 #[test]
 fn reads_folds(rt: HostRuntime) -> Result<(), Fail> {
-    let rows = [
-        (r"\left-assoc{}(pair{}(a{}(),a{}(),a{}()))", None),
-        (r"\left-assoc{}(b{}(a{}()))", None),
-        (r"\left-assoc{}(\and{Foo{}}(a{}()))", None),
-        (r"\left-assoc{}(a{}(a{}(),a{}()))", Some((8, 14))),
-        (r"\left-assoc{}(b{}(a{}(),a{}()))", Some((7, 14))),
-        (r"\right-assoc{}(cons{}(a{}(),a{}(),nil{}()))", None),
-        (r"\left-assoc{}(cons{}(a{}(),a{}(),nil{}()))", Some((9, 14))),
-        (r"\left-assoc{}(cons{}(a{}(),nil{}()))", None),
-        (r"\right-assoc{}(cons{}(a{}(),a{}()))", Some((9, 28))),
-        (
-            r#"pair{}(\left-assoc{}(b{}(\dv{Int{}}("1"))),a{}())"#,
-            Some((9, 7)),
-        ),
-    ];
-    expect_faults(&rt, rt.alloc(), &rows)
+    expect_faults(&rt, rt.alloc(), &FOLDS)
 }
 
 // A fold of so many arguments, from the left or from the right.

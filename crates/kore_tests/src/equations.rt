@@ -69,99 +69,99 @@ fn counts_at(alloc: Global, sig: &Signature, decl: &AxiomDecl) -> Result<Option<
     }
 }
 
+/// Axioms with the counts of their equations.
+static READABLE: [(&str, Counts); 8] = [
+    (
+        "\\equals{S{},R}(f{}(a{}()),p{}(a{}())) []",
+        (0, 1, 0, false),
+    ),
+    (
+        "\\equals{S{},R}(f{}(p{}(X:S{})),\\and{S{}}(f{}(X:S{}),\\top{S{}}())) \
+            [priority{}(\"9\")]",
+        (0, 1, 1, false),
+    ),
+    (
+        "\\implies{R}(\\top{R}(),\\equals{S{},R}(h{}(X:S{},Y:S{}),c{}(Y:S{},X:S{}))) []",
+        (0, 2, 2, false),
+    ),
+    (
+        "\\implies{R}(\\equals{B{},R}(is{}(X:S{}),\\dv{B{}}(\"true\")),\\equals{S{},\
+            R}(f{}(X:S{}),X:S{})) []",
+        (0, 1, 1, true),
+    ),
+    (
+        "\\implies{R}(\\and{R}(\\top{R}(),\\and{R}(\\in{S{},R}(X0:S{},p{}(Y:S{})),\
+            \\top{R}())), \
+        \\equals{S{},R}(f{}(X0:S{}),\\and{S{}}(Y:S{},\\top{S{}}()))) []",
+        (1, 1, 1, false),
+    ),
+    (
+        "\\implies{R}(\\and{R}(\\equals{B{},R}(is{}(X:S{}),\\dv{B{}}(\"true\")),\
+            \\and{R}(\\in{S{},R}(X0:S{},\
+        X:S{}), \
+        \\and{R}(\\in{S{},R}(X1:S{},p{}(X:S{})),\\top{R}()))),\\equals{S{},R}(h{}(X0:S{},\
+        X1:S{}),a{}())) []",
+        (2, 2, 1, true),
+    ),
+    ("\\equals{S{},R}(g{}(),a{}()) []", (0, 0, 0, false)),
+    (
+        "\\implies{R}(\\and{R}(\\top{R}(),\\top{R}()),\\equals{S{},R}(g{}(),a{}())) []",
+        (0, 0, 0, false),
+    ),
+];
+
 /// Equations of both forms, with and without a condition.
 #[test]
 fn readable_equations(rt: HostRuntime) -> Result<(), Fail> {
-    let cases = [
-        (
-            "\\equals{S{},R}(f{}(a{}()),p{}(a{}())) []",
-            (0, 1, 0, false),
-        ),
-        (
-            "\\equals{S{},R}(f{}(p{}(X:S{})),\\and{S{}}(f{}(X:S{}),\\top{S{}}())) \
-                [priority{}(\"9\")]",
-            (0, 1, 1, false),
-        ),
-        (
-            "\\implies{R}(\\top{R}(),\\equals{S{},R}(h{}(X:S{},Y:S{}),c{}(Y:S{},X:S{}))) []",
-            (0, 2, 2, false),
-        ),
-        (
-            "\\implies{R}(\\equals{B{},R}(is{}(X:S{}),\\dv{B{}}(\"true\")),\\equals{S{},\
-                R}(f{}(X:S{}),X:S{})) []",
-            (0, 1, 1, true),
-        ),
-        (
-            "\\implies{R}(\\and{R}(\\top{R}(),\\and{R}(\\in{S{},R}(X0:S{},p{}(Y:S{})),\
-                \\top{R}())), \
-            \\equals{S{},R}(f{}(X0:S{}),\\and{S{}}(Y:S{},\\top{S{}}()))) []",
-            (1, 1, 1, false),
-        ),
-        (
-            "\\implies{R}(\\and{R}(\\equals{B{},R}(is{}(X:S{}),\\dv{B{}}(\"true\")),\
-                \\and{R}(\\in{S{},R}(X0:S{},\
-            X:S{}), \
-            \\and{R}(\\in{S{},R}(X1:S{},p{}(X:S{})),\\top{R}()))),\\equals{S{},R}(h{}(X0:S{},\
-            X1:S{}),a{}())) []",
-            (2, 2, 1, true),
-        ),
-        ("\\equals{S{},R}(g{}(),a{}()) []", (0, 0, 0, false)),
-        (
-            "\\implies{R}(\\and{R}(\\top{R}(),\\top{R}()),\\equals{S{},R}(g{}(),a{}())) []",
-            (0, 0, 0, false),
-        ),
-    ];
-    for (axiom, expected) in cases {
-        if counts_in(rt.alloc(), axiom)? != Some(expected) {
-            return Err(Fail::from(axiom));
-        }
+    for (axiom, expected) in &READABLE {
+        assert!(rt; counts_in(rt.alloc(), axiom)? == Some(*expected), "{axiom}");
     }
     Ok(())
 }
 
+/// Axioms whose equation is not readable.
+static UNREADABLE: [&str; 27] = [
+    "\\equals{S{},R}(f{}(X:S{}),X:S{}) [owise{}()]",
+    "\\equals{S{},R}(f{}(X:S{}),X:S{}) [priority{}(\"first\")]",
+    "\\equals{S{},Q{}}(f{}(X:S{}),X:S{}) []",
+    "\\equals{T{},R}(f{}(X:S{}),t{}()) []",
+    "\\equals{S{},R}(f{}(X:S{},Y:S{}),X:S{}) []",
+    "\\equals{S{},R}(f{}(X:Q{}),a{}()) []",
+    "\\equals{S{},R}(f{}(q{}()),a{}()) []",
+    "\\equals{S{},R}(f{}(p{}()),a{}()) []",
+    "\\equals{S{},R}(f{}(t{}()),a{}()) []",
+    "\\equals{S{},R}(f{}(a{}()),t{}()) []",
+    "\\equals{S{},R}(f{}(i{}(\\dv{I{}}(\"x\"))),a{}()) []",
+    "\\equals{S{},R}(f{}(n{}()),a{}()) []",
+    "\\equals{S{},R}(f{}(f{}(X:S{})),X:S{}) []",
+    "\\equals{S{},R}(f{}(c{}(X:S{},Y:S{})),X:S{}) []",
+    "\\equals{S{},R}(m{}(X:S{}),X:S{}) []",
+    "\\equals{S{},R}(f{}(X:S{}),\\or{S{}}(X:S{},a{}())) []",
+    "\\equals{S{},R}(f{}(\\and{S{}}(X:S{},p{}(Y:S{}))),X:S{}) []",
+    "\\equals{S{},R}(f{}(X:S{}),\\exists{S{}}(Y:S{},a{}())) []",
+    "\\equals{S{},R}(f{}(X:S{}),\\and{S{}}(X:S{},a{}())) []",
+    "\\equals{S{},R}(f{}(X:S{}),\\and{S{}}(\\top{S{}}(),X:S{})) []",
+    "\\equals{S{},R}(f{}(a{}()),X:S{}) []",
+    "\\implies{R}(\\equals{S{},R}(a{}(),\\dv{S{}}(\"true\")),\\equals{S{},R}(f{}(a{}()),\
+        a{}())) []",
+    "\\implies{R}(\\equals{B{},R}(is{}(Y:S{}),\\dv{B{}}(\"true\")),\\equals{S{},R}(f{}(X:S{}),\
+        X:S{})) []",
+    "\\implies{R}(\\and{R}(\\top{R}(),\\top{R}()),\\equals{S{},R}(f{}(a{}()),a{}())) []",
+    "\\implies{R}(\\and{R}(\\top{R}(),\\and{R}(\\in{S{},R}(X:S{},Y:S{}),Y:S{})),\\equals{S{},\
+      R}(f{}(X:S{}),Y:S{})) []",
+    "\\implies{R}(\\and{R}(\\top{R}(),\\and{R}(\\in{S{},R}(Z:S{},Y:S{}),\\top{R}())),\
+        \\equals{S{},\
+      R}(f{}(X:S{}),Y:S{})) []",
+    "\\implies{R}(\\and{R}(\\top{R}(),\\and{R}(\\in{S{},R}(X:S{},Y:S{}),\\top{R}())),\
+        \\equals{S{},\
+      R}(f{}(X:S{}),X:S{})) []",
+];
+
 /// Each reason why an equation is not readable.
 #[test]
 fn unreadable_equations(rt: HostRuntime) -> Result<(), Fail> {
-    let cases = [
-        "\\equals{S{},R}(f{}(X:S{}),X:S{}) [owise{}()]",
-        "\\equals{S{},R}(f{}(X:S{}),X:S{}) [priority{}(\"first\")]",
-        "\\equals{S{},Q{}}(f{}(X:S{}),X:S{}) []",
-        "\\equals{T{},R}(f{}(X:S{}),t{}()) []",
-        "\\equals{S{},R}(f{}(X:S{},Y:S{}),X:S{}) []",
-        "\\equals{S{},R}(f{}(X:Q{}),a{}()) []",
-        "\\equals{S{},R}(f{}(q{}()),a{}()) []",
-        "\\equals{S{},R}(f{}(p{}()),a{}()) []",
-        "\\equals{S{},R}(f{}(t{}()),a{}()) []",
-        "\\equals{S{},R}(f{}(a{}()),t{}()) []",
-        "\\equals{S{},R}(f{}(i{}(\\dv{I{}}(\"x\"))),a{}()) []",
-        "\\equals{S{},R}(f{}(n{}()),a{}()) []",
-        "\\equals{S{},R}(f{}(f{}(X:S{})),X:S{}) []",
-        "\\equals{S{},R}(f{}(c{}(X:S{},Y:S{})),X:S{}) []",
-        "\\equals{S{},R}(m{}(X:S{}),X:S{}) []",
-        "\\equals{S{},R}(f{}(X:S{}),\\or{S{}}(X:S{},a{}())) []",
-        "\\equals{S{},R}(f{}(\\and{S{}}(X:S{},p{}(Y:S{}))),X:S{}) []",
-        "\\equals{S{},R}(f{}(X:S{}),\\exists{S{}}(Y:S{},a{}())) []",
-        "\\equals{S{},R}(f{}(X:S{}),\\and{S{}}(X:S{},a{}())) []",
-        "\\equals{S{},R}(f{}(X:S{}),\\and{S{}}(\\top{S{}}(),X:S{})) []",
-        "\\equals{S{},R}(f{}(a{}()),X:S{}) []",
-        "\\implies{R}(\\equals{S{},R}(a{}(),\\dv{S{}}(\"true\")),\\equals{S{},R}(f{}(a{}()),\
-            a{}())) []",
-        "\\implies{R}(\\equals{B{},R}(is{}(Y:S{}),\\dv{B{}}(\"true\")),\\equals{S{},R}(f{}(X:S{}),\
-            X:S{})) []",
-        "\\implies{R}(\\and{R}(\\top{R}(),\\top{R}()),\\equals{S{},R}(f{}(a{}()),a{}())) []",
-        "\\implies{R}(\\and{R}(\\top{R}(),\\and{R}(\\in{S{},R}(X:S{},Y:S{}),Y:S{})),\\equals{S{},\
-          R}(f{}(X:S{}),Y:S{})) []",
-        "\\implies{R}(\\and{R}(\\top{R}(),\\and{R}(\\in{S{},R}(Z:S{},Y:S{}),\\top{R}())),\
-            \\equals{S{},\
-          R}(f{}(X:S{}),Y:S{})) []",
-        "\\implies{R}(\\and{R}(\\top{R}(),\\and{R}(\\in{S{},R}(X:S{},Y:S{}),\\top{R}())),\
-            \\equals{S{},\
-          R}(f{}(X:S{}),X:S{})) []",
-    ];
-    for axiom in cases {
-        if counts_in(rt.alloc(), axiom)?.is_some() {
-            return Err(Fail::from(axiom));
-        }
+    for axiom in &UNREADABLE {
+        assert!(rt; counts_in(rt.alloc(), axiom)?.is_none(), "{axiom}");
     }
     Ok(())
 }

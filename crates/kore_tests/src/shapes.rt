@@ -52,130 +52,134 @@ fn is_rule(pat: &Pat, left: &str, right: &str, condition: &str) -> bool {
     }
 }
 
+/// Patterns with the words of a rule's left side, right side and condition.
+static RULES: [(&str, &str, &str, &str); 14] = [
+    ("a{}()", "", "", ""),
+    ("\\rewrites{S{}}(a{}(),b{}())", "alone", "alone", "always"),
+    (
+        "\\rewrites{S{}}(\\and{S{}}(a{}(),\\top{S{}}()),\\and{S{}}(b{}(),\\top{S{}}()))",
+        "beside",
+        "beside",
+        "always",
+    ),
+    (
+        "\\rewrites{S{}}(\\and{S{}}(\\top{S{}}(),a{}()),\\and{S{}}(\\top{T{}}(),b{}()))",
+        "beside",
+        "beside",
+        "always",
+    ),
+    (
+        "\\rewrites{S{}}(\\and{S{}}(a{}(),\\top{T{}}()),b{}())",
+        "beside",
+        "alone",
+        "ill",
+    ),
+    (
+        "\\rewrites{S{}}(\\and{T{}}(a{}(),\\top{S{}}()),\\and{T{}}(b{}(),\\top{S{}}()))",
+        "misshapen",
+        "misshapen",
+        "always",
+    ),
+    (
+        "\\rewrites{S{}}(\\and{S{}}(a{}(),b{}()),\\and{S{}}(a{}(),b{}()))",
+        "without",
+        "without",
+        "always",
+    ),
+    (
+        "\\rewrites{S{}}(\\and{S{}}(a{}(),b{}(),\\top{S{}}()),\\and{S{}}(a{}()))",
+        "misshapen",
+        "misshapen",
+        "always",
+    ),
+    (
+        "\\rewrites{S{}}(\\left-assoc{}(\\and{S{}}(a{}(),\\top{S{}}())),b{}())",
+        "alone",
+        "alone",
+        "always",
+    ),
+    (
+        "\\rewrites{S{}}(\\and{S{}}(\\equals{B{},S{}}(b{}(),\\dv{B{}}(\"true\")),a{}()),b{}())",
+        "beside",
+        "alone",
+        "tests",
+    ),
+    (
+        "\\rewrites{S{}}(\\and{S{}}(\\equals{B{},S{}}(b{}(),\\dv{C{}}(\"true\")),a{}()),b{}())",
+        "beside",
+        "alone",
+        "ill",
+    ),
+    (
+        "\\rewrites{S{}}(\\and{S{}}(\\equals{B{},S{}}(b{}(),\\dv{B{}}(\"false\")),a{}()),\
+            b{}())",
+        "beside",
+        "alone",
+        "ill",
+    ),
+    (
+        "\\rewrites{S{}}(\\and{S{}}(\\equals{B{},T{}}(b{}(),\\dv{B{}}(\"true\")),a{}()),b{}())",
+        "beside",
+        "alone",
+        "ill",
+    ),
+    (
+        "\\rewrites{S{}}(\\and{S{}}(\\equals{B{},S{}}(\\dv{B{}}(\"true\"),b{}()),a{}()),b{}())",
+        "beside",
+        "alone",
+        "ill",
+    ),
+];
+
 #[test]
 fn rules(rt: HostRuntime) -> Result<(), Fail> {
-    let cases = [
-        ("a{}()", "", "", ""),
-        ("\\rewrites{S{}}(a{}(),b{}())", "alone", "alone", "always"),
-        (
-            "\\rewrites{S{}}(\\and{S{}}(a{}(),\\top{S{}}()),\\and{S{}}(b{}(),\\top{S{}}()))",
-            "beside",
-            "beside",
-            "always",
-        ),
-        (
-            "\\rewrites{S{}}(\\and{S{}}(\\top{S{}}(),a{}()),\\and{S{}}(\\top{T{}}(),b{}()))",
-            "beside",
-            "beside",
-            "always",
-        ),
-        (
-            "\\rewrites{S{}}(\\and{S{}}(a{}(),\\top{T{}}()),b{}())",
-            "beside",
-            "alone",
-            "ill",
-        ),
-        (
-            "\\rewrites{S{}}(\\and{T{}}(a{}(),\\top{S{}}()),\\and{T{}}(b{}(),\\top{S{}}()))",
-            "misshapen",
-            "misshapen",
-            "always",
-        ),
-        (
-            "\\rewrites{S{}}(\\and{S{}}(a{}(),b{}()),\\and{S{}}(a{}(),b{}()))",
-            "without",
-            "without",
-            "always",
-        ),
-        (
-            "\\rewrites{S{}}(\\and{S{}}(a{}(),b{}(),\\top{S{}}()),\\and{S{}}(a{}()))",
-            "misshapen",
-            "misshapen",
-            "always",
-        ),
-        (
-            "\\rewrites{S{}}(\\left-assoc{}(\\and{S{}}(a{}(),\\top{S{}}())),b{}())",
-            "alone",
-            "alone",
-            "always",
-        ),
-        (
-            "\\rewrites{S{}}(\\and{S{}}(\\equals{B{},S{}}(b{}(),\\dv{B{}}(\"true\")),a{}()),b{}())",
-            "beside",
-            "alone",
-            "tests",
-        ),
-        (
-            "\\rewrites{S{}}(\\and{S{}}(\\equals{B{},S{}}(b{}(),\\dv{C{}}(\"true\")),a{}()),b{}())",
-            "beside",
-            "alone",
-            "ill",
-        ),
-        (
-            "\\rewrites{S{}}(\\and{S{}}(\\equals{B{},S{}}(b{}(),\\dv{B{}}(\"false\")),a{}()),\
-                b{}())",
-            "beside",
-            "alone",
-            "ill",
-        ),
-        (
-            "\\rewrites{S{}}(\\and{S{}}(\\equals{B{},T{}}(b{}(),\\dv{B{}}(\"true\")),a{}()),b{}())",
-            "beside",
-            "alone",
-            "ill",
-        ),
-        (
-            "\\rewrites{S{}}(\\and{S{}}(\\equals{B{},S{}}(\\dv{B{}}(\"true\"),b{}()),a{}()),b{}())",
-            "beside",
-            "alone",
-            "ill",
-        ),
-    ];
-    for (text, left, right, condition) in cases {
+    for (text, left, right, condition) in &RULES {
         let pat = pattern(rt.alloc(), text)?;
         assert!(rt; is_rule(&pat, left, right, condition), "{text}");
     }
     Ok(())
 }
 
+/// Patterns, and whether an `\and`, another connective and a binder occur in them.
+static FORMS: [(&str, bool, bool, bool); 9] = [
+    ("f{}(X:S{},\\dv{S{}}(\"a\"))", false, false, false),
+    ("f{}(\\and{S{}}(X:S{},a{}()))", true, false, false),
+    ("f{}(\\or{S{}}(a{}()))", false, true, false),
+    ("\\left-assoc{}(\\and{S{}}(a{}()))", false, false, false),
+    (
+        "\\left-assoc{}(\\and{S{}}(\\or{S{}}()))",
+        false,
+        true,
+        false,
+    ),
+    (
+        "\\right-assoc{}(\\and{S{}}(a{}(),b{}()))",
+        true,
+        false,
+        false,
+    ),
+    ("\\exists{S{}}(X:S{},f{}(\\and{S{}}()))", true, false, true),
+    ("f{}(@X:S{})", false, false, true),
+    (
+        "\\left-assoc{}(f{}(\\mu{}(@X:S{},@X:S{})))",
+        false,
+        false,
+        true,
+    ),
+];
+
 /// Which of these forms occur in a pattern: an `\and`, another connective, a binder.
 #[test]
 fn forms(rt: HostRuntime) -> Result<(), Fail> {
-    let cases = [
-        ("f{}(X:S{},\\dv{S{}}(\"a\"))", false, false, false),
-        ("f{}(\\and{S{}}(X:S{},a{}()))", true, false, false),
-        ("f{}(\\or{S{}}(a{}()))", false, true, false),
-        ("\\left-assoc{}(\\and{S{}}(a{}()))", false, false, false),
-        (
-            "\\left-assoc{}(\\and{S{}}(\\or{S{}}()))",
-            false,
-            true,
-            false,
-        ),
-        (
-            "\\right-assoc{}(\\and{S{}}(a{}(),b{}()))",
-            true,
-            false,
-            false,
-        ),
-        ("\\exists{S{}}(X:S{},f{}(\\and{S{}}()))", true, false, true),
-        ("f{}(@X:S{})", false, false, true),
-        (
-            "\\left-assoc{}(f{}(\\mu{}(@X:S{},@X:S{})))",
-            false,
-            false,
-            true,
-        ),
-    ];
-    for (text, and, other, binder) in cases {
+    for (text, and, other, binder) in &FORMS {
         let pat = pattern(rt.alloc(), text)?;
-        assert!(rt; has_form(&pat, SoughtForms::Conjunctions) == and, "{text}");
-        assert!(rt; has_form(&pat, SoughtForms::Others) == other, "{text}");
+        assert!(rt; has_form(&pat, SoughtForms::Conjunctions) == *and, "{text}");
+        assert!(rt; has_form(&pat, SoughtForms::Others) == *other, "{text}");
         assert!(rt;
-            has_form(&pat, SoughtForms::All) == (and || other),
+            has_form(&pat, SoughtForms::All) == (*and || *other),
             "{text}"
         );
-        assert!(rt; has_binder(&pat) == binder, "{text}");
+        assert!(rt; has_binder(&pat) == *binder, "{text}");
     }
     Ok(())
 }
@@ -200,74 +204,76 @@ fn parts_of(alloc: Global, pat: &Pat) -> Result<Option<Option<Parts>>, AllocErro
     ))))
 }
 
+/// Patterns with the parts of the equation that they state.
+static EQUATIONS: [(&str, Option<Option<Parts>>); 15] = [
+    ("a{}()", None),
+    (
+        "\\equals{S{},R}(f{}(a{}()),b{}())",
+        Some(Some((0, 1, false, 26))),
+    ),
+    (
+        "\\equals{S{},R}(f{}(a{}()),\\and{S{}}(b{}(),\\top{S{}}()))",
+        Some(Some((0, 1, false, 36))),
+    ),
+    (
+        "\\equals{S{},R}(f{}(a{}()),\\and{S{}}(\\top{S{}}(),b{}()))",
+        Some(Some((0, 1, false, 26))),
+    ),
+    ("\\equals{S{},R}(f{A{}}(a{}()),b{}())", None),
+    ("\\equals{S{},R}(X:S{},b{}())", None),
+    (
+        "\\implies{R}(\\top{R}(),\\equals{S{},R}(f{}(a{}()),b{}()))",
+        Some(Some((0, 1, true, 48))),
+    ),
+    (
+        "\\implies{Q}(\\top{Q}(),\\equals{S{},R}(f{}(a{}()),b{}()))",
+        None,
+    ),
+    (
+        "\\implies{R}(\\and{R}(\\top{R}(),\\top{R}()),\\equals{S{},R}(f{}(),b{}()))",
+        Some(Some((0, 0, true, 62))),
+    ),
+    (
+        "\\implies{R}(\\and{R}(\\top{R}(),\\top{R}()),\\equals{S{},R}(f{}(X:S{}),b{}()))",
+        Some(None),
+    ),
+    (
+        "\\implies{R}(\\and{R}(\\top{R}(),\\and{R}(\\in{S{},R}(X:S{},a{}()),\\top{R}())),\
+            \\equals{S{},\
+            R}(f{}(X:S{}),b{}()))",
+        Some(Some((1, 1, true, 100))),
+    ),
+    (
+        "\\implies{R}(\\and{R}(\\top{R}(),\\and{R}(\\in{S{},R}(X:S{},a{}()),\\top{R}())),\
+            \\equals{S{},\
+            R}(f{}(X:S{}),X:S{}))",
+        Some(None),
+    ),
+    (
+        "\\implies{R}(\\and{R}(\\top{R}(),\\and{R}(\\in{S{},R}(X:S{},X:S{}),\\top{R}())),\
+            \\equals{S{},\
+            R}(f{}(X:S{}),b{}()))",
+        Some(None),
+    ),
+    (
+        "\\implies{R}(\\and{R}(\\top{R}(),\\and{R}(\\in{S{},R}(X:S{},X:T{}),\\top{R}())),\
+            \\equals{S{},\
+            R}(f{}(X:S{}),b{}()))",
+        Some(Some((1, 1, true, 100))),
+    ),
+    (
+        "\\implies{R}(\\and{R}(\\top{R}(),\\and{R}(\\in{T{},R}(X:S{},a{}()),\\top{R}())),\
+            \\equals{S{},\
+            R}(f{}(X:S{}),b{}()))",
+        Some(None),
+    ),
+];
+
 #[test]
 fn equations(rt: HostRuntime) -> Result<(), Fail> {
-    let cases = [
-        ("a{}()", None),
-        (
-            "\\equals{S{},R}(f{}(a{}()),b{}())",
-            Some(Some((0, 1, false, 26))),
-        ),
-        (
-            "\\equals{S{},R}(f{}(a{}()),\\and{S{}}(b{}(),\\top{S{}}()))",
-            Some(Some((0, 1, false, 36))),
-        ),
-        (
-            "\\equals{S{},R}(f{}(a{}()),\\and{S{}}(\\top{S{}}(),b{}()))",
-            Some(Some((0, 1, false, 26))),
-        ),
-        ("\\equals{S{},R}(f{A{}}(a{}()),b{}())", None),
-        ("\\equals{S{},R}(X:S{},b{}())", None),
-        (
-            "\\implies{R}(\\top{R}(),\\equals{S{},R}(f{}(a{}()),b{}()))",
-            Some(Some((0, 1, true, 48))),
-        ),
-        (
-            "\\implies{Q}(\\top{Q}(),\\equals{S{},R}(f{}(a{}()),b{}()))",
-            None,
-        ),
-        (
-            "\\implies{R}(\\and{R}(\\top{R}(),\\top{R}()),\\equals{S{},R}(f{}(),b{}()))",
-            Some(Some((0, 0, true, 62))),
-        ),
-        (
-            "\\implies{R}(\\and{R}(\\top{R}(),\\top{R}()),\\equals{S{},R}(f{}(X:S{}),b{}()))",
-            Some(None),
-        ),
-        (
-            "\\implies{R}(\\and{R}(\\top{R}(),\\and{R}(\\in{S{},R}(X:S{},a{}()),\\top{R}())),\
-                \\equals{S{},\
-                R}(f{}(X:S{}),b{}()))",
-            Some(Some((1, 1, true, 100))),
-        ),
-        (
-            "\\implies{R}(\\and{R}(\\top{R}(),\\and{R}(\\in{S{},R}(X:S{},a{}()),\\top{R}())),\
-                \\equals{S{},\
-                R}(f{}(X:S{}),X:S{}))",
-            Some(None),
-        ),
-        (
-            "\\implies{R}(\\and{R}(\\top{R}(),\\and{R}(\\in{S{},R}(X:S{},X:S{}),\\top{R}())),\
-                \\equals{S{},\
-                R}(f{}(X:S{}),b{}()))",
-            Some(None),
-        ),
-        (
-            "\\implies{R}(\\and{R}(\\top{R}(),\\and{R}(\\in{S{},R}(X:S{},X:T{}),\\top{R}())),\
-                \\equals{S{},\
-                R}(f{}(X:S{}),b{}()))",
-            Some(Some((1, 1, true, 100))),
-        ),
-        (
-            "\\implies{R}(\\and{R}(\\top{R}(),\\and{R}(\\in{T{},R}(X:S{},a{}()),\\top{R}())),\
-                \\equals{S{},\
-                R}(f{}(X:S{}),b{}()))",
-            Some(None),
-        ),
-    ];
-    for (text, expected) in cases {
+    for (text, expected) in &EQUATIONS {
         let pat = pattern(rt.alloc(), text)?;
-        assert!(rt; parts_of(rt.alloc(), &pat)? == expected, "{text}");
+        assert!(rt; parts_of(rt.alloc(), &pat)? == *expected, "{text}");
     }
     Ok(())
 }

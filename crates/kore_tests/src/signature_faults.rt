@@ -10,8 +10,8 @@ use std::test::Fail;
 /// The greatest length in bytes of a text that is tried.
 const LONGEST: usize = 100_000;
 
-// An import names an earlier module.
-const IMPORTS: [(u32, &str); 6] = [
+/// An import names an earlier module.
+static IMPORTS: [(u32, &str); 6] = [
     (4, "[] module M ^import N [] endmodule []"),
     (4, "[] module M ^import M [] endmodule []"),
     (
@@ -34,8 +34,8 @@ const IMPORTS: [(u32, &str); 6] = [
     ),
 ];
 
-// Modules, sorts and symbols have separate name spaces. Only modules that count declare names.
-const NAMES: [(u32, &str); 8] = [
+/// Modules, sorts and symbols have separate name spaces. Only modules that count declare names.
+static NAMES: [(u32, &str); 8] = [
     (5, "[] module A endmodule [] ^module A endmodule []"),
     (
         5,
@@ -70,9 +70,9 @@ const NAMES: [(u32, &str); 8] = [
     ),
 ];
 
-// A sort in a symbol's declaration is one of the symbol's parameters, or a declared sort without
-// arguments.
-const SORTS: [(u32, &str); 11] = [
+/// A sort in a symbol's declaration is one of the symbol's parameters, or a declared sort without
+/// arguments.
+static SORTS: [(u32, &str); 11] = [
     (
         6,
         "[] module M sort S{} [] symbol a{}(^T{}) : S{} [] endmodule []",
@@ -113,8 +113,8 @@ const SORTS: [(u32, &str); 11] = [
     (10, "[] module M ^sort S{X} [] endmodule []"),
 ];
 
-// The first of several faults.
-const ORDER: [(u32, &str); 6] = [
+/// The first of several faults.
+static ORDER: [(u32, &str); 6] = [
     (5, "[] module M sort S{} [] ^sort S{X} [] endmodule []"),
     (
         5,
@@ -133,8 +133,8 @@ const ORDER: [(u32, &str); 6] = [
     ),
 ];
 
-// Pairs of sorts.
-const PAIRS: [(u32, &str); 13] = [
+/// Pairs of sorts.
+static PAIRS: [(u32, &str); 13] = [
     (
         24,
         "[] module M sort S{} [] ^axiom{} \\top{S{}}() [subsort{S{},S{}}()] endmodule []",
@@ -236,8 +236,7 @@ fn has_fault(alloc: Global, number: u32, text: &str) -> Result<bool, Fail> {
 
 #[test]
 fn first_faults(rt: HostRuntime) -> Result<(), Fail> {
-    let tables = [IMPORTS.as_slice(), &NAMES, &SORTS, &ORDER, &PAIRS];
-    for table in tables {
+    for table in [IMPORTS.as_slice(), &NAMES, &SORTS, &ORDER, &PAIRS] {
         for (number, text) in table {
             assert!(rt; has_fault(rt.alloc(), *number, text)?, "{text}");
         }

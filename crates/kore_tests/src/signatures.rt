@@ -143,47 +143,49 @@ fn shown(alloc: Global, text: &str) -> Result<String, Fail> {
     }
 }
 
+/// Definitions with their signatures.
+static SIGNATURES: [(&str, &str); 6] = [
+    (
+        NESTED_INJECTIONS,
+        "SortInt: Int\nSortAExp: Other\nSortStmt: Other\nSortKItem: Other\nT: Other\n\
+         inj: Injection 2 (#0,) #1\nk: Ctor 0 (SortKItem,) T\ndone: Ctor 0 (SortStmt,) T\n\
+         0 below 1\n1 below 2\n1 below 3\n",
+    ),
+    (
+        INTEGER_FUNCTIONS,
+        "SortInt: Int\nSortBool: Bool\nSortString: Other\nn: Ctor 0 (SortInt,) SortBool\n\
+         add: Equations 0 (SortInt,SortInt,) SortInt hook INT.add\n\
+         len: Equations 0 (SortString,) SortInt hook STRING.length\n",
+    ),
+    (
+        APPEND_LIST,
+        "SortK: Other\nSortKItem: Other\nT: Other\nkseq: Ctor 0 (SortKItem,SortK,) SortK\n\
+         append: Equations 0 (SortK,SortK,) SortK\np: Ctor 0 () SortKItem\nk: Ctor 0 (SortK,) \
+         T\n",
+    ),
+    (
+        ADDITION,
+        "SortInt: Int\nSortMap: Map\nSortExp: Other\ninj: Injection 2 (#0,) #1\n\
+         Lbl'Unds'Map'Unds': Equations 0 (SortMap,SortMap,) SortMap hook MAP.concat ac\n\
+         Lbl'UndsPlusUnds': Ctor 0 (SortExp,SortExp,) SortExp\n0 below 2\n",
+    ),
+    (
+        KINDS,
+        "S: Other\nsame: NoKind 2 (#0,) #0\ninj: Injection 2 (#0,) #1\nagain: NoKind 2 (#0,) \
+            #1\n\
+         f: Equations 0 () S hook  ac\ng: Closed 1 () #0\nh: NoKind 1 () #0\ni: NoKind 0 () S\n\
+         u: NoKind 0 () S ac\nv: NoKind 0 () S hook x\n",
+    ),
+    (
+        "[] module M import N [] endmodule []",
+        "import of no earlier module at 12",
+    ),
+];
+
 #[test]
 fn signatures(rt: HostRuntime) -> Result<(), Fail> {
-    let cases = [
-        (
-            NESTED_INJECTIONS,
-            "SortInt: Int\nSortAExp: Other\nSortStmt: Other\nSortKItem: Other\nT: Other\n\
-             inj: Injection 2 (#0,) #1\nk: Ctor 0 (SortKItem,) T\ndone: Ctor 0 (SortStmt,) T\n\
-             0 below 1\n1 below 2\n1 below 3\n",
-        ),
-        (
-            INTEGER_FUNCTIONS,
-            "SortInt: Int\nSortBool: Bool\nSortString: Other\nn: Ctor 0 (SortInt,) SortBool\n\
-             add: Equations 0 (SortInt,SortInt,) SortInt hook INT.add\n\
-             len: Equations 0 (SortString,) SortInt hook STRING.length\n",
-        ),
-        (
-            APPEND_LIST,
-            "SortK: Other\nSortKItem: Other\nT: Other\nkseq: Ctor 0 (SortKItem,SortK,) SortK\n\
-             append: Equations 0 (SortK,SortK,) SortK\np: Ctor 0 () SortKItem\nk: Ctor 0 (SortK,) \
-             T\n",
-        ),
-        (
-            ADDITION,
-            "SortInt: Int\nSortMap: Map\nSortExp: Other\ninj: Injection 2 (#0,) #1\n\
-             Lbl'Unds'Map'Unds': Equations 0 (SortMap,SortMap,) SortMap hook MAP.concat ac\n\
-             Lbl'UndsPlusUnds': Ctor 0 (SortExp,SortExp,) SortExp\n0 below 2\n",
-        ),
-        (
-            KINDS,
-            "S: Other\nsame: NoKind 2 (#0,) #0\ninj: Injection 2 (#0,) #1\nagain: NoKind 2 (#0,) \
-                #1\n\
-             f: Equations 0 () S hook  ac\ng: Closed 1 () #0\nh: NoKind 1 () #0\ni: NoKind 0 () S\n\
-             u: NoKind 0 () S ac\nv: NoKind 0 () S hook x\n",
-        ),
-        (
-            "[] module M import N [] endmodule []",
-            "import of no earlier module at 12",
-        ),
-    ];
-    for (text, expected) in cases {
-        assert_eq!(rt; shown(rt.alloc(), text)?.as_str(), expected, "{text}");
+    for (text, expected) in &SIGNATURES {
+        assert_eq!(rt; shown(rt.alloc(), text)?.as_str(), *expected, "{text}");
     }
     signature_laws();
     Ok(())
@@ -196,27 +198,25 @@ fn declarations_attributes_and_sorts(rt: HostRuntime) -> Result<(), Fail> {
     let text = "[] module A sort S{} [] endmodule [] module B sort T{} [] symbol a{X}(X) : T{} [] \
                 endmodule [] module M import B [] \
                 axiom{} X:T{} [a{}(\"x\"),a{}(\"y\"),b{}(\"x\",\"y\")] endmodule []";
-    if text.len() > LONGEST {
-        return Err(Fail::from("long"));
-    }
+    assert!(rt; text.len() <= LONGEST, "long");
     let Ok(definition) = read_definition(alloc, text.as_bytes()) else {
-        return Err(Fail::from("unreadable"));
+        panic!(rt; "unreadable");
     };
     let decls = counted_declarations(alloc, TextHasher::without_text(), &definition)?;
     assert_eq!(rt; decls.len(), 4);
     let Some(Decl::Axiom(stated)) = decls.last() else {
-        return Err(Fail::from("no axiom"));
+        panic!(rt; "no axiom");
     };
     assert!(rt; has_attribute(&stated.attrs, "b") && !has_attribute(&stated.attrs, "c"));
     let Some(first) = first_of_name(&stated.attrs, "a") else {
-        return Err(Fail::from("no attribute"));
+        panic!(rt; "no attribute");
     };
     assert_eq!(rt; text_of(first).map(|text| text.as_str()), Some("x"));
-    let sig = signature(alloc, TextHasher::without_text(), &definition).map_err(|_| Fail::from(
-        "no signature",
-    ))?;
+    let Ok(sig) = signature(alloc, TextHasher::without_text(), &definition) else {
+        panic!(rt; "no signature");
+    };
     let Some(Decl::SymbolDecl(symbol)) = decls.get(1) else {
-        return Err(Fail::from("no symbol"));
+        panic!(rt; "no symbol");
     };
     assert_eq!(rt; sort_number(&sig.sorts, &symbol.result), Some(0));
     for arg in &symbol.args {

@@ -48,80 +48,84 @@ fn nested(alloc: Global, levels: usize) -> Result<String, AllocError> {
     Ok(text)
 }
 
+/// Patterns with their first faults.
+static PATTERNS: [(&str, &str); 35] = [
+    ("a{}()", "good"),
+    (" a // \n{ /* ) */ } (\t) //", "good"),
+    ("f{S,T{U{}}}(X:S{},@Y:T,\\top{S}())", "good"),
+    ("\\and{S{}}()", "good"),
+    ("\\in{S,T}(a{}(),b{}())", "good"),
+    ("\\exists{S}(X:S,\\mu{}(@Y:S,@Y:S))", "good"),
+    ("\\dv{S{}}(\"\\x41\")", "good"),
+    ("\\left-assoc{}(f{}(a{}(),b{}()))", "good"),
+    ("\\right-assoc{}(\\or{S}(a{}()))", "good"),
+    // a wrong number of sorts or arguments, or another kind of argument
+    ("\\and{}(a{}())", "syntax 5"),
+    ("\\top{S}(a{}())", "syntax 8"),
+    ("\\rewrites{S}(a{}())", "syntax 18"),
+    ("\\none{S}()", "syntax 0"),
+    ("\\exists{S}(@X:S,a{}())", "syntax 11"),
+    ("\\dv{S}(a{}())", "syntax 7"),
+    ("\"text\"", "syntax 0"),
+    // brackets, commas and the end
+    ("", "syntax 0"),
+    ("a // \n", "syntax 6"),
+    ("a{}", "syntax 3"),
+    ("a{(})", "syntax 2"),
+    ("a{}(b{}(),)", "syntax 10"),
+    ("a{}(,b{}())", "syntax 4"),
+    ("a{}(b{}() c{}())", "syntax 10"),
+    ("a{}() a{}()", "syntax 6"),
+    ("a{}())", "syntax 5"),
+    // what is not a token
+    ("1{}()", "lex 0"),
+    ("a_b{}()", "lex 1"),
+    ("a{}(\"\\q\")", "lex 5"),
+    ("a{} /*", "lex 4"),
+    ("a{(}_)", "syntax 2"),
+    // a fold without an argument has its fault at the name of the fold
+    ("a{}(\\left-assoc{}(f{}()))", "syntax 4"),
+    ("\\right-assoc{}(\\and{S}() ;", "syntax 0"),
+    ("\\right-assoc{}(\\and{S,T}())", "syntax 21"),
+    ("\\right-assoc{}(f{}(_", "lex 19"),
+    ("\\left-assoc{}(X:S)", "syntax 15"),
+];
+
 #[test]
 fn patterns(rt: HostRuntime) -> Result<(), Fail> {
-    let cases = [
-        ("a{}()", "good"),
-        (" a // \n{ /* ) */ } (\t) //", "good"),
-        ("f{S,T{U{}}}(X:S{},@Y:T,\\top{S}())", "good"),
-        ("\\and{S{}}()", "good"),
-        ("\\in{S,T}(a{}(),b{}())", "good"),
-        ("\\exists{S}(X:S,\\mu{}(@Y:S,@Y:S))", "good"),
-        ("\\dv{S{}}(\"\\x41\")", "good"),
-        ("\\left-assoc{}(f{}(a{}(),b{}()))", "good"),
-        ("\\right-assoc{}(\\or{S}(a{}()))", "good"),
-        // a wrong number of sorts or arguments, or another kind of argument
-        ("\\and{}(a{}())", "syntax 5"),
-        ("\\top{S}(a{}())", "syntax 8"),
-        ("\\rewrites{S}(a{}())", "syntax 18"),
-        ("\\none{S}()", "syntax 0"),
-        ("\\exists{S}(@X:S,a{}())", "syntax 11"),
-        ("\\dv{S}(a{}())", "syntax 7"),
-        ("\"text\"", "syntax 0"),
-        // brackets, commas and the end
-        ("", "syntax 0"),
-        ("a // \n", "syntax 6"),
-        ("a{}", "syntax 3"),
-        ("a{(})", "syntax 2"),
-        ("a{}(b{}(),)", "syntax 10"),
-        ("a{}(,b{}())", "syntax 4"),
-        ("a{}(b{}() c{}())", "syntax 10"),
-        ("a{}() a{}()", "syntax 6"),
-        ("a{}())", "syntax 5"),
-        // what is not a token
-        ("1{}()", "lex 0"),
-        ("a_b{}()", "lex 1"),
-        ("a{}(\"\\q\")", "lex 5"),
-        ("a{} /*", "lex 4"),
-        ("a{(}_)", "syntax 2"),
-        // a fold without an argument has its fault at the name of the fold
-        ("a{}(\\left-assoc{}(f{}()))", "syntax 4"),
-        ("\\right-assoc{}(\\and{S}() ;", "syntax 0"),
-        ("\\right-assoc{}(\\and{S,T}())", "syntax 21"),
-        ("\\right-assoc{}(f{}(_", "lex 19"),
-        ("\\left-assoc{}(X:S)", "syntax 15"),
-    ];
-    for (text, fault) in cases {
-        assert_eq!(rt; of_pattern(rt.alloc(), text)?.as_str(), fault, "{text}");
+    for (text, fault) in &PATTERNS {
+        assert_eq!(rt; of_pattern(rt.alloc(), text)?.as_str(), *fault, "{text}");
     }
     Ok(())
 }
 
+/// Definitions with their first faults.
+static DEFINITIONS: [(&str, &str); 12] = [
+    ("[] module M endmodule []", "good"),
+    (
+        "[a{}(\"x\"), b{}()] module M import N [] hooked-sort S{A} [] symbol a{}() : S{} [] \
+         axiom{R} \\top{R}() [] claim{} a{}() [c{}(\"\")] endmodule [] module N endmodule []",
+        "good",
+    ),
+    (
+        "[] module M alias a{}(S) : S where a{S}(X:S) := a{}() [] endmodule []",
+        "good",
+    ),
+    ("", "syntax 0"),
+    ("[]", "syntax 2"),
+    ("[a{}(\"x", "lex 5"),
+    ("[] module M", "syntax 11"),
+    ("[] module M endmodule", "syntax 21"),
+    ("module M endmodule []", "syntax 0"),
+    ("[] module M endmodule [] []", "syntax 25"),
+    ("[] module M sort S endmodule []", "syntax 19"),
+    ("[] module M axiom{} \"x\" [] endmodule []", "syntax 20"),
+];
+
 #[test]
 fn definitions(rt: HostRuntime) -> Result<(), Fail> {
-    let cases = [
-        ("[] module M endmodule []", "good"),
-        (
-            "[a{}(\"x\"), b{}()] module M import N [] hooked-sort S{A} [] symbol a{}() : S{} [] \
-             axiom{R} \\top{R}() [] claim{} a{}() [c{}(\"\")] endmodule [] module N endmodule []",
-            "good",
-        ),
-        (
-            "[] module M alias a{}(S) : S where a{S}(X:S) := a{}() [] endmodule []",
-            "good",
-        ),
-        ("", "syntax 0"),
-        ("[]", "syntax 2"),
-        ("[a{}(\"x", "lex 5"),
-        ("[] module M", "syntax 11"),
-        ("[] module M endmodule", "syntax 21"),
-        ("module M endmodule []", "syntax 0"),
-        ("[] module M endmodule [] []", "syntax 25"),
-        ("[] module M sort S endmodule []", "syntax 19"),
-        ("[] module M axiom{} \"x\" [] endmodule []", "syntax 20"),
-    ];
-    for (text, fault) in cases {
-        assert_eq!(rt; of_definition(rt.alloc(), text)?.as_str(), fault, "{text}");
+    for (text, fault) in &DEFINITIONS {
+        assert_eq!(rt; of_definition(rt.alloc(), text)?.as_str(), *fault, "{text}");
     }
     Ok(())
 }

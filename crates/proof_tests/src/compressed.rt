@@ -1,9 +1,9 @@
 // Small proofs, and the labels and letters of their compressed proofs.
 use proof_nodes::ProofNodes;
-use std::test::Fail;
+use std::alloc::AllocError;
 
 #[test]
-fn lists_each_label_once_and_saves_no_leaf(rt: HostRuntime) -> Result<(), Fail> {
+fn lists_each_label_once_and_saves_no_leaf(rt: HostRuntime) -> Result<(), AllocError> {
     let mut nodes = ProofNodes::new(rt.alloc());
     nodes.cite(11, 0)?;
     nodes.cite(30, 0)?;
@@ -16,7 +16,7 @@ fn lists_each_label_once_and_saves_no_leaf(rt: HostRuntime) -> Result<(), Fail> 
 }
 
 #[test]
-fn saves_a_tree_once_and_repeats_it(rt: HostRuntime) -> Result<(), Fail> {
+fn saves_a_tree_once_and_repeats_it(rt: HostRuntime) -> Result<(), AllocError> {
     let mut nodes = ProofNodes::new(rt.alloc());
     nodes.cite(10, 0)?;
     nodes.cite(20, 1)?;
@@ -31,7 +31,7 @@ fn saves_a_tree_once_and_repeats_it(rt: HostRuntime) -> Result<(), Fail> {
 }
 
 #[test]
-fn spells_numbers_past_20_and_past_120(rt: HostRuntime) -> Result<(), Fail> {
+fn spells_numbers_past_20_and_past_120(rt: HostRuntime) -> Result<(), AllocError> {
     let mut mandatory = Vec::new(rt.alloc());
     for label in 0..121 {
         mandatory.push(label)?;

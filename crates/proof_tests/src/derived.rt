@@ -9,11 +9,10 @@ use ml_derived::{
 use ml_kernel::Thm;
 use ml_pat::{ConstNo, MPat, MSort, VarNo};
 use std::alloc::{AllocError, Global};
-use std::test::Fail;
 
 // A run: `a -> ev a`, and then one step to b.
 #[test]
-fn reaches_one_step_further(rt: HostRuntime) -> Result<(), Fail> {
+fn reaches_one_step_further(rt: HostRuntime) -> Result<(), AllocError> {
     let alloc = rt.alloc();
     let a = MPat::constant(alloc, ConstNo(0))?;
     let b = MPat::constant(alloc, ConstNo(1))?;
@@ -27,7 +26,7 @@ fn reaches_one_step_further(rt: HostRuntime) -> Result<(), Fail> {
 }
 
 #[test]
-fn chains_implications(rt: HostRuntime) -> Result<(), Fail> {
+fn chains_implications(rt: HostRuntime) -> Result<(), AllocError> {
     let alloc = rt.alloc();
     let a = MPat::constant(alloc, ConstNo(0))?;
     let here = reach_here(alloc, &a)?;
@@ -70,7 +69,7 @@ fn element(alloc: Global) -> Result<Thm, AllocError>
 
 // `all x s (x -> next x)` at the symbol a is `a -> next a`.
 #[test]
-fn puts_in_a_symbol(rt: HostRuntime) -> Result<(), Fail> {
+fn puts_in_a_symbol(rt: HostRuntime) -> Result<(), AllocError> {
     let alloc = rt.alloc();
     let sentence = for_each(alloc)?;
     let facts = vec![in alloc; element(alloc)?]?;
@@ -84,7 +83,7 @@ fn puts_in_a_symbol(rt: HostRuntime) -> Result<(), Fail> {
 
 // From `a = b` follow `b = a` and `a = a`.
 #[test]
-fn turns_and_joins_equalities(rt: HostRuntime) -> Result<(), Fail> {
+fn turns_and_joins_equalities(rt: HostRuntime) -> Result<(), AllocError> {
     let alloc = rt.alloc();
     let there = same(alloc, ConstNo(0), ConstNo(1))?;
     let back = flip(alloc, &there)?;
@@ -97,7 +96,7 @@ fn turns_and_joins_equalities(rt: HostRuntime) -> Result<(), Fail> {
 
 // From `a = b` and `c = d` follows `a c = b d`.
 #[test]
-fn applies_equalities(rt: HostRuntime) -> Result<(), Fail> {
+fn applies_equalities(rt: HostRuntime) -> Result<(), AllocError> {
     let alloc = rt.alloc();
     let f = same(alloc, ConstNo(0), ConstNo(1))?;
     let a = same(alloc, ConstNo(2), ConstNo(3))?;
@@ -116,7 +115,7 @@ fn applies_equalities(rt: HostRuntime) -> Result<(), Fail> {
 
 // `next a` becomes `next b` by `a = b`.
 #[test]
-fn carries_into_a_context(rt: HostRuntime) -> Result<(), Fail> {
+fn carries_into_a_context(rt: HostRuntime) -> Result<(), AllocError> {
     let alloc = rt.alloc();
     let eq = same(alloc, ConstNo(0), ConstNo(1))?;
     let context = MPat::next(alloc, &MPat::var(alloc, VarNo(7))?)?;

@@ -4,7 +4,6 @@ use mm_frame::*;
 use mm_text::{MmFault, MmFound, MmReadEnd, MmTokens};
 use std::alloc::{AllocError, Global};
 use std::process::Abort;
-use std::test::Fail;
 
 /// The greatest number of statements of a database below.
 const MOST: usize = 40;
@@ -35,7 +34,7 @@ pub(crate) fn first_fault(alloc: Global, text: &[u8]) -> Result<Option<MmFault>,
     Err(AllocError)
 }
 
-const FAULTS: [(&str, Option<(u8, usize)>); 58] = [
+static FAULTS: [(&str, Option<(u8, usize)>); 58] = [
     ("", None),
     (" $( a comment $) ", None),
     (
@@ -106,17 +105,13 @@ const FAULTS: [(&str, Option<(u8, usize)>); 58] = [
 ];
 
 #[test]
-fn texts_have_their_first_fault(rt: HostRuntime) -> Result<(), Fail> {
-    for (text, expected) in FAULTS {
+fn texts_have_their_first_fault(rt: HostRuntime) -> Result<(), AllocError> {
+    for (text, expected) in &FAULTS {
         let found = first_fault(rt.alloc(), text.as_bytes())?;
-        match (found, expected) {
-            (None, None) => {}
-            (Some(fault), Some((kind, at))) => {
-                assert_eq!(rt; fault.kind, kind, "{text}");
-                assert_eq!(rt; fault.at, at, "{text}");
-            }
-            _ => panic!(rt; "another answer: {text}"),
-        }
+        assert!(rt;
+            found.map(|fault| (fault.kind, fault.at)) == *expected,
+            "{text}"
+        );
     }
     Ok(())
 }
@@ -147,7 +142,7 @@ pub(crate) fn scopes_of(alloc: Global, text: &[u8]) -> Result<Scopes<'_>, AllocE
 #[test]
 fn a_block_takes_back_what_was_active_and_keeps_its_assertions(
     rt: HostRuntime,
-) -> Result<(), Fail> {
+) -> Result<(), AllocError> {
     let scopes = scopes_of(rt.alloc(), SCOPED.as_bytes())?;
     assert!(rt; scopes.active(b"fx").is_some());
     assert!(rt; scopes.active(b"fy").is_none());
@@ -181,7 +176,7 @@ type FrameExample = (
     &'static [(u32, u32)],
 );
 
-const FRAMES: [FrameExample; 6] = [
+static FRAMES: [FrameExample; 6] = [
     (
         "$c t $. $v x y z $. fz $f t z $. fx $f t x $. fy $f t y $. a $a t x z $.",
         "a",
@@ -227,8 +222,8 @@ const FRAMES: [FrameExample; 6] = [
 #[test]
 fn frames_have_their_own_hypotheses_in_order_and_their_own_pairs(
     rt: HostRuntime,
-) -> Result<(), Fail> {
-    for (text, label, hyps, pairs) in FRAMES {
+) -> Result<(), AllocError> {
+    for (text, label, hyps, pairs) in &FRAMES {
         let scopes = scopes_of(rt.alloc(), text.as_bytes())?;
         let Some(frame) = scopes.assertion(label.as_bytes()) else {
             panic!(rt; "no frame: {text}");

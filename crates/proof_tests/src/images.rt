@@ -8,7 +8,6 @@ use ml_image::{inj_collapse, inj_total, injection_symbol, term_image};
 use ml_pat::{ConstNo, MPat, MSort, Names, VarNo};
 use rule_core::{Signature, SortInfo, SortKind, SortRef, Subsorts, SymInfo, SymKind, Table};
 use std::alloc::{AllocError, Global};
-use std::test::Fail;
 use term_core::{RulePat, SortId, SymId};
 
 const S: SortId = SortId(0);
@@ -107,68 +106,91 @@ fn constant(alloc: Global, number: u64) -> Result<MPat, AllocError> {
     MPat::constant(alloc, ConstNo(number))
 }
 
-// f(a, b) is `( \app ( \app f:f f:a ) f:b )`.
+// `( \app ( \app f:f f:a ) f:b )`, for the names f, a and b.
+fn applied_twice(alloc: Global) -> Result<MPat, AllocError> {
+    let applied = MPat::app(alloc, &constant(alloc, 0)?, &constant(alloc, 1)?)?;
+    MPat::app(alloc, &applied, &constant(alloc, 2)?)
+}
+
+// `( \app ( \at f:f s:S ) f:a )`, for the names f, S and a.
+fn applied_at_a_sort(alloc: Global) -> Result<MPat, AllocError> {
+    let head = MPat::at(alloc, &constant(alloc, 0)?, MSort(1))?;
+    MPat::app(alloc, &head, &constant(alloc, 2)?)
+}
+
+// `( \all x:0 s:S ( \ex x:1 s:T ( \eq x:1 ( \app ( \at ( \at f:inj s:S ) s:T ) x:0 ) ) ) )`, for
+// the names inj, S and T.
+fn injection_is_total(alloc: Global) -> Result<MPat, AllocError> {
+    let from = MPat::at(alloc, &constant(alloc, 0)?, MSort(1))?;
+    let injection = MPat::at(alloc, &from, MSort(2))?;
+    let injected = MPat::app(alloc, &injection, &MPat::var(alloc, VarNo(0))?)?;
+    let same = MPat::equal(alloc, &MPat::var(alloc, VarNo(1))?, &injected)?;
+    let some = MPat::ex(alloc, VarNo(1), MSort(2), &same)?;
+    MPat::all(alloc, VarNo(0), MSort(1), &some)
+}
+
+// The image of f(a, b), and the names in their order.
 #[test]
-fn makes_the_image_of_a_term(rt: HostRuntime) -> Result<(), Fail> {
+fn makes_the_image_of_a_term(rt: HostRuntime) -> Result<(), AllocError> {
     let alloc = rt.alloc();
-    let sig = small(alloc)?.ok_or("a signature")?;
+    let wanted = applied_twice(alloc)?;
+    let Some(sig) = small(alloc)? else {
+        panic!(rt; "a signature");
+    };
     let mut names = Names::new(alloc);
     let image = term_image(alloc, &sig, &mut names, &pair(alloc)?)?;
     for (number, token) in [(0, "f:f"), (1, "f:a"), (2, "f:b")] {
         assert!(rt; names.token(number) == Some(token), "{token}");
     }
-    let applied = MPat::app(alloc, &constant(alloc, 0)?, &constant(alloc, 1)?)?;
-    assert!(rt; image.same(&MPat::app(alloc, &applied, &constant(alloc, 2)?)?));
+    assert!(rt; image.same(&wanted));
     Ok(())
 }
 
-// f{S}(a) is `( \app ( \at f:f s:S ) f:a )`.
+// The image of f{S}(a).
 #[test]
-fn makes_the_image_of_a_call(rt: HostRuntime) -> Result<(), Fail> {
+fn makes_the_image_of_a_call(rt: HostRuntime) -> Result<(), AllocError> {
     let alloc = rt.alloc();
-    let sig = small(alloc)?.ok_or("a signature")?;
+    let wanted = applied_at_a_sort(alloc)?;
+    let Some(sig) = small(alloc)? else {
+        panic!(rt; "a signature");
+    };
     let mut names = Names::new(alloc);
     let image = term_image(alloc, &sig, &mut names, &called(alloc)?)?;
-    let head = MPat::at(alloc, &constant(alloc, 0)?, MSort(1))?;
-    assert!(rt; image.same(&MPat::app(alloc, &head, &constant(alloc, 2)?)?));
+    assert!(rt; image.same(&wanted));
     Ok(())
 }
 
-// S directly below T is
-// `( \all x:0 s:S ( \ex x:1 s:T ( \eq x:1 ( \app ( \at ( \at f:inj s:S ) s:T ) x:0 ) ) ) )`.
+// S is directly below T.
 #[test]
-fn says_that_a_subsort_is_one(rt: HostRuntime) -> Result<(), Fail> {
+fn says_that_a_subsort_is_one(rt: HostRuntime) -> Result<(), AllocError> {
     let alloc = rt.alloc();
-    let sig = small(alloc)?.ok_or("a signature")?;
+    let wanted = injection_is_total(alloc)?;
+    let Some(sig) = small(alloc)? else {
+        panic!(rt; "a signature");
+    };
     let (lower, upper) = (SortId(0), SortId(1));
     if !sig.subsorts.pair(lower, upper) {
-        return Err("a pair".into());
+        panic!(rt; "a pair");
     }
     let mut names = Names::new(alloc);
     let image = inj_total(alloc, &sig, &mut names, lower, upper)?;
     for (number, token) in [(0, "f:inj"), (1, "s:S"), (2, "s:T")] {
         assert!(rt; names.token(number) == Some(token), "{token}");
     }
-    let at = MPat::at(
-        alloc,
-        &MPat::at(alloc, &constant(alloc, 0)?, MSort(1))?,
-        MSort(2),
-    )?;
-    let injected = MPat::app(alloc, &at, &MPat::var(alloc, VarNo(0))?)?;
-    let same = MPat::equal(alloc, &MPat::var(alloc, VarNo(1))?, &injected)?;
-    let some = MPat::ex(alloc, VarNo(1), MSort(2), &same)?;
-    assert!(rt; image.same(&MPat::all(alloc, VarNo(0), MSort(1), &some)?));
+    assert!(rt; image.same(&wanted));
     Ok(())
 }
 
 // The injection from S to T followed by that from T to U is the injection from S to U.
 #[test]
-fn says_that_injections_collapse(rt: HostRuntime) -> Result<(), Fail> {
+fn says_that_injections_collapse(rt: HostRuntime) -> Result<(), AllocError> {
     let alloc = rt.alloc();
-    let sig = small(alloc)?.ok_or("a signature")?;
+    let Some(sig) = small(alloc)? else {
+        panic!(rt; "a signature");
+    };
     let (from, through, to) = (SortId(0), SortId(1), SortId(2));
     if !sig.subsorts.below(from, through) || !sig.subsorts.below(through, to) {
-        return Err("a chain".into());
+        panic!(rt; "a chain");
     }
     let mut names = Names::new(alloc);
     inj_collapse(alloc, &sig, &mut names, from, through, to)?;

@@ -5,7 +5,6 @@ ghost use Rattle.ml_pat.specs.Patterns.{top, imp};
 use ml_kernel::{DerivStep, Lemma, Rule, Theory, Thm};
 use ml_pat::{ConstNo, MPat, MSort, VarNo};
 use std::alloc::{AllocError, Global};
-use std::test::Fail;
 
 // The constants a and b.
 fn ends(alloc: Global) -> Result<(MPat, MPat), AllocError> {
@@ -17,7 +16,7 @@ fn ends(alloc: Global) -> Result<(MPat, MPat), AllocError> {
 
 // q follows from p and `p -> q`. These are the theorem's hypotheses, in this order.
 #[test]
-fn detaches(rt: HostRuntime) -> Result<(), Fail> {
+fn detaches(rt: HostRuntime) -> Result<(), AllocError> {
     let alloc = rt.alloc();
     let (p, q) = ends(alloc)?;
     let minor = Thm::assume(alloc, p.share()?)?;
@@ -32,23 +31,22 @@ fn detaches(rt: HostRuntime) -> Result<(), Fail> {
 
 // One step from a to b, only by the rules of reaching: `ev a -> ev b`.
 #[test]
-fn makes_one_step(rt: HostRuntime) -> Result<(), Fail> {
+fn makes_one_step(rt: HostRuntime) {
     let alloc = rt.alloc();
-    let (_, b) = ends(alloc)?;
-    let reached = MPat::ev(alloc, &b)?;
-    let here = Thm::ev_1(alloc, &b)?;
-    let moved = Thm::next_in(alloc, &here, &b, &reached)?;
+    let (_, b) = ends(alloc).expect(&rt, "memory");
+    let reached = MPat::ev(alloc, &b).expect(&rt, "memory");
+    let here = Thm::ev_1(alloc, &b).expect(&rt, "memory");
+    let moved = Thm::next_in(alloc, &here, &b, &reached).expect(&rt, "memory");
     assert!(rt; moved.hypotheses().is_empty());
-    let closing = Thm::ev_2(alloc, &b)?;
-    let kept = Thm::ev_kt(alloc, &here, &closing, &b, &reached)?;
-    let wanted = MPat::imp(alloc, &reached, &reached)?;
+    let closing = Thm::ev_2(alloc, &b).expect(&rt, "memory");
+    let kept = Thm::ev_kt(alloc, &here, &closing, &b, &reached).expect(&rt, "memory");
+    let wanted = MPat::imp(alloc, &reached, &reached).expect(&rt, "memory");
     assert!(rt; kept.conclusion().same(&wanted));
-    Ok(())
 }
 
 // The number of an axiom is its place.
 #[test]
-fn keeps_axioms(rt: HostRuntime) -> Result<(), Fail> {
+fn keeps_axioms(rt: HostRuntime) -> Result<(), AllocError> {
     let alloc = rt.alloc();
     let a = MPat::constant(alloc, ConstNo(0))?;
     let mut theory = Theory::new(alloc);
@@ -61,7 +59,7 @@ fn keeps_axioms(rt: HostRuntime) -> Result<(), Fail> {
 
 // A lemma is cited at an instance of its pattern variable.
 #[test]
-fn cites_a_lemma(rt: HostRuntime) -> Result<(), Fail> {
+fn cites_a_lemma(rt: HostRuntime) -> Result<(), AllocError> {
     let alloc = rt.alloc();
     let a = MPat::constant(alloc, ConstNo(0))?;
     let lemma = Lemma::close(Thm::p_1(alloc, &MPat::meta(alloc, 0)?, &MPat::meta(alloc, 0)?)?)?;
@@ -73,7 +71,7 @@ fn cites_a_lemma(rt: HostRuntime) -> Result<(), Fail> {
 }
 
 #[test]
-fn calls_the_other_rules(rt: HostRuntime) -> Result<(), Fail> {
+fn calls_the_other_rules(rt: HostRuntime) -> Result<(), AllocError> {
     let alloc = rt.alloc();
     let (a, b) = ends(alloc)?;
     let first = Thm::p_1(alloc, &a, &b)?;
@@ -88,7 +86,7 @@ fn calls_the_other_rules(rt: HostRuntime) -> Result<(), Fail> {
 }
 
 #[test]
-fn calls_the_rules_of_negation(rt: HostRuntime) -> Result<(), Fail> {
+fn calls_the_rules_of_negation(rt: HostRuntime) -> Result<(), AllocError> {
     let alloc = rt.alloc();
     let (a, b) = ends(alloc)?;
     let first = Thm::not_1(alloc, &a)?;
@@ -98,7 +96,7 @@ fn calls_the_rules_of_negation(rt: HostRuntime) -> Result<(), Fail> {
 }
 
 #[test]
-fn calls_the_rules_of_conjunction(rt: HostRuntime) -> Result<(), Fail> {
+fn calls_the_rules_of_conjunction(rt: HostRuntime) -> Result<(), AllocError> {
     let alloc = rt.alloc();
     let (a, b) = ends(alloc)?;
     let first = Thm::and_1(alloc, &a, &b)?;
@@ -108,7 +106,7 @@ fn calls_the_rules_of_conjunction(rt: HostRuntime) -> Result<(), Fail> {
 }
 
 #[test]
-fn calls_the_rules_of_disjunction(rt: HostRuntime) -> Result<(), Fail> {
+fn calls_the_rules_of_disjunction(rt: HostRuntime) -> Result<(), AllocError> {
     let alloc = rt.alloc();
     let (a, b) = ends(alloc)?;
     let first = Thm::or_1(alloc, &a, &b)?;
@@ -118,7 +116,7 @@ fn calls_the_rules_of_disjunction(rt: HostRuntime) -> Result<(), Fail> {
 }
 
 #[test]
-fn calls_the_rules_of_cases(rt: HostRuntime) -> Result<(), Fail> {
+fn calls_the_rules_of_cases(rt: HostRuntime) -> Result<(), AllocError> {
     let alloc = rt.alloc();
     let (a, b) = ends(alloc)?;
     let first = Thm::p_3(alloc, &a)?;
@@ -128,7 +126,7 @@ fn calls_the_rules_of_cases(rt: HostRuntime) -> Result<(), Fail> {
 }
 
 #[test]
-fn calls_the_rules_of_bottom(rt: HostRuntime) -> Result<(), Fail> {
+fn calls_the_rules_of_bottom(rt: HostRuntime) -> Result<(), AllocError> {
     let alloc = rt.alloc();
     let (a, b) = ends(alloc)?;
     let first = Thm::bot_l(alloc, &a)?;
@@ -138,7 +136,7 @@ fn calls_the_rules_of_bottom(rt: HostRuntime) -> Result<(), Fail> {
 }
 
 #[test]
-fn calls_the_rule_of_equality(rt: HostRuntime) -> Result<(), Fail> {
+fn calls_the_rule_of_equality(rt: HostRuntime) -> Result<(), AllocError> {
     let alloc = rt.alloc();
     let (a, _) = ends(alloc)?;
     let thm = Thm::eq_refl(alloc, &a)?;
@@ -147,7 +145,7 @@ fn calls_the_rule_of_equality(rt: HostRuntime) -> Result<(), Fail> {
 }
 
 #[test]
-fn calls_the_rules_of_sorts(rt: HostRuntime) -> Result<(), Fail> {
+fn calls_the_rules_of_sorts(rt: HostRuntime) -> Result<(), AllocError> {
     let alloc = rt.alloc();
     let (a, b) = ends(alloc)?;
     let element = Thm::mem_in(alloc, &a, MSort(0))?;
@@ -169,7 +167,7 @@ pub(crate) fn cited_again(alloc: Global, thm: Thm) -> Result<Thm, AllocError>
 
 // In a chain of 1,000,000 lemmas each cites the one before. Only the last one is kept.
 #[test]
-fn cites_a_long_chain_of_lemmas(rt: HostRuntime) -> Result<(), Fail> {
+fn cites_a_long_chain_of_lemmas(rt: HostRuntime) -> Result<(), AllocError> {
     let mut thm = Thm::top(rt.alloc())?;
     for _ in 0..1_000_000 {
         thm = cited_again(rt.alloc(), thm)?;
@@ -179,7 +177,7 @@ fn cites_a_long_chain_of_lemmas(rt: HostRuntime) -> Result<(), Fail> {
 
 // A chain of 100,000 rules is dropped in a loop.
 #[test]
-fn drops_a_long_chain_of_rules(rt: HostRuntime) -> Result<(), Fail> {
+fn drops_a_long_chain_of_rules(rt: HostRuntime) -> Result<(), AllocError> {
     let alloc = rt.alloc();
     let all = MPat::top(alloc)?;
     let again = Thm::assume(alloc, MPat::imp(alloc, &all, &all)?)?;
@@ -193,7 +191,7 @@ fn drops_a_long_chain_of_rules(rt: HostRuntime) -> Result<(), Fail> {
 
 // The instance of a pattern that is 100,000 applications deep is made in a loop.
 #[test]
-fn fills_a_deep_pattern(rt: HostRuntime) -> Result<(), Fail> {
+fn fills_a_deep_pattern(rt: HostRuntime) -> Result<(), AllocError> {
     let alloc = rt.alloc();
     let a = MPat::constant(alloc, ConstNo(0))?;
     let mut deep = MPat::meta(alloc, 0)?;
@@ -209,7 +207,7 @@ fn fills_a_deep_pattern(rt: HostRuntime) -> Result<(), Fail> {
 
 // A constant has no variable to substitute: `(all x s a) -> fun a s -> a`.
 #[test]
-fn calls_the_rule_of_instances(rt: HostRuntime) -> Result<(), Fail> {
+fn calls_the_rule_of_instances(rt: HostRuntime) -> Result<(), AllocError> {
     let alloc = rt.alloc();
     let a = MPat::constant(alloc, ConstNo(0))?;
     let thm = Thm::inst(alloc, &a, &a, &a, VarNo(0), MSort(0))?;
@@ -218,7 +216,7 @@ fn calls_the_rule_of_instances(rt: HostRuntime) -> Result<(), Fail> {
 }
 
 #[test]
-fn calls_the_rule_of_being_functional(rt: HostRuntime) -> Result<(), Fail> {
+fn calls_the_rule_of_being_functional(rt: HostRuntime) -> Result<(), AllocError> {
     let alloc = rt.alloc();
     let a = MPat::constant(alloc, ConstNo(0))?;
     let thm = Thm::fun_ex(alloc, &a, VarNo(0), MSort(0))?;
@@ -228,7 +226,7 @@ fn calls_the_rule_of_being_functional(rt: HostRuntime) -> Result<(), Fail> {
 
 // From `fun x s -> top -> top` follows `(ex x s top) -> top`.
 #[test]
-fn calls_the_rule_of_existence(rt: HostRuntime) -> Result<(), Fail> {
+fn calls_the_rule_of_existence(rt: HostRuntime) -> Result<(), AllocError> {
     let alloc = rt.alloc();
     let all = MPat::top(alloc)?;
     let element = MPat::fun(alloc, &MPat::var(alloc, VarNo(0))?, MSort(0))?;
@@ -239,7 +237,7 @@ fn calls_the_rule_of_existence(rt: HostRuntime) -> Result<(), Fail> {
 }
 
 #[test]
-fn calls_the_rule_of_equals(rt: HostRuntime) -> Result<(), Fail> {
+fn calls_the_rule_of_equals(rt: HostRuntime) -> Result<(), AllocError> {
     let alloc = rt.alloc();
     let (a, b) = ends(alloc)?;
     let x = MPat::var(alloc, VarNo(0))?;
@@ -250,7 +248,7 @@ fn calls_the_rule_of_equals(rt: HostRuntime) -> Result<(), Fail> {
 
 // Two patterns that imply each other are equal.
 #[test]
-fn calls_the_rule_of_equal_patterns(rt: HostRuntime) -> Result<(), Fail> {
+fn calls_the_rule_of_equal_patterns(rt: HostRuntime) -> Result<(), AllocError> {
     let alloc = rt.alloc();
     let (a, b) = ends(alloc)?;
     let there = Thm::assume(alloc, MPat::imp(alloc, &a, &b)?)?;
@@ -262,7 +260,7 @@ fn calls_the_rule_of_equal_patterns(rt: HostRuntime) -> Result<(), Fail> {
 
 // From `top -> ~(a & b)` follows `top -> ~(a in b)`.
 #[test]
-fn calls_the_rule_of_no_element(rt: HostRuntime) -> Result<(), Fail> {
+fn calls_the_rule_of_no_element(rt: HostRuntime) -> Result<(), AllocError> {
     let alloc = rt.alloc();
     let (a, b) = ends(alloc)?;
     let always = MPat::top(alloc)?;
@@ -281,7 +279,7 @@ pub(crate) fn always(alloc: Global, r: &MPat, a: &MPat, b: &MPat) -> Result<Thm,
 }
 
 #[test]
-fn calls_the_rule_of_left_sides(rt: HostRuntime) -> Result<(), Fail> {
+fn calls_the_rule_of_left_sides(rt: HostRuntime) -> Result<(), AllocError> {
     let alloc = rt.alloc();
     let (a, b) = ends(alloc)?;
     let top = MPat::top(alloc)?;
@@ -292,7 +290,7 @@ fn calls_the_rule_of_left_sides(rt: HostRuntime) -> Result<(), Fail> {
 }
 
 #[test]
-fn calls_the_rule_of_right_sides(rt: HostRuntime) -> Result<(), Fail> {
+fn calls_the_rule_of_right_sides(rt: HostRuntime) -> Result<(), AllocError> {
     let alloc = rt.alloc();
     let (a, b) = ends(alloc)?;
     let top = MPat::top(alloc)?;

@@ -1,13 +1,12 @@
 // Worked examples, and one successful call of each function that allocates.
 use ml_pat::{ConstNo, MForm, MPat, MSort, Names, VarNo, fresh, is_pred, subst};
 use std::alloc::{AllocError, Global};
-use std::test::Fail;
 
 const INT: MSort = MSort(3);
 
 // Tokens are numbered in the order in which they come. A known token keeps its number.
 #[test]
-fn numbers_tokens(rt: HostRuntime) -> Result<(), Fail> {
+fn numbers_tokens(rt: HostRuntime) -> Result<(), AllocError> {
     let mut names = Names::new(rt.alloc());
     assert_eq!(rt; names.number("s:SortInt")?, 0);
     assert_eq!(rt; names.number("f:foo")?, 1);
@@ -28,17 +27,16 @@ fn quantified(alloc: Global, x: VarNo) -> Result<MPat, AllocError> {
 
 // The pattern of one variable differs from that of another, and is the same as its shared copy.
 #[test]
-fn compares_patterns(rt: HostRuntime) -> Result<(), Fail> {
-    let alloc = rt.alloc();
-    let first = quantified(alloc, VarNo(0))?;
-    let second = quantified(alloc, VarNo(1))?;
-    assert!(rt; first.same(&first.share()?));
+fn compares_patterns(rt: HostRuntime) {
+    let first = quantified(rt.alloc(), VarNo(0)).expect(&rt, "memory");
+    let second = quantified(rt.alloc(), VarNo(1)).expect(&rt, "memory");
+    let shared = first.share().expect(&rt, "memory");
+    assert!(rt; first.same(&shared));
     assert!(rt; !first.same(&second));
-    Ok(())
 }
 
 #[test]
-fn makes_each_form(rt: HostRuntime) -> Result<(), Fail> {
+fn makes_each_form(rt: HostRuntime) -> Result<(), AllocError> {
     let alloc = rt.alloc();
     let p = MPat::meta(alloc, 0)?;
     let q = MPat::top(alloc)?;
@@ -57,55 +55,56 @@ fn makes_each_form(rt: HostRuntime) -> Result<(), Fail> {
 
 // A pattern that is 100,000 applications deep is compared and dropped in a loop.
 #[test]
-fn compares_and_drops_deep_patterns(rt: HostRuntime) -> Result<(), Fail> {
+fn compares_and_drops_deep_patterns(rt: HostRuntime) {
     let alloc = rt.alloc();
-    let argument = MPat::constant(alloc, ConstNo(1))?;
-    let mut deep = MPat::constant(alloc, ConstNo(0))?;
+    let argument = MPat::constant(alloc, ConstNo(1)).expect(&rt, "memory");
+    let mut deep = MPat::constant(alloc, ConstNo(0)).expect(&rt, "memory");
     for _ in 0..100_000 {
-        deep = MPat::app(alloc, &deep, &argument)?;
+        deep = MPat::app(alloc, &deep, &argument).expect(&rt, "memory");
     }
-    assert!(rt; deep.same(&deep.share()?));
-    Ok(())
+    let shared = deep.share().expect(&rt, "memory");
+    assert!(rt; deep.same(&shared));
 }
 
 // `f x` with g substituted for x. Where x is bound it is not replaced.
 #[test]
-fn substitutes_free_variables(rt: HostRuntime) -> Result<(), Fail> {
+fn substitutes_free_variables(rt: HostRuntime) {
     let alloc = rt.alloc();
-    let symbol = MPat::constant(alloc, ConstNo(7))?;
-    let by = MPat::constant(alloc, ConstNo(8))?;
-    let free = MPat::app(alloc, &symbol, &MPat::var(alloc, VarNo(0))?)?;
-    let wanted = MPat::app(alloc, &symbol, &by)?;
-    assert!(rt; subst(alloc, &free, VarNo(0), &by)?.is_some_and(|made| made.same(&wanted)));
-    let bound = MPat::ex(alloc, VarNo(0), INT, &free)?;
-    assert!(rt; subst(alloc, &bound, VarNo(0), &by)?.is_some_and(|made| made.same(&bound)));
-    Ok(())
+    let symbol = MPat::constant(alloc, ConstNo(7)).expect(&rt, "memory");
+    let by = MPat::constant(alloc, ConstNo(8)).expect(&rt, "memory");
+    let variable = MPat::var(alloc, VarNo(0)).expect(&rt, "memory");
+    let free = MPat::app(alloc, &symbol, &variable).expect(&rt, "memory");
+    let wanted = MPat::app(alloc, &symbol, &by).expect(&rt, "memory");
+    let replaced = subst(alloc, &free, VarNo(0), &by).expect(&rt, "memory");
+    assert!(rt; replaced.is_some_and(|made| made.same(&wanted)));
+    let bound = MPat::ex(alloc, VarNo(0), INT, &free).expect(&rt, "memory");
+    let kept = subst(alloc, &bound, VarNo(0), &by).expect(&rt, "memory");
+    assert!(rt; kept.is_some_and(|made| made.same(&bound)));
 }
 
 // A variable that is substituted under its own quantifier would be captured.
 #[test]
-fn refuses_capture(rt: HostRuntime) -> Result<(), Fail> {
+fn refuses_capture(rt: HostRuntime) {
     let alloc = rt.alloc();
-    let y = MPat::var(alloc, VarNo(1))?;
-    let equal = MPat::equal(alloc, &MPat::var(alloc, VarNo(0))?, &y)?;
-    let some = MPat::ex(alloc, VarNo(1), INT, &equal)?;
-    assert!(rt; subst(alloc, &some, VarNo(0), &y)?.is_none());
+    let x = MPat::var(alloc, VarNo(0)).expect(&rt, "memory");
+    let y = MPat::var(alloc, VarNo(1)).expect(&rt, "memory");
+    let equal = MPat::equal(alloc, &x, &y).expect(&rt, "memory");
+    let some = MPat::ex(alloc, VarNo(1), INT, &equal).expect(&rt, "memory");
+    assert!(rt; matches!(subst(alloc, &some, VarNo(0), &y), Ok(None)));
     assert!(rt; fresh(VarNo(1), &some) && !fresh(VarNo(0), &some));
     assert!(rt; is_pred(&some) && !is_pred(&y));
-    Ok(())
 }
 
 // The lowest first part of a pattern that is 100,000 applications deep is replaced in a loop.
 #[test]
-fn substitutes_in_deep_patterns(rt: HostRuntime) -> Result<(), Fail> {
+fn substitutes_in_deep_patterns(rt: HostRuntime) {
     let alloc = rt.alloc();
-    let argument = MPat::constant(alloc, ConstNo(1))?;
-    let mut deep = MPat::var(alloc, VarNo(0))?;
+    let argument = MPat::constant(alloc, ConstNo(1)).expect(&rt, "memory");
+    let mut deep = MPat::var(alloc, VarNo(0)).expect(&rt, "memory");
     for _ in 0..100_000 {
-        deep = MPat::app(alloc, &deep, &argument)?;
+        deep = MPat::app(alloc, &deep, &argument).expect(&rt, "memory");
     }
     assert!(rt; !fresh(VarNo(0), &deep));
-    let made = subst(alloc, &deep, VarNo(0), &argument)?;
+    let made = subst(alloc, &deep, VarNo(0), &argument).expect(&rt, "memory");
     assert!(rt; made.is_some_and(|made| fresh(VarNo(0), &made)));
-    Ok(())
 }

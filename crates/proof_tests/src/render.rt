@@ -1,23 +1,14 @@
 // Worked examples, written by hand.
 ghost use Rattle.std.specs.Prelude.{◌≡◌, ◌<◌, IfOk, length};
 
+use crate::entries::three_names;
 use ml_kernel::{AxiomNo, Theory, Thm};
-use ml_pat::{ConstNo, MPat, MSort, Names, VarNo};
+use ml_pat::{ConstNo, MPat, MSort, VarNo};
 use mm_render::Renderer;
 use std::alloc::{AllocError, Global};
-use std::test::Fail;
-
-// The names of the sort S and the symbols a and f, with the numbers 0, 1 and 2.
-pub(crate) fn three_names(alloc: Global) -> Result<Names, AllocError> {
-    let mut names = Names::new(alloc);
-    names.number("s:S")?;
-    names.number("f:a")?;
-    names.number("f:f")?;
-    Ok(names)
-}
 
 #[test]
-fn declares_names(rt: HostRuntime) -> Result<(), Fail> {
+fn declares_names(rt: HostRuntime) -> Result<(), AllocError> {
     let alloc = rt.alloc();
     let names = three_names(alloc)?;
     let mut renderer = Renderer::new(rt.alloc());
@@ -34,7 +25,7 @@ fn declares_names(rt: HostRuntime) -> Result<(), Fail> {
 }
 
 #[test]
-fn begins_with_the_header(rt: HostRuntime) -> Result<(), Fail> {
+fn begins_with_the_header(rt: HostRuntime) -> Result<(), AllocError> {
     let mut renderer = Renderer::new(rt.alloc());
     let mut text = Vec::new(rt.alloc());
     renderer.begin(&mut text)?;
@@ -64,26 +55,43 @@ pub(crate) fn some_time(alloc: Global, theory: &Theory) -> Result<Thm, AllocErro
     Thm::mp(alloc, &axiom, &step, &now, &later)
 }
 
-// The axiom, and the lemma that follows from it.
-pub(crate) fn stated(alloc: Global) -> Result<Vec<u8>, AllocError> {
+// Writes the axiom, and the lemma that follows from it.
+pub(crate) fn state(
+    alloc: Global,
+    renderer: &mut Renderer,
+    text: &mut Vec<u8>,
+) -> Result<(), AllocError> {
     let names = three_names(alloc)?;
     let theory = one_axiom(alloc)?;
     let lemma = some_time(alloc, &theory)?;
+    renderer.axiom(&names, &theory, AxiomNo(0), text)?;
+    renderer.lemma(&names, &lemma, text)
+}
+
+// The text of an axiom.
+fn axiom_text(alloc: Global, theory: &Theory, no: AxiomNo) -> Result<Vec<u8>, AllocError>
+    requires { no.0 < length theory.now }
+{
+    let names = three_names(alloc)?;
     let mut renderer = Renderer::new(alloc);
     let mut text = Vec::new(alloc);
-    renderer.axiom(&names, &theory, AxiomNo(0), &mut text)?;
-    renderer.lemma(&names, &lemma, &mut text)?;
+    renderer.axiom(&names, theory, no, &mut text)?;
+    Ok(text)
+}
+
+// The text of a lemma.
+fn lemma_text(alloc: Global, lemma: &Thm) -> Result<Vec<u8>, AllocError> {
+    let names = three_names(alloc)?;
+    let mut renderer = Renderer::new(alloc);
+    let mut text = Vec::new(alloc);
+    renderer.lemma(&names, lemma, &mut text)?;
     Ok(text)
 }
 
 #[test]
-fn states_an_axiom(rt: HostRuntime) -> Result<(), Fail> {
-    let alloc = rt.alloc();
-    let names = three_names(alloc)?;
-    let theory = one_axiom(alloc)?;
-    let mut renderer = Renderer::new(alloc);
-    let mut text = Vec::new(alloc);
-    renderer.axiom(&names, &theory, AxiomNo(0), &mut text)?;
+fn states_an_axiom(rt: HostRuntime) -> Result<(), AllocError> {
+    let theory = one_axiom(rt.alloc())?;
+    let text = axiom_text(rt.alloc(), &theory, AxiomNo(0))?;
     assert_eq!(rt;
         text.as_slice(),
         b"t.0 $a |- ( \\app f:f f:a ) $.\n".as_slice()
@@ -93,8 +101,10 @@ fn states_an_axiom(rt: HostRuntime) -> Result<(), Fail> {
 
 // The lemma cites the axiom by its label.
 #[test]
-fn proves_a_lemma(rt: HostRuntime) -> Result<(), Fail> {
-    let text = stated(rt.alloc())?;
+fn proves_a_lemma(rt: HostRuntime) -> Result<(), AllocError> {
+    let mut renderer = Renderer::new(rt.alloc());
+    let mut text = Vec::new(rt.alloc());
+    state(rt.alloc(), &mut renderer, &mut text)?;
     assert_eq!(rt;
         text.as_slice(),
         b"t.0 $a |- ( \\app f:f f:a ) $.\nt.1 $p |- ( \\ev ( \\app f:f f:a ) ) $= ( n.2 n.1 \
@@ -107,17 +117,13 @@ fn proves_a_lemma(rt: HostRuntime) -> Result<(), Fail> {
 // After the header, the text has exactly the statements of `RenderedCases` of `mm_claims`. The
 // definitions say that these have no fault.
 #[test]
-fn writes_the_database_that_was_judged(rt: HostRuntime) -> Result<(), Fail> {
+fn writes_the_database_that_was_judged(rt: HostRuntime) -> Result<(), AllocError> {
     let alloc = rt.alloc();
-    let names = three_names(alloc)?;
-    let theory = one_axiom(alloc)?;
-    let lemma = some_time(alloc, &theory)?;
     let mut renderer = Renderer::new(alloc);
     let mut text = Vec::new(alloc);
     renderer.begin(&mut text)?;
-    renderer.declare(&names, &mut text)?;
-    renderer.axiom(&names, &theory, AxiomNo(0), &mut text)?;
-    renderer.lemma(&names, &lemma, &mut text)?;
+    renderer.declare(&three_names(alloc)?, &mut text)?;
+    state(alloc, &mut renderer, &mut text)?;
     assert_eq!(rt;
         text.get(5968..),
         Some(
@@ -133,15 +139,12 @@ fn writes_the_database_that_was_judged(rt: HostRuntime) -> Result<(), Fail> {
 
 // An axiom with a variable, in its block.
 #[test]
-fn states_an_axiom_with_a_variable(rt: HostRuntime) -> Result<(), Fail> {
+fn states_an_axiom_with_a_variable(rt: HostRuntime) -> Result<(), AllocError> {
     let alloc = rt.alloc();
-    let names = three_names(alloc)?;
     let here = MPat::fun(alloc, &MPat::var(alloc, VarNo(4))?, MSort(0))?;
     let mut theory = Theory::new(alloc);
     let no = theory.add(MPat::all(alloc, VarNo(4), MSort(0), &here)?)?;
-    let mut renderer = Renderer::new(alloc);
-    let mut text = Vec::new(alloc);
-    renderer.axiom(&names, &theory, no, &mut text)?;
+    let text = axiom_text(alloc, &theory, no)?;
     assert_eq!(rt;
         text.as_slice(),
         b"${\n$v x:4 $.\nx.0.4 $f #Var x:4 $.\nt.0 $a |- ( \\all x:4 s:S ( \\fun x:4 s:S ) ) $.\n\
@@ -155,15 +158,12 @@ fn states_an_axiom_with_a_variable(rt: HostRuntime) -> Result<(), Fail> {
 // may be replaced by the same pattern. A bound variable is an object variable too. Each variable is
 // typed once.
 #[test]
-fn writes_which_variables_stay_apart(rt: HostRuntime) -> Result<(), Fail> {
+fn writes_which_variables_stay_apart(rt: HostRuntime) -> Result<(), AllocError> {
     let alloc = rt.alloc();
-    let names = three_names(alloc)?;
     let body = MPat::imp(alloc, &MPat::var(alloc, VarNo(2))?, &MPat::meta(alloc, 1)?)?;
     let each = MPat::all(alloc, VarNo(5), MSort(0), &body)?;
     let lemma = Thm::p_1(alloc, &each, &MPat::meta(alloc, 0)?)?;
-    let mut renderer = Renderer::new(alloc);
-    let mut text = Vec::new(alloc);
-    renderer.lemma(&names, &lemma, &mut text)?;
+    let text = lemma_text(alloc, &lemma)?;
     assert_eq!(rt;
         text.as_slice(),
         b"${\n$v x:5 $.\nx.0.5 $f #Var x:5 $.\n$v x:2 $.\nx.0.2 $f #Var x:2 $.\n$v m:1 $.\nm.0.1 \

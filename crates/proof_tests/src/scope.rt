@@ -2,11 +2,11 @@
 use ml_derived::{assume, use_lemma};
 use ml_kernel::{Lemma, Thm};
 use ml_pat::{ConstNo, MPat};
-use std::test::Fail;
+use std::alloc::AllocError;
 
 // The assumed pattern is the only hypothesis.
 #[test]
-fn assumes_a_pattern(rt: HostRuntime) -> Result<(), Fail> {
+fn assumes_a_pattern(rt: HostRuntime) -> Result<(), AllocError> {
     let alloc = rt.alloc();
     let a = MPat::constant(alloc, ConstNo(0))?;
     let thm = assume(alloc, a.share()?)?;
@@ -17,7 +17,7 @@ fn assumes_a_pattern(rt: HostRuntime) -> Result<(), Fail> {
 
 // A lemma is cited at an instance of its pattern variable.
 #[test]
-fn cites_a_lemma(rt: HostRuntime) -> Result<(), Fail> {
+fn cites_a_lemma(rt: HostRuntime) -> Result<(), AllocError> {
     let alloc = rt.alloc();
     let a = MPat::constant(alloc, ConstNo(0))?;
     let lemma = Lemma::close(Thm::p_1(alloc, &MPat::meta(alloc, 0)?, &MPat::meta(alloc, 0)?)?)?;

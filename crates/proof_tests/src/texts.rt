@@ -1,13 +1,13 @@
 // Worked examples that show what the definitions and the clauses mean.
 
 use mm_text::*;
+use std::alloc::AllocError;
 use std::process::Abort;
-use std::test::Fail;
 
 /// A text, the bytes at which its tokens begin and end, and the first fault, if there is one.
 type Reading<'a> = (&'a str, &'a [u8], &'a [u8], Option<(u8, usize)>);
 
-const READINGS: [Reading; 18] = [
+static READINGS: [Reading; 18] = [
     ("", &[], &[], None),
     (" \t\r\n\x0c", &[], &[], None),
     ("a", &[0], &[1], None),
@@ -30,14 +30,14 @@ const READINGS: [Reading; 18] = [
 
 #[test]
 fn texts_are_read_up_to_their_end_or_their_first_fault(rt: HostRuntime) {
-    for (text, begins, ends, fault) in READINGS {
+    for (text, begins, ends, fault) in &READINGS {
         let mut tokens = MmTokens::new(text.as_bytes());
-        for (from, to) in begins.iter().zip(ends) {
+        for (from, to) in begins.iter().zip(ends.iter()) {
             expect_token(&rt, &mut tokens, *from, *to, text);
         }
         // The reader returns the same answer again.
         for _ in 0..2 {
-            expect_end(&rt, &mut tokens, fault, text);
+            expect_end(&rt, &mut tokens, *fault, text);
         }
     }
 }
@@ -63,7 +63,7 @@ fn expect_end(rt: &impl Abort, tokens: &mut MmTokens, fault: Option<(u8, usize)>
     }
 }
 
-const NUMBERS: [(&str, u64); 8] = [
+static NUMBERS: [(&str, u64); 8] = [
     ("A", 1),
     ("T", 20),
     ("UA", 21),
@@ -75,35 +75,37 @@ const NUMBERS: [(&str, u64); 8] = [
 ];
 
 #[test]
-fn numbers_have_one_spelling(rt: HostRuntime) -> Result<(), Fail> {
-    for (letters, n) in NUMBERS {
-        assert_eq!(rt; read_number(letters.as_bytes()), Some(n), "{letters}");
+fn numbers_have_one_spelling(rt: HostRuntime) -> Result<(), AllocError> {
+    for (letters, n) in &NUMBERS {
+        assert_eq!(rt; read_number(letters.as_bytes()), Some(*n), "{letters}");
         let mut to = b"Z".to_vec(rt.alloc())?;
-        push_number(n, &mut to)?;
+        push_number(*n, &mut to)?;
         assert_eq!(rt; to.len(), letters.len() + 1, "{letters}");
         assert_eq!(rt; &to[1..], letters.as_bytes(), "{letters}");
     }
     Ok(())
 }
 
+static NO_NUMBERS: [&str; 14] = [
+    "",
+    "U",
+    "AA",
+    "AU",
+    "AZ",
+    "ZA",
+    "UZA",
+    "a",
+    "U A",
+    "@",
+    "[",
+    "U[",
+    "UVWWUYWVVXVWWVYWWVUYUUYUVYI",
+    "VYVUXUUXYWYVVUUVUXWYVWYVYYP",
+];
+
 #[test]
 fn other_letters_are_no_number(rt: HostRuntime) {
-    for letters in [
-        "",
-        "U",
-        "AA",
-        "AU",
-        "AZ",
-        "ZA",
-        "UZA",
-        "a",
-        "U A",
-        "@",
-        "[",
-        "U[",
-        "UVWWUYWVVXVWWVYWWVUYUUYUVYI",
-        "VYVUXUUXYWYVVUUVUXWYVWYVYYP",
-    ] {
+    for letters in &NO_NUMBERS {
         assert_eq!(rt; read_number(letters.as_bytes()), None, "{letters}");
     }
 }
@@ -112,7 +114,7 @@ fn other_letters_are_no_number(rt: HostRuntime) {
 /// a statement that has no end.
 type Statements<'a> = (&'a str, &'a [(usize, usize)], Option<usize>);
 
-const STATEMENTS: [Statements; 7] = [
+static STATEMENTS: [Statements; 7] = [
     ("", &[], None),
     (" $( a $. $) ", &[], None),
     ("$c a $. $v x $.", &[(0, 3), (8, 3)], None),
@@ -124,10 +126,10 @@ const STATEMENTS: [Statements; 7] = [
 
 #[test]
 fn texts_have_their_statements(rt: HostRuntime) {
-    for (text, begins, unended) in STATEMENTS {
+    for (text, begins, unended) in &STATEMENTS {
         let mut reader = MmTokens::new(text.as_bytes());
         let mut tokens = Vec::new(rt.alloc());
-        for (from, len) in begins {
+        for (from, len) in begins.iter() {
             assert!(rt;
                 reader.next_statement(&mut tokens) == Ok(MmFound::Statement),
                 "{text}"

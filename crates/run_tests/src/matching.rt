@@ -10,14 +10,13 @@ use std::alloc::{AllocError, Global};
 use std::hash::Hasher;
 use std::marker::Brand;
 use std::sync::ledger::{Blank, Ledger};
-use std::test::Fail;
 use term_core::{MAX_HEIGHT, RulePat, SortId, Steps, SymId, Term, Value};
 
 const INT: SortId = SortId(0);
 
 // The names come in an order that is not alphabetical. One name comes twice, and one is empty.
 #[test]
-fn numbers_names_as_they_come(rt: HostRuntime) -> Result<(), Fail> {
+fn numbers_names_as_they_come(rt: HostRuntime) -> Result<(), AllocError> {
     let alloc = rt.alloc();
     let mut table = Table::new(alloc);
     assert!(rt; table.is_empty());
@@ -66,7 +65,7 @@ fn number_rule(alloc: Global, at: u32, left: i128, right: i128) -> Rule
 // The rules 5 => 6 and 5 => 7 have the same left side. The earlier rule is found, or the later one
 // if the trial starts after the earlier.
 #[test]
-fn finds_the_first_rule_from_a_place_on(rt: HostRuntime) -> Result<(), Fail> {
+fn finds_the_first_rule_from_a_place_on(rt: HostRuntime) -> Result<(), AllocError> {
     let alloc = rt.alloc();
     let rules = vec![in alloc; number_rule(alloc, 0, 5, 6), number_rule(alloc, 9, 5, 7)]?;
     let subsorts = Subsorts::new(alloc);
@@ -128,18 +127,20 @@ fn pair_of(alloc: Global, a: i128, b: i128) -> Result<Option<Term>, AllocError> 
 
 // A variable that occurs twice matches the same term twice, and not two different terms.
 #[test]
-fn matches_a_repeated_variable(rt: HostRuntime) -> Result<(), Fail> {
+fn matches_a_repeated_variable(rt: HostRuntime) -> Result<(), AllocError> {
     let alloc = rt.alloc();
     let rules = vec![in alloc; same_pair_rule(alloc)?]?;
     let subsorts = Subsorts::new(alloc);
     for (a, b, matches) in [(1, 1, true), (1, 2, false)] {
-        let pair = pair_of(alloc, a, b)?.ok_or("too high")?;
+        let Some(pair) = pair_of(alloc, a, b)? else {
+            panic!(rt; "too high");
+        };
         let found = first_match(alloc, &rules, &subsorts, 0, &pair)?;
         assert_eq!(rt; found.is_some(), matches, "{a} and {b}");
         if let Some((place, subst)) = found {
             assert_eq!(rt; place, 0);
             let value = Term::value(alloc, EXP, Value::Int(a))?;
-            assert!(rt; subst.get(0).ok_or("X")?.same(&value));
+            assert!(rt; subst.get(0).is_some_and(|bound| bound.same(&value)));
         }
     }
     Ok(())
@@ -166,7 +167,7 @@ fn injection_rule(alloc: Global) -> Result<Rule, AllocError>
 // If Int is below Exp, `inj{Exp,KItem}(X)` matches `inj{Int,KItem}(5)`, with `inj{Int,Exp}(5)` for
 // X. Otherwise it does not.
 #[test]
-fn matches_an_injection_of_a_lower_sort(rt: HostRuntime) -> Result<(), Fail> {
+fn matches_an_injection_of_a_lower_sort(rt: HostRuntime) -> Result<(), AllocError> {
     let alloc = rt.alloc();
     let rules = vec![in alloc; injection_rule(alloc)?]?;
     let five = Term::value(alloc, INT, Value::Int(5))?;
@@ -175,9 +176,15 @@ fn matches_an_injection_of_a_lower_sort(rt: HostRuntime) -> Result<(), Fail> {
     let mut subsorts = Subsorts::new(alloc);
     assert!(rt; first_match(alloc, &rules, &subsorts, 0, &term)?.is_none());
     assert!(rt; subsorts.add(alloc, INT, EXP)?);
-    let (place, subst) = first_match(alloc, &rules, &subsorts, 0, &term)?.ok_or("none")?;
+    let Some((place, subst)) = first_match(alloc, &rules, &subsorts, 0, &term)? else {
+        panic!(rt; "none");
+    };
     assert_eq!(rt; place, 0);
-    assert!(rt; subst.get(0).ok_or("X")?.same_inj(INT, EXP, &five));
+    assert!(rt;
+        subst
+            .get(0)
+            .is_some_and(|bound| bound.same_inj(INT, EXP, &five))
+    );
     Ok(())
 }
 
@@ -203,29 +210,24 @@ fn matches_arguments<L: Ledger>(alloc: Global, blank: Blank) -> Result<bool, All
 }
 
 #[test]
-fn matches_the_arguments_of_a_function(rt: HostRuntime) -> Result<(), Fail> {
+fn matches_the_arguments_of_a_function(rt: HostRuntime) -> Result<(), AllocError> {
     let alloc = rt.alloc();
     assert!(rt; matches_arguments::<Brand>(alloc, Blank::new(1))?);
     Ok(())
 }
 
-// The signature of `hooked-sort Int` with the hook INT.Int, `sort Exp` and the constructor
-// `num(Int) : Exp`.
-fn small_signature(alloc: Global) -> Result<Signature, AllocError> {
+// The sort Int with the hook INT.Int, and the sort Exp.
+fn two_sorts(alloc: Global) -> Result<Table<SortInfo>, AllocError> {
     let mut sorts = Table::new(alloc);
-    sorts.insert(
-        String::from_str(alloc, "Int")?,
-        SortInfo {
-            kind: SortKind::Int,
-        },
-    )?;
-    sorts.insert(
-        String::from_str(alloc, "Exp")?,
-        SortInfo {
-            kind: SortKind::Other,
-        },
-    )?;
-    let mut symbols = Table::new(alloc);
+    for (name, kind) in [("Int", SortKind::Int), ("Exp", SortKind::Other)] {
+        sorts.insert(String::from_str(alloc, name)?, SortInfo { kind })?;
+    }
+    Ok(sorts)
+}
+
+// The constructor `num(Int) : Exp`.
+fn one_symbol(alloc: Global) -> Result<Table<SymInfo>, AllocError> {
+    let name = String::from_str(alloc, "num")?;
     let num = SymInfo {
         kind: SymKind::Ctor,
         params: 0,
@@ -234,7 +236,16 @@ fn small_signature(alloc: Global) -> Result<Signature, AllocError> {
         hook: None,
         ac: false,
     };
-    symbols.insert(String::from_str(alloc, "num")?, num)?;
+    let mut symbols = Table::new(alloc);
+    symbols.insert(name, num)?;
+    Ok(symbols)
+}
+
+// The signature of `hooked-sort Int` with the hook INT.Int, `sort Exp` and the constructor
+// `num(Int) : Exp`.
+fn small_signature(alloc: Global) -> Result<Signature, AllocError> {
+    let sorts = two_sorts(alloc)?;
+    let symbols = one_symbol(alloc)?;
     Ok(Signature {
         sorts,
         symbols,
@@ -244,7 +255,7 @@ fn small_signature(alloc: Global) -> Result<Signature, AllocError> {
 
 // A table hashes its names by the whole text that they come from.
 #[test]
-fn hashes_names_by_their_text(rt: HostRuntime) -> Result<(), Fail> {
+fn hashes_names_by_their_text(rt: HostRuntime) {
     let alloc = rt.alloc();
     let hasher = TextHasher::of_text(b"sort S{} []");
     let of_text: Table<u32> = Table::hashed_by(alloc, hasher);
@@ -253,18 +264,16 @@ fn hashes_names_by_their_text(rt: HostRuntime) -> Result<(), Fail> {
     let without = TextHasher::without_text();
     assert_eq!(rt; of_none.hasher().start.finish(), without.start.finish());
     assert!(rt; hasher.start.finish() != without.start.finish());
-    Ok(())
 }
 
 // Sorts and symbols are numbered separately, and the sorts of a symbol are given by their numbers.
 #[test]
-fn makes_a_signature(rt: HostRuntime) -> Result<(), Fail> {
-    let alloc = rt.alloc();
-    let sig = small_signature(alloc)?;
+fn makes_a_signature(rt: HostRuntime) {
+    let sig = small_signature(rt.alloc()).expect(&rt, "memory");
     assert_eq!(rt; sig.sorts.number("Exp"), Some(1));
     assert_eq!(rt; sig.symbols.number("Exp"), None);
     assert_eq!(rt; sig.symbols.number("num"), Some(0));
-    let num = sig.symbols.value(0).ok_or("num")?;
+    let num = sig.symbols.value(0).expect(&rt, "num");
     assert_eq!(rt; num.kind, SymKind::Ctor);
     assert_eq!(rt; num.args.as_slice(), [SortRef::Sort(SortId(0))].as_slice());
     assert_eq!(rt; num.result, SortRef::Sort(SortId(1)));
@@ -272,52 +281,61 @@ fn makes_a_signature(rt: HostRuntime) -> Result<(), Fail> {
         sig.sorts.value(0).map(|sort| sort.kind),
         Some(SortKind::Int)
     );
+}
+
+// Declares a commutative symbol of this kind, without arguments.
+fn add_commutative(
+    alloc: Global,
+    sig: &mut Signature,
+    name: &str,
+    kind: SymKind,
+) -> Result<(), AllocError> {
+    let name = String::from_str(alloc, name)?;
+    let symbol = SymInfo {
+        kind,
+        params: 0,
+        args: Vec::new(alloc),
+        result: SortRef::Sort(EXP),
+        hook: None,
+        ac: true,
+    };
+    sig.symbols.insert(name, symbol)?;
     Ok(())
 }
 
 // A function may be commutative, but a constructor may not.
 #[test]
-fn looks_for_constructors_that_are_commutative(rt: HostRuntime) -> Result<(), Fail> {
+fn looks_for_constructors_that_are_commutative(rt: HostRuntime) {
     let alloc = rt.alloc();
-    let mut sig = small_signature(alloc)?;
+    let mut sig = small_signature(alloc).expect(&rt, "memory");
     for (name, kind, ac_free) in [
         ("sum", SymKind::Closed, true),
         ("bag", SymKind::Ctor, false),
         ("list", SymKind::Injection, false),
     ] {
-        let symbol = SymInfo {
-            kind,
-            params: 0,
-            args: Vec::new(alloc),
-            result: SortRef::Sort(EXP),
-            hook: None,
-            ac: true,
-        };
-        sig.symbols.insert(String::from_str(alloc, name)?, symbol)?;
+        assert!(rt; add_commutative(alloc, &mut sig, name, kind).is_ok());
         assert_eq!(rt; sig.ac_free(), ac_free, "with {name}");
     }
-    Ok(())
 }
 
 // The ends of a chain are in order without a pair of their own, and no pair closes a cycle.
 #[test]
-fn sorts_stand_in_chains(rt: HostRuntime) -> Result<(), Fail> {
+fn sorts_stand_in_chains(rt: HostRuntime) {
     let alloc = rt.alloc();
     let (low, middle, high) = (SortId(4), SortId(70), SortId(0));
     let mut subsorts = Subsorts::new(alloc);
-    assert!(rt; subsorts.add(alloc, middle, high)?);
-    assert!(rt; subsorts.add(alloc, low, middle)?);
+    assert!(rt; matches!(subsorts.add(alloc, middle, high), Ok(true)));
+    assert!(rt; matches!(subsorts.add(alloc, low, middle), Ok(true)));
     assert!(rt; subsorts.below(low, high));
     assert!(rt; !subsorts.below(high, low));
     assert!(rt; !subsorts.pair(low, high));
-    assert!(rt; !subsorts.add(alloc, high, low)?);
-    assert!(rt; !subsorts.add(alloc, low, low)?);
+    assert!(rt; matches!(subsorts.add(alloc, high, low), Ok(false)));
+    assert!(rt; matches!(subsorts.add(alloc, low, low), Ok(false)));
     assert!(rt; subsorts.pair(low, middle));
-    let path = subsorts.path(alloc, low, high)?.ok_or("no path")?;
-    assert_eq!(rt; path.as_slice(), [low, middle, high].as_slice());
-    let step = subsorts.path(alloc, low, middle)?.ok_or("no step")?;
-    assert_eq!(rt; step.as_slice(), [low, middle].as_slice());
-    assert!(rt; subsorts.path(alloc, high, low)?.is_none());
-    assert!(rt; subsorts.path(alloc, low, low)?.is_none());
-    Ok(())
+    let path = subsorts.path(alloc, low, high).expect(&rt, "memory");
+    assert!(rt; path.is_some_and(|path| path.as_slice() == [low, middle, high].as_slice()));
+    let step = subsorts.path(alloc, low, middle).expect(&rt, "memory");
+    assert!(rt; step.is_some_and(|step| step.as_slice() == [low, middle].as_slice()));
+    assert!(rt; matches!(subsorts.path(alloc, high, low), Ok(None)));
+    assert!(rt; matches!(subsorts.path(alloc, low, low), Ok(None)));
 }

@@ -5,7 +5,6 @@ use std::alloc::{AllocError, Global};
 use std::marker::Brand;
 use std::rc::RcStr;
 use std::sync::ledger::{Blank, Ledger};
-use std::test::Fail;
 use term_core::{
     MAX_HEIGHT, RulePat, SortId, Steps, Subst, SymId, Term, Value, View, fits_within, instance,
     is_instance, pattern_of,
@@ -25,7 +24,7 @@ fn number(alloc: Global, n: i128) -> Result<Term, AllocError> {
 
 // inj{Exp,KItem}(inj{Int,Exp}(5)) is inj{Int,KItem}(5), of height 2.
 #[test]
-fn joins_injections(rt: HostRuntime) -> Result<(), Fail> {
+fn joins_injections(rt: HostRuntime) -> Result<(), AllocError> {
     let alloc = rt.alloc();
     let five = number(alloc, 5)?;
     assert!(rt; five.height_injected() <= MAX_HEIGHT);
@@ -41,7 +40,7 @@ fn joins_injections(rt: HostRuntime) -> Result<(), Fail> {
 // A shared term is equal to its source, including its text. It differs from a term with another
 // text.
 #[test]
-fn shares_terms(rt: HostRuntime) -> Result<(), Fail> {
+fn shares_terms(rt: HostRuntime) -> Result<(), AllocError> {
     let alloc = rt.alloc();
     let words = Term::value(alloc, EXP, Value::Text(RcStr::from_str(alloc, "a\"b")?))?;
     let others = Term::value(alloc, EXP, Value::Text(RcStr::from_str(alloc, "a\"c")?))?;
@@ -66,7 +65,7 @@ fn pair_pattern(alloc: Global) -> Result<RulePat, AllocError> {
 // With 5 for X and `inj{Int,Exp}(5)` for Y, that pattern becomes `pair(5, inj{Int,KItem}(5))`. The
 // pattern of this term stands only for this term.
 #[test]
-fn makes_instances(rt: HostRuntime) -> Result<(), Fail> {
+fn makes_instances(rt: HostRuntime) -> Result<(), AllocError> {
     let alloc = rt.alloc();
     let five = number(alloc, 5)?;
     assert!(rt; five.height_injected() <= MAX_HEIGHT);
