@@ -7,5 +7,7 @@ pub mod SentenceLaws
 pub mod ListedLaws
 pub mod ConditionLaws
 pub mod ConstructorLaws
+pub mod SideLaws
+pub mod ApartLaws
 pub mod HookLaws
 pub mod WellSortedLaws

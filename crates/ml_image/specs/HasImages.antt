@@ -11,6 +11,7 @@ use Rattle.rule_core.specs.declared.signature.Signature.{Signature}
 use Rattle.rule_core.specs.declared.signature.SymInfo.{SymInfo}
 use Rattle.ml_image.specs.Images.{injection_symbol}
 use Rattle.ml_image.specs.OwnAxioms.{sort_of, Declares, IsConstructor}
+use Rattle.ml_image.specs.Sides.{AreApart}
 
 -- The pattern has an image: its variables have numbers below n, its sorts and symbols belong to the
 -- signature, and each domain value is a value of its sort.
@@ -110,3 +111,12 @@ pub record HasFreedom (sig : Signature) (f : ℕ) : Type 0 where
 -- there is an injection symbol, and these are sorts of the signature
 abbrev pub CanInject : Signature → List ℕ → Type 0
 CanInject sig sorts = IsSome (injection_symbol sig) × AreSorts sig sorts
+
+-- two patterns without a common instance, which have images
+pub record HaveApartImages (sig : Signature) (p q : Pattern) : Type 0 where
+  pub sorts : List ℕ
+  pub apart : AreApart sig p q sorts
+  pub left : HasImage sig (2 ^ 32) p
+  pub right : HasImage sig (2 ^ 32) q
+  pub are_sorts : AreSorts sig sorts
+  pub few : length sorts ≤ 2 ^ 32

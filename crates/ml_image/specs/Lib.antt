@@ -3,6 +3,7 @@ pub mod Tokens
 pub mod Images
 pub mod Sentences
 pub mod OwnAxioms
+pub mod Sides
 pub mod TrueFacts
 pub mod Assumed
 pub mod HasImages
@@ -11,7 +12,9 @@ pub mod OwnTokens
 -- Laws: what follows from that. Each is a clause of a function that does nothing.
 pub mod NamingLaws
 pub mod ConditionLaws
+pub mod ApartLaws
 -- Private: what clauses of private functions cite, and how private fields are seen.
 pub mod Injecting
 pub mod Counted
 pub mod Closing
+pub mod SideSorts

@@ -1,15 +1,18 @@
--- True facts about built-in values and functions. Each reader of a proof can check them by
--- computation.
+-- True facts about built-in values, functions and injections. Each reader of a proof can check them
+-- by computation.
 use Rattle.std.specs.Prelude.{◌≡◌, ℕ, List, [], ◌∷◌, Some, Ok}
 use Rattle.term_core.specs.Terms.{DomainValue}
-use Rattle.term_core.specs.Patterns.{Patterns, domain_value, call, no_pattern, more_patterns}
+use Rattle.term_core.specs.Patterns.{Pattern, Patterns, variable, domain_value, injection, call}
+use Rattle.term_core.specs.Patterns.{no_pattern, more_patterns}
 use Rattle.term_core.specs.HookValues.{hook_value}
+use Rattle.rule_core.specs.Subsorts.{IsBelow}
 use Rattle.rule_core.specs.Sorting.{HasValue}
 use Rattle.rule_core.specs.declared.signature.Signature.{Signature}
 use Rattle.rule_core.specs.declared.signature.SymInfo.{SymInfo}
 use Rattle.rule_core.specs.declared.signature.SymKind.TheVariants.{Hooked}
-use Rattle.ml_image.specs.Sentences.{Sentence, term, equals, functional}
+use Rattle.ml_image.specs.Sentences.{Sentence, term, not, implies, equals, functional, for_all}
 use Rattle.ml_image.specs.OwnAxioms.{Declares}
+use Rattle.ml_image.specs.Sides.{AreApart}
 
 -- A domain value of a sort is one element of the sort.
 pub record SaysValue (sig : Signature) (s : ℕ) (v : DomainValue) (p : Sentence) : Type 0 where
@@ -43,6 +46,22 @@ pub record SaysHook (sig : Signature) (f : ℕ) (vs : List DomainValue) (p : Sen
   pub says : p
       ≡ equals (term (call f [] (value_patterns sorts vs))) (term (domain_value sort value))
 
+-- Two patterns that have no common instance, since one is a value or an injection, are not equal.
+pub record SaysUnequal (sig : Signature) (left right : Pattern) (p : Sentence) : Type 0 where
+  pub sorts : List ℕ
+  pub apart : AreApart sig left right sorts
+  pub says : p ≡ for_all 0 sorts (not (equals (term left) (term right)))
+
+-- Equal injections, of one sort into another, are of equal elements.
+pub record SaysInjective (sig : Signature) (a b : ℕ) (p : Sentence) : Type 0 where
+  pub lower : IsBelow sig.subsorts a b
+  pub says : p ≡ for_all 0 (a ∷ a ∷ [])
+      (implies
+      (equals (term (injection a b (variable 0))) (term (injection a b (variable 1))))
+      (equals (term (variable 0)) (term (variable 1))))
+
 pub data IsTrueFact (sig : Signature) (p : Sentence) : Type 0 where
   of_value : (s : ℕ) (v : DomainValue) → SaysValue sig s v p → IsTrueFact sig p
   of_hook : (f : ℕ) (vs : List DomainValue) → SaysHook sig f vs p → IsTrueFact sig p
+  of_unequal : (left right : Pattern) → SaysUnequal sig left right p → IsTrueFact sig p
+  of_injective : (a b : ℕ) → SaysInjective sig a b p → IsTrueFact sig p

@@ -1,4 +1,5 @@
 // Laws about images and names.
+ghost use Rattle.ml_image.specs.ApartLaws.{InjectionsDiffer, InstancesDiffer};
 ghost use Rattle.ml_image.specs.ConditionLaws.{ConstructorHasTotality, EquationHasImage};
 ghost use Rattle.ml_image.specs.ConditionLaws.{RuleHasImage, SortedHasImage};
 ghost use Rattle.ml_image.specs.NamingLaws.{GainedAreOwn, ImageStays, SentenceStays};
@@ -19,4 +20,13 @@ pub fn condition_laws()
     ensures rule { RuleHasImage }
     ensures equation { EquationHasImage }
     ensures constructor { ConstructorHasTotality }
+{}
+
+/// Has no effect at run time. It states why the facts about unequal patterns and about injections
+/// are true. Under each substitution by terms of the variables' sorts, two patterns that such a
+/// fact names have different normal forms. Two injections have equal ones only if what they inject
+/// is equal.
+pub fn apart_laws()
+    ensures unequal { InstancesDiffer }
+    ensures injective { InjectionsDiffer }
 {}

@@ -8,6 +8,7 @@
 // that makes it is only as deep as the pattern.
 #![tactic(auto, using(crate::proofs::ImageLaws::gained_twice))]
 
+mod apart;
 mod closing;
 mod constructors;
 mod facts;
@@ -17,9 +18,10 @@ mod rules;
 mod subsorts;
 mod tokens;
 
+pub use apart::{apart_fact, inj_injective};
 pub use constructors::{ctor_apart, ctor_free, ctor_total};
 pub use facts::{hook_fact, value_fact};
 pub use images::{injection_symbol, term_image};
-pub use laws::{condition_laws, naming_laws};
+pub use laws::{apart_laws, condition_laws, naming_laws};
 pub use rules::{equation_image, rule_image};
 pub use subsorts::{inj_collapse, inj_total};

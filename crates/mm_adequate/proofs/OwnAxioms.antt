@@ -20,14 +20,18 @@ use Rattle.rule_core.specs.declared.signature.SortRef.{SortRef}
 use Rattle.ml_image.specs.Assumed.{IsAssumed}
 use Rattle.ml_image.specs.HasImages.{HasImage, HaveImages, count_of}
 use Rattle.ml_image.specs.Images.{shifted, all_shifted}
-use Rattle.ml_image.specs.Sentences.{Sentence, symbol, top, for_all, variables, apply_all}
-use Rattle.ml_image.specs.Sentences.{conjunctions}
+use Rattle.ml_image.specs.Sentences.{Sentence, term, symbol, top, not, implies, equals, for_all}
+use Rattle.ml_image.specs.Sentences.{variables, apply_all, conjunctions}
 use Rattle.ml_image.specs.OwnAxioms.{sort_of, is_true, condition_sentence, SaysRule, IsOwnAxiom}
 use Rattle.ml_image.specs.OwnAxioms.{meets, sort_numbered, Declares, SaysEquation}
 use Rattle.ml_image.specs.OwnAxioms.{direct, kompile, IsEquationFor, of_variables, SaysTotal}
 use Rattle.ml_image.specs.OwnAxioms.{SaysApart, SaysFree, of_rule, of_equation, total, apart, free}
 use Rattle.ml_image.specs.OwnAxioms.{subsort, collapse}
-use Rattle.ml_image.specs.TrueFacts.{value_patterns, IsTrueFact, of_value, of_hook}
+use Rattle.ml_image.specs.Sides.{Head, value, constructor, Side, plain, injected_variable}
+use Rattle.ml_image.specs.Sides.{injected_head, numbered, head_sorts, side_sorts, head_pattern}
+use Rattle.ml_image.specs.Sides.{side_pattern, IsHead, IsSide}
+use Rattle.ml_image.specs.TrueFacts.{value_patterns, IsTrueFact, of_value, of_hook, of_unequal}
+use Rattle.ml_image.specs.TrueFacts.{of_injective, SaysUnequal}
 use Rattle.ml_image.proofs.ImageLaws.{some_same}
 use Rattle.ml_image.proofs.WellSortedLaws.{sorted_has_image}
 use Rattle.mm_adequate.specs.Assuming.{AssumesClosed, HasFewVariables}
@@ -357,16 +361,79 @@ no_variable (s ∷ sorts) [] x i = i
 no_variable (s ∷ sorts) (v ∷ vs) x (inl i) = i
 no_variable (s ∷ sorts) (v ∷ vs) x (inr i) = no_variable sorts vs x i
 
-below_fact : (sig : Signature) (p : Sentence) → IsTrueFact sig p → IsBelow 0 p
-below_fact sig p (of_value s v says) = subst (IsBelow 0) (sym says.says) (λ x i. absurd i)
-below_fact sig p (of_hook f vs says) =
+-- ---- facts about patterns that are apart
+
+numbered_below : (k j n x : ℕ) → j + n ≤ k → OccursInSome x (numbered j n) → x < k
+numbered_below k j zero x l i = absurd i
+numbered_below k j (suc n) x l (inl i) = omega (arith, l, i)
+numbered_below k j (suc n) x l (inr i) = numbered_below k (j + 1) n x (omega (arith, l)) i
+
+head_below : (sort k j x : ℕ) (h : Head) → j + length (head_sorts h) ≤ k
+    → OccursIn x (head_pattern sort j h) → x < k
+head_below sort k j x (value v) l i = absurd i
+head_below sort k j x (constructor f sorts) l i = numbered_below k j (length sorts) x l i
+
+side_below : (sort k j x : ℕ) (s : Side) → j + length (side_sorts s) ≤ k
+    → OccursIn x (side_pattern sort j s) → x < k
+side_below sort k j x (plain h) l i = head_below sort k j x h l i
+side_below sort k j x (injected_variable a) l i = omega (arith, l, i)
+side_below sort k j x (injected_head a h) l i = head_below a k j x h l i
+
+few_in_head : (theory : RewriteTheory) (sort : ℕ) (h : Head) → IsHead theory.sig sort h
+    → length (head_sorts h) < 2 ^ 63
+few_in_head theory sort (value v) is = omega arith
+few_in_head theory sort (constructor f sorts) (info, constructs, no_ac) =
+    few_sorts theory f info sorts sort constructs.0
+
+few_in_side : (theory : RewriteTheory) (sort : ℕ) (s : Side) → IsSide theory.sig sort s
+    → length (side_sorts s) < 2 ^ 63
+few_in_side theory sort (plain h) is = few_in_head theory sort h is
+few_in_side theory sort (injected_variable a) is = omega arith
+few_in_side theory sort (injected_head a h) is = few_in_head theory a h is.1
+
+below_unequal : (theory : RewriteTheory) (left right : Pattern) (p : Sentence)
+    → SaysUnequal theory.sig left right p → IsBelow 0 p
+below_unequal theory left right p says =
+    let k : ℕ = length says.sorts in
+    let h = says.apart in
+    let n : ℕ = length (side_sorts h.one) in
+    let m : ℕ = length (side_sorts h.other) in
+    let long : k ≡ n + m =
+    ap length h.sorts_are ∙ length-append (side_sorts h.one) (side_sorts h.other) in
+    subst (IsBelow 0) (sym says.says)
+    (closes says.sorts (not (equals (term left) (term right)))
+    (omega (
+      arith,
+      long,
+      few_in_side theory h.sort h.one h.is_one,
+      few_in_side theory h.sort h.other h.is_other,
+    )) (
+      (λ x i. side_below h.sort k 0 x h.one (omega (arith, long))
+          (subst (OccursIn x) h.first i)),
+      (λ x i. side_below h.sort k n x h.other (omega (arith, long))
+          (subst (OccursIn x) h.second i)),
+    ))
+
+below_fact : (theory : RewriteTheory) (p : Sentence) → IsTrueFact theory.sig p → IsBelow 0 p
+below_fact theory p (of_value s v says) = subst (IsBelow 0) (sym says.says) (λ x i. absurd i)
+below_fact theory p (of_hook f vs says) =
     subst (IsBelow 0) (sym says.says)
     ((λ x i. absurd (no_variable says.sorts vs x i)), (λ x i. absurd i))
+below_fact theory p (of_unequal left right says) = below_unequal theory left right p says
+below_fact theory p (of_injective a b says) =
+    subst (IsBelow 0) (sym says.says)
+    (closes (a ∷ a ∷ [])
+    (implies
+    (equals (term (injection a b (variable 0))) (term (injection a b (variable 1))))
+    (equals (term (variable 0)) (term (variable 1)))) (omega arith) (
+      ((λ x i. omega (arith, i)), (λ x i. omega (arith, i))),
+      ((λ x i. omega (arith, i)), (λ x i. omega (arith, i))),
+    ))
 
 below_assumed : (theory : RewriteTheory) (p : Sentence) → IsWellSorted theory
     → HasFewVariables theory → IsAssumed theory p → IsBelow 0 p
 below_assumed theory p ok few (inl own) = below_own theory p ok few own
-below_assumed theory p ok few (inr fact) = below_fact theory.sig p fact
+below_assumed theory p ok few (inr fact) = below_fact theory p fact
 
 pub assumes_closed : (theory : RewriteTheory) → IsWellSorted theory → HasFewVariables theory
     → AssumesClosed theory

@@ -1,13 +1,23 @@
 -- Entries with the names that their tokens have in the map.
-use Rattle.std.proofs.Common.{rules, ◌≡◌, ℕ, zero, suc, Bool, true, List, [], ◌∷◌, ◌++◌, map}
+use Rattle.std.proofs.Common.{rules, ◌≡◌, ℕ, zero, suc, Bool, true, false, List, [], ◌∷◌, ◌++◌, map}
 use Rattle.std.proofs.Common.{slice_get, refl, ap, sym, ◌∙◌}
 use Rattle.std.specs.Prelude.{Option, None, Some, bytes_eq, if◌then◌else◌}
 use Rattle.std.proofs.lemmas.Slice.Eq.{bytes_eq-Decides}
 use Rattle.mm_text.specs.Bytes.{Token}
 use Rattle.mm_frame.specs.declared.entries.Entry.{Entry}
-use Rattle.mm_frame.specs.declared.scopes.Name.{Name}
-use Rattle.mm_frame.proofs.StandAdds.{other-name}
+use Rattle.mm_frame.specs.declared.names.Name.{Name}
+use Rattle.mm_frame.specs.KnownNames.{Renames}
 use Rattle.mm_frame.specs.EntriesView.{entry_word, entry_name}
+
+pub other-name : (old new : Token → Option Name) (token t : Token) (x y : Name) → old token ≡ None
+    → Renames old token x new → old t ≡ Some y → new t ≡ Some y
+other-name old new token t x y fresh names is = go (bytes_eq token t) refl
+  where
+    go : (b : Bool) → bytes_eq token t ≡ b → new t ≡ Some y
+    go true e =
+        let same : token ≡ t = (bytes_eq-Decides token t).0 e in
+        let no : None ≡ Some y = sym fresh ∙ ap old same ∙ is in absurd (cc)
+    go false e = names t ∙ (rw e is)
 
 -- each entry has the name that the function returns for its token
 abbrev pub Known : (Token → Option Name) → List Entry → Type 0

@@ -4,8 +4,9 @@ use Rattle.std.proofs.Common.{List, [], ◌∷◌, ◌++◌, refl, ap, sym, ◌�
 use Rattle.std.specs.Prelude.{◌||◌, nat_eq, filter, flat_map, if◌then◌else◌, slice_get, slice_index}
 use Rattle.std.specs.Prelude.{cond, Some, None}
 use Rattle.std.specs.List.{dedup, dedup_from}
-use Rattle.std.specs.List.Sorted.{IsStrictlyIncreasing}
+use Rattle.std.specs.List.Sorted.{IsPermutation, IsStrictlyIncreasing}
 use Rattle.std.proofs.lemmas.Bool.{eqb-true, eq-eqb}
+use Rattle.std.proofs.lemmas.List.Sorted.{list_any-IsPermutation}
 use Rattle.mm_frame.specs.PlainFrames.{has_number}
 use Rattle.mm_frame.specs.Places.{places_from, places_of, passes, found_at}
 
@@ -236,3 +237,9 @@ dedup_from-has k (m ∷ ns) n = go (nat_eq m k) refl (dedup_from-has k ns n) (de
 pub dedup-has : (ns : List ℕ) (n : ℕ) → has_number (dedup nat_eq ns) n ≡ has_number ns n
 dedup-has [] n = refl
 dedup-has (m ∷ ns) n = dedup_from-has m ns n
+
+-- sorting numbers and removing repeated ones keeps the same numbers
+pub sorted-has : (xs ys zs : List ℕ) → IsPermutation xs ys → zs ≡ dedup nat_eq ys → (n : ℕ)
+    → has_number zs n ≡ has_number xs n
+sorted-has xs ys zs moved is n = ap (λ (ms : List ℕ). has_number ms n) is ∙ dedup-has ys n
+    ∙ sym (list_any-IsPermutation (λ m. nat_eq m n) xs ys moved)

@@ -5,7 +5,7 @@ use Rattle.std.specs.BTreeMap.{BTreeMap}
 use Rattle.mm_text.specs.Bytes.{Token}
 use Rattle.mm_frame.specs.KnownNames.{name_in}
 use Rattle.mm_frame.specs.declared.entries.Entry.{Entry}
-use Rattle.mm_frame.specs.declared.scopes.Name.{Name}
+use Rattle.mm_frame.specs.declared.names.Name.{Name}
 
 abbrev pub entry_word : Entry → Token
 entry_word entry = entry.word.now

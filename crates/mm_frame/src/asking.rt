@@ -31,9 +31,9 @@ pub struct Lists<'a> {
 /// other assertions share, and lists of its own.
 #[derive(Drop)]
 pub struct Parts<'a> {
-    pub(crate) tree: Rc<HypTree<'a>>,
-    pub(crate) common: Rc<Vec<Vec<u32>>>,
-    pub(crate) own: Vec<Vec<u32>>,
+    pub tree: Rc<HypTree<'a>>,
+    pub common: Rc<Vec<Vec<u32>>>,
+    pub own: Vec<Vec<u32>>,
 }
 
 /// The labels of hypotheses. It takes time in their number, times its logarithm.

@@ -1,6 +1,6 @@
 // Which symbols the active `$e` have.
 
-ghost use Rattle.std.specs.Prelude.{◌≡◌, ℕ, ◌<◌, ◌+◌, ◌-◌, nat_lt, slice_index, IfOk, vec_len};
+ghost use Rattle.std.specs.Prelude.{◌≡◌, ℕ, ◌<◌, ◌+◌, ◌-◌, nat_lt, IfOk, vec_len};
 ghost use Rattle.mm_frame.specs.Times.{once, times};
 
 use std::alloc::{AllocError, Global};

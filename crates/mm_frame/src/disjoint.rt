@@ -1,16 +1,17 @@
 // The active `$d`.
 
 ghost use Rattle.std.specs.Prelude.{◌≡◌, ℕ, ◌<◌, ◌||◌, ◌&&◌, false, true, nat_eq, IfOk, filter};
-ghost use Rattle.std.specs.Prelude.{flat_map, option_map};
+ghost use Rattle.std.specs.Prelude.{option_map};
 ghost use Rattle.std.specs.Prelude.{slice_get, if◌then◌else◌, ◌++◌, ◌∷◌, [], vec_len};
 ghost use Rattle.std.specs.List.Sorted.{IsStrictlyIncreasing};
 ghost use Rattle.std.specs.List.{list_any, list_all};
 ghost use Rattle.mm_frame.specs.PlainFrames.{has_number, in_group, in_groups, items_of, groups_of};
 ghost use Rattle.mm_frame.specs.Grouping.{Extends, is_apart_or_same, is_pair_of};
 ghost use Rattle.mm_frame.specs.Listed.{list_of, group_places, AreListed, ends_with, with_place};
-ghost use Rattle.mm_frame.specs.Listed.{without_place, shares};
+ghost use Rattle.mm_frame.specs.Listed.{without_place};
 ghost use Rattle.mm_frame.specs.Places.{passes};
 
+use crate::numbers::{kept_numbers, push_if};
 use std::alloc::{AllocError, Global};
 use std::collections::BTreeMap;
 
@@ -33,7 +34,7 @@ const FEW: usize = 16;
 /// shorter one. These places are few, or their groups are large. Notes are not trusted: one counts
 /// only if its place is still in both lists.
 #[derive(Drop)]
-pub(crate) struct Disjoint {
+pub struct Disjoint {
     groups: Vec<Vec<u32>>,
     places: Vec<Vec<usize>>,
     noted: BTreeMap<(u32, u32), usize>,
@@ -45,7 +46,7 @@ impl Disjoint {
     ghost use Rattle.mm_frame.specs.DisjointView.{groups_in};
 
     /// No groups. Takes no memory yet.
-    pub(crate) fn new(alloc: Global) -> Self
+    pub fn new(alloc: Global) -> Self
         ensures { groups_in result ≡ [] }
     {
         Disjoint {
@@ -56,14 +57,14 @@ impl Disjoint {
     }
 
     /// The groups, in order.
-    pub(crate) fn groups(&self) -> &[Vec<u32>]
+    pub fn groups(&self) -> &[Vec<u32>]
         ensures { groups_of result.now ≡ groups_in self.now }
     {
         &self.groups
     }
 
     /// How many groups there are.
-    pub(crate) fn len(&self) -> usize
+    pub fn len(&self) -> usize
         ensures { result ≡ length (groups_in self.now) }
     {
         self.groups.len()
@@ -71,7 +72,7 @@ impl Disjoint {
 
     /// Keeps the variables of a group apart from each other. When out of memory, all groups may be
     /// lost.
-    pub(crate) fn push(&mut self, alloc: Global, group: Vec<u32>) -> Result<(), AllocError>
+    pub fn push(&mut self, alloc: Global, group: Vec<u32>) -> Result<(), AllocError>
         ensures { IfOk result (λ _. Extends (groups_in self.old) group.items (groups_in self.new)) }
     {
         if self.has_pairs_of(&group) {
@@ -96,7 +97,7 @@ impl Disjoint {
     }
 
     /// Keeps the first `count` groups.
-    pub(crate) fn truncate(&mut self, count: usize)
+    pub fn truncate(&mut self, count: usize)
         ensures { groups_in self.new ≡ take count (groups_in self.old) }
     {
         while self.groups.len() > count {
@@ -114,7 +115,7 @@ impl Disjoint {
     }
 
     /// The group at a place.
-    pub(crate) fn group(&self, place: usize) -> Option<&Vec<u32>>
+    pub fn group(&self, place: usize) -> Option<&Vec<u32>>
         ensures { option_map (λ g. items_of g.now) result ≡ slice_get (groups_in self.now) place }
     {
         self.groups.get(place)
@@ -148,7 +149,7 @@ impl Disjoint {
 
     /// Whether a group is found that has all these variables. No group is looked for if the first
     /// variable is in more groups than there are variables.
-    pub(crate) fn are_together(&self, variables: &[u32]) -> bool
+    pub fn are_together(&self, variables: &[u32]) -> bool
         ensures { result ≡ true → (a b : ℕ) → in_group a b variables.now ≡ true
             → in_groups (groups_in self.now) a b
             ≡ true }
@@ -208,14 +209,14 @@ impl Disjoint {
     }
 
     /// Whether a variable is in no group.
-    pub(crate) fn is_free(&self, n: u32) -> bool
+    pub fn is_free(&self, n: u32) -> bool
         ensures { result ≡ nat_eq (length (group_places (groups_in self.now) n)) 0 }
     {
         self.listed(n).is_empty()
     }
 
     /// Whether two variables differ and are in a group together.
-    pub(crate) fn are_apart(&self, a: u32, b: u32) -> bool
+    pub fn are_apart(&self, a: u32, b: u32) -> bool
         ensures { result ≡ in_groups (groups_in self.now) a b }
     {
         self.is_noted(a, b) || self.have_group(a, b)
@@ -259,7 +260,7 @@ impl Disjoint {
     /// Groups that have exactly those pairs of the numbers that are in a group here. The numbers
     /// ascend. The result is what each group has of the numbers, or the pairs themselves if there
     /// are fewer pairs than places in the numbers' lists.
-    pub(crate) fn within(&self, alloc: Global, numbers: &[u32]) -> Result<Vec<Vec<u32>>, AllocError>
+    pub fn within(&self, alloc: Global, numbers: &[u32]) -> Result<Vec<Vec<u32>>, AllocError>
         requires { IsStrictlyIncreasing numbers.now }
         ensures { IfOk result (λ v. (a b : ℕ) → in_groups (groups_of v.items) a b
             ≡ (in_groups (groups_in self.now) a b
@@ -332,11 +333,7 @@ impl Disjoint {
     }
 
     /// The places of the groups that have one of these numbers, ascending and each once.
-    pub(crate) fn places_among(
-        &self,
-        alloc: Global,
-        numbers: &[u32],
-    ) -> Result<Vec<usize>, AllocError>
+    pub fn places_among(&self, alloc: Global, numbers: &[u32]) -> Result<Vec<usize>, AllocError>
         ensures { IfOk result (λ v. (i : ℕ) → has_number v.items i
             ≡ list_any (λ n. has_number (group_places (groups_in self.now) n) i) numbers.now) }
     {
@@ -543,43 +540,8 @@ fn has_place(places: &[usize], place: usize) -> bool
     places.binary_search(&place).is_ok()
 }
 
-/// Whether the number is among others, which ascend.
-pub(crate) fn is_among(numbers: &[u32], n: u32) -> bool
-    requires { IsStrictlyIncreasing numbers.now }
-    ensures { result ≡ has_number numbers.now n }
-{
-    numbers.binary_search(&n).is_ok()
-}
-
-/// What a group has of the numbers. The numbers ascend.
-pub(crate) fn kept_numbers(
-    alloc: Global,
-    numbers: &[u32],
-    group: &[u32],
-) -> Result<Vec<u32>, AllocError>
-    requires { IsStrictlyIncreasing numbers.now }
-    ensures { IfOk result (λ v. v.items ≡ filter (has_number numbers.now) group.now) }
-{
-    let mut kept = Vec::new(alloc);
-    for n in group {
-        push_if(is_among(numbers, *n), &mut kept, *n)?;
-    }
-    Ok(kept)
-}
-
-/// Appends the number if it is to be kept.
-pub(crate) fn push_if(keeps: bool, kept: &mut Vec<u32>, n: u32) -> Result<(), AllocError>
-    ensures { IfOk result
-        (λ _. kept.new.items ≡ (if keeps then kept.old.items ++ n ∷ [] else kept.old.items)) }
-{
-    if keeps {
-        kept.push(n)?;
-    }
-    Ok(())
-}
-
 /// Appends the group if it has a pair.
-pub(crate) fn push_group(groups: &mut Vec<Vec<u32>>, group: Vec<u32>) -> Result<(), AllocError>
+pub fn push_group(groups: &mut Vec<Vec<u32>>, group: Vec<u32>) -> Result<(), AllocError>
     ensures { IfOk result (λ _. (a b : ℕ) → in_groups (groups_of groups.new.items) a b
         ≡ (in_groups (groups_of groups.old.items) a b || in_group a b group.items)) }
 {

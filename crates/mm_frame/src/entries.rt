@@ -3,7 +3,7 @@
 ghost use Rattle.std.specs.Prelude.{◌≡◌, true};
 ghost use Rattle.mm_frame.specs.ShortWords.{IsFront};
 
-use crate::scopes::Name;
+use crate::names::Name;
 
 /// How many bytes of a token its entry holds. A token of at most this length is compared without a
 /// look at the text.

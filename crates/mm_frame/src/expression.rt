@@ -33,7 +33,7 @@ impl Expression {
 
     /// The expression of these symbols, to be shared. It takes time in their number; if it is long,
     /// times the logarithm of this number.
-    pub(crate) fn shared(alloc: Global, symbols: Vec<u32>) -> Result<Rc<Expression>, AllocError>
+    pub fn shared(alloc: Global, symbols: Vec<u32>) -> Result<Rc<Expression>, AllocError>
         ensures { IfOk result (λ e. expression_symbols e.value ≡ symbols.items) }
     {
         if symbols.len() < LONG || symbols.len() > MOST {

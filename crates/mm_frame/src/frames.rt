@@ -1,12 +1,12 @@
 // Hypotheses and frames.
 
-ghost use Rattle.std.specs.Prelude.{◌≡◌};
+ghost use Rattle.std.specs.Prelude.{◌≡◌, IfOk};
 ghost use Rattle.mm_frame.specs.PlainFrames.{types_number, plain_hypothesis};
 ghost use Rattle.mm_database.specs.Frames.{label_of};
-ghost use Rattle.mm_frame.specs.Listed.{is_essential};
 
 use crate::asking::Mandatory;
 use crate::expression::Expression;
+use std::alloc::AllocError;
 use std::rc::Rc;
 
 /// A hypothesis, whose symbols are numbers.
@@ -47,16 +47,6 @@ impl<'a> Hyp<'a> {
         }
     }
 
-    /// Whether it is an `$e`.
-    pub(crate) fn is_essential(&self) -> bool
-        ensures { result ≡ is_essential (plain_hypothesis self.now) }
-    {
-        match self {
-            Hyp::Floating(_, _, _) => false,
-            Hyp::Essential(_, _) => true,
-        }
-    }
-
     /// Whether it types this variable.
     pub fn types(&self, n: u32) -> bool
         ensures { result ≡ types_number n (plain_hypothesis self.now) }
@@ -64,6 +54,18 @@ impl<'a> Hyp<'a> {
         match self {
             Hyp::Floating(_, _, variable) => *variable == n,
             Hyp::Essential(_, _) => false,
+        }
+    }
+
+    /// The same once more.
+    pub fn share(&self) -> Result<Hyp<'a>, AllocError>
+        ensures { IfOk result (λ h. plain_hypothesis h ≡ plain_hypothesis self.now) }
+    {
+        match self {
+            Hyp::Floating(label, typecode, variable) => Ok(Hyp::Floating(
+                label, *typecode, *variable,
+            )),
+            Hyp::Essential(label, statement) => Ok(Hyp::Essential(label, statement.clone()?)),
         }
     }
 }

@@ -11,16 +11,10 @@ use crate::counts::Counts;
 use crate::frames::Hyp;
 use std::alloc::{AllocError, Global};
 
-/// The active `$e` are long if they have this many symbols or more, all together.
-const LONG_FROM: usize = 256;
-
-/// Each `$e` counts as this many symbols more than it has.
-const COST_OF_ONE: usize = 8;
-
 /// Hypotheses in the order in which they came, the places of the `$e` among them, and which symbols
 /// these have. Appending one takes time in its length, and cutting the list that of what is cut.
 #[derive(Drop)]
-pub(crate) struct Hypotheses<'a> {
+pub struct Hypotheses<'a> {
     all: Vec<Hyp<'a>>,
     essentials: Vec<usize>,
     counts: Counts,
@@ -37,7 +31,7 @@ impl<'a> Hypotheses<'a> {
     ghost use Rattle.mm_frame.specs.HypothesesView.{hypotheses_in};
 
     /// No hypotheses. Takes no memory yet.
-    pub(crate) fn new(alloc: Global) -> Self
+    pub fn new(alloc: Global) -> Self
         ensures { hypotheses_in result ≡ [] }
     {
         Hypotheses {
@@ -48,14 +42,14 @@ impl<'a> Hypotheses<'a> {
     }
 
     /// How many there are.
-    pub(crate) fn len(&self) -> usize
+    pub fn len(&self) -> usize
         ensures { result ≡ length (hypotheses_in self.now) }
     {
         self.all.len()
     }
 
     /// The hypothesis at a place.
-    pub(crate) fn get(&self, place: usize) -> Option<&Hyp<'a>>
+    pub fn get(&self, place: usize) -> Option<&Hyp<'a>>
         ensures { option_map (λ h. plain_hypothesis h.now) result
             ≡ slice_get (hypotheses_in self.now) place }
     {
@@ -63,38 +57,21 @@ impl<'a> Hypotheses<'a> {
     }
 
     /// The places of the `$e`, ascending.
-    pub(crate) fn essentials(&self) -> &[usize]
+    pub fn essentials(&self) -> &[usize]
         ensures { result.now ≡ places_of is_essential (hypotheses_in self.now) }
     {
         &self.essentials
     }
 
     /// Whether the symbol occurs in one of the `$e`.
-    pub(crate) fn is_asked(&self, n: u32) -> bool
+    pub fn is_asked(&self, n: u32) -> bool
         ensures { result ≡ list_any (number_stands_in n) (hypotheses_in self.now) }
     {
         self.counts.has(n)
     }
 
-    /// Whether the `$e` are long, all together, with one more of this statement. It looks at few of
-    /// them.
-    pub(crate) fn are_heavy_with(&self, statement: &[u32]) -> bool {
-        let mut weight = statement.len().saturating_add(COST_OF_ONE);
-        for place in &self.essentials {
-            if weight >= LONG_FROM {
-                return true;
-            }
-            if let Some(Hyp::Essential(_, statement)) = self.all.get(*place) {
-                weight = weight
-                    .saturating_add(statement.symbols().len())
-                    .saturating_add(COST_OF_ONE);
-            }
-        }
-        weight >= LONG_FROM
-    }
-
     /// Appends a hypothesis. After running out of memory none may be left.
-    pub(crate) fn push(&mut self, hyp: Hyp<'a>) -> Result<(), AllocError>
+    pub fn push(&mut self, hyp: Hyp<'a>) -> Result<(), AllocError>
         ensures { IfOk result (λ _.
             hypotheses_in self.new ≡ hypotheses_in self.old ++ plain_hypothesis hyp.entry ∷ []) }
     {
@@ -117,7 +94,7 @@ impl<'a> Hypotheses<'a> {
     }
 
     /// Keeps this many of the first hypotheses.
-    pub(crate) fn truncate(&mut self, count: usize)
+    pub fn truncate(&mut self, count: usize)
         ensures { hypotheses_in self.new ≡ take count (hypotheses_in self.old) }
     {
         while self.all.len() > count {

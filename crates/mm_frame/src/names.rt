@@ -3,7 +3,6 @@
 ghost use Rattle.mm_frame.specs.EntriesView.{AreKnown};
 
 use crate::entries::Entry;
-use crate::scopes::Name;
 use std::alloc::{AllocError, Global};
 use std::collections::BTreeMap;
 
@@ -16,6 +15,16 @@ const FIRST_SLOTS: usize = 64;
 /// What an empty slot holds: the number of no entry.
 const EMPTY: u32 = u32::MAX;
 
+/// What a token names. Symbols, hypotheses and assertions have numbers in the order in which they
+/// came.
+#[derive(Clone, Copy)]
+pub enum Name {
+    Constant(u32),
+    Variable(u32),
+    Hypothesis(usize),
+    Assertion(usize),
+}
+
 /// Tokens with what they name. There is an ordered map, and in front of it a table of slots. A slot
 /// holds the number of an entry.
 ///
@@ -24,7 +33,7 @@ const EMPTY: u32 = u32::MAX;
 /// The worst case, for any choice of tokens, is four comparisons and one look-up in the map. Slots
 /// are not trusted: an entry counts only if it has the token that is looked up.
 #[derive(Drop)]
-pub(crate) struct Names<'a> {
+pub struct Names<'a> {
     ordered: BTreeMap<&'a [u8], Name>,
     entries: Vec<Entry<'a>>,
     slots: Vec<u32>,
@@ -35,12 +44,12 @@ impl<'a> Names<'a> {
     ghost use Rattle.std.specs.Prelude.{◌≡◌, ◌<◌, IfOk, IfSome, None, Some, option_map, slice_get};
     ghost use Rattle.std.specs.Prelude.{vec_len};
     ghost use Rattle.mm_text.specs.Bytes.{Token};
-    ghost use Rattle.mm_frame.specs.KnownNames.{name_in};
-    ghost use Rattle.mm_frame.specs.StateSteps.{Renames};
+    ghost use Rattle.mm_frame.specs.KnownNames.{Renames};
+    ghost use Rattle.mm_frame.specs.NamesView.{names_in};
 
     /// No names. Takes no memory yet.
-    pub(crate) fn new(alloc: Global) -> Self
-        ensures { (token : Token) → name_in result.ordered token ≡ None }
+    pub fn new(alloc: Global) -> Self
+        ensures { (token : Token) → names_in result token ≡ None }
     {
         Names {
             ordered: BTreeMap::new(alloc),
@@ -50,8 +59,8 @@ impl<'a> Names<'a> {
     }
 
     /// What the token names.
-    pub(crate) fn get(&self, word: &'a [u8]) -> Option<Name>
-        ensures { result ≡ name_in self.now.ordered word.now }
+    pub fn get(&self, word: &'a [u8]) -> Option<Name>
+        ensures { result ≡ names_in self.now word.now }
     {
         match self.near(word) {
             Some(name) => Some(name),
@@ -61,7 +70,7 @@ impl<'a> Names<'a> {
 
     /// What the token names, if one of its slots has its entry.
     fn near(&self, word: &[u8]) -> Option<Name>
-        ensures { IfSome result (λ name. name_in self.now.ordered word.now ≡ Some name) }
+        ensures { IfSome result (λ name. names_in self.now word.now ≡ Some name) }
     {
         let mixed = mixed(word);
         for step in 0..NEAR {
@@ -82,9 +91,9 @@ impl<'a> Names<'a> {
     }
 
     /// Gives a token a name. If it had one, all entries are forgotten and only the map is left.
-    pub(crate) fn insert(&mut self, word: &'a [u8], name: Name) -> Result<(), AllocError>
+    pub fn insert(&mut self, word: &'a [u8], name: Name) -> Result<(), AllocError>
         ensures { IfOk result
-            (λ _. Renames (name_in self.old.ordered) word.now name (name_in self.new.ordered)) }
+            (λ _. Renames (names_in self.old) word.now name (names_in self.new)) }
     {
         self.entries.reserve(1)?;
         match self.ordered.insert(word, name) {

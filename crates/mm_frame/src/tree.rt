@@ -1,10 +1,10 @@
 // Trees of hypotheses, whose parts other trees share.
 
-ghost use Rattle.std.specs.Prelude.{◌≡◌, ℕ, ◌+◌, ◌<◌, ◌≤◌, ◌++◌, ◌∷◌, [], IfOk, length, option_map};
+ghost use Rattle.std.specs.Prelude.{◌≡◌, ◌+◌, ◌<◌, ◌≤◌, ◌++◌, ◌∷◌, [], IfOk, length, option_map};
 ghost use Rattle.std.specs.Prelude.{slice_get};
 ghost use Rattle.mm_frame.specs.PlainFrames.{plain_hypothesis, plain_hypotheses};
 ghost use Rattle.mm_frame.specs.PlacedHypotheses.{hypotheses_placed};
-ghost use Rattle.mm_frame.specs.PlacedOrder.{placed_at, find_placed};
+ghost use Rattle.mm_frame.specs.PlacedOrder.{placed_at};
 ghost use Rattle.mm_frame.specs.PlacedOrder.{AllBelow, AllFrom, AllUpTo, HasPlace, IsAhead};
 ghost use Rattle.mm_frame.specs.PlacedOrder.{IsAscending};
 
@@ -55,7 +55,7 @@ impl<'a> Model for HypTree<'a> {
 
 impl<'a> HypTree<'a> {
     /// One hypothesis at its place.
-    pub(crate) fn leaf(place: usize, hyp: Hyp<'a>) -> HypTree<'a>
+    pub fn leaf(place: usize, hyp: Hyp<'a>) -> HypTree<'a>
         ensures { result ≡ (place, plain_hypothesis hyp.entry) ∷ [] }
     {
         HypTree {
@@ -97,7 +97,7 @@ impl<'a> HypTree<'a> {
     }
 
     /// The places ascend.
-    pub(crate) fn ascend(&self)
+    pub fn ascend(&self)
         ensures { IsAscending self.now }
     {
         let _ = &self.node;
@@ -125,22 +125,8 @@ impl<'a> HypTree<'a> {
         }
     }
 
-    /// The hypothesis at a place.
-    pub(crate) fn get(&self, place: usize) -> Option<&Hyp<'a>>
-        ensures { option_map (λ h. plain_hypothesis h.now) result ≡ find_placed self.now place }
-    {
-        match &self.node {
-            Node::Leaf(own, hyp) => if *own == place { Some(hyp) } else { None },
-            Node::Fork(split, low, high) => if place < *split {
-                low.get(place)
-            } else {
-                high.get(place)
-            },
-        }
-    }
-
     /// The hypothesis with this number, from 0, in order of their places.
-    pub(crate) fn nth(&self, number: usize) -> Option<&Hyp<'a>>
+    pub fn nth(&self, number: usize) -> Option<&Hyp<'a>>
         ensures { option_map (λ h. plain_hypothesis h.now) result
             ≡ slice_get (hypotheses_placed self.now) number }
     {
@@ -171,7 +157,7 @@ impl<'a> HypTree<'a> {
     }
 
     /// The tree with one more hypothesis, or with another one at its place.
-    pub(crate) fn with(
+    pub fn with(
         this: &Rc<HypTree<'a>>,
         alloc: Global,
         place: usize,

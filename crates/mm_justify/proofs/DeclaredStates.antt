@@ -36,7 +36,8 @@ use Rattle.mm_claims.proofs.FittingLaws.{with_constant, with_name, IsNew, name_h
 use Rattle.mm_claims.proofs.FittingLaws.{adds_names, none_has, AreNames-front, AreNames-next}
 use Rattle.mm_claims.proofs.FittingLaws.{take-drop, length-front, clean_one, clean_two}
 use Rattle.mm_justify.proofs.Allowing.{has_only_more}
-use Rattle.mm_justify.proofs.CountedTexts.{count_first, counts_more}
+use Rattle.mm_justify.proofs.CountedTexts.{one_if, count_first, counts_more}
+use Rattle.mm_justify.proofs.FactTexts.{names_unlike}
 use Rattle.mm_text.specs.Written.{written}
 use Rattle.mm_database.specs.StatementTexts.{plain_tokens, written_statements}
 
@@ -231,6 +232,8 @@ names_length i (t ∷ ts) = ap suc (names_length (i + 1) ts)
 names_no_facts : (i : ℕ) (ts : List Token) → count_by is_fact (name_assertions i ts) ≡ 0
 names_no_facts i [] = refl
 names_no_facts i (t ∷ ts) = count_first is_fact (name_assertion i t) (name_assertions (i + 1) ts)
+    ∙ ap (λ (b : Bool). one_if b + count_by is_fact (name_assertions (i + 1) ts))
+    (names_unlike t)
     ∙ zero-add (count_by is_fact (name_assertions (i + 1) ts)) ∙ names_no_facts (i + 1) ts
 
 pub declared_counts : DeclaredCounts

@@ -1,6 +1,7 @@
 pub mod Allowing
 pub mod CountedTexts
 pub mod DeclaredStates
+pub mod FactTexts
 pub mod Facts
 pub mod FrameCases
 pub mod HeaderStates

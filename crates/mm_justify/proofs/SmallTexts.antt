@@ -34,7 +34,8 @@ use Rattle.ml_image.specs.Sentences.{apply_all, conjunctions}
 use Rattle.ml_image.specs.OwnAxioms.{is_true, sort_of, condition_sentence, direct, kompile}
 use Rattle.ml_image.specs.OwnAxioms.{behind_parameters, meets, of_variables, IsOwnAxiom, of_rule}
 use Rattle.ml_image.specs.OwnAxioms.{of_equation, total, apart, free, subsort, collapse}
-use Rattle.ml_image.specs.TrueFacts.{value_patterns, IsTrueFact, of_value, of_hook}
+use Rattle.ml_image.specs.TrueFacts.{value_patterns, IsTrueFact, of_value, of_hook, of_unequal}
+use Rattle.ml_image.specs.TrueFacts.{of_injective}
 use Rattle.ml_image.specs.OwnTokens.{is_symbol_token}
 use Rattle.ml_image.proofs.ImageLaws.{none_some, some_same}
 use Rattle.ml_pat.specs.Leaves.{EachLeaf}
@@ -313,6 +314,15 @@ after_and_other sig ts a b c p is =
     let v = both_there logic.and (sentence_image sig ts a) (sentence_image sig ts b) w.0 w.2 in
     subst (IsOther ts) (sym (w.4 ∙ ap (λ (q : Pattern). logic.imp q w.1) v.4)) (inr refl)
 
+after_equals_other : (sig : Signature) (ts : List Token) (a b c : Sentence)
+    → AreOther sig ts (implies (equals a b) c)
+after_equals_other sig ts a b c p is =
+    let w =
+    both_there logic.imp (both logic.equal (sentence_image sig ts a) (sentence_image sig ts b))
+    (sentence_image sig ts c) p is in
+    let v = both_there logic.equal (sentence_image sig ts a) (sentence_image sig ts b) w.0 w.2 in
+    subst (IsOther ts) (sym (w.4 ∙ ap (λ (q : Pattern). logic.imp q w.1) v.4)) (inr refl)
+
 condition_other : (sig : Signature) (ts : List Token) (vars : List ℕ) (o : Option RulePattern)
     (c d : Sentence) → condition_sentence sig vars o ≡ Some c → AreOther sig ts (implies c d)
 condition_other sig ts vars None c d says p is =
@@ -404,6 +414,17 @@ fact_other sig ts s (of_hook f vs says) =
     subst (AreOther sig ts) (sym says.says) (equals_other sig ts
     (term (call f [] (value_patterns says.sorts vs)))
     (term (domain_value says.sort says.value)))
+fact_other sig ts s (of_unequal left right says) =
+    subst (AreOther sig ts) (sym says.says) (closed_other sig ts 0 says.sorts
+    (not (equals (term left) (term right)))
+    (not_other sig ts (equals (term left) (term right))))
+fact_other sig ts s (of_injective a b says) =
+    subst (AreOther sig ts) (sym says.says) (closed_other sig ts 0 (a ∷ a ∷ [])
+    (implies
+    (equals (term (injection a b (variable 0))) (term (injection a b (variable 1))))
+    (equals (term (variable 0)) (term (variable 1))))
+    (after_equals_other sig ts (term (injection a b (variable 0)))
+    (term (injection a b (variable 1))) (equals (term (variable 0)) (term (variable 1)))))
 
 assumed_other : (theory : RewriteTheory) (ts : List Token) (s : Sentence) → IsAssumed theory s
     → AreOther theory.sig ts s

@@ -229,7 +229,7 @@ no_float_premises : (k : ℕ) (vs : List Variable) → premises_in (map (variabl
 no_float_premises k [] = refl
 no_float_premises k (v ∷ vs) = no_float_premises k vs
 
-no_premises : (xs : List ℕ) → premises_in (map typed xs) ≡ []
+pub no_premises : (xs : List ℕ) → premises_in (map typed xs) ≡ []
 no_premises [] = refl
 no_premises (x ∷ xs) = no_premises xs
 

@@ -1,13 +1,13 @@
 -- What is counted as a fact, and how the counts grow in a text that is written statement by
 -- statement.
-use Rattle.std.specs.Prelude.{◌≡◌, ℕ, ◌+◌, ◌<◌, ◌≤◌, ◌^◌, Bool, true, false, if◌then◌else◌, List}
-use Rattle.std.specs.Prelude.{[], ◌++◌, length, drop, take, Some}
+use Rattle.std.specs.Prelude.{◌≡◌, ℕ, ◌+◌, ◌<◌, ◌≤◌, ◌^◌, true, false, if◌then◌else◌, List, []}
+use Rattle.std.specs.Prelude.{◌++◌, length, drop, take, Some}
 use Rattle.mm_text.specs.Bytes.{Token}
 use Rattle.mm_header.specs.HeaderText.{header_bytes}
 use Rattle.mm_database.specs.Frames.{Frame}
 use Rattle.mm_database.specs.Assertions.{Assertion}
 use Rattle.mm_database.specs.StatementTexts.{written_statements}
-use Rattle.ml_pat.specs.Patterns.{Pattern, equal, fun}
+use Rattle.ml_pat.specs.Patterns.{Pattern}
 use Rattle.ml_pat.specs.Named.{AreDistinct}
 use Rattle.ml_kernel.specs.Theorems.{Theorem}
 use Rattle.rule_core.specs.Theories.{RewriteTheory}
@@ -21,6 +21,7 @@ use Rattle.mm_claims.specs.ClaimVariables.{claim_of, claim_variables}
 use Rattle.mm_claims.specs.Keeping.{Fits, Gains}
 use Rattle.mm_claims.specs.Places.{MayProve, StatesLemma}
 use Rattle.mm_justify.specs.Counting.{is_fact, fact_count, statement_count, HasCounts}
+use Rattle.mm_justify.specs.FactForms.{is_fact_form}
 use Rattle.mm_justify.specs.Stating.{holds_frame}
 use Rattle.mm_justify.specs.Justifying.{SaysNoMore, IsAxiomOf}
 use Rattle.ml_image.specs.Assumed.{IsAssumed}
@@ -66,12 +67,6 @@ DeclaredCounts =
     length names < 2 ^ 64 → k.begun ≡ true → k.named ≤ length names → Fits names k bytes →
     AddsCounts 0 (length (drop k.named names)) bytes
     (bytes ++ written_statements (all_name_statements k.named (drop k.named names)))
-
--- the pattern says that a pattern is an element of a sort, or that two patterns are equal
-abbrev pub is_fact_form : Pattern → Bool
-is_fact_form (equal p q) = true
-is_fact_form (fun p s) = true
-is_fact_form p = false
 
 -- an axiom that the program may assume is one statement; it is a fact if its image has that form
 abbrev pub AxiomCounts : Type 0

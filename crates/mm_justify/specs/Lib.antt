@@ -3,6 +3,7 @@
 pub mod Stating
 pub mod Justifying
 pub mod Counting
+pub mod FactForms
 -- Laws: what follows from that. Each is a clause of a function that does nothing.
 pub mod StatingLaws
 pub mod JustifyingLaws

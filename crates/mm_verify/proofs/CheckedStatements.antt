@@ -13,17 +13,17 @@ use Rattle.mm_database.specs.Validity.{or_else, task, declaration_fault, proof_t
 use Rattle.mm_database.specs.FrameLaws.{FaultlessIsFine}
 use Rattle.mm_database.specs.Orderly.{IsOrderly, OrderlyAfter}
 use Rattle.mm_frame.specs.PlainFrames.{plain_frame}
-use Rattle.mm_frame.specs.ScopeState.{ScopeState, scope_state}
+use Rattle.mm_scope.specs.ScopeState.{ScopeState, scope_state}
 use Rattle.mm_frame.specs.NeededNumbers.{is_needed_number, is_mandatory_number}
-use Rattle.mm_frame.specs.Standing.{Stands}
-use Rattle.mm_frame.specs.StandingLaws.{place_of, NamingExists}
-use Rattle.mm_frame.specs.TakesStatement.{TakesStatement}
-use Rattle.mm_frame.specs.Proposing.{is_theorem, IsProposed, Proposes}
-use Rattle.mm_frame.specs.AddedView.{form_added}
-use Rattle.mm_frame.specs.declared.theorem.Theorem.{Theorem}
-use Rattle.mm_frame.specs.declared.declare.Added.{Added}
-use Rattle.mm_frame.specs.declared.declare.FrameEnd.{FrameEnd}
-use Rattle.mm_frame.specs.declared.declare.FrameEnd.TheVariants as frame
+use Rattle.mm_scope.specs.Standing.{Stands}
+use Rattle.mm_scope.specs.StandingLaws.{place_of, NamingExists}
+use Rattle.mm_scope.specs.TakesStatement.{TakesStatement}
+use Rattle.mm_scope.specs.Proposing.{is_theorem, IsProposed, Proposes}
+use Rattle.mm_scope.specs.AddedView.{form_added}
+use Rattle.mm_scope.specs.declared.theorem.Theorem.{Theorem}
+use Rattle.mm_scope.specs.declared.declare.Added.{Added}
+use Rattle.mm_scope.specs.declared.declare.FrameEnd.{FrameEnd}
+use Rattle.mm_scope.specs.declared.declare.FrameEnd.TheVariants as frame
 use Rattle.mm_verify.specs.declared.checker.Checker.{Checker}
 use Rattle.mm_verify.specs.declared.ends.Stated.{Stated}
 use Rattle.mm_verify.specs.declared.ends.Stated.TheVariants as stated

@@ -13,8 +13,8 @@ use Rattle.mm_frame.specs.Labels.{label_in}
 use Rattle.mm_frame.specs.declared.frames.Hyp.{Hyp}
 use Rattle.mm_frame.proofs.Labelled.{is_some-cond, or-swap, labels-scope_state}
 use Rattle.mm_text.specs.declared.tokens.MmToken.{MmToken}
-use Rattle.mm_frame.specs.ScopeState.{ScopeState}
-use Rattle.mm_frame.specs.StateReads.{hypothesis_named, is_some_mandatory, is_mandatory_named}
+use Rattle.mm_scope.specs.ScopeState.{ScopeState}
+use Rattle.mm_scope.specs.StateReads.{hypothesis_named, is_some_mandatory, is_mandatory_named}
 use Rattle.mm_frame.specs.NeededNumbers.{is_needed_number, number_stands_in}
 use Rattle.mm_frame.specs.Numbered.{NumberedHypothesis, NumberedFrame}
 use Rattle.mm_database.specs.Frames.{floating, essential}

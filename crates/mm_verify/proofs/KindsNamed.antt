@@ -22,12 +22,12 @@ use Rattle.mm_database.specs.Validity.{or_else, Task, task_of}
 use Rattle.mm_frame.specs.Numbered.{NumberedHypothesis, NumberedFrame, IsNaming, named}
 use Rattle.mm_frame.specs.Numbered.{named_hypothesis, IsNamedFrame}
 use Rattle.mm_frame.specs.NumberedSteps.{Citation, IsNamedCitation, CitationIsNamed}
-use Rattle.mm_frame.specs.ScopeState.{ScopeState}
-use Rattle.mm_frame.specs.StateReads.{hypothesis_named, hypothesis_by_name, hypothesis_at}
-use Rattle.mm_frame.specs.StateReads.{frame_named}
-use Rattle.mm_frame.specs.Standing.{NamesSymbols, Stands}
-use Rattle.mm_frame.specs.StandingLaws.{place_of, PlaceStands, HypothesisStands, FrameCited}
-use Rattle.mm_frame.specs.StandingLaws.{NothingCited}
+use Rattle.mm_scope.specs.ScopeState.{ScopeState}
+use Rattle.mm_scope.specs.StateReads.{hypothesis_named, hypothesis_by_name, hypothesis_at}
+use Rattle.mm_scope.specs.StateReads.{frame_named}
+use Rattle.mm_scope.specs.Standing.{NamesSymbols, Stands}
+use Rattle.mm_scope.specs.StandingLaws.{place_of, PlaceStands, HypothesisStands, FrameCited}
+use Rattle.mm_scope.specs.StandingLaws.{NothingCited}
 use Rattle.mm_verify.specs.Running.{numbered_steps}
 use Rattle.mm_verify.specs.Citing.{cited, cited_at, all_cited}
 use Rattle.mm_verify.specs.ProofSteps.{given_by, labels_in, clashes, listed_citations, lettered}

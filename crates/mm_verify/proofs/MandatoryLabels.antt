@@ -9,17 +9,17 @@ use Rattle.mm_text.specs.Statements.{Statement}
 use Rattle.mm_database.specs.Database.{Context}
 use Rattle.mm_database.specs.Frames.{label_of}
 use Rattle.mm_frame.specs.PlainFrames.{plain_frame}
-use Rattle.mm_frame.specs.ScopeState.{ScopeState}
-use Rattle.mm_frame.specs.StateReads.{hypothesis_by_name, hypothesis_at, hypothesis_named}
-use Rattle.mm_frame.specs.StateReads.{is_some_mandatory, is_mandatory_named}
+use Rattle.mm_scope.specs.ScopeState.{ScopeState}
+use Rattle.mm_scope.specs.StateReads.{hypothesis_by_name, hypothesis_at, hypothesis_named}
+use Rattle.mm_scope.specs.StateReads.{is_some_mandatory, is_mandatory_named}
 use Rattle.mm_frame.specs.NeededNumbers.{is_needed_number, is_mandatory_number}
 use Rattle.mm_frame.specs.Numbered.{NumberedHypothesis}
-use Rattle.mm_frame.specs.Proposing.{IsProposed}
-use Rattle.mm_frame.specs.Standing.{Stands}
-use Rattle.mm_frame.specs.declared.scopes.Name.{Name}
-use Rattle.mm_frame.specs.declared.scopes.Name.TheVariants.{Constant, Variable, Hypothesis}
-use Rattle.mm_frame.specs.declared.scopes.Name.TheVariants.{Assertion}
-use Rattle.mm_frame.specs.declared.theorem.Theorem.{Theorem}
+use Rattle.mm_scope.specs.Proposing.{IsProposed}
+use Rattle.mm_scope.specs.Standing.{Stands}
+use Rattle.mm_frame.specs.declared.names.Name.{Name}
+use Rattle.mm_frame.specs.declared.names.Name.TheVariants.{Constant, Variable, Hypothesis}
+use Rattle.mm_frame.specs.declared.names.Name.TheVariants.{Assertion}
+use Rattle.mm_scope.specs.declared.theorem.Theorem.{Theorem}
 use Rattle.mm_verify.specs.ProofSteps.{labels_in, IsLabelled}
 
 same-truths : (a b : Bool) → (a ≡ true → b ≡ true) → (b ≡ true → a ≡ true) → a ≡ b

@@ -12,13 +12,13 @@ use Rattle.mm_text.specs.Bytes.{Token, has_token}
 use Rattle.mm_frame.specs.Numbered.{NumberedHypothesis}
 use Rattle.mm_database.specs.Steps as steps
 use Rattle.mm_frame.specs.NumberedSteps as numbered
-use Rattle.mm_frame.specs.ScopeState.{ScopeState}
+use Rattle.mm_scope.specs.ScopeState.{ScopeState}
 use Rattle.mm_verify.specs.declared.machine.Step.{Step}
 use Rattle.mm_verify.specs.declared.machine.Citation.{Citation}
 use Rattle.mm_verify.specs.declared.digits.Behind.{Behind}
 use Rattle.mm_verify.specs.declared.digits.Behind.TheVariants.{Nothing}
 use Rattle.mm_verify.specs.declared.letters.ReadSteps.{ReadSteps}
-use Rattle.mm_frame.specs.StandingLaws.{place_of}
+use Rattle.mm_scope.specs.StandingLaws.{place_of}
 use Rattle.mm_verify.specs.declared.machine.ProofFault.{ProofFault}
 use Rattle.mm_verify.specs.Running.{step_of, steps_fault}
 use Rattle.mm_verify.specs.Judging.{kind_of, proof_kind}

@@ -13,7 +13,7 @@ use Rattle.std.proofs.lemmas.List.{get_or_push}
 use Rattle.std.proofs.lemmas.List.Folds.{list_all-append}
 use Rattle.std.proofs.Math.Seq.{take-append_seam, drop-append_seam}
 use Rattle.std.specs.Global.{Vec}
-use Rattle.mm_frame.proofs.FramePlaces.{sorted-has}
+use Rattle.mm_frame.proofs.Placing.{sorted-has}
 use Rattle.mm_frame.proofs.Groups.{has_number-filter}
 use Rattle.mm_frame.specs.PlainFrames.{has_number}
 use Rattle.mm_frame.specs.NumberedSteps.{NumberedPlace, numbers_apart}

@@ -6,12 +6,12 @@ use Rattle.mm_database.specs.Forms.{form_of}
 use Rattle.mm_database.specs.Database.{Context, context_after}
 use Rattle.mm_database.specs.Validity.{declaration_fault}
 use Rattle.mm_database.specs.Orderly.{IsOrderly}
-use Rattle.mm_frame.specs.Proposing.{IsProposed}
-use Rattle.mm_frame.specs.declared.theorem.Theorem.{Theorem}
-use Rattle.mm_frame.specs.AddedView.{form_added}
-use Rattle.mm_frame.specs.declared.declare.Added.{Added}
-use Rattle.mm_frame.specs.ScopeState.{scope_state}
-use Rattle.mm_frame.specs.Standing.{Stands}
+use Rattle.mm_scope.specs.Proposing.{IsProposed}
+use Rattle.mm_scope.specs.declared.theorem.Theorem.{Theorem}
+use Rattle.mm_scope.specs.AddedView.{form_added}
+use Rattle.mm_scope.specs.declared.declare.Added.{Added}
+use Rattle.mm_scope.specs.ScopeState.{scope_state}
+use Rattle.mm_scope.specs.Standing.{Stands}
 use Rattle.mm_verify.specs.declared.checker.Checker.{Checker}
 use Rattle.mm_verify.specs.declared.ends.Stated.{Stated}
 use Rattle.mm_verify.specs.declared.ends.Stated.TheVariants as stated

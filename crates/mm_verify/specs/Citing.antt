@@ -5,8 +5,8 @@ use Rattle.mm_database.specs.Frames.{statement_of}
 use Rattle.mm_database.specs.ProofText.{with_step}
 use Rattle.mm_frame.specs.Numbered.{NumberedHypothesis, NumberedFrame}
 use Rattle.mm_frame.specs.NumberedSteps.{Citation, gives, applies}
-use Rattle.mm_frame.specs.ScopeState.{ScopeState}
-use Rattle.mm_frame.specs.StateReads.{hypothesis_named, frame_named}
+use Rattle.mm_scope.specs.ScopeState.{ScopeState}
+use Rattle.mm_scope.specs.StateReads.{hypothesis_named, frame_named}
 
 -- an active hypothesis, or else an assertion
 abbrev pub cited : Option NumberedHypothesis → Option NumberedFrame → Option Citation

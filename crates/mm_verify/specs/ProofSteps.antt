@@ -8,8 +8,8 @@ use Rattle.mm_database.specs.Steps.{Step, cites}
 use Rattle.mm_database.specs.ProofText.{before_close, behind_close, lettered_steps}
 use Rattle.mm_frame.specs.Numbered.{NumberedHypothesis, NumberedFrame}
 use Rattle.mm_frame.specs.NumberedSteps.{Citation, gives}
-use Rattle.mm_frame.specs.ScopeState.{ScopeState}
-use Rattle.mm_frame.specs.StateReads.{is_mandatory_named}
+use Rattle.mm_scope.specs.ScopeState.{ScopeState}
+use Rattle.mm_scope.specs.StateReads.{is_mandatory_named}
 use Rattle.mm_verify.specs.Citing.{all_cited}
 
 -- what the labels of mandatory hypotheses cite, and the labels themselves

@@ -1,9 +1,9 @@
 -- What kind a statement is, from what it added, and the end of a database, from the end of a
 -- statement.
-use Rattle.mm_frame.specs.declared.declare.Added.{Added}
-use Rattle.mm_frame.specs.declared.declare.Added.TheVariants as added
-use Rattle.mm_frame.specs.declared.declare.FrameEnd.{FrameEnd}
-use Rattle.mm_frame.specs.declared.declare.FrameEnd.TheVariants as frame
+use Rattle.mm_scope.specs.declared.declare.Added.{Added}
+use Rattle.mm_scope.specs.declared.declare.Added.TheVariants as added
+use Rattle.mm_scope.specs.declared.declare.FrameEnd.{FrameEnd}
+use Rattle.mm_scope.specs.declared.declare.FrameEnd.TheVariants as frame
 use Rattle.mm_verify.specs.declared.ends.Stated.{Stated}
 use Rattle.mm_verify.specs.declared.ends.Stated.TheVariants as stated
 use Rattle.mm_verify.specs.declared.ends.VerifyEnd.{VerifyEnd}

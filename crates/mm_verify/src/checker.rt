@@ -5,7 +5,7 @@ use crate::ends::{Stated, VerifyEnd};
 use crate::proof_fault::{add_assertions, proof_fault};
 use crate::room::Room;
 use crate::stored::StoredAssertion;
-use mm_frame::{Added, Scopes, Theorem};
+use mm_scope::{Added, Scopes, Theorem};
 use mm_text::{MmFault, MmToken};
 use std::alloc::Global;
 
@@ -18,14 +18,14 @@ pub(crate) struct Checker<'a> {
 
 impl<'a> Checker<'a> {
     ghost use Rattle.std.specs.Prelude.{◌≡◌, IfOk, IfErr};
-    ghost use Rattle.mm_frame.specs.Proposing.{IsProposed};
+    ghost use Rattle.mm_scope.specs.Proposing.{IsProposed};
     ghost use Rattle.mm_verify.specs.declared.ends.Stated.TheVariants.{Theorem as IsTheorem};
     ghost use Rattle.mm_verify.specs.declared.ends.VerifyEnd.TheVariants.{Memory};
     ghost use Rattle.mm_text.specs.Reader.{statement_of};
     ghost use Rattle.mm_database.specs.Database.{Context, empty_context};
     ghost use Rattle.mm_database.specs.Validity.{first_open};
-    ghost use Rattle.mm_frame.specs.ScopeState.{scope_state};
-    ghost use Rattle.mm_frame.specs.Standing.{Stands};
+    ghost use Rattle.mm_scope.specs.ScopeState.{scope_state};
+    ghost use Rattle.mm_scope.specs.Standing.{Stands};
     ghost use Rattle.mm_verify.specs.Checking.{HasFrames, IsBehind, Checks, Declares, Adds};
 
     /// Nothing is declared.
@@ -84,7 +84,7 @@ impl<'a> Checker<'a> {
     {
         mm_database::proof_laws();
         mm_frame::number_laws();
-        mm_frame::scope_laws();
+        mm_scope::scope_laws();
         match proof_fault(alloc, &self.scopes, &self.assertions, bytes, &theorem, room) {
             Err(_) => Err(VerifyEnd::Memory),
             Ok(Some(kind)) => Err(VerifyEnd::Invalid(MmFault {

@@ -1,12 +1,13 @@
 // What a proof may cite.
 ghost use Rattle.std.specs.Prelude.{◌≡◌, map};
-ghost use Rattle.mm_frame.specs.ScopeState.{scope_state};
+ghost use Rattle.mm_scope.specs.ScopeState.{scope_state};
 ghost use Rattle.mm_verify.specs.StoredView.{stored_frame};
 
 use crate::machine::Citation;
 use crate::place::Place;
 use crate::stored::StoredAssertion;
-use mm_frame::{Cited, Scopes};
+use mm_frame::Cited;
+use mm_scope::Scopes;
 
 /// What is declared before a statement, and the declared assertions in order, in the form that
 /// steps use.
@@ -22,7 +23,7 @@ impl<'s, 'a> Citable<'s, 'a> {
     ghost use Rattle.mm_verify.specs.Running.{citation_of};
     ghost use Rattle.mm_verify.specs.Citing.{cited_at};
     ghost use Rattle.std.specs.List.Sorted.{IsStrictlyIncreasing};
-    ghost use Rattle.mm_frame.specs.StateReads.{is_mandatory_named};
+    ghost use Rattle.mm_scope.specs.StateReads.{is_mandatory_named};
 
     /// What may be cited, from scopes and their assertions.
     pub(crate) fn new(
@@ -62,7 +63,7 @@ impl<'s, 'a> Citable<'s, 'a> {
 }
 
 impl Place for Citable<'_, '_> {
-    ghost use Rattle.mm_frame.specs.StandingLaws.{place_of};
+    ghost use Rattle.mm_scope.specs.StandingLaws.{place_of};
     ghost use Rattle.mm_verify.specs.Turned.{in_groups-turned};
 
     ghost place = { λ known. place_of (scope_state known.scopes.now) };

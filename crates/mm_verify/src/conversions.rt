@@ -4,7 +4,7 @@ ghost use Rattle.mm_text.specs.Reader.{statement_of};
 ghost use Rattle.mm_verify.specs.Stating.{stated_for, end_for};
 
 use crate::ends::{Stated, VerifyEnd};
-use mm_frame::{Added, FrameEnd};
+use mm_scope::{Added, FrameEnd};
 use mm_text::MmToken;
 
 /// The kind of a statement other than a `$p`, by what it added.

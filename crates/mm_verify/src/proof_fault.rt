@@ -2,9 +2,9 @@
 ghost use Rattle.std.specs.Prelude.{◌≡◌, ℕ, map, IfOk, OnOk, length, take};
 ghost use Rattle.mm_text.specs.Reader.{words_of, statement_of};
 ghost use Rattle.mm_database.specs.Database.{Context};
-ghost use Rattle.mm_frame.specs.ScopeState.{scope_state};
+ghost use Rattle.mm_scope.specs.ScopeState.{scope_state};
 ghost use Rattle.mm_frame.specs.PlainFrames.{plain_frame};
-ghost use Rattle.mm_frame.specs.StandingLaws.{place_of};
+ghost use Rattle.mm_scope.specs.StandingLaws.{place_of};
 ghost use Rattle.mm_verify.specs.StoredView.{stored_frame};
 ghost use Rattle.mm_verify.specs.ProofSteps.{IsLabelled, steps_named};
 ghost use Rattle.mm_verify.specs.Judging.{kind_of, proof_kind};
@@ -14,7 +14,7 @@ use crate::machine::{ProofFault, check_steps};
 use crate::proof_text::read_proof;
 use crate::room::Room;
 use crate::stored::StoredAssertion;
-use mm_frame::{Scopes, Theorem};
+use mm_scope::{Scopes, Theorem};
 use std::alloc::{AllocError, Global};
 
 /// The fault kinds: the text of a proof names no steps; a step does not fit; the statement is not

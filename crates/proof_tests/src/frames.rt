@@ -1,6 +1,7 @@
 // Worked examples: small databases and the first fault of their declarations.
 
 use mm_frame::*;
+use mm_scope::*;
 use mm_text::{MmFault, MmFound, MmReadEnd, MmTokens};
 use std::alloc::{AllocError, Global};
 use std::process::Abort;

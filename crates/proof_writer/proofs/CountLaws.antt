@@ -4,7 +4,8 @@ use Rattle.std.proofs.Common.{false, slice_get, length-drop, refl, ap, ◌∙◌
 use Rattle.std.specs.Int.{from_bool}
 use Rattle.ml_pat.specs.Patterns.{Pattern}
 use Rattle.mm_justify.specs.Counting.{capped, HasCounts}
-use Rattle.mm_justify.specs.CountingLaws.{AddsCounts, is_fact_form}
+use Rattle.mm_justify.specs.CountingLaws.{AddsCounts}
+use Rattle.mm_justify.specs.FactForms.{is_fact_form}
 
 -- saturating addition to a capped count is the capped sum
 counts_on : (count count' n k k' : ℕ) → count ≡ capped n → k' ≡ n + k → count' ≡ capped (count + k)

@@ -1,7 +1,8 @@
 // The writer.
 ghost use Rattle.std.specs.Prelude.{◌≡◌, ◌<◌, ◌+◌, IfOk, OnOk, length};
 ghost use Rattle.mm_justify.specs.Counting.{capped};
-ghost use Rattle.mm_justify.specs.CountingLaws.{is_fact_form};
+ghost use Rattle.mm_justify.specs.FactForms.{equates_variables, is_apart_form, is_fact_form};
+ghost use Rattle.mm_justify.specs.FactForms.{is_variable};
 ghost use Rattle.mm_claims.specs.ClaimVariables.{claim_of};
 ghost use Rattle.mm_claims.specs.Keeping.{with_last, with_stated};
 ghost use Rattle.mm_claims.specs.Rendered.{all_stated};
@@ -270,10 +271,43 @@ impl Writer {
     }
 }
 
-// Returns whether a pattern says that a pattern is an element of a sort, or that two patterns are
-// equal.
+// Returns whether a pattern is counted as a fact: it says that a pattern is an element of a sort,
+// that two patterns are equal or are not, or that an injection is injective.
 fn is_fact(pattern: &MPat) -> bool
     ensures { result ≡ is_fact_form pattern.now }
 {
-    matches!(pattern.form(), MForm::Equal(..) | MForm::Fun(..))
+    matches!(pattern.form(), MForm::Equal(..) | MForm::Fun(..)) || is_apart(pattern)
+}
+
+// Returns whether a pattern says for all variables that two patterns are not equal, or that an
+// injection is injective.
+#[cycle(apart)]
+fn is_apart(pattern: &MPat) -> bool
+    ensures { result ≡ is_apart_form pattern.now }
+{
+    match pattern.form() {
+        MForm::All(_, _, below) => is_apart(below),
+        MForm::Not(below) => matches!(below.form(), MForm::Equal(..)),
+        MForm::Imp(given, then) => {
+            matches!(given.form(), MForm::Equal(..)) && equates_variables(then)
+        }
+        _ => false,
+    }
+}
+
+// Returns whether a pattern says that two variables are equal.
+fn equates_variables(pattern: &MPat) -> bool
+    ensures { result ≡ equates_variables pattern.now }
+{
+    match pattern.form() {
+        MForm::Equal(one, other) => is_variable(one) && is_variable(other),
+        _ => false,
+    }
+}
+
+// Returns whether a pattern is an object variable.
+fn is_variable(pattern: &MPat) -> bool
+    ensures { result ≡ is_variable pattern.now }
+{
+    matches!(pattern.form(), MForm::Var(..))
 }

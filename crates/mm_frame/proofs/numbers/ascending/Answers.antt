@@ -1,6 +1,6 @@
 use Rattle.std.proofs.lemmas.List.Filters.{dedup_is}
 use Rattle.std.proofs.lemmas.Map.Keys.{IsStrictlyIncreasing-dedup}
-use Rattle.mm_frame.proofs.FramePlaces.{sorted-has}
+use Rattle.mm_frame.proofs.Placing.{sorted-has}
 use Rattle.mm_frame.proofs.numbers.ascending.Goals as goal
 
 pub returns-clause-ascending : goal.returns-clause-ascending

@@ -1,6 +1,6 @@
 use Rattle.std.proofs.Common.{rules, ◌≡◌, ◌<◌, ◌++◌, ◌∷◌, [], List, length, take, map, get_or}
 use Rattle.std.proofs.Common.{subst, sym}
-use Rattle.mm_frame.specs.ScopeState.{scope_state}
+use Rattle.mm_scope.specs.ScopeState.{scope_state}
 use Rattle.mm_verify.specs.declared.stored.StoredAssertion.{StoredAssertion}
 use Rattle.mm_verify.specs.StoredView.{stored_frame}
 use Rattle.mm_verify.proofs.MoreFrames.{more_frames}

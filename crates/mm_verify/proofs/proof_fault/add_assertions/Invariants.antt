@@ -1,5 +1,5 @@
 use Rattle.std.specs.Prelude.{◌≡◌, ◌-◌, map, take, length}
-use Rattle.mm_frame.specs.ScopeState.{scope_state}
+use Rattle.mm_scope.specs.ScopeState.{scope_state}
 use Rattle.mm_verify.specs.StoredView.{stored_frame}
 use Rattle.mm_verify.proofs.proof_fault.add_assertions.Given as goal
 

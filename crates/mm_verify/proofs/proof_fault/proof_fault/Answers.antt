@@ -1,10 +1,10 @@
 use Rattle.std.proofs.Common.{◌∙◌, ap, sym, subst, map, List, ℕ}
 use Rattle.std.specs.Prelude.{option_map}
 use Rattle.mm_text.specs.Reader.{words_of}
-use Rattle.mm_frame.specs.ScopeState.{ScopeState, scope_state}
+use Rattle.mm_scope.specs.ScopeState.{ScopeState, scope_state}
 use Rattle.mm_frame.specs.ExpressionView.{expression_symbols}
 use Rattle.mm_frame.specs.PlainFrames.{plain_frame, mandatory_hypotheses}
-use Rattle.mm_frame.specs.StandingLaws.{place_of}
+use Rattle.mm_scope.specs.StandingLaws.{place_of}
 use Rattle.mm_verify.specs.declared.machine.Step.{Step}
 use Rattle.mm_verify.specs.Running.{step_of, steps_in, steps_fault}
 use Rattle.mm_verify.specs.ProofSteps.{IsLabelled, steps_named}

@@ -2,7 +2,7 @@ use Rattle.std.proofs.Common.{◌∙◌, ◌+◌, ◌∷◌, [], List, ap, sym, 
 use Rattle.std.specs.Prelude.{option_map}
 use Rattle.std.proofs.lemmas.List.{map-append}
 use Rattle.mm_text.specs.Reader.{words_of}
-use Rattle.mm_frame.specs.ScopeState.{scope_state}
+use Rattle.mm_scope.specs.ScopeState.{scope_state}
 use Rattle.mm_frame.specs.NumberedSteps.{Citation}
 use Rattle.mm_verify.specs.Running.{citation_of}
 use Rattle.mm_verify.specs.Reading.{behind_items}

@@ -1,6 +1,6 @@
 use Rattle.std.specs.Prelude.{◌≡◌, map, drop}
 use Rattle.mm_text.specs.Reader.{words_of}
-use Rattle.mm_frame.specs.ScopeState.{scope_state}
+use Rattle.mm_scope.specs.ScopeState.{scope_state}
 use Rattle.mm_verify.specs.Running.{citation_of}
 use Rattle.mm_verify.specs.Reading.{behind_items}
 use Rattle.mm_verify.specs.Citing.{all_cited}

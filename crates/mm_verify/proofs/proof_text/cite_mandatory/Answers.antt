@@ -1,6 +1,6 @@
 use Rattle.std.proofs.Common.{◌∙◌, sym}
-use Rattle.mm_frame.specs.ScopeState.{scope_state}
-use Rattle.mm_frame.specs.StateReads.{is_mandatory_named}
+use Rattle.mm_scope.specs.ScopeState.{scope_state}
+use Rattle.mm_scope.specs.StateReads.{is_mandatory_named}
 use Rattle.mm_verify.proofs.Clashing.{found-among, none-among}
 use Rattle.mm_verify.proofs.proof_text.cite_mandatory.Goals as goal
 

@@ -4,8 +4,8 @@ use Rattle.std.specs.List.{list_any}
 use Rattle.std.proofs.lemmas.Result.{IfOk-weaker}
 use Rattle.mm_text.specs.Reader.{words_of}
 use Rattle.mm_frame.specs.PlainFrames.{plain_frame}
-use Rattle.mm_frame.specs.ScopeState.{scope_state}
-use Rattle.mm_frame.specs.StateReads.{is_mandatory_named}
+use Rattle.mm_scope.specs.ScopeState.{scope_state}
+use Rattle.mm_scope.specs.StateReads.{is_mandatory_named}
 use Rattle.mm_frame.specs.ExpressionView.{expression_symbols}
 use Rattle.mm_verify.specs.ProofSteps.{clashes}
 use Rattle.mm_verify.proofs.Clashing.{clashes-labelled}

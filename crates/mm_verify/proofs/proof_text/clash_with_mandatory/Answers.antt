@@ -4,8 +4,8 @@ use Rattle.std.specs.List.{list_any}
 use Rattle.std.proofs.lemmas.Result.{IfOk-weaker}
 use Rattle.mm_text.specs.Reader.{words_of}
 use Rattle.mm_frame.specs.PlainFrames.{has_number}
-use Rattle.mm_frame.specs.ScopeState.{scope_state}
-use Rattle.mm_frame.specs.StateReads.{is_mandatory_named}
+use Rattle.mm_scope.specs.ScopeState.{scope_state}
+use Rattle.mm_scope.specs.StateReads.{is_mandatory_named}
 use Rattle.mm_verify.specs.ProofSteps.{clashes}
 use Rattle.mm_verify.proofs.Clashing.{any-mandatory-same}
 use Rattle.mm_verify.proofs.proof_text.clash_with_mandatory.Goals as goal

@@ -4,7 +4,7 @@ use Rattle.std.proofs.lemmas.Result.{IfOk-weaker}
 use Rattle.mm_database.specs.ProofText.{lettered_steps}
 use Rattle.mm_text.specs.Reader.{words_of}
 use Rattle.mm_frame.specs.PlainFrames.{plain_frame, mandatory_hypotheses}
-use Rattle.mm_frame.specs.ScopeState.{scope_state}
+use Rattle.mm_scope.specs.ScopeState.{scope_state}
 use Rattle.mm_frame.specs.declared.asking.Mandatory.{Mandatory}
 use Rattle.mm_verify.specs.Running.{citation_of}
 use Rattle.mm_verify.specs.Reading.{citations_in, letters_of, table_of}

@@ -1,5 +1,4 @@
 use Rattle.std.proofs.Common.{arith, ◌-◌, rules, length, ◌<◌}
-use Rattle.mm_frame.specs.Times.{times}
 use Rattle.mm_frame.proofs.Counting.{times-more}
 use Rattle.mm_frame.proofs.counts.Counts.remove.Goals as goal
 

@@ -6,7 +6,7 @@ use Rattle.mm_frame.specs.PlainFrames.{has_number}
 use Rattle.mm_frame.specs.DisjointView.{groups_in}
 use Rattle.mm_frame.specs.Listed.{group_places}
 use Rattle.mm_frame.proofs.Apartness.{listed-has}
-use Rattle.mm_frame.proofs.FramePlaces.{sorted-has}
+use Rattle.mm_frame.proofs.Placing.{sorted-has}
 use Rattle.mm_frame.proofs.disjoint.Disjoint.places_among.Goals as goal
 
 gathered : (c : goal.After-dedup)

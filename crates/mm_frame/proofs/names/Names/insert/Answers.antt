@@ -2,10 +2,10 @@ use Rattle.std.proofs.Common.{rules, ◌≡◌, None, List, [], ◌∷◌, ◌++
 use Rattle.std.specs.Prelude.{Some, bytes_eq, if◌then◌else◌}
 use Rattle.mm_text.specs.Bytes.{Token}
 use Rattle.mm_frame.specs.EntriesView.{entry_word}
-use Rattle.mm_frame.specs.declared.scopes.Name.{Name}
+use Rattle.mm_frame.specs.declared.names.Name.{Name}
 use Rattle.std.proofs.lemmas.Map.Text.{btree_map_updates_str}
 use Rattle.mm_frame.specs.KnownNames.{name_in}
-use Rattle.mm_frame.specs.StateSteps.{Renames}
+use Rattle.mm_frame.specs.KnownNames.{Renames}
 use Rattle.mm_frame.specs.declared.entries.Entry.{Entry}
 use Rattle.mm_frame.proofs.KnownEntries.{Known, entries-more}
 use Rattle.mm_frame.proofs.names.Names.insert.Goals as goal

@@ -2,9 +2,9 @@ use Rattle.std.proofs.Common.{◌≡◌, Option, subst}
 use Rattle.std.specs.Prelude.{Ok, false}
 use Rattle.mm_text.specs.Reader.{statement_of}
 use Rattle.mm_database.specs.Forms.{form_of}
-use Rattle.mm_frame.specs.ScopeState.{scope_state}
-use Rattle.mm_frame.specs.Proposing.{is_theorem, Proposes}
-use Rattle.mm_frame.specs.declared.theorem.Theorem.{Theorem}
+use Rattle.mm_scope.specs.ScopeState.{scope_state}
+use Rattle.mm_scope.specs.Proposing.{is_theorem, Proposes}
+use Rattle.mm_scope.specs.declared.theorem.Theorem.{Theorem}
 use Rattle.mm_verify.proofs.CheckedStatements.{proof_refused, declared_is, declared_refused}
 use Rattle.mm_verify.proofs.checker.Checker.check.Goals as goal
 

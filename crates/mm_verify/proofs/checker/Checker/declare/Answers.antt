@@ -1,5 +1,5 @@
 use Rattle.mm_text.specs.Reader.{statement_of}
-use Rattle.mm_frame.specs.ScopeState.{scope_state}
+use Rattle.mm_scope.specs.ScopeState.{scope_state}
 use Rattle.mm_verify.proofs.CheckedStatements.{declare_refused}
 use Rattle.mm_verify.proofs.checker.Checker.declare.Goals as goal
 

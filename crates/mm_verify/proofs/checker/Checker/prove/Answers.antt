@@ -1,7 +1,7 @@
 use Rattle.std.proofs.Common.{◌∙◌, sym}
 use Rattle.mm_text.specs.Reader.{statement_of}
 use Rattle.mm_verify.proofs.KindsNamed.{Laws}
-use Rattle.mm_frame.specs.ScopeState.{scope_state}
+use Rattle.mm_scope.specs.ScopeState.{scope_state}
 use Rattle.mm_verify.proofs.MandatoryLabels.{proposed-labelled}
 use Rattle.mm_verify.proofs.CheckedStatements.{theorem-kind, theorem_checked}
 use Rattle.mm_verify.proofs.checker.Checker.prove.Goals as goal

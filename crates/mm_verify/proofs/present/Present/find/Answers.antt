@@ -6,7 +6,7 @@ use Rattle.std.proofs.lemmas.List.Filters.{dedup_is}
 use Rattle.std.proofs.lemmas.Map.Keys.{IsStrictlyIncreasing-dedup}
 use Rattle.std.proofs.lemmas.Result.{IfOk-weaker}
 use Rattle.mm_frame.specs.Places.{found_at}
-use Rattle.mm_frame.proofs.FramePlaces.{sorted-has}
+use Rattle.mm_frame.proofs.Placing.{sorted-has}
 use Rattle.mm_frame.proofs.Placing.{places-filter}
 use Rattle.mm_verify.specs.declared.parts.Part.{Part}
 use Rattle.mm_verify.specs.Filling.{IsWithin, AreWithin, filled}

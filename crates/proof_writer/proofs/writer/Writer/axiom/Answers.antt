@@ -8,7 +8,7 @@ use Rattle.mm_claims.specs.Rendered.{Rendered}
 use Rattle.mm_claims.specs.ClaimVariables.{claim_of}
 use Rattle.mm_claims.specs.Keeping.{MayState, axiom_at, with_stated}
 use Rattle.mm_claims.specs.OverNames.{over_names}
-use Rattle.mm_justify.specs.CountingLaws.{is_fact_form}
+use Rattle.mm_justify.specs.FactForms.{is_fact_form}
 use Rattle.rule_core.specs.ProgramView.{theory_of}
 use Rattle.ml_image.specs.Assumed.{IsAssumed}
 use Rattle.proof_writer.specs.Writing.{context_of}

@@ -1,8 +1,0 @@
-use Rattle.std.proofs.Common.{refl}
-use Rattle.mm_frame.proofs.scopes.Scopes.rename.Goals as goal
-
-pub returns : goal.returns
-returns c = record {
-  names = c.in_ok-insert.ensures;
-  rest = refl;
-}

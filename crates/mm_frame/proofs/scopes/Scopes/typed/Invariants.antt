@@ -1,8 +1,0 @@
-use Rattle.std.proofs.Common.{◌≡◌, ◌++◌, drop}
-use Rattle.mm_frame.specs.ScopeState.{scope_state}
-use Rattle.mm_frame.specs.StatePlaces.{typed_places}
-use Rattle.mm_frame.proofs.scopes.Scopes.typed.Given as goal
-
-abbrev pub invariant-loop-n : goal.invariant-loop-n
-invariant-loop-n l = l.places.items ++ typed_places (scope_state l.self) (drop l.n-index l.numbers)
-    ≡ typed_places (scope_state l.self) l.numbers
