@@ -18,6 +18,8 @@ pub mod DescentLaws
 pub mod OnceLaws
 pub mod AskedLaws
 pub mod ArmLaws
+pub mod PassLaws
+pub mod FindLaws
 pub mod WalkEnds
 pub mod BindingLaws
 pub mod KeptLaws

@@ -13,6 +13,7 @@ pub mod TreeView
 pub mod Programs
 pub mod Ways
 pub mod SlotView
+pub mod Finding
 pub mod Asking
 pub mod ProgramLaws
 -- Private: what clauses of private functions cite.
@@ -23,3 +24,4 @@ pub mod Joining
 pub mod SpotView
 pub mod WorkView
 pub mod Binding
+pub mod Passing

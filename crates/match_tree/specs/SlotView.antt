@@ -45,11 +45,14 @@ LeadsToRow nodes ts path row (place.Rows n) =
     × ((k : ℕ) × (from : ℕ) × IsWay nodes ts 0 path k
     × (slice_get nodes k ≡ Some (try_node from)) × (from ≤ row))
 
+-- the row matches the subjects
+abbrev pub RowMatches : Tree → List terms.Tree → ℕ → Type 0
+RowMatches t ts row = is_some (row_match (order_of t.matrix) (row_of t.matrix row) ts) ≡ true
+
 abbrev pub FitsHit : Tree → List terms.Tree → List ℕ → Option Kept → Type 0
 FitsHit t ts path None = ⊥
 FitsHit t ts path (Some kept) =
-    LeadsToRow (nodes_of t) ts path kept.row kept.resume
-    × (is_some (row_match (order_of t.matrix) (row_of t.matrix kept.row) ts) ≡ true)
+    LeadsToRow (nodes_of t) ts path kept.row kept.resume × RowMatches t ts kept.row
 
 -- They keep a hit. The tree leads these subjects along the kept nodes from its start to the kept
 -- row, which matches them.
@@ -105,15 +108,13 @@ kept_positions t path = tested (nodes_of t) path
 abbrev pub IsTried : Tree → List terms.Tree → ℕ → Hit → Type 0
 IsTried t ts from answer.None = Unit {0}
 IsTried t ts from (answer.Row row resume) =
-    (resume ≡ place.Rows (row + 1)) × (from ≤ row)
-    × (is_some (row_match (order_of t.matrix) (row_of t.matrix row) ts) ≡ true)
+    (resume ≡ place.Rows (row + 1)) × (from ≤ row) × RowMatches t ts row
 
 -- the row was found at the end of the way along these nodes, and matches
 abbrev pub IsReachedBy : Tree → List terms.Tree → List ℕ → Hit → Type 0
 IsReachedBy t ts path answer.None = Unit {0}
 IsReachedBy t ts path (answer.Row row resume) =
-    LeadsToRow (nodes_of t) ts path row resume
-    × (is_some (row_match (order_of t.matrix) (row_of t.matrix row) ts) ≡ true)
+    LeadsToRow (nodes_of t) ts path row resume × RowMatches t ts row
 
 -- at this place all rows before the number are done with
 abbrev pub StartsFrom : Tree → ℕ → ℕ → Type 0

@@ -10,7 +10,7 @@ ghost use Rattle.rule_core.specs.MatchSearch.{UseFirst, FindsMatch};
 ghost use Rattle.rule_core.specs.MatchSteps.{bound_to, matched, all_matched};
 ghost use Rattle.pat_matrix.specs.MatrixView.{row_of, order_of};
 ghost use Rattle.pat_matrix.specs.Occurrences.{lowered_child};
-ghost use Rattle.match_tree.specs.SlotView.{Fits, IsKeptRow, IsRowMatch};
+ghost use Rattle.match_tree.specs.SlotView.{Fits, IsKeptRow, IsRowMatch, RowMatches};
 ghost use Rattle.match_tree.specs.Binding.{bound_below, matched_under};
 
 use crate::compiling::Tree;
@@ -21,10 +21,8 @@ use std::sync::ledger::Ledger;
 use term_core::{RulePat, SortId, Steps, Subst, Term, View};
 
 impl Slots {
-    /// The substitution by which the kept row matches the subjects, over `vars` variables. It is
-    /// read off the subjects: no row is tried, and no two terms are compared. It takes one step for
-    /// each node of the row, and looks at a term only for a variable under an injection. An error:
-    /// out of memory.
+    /// The substitution by which the kept row matches the subjects, over `vars` variables, as
+    /// `Tree::bindings` makes it. An error: out of memory.
     pub fn subst<L: Ledger>(
         &self,
         alloc: Global,
@@ -42,10 +40,34 @@ impl Slots {
         ensures found { IfOk result (λ s. FindsMatch (order_of tree.now.matrix) vars
             (patterns (row_of tree.now.matrix row)) (forest subjects.now) (Some s)) }
     {
+        tree.bindings(alloc, subjects, row, vars, steps)
+    }
+}
+
+impl Tree<'_> {
+    /// The substitution by which a row matches the subjects, over `vars` variables. It is read off
+    /// the subjects: no row is tried, and no two terms are compared. It takes one step for each
+    /// node of the row, and looks at a term only for a variable under an injection. An error: out
+    /// of memory.
+    pub fn bindings<L: Ledger>(
+        &self,
+        alloc: Global,
+        subjects: &[Term],
+        row: u32,
+        vars: usize,
+        steps: &mut Steps<L>,
+    ) -> Result<Subst, AllocError>
+        requires matches { RowMatches self.now subjects.now row }
+        requires scoped { UseFirst vars (patterns (row_of self.now.matrix row)) }
+        ensures matches { IfOk result (IsRowMatch (order_of self.now.matrix) vars
+            (row_of self.now.matrix row) subjects.now) }
+        ensures found { IfOk result (λ s. FindsMatch (order_of self.now.matrix) vars
+            (patterns (row_of self.now.matrix row)) (forest subjects.now) (Some s)) }
+    {
         // Terms are normal.
         let _high = Term::highest(subjects);
-        let subsorts = tree.matrix.subsorts();
-        let patterns = tree.matrix.row(row);
+        let subsorts = self.matrix.subsorts();
+        let patterns = self.matrix.row(row);
         let mut subst = Subst::new(alloc, vars)?;
         bind_row(alloc, subsorts, patterns, subjects, &mut subst, steps)?;
         Ok(subst)

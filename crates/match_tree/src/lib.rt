@@ -8,7 +8,9 @@
 // `Tree::walk` finds the first row that matches, from the start or after the last hit, and takes no
 // memory. `Slots` keep the nodes that it passed (specs/Ways.antt, specs/SlotView.antt). Each
 // position that it looked at is asked by a row that can still match (specs/Asking.antt).
-// `Slots::subst` is the substitution by which the row of the last hit matches.
+// `Tree::find` finds the same rows, and keeps nothing, so walks may be nested (specs/Finding.antt).
+// `Tree::bindings` is the substitution by which a row matches, and `Slots::subst` the one of the
+// last hit's row.
 //
 // Each place of a tree has a label, which says what is left to do there (specs/FlatNodes.antt).
 // `node_laws` says that such nodes are those of trees. `walk_laws` says what each step of a walk
@@ -30,6 +32,7 @@ mod draft;
 mod joining;
 mod laws;
 mod nodes;
+mod notes;
 mod programs;
 mod slots;
 mod spots;

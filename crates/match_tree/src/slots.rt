@@ -1,5 +1,5 @@
 // What a walk keeps.
-ghost use Rattle.std.specs.Prelude.{◌≡◌, ◌≤◌, ◌<◌, ◌++◌, ◌∷◌, [], length, vec_capacity, IfOk};
+ghost use Rattle.std.specs.Prelude.{◌≡◌, ◌≤◌, [], vec_capacity, IfOk};
 ghost use Rattle.match_tree.specs.SlotView.{HasRoom, kept_of};
 
 use crate::compiling::Tree;
@@ -54,19 +54,6 @@ impl Slots {
             path: Vec::with_capacity(alloc, tree.nodes.len())?,
             hit: None,
         })
-    }
-
-    // Keeps one node more.
-    pub(crate) fn pass(&mut self, place: u32)
-        requires { length self.old.path.items < vec_capacity self.old.path }
-        ensures path { self.new.path.items ≡ self.old.path.items ++ place ∷ [] }
-        ensures room { vec_capacity self.old.path ≤ vec_capacity self.new.path }
-        ensures hit { self.new.hit ≡ self.old.hit }
-    {
-        match self.path.push(place) {
-            Ok(()) => {}
-            Err(_) => unreachable!(),
-        }
     }
 
     // Keeps a hit, or none.

@@ -6,12 +6,14 @@ ghost use Rattle.match_tree.specs.TreeView.{IsTree, nodes_of, tries};
 ghost use Rattle.match_tree.specs.Walking.{AreWide};
 ghost use Rattle.match_tree.specs.Ways.{IsWay};
 ghost use Rattle.match_tree.specs.SlotView.{HasRoom, CanBegin, first_row, path_before, FindsFirst};
-ghost use Rattle.match_tree.specs.SlotView.{Keeps, kept_positions, IsTried, IsReachedBy};
-ghost use Rattle.match_tree.specs.SlotView.{StartsFrom, AreNew};
+ghost use Rattle.match_tree.specs.SlotView.{Keeps, kept_positions, IsTried, StartsFrom, AreNew};
+ghost use Rattle.match_tree.specs.Finding.{BeginsAt, GivesOn, LooksOnce};
+ghost use Rattle.match_tree.specs.Passing.{Reaches};
 ghost use Rattle.match_tree.specs.Asking.{AreAskedInTurn};
 
 use crate::compiling::Tree;
 use crate::nodes::Node;
+use crate::notes::{Notes, Unnoted};
 use crate::slots::{Hit, NodeNo, Slots};
 use crate::spots::spots_agree;
 use crate::trial::row_matches;
@@ -69,37 +71,57 @@ impl<'s> Tree<'s> {
         }
     }
 
-    // The same from a node on, to which a way along the kept nodes leads.
+    /// The first row that matches the subjects, from the start, or from the place that a hit of
+    /// these subjects gave on. `None` if there is none. Each row has as many patterns as there are
+    /// subjects.
+    ///
+    /// It keeps nothing and takes no memory, so other walks may come between. If no node tries its
+    /// rows in order, it takes one step for each position that it tests, and tests none twice.
     #[tactic(none)]
-    fn descend<L: Ledger>(
+    pub fn find<L: Ledger>(&self, from: NodeNo, subjects: &[Term], steps: &mut Steps<L>) -> Hit
+        requires tree { IsTree self.now }
+        requires wide { AreWide (length subjects.now) (rows_of self.now.matrix) }
+        requires begins { (first : ℕ) × BeginsAt self.now subjects.now from first }
+        ensures first { (first : ℕ) → BeginsAt self.now subjects.now from first →
+            FindsFirst self.now subjects.now first result }
+        ensures on { GivesOn self.now subjects.now result }
+        ensures looks { list_any tries (nodes_of self.now) ≡ false →
+            LooksOnce self.now subjects.now steps.old steps.new }
+    {
+        match from {
+            NodeNo::Start => self.descend(0, subjects, &mut Unnoted, steps),
+            NodeNo::Node(place) => self.descend(place, subjects, &mut Unnoted, steps),
+            NodeNo::Rows(row) => self.try_rows(row, subjects, steps),
+        }
+    }
+
+    // The same from a node on, to which the tree leads the subjects. It notes the nodes that it
+    // passes.
+    #[tactic(none)]
+    fn descend<N: Notes, L: Ledger>(
         &self,
         place: u32,
         subjects: &[Term],
-        slots: &mut Slots,
+        notes: &mut N,
         steps: &mut Steps<L>,
     ) -> Hit
         requires tree { IsTree self.now }
         requires wide { AreWide (length subjects.now) (rows_of self.now.matrix) }
-        requires room { HasRoom self.now slots.old }
-        requires way { IsWay (nodes_of self.now) subjects.now 0 slots.old.path.items place }
+        requires room { N.have_room notes.old (length (nodes_of self.now)) }
+        requires way { (path : List ℕ) × N.tell notes.old path
+            × IsWay (nodes_of self.now) subjects.now 0 path place }
         ensures first { (from : ℕ) → StartsFrom self.now place from →
             FindsFirst self.now subjects.now from result }
-        ensures leads { IsReachedBy self.now subjects.now slots.new.path.items result }
-        ensures way { (last : ℕ)
-            × IsWay (nodes_of self.now) subjects.now 0 slots.new.path.items last }
-        ensures room { HasRoom self.now slots.new }
-        ensures looks { list_any tries (nodes_of self.now) ≡ false → steps.new
-            + length (kept_positions self.now slots.old.path.items)
-            ≡ steps.old + length (kept_positions self.now slots.new.path.items) }
-        ensures more { (more : List ℕ)
-            × (slots.new.path.items ≡ slots.old.path.items ++ more) }
+        ensures reaches { Reaches self.now subjects.now (N.tell notes.old) (N.tell notes.new)
+            steps.old steps.new result }
+        ensures room { N.have_room notes.new (length (nodes_of self.now)) }
     {
         let mut place = place;
         'walk: loop {
             match &self.nodes[place as usize] {
                 Node::End => return Hit::None,
                 Node::Hit(hit) => {
-                    slots.pass(place);
+                    notes.pass(place);
                     if spots_agree(&hit.spots, subjects) {
                         let resume = NodeNo::Node(hit.next);
                         return Hit::Row {
@@ -110,7 +132,7 @@ impl<'s> Tree<'s> {
                     place = hit.next;
                 }
                 Node::Test(test) => {
-                    slots.pass(place);
+                    notes.pass(place);
                     place = test.next(subjects, steps);
                 }
                 Node::Try(from) => return self.try_rows(*from, subjects, steps),

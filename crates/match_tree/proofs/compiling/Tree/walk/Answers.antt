@@ -3,7 +3,6 @@ use Rattle.std.proofs.Common.{arith}
 use Rattle.std.proofs.lemmas.Bool.{false≢true}
 use Rattle.std.proofs.lemmas.List.{append-nil}
 use Rattle.match_tree.specs.TreeView.{nodes_of}
-use Rattle.match_tree.specs.Ways.{IsWay}
 use Rattle.match_tree.specs.SlotView.{CanBegin, FindsFirst, AreNew, first_row, path_before}
 use Rattle.match_tree.specs.SlotView.{kept_positions}
 use Rattle.match_tree.specs.declared.slots.NodeNo.{NodeNo}
@@ -13,6 +12,7 @@ use Rattle.match_tree.proofs.ArmLaws.{some_tries, tried_reached}
 use Rattle.match_tree.specs.Asking.{AreAskedInTurn}
 use Rattle.match_tree.proofs.OnceLaws.{tested_once}
 use Rattle.match_tree.proofs.AskedLaws.{tested_asked}
+use Rattle.match_tree.proofs.PassLaws.{extends}
 use Rattle.match_tree.proofs.WalkEnds.{start_is, keeps_by, resumed_at, hit_starts, tried_lower}
 use Rattle.match_tree.proofs.compiling.Tree.walk.Goals as goal
 
@@ -46,8 +46,7 @@ descend-hit-requires-clause-room g c =
 
 pub descend-hit-requires-clause-way : goal.descend-hit-requires-clause-way
 descend-hit-requires-clause-way g c =
-    let P : List ℕ → Type 0 = λ p. IsWay (nodes_of c.args.self.now) c.args.subjects.now 0 p 0 in
-    subst P (sym c.clear.ensures.path) refl
+    ([], c.clear.ensures.path, refl)
 
 pub descend-hit-requires-in-Node-clause-room : goal.descend-hit-requires-in-Node-clause-room
 descend-hit-requires-in-Node-clause-room g c =
@@ -58,7 +57,7 @@ descend-hit-requires-in-Node-clause-way g c =
     let B : NodeNo → Type 0 = CanBegin c.args.self.now c.args.subjects.now c.args.slots.now in
     let b = subst B c.in-Node.is c.requires.begins in
     let r = resumed_at c.args.self.now c.args.subjects.now c.args.slots.now (place.Node c.in-Node.place) b.0 b.1 in
-    r.1.0
+    (c.args.slots.now.path.items, refl, r.1.0)
 
 pub returns-in-Start-clause-first : goal.returns-in-Start-clause-first
 returns-in-Start-clause-first g c =
@@ -88,7 +87,10 @@ returns-in-Rows-clause-first g c =
 
 pub returns-in-Start-clause-keeps : goal.returns-in-Start-clause-keeps
 returns-in-Start-clause-keeps g c =
-    keeps_by c.args.self.now c.args.subjects.now c.keep.new.self c.descend-hit.new.slots.path.items c.descend-hit.result c.keep.result c.keep.ensures.same c.keep.ensures.hit c.keep.ensures.path c.descend-hit.ensures.leads
+    let walked = extends c.args.self.now c.args.subjects.now c.clear.new.self.path.items
+    c.descend-hit.new.notes.path.items c.args.steps.now c.descend-hit.new.steps
+    c.descend-hit.result c.descend-hit.ensures.reaches in
+    keeps_by c.args.self.now c.args.subjects.now c.keep.new.self c.descend-hit.new.notes.path.items c.descend-hit.result c.keep.result c.keep.ensures.same c.keep.ensures.hit c.keep.ensures.path walked.leads
 
 pub returns-in-Start-clause-room : goal.returns-in-Start-clause-room
 returns-in-Start-clause-room g c =
@@ -96,26 +98,38 @@ returns-in-Start-clause-room g c =
 
 pub returns-in-Start-clause-looks : goal.returns-in-Start-clause-looks
 returns-in-Start-clause-looks g c =
+    let walked = extends c.args.self.now c.args.subjects.now c.clear.new.self.path.items
+    c.descend-hit.new.notes.path.items c.args.steps.now c.descend-hit.new.steps
+    c.descend-hit.result c.descend-hit.ensures.reaches in
     λ none. ap (λ p. c.descend-hit.new.steps + length (kept_positions c.args.self.now p)) (ap (path_before c.args.slots.now) c.in-Start.is ∙ sym c.clear.ensures.path)
-    ∙ c.descend-hit.ensures.looks none
+    ∙ walked.looks none
     ∙ ap (λ p. c.args.steps.now + length (kept_positions c.args.self.now p)) (sym c.keep.ensures.path)
 
 pub returns-in-Start-clause-more : goal.returns-in-Start-clause-more
-returns-in-Start-clause-more g c = (
-  c.descend-hit.ensures.more.0,
-  c.keep.ensures.path ∙ c.descend-hit.ensures.more.1
-      ∙ ap (λ p. p ++ c.descend-hit.ensures.more.0) (sym (ap (path_before c.args.slots.now) c.in-Start.is ∙ sym c.clear.ensures.path)),
-)
+returns-in-Start-clause-more g c =
+    let walked = extends c.args.self.now c.args.subjects.now c.clear.new.self.path.items
+    c.descend-hit.new.notes.path.items c.args.steps.now c.descend-hit.new.steps
+    c.descend-hit.result c.descend-hit.ensures.reaches in (
+      walked.more.0,
+      c.keep.ensures.path ∙ walked.more.1
+          ∙ ap (λ p. p ++ walked.more.0) (sym (ap (path_before c.args.slots.now) c.in-Start.is ∙ sym c.clear.ensures.path)),
+    )
 
 pub returns-in-Start-clause-once : goal.returns-in-Start-clause-once
 returns-in-Start-clause-once g c =
+    let walked = extends c.args.self.now c.args.subjects.now c.clear.new.self.path.items
+    c.descend-hit.new.notes.path.items c.args.steps.now c.descend-hit.new.steps
+    c.descend-hit.result c.descend-hit.ensures.reaches in
     let P : List ℕ → Type 0 = λ p. AreNew c.args.subjects.now [] (kept_positions c.args.self.now p) in
     subst P (sym c.keep.ensures.path)
-    (tested_once c.args.self.now c.args.subjects.now c.descend-hit.new.slots.path.items c.descend-hit.ensures.way.0 c.requires.tree c.requires.wide c.descend-hit.ensures.way.1)
+    (tested_once c.args.self.now c.args.subjects.now c.descend-hit.new.notes.path.items walked.way.0 c.requires.tree c.requires.wide walked.way.1)
 
 pub returns-in-Node-clause-keeps : goal.returns-in-Node-clause-keeps
 returns-in-Node-clause-keeps g c =
-    keeps_by c.args.self.now c.args.subjects.now c.keep-in-Node.new.self c.descend-hit-in-Node.new.slots.path.items c.descend-hit-in-Node.result c.keep-in-Node.result c.keep-in-Node.ensures.same c.keep-in-Node.ensures.hit c.keep-in-Node.ensures.path c.descend-hit-in-Node.ensures.leads
+    let walked = extends c.args.self.now c.args.subjects.now c.args.slots.now.path.items
+    c.descend-hit-in-Node.new.notes.path.items c.args.steps.now c.descend-hit-in-Node.new.steps
+    c.descend-hit-in-Node.result c.descend-hit-in-Node.ensures.reaches in
+    keeps_by c.args.self.now c.args.subjects.now c.keep-in-Node.new.self c.descend-hit-in-Node.new.notes.path.items c.descend-hit-in-Node.result c.keep-in-Node.result c.keep-in-Node.ensures.same c.keep-in-Node.ensures.hit c.keep-in-Node.ensures.path walked.leads
 
 pub returns-in-Node-clause-room : goal.returns-in-Node-clause-room
 returns-in-Node-clause-room g c =
@@ -123,22 +137,31 @@ returns-in-Node-clause-room g c =
 
 pub returns-in-Node-clause-looks : goal.returns-in-Node-clause-looks
 returns-in-Node-clause-looks g c =
+    let walked = extends c.args.self.now c.args.subjects.now c.args.slots.now.path.items
+    c.descend-hit-in-Node.new.notes.path.items c.args.steps.now c.descend-hit-in-Node.new.steps
+    c.descend-hit-in-Node.result c.descend-hit-in-Node.ensures.reaches in
     λ none. ap (λ p. c.descend-hit-in-Node.new.steps + length (kept_positions c.args.self.now p)) (ap (path_before c.args.slots.now) c.in-Node.is)
-    ∙ c.descend-hit-in-Node.ensures.looks none
+    ∙ walked.looks none
     ∙ ap (λ p. c.args.steps.now + length (kept_positions c.args.self.now p)) (sym c.keep-in-Node.ensures.path)
 
 pub returns-in-Node-clause-more : goal.returns-in-Node-clause-more
-returns-in-Node-clause-more g c = (
-  c.descend-hit-in-Node.ensures.more.0,
-  c.keep-in-Node.ensures.path ∙ c.descend-hit-in-Node.ensures.more.1
-      ∙ ap (λ p. p ++ c.descend-hit-in-Node.ensures.more.0) (sym (ap (path_before c.args.slots.now) c.in-Node.is)),
-)
+returns-in-Node-clause-more g c =
+    let walked = extends c.args.self.now c.args.subjects.now c.args.slots.now.path.items
+    c.descend-hit-in-Node.new.notes.path.items c.args.steps.now c.descend-hit-in-Node.new.steps
+    c.descend-hit-in-Node.result c.descend-hit-in-Node.ensures.reaches in (
+      walked.more.0,
+      c.keep-in-Node.ensures.path ∙ walked.more.1
+          ∙ ap (λ p. p ++ walked.more.0) (sym (ap (path_before c.args.slots.now) c.in-Node.is)),
+    )
 
 pub returns-in-Node-clause-once : goal.returns-in-Node-clause-once
 returns-in-Node-clause-once g c =
+    let walked = extends c.args.self.now c.args.subjects.now c.args.slots.now.path.items
+    c.descend-hit-in-Node.new.notes.path.items c.args.steps.now c.descend-hit-in-Node.new.steps
+    c.descend-hit-in-Node.result c.descend-hit-in-Node.ensures.reaches in
     let P : List ℕ → Type 0 = λ p. AreNew c.args.subjects.now [] (kept_positions c.args.self.now p) in
     subst P (sym c.keep-in-Node.ensures.path)
-    (tested_once c.args.self.now c.args.subjects.now c.descend-hit-in-Node.new.slots.path.items c.descend-hit-in-Node.ensures.way.0 c.requires.tree c.requires.wide c.descend-hit-in-Node.ensures.way.1)
+    (tested_once c.args.self.now c.args.subjects.now c.descend-hit-in-Node.new.notes.path.items walked.way.0 c.requires.tree c.requires.wide walked.way.1)
 
 pub returns-in-Rows-clause-keeps : goal.returns-in-Rows-clause-keeps
 returns-in-Rows-clause-keeps g c =
@@ -178,15 +201,21 @@ returns-in-Rows-clause-once g c =
 
 pub returns-in-Start-clause-asked : goal.returns-in-Start-clause-asked
 returns-in-Start-clause-asked g c =
+    let walked = extends c.args.self.now c.args.subjects.now c.clear.new.self.path.items
+    c.descend-hit.new.notes.path.items c.args.steps.now c.descend-hit.new.steps
+    c.descend-hit.result c.descend-hit.ensures.reaches in
     let P : List ℕ → Type 0 = λ p. AreAskedInTurn c.args.self.now.matrix c.args.subjects.now [] (kept_positions c.args.self.now p) in
     subst P (sym c.keep.ensures.path)
-    (tested_asked c.args.self.now c.args.subjects.now c.descend-hit.new.slots.path.items c.descend-hit.ensures.way.0 c.requires.tree c.descend-hit.ensures.way.1)
+    (tested_asked c.args.self.now c.args.subjects.now c.descend-hit.new.notes.path.items walked.way.0 c.requires.tree walked.way.1)
 
 pub returns-in-Node-clause-asked : goal.returns-in-Node-clause-asked
 returns-in-Node-clause-asked g c =
+    let walked = extends c.args.self.now c.args.subjects.now c.args.slots.now.path.items
+    c.descend-hit-in-Node.new.notes.path.items c.args.steps.now c.descend-hit-in-Node.new.steps
+    c.descend-hit-in-Node.result c.descend-hit-in-Node.ensures.reaches in
     let P : List ℕ → Type 0 = λ p. AreAskedInTurn c.args.self.now.matrix c.args.subjects.now [] (kept_positions c.args.self.now p) in
     subst P (sym c.keep-in-Node.ensures.path)
-    (tested_asked c.args.self.now c.args.subjects.now c.descend-hit-in-Node.new.slots.path.items c.descend-hit-in-Node.ensures.way.0 c.requires.tree c.descend-hit-in-Node.ensures.way.1)
+    (tested_asked c.args.self.now c.args.subjects.now c.descend-hit-in-Node.new.notes.path.items walked.way.0 c.requires.tree walked.way.1)
 
 pub returns-in-Rows-clause-asked : goal.returns-in-Rows-clause-asked
 returns-in-Rows-clause-asked g c =

@@ -1,35 +1,7 @@
-use Rattle.match_tree.proofs.KeptLaws.{kept_scoped, kept_count, kept_match, kept_bound, kept_found}
+use Rattle.match_tree.proofs.KeptLaws.{kept_matches}
 use Rattle.match_tree.proofs.slots.Slots.subst.Goals as goal
 
-pub bind_row-requires-clause-scoped : goal.bind_row-requires-clause-scoped
-bind_row-requires-clause-scoped g c =
-    kept_scoped c.row-patterns.result.now _ c.in_ok-subst.subst c.args.vars c.row-patterns.ensures
-    c.in_ok-subst.ensures c.requires.scoped
-
-pub bind_row-requires-clause-count : goal.bind_row-requires-clause-count
-bind_row-requires-clause-count g c =
-    kept_count c.args.tree.now c.args.subjects.now c.args.self.now c.args.row
-    c.row-patterns.result.now c.requires.fits c.requires.kept c.row-patterns.ensures
-
-pub bind_row-requires-clause-matches : goal.bind_row-requires-clause-matches
-bind_row-requires-clause-matches g c =
-    kept_match c.args.tree.now c.args.subjects.now c.args.self.now c.args.row c.args.vars
-    c.subsorts-subsorts.result.now c.row-patterns.result.now c.in_ok-subst.subst
-    c.requires.fits c.requires.kept c.requires.scoped c.subsorts-subsorts.ensures
-    c.row-patterns.ensures c.in_ok-subst.ensures
-
-pub returns-clause-matches : goal.returns-clause-matches
-returns-clause-matches g c =
-    kept_bound c.args.tree.now c.args.subjects.now c.args.row c.args.vars
-    c.subsorts-subsorts.result.now c.row-patterns.result.now c.in_ok-subst.subst
-    c.bind_row.new.subst c.subsorts-subsorts.ensures c.row-patterns.ensures
-    c.in_ok-subst.ensures c.in_ok-bind_row.ensures
-
-pub returns-clause-found : goal.returns-clause-found
-returns-clause-found g c =
-    kept_found c.args.tree.now c.args.subjects.now c.args.row c.args.vars c.bind_row.new.subst
-    c.highest-high.ensures.normal
-    (kept_bound c.args.tree.now c.args.subjects.now c.args.row c.args.vars
-    c.subsorts-subsorts.result.now c.row-patterns.result.now c.in_ok-subst.subst
-    c.bind_row.new.subst c.subsorts-subsorts.ensures c.row-patterns.ensures
-    c.in_ok-subst.ensures c.in_ok-bind_row.ensures)
+pub bindings-requires-clause-matches : goal.bindings-requires-clause-matches
+bindings-requires-clause-matches g c =
+    kept_matches c.args.tree.now c.args.subjects.now c.args.self.now c.args.row c.requires.fits
+    c.requires.kept
