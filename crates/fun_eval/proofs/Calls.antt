@@ -1,8 +1,7 @@
 -- The equations of a called function, and evaluations that stop.
-use Rattle.std.proofs.Common.{◌≡◌, ℕ, suc, zero, ◌<◌, ◌≤◌, List, [], ◌∷◌, length, map, get_or}
-use Rattle.std.proofs.Common.{Option, Some, None, refl, sym, ◌∙◌, ap, subst, arith}
+use Rattle.std.proofs.Common.{◌≡◌, ℕ, suc, ◌<◌, List, length, get_or}
+use Rattle.std.proofs.Common.{Option, Some, None, refl, sym, ◌∙◌, subst, arith}
 use Rattle.std.specs.Prelude.{Err, slice_get, IfSome}
-use Rattle.std.proofs.lemmas.List.{length-map}
 use Rattle.std.proofs.lemmas.Option.{slice_get_within}
 use Rattle.term_core.specs.Terms.{Tree, Forest}
 use Rattle.term_core.specs.Forests.{forest}
@@ -12,16 +11,15 @@ use Rattle.term_core.specs.PatternLists.{plain_patterns}
 use Rattle.term_core.specs.declared.rule_patterns.RulePat.{RulePat}
 use Rattle.rule_core.specs.Rules as plain
 use Rattle.rule_core.specs.Theories.{RewriteTheory, equations_of}
-use Rattle.rule_core.specs.ProgramView.{function_equation}
 use Rattle.rule_core.specs.declared.rules.Equation.{Equation}
 use Rattle.rule_core.specs.Matching.{MatchAll}
 use Rattle.rule_core.specs.Evaluation.{value, blocked, holds, fails, untested, IsTrueValue}
 use Rattle.rule_core.specs.Evaluation.{says_true, says_other, says_nothing, IsInjectionSymbol}
 use Rattle.rule_core.specs.Evaluation.{HasHead, of_injection, Evaluates, argument_blocked}
-use Rattle.rule_core.specs.Evaluation.{first_blocked, IsUnmatchedBy, Equates, Tests, no_condition}
+use Rattle.rule_core.specs.Evaluation.{first_blocked, Equates, Tests, no_condition}
 use Rattle.rule_core.specs.Evaluation.{condition, EvaluatesIn}
 use Rattle.rule_core.specs.Records.{Record, RecordList, OptionalRecord, unconditional, conditional}
-use Rattle.rule_core.specs.Records.{Records, RecordAll, RecordsCondition, result_of, results_of}
+use Rattle.rule_core.specs.Records.{Records, RecordsCondition, result_of, results_of}
 use Rattle.rule_core.specs.Records as kept
 use Rattle.rule_core.specs.Sorting.{IsSymbol}
 use Rattle.rule_core.specs.WellSorted.{IsWellSorted, IsEquationOf, IsCondition}
@@ -32,7 +30,7 @@ use Rattle.rule_core.proofs.EvaluationAnswers.{serves_match}
 use Rattle.fun_eval.specs.Evaluable.{IsEvaluable}
 use Rattle.fun_eval.specs.Recorded.{IsRecorded}
 use Rattle.fun_eval.specs.Giving.{Gives, GivesWithin, AllGive, IsCallRecord}
-use Rattle.fun_eval.specs.Equations.{IsDefined, IsChosen, IsRecordedCondition, IsTriable, Matches}
+use Rattle.fun_eval.specs.Equations.{IsDefined, IsChosen, IsRecordedCondition, IsTriable}
 use Rattle.fun_eval.specs.Equations.{Tries, Chooses, CallsByEquations}
 use Rattle.fun_eval.specs.RecordLists.{TellsOption}
 use Rattle.fun_eval.specs.declared.answer.Answer.{Answer}
@@ -74,23 +72,6 @@ pattern_stops tells all_tell theory n theta pats c i ts left p (Blocked why) goe
 pattern_stops tells all_tell theory n theta pats c i ts left p Memory goes is lt h = tt
 
 -- ---- the equations of a function
-
-pub equation_at : (es : List Equation) (i : ℕ) (e : Equation) → e ≡ get_or es i e → i < length es
-    → slice_get (map function_equation es) i ≡ Some (function_equation e)
-equation_at [] i e is lt = absurd (omega arith)
-equation_at (x ∷ es) zero e is lt = ap (λ (y : Equation). Some (function_equation y)) (sym is)
-equation_at (x ∷ es) (suc i) e is lt = equation_at es i e is (omega arith)
-
-pub own_equation : (theory : RewriteTheory) (f : ℕ) (es : List Equation) (i : ℕ) (e : Equation)
-    → map function_equation es ≡ equations_of theory f → e ≡ get_or es i e → i < length es
-    → slice_get (equations_of theory f) i ≡ Some (function_equation e)
-own_equation theory f es i e all is lt =
-    subst (λ (xs : List plain.Equation). slice_get xs i ≡ Some (function_equation e)) all
-    (equation_at es i e is lt)
-
-pub as_long : (theory : RewriteTheory) (f : ℕ) (es : List Equation)
-    → map function_equation es ≡ equations_of theory f → length (equations_of theory f) ≡ length es
-as_long theory f es all = ap length (sym all) ∙ length-map es function_equation
 
 is_equation : (theory : RewriteTheory) (f : ℕ) (ts : Forest) (i : ℕ) (e : plain.Equation)
     → IsWellSorted theory → (is : IsDefined theory f ts)
@@ -137,17 +118,6 @@ condition_evaluable theory e ts theta p fits match is =
     )
 
 -- ---- the trial of one equation
-
-pub matched_none : (theory : RewriteTheory) (e : plain.Equation) (ts : Forest)
-    (found : Option (List (Option Tree))) → Matches theory e ts found → found ≡ None
-    → IsUnmatchedBy theory e ts
-matched_none theory e ts found h is = subst (Matches theory e ts) is h
-
-pub matched_some : (theory : RewriteTheory) (e : plain.Equation) (ts : Forest)
-    (found : Option (List (Option Tree))) (theta : List (Option Tree))
-    → Matches theory e ts found → found ≡ Some theta
-    → MatchAll theory.sig e.variables e.arguments ts theta
-matched_some theory e ts found theta h is = subst (Matches theory e ts) is h
 
 pub no_test : (theory : RewriteTheory) (n f c : ℕ) (theta : List (Option Tree)) (p : Option Pattern)
     → p ≡ None
@@ -285,21 +255,11 @@ right_gives {R} tells all_tell theory n f args c number left rest theta cond e b
 
 -- ---- numbers of equations and functions
 
-pub number_within : (theory : RewriteTheory) (f : ℕ) (es : List Equation) (i n : ℕ)
-    → map function_equation es ≡ equations_of theory f → length (equations_of theory f) ≤ n
-    → i < length es → i < n
-number_within theory f es i n all few lt =
-    let len : length (equations_of theory f) ≡ length es = as_long theory f es all in omega arith
-
 pub chosen_within : (theory : RewriteTheory) (n f : ℕ) (ts : Forest) (c number left : ℕ)
-    (theta : List (Option Tree)) (es : List Equation)
-    → IsChosen theory n f ts c number theta left → map function_equation es ≡ equations_of theory f
-    → number < length es
-chosen_within theory n f ts c number left theta es chosen all =
-    let within : number < length (equations_of theory f) =
-    slice_get_within (equations_of theory f) number chosen.equation chosen.there in
-    let len : length (equations_of theory f) ≡ length es = as_long theory f es all in
-    omega arith
+    (theta : List (Option Tree)) → IsChosen theory n f ts c number theta left
+    → number < length (equations_of theory f)
+chosen_within theory n f ts c number left theta chosen =
+    slice_get_within (equations_of theory f) number chosen.equation chosen.there
 
 -- a function has a list of equations
 pub has_list : (theory : RewriteTheory) (f : ℕ) (info : SymInfo) → IsWellSorted theory

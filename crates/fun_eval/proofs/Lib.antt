@@ -9,4 +9,6 @@ pub mod Empty
 pub mod Calls
 pub mod PlainRecords
 pub mod Matches
+pub mod EquationTrees
+pub mod Walks
 pub mod Injections

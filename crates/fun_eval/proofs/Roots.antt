@@ -1,56 +1,18 @@
--- Arguments one of which cannot match, and scalars among terms.
+-- Scalars among terms.
 use Rattle.std.proofs.Common.{◌≡◌, ℕ, suc, zero, ◌<◌, ◌≤◌, List, [], ◌∷◌, length, map, get_or}
 use Rattle.std.proofs.Common.{Option, Some, None, refl, sym, ◌∙◌, ap, subst, arith}
-use Rattle.std.specs.Prelude.{Bool, true, false, slice_get, option_map}
+use Rattle.std.specs.Prelude.{Bool, slice_get, option_map}
 use Rattle.term_core.specs.Terms.{integer, truth, Tree, leaf, node, inj, more_trees}
 use Rattle.term_core.specs.Forests.{forest}
-use Rattle.term_core.specs.Patterns.{Pattern, instance_of, instances_of}
 use Rattle.term_core.specs.HookValues.{Hook, Kind, Operation, on_integer, on_integers, compares}
 use Rattle.term_core.specs.HookValues.{on_truth, on_truths, argument_kinds, hooks}
 use Rattle.term_core.specs.HookSignatures.{hook_arguments}
 use Rattle.term_core.specs.Values.{scalar_value}
-use Rattle.term_core.specs.RulePatterns.{plain_pattern}
-use Rattle.term_core.specs.PatternLists.{plain_patterns}
-use Rattle.term_core.specs.declared.rule_patterns.RulePat.{RulePat}
 use Rattle.term_core.specs.declared.values.Scalar.{Scalar}
 use Rattle.term_core.specs.declared.values.Scalar.TheVariants as scalar
 use Rattle.hook_table.specs.Scalars.{kind_of}
 use Rattle.rule_core.specs.HookCalls.{AreValues}
-use Rattle.rule_core.proofs.SortedInstances.{both_there}
-use Rattle.fun_eval.specs.Roots.{IsScalar, CannotMatch, MayMatch, AreHookArguments}
-
-pub cannot : (p : Pattern) (t : Tree) (answer : Bool) → MayMatch p t answer → answer ≡ false
-    → CannotMatch p t
-cannot p t true h e = let no : ⊥ = cc in absurd no
-cannot p t false h e = h
-
--- if one of the patterns cannot match its tree, the patterns have no instance that is these trees
-pub none_match : (pats : List RulePat) (terms : List Tree) (i : ℕ) (p : RulePat) (t : Tree)
-    → p ≡ get_or pats i p → i < length pats → t ≡ get_or terms i t → i < length terms
-    → CannotMatch (plain_pattern p) t → (theta : List (Option Tree))
-    → instances_of theta (plain_patterns pats) ≡ Some (forest terms) → ⊥
-none_match [] terms i p t e lt f lu h theta made = absurd (omega arith)
-none_match (q ∷ pats) [] i p t e lt f lu h theta made = absurd (omega arith)
-none_match (q ∷ pats) (u ∷ terms) zero p t e lt f lu h theta made =
-    let parts =
-    both_there (instance_of theta (plain_pattern q)) (instances_of theta (plain_patterns pats))
-    (forest (u ∷ terms)) made in
-    let whole : more_trees u (forest terms) ≡ more_trees parts.0 parts.1.0 = parts.1.1.0 in
-    let first : parts.0 ≡ t = let same : parts.0 ≡ u = cc in same ∙ sym f in
-    let here : instance_of theta (plain_pattern p) ≡ Some t =
-    ap (λ (r : RulePat). instance_of theta (plain_pattern r)) e ∙ parts.1.1.1.0
-    ∙ ap Some first in
-    h theta here
-none_match (q ∷ pats) (u ∷ terms) (suc i) p t e lt f lu h theta made =
-    let parts =
-    both_there (instance_of theta (plain_pattern q)) (instances_of theta (plain_patterns pats))
-    (forest (u ∷ terms)) made in
-    let whole : more_trees u (forest terms) ≡ more_trees parts.0 parts.1.0 = parts.1.1.0 in
-    let rest : parts.1.0 ≡ forest terms = cc in
-    none_match pats terms i p t e (omega arith) f (omega arith) h theta
-    (parts.1.1.1.1 ∙ ap Some rest)
-
--- ---- scalars
+use Rattle.fun_eval.specs.Roots.{IsScalar, AreHookArguments}
 
 same_kind : (v w : Scalar) → scalar_value v ≡ scalar_value w → kind_of v ≡ kind_of w
 same_kind (scalar.Int x) (scalar.Int y) e = refl

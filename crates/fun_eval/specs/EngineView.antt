@@ -4,6 +4,7 @@ use Rattle.rule_core.specs.WellSorted.{IsWellSorted}
 use Rattle.rule_core.specs.declared.rules.Program.{Program}
 use Rattle.fun_eval.specs.Evaluable.{HasNumbers}
 use Rattle.fun_eval.specs.Injections.{Injects}
+use Rattle.fun_eval.specs.EquationTrees.{AreEquationTrees}
 use Rattle.fun_eval.specs.declared.engine.Engine.TheInside.{Inside}
 
 abbrev pub program_of : Inside → Program
@@ -13,3 +14,4 @@ pub record IsEngine (e : Inside) : Type 0 where
   pub sorted : IsWellSorted (theory_of e.program.now)
   pub numbers : HasNumbers (theory_of e.program.now)
   pub injection : Injects e.program.now.sig e.injection
+  pub trees : AreEquationTrees (theory_of e.program.now) e.trees.items

@@ -1,6 +1,6 @@
 -- What the private functions that try equations return.
 use Rattle.std.specs.Prelude.{◌≡◌, ◌⊎◌, ◌<◌, ℕ, List, [], Option, Some, None, slice_get}
-use Rattle.std.specs.Prelude.{MatchOption, Result}
+use Rattle.std.specs.Prelude.{Result}
 use Rattle.term_core.specs.Terms.{Tree, Forest}
 use Rattle.term_core.specs.Forests.{forest}
 use Rattle.term_core.specs.Patterns.{Pattern}
@@ -30,10 +30,11 @@ pub record IsDefined (theory : RewriteTheory) (f : ℕ) (ts : Forest) : Type 0 w
   pub defined : info.kind ≡ Equations
   pub good : AreGoodTrees theory.sig [] ts info.args.items
 
--- the substitution that makes the equation's arguments the terms, if there is one
-abbrev pub Matches : RewriteTheory → Equation → Forest → Option (List (Option Tree)) → Type 0
-Matches theory e ts found =
-    MatchOption found (IsUnmatchedBy theory e ts) (MatchAll theory.sig e.variables e.arguments ts)
+-- the substitution makes the arguments of the function's equation with this number the terms
+abbrev pub MatchesNumber : RewriteTheory → ℕ → ℕ → Forest → List (Option Tree) → Type 0
+MatchesNumber theory f number ts theta =
+    (e : Equation) × (slice_get (equations_of theory f) number ≡ Some e)
+    × MatchAll theory.sig e.variables e.arguments ts theta
 
 -- the call of a function by its equations
 abbrev pub CallsByEquations : {R : Type 0} → (R → Record → Type 0) → (List R → RecordList → Type 0)
@@ -75,6 +76,13 @@ Tries tells theory n f e ts c answer =
     (λ cause. (theta : List (Option Tree)) × MatchAll theory.sig e.variables e.arguments ts theta
     × Tests theory n f theta e.condition c (untested cause))
     answer
+
+-- the trial of the function's equation with this number
+abbrev pub TriesNumber : {R : Type 0} → (R → Record → Type 0) → RewriteTheory → ℕ → ℕ → ℕ → Forest
+    → ℕ → Result (Trial R × ℕ) EvalEnd → Type 0
+TriesNumber tells theory n f number ts c answer =
+    (e : Equation) × (slice_get (equations_of theory f) number ≡ Some e)
+    × Tries tells theory n f e ts c answer
 
 -- trying the equations of the function at the terms ends at this equation, with this substitution;
 -- the value of the function is the value of the equation's right side

@@ -6,6 +6,7 @@ pub mod RecordLists
 -- Private: what clauses of private functions cite, and how private fields are seen.
 pub mod EngineView
 pub mod Injections
+pub mod EquationTrees
 pub mod Roots
 pub mod Giving
 pub mod Equations

@@ -1,5 +1,5 @@
 // The engine of evaluation.
-ghost use Rattle.std.specs.Prelude.{◌≡◌, ◌≤◌, ◌<◌, IfOk, IfErr, OnErr, Some};
+ghost use Rattle.std.specs.Prelude.{◌≡◌, ◌≤◌, ◌<◌, length, IfOk, IfErr, OnErr, Some};
 ghost use Rattle.term_core.specs.RulePatterns.{plain_pattern};
 ghost use Rattle.rule_core.specs.Evaluation.{Evaluated, Evaluates, value};
 ghost use Rattle.rule_core.specs.FirstRule.{most_nesting};
@@ -7,17 +7,18 @@ ghost use Rattle.rule_core.specs.ProgramView.{theory_of};
 ghost use Rattle.rule_core.specs.Records.{Records, result_of};
 ghost use Rattle.rule_core.specs.RecordView.{plain_record};
 ghost use Rattle.rule_core.specs.WellSorted.{IsWellSorted};
-ghost use Rattle.match_tree.specs.Programs.{IsRuleTree};
+ghost use Rattle.match_tree.specs.Programs.{IsRuleTree, IsEquationTree};
 ghost use Rattle.fun_eval.specs.Evaluable.{IsEvaluable, HasNumbers};
 ghost use Rattle.fun_eval.specs.EvalEnds.{EndsBy};
 ghost use Rattle.fun_eval.specs.Recorded.{IsRecorded};
 ghost use Rattle.fun_eval.specs.Injections.{Injects};
+ghost use Rattle.fun_eval.specs.EquationTrees.{AreEquationTrees};
 
 use crate::answer::{Answer, EvalEnd};
 use crate::evaluation::evaluate;
 use crate::functions::symbol;
 use crate::recording::Recording;
-use match_tree::{Tree, rule_tree};
+use match_tree::{Tree, equation_tree, rule_tree};
 use rule_core::{EvalRecord, Program, SymKind};
 use std::alloc::{AllocError, Global};
 use std::marker::Model;
@@ -35,11 +36,23 @@ pub struct Budget {
 
 /// An engine that evaluates patterns by the functions of a program. Contracts see it as the
 /// program.
-#[derive(Drop)]
 pub struct Engine<'p> {
     program: &'p Program,
     // The first injection symbol, if there is one.
     injection: Option<SymId>,
+    // The matching trees of the functions' equations, by the numbers of their symbols.
+    trees: Vec<Tree<'p>>,
+}
+
+// An engine is dropped by one call, and not field by field at each end of each call that owns one.
+impl Drop for Engine<'_> {
+    fn drop(self) {
+        let Engine {
+            program: _,
+            injection: _,
+            trees: _,
+        } = self;
+    }
 }
 
 impl<'p> Model for Engine<'p> {
@@ -59,15 +72,20 @@ impl<'p> Model for Engine<'p> {
 }
 
 impl<'p> Engine<'p> {
-    /// The engine of a well-sorted program. It looks once at the program's symbols, up to the first
-    /// injection symbol.
-    pub fn new(program: &'p Program) -> Engine<'p>
+    /// The engine of a well-sorted program. It makes the matching tree of each function's
+    /// equations, at the cost of `match_tree::equation_tree`. An error: out of memory.
+    pub fn new(alloc: Global, program: &'p Program) -> Result<Engine<'p>, AllocError>
         requires sorted { IsWellSorted (theory_of program.now) }
         requires numbers { HasNumbers (theory_of program.now) }
-        ensures { result ≡ program.now }
+        ensures { IfOk result (λ engine. engine ≡ program.now) }
     {
         let injection = first_injection(program);
-        Engine { program, injection }
+        let trees = equation_trees(alloc, program)?;
+        Ok(Engine {
+            program,
+            injection,
+            trees,
+        })
     }
 
     /// The program.
@@ -88,6 +106,14 @@ impl<'p> Engine<'p> {
         rule_tree(alloc, self.program)
     }
 
+    // The matching tree of a symbol's equations.
+    pub(crate) fn equation_tree(&self, sym: SymId) -> &Tree<'p>
+        requires { sym.0 < length (theory_of self.now).equations }
+        ensures { IsEquationTree (theory_of self.now) sym.0 result.now }
+    {
+        &self.trees[sym.0 as usize]
+    }
+
     // The symbol of a node that is an injection.
     pub(crate) fn injection(&self) -> Option<SymId>
         ensures { Injects (theory_of self.now).sig result }
@@ -101,9 +127,9 @@ impl<'p> Engine<'p> {
     /// Errors: `Blocked` states why there is no value; `Memory` if memory ran out. After an error
     /// the budget is as before.
     ///
-    /// It recurses no deeper than the nesting and the height of terms. Its time is the time of
-    /// trying each equation of a called function, one by one. An equation that cannot match costs
-    /// one look at each argument's root.
+    /// It recurses no deeper than the nesting and the height of terms. The equations of a called
+    /// function that match are found by walks over their matching tree. Memory is taken only for
+    /// those that match, and for what is evaluated.
     pub fn eval(
         &self,
         alloc: Global,
@@ -156,6 +182,19 @@ impl<'p> Engine<'p> {
         budget.calls = left;
         Ok(answer)
     }
+}
+
+// The matching trees of the program's equations. An error: out of memory.
+fn equation_trees(alloc: Global, program: &Program) -> Result<Vec<Tree<'_>>, AllocError>
+    requires sorted { IsWellSorted (theory_of program.now) }
+    requires numbers { HasNumbers (theory_of program.now) }
+    ensures { IfOk result (λ trees. AreEquationTrees (theory_of program.now) trees.items) }
+{
+    let mut trees = Vec::with_capacity(alloc, program.equations.len())?;
+    for i in 0..program.equations.len() {
+        trees.push(equation_tree(alloc, program, SymId(i as u32))?)?;
+    }
+    Ok(trees)
 }
 
 // The first injection symbol of a program.

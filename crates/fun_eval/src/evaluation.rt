@@ -11,19 +11,22 @@ ghost use Rattle.rule_core.specs.Sorting.{HasInjection};
 ghost use Rattle.term_core.specs.RulePatterns.{plain_pattern};
 ghost use Rattle.term_core.specs.PatternLists.{plain_patterns};
 ghost use Rattle.rule_core.specs.FirstRule.{most_nesting};
-ghost use Rattle.rule_core.specs.ProgramView.{theory_of, function_equation};
+ghost use Rattle.rule_core.specs.ProgramView.{theory_of};
+ghost use Rattle.match_tree.specs.ProgramLaws.{IsFirstEquation};
+ghost use Rattle.match_tree.specs.SlotView.{RowMatches};
 ghost use Rattle.fun_eval.specs.Evaluable.{IsEvaluable};
 ghost use Rattle.fun_eval.specs.Giving.{Gives, GivesWithin, AllGive, AreEvaluable, AreArguments};
 ghost use Rattle.fun_eval.specs.Giving.{IsBound, IsCallEvaluable, Calls};
-ghost use Rattle.fun_eval.specs.Equations.{CallsByEquations, Chooses, IsDefined, IsTriable, Tries};
+ghost use Rattle.fun_eval.specs.Equations.{CallsByEquations, Chooses, IsDefined, TriesNumber};
 
 use crate::answer::{Answer, Answers, EvalEnd};
 use crate::engine::Engine;
-use crate::equations::{Choice, Trial, equations_of, match_equation};
+use crate::equations::{Choice, Trial, equation_of, match_equation, next_equation};
 use crate::functions::{call_hook, construct, inject, result_sort, symbol};
 use crate::recording::Recording;
 use crate::terms::is_true;
-use rule_core::{Blocked, Equation, SymKind};
+use match_tree::{Hit, Tree};
+use rule_core::{Blocked, SymKind};
 use std::alloc::Global;
 use term_core::{RulePat, SortId, Subst, SymId, Term, Value};
 
@@ -243,7 +246,9 @@ fn apply_equations<R: Recording>(
         subst,
         cond,
     } = chosen;
-    let right = &equations_of(engine.program(), sym)[number as usize].right;
+    // The program is well-sorted.
+    let _program = engine.program();
+    let right = &equation_of(engine, sym, number).right;
     let (body, rest) = evaluate_in::<R>(alloc, engine, sym, right, &subst, left, nest)?;
     let Answer { term, recorded } = body;
     let recorded = R::by_equation(alloc, sym, records, number, subst, cond, recorded)?;
@@ -264,14 +269,17 @@ fn choose_equation<R: Recording>(
     requires nest { nest ≤ most_nesting }
     ensures { Chooses R.tells (theory_of engine.now) nest sym.0 (forest terms.now) calls result }
 {
-    let equations = equations_of(engine.program(), sym);
+    // The program is well-sorted.
+    let _program = engine.program();
+    let tree = engine.equation_tree(sym);
     let mut left = calls;
-    for (i, equation) in equations.iter().enumerate() {
-        let (trial, rest) = try_equation(alloc, engine, sym, equation, terms, left, nest)?;
+    let mut hit = next_equation(engine, sym, tree, tree.start(), terms);
+    while let Hit::Row { row, resume } = hit {
+        let (trial, rest) = try_equation(alloc, engine, sym, tree, row, terms, left, nest)?;
         match trial {
             Trial::Unused => left = rest,
             Trial::Used(subst, cond) => {
-                let number = i as u32;
+                let number = row;
                 let choice = Choice {
                     number,
                     subst,
@@ -280,32 +288,35 @@ fn choose_equation<R: Recording>(
                 return Ok((Some(choice), rest));
             }
         }
+        hit = next_equation(engine, sym, tree, resume, terms);
     }
     Ok((None, left))
 }
 
-// Whether an equation of a function is used at terms.
+// Whether an equation of a function is used at terms that its arguments match.
 #[cycle(evaluation)]
 fn try_equation<R: Recording>(
     alloc: Global,
     engine: &Engine<'_>,
     sym: SymId,
-    equation: &Equation,
+    tree: &Tree<'_>,
+    row: u32,
     terms: &[Term],
     calls: u32,
     nest: u32,
 ) -> Result<(Trial<R>, u32), EvalEnd>
-    requires fits { IsTriable (theory_of engine.now) (function_equation equation.now)
-        (forest terms.now) }
+    requires fits { IsDefined (theory_of engine.now) sym.0 (forest terms.now) }
+    requires first { (from : ℕ)
+        × IsFirstEquation (theory_of engine.now) sym.0 tree.now terms.now from row }
+    requires matches { RowMatches tree.now terms.now row }
     requires nest { nest ≤ most_nesting }
-    ensures { Tries R.tells (theory_of engine.now) nest sym.0 (function_equation equation.now)
-        (forest terms.now) calls
+    ensures { TriesNumber R.tells (theory_of engine.now) nest sym.0 row (forest terms.now) calls
         result }
 {
-    let Some(subst) = match_equation(alloc, engine.program(), equation, terms)? else {
-        return Ok((Trial::Unused, calls));
-    };
-    let Some(cond) = &equation.cond else {
+    // The program is well-sorted.
+    let _program = engine.program();
+    let subst = match_equation(alloc, engine, sym, tree, row, terms)?;
+    let Some(cond) = &equation_of(engine, sym, row).cond else {
         return Ok((Trial::Used(subst, None), calls));
     };
     let (answer, left) = evaluate_in::<R>(alloc, engine, sym, cond, &subst, calls, nest)?;

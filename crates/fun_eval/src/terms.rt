@@ -1,20 +1,24 @@
 // Looks at terms, and matching, without a count of the looks.
-ghost use Rattle.std.specs.Prelude.{◌≡◌, ◌<◌, ◌↔◌, length, IsTrue, IfOk, Some};
+ghost use Rattle.std.specs.Prelude.{◌≡◌, ◌<◌, ◌↔◌, ℕ, length, IsTrue, IfOk, Some};
 ghost use Rattle.term_core.specs.Terms.{leaf};
 ghost use Rattle.term_core.specs.Forests.{forest};
 ghost use Rattle.term_core.specs.Heads.{Shows};
+ghost use Rattle.term_core.specs.Instances.{patterns};
 ghost use Rattle.term_core.specs.Values.{scalar_value, value_of};
-ghost use Rattle.term_core.specs.RulePatterns.{plain_pattern};
-ghost use Rattle.term_core.specs.PatternLists.{plain_patterns};
 ghost use Rattle.rule_core.specs.Evaluation.{IsTrueValue};
 ghost use Rattle.rule_core.specs.MatchSearch.{FindsMatch, UseFirst};
-ghost use Rattle.fun_eval.specs.Roots.{IsScalar, MayMatch};
+ghost use Rattle.pat_matrix.specs.MatrixView.{order_of, row_of, rows_of};
+ghost use Rattle.match_tree.specs.Finding.{BeginsAt, GivesOn};
+ghost use Rattle.match_tree.specs.SlotView.{FindsFirst, RowMatches};
+ghost use Rattle.match_tree.specs.TreeView.{IsTree};
+ghost use Rattle.match_tree.specs.Walking.{AreWide};
+ghost use Rattle.fun_eval.specs.Roots.{IsScalar};
 
-use rule_core::{Subsorts, find_match_all};
+use match_tree::{Hit, NodeNo, Tree};
 use std::alloc::{AllocError, Global};
 use std::marker::Brand;
 use std::sync::ledger::{Blank, Ledger};
-use term_core::{RulePat, Scalar, Steps, Subst, Term, Value, View};
+use term_core::{Scalar, Steps, Subst, Term, Value, View};
 
 // What is at the root of a term.
 fn root(term: &Term) -> View<'_>
@@ -52,66 +56,65 @@ pub(crate) fn scalar_of(term: &Term) -> Scalar
     }
 }
 
-// Whether a pattern may become the term, by the term's root. It takes no memory, and looks only at
-// the root.
-fn may_match(pat: &RulePat, term: &Term) -> bool
-    ensures { MayMatch (plain_pattern pat.now) term.now result }
+// The first row of a tree that matches the terms, from a place on.
+pub(crate) fn find_row(tree: &Tree<'_>, from: NodeNo, terms: &[Term]) -> Hit
+    requires tree { IsTree tree.now }
+    requires wide { AreWide (length terms.now) (rows_of tree.now.matrix) }
+    requires begins { (first : ℕ) × BeginsAt tree.now terms.now from first }
+    ensures first { (first : ℕ) → BeginsAt tree.now terms.now from first →
+        FindsFirst tree.now terms.now first result }
+    ensures on { GivesOn tree.now terms.now result }
 {
-    match pat {
-        RulePat::Var(_) => true,
-        RulePat::Value(sort, value) => match root(term) {
-            View::Value(own_sort, own_value) => *sort == own_sort && value.same(own_value),
-            _ => false,
-        },
-        RulePat::Ctor(sym, _) => match root(term) {
-            View::Ctor(own_sym, _) => *sym == own_sym,
-            _ => false,
-        },
-        RulePat::Inj(_, to, _) => match root(term) {
-            View::Inj(_, own_to) => *to == own_to,
-            _ => false,
-        },
-        RulePat::Call(..) => false,
-    }
+    counted_find::<Brand>(tree, from, terms, Blank::new(1))
 }
 
-// `find_match_all`, where no memory is taken if the root of a term differs from its pattern's.
-pub(crate) fn match_terms(
-    alloc: Global,
-    pats: &[RulePat],
-    vars: usize,
-    subsorts: &Subsorts,
-    terms: &[Term],
-) -> Result<Option<Subst>, AllocError>
-    requires scoped { UseFirst vars (plain_patterns pats.now) }
-    requires count { length pats.now ≡ length terms.now }
-    ensures { IfOk result
-        (FindsMatch subsorts.now vars (plain_patterns pats.now) (forest terms.now)) }
-{
-    for (pat, term) in pats.iter().zip(terms) {
-        if !may_match(pat, term) {
-            return Ok(None);
-        }
-    }
-    counted_match_all::<Brand>(alloc, pats, vars, subsorts, terms, Blank::new(1))
-}
-
-fn counted_match_all<L: Ledger>(
-    alloc: Global,
-    pats: &[RulePat],
-    vars: usize,
-    subsorts: &Subsorts,
-    terms: &[Term],
-    blank: Blank,
-) -> Result<Option<Subst>, AllocError>
-    requires scoped { UseFirst vars (plain_patterns pats.now) }
-    requires count { length pats.now ≡ length terms.now }
+fn counted_find<L: Ledger>(tree: &Tree<'_>, from: NodeNo, terms: &[Term], blank: Blank) -> Hit
+    requires tree { IsTree tree.now }
+    requires wide { AreWide (length terms.now) (rows_of tree.now.matrix) }
+    requires begins { (first : ℕ) × BeginsAt tree.now terms.now from first }
     requires name { blank.name ≡ L.name }
     requires parts { blank.parts ≡ L.parts }
     requires some { 0 < L.parts }
-    ensures { IfOk result
-        (FindsMatch subsorts.now vars (plain_patterns pats.now) (forest terms.now)) }
+    ensures first { (first : ℕ) → BeginsAt tree.now terms.now from first →
+        FindsFirst tree.now terms.now first result }
+    ensures on { GivesOn tree.now terms.now result }
 {
     let mut steps = Steps::<L>::new(blank);
-    find_match_all(alloc, pats, vars, subsorts, terms, &mut steps)
+    tree.find(from, terms, &mut steps)
+}
+
+// The substitution by which a row matches the terms. An error: out of memory.
+pub(crate) fn bind_row(
+    alloc: Global,
+    tree: &Tree<'_>,
+    terms: &[Term],
+    row: u32,
+    vars: usize,
+) -> Result<Subst, AllocError>
+    requires matches { RowMatches tree.now terms.now row }
+    requires scoped { UseFirst vars (patterns (row_of tree.now.matrix row)) }
+    ensures { IfOk result (λ s. FindsMatch (order_of tree.now.matrix) vars
+        (patterns (row_of tree.now.matrix row)) (forest terms.now) (Some s)) }
+{
+    counted_bindings::<Brand>(alloc, tree, terms, row, vars, Blank::new(1))
+}
+
+fn counted_bindings<L: Ledger>(
+    alloc: Global,
+    tree: &Tree<'_>,
+    terms: &[Term],
+    row: u32,
+    vars: usize,
+    blank: Blank,
+) -> Result<Subst, AllocError>
+    requires matches { RowMatches tree.now terms.now row }
+    requires scoped { UseFirst vars (patterns (row_of tree.now.matrix row)) }
+    requires name { blank.name ≡ L.name }
+    requires parts { blank.parts ≡ L.parts }
+    requires some { 0 < L.parts }
+    ensures { IfOk result (λ s. FindsMatch (order_of tree.now.matrix) vars
+        (patterns (row_of tree.now.matrix row)) (forest terms.now) (Some s)) }
+{
+    let mut steps = Steps::<L>::new(blank);
+    tree.bindings(alloc, terms, row, vars, &mut steps)
 }

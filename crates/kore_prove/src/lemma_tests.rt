@@ -68,7 +68,9 @@ fn added(
     requires created { IfSome other (λ to. IsTrue (⟦<MemDesk as Desk>⟧.created to.now)) }
 {
     let accepted = accepted(alloc, desk)?;
-    let engine = Engine::new(&accepted.program);
+    let Ok(engine) = Engine::new(alloc, &accepted.program) else {
+        return None;
+    };
     let proof = proof_of_run(alloc, desk, &engine, &accepted)?;
     match other {
         Some(to) => Some(add_itself(alloc, to, &accepted.start, proof)),

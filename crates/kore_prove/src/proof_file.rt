@@ -15,6 +15,7 @@ use crate::files::Accepted;
 use crate::running::{Bounds, Proved, lines_of_run, proved_lines_of_run};
 use command_words::RunWords;
 use desk_io::{Desk, DeskFault};
+use fun_eval::Engine;
 use run_loop::RunEnd;
 use std::alloc::Global;
 
@@ -90,6 +91,7 @@ pub fn proved_lines<D: Desk>(
     ensures created { D.created desk.new ≡ D.created desk.old }
     ensures reads { (D.state desk.new).read_faults ≡ (D.state desk.old).read_faults }
 {
+    let engine = Engine::new(alloc, &accepted.program)?;
     desk.create_file(file)?;
-    proved_lines_of_run(alloc, desk, accepted, bounds)
+    proved_lines_of_run(alloc, desk, &engine, accepted, bounds)
 }

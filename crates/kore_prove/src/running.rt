@@ -50,25 +50,28 @@ pub fn lines_of_run(
         r.1.items) }
 {
     shown_laws();
-    let engine = Engine::new(&accepted.program);
+    let engine = Engine::new(alloc, &accepted.program)?;
     let end = run(alloc, &engine, &accepted.start, bounds.limit, bounds.calls)?;
     let lines = run_lines(alloc, &accepted.program.sig, &accepted.start, &end)?;
     Ok((end, lines))
 }
 
-/// How the run within these bounds ends, its two lines, and the counts of its proof. The proof is
-/// appended to the created file during the run, and the file is closed, even after an error.
+/// How the run within these bounds ends, its two lines, and the counts of its proof. The engine is
+/// one of the accepted program. The proof is appended to the created file during the run, and the
+/// file is closed, even after an error.
 ///
 /// Errors: out of memory, or a fault that the desk counted. After an error nothing was appended, or
 /// the front of a proof of this run up to one of its configurations.
-pub fn proved_lines_of_run<D: Desk>(
+pub fn proved_lines_of_run<'p, D: Desk>(
     alloc: Global,
     desk: &mut D,
-    accepted: &Accepted,
+    engine: &Engine<'p>,
+    accepted: &'p Accepted,
     bounds: Bounds,
 ) -> Result<Proved, DeskFault>
     requires file { IsTrue (D.created desk.old) }
     requires runnable { IsRunnable accepted.now }
+    requires program { engine.now ≡ accepted.now.program }
     ensures run { IfOk result (λ r. HasLines bounds
         (theory_of accepted.now.program) (plain_pattern accepted.now.start) (plain_run r.end)
         r.lines.items) }
@@ -87,9 +90,8 @@ pub fn proved_lines_of_run<D: Desk>(
     ensures reads { (D.state desk.new).read_faults ≡ (D.state desk.old).read_faults }
 {
     shown_laws();
-    let engine = Engine::new(&accepted.program);
     let start = &accepted.start;
-    let (end, summary) = proved_run(alloc, desk, &engine, start, bounds.limit, bounds.calls)?;
+    let (end, summary) = proved_run(alloc, desk, engine, start, bounds.limit, bounds.calls)?;
     let lines = run_lines(alloc, &accepted.program.sig, start, &end)?;
     Ok(Proved {
         end,

@@ -1,6 +1,6 @@
--- How a trial of rules goes on from one rule that matches to the next, and what the slots keep.
+-- How a trial of rules goes on from one rule that matches to the next.
 use Rattle.std.proofs.Common.{rules, ◌≡◌, ℕ, ◌+◌, ◌-◌, ◌<◌, ◌≤◌, ⊎_elim, inl, List, [], ◌∷◌, length, drop}
-use Rattle.std.proofs.Common.{Option, Some, refl, sym, ◌∙◌, ap, subst, arith}
+use Rattle.std.proofs.Common.{Option, Some, sym, ◌∙◌, ap, subst, arith}
 use Rattle.std.specs.Prelude.{Err, slice_get, vec_len}
 use Rattle.std.proofs.lemmas.Bool.{cases_lt}
 use Rattle.std.proofs.lemmas.List.{length-map}
@@ -19,34 +19,18 @@ use Rattle.rule_core.specs.ProgramView.{rewrite_rule, sorts_of}
 use Rattle.rule_core.specs.declared.rules.Rule.{Rule}
 use Rattle.pat_matrix.specs.MatrixView.{row_of, order_of}
 use Rattle.match_tree.specs.ProgramLaws.{IsFirstRule}
-use Rattle.match_tree.specs.SlotView.{CanBegin, FitsHit, IsResume, Keeps, after_kept, first_row}
+use Rattle.match_tree.specs.SlotView.{CanBegin, Keeps, first_row}
 use Rattle.match_tree.specs.declared.compiling.Tree as code
 use Rattle.match_tree.specs.declared.slots.Hit.TheVariants as answer
 use Rattle.match_tree.specs.declared.slots.NodeNo.{NodeNo}
 use Rattle.match_tree.specs.declared.slots.NodeNo.TheVariants as place
 use Rattle.match_tree.specs.declared.slots.Slots.{Slots}
+use Rattle.match_tree.proofs.ProgramLaws.{walk_goes_on}
 use Rattle.fun_eval.specs.declared.answer.EvalEnd.{EvalEnd}
 use Rattle.fun_eval.specs.declared.equations.Trial.TheVariants.{Unused}
 use Rattle.rewriter.specs.Choosing.{Chooses, IsChosen, RuleSays, TriesRule}
 use Rattle.rewriter.proofs.Trying.{TriedUpTo, UnusedUpTo, chosen, is_unused, trial_falls}
 use Rattle.rewriter.proofs.Trying.{trial_stops, tried-all, tried-more, unused-more}
-
--- ---- the slots
-
--- after a hit a walk may go on, at the later rows
-pub resumes : (tree : code.Tree) (ts : List Tree) (slots : Slots) (row : ℕ) (resume : NodeNo)
-    → Keeps tree ts slots (answer.Row row resume)
-    → CanBegin tree ts slots resume × (first_row slots resume ≡ row + 1)
-resumes tree ts slots row place.Start keeps =
-    absurd (subst (FitsHit tree ts slots.path.items) keeps.0 keeps.1).0
-resumes tree ts slots row (place.Node next) keeps = (
-  (keeps.1, subst (λ o. IsResume o (place.Node next)) (sym keeps.0) refl),
-  ap after_kept keeps.0,
-)
-resumes tree ts slots row (place.Rows from) keeps = (
-  (keeps.1, subst (λ o. IsResume o (place.Rows from)) (sym keeps.0) refl),
-  ap after_kept keeps.0,
-)
 
 -- ---- rules that do not match
 
@@ -180,7 +164,7 @@ pub rule_passed : {R : Type 0} (tells : R → Record → Type 0) (theory : Rewri
 rule_passed tells theory tree t slots kept from resume c left rest row rule done first keeps there
     few says =
     let before = tried_before theory tree t slots from c left row done first in
-    let next = resumes tree (t ∷ []) kept row resume keeps in
+    let next = walk_goes_on tree (t ∷ []) kept row resume keeps in
     let at : ℕ = first_row kept resume in
     let same : row + 1 ≡ at = sym next.1 in
     let unused : UnusedUpTo theory t (row + 1) =
@@ -204,7 +188,7 @@ pub rule_nearer : (theory : RewriteTheory) (tree : code.Tree) (t : Tree) (slots 
 rule_nearer theory tree t slots kept from resume row first keeps =
     omega (
       arith,
-      (resumes tree (t ∷ []) kept row resume keeps).1,
+      (walk_goes_on tree (t ∷ []) kept row resume keeps).1,
       found_within theory tree t (first_row slots from) row first,
       first.not_before,
     )

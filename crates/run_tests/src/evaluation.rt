@@ -14,7 +14,7 @@ fn evaluates_a_domain_value(rt: HostRuntime) -> Result<(), AllocError> {
     let Some(program) = integers(alloc)? else {
         panic!(rt; "a sort twice");
     };
-    let engine = Engine::new(&program);
+    let engine = Engine::new(alloc, &program)?;
     let five = RulePat::Value(INT, Value::Int(5));
     let subst = Subst::new(alloc, 0)?;
     let mut budget = Budget { calls: 3 };

@@ -45,7 +45,7 @@ fn is_stuck_without_a_rule(rt: HostRuntime) -> Result<(), AllocError> {
     let Some(program) = integers(alloc)? else {
         panic!(rt; "a sort twice");
     };
-    let engine = Engine::new(&program);
+    let engine = Engine::new(alloc, &program)?;
     let five = RulePat::Value(INT, Value::Int(5));
     let Ok((mut run, record)) = Run::new(alloc, &engine, &five, 3) else {
         panic!(rt; "blocked");

@@ -1,6 +1,6 @@
-use Rattle.std.proofs.Common.{◌≡◌, ◌<◌, ◌-◌, ◌+◌, ◌∷◌, ◌++◌, [], suc, List, length, map, take, Some}
-use Rattle.std.proofs.Common.{None, sym, ◌∙◌, ap, subst, inr, arith}
-use Rattle.std.specs.Prelude.{slice_get, option_map, Err}
+use Rattle.std.proofs.Common.{◌≡◌, ◌-◌, ◌+◌, ◌∷◌, ◌++◌, [], suc, List, take, Some}
+use Rattle.std.proofs.Common.{None, refl, sym, ◌∙◌, ap, subst, inr, arith}
+use Rattle.std.specs.Prelude.{option_map}
 use Rattle.std.proofs.lemmas.Bool.{false≢true}
 use Rattle.std.proofs.lemmas.Result.{err_from_is_err_and}
 use Rattle.std.proofs.lemmas.List.{take_more, take_all}
@@ -11,34 +11,31 @@ use Rattle.term_core.specs.RulePatterns.{plain_pattern, sort_numbers}
 use Rattle.term_core.specs.PatternLists.{plain_patterns}
 use Rattle.term_core.specs.declared.rule_patterns.RulePat.{RulePat}
 use Rattle.term_core.proofs.PlainPatterns.{plain-Var, plain-Value, plain-Ctor, plain-Call}
-use Rattle.rule_core.specs.Theories.{equations_of}
 use Rattle.rule_core.specs.ProgramView.{theory_of, function_equation}
 use Rattle.rule_core.specs.Evaluation.{Evaluates, value, blocked, too_nested, nested_out}
 use Rattle.rule_core.specs.Evaluation.{of_constructor, of_injection, of_call, HasOutcome}
 use Rattle.rule_core.specs.Evaluation.{by_nothing, without_call, no_call_left, EvaluatesIn}
 use Rattle.rule_core.specs.Evaluation.{no_nesting}
-use Rattle.rule_core.specs.Matching.{MatchAll}
 use Rattle.rule_core.specs.Sorting.{IsSymbol}
 use Rattle.rule_core.specs.declared.rules.Program.{Program}
-use Rattle.rule_core.specs.declared.rules.Equation.{Equation}
 use Rattle.fun_eval.specs.Evaluable.{IsEvaluable}
-use Rattle.fun_eval.specs.Recorded.{IsRecorded}
-use Rattle.fun_eval.specs.Giving.{Gives, GivesWithin, AreRecorded, AreArguments, IsCallable}
+use Rattle.fun_eval.specs.Giving.{Gives, AreRecorded, AreArguments, IsCallable}
 use Rattle.fun_eval.specs.Giving.{IsDeclared}
-use Rattle.fun_eval.specs.Equations.{ChoiceSays, IsTriable, Matches, TrialSays}
-use Rattle.fun_eval.specs.declared.equations.Trial.TheVariants.{Unused, Used}
+use Rattle.fun_eval.specs.Equations.{ChoiceSays}
 use Rattle.fun_eval.proofs.Evaluable.{arguments_of-application, arguments_of-call, item_evaluable}
 use Rattle.fun_eval.proofs.PatternsInTurn.{goes_on-more, goes_on-end}
 use Rattle.fun_eval.proofs.Values.{arguments_callable, defined, hooked_arguments, hooked_result}
 use Rattle.fun_eval.proofs.Values.{hook_calls, equations_call, called_gives, constructed_gives}
 use Rattle.fun_eval.proofs.Values.{injected_gives, within_gives}
 use Rattle.fun_eval.proofs.Recordings.{recorded-more}
-use Rattle.fun_eval.proofs.Trials.{tried-more, unused-more, is_unused, trial_falls, chosen}
-use Rattle.fun_eval.proofs.Trials.{tried-all}
-use Rattle.fun_eval.proofs.Calls.{arguments_stop, injected_stops, pattern_stops, own_equation}
-use Rattle.fun_eval.proofs.Calls.{as_long, triable, right_evaluable, condition_evaluable}
-use Rattle.fun_eval.proofs.Calls.{matched_some, no_test, test_holds, test_fails, test_stops}
-use Rattle.fun_eval.proofs.Calls.{trial_stops, right_stops, right_gives, chosen_within}
+use Rattle.fun_eval.proofs.Calls.{arguments_stop, injected_stops, pattern_stops}
+use Rattle.fun_eval.proofs.Calls.{triable, right_evaluable, condition_evaluable}
+use Rattle.fun_eval.proofs.Calls.{no_test, test_holds, test_fails, test_stops}
+use Rattle.fun_eval.proofs.Calls.{right_stops, right_gives, chosen_within}
+use Rattle.fun_eval.proofs.Calls.{has_list}
+use Rattle.fun_eval.proofs.Matches.{found_within, own_match}
+use Rattle.fun_eval.proofs.Walks.{at_row, begins_trying, equations_nearer, none_is_used}
+use Rattle.fun_eval.proofs.Walks.{row_chosen, row_passed, row_stops, start_begins}
 use Rattle.fun_eval.proofs.evaluation.+evaluation.Goals as goal
 
 -- ---- evaluate
@@ -383,6 +380,24 @@ apply-returns-in-Equations g t c =
 
 -- ---- apply_equations
 
+pub apply_equations-equation_of-requires : goal.apply_equations-equation_of-requires
+apply_equations-equation_of-requires g t c =
+    let values_same : forest c.deref.result.now ≡ forest c.args.args.terms.items =
+    ap forest c.deref.ensures.value in
+    let here : ChoiceSays g.R.Recording.tells (theory_of c.args.engine.now) c.args.nest c.args.sym.0
+    (forest c.deref.result.now) c.args.calls (Some c.in-Some.chosen) c.in_ok-chosen.left =
+    subst (λ o. ChoiceSays g.R.Recording.tells (theory_of c.args.engine.now) c.args.nest
+    c.args.sym.0 (forest c.deref.result.now) c.args.calls o c.in_ok-chosen.left)
+    c.in-Some.is c.in_ok-chosen.ensures in
+    let says : ChoiceSays g.R.Recording.tells (theory_of c.args.engine.now) c.args.nest c.args.sym.0
+    (forest c.args.args.terms.items) c.args.calls (Some c.in-Some.chosen) c.in_ok-chosen.left =
+    subst (λ ts. ChoiceSays g.R.Recording.tells (theory_of c.args.engine.now) c.args.nest
+    c.args.sym.0 ts c.args.calls (Some c.in-Some.chosen) c.in_ok-chosen.left) values_same
+    here in
+    chosen_within (theory_of c.args.engine.now) c.args.nest c.args.sym.0
+    (forest c.args.args.terms.items) c.args.calls c.in-Some.chosen.number c.in_ok-chosen.left
+    c.in-Some.chosen.subst says.0
+
 pub apply_equations-evaluate_in-requires : goal.apply_equations-evaluate_in-requires
 apply_equations-evaluate_in-requires g t c κs within =
     let values_same : forest c.deref.result.now ≡ forest c.args.args.terms.items =
@@ -396,33 +411,16 @@ apply_equations-evaluate_in-requires g t c κs within =
     (forest c.args.args.terms.items) c.args.calls (Some c.in-Some.chosen) c.in_ok-chosen.left =
     subst (λ ts. ChoiceSays g.R.Recording.tells (theory_of c.args.engine.now) c.args.nest
     c.args.sym.0 ts c.args.calls (Some c.in-Some.chosen) c.in_ok-chosen.left) values_same
-    here in
-    let all : map function_equation c.equations_of.result.now ≡ equations_of
-    (theory_of c.args.engine.now) c.args.sym.0 =
-    subst (λ (p : Program). map function_equation c.equations_of.result.now
-    ≡ equations_of (theory_of p) c.args.sym.0) c.program.ensures.program
-    c.equations_of.ensures in
-    let within_list : c.in-Some.chosen.number < length c.equations_of.result.now =
-    chosen_within (theory_of c.args.engine.now) c.args.nest c.args.sym.0
-    (forest c.args.args.terms.items) c.args.calls c.in-Some.chosen.number c.in_ok-chosen.left
-    c.in-Some.chosen.subst c.equations_of.result.now says.0 all in
-    let there : slice_get (equations_of (theory_of c.args.engine.now) c.args.sym.0)
-    c.in-Some.chosen.number ≡ Some (function_equation c.index-equations_of-number.result) =
-    own_equation (theory_of c.args.engine.now) c.args.sym.0 c.equations_of.result.now
-    c.in-Some.chosen.number c.index-equations_of-number.result all
-    c.index-equations_of-number.is within_list in
-    let fits : IsEvaluable (theory_of c.args.engine.now) c.in-Some.chosen.subst
-    (plain_pattern c.index-equations_of-number.result.right) =
-    right_evaluable (theory_of c.args.engine.now) c.args.nest c.args.sym.0
-    (forest c.args.args.terms.items) c.args.calls c.in-Some.chosen.number c.in_ok-chosen.left
-    c.in-Some.chosen.subst (function_equation c.index-equations_of-number.result)
-    c.program.ensures.sorted c.requires.fits says.0 there in (
+    here in (
       omega arith,
       (
         within,
         (
-          subst (λ (x : Equation). IsEvaluable (theory_of c.args.engine.now)
-              c.in-Some.chosen.subst (plain_pattern x.right)) c.index-equations_of-number.is fits,
+          right_evaluable (theory_of c.args.engine.now) c.args.nest c.args.sym.0
+              (forest c.args.args.terms.items) c.args.calls c.in-Some.chosen.number
+              c.in_ok-chosen.left c.in-Some.chosen.subst
+              (function_equation c.equation_of.result.now) c.program-program.ensures.sorted
+              c.requires.fits says.0 c.equation_of.ensures,
           c.requires.nest,
         ),
       ),
@@ -442,40 +440,12 @@ apply_equations-returns g t c =
     subst (λ ts. ChoiceSays g.R.Recording.tells (theory_of c.args.engine.now) c.args.nest
     c.args.sym.0 ts c.args.calls (Some c.in-Some.chosen) c.in_ok-chosen.left) values_same
     here in
-    let all : map function_equation c.equations_of.result.now ≡ equations_of
-    (theory_of c.args.engine.now) c.args.sym.0 =
-    subst (λ (p : Program). map function_equation c.equations_of.result.now
-    ≡ equations_of (theory_of p) c.args.sym.0) c.program.ensures.program
-    c.equations_of.ensures in
-    let within_list : c.in-Some.chosen.number < length c.equations_of.result.now =
-    chosen_within (theory_of c.args.engine.now) c.args.nest c.args.sym.0
-    (forest c.args.args.terms.items) c.args.calls c.in-Some.chosen.number c.in_ok-chosen.left
-    c.in-Some.chosen.subst c.equations_of.result.now says.0 all in
-    let there : slice_get (equations_of (theory_of c.args.engine.now) c.args.sym.0)
-    c.in-Some.chosen.number ≡ Some (function_equation c.index-equations_of-number.result) =
-    own_equation (theory_of c.args.engine.now) c.args.sym.0 c.equations_of.result.now
-    c.in-Some.chosen.number c.index-equations_of-number.result all
-    c.index-equations_of-number.is within_list in
-    let evaluated : EvaluatesIn (theory_of c.args.engine.now) c.args.nest c.args.sym.0
-    c.in-Some.chosen.subst (plain_pattern c.index-equations_of-number.result.right)
-    c.in_ok-chosen.left (value c.in_ok-body.body.term c.in_ok-body.rest) =
-    subst (λ (x : Equation). EvaluatesIn (theory_of c.args.engine.now) c.args.nest c.args.sym.0
-    c.in-Some.chosen.subst (plain_pattern x.right) c.in_ok-chosen.left
-    (value c.in_ok-body.body.term c.in_ok-body.rest))
-    (sym c.index-equations_of-number.is) c.in_ok-body.ensures.0 in
-    let told : IsRecorded (g.R.Recording.tells c.in_ok-body.body.recorded)
-    (theory_of c.args.engine.now) c.in-Some.chosen.subst
-    (plain_pattern c.index-equations_of-number.result.right) c.in_ok-body.body.term =
-    subst (λ (x : Equation). IsRecorded (g.R.Recording.tells c.in_ok-body.body.recorded)
-    (theory_of c.args.engine.now) c.in-Some.chosen.subst (plain_pattern x.right)
-    c.in_ok-body.body.term) (sym c.index-equations_of-number.is)
-    c.in_ok-body.ensures.1 in
     right_gives g.R.Recording.tells g.R.Recording.all_tell (theory_of c.args.engine.now) c.args.nest
     c.args.sym.0 c.args.args c.args.calls c.in-Some.chosen.number c.in_ok-chosen.left
     c.in_ok-body.rest c.in-Some.chosen.subst c.in-Some.chosen.cond
-    (function_equation c.index-equations_of-number.result) c.in_ok-body.body
-    c.in_ok-recorded.recorded c.requires.fits says.0 says.1 there evaluated
-    told c.in_ok-recorded.ensures
+    (function_equation c.equation_of.result.now) c.in_ok-body.body
+    c.in_ok-recorded.recorded c.requires.fits says.0 says.1 c.equation_of.ensures
+    c.in_ok-body.ensures.0 c.in_ok-body.ensures.1 c.in_ok-recorded.ensures
 
 pub apply_equations-returns-in_err-body : goal.apply_equations-returns-in_err-body
 apply_equations-returns-in_err-body g t c =
@@ -491,207 +461,166 @@ apply_equations-returns-in_err-body g t c =
     subst (λ ts. ChoiceSays g.R.Recording.tells (theory_of c.args.engine.now) c.args.nest
     c.args.sym.0 ts c.args.calls (Some c.in-Some.chosen) c.in_ok-chosen.left) values_same
     here in
-    let all : map function_equation c.equations_of.result.now ≡ equations_of
-    (theory_of c.args.engine.now) c.args.sym.0 =
-    subst (λ (p : Program). map function_equation c.equations_of.result.now
-    ≡ equations_of (theory_of p) c.args.sym.0) c.program.ensures.program
-    c.equations_of.ensures in
-    let within_list : c.in-Some.chosen.number < length c.equations_of.result.now =
-    chosen_within (theory_of c.args.engine.now) c.args.nest c.args.sym.0
-    (forest c.args.args.terms.items) c.args.calls c.in-Some.chosen.number c.in_ok-chosen.left
-    c.in-Some.chosen.subst c.equations_of.result.now says.0 all in
-    let there : slice_get (equations_of (theory_of c.args.engine.now) c.args.sym.0)
-    c.in-Some.chosen.number ≡ Some (function_equation c.index-equations_of-number.result) =
-    own_equation (theory_of c.args.engine.now) c.args.sym.0 c.equations_of.result.now
-    c.in-Some.chosen.number c.index-equations_of-number.result all
-    c.index-equations_of-number.is within_list in
-    let stops : GivesWithin g.R.Recording.tells (theory_of c.args.engine.now) c.args.nest
-    c.args.sym.0 c.in-Some.chosen.subst
-    (plain_pattern c.index-equations_of-number.result.right) c.in_ok-chosen.left
-    (Err c.in_err-body.field-0.0) =
-    subst (λ (x : Equation). GivesWithin g.R.Recording.tells (theory_of c.args.engine.now)
-    c.args.nest c.args.sym.0 c.in-Some.chosen.subst (plain_pattern x.right)
-    c.in_ok-chosen.left (Err c.in_err-body.field-0.0)) (sym c.index-equations_of-number.is)
-    c.in_err-body.ensures in
     let p = err_from_is_err_and c.from_residual-in_err-body.result
     c.from_residual-in_err-body.ensures.1 in
     rw (p.1, p.2) (right_stops g.R.Recording.tells g.R.Recording.all_tell (theory_of
     c.args.engine.now) c.args.nest c.args.sym.0 c.args.args c.args.calls c.in-Some.chosen.number
-    c.in_ok-chosen.left c.in-Some.chosen.subst (function_equation
-    c.index-equations_of-number.result) c.in_err-body.field-0.0 says.0 there stops)
+    c.in_ok-chosen.left c.in-Some.chosen.subst (function_equation c.equation_of.result.now)
+    c.in_err-body.field-0.0 says.0 c.equation_of.ensures c.in_err-body.ensures)
 
 -- ---- choose_equation
 
+pub choose_equation-equation_tree-tree-requires : goal.choose_equation-equation_tree-tree-requires
+choose_equation-equation_tree-tree-requires g t c =
+    has_list (theory_of c.args.engine.now) c.args.sym.0 c.requires.fits.info
+    c.program-program.ensures.sorted
+    c.requires.fits.there
+
+pub choose_equation-next_equation-hit-requires-clause-begins :
+    goal.choose_equation-next_equation-hit-requires-clause-begins
+choose_equation-next_equation-hit-requires-clause-begins g t c = (
+  0,
+  start_begins c.equation_tree-tree.result.now c.args.terms.now c.start.result
+      c.start.ensures,
+)
+
+pub choose_equation-loop-hit-init : goal.choose_equation-loop-hit-init
+choose_equation-loop-hit-init g t c = record {
+  trying =
+      begins_trying (theory_of c.args.engine.now) c.args.nest c.args.sym.0
+      c.equation_tree-tree.result.now
+      c.args.terms.now c.args.calls c.next_equation-hit.result
+      (c.next_equation-hit.ensures.tells 0
+      (start_begins c.equation_tree-tree.result.now c.args.terms.now c.start.result
+      c.start.ensures))
+      c.next_equation-hit.ensures.on;
+}
+
 pub choose_equation-try_equation-requires : goal.choose_equation-try_equation-requires
 choose_equation-try_equation-requires g t c κs within =
-    let all : map function_equation c.equations_of-equations.result.now ≡ equations_of
-    (theory_of c.args.engine.now) c.args.sym.0 =
-    subst (λ (p : Program). map function_equation c.equations_of-equations.result.now
-    ≡ equations_of (theory_of p) c.args.sym.0) c.program.ensures.program
-    c.equations_of-equations.ensures in
-    let there : slice_get (equations_of (theory_of c.args.engine.now) c.args.sym.0) c.loop-i.i ≡
-    Some (function_equation c.index-equations-i.result) =
-    own_equation (theory_of c.args.engine.now) c.args.sym.0 c.equations_of-equations.result.now
-    c.loop-i.i c.index-equations-i.result all c.index-equations-i.is (omega arith) in (
+    let at = at_row (theory_of c.args.engine.now) c.args.nest c.args.sym.0
+    c.equation_tree-tree.result.now
+    c.args.terms.now c.args.calls c.loop-hit.left c.in-Row.row c.in-Row.resume c.loop-hit.hit
+    c.loop-hit.invariant.trying c.in-Row.is in (
       omega arith,
       (
         within,
         (
-          triable (theory_of c.args.engine.now) c.args.sym.0
-              (forest c.args.terms.now) c.loop-i.i (function_equation c.index-equations-i.result)
-              c.program.ensures.sorted c.requires.fits there,
-          c.requires.nest,
+          c.requires.fits,
+          ((at.trying.first, at.trying.tells), (at.trying.on.0, c.requires.nest)),
         ),
       ),
     )
 
 pub choose_equation-returns-in-Used : goal.choose_equation-returns-in-Used
 choose_equation-returns-in-Used g t c =
-    let all : map function_equation c.equations_of-equations.result.now ≡ equations_of
-    (theory_of c.args.engine.now) c.args.sym.0 =
-    subst (λ (p : Program). map function_equation c.equations_of-equations.result.now
-    ≡ equations_of (theory_of p) c.args.sym.0) c.program.ensures.program
-    c.equations_of-equations.ensures in
-    let there : slice_get (equations_of (theory_of c.args.engine.now) c.args.sym.0) c.loop-i.i ≡
-    Some (function_equation c.index-equations-i.result) =
-    own_equation (theory_of c.args.engine.now) c.args.sym.0 c.equations_of-equations.result.now
-    c.loop-i.i c.index-equations-i.result all c.index-equations-i.is (omega arith) in
-    let says : TrialSays g.R.Recording.tells (theory_of c.args.engine.now) c.args.nest c.args.sym.0
-    (function_equation c.index-equations-i.result) (forest c.args.terms.now) c.loop-i.left
-    (Used c.in-Used.subst c.in-Used.cond) c.in_ok-trial.rest =
-    subst (λ o. TrialSays g.R.Recording.tells (theory_of c.args.engine.now) c.args.nest
-    c.args.sym.0 (function_equation c.index-equations-i.result)
-    (forest c.args.terms.now) c.loop-i.left o c.in_ok-trial.rest) c.in-Used.is
-    c.in_ok-trial.ensures in (
-      chosen (theory_of c.args.engine.now) c.args.nest c.args.sym.0 (forest c.args.terms.now)
-          c.args.calls c.loop-i.i c.loop-i.left c.in_ok-trial.rest
-          (function_equation c.index-equations-i.result) c.in-Used.subst c.loop-i.invariant.tried
-          c.loop-i.invariant.unused there says.0 says.1,
-      says.2,
-    )
+    let at = at_row (theory_of c.args.engine.now) c.args.nest c.args.sym.0
+    c.equation_tree-tree.result.now
+    c.args.terms.now c.args.calls c.loop-hit.left c.in-Row.row c.in-Row.resume c.loop-hit.hit
+    c.loop-hit.invariant.trying c.in-Row.is in
+    row_chosen g.R.Recording.tells (theory_of c.args.engine.now) c.args.nest c.args.sym.0
+    c.equation_tree-tree.result.now c.args.terms.now c.args.calls c.loop-hit.left c.in_ok-trial.rest
+    c.in-Row.row c.in-Row.resume c.in-Used.subst c.in-Used.cond _ c.in_ok-trial.trial at
+    c.in_ok-trial.ensures c.in-Used.is refl
 
 pub choose_equation-returns-in_err-trial : goal.choose_equation-returns-in_err-trial
 choose_equation-returns-in_err-trial g t c =
+    let at = at_row (theory_of c.args.engine.now) c.args.nest c.args.sym.0
+    c.equation_tree-tree.result.now
+    c.args.terms.now c.args.calls c.loop-hit.left c.in-Row.row c.in-Row.resume c.loop-hit.hit
+    c.loop-hit.invariant.trying c.in-Row.is in
     let p = err_from_is_err_and c.from_residual.result c.from_residual.ensures.1 in
-    rw (p.1, p.2) (let all : map function_equation c.equations_of-equations.result.now ≡
-    equations_of (theory_of c.args.engine.now) c.args.sym.0 =
-    subst (λ (p : Program). map function_equation c.equations_of-equations.result.now
-    ≡ equations_of (theory_of p) c.args.sym.0) c.program.ensures.program
-    c.equations_of-equations.ensures in
-    let there : slice_get (equations_of (theory_of c.args.engine.now) c.args.sym.0) c.loop-i.i ≡
-    Some (function_equation c.index-equations-i.result) =
-    own_equation (theory_of c.args.engine.now) c.args.sym.0 c.equations_of-equations.result.now
-    c.loop-i.i c.index-equations-i.result all c.index-equations-i.is (omega arith) in
-    trial_stops g.R.Recording.tells (theory_of c.args.engine.now) c.args.nest c.args.sym.0
-    (forest c.args.terms.now) c.args.calls c.loop-i.i c.loop-i.left
-    (function_equation c.index-equations-i.result) c.in_err-trial.field-0.0 c.loop-i.invariant.tried
-    there c.in_err-trial.ensures)
+    rw (p.1, p.2) (row_stops g.R.Recording.tells (theory_of c.args.engine.now) c.args.nest
+    c.args.sym.0
+    c.equation_tree-tree.result.now c.args.terms.now c.args.calls c.loop-hit.left
+    c.in-Row.row c.in-Row.resume c.in_err-trial.field-0.0 at c.in_err-trial.ensures)
 
-pub choose_equation-loop-i-preserved : goal.choose_equation-loop-i-preserved
-choose_equation-loop-i-preserved g t c =
-    let all : map function_equation c.equations_of-equations.result.now ≡ equations_of
-    (theory_of c.args.engine.now) c.args.sym.0 =
-    subst (λ (p : Program). map function_equation c.equations_of-equations.result.now
-    ≡ equations_of (theory_of p) c.args.sym.0) c.program.ensures.program
-    c.equations_of-equations.ensures in
-    let there : slice_get (equations_of (theory_of c.args.engine.now) c.args.sym.0) c.loop-i.i ≡
-    Some (function_equation c.index-equations-i.result) =
-    own_equation (theory_of c.args.engine.now) c.args.sym.0 c.equations_of-equations.result.now
-    c.loop-i.i c.index-equations-i.result all c.index-equations-i.is (omega arith) in
-    let says : TrialSays g.R.Recording.tells (theory_of c.args.engine.now) c.args.nest c.args.sym.0
-    (function_equation c.index-equations-i.result) (forest c.args.terms.now) c.loop-i.left
-    Unused c.in_ok-trial.rest =
-    subst (λ o. TrialSays g.R.Recording.tells (theory_of c.args.engine.now) c.args.nest
-    c.args.sym.0 (function_equation c.index-equations-i.result)
-    (forest c.args.terms.now) c.loop-i.left o c.in_ok-trial.rest) c.in-Unused.is
-    c.in_ok-trial.ensures in
+pub choose_equation-next_equation-hit-requires-in-Row-clause-begins :
+    goal.choose_equation-next_equation-hit-requires-in-Row-clause-begins
+choose_equation-next_equation-hit-requires-in-Row-clause-begins g t c =
+    let at = at_row (theory_of c.args.engine.now) c.args.nest c.args.sym.0
+    c.equation_tree-tree.result.now
+    c.args.terms.now c.args.calls c.loop-hit.left c.in-Row.row c.in-Row.resume c.loop-hit.hit
+    c.loop-hit.invariant.trying c.in-Row.is in
+    (c.in-Row.row + 1, at.trying.on.1)
+
+pub choose_equation-loop-hit-preserved : goal.choose_equation-loop-hit-preserved
+choose_equation-loop-hit-preserved g t c =
+    let at = at_row (theory_of c.args.engine.now) c.args.nest c.args.sym.0
+    c.equation_tree-tree.result.now
+    c.args.terms.now c.args.calls c.loop-hit.left c.in-Row.row c.in-Row.resume c.loop-hit.hit
+    c.loop-hit.invariant.trying c.in-Row.is in
     record {
-      tried =
-          tried-more g.R.Recording.tells (theory_of c.args.engine.now) c.args.nest c.args.sym.0
-          (forest c.args.terms.now) c.args.calls
-          (equations_of (theory_of c.args.engine.now) c.args.sym.0) c.loop-i.i c.loop-i.left
-          c.in_ok-trial.rest (function_equation c.index-equations-i.result) c.loop-i.invariant.tried
-          there says;
-      unused =
-          unused-more (theory_of c.args.engine.now) c.args.sym.0 (forest c.args.terms.now)
-          (equations_of (theory_of c.args.engine.now) c.args.sym.0) c.loop-i.i
-          (function_equation c.index-equations-i.result) c.loop-i.invariant.unused there
-          (is_unused g.R.Recording.tells (theory_of c.args.engine.now) c.args.nest c.args.sym.0
-          (function_equation c.index-equations-i.result) (forest c.args.terms.now)
-          c.loop-i.left c.in_ok-trial.rest c.requires.nest (omega arith) says);
-      fewer =
-          omega (
-            arith,
-            trial_falls g.R.Recording.tells (theory_of c.args.engine.now) c.args.nest c.args.sym.0
-                (function_equation c.index-equations-i.result) (forest c.args.terms.now)
-                c.loop-i.left c.in_ok-trial.rest says,
-          );
+      trying =
+          row_passed g.R.Recording.tells (theory_of c.args.engine.now) c.args.nest c.args.sym.0
+          c.equation_tree-tree.result.now c.args.terms.now c.args.calls c.loop-hit.left
+          c.in_ok-trial.rest
+          c.in-Row.row c.in-Row.resume c.in_ok-trial.trial c.next_equation-hit-in-Row.result at
+          c.in_ok-trial.ensures c.in-Unused.is c.requires.nest (omega arith)
+          c.next_equation-hit-in-Row.ensures.tells c.next_equation-hit-in-Row.ensures.on;
     }
+
+pub choose_equation-loop-hit-smaller : goal.choose_equation-loop-hit-smaller
+choose_equation-loop-hit-smaller g t c =
+    let at = at_row (theory_of c.args.engine.now) c.args.nest c.args.sym.0
+    c.equation_tree-tree.result.now
+    c.args.terms.now c.args.calls c.loop-hit.left c.in-Row.row c.in-Row.resume c.loop-hit.hit
+    c.loop-hit.invariant.trying c.in-Row.is in
+    equations_nearer (theory_of c.args.engine.now) c.args.nest c.args.sym.0
+    c.equation_tree-tree.result.now c.args.terms.now c.args.calls c.loop-hit.left c.in-Row.row
+    c.in-Row.resume
+    c.loop-hit.hit c.next_equation-hit-in-Row.result at c.in-Row.is
+    c.next_equation-hit-in-Row.ensures.tells
 
 pub choose_equation-returns : goal.choose_equation-returns
 choose_equation-returns g t c =
-    let all : map function_equation c.equations_of-equations.result.now ≡ equations_of
-    (theory_of c.args.engine.now) c.args.sym.0 =
-    subst (λ (p : Program). map function_equation c.equations_of-equations.result.now
-    ≡ equations_of (theory_of p) c.args.sym.0) c.program.ensures.program
-    c.equations_of-equations.ensures in
-    let len : length (equations_of (theory_of c.args.engine.now) c.args.sym.0) ≡ length
-    c.equations_of-equations.result.now =
-    as_long (theory_of c.args.engine.now) c.args.sym.0 c.equations_of-equations.result.now
-    all in
-    tried-all (theory_of c.args.engine.now) c.args.nest c.args.sym.0 (forest c.args.terms.now)
-    c.args.calls (equations_of (theory_of c.args.engine.now) c.args.sym.0) c.loop-i.i
-    c.loop-i.left c.loop-i.invariant.tried (omega arith)
+    none_is_used (theory_of c.args.engine.now) c.args.nest c.args.sym.0
+    c.equation_tree-tree.result.now c.args.terms.now c.args.calls c.loop-hit.left c.loop-hit.hit
+    c.loop-hit.invariant.trying c.in_default.is
 
 -- ---- try_equation
 
-pub try_equation-match_equation-requires-clause-fits :
-    goal.try_equation-match_equation-requires-clause-fits
-try_equation-match_equation-requires-clause-fits g t c =
-    subst (λ (p : Program). IsTriable (theory_of p) (function_equation c.args.equation.now)
-    (forest c.args.terms.now)) (sym c.program.ensures.program) c.requires.fits
+pub try_equation-match_equation-requires-clause-first : goal.try_equation-match_equation-requires-clause-first
+try_equation-match_equation-requires-clause-first g t c = c.requires.first
 
-pub try_equation-returns-in_default-cond : goal.try_equation-returns-in_default-cond
-try_equation-returns-in_default-cond g t c =
-    let found : Matches (theory_of c.args.engine.now) (function_equation c.args.equation.now)
-    (forest c.args.terms.now) c.in_ok-subst.field-0 =
-    subst (λ (p : Program). Matches (theory_of p) (function_equation c.args.equation.now)
-    (forest c.args.terms.now) c.in_ok-subst.field-0) c.program.ensures.program
-    c.in_ok-subst.ensures in
-    let match : MatchAll c.args.engine.now.sig (function_equation c.args.equation.now).variables
-    (function_equation c.args.equation.now).arguments (forest c.args.terms.now)
-    c.in-Some.subst =
-    matched_some (theory_of c.args.engine.now) (function_equation c.args.equation.now)
-    (forest c.args.terms.now) c.in_ok-subst.field-0 c.in-Some.subst found c.in-Some.is in
-    let none : option_map plain_pattern c.args.equation.now.cond ≡ None =
-    ap (option_map plain_pattern) c.in_default-cond.is in
+pub try_equation-equation_of-requires : goal.try_equation-equation_of-requires
+try_equation-equation_of-requires g t c =
+    found_within (theory_of c.args.engine.now) c.args.sym.0 c.args.tree.now c.args.terms.now
+    c.requires.first.0
+    c.args.row c.requires.first.1
+
+pub try_equation-returns-in_default : goal.try_equation-returns-in_default
+try_equation-returns-in_default g t c =
+    let match = own_match (theory_of c.args.engine.now) c.args.sym.0 c.args.row (forest
+    c.args.terms.now)
+    (function_equation c.equation_of.result.now) c.in_ok-subst.subst c.in_ok-subst.ensures
+    c.equation_of.ensures in
+    let none : option_map plain_pattern c.equation_of.result.now.cond ≡ None =
+    ap (option_map plain_pattern) c.in_default.is in
     let told =
-    no_test (theory_of c.args.engine.now) c.args.nest c.args.sym.0 c.args.calls c.in-Some.subst
-    (option_map plain_pattern c.args.equation.now.cond) none in
-    (match, told.0, told.1)
+    no_test (theory_of c.args.engine.now) c.args.nest c.args.sym.0 c.args.calls c.in_ok-subst.subst
+    (option_map plain_pattern c.equation_of.result.now.cond) none in
+    ((function_equation c.equation_of.result.now), c.equation_of.ensures, (match, told.0, told.1))
 
 pub try_equation-evaluate_in-requires : goal.try_equation-evaluate_in-requires
 try_equation-evaluate_in-requires g t c κs within =
-    let found : Matches (theory_of c.args.engine.now) (function_equation c.args.equation.now)
-    (forest c.args.terms.now) c.in_ok-subst.field-0 =
-    subst (λ (p : Program). Matches (theory_of p) (function_equation c.args.equation.now)
-    (forest c.args.terms.now) c.in_ok-subst.field-0) c.program.ensures.program
-    c.in_ok-subst.ensures in
-    let match : MatchAll c.args.engine.now.sig (function_equation c.args.equation.now).variables
-    (function_equation c.args.equation.now).arguments (forest c.args.terms.now)
-    c.in-Some.subst =
-    matched_some (theory_of c.args.engine.now) (function_equation c.args.equation.now)
-    (forest c.args.terms.now) c.in_ok-subst.field-0 c.in-Some.subst found c.in-Some.is in
-    let some : option_map plain_pattern c.args.equation.now.cond ≡ Some
-    (plain_pattern c.in-Some-cond.cond) =
-    ap (option_map plain_pattern) c.in-Some-cond.is in (
+    let match = own_match (theory_of c.args.engine.now) c.args.sym.0 c.args.row (forest
+    c.args.terms.now)
+    (function_equation c.equation_of.result.now) c.in_ok-subst.subst c.in_ok-subst.ensures
+    c.equation_of.ensures in
+    let some : option_map plain_pattern c.equation_of.result.now.cond ≡ Some
+    (plain_pattern c.in-Some.cond) =
+    ap (option_map plain_pattern) c.in-Some.is in (
       omega arith,
       (
         within,
         (
-          condition_evaluable (theory_of c.args.engine.now)
-              (function_equation c.args.equation.now) (forest c.args.terms.now) c.in-Some.subst
-              (plain_pattern c.in-Some-cond.cond) c.requires.fits match some,
+          condition_evaluable (theory_of c.args.engine.now) (function_equation
+              c.equation_of.result.now) (forest c.args.terms.now) c.in_ok-subst.subst
+              (plain_pattern c.in-Some.cond)
+              (triable (theory_of c.args.engine.now) c.args.sym.0 (forest c.args.terms.now)
+              c.args.row (function_equation c.equation_of.result.now)
+              c.program-program.ensures.sorted c.requires.fits c.equation_of.ensures) match some,
           c.requires.nest,
         ),
       ),
@@ -699,71 +628,61 @@ try_equation-evaluate_in-requires g t c κs within =
 
 pub try_equation-returns-then-is_true : goal.try_equation-returns-then-is_true
 try_equation-returns-then-is_true g t c =
-    let found : Matches (theory_of c.args.engine.now) (function_equation c.args.equation.now)
-    (forest c.args.terms.now) c.in_ok-subst.field-0 =
-    subst (λ (p : Program). Matches (theory_of p) (function_equation c.args.equation.now)
-    (forest c.args.terms.now) c.in_ok-subst.field-0) c.program.ensures.program
-    c.in_ok-subst.ensures in
-    let match : MatchAll c.args.engine.now.sig (function_equation c.args.equation.now).variables
-    (function_equation c.args.equation.now).arguments (forest c.args.terms.now)
-    c.in-Some.subst =
-    matched_some (theory_of c.args.engine.now) (function_equation c.args.equation.now)
-    (forest c.args.terms.now) c.in_ok-subst.field-0 c.in-Some.subst found c.in-Some.is in
-    let some : option_map plain_pattern c.args.equation.now.cond ≡ Some
-    (plain_pattern c.in-Some-cond.cond) =
-    ap (option_map plain_pattern) c.in-Some-cond.is in
+    let match = own_match (theory_of c.args.engine.now) c.args.sym.0 c.args.row (forest
+    c.args.terms.now)
+    (function_equation c.equation_of.result.now) c.in_ok-subst.subst c.in_ok-subst.ensures
+    c.equation_of.ensures in
+    let some : option_map plain_pattern c.equation_of.result.now.cond ≡ Some
+    (plain_pattern c.in-Some.cond) =
+    ap (option_map plain_pattern) c.in-Some.is in
     let told =
     test_holds g.R.Recording.tells (theory_of c.args.engine.now) c.args.nest c.args.sym.0
-    c.args.calls c.in_ok-answer.left c.in-Some.subst
-    (option_map plain_pattern c.args.equation.now.cond) (plain_pattern c.in-Some-cond.cond)
+    c.args.calls c.in_ok-answer.left c.in_ok-subst.subst
+    (option_map plain_pattern c.equation_of.result.now.cond) (plain_pattern c.in-Some.cond)
     c.in_ok-answer.answer some c.in_ok-answer.ensures.0 c.in_ok-answer.ensures.1
     (c.is_true.ensures.0 c.if-is_true.true) in
-    (match, told.0, told.1)
+    ((function_equation c.equation_of.result.now), c.equation_of.ensures, (match, told.0, told.1))
 
 pub try_equation-returns-else-is_true : goal.try_equation-returns-else-is_true
 try_equation-returns-else-is_true g t c =
-    let found : Matches (theory_of c.args.engine.now) (function_equation c.args.equation.now)
-    (forest c.args.terms.now) c.in_ok-subst.field-0 =
-    subst (λ (p : Program). Matches (theory_of p) (function_equation c.args.equation.now)
-    (forest c.args.terms.now) c.in_ok-subst.field-0) c.program.ensures.program
-    c.in_ok-subst.ensures in
-    let match : MatchAll c.args.engine.now.sig (function_equation c.args.equation.now).variables
-    (function_equation c.args.equation.now).arguments (forest c.args.terms.now)
-    c.in-Some.subst =
-    matched_some (theory_of c.args.engine.now) (function_equation c.args.equation.now)
-    (forest c.args.terms.now) c.in_ok-subst.field-0 c.in-Some.subst found c.in-Some.is in
-    let some : option_map plain_pattern c.args.equation.now.cond ≡ Some
-    (plain_pattern c.in-Some-cond.cond) =
-    ap (option_map plain_pattern) c.in-Some-cond.is in
-    inr (
-      c.in-Some.subst,
-      match,
-      test_fails (theory_of c.args.engine.now) c.args.nest c.args.sym.0 c.args.calls
-          c.in_ok-answer.left
-          c.in-Some.subst (option_map plain_pattern c.args.equation.now.cond)
-          (plain_pattern c.in-Some-cond.cond) c.in_ok-answer.answer.term some
-          c.in_ok-answer.ensures.0 (λ is. false≢true (sym c.if-is_true.false ∙ c.is_true.ensures.1
-          is)),
+    let match = own_match (theory_of c.args.engine.now) c.args.sym.0 c.args.row (forest
+    c.args.terms.now)
+    (function_equation c.equation_of.result.now) c.in_ok-subst.subst c.in_ok-subst.ensures
+    c.equation_of.ensures in
+    let some : option_map plain_pattern c.equation_of.result.now.cond ≡ Some
+    (plain_pattern c.in-Some.cond) =
+    ap (option_map plain_pattern) c.in-Some.is in (
+      (function_equation c.equation_of.result.now),
+      c.equation_of.ensures,
+      inr (
+        c.in_ok-subst.subst,
+        match,
+        test_fails (theory_of c.args.engine.now) c.args.nest c.args.sym.0 c.args.calls
+            c.in_ok-answer.left
+            c.in_ok-subst.subst (option_map plain_pattern c.equation_of.result.now.cond)
+            (plain_pattern c.in-Some.cond) c.in_ok-answer.answer.term some
+            c.in_ok-answer.ensures.0 (λ is. false≢true (sym c.if-is_true.false
+            ∙ c.is_true.ensures.1 is)),
+      ),
     )
 
 pub try_equation-returns-in_err-answer : goal.try_equation-returns-in_err-answer
 try_equation-returns-in_err-answer g t c =
+    let match = own_match (theory_of c.args.engine.now) c.args.sym.0 c.args.row (forest
+    c.args.terms.now)
+    (function_equation c.equation_of.result.now) c.in_ok-subst.subst c.in_ok-subst.ensures
+    c.equation_of.ensures in
+    let some : option_map plain_pattern c.equation_of.result.now.cond ≡ Some
+    (plain_pattern c.in-Some.cond) =
+    ap (option_map plain_pattern) c.in-Some.is in
     let p = err_from_is_err_and c.from_residual-in_err-answer.result
     c.from_residual-in_err-answer.ensures.1 in
-    rw (p.1, p.2) (let found : Matches (theory_of c.args.engine.now) (function_equation
-    c.args.equation.now) (forest c.args.terms.now) c.in_ok-subst.field-0 =
-    subst (λ (p : Program). Matches (theory_of p) (function_equation c.args.equation.now)
-    (forest c.args.terms.now) c.in_ok-subst.field-0) c.program.ensures.program
-    c.in_ok-subst.ensures in
-    let match : MatchAll c.args.engine.now.sig (function_equation c.args.equation.now).variables
-    (function_equation c.args.equation.now).arguments (forest c.args.terms.now)
-    c.in-Some.subst =
-    matched_some (theory_of c.args.engine.now) (function_equation c.args.equation.now)
-    (forest c.args.terms.now) c.in_ok-subst.field-0 c.in-Some.subst found c.in-Some.is in
-    let some : option_map plain_pattern c.args.equation.now.cond ≡ Some
-    (plain_pattern c.in-Some-cond.cond) =
-    ap (option_map plain_pattern) c.in-Some-cond.is in
-    test_stops g.R.Recording.tells (theory_of c.args.engine.now) c.args.nest c.args.sym.0
-    (function_equation c.args.equation.now) (forest c.args.terms.now) c.args.calls
-    c.in-Some.subst (plain_pattern c.in-Some-cond.cond) c.in_err-answer.field-0.0 match some
-    c.in_err-answer.ensures)
+    rw (p.1, p.2) (
+      (function_equation c.equation_of.result.now),
+      c.equation_of.ensures,
+      test_stops g.R.Recording.tells (theory_of c.args.engine.now) c.args.nest c.args.sym.0
+          (function_equation c.equation_of.result.now)
+          (forest c.args.terms.now) c.args.calls c.in_ok-subst.subst
+          (plain_pattern c.in-Some.cond) c.in_err-answer.field-0.0 match some
+          c.in_err-answer.ensures,
+    )

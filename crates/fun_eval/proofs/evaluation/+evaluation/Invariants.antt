@@ -1,11 +1,11 @@
-use Rattle.std.proofs.Common.{◌+◌, ◌*◌, ◌≤◌, take}
+use Rattle.std.proofs.Common.{◌+◌, ◌*◌, length, take}
 use Rattle.term_core.specs.Forests.{forest}
 use Rattle.term_core.specs.PatternLists.{plain_patterns}
 use Rattle.rule_core.specs.Theories.{equations_of}
 use Rattle.rule_core.specs.ProgramView.{theory_of}
 use Rattle.fun_eval.specs.Giving.{AreRecorded}
 use Rattle.fun_eval.proofs.PatternsInTurn.{GoesOn}
-use Rattle.fun_eval.proofs.Trials.{TriedUpTo, UnusedUpTo}
+use Rattle.fun_eval.proofs.Walks.{IsTrying, equations_left}
 use Rattle.fun_eval.proofs.evaluation.+evaluation.Given as goal
 
 abbrev pub decreases-evaluate : goal.decreases-evaluate
@@ -46,11 +46,11 @@ invariant-evaluate_all-loop-pat g l = record {
       (plain_patterns (take l.pat-index l.pats)) (forest l.terms.items);
 }
 
-abbrev pub invariant-choose_equation-loop-i : goal.invariant-choose_equation-loop-i
-invariant-choose_equation-loop-i g l = record {
-  tried : TriedUpTo (theory_of l.engine) l.nest l.sym.0 (forest l.terms) l.fn.calls
-      (equations_of (theory_of l.engine) l.sym.0) l.i l.left;
-  unused : UnusedUpTo (theory_of l.engine) l.sym.0 (forest l.terms)
-      (equations_of (theory_of l.engine) l.sym.0) l.i;
-  fewer : l.left ≤ l.fn.calls;
+abbrev pub invariant-choose_equation-loop-hit : goal.invariant-choose_equation-loop-hit
+invariant-choose_equation-loop-hit g l = record {
+  trying : IsTrying (theory_of l.engine) l.nest l.sym.0 l.tree l.terms l.fn.calls l.left l.hit;
 }
+
+abbrev pub decreases-choose_equation-loop-hit : goal.decreases-choose_equation-loop-hit
+decreases-choose_equation-loop-hit g l =
+    equations_left (length (equations_of (theory_of l.engine) l.sym.0)) l.hit

@@ -12,7 +12,7 @@ use Rattle.kore_prove.proofs.running.proved_lines_of_run.Goals as goal
 
 pub proved_run-requires-clause-names : goal.proved_run-requires-clause-names
 proved_run-requires-clause-names g c =
-    subst (λ (p : Program). HasPlainNames p.sig) (sym c.new-engine.ensures)
+    subst (λ (p : Program). HasPlainNames p.sig) (sym c.requires.program)
     (plain_names c.args.accepted.now.program.sig c.requires.runnable.program.names)
 
 pub returns-in_err-end-clause-front : goal.returns-in_err-end-clause-front
@@ -22,7 +22,7 @@ returns-in_err-end-clause-front g c =
     let start = plain_pattern c.args.accepted.now.start in
     let p = err_from_is_err_and c.from_residual.result c.from_residual.ensures.1 in
     rw p.1 (subst (λ (p : Program). PutsFront old new (theory_of p) c.args.bounds.limit
-    c.args.bounds.calls start) c.new-engine.ensures c.in_err-end.ensures.front)
+    c.args.bounds.calls start) c.requires.program c.in_err-end.ensures.front)
 
 pub returns-in_err-lines-clause-front : goal.returns-in_err-lines-clause-front
 returns-in_err-lines-clause-front g c =
@@ -32,7 +32,7 @@ returns-in_err-lines-clause-front g c =
     let p = err_from_is_err_and c.from_residual-in_err-lines.result
     c.from_residual-in_err-lines.ensures.1 in
     rw p.1 (subst (λ (p : Program). PutsFront old new (theory_of p) c.args.bounds.limit
-    c.args.bounds.calls start) c.new-engine.ensures
-    (put_front old new (theory_of c.new-engine.result) c.args.bounds.limit c.args.bounds.calls start
+    c.args.bounds.calls start) c.requires.program
+    (put_front old new (theory_of c.args.engine.now) c.args.bounds.limit c.args.bounds.calls start
     (plain_run c.in_ok-end.end) c.in_ok-end.summary c.in_ok-end.ensures.run
     c.in_ok-end.ensures.justified))
