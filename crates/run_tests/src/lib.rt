@@ -16,3 +16,5 @@ mod matching;
 mod rewriting;
 #[cfg(test)]
 mod terms;
+#[cfg(test)]
+mod trees;
