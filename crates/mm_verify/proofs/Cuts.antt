@@ -1,7 +1,6 @@
 -- Laws on lists in pieces.
 use Rattle.std.proofs.Common.{◌≡◌, ℕ, zero, suc, ◌+◌, ◌-◌, ◌<◌, ◌≤◌, List, [], ◌∷◌, ◌++◌, length}
 use Rattle.std.proofs.Common.{take, drop, get_or, refl, ap, ◌∙◌, sym, subst, arith, length-append}
-use Rattle.std.proofs.Common.{length-drop}
 use Rattle.std.proofs.lemmas.List.{take-append-le, take_all, drop_at, take-take, get_or_default}
 use Rattle.std.proofs.lemmas.Slice.{between_is}
 use Rattle.mm_verify.specs.Cut.{cut, AreEnds, start_of}
@@ -138,8 +137,3 @@ pushed_cut xs ys zs ends more is at h =
     ap (λ (l : List ℕ). cut zs 0 l) at
     ∙ ap (λ (l : List ℕ). cut l 0 (ends ++ length zs ∷ [])) is
     ∙ cut-push xs ys 0 (length zs) ends (ap (λ (l : List ℕ). length l) is ∙ length-append xs ys) h
-
-pub above_within : (xs ends : List ℕ) (base i : ℕ) → i < length (drop base (cut xs 0 ends))
-    → base + i < length ends
-above_within xs ends base i lt =
-    omega (arith, lt, length-drop base (cut xs 0 ends), length_cut xs 0 ends)

@@ -4,6 +4,7 @@ mod Meeting
 mod Clashing
 mod LabelMarks
 mod Cuts
+mod Pieces
 mod FewSteps
 mod Fillings
 mod ReadLetters

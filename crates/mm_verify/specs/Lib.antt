@@ -1,6 +1,9 @@
 -- Private: what clauses of private functions cite, and how private fields are seen.
 pub mod Cut
+pub mod ListsView
+pub mod Ranges
 pub mod StackView
+pub mod EntriesView
 pub mod Places
 pub mod Locating
 pub mod LongStatementView

@@ -32,7 +32,7 @@ abbrev pub steps_in : Vec Step → List (steps.Step numbered.Citation)
 steps_in v = map step_of v.items
 
 abbrev pub saving_of : Machine → Saving (List ℕ)
-saving_of m = saving m.stack m.saved
+saving_of m = m.entries
 
 -- what a step leaves, if it fits
 abbrev pub numbered_step : NumberedPlace → steps.Step numbered.Citation → Saving (List ℕ)

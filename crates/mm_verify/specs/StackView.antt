@@ -1,10 +1,10 @@
--- A stack as contracts see it.
+-- The entries of a stack.
 use Rattle.std.specs.Prelude.{ℕ, List, length}
-use Rattle.mm_verify.specs.Cut.{cut, AreEnds}
+use Rattle.mm_verify.specs.Ranges.{pieces, AreRanges}
 use Rattle.mm_verify.specs.declared.stack.Stack.TheInside.{Inside}
 
-abbrev pub entries_of : Inside → List (List ℕ)
-entries_of s = cut s.symbols.items 0 s.ends.items
+abbrev pub stack_of : Inside → List (List ℕ)
+stack_of s = pieces s.symbols.now s.ranges.now
 
-abbrev pub IsCut : Inside → Type 0
-IsCut s = AreEnds (length s.symbols.items) 0 s.ends.items
+abbrev pub HasRanges : Inside → Type 0
+HasRanges s = AreRanges (length s.symbols.now) s.ranges.now

@@ -32,7 +32,7 @@ pub(crate) struct Assertion<'a> {
 }
 
 impl<'a> Assertion<'a> {
-    ghost use Rattle.std.specs.Prelude.{◌≡◌, ◌++◌, ◌≤◌, length, drop, IfOk, OnOk};
+    ghost use Rattle.std.specs.Prelude.{◌≡◌, ◌++◌, length, drop, IfOk, OnOk};
     ghost use Rattle.mm_verify.specs.Applied.{bindings_in, is_met as met};
     ghost use Rattle.mm_verify.specs.Pairs.{AreNoted};
     ghost use Rattle.mm_frame.specs.PlainFrames.{plain_frame, plain_hypotheses, in_groups};
@@ -98,7 +98,7 @@ impl<'a> Assertion<'a> {
         &self,
         alloc: Global,
         place: &P,
-        stack: &Stack,
+        stack: &Stack<'_>,
         base: usize,
         spreads: &mut Spreads,
     ) -> Result<bool, AllocError>
@@ -117,7 +117,12 @@ impl<'a> Assertion<'a> {
     }
 
     /// Whether the entries are of the right typecodes and what the `$e` ask for.
-    fn agrees(&self, stack: &Stack, base: usize, present: &mut Present) -> Result<bool, AllocError>
+    fn agrees(
+        &self,
+        stack: &Stack<'_>,
+        base: usize,
+        present: &mut Present,
+    ) -> Result<bool, AllocError>
         requires { length (assertion_frame self.now).hypotheses ≡ length (drop base stack.now) }
         ensures { IfOk result (λ r. r
             ≡ all_agree (bindings_in (assertion_frame self.now) (drop base stack.now))
@@ -131,7 +136,7 @@ impl<'a> Assertion<'a> {
         &self,
         alloc: Global,
         place: &P,
-        stack: &Stack,
+        stack: &Stack<'_>,
         base: usize,
         spreads: &mut Spreads,
     ) -> Result<bool, AllocError>
@@ -149,18 +154,16 @@ impl<'a> Assertion<'a> {
     /// Appends its statement, with the texts that the entries from `base` on give its variables.
     pub(crate) fn conclude(
         &self,
-        stack: &mut Stack,
+        stack: &Stack<'_>,
         base: usize,
         to: &mut Vec<u32>,
         present: &mut Present,
     ) -> Result<(), AllocError>
         requires count { length (assertion_frame self.now).hypotheses
-            ≡ length (drop base stack.old) }
-        requires base { base ≤ length stack.old }
+            ≡ length (drop base stack.now) }
         ensures filled { OnOk result (to.new.items ≡ to.old.items
-            ++ substituted (bindings_in (assertion_frame self.now) (drop base stack.old))
+            ++ substituted (bindings_in (assertion_frame self.now) (drop base stack.now))
             (assertion_frame self.now).statement) }
-        ensures stack { stack.new ≡ stack.old }
     {
         self.conclusion.fill(stack, base, to, present)
     }

@@ -11,7 +11,7 @@ use std::alloc::AllocError;
 /// Whether the entries from `base` on are what an assertion asks for, each for its hypothesis.
 pub(crate) fn are_wanted(
     wanted: &[Wanted<'_>],
-    stack: &Stack,
+    stack: &Stack<'_>,
     base: usize,
     present: &mut Present,
 ) -> Result<bool, AllocError>
@@ -33,7 +33,7 @@ pub(crate) fn are_wanted(
 /// Whether an entry is what one hypothesis asks for.
 fn is_wanted(
     wanted: &Wanted<'_>,
-    stack: &Stack,
+    stack: &Stack<'_>,
     base: usize,
     entry: &[u32],
     present: &mut Present,

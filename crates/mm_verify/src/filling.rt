@@ -1,5 +1,5 @@
 // Statements of assertions, whose variables are replaced by the texts of the stack's entries.
-ghost use Rattle.std.specs.Prelude.{◌≡◌, ◌+◌, ◌-◌, ◌<◌, ◌≤◌, ◌++◌, ◌∷◌, [], ℕ, List, false, length};
+ghost use Rattle.std.specs.Prelude.{◌≡◌, ◌+◌, ◌-◌, ◌<◌, ◌++◌, ◌∷◌, [], ℕ, List, false, length};
 ghost use Rattle.std.specs.Prelude.{drop};
 ghost use Rattle.std.specs.Prelude.{OnOk, MatchOption};
 ghost use Rattle.mm_verify.specs.Filling.{part_text, text_at, filled, IsWithin, AreWithin};
@@ -16,7 +16,7 @@ const LONG: usize = 65536;
 
 /// The text of a part: the symbol itself, or the symbols after the typecode of an entry from `base`
 /// on.
-pub(crate) fn text_of<'a>(part: &'a Part, stack: &'a Stack, base: usize) -> &'a [u32]
+pub(crate) fn text_of<'a>(part: &'a Part, stack: &'a Stack<'_>, base: usize) -> &'a [u32]
     requires { IsWithin (length (drop base stack.now)) part.now }
     ensures { result.now ≡ part_text (drop base stack.now) part.now }
 {
@@ -27,7 +27,7 @@ pub(crate) fn text_of<'a>(part: &'a Part, stack: &'a Stack, base: usize) -> &'a 
 }
 
 /// The text of the entry at a place from `base` on: the symbols after its typecode.
-pub(crate) fn text_at(stack: &Stack, base: usize, place: usize) -> &[u32]
+pub(crate) fn text_at<'m>(stack: &'m Stack<'_>, base: usize, place: usize) -> &'m [u32]
     requires { place < length (drop base stack.now) }
     ensures { result.now ≡ text_at (drop base stack.now) place }
 {
@@ -45,7 +45,7 @@ fn behind_typecode(entry: &[u32]) -> &[u32]
 }
 
 /// Whether the text of an entry from `base` on is empty.
-pub(crate) fn has_empty_text(stack: &Stack, base: usize) -> bool {
+pub(crate) fn has_empty_text(stack: &Stack<'_>, base: usize) -> bool {
     for i in base..stack.len() {
         if stack.entry(i).len() < 2 {
             return true;
@@ -54,50 +54,43 @@ pub(crate) fn has_empty_text(stack: &Stack, base: usize) -> bool {
     false
 }
 
-/// Whether the statement of some parts may be long, by the number of all symbols of the entries
-/// from `base` on.
-fn may_be_long(parts: &[Part], stack: &Stack, base: usize) -> bool
-    requires { base ≤ length stack.now }
-{
-    parts.len().saturating_mul(stack.taken(base)) >= LONG
+/// Whether the statement of some parts may be long, by the length of the longest entry.
+fn may_be_long(parts: &[Part], stack: &Stack<'_>) -> bool {
+    parts.len().saturating_mul(stack.longest()) >= LONG
 }
 
 /// How long the statement of some parts is, with the texts of the entries from `base` on.
-fn filled_length(parts: &[Part], stack: &Stack, base: usize) -> usize
+fn filled_length(parts: &[Part], stack: &Stack<'_>, base: usize) -> usize
     requires within { AreWithin (length (drop base stack.now)) parts.now }
 {
     let mut length: usize = 0;
     for part in parts {
-        length = length.saturating_add(text_of(part, stack, base).len());
+        length = length.saturating_add(text_of(part, &*stack, base).len());
     }
     length
 }
 
-/// Appends the statement of some parts, as `fill` does, for an entry of the stack. If it may be
+/// Appends the statement of some parts, as `fill` does. If it may be
 /// long, room for all of it is asked for before any of it is written.
 pub(crate) fn fill_reserved(
     parts: &[Part],
-    stack: &mut Stack,
+    stack: &Stack<'_>,
     base: usize,
     to: &mut Vec<u32>,
 ) -> Result<(), AllocError>
-    requires within { AreWithin (length (drop base stack.old)) parts.now }
-    requires base { base ≤ length stack.old }
+    requires within { AreWithin (length (drop base stack.now)) parts.now }
     ensures filled { OnOk result
-        (to.new.items ≡ to.old.items ++ filled (drop base stack.old) parts.now) }
-    ensures stack { stack.new ≡ stack.old }
+        (to.new.items ≡ to.old.items ++ filled (drop base stack.now) parts.now) }
 {
-    if may_be_long(parts, stack, base) {
-        let length = filled_length(parts, stack, base);
-        stack.reserve(length)?;
-        to.reserve(length)?;
+    if may_be_long(parts, stack) {
+        to.reserve(filled_length(parts, stack, base))?;
     }
     fill(parts, stack, base, to)
 }
 
 /// Appends the statement of some parts, with the texts of the entries from `base` on. It takes time
 /// in the number of the parts and in the length of what is appended.
-fn fill(parts: &[Part], stack: &Stack, base: usize, to: &mut Vec<u32>) -> Result<(), AllocError>
+fn fill(parts: &[Part], stack: &Stack<'_>, base: usize, to: &mut Vec<u32>) -> Result<(), AllocError>
     requires within { AreWithin (length (drop base stack.now)) parts.now }
     ensures { OnOk result (to.new.items ≡ to.old.items ++ filled (drop base stack.now) parts.now) }
 {
@@ -108,7 +101,12 @@ fn fill(parts: &[Part], stack: &Stack, base: usize, to: &mut Vec<u32>) -> Result
 }
 
 /// Appends the text of a part.
-fn append_part(part: &Part, stack: &Stack, base: usize, to: &mut Vec<u32>) -> Result<(), AllocError>
+fn append_part(
+    part: &Part,
+    stack: &Stack<'_>,
+    base: usize,
+    to: &mut Vec<u32>,
+) -> Result<(), AllocError>
     requires within { IsWithin (length (drop base stack.now)) part.now }
     ensures { OnOk result
         (to.new.items ≡ to.old.items ++ part_text (drop base stack.now) part.now) }
@@ -121,7 +119,7 @@ fn append_part(part: &Part, stack: &Stack, base: usize, to: &mut Vec<u32>) -> Re
 }
 
 /// Whether an entry is the statement of some parts.
-pub(crate) fn is_filled(parts: &[Part], stack: &Stack, base: usize, entry: &[u32]) -> bool
+pub(crate) fn is_filled(parts: &[Part], stack: &Stack<'_>, base: usize, entry: &[u32]) -> bool
     requires within { AreWithin (length (drop base stack.now)) parts.now }
     ensures { result ≡ same_numbers entry.now (filled (drop base stack.now) parts.now) }
 {
@@ -136,7 +134,12 @@ pub(crate) fn is_filled(parts: &[Part], stack: &Stack, base: usize, entry: &[u32
 }
 
 /// The symbols after the text of a part, or `None` if they do not begin with it.
-fn behind_part<'r>(part: &Part, stack: &Stack, base: usize, symbols: &'r [u32]) -> Option<&'r [u32]>
+fn behind_part<'r>(
+    part: &Part,
+    stack: &Stack<'_>,
+    base: usize,
+    symbols: &'r [u32],
+) -> Option<&'r [u32]>
     requires within { IsWithin (length (drop base stack.now)) part.now }
     ensures { (others : List ℕ) → MatchOption result
         (same_numbers symbols.now (part_text (drop base stack.now) part.now ++ others) ≡ false)

@@ -11,9 +11,9 @@ ghost use Rattle.mm_verify.specs.Pairs.{AreNoted};
 ghost use Rattle.mm_verify.specs.Running.{step_of, saving_of, numbered_step};
 ghost use Rattle.mm_verify.specs.Running.{left_fault as left_fault_of, steps_fault};
 
+use crate::entries::Entries;
 use crate::place::Place;
 use crate::spreads::Spreads;
-use crate::stack::Stack;
 use crate::stored::StoredAssertion;
 use mm_frame::Hyp;
 use std::alloc::{AllocError, Global};
@@ -38,11 +38,11 @@ pub(crate) enum Step<'s, 'a> {
     Repeats(usize),
 }
 
-/// A stack, the saved entries, a buffer for new entries, and lists for the tests of `$d`.
+/// The entries of the stack and the saved ones, a buffer for new entries, and lists for the tests
+/// of `$d`.
 #[derive(Drop)]
 pub(crate) struct Machine {
-    stack: Stack,
-    saved: Stack,
+    entries: Entries,
     buffer: Vec<u32>,
     spreads: Spreads,
 }
@@ -62,8 +62,7 @@ impl Machine {
         ensures { IfOk result (λ m. saving_of m ≡ saving [] []) }
     {
         Ok(Machine {
-            stack: Stack::new(alloc)?,
-            saved: Stack::new(alloc)?,
+            entries: Entries::new(alloc)?,
             buffer: Vec::new(alloc),
             spreads: Spreads::new(alloc)?,
         })
@@ -74,8 +73,7 @@ impl Machine {
         ensures saving { saving_of self.new ≡ saving [] [] }
         ensures noted { (p : NumberedPlace) → AreNoted p self.new.spreads.notes }
     {
-        self.stack.truncate(0);
-        self.saved.truncate(0);
+        self.entries.clear();
         self.spreads.begin_proof();
     }
 
@@ -98,7 +96,7 @@ impl Machine {
                 kept.apply(
                     alloc,
                     place,
-                    &mut self.stack,
+                    &mut self.entries,
                     &mut self.buffer,
                     &mut self.spreads,
                 )
@@ -117,8 +115,10 @@ impl Machine {
             (saving_of self.old)) (saving_of self.old) (saving_of self.new)) }
     {
         match hyp {
-            Hyp::Floating(_label, typecode, variable) => self.stack.push(&[*typecode, *variable])?,
-            Hyp::Essential(_label, statement) => self.stack.push(statement.symbols())?,
+            Hyp::Floating(_label, typecode, variable) => self
+                .entries
+                .push(&[*typecode, *variable])?,
+            Hyp::Essential(_label, statement) => self.entries.push(statement.symbols())?,
         }
         Ok(true)
     }
@@ -130,12 +130,7 @@ impl Machine {
             (numbered_step (P.place place.now) saves (saving_of self.old))
             (saving_of self.old) (saving_of self.new)) }
     {
-        let count = self.stack.len();
-        if count == 0 {
-            return Ok(false);
-        }
-        self.saved.push(self.stack.entry(count - 1))?;
-        Ok(true)
+        self.entries.save()
     }
 
     /// Puts the saved entry with this number on top. Returns false if there is none.
@@ -145,18 +140,15 @@ impl Machine {
             (numbered_step (P.place place.now) (repeats number) (saving_of self.old))
             (saving_of self.old) (saving_of self.new)) }
     {
-        if number >= self.saved.len() {
-            return Ok(false);
-        }
-        self.stack.push(self.saved.entry(number))?;
-        Ok(true)
+        self.entries.repeat(number)
     }
 
     /// The fault of what is left on the stack. Only the statement may be left.
     fn left_fault(&self, conclusion: &[u32]) -> Option<ProofFault>
         ensures { result ≡ left_fault_of conclusion.now (Some (saving_of self.now)) }
     {
-        if self.stack.len() == 1 && *self.stack.entry(0) == *conclusion {
+        let stack = self.entries.stack();
+        if stack.len() == 1 && *stack.entry(0) == *conclusion {
             None
         } else {
             Some(ProofFault::Conclusion)

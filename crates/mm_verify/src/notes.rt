@@ -4,7 +4,7 @@ ghost use Rattle.mm_frame.specs.NumberedSteps.{NumberedPlace};
 ghost use Rattle.mm_verify.specs.Pairs.{are_variables_apart as variables_apart};
 ghost use Rattle.mm_verify.specs.Pairs.{is_pair_apart, written_pair, AreNoted};
 
-use crate::stack::Stack;
+use crate::lists::Lists;
 use std::alloc::{AllocError, Global};
 use std::collections::BTreeMap;
 
@@ -20,7 +20,7 @@ const MOST: usize = 4_194_304;
 #[derive(Drop)]
 pub(crate) struct Notes {
     numbers: BTreeMap<Vec<u32>, usize>,
-    pairs: Stack,
+    pairs: Lists,
     last: Vec<u32>,
 }
 
@@ -29,7 +29,7 @@ impl Notes {
     pub(crate) fn new(alloc: Global) -> Result<Notes, AllocError> {
         Ok(Notes {
             numbers: BTreeMap::new(alloc),
-            pairs: Stack::new(alloc)?,
+            pairs: Lists::new(alloc)?,
             last: Vec::new(alloc),
         })
     }
@@ -104,7 +104,7 @@ impl Notes {
         ensures noted { (p : NumberedPlace) → AreNoted p self.old → AreNoted p self.new }
         ensures last { self.new.last ≡ self.old.last }
     {
-        if self.pairs.taken(0) > MOST {
+        if self.pairs.count_numbers() > MOST {
             self.clear();
         }
     }

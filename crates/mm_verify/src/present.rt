@@ -40,7 +40,7 @@ impl Present {
     pub(crate) fn take(
         &mut self,
         statement: &LongStatement,
-        stack: &Stack,
+        stack: &Stack<'_>,
         base: usize,
         are_empty: bool,
     ) -> Result<(), AllocError>
@@ -64,7 +64,7 @@ impl Present {
         &mut self,
         statement: &LongStatement,
         spots: &[u64],
-        stack: &Stack,
+        stack: &Stack<'_>,
         base: usize,
     ) -> Result<(), AllocError>
         requires spots { AreSpots (long_symbols statement.now) spots.now }
@@ -96,7 +96,7 @@ fn all_parts(statement: &LongStatement, to: &mut Vec<Part>) -> Result<(), AllocE
 fn gather(
     statement: &LongStatement,
     spots: &[u64],
-    stack: &Stack,
+    stack: &Stack<'_>,
     base: usize,
     to: &mut Vec<usize>,
 ) -> Result<(), AllocError>
@@ -131,7 +131,7 @@ fn run_end(spots: &[u64], at: usize) -> usize
 }
 
 /// Whether the text of the part at a spot is not empty.
-fn is_present(statement: &LongStatement, spot: u64, stack: &Stack, base: usize) -> bool
+fn is_present(statement: &LongStatement, spot: u64, stack: &Stack<'_>, base: usize) -> bool
     requires at { position_at spot < length (long_symbols statement.now) }
     requires within { AreWithin (length (drop base stack.now)) (long_parts statement.now) }
     ensures { result ≡ passes (has_text (drop base stack.now))

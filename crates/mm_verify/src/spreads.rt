@@ -14,6 +14,7 @@ ghost use Rattle.mm_verify.specs.Pairs.{are_variables_apart as variables_apart};
 ghost use Rattle.mm_verify.specs.Pairs.{is_variable_apart as variable_apart};
 
 use crate::filling::text_at;
+use crate::lists::Lists;
 use crate::notes::{LONGEST, Notes};
 use crate::parts::Part;
 use crate::place::Place;
@@ -34,7 +35,7 @@ const MANY: usize = 64;
 #[derive(Drop)]
 pub(crate) struct Spreads {
     numbers: Vec<usize>,
-    lists: Stack,
+    lists: Lists,
     gathered: Vec<u32>,
     tested: BTreeMap<usize, (usize, usize)>,
     notes: Notes,
@@ -46,7 +47,7 @@ impl Spreads {
     pub(crate) fn new(alloc: Global) -> Result<Spreads, AllocError> {
         Ok(Spreads {
             numbers: Vec::with_capacity(alloc, 64)?,
-            lists: Stack::new(alloc)?,
+            lists: Lists::new(alloc)?,
             gathered: Vec::with_capacity(alloc, 64)?,
             tested: BTreeMap::new(alloc),
             notes: Notes::new(alloc)?,
@@ -78,7 +79,7 @@ impl Spreads {
     pub(crate) fn find<P: Place>(
         &mut self,
         place: &P,
-        stack: &Stack,
+        stack: &Stack<'_>,
         base: usize,
         i: usize,
     ) -> Result<usize, AllocError>
@@ -166,7 +167,7 @@ pub(crate) fn are_groups_apart<P: Place>(
     alloc: Global,
     place: &P,
     groups: &[Vec<Part>],
-    stack: &Stack,
+    stack: &Stack<'_>,
     base: usize,
     spreads: &mut Spreads,
 ) -> Result<bool, AllocError>
@@ -193,7 +194,7 @@ pub(crate) fn are_groups_apart<P: Place>(
 pub(crate) fn are_pairs_apart<P: Place>(
     place: &P,
     group: &[Part],
-    stack: &Stack,
+    stack: &Stack<'_>,
     base: usize,
     spreads: &mut Spreads,
 ) -> Result<bool, AllocError>
@@ -217,7 +218,7 @@ fn is_part_apart<P: Place>(
     place: &P,
     one: &Part,
     others: &[Part],
-    stack: &Stack,
+    stack: &Stack<'_>,
     base: usize,
     spreads: &mut Spreads,
 ) -> Result<bool, AllocError>
@@ -242,7 +243,7 @@ fn are_parts_apart<P: Place>(
     place: &P,
     one: &Part,
     other: &Part,
-    stack: &Stack,
+    stack: &Stack<'_>,
     base: usize,
     spreads: &mut Spreads,
 ) -> Result<bool, AllocError>
@@ -268,7 +269,7 @@ fn are_texts_apart<P: Place>(
     place: &P,
     i: usize,
     j: usize,
-    stack: &Stack,
+    stack: &Stack<'_>,
     base: usize,
     spreads: &mut Spreads,
 ) -> Result<bool, AllocError>

@@ -1,5 +1,5 @@
 // Statements of assertions.
-ghost use Rattle.std.specs.Prelude.{◌≡◌, ◌++◌, ◌≤◌, length, drop, IfOk, OnOk};
+ghost use Rattle.std.specs.Prelude.{◌≡◌, ◌++◌, length, drop, IfOk, OnOk};
 ghost use Rattle.mm_frame.specs.NumberedSteps.{same_numbers};
 ghost use Rattle.mm_verify.specs.Filling.{filled, AreWithin};
 ghost use Rattle.mm_verify.specs.StatementView.{statement_parts};
@@ -27,7 +27,7 @@ impl Statement {
     /// number of parts.
     pub(crate) fn is_filled(
         &self,
-        stack: &Stack,
+        stack: &Stack<'_>,
         base: usize,
         entry: &[u32],
         present: &mut Present,
@@ -51,16 +51,14 @@ impl Statement {
     /// times the logarithm of the number of parts.
     pub(crate) fn fill(
         &self,
-        stack: &mut Stack,
+        stack: &Stack<'_>,
         base: usize,
         to: &mut Vec<u32>,
         present: &mut Present,
     ) -> Result<(), AllocError>
-        requires within { AreWithin (length (drop base stack.old)) (statement_parts self.now) }
-        requires base { base ≤ length stack.old }
+        requires within { AreWithin (length (drop base stack.now)) (statement_parts self.now) }
         ensures filled { OnOk result (to.new.items
-            ≡ to.old.items ++ filled (drop base stack.old) (statement_parts self.now)) }
-        ensures stack { stack.new ≡ stack.old }
+            ≡ to.old.items ++ filled (drop base stack.now) (statement_parts self.now)) }
     {
         match self {
             Statement::Short(parts) => fill_reserved(parts, stack, base, to),

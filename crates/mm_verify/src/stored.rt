@@ -1,6 +1,6 @@
 // Assertions, kept for the steps of proofs.
-ghost use Rattle.std.specs.Prelude.{◌≡◌, length, IfOk};
-ghost use Rattle.mm_database.specs.Stack.{stack_with};
+ghost use Rattle.std.specs.Prelude.{◌≡◌, length, IfOk, option_map};
+ghost use Rattle.mm_database.specs.Stack.{saving, stack_with};
 ghost use Rattle.mm_frame.specs.PlainFrames.{plain_frame};
 ghost use Rattle.mm_frame.specs.NumberedSteps.{numbered_applied};
 ghost use Rattle.mm_verify.specs.StoredView.{stored_frame};
@@ -9,9 +9,9 @@ ghost use Rattle.mm_verify.specs.Pairs.{AreNoted};
 
 use crate::applying::apply;
 use crate::assertion::Assertion;
+use crate::entries::Entries;
 use crate::place::Place;
 use crate::spreads::Spreads;
-use crate::stack::Stack;
 use mm_frame::{Frame, Mandatory};
 use std::alloc::{AllocError, Global};
 
@@ -41,7 +41,7 @@ impl<'a> StoredAssertion<'a> {
         &self,
         alloc: Global,
         place: &P,
-        stack: &mut Stack,
+        entries: &mut Entries,
         buffer: &mut Vec<u32>,
         spreads: &mut Spreads,
     ) -> Result<bool, AllocError>
@@ -49,16 +49,18 @@ impl<'a> StoredAssertion<'a> {
         ensures noted { IfOk result (λ _. AreNoted (P.place place.now) spreads.new.notes) }
         ensures step { IfOk result
             (AgreesWithStep
+            (option_map (λ s. saving s entries.old.saved)
             (stack_with (numbered_applied (P.place place.now) (stored_frame self.now))
-            (length (stored_frame self.now).hypotheses) stack.old) stack.old stack.new) }
+            (length (stored_frame self.now).hypotheses) entries.old.stack))
+            entries.old entries.new) }
     {
         match self {
             StoredAssertion::Built(assertion) => apply(
-                alloc, place, assertion, stack, buffer, spreads,
+                alloc, place, assertion, entries, buffer, spreads,
             ),
             StoredAssertion::Shared(frame) => {
                 let assertion = Assertion::of(alloc, frame)?;
-                apply(alloc, place, &assertion, stack, buffer, spreads)
+                apply(alloc, place, &assertion, entries, buffer, spreads)
             }
         }
     }

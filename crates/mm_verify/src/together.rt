@@ -66,7 +66,7 @@ impl Met {
 fn meet_text<P: Place>(
     place: &P,
     i: usize,
-    stack: &Stack,
+    stack: &Stack<'_>,
     base: usize,
     spreads: &mut Spreads,
     met: &mut Met,
@@ -87,7 +87,7 @@ fn meet_text<P: Place>(
 fn meet_part<P: Place>(
     place: &P,
     part: &Part,
-    stack: &Stack,
+    stack: &Stack<'_>,
     base: usize,
     spreads: &mut Spreads,
     met: &mut Met,
@@ -114,7 +114,7 @@ fn are_together<P: Place>(
     alloc: Global,
     place: &P,
     group: &[Part],
-    stack: &Stack,
+    stack: &Stack<'_>,
     base: usize,
     spreads: &mut Spreads,
 ) -> Result<bool, AllocError>
@@ -144,7 +144,7 @@ pub(crate) fn is_group_apart<P: Place>(
     alloc: Global,
     place: &P,
     group: &[Part],
-    stack: &Stack,
+    stack: &Stack<'_>,
     base: usize,
     spreads: &mut Spreads,
 ) -> Result<bool, AllocError>

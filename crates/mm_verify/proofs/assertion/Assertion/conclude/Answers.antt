@@ -5,16 +5,20 @@ use Rattle.mm_verify.specs.Resolved.{hypotheses_of}
 use Rattle.mm_verify.proofs.Resolving.{placed-within, filled-is}
 use Rattle.mm_verify.proofs.assertion.Assertion.conclude.Goals as goal
 
-pub fill-requires-clause-within : goal.fill-requires-clause-within
-fill-requires-clause-within c =
-    placed-within (hypotheses_of c.args.self.now.wanted.items)
-    (length (drop c.args.base c.args.stack.now)) (statement_parts c.args.self.now.conclusion)
-    c.requires.count c.args.self.now.conclusion_placed
+pub fill-requires : goal.fill-requires
+fill-requires c = record {
+  within =
+      placed-within (hypotheses_of c.args.self.now.wanted.items)
+      (length (drop c.args.base c.args.stack.now)) (statement_parts c.args.self.now.conclusion)
+      c.requires.count c.args.self.now.conclusion_placed;
+}
 
-pub returns-clause-filled : goal.returns-clause-filled
-returns-clause-filled c =
-    subst (λ (t : List ℕ). OnOk c.fill.result (c.fill.new.to.items ≡ c.args.to.now.items ++ t))
-    (filled-is (hypotheses_of c.args.self.now.wanted.items) (drop c.args.base c.args.stack.now)
-    (statement_parts c.args.self.now.conclusion) c.requires.count
-    c.args.self.now.conclusion_placed)
-    c.fill.ensures.filled
+pub returns : goal.returns
+returns c = record {
+  filled =
+      subst (λ (t : List ℕ). OnOk c.fill.result (c.fill.new.to.items ≡ c.args.to.now.items ++ t))
+      (filled-is (hypotheses_of c.args.self.now.wanted.items) (drop c.args.base c.args.stack.now)
+      (statement_parts c.args.self.now.conclusion) c.requires.count
+      c.args.self.now.conclusion_placed)
+      c.fill.ensures.filled;
+}

@@ -1,6 +1,6 @@
 use Rattle.std.proofs.Common.{rules, arith, sym, ◌≤◌, length}
 use Rattle.mm_verify.proofs.Cuts.{start_high, end_low, end_high, get_or-cut}
-use Rattle.mm_verify.proofs.stack.piece.Goals as goal
+use Rattle.mm_verify.proofs.lists.piece.Goals as goal
 
 pub offset_bounds-symbols-from : goal.offset_bounds-symbols-from
 offset_bounds-symbols-from c =

@@ -2,7 +2,7 @@ use Rattle.std.proofs.Common.{arith, subst, ◌≡◌, ◌≤◌, List, ℕ, tak
 use Rattle.std.proofs.lemmas.List.{length-take-le}
 use Rattle.mm_verify.specs.Cut.{cut, AreEnds, start_of}
 use Rattle.mm_verify.proofs.Cuts.{AreEnds-take, cut-take, start_high, length_cut}
-use Rattle.mm_verify.proofs.stack.Stack.truncate.Goals as goal
+use Rattle.mm_verify.proofs.lists.Lists.truncate.Goals as goal
 
 within : (c : goal.After-truncate-2) → c.args.n ≤ length c.self.inside.ends.items
 within c =
