@@ -61,8 +61,7 @@ fn expect_faults(
 ) -> Result<(), Fail> {
     let sig = small_signature(rt, alloc)?;
     for (text, expected) in rows {
-        let found = first_fault(alloc, &sig, text);
-        assert!(rt; matches!(found, Ok(fault) if fault == *expected), "{text}");
+        assert!(rt; first_fault(alloc, &sig, text)? == *expected, "{text}");
     }
     Ok(())
 }

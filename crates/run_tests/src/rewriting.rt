@@ -10,12 +10,13 @@ use match_tree::Slots;
 use rewriter::{Next, Run};
 use rule_core::{Program, Signature, SortInfo, SortKind, Subsorts, Table};
 use std::alloc::{AllocError, Global};
+use std::test::Fail;
 use term_core::{RulePat, SortId, Value};
 
 const INT: SortId = SortId(0);
 
 // A program with the sort of whole numbers, no symbol and no rule.
-pub(crate) fn integers(alloc: Global) -> Result<Option<Program>, AllocError>
+fn integers(alloc: Global) -> Result<Option<Program>, AllocError>
     ensures sorted { IfOk result (λ found. (p : _) → found ≡ Some p → IsWellSorted (theory_of p)) }
     ensures numbers { IfOk result (λ found. (p : _) → found ≡ Some p → HasNumbers (theory_of p)) }
     ensures integers { IfOk result (λ found. (p : _) → found ≡ Some p → HasIntegers p.sig) }
@@ -40,29 +41,26 @@ pub(crate) fn integers(alloc: Global) -> Result<Option<Program>, AllocError>
 
 // Without a rule, a run is stuck at its start, each time that it is asked, and keeps its calls.
 #[test]
-fn is_stuck_without_a_rule(rt: HostRuntime) -> Result<(), AllocError> {
+fn is_stuck_without_a_rule(rt: HostRuntime) -> Result<(), Fail> {
     let alloc = rt.alloc();
     let Some(program) = integers(alloc)? else {
-        panic!(rt; "a sort twice");
+        return Err(Fail::from("a sort twice"));
     };
     let engine = Engine::new(alloc, &program)?;
     let five = RulePat::Value(INT, Value::Int(5));
     let Ok((mut run, record)) = Run::new(alloc, &engine, &five, 3) else {
-        panic!(rt; "blocked");
+        return Err(Fail::from("blocked"));
     };
-    let Ok(tree) = engine.rule_tree(alloc) else {
-        panic!(rt; "no tree");
-    };
-    let Ok(mut slots) = Slots::for_tree(alloc, &tree) else {
-        panic!(rt; "no slots");
-    };
+    let tree = engine.rule_tree(alloc)?;
+    let mut slots = Slots::for_tree(alloc, &tree)?;
     let slots = &mut slots;
-    let Ok(Next::Stuck) = run.step(alloc, &engine, &tree, slots) else {
-        panic!(rt; "not stuck");
-    };
-    let Ok(Next::Stuck) = run.step_as::<Unrecorded>(alloc, &engine, &tree, slots) else {
-        panic!(rt; "not stuck");
-    };
+    assert!(rt; matches!(run.step(alloc, &engine, &tree, slots)?, Next::Stuck));
+    assert!(rt;
+        matches!(
+            run.step_as::<Unrecorded>(alloc, &engine, &tree, slots)?,
+            Next::Stuck
+        )
+    );
     assert!(rt; run.config().same(record.result()));
     assert_eq!(rt; run.calls_left(), 3);
     Ok(())
