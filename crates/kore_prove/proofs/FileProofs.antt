@@ -56,6 +56,10 @@ then_file (Some old) between new file kept h =
     let q : KeepsFile (Some (record old { unread = kept.0 })) new file = subst P kept.1 h in
     (q.0, q.1, q.2)
 
+pub same_itself : (told : Option Told) → Same told told
+same_itself None = tt
+same_itself (Some told) = refl
+
 pub same_file : (old new : Option Told) (file : List ℕ) → Same old new → KeepsFile old new file
 same_file None new file h = tt
 same_file (Some old) new file h = (old, h, refl)

@@ -1,10 +1,12 @@
-use Rattle.std.proofs.Common.{Result, Ok, Err, IfOk}
+use Rattle.std.proofs.Common.{◌≡◌, Some, Result, Ok, Err, IfOk}
+use Rattle.std.proofs.lemmas.Result.{err_from_is_err_and}
 use Rattle.term_core.specs.RulePatterns.{plain_pattern}
 use Rattle.rule_core.specs.ProgramView.{theory_of}
 use Rattle.run_loop.specs.RunEnds.{plain_run}
 use Rattle.run_proof.specs.ClosedProofs.{PutsFront, PutsProof}
 use Rattle.kore_prove.specs.ProofFiles.{HoldsCounted, MayHoldFront}
-use Rattle.kore_prove.proofs.FileProofs.{created_proof, created_front, created_others, on_err_more}
+use Rattle.kore_prove.proofs.FileProofs.{created_proof, created_front, created_others, not_created}
+use Rattle.kore_prove.proofs.FileProofs.{on_err_more, same_itself, same_others}
 use Rattle.kore_prove.proofs.proof_file.proved_lines.Goals as goal
 
 if_ok : {T E : Type 0} (r : Result T E) (P Q : T → Type 0) → ((t : T) → P t → Q t) → IfOk r P
@@ -47,3 +49,18 @@ returns-clause-files g c =
     (g.D.Desk.state c.proved_lines_of_run.new.desk).told c.args.file.now
     c.in_ok-create_file.ensures.creates
     c.proved_lines_of_run.ensures.files
+
+-- ---- without memory for an engine no file is created
+
+pub returns-in_err-engine-clause-front : goal.returns-in_err-engine-clause-front
+returns-in_err-engine-clause-front g c =
+    let told = (g.D.Desk.state c.args.desk.now).told in
+    let p = err_from_is_err_and c.from_residual.result c.from_residual.ensures.1 in
+    rw p.1 (not_created told told c.args.file.now (theory_of c.args.accepted.now.program)
+    c.args.bounds.limit c.args.bounds.calls (plain_pattern c.args.accepted.now.start)
+    (same_itself told))
+
+pub returns-in_err-engine-clause-files : goal.returns-in_err-engine-clause-files
+returns-in_err-engine-clause-files g c =
+    let told = (g.D.Desk.state c.args.desk.now).told in
+    same_others (λ other. Some c.args.file.now ≡ Some other) told told (same_itself told)
