@@ -8,7 +8,7 @@ use Rattle.term_core.specs.Terms.{Tree, node, Forest, no_tree, more_trees, IsNor
 use Rattle.term_core.specs.Patterns.{variable, application, no_pattern, binding, instances_of}
 use Rattle.term_core.specs.Patterns.{ground_patterns}
 use Rattle.rule_core.specs.Theories.{RewriteTheory}
-use Rattle.rule_core.specs.Matching.{MatchAll, OccursInSome}
+use Rattle.rule_core.specs.Matching.{MatchNamed, OccursInSome}
 use Rattle.rule_core.specs.Sorting.{HaveSorts, IsTermOf}
 use Rattle.rule_core.specs.Evaluation.{value, of_constructor, IsUnmatchedBy, Evaluates, bound}
 use Rattle.rule_core.specs.Evaluation.{argument_blocked, made, function_called, none_left}
@@ -19,6 +19,7 @@ use Rattle.rule_core.specs.EvaluationCases.{append_empty, two, one, one_tree, on
 use Rattle.rule_core.specs.EvaluationCases.{one_item_tree, named}
 use Rattle.rule_core.specs.declared.signature.Signature.{Signature}
 use Rattle.rule_core.specs.declared.signature.SymKind.TheVariants.{Ctor}
+use Rattle.rule_core.proofs.NamedMatches.{match_unnamed}
 use Rattle.rule_core.proofs.SortedInstances.{both_there}
 use Rattle.rule_core.proofs.TriedIntegers.{declared_result}
 use Rattle.rule_core.proofs.TriedBounds.{defined_not_closed}
@@ -56,7 +57,7 @@ one_is_list sig d =
 
 -- the first equation matches an empty list and this list
 match_empty : (sig : Signature) → DeclaresLists sig
-    → MatchAll sig (1 ∷ []) (two (application 1 no_pattern) (variable 0))
+    → MatchNamed sig (1 ∷ []) (two (application 1 no_pattern) (variable 0)) []
     (more_trees nothing (one_tree one_item_tree)) (Some one_item_tree ∷ [])
 match_empty sig d =
     match_one sig 1 (two (application 1 no_pattern) (variable 0))
@@ -80,13 +81,16 @@ abbrev items : List (Option Tree)
 items = Some item ∷ (Some nothing ∷ (Some one_item_tree ∷ []))
 
 match_items : (sig : Signature) → DeclaresLists sig
-    → MatchAll sig (0 ∷ (1 ∷ (1 ∷ [])))
-    (two (application 2 (two (variable 0) (variable 1))) (variable 2))
+    → MatchNamed sig (0 ∷ (1 ∷ (1 ∷ [])))
+    (two (application 2 (two (variable 0) (variable 1))) (variable 2)) []
     (more_trees one_item_tree (one_tree one_item_tree)) items
-match_items sig d = record {
+match_items sig d =
+    match_unnamed sig (0 ∷ (1 ∷ (1 ∷ [])))
+    (two (application 2 (two (variable 0) (variable 1))) (variable 2))
+    (more_trees one_item_tree (one_tree one_item_tree)) items (record {
   binds = record { room = refl; just = λ x. (given x, bound_there x); sorted = sorted_there };
   makes = refl;
-} where
+}) where
   given : (x : ℕ) → IsSome (binding items x)
       → OccursInSome x (two (application 2 (two (variable 0) (variable 1))) (variable 2))
   given zero s = inl (inl refl)
