@@ -180,9 +180,9 @@ match_without sig variables ps names ts theta m = record {
     room =
         length-with_index (λ x o. kept_if (occurs_in_some_or_not x ps) o) theta ∙ m.binds.room;
     just = λ x. (
-        λ some. let is = given (binding (without ps theta) x) some in (from x is.0 is.1).0,
-        λ h. subst IsSome (sym (without-same ps theta x h)) ((m.binds.just x).1 (inl h)),
-      );
+      λ some. let is = given (binding (without ps theta) x) some in (from x is.0 is.1).0,
+      λ h. subst IsSome (sym (without-same ps theta x h)) ((m.binds.just x).1 (inl h)),
+    );
     sorted = λ x t e. m.binds.sorted x t (from x t e).1;
   };
   makes =
@@ -206,9 +206,9 @@ match_unnamed sig variables ps ts theta m = record {
   binds = record {
     room = m.binds.room;
     just = λ x. (
-        λ some. inl ((m.binds.just x).0 some),
-        λ h. ⊎_elim (m.binds.just x).1 (λ (never : ⊥). absurd never) h,
-      );
+      λ some. inl ((m.binds.just x).0 some),
+      λ h. ⊎_elim (m.binds.just x).1 (λ (never : ⊥). absurd never) h,
+    );
     sorted = m.binds.sorted;
   };
   makes = m.makes;
@@ -477,7 +477,7 @@ adds_names ps theta [] different within =
     record { room = refl; others = λ x no. refl; named = λ i d lt. absurd (omega arith) }
 adds_names ps theta (n ∷ names) different within =
     let rest = adds_names ps theta names different.1
-      (all_rest (λ (m : Name). m.variable < length theta) n names within) in
+    (all_rest (λ (m : Name). m.variable < length theta) n names within) in
     adds_first ps theta n names (added ps theta names) different.0
     (all_first (λ (m : Name). m.variable < length theta) n names within) rest
 
@@ -495,7 +495,10 @@ match_named_is_decidable sig variables ps names ts have (inl (theta, m)) =
     λ i d lt. let told = have.sorted i d lt in
     subst (λ k. (get_or names i d).variable < k) (sym m.binds.room)
     (slice_get_within variables (get_or names i d).variable told.1 told.4) in
-    inl (added ps theta names, names_match sig variables ps names ts theta
-    (added ps theta names) have m (adds_names ps theta names have.different within))
+    inl (
+      added ps theta names,
+      names_match sig variables ps names ts theta
+          (added ps theta names) have m (adds_names ps theta names have.different within),
+    )
 match_named_is_decidable sig variables ps names ts have (inr never) =
     inr (λ theta m. none_matches_named sig variables ps names ts theta never m)

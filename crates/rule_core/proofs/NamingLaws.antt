@@ -1,7 +1,7 @@
 -- Parts of the patterns of the code, and names that are added one by one.
 use Rattle.std.proofs.Common.{◌≡◌, ◌≢◌, ◌<◌, ◌≤◌, ◌+◌, inl, inr, ⊎_elim, ℕ, zero, suc, List, [], ◌∷◌, ◌++◌}
 use Rattle.std.proofs.Common.{length, map, set, get_or, drop, Option, Some, None, refl, sym, ◌∙◌, ap}
-use Rattle.std.proofs.Common.{subst, slice_get, false, true, arith}
+use Rattle.std.proofs.Common.{append_assoc, subst, slice_get, false, true, arith}
 use Rattle.std.specs.Prelude.{All, IsSome, IsSomeAnd, slice_index_or}
 use Rattle.std.proofs.lemmas.List.{drop_more, drop_all}
 use Rattle.std.proofs.lemmas.Bool.{false≢true}
@@ -161,3 +161,15 @@ first_within_room ps count x done are =
 pub no_names_yet : (ps : Patterns) (theta : List (Option Tree)) → AddsNames ps [] theta theta
 no_names_yet ps theta =
     record { room = refl; others = λ x no. refl; named = λ i d lt. absurd (omega arith) }
+
+-- what is left of names of which the last is taken off
+pub names_left : (ps : Patterns) (count : ℕ) (whole before rest done : List Named) (x : Named)
+    → AreNamesOf ps count (names_of whole) → whole ≡ before ++ done → before ≡ rest ++ x ∷ []
+    → (whole ≡ rest ++ x ∷ done) × AreNamesOf ps count (names_of (x ∷ done))
+names_left ps count whole before rest done x are is taken =
+    let all : whole ≡ rest ++ x ∷ done =
+    is ∙ ap (λ ws. ws ++ done) taken ∙ append_assoc rest (x ∷ []) done in (
+      all,
+      later_names ps count rest (x ∷ done)
+          (subst (λ (ws : List Named). AreNamesOf ps count (names_of ws)) all are),
+    )

@@ -126,9 +126,9 @@ first_false : {theory : RewriteTheory} (e : Equation) (ts : Forest) (theta : Lis
     (d : ℕ) → MatchesBy theory e ts theta → ConditionRecord theory theta e.condition (fails d)
     → MissedFirst theory e ts
 first_false e ts theta d match (q, r, is, recorded, not_true) = (
-    condition_false theta r,
-    λ es missed later. (e, es, q, refl, match, is, recorded, not_true, later),
-  )
+  condition_false theta r,
+  λ es missed later. (e, es, q, refl, match, is, recorded, not_true, later),
+)
 
 one_later : {theory : RewriteTheory} {f : ℕ} {es : List Equation} {ts : Forest} {t : Tree}
     (e : Equation) → IsUnused theory f e ts → MissedFirst theory e ts

@@ -34,27 +34,27 @@ pub match_one : (sig : Signature) (sort : ℕ) (ps : Patterns) (ts : Forest) (u 
     → MatchNamed sig (sort ∷ []) ps [] ts (Some u ∷ [])
 match_one sig sort ps ts u only there normal of e =
     match_unnamed sig (sort ∷ []) ps ts (Some u ∷ []) (record {
-  binds = record {
-    room = refl;
-    just = λ x. (given x, λ s. bound_there x (only x s));
-    sorted = sorted_there;
-  };
-  makes = e;
-}) where
-  given : (x : ℕ) → IsSome (binding (Some u ∷ []) x) → OccursInSome x ps
-  given zero s = there
-  given (suc x) s = let wrong : false ≡ true = s in absurd (false≢true wrong)
+      binds = record {
+        room = refl;
+        just = λ x. (given x, λ s. bound_there x (only x s));
+        sorted = sorted_there;
+      };
+      makes = e;
+    }) where
+      given : (x : ℕ) → IsSome (binding (Some u ∷ []) x) → OccursInSome x ps
+      given zero s = there
+      given (suc x) s = let wrong : false ≡ true = s in absurd (false≢true wrong)
 
-  bound_there : (x : ℕ) → x ≡ 0 → IsSome (binding (Some u ∷ []) x)
-  bound_there zero same = refl
-  bound_there (suc x) same = absurd (omega (arith, same))
+      bound_there : (x : ℕ) → x ≡ 0 → IsSome (binding (Some u ∷ []) x)
+      bound_there zero same = refl
+      bound_there (suc x) same = absurd (omega (arith, same))
 
-  sorted_there : (x : ℕ) (t : Tree) → binding (Some u ∷ []) x ≡ Some t
-      → IsNormal t × ((s : ℕ) × (slice_get (sort ∷ []) x ≡ Some s) × IsTermOf sig t s)
-  sorted_there zero t b =
-      let k : Some u ≡ Some t = b in
-      let same : u ≡ t = cc in rw (sym same) (normal, (sort, refl, of))
-  sorted_there (suc x) t b = let k : None ≡ Some t = b in let no : ⊥ = cc in absurd no
+      sorted_there : (x : ℕ) (t : Tree) → binding (Some u ∷ []) x ≡ Some t
+          → IsNormal t × ((s : ℕ) × (slice_get (sort ∷ []) x ≡ Some s) × IsTermOf sig t s)
+      sorted_there zero t b =
+          let k : Some u ≡ Some t = b in
+          let same : u ≡ t = cc in rw (sym same) (normal, (sort, refl, of))
+      sorted_there (suc x) t b = let k : None ≡ Some t = b in let no : ⊥ = cc in absurd no
 
 pub number_of_sort : (sig : Signature) (s : ℕ) (k : ℕ) → IsOfIntegers sig s → k < 2 ^ 127
     → IsTermOf sig (leaf s (integer (pos k))) s

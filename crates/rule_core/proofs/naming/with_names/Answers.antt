@@ -12,7 +12,7 @@ use Rattle.rule_core.specs.Naming.{AreNamesOf}
 use Rattle.rule_core.specs.ProgramView.{names_of}
 use Rattle.rule_core.specs.declared.rules.Named.{Named}
 use Rattle.rule_core.proofs.NamingLaws.{no_names_yet, later_names, part_of_first, part_fits}
-use Rattle.rule_core.proofs.NamingLaws.{one_name_more, first_within_room}
+use Rattle.rule_core.proofs.NamingLaws.{one_name_more, first_within_room, names_left}
 use Rattle.rule_core.proofs.naming.with_names.Goals as goal
 
 pub loop-name-init : goal.loop-name-init
@@ -27,69 +27,53 @@ pub part-requires : goal.part-requires
 part-requires c =
     let ps = plain_patterns c.args.pats.now in
     let done = c.loop-name.invariant.0 in
-    let all : c.args.named.now ≡ c.next.new.self.iter.rest.now ++ c.in-Some.name.now ∷ done =
-    c.loop-name.invariant.1 ∙ ap (λ ws. ws ++ done) c.in-Some.ensures.steps
-    ∙ append_assoc c.next.new.self.iter.rest.now (c.in-Some.name.now ∷ []) done in
-    let are : AreNamesOf ps (length c.args.subst) (names_of (c.in-Some.name.now ∷ done)) =
-    later_names ps (length c.args.subst) c.next.new.self.iter.rest.now
-    (c.in-Some.name.now ∷ done)
-    (subst (λ (ws : List Named). AreNamesOf ps (length c.args.subst) (names_of ws)) all
-    c.requires.names) in
+    let left =
+    names_left ps (length c.args.subst) c.args.named.now c.loop-name.name-iterator.iter.rest.now
+    c.next.new.self.iter.rest.now done c.in-Some.name.now c.requires.names
+    c.loop-name.invariant.1 c.in-Some.ensures.steps in
     subst (λ place. IsSome (part_of ps place)) (sym c.deref.ensures.value)
-    (part_of_first ps (length c.args.subst) c.in-Some.name.now done are)
+    (part_of_first ps (length c.args.subst) c.in-Some.name.now done left.1)
 
 pub instance-requires : goal.instance-requires
 instance-requires c =
     let ps = plain_patterns c.args.pats.now in
     let done = c.loop-name.invariant.0 in
-    let all : c.args.named.now ≡ c.next.new.self.iter.rest.now ++ c.in-Some.name.now ∷ done =
-    c.loop-name.invariant.1 ∙ ap (λ ws. ws ++ done) c.in-Some.ensures.steps
-    ∙ append_assoc c.next.new.self.iter.rest.now (c.in-Some.name.now ∷ []) done in
-    let are : AreNamesOf ps (length c.args.subst) (names_of (c.in-Some.name.now ∷ done)) =
-    later_names ps (length c.args.subst) c.next.new.self.iter.rest.now
-    (c.in-Some.name.now ∷ done)
-    (subst (λ (ws : List Named). AreNamesOf ps (length c.args.subst) (names_of ws)) all
-    c.requires.names) in
+    let left =
+    names_left ps (length c.args.subst) c.args.named.now c.loop-name.name-iterator.iter.rest.now
+    c.next.new.self.iter.rest.now done c.in-Some.name.now c.requires.names
+    c.loop-name.invariant.1 c.in-Some.ensures.steps in
     part_fits MAX_HEIGHT ps (length c.args.subst) (names_of done) c.args.subst c.loop-name.whole
     c.deref.result.now (plain_pattern c.part.result.now) c.requires.fits
-    (later_names ps (length c.args.subst) (c.in-Some.name.now ∷ []) done are)
+    (later_names ps (length c.args.subst) (c.in-Some.name.now ∷ []) done left.1)
     c.loop-name.invariant.2 c.part.ensures
 
 pub bind-requires : goal.bind-requires
 bind-requires c =
     let ps = plain_patterns c.args.pats.now in
     let done = c.loop-name.invariant.0 in
-    let all : c.args.named.now ≡ c.next.new.self.iter.rest.now ++ c.in-Some.name.now ∷ done =
-    c.loop-name.invariant.1 ∙ ap (λ ws. ws ++ done) c.in-Some.ensures.steps
-    ∙ append_assoc c.next.new.self.iter.rest.now (c.in-Some.name.now ∷ []) done in
-    let are : AreNamesOf ps (length c.args.subst) (names_of (c.in-Some.name.now ∷ done)) =
-    later_names ps (length c.args.subst) c.next.new.self.iter.rest.now
-    (c.in-Some.name.now ∷ done)
-    (subst (λ (ws : List Named). AreNamesOf ps (length c.args.subst) (names_of ws)) all
-    c.requires.names) in
+    let left =
+    names_left ps (length c.args.subst) c.args.named.now c.loop-name.name-iterator.iter.rest.now
+    c.next.new.self.iter.rest.now done c.in-Some.name.now c.requires.names
+    c.loop-name.invariant.1 c.in-Some.ensures.steps in
     let low : c.in-Some.name.now.var < length c.args.subst =
-    first_within_room ps (length c.args.subst) c.in-Some.name.now done are in
+    first_within_room ps (length c.args.subst) c.in-Some.name.now done left.1 in
     subst (λ k. c.in-Some.name.now.var < k) (sym c.loop-name.invariant.2.room) low
 
 pub loop-name-preserved : goal.loop-name-preserved
 loop-name-preserved c =
     let ps = plain_patterns c.args.pats.now in
     let done = c.loop-name.invariant.0 in
-    let all : c.args.named.now ≡ c.next.new.self.iter.rest.now ++ c.in-Some.name.now ∷ done =
-    c.loop-name.invariant.1 ∙ ap (λ ws. ws ++ done) c.in-Some.ensures.steps
-    ∙ append_assoc c.next.new.self.iter.rest.now (c.in-Some.name.now ∷ []) done in
-    let are : AreNamesOf ps (length c.args.subst) (names_of (c.in-Some.name.now ∷ done)) =
-    later_names ps (length c.args.subst) c.next.new.self.iter.rest.now
-    (c.in-Some.name.now ∷ done)
-    (subst (λ (ws : List Named). AreNamesOf ps (length c.args.subst) (names_of ws)) all
-    c.requires.names) in
+    let left =
+    names_left ps (length c.args.subst) c.args.named.now c.loop-name.name-iterator.iter.rest.now
+    c.next.new.self.iter.rest.now done c.in-Some.name.now c.requires.names
+    c.loop-name.invariant.1 c.in-Some.ensures.steps in
     let more =
     one_name_more ps (length c.args.subst) c.in-Some.name.now done c.args.subst
-    c.loop-name.whole (plain_pattern c.part.result.now) c.in_ok-term.term refl are
+    c.loop-name.whole (plain_pattern c.part.result.now) c.in_ok-term.term refl left.1
     c.loop-name.invariant.2
     (ap (part_of ps) (sym c.deref.ensures.value) ∙ c.part.ensures) c.in_ok-term.ensures.instance in (
       c.in-Some.name.now ∷ done,
-      all,
+      left.0,
       subst (λ theta. AddsNames ps (names_of (c.in-Some.name.now ∷ done)) c.args.subst theta)
           (sym c.bind.ensures) more,
     )
