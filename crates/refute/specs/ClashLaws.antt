@@ -2,8 +2,9 @@
 use Rattle.std.specs.Prelude.{◌≡◌, ℕ, List, Option, Some}
 use Rattle.term_core.specs.Terms.{Tree, no_tree, more_trees, IsNormal}
 use Rattle.term_core.specs.Patterns.{Pattern, variable, no_pattern, more_patterns, binding}
+use Rattle.term_core.specs.Patterns.{instance_of}
 use Rattle.rule_core.specs.Subsorts.{HasNoCycle}
-use Rattle.rule_core.specs.Matching.{MatchAll, NoneMatches}
+use Rattle.rule_core.specs.Matching.{RespectsSorts, MatchAll, NoneMatches}
 use Rattle.rule_core.specs.Sorting.{HasSort, IsTermOf}
 use Rattle.rule_core.specs.WellSorted.{HasNoCall}
 use Rattle.rule_core.specs.declared.signature.Signature.{Signature}
@@ -25,3 +26,11 @@ MatchReaches =
     → HasNoCall p → IsTermOf sig t sort → IsNormal t
     → MatchAll sig variables (more_patterns p no_pattern) (more_trees t no_tree) theta
     → (x : ℕ) (u : Tree) → binding theta x ≡ Some u → ComesTo sig.subsorts (variable x) u p t
+
+-- a pattern that fails never becomes the term
+abbrev pub FailureIsFinal : Type 0
+FailureIsFinal =
+    (sig : Signature) (variables : List ℕ) (p : Pattern) (sort : ℕ) (t : Tree)
+    (theta : List (Option Tree)) → HasNoCycle sig.subsorts → HasSort sig variables p sort
+    → RespectsSorts sig variables theta → Fails sig.subsorts p t
+    → instance_of theta p ≡ Some t → ⊥
