@@ -27,7 +27,7 @@ eval-requires-clause-fits g c =
     (sym (plain-Value _ _)) plain in
     subst (λ (p : Program). IsEvaluable (theory_of p) c.in_ok-subst.subst
     (plain_pattern (form.Value (record { 0 = 0 }) (value.Int (pos 5)))))
-    (sym c.new-engine.ensures) own
+    (sym c.in_ok-engine.ensures) own
 
 pub eval_as-requires-clause-fits : goal.eval_as-requires-clause-fits
 eval_as-requires-clause-fits g c =
@@ -43,4 +43,4 @@ eval_as-requires-clause-fits g c =
     (sym (plain-Value _ _)) plain in
     subst (λ (p : Program). IsEvaluable (theory_of p) c.in_ok-subst.subst
     (plain_pattern (form.Value (record { 0 = 0 }) (value.Int (pos 5)))))
-    (sym c.new-engine.ensures) own
+    (sym c.in_ok-engine.ensures) own

@@ -14,8 +14,8 @@ use Rattle.fun_eval.specs.TestPrograms.{HasIntegers}
 use Rattle.fun_eval.proofs.Empty.{integer_value}
 use Rattle.run_tests.proofs.rewriting.is_stuck_without_a_rule.Goals as goal
 
-pub new-requires : goal.new-requires
-new-requires g c =
+pub new-requires-2 : goal.new-requires-2
+new-requires-2 g c =
     let has : HasIntegers c.in-Some.program.sig =
     c.in_ok-program.ensures.integers c.in-Some.program c.in-Some.is in
     let none : c.in-Some.program.rules.items ≡ [] =
@@ -31,4 +31,4 @@ new-requires g c =
     subst (IsStart (theory_of c.in-Some.program)) (sym (plain-Value _ _)) plain in
     subst (λ (p : Program). IsStart (theory_of p)
     (plain_pattern (form.Value (record { 0 = 0 }) (value.Int (pos 5)))))
-    (sym c.new-engine.ensures) own
+    (sym c.in_ok-engine.ensures) own
