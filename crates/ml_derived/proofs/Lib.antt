@@ -4,3 +4,4 @@ pub mod StayingLaws
 pub mod PutLaws
 pub mod ContextLaws
 pub mod InstanceSteps
+pub mod ApplyingLaws

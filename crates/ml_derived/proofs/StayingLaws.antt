@@ -1,5 +1,5 @@
 -- The parts of a theorem that is within a scope.
-use Rattle.std.proofs.Common.{◌≡◌, subst}
+use Rattle.std.proofs.Common.{◌≡◌, sym, subst}
 use Rattle.std.specs.Prelude.{Result, Ok, Err, IfOk}
 use Rattle.ml_pat.specs.Patterns.{Pattern}
 use Rattle.ml_kernel.specs.Theorems.{Theorem}
@@ -14,3 +14,7 @@ if_ok (Err e) f h = tt
 pub concluded : (s : Scope) (t : Theorem) (p : Pattern) → IsWithin s t → t.conclusion ≡ p
     → IsOver s p
 concluded s t p within is = subst (IsOver s) is within.conclusion
+
+-- a pattern that was made, as an equal pattern
+pub made : (s : Scope) (q p : Pattern) → IsOver s p → q ≡ p → IsOver s q
+made s q p over is = subst (IsOver s) (sym is) over

@@ -2,6 +2,7 @@
 pub mod Scopes
 pub mod Implications
 pub mod Instances
+pub mod Applying
 pub mod Equalities
 -- Private: what clauses of private functions cite, and how private fields are seen.
 pub mod Parts

@@ -87,7 +87,7 @@ pub(crate) fn under(
 }
 
 // `(h -> p) -> h -> q`, from `h -> p -> q`. `left` and `right` are the sides of the result.
-fn distributed(
+pub(crate) fn distributed(
     alloc: Global,
     b: &Thm,
     h: &MPat,

@@ -1,12 +1,14 @@
 // Instances of sentences: closed patterns are substituted for the variables that a sentence binds.
-ghost use Rattle.std.specs.Prelude.{◌≡◌, [], ◌∷◌, IfOk};
-ghost use Rattle.ml_pat.specs.Patterns.{all};
+ghost use Rattle.std.specs.Prelude.{◌≡◌, [], ◌∷◌, IfOk, Some};
+ghost use Rattle.ml_pat.specs.Patterns.{all, imp, fun};
+ghost use Rattle.ml_pat.specs.Judgements.{substituted};
 ghost use Rattle.ml_kernel.specs.Lemmas.{HasNoVariable};
 ghost use Rattle.ml_kernel.specs.Theorems.{conclusions};
 ghost use Rattle.ml_derived.specs.Instances.{put, HasInstance, IsInstance};
 ghost use Rattle.ml_derived.specs.Parts.{IsElementOf, IsForAll, IsFunctional, IsPutIn, FitsBinder};
 ghost use Rattle.ml_derived.specs.Scopes.{StaysWithin};
 
+use crate::implications::{chained, under};
 use crate::rules::{inst, mp};
 use ml_kernel::Thm;
 use ml_pat::{MForm, MPat, MSort, VarNo, subst};
@@ -41,6 +43,48 @@ fn instance_at(alloc: Global, sentence: &Thm, fact: &Thm) -> Result<Thm, AllocEr
     let wanting = MPat::imp(alloc, fact.conclusion(), &made)?;
     let open = mp(alloc, sentence, &rule, sentence.conclusion(), &wanting)?;
     mp(alloc, fact, &open, fact.conclusion(), &made)
+}
+
+/// A universal quantifier: its variable, the sort of that, and what it quantifies.
+#[derive(Clone, Copy)]
+pub struct Binder<'a> {
+    /// The variable.
+    pub variable: VarNo,
+    /// Its sort.
+    pub sort: MSort,
+    /// The pattern below the quantifier.
+    pub body: &'a MPat,
+}
+
+/// `h -> made`, from `h -> all x s body` and `h -> fun q s`, where `made` is the body with q
+/// substituted for x. The pattern q may have variables. An error: out of memory.
+pub fn instance_under(
+    alloc: Global,
+    a: &Thm,
+    fact: &Thm,
+    h: &MPat,
+    binder: Binder<'_>,
+    q: &MPat,
+    made: &MPat,
+) -> Result<Thm, AllocError>
+    requires a { a.now.conclusion
+        ≡ imp h.now (all binder.variable.0 binder.sort.0 binder.body.now) }
+    requires fact { fact.now.conclusion ≡ imp h.now (fun q.now binder.sort.0) }
+    requires made { substituted binder.body.now binder.variable.0 q.now ≡ Some made.now }
+    ensures conclusion { IfOk result (λ t. t.conclusion ≡ imp h.now made.now) }
+    ensures stays { IfOk result (StaysWithin (made.now ∷ []) (a.now ∷ fact.now ∷ [])) }
+{
+    let Binder {
+        variable,
+        sort,
+        body,
+    } = binder;
+    let bound = MPat::all(alloc, variable, sort, body)?;
+    let element = MPat::fun(alloc, q, sort)?;
+    let wanting = MPat::imp(alloc, &element, made)?;
+    let rule = inst(alloc, body, q, made, variable, sort)?;
+    let open = chained(alloc, a, &rule, h, &bound, &wanting)?;
+    under(alloc, fact, &open, h, &element, made)
 }
 
 // The pattern with a closed pattern substituted for each free x.

@@ -1,10 +1,11 @@
--- Axioms whose bound variables are not renamed.
-use Rattle.std.proofs.Common.{◌≡◌, ℕ, List, [], refl, sym, ap}
+-- Axioms with renamed bound variables.
+use Rattle.std.proofs.Common.{◌≡◌, ℕ, zero, suc, List, [], ◌∷◌, slice_get, slice_index_or, refl, sym}
+use Rattle.std.proofs.Common.{ap}
+use Rattle.std.specs.Prelude.{unwrap_or}
 use Rattle.ml_pat.specs.Patterns.{Pattern, unary, binary, sorted, quantified}
 use Rattle.ml_kernel.specs.Renamings.{renamed, Renames, by_place}
-use Rattle.ml_kernel.specs.Lemmas.{HasNoMeta}
-use Rattle.ml_kernel.specs.Theorems.{own_axiom}
-use Rattle.ml_kernel.specs.Concluding.{Concludes}
+use Rattle.ml_pat.specs.declared.numbers.VarNo.{VarNo}
+use Rattle.ml_kernel.specs.StepView.{numbers_of}
 
 -- if no variable is renamed, the pattern does not change
 pub renamed-none : (p : Pattern) → renamed (by_place []) p ≡ p
@@ -21,7 +22,9 @@ renames-none p = record {
   keeps_free = λ x h. refl;
 }
 
--- so the step concludes the axiom
-pub concludes_axiom : (hyps : List Pattern) (n : ℕ) (p : Pattern) → HasNoMeta p
-    → Concludes hyps (own_axiom n p []) p
-concludes_axiom hyps n p h = (h, renames-none p)
+-- the variable that is read at a place
+pub renamed_or : (new : List VarNo) (k : ℕ) (y : VarNo)
+    → (unwrap_or (slice_get new k) y).0 ≡ slice_index_or (numbers_of new) k y.0
+renamed_or [] k y = refl
+renamed_or (x ∷ xs) zero y = refl
+renamed_or (x ∷ xs) (suc k) y = renamed_or xs k y

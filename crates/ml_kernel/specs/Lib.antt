@@ -1,6 +1,7 @@
 -- Public: what public clauses say, and public definitions of other crates.
 pub mod Rules
 pub mod Renamings
+pub mod RenamedAxioms
 pub mod Derivability
 pub mod Lemmas
 pub mod Theorems

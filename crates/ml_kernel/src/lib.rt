@@ -10,11 +10,13 @@
 mod derivations;
 mod erased;
 mod instances;
+mod renaming;
 mod rules;
 mod theorems;
 mod theory;
 
 pub use derivations::{AxiomNo, Deriv, DerivStep, Inst, Lemma};
+pub use renaming::renamed;
 pub use rules::Rule;
 pub use theorems::Thm;
 pub use theory::Theory;

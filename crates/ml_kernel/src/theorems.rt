@@ -7,7 +7,8 @@ ghost use Rattle.ml_kernel.specs.Theorems.{derivations, IsByRule, IsByLemma, IsD
 ghost use Rattle.ml_kernel.specs.Lemmas.{instance, instances, IsMetaBelow, AreMetasBelow};
 ghost use Rattle.ml_kernel.specs.Lemmas.{HasNoMeta, HaveNoVariables};
 ghost use Rattle.ml_kernel.specs.Concluding.{IsKept};
-ghost use Rattle.ml_kernel.specs.StepView.{instance_of, instances_of};
+ghost use Rattle.ml_kernel.specs.Renamings.{Renames, by_place};
+ghost use Rattle.ml_kernel.specs.StepView.{instance_of, instances_of, numbers_of};
 ghost use Rattle.ml_kernel.specs.Premises.{part_of, parts_of, theorems_of, AreKept};
 
 use crate::derivations::{AxiomNo, Deriv, DerivStep, Inst, Lemma, all_shared};
@@ -167,20 +168,25 @@ impl Thm {
         }
     }
 
-    // The theorem of an axiom.
-    pub(crate) fn of_axiom(alloc: Global, no: AxiomNo, pattern: MPat) -> Result<Thm, AllocError>
-        requires { HasNoMeta pattern }
+    // The theorem of an axiom, with new numbers of its bound variables by place.
+    pub(crate) fn of_axiom(
+        alloc: Global,
+        no: AxiomNo,
+        pattern: &MPat,
+        new: Vec<VarNo>,
+        conclusion: MPat,
+    ) -> Result<Thm, AllocError>
+        requires no_meta { HasNoMeta pattern.now }
+        requires renames { Renames (by_place (numbers_of new.items)) pattern.now conclusion }
         ensures hypotheses { IfOk result (λ t. t.hypotheses ≡ []) }
-        ensures conclusion { IfOk result (λ t. t.conclusion ≡ pattern) }
-        ensures derivation { IfOk result (λ t. t.derivation ≡ own_axiom no.0 pattern []) }
+        ensures conclusion { IfOk result (λ t. t.conclusion ≡ conclusion) }
+        ensures derivation { IfOk result
+            (λ t. t.derivation ≡ own_axiom no.0 pattern.now (numbers_of new.items)) }
     {
-        let derivation = Deriv::of(
-            alloc,
-            DerivStep::Axiom(no, pattern.share()?, Vec::new(alloc)),
-        )?;
+        let derivation = Deriv::of(alloc, DerivStep::Axiom(no, pattern.share()?, new))?;
         Ok(Thm {
             hypotheses: Vec::new(alloc),
-            conclusion: pattern,
+            conclusion,
             derivation,
         })
     }

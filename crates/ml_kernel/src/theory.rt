@@ -3,10 +3,13 @@ ghost use Rattle.std.specs.Prelude.{◌≡◌, ◌<◌, [], ◌∷◌, ◌++◌,
 ghost use Rattle.std.specs.Prelude.{Some};
 ghost use Rattle.ml_kernel.specs.Lemmas.{HasNoMeta};
 ghost use Rattle.ml_kernel.specs.Theorems.{own_axiom};
+ghost use Rattle.ml_kernel.specs.StepView.{numbers_of};
+ghost use Rattle.ml_kernel.specs.RenamedAxioms.{IsAxiomAs, MayRename};
 
 use crate::derivations::AxiomNo;
+use crate::renaming::renamed_pattern;
 use crate::theorems::Thm;
-use ml_pat::MPat;
+use ml_pat::{MPat, VarNo};
 use std::alloc::{AllocError, Global};
 use std::marker::Model;
 
@@ -77,8 +80,25 @@ impl Theory {
         ensures hypotheses { IfOk result (λ t. t.hypotheses ≡ []) }
         ensures derivation { IfOk result (λ t. t.derivation ≡ own_axiom no.0 t.conclusion []) }
     {
-        let pattern = self.at(no).share()?;
-        Thm::of_axiom(alloc, no, pattern)
+        let pattern = self.at(no);
+        Thm::of_axiom(alloc, no, pattern, Vec::new(alloc), pattern.share()?)
+    }
+
+    /// The axiom as a theorem, with new numbers for its bound variables: the variable with the
+    /// number i becomes the i-th entry of the list. If the list is shorter, the variable does not
+    /// change. Different variables have to stay different, and free ones must not change. The
+    /// theorem has no hypotheses, and keeps only this axiom. An error: out of memory.
+    pub fn axiom_as(&self, alloc: Global, no: AxiomNo, new: &[VarNo]) -> Result<Thm, AllocError>
+        requires number { no.0 < length self.now }
+        requires renames { MayRename self.now no.0 (numbers_of new.now) }
+        ensures axiom { IfOk result (IsAxiomAs self.now no.0 (numbers_of new.now)) }
+        ensures hypotheses { IfOk result (λ t. t.hypotheses ≡ []) }
+    {
+        let pattern = self.at(no);
+        let conclusion = renamed_pattern(alloc, new, pattern)?;
+        let mut numbers = Vec::with_capacity(alloc, new.len())?;
+        numbers.extend_from_slice(new)?;
+        Thm::of_axiom(alloc, no, pattern, numbers, conclusion)
     }
 
     /// The axiom with this number. No pattern variable occurs in it.

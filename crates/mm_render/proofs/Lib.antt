@@ -5,6 +5,5 @@ pub mod NeededLaws
 pub mod HeadTexts
 pub mod MandatoryTexts
 pub mod StackedVariables
-pub mod RenamedVariables
 pub mod StatedTheorems
 pub mod TheoremTexts

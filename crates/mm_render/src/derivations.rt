@@ -18,8 +18,8 @@ ghost use Rattle.mm_render.specs.VariablesView.{variable_of};
 use crate::claims::Claim;
 use crate::mandatory::mandatory_labels;
 use crate::places::{StatementContext, found, premise_of};
-use crate::variables::{Variable, renamed};
-use ml_kernel::{Deriv, DerivStep, Inst, Rule};
+use crate::variables::Variable;
+use ml_kernel::{Deriv, DerivStep, Inst, Rule, renamed};
 use ml_pat::{MPat, VarNo};
 use mm_proof::{
     Goal, Label, ProofTable, judgements, pattern_at, prove_before, prove_goal, prove_instances,

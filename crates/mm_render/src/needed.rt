@@ -12,8 +12,8 @@ ghost use Rattle.mm_claims.specs.Variables.{AreNumbered};
 ghost use Rattle.mm_render.specs.VariablesView.{plain_variables, variable_of};
 
 use crate::places::{StatementContext, found};
-use crate::variables::{Variable, VariableList, renamed};
-use ml_kernel::{Deriv, DerivStep, Inst};
+use crate::variables::{Variable, VariableList};
+use ml_kernel::{Deriv, DerivStep, Inst, renamed};
 use ml_pat::{MPat, VarNo};
 use std::alloc::{AllocError, Global};
 

@@ -1,8 +1,6 @@
 // The variables that occur in patterns, each once, in the order of first occurrence.
 ghost use Rattle.std.specs.Prelude.{◌≡◌, ◌+◌, [], ◌∷◌, ◌++◌, IfOk, OnOk, flat_map};
 ghost use Rattle.ml_pat.specs.FormsIn.{forms_in};
-ghost use Rattle.ml_kernel.specs.Renamings.{by_place};
-ghost use Rattle.ml_kernel.specs.StepView.{numbers_of};
 ghost use Rattle.mm_claims.specs.ClaimVariables.{claim_variables, variables_in};
 ghost use Rattle.mm_claims.specs.AddedVariables.{added};
 ghost use Rattle.mm_claims.specs.Variables.{AreNumbered, has_variable, object_variable};
@@ -20,14 +18,6 @@ pub(crate) enum Variable {
     Object(VarNo),
     /// A pattern variable, with its number.
     Pattern(u32),
-}
-
-/// What an object variable becomes if `new` has the new variables by place.
-#[tactic(auto, using(crate::proofs::RenamedVariables::renamed_or))]
-pub(crate) fn renamed(new: &[VarNo], x: VarNo) -> VarNo
-    ensures { result.0 ≡ by_place (numbers_of new.now) x.0 }
-{
-    new.get(x.0 as usize).copied().unwrap_or(x)
 }
 
 /// Variables in the order in which they were first added, each once.

@@ -1,0 +1,15 @@
+use Rattle.ml_pat.specs.Patterns.{imp, not}
+use Rattle.ml_derived.specs.Scopes.{IsOver, IsWithin}
+use Rattle.ml_derived.proofs.StayingLaws.{if_ok, concluded}
+use Rattle.ml_derived.proofs.hypothetical.not_to_bot.Goals as goal
+
+pub returns-clause-stays : goal.returns-clause-stays
+returns-clause-stays c =
+    if_ok c.chained.result
+    (λ t stays s hp ht.
+    let parts : IsOver s (imp c.args.r.now (not c.args.p.now)) =
+    concluded s c.args.a.now (imp c.args.r.now (not c.args.p.now)) ht.0 c.requires in
+    let w-rule : IsWithin s c.in_ok-rule.rule =
+    c.in_ok-rule.ensures.stays s (parts.1, tt) tt in
+    stays s tt (ht.0, (w-rule, tt)))
+    c.chained.ensures.stays

@@ -1,0 +1,17 @@
+use Rattle.ml_pat.specs.Patterns.{imp}
+use Rattle.ml_derived.specs.Scopes.{IsOver, IsWithin}
+use Rattle.ml_derived.proofs.StayingLaws.{if_ok, concluded}
+use Rattle.ml_derived.proofs.hypothetical.swap.Goals as goal
+
+pub returns-clause-stays : goal.returns-clause-stays
+returns-clause-stays c =
+    if_ok c.chained.result
+    (λ t stays s hp ht.
+    let parts : IsOver s (imp c.args.h.now (imp c.args.p.now c.args.q.now)) =
+    concluded s c.args.a.now (imp c.args.h.now (imp c.args.p.now c.args.q.now)) ht.0 c.requires in
+    let w-sides : IsWithin s c.in_ok-sides.sides =
+    c.in_ok-sides.ensures.stays s tt (ht.0, tt) in
+    let w-weaker : IsWithin s c.in_ok-weaker.weaker =
+    c.in_ok-weaker.ensures.stays s (parts.1.0, (parts.0, tt)) tt in
+    stays s tt (w-weaker, (w-sides, tt)))
+    c.chained.ensures.stays
