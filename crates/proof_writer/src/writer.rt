@@ -281,12 +281,14 @@ fn is_fact(pattern: &MPat) -> bool
 
 // Returns whether a pattern says for all variables that two patterns are not equal, or that an
 // injection is injective.
-#[cycle(apart)]
 fn is_apart(pattern: &MPat) -> bool
     ensures { result ≡ is_apart_form pattern.now }
 {
-    match pattern.form() {
-        MForm::All(_, _, below) => is_apart(below),
+    let mut rest = pattern;
+    while let MForm::All(_, _, below) = rest.form() {
+        rest = below;
+    }
+    match rest.form() {
         MForm::Not(below) => matches!(below.form(), MForm::Equal(..)),
         MForm::Imp(given, then) => {
             matches!(given.form(), MForm::Equal(..)) && equates_variables(then)
