@@ -1,4 +1,3 @@
--- Public: what public clauses say, and public definitions of other crates.
+-- Laws: what follows from public definitions. Each is a clause of a function that does nothing.
 pub mod Clashes
--- Laws: what follows from that. Each is a clause of a function that does nothing.
 pub mod ClashLaws
