@@ -15,12 +15,14 @@ use Rattle.rule_core.proofs.RecordsTell.{record_tells}
 use Rattle.rule_core.proofs.RecordsKept.{has_record, calls_fall}
 use Rattle.rule_core.proofs.EvaluationAnswers.{IsGood, answers}
 use Rattle.rule_core.proofs.MatchExact.{match_is_unique}
+use Rattle.rule_core.proofs.NamedMatches.{match_named_once}
 
 pub all_match_once : (theory : RewriteTheory) → IsWellSorted theory → AllMatchOnce theory
 all_match_once theory good f info i =
     λ k e lt. let fits = good.equations f info i k e lt in
-    λ ts theta sigma m l. match_is_unique theory.sig _ [] _ info.args.items ts theta sigma
-    good.signature.no_cycle fits.arguments m l
+    λ ts theta sigma m l. match_named_once theory.sig _ _ _ ts theta sigma
+    (λ xs ys one other. match_is_unique theory.sig _ [] _ info.args.items ts xs ys
+    good.signature.no_cycle fits.arguments one other) m l
 
 pub evaluation_is_unique : EvaluationIsUnique
 evaluation_is_unique theory n c theta p r s good a b =

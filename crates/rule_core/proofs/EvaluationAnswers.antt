@@ -15,10 +15,12 @@ use Rattle.term_core.specs.Patterns.{instance_of, instances_of}
 use Rattle.term_core.proofs.Forests.{IsNormal-injected, height-injected_le}
 use Rattle.rule_core.specs.Rules.{Equation}
 use Rattle.rule_core.specs.Theories.{RewriteTheory, equations_of}
-use Rattle.rule_core.specs.Matching.{OccursIn, OccursInSome, RespectsSorts, MatchAll, NoneMatches}
+use Rattle.rule_core.specs.NamedParts.{Name, IsNamed, part_instance}
+use Rattle.rule_core.specs.Matching.{OccursIn, OccursInSome, RespectsSorts, MatchNamed}
 use Rattle.rule_core.specs.MatchLaws.{AreTermsOf}
 use Rattle.rule_core.specs.Sorting.{HasSort, HaveSorts, IsTermOf, IsSymbol, IsFunction}
 use Rattle.rule_core.specs.Sorting.{HasInjection, HasValue, sort_at}
+use Rattle.rule_core.specs.Evaluation.{MatchesBy, IsUnmatchedBy}
 use Rattle.rule_core.specs.Evaluation.{Evaluated, value, blocked, AllEvaluated, values, all_blocked}
 use Rattle.rule_core.specs.Evaluation.{ConditionOutcome, holds, fails, untested, no_value, closed}
 use Rattle.rule_core.specs.Evaluation.{no_equation, no_call_left, too_high, too_nested, IsTrueValue}
@@ -34,7 +36,7 @@ use Rattle.rule_core.specs.Evaluation.{no_condition, condition, EvaluatesIn, no_
 use Rattle.rule_core.specs.HookCalls.{HookAnswers, HookFails}
 use Rattle.term_core.specs.declared.values.NoValue.{NoValue}
 use Rattle.rule_core.specs.WellSorted.{IsWellSorted, BindsVariablesOf, IsEquationOf, IsCondition}
-use Rattle.rule_core.specs.WellSorted.{UsesOnly}
+use Rattle.rule_core.specs.WellSorted.{UsesOnly, HaveNames}
 use Rattle.rule_core.specs.HookSorts.{FitsHook}
 use Rattle.rule_core.specs.declared.signature.Signature.{Signature}
 use Rattle.rule_core.specs.declared.signature.SortRef.{SortRef}
@@ -46,6 +48,7 @@ use Rattle.rule_core.proofs.EvaluationUnique.{all_first, all_rest, same_symbol}
 use Rattle.rule_core.proofs.HookRanges.{hook_answer}
 use Rattle.rule_core.proofs.SortedInstances.{mapped, both_there, IsTermOf-injected}
 use Rattle.rule_core.proofs.MatchExact.{match_is_decidable}
+use Rattle.rule_core.proofs.NamedMatches.{at_name, part_low, match_named_is_decidable}
 
 -- ---- a binding is no higher than the instance
 
@@ -273,16 +276,27 @@ injection_symbol sig has =
 -- ---- equations
 
 -- the substitution of a match serves the condition and the right side
-pub serves_match : (sig : Signature) (variables : List ℕ) (ps : Patterns) (ts : Forest)
-    (theta : List (Option Tree)) (p : Pattern) → MatchAll sig variables ps ts theta
-    → heights ts ≤ most_height → UsesOnly ps p → BindsVariablesOf sig variables theta p
-serves_match sig variables ps ts theta p m lows uses = record {
+pub serves_match : (sig : Signature) (variables : List ℕ) (ps : Patterns) (names : List Name)
+    (ts : Forest) (theta : List (Option Tree)) (p : Pattern) → HaveNames sig variables ps names
+    → MatchNamed sig variables ps names ts theta → heights ts ≤ most_height
+    → UsesOnly ps names p → BindsVariablesOf sig variables theta p
+serves_match sig variables ps names ts theta p have m lows uses = record {
   bound = λ x stands. (m.binds.just x).1 (uses x stands);
   sorted = m.binds.sorted;
   low =
-      λ x t b. le_trans (binding_low_in theta ps x ts t m.makes
+      λ x t b. le_trans (named_low ps names x ts t m
       ((m.binds.just x).0 (some_of (binding theta x) t b)) b) lows;
 } where
+  named_low : (ps : Patterns) (names : List Name) (x : ℕ) (ts : Forest) (t : Tree)
+      → MatchNamed sig variables ps names ts theta → OccursInSome x ps ⊎ IsNamed names x
+      → binding theta x ≡ Some t → height t ≤ heights ts
+  named_low ps names x ts t m (inl occurs) b = binding_low_in theta ps x ts t m.makes occurs b
+  named_low ps names x ts t m (inr is) b =
+      let here =
+      at_name (λ n. binding theta n.variable ≡ part_instance theta ps n.place) names x m.named is in
+      part_low theta ps ts here.0.place t m.makes
+      (sym here.2 ∙ ap (binding theta) here.1 ∙ b)
+
   some_of : (o : Option Tree) (t : Tree) → o ≡ Some t → IsSome o
   some_of o t e = rw e refl
 
@@ -305,21 +319,23 @@ says_something (value t c) =
 
 test_answer : (theory : RewriteTheory) (n : ℕ) → AnswersWithin theory n
     → (f : ℕ) (variables : List ℕ) (ps : Patterns) (ts : Forest) (theta : List (Option Tree))
-    (c : ℕ) → MatchAll theory.sig variables ps ts theta → heights ts ≤ most_height
-    → (o : Option Pattern) → IfSome o (IsCondition theory.sig variables ps)
+    (c : ℕ) → (names : List Name) → HaveNames theory.sig variables ps names
+    → MatchNamed theory.sig variables ps names ts theta → heights ts ≤ most_height
+    → (o : Option Pattern) → IfSome o (IsCondition theory.sig variables ps names)
     → (x : ConditionOutcome) × Tests theory n f theta o c x
-test_answer theory n within f variables ps ts theta c m lows None fits = (holds c, no_condition)
-test_answer theory n within f variables ps ts theta c m lows (Some p) fits =
+test_answer theory n within f variables ps ts theta c names have m lows None fits =
+    (holds c, no_condition)
+test_answer theory n within f variables ps ts theta c names have m lows (Some p) fits =
     let r =
     within f variables theta p fits.0 c fits.5
-    (serves_match theory.sig variables ps ts theta p m lows fits.6) in
+    (serves_match theory.sig variables ps names ts theta p have m lows fits.6) in
     let x = says_something r.0 in
     (x.0, condition r.1 x.1)
 
 -- the outcome of an equation that matches
 matched_answer : (theory : RewriteTheory) (n : ℕ) (f : ℕ) (e : Equation) (es : List Equation)
     (ts : Forest) (theta : List (Option Tree)) (c sort : ℕ)
-    → MatchAll theory.sig e.variables e.arguments ts theta → (x : ConditionOutcome)
+    → MatchesBy theory e ts theta → (x : ConditionOutcome)
     → Tests theory n f theta e.condition c x
     → ((d : ℕ)
     → (r : Evaluated) × EvaluatesIn theory n f theta e.right d r × IsGood theory.sig sort r)
@@ -347,19 +363,20 @@ equation_answer theory good n within f info ts sort at trees (e ∷ es) each c =
     let sorts : Some fits.sort ≡ Some sort = sym fits.result ∙ at in
     let same : fits.sort ≡ sort = cc in
     ⊎_elim
-    (λ (hit : (theta : List (Option Tree)) × MatchAll theory.sig e.variables e.arguments ts theta).
+    (λ (hit : (theta : List (Option Tree)) × MatchesBy theory e ts theta).
     let x =
-    test_answer theory n within f e.variables e.arguments ts hit.0 c hit.1 trees.2 e.condition
-    fits.condition in
+    test_answer theory n within f e.variables e.arguments ts hit.0 c e.names fits.names hit.1
+    trees.2 e.condition fits.condition in
     matched_answer theory n f e es ts hit.0 c sort hit.1 x.0 x.1
     (λ d. within f e.variables hit.0 e.right sort d
     (subst (λ s. HasSort theory.sig e.variables e.right s) same fits.right)
-    (serves_match theory.sig e.variables e.arguments ts hit.0 e.right hit.1 trees.2 fits.bound))
-    others)
-    (λ (never : NoneMatches theory.sig e.variables e.arguments ts).
+    (serves_match theory.sig e.variables e.arguments e.names ts hit.0 e.right fits.names hit.1
+    trees.2 fits.bound)) others)
+    (λ (never : IsUnmatchedBy theory e ts).
     let r = others c in (r.0, unmatched never r.1, r.2))
+    (match_named_is_decidable theory.sig e.variables e.arguments e.names ts fits.names
     (match_is_decidable theory.sig e.variables [] e.arguments info.args.items ts
-    good.signature.no_cycle fits.arguments trees.0 trees.1)
+    good.signature.no_cycle fits.arguments trees.0 trees.1))
 
 -- ---- functions
 

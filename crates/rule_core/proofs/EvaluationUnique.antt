@@ -11,9 +11,9 @@ use Rattle.term_core.specs.declared.ids.HookNo.{HookNo}
 use Rattle.term_core.specs.declared.values.NoValue.{NoValue}
 use Rattle.rule_core.specs.Rules.{Equation}
 use Rattle.rule_core.specs.Theories.{RewriteTheory, equations_of}
-use Rattle.rule_core.specs.Matching.{MatchAll}
 use Rattle.rule_core.specs.Sorting.{IsSymbol, sort_at}
 use Rattle.rule_core.specs.HookCalls.{AreValues, HookAnswers, HookFails}
+use Rattle.rule_core.specs.Evaluation.{MatchesBy}
 use Rattle.rule_core.specs.Evaluation.{Cause, Evaluated, value, blocked, AllEvaluated, values}
 use Rattle.rule_core.specs.Evaluation.{all_blocked, ConditionOutcome, holds, fails, untested}
 use Rattle.rule_core.specs.Evaluation.{no_value, closed, no_equation, no_call_left, too_high}
@@ -44,8 +44,8 @@ same_symbol sig f a b x y =
 abbrev pub MatchesOnce : RewriteTheory → Equation → Type 0
 MatchesOnce theory e =
     (ts : Forest) (theta sigma : List (Option Tree))
-    → MatchAll theory.sig e.variables e.arguments ts theta
-    → MatchAll theory.sig e.variables e.arguments ts sigma → theta ≡ sigma
+    → MatchesBy theory e ts theta
+    → MatchesBy theory e ts sigma → theta ≡ sigma
 
 -- the same for each equation of each symbol
 abbrev pub AllMatchOnce : RewriteTheory → Type 0
@@ -400,7 +400,7 @@ data Tried (theory : RewriteTheory) (n f : ℕ) (ts : Forest) (e : Equation) (es
 
 tried : {theory : RewriteTheory} {n f c : ℕ} {ts : Forest} {e : Equation} {es : List Equation}
     {r : Evaluated} (theta : List (Option Tree)) → MatchesOnce theory e
-    → MatchAll theory.sig e.variables e.arguments ts theta → Equates theory n f (e ∷ es) ts c r
+    → MatchesBy theory e ts theta → Equates theory n f (e ∷ es) ts c r
     → Tried theory n f ts e es theta c r
 tried theta once m (unmatched never others) = absurd (never theta m)
 tried {ts = ts} theta once m (condition_fails {theta = sigma} l test others) =

@@ -7,6 +7,8 @@ pub mod AcSymbols
 pub mod Bindings
 pub mod SortedInstances
 pub mod MatchFound
+pub mod NamedMatches
+pub mod NamingLaws
 pub mod MatchComplete
 pub mod MatchExact
 pub mod EvaluationUnique

@@ -1,11 +1,13 @@
 -- An evaluation that has a value leaves no more calls than there were, and has a record.
 use Rattle.std.proofs.Common.{◌≡◌, ℕ, suc, zero, ◌+◌, ◌-◌, ◌<◌, ◌≤◌, inl, inr, List, ◌∷◌, Option}
-use Rattle.std.proofs.Common.{Some, refl, sym, ◌∙◌, ap, subst, slice_get, le_trans, arith}
+use Rattle.std.proofs.Common.{Some, None, refl, sym, ◌∙◌, ap, subst, slice_get, take, le_trans}
+use Rattle.std.proofs.Common.{◌⊎◌, arith}
+use Rattle.std.specs.Prelude.{IsSome, IsNone}
 use Rattle.term_core.specs.Terms.{Tree, leaf, Forest, more_trees}
 use Rattle.term_core.specs.Patterns.{Pattern, Patterns, call}
-use Rattle.rule_core.specs.Rules.{Equation}
+use Rattle.rule_core.specs.Rules.{Equation, Guard}
 use Rattle.rule_core.specs.Theories.{RewriteTheory, equations_of}
-use Rattle.rule_core.specs.Matching.{MatchAll}
+use Rattle.rule_core.specs.Evaluation.{MatchesBy, IsUnmatchedBy}
 use Rattle.rule_core.specs.Evaluation.{value, blocked, values, ConditionOutcome, holds, fails}
 use Rattle.rule_core.specs.Evaluation.{untested, built, says_true, says_other, says_nothing}
 use Rattle.rule_core.specs.Evaluation.{Evaluates, bound, itself, made, function_called, EvaluateAll}
@@ -17,7 +19,8 @@ use Rattle.rule_core.specs.FirstRule.{most_nesting}
 use Rattle.rule_core.specs.HookCalls.{HookAnswers}
 use Rattle.rule_core.specs.Records.{Record, RecordList, no_record, more_records, OptionalRecord}
 use Rattle.rule_core.specs.Records.{unconditional, conditional, result_of, results_of, most_calls}
-use Rattle.rule_core.specs.Records.{IsUnused, Records, RecordAll, RecordsCondition}
+use Rattle.rule_core.specs.Records.{IsUnused, Records, RecordAll, RecordsCondition, AreMissed, Miss}
+use Rattle.rule_core.specs.Records.{no_match, condition_false, MissList, none_missed, more_missed}
 use Rattle.rule_core.specs.Records as kept
 use Rattle.rule_core.specs.Sorting.{IsSymbol}
 use Rattle.rule_core.specs.declared.signature.SymInfo.{SymInfo}
@@ -86,7 +89,9 @@ RecordsOf theory theta ps ts =
 abbrev pub ConditionRecord : RewriteTheory → List (Option Tree) → Option Pattern → ConditionOutcome
     → Type 0
 ConditionRecord theory theta p (holds c) = (o : OptionalRecord) × RecordsCondition theory theta p o
-ConditionRecord theory theta p (fails c) = Unit {0}
+ConditionRecord theory theta p (fails c) =
+    (q : Pattern) × (r : Record) × (p ≡ Some q) × Records theory theta q r
+    × (IsTrueValue (result_of r) → ⊥)
 ConditionRecord theory theta p (untested cause) = Unit {0}
 
 -- the first of these equations that applies at the terms, with its records
@@ -96,7 +101,7 @@ record EquationRecord (theory : RewriteTheory) (f : ℕ) (es : List Equation) (t
   equation : Equation
   there : slice_get es place ≡ Some equation
   sigma : List (Option Tree)
-  matches : MatchAll theory.sig equation.variables equation.arguments ts sigma
+  matches : MatchesBy theory equation ts sigma
   earlier : (j : ℕ) (other : Equation) → j < place → slice_get es j ≡ Some other
       → IsUnused theory f other ts
   test : OptionalRecord
@@ -104,11 +109,31 @@ record EquationRecord (theory : RewriteTheory) (f : ℕ) (es : List Equation) (t
   body : Record
   right : Records theory sigma equation.right body
   result : result_of body ≡ t
+  missed : MissList
+  passed : AreMissed theory (take place es) ts missed
+
+-- why one equation is missed, in front of why the later ones are
+abbrev MissedFirst : RewriteTheory → Equation → Forest → Type 0
+MissedFirst theory e ts =
+    (miss : Miss) × ((es : List Equation) (missed : MissList) → AreMissed theory es ts missed
+    → AreMissed theory (e ∷ es) ts (more_missed miss missed))
+
+first_unmatched : {theory : RewriteTheory} (e : Equation) (ts : Forest)
+    → IsUnmatchedBy theory e ts → MissedFirst theory e ts
+first_unmatched e ts never = (no_match, λ es missed later. (e, es, refl, never, later))
+
+first_false : {theory : RewriteTheory} (e : Equation) (ts : Forest) (theta : List (Option Tree))
+    (d : ℕ) → MatchesBy theory e ts theta → ConditionRecord theory theta e.condition (fails d)
+    → MissedFirst theory e ts
+first_false e ts theta d match (q, r, is, recorded, not_true) = (
+  condition_false theta r,
+  λ es missed later. (e, es, q, refl, match, is, recorded, not_true, later),
+)
 
 one_later : {theory : RewriteTheory} {f : ℕ} {es : List Equation} {ts : Forest} {t : Tree}
-    (e : Equation) → IsUnused theory f e ts → EquationRecord theory f es ts t
-    → EquationRecord theory f (e ∷ es) ts t
-one_later {theory} {f} {es} {ts} e unused r = record {
+    (e : Equation) → IsUnused theory f e ts → MissedFirst theory e ts
+    → EquationRecord theory f es ts t → EquationRecord theory f (e ∷ es) ts t
+one_later {theory} {f} {es} {ts} e unused first r = record {
   place = suc r.place;
   equation = r.equation;
   there = r.there;
@@ -120,6 +145,8 @@ one_later {theory} {f} {es} {ts} e unused r = record {
   body = r.body;
   right = r.right;
   result = r.result;
+  missed = more_missed first.0 r.missed;
+  passed = first.1 (take r.place es) r.missed r.passed;
 } where
   before : (j : ℕ) (other : Equation) → j < suc r.place → slice_get (e ∷ es) j ≡ Some other
       → IsUnused theory f other ts
@@ -130,7 +157,7 @@ one_later {theory} {f} {es} {ts} e unused r = record {
 
 first_used : {theory : RewriteTheory} {f : ℕ} {ts : Forest} {t : Tree} (e : Equation)
     (es : List Equation) (theta : List (Option Tree))
-    → MatchAll theory.sig e.variables e.arguments ts theta → (o : OptionalRecord)
+    → MatchesBy theory e ts theta → (o : OptionalRecord)
     → RecordsCondition theory theta e.condition o → RecordOf theory theta e.right t
     → EquationRecord theory f (e ∷ es) ts t
 first_used e es theta match o kept_condition right = record {
@@ -145,13 +172,15 @@ first_used e es theta match o kept_condition right = record {
   body = right.0;
   right = right.1;
   result = right.2;
+  missed = none_missed;
+  passed = refl;
 }
 
 -- a condition that fails with less also fails with the calls and the nesting with which records are
 -- judged
 failed_before : {theory : RewriteTheory} {f : ℕ} {ts : Forest} (e : Equation)
     (theta : List (Option Tree)) (n c d m k : ℕ)
-    → MatchAll theory.sig e.variables e.arguments ts theta
+    → MatchesBy theory e ts theta
     → Tests theory n f theta e.condition c (fails d) → n ≤ m → c ≤ k
     → (left : ℕ) × Tests theory m f theta e.condition k (fails left)
 failed_before {theory} {f} e theta n c d m k match test le few =
@@ -164,12 +193,20 @@ failed_before {theory} {f} e theta n c d m k match test le few =
 
 unused_before : {theory : RewriteTheory} {f : ℕ} {ts : Forest} (e : Equation)
     (theta : List (Option Tree)) (n c d : ℕ)
-    → MatchAll theory.sig e.variables e.arguments ts theta
+    → MatchesBy theory e ts theta
     → Tests theory n f theta e.condition c (fails d) → n ≤ most_nesting → c ≤ most_calls
     → IsUnused theory f e ts
 unused_before e theta n c d match test le few =
     let failed = failed_before e theta n c d most_nesting most_calls match test le few in
     inr (theta, failed.0, match, failed.1)
+
+-- an equation of the last resort lists what was missed
+what_is_said : (theory : RewriteTheory) (es : List Equation) (guards : Option (List Guard))
+    (ts : Forest) (missed : MissList) → AreMissed theory es ts missed
+    → (said : MissList) × ((IsNone guards × (said ≡ none_missed))
+    ⊎ (IsSome guards × AreMissed theory es ts said))
+what_is_said theory es None ts missed passed = (none_missed, inl (refl, refl))
+what_is_said theory es (Some guards) ts missed passed = (missed, inr (refl, passed))
 
 by_equation_record : (theory : RewriteTheory) (f : ℕ) (info : SymInfo) {theta : List (Option Tree)}
     {ts : Forest} {t : Tree} → IsSymbol theory.sig f info → info.kind ≡ Equations
@@ -179,13 +216,18 @@ by_equation_record : (theory : RewriteTheory) (f : ℕ) (info : SymInfo) {theta 
 by_equation_record theory f info {ts = ts} is defined sorts ps args r =
     let back : ts ≡ results_of args.0 = sym args.2 in
     let there =
-    subst (λ us. MatchAll theory.sig r.equation.variables r.equation.arguments us r.sigma) back
+    subst (λ us. MatchesBy theory r.equation us r.sigma) back
     r.matches in
     let before =
     subst (λ us. (j : ℕ) (other : Equation) → j < r.place
     → slice_get (equations_of theory f) j ≡ Some other → IsUnused theory f other us)
-    back r.earlier in (
-      kept.by_equation args.0 r.place r.sigma r.test r.body,
+    back r.earlier in
+    let said =
+    what_is_said theory (take r.place (equations_of theory f)) r.equation.last_resort
+    (results_of args.0) r.missed
+    (subst (λ us. AreMissed theory (take r.place (equations_of theory f)) us r.missed) back
+    r.passed) in (
+      kept.by_equation args.0 r.place r.sigma r.test r.body said.0,
       (
         f,
         sorts,
@@ -201,6 +243,7 @@ by_equation_record theory f info {ts = ts} is defined sorts ps args r =
         args.1,
         r.condition,
         r.right,
+        said.1,
       ),
       r.result,
     )
@@ -210,7 +253,8 @@ pub condition_record : (theory : RewriteTheory) {theta : List (Option Tree)} (p 
     → ConditionRecord theory theta (Some p) r
 condition_record theory p (says_true is) kept_value =
     (conditional kept_value.0, (p, refl, kept_value.1, subst IsTrueValue (sym kept_value.2) is))
-condition_record theory p (says_other other) kept_value = tt
+condition_record theory p (says_other other) kept_value =
+    (p, kept_value.0, refl, kept_value.1, λ is. other (subst IsTrueValue kept_value.2 is))
 
 mutual
   pub has_record : (theory : RewriteTheory) {n c d : ℕ} {theta : List (Option Tree)} {p : Pattern}
@@ -272,12 +316,13 @@ mutual
   has_equation_record : (theory : RewriteTheory) {n f c d : ℕ} {es : List Equation} {ts : Forest}
       {t : Tree} → Equates theory n f es ts c (value t d) → n ≤ most_nesting → c ≤ most_calls
       → EquationRecord theory f es ts t
-  has_equation_record theory (unmatched {e = e} never others) le few =
-      one_later e (inl never) (has_equation_record theory others le few)
-  has_equation_record theory
+  has_equation_record theory {ts = ts} (unmatched {e = e} never others) le few =
+      one_later {theory = theory} e (inl never) (first_unmatched e ts never) (has_equation_record theory others le few)
+  has_equation_record theory {ts = ts}
       (condition_fails {n = n} {c = c} {d = d} {e = e} {theta = theta} match test others) le few =
       let fewer : d ≤ c = tested_calls_fall test in
-      one_later e (unused_before e theta n c d match test le few)
+      one_later {theory = theory} e (unused_before e theta n c d match test le few)
+      (first_false e ts theta d match (has_condition_record theory test le few))
       (has_equation_record theory others le (le_trans fewer few))
   has_equation_record theory
       (used {c = c} {d = d} {e = e} {es = es} {theta = theta} match test right) le few =

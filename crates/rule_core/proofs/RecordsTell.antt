@@ -5,7 +5,7 @@ use Rattle.term_core.specs.Terms.{Tree, leaf, Forest, more_trees}
 use Rattle.term_core.specs.Patterns.{Pattern, Patterns, call, more_patterns}
 use Rattle.rule_core.specs.Rules.{Equation}
 use Rattle.rule_core.specs.Theories.{RewriteTheory, equations_of}
-use Rattle.rule_core.specs.Matching.{MatchAll}
+use Rattle.rule_core.specs.Evaluation.{MatchesBy}
 use Rattle.rule_core.specs.Evaluation.{value, values, holds, fails, says_true, Evaluates, bound}
 use Rattle.rule_core.specs.Evaluation.{itself, made, function_called, EvaluateAll, none_left}
 use Rattle.rule_core.specs.Evaluation.{one_more, HasOutcome, by_hook, by_equations, Equates}
@@ -81,7 +81,7 @@ skipped_somehow theory f e es ts t unused others =
     (λ failed. failing failed.0 failed.1 most_nesting most_calls failed.2 failed.3) unused
   where
     failing : (theta : List (Option Tree)) (left m c : ℕ)
-        → MatchAll theory.sig e.variables e.arguments ts theta
+        → MatchesBy theory e ts theta
         → Tests theory m f theta e.condition c (fails left)
         → Somehow (EquatedBy theory f (e ∷ es) ts t)
     failing theta left m c match test =
@@ -101,7 +101,7 @@ skipped_somehow theory f e es ts t unused others =
 
 used_somehow : (theory : RewriteTheory) (f : ℕ) (e : Equation) (es : List Equation) (ts : Forest)
     (theta : List (Option Tree)) (t : Tree)
-    → MatchAll theory.sig e.variables e.arguments ts theta
+    → MatchesBy theory e ts theta
     → Somehow (HoldsBy theory f theta e.condition) → Somehow (ValueBy theory theta e.right t)
     → Somehow (EquatedBy theory f (e ∷ es) ts t)
 used_somehow theory f e es ts theta t match test right =
@@ -150,7 +150,7 @@ mutual
       rw (w.7, w.11) (called_somehow theory theta w.0 w.1 w.2 (results_of rs) (leaf w.6 w.5) 0 1 0
       (records_tell theory theta w.2 rs w.12)
       (λ n k le. let one : 1 + k ≡ suc (0 + k) = omega arith in rw one (by_hook w.8 w.9 w.10)))
-  record_tells theory theta p (kept.by_equation rs i sigma o body) w =
+  record_tells theory theta p (kept.by_equation rs i sigma o body missed) w =
       let used_there : (rest : List Equation) → Somehow
       (EquatedBy theory w.0 (w.4 ∷ rest) (results_of rs) (result_of body)) =
       λ rest. used_somehow theory w.0 w.4 rest (results_of rs) sigma (result_of body) w.9

@@ -7,7 +7,8 @@ use Rattle.term_core.specs.Terms.{Tree, Forest, no_tree, more_trees, height, hei
 use Rattle.term_core.specs.Patterns.{Pattern, Patterns, no_pattern, more_patterns}
 use Rattle.rule_core.specs.Rules.{RewriteRule}
 use Rattle.rule_core.specs.Theories.{RewriteTheory}
-use Rattle.rule_core.specs.Matching.{MatchAll, NoneMatches}
+use Rattle.rule_core.specs.NamedParts.{Name}
+use Rattle.rule_core.specs.Matching.{MatchNamed}
 use Rattle.rule_core.specs.Sorting.{HasSort}
 use Rattle.rule_core.specs.Evaluation.{Evaluated, value, blocked, ConditionOutcome, holds, fails}
 use Rattle.rule_core.specs.Evaluation.{untested, says_true, says_other, IsTrueValue, Evaluates}
@@ -23,12 +24,14 @@ use Rattle.rule_core.specs.RunLaws.{HasRun, StepRecordDetermines}
 use Rattle.rule_core.specs.Records.{StepRecord, RecordsStep, RecordsCondition, OptionalRecord}
 use Rattle.rule_core.specs.Records.{unconditional, conditional, result_of}
 use Rattle.rule_core.specs.WellSorted.{IsWellSorted, BindsVariablesOf, IsRuleOf, IsCondition}
+use Rattle.rule_core.specs.WellSorted.{HaveNames}
 use Rattle.rule_core.specs.declared.signature.SortRef.TheVariants.{Sort}
 use Rattle.rule_core.proofs.EvaluationUnique.{all_first, all_rest}
 use Rattle.rule_core.proofs.EvaluationAnswers.{IsGood, IsGoodTree, answers, serves_match}
 use Rattle.rule_core.proofs.EvaluationAnswers.{says_something}
 use Rattle.rule_core.proofs.FirstApplies.{Applied, applied, all_at}
 use Rattle.rule_core.proofs.MatchExact.{match_is_decidable}
+use Rattle.rule_core.proofs.NamedMatches.{match_named_is_decidable}
 use Rattle.rule_core.proofs.SortedInstances.{sorted_use_first}
 use Rattle.rule_core.proofs.RecordsTell.{record_tells}
 use Rattle.rule_core.proofs.Determined.{values_agree, values_are_sorted, record_determines}
@@ -48,15 +51,17 @@ TrialAnswer theory sort t i rules c =
     (r : Trial) × Tries theory t i rules c r × IsGoodTrial theory sort t r
 
 meets_answer : (theory : RewriteTheory) → IsWellSorted theory
-    → (variables : List ℕ) (ps : Patterns) (ts : Forest) (theta : List (Option Tree)) (c : ℕ)
-    → MatchAll theory.sig variables ps ts theta → heights ts ≤ most_height → (o : Option Pattern)
-    → IfSome o (IsCondition theory.sig variables ps) → (x : ConditionOutcome)
-    × Meets theory theta o c x
-meets_answer theory good variables ps ts theta c m lows None fits = (holds c, no_rule_condition)
-meets_answer theory good variables ps ts theta c m lows (Some p) fits =
+    → (variables : List ℕ) (ps : Patterns) (names : List Name) (ts : Forest)
+    (theta : List (Option Tree)) (c : ℕ) → HaveNames theory.sig variables ps names
+    → MatchNamed theory.sig variables ps names ts theta → heights ts ≤ most_height
+    → (o : Option Pattern) → IfSome o (IsCondition theory.sig variables ps names)
+    → (x : ConditionOutcome) × Meets theory theta o c x
+meets_answer theory good variables ps names ts theta c have m lows None fits =
+    (holds c, no_rule_condition)
+meets_answer theory good variables ps names ts theta c have m lows (Some p) fits =
     let r =
     (answers theory good most_nesting).0 variables theta p fits.0 c fits.5
-    (serves_match theory.sig variables ps ts theta p m lows fits.6) in
+    (serves_match theory.sig variables ps names ts theta p have m lows fits.6) in
     let x = says_something r.0 in
     (x.0, rule_condition r.1 x.1)
 
@@ -84,19 +89,19 @@ trial_answer theory good sort t fine (rule ∷ rules) each i c =
     (all_rest (IsRuleOf theory.sig sort) rule rules each) (i + 1) in
     let low : height t ≤ most_height = fine.2 in
     ⊎_elim
-    (λ (hit : (theta : List (Option
-    Tree)) × MatchAll theory.sig rule.variables (more_patterns rule.left
-    no_pattern) (more_trees t no_tree) theta).
+    (λ (hit : (theta : List (Option Tree)) × Matches theory rule t theta).
     let x =
-    meets_answer theory good rule.variables (more_patterns rule.left no_pattern)
-    (more_trees t no_tree) hit.0 c hit.1 (omega arith) rule.condition fits.condition in
+    meets_answer theory good rule.variables (more_patterns rule.left no_pattern) rule.names
+    (more_trees t no_tree) hit.0 c fits.names hit.1 (omega arith) rule.condition
+    fits.condition in
     matched_rule theory sort t i c rule rules hit.0 fits hit.1 x.0 x.1 others)
-    (λ (never : NoneMatches theory.sig rule.variables (more_patterns rule.left
-    no_pattern) (more_trees t no_tree)).
+    (λ (never : IsUnmatched theory rule t).
     let r = others c in (r.0, rule_unmatched never r.1, r.2))
+    (match_named_is_decidable theory.sig rule.variables (more_patterns rule.left no_pattern)
+    rule.names (more_trees t no_tree) fits.names
     (match_is_decidable theory.sig rule.variables [] (more_patterns rule.left no_pattern)
     (Sort (record { 0 = sort }) ∷ []) (more_trees t no_tree) good.signature.no_cycle
-    (sort, refl, fits.left, tt) (sort, refl, fine.0, tt) (fine.1, tt))
+    (sort, refl, fits.left, tt) (sort, refl, fine.0, tt) (fine.1, tt)))
 
 -- ---- steps
 
@@ -124,8 +129,8 @@ step_by theory good sort t fine c (applies i rule theta d) tries (fits, m) =
     let low : height t ≤ most_height = fine.2 in
     let r =
     (answers theory good most_nesting).0 rule.variables theta rule.right sort d fits.right
-    (serves_match theory.sig rule.variables (more_patterns rule.left no_pattern)
-    (more_trees t no_tree) theta rule.right m (omega arith) fits.bound) in
+    (serves_match theory.sig rule.variables (more_patterns rule.left no_pattern) rule.names
+    (more_trees t no_tree) theta rule.right fits.names m (omega arith) fits.bound) in
     right_answer theory sort t c i d rule theta tries r.0 r.1 r.2
 step_by theory good sort t fine c none_applies tries fits = (stays, by_none tries, tt)
 step_by theory good sort t fine c (trial_blocked cause) tries fits =

@@ -22,6 +22,7 @@ use Rattle.rule_core.specs.declared.signature.SortRef.TheVariants.{Sort}
 use Rattle.rule_core.proofs.EvaluationUnique.{AllMatchOnce, all_first, all_rest, says_only}
 use Rattle.rule_core.proofs.EvaluationUnique.{evaluation_unique}
 use Rattle.rule_core.proofs.MatchExact.{match_is_unique}
+use Rattle.rule_core.proofs.NamedMatches.{match_named_once}
 use Rattle.rule_core.proofs.Determined.{all_match_once}
 
 -- only one substitution matches a rule with a term
@@ -38,8 +39,10 @@ rules_match_once theory good =
     subst (λ rules. All (RuleMatchesOnce theory) rules) (sym none) nothing)
     (λ (all : (sort : ℕ) × All (IsRuleOf theory.sig sort) theory.rules).
     λ k d lt. let fits = all.1 k d lt in
-    λ t theta sigma m l. match_is_unique theory.sig _ [] _ (Sort (record { 0 = all.0 }) ∷ [])
-    (more_trees t no_tree) theta sigma good.signature.no_cycle (all.0, refl, fits.left, tt) m l)
+    λ t theta sigma m l. match_named_once theory.sig _ _ _ (more_trees t no_tree) theta sigma
+    (λ xs ys one other. match_is_unique theory.sig _ [] _ (Sort (record { 0 = all.0 }) ∷ [])
+    (more_trees t no_tree) xs ys good.signature.no_cycle (all.0, refl, fits.left, tt) one other)
+    m l)
     good.one_sort
 
 -- ---- trials

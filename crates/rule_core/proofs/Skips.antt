@@ -10,6 +10,7 @@ use Rattle.rule_core.specs.Theories.{RewriteTheory}
 use Rattle.rule_core.specs.Matching.{NoneMatches}
 use Rattle.rule_core.specs.FirstRule.{Trial, Tries, rule_unmatched}
 use Rattle.rule_core.specs.TrialLaws.{UnmatchedAreSkipped}
+use Rattle.rule_core.proofs.NamedMatches.{none_matches_named}
 
 -- one rule that does not match
 skip_one : (theory : RewriteTheory) (t : Tree) (i calls : ℕ) (r : Trial) (rule : RewriteRule)
@@ -22,7 +23,8 @@ skip_one theory t i calls r rule within is none later =
     drop_more theory.rules i rule within
     ∙ ap (λ (x : RewriteRule). x ∷ drop (i + 1) theory.rules) (sym is) in
     let P : List RewriteRule → Type 0 = λ rules. Tries theory t i rules calls r in
-    subst P (sym front) (rule_unmatched none later)
+    subst P (sym front) (rule_unmatched (λ theta m. none_matches_named theory.sig rule.variables
+    (more_patterns rule.left no_pattern) rule.names (more_trees t no_tree) theta none m) later)
 
 first_of : (rules : List RewriteRule) (i : ℕ) → i < length rules
     → (rule : RewriteRule) × (rule ≡ get_or rules i rule)

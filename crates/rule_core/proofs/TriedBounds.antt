@@ -3,7 +3,7 @@ use Rattle.std.proofs.Common.{◌≡◌, ℕ, suc, [], ◌∷◌, true, false, S
 use Rattle.std.proofs.lemmas.Bool.{false≢true}
 use Rattle.term_core.specs.Terms.{no_tree}
 use Rattle.term_core.specs.Patterns.{Pattern, call, no_pattern, binding}
-use Rattle.rule_core.specs.Matching.{MatchAll}
+use Rattle.rule_core.specs.Matching.{MatchNamed}
 use Rattle.rule_core.specs.Evaluation.{Evaluated, of_constructor, of_call, Evaluates, bound, itself}
 use Rattle.rule_core.specs.Evaluation.{nested_out, made, made_too_high, function_called, none_left}
 use Rattle.rule_core.specs.Evaluation.{one_more, without_call, by_equations, no_equation_left, used}
@@ -12,20 +12,21 @@ use Rattle.rule_core.specs.EvaluationCases.{Declares, TriedBounds, always, defin
 use Rattle.rule_core.specs.declared.signature.Signature.{Signature}
 use Rattle.rule_core.specs.declared.signature.SymKind.{SymKind}
 use Rattle.rule_core.specs.declared.signature.SymKind.TheVariants.{Equations, Closed}
+use Rattle.rule_core.proofs.NamedMatches.{match_unnamed}
 
 not_given : (x : ℕ) → binding [] x ≡ None
 not_given x = refl
 
 -- the empty list of patterns matches the empty list of trees
-pub match_nothing : (sig : Signature) → MatchAll sig [] no_pattern no_tree []
-match_nothing sig = record {
+pub match_nothing : (sig : Signature) → MatchNamed sig [] no_pattern [] no_tree []
+match_nothing sig = match_unnamed sig [] no_pattern no_tree [] (record {
   binds = record {
     room = refl;
     just = λ x. (λ s. let wrong : false ≡ true = s in absurd (false≢true wrong), λ s. absurd s);
     sorted = λ x t e. let k : None ≡ Some t = e in let no : ⊥ = cc in absurd no;
   };
   makes = refl;
-}
+})
 
 pub defined_not_closed : (k : SymKind) → k ≡ Equations → k ≡ Closed → ⊥
 defined_not_closed k a b = let e : Closed ≡ Equations = sym b ∙ a in cc

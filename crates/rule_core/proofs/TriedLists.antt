@@ -8,7 +8,7 @@ use Rattle.term_core.specs.Terms.{Tree, node, Forest, no_tree, more_trees, IsNor
 use Rattle.term_core.specs.Patterns.{variable, application, no_pattern, binding, instances_of}
 use Rattle.term_core.specs.Patterns.{ground_patterns}
 use Rattle.rule_core.specs.Theories.{RewriteTheory}
-use Rattle.rule_core.specs.Matching.{MatchAll, OccursInSome}
+use Rattle.rule_core.specs.Matching.{MatchNamed, OccursInSome}
 use Rattle.rule_core.specs.Sorting.{HaveSorts, IsTermOf}
 use Rattle.rule_core.specs.Evaluation.{value, of_constructor, IsUnmatchedBy, Evaluates, bound}
 use Rattle.rule_core.specs.Evaluation.{argument_blocked, made, function_called, none_left}
@@ -19,6 +19,7 @@ use Rattle.rule_core.specs.EvaluationCases.{append_empty, two, one, one_tree, on
 use Rattle.rule_core.specs.EvaluationCases.{one_item_tree, named}
 use Rattle.rule_core.specs.declared.signature.Signature.{Signature}
 use Rattle.rule_core.specs.declared.signature.SymKind.TheVariants.{Ctor}
+use Rattle.rule_core.proofs.NamedMatches.{match_unnamed}
 use Rattle.rule_core.proofs.SortedInstances.{both_there}
 use Rattle.rule_core.proofs.TriedIntegers.{declared_result}
 use Rattle.rule_core.proofs.TriedBounds.{defined_not_closed}
@@ -56,7 +57,7 @@ one_is_list sig d =
 
 -- the first equation matches an empty list and this list
 match_empty : (sig : Signature) → DeclaresLists sig
-    → MatchAll sig (1 ∷ []) (two (application 1 no_pattern) (variable 0))
+    → MatchNamed sig (1 ∷ []) (two (application 1 no_pattern) (variable 0)) []
     (more_trees nothing (one_tree one_item_tree)) (Some one_item_tree ∷ [])
 match_empty sig d =
     match_one sig 1 (two (application 1 no_pattern) (variable 0))
@@ -80,51 +81,54 @@ abbrev items : List (Option Tree)
 items = Some item ∷ (Some nothing ∷ (Some one_item_tree ∷ []))
 
 match_items : (sig : Signature) → DeclaresLists sig
-    → MatchAll sig (0 ∷ (1 ∷ (1 ∷ [])))
-    (two (application 2 (two (variable 0) (variable 1))) (variable 2))
+    → MatchNamed sig (0 ∷ (1 ∷ (1 ∷ [])))
+    (two (application 2 (two (variable 0) (variable 1))) (variable 2)) []
     (more_trees one_item_tree (one_tree one_item_tree)) items
-match_items sig d = record {
-  binds = record { room = refl; just = λ x. (given x, bound_there x); sorted = sorted_there };
-  makes = refl;
-} where
-  given : (x : ℕ) → IsSome (binding items x)
-      → OccursInSome x (two (application 2 (two (variable 0) (variable 1))) (variable 2))
-  given zero s = inl (inl refl)
-  given (suc zero) s = inl (inr (inl refl))
-  given (suc (suc zero)) s = inr (inl refl)
-  given (suc (suc (suc x))) s = let wrong : false ≡ true = s in absurd (false≢true wrong)
+match_items sig d =
+    match_unnamed sig (0 ∷ (1 ∷ (1 ∷ [])))
+    (two (application 2 (two (variable 0) (variable 1))) (variable 2))
+    (more_trees one_item_tree (one_tree one_item_tree)) items (record {
+      binds = record { room = refl; just = λ x. (given x, bound_there x); sorted = sorted_there };
+      makes = refl;
+    }) where
+      given : (x : ℕ) → IsSome (binding items x)
+          → OccursInSome x (two (application 2 (two (variable 0) (variable 1))) (variable 2))
+      given zero s = inl (inl refl)
+      given (suc zero) s = inl (inr (inl refl))
+      given (suc (suc zero)) s = inr (inl refl)
+      given (suc (suc (suc x))) s = let wrong : false ≡ true = s in absurd (false≢true wrong)
 
-  few : (x : ℕ) → OccursInSome x (two (application 2 (two (variable 0) (variable 1))) (variable 2))
-      → x < 3
-  few x s =
-      ⊎_elim
-      (λ (a : (x ≡ 0) ⊎ ((x ≡ 1) ⊎ ⊥)). ⊎_elim (λ (e : x ≡ 0). omega (arith, e))
-      (λ (b : (x ≡ 1) ⊎ ⊥). ⊎_elim (λ (e : x ≡ 1). omega (arith, e)) (λ (no : ⊥). absurd no) b)
-      a)
-      (λ (a : (x ≡ 2) ⊎ ⊥). ⊎_elim (λ (e : x ≡ 2). omega (arith, e)) (λ (no : ⊥). absurd no) a)
-      s
+      few : (x : ℕ) → OccursInSome x (two (application 2 (two (variable 0) (variable 1))) (variable 2))
+          → x < 3
+      few x s =
+          ⊎_elim
+          (λ (a : (x ≡ 0) ⊎ ((x ≡ 1) ⊎ ⊥)). ⊎_elim (λ (e : x ≡ 0). omega (arith, e))
+          (λ (b : (x ≡ 1) ⊎ ⊥). ⊎_elim (λ (e : x ≡ 1). omega (arith, e)) (λ (no : ⊥). absurd no) b)
+          a)
+          (λ (a : (x ≡ 2) ⊎ ⊥). ⊎_elim (λ (e : x ≡ 2). omega (arith, e)) (λ (no : ⊥). absurd no) a)
+          s
 
-  bound_there : (x : ℕ)
-      → OccursInSome x (two (application 2 (two (variable 0) (variable 1))) (variable 2))
-      → IsSome (binding items x)
-  bound_there zero s = refl
-  bound_there (suc zero) s = refl
-  bound_there (suc (suc zero)) s = refl
-  bound_there (suc (suc (suc x))) s = absurd (omega (arith, few (suc (suc (suc x))) s))
+      bound_there : (x : ℕ)
+          → OccursInSome x (two (application 2 (two (variable 0) (variable 1))) (variable 2))
+          → IsSome (binding items x)
+      bound_there zero s = refl
+      bound_there (suc zero) s = refl
+      bound_there (suc (suc zero)) s = refl
+      bound_there (suc (suc (suc x))) s = absurd (omega (arith, few (suc (suc (suc x))) s))
 
-  sorted_there : (x : ℕ) (t : Tree) → binding items x ≡ Some t
-      → IsNormal t × ((s : ℕ) × (slice_get (0 ∷ (1 ∷ (1 ∷ []))) x ≡ Some s) × IsTermOf sig t s)
-  sorted_there zero t b =
-      let k : Some item ≡ Some t = b in
-      let same : item ≡ t = cc in rw (sym same) (tt, (0, refl, item_is_item sig d))
-  sorted_there (suc zero) t b =
-      let k : Some nothing ≡ Some t = b in
-      let same : nothing ≡ t = cc in rw (sym same) (tt, (1, refl, empty_is_list sig d))
-  sorted_there (suc (suc zero)) t b =
-      let k : Some one_item_tree ≡ Some t = b in
-      let same : one_item_tree ≡ t = cc in
-      rw (sym same) ((tt, (tt, tt)), (1, refl, one_is_list sig d))
-  sorted_there (suc (suc (suc x))) t b = let k : None ≡ Some t = b in let no : ⊥ = cc in absurd no
+      sorted_there : (x : ℕ) (t : Tree) → binding items x ≡ Some t
+          → IsNormal t × ((s : ℕ) × (slice_get (0 ∷ (1 ∷ (1 ∷ []))) x ≡ Some s) × IsTermOf sig t s)
+      sorted_there zero t b =
+          let k : Some item ≡ Some t = b in
+          let same : item ≡ t = cc in rw (sym same) (tt, (0, refl, item_is_item sig d))
+      sorted_there (suc zero) t b =
+          let k : Some nothing ≡ Some t = b in
+          let same : nothing ≡ t = cc in rw (sym same) (tt, (1, refl, empty_is_list sig d))
+      sorted_there (suc (suc zero)) t b =
+          let k : Some one_item_tree ≡ Some t = b in
+          let same : one_item_tree ≡ t = cc in
+          rw (sym same) ((tt, (tt, tt)), (1, refl, one_is_list sig d))
+      sorted_there (suc (suc (suc x))) t b = let k : None ≡ Some t = b in let no : ⊥ = cc in absurd no
 
 -- a list with one item is its own value
 one_item_value : {theory : RewriteTheory} {k c : ℕ} {theta : List (Option Tree)}

@@ -10,7 +10,7 @@ use Rattle.term_core.specs.Patterns.{no_pattern, more_patterns, binding, instanc
 use Rattle.term_core.specs.HookValues.{hook_value}
 use Rattle.term_core.specs.declared.values.NoValue.TheVariants.{ZeroDivisor}
 use Rattle.rule_core.specs.Theories.{RewriteTheory}
-use Rattle.rule_core.specs.Matching.{MatchAll, OccursInSome}
+use Rattle.rule_core.specs.Matching.{MatchNamed, OccursInSome}
 use Rattle.rule_core.specs.Sorting.{HasInjection, IsTermOf, IsValueOf}
 use Rattle.rule_core.specs.Evaluation.{value, says_true, says_other, says_nothing, IsTrueValue}
 use Rattle.rule_core.specs.Evaluation.{of_constructor, of_injection, of_call, Evaluates, bound}
@@ -24,34 +24,37 @@ use Rattle.rule_core.specs.EvaluationCases.{TriedConditions, TriedInjections, Is
 use Rattle.rule_core.specs.EvaluationCases.{tree_number, one, one_tree, hook, greater, on}
 use Rattle.rule_core.specs.declared.signature.Signature.{Signature}
 use Rattle.rule_core.proofs.HookRanges.{short_range}
+use Rattle.rule_core.proofs.NamedMatches.{match_unnamed}
 use Rattle.rule_core.proofs.TriedIntegers.{hook_gives, hook_has_none, hooked_not_closed}
 
 -- a pattern with one variable matches, by the term of the variable
 pub match_one : (sig : Signature) (sort : ℕ) (ps : Patterns) (ts : Forest) (u : Tree)
     → ((x : ℕ) → OccursInSome x ps → x ≡ 0) → OccursInSome 0 ps → IsNormal u → IsTermOf sig u sort
-    → instances_of (Some u ∷ []) ps ≡ Some ts → MatchAll sig (sort ∷ []) ps ts (Some u ∷ [])
-match_one sig sort ps ts u only there normal of e = record {
-  binds = record {
-    room = refl;
-    just = λ x. (given x, λ s. bound_there x (only x s));
-    sorted = sorted_there;
-  };
-  makes = e;
-} where
-  given : (x : ℕ) → IsSome (binding (Some u ∷ []) x) → OccursInSome x ps
-  given zero s = there
-  given (suc x) s = let wrong : false ≡ true = s in absurd (false≢true wrong)
+    → instances_of (Some u ∷ []) ps ≡ Some ts
+    → MatchNamed sig (sort ∷ []) ps [] ts (Some u ∷ [])
+match_one sig sort ps ts u only there normal of e =
+    match_unnamed sig (sort ∷ []) ps ts (Some u ∷ []) (record {
+      binds = record {
+        room = refl;
+        just = λ x. (given x, λ s. bound_there x (only x s));
+        sorted = sorted_there;
+      };
+      makes = e;
+    }) where
+      given : (x : ℕ) → IsSome (binding (Some u ∷ []) x) → OccursInSome x ps
+      given zero s = there
+      given (suc x) s = let wrong : false ≡ true = s in absurd (false≢true wrong)
 
-  bound_there : (x : ℕ) → x ≡ 0 → IsSome (binding (Some u ∷ []) x)
-  bound_there zero same = refl
-  bound_there (suc x) same = absurd (omega (arith, same))
+      bound_there : (x : ℕ) → x ≡ 0 → IsSome (binding (Some u ∷ []) x)
+      bound_there zero same = refl
+      bound_there (suc x) same = absurd (omega (arith, same))
 
-  sorted_there : (x : ℕ) (t : Tree) → binding (Some u ∷ []) x ≡ Some t
-      → IsNormal t × ((s : ℕ) × (slice_get (sort ∷ []) x ≡ Some s) × IsTermOf sig t s)
-  sorted_there zero t b =
-      let k : Some u ≡ Some t = b in
-      let same : u ≡ t = cc in rw (sym same) (normal, (sort, refl, of))
-  sorted_there (suc x) t b = let k : None ≡ Some t = b in let no : ⊥ = cc in absurd no
+      sorted_there : (x : ℕ) (t : Tree) → binding (Some u ∷ []) x ≡ Some t
+          → IsNormal t × ((s : ℕ) × (slice_get (sort ∷ []) x ≡ Some s) × IsTermOf sig t s)
+      sorted_there zero t b =
+          let k : Some u ≡ Some t = b in
+          let same : u ≡ t = cc in rw (sym same) (normal, (sort, refl, of))
+      sorted_there (suc x) t b = let k : None ≡ Some t = b in let no : ⊥ = cc in absurd no
 
 pub number_of_sort : (sig : Signature) (s : ℕ) (k : ℕ) → IsOfIntegers sig s → k < 2 ^ 127
     → IsTermOf sig (leaf s (integer (pos k))) s
@@ -72,7 +75,7 @@ only_first x s =
 
 -- the constructor on the variable matches the constructor on a number
 on_matches : (sig : Signature) (k : ℕ) → IsOfIntegers sig 0 → k < 2 ^ 127
-    → MatchAll sig (0 ∷ []) (more_patterns (application 8 (one (variable 0))) no_pattern)
+    → MatchNamed sig (0 ∷ []) (more_patterns (application 8 (one (variable 0))) no_pattern) []
     (more_trees (on 8 (pos k)) no_tree) (Some (tree_number (pos k)) ∷ [])
 on_matches sig k is low =
     match_one sig 0 (one (application 8 (one (variable 0)))) (one_tree (on 8 (pos k)))

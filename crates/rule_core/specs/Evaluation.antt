@@ -8,7 +8,7 @@ use Rattle.term_core.specs.Patterns.{Pattern, Patterns, variable, domain_value, 
 use Rattle.term_core.specs.Patterns.{injection, call, no_pattern, more_patterns, binding}
 use Rattle.rule_core.specs.Rules.{Equation}
 use Rattle.rule_core.specs.Theories.{RewriteTheory, equations_of}
-use Rattle.rule_core.specs.Matching.{MatchAll, NoneMatches}
+use Rattle.rule_core.specs.Matching.{MatchNamed}
 use Rattle.rule_core.specs.Sorting.{IsSymbol, sort_at}
 use Rattle.rule_core.specs.HookCalls.{HookAnswers, HookFails}
 use Rattle.rule_core.specs.declared.signature.Signature.{Signature}
@@ -76,9 +76,13 @@ pub data Says : Evaluated → ConditionOutcome → Type 0 where
   says_other : {c : ℕ} {t : Tree} → (IsTrueValue t → ⊥) → Says (value t c) (fails c)
   says_nothing : {cause : Cause} → Says (blocked cause) (untested cause)
 
--- no substitution matches the equation's arguments with the terms
+-- the substitution matches the equation's arguments with the terms
+abbrev pub MatchesBy : RewriteTheory → Equation → Forest → List (Option Tree) → Type 0
+MatchesBy theory e ts theta = MatchNamed theory.sig e.variables e.arguments e.names ts theta
+
+-- no substitution does
 abbrev pub IsUnmatchedBy : RewriteTheory → Equation → Forest → Type 0
-IsUnmatchedBy theory e ts = NoneMatches theory.sig e.variables e.arguments ts
+IsUnmatchedBy theory e ts = (theta : List (Option Tree)) → MatchesBy theory e ts theta → ⊥
 
 mutual
   -- with this nesting and this many calls left, the pattern has this outcome under the substitution
@@ -152,16 +156,16 @@ mutual
         → Equates theory n f (e ∷ es) ts c r
     condition_fails : {n f c d : ℕ} {ts : Forest} {e : Equation} {es : List Equation}
         {r : Evaluated} {theta : List (Option Tree)}
-        → MatchAll theory.sig e.variables e.arguments ts theta
+        → MatchesBy theory e ts theta
         → Tests theory n f theta e.condition c (fails d) → Equates theory n f es ts d r
         → Equates theory n f (e ∷ es) ts c r
     condition_blocked : {n f c : ℕ} {ts : Forest} {e : Equation} {es : List Equation}
         {theta : List (Option Tree)} {cause : Cause}
-        → MatchAll theory.sig e.variables e.arguments ts theta
+        → MatchesBy theory e ts theta
         → Tests theory n f theta e.condition c (untested cause)
         → Equates theory n f (e ∷ es) ts c (blocked cause)
     used : {n f c d : ℕ} {ts : Forest} {e : Equation} {es : List Equation} {r : Evaluated}
-        {theta : List (Option Tree)} → MatchAll theory.sig e.variables e.arguments ts theta
+        {theta : List (Option Tree)} → MatchesBy theory e ts theta
         → Tests theory n f theta e.condition c (holds d) → EvaluatesIn theory n f theta e.right d r
         → Equates theory n f (e ∷ es) ts c r
 

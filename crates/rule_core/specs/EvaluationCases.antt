@@ -133,6 +133,8 @@ abbrev pub always : Pattern → Equation
 always right = record {
   parameters = 0;
   arguments = no_pattern;
+  names = [];
+  last_resort = None;
   condition = None;
   right = right;
   variables
@@ -172,6 +174,7 @@ pub record TriedBounds (sig : Signature) : Type 0 where
 abbrev pub when : Pattern → ℕ → RewriteRule
 when condition f = record {
   left = application 8 (one (variable 0));
+  names = [];
   condition = Some condition;
   right = application f (one (variable 0));
   variables = 0 ∷ [];
@@ -220,6 +223,7 @@ pub record DeclaresInjections (sig : Signature) : Type 0 where
 abbrev pub moves : RewriteRule
 moves = record {
   left = application 1 (one (injection 1 3 (variable 0)));
+  names = [];
   condition = None;
   right = application 2 (one (injection 1 2 (variable 0)));
   variables = 1 ∷ [];
@@ -248,6 +252,8 @@ abbrev pub append_empty : Equation
 append_empty = record {
   parameters = 2;
   arguments = two (application 1 no_pattern) (variable 0);
+  names = [];
+  last_resort = None;
   condition = None;
   right = variable 0;
   variables = 1 ∷ [];
@@ -260,6 +266,8 @@ abbrev pub append_more : Equation
 append_more = record {
   parameters = 2;
   arguments = two (application 2 (two (variable 0) (variable 1))) (variable 2);
+  names = [];
+  last_resort = None;
   condition = None;
   right = application 2 (two (variable 0) (call 0 [] (two (variable 1) (variable 2))));
   variables = 0 ∷ (1 ∷ (1 ∷ []));

@@ -2,6 +2,7 @@
 pub mod Named
 pub mod DistinctNames
 pub mod Rules
+pub mod NamedParts
 pub mod Matching
 pub mod MatchSearch
 pub mod FirstRule
@@ -20,6 +21,7 @@ pub mod Runs
 pub mod RunCuts
 pub mod RunView
 pub mod ProgramView
+pub mod Naming
 pub mod BoundVariables
 pub mod RecordView
 pub mod RuleVariables
@@ -27,6 +29,7 @@ pub mod Trial
 -- Laws: what follows from that. Each is a clause of a function that does nothing.
 pub mod SubsortLaws
 pub mod MatchLaws
+pub mod NamedLaws
 pub mod EvaluationLaws
 pub mod EvaluationCases
 pub mod RunLaws

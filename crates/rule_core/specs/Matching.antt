@@ -1,11 +1,12 @@
 -- Matching by substitution (Kore language document, "Patterns"). A substitution matches a pattern
 -- with a term if the pattern becomes the term under it. The definition quantifies over
 -- substitutions. The code takes the term apart instead.
-use Rattle.std.specs.Prelude.{◌≡◌, ◌↔◌, ℕ, List, length, slice_get, Option, Some, IsSome, ◌⊎◌}
+use Rattle.std.specs.Prelude.{◌≡◌, ◌↔◌, ℕ, List, All, length, slice_get, Option, Some, IsSome, ◌⊎◌}
 use Rattle.term_core.specs.Terms.{Tree, Forest, IsNormal}
 use Rattle.term_core.specs.Patterns.{Pattern, Patterns, variable, domain_value, application}
 use Rattle.term_core.specs.Patterns.{injection, call, no_pattern, more_patterns, binding}
 use Rattle.term_core.specs.Patterns.{instances_of}
+use Rattle.rule_core.specs.NamedParts.{Name, IsNamed, part_instance}
 use Rattle.rule_core.specs.Sorting.{IsTermOf}
 use Rattle.rule_core.specs.declared.signature.Signature.{Signature}
 
@@ -47,3 +48,18 @@ pub record MatchAll (sig : Signature) (variables : List ℕ) (ps : Patterns) (ts
 abbrev pub NoneMatches : Signature → List ℕ → Patterns → Forest → Type 0
 NoneMatches sig variables ps ts =
     (theta : List (Option Tree)) → MatchAll sig variables ps ts theta → ⊥
+
+-- the same for patterns some of whose parts have names
+pub record BindsNamed (sig : Signature) (variables : List ℕ) (ps : Patterns) (names : List Name)
+    (theta : List (Option Tree)) : Type 0 where
+  pub room : length theta ≡ length variables
+  pub just : (x : ℕ) → IsSome (binding theta x) ↔ (OccursInSome x ps ⊎ IsNamed names x)
+  pub sorted : RespectsSorts sig variables theta
+
+-- Under such a substitution the patterns become the terms, in order, and each name has the term that
+-- the named part becomes.
+pub record MatchNamed (sig : Signature) (variables : List ℕ) (ps : Patterns) (names : List Name)
+    (ts : Forest) (theta : List (Option Tree)) : Type 0 where
+  pub binds : BindsNamed sig variables ps names theta
+  pub makes : instances_of theta ps ≡ Some ts
+  pub named : All (λ n. binding theta n.variable ≡ part_instance theta ps n.place) names

@@ -1,31 +1,32 @@
 -- Records of evaluations. A record holds what was used at each node of a pattern to get its value,
 -- so that a proof can be built from it.
-use Rattle.std.specs.Prelude.{◌≡◌, ◌<◌, ◌≤◌, ◌-◌, ◌^◌, ◌⊎◌, ℕ, List, [], slice_get, Option, Some}
-use Rattle.std.specs.Prelude.{None}
+use Rattle.std.specs.Prelude.{◌≡◌, ◌<◌, ◌≤◌, ◌-◌, ◌^◌, ◌⊎◌, ℕ, List, [], ◌∷◌, slice_get, take}
+use Rattle.std.specs.Prelude.{Option, Some, None, IsNone, IsSome}
 use Rattle.term_core.specs.Terms.{Tree, leaf, Forest, no_tree, more_trees, height, DomainValue}
 use Rattle.term_core.specs.Patterns.{Pattern, Patterns, variable, domain_value, call, no_pattern}
 use Rattle.term_core.specs.Patterns.{more_patterns, binding}
 use Rattle.rule_core.specs.Rules.{RewriteRule, Equation}
 use Rattle.rule_core.specs.Theories.{RewriteTheory, equations_of}
-use Rattle.rule_core.specs.Matching.{MatchAll}
 use Rattle.rule_core.specs.Sorting.{IsSymbol, sort_at}
 use Rattle.rule_core.specs.HookCalls.{HookAnswers}
 use Rattle.rule_core.specs.Evaluation.{HasHead, built, most_height, IsTrueValue, IsUnmatchedBy}
-use Rattle.rule_core.specs.Evaluation.{Tests, fails}
+use Rattle.rule_core.specs.Evaluation.{MatchesBy, Tests, fails}
 use Rattle.rule_core.specs.FirstRule.{Matches, IsUnmatched, Meets, most_nesting}
 use Rattle.rule_core.specs.declared.signature.SymInfo.{SymInfo}
 use Rattle.rule_core.specs.declared.signature.SymKind.TheVariants.{Equations}
 
 -- A variable's binding; a value; what a constructor or an injection built; what a hook returned; or
 -- the equation that was used. For an equation it has its number, its substitution, the record of
--- its condition, if it has one, and the record of its right side.
+-- its condition, if it has one, the record of its right side, and what was missed: for an equation
+-- of the last resort, why each other equation of the function is not used. An equation is missed if
+-- it does not match, or if its condition is not true under the substitution that matches.
 mutual
   pub data Record : Type 0 where
     bound : ℕ → Tree → Record
     itself : Tree → Record
     made : RecordList → Tree → Record
     by_hook : RecordList → Tree → Record
-    by_equation : RecordList → ℕ → List (Option Tree) → OptionalRecord → Record → Record
+    by_equation : RecordList → ℕ → List (Option Tree) → OptionalRecord → Record → MissList → Record
 
   pub data RecordList : Type 0 where
     no_record : RecordList
@@ -35,13 +36,21 @@ mutual
     unconditional : OptionalRecord
     conditional : Record → OptionalRecord
 
+  pub data Miss : Type 0 where
+    no_match : Miss
+    condition_false : List (Option Tree) → Record → Miss
+
+  pub data MissList : Type 0 where
+    none_missed : MissList
+    more_missed : Miss → MissList → MissList
+
 -- the value that a record states
 abbrev pub result_of : Record → Tree
 result_of (bound x t) = t
 result_of (itself t) = t
 result_of (made rs t) = t
 result_of (by_hook rs t) = t
-result_of (by_equation rs i theta condition body) = result_of body
+result_of (by_equation rs i theta condition body missed) = result_of body
 
 abbrev pub results_of : RecordList → Forest
 results_of no_record = no_tree
@@ -56,7 +65,7 @@ most_calls = 2 ^ 32 - 1
 abbrev pub IsUnused : RewriteTheory → ℕ → Equation → Forest → Type 0
 IsUnused theory f e ts =
     IsUnmatchedBy theory e ts ⊎ ((theta : List (Option Tree)) × (left : ℕ)
-    × MatchAll theory.sig e.variables e.arguments ts theta
+    × MatchesBy theory e ts theta
     × Tests theory most_nesting f theta e.condition most_calls (fails left))
 
 -- The record describes the evaluation of the pattern under the substitution.
@@ -72,16 +81,19 @@ abbrev mutual
       × (v : DomainValue) × (sort : ℕ)
       × (p ≡ call f sorts ps) × IsSymbol theory.sig f info × HookAnswers info row (results_of rs) v
       × (sort_at [] info.result ≡ Some sort) × (t ≡ leaf sort v) × RecordAll theory theta ps rs
-  Records theory theta p (by_equation rs i sigma condition body) =
+  Records theory theta p (by_equation rs i sigma condition body missed) =
       (f : ℕ) × (sorts : List ℕ) × (ps : Patterns) × (info : SymInfo) × (e : Equation)
       × (p ≡ call f sorts ps)
       × IsSymbol theory.sig f info × (info.kind ≡ Equations)
       × (slice_get (equations_of theory f) i ≡ Some e)
-      × MatchAll theory.sig e.variables e.arguments (results_of rs) sigma
+      × MatchesBy theory e (results_of rs) sigma
       × ((j : ℕ) (other : Equation) → j < i →
       slice_get (equations_of theory f) j ≡ Some other → IsUnused theory f other (results_of rs))
       × RecordAll theory theta ps rs × RecordsCondition theory sigma e.condition condition
       × Records theory sigma e.right body
+      × ((IsNone e.last_resort × (missed ≡ none_missed))
+      ⊎ (IsSome e.last_resort
+      × AreMissed theory (take i (equations_of theory f)) (results_of rs) missed))
 
   pub RecordAll : RewriteTheory → List (Option Tree) → Patterns → RecordList → Type 0
   RecordAll theory theta ps no_record = ps ≡ no_pattern
@@ -96,6 +108,17 @@ abbrev mutual
   RecordsCondition theory theta p (conditional r) =
       (q : Pattern) × (p ≡ Some q) × Records theory theta q r
       × IsTrueValue (result_of r)
+
+  -- each of these equations is missed at the terms, in order
+  pub AreMissed : RewriteTheory → List Equation → Forest → MissList → Type 0
+  AreMissed theory es ts none_missed = es ≡ []
+  AreMissed theory es ts (more_missed no_match missed) =
+      (e : Equation) × (others : List Equation) × (es ≡ e ∷ others) × IsUnmatchedBy theory e ts
+      × AreMissed theory others ts missed
+  AreMissed theory es ts (more_missed (condition_false sigma r) missed) =
+      (e : Equation) × (others : List Equation) × (q : Pattern) × (es ≡ e ∷ others)
+      × MatchesBy theory e ts sigma × (e.condition ≡ Some q) × Records theory sigma q r
+      × (IsTrueValue (result_of r) → ⊥) × AreMissed theory others ts missed
 
 -- The record of a step: the number of the rule that was used, its substitution, and the records of
 -- its condition and of its right side.

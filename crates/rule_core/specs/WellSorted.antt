@@ -1,6 +1,6 @@
 -- Well-sorted theories: what holds of an accepted definition, and what matching, evaluation and
 -- runs require.
-use Rattle.std.specs.Prelude.{◌≡◌, ℕ, ◌<◌, ◌≤◌, List, [], ◌∷◌, length, slice_get, Option, Some}
+use Rattle.std.specs.Prelude.{◌≡◌, ◌≢◌, ℕ, ◌<◌, ◌≤◌, List, [], ◌∷◌, length, slice_get, Option, Some}
 use Rattle.std.specs.Prelude.{IsSome, IfSome, All, ◌⊎◌, map}
 use Rattle.term_core.specs.Terms.{Tree, height}
 use Rattle.term_core.specs.Patterns.{Pattern, Patterns, variable, domain_value, application}
@@ -9,6 +9,7 @@ use Rattle.rule_core.specs.Rules.{RewriteRule, Equation, AreInOrder}
 use Rattle.rule_core.specs.HookSorts.{FitsHook}
 use Rattle.rule_core.specs.Theories.{RewriteTheory, equations_of}
 use Rattle.rule_core.specs.Subsorts.{HasNoCycle}
+use Rattle.rule_core.specs.NamedParts.{Name, IsNamed, part_of}
 use Rattle.rule_core.specs.Matching.{OccursIn, OccursInSome, RespectsSorts}
 use Rattle.rule_core.specs.Evaluation.{most_height}
 use Rattle.rule_core.specs.Sorting.{HasSort, HaveSorts, IsSymbol, sort_at}
@@ -33,6 +34,11 @@ abbrev mutual
   pub HaveNoCall : Patterns → Type 0
   HaveNoCall no_pattern = Unit {0}
   HaveNoCall (more_patterns p ps) = HasNoCall p × HaveNoCall ps
+
+-- no number is listed twice
+abbrev pub AreDifferent : List ℕ → Type 0
+AreDifferent [] = Unit {0}
+AreDifferent (x ∷ xs) = All (λ y. x ≢ y) xs × AreDifferent xs
 
 -- a reference, of a symbol with this many sort parameters, to one of them or to a declared sort
 abbrev pub IsReference : Signature → ℕ → SortRef → Type 0
@@ -63,37 +69,48 @@ pub record IsSignature (sig : Signature) : Type 0 where
   pub pairs : All (IsPair sig) sig.subsorts
   pub no_cycle : HasNoCycle sig.subsorts
 
--- each variable that occurs in the pattern occurs in one of these
-abbrev pub UsesOnly : Patterns → Pattern → Type 0
-UsesOnly ps p = (x : ℕ) → OccursIn x p → OccursInSome x ps
+-- Parts of the patterns have these names: different variables, none of which occurs in the patterns,
+-- each of the sort of its part.
+pub record HaveNames (sig : Signature) (variables : List ℕ) (ps : Patterns) (names : List Name)
+    : Type 0 where
+  pub different : AreDifferent (map (λ (n : Name). n.variable) names)
+  pub elsewhere : All (λ (n : Name). OccursInSome n.variable ps → ⊥) names
+  pub sorted : All (λ (n : Name). (p : Pattern) × (sort : ℕ) × (part_of ps n.place ≡ Some p)
+      × HasSort sig variables p sort × (slice_get variables n.variable ≡ Some sort)) names
 
--- the condition has a sort of truth values, and uses only variables of these patterns
-abbrev pub IsCondition : Signature → List ℕ → Patterns → Pattern → Type 0
-IsCondition sig variables ps p =
+-- each variable that occurs in the pattern occurs in one of these, or is one of the names
+abbrev pub UsesOnly : Patterns → List Name → Pattern → Type 0
+UsesOnly ps names p = (x : ℕ) → OccursIn x p → OccursInSome x ps ⊎ IsNamed names x
+
+-- the condition has a sort of truth values, and uses only variables of these patterns and names
+abbrev pub IsCondition : Signature → List ℕ → Patterns → List Name → Pattern → Type 0
+IsCondition sig variables ps names p =
     (sort : ℕ) × (name : List ℕ) × (info : SortInfo)
     × (slice_get sig.sorts sort ≡ Some (name, info))
-    × (info.kind ≡ kind.Bool) × HasSort sig variables p sort × UsesOnly ps p
+    × (info.kind ≡ kind.Bool) × HasSort sig variables p sort × UsesOnly ps names p
 
 -- a rule on terms of this sort
 pub record IsRuleOf (sig : Signature) (sort : ℕ) (rule : RewriteRule) : Type 0 where
   pub variables : All (λ s. s < length sig.sorts) rule.variables
   pub left : HasSort sig rule.variables rule.left sort
   pub no_call : HasNoCall rule.left
+  pub names : HaveNames sig rule.variables (more_patterns rule.left no_pattern) rule.names
   pub condition : IfSome rule.condition
-      (IsCondition sig rule.variables (more_patterns rule.left no_pattern))
+      (IsCondition sig rule.variables (more_patterns rule.left no_pattern) rule.names)
   pub right : HasSort sig rule.variables rule.right sort
-  pub bound : UsesOnly (more_patterns rule.left no_pattern) rule.right
+  pub bound : UsesOnly (more_patterns rule.left no_pattern) rule.names rule.right
 
 -- an equation of a function with this declaration
 pub record IsEquationOf (sig : Signature) (info : SymInfo) (e : Equation) : Type 0 where
   pub variables : All (λ s. s < length sig.sorts) e.variables
   pub arguments : HaveSorts sig e.variables [] e.arguments info.args.items
   pub no_call : HaveNoCall e.arguments
-  pub condition : IfSome e.condition (IsCondition sig e.variables e.arguments)
+  pub names : HaveNames sig e.variables e.arguments e.names
+  pub condition : IfSome e.condition (IsCondition sig e.variables e.arguments e.names)
   pub sort : ℕ
   pub result : sort_at [] info.result ≡ Some sort
   pub right : HasSort sig e.variables e.right sort
-  pub bound : UsesOnly e.arguments e.right
+  pub bound : UsesOnly e.arguments e.names e.right
 
 pub record IsWellSorted (theory : RewriteTheory) : Type 0 where
   pub signature : IsSignature theory.sig

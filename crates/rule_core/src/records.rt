@@ -21,7 +21,7 @@ pub enum EvalRecord {
     /// The hook of a function returned the term.
     ByHook(SymId, Vec<EvalRecord>, Term),
     /// An equation of a function was used.
-    ByEquation(EqRecord),
+    ByEquation(Box<EqRecord>),
 }
 
 /// The use of an equation.
@@ -40,6 +40,20 @@ pub struct EqRecord {
     pub cond: Option<Box<EvalRecord>>,
     /// The record of its right side.
     pub body: Box<EvalRecord>,
+    /// For an equation of the last resort, why each equation before it is not used, in order.
+    /// Otherwise nothing.
+    pub missed: Vec<Miss>,
+}
+
+/// Why an equation is not used.
+#[derive(Drop)]
+#[cycle(records)]
+pub enum Miss {
+    /// It does not match.
+    NoMatch,
+    /// It matches with this substitution, and this is the record of its condition, whose value is
+    /// not `true`.
+    CondFalse(Subst, EvalRecord),
 }
 
 /// A step by a rewrite rule. Contracts see it as the plain `plain_step`.

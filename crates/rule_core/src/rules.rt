@@ -11,6 +11,28 @@ pub struct VarInfo {
     pub sort: SortId,
 }
 
+/// A name of a part of a left side: the variable X of `\and{S}(p, X)`, where p is the part. Contracts
+/// see it as the plain `name_of`.
+#[derive(Drop)]
+pub struct Named {
+    /// The variable.
+    pub var: u32,
+    /// The place of the part: the number of the argument that it stands in, which is 0 for a rule,
+    /// and then the way of child numbers to it.
+    pub at: Vec<u32>,
+    /// Whether the variable is written before the part.
+    pub first: bool,
+}
+
+/// A guard of an equation of the last resort: it says when another equation of the function is used.
+#[derive(Drop)]
+pub struct Guard {
+    /// The number of the equation that it repeats.
+    pub equation: u32,
+    /// The variables of that equation, in the order in which the guard quantifies them.
+    pub order: Vec<u32>,
+}
+
 /// A rewrite rule. If its condition evaluates to `true`, it rewrites an instance of its left side
 /// to the instance of its right side. Contracts see it as the plain `rewrite_rule`.
 pub struct Rule {
@@ -19,6 +41,8 @@ pub struct Rule {
     pub at: u32,
     /// The pattern that it matches.
     pub left: RulePat,
+    /// The names of parts of its left side. Of names of one part, the inner comes first.
+    pub named: Vec<Named>,
     /// The condition under which it may be used. Without one, it may always be used.
     pub cond: Option<RulePat>,
     /// The pattern of the result.
@@ -35,6 +59,7 @@ impl Drop for Rule {
         let Rule {
             at: _,
             left: _,
+            named: _,
             cond: _,
             right: _,
             vars: _,
@@ -57,6 +82,10 @@ pub struct Equation {
     pub params: u32,
     /// The patterns that it matches, one for each argument.
     pub args: Vec<RulePat>,
+    /// The names of parts of its arguments. Of names of one part, the inner comes first.
+    pub named: Vec<Named>,
+    /// For an equation of the last resort (`owise`), its guards, in order.
+    pub owise: Option<Vec<Guard>>,
     /// The condition under which it may be used. Without one, it may always be used.
     pub cond: Option<RulePat>,
     /// The pattern of the result.
@@ -75,6 +104,8 @@ impl Drop for Equation {
             fun: _,
             params: _,
             args: _,
+            named: _,
+            owise: _,
             cond: _,
             right: _,
             vars: _,
