@@ -18,7 +18,7 @@ use Rattle.rule_core.specs.declared.signature.SortInfo.{SortInfo}
 use Rattle.kore_sig.specs.FirstFault.{Fault, unless}
 use Rattle.kore_sig.specs.SortReferences.{sort_number, sort_place}
 use Rattle.kore_check.specs.Folds.{Unfolded, named_variable, written_value, applied_symbol}
-use Rattle.kore_check.specs.Folds.{other_form, Unfoldeds, no_more, and_more}
+use Rattle.kore_check.specs.Folds.{both_of, other_form, Unfoldeds, no_more, and_more}
 use Rattle.kore_check.specs.PatternFaults.{pattern_faults, argument_faults}
 use Rattle.kore_check.specs.PatternSorts.{symbol_named, places_of}
 use Rattle.rule_core.specs.declared.signature.SortRef.{SortRef}
@@ -80,7 +80,7 @@ one_name (e ∷ es) i k n m a b =
     by_case false false f g x y later = later x y
 
 -- declared sorts of the same number are written the same
-same_written : (sorts : List (List ℕ × SortInfo)) (s t : SortTree) (k : ℕ)
+pub same_written : (sorts : List (List ℕ × SortInfo)) (s t : SortTree) (k : ℕ)
     → sort_number sorts s ≡ Some k → sort_number sorts t ≡ Some k → same_sort s t ≡ true
 same_written sorts (sort_parameter at n) t k a b = absurd (let never : ⊥ = cc in never)
 same_written sorts (sort_applied at n (sort_then s ss)) t k a b =
@@ -164,6 +164,8 @@ mutual
       kept_one vars name n s (sort_number sig.sorts t) h
   kept sig vars (written_value at t text byte) name s h = h
   kept sig vars (applied_symbol at byte n ss ps) name s h = all_kept sig vars ps name s h
+  kept sig vars (both_of at t p q) name s h =
+      kept sig (with_variables sig vars p) q name s (kept sig vars p name s h)
   kept sig vars (other_form at) name s h = h
 
   all_kept : (sig : Signature) (vars : List (List ℕ × ℕ)) (qs : Unfoldeds) (name : List ℕ) (s : ℕ)
@@ -190,6 +192,10 @@ mutual
       (added vars name s)
   covers sig vars (written_value at u text byte) name t s h e = absurd (false≢true h)
   covers sig vars (applied_symbol at byte n ss ps) name t s h e = all_cover sig vars ps name t s h e
+  covers sig vars (both_of at u p q) name t s h e =
+      either (occurs_in_pattern name t p) (occurs_in_pattern name t q) h
+      (λ here. kept sig (with_variables sig vars p) q name s (covers sig vars p name t s here e))
+      (λ later. covers sig (with_variables sig vars p) q name t s later e)
   covers sig vars (other_form at) name t s h e = absurd (false≢true h)
 
   all_cover : (sig : Signature) (vars : List (List ℕ × ℕ)) (qs : Unfoldeds) (name : List ℕ)
@@ -244,6 +250,12 @@ mutual
       added_only sig vars at n u name s (sort_number sig.sorts u) refl h
   only sig vars (written_value at u text byte) name s h = inl h
   only sig vars (applied_symbol at byte n ss ps) name s h = all_only sig vars ps name s h
+  only sig vars (both_of at t p q) name s h =
+      ⊎_elim
+      (λ before. ⊎_elim (λ was. inl was) (λ found. inr (found.0, or_true _ _ found.1, found.2))
+      (only sig vars p name s before))
+      (λ found. inr (found.0, true_or (occurs_in_pattern name found.0 p) _ found.1, found.2))
+      (only sig (with_variables sig vars p) q name s h)
   only sig vars (other_form at) name s h = inl h
 
   all_only : (sig : Signature) (vars : List (List ℕ × ℕ)) (qs : Unfoldeds) (name : List ℕ) (s : ℕ)
@@ -269,6 +281,10 @@ mutual
   written_so sig (written_value at v text byte) name t u s e f h = absurd (false≢true h)
   written_so sig (applied_symbol at byte n ss ps) name t u s e f h =
       all_written_so sig ps name t u s e f h
+  written_so sig (both_of at v p q) name t u s e f h =
+      either (occurs_in_pattern name t p) (occurs_in_pattern name t q) h
+      (λ here. or_true _ _ (written_so sig p name t u s e f here))
+      (λ later. true_or (occurs_in_pattern name u p) _ (written_so sig q name t u s e f later))
   written_so sig (other_form at) name t u s e f h = absurd (false≢true h)
 
   all_written_so : (sig : Signature) (qs : Unfoldeds) (name : List ℕ) (t u : SortTree) (s : ℕ)
@@ -300,6 +316,10 @@ mutual
       numbered_already sig qs n t (sort_number sig.sorts t) refl h
   bound_same sig qs (written_value at t text byte) h = refl
   bound_same sig qs (applied_symbol at byte n ss ps) h = all_bound_same sig qs ps h
+  bound_same sig qs (both_of at s p q) h =
+      let both = both_true _ _ h in
+      ap (λ (vs : List (List ℕ × ℕ)). with_variables sig vs q) (bound_same sig qs p both.0)
+      ∙ bound_same sig qs q both.1
   bound_same sig qs (other_form at) h = refl
 
   pub all_bound_same : (sig : Signature) (qs ps : Unfoldeds) → are_bound_by qs ps ≡ true
@@ -325,6 +345,8 @@ mutual
   not_less sig vars (named_variable at n t) = grown vars n (sort_number sig.sorts t)
   not_less sig vars (written_value at t text byte) = omega arith
   not_less sig vars (applied_symbol at byte n ss ps) = all_not_less sig vars ps
+  not_less sig vars (both_of at s p q) =
+      omega (arith, not_less sig vars p, not_less sig (with_variables sig vars p) q)
   not_less sig vars (other_form at) = omega arith
 
   all_not_less : (sig : Signature) (vars : List (List ℕ × ℕ)) (ps : Unfoldeds)
@@ -368,6 +390,18 @@ more_by sig qs p ps true e h here later =
 more_by sig qs p ps false e h here later =
     omega (arith, here e, all_not_less sig (with_variables sig (of sig qs) p) ps)
 
+more_of_two : (sig : Signature) (qs : Unfoldeds) (p q : Unfolded) (b : Bool)
+    → is_bound_by qs p ≡ b → (is_bound_by qs p && is_bound_by qs q) ≡ false
+    → (is_bound_by qs p ≡ false → length (of sig qs) < length (with_variables sig (of sig qs) p))
+    → (is_bound_by qs q ≡ false → length (of sig qs) < length (with_variables sig (of sig qs) q))
+    → length (of sig qs) < length (with_variables sig (with_variables sig (of sig qs) p) q)
+more_of_two sig qs p q true e h here later =
+    subst (λ (vs : List (List ℕ × ℕ)). length (of sig qs) < length (with_variables sig vs q))
+    (sym (bound_same sig qs p e))
+    (later (sym (ap (λ (b : Bool). b && is_bound_by qs q) e) ∙ h))
+more_of_two sig qs p q false e h here later =
+    omega (arith, here e, not_less sig (with_variables sig (of sig qs) p) q)
+
 -- a pattern with an unbound variable of a declared sort adds one
 mutual
   pub unbound_more : (sig : Signature) (qs : Unfoldeds) (p : Unfolded) → pattern_faults sig p ≡ []
@@ -378,6 +412,11 @@ mutual
   unbound_more sig qs (applied_symbol at byte n ss ps) clear h =
       let args = (no_faults _ _ (no_faults _ _ clear).1).1 in
       all_unbound_more sig qs ss (places_of (symbol_named sig n)) ps args h
+  unbound_more sig qs (both_of at s p q) clear h =
+      let first = no_faults _ _ (no_faults _ _ clear).1 in
+      let second = no_faults _ _ (no_faults _ _ first.1).1 in
+      more_of_two sig qs p q (is_bound_by qs p) refl h (λ h. unbound_more sig qs p first.0 h)
+      (λ h. unbound_more sig qs q second.0 h)
   unbound_more sig qs (other_form at) clear h = absurd (false≢true (sym h))
 
   all_unbound_more : (sig : Signature) (qs : Unfoldeds) (ss : List SortTree) (refs : List SortRef)

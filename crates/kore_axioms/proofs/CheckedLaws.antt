@@ -9,6 +9,7 @@ use Rattle.rule_core.specs.declared.rules.VarInfo.{VarInfo}
 use Rattle.rule_core.specs.declared.signature.Signature.{Signature}
 use Rattle.kore_check.specs.Folds.{unfolded}
 use Rattle.kore_check.specs.PatternMeanings.{with_variables, Means}
+use Rattle.kore_check.specs.PartNames.{names_in}
 use Rattle.kore_check.specs.VariableNames.{named_sorts}
 use Rattle.kore_shapes.specs.Shapes.{Rewriting}
 use Rattle.kore_axioms.specs.AxiomClasses.{rewrites, axiom_class}
@@ -93,6 +94,7 @@ pub rule_meant : (sig : Signature) (a : AxiomDeclaration) (v : Rewriting) (made 
     → MeansNamedRule sig a (record {
       at = a.at;
       left = made.left;
+      named = made.named;
       cond = made.cond;
       right = made.right;
       vars = made.vars;
@@ -111,6 +113,9 @@ rule_meant sig a v made n class b bound stated = record {
     means_left =
         subst (λ (vs : List (List ℕ × ℕ)). Means sig vs (unfolded b.left) (plain_pattern made.left))
         (b.numbered bound) (b.means_left bound);
+    names =
+        b.names bound ∙ ap (λ (vs : List (List ℕ × ℕ)). names_in sig vs (0 ∷ []) (unfolded b.left))
+        (b.numbered bound);
     means_condition =
         subst (λ (vs : List (List ℕ × ℕ)).
         MeansTest sig vs (tested_pattern (rule_parts sig v).condition)

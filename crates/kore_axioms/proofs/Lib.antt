@@ -9,3 +9,4 @@ pub mod BinderLaws
 pub mod FirstLaws
 pub mod BuiltLaws
 pub mod CheckedLaws
+pub mod GivenNames

@@ -1,5 +1,6 @@
 -- Laws on the parts of a rewrite rule whose form and sorts have no fault.
-use Rattle.std.proofs.Common.{◌≡◌, ℕ, Bool, true, false, ◌&&◌, ◌||◌, List, [], ◌++◌, Option, Some}
+use Rattle.std.proofs.Common.{◌≡◌, ℕ, Bool, true, false, ◌&&◌, ◌||◌, List, [], ◌∷◌, ◌++◌, Option}
+use Rattle.std.proofs.Common.{Some}
 use Rattle.std.proofs.Common.{None, refl, ap, sym, ◌∙◌, subst}
 use Rattle.std.specs.Prelude.{not, if◌then◌else◌}
 use Rattle.std.proofs.lemmas.Bool.{false≢true}
@@ -9,7 +10,8 @@ use Rattle.kore_sig.specs.FirstFault.{Fault, when}
 use Rattle.kore_sig.specs.SortReferences.{sort_number}
 use Rattle.kore_check.specs.Folds.{unfolded}
 use Rattle.kore_check.specs.PatternFaults.{pattern_faults}
-use Rattle.kore_shapes.specs.Forms.{only_conjunctions, others, all_forms, has_form, has_binder}
+use Rattle.kore_axioms.specs.LeftNames.{is_badly_named}
+use Rattle.kore_shapes.specs.Forms.{others, all_forms, has_form, has_binder}
 use Rattle.kore_shapes.specs.Shapes.{Rewriting, rewriting, Side, alone, beside, without, misshapen}
 use Rattle.kore_shapes.specs.Shapes.{Condition, always, tests, ill, main_part}
 use Rattle.kore_axioms.specs.Conditions.{tested_pattern, is_ill}
@@ -22,7 +24,8 @@ use Rattle.kore_shapes.specs.Statements.{StatedEquation, stated_equation}
 use Rattle.kore_axioms.specs.RuleForms.{holds_of, is_misshapen, is_without, has_bad_form}
 use Rattle.kore_axioms.specs.RuleForms.{form_faults}
 use Rattle.kore_axioms.specs.RuleFaults.{side_faults, condition_faults, sorted_faults}
-use Rattle.kore_axioms.proofs.ApplicativeLaws.{neither, applicative, two_forms}
+use Rattle.kore_axioms.proofs.ApplicativeLaws.{neither, applicative, left_is_side}
+use Rattle.kore_axioms.proofs.ApplicativeLaws.{side_applicative, IsSide}
 use Rattle.kore_axioms.specs.BuiltRules.{IsFine}
 use Rattle.kore_axioms.proofs.BinderLaws.{PartsBindNone, parts_bind_none}
 use Rattle.kore_axioms.proofs.BoundLaws.{no_faults}
@@ -40,7 +43,7 @@ pub record IsWellFormed (a : AxiomDeclaration) (w : RuleParts) : Type 0 where
   pub after : is_without w.after ≡ false
   pub before : is_without w.before ≡ false
   pub condition : is_ill w.condition ≡ false
-  pub conjunction : holds_of (has_form only_conjunctions) (left_of w) ≡ false
+  pub names : holds_of is_badly_named (left_of w) ≡ false
 
 pub well_formed : (a : AxiomDeclaration) (w : RuleParts) → form_faults a w ≡ [] → IsWellFormed a w
 well_formed a w h =
@@ -48,7 +51,7 @@ well_formed a w h =
     let two = not_raised (has_binder a.pattern) 15 a.at _ one.1 in
     let three = not_raised (is_without w.after) 16 a.at _ two.1 in
     let four = not_raised (is_without w.before || is_ill w.condition) 17 a.at _ three.1 in
-    let five = not_raised (holds_of (has_form only_conjunctions) (left_of w)) 22 a.at _ four.1 in
+    let five = not_raised (holds_of is_badly_named (left_of w)) 22 a.at _ four.1 in
     let condition = neither (is_without w.before) (is_ill w.condition) four.0 in
     record {
       form = one.0;
@@ -56,7 +59,7 @@ well_formed a w h =
       after = three.0;
       before = condition.0;
       condition = condition.1;
-      conjunction = five.0;
+      names = five.0;
     }
 
 -- the side has a pattern
@@ -105,10 +108,10 @@ fine sig a s w form sorts binds =
       left = left.0;
       is_left = left.1;
       left_form =
-          applicative left.0 (two_forms left.0
+          side_applicative (left.0 ∷ []) (unfolded left.0) (left_is_side (left.0 ∷ []) left.0
           (held (has_form others) (left_of w) left.0 left.1 odd.0)
-          (held (has_form only_conjunctions) (left_of w) left.0 left.1 well.conjunction))
-          (binds.left left.0 left.1);
+          (held is_badly_named (left_of w) left.0 left.1 well.names)
+          (binds.left left.0 left.1));
       left_clear = clear_at sig (sort_number sig.sorts s) (left_of w) left.0 left.1 at_left.0;
       right = right.0;
       is_right = right.1;
@@ -163,3 +166,16 @@ pub fine_rule : (sig : Signature) (a : AxiomDeclaration) (v : Rewriting)
 fine_rule sig a v class form sorts =
     fine sig a v.sort (rule_parts sig v) form sorts (parts_bind_none sig a.pattern v
     (class_rewrites sig a v class) (well_formed a (rule_parts sig v) form).binder)
+
+-- the left side of a rule whose form has no fault
+pub left_sided : (sig : Signature) (a : AxiomDeclaration) (v : Rewriting)
+    → axiom_class sig a ≡ rewrites v → form_faults a (rule_parts sig v) ≡ []
+    → (p : PatternTree) → left_of (rule_parts sig v) ≡ Some p → IsSide (p ∷ []) (unfolded p)
+left_sided sig a v class form p is =
+    let w : RuleParts = rule_parts sig v in
+    let well = well_formed a w form in
+    let shapes = neither _ _ well.form in
+    let odd = neither _ _ shapes.1 in
+    let binds = parts_bind_none sig a.pattern v (class_rewrites sig a v class) well.binder in
+    left_is_side (p ∷ []) p (held (has_form others) (left_of w) p is odd.0)
+    (held is_badly_named (left_of w) p is well.names) (binds.left p is)

@@ -1,5 +1,5 @@
 -- What is built of a rewrite rule whose form and sorts have no fault.
-use Rattle.std.specs.Prelude.{◌≡◌, ◌&&◌, true, [], Option, Some, option_map, Contains}
+use Rattle.std.specs.Prelude.{◌≡◌, ◌&&◌, true, [], ◌∷◌, Option, Some, option_map, Contains}
 use Rattle.kore_text.specs.Trees.{SortTree, PatternTree, AxiomDeclaration}
 use Rattle.term_core.specs.RulePatterns.{plain_pattern}
 use Rattle.rule_core.specs.declared.signature.Signature.{Signature}
@@ -8,7 +8,9 @@ use Rattle.kore_check.specs.Folds.{unfolded}
 use Rattle.kore_check.specs.Applicative.{IsApplicative}
 use Rattle.kore_check.specs.PatternFaults.{pattern_faults}
 use Rattle.kore_check.specs.PatternMeanings.{with_variables, Means}
+use Rattle.kore_check.specs.PartNames.{names_in}
 use Rattle.kore_check.specs.VariableNames.{named_sorts}
+use Rattle.rule_core.specs.ProgramView.{names_of}
 use Rattle.kore_axioms.specs.AxiomMeanings.{MeansTest}
 use Rattle.kore_axioms.specs.Conditions.{tested_pattern}
 use Rattle.kore_axioms.specs.RuleParts.{RuleParts, left_of, right_of}
@@ -54,6 +56,9 @@ pub record IsBuiltOf (sig : Signature) (w : RuleParts) (made : RulePatterns) : T
       → named_sorts made.vars.items ≡ with_variables sig [] (unfolded left)
   pub means_left : made.bound ≡ true
       → Means sig (named_sorts made.vars.items) (unfolded left) (plain_pattern made.left)
+  pub names : made.bound ≡ true
+      → names_of made.named.items
+      ≡ names_in sig (named_sorts made.vars.items) (0 ∷ []) (unfolded left)
   pub means_condition : made.bound ≡ true
       → MeansTest sig (named_sorts made.vars.items) (tested_pattern w.condition)
       (option_map plain_pattern made.cond)

@@ -3,6 +3,7 @@ pub mod Conditions
 pub mod Priorities
 pub mod Uses
 pub mod RuleParts
+pub mod LeftNames
 pub mod RuleForms
 pub mod RuleFaults
 pub mod AxiomClasses

@@ -5,8 +5,8 @@ use Rattle.kore_text.specs.Trees.{SortTree}
 use Rattle.rule_core.specs.declared.signature.Signature.{Signature}
 use Rattle.rule_core.specs.declared.signature.SymInfo.{SymInfo}
 use Rattle.rule_core.specs.KindTests.{is_function_kind}
-use Rattle.kore_check.specs.Folds.{Unfolded, named_variable, applied_symbol, Unfoldeds, no_more}
-use Rattle.kore_check.specs.Folds.{and_more}
+use Rattle.kore_check.specs.Folds.{Unfolded, named_variable, applied_symbol, both_of, Unfoldeds}
+use Rattle.kore_check.specs.Folds.{no_more, and_more}
 use Rattle.kore_check.specs.PatternSorts.{symbol_named}
 use Rattle.kore_shapes.specs.SameSorts.{same_sort}
 
@@ -14,6 +14,7 @@ use Rattle.kore_shapes.specs.SameSorts.{same_sort}
 abbrev mutual
   pub has_symbol : (List ℕ → Bool) → Unfolded → Bool
   has_symbol test (applied_symbol at byte name ss ps) = test name || have_symbol test ps
+  has_symbol test (both_of at s p q) = has_symbol test p || has_symbol test q
   has_symbol test p = false
 
   pub have_symbol : (List ℕ → Bool) → Unfoldeds → Bool
@@ -26,6 +27,8 @@ abbrev mutual
   pub occurs_in_pattern : List ℕ → SortTree → Unfolded → Bool
   occurs_in_pattern name s (named_variable at n t) = bytes_eq name n && same_sort s t
   occurs_in_pattern name s (applied_symbol at byte f ss ps) = occurs_in_some name s ps
+  occurs_in_pattern name s (both_of at t p q) =
+      occurs_in_pattern name s p || occurs_in_pattern name s q
   occurs_in_pattern name s p = false
 
   pub occurs_in_some : List ℕ → SortTree → Unfoldeds → Bool
@@ -38,6 +41,7 @@ abbrev mutual
   pub is_bound_by : Unfoldeds → Unfolded → Bool
   is_bound_by qs (named_variable at name s) = occurs_in_some name s qs
   is_bound_by qs (applied_symbol at byte name ss ps) = are_bound_by qs ps
+  is_bound_by qs (both_of at s p q) = is_bound_by qs p && is_bound_by qs q
   is_bound_by qs p = true
 
   pub are_bound_by : Unfoldeds → Unfoldeds → Bool

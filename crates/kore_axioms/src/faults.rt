@@ -29,7 +29,8 @@ pub enum AxiomFault {
     Anywhere = 20,
     /// It has the attribute `overload` or `symbol-overload`.
     Overload = 21,
-    /// An `\and` occurs inside the left side.
+    /// An `\and` inside the left side has not two arguments, or is not of an element variable and a
+    /// pattern that is no variable, or its variable stands elsewhere in the left side.
     AsPattern = 22,
     /// The priority is no text of one to nine digits.
     BadPriority = 23,

@@ -3,6 +3,7 @@
 
 mod classes;
 mod faults;
+mod left_names;
 mod parts;
 mod priorities;
 mod refusals;
@@ -12,6 +13,7 @@ mod uses;
 
 pub use classes::{AxiomClass, class_of};
 pub use faults::AxiomFault;
+pub use left_names::has_bad_and;
 pub use parts::{RuleParts, is_ill, over_bool, rule_parts, tested};
 pub use priorities::{has_bad_priority, priority_of};
 pub use refusals::Refusal;

@@ -8,12 +8,14 @@ ghost use Rattle.kore_shapes.specs.Views.{pattern_at, plain_side, plain_conditio
 ghost use Rattle.kore_axioms.specs.Conditions.{is_bool as is_a_bool, over_bool as the_over_bool};
 ghost use Rattle.kore_axioms.specs.Conditions.{tested_pattern as the_tested, is_ill as is_an_ill};
 ghost use Rattle.kore_axioms.specs.RuleParts.{rule_parts as the_parts, left_of, right_of};
+ghost use Rattle.kore_axioms.specs.LeftNames.{is_badly_named as is_badly_named_one};
 ghost use Rattle.kore_axioms.specs.RuleForms.{holds_of, is_misshapen as is_a_misshapen};
 ghost use Rattle.kore_axioms.specs.RuleForms.{is_without as is_one_without};
 ghost use Rattle.kore_axioms.specs.RuleForms.{has_bad_form as has_a_bad_form, form_faults};
 ghost use Rattle.kore_axioms.specs.Views.{plain_rule_parts, fault_at};
 
 use crate::faults::{AxiomFault, first_of_tests};
+use crate::left_names::has_bad_and;
 use crate::priorities::has_bad_priority;
 use kore_ast::{AxiomDecl, Pat, Sort};
 use kore_shapes::{
@@ -99,10 +101,7 @@ pub(crate) fn form_fault(decl: &AxiomDecl, parts: RuleParts<'_>) -> Option<Axiom
         (has_binder(&decl.pat), AxiomFault::Binder),
         (is_without(parts.after), AxiomFault::Ensures),
         (ill, AxiomFault::Condition),
-        (
-            occurs_in(parts.before.main(), SoughtForms::Conjunctions),
-            AxiomFault::AsPattern,
-        ),
+        (is_badly_named(parts.before.main()), AxiomFault::AsPattern),
         (has_bad_priority(&decl.attrs), AxiomFault::BadPriority),
     ])
 }
@@ -124,6 +123,13 @@ fn occurs_in(pat: Option<&Pat>, sought: SoughtForms) -> bool
     ensures { result ≡ holds_of (has_one (sought_forms sought)) (option_map pattern_at pat.entry) }
 {
     pat.is_some_and(|pat| has_form(pat, sought))
+}
+
+/// Whether there is a left side and an `\and` in it gives no name, or one that stands elsewhere in it.
+fn is_badly_named(pat: Option<&Pat>) -> bool
+    ensures { result ≡ holds_of is_badly_named_one (option_map pattern_at pat.entry) }
+{
+    pat.is_some_and(|pat| has_bad_and(pat, &[pat]))
 }
 
 fn is_misshapen(side: Side<'_>) -> bool

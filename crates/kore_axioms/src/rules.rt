@@ -33,9 +33,9 @@ use crate::refusals::Refusal;
 use crate::sides::sort_fault;
 use crate::uses::{Symbols, has_symbol};
 use kore_ast::{AxiomDecl, Pat, Sort};
-use kore_check::{Variables, build_pattern};
+use kore_check::{Variables, add_names, build_pattern};
 use kore_shapes::{Rewriting, same_sort};
-use rule_core::{Rule, Signature, VarInfo};
+use rule_core::{Named, Rule, Signature, VarInfo};
 use std::alloc::{AllocError, Global};
 use term_core::RulePat;
 
@@ -92,6 +92,7 @@ fn differs_from(first: Option<&Sort>, sort: &Sort) -> bool
 #[derive(Drop)]
 struct RulePatterns {
     left: RulePat,
+    named: Vec<Named>,
     cond: Option<RulePat>,
     right: RulePat,
     vars: Vec<VarInfo>,
@@ -100,7 +101,7 @@ struct RulePatterns {
 
 /// The rewrite rule that an axiom of this shape means. `first` is the sort of the first rule of the
 /// definition, if there is one before this. The variables of the rule are those of its left side,
-/// with their names, in the order of their first occurrence.
+/// with their names, in the order of their first occurrence; the names of parts are among them.
 ///
 /// Errors: the first fault of the form, or else of the sorts, or else of the uses of symbols and
 /// variables; or out of memory. It goes through the axiom a few times, with a look-up for each sort
@@ -135,6 +136,7 @@ pub fn checked_rule(
     Ok(Rule {
         at: decl.at,
         left: made.left,
+        named: made.named,
         cond: made.cond,
         right: made.right,
         vars: made.vars,
@@ -183,13 +185,16 @@ fn rule_patterns(
         unreachable!()
     };
     let mut vars = Variables::new(alloc);
-    let left = build_pattern(alloc, sig, left, &mut vars)?;
+    let mut named = Vec::new(alloc);
+    let made = build_pattern(alloc, sig, left, &mut vars)?;
+    add_names(alloc, sig, left, 0, &vars, &mut named)?;
     let left_vars = vars.len();
     let cond = built_condition(alloc, sig, tested(parts.condition), &mut vars)?;
     let right = build_pattern(alloc, sig, right, &mut vars)?;
     let bound = vars.len() == left_vars;
     Ok(RulePatterns {
-        left,
+        left: made,
+        named,
         cond,
         right,
         vars: vars.into_infos(),

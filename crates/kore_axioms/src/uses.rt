@@ -13,6 +13,7 @@ ghost use Rattle.kore_axioms.specs.FoldUses.{are_two as there_are_two};
 
 use crate::classes::symbol_of;
 use kore_ast::{Pat, PatForm, Text};
+use kore_check::is_pair;
 use rule_core::{Signature, SymInfo, SymKind};
 
 /// Some of the symbols of a definition.
@@ -34,9 +35,11 @@ pub fn has_symbol(pat: &Pat, sig: &Signature, which: Symbols) -> bool
         PatForm::App(name, _, args) => {
             is_among(sig, name, which) || have_symbol(args, sig, which)
         }
+        PatForm::Built(op, sorts, args) => is_pair(*op, sorts, args)
+            && have_symbol(args, sig, which),
         PatForm::Fold(_, inner) => fold_has_symbol(inner, sig, which),
         PatForm::Elem(..) | PatForm::SetVar(..) | PatForm::Text(_) | PatForm::Value(..) => false,
-        PatForm::Built(..) | PatForm::Bound(..) => false,
+        PatForm::Bound(..) => false,
     }
 }
 
@@ -64,7 +67,9 @@ fn fold_has_symbol(pat: &Pat, sig: &Signature, which: Symbols) -> bool
         PatForm::App(name, _, args) => {
             is_among_folded(sig, name, args, which) || have_symbol(args, sig, which)
         }
-        PatForm::Built(_, _, args) => is_one(args) && have_symbol(args, sig, which),
+        PatForm::Built(op, sorts, args) => {
+            (is_one(args) || is_pair(*op, sorts, args)) && have_symbol(args, sig, which)
+        }
         PatForm::Elem(..) | PatForm::SetVar(..) | PatForm::Text(_) | PatForm::Value(..) => false,
         PatForm::Bound(..) | PatForm::Fold(..) => false,
     }

@@ -20,7 +20,7 @@ use Rattle.rule_core.specs.declared.signature.SymKind.TheVariants.{Hooked, Close
 use Rattle.kore_sig.specs.FirstFault.{Fault, when, unless}
 use Rattle.kore_sig.specs.SortReferences.{sort_place, sort_number}
 use Rattle.kore_check.specs.Folds.{Unfolded, named_variable, written_value, applied_symbol}
-use Rattle.kore_check.specs.Folds.{other_form, Unfoldeds, no_more, and_more, standing_at}
+use Rattle.kore_check.specs.Folds.{both_of, other_form, Unfoldeds, no_more, and_more, standing_at}
 use Rattle.kore_check.specs.Folds.{applied_to_two, folded_left, folded_right, fold_of, count}
 use Rattle.kore_check.specs.Folds.{unfolded}
 use Rattle.kore_check.specs.Applicative.{AreApplicative}
@@ -47,8 +47,8 @@ use Rattle.kore_check.specs.PatternSorts.{sort_kind, symbol_named, symbol_info, 
 use Rattle.kore_check.specs.PatternSorts.{number_then, places_of}
 use Rattle.kore_check.specs.PatternMeanings.{variable_number, injected_only, applied_pattern}
 use Rattle.kore_check.specs.PatternMeanings.{with_variables, with_all_variables, IsNamed, Means}
-use Rattle.kore_check.specs.PatternMeanings.{by_variable, by_value, by_symbol, AllMean, none_mean}
-use Rattle.kore_check.specs.PatternMeanings.{more_mean}
+use Rattle.kore_check.specs.PatternMeanings.{by_variable, by_value, by_symbol, by_name, AllMean}
+use Rattle.kore_check.specs.PatternMeanings.{none_mean, more_mean}
 use Rattle.kore_check.specs.Building.{Extends, MeansFrom, AllMeanFrom, IsFaultless, AreFaultless}
 use Rattle.kore_check.specs.Building.{pair_pattern, fold_left_from, left_pattern, right_pattern}
 use Rattle.kore_check.specs.Building.{Built, AllBuilt, IsHead}
@@ -439,12 +439,14 @@ pub means_standing : (sig : Signature) (vars : List (List ℕ × ℕ)) (at : ℕ
 means_standing sig vars at (by_variable a b) = by_variable a b
 means_standing sig vars at (by_value a b) = by_value a b
 means_standing sig vars at (by_symbol a b d e) = by_symbol a b d e
+means_standing sig vars at (by_name a b d) = by_name a b d
 
 faultless_standing : (sig : Signature) (at : ℕ) (u : Unfolded) → IsFaultless sig (standing_at at u)
     → IsFaultless sig u
 faultless_standing sig at (named_variable there name tree) good = good
 faultless_standing sig at (written_value there tree text byte) good = good
 faultless_standing sig at (applied_symbol there byte name ss us) good = good
+faultless_standing sig at (both_of there s p q) good = good
 faultless_standing sig at (other_form there) good = good
 
 variables_standing : (sig : Signature) (vars : List (List ℕ × ℕ)) (at : ℕ) (u : Unfolded)
@@ -452,6 +454,7 @@ variables_standing : (sig : Signature) (vars : List (List ℕ × ℕ)) (at : ℕ
 variables_standing sig vars at (named_variable there name tree) = refl
 variables_standing sig vars at (written_value there tree text byte) = refl
 variables_standing sig vars at (applied_symbol there byte name ss us) = refl
+variables_standing sig vars at (both_of there s p q) = refl
 variables_standing sig vars at (other_form there) = refl
 
 pub built_standing : (sig : Signature) (old new : List (List ℕ × ℕ)) (at : ℕ) (u : Unfolded)
@@ -748,3 +751,13 @@ pub variables-truncated : (old new : List (List ℕ × ℕ)) (n : ℕ) → n ≡
 variables-truncated old new n count (behind, is) =
     ap (λ (k : ℕ). take k new) count ∙ ap (λ (vs : List (List ℕ × ℕ)). take (length old) vs) is
     ∙ take-front old behind
+
+-- ---- the `\and` of two patterns
+
+pub pair_faultless : (sig : Signature) (at : ℕ) (s : SortTree) (u v : Unfolded)
+    → IsFaultless sig (both_of at s u v) → IsFaultless sig u × IsFaultless sig v
+pair_faultless sig at s u v good =
+    let sort = parts_empty (sort_faults sig s) _ good.0 in
+    let first = parts_empty (pattern_faults sig u) _ sort.1 in
+    let second = parts_empty (pattern_faults sig v) _ (parts_empty _ _ first.1).1 in
+    ((first.0, good.1.1), (second.0, good.1.2))

@@ -1,7 +1,7 @@
 -- The results of the cases of building a rule pattern.
 use Rattle.std.proofs.Common.{◌≡◌, ◌≤◌, ◌<◌, ℕ, ◌+◌, Bool, List, [], ◌++◌, length, map, drop}
 use Rattle.std.proofs.Common.{get_or, Option, Some, None, option_map, Vec, Global, append-nil, sym}
-use Rattle.std.proofs.Common.{◌∙◌, ap, subst}
+use Rattle.std.proofs.Common.{◌∙◌, ap, subst, true, inl, inr}
 use Rattle.std.specs.Prelude.{Result, Ok, Err, IfOk}
 use Rattle.std.proofs.lemmas.List.{drop_all}
 use Rattle.kore_text.specs.declared.names.Op.{Op}
@@ -17,13 +17,19 @@ use Rattle.term_core.specs.declared.rule_patterns.RulePat.{RulePat}
 use Rattle.rule_core.specs.declared.signature.Signature.{Signature}
 use Rattle.rule_core.specs.WellSorted.{IsSignature}
 use Rattle.kore_check.specs.Folds.{Unfolded, named_variable, written_value, unfolded, inner_fold}
-use Rattle.kore_check.specs.Folds.{only_of}
+use Rattle.kore_check.specs.Folds.{only_of, Unfoldeds, and_more, no_more, connective_of}
+use Rattle.kore_text.specs.Trees.{SortTree}
+use Rattle.kore_check.specs.Pairs.{is_pair}
+use Rattle.kore_check.specs.Building.{only_named}
+use Rattle.kore_check.proofs.Connectives.{IsConnective, connective_case, pair_there}
+use Rattle.kore_check.proofs.BuildLaws.{pair_faultless}
+use Rattle.kore_check.proofs.NamedMeanings.{pair_built}
 use Rattle.std.specs.Global.{Box}
 use Rattle.kore_check.specs.PatternMeanings.{applied_pattern, with_variables, with_all_variables}
 use Rattle.kore_check.specs.PatternMeanings.{AllMean, none_mean}
 use Rattle.kore_check.specs.Building.{Built, AllBuilt, Extends, IsHead, IsFaultless, AreFaultless}
 use Rattle.kore_check.specs.declared.build.Head.{Head}
-use Rattle.kore_check.proofs.Forms.{variable_is, value_is, fold_is, connective_is}
+use Rattle.kore_check.proofs.Forms.{variable_is, value_is, fold_is}
 use Rattle.kore_check.proofs.Applications.{reads, application_unfolded}
 use Rattle.kore_check.proofs.FoldChecks.{application_folded, only_other, fold_short}
 use Rattle.kore_check.proofs.Items.{drop-item}
@@ -196,14 +202,39 @@ all_done sig args i old new pats le vars means = (
       (sym (drop_all i args le)) none_mean)),
 )
 
-pub connective_built : {E : Type 0} (sig : Signature) (left : Bool) (p : Pat) (o : Op)
-    (ss : Vec Sort Global) (ps : Vec Pat Global) (ys : List Pat) (old new : List (List ℕ × ℕ))
-    (r : Result (Option RulePat) E) → p.form ≡ form.Built o ss ps → ys ≡ ps.items
-    → IfOk r (λ found. (at : ℕ) → Built sig old new (only_of at (reads ys)) found)
-    → IfOk r (Built sig old new (inner_fold left (plain_tree p)))
-connective_built sig left p o ss ps ys old new r h same known =
-    if_ok r _ (Built sig old new (inner_fold left (plain_tree p))) (λ found all.
-    subst (λ (u : Unfolded). Built sig old new u found)
-    (sym (ap (inner_fold left) (connective_is p o ss ps h)))
-    (subst (λ (qs : List Pat). Built sig old new (only_of p.at (reads qs)) found) same
-    (all p.at))) known
+-- ---- connectives
+
+pub carried : {E : Type 0} (sig : Signature) (old new : List (List ℕ × ℕ)) (read : ℕ → Unfolded)
+    (at : ℕ) (u : Unfolded) (r : Result (Option RulePat) E) → read at ≡ u
+    → IfOk r (λ found. (place : ℕ) → Built sig old new (read place) found)
+    → IfOk r (Built sig old new u)
+carried sig old new read at u r is known =
+    if_ok r _ (Built sig old new u) (λ found all.
+    subst (λ (v : Unfolded). Built sig old new v found) is (all at)) known
+
+pub pair_none : (sig : Signature) (at : ℕ) (o : Op) (ss : List SortTree) (us : Unfoldeds)
+    (old new : List (List ℕ × ℕ)) → AllBuilt sig old new us None
+    → IsFaultless sig (connective_of at o ss us) → ⊥
+pair_none sig at o ss us old new none good = by_case (connective_case at o ss us) where
+  by_case : IsConnective at o ss us → ⊥
+  by_case (inl both) =
+      let parts =
+      pair_faultless sig at both.0 both.1 both.2
+      (subst (λ (v : Unfolded). IsFaultless sig v) both.4 good) in
+      none (subst (λ (vs : Unfoldeds). AreFaultless sig vs) (sym both.3)
+      (parts.0, (parts.1, tt)))
+  by_case (inr other) = (subst (λ (v : Unfolded). IsFaultless sig v) other good).1
+
+pub pair_made : (sig : Signature) (at : ℕ) (o : Op) (ss : List Sort) (ps : List Pat)
+    (old new : List (List ℕ × ℕ)) (args : Vec RulePat Global) (found : Option RulePat)
+    → is_pair o (map plain_sort ss) (map plain_tree ps) ≡ true
+    → AllBuilt sig old new (reads ps) (Some args)
+    → option_map plain_pattern found ≡ only_named (plain_patterns args.items)
+    → Built sig old new (connective_of at o (map plain_sort ss) (reads ps)) found
+pair_made sig at o ss ps old new args found is all e =
+    let pair = pair_there at o ss ps is in
+    let known : AllBuilt sig old new (and_more pair.1 (and_more pair.2 no_more)) (Some args) =
+    subst (λ (us : Unfoldeds). AllBuilt sig old new us (Some args)) pair.3 all in
+    subst (λ (u : Unfolded). Built sig old new u found) (sym pair.4)
+    (pair_built sig old new at pair.0 pair.1 pair.2 (plain_patterns args.items) found known.0
+    known.1 e)

@@ -18,15 +18,19 @@ use Rattle.kore_check.specs.declared.faults.FaultKind.TheVariants as kind
 use Rattle.kore_check.specs.FaultNumbers.{IsFirstOf, IsRefusal, as_refusal, refusal_of}
 use Rattle.kore_check.specs.FaultNumbers.{fault_number}
 use Rattle.kore_check.specs.Folds.{Unfolded, named_variable, written_value, applied_symbol}
-use Rattle.kore_check.specs.Folds.{other_form}
+use Rattle.kore_check.specs.Folds.{both_of, other_form, unfolded_byte}
+use Rattle.kore_check.specs.Notes.{kept_fault, after}
+use Rattle.kore_text.specs.Trees.{SortTree}
+use Rattle.kore_sig.specs.SortReferences.{sort_number}
+use Rattle.kore_check.proofs.Applications.{after-append}
 use Rattle.kore_check.specs.Applicative.{IsApplicative}
 use Rattle.kore_check.specs.PatternSorts.{sort_of_pattern, symbol_named, symbol_info, sort_numbers}
 use Rattle.kore_check.specs.PatternSorts.{result_sort}
-use Rattle.kore_check.specs.PatternFaults.{pattern_faults}
+use Rattle.kore_check.specs.PatternFaults.{pattern_faults, sort_faults, clash_faults}
 use Rattle.kore_check.proofs.NotedLaws.{contains_here}
 use Rattle.kore_check.proofs.SortLaws.{sort_numbers-length}
 use Rattle.kore_check.proofs.BuildLaws.{IsSound, application_faultless, variable_known}
-use Rattle.kore_check.proofs.BuildLaws.{value_sort_known, some_there}
+use Rattle.kore_check.proofs.BuildLaws.{value_sort_known, some_there, parts_empty}
 
 none_kept : (fs : List Fault) → ((f : Fault) → Contains fs f → ⊥) → fs ≡ []
 none_kept [] none = refl
@@ -82,6 +86,8 @@ faultless_sorted sig (named_variable at name s) good form e none =
     variable_known sig at name s (e, form) none
 faultless_sorted sig (written_value at s text byte) good form e none =
     value_sort_known sig at byte s text (e, form) none
+faultless_sorted sig (both_of at s p q) good form e none =
+    variable_known sig at [] s ((parts_empty (sort_faults sig s) _ e).0, tt) none
 faultless_sorted sig (other_form at) good form e none = form
 faultless_sorted sig (applied_symbol at byte name ss us) good form e none =
     let sound : IsSound sig name ss _ =
@@ -98,3 +104,36 @@ faultless_sorted sig (applied_symbol at byte name ss us) good form e none =
     let at_result : sort_at numbers.0 sound.info.result ≡ None = rw count at whole in
     result_there sig sound.info numbers.0 sound.info.result declared.result
     (sort_numbers-length sig ss numbers.0 numbers.1 ∙ sound.parameters) at_result
+
+-- what the check of an `\and` of two patterns notes
+pub pair_checked : (sig : Signature) (at : ℕ) (s : SortTree) (p q : Unfolded) (lower upper : ℕ)
+    (own one two : Option ℕ) (f g h k l m : Option PatternFault) → own ≡ sort_number sig.sorts s
+    → unfolded_byte p ≡ lower → unfolded_byte q ≡ upper → one ≡ sort_of_pattern sig p
+    → two ≡ sort_of_pattern sig q → kept_fault g ≡ after f (sort_faults sig s)
+    → kept_fault h ≡ after g (pattern_faults sig p) → kept_fault k ≡ after h (clash_faults lower one own)
+    → kept_fault l ≡ after k (pattern_faults sig q) → kept_fault m ≡ after l (clash_faults upper two own)
+    → kept_fault m ≡ after f (pattern_faults sig (both_of at s p q))
+pair_checked sig at s p q lower upper own one two f g h k l m sort here there first second a b c d
+    e =
+    let clash : kept_fault k ≡ after h
+    (clash_faults (unfolded_byte p) (sort_of_pattern sig p) (sort_number sig.sorts s)) =
+    c ∙ ap (λ (n : ℕ). after h (clash_faults n one own)) (sym here)
+    ∙ ap (λ (o : Option ℕ). after h (clash_faults (unfolded_byte p) o own)) first
+    ∙ ap (λ (o : Option ℕ).
+    after h (clash_faults (unfolded_byte p) (sort_of_pattern sig p) o)) sort in
+    let last : kept_fault m ≡ after l
+    (clash_faults (unfolded_byte q) (sort_of_pattern sig q) (sort_number sig.sorts s)) =
+    e ∙ ap (λ (n : ℕ). after l (clash_faults n two own)) (sym there)
+    ∙ ap (λ (o : Option ℕ). after l (clash_faults (unfolded_byte q) o own)) second
+    ∙ ap (λ (o : Option ℕ).
+    after l (clash_faults (unfolded_byte q) (sort_of_pattern sig q) o)) sort in
+    let lower_clash : List Fault =
+    clash_faults (unfolded_byte p) (sort_of_pattern sig p) (sort_number sig.sorts s) in
+    let upper_clash : List Fault =
+    clash_faults (unfolded_byte q) (sort_of_pattern sig q) (sort_number sig.sorts s) in
+    let after_clash : List Fault = pattern_faults sig q ++ upper_clash in
+    after-append f g (kept_fault m) (sort_faults sig s)
+    (pattern_faults sig p ++ (lower_clash ++ after_clash)) a
+    (after-append g h (kept_fault m) (pattern_faults sig p) (lower_clash ++ after_clash) b
+    (after-append h k (kept_fault m) lower_clash after_clash clash
+    (after-append k l (kept_fault m) (pattern_faults sig q) upper_clash d last)))

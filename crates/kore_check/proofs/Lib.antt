@@ -2,6 +2,7 @@ pub mod NotedLaws
 pub mod SortLaws
 pub mod Forms
 pub mod IntegerTexts
+pub mod Connectives
 pub mod Places
 pub mod Items
 pub mod Applications
@@ -9,7 +10,9 @@ pub mod SameFaults
 pub mod FoldLaws
 pub mod FoldChecks
 pub mod HeightLaws
+pub mod NameFolds
 pub mod BuildLaws
+pub mod NamedMeanings
 pub mod VariableLaws
 pub mod BuildSteps
 pub mod CheckLaws

@@ -10,7 +10,10 @@ use Rattle.kore_ast.specs.declared.tree.PatForm.TheFolds.{fold-PatForm, fold_out
 use Rattle.kore_ast.specs.declared.tree.PatForm.TheFolds.{fold_out-PatForm}
 use Rattle.kore_ast.specs.Plain.{pattern_tree, pattern_form_step, pattern_step}
 use Rattle.kore_check.specs.Folds.{Unfolded, named_variable, written_value, applied_symbol}
-use Rattle.kore_check.specs.Folds.{other_form, unfolded_byte, standing_at, inner_fold, unfolded}
+use Rattle.kore_text.specs.Trees.{listed_sorts}
+use Rattle.kore_check.specs.Folds.{both_of, other_form, unfolded_byte, standing_at, inner_fold}
+use Rattle.kore_check.specs.Folds.{unfolded, all_unfolded}
+use Rattle.kore_check.proofs.Connectives.{byte_of_connective}
 
 -- the byte of the first token
 abbrev pub first_byte : PatternTree → ℕ
@@ -54,6 +57,7 @@ byte_of_next-standing_at : (at : ℕ) (u : Unfolded) → unfolded_byte (standing
 byte_of_next-standing_at at (named_variable there name s) = refl
 byte_of_next-standing_at at (written_value there s text byte) = refl
 byte_of_next-standing_at at (applied_symbol there byte name ss ps) = refl
+byte_of_next-standing_at at (both_of there s p q) = refl
 byte_of_next-standing_at at (other_form there) = refl
 
 byte_of_next-first_byte : (t : PatternTree) → unfolded_byte (unfolded t) ≡ first_byte t
@@ -61,7 +65,8 @@ byte_of_next-first_byte (element_variable at name s) = refl
 byte_of_next-first_byte (set_variable at name s) = refl
 byte_of_next-first_byte (string at text) = refl
 byte_of_next-first_byte (symbol_applied at name ss ps) = refl
-byte_of_next-first_byte (connected at op ss ps) = refl
+byte_of_next-first_byte (connected at op ss ps) =
+    byte_of_connective at op (listed_sorts ss) (all_unfolded ps)
 byte_of_next-first_byte (binder_applied at binder ss x p) = refl
 byte_of_next-first_byte (value_written at s text byte) = refl
 byte_of_next-first_byte (folded at left p) = byte_of_next-standing_at at (inner_fold left p)

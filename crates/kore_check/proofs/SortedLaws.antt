@@ -1,7 +1,7 @@
 -- The meaning of a pattern without faults has the pattern's sort.
 use Rattle.std.proofs.Common.{◌≡◌, ◌<◌, ◌≤◌, ℕ, zero, suc, ◌+◌, ◌^◌, Bool, true, false, List, []}
 use Rattle.std.proofs.Common.{◌∷◌, length, Option, Some, None, option_map, slice_get, Contains}
-use Rattle.std.proofs.Common.{eq-eqb, refl, sym, ◌∙◌, ap, subst, arith}
+use Rattle.std.proofs.Common.{eq-eqb, refl, sym, ◌∙◌, ap, subst, arith, ◌⊎◌, inl, inr}
 use Rattle.std.specs.Prelude.{ℤ, pos, neg_ℤ, ◌==◌, ◌&&◌, not, IsTrue, flat_map, nat_lt, nat_le}
 use Rattle.std.specs.Option.{option_and_then}
 use Rattle.std.specs.List.{position_from}
@@ -42,7 +42,8 @@ use Rattle.kore_check.specs.PatternSorts.{result_sort, wanted_sort, places_of}
 use Rattle.kore_check.specs.PatternFaults.{pattern_faults, argument_faults, clash_faults}
 use Rattle.kore_check.specs.PatternFaults.{sort_faults, symbol_faults, is_bad_injection}
 use Rattle.rule_core.specs.KindTests.{is_injection}
-use Rattle.kore_check.specs.PatternMeanings.{Means, by_variable, by_value, by_symbol, AllMean}
+use Rattle.kore_check.specs.PatternMeanings.{Means, by_variable, by_value, by_symbol, by_name}
+use Rattle.kore_check.specs.PatternMeanings.{AllMean}
 use Rattle.kore_check.specs.PatternMeanings.{none_mean, more_mean, applied_pattern, injected_only}
 use Rattle.kore_check.specs.PatternMeanings.{variable_number}
 use Rattle.kore_check.specs.SortedMeanings.{MeaningsAreSorted, variable_sorts}
@@ -50,6 +51,7 @@ use Rattle.kore_check.proofs.SortLaws.{wanted-at, sort_numbers-length, sort_numb
 use Rattle.kore_check.proofs.BuildLaws.{head_sound, named_same, parts_empty, some_there}
 use Rattle.kore_check.proofs.BuildLaws.{unless_empty, when_empty}
 use Rattle.kore_check.proofs.CheckLaws.{faultless_sorted, some_or_none}
+use Rattle.kore_check.proofs.NamedMeanings.{IsPartOf, part_cases, part_apart, variable_meaning}
 
 -- ---- values
 
@@ -108,7 +110,7 @@ value_sorted kind.Other bytes v is =
 
 -- ---- variables
 
-position_found : {X : Type 0} (test : X → Bool) (n k : ℕ) (xs : List X)
+pub position_found : {X : Type 0} (test : X → Bool) (n k : ℕ) (xs : List X)
     → position_from test n xs ≡ Some k
     → (j : ℕ) × (k ≡ n + j) × ((x : X) × (slice_get xs j ≡ Some x) × (test x ≡ true))
 position_found test n k [] is = absurd (let no_place : ⊥ = cc in no_place)
@@ -277,11 +279,35 @@ mutual
   means_form sig vars (by_variable a b) = tt
   means_form sig vars (by_value a b) = tt
   means_form sig vars (by_symbol a b all d) = all_form sig vars all
+  means_form sig vars (by_name {p = p} {q = q} {r = r} first second part) = (
+    λ same. part_apart p q r part (variable_meaning sig vars first ∙ same
+        ∙ sym (variable_meaning sig vars second)),
+    means_form sig vars first,
+    means_form sig vars second,
+  )
 
   all_form : (sig : Signature) (vars : List (List ℕ × ℕ)) {us : Unfoldeds} {ps : Patterns}
       → AllMean sig vars us ps → AreApplicative us
   all_form sig vars none_mean = tt
   all_form sig vars (more_mean first rest) = (means_form sig vars first, all_form sig vars rest)
+
+part_sorted : (sig : Signature) (V : List ℕ) (p q r : Pattern) (s : ℕ) → IsPartOf p q r
+    → HasSort sig V p s → HasSort sig V q s → HasSort sig V r s
+part_sorted sig V p q r s (inl second) of_first of_second =
+    subst (λ (x : Pattern). HasSort sig V x s) second.2 of_second
+part_sorted sig V p q r s (inr first) of_first of_second =
+    subst (λ (x : Pattern). HasSort sig V x s) first.2 of_first
+
+-- a pattern of an `\and` without a clash has the sort of the `\and`
+sort_in_pair : (sig : Signature) (u : Unfolded) (own s : ℕ) (wanted : Option ℕ)
+    → sort_of_pattern sig u ≡ Some own → wanted ≡ Some s
+    → clash_faults (unfolded_byte u) (sort_of_pattern sig u) wanted ≡ []
+    → sort_of_pattern sig u ≡ Some s
+sort_in_pair sig u own s wanted known is clear =
+    known
+    ∙ ap (λ (n : ℕ). Some n) (no_clash (unfolded_byte u) own s
+    (ap (λ o. clash_faults (unfolded_byte u) o (Some s)) (sym known)
+    ∙ ap (λ o. clash_faults (unfolded_byte u) (sort_of_pattern sig u) o) (sym is) ∙ clear))
 
 mutual
   sorted : (sig : Signature) (good : IsSignature sig) (vars : List (List ℕ × ℕ)) (s : ℕ)
@@ -293,6 +319,27 @@ mutual
   sorted sig good vars s e (by_value {s = n} {text = bytes} {v = v} number value) is =
       let found = value_there bytes v (slice_get sig.sorts n) value in
       (some_same n s (sym number ∙ is), (found.0, found.1.0, found.1.1, found.1.2))
+  sorted sig good vars s e (by_name {tree = tree} {u = u} {w = w} {p = p} {q = q} {r = r} first
+      second part) is =
+      let parts = parts_empty (sort_faults sig tree) _ e in
+      let lower = parts_empty (pattern_faults sig u) _ parts.1 in
+      let after =
+      parts_empty (clash_faults (unfolded_byte u) (sort_of_pattern sig u)
+      (sort_number sig.sorts tree)) _ lower.1 in
+      let upper = parts_empty (pattern_faults sig w) _ after.1 in
+      let one =
+      some_or_none (sort_of_pattern sig u)
+      (faultless_sorted sig u good (means_form sig vars first) lower.0) in
+      let two =
+      some_or_none (sort_of_pattern sig w)
+      (faultless_sorted sig w good (means_form sig vars second) upper.0) in
+      let of_first : HasSort sig (variable_sorts vars) p s =
+      sorted sig good vars s lower.0 first
+      (sort_in_pair sig u one.0 s (sort_number sig.sorts tree) one.1 is after.0) in
+      let of_second : HasSort sig (variable_sorts vars) q s =
+      sorted sig good vars s upper.0 second
+      (sort_in_pair sig w two.0 s (sort_number sig.sorts tree) two.1 is upper.1) in
+      part_sorted sig (variable_sorts vars) p q r s (part_cases p q r part) of_first of_second
   sorted sig good vars s e (by_symbol {byte = byte} {f = f} {name = name} {ss = ss} {us = us}
       {ns = ns} {ps = ps} {p = p} {info = info} named numbers all made) is =
       let parts = parts_empty (flat_map (sort_faults sig) ss) _ e in

@@ -16,11 +16,16 @@ use Rattle.std.specs.Global.{Global}
 use Rattle.std.proofs.lemmas.Map.Text.{is_eq-slice_cmp}
 use Rattle.std.proofs.lemmas.Slice.Eq.{bytes_eq-Decides}
 use Rattle.std.proofs.lemmas.Bool.{false≢true}
-use Rattle.kore_check.specs.PatternMeanings.{variable_number, with_variable}
+use Rattle.rule_core.specs.declared.signature.Signature.{Signature}
+use Rattle.kore_sig.specs.SortReferences.{sort_number}
+use Rattle.kore_check.specs.Folds.{Unfolded, Unfoldeds, named_variable, written_value}
+use Rattle.kore_check.specs.Folds.{applied_symbol, both_of, other_form, no_more, and_more}
+use Rattle.kore_check.specs.PatternMeanings.{variable_number, with_variable, with_variables}
+use Rattle.kore_check.specs.PatternMeanings.{with_all_variables}
 use Rattle.kore_check.specs.Building.{Extends}
 use Rattle.kore_check.specs.VariableKeys.{key_of, key_cmp, key_cmp_total}
 use Rattle.kore_check.specs.VariableFields.{number_under, AreNumbered}
-use Rattle.kore_check.proofs.BuildLaws.{number-added, number-kept, extends-refl}
+use Rattle.kore_check.proofs.BuildLaws.{number-added, number-kept, extends-refl, extends-trans}
 
 -- ---- keys
 
@@ -210,3 +215,26 @@ with_variable-extends vars name (Some s) = by_case (is_some (variable_number var
   by_case : (t : Bool) → Extends vars (if t then vars else vars ++ (name, s) ∷ [])
   by_case true = extends-refl vars
   by_case false = ((name, s) ∷ [], refl)
+
+-- the variables of a pattern come after those that are there
+mutual
+  pub variables-extended : (sig : Signature) (u : Unfolded) (vars : List (List ℕ × ℕ))
+      → Extends vars (with_variables sig vars u)
+  variables-extended sig (named_variable at name s) vars =
+      with_variable-extends vars name (sort_number sig.sorts s)
+  variables-extended sig (written_value at s text byte) vars = extends-refl vars
+  variables-extended sig (applied_symbol at byte name ss us) vars =
+      all-variables-extended sig us vars
+  variables-extended sig (both_of at s p q) vars =
+      extends-trans vars (with_variables sig vars p)
+      (with_variables sig (with_variables sig vars p) q) (variables-extended sig p vars)
+      (variables-extended sig q (with_variables sig vars p))
+  variables-extended sig (other_form at) vars = extends-refl vars
+
+  pub all-variables-extended : (sig : Signature) (us : Unfoldeds) (vars : List (List ℕ × ℕ))
+      → Extends vars (with_all_variables sig vars us)
+  all-variables-extended sig no_more vars = extends-refl vars
+  all-variables-extended sig (and_more u us) vars =
+      extends-trans vars (with_variables sig vars u)
+      (with_all_variables sig (with_variables sig vars u) us) (variables-extended sig u vars)
+      (all-variables-extended sig us (with_variables sig vars u))

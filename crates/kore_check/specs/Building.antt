@@ -8,6 +8,7 @@ use Rattle.kore_check.specs.Folds.{Unfolded, Unfoldeds, no_more, and_more}
 use Rattle.kore_check.specs.Applicative.{IsApplicative}
 use Rattle.kore_check.specs.PatternFaults.{pattern_faults}
 use Rattle.kore_check.specs.PatternMeanings.{Means, AllMean, applied_pattern, with_variables}
+use Rattle.kore_check.specs.PatternMeanings.{named_part}
 use Rattle.kore_check.specs.PatternMeanings.{with_all_variables, IsNamed}
 use Rattle.kore_check.specs.PatternSorts.{symbol_named, sort_numbers}
 use Rattle.kore_check.specs.declared.build.Head.{Head}
@@ -28,6 +29,11 @@ MeansFrom sig vars u p = (more : List (List ℕ × ℕ)) → Extends vars more �
 
 abbrev pub AllMeanFrom : Signature → List (List ℕ × ℕ) → Unfoldeds → Patterns → Type 0
 AllMeanFrom sig vars us ps = (more : List (List ℕ × ℕ)) → Extends vars more → AllMean sig more us ps
+
+-- the part that has a name in an `\and` of two patterns; None if there are not exactly two
+abbrev pub only_named : Patterns → Option Pattern
+only_named (more_patterns p (more_patterns q no_pattern)) = named_part p q
+only_named ps = None
 
 -- the pattern has an allowed form, and no fault except maybe its height
 abbrev pub IsFaultless : Signature → Unfolded → Type 0

@@ -1,13 +1,16 @@
 -- Patterns with their folds expanded (K framework, Kore language). `\left-assoc{}(f{}(a,b,c))` is
 -- `f{}(f{}(a,b),c)`, and `\right-assoc{}(f{}(a,b,c))` is `f{}(a,f{}(b,c))`. A fold of one argument
--- is that argument.
-use Rattle.std.specs.Prelude.{◌+◌, ℕ, Bool, true, false, List, max}
+-- is that argument, and a fold of an `\and` of two patterns is that `\and`.
+use Rattle.std.specs.Prelude.{◌+◌, ℕ, Bool, true, false, List, [], ◌∷◌, max}
 use Rattle.kore_text.specs.Trees.{SortTree, PatternTree, element_variable, set_variable, string}
 use Rattle.kore_text.specs.Trees.{symbol_applied, connected, binder_applied, value_written, folded}
 use Rattle.kore_text.specs.Trees.{PatternTrees, no_patterns, pattern_then, listed_sorts}
+use Rattle.kore_text.specs.declared.names.Op.{Op}
+use Rattle.kore_text.specs.declared.names.Op.TheVariants.{And}
 
 mutual
-  -- A pattern of variables, domain values and applications. The first number is its byte.
+  -- A pattern of variables, domain values, applications and `\and`s of two patterns. The first
+  -- number is its byte.
   pub data Unfolded : Type 0 where
     -- a variable's name and sort
     named_variable : ℕ → List ℕ → SortTree → Unfolded
@@ -15,6 +18,8 @@ mutual
     written_value : ℕ → SortTree → List ℕ → ℕ → Unfolded
     -- the byte of a symbol's name, the name, its sort arguments and its arguments
     applied_symbol : ℕ → ℕ → List ℕ → List SortTree → Unfoldeds → Unfolded
+    -- the sort of an `\and` and its two patterns
+    both_of : ℕ → SortTree → Unfolded → Unfolded → Unfolded
     -- a pattern of another form
     other_form : ℕ → Unfolded
 
@@ -27,6 +32,7 @@ abbrev pub unfolded_byte : Unfolded → ℕ
 unfolded_byte (named_variable at name s) = at
 unfolded_byte (written_value at s text byte) = at
 unfolded_byte (applied_symbol at byte name ss ps) = at
+unfolded_byte (both_of at s p q) = at
 unfolded_byte (other_form at) = at
 
 -- the pattern, with this byte
@@ -34,6 +40,7 @@ abbrev pub standing_at : ℕ → Unfolded → Unfolded
 standing_at there (named_variable at name s) = named_variable there name s
 standing_at there (written_value at s text byte) = written_value there s text byte
 standing_at there (applied_symbol at byte name ss ps) = applied_symbol there byte name ss ps
+standing_at there (both_of at s p q) = both_of there s p q
 standing_at there (other_form at) = other_form there
 
 -- a symbol applied to two patterns when a fold is expanded; its byte is that of the symbol's name
@@ -63,6 +70,16 @@ abbrev pub only_of : ℕ → Unfoldeds → Unfolded
 only_of at (and_more p no_more) = p
 only_of at ps = other_form at
 
+-- a connective of these sorts and patterns; another form if it is no `\and` of two patterns
+abbrev pub connective_of : ℕ → Op → List SortTree → Unfoldeds → Unfolded
+connective_of at And (s ∷ []) (and_more p (and_more q no_more)) = both_of at s p q
+connective_of at op ss ps = other_form at
+
+-- the fold of a connective
+abbrev pub connective_fold : ℕ → Op → List SortTree → Unfoldeds → Unfolded
+connective_fold at op ss (and_more p no_more) = p
+connective_fold at op ss ps = connective_of at op ss ps
+
 -- a pattern with its folds expanded; the byte of a fold is its own first byte
 abbrev mutual
   pub unfolded : PatternTree → Unfolded
@@ -71,7 +88,7 @@ abbrev mutual
   unfolded (string at text) = other_form at
   unfolded (symbol_applied at name ss ps) =
       applied_symbol at at name (listed_sorts ss) (all_unfolded ps)
-  unfolded (connected at op ss ps) = other_form at
+  unfolded (connected at op ss ps) = connective_of at op (listed_sorts ss) (all_unfolded ps)
   unfolded (binder_applied at binder ss x p) = other_form at
   unfolded (value_written at s text byte) = written_value at s text byte
   unfolded (folded at left p) = standing_at at (inner_fold left p)
@@ -83,7 +100,8 @@ abbrev mutual
   inner_fold left (string at text) = other_form at
   inner_fold left (symbol_applied at name ss ps) =
       fold_of left at name (listed_sorts ss) (all_unfolded ps)
-  inner_fold left (connected at op ss ps) = only_of at (all_unfolded ps)
+  inner_fold left (connected at op ss ps) =
+      connective_fold at op (listed_sorts ss) (all_unfolded ps)
   inner_fold left (binder_applied at binder ss x p) = other_form at
   inner_fold left (value_written at s text byte) = other_form at
   inner_fold left (folded at other p) = other_form at
@@ -97,10 +115,12 @@ abbrev pub count : Unfoldeds → ℕ
 count no_more = 0
 count (and_more p ps) = count ps + 1
 
--- the height; a variable, a value and a symbol without arguments have the height 1
+-- the height; a variable, a value and a symbol without arguments have the height 1; an `\and` has
+-- that of the higher of its patterns
 abbrev mutual
   pub unfolded_height : Unfolded → ℕ
   unfolded_height (applied_symbol at byte name ss ps) = unfolded_heights ps + 1
+  unfolded_height (both_of at s p q) = max (unfolded_height p) (unfolded_height q)
   unfolded_height p = 1
 
   -- the greatest of these heights, 0 if there are none

@@ -6,6 +6,9 @@ pub mod ValueTexts
 pub mod PatternSorts
 pub mod PatternFaults
 pub mod PatternMeanings
+pub mod PartNames
+pub mod Variables
+pub mod Pairs
 pub mod VariableNames
 pub mod FaultNumbers
 -- Laws: what follows from that. Each is a clause of a function that does nothing.

@@ -13,8 +13,8 @@ use Rattle.rule_core.specs.declared.signature.SortRef.{SortRef}
 use Rattle.kore_sig.specs.FirstFault.{Fault, when, unless}
 use Rattle.kore_sig.specs.SortReferences.{sort_number, sort_place}
 use Rattle.kore_check.specs.Folds.{Unfolded, named_variable, written_value, applied_symbol}
-use Rattle.kore_check.specs.Folds.{other_form, Unfoldeds, no_more, and_more, unfolded_byte, count}
-use Rattle.kore_check.specs.Folds.{unfolded_height}
+use Rattle.kore_check.specs.Folds.{both_of, other_form, Unfoldeds, no_more, and_more, count}
+use Rattle.kore_check.specs.Folds.{unfolded_byte, unfolded_height}
 use Rattle.kore_check.specs.ValueTexts.{value_of_text}
 use Rattle.kore_check.specs.PatternSorts.{sort_kind, symbol_named, sort_numbers, sort_of_pattern}
 use Rattle.kore_check.specs.PatternSorts.{wanted_sort, places_of}
@@ -53,7 +53,8 @@ abbrev pub first_wanted : Signature → List SortTree → List SortRef → Optio
 first_wanted sig ss [] = None
 first_wanted sig ss (of ∷ refs) = wanted_sort sig ss of
 
--- the faults of a pattern, except that of its height
+-- the faults of a pattern, except that of its height; 9 at a pattern of an `\and` whose sort is not
+-- that of the `\and`
 abbrev mutual
   pub pattern_faults : Signature → Unfolded → List Fault
   pattern_faults sig (named_variable at name s) = sort_faults sig s
@@ -64,6 +65,12 @@ abbrev mutual
       flat_map (sort_faults sig) ss
       ++ (symbol_faults sig byte (symbol_named sig name) ss (count ps)
       ++ argument_faults sig ss (places_of (symbol_named sig name)) ps)
+  pattern_faults sig (both_of at s p q) =
+      sort_faults sig s
+      ++ (pattern_faults sig p
+      ++ (clash_faults (unfolded_byte p) (sort_of_pattern sig p) (sort_number sig.sorts s)
+      ++ (pattern_faults sig q
+      ++ clash_faults (unfolded_byte q) (sort_of_pattern sig q) (sort_number sig.sorts s))))
   pattern_faults sig (other_form at) = []
 
   -- the faults of the arguments at these places; 9 at an argument whose sort is not that of its

@@ -1,7 +1,7 @@
 -- The rule pattern that a Kore pattern means, and the pattern's variables. Variables are numbered
 -- by name and sort, in the order of their first occurrence.
 use Rattle.std.specs.Prelude.{◌≡◌, ◌==◌, ◌&&◌, ◌++◌, ℕ, List, [], ◌∷◌, Option, Some, None, is_some}
-use Rattle.std.specs.Prelude.{if◌then◌else◌}
+use Rattle.std.specs.Prelude.{Bool, true, false, if◌then◌else◌}
 use Rattle.std.specs.List.{position_from}
 use Rattle.std.specs.Str.{bytes_eq}
 use Rattle.std.specs.Option.{option_and_then}
@@ -16,7 +16,7 @@ use Rattle.rule_core.specs.declared.signature.SymKind.TheVariants.{Injection, Ct
 use Rattle.term_core.specs.Terms.{DomainValue}
 use Rattle.kore_sig.specs.SortReferences.{sort_number}
 use Rattle.kore_check.specs.Folds.{Unfolded, named_variable, written_value, applied_symbol}
-use Rattle.kore_check.specs.Folds.{Unfoldeds, no_more, and_more}
+use Rattle.kore_check.specs.Folds.{both_of, Unfoldeds, no_more, and_more}
 use Rattle.kore_check.specs.ValueTexts.{value_of_text}
 use Rattle.kore_check.specs.PatternSorts.{sort_kind, symbol_info, sort_numbers}
 
@@ -37,6 +37,7 @@ abbrev mutual
   with_variables sig vars (named_variable at name s) =
       with_variable vars name (sort_number sig.sorts s)
   with_variables sig vars (applied_symbol at byte name ss ps) = with_all_variables sig vars ps
+  with_variables sig vars (both_of at s p q) = with_variables sig (with_variables sig vars p) q
   with_variables sig vars p = vars
 
   pub with_all_variables : Signature → List (List ℕ × ℕ) → Unfoldeds → List (List ℕ × ℕ)
@@ -62,10 +63,23 @@ applied_pattern Ctor f ns ps = Some (application f ps)
 applied_pattern NoKind f ns ps = None
 applied_pattern kind f ns ps = Some (call f ns ps)
 
+abbrev pub is_variable_pattern : Pattern → Bool
+is_variable_pattern (variable x) = true
+is_variable_pattern p = false
+
+-- The part that has a name in an `\and` of two patterns: the one that is no variable. It is None if
+-- both of them are variables, or none of them.
+abbrev pub named_part : Pattern → Pattern → Option Pattern
+named_part p q =
+    if is_variable_pattern p
+    then (if is_variable_pattern q then None else Some q)
+    else (if is_variable_pattern q then Some p else None)
+
 mutual
   -- The rule pattern that a pattern means if the variables have these names and sorts. A variable
   -- means the variable with its number. A domain value means the value of its text in its sort. An
-  -- application means its symbol applied to the meanings of its arguments.
+  -- application means its symbol applied to the meanings of its arguments. An `\and` means the part
+  -- that it gives a name.
   pub data Means (sig : Signature) (vars : List (List ℕ × ℕ)) : Unfolded → Pattern → Type 0 where
     by_variable : {at x s : ℕ} {name : List ℕ} {tree : SortTree}
         → sort_number sig.sorts tree ≡ Some s → variable_number vars name s ≡ Some x
@@ -80,6 +94,8 @@ mutual
         IsNamed sig name f info → sort_numbers sig ss ≡ Some ns → AllMean sig vars us ps →
         applied_pattern info.kind f ns ps ≡ Some p
         → Means sig vars (applied_symbol at byte name ss us) p
+    by_name : {at : ℕ} {tree : SortTree} {u w : Unfolded} {p q r : Pattern} → Means sig vars u p
+        → Means sig vars w q → named_part p q ≡ Some r → Means sig vars (both_of at tree u w) r
 
   -- the same for patterns in order
   pub data AllMean (sig : Signature) (vars : List (List ℕ × ℕ)) : Unfoldeds → Patterns

@@ -14,7 +14,7 @@ use Rattle.rule_core.specs.declared.signature.SortRef.{SortRef}
 use Rattle.rule_core.specs.declared.signature.SortRef.TheVariants.{Param, Sort}
 use Rattle.kore_sig.specs.SortReferences.{sort_number}
 use Rattle.kore_check.specs.Folds.{Unfolded, named_variable, written_value, applied_symbol}
-use Rattle.kore_check.specs.Folds.{other_form}
+use Rattle.kore_check.specs.Folds.{both_of, other_form}
 
 -- the kind of the declared sort with this number
 abbrev pub sort_kind : Signature → ℕ → Option SortKind
@@ -52,6 +52,7 @@ sort_of_pattern sig (named_variable at name s) = sort_number sig.sorts s
 sort_of_pattern sig (written_value at s text byte) = sort_number sig.sorts s
 sort_of_pattern sig (applied_symbol at byte name ss ps) =
     result_sort (symbol_named sig name) ss (sort_numbers sig ss)
+sort_of_pattern sig (both_of at s p q) = sort_number sig.sorts s
 sort_of_pattern sig (other_form at) = None
 
 -- the sort that an argument must have; a parameter of the symbol is the sort argument with its

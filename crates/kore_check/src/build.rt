@@ -6,17 +6,19 @@ ghost use Rattle.term_core.specs.RulePatterns.{plain_pattern, sort_numbers as nu
 ghost use Rattle.term_core.specs.PatternLists.{plain_patterns};
 ghost use Rattle.rule_core.specs.WellSorted.{IsSignature};
 ghost use Rattle.kore_check.specs.Folds.{named_variable, written_value, unfolded, all_unfolded};
-ghost use Rattle.kore_check.specs.Folds.{inner_fold, only_of};
+ghost use Rattle.kore_check.specs.Folds.{inner_fold, only_of, connective_of};
 ghost use Rattle.kore_check.specs.PatternSorts.{sort_numbers};
 ghost use Rattle.kore_check.specs.PatternMeanings.{applied_pattern, injected_only};
 ghost use Rattle.kore_sig.specs.Numbered.{IsNumbered};
 ghost use Rattle.kore_check.specs.Building.{Built, AllBuilt, Extends, IsHead, left_pattern};
-ghost use Rattle.kore_check.specs.Building.{right_pattern};
+ghost use Rattle.kore_check.specs.Building.{right_pattern, only_named};
+ghost use Rattle.kore_check.specs.PatternMeanings.{is_variable_pattern};
 
 use crate::Variables;
+use crate::pairs::is_pair;
 use crate::sorts::declared_sort;
 use crate::values::{kind_of, value_in};
-use kore_ast::{Pat, PatForm, Sort, Text};
+use kore_ast::{Op, Pat, PatForm, Sort, Text};
 use rule_core::{Signature, SymKind};
 use std::alloc::{AllocError, Global};
 use term_core::{RulePat, SortId, SymId};
@@ -180,10 +182,9 @@ pub(crate) fn build(
             };
             applied(alloc, &head, args)
         }
+        PatForm::Built(op, sorts, args) => build_connective(args, alloc, sig, *op, sorts, vars),
         PatForm::Fold(left, inner) => build_fold(inner, alloc, sig, *left, vars),
-        PatForm::SetVar(..) | PatForm::Text(_) | PatForm::Built(..) | PatForm::Bound(..) => Ok(
-            None,
-        ),
+        PatForm::SetVar(..) | PatForm::Text(_) | PatForm::Bound(..) => Ok(None),
     }
 }
 
@@ -245,10 +246,68 @@ fn build_fold(
                 folded_right(alloc, &head, args)
             }
         }
-        PatForm::Built(_, _, args) => build_only(args, alloc, sig, vars),
+        PatForm::Built(op, sorts, args) => {
+            if args.len() == 1 {
+                return build_only(args, alloc, sig, vars);
+            }
+            build_connective(args, alloc, sig, *op, sorts, vars)
+        }
         PatForm::Elem(..) | PatForm::SetVar(..) | PatForm::Text(_) => Ok(None),
         PatForm::Bound(..) | PatForm::Value(..) | PatForm::Fold(..) => Ok(None),
     }
+}
+
+// The rule pattern of the part that an `\and` of two patterns gives a name, or None if one of them has
+// a fault or another form, if not exactly one is a variable, or if it is another connective.
+#[cycle(build)]
+fn build_connective(
+    args: &[Pat],
+    alloc: Global,
+    sig: &Signature,
+    op: Op,
+    sorts: &[Sort],
+    vars: &mut Variables,
+) -> Result<Option<RulePat>, AllocError>
+    requires numbered { IsNumbered sig.now }
+    requires signature { IsSignature sig.now }
+    ensures built { IfOk result (λ found. (at : ℕ)
+        → Built sig.now vars.old vars.new
+        (connective_of at op (map plain_sort sorts.now)
+        (all_unfolded (pattern_trees (map plain_tree args.now)))) found) }
+    ensures grows { Extends vars.old vars.new }
+{
+    if !is_pair(op, sorts, args) {
+        return Ok(None);
+    }
+    let Some(pair) = build_all(args, alloc, sig, vars)? else {
+        return Ok(None);
+    };
+    Ok(named_part(pair))
+}
+
+// Of two patterns, the one that is no variable, or None if not exactly one is a variable.
+fn named_part(pair: Vec<RulePat>) -> Option<RulePat>
+    ensures { option_map plain_pattern result ≡ only_named (plain_patterns pair.items) }
+{
+    let mut pair = pair;
+    if pair.len() != 2 {
+        return None;
+    }
+    let second = pair.pop()?;
+    let first = pair.pop()?;
+    if is_variable(&first) == is_variable(&second) {
+        None
+    } else if is_variable(&first) {
+        Some(second)
+    } else {
+        Some(first)
+    }
+}
+
+fn is_variable(pat: &RulePat) -> bool
+    ensures { result ≡ is_variable_pattern (plain_pattern pat.now) }
+{
+    matches!(pat, RulePat::Var(_))
 }
 
 // The rule pattern that the only pattern means, or None if there is not exactly one.

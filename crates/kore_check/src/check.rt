@@ -2,7 +2,7 @@
 ghost use Rattle.std.specs.Prelude.{◌≡◌, ◌≤◌, ℕ, length, map, drop, option_map, option_copied};
 ghost use Rattle.kore_text.specs.Trees.{pattern_trees};
 ghost use Rattle.kore_ast.specs.Plain.{plain_sort, pattern_tree};
-ghost use Rattle.kore_check.specs.Folds.{unfolded, inner_fold, only_of, all_unfolded};
+ghost use Rattle.kore_check.specs.Folds.{unfolded, inner_fold, only_of, connective_of, all_unfolded};
 ghost use Rattle.kore_check.specs.PatternSorts.{sort_of_pattern, places_of};
 ghost use Rattle.kore_check.specs.PatternFaults.{pattern_faults, argument_faults, first_wanted};
 ghost use Rattle.kore_check.specs.Notes.{kept_fault, after, sort_no};
@@ -11,9 +11,10 @@ ghost use Rattle.kore_check.specs.FoldFaults.{folded_faults, next_faults};
 
 use crate::PatternFault;
 use crate::heads::{check_head, symbol};
+use crate::pairs::is_pair;
 use crate::sorts::{check_clash, check_sort, wanted};
 use crate::values::check_value;
-use kore_ast::{Pat, PatForm, Sort, Text};
+use kore_ast::{Op, Pat, PatForm, Sort, Text};
 use rule_core::{Signature, SortRef, SymInfo};
 use term_core::SortId;
 
@@ -45,8 +46,9 @@ pub(crate) fn check(sig: &Signature, pat: &Pat, first: &mut Option<PatternFault>
             check_arguments(args, sig, sorts, places(symbol), first);
             own
         }
+        PatForm::Built(op, sorts, args) => check_connective(args, sig, *op, sorts, first),
         PatForm::Fold(left, inner) => check_fold(inner, sig, *left, first),
-        PatForm::SetVar(..) | PatForm::Text(_) | PatForm::Built(..) | PatForm::Bound(..) => None,
+        PatForm::SetVar(..) | PatForm::Text(_) | PatForm::Bound(..) => None,
     }
 }
 
@@ -120,10 +122,48 @@ fn check_fold(
             );
             own
         }
-        PatForm::Built(_, _, args) => check_only(args, sig, first),
+        PatForm::Built(op, sorts, args) => {
+            if args.len() == 1 {
+                return check_only(args, sig, first);
+            }
+            check_connective(args, sig, *op, sorts, first)
+        }
         PatForm::Elem(..) | PatForm::SetVar(..) | PatForm::Text(_) => None,
         PatForm::Bound(..) | PatForm::Value(..) | PatForm::Fold(..) => None,
     }
+}
+
+// Notes the faults of an `\and` of two patterns, and returns its sort. It notes nothing of another
+// connective and returns None.
+#[cycle(check)]
+fn check_connective(
+    args: &[Pat],
+    sig: &Signature,
+    op: Op,
+    sorts: &[Sort],
+    first: &mut Option<PatternFault>,
+) -> Option<SortId>
+    requires { IsNumbered sig.now }
+    ensures sort { (at : ℕ) → option_map sort_no result
+        ≡ sort_of_pattern sig.now
+        (connective_of at op (map plain_sort sorts.now)
+        (all_unfolded (pattern_trees (map pattern_tree args.now)))) }
+    ensures first { (at : ℕ) → kept_fault first.new
+        ≡ after first.old (pattern_faults sig.now
+        (connective_of at op (map plain_sort sorts.now)
+        (all_unfolded (pattern_trees (map pattern_tree args.now))))) }
+{
+    if !is_pair(op, sorts, args) {
+        return None;
+    }
+    let own = check_sort(sig, &sorts[0], first);
+    let lower = &args[0];
+    let upper = &args[1];
+    let sort = check(sig, lower, first);
+    check_clash(lower.at, sort, own, first);
+    let sort = check(sig, upper, first);
+    check_clash(upper.at, sort, own, first);
+    own
 }
 
 // Notes the faults of the only pattern and returns its sort. If there is not exactly one pattern,

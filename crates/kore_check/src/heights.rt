@@ -1,16 +1,19 @@
 // The height of a pattern with its folds expanded.
 ghost use Rattle.std.specs.Prelude.{◌≡◌, ◌≤◌, ◌+◌, ℕ, true, false, List, length, map};
 ghost use Rattle.kore_text.specs.Trees.{SortTree, pattern_trees};
-ghost use Rattle.kore_ast.specs.Plain.{pattern_tree};
+ghost use Rattle.kore_ast.specs.Plain.{plain_sort, pattern_tree};
 ghost use Rattle.kore_check.specs.Folds.{unfolded, inner_fold, only_of, fold_of, all_unfolded};
+ghost use Rattle.kore_check.specs.Folds.{connective_of};
 ghost use Rattle.kore_check.specs.Folds.{unfolded_height, unfolded_heights};
 ghost use Rattle.kore_check.specs.FoldHeights.{cut};
 
-use kore_ast::{Pat, PatForm};
+use crate::pairs::is_pair;
+use kore_ast::{Op, Pat, PatForm, Sort};
 use term_core::MAX_HEIGHT;
 
 /// The height of a pattern with its folds expanded, or 501 if it is greater. A variable, a value
-/// and a symbol without arguments have the height 1. It goes through the pattern once.
+/// and a symbol without arguments have the height 1. An `\and` of two patterns has that of the higher
+/// one. It goes through the pattern once.
 #[cycle(height)]
 pub fn height_of(pat: &Pat) -> u32
     ensures { result ≡ cut (unfolded_height (unfolded (pattern_tree pat.now))) }
@@ -18,8 +21,9 @@ pub fn height_of(pat: &Pat) -> u32
     match &pat.form {
         PatForm::Elem(..) | PatForm::Value(..) => 1,
         PatForm::App(_, _, args) => one_more(highest(args)),
+        PatForm::Built(op, sorts, args) => connective_height(args, *op, sorts),
         PatForm::Fold(left, inner) => fold_height(inner, *left),
-        PatForm::SetVar(..) | PatForm::Text(_) | PatForm::Built(..) | PatForm::Bound(..) => 1,
+        PatForm::SetVar(..) | PatForm::Text(_) | PatForm::Bound(..) => 1,
     }
 }
 
@@ -51,10 +55,30 @@ fn fold_height(inner: &Pat, left: bool) -> u32
                 right_height(args)
             }
         }
-        PatForm::Built(_, _, args) => only_height(args),
+        PatForm::Built(op, sorts, args) => {
+            if args.len() == 1 {
+                return only_height(args);
+            }
+            connective_height(args, *op, sorts)
+        }
         PatForm::Elem(..) | PatForm::SetVar(..) | PatForm::Text(_) => 1,
         PatForm::Bound(..) | PatForm::Value(..) | PatForm::Fold(..) => 1,
     }
+}
+
+// The height of the higher pattern of an `\and` of two, or 501 if it is greater. It is 1 for another
+// connective.
+#[cycle(height)]
+fn connective_height(args: &[Pat], op: Op, sorts: &[Sort]) -> u32
+    ensures { (at : ℕ) → result
+        ≡ cut (unfolded_height
+        (connective_of at op (map plain_sort sorts.now)
+        (all_unfolded (pattern_trees (map pattern_tree args.now))))) }
+{
+    if !is_pair(op, sorts, args) {
+        return 1;
+    }
+    highest(args)
 }
 
 // The height of the only pattern, or 1 if there is not exactly one.

@@ -1,5 +1,6 @@
 -- Laws on the patterns of an equation that is clear, and on what is built of them.
-use Rattle.std.proofs.Common.{◌≡◌, ℕ, Bool, true, false, List, [], ◌∷◌, map, Option, Some, refl, ap}
+use Rattle.std.proofs.Common.{◌≡◌, ℕ, Bool, true, false, List, [], ◌∷◌, map, Option, Some, None}
+use Rattle.std.proofs.Common.{refl, ap}
 use Rattle.std.proofs.Common.{sym, ◌∙◌, subst}
 use Rattle.std.specs.Prelude.{not, drop, length, option_map}
 use Rattle.std.specs.List.{list_any}
@@ -18,19 +19,23 @@ use Rattle.kore_check.specs.PatternFaults.{first_wanted}
 use Rattle.kore_check.specs.PatternMeanings.{with_all_variables, Means, AllMean}
 use Rattle.kore_check.specs.VariableNames.{named_sorts}
 use Rattle.kore_check.specs.PatternSorts.{symbol_named}
-use Rattle.kore_shapes.specs.Forms.{all_forms, has_form, has_binder}
+use Rattle.kore_check.specs.PartNames.{names_in_all}
+use Rattle.kore_axioms.specs.LeftNames.{has_bad_and}
+use Rattle.kore_shapes.specs.Forms.{others, all_forms, has_form, has_binder}
 use Rattle.kore_shapes.specs.Statements.{StatedEquation}
-use Rattle.kore_shapes.specs.EquationForms.{EquationParts}
+use Rattle.kore_shapes.specs.EquationForms.{EquationParts, equation_parts}
 use Rattle.kore_axioms.specs.AxiomClasses.{equates, axiom_class}
 use Rattle.kore_axioms.specs.AxiomMeanings.{MeansTest}
 use Rattle.kore_axioms.specs.Conditions.{tested_pattern}
 use Rattle.kore_axioms.specs.Priorities.{priority_of}
 use Rattle.kore_axioms.specs.RuleFaults.{is_empty, faults_at_sort, condition_faults}
-use Rattle.kore_axioms.proofs.ApplicativeLaws.{neither, applicative}
+use Rattle.kore_axioms.proofs.ApplicativeLaws.{neither, applicative, AreSides, left_is_side}
+use Rattle.kore_axioms.proofs.ApplicativeLaws.{side_applicative}
 use Rattle.kore_axioms.proofs.BinderLaws.{AllBindNone, test_binds_none}
 use Rattle.kore_axioms.proofs.BoundLaws.{no_faults}
 use Rattle.kore_axioms.proofs.RuleLaws.{held, clear_test}
 use Rattle.kore_equations.specs.ReadableEquations.{all_read, condition_of_equation, has_other_form}
+use Rattle.kore_equations.specs.ReadableEquations.{has_good_form}
 use Rattle.kore_equations.specs.NamedEquations.{MeansNamedEquation}
 use Rattle.kore_equations.specs.ClearEquations.{each_faultless, clear_parts}
 use Rattle.kore_equations.specs.BuiltEquations.{IsFine, AreFine, IsFineEquation, IsBuiltOf}
@@ -48,20 +53,47 @@ fine_at sig wanted p clear form binder = record {
   clear = (no_faults _ _ (no_faults _ _ (empty_is _ clear)).0).1;
 }
 
-fine_patterns : (sig : Signature) (refs : List SortRef) (ps : List PatternTree)
-    → each_faultless sig refs (all_read ps) ≡ true → list_any (has_form all_forms) ps ≡ false
-    → AllBindNone ps → AreFine sig (all_read ps)
-fine_patterns sig refs [] clear forms binders = tt
-fine_patterns sig refs (p ∷ ps) clear forms binders =
-    let both = both_true _ _ clear in
-    let form = neither _ _ forms in (
-      fine_at sig (first_wanted sig [] refs) p both.0 form.0 binders.0,
-      fine_patterns sig (drop 1 refs) ps both.1 form.1 binders.1,
+-- the patterns of the arguments, with the names in them
+listed_sides : (whole ps : List PatternTree) → list_any (has_form others) ps ≡ false
+    → list_any (has_bad_and whole) ps ≡ false → AllBindNone ps → AreSides whole (all_read ps)
+listed_sides whole [] forms names binders = tt
+listed_sides whole (p ∷ ps) forms names binders =
+    let form = neither _ _ forms in
+    let name = neither _ _ names in (
+      left_is_side whole p form.0 name.0 binders.0,
+      listed_sides whole ps form.1 name.1 binders.1,
+    )
+
+fine_patterns : (sig : Signature) (refs : List SortRef) (whole ps : List PatternTree)
+    → each_faultless sig refs (all_read ps) ≡ true → AreSides whole (all_read ps)
+    → AreFine sig (all_read ps)
+fine_patterns sig refs whole [] clear sides = tt
+fine_patterns sig refs whole (p ∷ ps) clear sides =
+    let both = both_true _ _ clear in (
+      record {
+        form = side_applicative whole (unfolded p) sides.0;
+        clear = (no_faults _ _ (no_faults _ _ (empty_is _ both.0)).0).1;
+      },
+      fine_patterns sig (drop 1 refs) whole ps both.1 sides.1,
     )
 
 not_true : (b : Bool) → not b ≡ true → b ≡ false
 not_true false h = refl
 not_true true h = sym h
+
+-- the patterns of the arguments of an equation of good form
+pub sides_of_equation : (sig : Signature) (a : AxiomDeclaration) (e : StatedEquation)
+    (q : EquationParts) → axiom_class sig a ≡ equates e → equation_parts e ≡ Some q
+    → has_good_form sig a e q ≡ true → AreSides q.patterns (all_read q.patterns)
+sides_of_equation sig a e q class form good =
+    let both = both_true _ _ good in
+    let rest = both_true _ _ both.1 in
+    let no_binder : has_binder a.pattern ≡ false = not_true _ rest.0 in
+    let forms = neither _ _ (not_true (has_other_form sig e q) both.0) in
+    let arguments = neither _ _ forms.0 in
+    let stated = statement_binds_none a.pattern e (class_equates sig a e class).stated no_binder in
+    let binds = equation_binds_none e q form stated in
+    listed_sides q.patterns q.patterns arguments.0 arguments.1 binds.patterns
 
 pub fine_equation : (sig : Signature) (a : AxiomDeclaration) (info : SymInfo) (e : StatedEquation)
     (q : EquationParts) → axiom_class sig a ≡ equates e → clear_parts sig a info e ≡ Some q
@@ -80,7 +112,9 @@ fine_equation sig a info e q class h =
     let patterns = both_true _ _ parameters.1 in
     let sides = both_true _ _ patterns.1 in
     record {
-      patterns = fine_patterns sig info.args.items q.patterns patterns.0 forms.0 binds.patterns;
+      patterns =
+          fine_patterns sig info.args.items q.patterns q.patterns patterns.0
+          (sides_of_equation sig a e q class c.form c.good_form);
       test = λ p is. record {
         form =
             applicative p
@@ -110,6 +144,8 @@ pub equation_meant : (sig : Signature) (a : AxiomDeclaration) (info : SymInfo) (
       fun = record { 0 = f };
       params = n;
       args = made.args;
+      named = made.named;
+      owise = None;
       cond = made.cond;
       right = made.right;
       vars = made.vars;
@@ -133,6 +169,11 @@ equation_meant sig a info e q made f n p class declared clear b bound count stat
             subst (λ (vs : List (List ℕ × ℕ)).
             AllMean sig vs (all_read q.patterns) (plain_patterns made.args.items)) numbered
             (b.means_arguments bound);
+        names =
+            b.names bound
+            ∙ ap (λ (vs : List (List ℕ × ℕ)). names_in_all sig vs [] 0 (all_read q.patterns))
+            numbered;
+        last_resort = refl;
         means_condition =
             subst (λ (vs : List (List ℕ × ℕ)). MeansTest sig vs
             (tested_pattern (condition_of_equation sig e q)) (option_map plain_pattern made.cond))

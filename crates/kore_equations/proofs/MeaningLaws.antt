@@ -9,13 +9,16 @@ use Rattle.rule_core.specs.declared.signature.Signature.{Signature}
 use Rattle.kore_sig.specs.SortReferences.{sort_number}
 use Rattle.kore_check.specs.Building.{Extends}
 use Rattle.kore_check.specs.Folds.{Unfolded, Unfoldeds, no_more, and_more, named_variable}
-use Rattle.kore_check.specs.Folds.{written_value, applied_symbol, other_form, unfolded}
-use Rattle.kore_check.specs.PatternMeanings.{Means, by_variable, by_value, by_symbol, AllMean}
+use Rattle.kore_check.specs.Folds.{written_value, applied_symbol, both_of, other_form, unfolded}
+use Rattle.kore_check.specs.PatternMeanings.{Means, by_variable, by_value, by_symbol, by_name}
+use Rattle.kore_check.specs.PatternMeanings.{AllMean}
 use Rattle.kore_check.specs.PatternMeanings.{none_mean, more_mean, with_variables}
 use Rattle.kore_check.specs.PatternMeanings.{with_all_variables}
 use Rattle.kore_check.proofs.BuildLaws.{number-kept, extends-refl, extends-trans}
 use Rattle.kore_check.proofs.Items.{drop-item}
 use Rattle.kore_check.proofs.VariableLaws.{with_variable-extends}
+use Rattle.rule_core.specs.NamedParts.{Name}
+use Rattle.kore_check.specs.PartNames.{names_in, names_in_all}
 use Rattle.kore_equations.specs.ReadableEquations.{all_read}
 use Rattle.kore_equations.specs.BuiltEquations.{IsFine, AreFine}
 
@@ -27,6 +30,8 @@ mutual
   means_more sig vars more ext (by_value a b) = by_value a b
   means_more sig vars more ext (by_symbol a b all d) =
       by_symbol a b (all_mean_more sig vars more ext all) d
+  means_more sig vars more ext (by_name first second part) =
+      by_name (means_more sig vars more ext first) (means_more sig vars more ext second) part
 
   all_mean_more : (sig : Signature) (vars more : List (List ℕ × ℕ)) {us : Unfoldeds} {ps : _}
       → Extends vars more → AllMean sig vars us ps → AllMean sig more us ps
@@ -41,6 +46,10 @@ mutual
       with_variable-extends vars name (sort_number sig.sorts s)
   variables_extend sig vars (written_value at s text byte) = extends-refl vars
   variables_extend sig vars (applied_symbol at byte name ss us) = all_variables_extend sig vars us
+  variables_extend sig vars (both_of at s p q) =
+      extends-trans vars (with_variables sig vars p)
+      (with_variables sig (with_variables sig vars p) q) (variables_extend sig vars p)
+      (variables_extend sig (with_variables sig vars p) q)
   variables_extend sig vars (other_form at) = extends-refl vars
 
   pub all_variables_extend : (sig : Signature) (vars : List (List ℕ × ℕ)) (us : Unfoldeds)
@@ -103,3 +112,25 @@ last_meaning f sig xs i vars made le before =
     (before vars [] (extends-refl vars) (subst
     (λ (ys : List _). AllMean sig vars (all_read (map f ys)) no_pattern)
     (sym (drop_all i xs le)) none_mean))
+
+-- the names of one more pattern
+pub next_names : {X : Type 0} (f : X → PatternTree) (sig : Signature) (vars : List (List ℕ × ℕ))
+    (xs : List X) (i : ℕ) (x : X) (before after whole : List Name) → i < length xs
+    → x ≡ get_or xs i x → after ≡ before ++ names_in sig vars (i ∷ []) (unfolded (f x))
+    → before ++ names_in_all sig vars [] i (all_read (map f (drop i xs))) ≡ whole
+    → after ++ names_in_all sig vars [] (i + 1) (all_read (map f (drop (i + 1) xs))) ≡ whole
+next_names f sig vars xs i x before after whole lt item made known =
+    let rest : List Name =
+    names_in_all sig vars [] (i + 1) (all_read (map f (drop (i + 1) xs))) in
+    ap (λ (ns : List Name). ns ++ rest) made
+    ∙ append_assoc before (names_in sig vars (i ∷ []) (unfolded (f x))) rest
+    ∙ ap (λ (ys : List _). before ++ names_in_all sig vars [] i (all_read (map f ys)))
+    (sym (drop-item xs i x lt item)) ∙ known
+
+pub last_names : {X : Type 0} (f : X → PatternTree) (sig : Signature) (vars : List (List ℕ × ℕ))
+    (xs : List X) (i : ℕ) (names whole : List Name) → length xs ≤ i
+    → names ++ names_in_all sig vars [] i (all_read (map f (drop i xs))) ≡ whole → names ≡ whole
+last_names f sig vars xs i names whole le known =
+    sym (append-nil names)
+    ∙ ap (λ (ys : List _). names ++ names_in_all sig vars [] i (all_read (map f ys)))
+    (sym (drop_all i xs le)) ∙ known

@@ -1,5 +1,6 @@
 -- What is built of the patterns of an equation whose form and sorts have no fault.
 use Rattle.std.specs.Prelude.{◌≡◌, ◌&&◌, true, [], Some, option_map}
+use Rattle.rule_core.specs.ProgramView.{names_of}
 use Rattle.kore_text.specs.Trees.{PatternTree}
 use Rattle.term_core.specs.RulePatterns.{plain_pattern}
 use Rattle.term_core.specs.PatternLists.{plain_patterns}
@@ -8,6 +9,7 @@ use Rattle.kore_check.specs.Folds.{Unfolded, Unfoldeds, no_more, and_more, unfol
 use Rattle.kore_check.specs.Applicative.{IsApplicative}
 use Rattle.kore_check.specs.PatternFaults.{pattern_faults}
 use Rattle.kore_check.specs.PatternMeanings.{with_all_variables, Means, AllMean}
+use Rattle.kore_check.specs.PartNames.{names_in_all}
 use Rattle.kore_check.specs.VariableNames.{named_sorts}
 use Rattle.kore_shapes.specs.Shapes.{Condition}
 use Rattle.kore_shapes.specs.EquationForms.{EquationParts}
@@ -45,6 +47,9 @@ pub record IsBuiltOf (sig : Signature) (c : Condition) (q : EquationParts)
   pub means_arguments : made.bound ≡ true
       → AllMean sig (named_sorts made.vars.items) (all_read q.patterns)
       (plain_patterns made.args.items)
+  pub names : made.bound ≡ true
+      → names_of made.named.items
+      ≡ names_in_all sig (named_sorts made.vars.items) [] 0 (all_read q.patterns)
   pub means_condition : made.bound ≡ true
       → MeansTest sig (named_sorts made.vars.items) (tested_pattern c)
       (option_map plain_pattern made.cond)

@@ -1,11 +1,12 @@
 -- The equations that axioms mean.
-use Rattle.std.specs.Prelude.{◌≡◌, ℕ, List, [], map, length, Some}
+use Rattle.std.specs.Prelude.{◌≡◌, ℕ, List, [], map, length, Some, None}
 use Rattle.kore_text.specs.Trees.{AxiomDeclaration}
 use Rattle.rule_core.specs.Rules.{Equation}
 use Rattle.rule_core.specs.declared.signature.Signature.{Signature}
 use Rattle.rule_core.specs.declared.signature.SymInfo.{SymInfo}
 use Rattle.kore_check.specs.Folds.{unfolded}
 use Rattle.kore_check.specs.PatternMeanings.{with_all_variables, Means, AllMean}
+use Rattle.kore_check.specs.PartNames.{names_in_all}
 use Rattle.kore_check.specs.PatternSorts.{symbol_named}
 use Rattle.kore_shapes.specs.Statements.{StatedEquation}
 use Rattle.kore_shapes.specs.EquationForms.{EquationParts}
@@ -16,7 +17,8 @@ use Rattle.kore_axioms.specs.Priorities.{priority_of}
 use Rattle.kore_equations.specs.ReadableEquations.{IsReadable, condition_of_equation, all_read}
 
 -- The axiom is this equation of the function of this name. Its variables are those of the patterns
--- that the arguments match, in the order of their first occurrence.
+-- that the arguments match, names too, in the order of their first occurrence. Its names are those
+-- that these patterns give, argument by argument.
 pub record MeansEquation (sig : Signature) (f : List ℕ) (a : AxiomDeclaration) (e : Equation) :
     Type 0 where
   pub stated : StatedEquation
@@ -30,6 +32,8 @@ pub record MeansEquation (sig : Signature) (f : List ℕ) (a : AxiomDeclaration)
   pub numbered : variables ≡ with_all_variables sig [] (all_read parts.patterns)
   pub parameters : e.parameters ≡ length parts.parameters
   pub means_arguments : AllMean sig variables (all_read parts.patterns) e.arguments
+  pub names : e.names ≡ names_in_all sig variables [] 0 (all_read parts.patterns)
+  pub last_resort : e.last_resort ≡ None
   pub means_condition : MeansTest sig variables
       (tested_pattern (condition_of_equation sig stated parts))
       e.condition

@@ -16,12 +16,13 @@ use Rattle.kore_sig.specs.SortReferences.{sort_number}
 use Rattle.kore_check.specs.Folds.{Unfoldeds, unfolded, all_unfolded, unfolded_heights}
 use Rattle.rule_core.specs.Evaluation.{most_height}
 use Rattle.kore_check.specs.PatternFaults.{argument_faults}
-use Rattle.kore_shapes.specs.Forms.{all_forms, has_form, has_binder}
+use Rattle.kore_shapes.specs.Forms.{others, all_forms, has_form, has_binder}
 use Rattle.kore_shapes.specs.Shapes.{Condition, given_condition}
 use Rattle.kore_shapes.specs.Statements.{StatedEquation}
 use Rattle.kore_shapes.specs.EquationForms.{EquationParts, equation_parts}
 use Rattle.kore_axioms.specs.Conditions.{over_bool, tested_pattern, is_ill}
 use Rattle.kore_axioms.specs.Uses.{have_symbol, is_plain_function, is_ac_symbol}
+use Rattle.kore_axioms.specs.LeftNames.{has_bad_and}
 use Rattle.kore_axioms.specs.Priorities.{has_bad_priority}
 use Rattle.kore_axioms.specs.RuleForms.{holds_of}
 use Rattle.kore_axioms.specs.RuleFaults.{is_empty, faults_at_sort, condition_faults, is_bound}
@@ -57,10 +58,11 @@ fits_function sig a info e q =
 
 -- ---- its form
 
--- a pattern contains a form that no equation may have
+-- an argument's pattern, the tested pattern or the right side contains a form that no equation may
+-- have there; an `\and` in an argument's pattern may name a part
 abbrev pub has_other_form : Signature → StatedEquation → EquationParts → Bool
 has_other_form sig e q =
-    list_any (has_form all_forms) q.patterns
+    (list_any (has_form others) q.patterns || list_any (has_bad_and q.patterns) q.patterns)
     || (holds_of (has_form all_forms) (tested_pattern (condition_of_equation sig e q))
     || has_form all_forms q.right)
 

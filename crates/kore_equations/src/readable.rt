@@ -7,10 +7,11 @@ ghost use Rattle.kore_ast.specs.Plain.{plain_sort, plain_axiom_decl};
 ghost use Rattle.rule_core.specs.Sorting.{sort_at as the_sort_at};
 ghost use Rattle.kore_sig.specs.Numbered.{IsNumbered};
 ghost use Rattle.kore_check.specs.Folds.{all_unfolded};
-ghost use Rattle.kore_shapes.specs.Forms.{has_form as has_one, all_forms};
+ghost use Rattle.kore_shapes.specs.Forms.{has_form as has_one, others, all_forms};
 ghost use Rattle.kore_shapes.specs.Views.{pattern_at, plain_condition};
 ghost use Rattle.kore_shapes.specs.StatementViews.{plain_statement};
 ghost use Rattle.kore_shapes.specs.PartViews.{plain_parts};
+ghost use Rattle.kore_axioms.specs.LeftNames.{has_bad_and as has_bad_one};
 ghost use Rattle.kore_axioms.specs.Uses.{have_symbol as have_one};
 ghost use Rattle.kore_axioms.specs.UsedSymbols.{is_used};
 ghost use Rattle.kore_axioms.specs.Conditions.{tested_pattern as the_tested};
@@ -26,7 +27,7 @@ ghost use Rattle.kore_equations.specs.ClearEquations.{is_clear as are_clear};
 
 use crate::sorts::{is_sorted, result_sort};
 use kore_ast::{AxiomDecl, Pat, Sort, SortForm, Text};
-use kore_axioms::{Symbols, has_bad_priority, has_symbol, is_ill, over_bool, tested};
+use kore_axioms::{Symbols, has_bad_and, has_bad_priority, has_symbol, is_ill, over_bool, tested};
 use kore_shapes::{
     Condition, EquationParts, SoughtForms, Statement, equation_parts, given_condition, has_binder,
     has_form,
@@ -172,11 +173,14 @@ fn has_good_form(
 }
 
 fn has_other_form(condition: Condition<'_>, parts: &EquationParts<'_>) -> bool
-    ensures { result ≡ (list_any (has_one all_forms) (plain_parts parts.now).patterns
+    ensures { result
+        ≡ ((list_any (has_one others) (plain_parts parts.now).patterns
+        || list_any (has_bad_one (plain_parts parts.now).patterns) (plain_parts parts.now).patterns)
         || (holds_of (has_one all_forms) (the_tested (plain_condition condition.entry))
         || has_one all_forms (plain_parts parts.now).right)) }
 {
     have_form(&parts.patterns)
+        || have_bad_and(&parts.patterns)
         || is_of_other_form(tested(condition))
         || has_form(parts.right, SoughtForms::All)
 }
@@ -187,11 +191,26 @@ fn is_of_other_form(pat: Option<&Pat>) -> bool
     pat.is_some_and(|pat| has_form(pat, SoughtForms::All))
 }
 
+/// Whether one of the patterns of the arguments has a form that none of them may have.
 fn have_form(pats: &[&Pat]) -> bool
-    ensures { result ≡ list_any (has_one all_forms) (map pattern_at pats.now) }
+    ensures { result ≡ list_any (has_one others) (map pattern_at pats.now) }
 {
     for pat in pats {
-        if has_form(pat, SoughtForms::All) {
+        if has_form(pat, SoughtForms::Others) {
+            return true;
+        }
+    }
+    false
+}
+
+/// Whether an `\and` in one of the patterns of the arguments gives no name, or one that stands
+/// elsewhere in them.
+fn have_bad_and(pats: &[&Pat]) -> bool
+    ensures { result
+        ≡ list_any (has_bad_one (map pattern_at pats.now)) (map pattern_at pats.now) }
+{
+    for pat in pats {
+        if has_bad_and(pat, pats) {
             return true;
         }
     }

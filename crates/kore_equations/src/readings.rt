@@ -97,6 +97,8 @@ fn meant_equation(
         fun: function,
         params: as_number(parts.parameters.len()).ok_or(AllocError)?,
         args: made.args,
+        named: made.named,
+        owise: None,
         cond: made.cond,
         right: made.right,
         vars: made.vars,

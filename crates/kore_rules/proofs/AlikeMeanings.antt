@@ -1,5 +1,5 @@
 -- Two signatures that agree give patterns, rules and equations the same meanings.
-use Rattle.std.proofs.Common.{◌≡◌, ℕ, List, [], ◌++◌, Option, Some, None, refl, sym, ap, ◌∙◌, ◌+◌}
+use Rattle.std.proofs.Common.{◌≡◌, ℕ, List, [], ◌∷◌, ◌++◌, Option, Some, None, refl, sym, ap, ◌∙◌, ◌+◌}
 use Rattle.std.proofs.Common.{subst, length}
 use Rattle.std.specs.Prelude.{◌==◌, ◌&&◌, ◌||◌, not, nat_le}
 use Rattle.std.specs.List.{AllZip}
@@ -16,10 +16,12 @@ use Rattle.rule_core.specs.declared.signature.SymKind.{SymKind}
 use Rattle.kore_sig.specs.SignatureLaws.{IsSameSymbol, AreSameSignature}
 use Rattle.kore_sig.specs.SortReferences.{sort_number}
 use Rattle.kore_check.specs.Folds.{Unfolded, named_variable, written_value, applied_symbol}
-use Rattle.kore_check.specs.Folds.{other_form, Unfoldeds, no_more, and_more, unfolded}
+use Rattle.kore_check.specs.Folds.{both_of, other_form, Unfoldeds, no_more, and_more, unfolded}
 use Rattle.kore_check.specs.Folds.{unfolded_heights}
 use Rattle.kore_check.specs.PatternFaults.{argument_faults}
-use Rattle.kore_check.specs.PatternMeanings.{Means, by_variable, by_value, by_symbol, AllMean}
+use Rattle.kore_check.specs.PartNames.{names_in, names_in_all, name_at, number_of_variable}
+use Rattle.kore_check.specs.PatternMeanings.{Means, by_variable, by_value, by_symbol, by_name}
+use Rattle.kore_check.specs.PatternMeanings.{AllMean}
 use Rattle.kore_check.specs.PatternMeanings.{none_mean, more_mean, with_variables, IsNamed}
 use Rattle.kore_check.specs.PatternMeanings.{with_all_variables, applied_pattern}
 use Rattle.kore_check.specs.PatternSorts.{symbol_named, sort_numbers}
@@ -59,6 +61,9 @@ module _ (s : Signature) (xs : Symbols) (same : AllZip IsSameSymbol s.symbols xs
     variables_alike vars (named_variable at name x) = refl
     variables_alike vars (written_value at x text byte) = refl
     variables_alike vars (applied_symbol at byte name ss ps) = all_variables_alike vars ps
+    variables_alike vars (both_of at x p q) =
+        variables_alike (with_variables s vars p) q
+        ∙ ap (λ (vs : List (List ℕ × ℕ)). with_variables t vs q) (variables_alike vars p)
     variables_alike vars (other_form at) = refl
 
     all_variables_alike : (vars : List (List ℕ × ℕ)) (us : Unfoldeds)
@@ -92,11 +97,38 @@ module _ (s : Signature) (xs : Symbols) (same : AllZip IsSameSymbol s.symbols xs
     means_alike (by_variable a b) = by_variable a b
     means_alike (by_value a b) = by_value a b
     means_alike (by_symbol named sorts all is) = symbol_means named sorts (all_mean_alike all) is
+    means_alike (by_name a b part) = by_name (means_alike a) (means_alike b) part
 
     all_mean_alike : {vars : List (List ℕ × ℕ)} {us : Unfoldeds} {ps : Patterns}
         → AllMean s vars us ps → AllMean t vars us ps
     all_mean_alike none_mean = none_mean
     all_mean_alike (more_mean a all) = more_mean (means_alike a) (all_mean_alike all)
+
+  number_alike : (vars : List (List ℕ × ℕ)) (u : Unfolded)
+      → number_of_variable s vars u ≡ number_of_variable t vars u
+  number_alike vars (named_variable at name x) = refl
+  number_alike vars (written_value at x text byte) = refl
+  number_alike vars (applied_symbol at byte name ss ps) = refl
+  number_alike vars (both_of at x p q) = refl
+  number_alike vars (other_form at) = refl
+
+  mutual
+    names_alike : (vars : List (List ℕ × ℕ)) (place : List ℕ) (u : Unfolded)
+        → names_in s vars place u ≡ names_in t vars place u
+    names_alike vars place (named_variable at name x) = refl
+    names_alike vars place (written_value at x text byte) = refl
+    names_alike vars place (applied_symbol at byte name ss ps) = all_names_alike vars place 0 ps
+    names_alike vars place (both_of at x p q) = λ i.
+        names_alike vars place p i
+        ++ (names_alike vars place q i
+        ++ name_at place (number_alike vars p i) (number_alike vars q i))
+    names_alike vars place (other_form at) = refl
+
+    all_names_alike : (vars : List (List ℕ × ℕ)) (place : List ℕ) (n : ℕ) (us : Unfoldeds)
+        → names_in_all s vars place n us ≡ names_in_all t vars place n us
+    all_names_alike vars place n no_more = refl
+    all_names_alike vars place n (and_more u us) = λ i.
+        names_alike vars (place ++ n ∷ []) u i ++ all_names_alike vars place (n + 1) us i
 
   test_alike : (vars : List (List ℕ × ℕ)) (b : Option PatternTree) (p : Option Pattern)
       → MeansTest s vars b p → MeansTest t vars b p
@@ -118,6 +150,7 @@ module _ (s : Signature) (xs : Symbols) (same : AllZip IsSameSymbol s.symbols xs
     variables = r.variables;
     numbered = r.numbered ∙ variables_alike [] (unfolded r.left);
     means_left = means_alike r.means_left;
+    names = r.names ∙ names_alike r.variables (0 ∷ []) (unfolded r.left);
     means_condition =
         test_alike r.variables (tested_pattern (rule_parts s r.shape).condition) x.condition
         r.means_condition;
@@ -215,6 +248,8 @@ module _ (s : Signature) (xs : Symbols) (same : AllZip IsSameSymbol s.symbols xs
         numbered = r.numbered ∙ all_variables_alike [] (all_read r.parts.patterns);
         parameters = r.parameters;
         means_arguments = all_mean_alike r.means_arguments;
+        names = r.names ∙ all_names_alike r.variables [] 0 (all_read r.parts.patterns);
+        last_resort = r.last_resort;
         means_condition =
             test_alike r.variables (tested_pattern (condition_of_equation s r.stated r.parts))
             x.condition r.means_condition;

@@ -20,7 +20,7 @@ use Rattle.kore_sig.specs.FirstFault.{when, unless, faults_of_tests}
 use Rattle.kore_sig.specs.SignatureLaws.{IsSameSymbol, AreSameSignature}
 use Rattle.kore_sig.specs.SortReferences.{sort_number}
 use Rattle.kore_check.specs.Folds.{Unfolded, named_variable, written_value, applied_symbol}
-use Rattle.kore_check.specs.Folds.{other_form, Unfoldeds, no_more, and_more, unfolded_byte, count}
+use Rattle.kore_check.specs.Folds.{both_of, other_form, Unfoldeds, no_more, and_more, unfolded_byte, count}
 use Rattle.kore_check.specs.Folds.{unfolded_height, unfolded}
 use Rattle.kore_check.specs.PatternSorts.{symbol_named, sort_numbers, number_then, result_sort}
 use Rattle.kore_check.specs.PatternSorts.{sort_of_pattern, places_of}
@@ -225,6 +225,7 @@ module _ (s : Signature) (xs : Symbols) (same : AllZip IsSameSymbol s.symbols xs
   sort_alike (applied_symbol at byte name ss ps) =
       result_alike (symbol_named s name) (symbol_named t name) ss (sort_numbers s ss)
       (symbol_alike name) ∙ ap (result_sort (symbol_named t name) ss) (numbers_alike ss)
+  sort_alike (both_of at x p q) = refl
   sort_alike (other_form at) = refl
 
   head_alike : (byte : ℕ) (a b : Option SymInfo) (ss : List SortTree) (n : ℕ) → AreAlike a b
@@ -260,6 +261,12 @@ module _ (s : Signature) (xs : Symbols) (same : AllZip IsSameSymbol s.symbols xs
         ∙ ap (λ (fs : List Fault).
         front ++ (symbol_faults t byte (symbol_named t name) ss (count ps) ++ fs))
         (arguments_alike ss (places_of (symbol_named t name)) ps)
+    faults_alike (both_of at x p q) = λ i.
+        sort_faults s x
+        ++ (faults_alike p i
+        ++ (clash_faults (unfolded_byte p) (sort_alike p i) (sort_number s.sorts x)
+        ++ (faults_alike q i
+        ++ clash_faults (unfolded_byte q) (sort_alike q i) (sort_number s.sorts x))))
     faults_alike (other_form at) = refl
 
     pub arguments_alike : (ss : List SortTree) (refs : List SortRef) (ps : Unfoldeds)

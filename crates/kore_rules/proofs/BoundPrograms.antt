@@ -1,5 +1,5 @@
 -- The variables of a program's rules and equations are bound if its axioms have few variables.
-use Rattle.std.proofs.Common.{◌≡◌, ◌<◌, ◌≤◌, ℕ, ◌+◌, ◌*◌, ◌^◌, List, [], ◌∷◌, map, length}
+use Rattle.std.proofs.Common.{◌≡◌, ◌<◌, ◌≤◌, ℕ, ◌+◌, ◌*◌, List, [], ◌∷◌, map, length}
 use Rattle.std.proofs.Common.{slice_get, Contains, Option, Some, None, ◌⊎◌, ⊎_elim, inl, inr, refl}
 use Rattle.std.proofs.Common.{sym, ap, ◌∙◌, subst, arith}
 use Rattle.std.specs.Prelude.{Vec}
@@ -11,6 +11,8 @@ use Rattle.term_core.specs.PatternLists.{plain_patterns}
 use Rattle.term_core.specs.RulePatterns.{plain_pattern}
 use Rattle.term_core.specs.declared.rule_patterns.RulePat.{RulePat}
 use Rattle.rule_core.specs.BoundVariables.{IsBoundRule, IsBoundEquation, HasBoundVariables}
+use Rattle.rule_core.specs.Matching.{OccursIn, OccursInSome}
+use Rattle.rule_core.specs.NamedParts.{Name, IsNamed}
 use Rattle.rule_core.specs.ProgramView.{rewrite_rule, function_equation, theory_of}
 use Rattle.rule_core.specs.Rules as plain
 use Rattle.rule_core.specs.Theories.{equations_of}
@@ -69,8 +71,9 @@ bound_rule sig a r is most =
     record {
       few = omega (arith, long, left, counted, numbered, most);
       each =
-          λ x lt. each_occurs sig is.variables (unfolded is.left) (plain_pattern r.left) is.numbered
-          is.means_left x (omega (arith, lt, long));
+          λ x lt. subst (λ (ns : List Name). OccursIn x (plain_pattern r.left) ⊎ IsNamed ns x)
+          (sym is.names) (each_occurs sig is.variables (0 ∷ []) (unfolded is.left)
+          (plain_pattern r.left) is.numbered is.means_left x (omega (arith, lt, long)));
     }
 
 -- ---- equations
@@ -115,9 +118,10 @@ bound_equation sig f a n e own is most =
           parts.form;
       few = omega (arith, long, counted, numbered, least, given, parameters, most);
       each =
-          λ x lt. each_occurs_in_some sig is.variables (all_read patterns)
-          (plain_patterns e.args.items) is.numbered is.means_arguments x
-          (omega (arith, lt, long));
+          λ x lt. subst
+          (λ (ns : List Name). OccursInSome x (plain_patterns e.args.items) ⊎ IsNamed ns x)
+          (sym is.names) (each_occurs_in_some sig is.variables (all_read patterns)
+          (plain_patterns e.args.items) is.numbered is.means_arguments x (omega (arith, lt, long)));
     }
 
 -- ---- the program

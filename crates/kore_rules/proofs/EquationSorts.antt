@@ -9,7 +9,12 @@ use Rattle.term_core.specs.Patterns.{Patterns}
 use Rattle.rule_core.proofs.Belows.{both_true}
 use Rattle.rule_core.specs.Rules.{Equation}
 use Rattle.rule_core.specs.Sorting.{HasSort, HaveSorts, sort_at}
-use Rattle.rule_core.specs.WellSorted.{IsSignature, IsReference, IsCondition}
+use Rattle.rule_core.specs.NamedParts.{Name}
+use Rattle.rule_core.specs.WellSorted.{IsSignature, IsReference, IsCondition, HaveNoCall}
+use Rattle.rule_core.specs.WellSorted.{HaveNames, UsesOnly}
+use Rattle.kore_check.specs.PartNames.{names_in_all}
+use Rattle.kore_equations.proofs.FineLaws.{sides_of_equation}
+use Rattle.kore_rules.proofs.NameLaws.{have_names, names_kept, arguments_clear}
 use Rattle.rule_core.specs.WellSorted.{IsEquationOf as IsSortedEquation}
 use Rattle.rule_core.specs.declared.signature.Signature.{Signature}
 use Rattle.rule_core.specs.declared.signature.SortInfo.{SortInfo}
@@ -108,6 +113,15 @@ sorted_equation declared final axioms f a e info kept good r params refs same_ar
     let arguments : HaveSorts declared V [] e.arguments r.info.args.items =
     sorted_arguments declared vars r.info.args.items good plain_refs patterns.0
     (count_read q.patterns ∙ many) r.means_arguments in
+    let calls : HaveNoCall e.arguments =
+    all_no_call declared vars (not_true _ uses.0) (neither _ _ (not_true _ ac.0)).1
+    r.means_arguments in
+    let ns : List Name = names_in_all declared vars [] 0 (all_read q.patterns) in
+    let named : HaveNames declared V e.arguments ns =
+    have_names declared vars q.patterns e.arguments good
+    (sides_of_equation declared a r.stated q r.class r.readable.form r.readable.good_form)
+    (arguments_clear declared [] (all_read q.patterns) r.info.args.items patterns.0) calls
+    r.means_arguments in
     record {
       variables =
           subst (λ (ss : List ℕ). All (λ (n : ℕ). n < length final.sorts) ss) same (subst
@@ -116,17 +130,23 @@ sorted_equation declared final axioms f a e info kept good r params refs same_ar
       arguments = subst (λ (ss : List ℕ). HaveSorts final ss [] e.arguments info.args.items) same
           (subst (HaveSorts final V [] e.arguments) (sym same_args) (all_sorts_kept declared final
           axioms V [] e.arguments r.info.args.items kept arguments));
-      no_call =
-          all_no_call declared vars (not_true _ uses.0) (neither _ _ (not_true _ ac.0)).1
-          r.means_arguments;
+      no_call = calls;
+      names =
+          subst (λ (ss : List ℕ). HaveNames final ss e.arguments e.names) same
+          (subst (λ (ms : List Name). HaveNames final V e.arguments ms) (sym r.names)
+          (names_kept declared final axioms V e.arguments ns kept named));
       condition =
-          subst (λ (ss : List ℕ). IfSome e.condition (IsCondition final ss e.arguments)) same
+          subst (λ (ss : List ℕ). IfSome e.condition (IsCondition final ss e.arguments e.names)) same
+          (subst (λ (ms : List Name). IfSome e.condition (IsCondition final V e.arguments ms))
+          (sym r.names)
           (sorted_condition declared final axioms vars (given_condition r.stated.over q.condition)
-          over e.condition kept good r.means_arguments refl sides.0 bound.0 r.means_condition);
+          over e.condition kept good r.means_arguments refl sides.0 bound.0 r.means_condition));
       sort = result.0;
       result = ap (sort_at []) same_result ∙ result.1;
       right = subst (λ (ss : List ℕ). HasSort final ss e.right result.0) same
           (sort_kept declared final axioms V e.right result.0 kept (sorted_side declared vars
           (sort_at [] r.info.result) result.0 good sides.1 result.1 r.means_right));
-      bound = uses_only declared vars r.means_arguments bound.1 r.means_right;
+      bound =
+          subst (λ (ms : List Name). UsesOnly e.arguments ms e.right) (sym r.names)
+          (uses_only declared vars r.means_arguments bound.1 r.means_right);
     }

@@ -1,13 +1,12 @@
 -- A term has the forms of rule patterns, and no variable.
-use Rattle.std.proofs.Common.{◌≡◌, ℕ, Bool, true, false, List, [], ◌∷◌, ◌++◌, Contains, Option}
-use Rattle.std.proofs.Common.{Some, None, refl, sym, ap, ◌∙◌, ◌⊎◌, inl, inr, subst}
+use Rattle.std.proofs.Common.{◌≡◌, ℕ, Bool, true, false, List, [], ◌∷◌, ◌++◌}
+use Rattle.std.proofs.Common.{refl, ap, ◌∙◌}
 use Rattle.kore_text.specs.Trees.{SortTree, PatternTree, element_variable, set_variable, string}
 use Rattle.kore_text.specs.Trees.{symbol_applied, connected, binder_applied, value_written, folded}
 use Rattle.kore_text.specs.Trees.{PatternTrees, no_patterns, pattern_then, listed_sorts}
 use Rattle.rule_core.specs.declared.signature.Signature.{Signature}
-use Rattle.kore_sig.specs.FirstFault.{Fault, ByByte, ByNumber, IsFirstBy}
 use Rattle.kore_check.specs.Folds.{Unfolded, named_variable, written_value, applied_symbol}
-use Rattle.kore_check.specs.Folds.{other_form, Unfoldeds, no_more, and_more, standing_at}
+use Rattle.kore_check.specs.Folds.{both_of, other_form, Unfoldeds, no_more, and_more, standing_at}
 use Rattle.kore_check.specs.Folds.{applied_to_two, folded_left, folded_right, unfolded}
 use Rattle.kore_check.specs.Folds.{all_unfolded, inner_fold}
 use Rattle.kore_check.specs.Applicative.{IsApplicative, AreApplicative}
@@ -69,6 +68,7 @@ standing_closed at (applied_symbol there byte name ss us) h = record {
   form = h.form;
   none = h.none;
 }
+standing_closed at (both_of there s p q) h = record { form = h.form; none = h.none }
 standing_closed at (other_form there) h = record { form = h.form; none = h.none }
 
 mutual

@@ -21,13 +21,18 @@ use Rattle.rule_core.specs.declared.signature.SymKind.TheVariants.{Injection, Ct
 use Rattle.rule_core.specs.declared.signature.SymKind.TheVariants.{Hooked, Closed, NoKind}
 use Rattle.kore_sig.specs.SortReferences.{sort_number}
 use Rattle.kore_check.specs.Folds.{Unfolded, Unfoldeds, no_more, and_more, named_variable}
-use Rattle.kore_check.specs.Folds.{written_value, applied_symbol, other_form, unfolded_byte}
+use Rattle.kore_check.specs.Folds.{written_value, applied_symbol, both_of, other_form}
+use Rattle.kore_check.specs.Folds.{unfolded_byte}
 use Rattle.kore_check.specs.Applicative.{IsApplicative, AreApplicative}
 use Rattle.kore_check.specs.PatternFaults.{pattern_faults, clash_faults}
-use Rattle.kore_check.specs.PatternMeanings.{Means, by_variable, by_value, by_symbol, AllMean}
+use Rattle.kore_check.specs.PatternMeanings.{Means, by_variable, by_value, by_symbol, by_name}
+use Rattle.kore_check.specs.PatternMeanings.{AllMean, is_variable_pattern, named_part}
 use Rattle.kore_check.specs.PatternMeanings.{none_mean, more_mean, applied_pattern, injected_only}
 use Rattle.kore_check.specs.PatternMeanings.{variable_number, with_variable, with_variables}
-use Rattle.kore_check.specs.PatternMeanings.{with_all_variables, IsNamed}
+use Rattle.kore_check.specs.PatternMeanings.{with_all_variables, IsNamed as IsSymbolNamed}
+use Rattle.kore_check.specs.PartNames.{names_in, names_in_all, name_at, number_of_variable}
+use Rattle.kore_check.proofs.NamedMeanings.{IsPartOf, part_cases, part_apart, variable_meaning}
+use Rattle.rule_core.specs.NamedParts.{Name, IsNamed}
 use Rattle.kore_check.specs.PatternSorts.{symbol_info, symbol_named, sort_of_pattern}
 use Rattle.kore_check.specs.SortedMeanings.{variable_sorts}
 use Rattle.kore_check.specs.Building.{Extends}
@@ -56,6 +61,12 @@ mutual
   means_form sig vars (by_variable a b) = tt
   means_form sig vars (by_value a b) = tt
   means_form sig vars (by_symbol a b all d) = all_form sig vars all
+  means_form sig vars (by_name {p = p} {q = q} {r = r} first second part) = (
+    λ same. part_apart p q r part (variable_meaning sig vars first ∙ same
+        ∙ sym (variable_meaning sig vars second)),
+    means_form sig vars first,
+    means_form sig vars second,
+  )
 
   all_form : (sig : Signature) (vars : List (List ℕ × ℕ)) {us : Unfoldeds} {ps : Patterns}
       → AllMean sig vars us ps → AreApplicative us
@@ -91,7 +102,7 @@ sorted_side sig vars wanted s good clear is means =
 
 -- ---- functions
 
-named_there : (sig : Signature) (name : List ℕ) (f : ℕ) (info : SymInfo) → IsNamed sig name f info
+named_there : (sig : Signature) (name : List ℕ) (f : ℕ) (info : SymInfo) → IsSymbolNamed sig name f info
     → symbol_named sig name ≡ Some info
 named_there sig name f info named = ap (option_and_then (symbol_info sig)) named.0 ∙ named.1
 
@@ -120,6 +131,13 @@ applied_no_call (Hooked row) f ns ps p plain none made = absurd (false≢true (s
 applied_no_call Closed f ns ps p plain none made = absurd (false≢true (sym plain))
 applied_no_call NoKind f ns ps p plain none made = absurd (let never : ⊥ = cc in never)
 
+-- what holds of both patterns of an `\and` holds of its part
+part_holds : (P : Pattern → Type 0) (p q r : Pattern) → named_part p q ≡ Some r → P p → P q → P r
+part_holds P p q r part of_first of_second = by_case (part_cases p q r part) where
+  by_case : IsPartOf p q r → P r
+  by_case (inl second) = subst P second.2 of_second
+  by_case (inr first) = subst P first.2 of_first
+
 -- a pattern without functions means a pattern without calls
 mutual
   pub no_call : (sig : Signature) (vars : List (List ℕ × ℕ)) {u : Unfolded} {p : Pattern}
@@ -136,6 +154,11 @@ mutual
       not_function _ info.ac (sym (ap is_plain_function_with there) ∙ plains.0)
       (sym (ap is_ac_with there) ∙ acs.0) in
       applied_no_call info.kind f ns ps p kind (all_no_call sig vars plains.1 acs.1 all) made
+  no_call sig vars plain ac (by_name {p = p} {q = q} {r = r} first second part) =
+      let plains = neither _ _ plain in
+      let acs = neither _ _ ac in
+      part_holds HasNoCall p q r part (no_call sig vars plains.0 acs.0 first)
+      (no_call sig vars plains.1 acs.1 second)
 
   pub all_no_call : (sig : Signature) (vars : List (List ℕ × ℕ)) {us : Unfoldeds} {ps : Patterns}
       → have_symbol (is_plain_function sig) us ≡ false → have_symbol (is_ac_symbol sig) us ≡ false
@@ -193,60 +216,172 @@ applied_forth (Hooked row) f ns ps p x made occurs = subst (OccursIn x) (some_sa
 applied_forth Closed f ns ps p x made occurs = subst (OccursIn x) (some_same _ _ made) occurs
 applied_forth NoKind f ns ps p x made occurs = absurd (let never : ⊥ = cc in never)
 
--- a variable that occurs in a pattern occurs in its meaning
+-- ---- names
+
+named_left : (xs ys : List Name) (x : ℕ) → IsNamed xs x → IsNamed (xs ++ ys) x
+named_left [] ys x is = absurd is
+named_left (n ∷ xs) ys x (inl here) = inl here
+named_left (n ∷ xs) ys x (inr later) = inr (named_left xs ys x later)
+
+named_right : (xs ys : List Name) (x : ℕ) → IsNamed ys x → IsNamed (xs ++ ys) x
+named_right [] ys x is = is
+named_right (n ∷ xs) ys x is = inr (named_right xs ys x is)
+
+-- the variable that a pattern means has the pattern's number
+pub number_is : (sig : Signature) (vars : List (List ℕ × ℕ)) {u : Unfolded} {p : Pattern} (x : ℕ)
+    → Means sig vars u p → is_variable_pattern p ≡ true → OccursIn x p
+    → number_of_variable sig vars u ≡ Some x
+number_is sig vars x (by_variable {x = y} {name = name} number is) holds occurs =
+    ap (option_and_then (variable_number vars name)) number ∙ is
+    ∙ ap (λ (n : ℕ). Some n) (sym occurs)
+number_is sig vars x (by_value a b) holds occurs = absurd (false≢true holds)
+number_is sig vars x (by_symbol {at = at} {byte = byte} {name = name} {ss = ss} {us = us} a b all d)
+    holds occurs =
+    absurd (false≢true (sym (variable_meaning sig vars
+    (by_symbol {at = at} {byte = byte} {name = name} {ss = ss} {us = us} a b all d)) ∙ holds))
+number_is sig vars x (by_name {at = at} {tree = tree} first second part) holds occurs =
+    absurd (false≢true (sym (variable_meaning sig vars
+    (by_name {at = at} {tree = tree} first second part)) ∙ holds))
+
+pub no_number : (sig : Signature) (vars : List (List ℕ × ℕ)) {u : Unfolded} {p : Pattern}
+    → Means sig vars u p → is_variable_pattern p ≡ false → number_of_variable sig vars u ≡ None
+no_number sig vars (by_variable a b) other = absurd (false≢true (sym other))
+no_number sig vars (by_value a b) other = refl
+no_number sig vars (by_symbol a b all d) other = refl
+no_number sig vars (by_name first second part) other = refl
+
+-- a variable occurs in the meaning of a pattern, or is one of the names in the pattern
+abbrev pub IsUsed : Signature → List (List ℕ × ℕ) → List ℕ → Unfolded → Pattern → ℕ → Type 0
+IsUsed sig vars place u p x = OccursIn x p ⊎ IsNamed (names_in sig vars place u) x
+
+abbrev pub AreUsed : Signature → List (List ℕ × ℕ) → List ℕ → ℕ → Unfoldeds → Patterns → ℕ
+    → Type 0
+AreUsed sig vars place i us ps x = OccursInSome x ps ⊎ IsNamed (names_in_all sig vars place i us) x
+
+-- what is used in a pattern of an `\and` is used in the `\and`
+first_used : (sig : Signature) (vars : List (List ℕ × ℕ)) (place : List ℕ) (at : ℕ)
+    (tree : SortTree) (x : ℕ) {u w : Unfolded} {p q r : Pattern} → Means sig vars u p
+    → Means sig vars w q → named_part p q ≡ Some r → IsUsed sig vars place u p x
+    → IsUsed sig vars place (both_of at tree u w) r x
+first_used sig vars place at tree x {u} {w} {p} {q} {r} first second part (inr named) =
+    inr (named_left (names_in sig vars place u) _ x named)
+first_used sig vars place at tree x {u} {w} {p} {q} {r} first second part (inl occurs) =
+    by_case (part_cases p q r part)
+  where
+    by_case : IsPartOf p q r → IsUsed sig vars place (both_of at tree u w) r x
+    by_case (inl it) =
+        inr (named_right (names_in sig vars place u) _ x (named_right (names_in sig vars place w) _ x
+        (subst (λ (o : Option ℕ). IsNamed (name_at place o (number_of_variable sig vars w)) x)
+        (sym (number_is sig vars x first it.0 occurs)) (inl refl))))
+    by_case (inr it) = inl (subst (OccursIn x) it.2 occurs)
+
+second_used : (sig : Signature) (vars : List (List ℕ × ℕ)) (place : List ℕ) (at : ℕ)
+    (tree : SortTree) (x : ℕ) {u w : Unfolded} {p q r : Pattern} → Means sig vars u p
+    → Means sig vars w q → named_part p q ≡ Some r → IsUsed sig vars place w q x
+    → IsUsed sig vars place (both_of at tree u w) r x
+second_used sig vars place at tree x {u} {w} {p} {q} {r} first second part (inr named) =
+    inr (named_right (names_in sig vars place u) _ x (named_left (names_in sig vars place w) _ x
+    named))
+second_used sig vars place at tree x {u} {w} {p} {q} {r} first second part (inl occurs) =
+    by_case (part_cases p q r part)
+  where
+    by_case : IsPartOf p q r → IsUsed sig vars place (both_of at tree u w) r x
+    by_case (inl it) = inl (subst (OccursIn x) it.2 occurs)
+    by_case (inr it) =
+        inr (named_right (names_in sig vars place u) _ x (named_right (names_in sig vars place w) _ x
+        (subst (λ (o : Option ℕ). IsNamed (name_at place o (number_of_variable sig vars w)) x)
+        (sym (no_number sig vars first it.0))
+        (subst (λ (o : Option ℕ). IsNamed (name_at place None o) x)
+        (sym (number_is sig vars x second it.1 occurs)) (inl refl)))))
+
+-- what is used in the first of some patterns, and in the later ones
+one_used : (sig : Signature) (vars : List (List ℕ × ℕ)) (place : List ℕ) (i : ℕ) (u : Unfolded)
+    (us : Unfoldeds) (p : Pattern) (ps : Patterns) (x : ℕ)
+    → IsUsed sig vars (place ++ i ∷ []) u p x
+    → AreUsed sig vars place i (and_more u us) (more_patterns p ps) x
+one_used sig vars place i u us p ps x (inl occurs) = inl (inl occurs)
+one_used sig vars place i u us p ps x (inr named) =
+    inr (named_left (names_in sig vars (place ++ i ∷ []) u) _ x named)
+
+more_used : (sig : Signature) (vars : List (List ℕ × ℕ)) (place : List ℕ) (i : ℕ) (u : Unfolded)
+    (us : Unfoldeds) (p : Pattern) (ps : Patterns) (x : ℕ)
+    → AreUsed sig vars place (i + 1) us ps x
+    → AreUsed sig vars place i (and_more u us) (more_patterns p ps) x
+more_used sig vars place i u us p ps x (inl occurs) = inl (inr occurs)
+more_used sig vars place i u us p ps x (inr named) =
+    inr (named_right (names_in sig vars (place ++ i ∷ []) u) _ x named)
+
+-- a variable that occurs in a pattern occurs in its meaning, or is one of its names
 either : (a b : Bool) → (a || b) ≡ true → (a ≡ true) ⊎ (b ≡ true)
 either true b h = inl refl
 either false b h = inr h
 
 mutual
-  found_in : (sig : Signature) (vars : List (List ℕ × ℕ)) (name : List ℕ) (tree : SortTree)
-      (s x : ℕ) {u : Unfolded} {p : Pattern} → sort_number sig.sorts tree ≡ Some s
-      → variable_number vars name s ≡ Some x → occurs_in_pattern name tree u ≡ true
-      → Means sig vars u p
-      → OccursIn x p
-  found_in sig vars name tree s x number var occurs
+  found_in : (sig : Signature) (vars : List (List ℕ × ℕ)) (place : List ℕ) (name : List ℕ)
+      (tree : SortTree) (s x : ℕ) {u : Unfolded} {p : Pattern}
+      → sort_number sig.sorts tree ≡ Some s → variable_number vars name s ≡ Some x
+      → occurs_in_pattern name tree u ≡ true → Means sig vars u p → IsUsed sig vars place u p x
+  found_in sig vars place name tree s x number var occurs
       (by_variable {x = y} {s = t} {name = n} {tree = other} a b) =
       let both = both_true _ _ occurs in
       let names : name ≡ n = (bytes_eq-Decides name n).0 both.0 in
       let sorts : s ≡ t =
       some_same s t (sym number ∙ same_number sig.sorts tree other both.1 ∙ a) in
-      some_same x y (sym var ∙ ap (λ (m : List ℕ). variable_number vars m s) names
-      ∙ ap (variable_number vars n) sorts ∙ b)
-  found_in sig vars name tree s x number var occurs (by_value a b) = absurd (false≢true occurs)
-  found_in sig vars name tree s x number var occurs
+      inl (some_same x y (sym var ∙ ap (λ (m : List ℕ). variable_number vars m s) names
+      ∙ ap (variable_number vars n) sorts ∙ b))
+  found_in sig vars place name tree s x number var occurs (by_value a b) =
+      absurd (false≢true occurs)
+  found_in sig vars place name tree s x number var occurs
       (by_symbol {f = f} {ns = ns} {ps = ps} {p = p} {info = info} named numbers all made) =
-      applied_forth info.kind f ns ps p x made
-      (found_in_some sig vars name tree s x number var occurs all)
+      ⊎_elim (λ here. inl (applied_forth info.kind f ns ps p x made here)) (λ named. inr named)
+      (found_in_some sig vars place 0 name tree s x number var occurs all)
+  found_in sig vars place name tree s x number var occurs
+      (by_name {at = at} {tree = own} {u = u} {w = w} first second part) =
+      ⊎_elim (λ here. first_used sig vars place at own x first second part
+      (found_in sig vars place name tree s x number var here first))
+      (λ later. second_used sig vars place at own x first second part
+      (found_in sig vars place name tree s x number var later second))
+      (either (occurs_in_pattern name tree u) (occurs_in_pattern name tree w) occurs)
 
-  found_in_some : (sig : Signature) (vars : List (List ℕ × ℕ)) (name : List ℕ) (tree : SortTree)
-      (s x : ℕ) {us : Unfoldeds} {ps : Patterns} → sort_number sig.sorts tree ≡ Some s
-      → variable_number vars name s ≡ Some x → occurs_in_some name tree us ≡ true
-      → AllMean sig vars us ps → OccursInSome x ps
-  found_in_some sig vars name tree s x number var occurs none_mean = absurd (false≢true occurs)
-  found_in_some sig vars name tree s x number var occurs (more_mean {u = u} {us = us} first rest) =
-      ⊎_elim (λ here. inl (found_in sig vars name tree s x number var here first))
-      (λ later. inr (found_in_some sig vars name tree s x number var later rest))
+  found_in_some : (sig : Signature) (vars : List (List ℕ × ℕ)) (place : List ℕ) (i : ℕ)
+      (name : List ℕ) (tree : SortTree) (s x : ℕ) {us : Unfoldeds} {ps : Patterns}
+      → sort_number sig.sorts tree ≡ Some s → variable_number vars name s ≡ Some x
+      → occurs_in_some name tree us ≡ true → AllMean sig vars us ps
+      → AreUsed sig vars place i us ps x
+  found_in_some sig vars place i name tree s x number var occurs none_mean =
+      absurd (false≢true occurs)
+  found_in_some sig vars place i name tree s x number var occurs
+      (more_mean {u = u} {us = us} {p = p} {ps = ps} first rest) =
+      ⊎_elim
+      (λ here. one_used sig vars place i u us p ps x
+      (found_in sig vars (place ++ i ∷ []) name tree s x number var here first))
+      (λ later. more_used sig vars place i u us p ps x
+      (found_in_some sig vars place (i + 1) name tree s x number var later rest))
       (either (occurs_in_pattern name tree u) (occurs_in_some name tree us) occurs)
 
--- the meaning of a pattern of bound variables has only variables of these patterns
+-- the meaning of a pattern of bound variables has only variables of these patterns, and their names
 mutual
   pub uses_only : (sig : Signature) (vars : List (List ℕ × ℕ)) {qs : Unfoldeds} {ps : Patterns}
       → AllMean sig vars qs ps → {u : Unfolded} {p : Pattern} → is_bound_by qs u ≡ true
-      → Means sig vars u p → UsesOnly ps p
+      → Means sig vars u p → UsesOnly ps (names_in_all sig vars [] 0 qs) p
   uses_only sig vars {qs} {ps} all bound
       (by_variable {x = y} {s = s} {name = name} {tree = tree} a b) =
       λ x is.
-      subst (λ (z : ℕ). OccursInSome z ps) (sym is)
-      (found_in_some sig vars name tree s y a b bound all)
+      subst (AreUsed sig vars [] 0 qs ps) (sym is)
+      (found_in_some sig vars [] 0 name tree s y a b bound all)
   uses_only sig vars all bound (by_value a b) = λ x never. absurd never
   uses_only sig vars all bound
       (by_symbol {f = f} {ns = ns} {ps = args} {p = p} {info = info} named numbers rest made) =
       λ x occurs.
       all_use_only sig vars all bound rest x (applied_back info.kind f ns args p x made occurs)
+  uses_only sig vars {qs} {ps} all bound (by_name {p = p} {q = q} {r = r} first second part) =
+      let both = both_true _ _ bound in
+      part_holds (UsesOnly ps (names_in_all sig vars [] 0 qs)) p q r part
+      (uses_only sig vars all both.0 first) (uses_only sig vars all both.1 second)
 
   all_use_only : (sig : Signature) (vars : List (List ℕ × ℕ)) {qs : Unfoldeds} {ps : Patterns}
       → AllMean sig vars qs ps → {us : Unfoldeds} {rs : Patterns} → are_bound_by qs us ≡ true
-      → AllMean sig vars us rs → (x : ℕ) → OccursInSome x rs → OccursInSome x ps
+      → AllMean sig vars us rs → (x : ℕ) → OccursInSome x rs → AreUsed sig vars [] 0 qs ps x
   all_use_only sig vars all bound none_mean = λ x never. absurd never
   all_use_only sig vars all bound (more_mean first rest) = λ x occurs.
       let both = both_true _ _ bound in
@@ -293,57 +428,77 @@ variable_occurs vars more name s x y extends is lt =
     by_case (Some k) e extends lt = inl lt
     by_case None e extends lt = last_occurs vars more name s x y extends e is lt
 
--- Each variable that numbering a pattern adds occurs in the pattern's meaning, also if more
--- variables are numbered later.
+-- Each variable that numbering a pattern adds occurs in the pattern's meaning or is one of its names,
+-- also if more variables are numbered later.
 mutual
-  pub numbered_occur : (sig : Signature) (vars more : List (List ℕ × ℕ)) {u : Unfolded}
-      {p : Pattern} → Extends (with_variables sig vars u) more → Means sig more u p → (x : ℕ)
-      → x < length (with_variables sig vars u) → (x < length vars) ⊎ OccursIn x p
-  numbered_occur sig vars more extends
+  pub numbered_occur : (sig : Signature) (vars more : List (List ℕ × ℕ)) (place : List ℕ)
+      {u : Unfolded} {p : Pattern} → Extends (with_variables sig vars u) more → Means sig more u p
+      → (x : ℕ) → x < length (with_variables sig vars u)
+      → (x < length vars) ⊎ IsUsed sig more place u p x
+  numbered_occur sig vars more place extends
       (by_variable {x = y} {s = s} {name = name} {tree = tree} number is) =
       λ x lt.
-      variable_occurs vars more name s x y
+      ⊎_elim (λ before. inl before) (λ occurs. inr (inl occurs)) (variable_occurs vars more name s x y
       (subst (λ (o : Option ℕ). Extends (with_variable vars name o) more) number extends) is
-      (subst (λ (o : Option ℕ). x < length (with_variable vars name o)) number lt)
-  numbered_occur sig vars more extends (by_value a b) = λ x lt. inl lt
-  numbered_occur sig vars more extends
+      (subst (λ (o : Option ℕ). x < length (with_variable vars name o)) number lt))
+  numbered_occur sig vars more place extends (by_value a b) = λ x lt. inl lt
+  numbered_occur sig vars more place extends
       (by_symbol {f = f} {ns = ns} {ps = ps} {p = p} {info = info} named numbers all made) =
       λ x lt.
       ⊎_elim (λ before. inl before)
-      (λ occurs. inr (applied_forth info.kind f ns ps p x made occurs))
-      (all_numbered_occur sig vars more extends all x lt)
+      (λ used. inr (⊎_elim (λ occurs. inl (applied_forth info.kind f ns ps p x made occurs))
+      (λ named. inr named) used))
+      (all_numbered_occur sig vars more place 0 extends all x lt)
+  numbered_occur sig vars more place extends
+      (by_name {at = at} {tree = tree} {u = u} {w = w} first second part) =
+      λ x lt.
+      let mid = with_variables sig vars u in
+      let shorter : Extends mid more =
+      extends-trans mid (with_variables sig mid w) more
+      (all_variables_extend sig mid (and_more w no_more)) extends in
+      ⊎_elim
+      (λ before. ⊎_elim (λ earlier. inl earlier)
+      (λ used. inr (first_used sig more place at tree x first second part used))
+      (numbered_occur sig vars more place shorter first x before))
+      (λ used. inr (second_used sig more place at tree x first second part used))
+      (numbered_occur sig mid more place extends second x lt)
 
-  pub all_numbered_occur : (sig : Signature) (vars more : List (List ℕ × ℕ)) {us : Unfoldeds}
-      {ps : Patterns} → Extends (with_all_variables sig vars us) more → AllMean sig more us ps
-      → (x : ℕ) → x < length (with_all_variables sig vars us)
-      → (x < length vars) ⊎ OccursInSome x ps
-  all_numbered_occur sig vars more extends none_mean = λ x lt. inl lt
-  all_numbered_occur sig vars more extends (more_mean {u = u} {us = us} first rest) = λ x lt.
+  pub all_numbered_occur : (sig : Signature) (vars more : List (List ℕ × ℕ)) (place : List ℕ)
+      (i : ℕ) {us : Unfoldeds} {ps : Patterns} → Extends (with_all_variables sig vars us) more
+      → AllMean sig more us ps → (x : ℕ) → x < length (with_all_variables sig vars us)
+      → (x < length vars) ⊎ AreUsed sig more place i us ps x
+  all_numbered_occur sig vars more place i extends none_mean = λ x lt. inl lt
+  all_numbered_occur sig vars more place i extends
+      (more_mean {u = u} {us = us} {p = p} {ps = ps} first rest) =
+      λ x lt.
       let mid = with_variables sig vars u in
       let shorter : Extends mid more =
       extends-trans mid (with_all_variables sig mid us) more (all_variables_extend sig mid us)
       extends in
-      ⊎_elim (λ before. ⊎_elim (λ earlier. inl earlier) (λ occurs. inr (inl occurs))
-      (numbered_occur sig vars more shorter first x before))
-      (λ occurs. inr (inr occurs)) (all_numbered_occur sig mid more extends rest x lt)
+      ⊎_elim (λ before. ⊎_elim (λ earlier. inl earlier)
+      (λ used. inr (one_used sig more place i u us p ps x used))
+      (numbered_occur sig vars more (place ++ i ∷ []) shorter first x before))
+      (λ used. inr (more_used sig more place i u us p ps x used))
+      (all_numbered_occur sig mid more place (i + 1) extends rest x lt)
 
 none_before : {P : Type 0} (x : ℕ) → (x < length {A = List ℕ × ℕ} []) ⊎ P → P
 none_before x (inl lt) = absurd (omega (arith, lt))
 none_before x (inr p) = p
 
--- so all variables that are numbered from the start occur in the meaning
-pub each_occurs : (sig : Signature) (vars : List (List ℕ × ℕ)) (u : Unfolded) (p : Pattern)
-    → vars ≡ with_variables sig [] u → Means sig vars u p → (x : ℕ) → x < length vars → OccursIn x p
-each_occurs sig vars u p numbered means x lt =
-    none_before x (numbered_occur sig [] vars
+-- so all variables that are numbered from the start occur in the meaning, or are names
+pub each_occurs : (sig : Signature) (vars : List (List ℕ × ℕ)) (place : List ℕ) (u : Unfolded)
+    (p : Pattern) → vars ≡ with_variables sig [] u → Means sig vars u p → (x : ℕ)
+    → x < length vars → IsUsed sig vars place u p x
+each_occurs sig vars place u p numbered means x lt =
+    none_before x (numbered_occur sig [] vars place
     (subst (λ (vs : List (List ℕ × ℕ)). Extends vs vars) numbered (extends-refl vars)) means x
     (subst (λ (vs : List (List ℕ × ℕ)). x < length vs) numbered lt))
 
 pub each_occurs_in_some : (sig : Signature) (vars : List (List ℕ × ℕ)) (us : Unfoldeds)
     (ps : Patterns) → vars ≡ with_all_variables sig [] us → AllMean sig vars us ps → (x : ℕ)
-    → x < length vars → OccursInSome x ps
+    → x < length vars → AreUsed sig vars [] 0 us ps x
 each_occurs_in_some sig vars us ps numbered means x lt =
-    none_before x (all_numbered_occur sig [] vars
+    none_before x (all_numbered_occur sig [] vars [] 0
     (subst (λ (vs : List (List ℕ × ℕ)). Extends vs vars) numbered (extends-refl vars)) means x
     (subst (λ (vs : List (List ℕ × ℕ)). x < length vs) numbered lt))
 
@@ -378,6 +533,8 @@ mutual
   variables_declared sig vars (written_value at tree text byte) all = all
   variables_declared sig vars (applied_symbol at byte name ss us) all =
       all_variables_declared sig vars us all
+  variables_declared sig vars (both_of at tree p q) all =
+      variables_declared sig (with_variables sig vars p) q (variables_declared sig vars p all)
   variables_declared sig vars (other_form at) all = all
 
   pub all_variables_declared : (sig : Signature) (vars : List (List ℕ × ℕ)) (us : Unfoldeds)

@@ -3,18 +3,20 @@ use Rattle.std.proofs.Common.{◌≡◌, ℕ, List, [], ◌∷◌, map, length, 
 use Rattle.std.proofs.Common.{◌∙◌, subst}
 use Rattle.kore_text.specs.Trees.{PatternTree, AxiomDeclaration}
 use Rattle.term_core.specs.Patterns.{Pattern, Patterns}
-use Rattle.rule_core.specs.Rules.{RewriteRule, Equation}
+use Rattle.rule_core.specs.Rules.{RewriteRule, Equation, Guard}
 use Rattle.rule_core.specs.declared.signature.Signature.{Signature}
 use Rattle.rule_core.specs.declared.signature.SymInfo.{SymInfo}
 use Rattle.kore_check.specs.Folds.{Unfolded, Unfoldeds, unfolded}
-use Rattle.kore_check.specs.PatternMeanings.{Means, by_variable, by_value, by_symbol, AllMean}
-use Rattle.kore_check.specs.PatternMeanings.{none_mean, more_mean, with_variables}
+use Rattle.kore_check.specs.PatternMeanings.{Means, by_variable, by_value, by_symbol, by_name}
+use Rattle.kore_check.specs.PatternMeanings.{AllMean, none_mean, more_mean, with_variables}
+use Rattle.kore_check.specs.PatternMeanings.{named_part}
+use Rattle.kore_check.specs.PartNames.{names_in, names_in_all}
+use Rattle.rule_core.specs.NamedParts.{Name}
 use Rattle.kore_check.specs.PatternMeanings.{with_all_variables}
 use Rattle.kore_shapes.specs.Shapes.{Rewriting}
 use Rattle.kore_shapes.specs.Statements.{StatedEquation}
 use Rattle.kore_shapes.specs.EquationForms.{EquationParts, equation_parts}
-use Rattle.kore_axioms.specs.AxiomClasses.{AxiomClass, rewrites, equates, refused, orders_sorts}
-use Rattle.kore_axioms.specs.AxiomClasses.{passed_over, axiom_class}
+use Rattle.kore_axioms.specs.AxiomClasses.{rewrites, equates}
 use Rattle.kore_axioms.specs.AxiomMeanings.{MeansTest, MeansRule}
 use Rattle.kore_axioms.specs.Conditions.{tested_pattern}
 use Rattle.kore_axioms.specs.RuleParts.{rule_parts, left_of, right_of}
@@ -35,6 +37,10 @@ mutual
       let a1 = a.1 in
       let c0 = c.0 in
       let c1 = c.1 in cc
+  means_one sig vars (by_name {p = p} {q = q} {r = r} a b part) (by_name {p = x} {q = y} {r = z} c d
+      same) =
+      some_same r z (sym part ∙ ap (λ (w : Pattern). named_part w q) (means_one sig vars a c)
+      ∙ ap (named_part x) (means_one sig vars b d) ∙ same)
 
   pub all_mean_one : (sig : Signature) (vars : List (List ℕ × ℕ)) {us : Unfoldeds}
       {ps qs : Patterns} → AllMean sig vars us ps → AllMean sig vars us qs → ps ≡ qs
@@ -60,9 +66,10 @@ equates_one v w e = cc
 
 -- ---- rules
 
-abbrev rule_with : Pattern → Option Pattern → Pattern → List ℕ → ℕ → ℕ → RewriteRule
-rule_with l o r vs n p = record {
+abbrev rule_with : Pattern → List Name → Option Pattern → Pattern → List ℕ → ℕ → ℕ → RewriteRule
+rule_with l ns o r vs n p = record {
   left = l;
+  names = ns;
   condition = o;
   right = r;
   variables = vs;
@@ -70,15 +77,11 @@ rule_with l o r vs n p = record {
   place = p;
 }
 
-same_rule : (x y : RewriteRule) → x.left ≡ y.left → x.condition ≡ y.condition → x.right ≡ y.right
-    → x.variables ≡ y.variables → x.priority ≡ y.priority → x.place ≡ y.place → x ≡ y
-same_rule x y a b c d e f =
-    ap (λ (l : Pattern). rule_with l x.condition x.right x.variables x.priority x.place) a
-    ∙ ap (λ (o : Option Pattern). rule_with y.left o x.right x.variables x.priority x.place) b
-    ∙ ap (λ (r : Pattern). rule_with y.left y.condition r x.variables x.priority x.place) c
-    ∙ ap (λ (vs : List ℕ). rule_with y.left y.condition y.right vs x.priority x.place) d
-    ∙ ap (λ (n : ℕ). rule_with y.left y.condition y.right y.variables n x.place) e
-    ∙ ap (λ (n : ℕ). rule_with y.left y.condition y.right y.variables y.priority n) f
+same_rule : (x y : RewriteRule) → x.left ≡ y.left → x.names ≡ y.names
+    → x.condition ≡ y.condition → x.right ≡ y.right → x.variables ≡ y.variables
+    → x.priority ≡ y.priority → x.place ≡ y.place → x ≡ y
+same_rule x y a names b c d e f = λ i.
+    rule_with (a i) (names i) (b i) (c i) (d i) (e i) (f i)
 
 pub rule_one : (sig : Signature) (a : AxiomDeclaration) (x y : RewriteRule) → MeansRule sig a x
     → MeansRule sig a y → x ≡ y
@@ -108,7 +111,10 @@ rule_one sig a x y r s =
     (sym shapes) (subst (λ (vs : List (List ℕ × ℕ)).
     MeansTest sig vs (tested_pattern (rule_parts sig s.shape).condition) y.condition) (sym vars)
     s.means_condition) in
-    same_rule x y (means_one sig r.variables r.means_left left)
+    let names : x.names ≡ y.names =
+    r.names ∙ ap (λ (vs : List (List ℕ × ℕ)). names_in sig vs (0 ∷ []) (unfolded r.left)) vars
+    ∙ ap (λ (t : PatternTree). names_in sig s.variables (0 ∷ []) (unfolded t)) lefts ∙ sym s.names in
+    same_rule x y (means_one sig r.variables r.means_left left) names
     (test_means_one sig r.variables (tested_pattern (rule_parts sig r.shape).condition) x.condition
     y.condition r.means_condition condition)
     (means_one sig r.variables r.means_right right)
@@ -117,10 +123,13 @@ rule_one sig a x y r s =
 
 -- ---- equations
 
-abbrev equation_with : ℕ → Patterns → Option Pattern → Pattern → List ℕ → ℕ → ℕ → Equation
-equation_with m ps o r vs n p = record {
+abbrev equation_with : ℕ → Patterns → List Name → Option (List Guard) → Option Pattern → Pattern
+    → List ℕ → ℕ → ℕ → Equation
+equation_with m ps ns gs o r vs n p = record {
   parameters = m;
   arguments = ps;
+  names = ns;
+  last_resort = gs;
   condition = o;
   right = r;
   variables = vs;
@@ -129,22 +138,11 @@ equation_with m ps o r vs n p = record {
 }
 
 same_equation : (x y : Equation) → x.parameters ≡ y.parameters → x.arguments ≡ y.arguments
-    → x.condition ≡ y.condition → x.right ≡ y.right → x.variables ≡ y.variables
-    → x.priority ≡ y.priority → x.place ≡ y.place → x ≡ y
-same_equation x y a b c d e f g =
-    ap (λ (n : ℕ). equation_with n x.arguments x.condition x.right x.variables x.priority x.place) a
-    ∙ ap (λ (ps : Patterns).
-    equation_with y.parameters ps x.condition x.right x.variables x.priority x.place) b
-    ∙ ap (λ (o : Option Pattern).
-    equation_with y.parameters y.arguments o x.right x.variables x.priority x.place) c
-    ∙ ap (λ (r : Pattern).
-    equation_with y.parameters y.arguments y.condition r x.variables x.priority x.place) d
-    ∙ ap (λ (vs : List ℕ).
-    equation_with y.parameters y.arguments y.condition y.right vs x.priority x.place) e
-    ∙ ap (λ (n : ℕ).
-    equation_with y.parameters y.arguments y.condition y.right y.variables n x.place) f
-    ∙ ap (λ (n : ℕ).
-    equation_with y.parameters y.arguments y.condition y.right y.variables y.priority n) g
+    → x.names ≡ y.names → x.last_resort ≡ y.last_resort → x.condition ≡ y.condition
+    → x.right ≡ y.right → x.variables ≡ y.variables → x.priority ≡ y.priority → x.place ≡ y.place
+    → x ≡ y
+same_equation x y a b names last c d e f g = λ i.
+    equation_with (a i) (b i) (names i) (last i) (c i) (d i) (e i) (f i) (g i)
 
 pub equation_one : (sig : Signature) (f : List ℕ) (a : AxiomDeclaration) (x y : Equation)
     → MeansEquation sig f a x → MeansEquation sig f a y → x ≡ y
@@ -181,6 +179,10 @@ equation_one sig f a x y r s =
     same_equation x y
     (r.parameters ∙ ap (λ (q : EquationParts). length q.parameters) parts ∙ sym s.parameters)
     (all_mean_one sig r.variables r.means_arguments arguments)
+    (r.names
+    ∙ ap (λ (vs : List (List ℕ × ℕ)). names_in_all sig vs [] 0 (all_read r.parts.patterns)) vars
+    ∙ ap (λ (q : EquationParts). names_in_all sig s.variables [] 0 (all_read q.patterns)) parts
+    ∙ sym s.names) (r.last_resort ∙ sym s.last_resort)
     (test_means_one sig r.variables (tested_pattern (condition_of_equation sig r.stated r.parts))
     x.condition y.condition r.means_condition condition)
     (means_one sig r.variables r.means_right right)

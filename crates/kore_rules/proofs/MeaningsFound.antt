@@ -2,7 +2,7 @@
 -- as one.
 use Rattle.std.proofs.Common.{◌≡◌, ℕ, ◌+◌, List, [], ◌∷◌, ◌++◌, length, Option, Some, None, refl}
 use Rattle.std.proofs.Common.{sym, ap, ◌∙◌, subst, arith, inl, inr}
-use Rattle.std.specs.Prelude.{◌⊎◌, is_some, if◌then◌else◌, nat_lt}
+use Rattle.std.specs.Prelude.{◌⊎◌, ◌≢◌, is_some, if◌then◌else◌, nat_lt}
 use Rattle.std.specs.Option.{option_and_then}
 use Rattle.std.proofs.lemmas.Bool.{false≢true}
 use Rattle.kore_text.specs.Trees.{SortTree, PatternTree}
@@ -25,7 +25,7 @@ use Rattle.kore_sig.specs.FirstFault.{Fault, when}
 use Rattle.kore_sig.specs.SortReferences.{sort_number}
 use Rattle.kore_check.specs.Building.{Extends, MeansFrom, AllMeanFrom, IsFaultless, AreFaultless}
 use Rattle.kore_check.specs.Folds.{Unfolded, named_variable, written_value, applied_symbol}
-use Rattle.kore_check.specs.Folds.{other_form, Unfoldeds, no_more, and_more, count, unfolded_height}
+use Rattle.kore_check.specs.Folds.{both_of, other_form, Unfoldeds, no_more, and_more, count, unfolded_height}
 use Rattle.kore_check.specs.Folds.{unfolded_byte, unfolded}
 use Rattle.rule_core.specs.Evaluation.{most_height}
 use Rattle.kore_check.specs.PatternFaults.{pattern_faults, all_faults}
@@ -33,12 +33,16 @@ use Rattle.rule_core.specs.KindTests.{has_no_kind}
 use Rattle.kore_check.specs.PatternMeanings.{variable_number, with_variable, with_variables}
 use Rattle.kore_check.specs.PatternMeanings.{with_all_variables, injected_only, applied_pattern}
 use Rattle.kore_check.specs.PatternMeanings.{IsNamed, Means, by_variable, by_value, by_symbol}
+use Rattle.kore_check.specs.PatternMeanings.{by_name, named_part, is_variable_pattern}
+use Rattle.kore_check.specs.Applicative.{is_variable}
+use Rattle.kore_check.proofs.NamedMeanings.{part_there, variable_meaning as meaning_of_variable}
 use Rattle.kore_check.specs.PatternMeanings.{AllMean, none_mean, more_mean}
 use Rattle.kore_check.specs.PatternSorts.{sort_kind, symbol_info, symbol_named, sort_numbers}
 use Rattle.kore_check.specs.ValueTexts.{value_of_text}
 use Rattle.kore_check.proofs.BuildLaws.{number-added, number-kept, extends-refl, extends-trans}
 use Rattle.kore_check.proofs.BuildLaws.{declared_kind, variable_known, value_sort_known}
 use Rattle.kore_check.proofs.BuildLaws.{value_known, IsSound, application_faultless}
+use Rattle.kore_check.proofs.BuildLaws.{pair_faultless}
 use Rattle.kore_check.proofs.SortLaws.{sort_numbers-length}
 use Rattle.kore_check.proofs.VariableLaws.{with_variable-extends}
 use Rattle.kore_axioms.proofs.BoundLaws.{no_faults}
@@ -63,6 +67,10 @@ mutual
       with_variable-extends vars name (sort_number sig.sorts s)
   variables_extend sig (written_value at s text byte) vars = extends-refl vars
   variables_extend sig (applied_symbol at byte name ss us) vars = all_variables_extend sig us vars
+  variables_extend sig (both_of at s p q) vars =
+      extends-trans vars (with_variables sig vars p)
+      (with_variables sig (with_variables sig vars p) q) (variables_extend sig p vars)
+      (variables_extend sig q (with_variables sig vars p))
   variables_extend sig (other_form at) vars = extends-refl vars
 
   pub all_variables_extend : (sig : Signature) (us : Unfoldeds) (vars : Variables)
@@ -205,6 +213,20 @@ symbol_meaning sig at byte name ss us vars good sound all = by_case (sort_number
       (many_mean sig vars (all.1 vars (extends-refl vars))) sound.info.kind refl in
       (made.0, λ more ext. by_symbol known.1 e (all.1 more ext) made.1)
 
+-- the part of an `\and` of which exactly one pattern is a variable
+part_found : (sig : Signature) (vars : Variables) (at : ℕ) (tree : SortTree) {u w : Unfolded}
+    {p q : Pattern} → is_variable u ≢ is_variable w → MeansFrom sig vars u p
+    → MeansFrom sig vars w q → HasMeaning sig vars (both_of at tree u w)
+part_found sig vars at tree {u} {w} {p} {q} apart first second = by_case (named_part p q) refl where
+  other : is_variable_pattern p ≢ is_variable_pattern q
+  other same =
+      apart (sym (meaning_of_variable sig vars (first vars (extends-refl vars))) ∙ same
+      ∙ meaning_of_variable sig vars (second vars (extends-refl vars)))
+
+  by_case : (o : Option Pattern) → named_part p q ≡ o → HasMeaning sig vars (both_of at tree u w)
+  by_case None none = absurd (part_there p q other none)
+  by_case (Some r) is = (r, λ more ext. by_name (first more ext) (second more ext) is)
+
 mutual
   pub meaning : (sig : Signature) → IsSignature sig → (u : Unfolded) (old : Variables)
       → IsFaultless sig u → HasMeaning sig (with_variables sig old u) u
@@ -216,6 +238,14 @@ mutual
       let parts = application_faultless sig at byte name ss us good in
       symbol_meaning sig at byte name ss us (with_all_variables sig old us) sorted parts.0
       (all_meanings sig sorted us old parts.1)
+  meaning sig sorted (both_of at tree u w) old good =
+      let mid : Variables = with_variables sig old u in
+      let new : Variables = with_variables sig mid w in
+      let clear = pair_faultless sig at tree u w good in
+      let first = meaning sig sorted u old clear.0 in
+      let second = meaning sig sorted w mid clear.1 in
+      part_found sig new at tree good.1.0 (λ more ext. first.1 more
+      (extends-trans mid new more (variables_extend sig w mid) ext)) second.1
   meaning sig sorted (other_form at) old good = absurd good.1
 
   pub all_meanings : (sig : Signature) → IsSignature sig → (us : Unfoldeds) (old : Variables)

@@ -1,5 +1,6 @@
 -- A rewrite rule without faults is well-sorted.
-use Rattle.std.proofs.Common.{◌≡◌, ◌<◌, ℕ, Bool, true, false, ◌&&◌, List, [], length, slice_get}
+use Rattle.std.proofs.Common.{◌≡◌, ◌<◌, ℕ, Bool, true, false, ◌&&◌, List, [], ◌∷◌, length}
+use Rattle.std.proofs.Common.{slice_get, append-nil}
 use Rattle.std.proofs.Common.{Option, Some, None, option_map, cond, refl, ap, sym, ◌∙◌, subst}
 use Rattle.std.specs.Prelude.{All, IfSome, not}
 use Rattle.std.specs.Option.{option_and_then}
@@ -10,7 +11,9 @@ use Rattle.term_core.specs.Patterns.{Pattern, Patterns, no_pattern, more_pattern
 use Rattle.rule_core.proofs.Belows.{both_true}
 use Rattle.rule_core.specs.Rules.{RewriteRule}
 use Rattle.rule_core.specs.Sorting.{HasSort}
+use Rattle.rule_core.specs.NamedParts.{Name}
 use Rattle.rule_core.specs.WellSorted.{IsSignature, IsCondition, IsRuleOf as IsSortedRule}
+use Rattle.rule_core.specs.WellSorted.{HasNoCall, HaveNames, UsesOnly}
 use Rattle.rule_core.specs.declared.signature.Signature.{Signature}
 use Rattle.rule_core.specs.declared.signature.SortInfo.{SortInfo}
 use Rattle.rule_core.specs.declared.signature.SortKind.{SortKind}
@@ -19,22 +22,24 @@ use Rattle.kore_sig.specs.SortReferences.{sort_number}
 use Rattle.kore_check.specs.Folds.{Unfoldeds, no_more, and_more, unfolded}
 use Rattle.kore_check.specs.PatternMeanings.{AllMean, none_mean, more_mean}
 use Rattle.kore_check.specs.PatternSorts.{sort_kind}
+use Rattle.kore_check.specs.PartNames.{names_in, names_in_all}
 use Rattle.kore_check.specs.SortedMeanings.{variable_sorts}
 use Rattle.kore_shapes.specs.Shapes.{Condition, always, tests, ill}
 use Rattle.kore_axioms.specs.AxiomMeanings.{MeansTest, MeansRule}
 use Rattle.kore_axioms.specs.Conditions.{is_bool_kind, is_some_bool, is_bool, over_bool}
 use Rattle.kore_axioms.specs.Conditions.{tested_pattern}
-use Rattle.kore_axioms.specs.RuleForms.{holds_of}
+use Rattle.kore_axioms.specs.RuleForms.{holds_of, form_faults}
 use Rattle.kore_axioms.specs.RuleFaults.{side_faults, condition_faults, sorted_faults, use_faults}
 use Rattle.kore_axioms.specs.RuleFaults.{listed_pattern, is_bound, FirstOfRule}
 use Rattle.kore_axioms.specs.RuleParts.{rule_parts, left_of, right_of}
 use Rattle.kore_axioms.specs.Uses.{has_symbol, is_plain_function, is_ac_symbol}
 use Rattle.kore_axioms.proofs.BoundLaws.{no_faults}
 use Rattle.kore_axioms.proofs.FirstLaws.{none_by_byte}
-use Rattle.kore_axioms.proofs.RuleLaws.{not_raised, held}
+use Rattle.kore_axioms.proofs.RuleLaws.{not_raised, held, left_sided}
 use Rattle.kore_rules.proofs.KeptSorts.{IsKept, sort_kept}
 use Rattle.kore_rules.proofs.MeaningSorts.{sorted_side, no_call, uses_only, AreDeclared}
 use Rattle.kore_rules.proofs.MeaningSorts.{variables_declared}
+use Rattle.kore_rules.proofs.NameLaws.{have_names, names_kept}
 
 some_same : {X : Type 0} (x y : X) → Some x ≡ Some y → x ≡ y
 some_same x y e = cc
@@ -76,7 +81,7 @@ pub sorted_condition : (declared final : Signature) (axioms : List AxiomDeclarat
     (o : Option Pattern) → IsKept declared final axioms → IsSignature declared
     → AllMean declared vars qs ps → over_bool declared c ≡ d → condition_faults declared d ≡ []
     → is_bound qs (tested_pattern d) ≡ true → MeansTest declared vars (tested_pattern d) o
-    → IfSome o (IsCondition final (variable_sorts vars) ps)
+    → IfSome o (IsCondition final (variable_sorts vars) ps (names_in_all declared vars [] 0 qs))
 sorted_condition declared final axioms vars c always None kept good all over clear bound means = tt
 sorted_condition declared final axioms vars c always (Some p) kept good all over clear bound means =
     absurd means
@@ -152,6 +157,18 @@ sorted_rule declared final axioms a rule first s kept good r clear number =
     subst (λ (o : Option PatternTree). is_bound qs o ≡ true) r.is_right (subst
     (λ (o : Option PatternTree). is_bound (listed_pattern o) (right_of w) ≡ true) r.is_left bound.1)
     in
+    let ps : Patterns = more_patterns rule.left no_pattern in
+    let own_names : names_in_all declared vars [] 0 qs ≡ rule.names =
+    append-nil (names_in declared vars (0 ∷ []) (unfolded r.left)) ∙ sym r.names in
+    let at_left = side_at declared wanted (left_of w) r.left r.is_left left.0 in
+    let calls : HasNoCall rule.left =
+    no_call declared vars (held _ (left_of w) r.left r.is_left plain.0)
+    (held _ (left_of w) r.left r.is_left ac.0) r.means_left in
+    let form : form_faults a w ≡ [] = none_by_byte (form_faults a w) clear.0 in
+    let named : HaveNames declared (variable_sorts vars) ps (names_in_all declared vars [] 0 qs) =
+    have_names declared vars (r.left ∷ []) ps good
+    (left_sided declared a r.shape r.class form r.left r.is_left, tt)
+    ((no_faults _ _ (no_faults _ _ at_left).0).1, tt) (calls, tt) all in
     let numbers : AreDeclared declared vars =
     subst (AreDeclared declared) (sym r.numbered) (variables_declared declared []
     (unfolded r.left) (All-nil (λ (n : ℕ). n < length declared.sorts))) in
@@ -166,19 +183,22 @@ sorted_rule declared final axioms a rule first s kept good r clear number =
           subst (λ (ss : List ℕ). HasSort final ss rule.left s) same (sort_kept declared final
           axioms V rule.left s kept (sorted_side declared vars wanted s good
           (side_at declared wanted (left_of w) r.left r.is_left left.0) number r.means_left));
-      no_call =
-          no_call declared vars (held _ (left_of w) r.left r.is_left plain.0)
-          (held _ (left_of w) r.left r.is_left ac.0) r.means_left;
+      no_call = calls;
+      names =
+          subst (λ (ss : List ℕ). HaveNames final ss ps rule.names) same
+          (subst (λ (ns : List Name). HaveNames final V ps ns) own_names
+          (names_kept declared final axioms V ps (names_in_all declared vars [] 0 qs) kept named));
       condition =
-          subst (λ (ss : List ℕ).
-          IfSome rule.condition (IsCondition final ss (more_patterns rule.left no_pattern)))
-          same
+          subst (λ (ss : List ℕ). IfSome rule.condition (IsCondition final ss ps rule.names)) same
+          (subst (λ (ns : List Name). IfSome rule.condition (IsCondition final V ps ns)) own_names
           (sorted_condition declared final axioms vars _ w.condition rule.condition kept good all
-          refl test.0 bound_test r.means_condition);
+          refl test.0 bound_test r.means_condition));
       right =
           subst (λ (ss : List ℕ). HasSort final ss rule.right s) same (sort_kept declared final
           axioms V rule.right s kept (sorted_side declared vars wanted s good
           (side_at declared wanted (right_of w) r.right r.is_right right.0) number
           r.means_right));
-      bound = uses_only declared vars all bound_right r.means_right;
+      bound =
+          subst (λ (ns : List Name). UsesOnly ps ns rule.right) own_names
+          (uses_only declared vars all bound_right r.means_right);
     }

@@ -1,6 +1,7 @@
 -- What an axiom is read as: a rule if it is one and has no fault, or an equation of its function,
 -- or an equation that is not readable.
-use Rattle.std.proofs.Common.{◌≡◌, ℕ, Bool, true, false, List, [], map, length, nat_eq, Option}
+use Rattle.std.proofs.Common.{◌≡◌, ℕ, Bool, true, false, List, [], ◌∷◌, map, length, nat_eq}
+use Rattle.std.proofs.Common.{Option}
 use Rattle.std.proofs.Common.{Some, None, refl, sym, ap, ◌∙◌, subst, inl, inr}
 use Rattle.std.specs.Prelude.{◌⊎◌, ◌&&◌}
 use Rattle.std.specs.Str.{bytes_eq}
@@ -17,6 +18,7 @@ use Rattle.kore_check.specs.Building.{Extends, IsFaultless, AreFaultless}
 use Rattle.kore_check.specs.Folds.{Unfoldeds, no_more, and_more, unfolded}
 use Rattle.kore_check.specs.PatternMeanings.{with_variables, with_all_variables}
 use Rattle.kore_check.specs.PatternSorts.{symbol_named}
+use Rattle.kore_check.specs.PartNames.{names_in, names_in_all}
 use Rattle.kore_check.proofs.BuildLaws.{extends-refl}
 use Rattle.kore_shapes.specs.Shapes.{Rewriting}
 use Rattle.kore_shapes.specs.Statements.{StatedEquation}
@@ -117,6 +119,7 @@ rule_found sig first a w sorted class clear =
     (λ p e. (f.test_clear p e, f.test_form p e)) (f.right_clear, f.right_form) bound_parts in (
       record {
         left = left.0;
+        names = names_in sig vars (0 ∷ []) (unfolded f.left);
         condition = meant.condition;
         right = meant.right_pattern.0;
         variables = map (λ (v : List ℕ × ℕ). v.1) vars;
@@ -133,6 +136,7 @@ rule_found sig first a w sorted class clear =
         variables = vars;
         numbered = refl;
         means_left = left.1 vars (extends-refl vars);
+        names = refl;
         means_condition = meant.means_condition;
         means_right = meant.right_pattern.1 vars (extends-refl vars);
         sorts = refl;
@@ -170,6 +174,8 @@ equation_of_parts sig a e info q sorted class declared clear bound =
       record {
         parameters = length q.parameters;
         arguments = arguments.0;
+        names = names_in_all sig vars [] 0 qs;
+        last_resort = None;
         condition = meant.condition;
         right = meant.right_pattern.0;
         variables = map (λ (v : List ℕ × ℕ). v.1) vars;
@@ -188,6 +194,8 @@ equation_of_parts sig a e info q sorted class declared clear bound =
         numbered = refl;
         parameters = refl;
         means_arguments = arguments.1 vars (extends-refl vars);
+        names = refl;
+        last_resort = refl;
         means_condition = meant.means_condition;
         means_right = meant.right_pattern.1 vars (extends-refl vars);
         sorts = refl;

@@ -19,8 +19,10 @@ use Rattle.rule_core.proofs.Belows.{both_true}
 use Rattle.rule_core.specs.declared.signature.Signature.{Signature}
 use Rattle.kore_sig.specs.SortReferences.{sort_number}
 use Rattle.kore_check.specs.Folds.{Unfolded, named_variable, written_value, applied_symbol}
-use Rattle.kore_check.specs.Folds.{other_form, Unfoldeds, no_more, and_more, standing_at}
-use Rattle.kore_check.specs.Folds.{applied_to_two, folded_left, folded_right, fold_of, only_of}
+use Rattle.kore_check.specs.Folds.{both_of, other_form, Unfoldeds, no_more, and_more, standing_at}
+use Rattle.kore_check.specs.Folds.{applied_to_two, folded_left, folded_right, fold_of}
+use Rattle.kore_check.specs.Folds.{connective_of, connective_fold}
+use Rattle.kore_check.proofs.Connectives.{IsConnective, connective_case}
 use Rattle.kore_check.specs.Folds.{unfolded, inner_fold, all_unfolded}
 use Rattle.kore_check.specs.PatternMeanings.{variable_number, with_variable, with_variables}
 use Rattle.kore_check.specs.PatternMeanings.{with_all_variables}
@@ -73,6 +75,7 @@ abbrev mutual
   read_count (named_variable at n s) = 1
   read_count (written_value at s text byte) = 0
   read_count (applied_symbol at byte n ss us) = all_read_count us
+  read_count (both_of at s u w) = read_count u + read_count w
   read_count (other_form at) = 0
 
   all_read_count : Unfoldeds → ℕ
@@ -97,6 +100,10 @@ mutual
   added sig vars (named_variable at n t) = one_added vars n (sort_number sig.sorts t)
   added sig vars (written_value at t text byte) = omega arith
   added sig vars (applied_symbol at byte n ss us) = all_added sig vars us
+  added sig vars (both_of at s u w) =
+      let first = added sig vars u in
+      let second = added sig (with_variables sig vars u) w in
+      omega (arith, first, second)
   added sig vars (other_form at) = omega arith
 
   all_added : (sig : Signature) (vars : List (List ℕ × ℕ)) (us : Unfoldeds)
@@ -131,12 +138,29 @@ standing_count : (at : ℕ) (u : Unfolded) → read_count (standing_at at u) ≡
 standing_count at (named_variable there n s) = refl
 standing_count at (written_value there s text byte) = refl
 standing_count at (applied_symbol there byte n ss us) = refl
+standing_count at (both_of there s u w) = refl
 standing_count at (other_form there) = refl
 
-only_count : (at : ℕ) (us : Unfoldeds) → read_count (only_of at us) ≤ all_read_count us
-only_count at no_more = omega arith
-only_count at (and_more u no_more) = omega arith
-only_count at (and_more u (and_more v us)) = omega arith
+connective_count : (at : ℕ) (op : Op) (ss : List SortTree) (us : Unfoldeds)
+    → read_count (connective_of at op ss us) ≤ all_read_count us
+connective_count at op ss us = by_case (connective_case at op ss us) where
+  by_case : IsConnective at op ss us → read_count (connective_of at op ss us) ≤ all_read_count us
+  by_case (inl both) =
+      let here : read_count (connective_of at op ss us) ≡ read_count both.1 + read_count both.2 =
+      ap read_count both.4 in
+      let all : all_read_count us ≡ read_count both.1 + (read_count both.2 + 0) =
+      ap all_read_count both.3 in
+      omega (arith, here, all)
+  by_case (inr other) =
+      let none : read_count (connective_of at op ss us) ≡ 0 = ap read_count other in
+      omega (arith, none)
+
+folded_count : (at : ℕ) (op : Op) (ss : List SortTree) (us : Unfoldeds)
+    → read_count (connective_fold at op ss us) ≤ all_read_count us
+folded_count at op ss no_more = connective_count at op ss no_more
+folded_count at op ss (and_more u no_more) = omega arith
+folded_count at op ss (and_more u (and_more v us)) =
+    connective_count at op ss (and_more u (and_more v us))
 
 mutual
   unfolded_count : (p : PatternTree) → read_count (unfolded p) ≤ variable_count p
@@ -144,7 +168,9 @@ mutual
   unfolded_count (set_variable at n s) = omega arith
   unfolded_count (string at text) = omega arith
   unfolded_count (symbol_applied at n ss ps) = all_unfolded_count ps
-  unfolded_count (connected at op ss ps) = omega arith
+  unfolded_count (connected at op ss ps) =
+      let here = connective_count at op (listed_sorts ss) (all_unfolded ps) in
+      let all = all_unfolded_count ps in omega (arith, here, all)
   unfolded_count (binder_applied at b ss x p) = omega arith
   unfolded_count (value_written at s text place) = omega arith
   unfolded_count (folded at left p) =
@@ -159,8 +185,8 @@ mutual
       let fold = fold_count left at n (listed_sorts ss) (all_unfolded ps) in
       let all = all_unfolded_count ps in omega (arith, fold, all)
   inner_count left (connected at op ss ps) =
-      let only = only_count at (all_unfolded ps) in
-      let all = all_unfolded_count ps in omega (arith, only, all)
+      let here = folded_count at op (listed_sorts ss) (all_unfolded ps) in
+      let all = all_unfolded_count ps in omega (arith, here, all)
   inner_count left (binder_applied at b ss x p) = omega arith
   inner_count left (value_written at s text place) = omega arith
   inner_count left (folded at other p) = omega arith

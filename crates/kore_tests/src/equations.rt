@@ -137,7 +137,7 @@ static UNREADABLE: [&str; 27] = [
     "\\equals{S{},R}(f{}(c{}(X:S{},Y:S{})),X:S{}) []",
     "\\equals{S{},R}(m{}(X:S{}),X:S{}) []",
     "\\equals{S{},R}(f{}(X:S{}),\\or{S{}}(X:S{},a{}())) []",
-    "\\equals{S{},R}(f{}(\\and{S{}}(X:S{},p{}(Y:S{}))),X:S{}) []",
+    "\\equals{S{},R}(f{}(\\and{S{}}(X:S{},p{}(X:S{}))),X:S{}) []",
     "\\equals{S{},R}(f{}(X:S{}),\\exists{S{}}(Y:S{},a{}())) []",
     "\\equals{S{},R}(f{}(X:S{}),\\and{S{}}(X:S{},a{}())) []",
     "\\equals{S{},R}(f{}(X:S{}),\\and{S{}}(\\top{S{}}(),X:S{})) []",

@@ -20,6 +20,8 @@ mod equations;
 #[cfg(test)]
 mod lex;
 #[cfg(test)]
+mod named_sides;
+#[cfg(test)]
 mod print;
 #[cfg(test)]
 mod shapes;

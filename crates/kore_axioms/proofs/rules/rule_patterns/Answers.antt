@@ -1,4 +1,5 @@
-use Rattle.std.proofs.Common.{◌≡◌, ℕ, List, [], length, nat_eq, ◌&&◌, Option, Some, ap, sym, ◌∙◌}
+use Rattle.std.proofs.Common.{◌≡◌, ℕ, List, [], ◌∷◌, ◌++◌, length, nat_eq, ◌&&◌, Option, Some, ap}
+use Rattle.std.proofs.Common.{sym, ◌∙◌}
 use Rattle.std.proofs.Common.{subst, arith}
 use Rattle.std.specs.Prelude.{option_map}
 use Rattle.kore_text.specs.Trees.{PatternTree}
@@ -7,6 +8,9 @@ use Rattle.term_core.specs.RulePatterns.{plain_pattern}
 use Rattle.kore_check.specs.Folds.{Unfoldeds, unfolded}
 use Rattle.kore_check.specs.PatternMeanings.{with_variables, with_all_variables, Means}
 use Rattle.kore_check.specs.VariableNames.{named_sorts}
+use Rattle.kore_check.specs.PartNames.{names_in}
+use Rattle.rule_core.specs.ProgramView.{names_of}
+use Rattle.rule_core.specs.declared.rules.Named.{Named}
 use Rattle.kore_shapes.specs.Views.{pattern_at}
 use Rattle.kore_axioms.specs.AxiomMeanings.{MeansTest}
 use Rattle.kore_axioms.specs.NamedRules.{with_some_variables}
@@ -35,7 +39,7 @@ returns c =
     let first : List (List ℕ × ℕ) = with_all_variables sig [] qs in
     let test : Option PatternTree = tested_pattern w.condition in
     let one : c.build_pattern.new.vars ≡ first =
-    c.in_ok-left.ensures.vars
+    c.in_ok-made.ensures.vars
     ∙ ap (λ (vs : List (List ℕ × ℕ)).
     with_variables sig vs (unfolded (plain_tree c.in-Some-Some.left.now)))
     c.new-vars.ensures
@@ -84,10 +88,20 @@ returns c =
       means_left = λ yes.
           let same = bound_all sig qs test f.right f.test_clear f.right_clear (sym counted ∙ yes) in
           subst (λ (vs : List (List ℕ × ℕ)).
-          Means sig vs (unfolded f.left) (plain_pattern c.in_ok-left.left))
+          Means sig vs (unfolded f.left) (plain_pattern c.in_ok-made.made))
           (one ∙ sym same.1 ∙ sym kept)
           (subst (λ (t : PatternTree). Means sig (c.build_pattern.new.vars) (unfolded t)
-          (plain_pattern c.in_ok-left.left)) left_is c.in_ok-left.ensures.means);
+          (plain_pattern c.in_ok-made.made)) left_is c.in_ok-made.ensures.means);
+      names = λ yes.
+          let same = bound_all sig qs test f.right f.test_clear f.right_clear (sym counted ∙ yes) in
+          c.in_ok-add_names.ensures
+          ∙ ap (λ (ns : List Named). names_of ns
+          ++ names_in sig c.build_pattern.new.vars (0 ∷ [])
+          (unfolded (plain_tree c.in-Some-Some.left.now))) c.new-named.ensures.items
+          ∙ ap (λ (t : PatternTree). names_in sig c.build_pattern.new.vars (0 ∷ []) (unfolded t))
+          left_is
+          ∙ ap (λ (vs : List (List ℕ × ℕ)). names_in sig vs (0 ∷ []) (unfolded f.left))
+          (one ∙ sym same.1 ∙ sym kept);
       means_condition = λ yes.
           let same = bound_all sig qs test f.right f.test_clear f.right_clear (sym counted ∙ yes) in
           subst (λ (vs : List (List ℕ × ℕ)).

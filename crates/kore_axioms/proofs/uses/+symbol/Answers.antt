@@ -8,7 +8,7 @@ use Rattle.kore_check.specs.Folds.{unfolded, inner_fold, all_unfolded}
 use Rattle.kore_axioms.specs.Uses.{has_symbol, have_symbol}
 use Rattle.kore_axioms.specs.UsedSymbols.{is_used}
 use Rattle.kore_axioms.specs.FoldUses.{are_two}
-use Rattle.kore_axioms.proofs.FoldUseLaws.{has_symbol-standing, folded_uses}
+use Rattle.kore_axioms.proofs.FoldUseLaws.{has_symbol-standing, folded_uses, pair_has}
 use Rattle.kore_axioms.proofs.uses.+symbol.Goals as goal
 
 pub has_symbol-returns-in-Fold : goal.has_symbol-returns-in-Fold
@@ -56,3 +56,12 @@ fold_has_symbol-returns-else-is_among_folded t c = λ (left : Bool).
     ∙
     sym (folded_uses test left c.args.pat.now c.in-App.name c.in-App.field-1 c.in-App.args
     c.in-App.is)
+
+pub has_symbol-returns-then-is_pair : goal.has_symbol-returns-then-is_pair
+has_symbol-returns-then-is_pair t c =
+    c.have_symbol-then-is_pair.ensures
+    ∙ pair_has (is_used c.args.which c.args.sig.now) c.args.pat.now c.in-Built.op c.in-Built.sorts
+    c.in-Built.args c.deref-in-Built.result.now c.deref-in-Built-2.result.now
+    c.deref-then-is_pair.result.now c.in-Built.is c.deref-in-Built.ensures.value
+    c.deref-in-Built-2.ensures.value c.deref-then-is_pair.ensures.value
+    (sym c.is_pair.ensures ∙ c.if-is_pair.true)

@@ -1,5 +1,5 @@
 use Rattle.std.proofs.Common.{rules, ◌≡◌, ◌+◌, ◌++◌, ◌∷◌, [], ℕ, List, map, drop, Some, true, false}
-use Rattle.std.proofs.Common.{sym, subst, arith}
+use Rattle.std.proofs.Common.{sym, ◌∙◌, subst, arith}
 use Rattle.kore_ast.specs.Plain.{plain_sort}
 use Rattle.term_core.specs.Patterns.{Pattern}
 use Rattle.term_core.specs.Instances.{patterns}
@@ -11,8 +11,11 @@ use Rattle.kore_check.proofs.Applications.{reads}
 use Rattle.kore_check.proofs.BuildLaws.{extends-trans, all-more}
 use Rattle.kore_check.proofs.BuildSteps.{app_none, app_no_arguments, app_built, variable_built}
 use Rattle.kore_check.proofs.BuildSteps.{value_built, folded_built, only_none, short_built}
+use Rattle.kore_check.proofs.BuildSteps.{carried, pair_none, pair_made}
+use Rattle.kore_check.proofs.Connectives.{connective_read, only_read, others_read}
+use Rattle.kore_check.specs.Folds.{only_of, connective_of}
 use Rattle.kore_check.proofs.BuildSteps.{fold_none, fold_no_arguments, fold_ready, good-more}
-use Rattle.kore_check.proofs.BuildSteps.{variables-more, all_done, connective_built}
+use Rattle.kore_check.proofs.BuildSteps.{variables-more, all_done}
 use Rattle.kore_check.proofs.build.+build.Goals as goal
 
 pub build-returns-in_default-clause-built : goal.build-returns-in_default-clause-built
@@ -148,9 +151,46 @@ build_fold-returns-in-App-clause-built t c =
     (reads c.deref-in-App.result.now)) c.in-Some.is c.in_ok-args-in-App.ensures.built)
     c.folded_right.ensures
 
+pub build-returns-in-Built-clause-built : goal.build-returns-in-Built-clause-built
+build-returns-in-Built-clause-built t c =
+    carried c.args.sig.now _ _ (λ at. connective_of at c.in-Built.op
+    (map plain_sort c.deref-in-Built-2.result.now) (reads c.deref-in-Built.result.now))
+    c.args.pat.now.at _ c.build_connective.result (connective_read c.args.pat.now c.in-Built.op
+    c.in-Built.sorts c.in-Built.args c.deref-in-Built-2.result.now c.deref-in-Built.result.now
+    c.in-Built.is c.deref-in-Built-2.ensures.value c.deref-in-Built.ensures.value)
+    c.build_connective.ensures.built
+
+pub build_connective-returns-in_default-clause-built :
+    goal.build_connective-returns-in_default-clause-built
+build_connective-returns-in_default-clause-built t c = λ at good.
+    pair_none c.args.sig.now at c.args.op (map plain_sort c.args.sorts.now) (reads c.args.args.now)
+    c.args.vars.now c.build_all.new.vars
+    (subst (AllBuilt c.args.sig.now c.args.vars.now c.build_all.new.vars (reads c.args.args.now))
+    c.in_default.is c.in_ok-pair.ensures.built) good
+
+pub build_connective-returns-clause-built : goal.build_connective-returns-clause-built
+build_connective-returns-clause-built t c = λ at.
+    pair_made c.args.sig.now at c.args.op c.args.sorts.now c.args.args.now c.args.vars.now
+    c.build_all.new.vars c.in-Some.pair c.named_part.result
+    (sym c.is_pair.ensures ∙ c.if-not-is_pair.false)
+    (subst (AllBuilt c.args.sig.now c.args.vars.now c.build_all.new.vars (reads c.args.args.now))
+    c.in-Some.is c.in_ok-pair.ensures.built) c.named_part.ensures
+
+pub build_fold-returns-then-len-eq1-clause-built : goal.build_fold-returns-then-len-eq1-clause-built
+build_fold-returns-then-len-eq1-clause-built t c =
+    carried c.args.sig.now _ _ (λ at. only_of at (reads c.deref-then-len-eq1.result.now))
+    c.args.inner.now.at _ c.build_only-then-len-eq1.result (only_read c.args.left c.args.inner.now
+    c.in-Built.op c.in-Built.sorts c.in-Built.args c.deref-then-len-eq1.result.now c.in-Built.is
+    c.deref-then-len-eq1.ensures.value (omega (arith, c.len-in-Built.ensures, c.if-len-eq1.true)))
+    c.build_only-then-len-eq1.ensures.built
+
 pub build_fold-returns-in-Built-clause-built : goal.build_fold-returns-in-Built-clause-built
 build_fold-returns-in-Built-clause-built t c =
-    connective_built c.args.sig.now c.args.left c.args.inner.now c.in-Built.field-0
-    c.in-Built.field-1 c.in-Built.args c.deref-in-Built.result.now _ _
-    c.build_only-in-Built.result c.in-Built.is c.deref-in-Built.ensures.value
-    c.build_only-in-Built.ensures.built
+    carried c.args.sig.now _ _ (λ at. connective_of at c.in-Built.op
+    (map plain_sort c.deref-in-Built-2.result.now) (reads c.deref-in-Built.result.now))
+    c.args.inner.now.at _ c.build_connective.result (others_read c.args.left c.args.inner.now
+    c.in-Built.op c.in-Built.sorts c.in-Built.args c.deref-in-Built-2.result.now
+    c.deref-in-Built.result.now c.in-Built.is c.deref-in-Built-2.ensures.value
+    c.deref-in-Built.ensures.value
+    (λ one. c.if-len-eq1.false (omega (arith, c.len-in-Built.ensures, one))))
+    c.build_connective.ensures.built

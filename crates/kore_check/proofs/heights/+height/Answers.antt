@@ -8,6 +8,7 @@ use Rattle.kore_check.proofs.Applications.{reads}
 use Rattle.kore_check.proofs.FoldChecks.{application_folded, fold_short}
 use Rattle.kore_check.proofs.HeightLaws.{left-more, left-end, left_whole, right-end, right_whole}
 use Rattle.kore_check.proofs.HeightLaws.{right-more, only_high, grown_left, grown_from, cut-grown}
+use Rattle.kore_check.proofs.Connectives.{only_read, others_read}
 use Rattle.kore_check.proofs.heights.+height.Goals as goal
 
 pub only_height-returns-then-args-ne1 : goal.only_height-returns-then-args-ne1
@@ -66,3 +67,18 @@ right_height-returns t c = λ byte name ss.
     right-end c.args.args.now c.loop-i.i c.loop-i.height (omega (arith, c.loop-i-test.false))
     c.loop-i.invariant
     ∙ ap cut (sym (right_whole byte name ss c.args.args.now c.requires))
+
+pub fold_height-returns-then-len-eq1 : goal.fold_height-returns-then-len-eq1
+fold_height-returns-then-len-eq1 t c =
+    c.only_height-then-len-eq1.ensures c.args.inner.now.at
+    ∙ ap (λ u. cut (unfolded_height u)) (only_read c.args.left c.args.inner.now c.in-Built.op
+    c.in-Built.sorts c.in-Built.args c.deref-then-len-eq1.result.now c.in-Built.is
+    c.deref-then-len-eq1.ensures.value (omega (arith, c.len-in-Built.ensures, c.if-len-eq1.true)))
+
+pub fold_height-returns-else-len-eq1 : goal.fold_height-returns-else-len-eq1
+fold_height-returns-else-len-eq1 t c =
+    c.connective_height.ensures c.args.inner.now.at
+    ∙ ap (λ u. cut (unfolded_height u)) (others_read c.args.left c.args.inner.now c.in-Built.op
+    c.in-Built.sorts c.in-Built.args c.deref-in-Built-2.result.now c.deref-in-Built.result.now
+    c.in-Built.is c.deref-in-Built-2.ensures.value c.deref-in-Built.ensures.value
+    (λ one. c.if-len-eq1.false (omega (arith, c.len-in-Built.ensures, one))))

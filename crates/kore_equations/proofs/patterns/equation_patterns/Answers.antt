@@ -9,6 +9,7 @@ use Rattle.term_core.specs.PatternLists.{plain_patterns}
 use Rattle.kore_check.specs.Folds.{Unfoldeds, unfolded}
 use Rattle.kore_check.specs.PatternMeanings.{with_variables, with_all_variables, Means, AllMean}
 use Rattle.kore_check.specs.VariableNames.{named_sorts}
+use Rattle.kore_check.specs.PartNames.{names_in_all}
 use Rattle.kore_shapes.specs.EquationForms.{EquationParts}
 use Rattle.kore_shapes.specs.Views.{pattern_at, plain_condition}
 use Rattle.kore_shapes.specs.PartViews.{plain_parts}
@@ -71,6 +72,13 @@ returns c =
           (subst (λ (us : Unfoldeds).
           AllMean sig c.built_patterns.new.vars us (plain_patterns c.in_ok-args.args.items))
           read c.in_ok-args.ensures.means);
+      names = λ yes.
+          let same = bound_all sig qs test right clear f.right.clear (sym counted ∙ yes) in
+          c.in_ok-named.ensures
+          ∙ ap (λ (ps : List (Bor Pat)). names_in_all sig c.built_patterns.new.vars [] 0
+          (all_read (map pattern_at ps))) c.deref-2.ensures.value
+          ∙ ap (λ (vs : List (List ℕ × ℕ)). names_in_all sig vs [] 0 qs)
+          (one ∙ sym same.1 ∙ sym kept);
       means_condition = λ yes.
           let same = bound_all sig qs test right clear f.right.clear (sym counted ∙ yes) in
           subst (λ (vs : List (List ℕ × ℕ)).
