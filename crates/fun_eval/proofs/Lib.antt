@@ -4,11 +4,14 @@ pub mod Evaluable
 pub mod Values
 pub mod Recordings
 pub mod Trials
+pub mod Misses
 pub mod Roots
 pub mod Empty
 pub mod Calls
 pub mod PlainRecords
 pub mod Matches
+pub mod Names
 pub mod EquationTrees
+pub mod LastResorts
 pub mod Walks
 pub mod Injections

@@ -7,16 +7,25 @@ use Rattle.std.proofs.lemmas.Option.{slice_get_within}
 use Rattle.term_core.specs.Terms.{Tree, Forest}
 use Rattle.term_core.specs.Forests.{forest}
 use Rattle.term_core.specs.Instances.{patterns}
+use Rattle.term_core.specs.PatternLists.{AllFitWithin, plain_patterns}
+use Rattle.term_core.specs.declared.rule_patterns.RulePat.{RulePat}
 use Rattle.rule_core.specs.Rules as plain
 use Rattle.rule_core.specs.Theories.{RewriteTheory, equations_of}
-use Rattle.rule_core.specs.ProgramView.{function_equation, sorts_of}
+use Rattle.rule_core.specs.ProgramView.{function_equation, names_of, sorts_of}
+use Rattle.rule_core.specs.declared.rules.Named.{Named}
+use Rattle.rule_core.specs.WellSorted.{IsWellSorted}
+use Rattle.rule_core.specs.Evaluation.{MatchesBy}
 use Rattle.rule_core.specs.Matching.{MatchAll}
+use Rattle.rule_core.specs.NamedLaws.{AddsNames}
+use Rattle.rule_core.specs.Naming.{AreNamesOf}
 use Rattle.rule_core.specs.MatchSearch.{FindsMatch, UseFirst}
 use Rattle.rule_core.specs.declared.rules.Equation.{Equation}
+use Rattle.rule_core.proofs.NamedMatches.{names_match}
 use Rattle.pat_matrix.specs.MatrixView.{row_of, order_of}
 use Rattle.match_tree.specs.ProgramLaws.{IsFirstEquation}
 use Rattle.match_tree.specs.declared.compiling.Tree as code
-use Rattle.fun_eval.specs.Equations.{MatchesNumber}
+use Rattle.fun_eval.specs.Equations.{IsDefined, MatchesNumber}
+use Rattle.fun_eval.proofs.Names.{all_fit, are_names_of, is_equation}
 
 -- ---- equations by their numbers
 
@@ -82,28 +91,85 @@ found_scoped theory f tree ts from row n e first there many =
     let P : ℕ → Type 0 = λ k. UseFirst k (patterns (row_of tree.matrix row)) in
     subst P (sym (found_count theory f tree ts from row n e first there many)) first.scoped
 
--- the substitution that was found for the row matches the equation
-pub found_matches : (theory : RewriteTheory) (f : ℕ) (tree : code.Tree) (ts : List Tree)
+-- the substitution that was found for the row matches the equation without its names
+found_unnamed : (theory : RewriteTheory) (f : ℕ) (tree : code.Tree) (ts : List Tree)
     (from row n : ℕ) (e : Equation) (theta : List (Option Tree))
     → IsFirstEquation theory f tree ts from row
     → slice_get (equations_of theory f) row ≡ Some (function_equation e) → n ≡ vec_len e.vars
     → FindsMatch (order_of tree.matrix) n (patterns (row_of tree.matrix row)) (forest ts)
-    (Some theta) → MatchesNumber theory f row (forest ts) theta
-found_matches theory f tree ts from row n e theta first there many finds =
+    (Some theta)
+    → MatchAll theory.sig (function_equation e).variables (function_equation e).arguments
+    (forest ts) theta
+found_unnamed theory f tree ts from row n e theta first there many finds =
     let P : ℕ → Type 0 = λ k. FindsMatch (order_of tree.matrix) k
-    (patterns (row_of tree.matrix row)) (forest ts) (Some theta) in (
-      first.equation,
-      first.there,
-      first.found theta
-          (subst P (found_count theory f tree ts from row n e first there many) finds),
+    (patterns (row_of tree.matrix row)) (forest ts) (Some theta) in
+    let match =
+    first.found theta
+    (subst P (found_count theory f tree ts from row n e first there many) finds) in
+    let both : Some first.equation ≡ Some (function_equation e) = sym first.there ∙ there in
+    let same : first.equation ≡ function_equation e = cc in
+    subst (λ (x : plain.Equation). MatchAll theory.sig x.variables x.arguments (forest ts) theta)
+    same match
+
+-- then its names may be added
+pub names_fit : (theory : RewriteTheory) (f : ℕ) (tree : code.Tree) (ts : List Tree)
+    (from row n : ℕ) (e : Equation) (args : List RulePat) (named : List Named)
+    (theta : List (Option Tree)) → IsWellSorted theory
+    → IsDefined theory f (forest ts) → IsFirstEquation theory f tree ts from row
+    → slice_get (equations_of theory f) row ≡ Some (function_equation e) → n ≡ vec_len e.vars
+    → args ≡ e.args.items → named ≡ e.named.items
+    → FindsMatch (order_of tree.matrix) n (patterns (row_of tree.matrix row)) (forest ts)
+    (Some theta)
+    → AllFitWithin 500 theta (plain_patterns args)
+    × AreNamesOf (plain_patterns args) (length theta) (names_of named)
+names_fit theory f tree ts from row n e args named theta good is first there many own own_names
+    finds =
+    let match = found_unnamed theory f tree ts from row n e theta first there many finds in
+    let fits : AllFitWithin 500 theta (function_equation e).arguments =
+    all_fit 500 theta (function_equation e).arguments (forest ts) match.makes is.good.2 in
+    let names : AreNamesOf (function_equation e).arguments (length theta)
+    (function_equation e).names =
+    are_names_of theory.sig (function_equation e).variables (function_equation e).arguments
+    (function_equation e).names (length theta)
+    (is_equation theory f (forest ts) row (function_equation e) good is there).names
+    match.binds.room in (
+      subst (λ (ps : List RulePat). AllFitWithin 500 theta (plain_patterns ps)) (sym own) fits,
+      subst (λ (ps : List RulePat). AreNamesOf (plain_patterns ps) (length theta) (names_of named))
+          (sym own)
+          (subst (λ (ns : List Named). AreNamesOf (plain_patterns e.args.items) (length theta)
+          (names_of ns)) (sym own_names) names),
+    )
+
+-- and then it matches the equation
+pub found_matches : (theory : RewriteTheory) (f : ℕ) (tree : code.Tree) (ts : List Tree)
+    (from row n : ℕ) (e : Equation) (args : List RulePat) (named : List Named)
+    (theta sigma : List (Option Tree)) → IsWellSorted theory
+    → IsDefined theory f (forest ts) → IsFirstEquation theory f tree ts from row
+    → slice_get (equations_of theory f) row ≡ Some (function_equation e) → n ≡ vec_len e.vars
+    → args ≡ e.args.items → named ≡ e.named.items
+    → FindsMatch (order_of tree.matrix) n (patterns (row_of tree.matrix row)) (forest ts)
+    (Some theta) → AddsNames (plain_patterns args) (names_of named) theta sigma
+    → MatchesNumber theory f row (forest ts) sigma
+found_matches theory f tree ts from row n e args named theta sigma good is first there many own
+    own_names finds adds =
+    let all : AddsNames (plain_patterns e.args.items) (names_of e.named.items) theta sigma =
+    subst (λ (ps : List RulePat).
+    AddsNames (plain_patterns ps) (names_of e.named.items) theta sigma)
+    own (subst (λ (ns : List Named). AddsNames (plain_patterns args) (names_of ns) theta sigma)
+    own_names adds) in (
+      function_equation e,
+      there,
+      names_match theory.sig (function_equation e).variables (function_equation e).arguments
+          (function_equation e).names (forest ts) theta sigma
+          (is_equation theory f (forest ts) row (function_equation e) good is there).names
+          (found_unnamed theory f tree ts from row n e theta first there many finds) all,
     )
 
 -- what is known of a number holds of its equation
 pub own_match : (theory : RewriteTheory) (f row : ℕ) (ts : Forest) (e : plain.Equation)
     (theta : List (Option Tree)) → MatchesNumber theory f row ts theta
-    → slice_get (equations_of theory f) row ≡ Some e
-    → MatchAll theory.sig e.variables e.arguments ts theta
+    → slice_get (equations_of theory f) row ≡ Some e → MatchesBy theory e ts theta
 own_match theory f row ts e theta (own, there, match) at =
     let both : Some own ≡ Some e = sym there ∙ at in
     let same : own ≡ e = cc in
-    subst (λ (x : plain.Equation). MatchAll theory.sig x.variables x.arguments ts theta) same match
+    subst (λ (x : plain.Equation). MatchesBy theory x ts theta) same match

@@ -1,7 +1,7 @@
 -- Scalars among terms.
 use Rattle.std.proofs.Common.{◌≡◌, ℕ, suc, zero, ◌<◌, ◌≤◌, List, [], ◌∷◌, length, map, get_or}
 use Rattle.std.proofs.Common.{Option, Some, None, refl, sym, ◌∙◌, ap, subst, arith}
-use Rattle.std.specs.Prelude.{Bool, slice_get, option_map}
+use Rattle.std.specs.Prelude.{slice_get, option_map}
 use Rattle.term_core.specs.Terms.{integer, truth, Tree, leaf, node, inj, more_trees}
 use Rattle.term_core.specs.Forests.{forest}
 use Rattle.term_core.specs.HookValues.{Hook, Kind, Operation, on_integer, on_integers, compares}

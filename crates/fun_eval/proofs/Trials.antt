@@ -1,5 +1,5 @@
 -- How equations are tried, one by one.
-use Rattle.std.proofs.Common.{◌≡◌, ℕ, suc, zero, ◌+◌, ◌-◌, ◌<◌, ◌≤◌, ⊎_elim, inl, inr, List, []}
+use Rattle.std.proofs.Common.{◌≡◌, ℕ, suc, zero, ◌+◌, ◌-◌, ◌<◌, ◌≤◌, ⊎_elim, inr, List, []}
 use Rattle.std.proofs.Common.{◌∷◌, length, drop, Option, Some, sym, ◌∙◌, ap, subst, arith}
 use Rattle.std.specs.Prelude.{slice_get}
 use Rattle.std.proofs.lemmas.List.{drop_all}
@@ -8,17 +8,17 @@ use Rattle.term_core.specs.Terms.{Tree, Forest}
 use Rattle.term_core.specs.Patterns.{Pattern}
 use Rattle.rule_core.specs.Rules.{Equation}
 use Rattle.rule_core.specs.Theories.{RewriteTheory, equations_of}
-use Rattle.rule_core.specs.Matching.{MatchAll}
-use Rattle.rule_core.specs.Evaluation.{Cause, Evaluated, value, blocked, ConditionOutcome, holds}
+use Rattle.rule_core.specs.Evaluation.{MatchesBy, Cause, Evaluated, value, blocked}
+use Rattle.rule_core.specs.Evaluation.{ConditionOutcome, holds}
 use Rattle.rule_core.specs.Evaluation.{fails, untested, says_nothing, Equates, no_equation_left}
-use Rattle.rule_core.specs.Evaluation.{unmatched, condition_fails, condition_blocked, used, Tests}
+use Rattle.rule_core.specs.Evaluation.{condition_fails, condition_blocked, used, Tests}
 use Rattle.rule_core.specs.Evaluation.{no_condition, condition, EvaluatesIn, inside, no_equation}
 use Rattle.rule_core.specs.FirstRule.{most_nesting}
 use Rattle.rule_core.specs.Records.{Record, IsUnused, most_calls}
 use Rattle.rule_core.proofs.MoreLeft.{tests_more}
 use Rattle.rule_core.proofs.RecordsKept.{LeavesAtMost, says_at_most, calls_fall}
 use Rattle.fun_eval.specs.Equations.{IsChosen, TrialSays}
-use Rattle.fun_eval.specs.declared.equations.Trial.TheVariants.{Unused}
+use Rattle.fun_eval.specs.declared.equations.Trial.TheVariants.{Failed}
 
 -- ---- one equation
 
@@ -37,7 +37,7 @@ failed_before {theory} {f} theta p n c d m k test le few =
 
 unused_before : {theory : RewriteTheory} {f : ℕ} {ts : Forest} (e : Equation)
     (theta : List (Option Tree)) (n c d : ℕ)
-    → MatchAll theory.sig e.variables e.arguments ts theta
+    → MatchesBy theory e ts theta
     → Tests theory n f theta e.condition c (fails d) → n ≤ most_nesting → c ≤ most_calls
     → IsUnused theory f e ts
 unused_before e theta n c d match test le few =
@@ -45,11 +45,11 @@ unused_before e theta n c d match test le few =
     inr (theta, failed.0, match, failed.1)
 
 pub is_unused : {R : Type 0} (tells : R → Record → Type 0) (theory : RewriteTheory) (n f : ℕ)
-    (e : Equation) (ts : Forest) (c left : ℕ) → n ≤ most_nesting → c ≤ most_calls
-    → TrialSays tells theory n f e ts c Unused left → IsUnused theory f e ts
-is_unused tells theory n f e ts c left le few (inl never) = inl never.0
-is_unused tells theory n f e ts c left le few (inr failed) =
-    unused_before e failed.0 n c left failed.1 failed.2 le few
+    (e : Equation) (ts : Forest) (c left : ℕ) (theta : List (Option Tree)) (kept : R)
+    → n ≤ most_nesting → c ≤ most_calls
+    → TrialSays tells theory n f e ts c (Failed theta kept) left → IsUnused theory f e ts
+is_unused tells theory n f e ts c left theta kept le few says =
+    unused_before e theta n c left says.0 says.1 le few
 
 within_falls : {theory : RewriteTheory} {n f c d : ℕ} {theta : List (Option Tree)} {p : Pattern}
     {t : Tree} → EvaluatesIn theory n f theta p c (value t d) → d ≤ c
@@ -63,10 +63,9 @@ tests_fall (condition {e = blocked cause} e says_nothing) = tt
 
 -- after a trial, at most as many calls are left as before
 pub trial_falls : {R : Type 0} (tells : R → Record → Type 0) (theory : RewriteTheory) (n f : ℕ)
-    (e : Equation) (ts : Forest) (c left : ℕ) → TrialSays tells theory n f e ts c Unused left
-    → left ≤ c
-trial_falls tells theory n f e ts c left (inl never) = omega (arith, never.1)
-trial_falls tells theory n f e ts c left (inr failed) = tests_fall failed.2
+    (e : Equation) (ts : Forest) (c left : ℕ) (theta : List (Option Tree)) (kept : R)
+    → TrialSays tells theory n f e ts c (Failed theta kept) left → left ≤ c
+trial_falls tells theory n f e ts c left theta kept says = tests_fall says.1
 
 -- ---- the equations from i on
 
@@ -93,21 +92,15 @@ from_here (x ∷ es) zero e there = let same : x ≡ e = cc in ap (λ y. y ∷ e
 from_here (x ∷ es) (suc i) e there =
     let next : suc i + 1 ≡ suc (i + 1) = omega arith in rw next (from_here es i e there)
 
-passed : {R : Type 0} (tells : R → Record → Type 0) (theory : RewriteTheory) (n f : ℕ)
-    (e : Equation) (es : List Equation) (ts : Forest) (c left : ℕ) (r : Evaluated)
-    → TrialSays tells theory n f e ts c Unused left → Equates theory n f es ts left r
-    → Equates theory n f (e ∷ es) ts c r
-passed tells theory n f e es ts c left r (inl never) rest =
-    unmatched never.0 (subst (λ d. Equates theory n f es ts d r) never.1 rest)
-passed tells theory n f e es ts c left r (inr failed) rest = condition_fails failed.1 failed.2 rest
-
 pub tried-more : {R : Type 0} (tells : R → Record → Type 0) (theory : RewriteTheory) (n f : ℕ)
     (ts : Forest) (c : ℕ) (es : List Equation) (i left rest : ℕ) (e : Equation)
+    (theta : List (Option Tree)) (kept : R)
     → TriedUpTo theory n f ts c es i left → slice_get es i ≡ Some e
-    → TrialSays tells theory n f e ts left Unused rest → TriedUpTo theory n f ts c es (i + 1) rest
-tried-more tells theory n f ts c es i left rest e tried there says = λ r others.
+    → TrialSays tells theory n f e ts left (Failed theta kept) rest
+    → TriedUpTo theory n f ts c es (i + 1) rest
+tried-more tells theory n f ts c es i left rest e theta kept tried there says = λ r others.
     tried r (subst (λ xs. Equates theory n f xs ts left r) (sym (from_here es i e there))
-    (passed tells theory n f e (drop (i + 1) es) ts left rest r says others))
+    (condition_fails says.0 says.1 others))
 
 pub unused-more : (theory : RewriteTheory) (f : ℕ) (ts : Forest) (es : List Equation) (i : ℕ)
     (e : Equation) → UnusedUpTo theory f ts es i → slice_get es i ≡ Some e
@@ -125,7 +118,7 @@ abbrev pub chosen : (theory : RewriteTheory) (n f : ℕ) (ts : Forest) (c : ℕ)
     → TriedUpTo theory n f ts c (equations_of theory f) i left
     → UnusedUpTo theory f ts (equations_of theory f) i
     → slice_get (equations_of theory f) i ≡ Some e
-    → MatchAll theory.sig e.variables e.arguments ts theta
+    → MatchesBy theory e ts theta
     → Tests theory n f theta e.condition left (holds rest) → IsChosen theory n f ts c i theta rest
 chosen theory n f ts c i left rest e theta tried before there match test = record {
   equation = e;
@@ -140,7 +133,7 @@ chosen theory n f ts c i left rest e theta tried before there match test = recor
 pub stopped_at : (theory : RewriteTheory) (n f : ℕ) (ts : Forest) (c : ℕ) (es : List Equation)
     (i left : ℕ) (e : Equation) (cause : Cause) (theta : List (Option Tree))
     → TriedUpTo theory n f ts c es i left → slice_get es i ≡ Some e
-    → MatchAll theory.sig e.variables e.arguments ts theta
+    → MatchesBy theory e ts theta
     → Tests theory n f theta e.condition left (untested cause)
     → Equates theory n f es ts c (blocked cause)
 stopped_at theory n f ts c es i left e cause theta tried there match test =

@@ -7,6 +7,7 @@ pub mod RecordLists
 pub mod EngineView
 pub mod Injections
 pub mod EquationTrees
+pub mod LastResorts
 pub mod Roots
 pub mod Giving
 pub mod Equations

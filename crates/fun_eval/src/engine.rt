@@ -1,9 +1,11 @@
 // The engine of evaluation.
-ghost use Rattle.std.specs.Prelude.{◌≡◌, ◌≤◌, ◌<◌, length, IfOk, IfErr, OnErr, Some};
+ghost use Rattle.std.specs.Prelude.{◌≡◌, ◌≤◌, ◌<◌, length, map, IfOk, IfErr, OnErr, Some};
+ghost use Rattle.std.specs.List.{list_any};
 ghost use Rattle.term_core.specs.RulePatterns.{plain_pattern};
 ghost use Rattle.rule_core.specs.Evaluation.{Evaluated, Evaluates, value};
 ghost use Rattle.rule_core.specs.FirstRule.{most_nesting};
 ghost use Rattle.rule_core.specs.ProgramView.{theory_of};
+ghost use Rattle.rule_core.specs.Theories.{equations_of};
 ghost use Rattle.rule_core.specs.Records.{Records, result_of};
 ghost use Rattle.rule_core.specs.RecordView.{plain_record};
 ghost use Rattle.rule_core.specs.WellSorted.{IsWellSorted};
@@ -13,13 +15,14 @@ ghost use Rattle.fun_eval.specs.EvalEnds.{EndsBy};
 ghost use Rattle.fun_eval.specs.Recorded.{IsRecorded};
 ghost use Rattle.fun_eval.specs.Injections.{Injects};
 ghost use Rattle.fun_eval.specs.EquationTrees.{AreEquationTrees};
+ghost use Rattle.fun_eval.specs.LastResorts.{has_last_resort, is_last_resort};
 
 use crate::answer::{Answer, EvalEnd};
 use crate::evaluation::evaluate;
 use crate::functions::symbol;
 use crate::recording::Recording;
 use match_tree::{Tree, equation_tree, rule_tree};
-use rule_core::{EvalRecord, Program, SymKind};
+use rule_core::{Equation, EvalRecord, Program, SymKind};
 use std::alloc::{AllocError, Global};
 use std::marker::Model;
 use term_core::{RulePat, Subst, SymId};
@@ -42,6 +45,8 @@ pub struct Engine<'p> {
     injection: Option<SymId>,
     // The matching trees of the functions' equations, by the numbers of their symbols.
     trees: Vec<Tree<'p>>,
+    // Whether a function has an equation of the last resort, by the number of its symbol.
+    last_resorts: Vec<bool>,
 }
 
 // An engine is dropped by one call, and not field by field at each end of each call that owns one.
@@ -51,6 +56,7 @@ impl Drop for Engine<'_> {
             program: _,
             injection: _,
             trees: _,
+            last_resorts: _,
         } = self;
     }
 }
@@ -81,10 +87,12 @@ impl<'p> Engine<'p> {
     {
         let injection = first_injection(program);
         let trees = equation_trees(alloc, program)?;
+        let last_resorts = last_resorts(alloc, program)?;
         Ok(Engine {
             program,
             injection,
             trees,
+            last_resorts,
         })
     }
 
@@ -114,6 +122,14 @@ impl<'p> Engine<'p> {
         &self.trees[sym.0 as usize]
     }
 
+    // Whether a function has an equation of the last resort.
+    pub(crate) fn has_last_resort(&self, sym: SymId) -> bool
+        requires { sym.0 < length (theory_of self.now).equations }
+        ensures { result ≡ has_last_resort (equations_of (theory_of self.now) sym.0) }
+    {
+        self.last_resorts[sym.0 as usize]
+    }
+
     // The symbol of a node that is an injection.
     pub(crate) fn injection(&self) -> Option<SymId>
         ensures { Injects (theory_of self.now).sig result }
@@ -129,7 +145,8 @@ impl<'p> Engine<'p> {
     ///
     /// It recurses no deeper than the nesting and the height of terms. The equations of a called
     /// function that match are found by walks over their matching tree. Memory is taken only for
-    /// those that match, and for what is evaluated.
+    /// those that match, for what is evaluated, and, if one of the function's equations is of the
+    /// last resort, for a record of those that are not used.
     pub fn eval(
         &self,
         alloc: Global,
@@ -195,6 +212,25 @@ fn equation_trees(alloc: Global, program: &Program) -> Result<Vec<Tree<'_>>, All
         trees.push(equation_tree(alloc, program, SymId(i as u32))?)?;
     }
     Ok(trees)
+}
+
+// Whether each function has an equation of the last resort. An error: out of memory.
+fn last_resorts(alloc: Global, program: &Program) -> Result<Vec<bool>, AllocError>
+    ensures { IfOk result
+        (λ found. found.items ≡ map has_last_resort (theory_of program.now).equations) }
+{
+    let mut found = Vec::with_capacity(alloc, program.equations.len())?;
+    for equations in &program.equations {
+        found.push(any_last_resort(equations))?;
+    }
+    Ok(found)
+}
+
+// Whether an equation is of the last resort.
+fn any_last_resort(equations: &[Equation]) -> bool
+    ensures { result ≡ list_any is_last_resort equations.now }
+{
+    equations.iter().any(|equation| equation.owise.is_some())
 }
 
 // The first injection symbol of a program.

@@ -1,38 +1,52 @@
 // Equations that match terms.
-ghost use Rattle.std.specs.Prelude.{◌≡◌, ◌<◌, ℕ, length, map, slice_get, Some, IfOk};
+ghost use Rattle.std.specs.Prelude.{◌≡◌, ◌<◌, ◌≤◌, ◌+◌, ℕ, length, map, slice_get, Some, IfOk};
+ghost use Rattle.std.specs.Prelude.{OnOk};
 ghost use Rattle.term_core.specs.Forests.{forest};
 ghost use Rattle.rule_core.specs.Theories.{equations_of};
 ghost use Rattle.rule_core.specs.ProgramView.{theory_of, function_equation};
 ghost use Rattle.match_tree.specs.Finding.{BeginsAt, GivesOn};
-ghost use Rattle.match_tree.specs.ProgramLaws.{IsFirstEquation, TellsOfEquations};
+ghost use Rattle.match_tree.specs.ProgramLaws.{IsFirstEquation, NoEquationMatches};
+ghost use Rattle.match_tree.specs.ProgramLaws.{TellsOfEquations};
 ghost use Rattle.match_tree.specs.Programs.{IsEquationTree};
 ghost use Rattle.match_tree.specs.SlotView.{RowMatches};
-ghost use Rattle.fun_eval.specs.Equations.{IsDefined, MatchesNumber};
+ghost use Rattle.fun_eval.specs.Equations.{FailsAt, IsDefined, MatchesNumber, RecordsMissed};
+ghost use Rattle.fun_eval.specs.Equations.{RecordsPassed};
 
 use crate::engine::Engine;
+use crate::recording::Recording;
 use crate::terms::{bind_row, find_row};
 use match_tree::{Hit, NodeNo, Tree, program_laws};
-use rule_core::{Equation, Program};
+use rule_core::{Equation, Program, with_names};
 use std::alloc::{AllocError, Global};
 use term_core::{Subst, SymId, Term};
 
-/// The result of trying an equation or a rewrite rule at terms.
+/// The result of trying an equation or a rewrite rule that matches terms, with the substitution
+/// that makes it match.
 #[derive(Drop)]
 pub enum Trial<R> {
-    /// It does not match the terms, or its condition fails.
-    Unused,
-    /// It is used, with the substitution that makes it match, and what is recorded of its
-    /// condition, if it has one.
+    /// Its condition is not true. This is recorded of the condition.
+    Failed(Subst, R),
+    /// It is used. This is recorded of its condition, if it has one.
     Used(Subst, Option<R>),
 }
 
-// The equation that is used: its number among the function's equations, its substitution and what
-// is recorded of its condition.
+// The equation that is used: its number among the function's equations, its substitution, what is
+// recorded of its condition, and what is recorded of the equations before it, if it is of the last
+// resort.
 #[derive(Drop)]
-pub(crate) struct Choice<R> {
+pub(crate) struct Choice<R, M> {
     pub(crate) number: u32,
     pub(crate) subst: Subst,
     pub(crate) cond: Option<R>,
+    pub(crate) missed: M,
+}
+
+// The equations of a function that were passed since they are not used, from the first one on: how
+// many, and what is recorded of them. This is nothing if no equation is of the last resort.
+#[derive(Drop)]
+pub(crate) struct Passed<M> {
+    pub(crate) count: usize,
+    pub(crate) missed: M,
 }
 
 // The equations of a function, in the order in which they are tried.
@@ -73,7 +87,8 @@ pub(crate) fn next_equation(
     find_row(tree, from, terms)
 }
 
-// The substitution that makes the arguments of an equation the terms, if a walk found its row.
+// The substitution that makes the arguments of an equation the terms, and binds the names of their
+// parts, if a walk found its row.
 pub(crate) fn match_equation(
     alloc: Global,
     engine: &Engine<'_>,
@@ -82,11 +97,65 @@ pub(crate) fn match_equation(
     row: u32,
     terms: &[Term],
 ) -> Result<Subst, AllocError>
+    requires fits { IsDefined (theory_of engine.now) sym.0 (forest terms.now) }
     requires first { (from : ℕ)
         × IsFirstEquation (theory_of engine.now) sym.0 tree.now terms.now from row }
     requires matches { RowMatches tree.now terms.now row }
     ensures { IfOk result (MatchesNumber (theory_of engine.now) sym.0 row (forest terms.now)) }
 {
-    let vars = equation_of(engine, sym, row).vars.len();
-    bind_row(alloc, tree, terms, row, vars)
+    // The program is well-sorted.
+    let _program = engine.program();
+    let equation = equation_of(engine, sym, row);
+    let subst = bind_row(alloc, tree, terms, row, equation.vars.len())?;
+    with_names(alloc, &equation.args, &equation.named, subst)
+}
+
+// Passes the equations up to this one, whose condition is not true. Those between do not match.
+pub(crate) fn pass<R: Recording>(
+    engine: &Engine<'_>,
+    sym: SymId,
+    passed: &mut Passed<R::Misses>,
+    row: u32,
+    subst: Subst,
+    cond: R,
+) -> Result<(), AllocError>
+    requires number { row < length (equations_of (theory_of engine.now) sym.0) }
+    requires later { passed.old.count ≤ row }
+    ensures recorded { OnOk result ((ts : _)
+        → RecordsPassed R.misses_tell (theory_of engine.now) sym.0 ts passed.old
+        → NoEquationMatches (theory_of engine.now) sym.0 passed.old.count row ts
+        → FailsAt (R.tells cond) (theory_of engine.now) sym.0 row ts subst
+        → RecordsPassed R.misses_tell (theory_of engine.now) sym.0 ts passed.new) }
+    ensures count { OnOk result (passed.new.count ≡ row + 1) }
+{
+    if engine.has_last_resort(sym) {
+        R::unmatched(&mut passed.missed, row as usize - passed.count)?;
+        R::failed(&mut passed.missed, subst, cond)?;
+    }
+    passed.count = row as usize + 1;
+    Ok(())
+}
+
+// What is recorded of the equations before this one, which is used: why they are not, if it is of
+// the last resort. Those that were not passed do not match.
+pub(crate) fn missed_before<R: Recording>(
+    alloc: Global,
+    engine: &Engine<'_>,
+    sym: SymId,
+    passed: Passed<R::Misses>,
+    row: u32,
+) -> Result<R::Misses, AllocError>
+    requires number { row < length (equations_of (theory_of engine.now) sym.0) }
+    requires later { passed.count ≤ row }
+    ensures { IfOk result (λ kept. (ts : _)
+        → RecordsPassed R.misses_tell (theory_of engine.now) sym.0 ts passed
+        → NoEquationMatches (theory_of engine.now) sym.0 passed.count row ts
+        → RecordsMissed (R.misses_tell kept) (theory_of engine.now) sym.0 row ts) }
+{
+    if equation_of(engine, sym, row).owise.is_none() {
+        return Ok(R::none_missed(alloc));
+    }
+    let Passed { count, mut missed } = passed;
+    R::unmatched(&mut missed, row as usize - count)?;
+    Ok(missed)
 }

@@ -21,7 +21,9 @@ ghost use Rattle.fun_eval.specs.Equations.{CallsByEquations, Chooses, IsDefined,
 
 use crate::answer::{Answer, Answers, EvalEnd};
 use crate::engine::Engine;
-use crate::equations::{Choice, Trial, equation_of, match_equation, next_equation};
+use crate::equations::{
+    Choice, Passed, Trial, equation_of, match_equation, missed_before, next_equation, pass,
+};
 use crate::functions::{call_hook, construct, inject, result_sort, symbol};
 use crate::recording::Recording;
 use crate::terms::is_true;
@@ -245,13 +247,14 @@ fn apply_equations<R: Recording>(
         number,
         subst,
         cond,
+        missed,
     } = chosen;
     // The program is well-sorted.
     let _program = engine.program();
     let right = &equation_of(engine, sym, number).right;
     let (body, rest) = evaluate_in::<R>(alloc, engine, sym, right, &subst, left, nest)?;
     let Answer { term, recorded } = body;
-    let recorded = R::by_equation(alloc, sym, records, number, subst, cond, recorded)?;
+    let recorded = R::by_equation(alloc, sym, records, number, subst, cond, recorded, missed)?;
     Ok((Answer { term, recorded }, rest))
 }
 
@@ -264,30 +267,36 @@ fn choose_equation<R: Recording>(
     terms: &[Term],
     calls: u32,
     nest: u32,
-) -> Result<(Option<Choice<R>>, u32), EvalEnd>
+) -> Result<(Option<Choice<R, R::Misses>>, u32), EvalEnd>
     requires fits { IsDefined (theory_of engine.now) sym.0 (forest terms.now) }
     requires nest { nest ≤ most_nesting }
-    ensures { Chooses R.tells (theory_of engine.now) nest sym.0 (forest terms.now) calls result }
+    ensures { Chooses R.tells R.misses_tell (theory_of engine.now) nest sym.0 (forest terms.now)
+        calls result }
 {
     // The program is well-sorted.
     let _program = engine.program();
     let tree = engine.equation_tree(sym);
+    let missed = R::none_missed(alloc);
+    let mut passed = Passed { count: 0, missed };
     let mut left = calls;
     let mut hit = next_equation(engine, sym, tree, tree.start(), terms);
     while let Hit::Row { row, resume } = hit {
         let (trial, rest) = try_equation(alloc, engine, sym, tree, row, terms, left, nest)?;
         match trial {
-            Trial::Unused => left = rest,
+            Trial::Failed(subst, cond) => pass(engine, sym, &mut passed, row, subst, cond)?,
             Trial::Used(subst, cond) => {
                 let number = row;
+                let missed = missed_before::<R>(alloc, engine, sym, passed, number)?;
                 let choice = Choice {
                     number,
                     subst,
                     cond,
+                    missed,
                 };
                 return Ok((Some(choice), rest));
             }
         }
+        left = rest;
         hit = next_equation(engine, sym, tree, resume, terms);
     }
     Ok((None, left))
@@ -323,7 +332,7 @@ fn try_equation<R: Recording>(
     if is_true(&answer.term) {
         Ok((Trial::Used(subst, Some(answer.recorded)), left))
     } else {
-        Ok((Trial::Unused, left))
+        Ok((Trial::Failed(subst, answer.recorded), left))
     }
 }
 

@@ -1,16 +1,18 @@
 // What is kept of an evaluation besides its value.
 ghost use Rattle.std.specs.Prelude.{◌≡◌, List, IfOk, OnOk, map, option_map};
 ghost use Rattle.rule_core.specs.Records.{Record, RecordList, OptionalRecord, no_record};
-ghost use Rattle.rule_core.specs.Records.{more_records};
+ghost use Rattle.rule_core.specs.Records.{more_records, MissList, none_missed, condition_false};
 ghost use Rattle.rule_core.specs.Records.{bound as bound_record, itself, made};
 ghost use Rattle.rule_core.specs.Records.{by_hook as hook_record};
 ghost use Rattle.rule_core.specs.Records.{by_equation as equation_record};
-ghost use Rattle.rule_core.specs.RecordView.{optional, plain_record, records};
+ghost use Rattle.rule_core.specs.RecordView.{misses, optional, plain_record, records};
 ghost use Rattle.rule_core.specs.declared.records.EvalRecord.{EvalRecord};
-ghost use Rattle.std.specs.Global.{Box};
-ghost use Rattle.fun_eval.specs.RecordLists.{at_end, TellsOption};
+ghost use Rattle.rule_core.specs.declared.records.Miss.{Miss};
+ghost use Rattle.std.specs.Global.{Box, Global};
+ghost use Rattle.fun_eval.specs.RecordLists.{at_end, last_missed, plain_missed, TellsOption};
+ghost use Rattle.fun_eval.specs.RecordLists.{with_unmatched};
 
-use rule_core::{EqRecord, EvalRecord};
+use rule_core::{EqRecord, EvalRecord, Miss};
 use std::alloc::{AllocError, Global};
 use term_core::{SortId, Subst, SymId, Term};
 
@@ -18,11 +20,17 @@ use term_core::{SortId, Subst, SymId, Term};
 /// parts for a node's arguments come before the node. `EvalRecord` keeps all parts, `Unrecorded`
 /// none. The error of each call is out of memory.
 pub trait Recording: Drop {
+    /// What is recorded of equations that are not used, in their order.
+    type Misses: Drop;
+
     // It tells this record, or nothing at all.
     ghost tells: { Self → Record → Type 0 };
 
     // They tell these records, in order, or nothing at all.
     ghost all_tell: { List Self → RecordList → Type 0 };
+
+    // They tell these misses, in order, or nothing at all.
+    ghost misses_tell: { Self.Misses → MissList → Type 0 };
 
     /// An empty list of records. It takes no memory.
     fn none(alloc: Global) -> Vec<Self>
@@ -33,6 +41,21 @@ pub trait Recording: Drop {
         ensures { OnOk result
             ((rs : RecordList) (r : Record) → all_tell others.old.items rs → tells one r
             → all_tell others.new.items (at_end rs r)) };
+
+    /// No misses. It takes no memory.
+    fn none_missed(alloc: Global) -> Self::Misses
+        ensures { misses_tell result none_missed };
+
+    /// So many more equations do not match.
+    fn unmatched(others: &mut Self::Misses, count: usize) -> Result<(), AllocError>
+        ensures { OnOk result ((missed : MissList) → misses_tell others.old missed
+            → misses_tell others.new (with_unmatched missed count)) };
+
+    /// One more equation matches with this substitution, and its condition is not true.
+    fn failed(others: &mut Self::Misses, subst: Subst, cond: Self) -> Result<(), AllocError>
+        ensures { OnOk result
+            ((missed : MissList) (r : Record) → misses_tell others.old missed → tells cond r
+            → misses_tell others.new (last_missed missed (condition_false subst r))) };
 
     /// The variable with this number stands for the term.
     fn bound(var: u32, term: &Term) -> Result<Self, AllocError>
@@ -72,11 +95,12 @@ pub trait Recording: Drop {
         subst: Subst,
         cond: Option<Self>,
         body: Self,
+        missed: Self::Misses,
     ) -> Result<Self, AllocError>
         ensures { IfOk result (λ made_now.
-            (rs : RecordList) (o : OptionalRecord) (r : Record) → all_tell args.items rs
-            → TellsOption tells cond o → tells body r
-            → tells made_now (equation_record rs equation subst o r)) };
+            (rs : RecordList) (o : OptionalRecord) (r : Record) (ms : MissList)
+            → all_tell args.items rs → TellsOption tells cond o → tells body r
+            → misses_tell missed ms → tells made_now (equation_record rs equation subst o r ms)) };
 }
 
 /// A recording that keeps nothing and takes no memory.
@@ -84,15 +108,35 @@ pub trait Recording: Drop {
 pub struct Unrecorded;
 
 impl Recording for Unrecorded {
+    type Misses = Unrecorded;
+
     ghost tells = { λ _ _. Unit {0} };
 
     ghost all_tell = { λ _ _. Unit {0} };
+
+    ghost misses_tell = { λ _ _. Unit {0} };
 
     fn none(alloc: Global) -> Vec<Unrecorded> {
         Vec::new(alloc)
     }
 
     fn push(_others: &mut Vec<Unrecorded>, _one: Unrecorded) -> Result<(), AllocError> {
+        Ok(())
+    }
+
+    fn none_missed(_alloc: Global) -> Unrecorded {
+        Unrecorded
+    }
+
+    fn unmatched(_others: &mut Unrecorded, _count: usize) -> Result<(), AllocError> {
+        Ok(())
+    }
+
+    fn failed(
+        _others: &mut Unrecorded,
+        _subst: Subst,
+        _cond: Unrecorded,
+    ) -> Result<(), AllocError> {
         Ok(())
     }
 
@@ -136,18 +180,24 @@ impl Recording for Unrecorded {
         _subst: Subst,
         cond: Option<Unrecorded>,
         body: Unrecorded,
+        _missed: Unrecorded,
     ) -> Result<Unrecorded, AllocError>
-        ensures { IfOk result (λ _. (rs : RecordList) (o : OptionalRecord) (r : Record) → Unit {0}
-            → TellsOption (λ (_ : _) (_ : Record). Unit {0}) cond o → Unit {0} → Unit {0}) }
+        ensures { IfOk result (λ _. (rs : RecordList) (o : OptionalRecord) (r : Record)
+            (ms : MissList) → Unit {0} → TellsOption (λ (_ : _) (_ : Record). Unit {0}) cond o
+            → Unit {0} → Unit {0} → Unit {0}) }
     {
         Ok(body)
     }
 }
 
 impl Recording for EvalRecord {
+    type Misses = Vec<Miss>;
+
     ghost tells = { λ one r. plain_record one ≡ r };
 
     ghost all_tell = { λ kept rs. records (map plain_record kept) ≡ rs };
+
+    ghost misses_tell = { λ kept missed. misses (map plain_missed kept.items) ≡ missed };
 
     fn none(alloc: Global) -> Vec<EvalRecord> {
         Vec::new(alloc)
@@ -155,6 +205,22 @@ impl Recording for EvalRecord {
 
     fn push(others: &mut Vec<EvalRecord>, one: EvalRecord) -> Result<(), AllocError> {
         others.push(one)?;
+        Ok(())
+    }
+
+    fn none_missed(alloc: Global) -> Vec<Miss> {
+        Vec::new(alloc)
+    }
+
+    fn unmatched(others: &mut Vec<Miss>, count: usize) -> Result<(), AllocError> {
+        for _ in 0..count {
+            others.push(Miss::NoMatch)?;
+        }
+        Ok(())
+    }
+
+    fn failed(others: &mut Vec<Miss>, subst: Subst, cond: EvalRecord) -> Result<(), AllocError> {
+        others.push(Miss::CondFalse(subst, cond))?;
         Ok(())
     }
 
@@ -200,23 +266,28 @@ impl Recording for EvalRecord {
         subst: Subst,
         cond: Option<EvalRecord>,
         body: EvalRecord,
+        missed: Vec<Miss>,
     ) -> Result<EvalRecord, AllocError>
-        ensures { IfOk result (λ made_now. (rs : RecordList) (o : OptionalRecord) (r : Record)
+        ensures { IfOk result (λ made_now.
+            (rs : RecordList) (o : OptionalRecord) (r : Record) (ms : MissList)
             → records (map plain_record args.items) ≡ rs
             → TellsOption (λ one k. plain_record one ≡ k) cond o
             → plain_record body ≡ r
-            → plain_record made_now ≡ equation_record rs equation subst o r) }
+            → misses (map plain_missed missed.items) ≡ ms
+            → plain_record made_now ≡ equation_record rs equation subst o r ms) }
     {
         let cond = boxed(alloc, cond)?;
         let body = Box::new(alloc, body)?;
-        Ok(EvalRecord::ByEquation(EqRecord {
+        let used = EqRecord {
             fun,
             args,
             equation,
             subst,
             cond,
             body,
-        }))
+            missed,
+        };
+        Ok(EvalRecord::ByEquation(Box::new(alloc, used)?))
     }
 }
 

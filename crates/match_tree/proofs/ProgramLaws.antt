@@ -22,6 +22,7 @@ use Rattle.rule_core.specs.MatchLaws.{AreTermsOf}
 use Rattle.rule_core.specs.MatchSteps.{all_matched}
 use Rattle.rule_core.specs.Trial.{NoRuleMatches}
 use Rattle.rule_core.specs.Evaluation.{Equates, unmatched}
+use Rattle.rule_core.proofs.NamedMatches.{none_matches_named}
 use Rattle.rule_core.specs.declared.signature.Signature.{Signature}
 use Rattle.rule_core.specs.declared.signature.SymInfo.{SymInfo}
 use Rattle.rule_core.specs.declared.signature.SortRef.{SortRef}
@@ -418,4 +419,5 @@ unmatched_equations_are_skipped theory f n from (suc count) calls ts r room none
     let Q : List Equation → Type 0 = λ xs. Equates theory n f xs ts calls r in
     let next : suc from ≡ from + 1 = omega arith in
     subst Q (sym (drop_at es from own.0 own.1 ∙ ap (λ (j : ℕ). own.0 ∷ drop j es) next))
-    (unmatched (none from own.0 (omega arith) (omega arith) own.1) rest)
+    (unmatched (λ theta m. none_matches_named theory.sig own.0.variables own.0.arguments own.0.names
+    ts theta (none from own.0 (omega arith) (omega arith) own.1) m) rest)

@@ -1,22 +1,22 @@
 -- Laws of the matching trees of a program. A walk finds the first rule, or the first equation, that
 -- matches; those before it do not match. They speak of the program's own patterns: joining their
--- nested injections changes no match.
+-- nested injections changes no match. Names of parts play no role here.
 use Rattle.std.specs.Prelude.{◌≡◌, ◌<◌, ◌≤◌, ◌+◌, ℕ, List, [], ◌∷◌, length, drop, Option, Some, All}
 use Rattle.std.specs.Prelude.{slice_get}
 use Rattle.term_core.specs.Terms as terms
 use Rattle.term_core.specs.Terms.{Forest, IsNormal, AreNormal}
 use Rattle.term_core.specs.Forests.{forest}
 use Rattle.term_core.specs.Instances.{patterns}
+use Rattle.term_core.specs.Patterns.{no_pattern, more_patterns}
 use Rattle.rule_core.specs.Rules.{RewriteRule, Equation}
 use Rattle.rule_core.specs.Theories.{RewriteTheory, equations_of}
 use Rattle.rule_core.specs.Sorting.{IsSymbol, IsTermOf}
 use Rattle.rule_core.specs.WellSorted.{IsWellSorted, IsRuleOf}
-use Rattle.rule_core.specs.Matching.{MatchAll}
+use Rattle.rule_core.specs.Matching.{MatchAll, NoneMatches}
 use Rattle.rule_core.specs.MatchSearch.{UseFirst, FindsMatch}
 use Rattle.rule_core.specs.MatchLaws.{AreTermsOf}
-use Rattle.rule_core.specs.FirstRule.{Matches}
 use Rattle.rule_core.specs.Trial.{NoRuleMatches}
-use Rattle.rule_core.specs.Evaluation.{Evaluated, Equates, IsUnmatchedBy}
+use Rattle.rule_core.specs.Evaluation.{Evaluated, Equates}
 use Rattle.rule_core.specs.declared.signature.SymInfo.{SymInfo}
 use Rattle.pat_matrix.specs.MatrixView.{rows_of, row_of, order_of}
 use Rattle.match_tree.specs.Walking.{AreWide}
@@ -47,6 +47,11 @@ WalkGoesOn =
     CanBegin t ts slots resume × (first_row slots resume ≡ row + 1) × Fits t ts slots
     × IsKeptRow slots row
 
+-- the substitution matches the left side of the rule with the term, without its names
+abbrev pub MatchesLeft : RewriteTheory → RewriteRule → terms.Tree → List (Option terms.Tree) → Type 0
+MatchesLeft theory rule u theta =
+    MatchAll theory.sig rule.variables (more_patterns rule.left no_pattern) (forest (u ∷ [])) theta
+
 -- The rule with the row's number is the first from a number on that matches the term. Its row uses
 -- only its own variables, and each substitution that is found for the row matches its left side.
 pub record IsFirstRule (theory : RewriteTheory) (t : Tree) (u : terms.Tree) (from row : ℕ) : Type 0
@@ -55,11 +60,11 @@ pub record IsFirstRule (theory : RewriteTheory) (t : Tree) (u : terms.Tree) (fro
     pub there : slice_get theory.rules row ≡ Some rule
     pub not_before : from ≤ row
     pub earlier : NoRuleMatches theory.sig theory.rules from row u
-    pub matches : (theta : List (Option terms.Tree)) × Matches theory rule u theta
+    pub matches : (theta : List (Option terms.Tree)) × MatchesLeft theory rule u theta
     pub scoped : UseFirst (length rule.variables) (patterns (row_of t.matrix row))
     pub found : (theta : List (Option terms.Tree))
         → FindsMatch (order_of t.matrix) (length rule.variables) (patterns (row_of t.matrix row))
-        (forest (u ∷ [])) (Some theta) → Matches theory rule u theta
+        (forest (u ∷ [])) (Some theta) → MatchesLeft theory rule u theta
 
 -- what a hit, or none, of a walk from the rule with a number on says of the rules
 abbrev pub TellsOfRules : RewriteTheory → Tree → terms.Tree → ℕ → Hit → Type 0
@@ -78,7 +83,7 @@ RuleWalkTells =
 abbrev pub NoEquationMatches : RewriteTheory → ℕ → ℕ → ℕ → Forest → Type 0
 NoEquationMatches theory f from to ts =
     (j : ℕ) (e : Equation) → from ≤ j → j < to → slice_get (equations_of theory f) j ≡ Some e →
-    IsUnmatchedBy theory e ts
+    NoneMatches theory.sig e.variables e.arguments ts
 
 -- the same as for rules
 pub record IsFirstEquation (theory : RewriteTheory) (f : ℕ) (t : Tree) (ts : List terms.Tree)

@@ -1,5 +1,5 @@
 -- How rules are tried one by one, and the result of a step.
-use Rattle.std.proofs.Common.{rules, ◌≡◌, ℕ, suc, zero, ◌+◌, ◌-◌, ◌<◌, ◌≤◌, ⊎_elim, inl, inr, List}
+use Rattle.std.proofs.Common.{◌≡◌, ℕ, suc, zero, ◌+◌, ◌-◌, ◌<◌, ◌≤◌, ⊎_elim, inr, List}
 use Rattle.std.proofs.Common.{[], ◌∷◌, length, drop, Option, Some, None, refl, sym, ◌∙◌, ap, subst}
 use Rattle.std.proofs.Common.{arith}
 use Rattle.std.specs.Prelude.{Err, slice_get, IfSome}
@@ -15,7 +15,7 @@ use Rattle.rule_core.specs.Evaluation.{value, blocked, ConditionOutcome, holds, 
 use Rattle.rule_core.specs.Evaluation.{IsTrueValue, says_true, says_other, says_nothing, Evaluates}
 use Rattle.rule_core.specs.FirstRule.{most_nesting, Matches, Meets, no_rule_condition}
 use Rattle.rule_core.specs.FirstRule.{rule_condition, applies, none_applies, trial_blocked, Tries}
-use Rattle.rule_core.specs.FirstRule.{no_rule_left, rule_unmatched, rule_condition_fails}
+use Rattle.rule_core.specs.FirstRule.{no_rule_left, rule_condition_fails}
 use Rattle.rule_core.specs.FirstRule.{rule_condition_blocked, condition_holds}
 use Rattle.rule_core.specs.FirstRule as first
 use Rattle.rule_core.specs.Records.{Record, OptionalRecord, unconditional, conditional}
@@ -32,7 +32,7 @@ use Rattle.fun_eval.specs.EvalEnds.{EndsBy}
 use Rattle.fun_eval.specs.Recorded.{IsRecorded}
 use Rattle.fun_eval.specs.declared.answer.EvalEnd.{EvalEnd}
 use Rattle.fun_eval.specs.declared.answer.EvalEnd.TheVariants.{Blocked, Memory}
-use Rattle.fun_eval.specs.declared.equations.Trial.TheVariants.{Unused}
+use Rattle.fun_eval.specs.declared.equations.Trial.TheVariants.{Failed}
 use Rattle.rewriter.specs.Configurations.{IsConfiguration}
 use Rattle.rewriter.specs.NextSteps.{TellsStep}
 use Rattle.rewriter.specs.Choosing.{IsTriable, IsRecordedCondition, RuleSays, TriesRule, IsChosen}
@@ -46,15 +46,16 @@ pub condition_evaluable : (theory : RewriteTheory) (rule : RewriteRule) (t : Tre
     → Matches theory rule t theta → height t ≤ 500 → rule.condition ≡ Some p
     → IsEvaluable theory theta p
 condition_evaluable theory rule t theta p fits match low is =
-    let has : IsCondition theory.sig rule.variables (more_patterns rule.left no_pattern) p =
+    let has : IsCondition theory.sig rule.variables (more_patterns rule.left no_pattern) rule.names
+    p =
     subst (λ o. IfSome o
-    (IsCondition theory.sig rule.variables (more_patterns rule.left no_pattern))) is
+    (IsCondition theory.sig rule.variables (more_patterns rule.left no_pattern) rule.names)) is
     fits.1.condition in (
       rule.variables,
       has.0,
       has.5,
-      serves_match theory.sig rule.variables (more_patterns rule.left no_pattern)
-          (more_trees t no_tree) theta p match (omega arith) has.6,
+      serves_match theory.sig rule.variables (more_patterns rule.left no_pattern) rule.names
+          (more_trees t no_tree) theta p fits.1.names match (omega arith) has.6,
     )
 
 pub no_test : (theory : RewriteTheory) (c : ℕ) (theta : List (Option Tree)) (p : Option Pattern)
@@ -131,18 +132,17 @@ failed_with theory theta p c d k test few =
     )
 
 pub is_unused : {R : Type 0} (tells : R → Record → Type 0) (theory : RewriteTheory)
-    (rule : RewriteRule) (t : Tree) (c left : ℕ) → c ≤ most_calls
-    → RuleSays tells theory rule t c Unused left → IsUnusedRule theory rule t
-is_unused tells theory rule t c left few (inl never) = inl never.0
-is_unused tells theory rule t c left few (inr failed) =
-    let more = failed_with theory failed.0 rule.condition c left most_calls failed.2 few in
-    inr (failed.0, more.0, failed.1, more.1)
+    (rule : RewriteRule) (t : Tree) (c left : ℕ) (theta : List (Option Tree)) (kept : R)
+    → c ≤ most_calls → RuleSays tells theory rule t c (Failed theta kept) left
+    → IsUnusedRule theory rule t
+is_unused tells theory rule t c left theta kept few says =
+    let more = failed_with theory theta rule.condition c left most_calls says.1 few in
+    inr (theta, more.0, says.0, more.1)
 
 pub trial_falls : {R : Type 0} (tells : R → Record → Type 0) (theory : RewriteTheory)
-    (rule : RewriteRule) (t : Tree) (c left : ℕ) → RuleSays tells theory rule t c Unused left
-    → left ≤ c
-trial_falls tells theory rule t c left (inl never) = omega (arith, never.1)
-trial_falls tells theory rule t c left (inr failed) = meets_fall failed.2
+    (rule : RewriteRule) (t : Tree) (c left : ℕ) (theta : List (Option Tree)) (kept : R)
+    → RuleSays tells theory rule t c (Failed theta kept) left → left ≤ c
+trial_falls tells theory rule t c left theta kept says = meets_fall says.1
 
 pub holds_fall : (theory : RewriteTheory) (theta : List (Option Tree)) (p : Option Pattern)
     (c left rest : ℕ) → Meets theory theta p left (holds rest) → left ≤ c → rest ≤ c
@@ -167,22 +167,14 @@ from_here (x ∷ rs) zero rule there = let same : x ≡ rule = cc in ap (λ y. y
 from_here (x ∷ rs) (suc i) rule there =
     let later : suc i + 1 ≡ suc (i + 1) = omega arith in rw later (from_here rs i rule there)
 
-passed : {R : Type 0} (tells : R → Record → Type 0) (theory : RewriteTheory) (t : Tree)
-    (i c left : ℕ) (rule : RewriteRule) (rs : List RewriteRule) (r : first.Trial)
-    → RuleSays tells theory rule t c Unused left → Tries theory t (i + 1) rs left r
-    → Tries theory t i (rule ∷ rs) c r
-passed tells theory t i c left rule rs r (inl never) rest =
-    rule_unmatched never.0 (subst (λ d. Tries theory t (i + 1) rs d r) never.1 rest)
-passed tells theory t i c left rule rs r (inr failed) rest =
-    rule_condition_fails failed.1 failed.2 rest
-
 pub tried-more : {R : Type 0} (tells : R → Record → Type 0) (theory : RewriteTheory) (t : Tree)
-    (c i left rest : ℕ) (rule : RewriteRule) → TriedUpTo theory t c i left
-    → slice_get theory.rules i ≡ Some rule → RuleSays tells theory rule t left Unused rest
+    (c i left rest : ℕ) (rule : RewriteRule) (theta : List (Option Tree)) (kept : R)
+    → TriedUpTo theory t c i left → slice_get theory.rules i ≡ Some rule
+    → RuleSays tells theory rule t left (Failed theta kept) rest
     → TriedUpTo theory t c (i + 1) rest
-tried-more tells theory t c i left rest rule tried there says = λ r others.
+tried-more tells theory t c i left rest rule theta kept tried there says = λ r others.
     tried r (subst (λ xs. Tries theory t i xs left r) (sym (from_here theory.rules i rule there))
-    (passed tells theory t i left rest rule (drop (i + 1) theory.rules) r says others))
+    (rule_condition_fails says.0 says.1 others))
 
 pub unused-more : (theory : RewriteTheory) (t : Tree) (i : ℕ) (rule : RewriteRule)
     → UnusedUpTo theory t i → slice_get theory.rules i ≡ Some rule → IsUnusedRule theory rule t
@@ -248,8 +240,8 @@ right_evaluable theory t c number left theta rule is picked there low =
       rule.variables,
       is.0,
       fits.right,
-      serves_match theory.sig rule.variables (more_patterns rule.left no_pattern)
-          (more_trees t no_tree) theta rule.right match (omega arith) fits.bound,
+      serves_match theory.sig rule.variables (more_patterns rule.left no_pattern) rule.names
+          (more_trees t no_tree) theta rule.right fits.names match (omega arith) fits.bound,
     )
 
 pub right_stops : {R : Type 0} (tells : R → Record → Type 0) (theory : RewriteTheory) (t : Tree)
@@ -295,8 +287,8 @@ step_made tells theory t u c number left rest theta cond rule recorded good is l
     all_at (IsRuleOf theory.sig is.0) theory.rules number rule is.1 there in
     let match = subst (λ (r : RewriteRule). Matches theory r t theta) (sym same) picked.matches in
     let serves =
-    serves_match theory.sig rule.variables (more_patterns rule.left no_pattern)
-    (more_trees t no_tree) theta rule.right match (omega arith) rule_fits.bound in
+    serves_match theory.sig rule.variables (more_patterns rule.left no_pattern) rule.names
+    (more_trees t no_tree) theta rule.right rule_fits.names match (omega arith) rule_fits.bound in
     let fine =
     values_are_sorted theory most_nesting left rest rule.variables theta rule.right is.0 u good
     rule_fits.right serves evaluated in (

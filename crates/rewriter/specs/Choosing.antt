@@ -1,5 +1,5 @@
 -- What the private functions that try rules return.
-use Rattle.std.specs.Prelude.{◌≡◌, ◌⊎◌, ◌<◌, ◌≤◌, ℕ, List, Option, Some, None, slice_get, Result}
+use Rattle.std.specs.Prelude.{◌≡◌, ◌<◌, ◌≤◌, ℕ, List, Option, Some, None, slice_get, Result}
 use Rattle.term_core.specs.Terms.{Tree}
 use Rattle.term_core.specs.Patterns.{Pattern}
 use Rattle.rule_core.specs.Rules.{RewriteRule}
@@ -7,14 +7,14 @@ use Rattle.rule_core.specs.Theories.{RewriteTheory}
 use Rattle.rule_core.specs.Sorting.{IsTermOf}
 use Rattle.rule_core.specs.WellSorted.{IsRuleOf}
 use Rattle.rule_core.specs.Evaluation.{holds, fails, untested}
-use Rattle.rule_core.specs.FirstRule.{Matches, IsUnmatched, Meets, applies, none_applies}
+use Rattle.rule_core.specs.FirstRule.{Matches, Meets, applies, none_applies}
 use Rattle.rule_core.specs.FirstRule.{trial_blocked, Tries}
 use Rattle.rule_core.specs.Records.{Record, OptionalRecord, RecordsCondition, IsUnusedRule}
 use Rattle.fun_eval.specs.Giving.{Comes}
 use Rattle.fun_eval.specs.RecordLists.{TellsOption}
 use Rattle.fun_eval.specs.declared.answer.EvalEnd.{EvalEnd}
 use Rattle.fun_eval.specs.declared.equations.Trial.{Trial}
-use Rattle.fun_eval.specs.declared.equations.Trial.TheVariants.{Unused, Used}
+use Rattle.fun_eval.specs.declared.equations.Trial.TheVariants.{Failed, Used}
 use Rattle.rewriter.specs.declared.rules.Choice.{Choice}
 
 -- a rule, and a term of its sort
@@ -27,13 +27,11 @@ abbrev pub IsRecordedCondition : {R : Type 0} → (R → Record → Type 0) → 
 IsRecordedCondition tells theory theta p kept =
     (o : OptionalRecord) × TellsOption tells kept o × RecordsCondition theory theta p o
 
--- a rule is not used, or it matches and its condition holds
+-- a rule matches, and its condition does not hold, or holds
 abbrev pub RuleSays : {R : Type 0} → (R → Record → Type 0) → RewriteTheory → RewriteRule → Tree → ℕ
     → Trial R → ℕ → Type 0
-RuleSays tells theory rule t c Unused left =
-    (IsUnmatched theory rule t × (left ≡ c))
-    ⊎ ((theta : List (Option Tree)) × Matches theory rule t theta
-    × Meets theory theta rule.condition c (fails left))
+RuleSays tells theory rule t c (Failed theta kept) left =
+    Matches theory rule t theta × Meets theory theta rule.condition c (fails left)
 RuleSays tells theory rule t c (Used theta kept) left =
     Matches theory rule t theta × Meets theory theta rule.condition c (holds left)
     × IsRecordedCondition tells theory theta rule.condition kept

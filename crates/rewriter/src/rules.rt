@@ -15,7 +15,7 @@ ghost use Rattle.rewriter.specs.Keeping.{KeepsChoice};
 
 use fun_eval::{Budget, Engine, EvalEnd, MAX_NESTING, Recording, Trial, is_true};
 use match_tree::{Hit, NodeNo, Slots, Tree, program_laws};
-use rule_core::Rule;
+use rule_core::{Rule, with_names};
 use std::alloc::{AllocError, Global};
 use std::marker::Brand;
 use std::slice::from_ref;
@@ -90,14 +90,17 @@ fn first_used<R: Recording, L: Ledger>(
     ensures kept { IfOk result (λ r. KeepsChoice tree.now term.now slots.new r.0) }
     ensures room { HasRoom tree.now slots.new }
 {
+    // The height of the term is at most the greatest height.
+    let _high = term.height();
     let mut left = calls;
     let mut from = tree.start();
     while let Hit::Row { row, resume } = next_match(engine, tree, from, slots, term, steps) {
         let rule = rule_of(engine, row);
         let subst = bindings(alloc, tree, slots, term, row, rule.vars.len(), steps)?;
+        let subst = with_names(alloc, from_ref(&rule.left), &rule.named, subst)?;
         let (trial, rest) = try_rule(alloc, engine, rule, subst, term, left)?;
         match trial {
-            Trial::Unused => {
+            Trial::Failed(_, _) => {
                 left = rest;
                 from = resume;
             }
@@ -148,7 +151,7 @@ fn next_match<L: Ledger>(
     tree.walk(from, from_ref(term), slots, steps)
 }
 
-// The substitution by which the kept row matches the term.
+// The substitution by which the kept row matches the term. It binds no names of parts.
 fn bindings<L: Ledger>(
     alloc: Global,
     tree: &Tree<'_>,
@@ -191,6 +194,6 @@ fn try_rule<R: Recording>(
     if is_true(&answer.term) {
         Ok((Trial::Used(subst, Some(answer.recorded)), budget.calls))
     } else {
-        Ok((Trial::Unused, budget.calls))
+        Ok((Trial::Failed(subst, answer.recorded), budget.calls))
     }
 }

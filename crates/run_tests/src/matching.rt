@@ -55,6 +55,7 @@ fn number_rule(alloc: Global, at: u32, left: i128, right: i128) -> Rule
     Rule {
         at,
         left: RulePat::Value(INT, Value::Int(left)),
+        named: Vec::new(alloc),
         cond: None,
         right: RulePat::Value(INT, Value::Int(right)),
         vars: Vec::new(alloc),
@@ -102,6 +103,7 @@ fn same_pair_rule(alloc: Global) -> Result<Rule, AllocError>
     Ok(Rule {
         at: 0,
         left: RulePat::Ctor(PAIR, vec![in alloc; first, second]?),
+        named: Vec::new(alloc),
         cond: None,
         right: RulePat::Var(0),
         vars: vec![in alloc; variable]?,
@@ -157,6 +159,7 @@ fn injection_rule(alloc: Global) -> Result<Rule, AllocError>
     Ok(Rule {
         at: 0,
         left: RulePat::Inj(EXP, KITEM, Box::new(alloc, RulePat::Var(0))?),
+        named: Vec::new(alloc),
         cond: None,
         right: RulePat::Var(0),
         vars: vec![in alloc; variable]?,

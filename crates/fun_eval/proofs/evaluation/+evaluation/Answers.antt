@@ -1,5 +1,5 @@
 use Rattle.std.proofs.Common.{◌≡◌, ◌-◌, ◌+◌, ◌∷◌, ◌++◌, [], suc, List, take, Some}
-use Rattle.std.proofs.Common.{None, refl, sym, ◌∙◌, ap, subst, inr, arith}
+use Rattle.std.proofs.Common.{None, sym, ◌∙◌, ap, subst, arith}
 use Rattle.std.specs.Prelude.{option_map}
 use Rattle.std.proofs.lemmas.Bool.{false≢true}
 use Rattle.std.proofs.lemmas.Result.{err_from_is_err_and}
@@ -12,7 +12,7 @@ use Rattle.term_core.specs.PatternLists.{plain_patterns}
 use Rattle.term_core.specs.declared.rule_patterns.RulePat.{RulePat}
 use Rattle.term_core.proofs.PlainPatterns.{plain-Var, plain-Value, plain-Ctor, plain-Call}
 use Rattle.rule_core.specs.ProgramView.{theory_of, function_equation}
-use Rattle.rule_core.specs.Evaluation.{Evaluates, value, blocked, too_nested, nested_out}
+use Rattle.rule_core.specs.Evaluation.{Evaluates, blocked, too_nested, nested_out}
 use Rattle.rule_core.specs.Evaluation.{of_constructor, of_injection, of_call, HasOutcome}
 use Rattle.rule_core.specs.Evaluation.{by_nothing, without_call, no_call_left, EvaluatesIn}
 use Rattle.rule_core.specs.Evaluation.{no_nesting}
@@ -34,8 +34,9 @@ use Rattle.fun_eval.proofs.Calls.{no_test, test_holds, test_fails, test_stops}
 use Rattle.fun_eval.proofs.Calls.{right_stops, right_gives, chosen_within}
 use Rattle.fun_eval.proofs.Calls.{has_list}
 use Rattle.fun_eval.proofs.Matches.{found_within, own_match}
-use Rattle.fun_eval.proofs.Walks.{at_row, begins_trying, equations_nearer, none_is_used}
-use Rattle.fun_eval.proofs.Walks.{row_chosen, row_passed, row_stops, start_begins}
+use Rattle.fun_eval.proofs.Walks.{IsTrying, at_row, begins_trying, equations_nearer, none_is_used}
+use Rattle.fun_eval.proofs.Walks.{nothing_passed, row_chosen, row_fails, row_passed, row_stops}
+use Rattle.fun_eval.proofs.Walks.{start_begins}
 use Rattle.fun_eval.proofs.evaluation.+evaluation.Goals as goal
 
 -- ---- evaluate
@@ -53,11 +54,14 @@ evaluate-evaluate_ctor-requires g t c κs within =
     subst (IsEvaluable (theory_of c.args.engine.now) c.args.subst.now) is c.requires.fits in (
       omega arith,
       (
-        within,
+        within.0,
         (
-          arguments_of-application (theory_of c.args.engine.now) c.args.subst.now
-              c.in-Ctor.sym.0 (plain_patterns c.deref.result.now) fits,
-          c.requires.nest,
+          within.1,
+          (
+            arguments_of-application (theory_of c.args.engine.now) c.args.subst.now
+                c.in-Ctor.sym.0 (plain_patterns c.deref.result.now) fits,
+            c.requires.nest,
+          ),
         ),
       ),
     )
@@ -75,7 +79,7 @@ evaluate-evaluate_call-requires g t c κs within =
     (call c.in-Call.sym.0 (sort_numbers c.in-Call.field-1.items)
     (plain_patterns c.deref-in-Call.result.now)) =
     subst (IsEvaluable (theory_of c.args.engine.now) c.args.subst.now) is c.requires.fits in
-    (omega arith, (within, ((sort_numbers c.in-Call.field-1.items, fits), c.requires.nest)))
+    (omega arith, (within.0, (within.1, ((sort_numbers c.in-Call.field-1.items, fits), c.requires.nest))))
 
 pub evaluate-returns-in-Var : goal.evaluate-returns-in-Var
 evaluate-returns-in-Var g t c =
@@ -170,11 +174,14 @@ pub evaluate_call-evaluate_all-requires : goal.evaluate_call-evaluate_all-requir
 evaluate_call-evaluate_all-requires g t c κs within = (
   omega arith,
   (
-    within,
+    within.0,
     (
-      arguments_of-call (theory_of c.args.engine.now) c.args.subst.now
-          c.args.sym.0 c.requires.fits.0 (plain_patterns c.args.args.now) c.requires.fits.1,
-      omega arith,
+      within.1,
+      (
+        arguments_of-call (theory_of c.args.engine.now) c.args.subst.now
+            c.args.sym.0 c.requires.fits.0 (plain_patterns c.args.args.now) c.requires.fits.1,
+        omega arith,
+      ),
     ),
   ),
 )
@@ -193,7 +200,7 @@ evaluate_call-apply-requires g t c κs within =
       fits = c.requires.fits.1;
       evaluated = c.in_ok-args.ensures.0;
     } in
-    (omega arith, (within, (are, omega arith)))
+    (omega arith, (within.0, (within.1, (are, omega arith))))
 
 pub evaluate_call-returns : goal.evaluate_call-returns
 evaluate_call-returns g t c =
@@ -218,12 +225,15 @@ pub evaluate_all-evaluate-requires : goal.evaluate_all-evaluate-requires
 evaluate_all-evaluate-requires g t c κs within = (
   omega arith,
   (
-    within,
+    within.0,
     (
-      item_evaluable (theory_of c.args.engine.now) c.args.subst.now
-          c.args.pats.now c.loop-pat.pat-index c.pat-item.result c.pat-item.is
-          c.loop-pat-test.true c.requires.fits,
-      c.requires.nest,
+      within.1,
+      (
+        item_evaluable (theory_of c.args.engine.now) c.args.subst.now
+            c.args.pats.now c.loop-pat.pat-index c.pat-item.result c.pat-item.is
+            c.loop-pat-test.true c.requires.fits,
+        c.requires.nest,
+      ),
     ),
   ),
 )
@@ -347,12 +357,15 @@ apply-apply_equations-requires g t c κs within =
     (forest c.args.args.terms.items) c.program.ensures.sorted c.requires.fits in (
       omega arith,
       (
-        within,
+        within.0,
         (
-          defined (theory_of c.args.engine.now) c.args.sym.0
-              (forest c.args.args.terms.items) c.program.ensures.sorted may c.symbol-info.result.now
-              there c.in-Equations.is,
-          c.requires.nest,
+          within.1,
+          (
+            defined (theory_of c.args.engine.now) c.args.sym.0
+                (forest c.args.args.terms.items) c.program.ensures.sorted may c.symbol-info.result.now
+                there c.in-Equations.is,
+            c.requires.nest,
+          ),
         ),
       ),
     )
@@ -384,14 +397,18 @@ pub apply_equations-equation_of-requires : goal.apply_equations-equation_of-requ
 apply_equations-equation_of-requires g t c =
     let values_same : forest c.deref.result.now ≡ forest c.args.args.terms.items =
     ap forest c.deref.ensures.value in
-    let here : ChoiceSays g.R.Recording.tells (theory_of c.args.engine.now) c.args.nest c.args.sym.0
+    let here : ChoiceSays g.R.Recording.tells g.R.Recording.misses_tell
+    (theory_of c.args.engine.now) c.args.nest c.args.sym.0
     (forest c.deref.result.now) c.args.calls (Some c.in-Some.chosen) c.in_ok-chosen.left =
-    subst (λ o. ChoiceSays g.R.Recording.tells (theory_of c.args.engine.now) c.args.nest
+    subst (λ o. ChoiceSays g.R.Recording.tells g.R.Recording.misses_tell
+    (theory_of c.args.engine.now) c.args.nest
     c.args.sym.0 (forest c.deref.result.now) c.args.calls o c.in_ok-chosen.left)
     c.in-Some.is c.in_ok-chosen.ensures in
-    let says : ChoiceSays g.R.Recording.tells (theory_of c.args.engine.now) c.args.nest c.args.sym.0
+    let says : ChoiceSays g.R.Recording.tells g.R.Recording.misses_tell
+    (theory_of c.args.engine.now) c.args.nest c.args.sym.0
     (forest c.args.args.terms.items) c.args.calls (Some c.in-Some.chosen) c.in_ok-chosen.left =
-    subst (λ ts. ChoiceSays g.R.Recording.tells (theory_of c.args.engine.now) c.args.nest
+    subst (λ ts. ChoiceSays g.R.Recording.tells g.R.Recording.misses_tell
+    (theory_of c.args.engine.now) c.args.nest
     c.args.sym.0 ts c.args.calls (Some c.in-Some.chosen) c.in_ok-chosen.left) values_same
     here in
     chosen_within (theory_of c.args.engine.now) c.args.nest c.args.sym.0
@@ -402,26 +419,33 @@ pub apply_equations-evaluate_in-requires : goal.apply_equations-evaluate_in-requ
 apply_equations-evaluate_in-requires g t c κs within =
     let values_same : forest c.deref.result.now ≡ forest c.args.args.terms.items =
     ap forest c.deref.ensures.value in
-    let here : ChoiceSays g.R.Recording.tells (theory_of c.args.engine.now) c.args.nest c.args.sym.0
+    let here : ChoiceSays g.R.Recording.tells g.R.Recording.misses_tell
+    (theory_of c.args.engine.now) c.args.nest c.args.sym.0
     (forest c.deref.result.now) c.args.calls (Some c.in-Some.chosen) c.in_ok-chosen.left =
-    subst (λ o. ChoiceSays g.R.Recording.tells (theory_of c.args.engine.now) c.args.nest
+    subst (λ o. ChoiceSays g.R.Recording.tells g.R.Recording.misses_tell
+    (theory_of c.args.engine.now) c.args.nest
     c.args.sym.0 (forest c.deref.result.now) c.args.calls o c.in_ok-chosen.left)
     c.in-Some.is c.in_ok-chosen.ensures in
-    let says : ChoiceSays g.R.Recording.tells (theory_of c.args.engine.now) c.args.nest c.args.sym.0
+    let says : ChoiceSays g.R.Recording.tells g.R.Recording.misses_tell
+    (theory_of c.args.engine.now) c.args.nest c.args.sym.0
     (forest c.args.args.terms.items) c.args.calls (Some c.in-Some.chosen) c.in_ok-chosen.left =
-    subst (λ ts. ChoiceSays g.R.Recording.tells (theory_of c.args.engine.now) c.args.nest
+    subst (λ ts. ChoiceSays g.R.Recording.tells g.R.Recording.misses_tell
+    (theory_of c.args.engine.now) c.args.nest
     c.args.sym.0 ts c.args.calls (Some c.in-Some.chosen) c.in_ok-chosen.left) values_same
     here in (
       omega arith,
       (
-        within,
+        within.0,
         (
-          right_evaluable (theory_of c.args.engine.now) c.args.nest c.args.sym.0
-              (forest c.args.args.terms.items) c.args.calls c.in-Some.chosen.number
-              c.in_ok-chosen.left c.in-Some.chosen.subst
-              (function_equation c.equation_of.result.now) c.program-program.ensures.sorted
-              c.requires.fits says.0 c.equation_of.ensures,
-          c.requires.nest,
+          within.1,
+          (
+            right_evaluable (theory_of c.args.engine.now) c.args.nest c.args.sym.0
+                (forest c.args.args.terms.items) c.args.calls c.in-Some.chosen.number
+                c.in_ok-chosen.left c.in-Some.chosen.subst
+                (function_equation c.equation_of.result.now) c.program-program.ensures.sorted
+                c.requires.fits says.0 c.equation_of.ensures,
+            c.requires.nest,
+          ),
         ),
       ),
     )
@@ -430,35 +454,44 @@ pub apply_equations-returns : goal.apply_equations-returns
 apply_equations-returns g t c =
     let values_same : forest c.deref.result.now ≡ forest c.args.args.terms.items =
     ap forest c.deref.ensures.value in
-    let here : ChoiceSays g.R.Recording.tells (theory_of c.args.engine.now) c.args.nest c.args.sym.0
+    let here : ChoiceSays g.R.Recording.tells g.R.Recording.misses_tell
+    (theory_of c.args.engine.now) c.args.nest c.args.sym.0
     (forest c.deref.result.now) c.args.calls (Some c.in-Some.chosen) c.in_ok-chosen.left =
-    subst (λ o. ChoiceSays g.R.Recording.tells (theory_of c.args.engine.now) c.args.nest
+    subst (λ o. ChoiceSays g.R.Recording.tells g.R.Recording.misses_tell
+    (theory_of c.args.engine.now) c.args.nest
     c.args.sym.0 (forest c.deref.result.now) c.args.calls o c.in_ok-chosen.left)
     c.in-Some.is c.in_ok-chosen.ensures in
-    let says : ChoiceSays g.R.Recording.tells (theory_of c.args.engine.now) c.args.nest c.args.sym.0
+    let says : ChoiceSays g.R.Recording.tells g.R.Recording.misses_tell
+    (theory_of c.args.engine.now) c.args.nest c.args.sym.0
     (forest c.args.args.terms.items) c.args.calls (Some c.in-Some.chosen) c.in_ok-chosen.left =
-    subst (λ ts. ChoiceSays g.R.Recording.tells (theory_of c.args.engine.now) c.args.nest
+    subst (λ ts. ChoiceSays g.R.Recording.tells g.R.Recording.misses_tell
+    (theory_of c.args.engine.now) c.args.nest
     c.args.sym.0 ts c.args.calls (Some c.in-Some.chosen) c.in_ok-chosen.left) values_same
     here in
-    right_gives g.R.Recording.tells g.R.Recording.all_tell (theory_of c.args.engine.now) c.args.nest
+    right_gives g.R.Recording.tells g.R.Recording.all_tell
+    (g.R.Recording.misses_tell c.in-Some.chosen.missed) (theory_of c.args.engine.now) c.args.nest
     c.args.sym.0 c.args.args c.args.calls c.in-Some.chosen.number c.in_ok-chosen.left
     c.in_ok-body.rest c.in-Some.chosen.subst c.in-Some.chosen.cond
     (function_equation c.equation_of.result.now) c.in_ok-body.body
-    c.in_ok-recorded.recorded c.requires.fits says.0 says.1 c.equation_of.ensures
+    c.in_ok-recorded.recorded c.requires.fits says.0 says.1 says.2 c.equation_of.ensures
     c.in_ok-body.ensures.0 c.in_ok-body.ensures.1 c.in_ok-recorded.ensures
 
 pub apply_equations-returns-in_err-body : goal.apply_equations-returns-in_err-body
 apply_equations-returns-in_err-body g t c =
     let values_same : forest c.deref.result.now ≡ forest c.args.args.terms.items =
     ap forest c.deref.ensures.value in
-    let here : ChoiceSays g.R.Recording.tells (theory_of c.args.engine.now) c.args.nest c.args.sym.0
+    let here : ChoiceSays g.R.Recording.tells g.R.Recording.misses_tell
+    (theory_of c.args.engine.now) c.args.nest c.args.sym.0
     (forest c.deref.result.now) c.args.calls (Some c.in-Some.chosen) c.in_ok-chosen.left =
-    subst (λ o. ChoiceSays g.R.Recording.tells (theory_of c.args.engine.now) c.args.nest
+    subst (λ o. ChoiceSays g.R.Recording.tells g.R.Recording.misses_tell
+    (theory_of c.args.engine.now) c.args.nest
     c.args.sym.0 (forest c.deref.result.now) c.args.calls o c.in_ok-chosen.left)
     c.in-Some.is c.in_ok-chosen.ensures in
-    let says : ChoiceSays g.R.Recording.tells (theory_of c.args.engine.now) c.args.nest c.args.sym.0
+    let says : ChoiceSays g.R.Recording.tells g.R.Recording.misses_tell
+    (theory_of c.args.engine.now) c.args.nest c.args.sym.0
     (forest c.args.args.terms.items) c.args.calls (Some c.in-Some.chosen) c.in_ok-chosen.left =
-    subst (λ ts. ChoiceSays g.R.Recording.tells (theory_of c.args.engine.now) c.args.nest
+    subst (λ ts. ChoiceSays g.R.Recording.tells g.R.Recording.misses_tell
+    (theory_of c.args.engine.now) c.args.nest
     c.args.sym.0 ts c.args.calls (Some c.in-Some.chosen) c.in_ok-chosen.left) values_same
     here in
     let p = err_from_is_err_and c.from_residual-in_err-body.result
@@ -494,80 +527,137 @@ choose_equation-loop-hit-init g t c = record {
       (start_begins c.equation_tree-tree.result.now c.args.terms.now c.start.result
       c.start.ensures))
       c.next_equation-hit.ensures.on;
+  passed =
+      nothing_passed g.R.Recording.misses_tell (theory_of c.args.engine.now) c.args.sym.0
+      (forest c.args.terms.now) c.none_missed-missed.result c.none_missed-missed.ensures;
 }
 
 pub choose_equation-try_equation-requires : goal.choose_equation-try_equation-requires
 choose_equation-try_equation-requires g t c κs within =
     let at = at_row (theory_of c.args.engine.now) c.args.nest c.args.sym.0
-    c.equation_tree-tree.result.now
-    c.args.terms.now c.args.calls c.loop-hit.left c.in-Row.row c.in-Row.resume c.loop-hit.hit
+    c.equation_tree-tree.result.now c.args.terms.now c.loop-hit.passed.count c.args.calls
+    c.loop-hit.left c.in-Row.row c.in-Row.resume c.loop-hit.hit
     c.loop-hit.invariant.trying c.in-Row.is in (
       omega arith,
       (
-        within,
+        within.0,
         (
-          c.requires.fits,
-          ((at.trying.first, at.trying.tells), (at.trying.on.0, c.requires.nest)),
+          within.1,
+          (
+            c.requires.fits,
+            ((c.loop-hit.passed.count, at.trying.tells), (at.trying.on.0, c.requires.nest)),
+          ),
         ),
       ),
     )
 
+pub choose_equation-pass-requires-clause-number : goal.choose_equation-pass-requires-clause-number
+choose_equation-pass-requires-clause-number g t c =
+    let at = at_row (theory_of c.args.engine.now) c.args.nest c.args.sym.0
+    c.equation_tree-tree.result.now c.args.terms.now c.loop-hit.passed.count c.args.calls
+    c.loop-hit.left c.in-Row.row c.in-Row.resume c.loop-hit.hit
+    c.loop-hit.invariant.trying c.in-Row.is in
+    found_within (theory_of c.args.engine.now) c.args.sym.0 c.equation_tree-tree.result.now
+    c.args.terms.now c.loop-hit.passed.count c.in-Row.row at.trying.tells
+
+pub choose_equation-pass-requires-clause-later : goal.choose_equation-pass-requires-clause-later
+choose_equation-pass-requires-clause-later g t c =
+    let at = at_row (theory_of c.args.engine.now) c.args.nest c.args.sym.0
+    c.equation_tree-tree.result.now c.args.terms.now c.loop-hit.passed.count c.args.calls
+    c.loop-hit.left c.in-Row.row c.in-Row.resume c.loop-hit.hit
+    c.loop-hit.invariant.trying c.in-Row.is in
+    at.trying.tells.not_before
+
+pub choose_equation-missed_before-requires-clause-number :
+    goal.choose_equation-missed_before-requires-clause-number
+choose_equation-missed_before-requires-clause-number g t c =
+    let at = at_row (theory_of c.args.engine.now) c.args.nest c.args.sym.0
+    c.equation_tree-tree.result.now c.args.terms.now c.loop-hit.passed.count c.args.calls
+    c.loop-hit.left c.in-Row.row c.in-Row.resume c.loop-hit.hit
+    c.loop-hit.invariant.trying c.in-Row.is in
+    found_within (theory_of c.args.engine.now) c.args.sym.0 c.equation_tree-tree.result.now
+    c.args.terms.now c.loop-hit.passed.count c.in-Row.row at.trying.tells
+
+pub choose_equation-missed_before-requires-clause-later :
+    goal.choose_equation-missed_before-requires-clause-later
+choose_equation-missed_before-requires-clause-later g t c =
+    let at = at_row (theory_of c.args.engine.now) c.args.nest c.args.sym.0
+    c.equation_tree-tree.result.now c.args.terms.now c.loop-hit.passed.count c.args.calls
+    c.loop-hit.left c.in-Row.row c.in-Row.resume c.loop-hit.hit
+    c.loop-hit.invariant.trying c.in-Row.is in
+    at.trying.tells.not_before
+
 pub choose_equation-returns-in-Used : goal.choose_equation-returns-in-Used
 choose_equation-returns-in-Used g t c =
     let at = at_row (theory_of c.args.engine.now) c.args.nest c.args.sym.0
-    c.equation_tree-tree.result.now
-    c.args.terms.now c.args.calls c.loop-hit.left c.in-Row.row c.in-Row.resume c.loop-hit.hit
+    c.equation_tree-tree.result.now c.args.terms.now c.loop-hit.passed.count c.args.calls
+    c.loop-hit.left c.in-Row.row c.in-Row.resume c.loop-hit.hit
     c.loop-hit.invariant.trying c.in-Row.is in
-    row_chosen g.R.Recording.tells (theory_of c.args.engine.now) c.args.nest c.args.sym.0
-    c.equation_tree-tree.result.now c.args.terms.now c.args.calls c.loop-hit.left c.in_ok-trial.rest
-    c.in-Row.row c.in-Row.resume c.in-Used.subst c.in-Used.cond _ c.in_ok-trial.trial at
-    c.in_ok-trial.ensures c.in-Used.is refl
+    row_chosen g.R.Recording.tells g.R.Recording.misses_tell (theory_of c.args.engine.now)
+    c.args.nest c.args.sym.0 c.equation_tree-tree.result.now c.args.terms.now
+    c.loop-hit.passed.count c.args.calls c.loop-hit.left c.in_ok-trial.rest c.in-Row.row
+    c.in-Row.resume c.in-Used.subst c.in-Used.cond c.in_ok-missed-in-Used.missed c.in_ok-trial.trial at
+    c.in_ok-trial.ensures c.in-Used.is
+    (c.in_ok-missed-in-Used.ensures (forest c.args.terms.now) c.loop-hit.invariant.passed
+    at.trying.tells.earlier)
 
 pub choose_equation-returns-in_err-trial : goal.choose_equation-returns-in_err-trial
 choose_equation-returns-in_err-trial g t c =
     let at = at_row (theory_of c.args.engine.now) c.args.nest c.args.sym.0
-    c.equation_tree-tree.result.now
-    c.args.terms.now c.args.calls c.loop-hit.left c.in-Row.row c.in-Row.resume c.loop-hit.hit
+    c.equation_tree-tree.result.now c.args.terms.now c.loop-hit.passed.count c.args.calls
+    c.loop-hit.left c.in-Row.row c.in-Row.resume c.loop-hit.hit
     c.loop-hit.invariant.trying c.in-Row.is in
     let p = err_from_is_err_and c.from_residual.result c.from_residual.ensures.1 in
-    rw (p.1, p.2) (row_stops g.R.Recording.tells (theory_of c.args.engine.now) c.args.nest
-    c.args.sym.0
-    c.equation_tree-tree.result.now c.args.terms.now c.args.calls c.loop-hit.left
+    rw (p.1, p.2) (row_stops g.R.Recording.tells g.R.Recording.misses_tell (theory_of
+    c.args.engine.now) c.args.nest c.args.sym.0
+    c.equation_tree-tree.result.now c.args.terms.now c.loop-hit.passed.count c.args.calls
+    c.loop-hit.left
     c.in-Row.row c.in-Row.resume c.in_err-trial.field-0.0 at c.in_err-trial.ensures)
 
 pub choose_equation-next_equation-hit-requires-in-Row-clause-begins :
     goal.choose_equation-next_equation-hit-requires-in-Row-clause-begins
 choose_equation-next_equation-hit-requires-in-Row-clause-begins g t c =
     let at = at_row (theory_of c.args.engine.now) c.args.nest c.args.sym.0
-    c.equation_tree-tree.result.now
-    c.args.terms.now c.args.calls c.loop-hit.left c.in-Row.row c.in-Row.resume c.loop-hit.hit
+    c.equation_tree-tree.result.now c.args.terms.now c.loop-hit.passed.count c.args.calls
+    c.loop-hit.left c.in-Row.row c.in-Row.resume c.loop-hit.hit
     c.loop-hit.invariant.trying c.in-Row.is in
     (c.in-Row.row + 1, at.trying.on.1)
 
 pub choose_equation-loop-hit-preserved : goal.choose_equation-loop-hit-preserved
 choose_equation-loop-hit-preserved g t c =
     let at = at_row (theory_of c.args.engine.now) c.args.nest c.args.sym.0
-    c.equation_tree-tree.result.now
-    c.args.terms.now c.args.calls c.loop-hit.left c.in-Row.row c.in-Row.resume c.loop-hit.hit
+    c.equation_tree-tree.result.now c.args.terms.now c.loop-hit.passed.count c.args.calls
+    c.loop-hit.left c.in-Row.row c.in-Row.resume c.loop-hit.hit
     c.loop-hit.invariant.trying c.in-Row.is in
-    record {
-      trying =
-          row_passed g.R.Recording.tells (theory_of c.args.engine.now) c.args.nest c.args.sym.0
-          c.equation_tree-tree.result.now c.args.terms.now c.args.calls c.loop-hit.left
-          c.in_ok-trial.rest
-          c.in-Row.row c.in-Row.resume c.in_ok-trial.trial c.next_equation-hit-in-Row.result at
-          c.in_ok-trial.ensures c.in-Unused.is c.requires.nest (omega arith)
-          c.next_equation-hit-in-Row.ensures.tells c.next_equation-hit-in-Row.ensures.on;
+    let next : IsTrying (theory_of c.args.engine.now) c.args.nest c.args.sym.0
+    c.equation_tree-tree.result.now c.args.terms.now (c.in-Row.row + 1) c.args.calls
+    c.in_ok-trial.rest c.next_equation-hit-in-Row.result =
+    row_passed g.R.Recording.tells (theory_of c.args.engine.now) c.args.nest c.args.sym.0
+    c.equation_tree-tree.result.now c.args.terms.now c.loop-hit.passed.count c.args.calls
+    c.loop-hit.left c.in_ok-trial.rest c.in-Row.row c.in-Row.resume c.in-Failed.subst
+    c.in-Failed.cond c.in_ok-trial.trial c.next_equation-hit-in-Row.result at c.in_ok-trial.ensures
+    c.in-Failed.is c.requires.nest (omega arith) c.next_equation-hit-in-Row.ensures.tells
+    c.next_equation-hit-in-Row.ensures.on in record {
+      trying = subst (λ k. IsTrying (theory_of c.args.engine.now) c.args.nest c.args.sym.0
+          c.equation_tree-tree.result.now c.args.terms.now k c.args.calls
+          c.in_ok-trial.rest c.next_equation-hit-in-Row.result)
+          (sym c.in_ok-pass-in-Failed.ensures.count) next;
+      passed = c.in_ok-pass-in-Failed.ensures.recorded (forest c.args.terms.now)
+          c.loop-hit.invariant.passed at.trying.tells.earlier
+          (row_fails g.R.Recording.tells (theory_of c.args.engine.now) c.args.nest c.args.sym.0
+          (forest c.args.terms.now) c.loop-hit.left c.in_ok-trial.rest c.in-Row.row
+          c.in-Failed.subst c.in-Failed.cond c.in_ok-trial.trial c.in_ok-trial.ensures
+          c.in-Failed.is);
     }
 
 pub choose_equation-loop-hit-smaller : goal.choose_equation-loop-hit-smaller
 choose_equation-loop-hit-smaller g t c =
     let at = at_row (theory_of c.args.engine.now) c.args.nest c.args.sym.0
-    c.equation_tree-tree.result.now
-    c.args.terms.now c.args.calls c.loop-hit.left c.in-Row.row c.in-Row.resume c.loop-hit.hit
+    c.equation_tree-tree.result.now c.args.terms.now c.loop-hit.passed.count c.args.calls
+    c.loop-hit.left c.in-Row.row c.in-Row.resume c.loop-hit.hit
     c.loop-hit.invariant.trying c.in-Row.is in
     equations_nearer (theory_of c.args.engine.now) c.args.nest c.args.sym.0
-    c.equation_tree-tree.result.now c.args.terms.now c.args.calls c.loop-hit.left c.in-Row.row
+    c.equation_tree-tree.result.now c.args.terms.now c.loop-hit.passed.count c.args.calls c.loop-hit.left c.in-Row.row
     c.in-Row.resume
     c.loop-hit.hit c.next_equation-hit-in-Row.result at c.in-Row.is
     c.next_equation-hit-in-Row.ensures.tells
@@ -575,7 +665,7 @@ choose_equation-loop-hit-smaller g t c =
 pub choose_equation-returns : goal.choose_equation-returns
 choose_equation-returns g t c =
     none_is_used (theory_of c.args.engine.now) c.args.nest c.args.sym.0
-    c.equation_tree-tree.result.now c.args.terms.now c.args.calls c.loop-hit.left c.loop-hit.hit
+    c.equation_tree-tree.result.now c.args.terms.now c.loop-hit.passed.count c.args.calls c.loop-hit.left c.loop-hit.hit
     c.loop-hit.invariant.trying c.in_default.is
 
 -- ---- try_equation
@@ -613,15 +703,18 @@ try_equation-evaluate_in-requires g t c κs within =
     ap (option_map plain_pattern) c.in-Some.is in (
       omega arith,
       (
-        within,
+        within.0,
         (
-          condition_evaluable (theory_of c.args.engine.now) (function_equation
-              c.equation_of.result.now) (forest c.args.terms.now) c.in_ok-subst.subst
-              (plain_pattern c.in-Some.cond)
-              (triable (theory_of c.args.engine.now) c.args.sym.0 (forest c.args.terms.now)
-              c.args.row (function_equation c.equation_of.result.now)
-              c.program-program.ensures.sorted c.requires.fits c.equation_of.ensures) match some,
-          c.requires.nest,
+          within.1,
+          (
+            condition_evaluable (theory_of c.args.engine.now) (function_equation
+                c.equation_of.result.now) (forest c.args.terms.now) c.in_ok-subst.subst
+                (plain_pattern c.in-Some.cond)
+                (triable (theory_of c.args.engine.now) c.args.sym.0 (forest c.args.terms.now)
+                c.args.row (function_equation c.equation_of.result.now)
+                c.program-program.ensures.sorted c.requires.fits c.equation_of.ensures) match some,
+            c.requires.nest,
+          ),
         ),
       ),
     )
@@ -643,28 +736,22 @@ try_equation-returns-then-is_true g t c =
     (c.is_true.ensures.0 c.if-is_true.true) in
     ((function_equation c.equation_of.result.now), c.equation_of.ensures, (match, told.0, told.1))
 
-pub try_equation-returns-else-is_true : goal.try_equation-returns-else-is_true
-try_equation-returns-else-is_true g t c =
+pub try_equation-returns : goal.try_equation-returns
+try_equation-returns g t c =
     let match = own_match (theory_of c.args.engine.now) c.args.sym.0 c.args.row (forest
     c.args.terms.now)
     (function_equation c.equation_of.result.now) c.in_ok-subst.subst c.in_ok-subst.ensures
     c.equation_of.ensures in
     let some : option_map plain_pattern c.equation_of.result.now.cond ≡ Some
     (plain_pattern c.in-Some.cond) =
-    ap (option_map plain_pattern) c.in-Some.is in (
-      (function_equation c.equation_of.result.now),
-      c.equation_of.ensures,
-      inr (
-        c.in_ok-subst.subst,
-        match,
-        test_fails (theory_of c.args.engine.now) c.args.nest c.args.sym.0 c.args.calls
-            c.in_ok-answer.left
-            c.in_ok-subst.subst (option_map plain_pattern c.equation_of.result.now.cond)
-            (plain_pattern c.in-Some.cond) c.in_ok-answer.answer.term some
-            c.in_ok-answer.ensures.0 (λ is. false≢true (sym c.if-is_true.false
-            ∙ c.is_true.ensures.1 is)),
-      ),
-    )
+    ap (option_map plain_pattern) c.in-Some.is in
+    let told =
+    test_fails g.R.Recording.tells (theory_of c.args.engine.now) c.args.nest c.args.sym.0
+    c.args.calls c.in_ok-answer.left c.in_ok-subst.subst
+    (option_map plain_pattern c.equation_of.result.now.cond) (plain_pattern c.in-Some.cond)
+    c.in_ok-answer.answer some c.in_ok-answer.ensures.0 c.in_ok-answer.ensures.1
+    (λ is. false≢true (sym c.if-is_true.false ∙ c.is_true.ensures.1 is)) in
+    ((function_equation c.equation_of.result.now), c.equation_of.ensures, (match, told.0, told.1))
 
 pub try_equation-returns-in_err-answer : goal.try_equation-returns-in_err-answer
 try_equation-returns-in_err-answer g t c =

@@ -3,6 +3,7 @@ use Rattle.term_core.specs.Forests.{forest}
 use Rattle.term_core.specs.PatternLists.{plain_patterns}
 use Rattle.rule_core.specs.Theories.{equations_of}
 use Rattle.rule_core.specs.ProgramView.{theory_of}
+use Rattle.fun_eval.specs.Equations.{RecordsPassed}
 use Rattle.fun_eval.specs.Giving.{AreRecorded}
 use Rattle.fun_eval.proofs.PatternsInTurn.{GoesOn}
 use Rattle.fun_eval.proofs.Walks.{IsTrying, equations_left}
@@ -48,7 +49,10 @@ invariant-evaluate_all-loop-pat g l = record {
 
 abbrev pub invariant-choose_equation-loop-hit : goal.invariant-choose_equation-loop-hit
 invariant-choose_equation-loop-hit g l = record {
-  trying : IsTrying (theory_of l.engine) l.nest l.sym.0 l.tree l.terms l.fn.calls l.left l.hit;
+  trying : IsTrying (theory_of l.engine) l.nest l.sym.0 l.tree l.terms l.passed.count l.fn.calls
+      l.left l.hit;
+  passed : RecordsPassed g.R.Recording.misses_tell (theory_of l.engine) l.sym.0 (forest l.terms)
+      l.passed;
 }
 
 abbrev pub decreases-choose_equation-loop-hit : goal.decreases-choose_equation-loop-hit

@@ -1,12 +1,13 @@
-use Rattle.std.proofs.Common.{subst, arith}
+use Rattle.std.proofs.Common.{◌≤◌, subst, arith}
 use Rattle.std.proofs.lemmas.Result.{err_from_is_err_and}
+use Rattle.term_core.specs.Terms.{height}
 use Rattle.rule_core.specs.ProgramView.{theory_of, rewrite_rule}
 use Rattle.match_tree.specs.SlotView.{first_row}
-use Rattle.fun_eval.specs.declared.equations.Trial.TheVariants.{Unused, Used}
+use Rattle.fun_eval.specs.declared.equations.Trial.TheVariants.{Failed, Used}
 use Rattle.rewriter.specs.Choosing.{RuleSays}
 use Rattle.rewriter.proofs.Trying.{triable}
-use Rattle.rewriter.proofs.Walks.{count_of, found_matches, found_scoped, found_within, none_is_used}
-use Rattle.rewriter.proofs.Walks.{none_tried, rule_chosen, rule_nearer, rule_passed, rule_stops}
+use Rattle.rewriter.proofs.Walks.{count_of, found_matches, found_scoped, found_within, names_fit}
+use Rattle.rewriter.proofs.Walks.{none_is_used, none_tried, rule_chosen, rule_nearer, rule_passed, rule_stops}
 use Rattle.rewriter.proofs.rules.first_used.Goals as goal
 
 pub loop-row-init : goal.loop-row-init
@@ -37,29 +38,53 @@ try_rule-requires-clause-triable g c =
     triable (theory_of c.args.engine.now) c.args.term.now c.in-Row.row
     (rewrite_rule c.rule_of-rule.result.now) c.requires.config c.rule_of-rule.ensures
 
+pub with_names-requires-clause-fits : goal.with_names-requires-clause-fits
+with_names-requires-clause-fits g c =
+    let low : height c.args.term.now ≤ 500 =
+    omega (arith, c.height-high.ensures.bound, c.height-high.ensures.value) in
+    (names_fit (theory_of c.args.engine.now) c.args.tree.now c.args.term.now
+    (first_row c.loop-row.slots c.loop-row.from) c.in-Row.row c.len.result
+    c.rule_of-rule.result.now c.from_ref.result.now c.deref.result.now c.in_ok-subst.subst
+    c.requires.config low c.in-Row.ensures.tells c.rule_of-rule.ensures
+    (count_of c.rule_of-rule.result.now c.len.result c.len.ensures) c.from_ref.ensures.value
+    c.deref.ensures.value c.in_ok-subst.ensures).0
+
+pub with_names-requires-clause-names : goal.with_names-requires-clause-names
+with_names-requires-clause-names g c =
+    let low : height c.args.term.now ≤ 500 =
+    omega (arith, c.height-high.ensures.bound, c.height-high.ensures.value) in
+    (names_fit (theory_of c.args.engine.now) c.args.tree.now c.args.term.now
+    (first_row c.loop-row.slots c.loop-row.from) c.in-Row.row c.len.result
+    c.rule_of-rule.result.now c.from_ref.result.now c.deref.result.now c.in_ok-subst.subst
+    c.requires.config low c.in-Row.ensures.tells c.rule_of-rule.ensures
+    (count_of c.rule_of-rule.result.now c.len.result c.len.ensures) c.from_ref.ensures.value
+    c.deref.ensures.value c.in_ok-subst.ensures).1
+
 pub try_rule-requires-clause-matches : goal.try_rule-requires-clause-matches
 try_rule-requires-clause-matches g c =
     found_matches (theory_of c.args.engine.now) c.args.tree.now c.args.term.now
     (first_row c.loop-row.slots c.loop-row.from) c.in-Row.row c.len.result
-    (rewrite_rule c.rule_of-rule.result.now) c.in_ok-subst.subst c.in-Row.ensures.tells
-    c.rule_of-rule.ensures (count_of c.rule_of-rule.result.now c.len.result c.len.ensures)
-    c.in_ok-subst.ensures
+    c.rule_of-rule.result.now c.from_ref.result.now c.deref.result.now c.in_ok-subst.subst
+    c.in_ok-subst-2.subst c.requires.config c.in-Row.ensures.tells c.rule_of-rule.ensures
+    (count_of c.rule_of-rule.result.now c.len.result c.len.ensures) c.from_ref.ensures.value
+    c.deref.ensures.value c.in_ok-subst.ensures c.in_ok-subst-2.ensures
 
-pub loop-row-preserved : goal.loop-row-preserved
-loop-row-preserved g c =
+pub loop-row-preserved-in-Failed : goal.loop-row-preserved-in-Failed
+loop-row-preserved-in-Failed g c =
     let says : RuleSays g.R.Recording.tells (theory_of c.args.engine.now)
-    (rewrite_rule c.rule_of-rule.result.now) c.args.term.now c.loop-row.left Unused
-    c.in_ok-trial.rest =
+    (rewrite_rule c.rule_of-rule.result.now) c.args.term.now c.loop-row.left
+    (Failed c.in-Failed.field-0 c.in-Failed.field-1) c.in_ok-trial.rest =
     subst (λ o. RuleSays g.R.Recording.tells (theory_of c.args.engine.now)
     (rewrite_rule c.rule_of-rule.result.now) c.args.term.now c.loop-row.left o c.in_ok-trial.rest)
-    c.in-Unused.is c.in_ok-trial.ensures in
+    c.in-Failed.is c.in_ok-trial.ensures in
     record {
       done =
           rule_passed g.R.Recording.tells (theory_of c.args.engine.now) c.args.tree.now
           c.args.term.now c.loop-row.slots c.next_match.new.slots c.loop-row.from c.in-Row.resume
           c.args.calls c.loop-row.left c.in_ok-trial.rest c.in-Row.row
-          (rewrite_rule c.rule_of-rule.result.now) c.loop-row.invariant.done c.in-Row.ensures.tells
-          c.in-Row.ensures.keeps c.rule_of-rule.ensures (omega arith) says;
+          (rewrite_rule c.rule_of-rule.result.now) c.in-Failed.field-0 c.in-Failed.field-1
+          c.loop-row.invariant.done c.in-Row.ensures.tells c.in-Row.ensures.keeps
+          c.rule_of-rule.ensures (omega arith) says;
       room = c.next_match.ensures.room;
     }
 

@@ -1,4 +1,4 @@
-use Rattle.std.proofs.Common.{◌≡◌, ◌≤◌, Some, None, sym, ◌∙◌, ap, inr, arith}
+use Rattle.std.proofs.Common.{◌≡◌, ◌≤◌, Some, None, sym, ◌∙◌, ap, arith}
 use Rattle.std.specs.Prelude.{option_map}
 use Rattle.std.proofs.lemmas.Bool.{false≢true}
 use Rattle.std.proofs.lemmas.Result.{err_from_is_err_and}
@@ -40,13 +40,11 @@ returns-then-is_true g c =
     (c.is_true.ensures.0 c.if-is_true.true) in
     (c.requires.matches, told.0, told.1)
 
-pub returns-else-is_true : goal.returns-else-is_true
-returns-else-is_true g c =
+pub returns : goal.returns
+returns g c =
     let some : option_map plain_pattern c.args.rule.now.cond ≡ Some
     (plain_pattern c.in-Some.cond) =
-    ap (option_map plain_pattern) c.in-Some.is in
-    inr (
-      c.args.subst,
+    ap (option_map plain_pattern) c.in-Some.is in (
       c.requires.matches,
       test_fails (theory_of c.args.engine.now) c.args.calls c.eval_as.new.budget.calls
           c.args.subst (option_map plain_pattern c.args.rule.now.cond)
