@@ -2,6 +2,7 @@ pub mod ImageLaws
 pub mod LoopLaws
 pub mod HexLaws
 pub mod NamingLaws
+pub mod NamedLaws
 pub mod ClosingLaws
 pub mod SentenceLaws
 pub mod ListedLaws

@@ -6,11 +6,11 @@ use Rattle.ml_pat.specs.Patterns as logic
 use Rattle.rule_core.specs.declared.signature.Signature.{Signature}
 use Rattle.ml_image.specs.Tokens.{token_of_sort}
 use Rattle.ml_image.specs.Images.{image_of}
-use Rattle.ml_image.specs.Sentences.{Sentence, term, symbol, apply, top, not, and, implies, equals}
-use Rattle.ml_image.specs.Sentences.{is_in, functional, exists, forall, next, sentence_image}
+use Rattle.ml_image.specs.Sentences.{Sentence, term, symbol, inject, apply, top, not, and, implies}
+use Rattle.ml_image.specs.Sentences.{equals, is_in, functional, exists, forall, next, sentence_image}
 use Rattle.ml_image.specs.Gained.{AreOwnTokens, HasGained}
 use Rattle.ml_image.proofs.ImageLaws.{Keeps, both-keeps, map-keeps, numbered-keeps, symbol-keeps}
-use Rattle.ml_image.proofs.ImageLaws.{image-keeps}
+use Rattle.ml_image.proofs.ImageLaws.{image-keeps, injection-keeps}
 use Rattle.ml_image.specs.NamingLaws.{GainedAreOwn, ImageStays, SentenceStays}
 
 drop-front : (xs ys : List (List ℕ)) → drop (length xs) (xs ++ ys) ≡ ys
@@ -29,6 +29,7 @@ pub sentence-keeps : (sig : Signature) (names more : List (List ℕ)) (s : Sente
     → Keeps (sentence_image sig names s) (sentence_image sig (names ++ more) s)
 sentence-keeps sig names more (term p) = image-keeps sig names more p
 sentence-keeps sig names more (symbol f) = symbol-keeps sig names more f
+sentence-keeps sig names more (inject a b) = injection-keeps sig names more a b
 sentence-keeps sig names more (apply p q) =
     both-keeps logic.app _ _ _ _ (sentence-keeps sig names more p) (sentence-keeps sig names more q)
 sentence-keeps sig names more top = λ m h. h

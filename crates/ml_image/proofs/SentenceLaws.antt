@@ -17,8 +17,10 @@ use Rattle.rule_core.specs.Subsorts.{IsBelow}
 use Rattle.rule_core.specs.Sorting.{IsSymbol}
 use Rattle.ml_image.specs.Images.{both, image_of, applied, symbol_image, sort_image}
 use Rattle.ml_image.specs.Images.{injection_image, shifted, all_shifted}
-use Rattle.ml_image.specs.Sentences.{Sentence, term, and, implies, equals, exists, next}
+use Rattle.ml_image.specs.Sentences.{Sentence, term, symbol, and, implies, equals, exists, next}
 use Rattle.ml_image.specs.Sentences.{sentence_image, for_all, variables, IsImageOf}
+use Rattle.ml_image.specs.NamedSides.{left_sentence, applied_sides, of_child}
+use Rattle.ml_image.specs.PartNames.{names_behind}
 use Rattle.ml_image.specs.OwnAxioms.{sort_of, is_true, condition_sentence, SaysRule, meets}
 use Rattle.ml_image.specs.OwnAxioms.{sort_numbered, Declares, SaysEquation, direct, kompile}
 use Rattle.ml_image.specs.OwnAxioms.{IsConstructor, of_variables, SaysTotal, SaysSubsort}
@@ -31,22 +33,9 @@ use Rattle.ml_image.specs.Counted.{condition_at, IsConditionImage}
 use Rattle.ml_image.specs.Gained.{HasGained}
 use Rattle.ml_image.proofs.ImageLaws.{some_same, if_ok, gained_twice, gained-injection}
 use Rattle.ml_image.proofs.NamingLaws.{gained-sentence}
+use Rattle.ml_image.proofs.NamedLaws.{shifted-zero}
 
 -- ---- variables numbered from a number
-
-mutual
-  pub shifted-zero : (p : RulePattern) → shifted 0 p ≡ p
-  shifted-zero (variable x) = ap variable (omega arith)
-  shifted-zero (domain_value s v) = refl
-  shifted-zero (application f ps) = ap (application f) (all_shifted-zero ps)
-  shifted-zero (injection a b p) = ap (injection a b) (shifted-zero p)
-  shifted-zero (call f ss ps) = ap (call f ss) (all_shifted-zero ps)
-
-  pub all_shifted-zero : (ps : RulePatterns) → all_shifted 0 ps ≡ ps
-  all_shifted-zero no_pattern = refl
-  all_shifted-zero (more_patterns p ps) =
-      ap (λ (q : RulePattern). more_patterns q (all_shifted 0 ps)) (shifted-zero p)
-      ∙ ap (more_patterns p) (all_shifted-zero ps)
 
 behind : (sorts vars : List ℕ) (x : ℕ)
     → slice_get (sorts ++ vars) (length sorts + x) ≡ slice_get vars x
@@ -109,27 +98,36 @@ closed_image sig old new sorts body P s result says is closes =
 
 pub rule_closes : {E : Type 0} (sig : Signature) (n1 n2 n3 n4 : List (List ℕ)) (r : RewriteRule)
     (l c u body : Pattern) (sorts : List ℕ) (result : Result Pattern E) → HasGained sig n1 n2
-    → HasGained sig n2 n3 → image_of sig n1 r.left ≡ Some l
+    → HasGained sig n2 n3
+    → sentence_image sig n1 (left_sentence (of_child 0 r.names) r.left) ≡ Some l
     → IsConditionImage sig n2 r.variables 0 r.condition c → image_of sig n3 r.right ≡ Some u
     → body ≡ logic.imp (logic.and l c) (logic.next u) → sorts ≡ r.variables
     → IfOk result (Closes sig n3 n4 sorts body) → IfOk result (IsImageOf sig n4 (SaysRule sig r))
 rule_closes sig n1 n2 n3 n4 r l c u body sorts result g2 g3 left (cs, says, condition) right is same
     closes =
-    let left' : sentence_image sig n3 (term r.left) ≡ Some l =
-    gained-sentence sig n1 n3 (term r.left) (gained_twice sig n1 n2 n3 g2 g3) l left in
+    let ls : Sentence = left_sentence (of_child 0 r.names) r.left in
+    let left' : sentence_image sig n3 (left_sentence (of_child 0 r.names) r.left) ≡ Some l =
+    gained-sentence sig n1 n3 ls (gained_twice sig n1 n2 n3 g2 g3) l left in
     let condition' : sentence_image sig n3 cs ≡ Some c =
     gained-sentence sig n2 n3 cs g3 c condition in
-    let whole : sentence_image sig n3 (implies (and (term r.left) cs) (next (term r.right))) ≡ Some
+    let whole : both logic.imp (both logic.and
+    (sentence_image sig n3 (left_sentence (of_child 0 r.names) r.left))
+    (sentence_image sig n3 cs)) (option_map logic.next (image_of sig n3 r.right)) ≡ Some
     (logic.imp (logic.and l c) (logic.next u)) =
-    rw (left', condition', right) refl in
+    ap (λ (o : Option Pattern). both logic.imp (both logic.and o (sentence_image sig n3 cs))
+    (option_map logic.next (image_of sig n3 r.right))) left'
+    ∙ ap (λ (o : Option Pattern). both logic.imp (both logic.and (Some l) o)
+    (option_map logic.next (image_of sig n3 r.right))) condition'
+    ∙ ap (λ (o : Option Pattern).
+    both logic.imp (both logic.and (Some l) (Some c)) (option_map logic.next o)) right in
     closed_image sig n3 n4 sorts body (SaysRule sig r)
-    (implies (and (term r.left) cs) (next (term r.right))) result
+    (implies (and ls cs) (next (term r.right))) result
     (record {
       condition = cs;
       conditional = sym (condition_at-zero sig r.variables r.condition) ∙ says;
       says =
           ap (λ (ss : List ℕ).
-          for_all 0 ss (implies (and (term r.left) cs) (next (term r.right)))) same;
+          for_all 0 ss (implies (and ls cs) (next (term r.right)))) same;
     })
     (whole ∙ ap (λ (p : Pattern). Some p) (sym is)) closes
 
@@ -137,7 +135,8 @@ pub direct_closes : {E : Type 0} (sig : Signature) (n1 n2 n3 n4 : List (List ℕ
     (e : Equation) (c l u body : Pattern) (sorts : List ℕ) (result : Result Pattern E)
     → HasGained sig n1 n2 → HasGained sig n2 n3 → e.parameters ≡ 0
     → IsConditionImage sig n1 e.variables 0 e.condition c
-    → image_of sig n2 (call f [] e.arguments) ≡ Some l → image_of sig n3 e.right ≡ Some u
+    → sentence_image sig n2 (applied_sides e.names 0 (symbol f) e.arguments) ≡ Some l
+    → image_of sig n3 e.right ≡ Some u
     → body ≡ logic.imp c (logic.equal l u) → sorts ≡ e.variables
     → IfOk result (Closes sig n3 n4 sorts body)
     → IfOk result (IsImageOf sig n4 (SaysEquation sig f e))
@@ -145,14 +144,15 @@ direct_closes sig n1 n2 n3 n4 f e c l u body sorts result g2 g3 none (cs, says, 
     right is same closes =
     let condition' : sentence_image sig n3 cs ≡ Some c =
     gained-sentence sig n1 n3 cs (gained_twice sig n1 n2 n3 g2 g3) c condition in
-    let left' : sentence_image sig n3 (term (call f [] e.arguments)) ≡ Some l =
-    gained-sentence sig n2 n3 (term (call f [] e.arguments)) g3 l left in
-    let s : Sentence = implies cs (equals (term (call f [] e.arguments)) (term e.right)) in
+    let left' : sentence_image sig n3 (applied_sides e.names 0 (symbol f) e.arguments) ≡ Some l =
+    gained-sentence sig n2 n3 (applied_sides e.names 0 (symbol f) e.arguments) g3 l left in
+    let ls : Sentence = applied_sides e.names 0 (symbol f) e.arguments in
+    let s : Sentence = implies cs (equals ls (term e.right)) in
     let whole : sentence_image sig n3
-    (implies cs (equals (term (call f [] e.arguments)) (term e.right))) ≡ Some
+    (implies cs (equals (applied_sides e.names 0 (symbol f) e.arguments) (term e.right))) ≡ Some
     (logic.imp c (logic.equal l u)) =
     ap (λ (o : Option Pattern). both logic.imp o (both logic.equal
-    (sentence_image sig n3 (term (call f [] e.arguments)))
+    (sentence_image sig n3 (applied_sides e.names 0 (symbol f) e.arguments))
     (sentence_image sig n3 (term e.right)))) condition'
     ∙ ap (λ (o : Option Pattern).
     both logic.imp (Some c) (both logic.equal o (sentence_image sig n3 (term e.right))))
@@ -170,7 +170,8 @@ pub kompile_closes : {E : Type 0} (sig : Signature) (n1 n2 n3 n4 n5 : List (List
     → HasGained sig n3 n4 → e.parameters ≢ 0 → e.parameters ≡ length params
     → Declares sig f info params sort
     → IsConditionImage sig n1 e.variables (length params) e.condition c
-    → sentence_image sig n2 (meets 0 (all_shifted (length params) e.arguments)) ≡ Some m
+    → sentence_image sig n2 (meets (names_behind (length params) e.names) 0
+    (all_shifted (length params) e.arguments)) ≡ Some m
     → sentence_image sig n3 (of_variables f 0 (length params)) ≡ Some h
     → image_of sig n4 (shifted (length params) e.right) ≡ Some u
     → body ≡ logic.imp (logic.and c m) (logic.equal h u) → sorts ≡ params ++ e.variables
@@ -178,24 +179,28 @@ pub kompile_closes : {E : Type 0} (sig : Signature) (n1 n2 n3 n4 n5 : List (List
     → IfOk result (IsImageOf sig n5 (SaysEquation sig f e))
 kompile_closes sig n1 n2 n3 n4 n5 f info params sort e c m h u body sorts result g2 g3 g4 some many
     declared (cs, says, condition) met function right is same closes =
-    let ms : Sentence = meets 0 (all_shifted (length params) e.arguments) in
+    let ms : Sentence = meets (names_behind (length params) e.names) 0
+    (all_shifted (length params) e.arguments) in
     let fs : Sentence = of_variables f 0 (length params) in
     let us : Sentence = term (shifted (length params) e.right) in
     let s : Sentence = implies (and cs ms) (equals fs us) in
     let g24 : HasGained sig n2 n4 = gained_twice sig n2 n3 n4 g3 g4 in
     let condition' : sentence_image sig n4 cs ≡ Some c =
     gained-sentence sig n1 n4 cs (gained_twice sig n1 n2 n4 g2 g24) c condition in
-    let met' : sentence_image sig n4 (meets 0 (all_shifted (length params) e.arguments)) ≡ Some m =
+    let met' : sentence_image sig n4 (meets (names_behind (length params) e.names) 0
+    (all_shifted (length params) e.arguments)) ≡ Some m =
     gained-sentence sig n2 n4 ms g24 m met in
     let function' : sentence_image sig n4 (of_variables f 0 (length params)) ≡ Some h =
     gained-sentence sig n3 n4 fs g4 h function in
     let whole : both logic.imp (both logic.and (sentence_image sig n4 cs)
-    (sentence_image sig n4 (meets 0 (all_shifted (length params) e.arguments))))
+    (sentence_image sig n4 (meets (names_behind (length params) e.names) 0
+    (all_shifted (length params) e.arguments))))
     (both logic.equal (sentence_image sig n4 (of_variables f 0 (length params)))
     (image_of sig n4 (shifted (length params) e.right))) ≡ Some
     (logic.imp (logic.and c m) (logic.equal h u)) =
     ap (λ (o : Option Pattern). both logic.imp (both logic.and o
-    (sentence_image sig n4 (meets 0 (all_shifted (length params) e.arguments))))
+    (sentence_image sig n4 (meets (names_behind (length params) e.names) 0
+    (all_shifted (length params) e.arguments))))
     (both logic.equal (sentence_image sig n4 (of_variables f 0 (length params)))
     (image_of sig n4 (shifted (length params) e.right)))) condition'
     ∙ ap (λ (o : Option Pattern). both logic.imp (both logic.and (Some c) o)

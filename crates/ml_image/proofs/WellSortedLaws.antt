@@ -2,7 +2,7 @@
 use Rattle.std.proofs.Common.{◌≡◌, ◌≤◌, ◌<◌, ◌+◌, ◌^◌, ◌⊎◌, ℕ, Bool, true, false, cond, zero, suc}
 use Rattle.std.proofs.Common.{List, [], ◌∷◌, Option, Some, None, length, map, slice_get, inl, inr}
 use Rattle.std.proofs.Common.{refl, sym, ◌∙◌, ap, subst, arith}
-use Rattle.std.specs.Prelude.{IsSome, IfSome, All, Contains}
+use Rattle.std.specs.Prelude.{IsSome, IfSome, All, Contains, slice_index_or}
 use Rattle.std.specs.List.{position_from}
 use Rattle.std.proofs.lemmas.List.Elements.{All-contains}
 use Rattle.std.proofs.lemmas.Option.{slice_get_within}
@@ -15,7 +15,8 @@ use Rattle.rule_core.specs.Subsorts.{IsBelow, by_pair, by_chain}
 use Rattle.rule_core.specs.Sorting.{HasSort, HaveSorts, HasValue, HasInjection, IsSymbol, IsValueOf}
 use Rattle.rule_core.specs.Sorting.{sort_at, AreSorts}
 use Rattle.rule_core.specs.WellSorted.{IsReference, IsDeclaration, IsPair, IsSignature, IsCondition}
-use Rattle.rule_core.specs.WellSorted.{IsRuleOf, IsEquationOf, IsWellSorted}
+use Rattle.rule_core.specs.WellSorted.{HaveNames, IsRuleOf, IsEquationOf, IsWellSorted}
+use Rattle.rule_core.specs.NamedParts.{Name, part_of}
 use Rattle.rule_core.specs.declared.signature.Signature.{Signature}
 use Rattle.rule_core.specs.declared.signature.SortInfo.{SortInfo}
 use Rattle.rule_core.specs.declared.signature.SortKind.{SortKind}
@@ -107,10 +108,11 @@ sort_of-sorted sig vars (application f ps) sort h = made_there sig f h.0 [] h.1 
 sort_of-sorted sig vars (injection a b p) sort h = ap (λ (n : ℕ). Some n) h.1
 sort_of-sorted sig vars (call f ss ps) sort h = made_there sig f h.0 ss h.1 ∙ h.5
 
-condition_met : (sig : Signature) (vars : List ℕ) (ps : Patterns) (o : Option Pattern)
-    → IsSignature sig → IfSome o (IsCondition sig vars ps) → own.IsCondition sig vars o
-condition_met sig vars ps None ok h = tt
-condition_met sig vars ps (Some p) ok (sort, name, info, there, kind, sorted, only) = record {
+condition_met : (sig : Signature) (vars : List ℕ) (ps : Patterns) (names : List Name)
+    (o : Option Pattern) → IsSignature sig → IfSome o (IsCondition sig vars ps names)
+    → own.IsCondition sig vars o
+condition_met sig vars ps names None ok h = tt
+condition_met sig vars ps names (Some p) ok (sort, name, info, there, kind, sorted, only) = record {
   image = sorted_has sig vars p sort ok sorted;
   sort = sort;
   sorted = sort_of-sorted sig vars p sort sorted;
@@ -121,6 +123,16 @@ are_sorts : (sig : Signature) (ss : List ℕ) → All (λ s. s < length sig.sort
 are_sorts sig [] h = tt
 are_sorts sig (s ∷ ss) h =
     (h 0 0 (omega arith), are_sorts sig ss (λ k d low. h (suc k) d (omega (arith, low))))
+
+-- ---- names
+
+pub names_below : (sig : Signature) (vars : List ℕ) (ps : Patterns) (names : List Name)
+    → HaveNames sig vars ps names → own.AreNamesBelow (length vars) names
+names_below sig vars ps names h k d low =
+    let n : Name = slice_index_or names k d in
+    let w : (p : Pattern) × (sort : ℕ) × (part_of ps n.place ≡ Some p) × HasSort sig vars p sort
+    × (slice_get vars n.variable ≡ Some sort) = h.sorted k d low in
+    slice_get_within vars n.variable w.1 w.4
 
 -- ---- rules
 
@@ -142,9 +154,10 @@ rule_has_image theory r ok there few = go ok.one_sort
           few = few;
           sorts = are_sorts theory.sig r.variables is.variables;
           left = sorted_has theory.sig r.variables r.left sort ok.signature is.left;
+          names = names_below theory.sig r.variables (more_patterns r.left no_pattern) r.names is.names;
           condition =
-              condition_met theory.sig r.variables (more_patterns r.left no_pattern) r.condition
-              ok.signature is.condition;
+              condition_met theory.sig r.variables (more_patterns r.left no_pattern) r.names
+              r.condition ok.signature is.condition;
           right = sorted_has theory.sig r.variables r.right sort ok.signature is.right;
         }
 
@@ -212,8 +225,10 @@ equation_has_image theory f info e ok there kind listed few parameters =
       arguments =
           all_sorted_have theory.sig e.variables [] e.arguments info.args.items ok.signature
           is.arguments;
+      names = names_below theory.sig e.variables e.arguments e.names is.names;
       condition =
-          condition_met theory.sig e.variables e.arguments e.condition ok.signature is.condition;
+          condition_met theory.sig e.variables e.arguments e.names e.condition ok.signature
+          is.condition;
       right = sorted_has theory.sig e.variables e.right is.sort ok.signature is.right;
       parameters = go is parameters;
     }

@@ -1,11 +1,12 @@
 -- The conditions under which an image can be made: the sorts and symbols belong to the signature,
 -- and each value is a value of its sort.
 use Rattle.std.specs.Prelude.{◌≡◌, ◌≢◌, ◌<◌, ◌≤◌, ◌+◌, ◌^◌, ℕ, true, false, IsSome, List, [], ◌∷◌}
-use Rattle.std.specs.Prelude.{length, Option, Some, None, ◌⊎◌, suc}
+use Rattle.std.specs.Prelude.{length, Option, Some, None, ◌⊎◌, suc, All}
 use Rattle.term_core.specs.Terms.{truth}
 use Rattle.term_core.specs.Patterns.{Pattern, Patterns, variable, domain_value, application}
 use Rattle.term_core.specs.Patterns.{injection, call, no_pattern, more_patterns}
 use Rattle.rule_core.specs.Rules.{RewriteRule, Equation}
+use Rattle.rule_core.specs.NamedParts.{Name}
 use Rattle.rule_core.specs.Sorting.{HasValue, AreSorts}
 use Rattle.rule_core.specs.declared.signature.Signature.{Signature}
 use Rattle.rule_core.specs.declared.signature.SymInfo.{SymInfo}
@@ -44,11 +45,16 @@ abbrev pub IsCondition : Signature → List ℕ → Option Pattern → Type 0
 IsCondition sig sorts None = Unit {0}
 IsCondition sig sorts (Some p) = IsTruth sig sorts p
 
+-- the variables of the names are below n
+abbrev pub AreNamesBelow : ℕ → List Name → Type 0
+AreNamesBelow n names = All (λ (m : Name). m.variable < n) names
+
 -- the rule has an image
 pub record HasRuleImage (sig : Signature) (r : RewriteRule) : Type 0 where
   pub few : length r.variables ≤ 2 ^ 32
   pub sorts : AreSorts sig r.variables
   pub left : HasImage sig (length r.variables) r.left
+  pub names : AreNamesBelow (length r.variables) r.names
   pub condition : IsCondition sig r.variables r.condition
   pub right : HasImage sig (length r.variables) r.right
 
@@ -69,6 +75,7 @@ pub record HasEquationImage (sig : Signature) (f : ℕ) (e : Equation) : Type 0 
   pub sorts : AreSorts sig e.variables
   pub function : f < length sig.symbols
   pub arguments : HaveImages sig (length e.variables) e.arguments
+  pub names : AreNamesBelow (length e.variables) e.names
   pub condition : IsCondition sig e.variables e.condition
   pub right : HasImage sig (length e.variables) e.right
   pub parameters : (e.parameters ≡ 0) ⊎ HasParameters sig f e

@@ -2,6 +2,8 @@
 pub mod Tokens
 pub mod Images
 pub mod Sentences
+pub mod NamedSides
+pub mod PartNames
 pub mod OwnAxioms
 pub mod Sides
 pub mod TrueFacts

@@ -6,6 +6,7 @@ use Rattle.term_core.specs.Terms.{truth}
 use Rattle.term_core.specs.Patterns.{Pattern, Patterns, variable, domain_value, application}
 use Rattle.term_core.specs.Patterns.{injection, call, no_pattern, more_patterns}
 use Rattle.rule_core.specs.Rules.{RewriteRule, Equation}
+use Rattle.rule_core.specs.NamedParts.{Name}
 use Rattle.rule_core.specs.Theories.{RewriteTheory, equations_of}
 use Rattle.rule_core.specs.Subsorts.{IsBelow}
 use Rattle.rule_core.specs.Sorting.{IsSymbol, sort_at}
@@ -17,6 +18,7 @@ use Rattle.rule_core.specs.declared.signature.SortRef.TheVariants.{Sort}
 use Rattle.ml_image.specs.Images.{shifted, all_shifted}
 use Rattle.ml_image.specs.Sentences.{Sentence, term, symbol, top, not, and, implies, equals, is_in}
 use Rattle.ml_image.specs.Sentences.{exists, next, for_all, variables, apply_all, conjunctions}
+use Rattle.ml_image.specs.NamedSides.{left_sentence, applied_sides, of_child}
 
 -- ---- rules and equations
 
@@ -48,7 +50,9 @@ condition_sentence sig sorts (Some p) = option_map (is_true p) (sort_of sig sort
 -- The sentence of a rewrite rule with this condition: an instance of its left side, if the
 -- condition holds, makes a step to that of its right side.
 abbrev pub rule_sentence : RewriteRule → Sentence → Sentence
-rule_sentence r c = for_all 0 r.variables (implies (and (term r.left) c) (next (term r.right)))
+rule_sentence r c =
+    for_all 0 r.variables
+    (implies (and (left_sentence (of_child 0 r.names) r.left) c) (next (term r.right)))
 
 pub record SaysRule (sig : Signature) (r : RewriteRule) (p : Sentence) : Type 0 where
   pub condition : Sentence
@@ -59,28 +63,35 @@ pub record SaysRule (sig : Signature) (r : RewriteRule) (p : Sentence) : Type 0 
 -- applied to these arguments equals the right side.
 abbrev pub direct_sentence : ℕ → Equation → Sentence → Sentence
 direct_sentence f e c =
-    for_all 0 e.variables (implies c (equals (term (call f [] e.arguments)) (term e.right)))
+    for_all 0 e.variables
+    (implies c (equals (applied_sides e.names 0 (symbol f) e.arguments) (term e.right)))
+
+-- the name with its variable numbered from k
+abbrev pub name_behind : ℕ → Name → Name
+name_behind k n = record n { variable = k + n.variable }
 
 -- the equation with parameters of these sorts, which come before its other variables
 abbrev pub behind_parameters : List ℕ → Equation → Equation
 behind_parameters sorts e = record e {
   arguments = all_shifted (length sorts) e.arguments;
+  names = map (name_behind (length sorts)) e.names;
   condition = option_map (shifted (length sorts)) e.condition;
   right = shifted (length sorts) e.right;
   variables = sorts ++ e.variables;
 }
 
--- each parameter, numbered from k, is in its pattern
-abbrev pub meets : ℕ → Patterns → Sentence
-meets k no_pattern = top
-meets k (more_patterns p ps) = and (is_in (term (variable k)) (term p)) (meets (k + 1) ps)
+-- each parameter, numbered from k, is in its pattern, whose parts may have names
+abbrev pub meets : List Name → ℕ → Patterns → Sentence
+meets names k no_pattern = top
+meets names k (more_patterns p ps) =
+    and (is_in (term (variable k)) (left_sentence (of_child k names) p)) (meets names (k + 1) ps)
 
 -- The sentence of an equation in the form of kompile with n parameters: if the condition holds and
 -- each parameter is in its argument, the function applied to the parameters equals the right side.
 abbrev pub kompile_sentence : ℕ → ℕ → Equation → Sentence → Sentence
 kompile_sentence f n e c =
     for_all 0 e.variables
-    (implies (and c (meets 0 e.arguments))
+    (implies (and c (meets e.names 0 e.arguments))
     (equals (apply_all (symbol f) (variables 0 n)) (term e.right)))
 
 -- a sort in a declaration, which is not a sort parameter

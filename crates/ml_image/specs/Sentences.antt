@@ -5,14 +5,15 @@ use Rattle.ml_pat.specs.Patterns.{Pattern}
 use Rattle.ml_pat.specs.Patterns as logic
 use Rattle.term_core.specs.Patterns.{Pattern as RulePattern, variable}
 use Rattle.rule_core.specs.declared.signature.Signature.{Signature}
-use Rattle.ml_image.specs.Images.{both, symbol_image, sort_image, image_of}
+use Rattle.ml_image.specs.Images.{both, symbol_image, sort_image, injection_image, image_of}
 
--- A sentence is built from rules' patterns and from symbols. `is_in x p` says that the element x is
--- in p. `functional p s` says that p is one element of the sort s. `next p` is everything that can
+-- A sentence is built from rules' patterns and from symbols. `inject a b` is the injection symbol from
+-- the sort a to the sort b. `is_in x p` says that the element x is in p. `functional p s` says that p is one element of the sort s. `next p` is everything that can
 -- make one step to p. A quantifier has the number of its variable and its sort.
 pub data Sentence : Type 0 where
   term : RulePattern → Sentence
   symbol : ℕ → Sentence
+  inject : ℕ → ℕ → Sentence
   apply : Sentence → Sentence → Sentence
   top : Sentence
   not : Sentence → Sentence
@@ -30,6 +31,7 @@ pub data Sentence : Type 0 where
 abbrev pub sentence_image : Signature → List (List ℕ) → Sentence → Option Pattern
 sentence_image sig names (term p) = image_of sig names p
 sentence_image sig names (symbol f) = symbol_image sig names f
+sentence_image sig names (inject a b) = injection_image sig names a b
 sentence_image sig names (apply p q) =
     both logic.app (sentence_image sig names p) (sentence_image sig names q)
 sentence_image sig names top = Some logic.top

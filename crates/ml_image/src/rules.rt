@@ -2,22 +2,25 @@
 ghost use Rattle.std.specs.Prelude.{◌≡◌, ◌≢◌, ◌<◌, ◌≤◌, ◌-◌, ◌+◌, ◌^◌, [], length, IfOk, Some};
 ghost use Rattle.std.specs.Prelude.{option_map, option_copied, slice_get};
 ghost use Rattle.ml_pat.specs.Patterns.{imp, and, equal, next};
-ghost use Rattle.term_core.specs.Patterns.{call};
 ghost use Rattle.term_core.specs.RulePatterns.{plain_pattern, sort_numbers};
 ghost use Rattle.term_core.specs.PatternLists.{plain_patterns};
-ghost use Rattle.rule_core.specs.ProgramView.{sorts_of, rewrite_rule, function_equation};
+ghost use Rattle.rule_core.specs.ProgramView.{sorts_of, names_of, rewrite_rule, function_equation};
 ghost use Rattle.term_core.specs.declared.ids.SortId.{SortId};
-ghost use Rattle.ml_image.specs.Images.{image_of, all_shifted};
-ghost use Rattle.ml_image.specs.Sentences.{IsImageOf, sentence_image};
+ghost use Rattle.ml_image.specs.Images.{all_shifted};
+ghost use Rattle.ml_image.specs.Sentences.{IsImageOf, sentence_image, symbol};
+ghost use Rattle.ml_image.specs.NamedSides.{applied_sides, left_sentence, of_child};
+ghost use Rattle.ml_image.specs.PartNames.{part_names, names_behind};
 ghost use Rattle.ml_image.specs.OwnAxioms.{SaysRule, SaysEquation, sort_of, made_sort, meets};
 ghost use Rattle.ml_image.specs.HasImages.{HaveImages, HasRuleImage, HasEquationImage, IsTruth};
-ghost use Rattle.ml_image.specs.HasImages.{IsCondition};
+ghost use Rattle.ml_image.specs.HasImages.{IsCondition, AreNamesBelow, HasImage};
 ghost use Rattle.ml_image.specs.Counted.{IsConditionImage};
 ghost use Rattle.ml_image.specs.Gained.{HasGained};
 
 use crate::closing::{close, named_sorts, variable_sorts};
 use crate::constructors::{declaration, of_variables};
-use crate::images::{applied, head_image, image, term_image};
+use crate::images::{image, term_image};
+use crate::left_sides::{left_image, sides_image};
+use crate::naming::{PartName, names_in, part_names};
 use crate::tokens::value_number;
 use ml_pat::{MPat, Names, VarNo};
 use rule_core::{Equation, Rule, Signature, SortRef, VarInfo};
@@ -38,12 +41,31 @@ pub fn rule_image(
         (IsImageOf sig.now names.new (SaysRule sig.now (rewrite_rule rule.now))) }
     ensures names { HasGained sig.now names.old names.new }
 {
-    let left = term_image(alloc, sig, names, &rule.left)?;
+    let left = left_side_image(alloc, sig, names, rule)?;
     let condition = condition_image(alloc, sig, names, 0, &rule.vars, &rule.cond)?;
     let right = term_image(alloc, sig, names, &rule.right)?;
     let body = step_to(alloc, &left, &condition, &right)?;
     let sorts = variable_sorts(alloc, &rule.vars)?;
     close(alloc, sig, names, &sorts, body)
+}
+
+// The left side of a rule, whose parts may have names.
+fn left_side_image(
+    alloc: Global,
+    sig: &Signature,
+    names: &mut Names,
+    rule: &Rule,
+) -> Result<MPat, AllocError>
+    requires left { HasImage sig.now (2 ^ 32) (plain_pattern rule.now.left) }
+    requires names { AreNamesBelow (2 ^ 32) (names_of rule.now.named.items) }
+    ensures image { IfOk result
+        (λ p. sentence_image sig.now names.new
+        (left_sentence (of_child 0 (names_of rule.now.named.items))
+        (plain_pattern rule.now.left)) ≡ Some p) }
+    ensures names { HasGained sig.now names.old names.new }
+{
+    let parts = names_in(alloc, &part_names(alloc, &rule.named)?, 0)?;
+    left_image(alloc, sig, names, 0, &rule.left, &parts)
 }
 
 // `left & condition -> next right`.
@@ -181,7 +203,7 @@ fn direct_image(
     close(alloc, sig, names, &sorts, body)
 }
 
-// The function applied to the arguments of an equation.
+// The function applied to the arguments of an equation, whose parts may have names.
 fn call_image(
     alloc: Global,
     sig: &Signature,
@@ -190,13 +212,15 @@ fn call_image(
 ) -> Result<MPat, AllocError>
     requires symbol { equation.now.fun.0 < length sig.now.symbols }
     requires arguments { HaveImages sig.now (2 ^ 32) (plain_patterns equation.now.args.items) }
+    requires names { AreNamesBelow (2 ^ 32) (names_of equation.now.named.items) }
     ensures image { IfOk result
-        (λ p. image_of sig.now names.new
-        (call equation.now.fun.0 [] (plain_patterns equation.now.args.items)) ≡ Some p) }
+        (λ p. sentence_image sig.now names.new
+        (applied_sides (names_of equation.now.named.items) 0 (symbol equation.now.fun.0)
+        (plain_patterns equation.now.args.items)) ≡ Some p) }
     ensures names { HasGained sig.now names.old names.new }
 {
-    let head = head_image(alloc, sig, names, equation.fun.0 as usize)?;
-    applied(alloc, sig, names, 0, head, &equation.args)
+    let parts = part_names(alloc, &equation.named)?;
+    sides_image(alloc, sig, names, 0, equation.fun, &equation.args, &parts)
 }
 
 // The image of an equation in the form of kompile.
@@ -216,7 +240,7 @@ fn kompile_image(
 {
     let count = equation.params;
     let condition = condition_image(alloc, sig, names, count, &equation.vars, &equation.cond)?;
-    let met = meets_image(alloc, sig, names, count, &equation.args)?;
+    let met = parameters_image(alloc, sig, names, equation)?;
     let function = of_variables(alloc, sig, names, equation.fun, 0, count)?;
     let right = image(alloc, sig, names, count, &equation.right)?;
     let body = met_equal(alloc, &condition, &met, &function, &right)?;
@@ -240,25 +264,51 @@ fn met_equal(
     MPat::imp(alloc, &holds, &MPat::equal(alloc, function, right)?)
 }
 
-// The statement that each parameter is in its argument. The parameters are numbered from 0, and the
-// variables of the arguments from `first`.
+// The statement that each parameter of an equation is in its argument.
+fn parameters_image(
+    alloc: Global,
+    sig: &Signature,
+    names: &mut Names,
+    equation: &Equation,
+) -> Result<MPat, AllocError>
+    requires arguments { HaveImages sig.now (2 ^ 32 - equation.now.params)
+        (plain_patterns equation.now.args.items) }
+    requires names { AreNamesBelow (2 ^ 32 - equation.now.params)
+        (names_of equation.now.named.items) }
+    requires few { length equation.now.args.items ≤ 2 ^ 32 }
+    ensures image { IfOk result
+        (λ p. sentence_image sig.now names.new
+        (meets (names_behind equation.now.params (names_of equation.now.named.items)) 0
+        (all_shifted equation.now.params (plain_patterns equation.now.args.items))) ≡ Some p) }
+    ensures names { HasGained sig.now names.old names.new }
+{
+    let parts = part_names(alloc, &equation.named)?;
+    meets_image(alloc, sig, names, equation.params, &equation.args, &parts)
+}
+
+// The statement that each parameter is in its argument, whose parts may have names. The parameters
+// are numbered from 0, and the variables and names of the arguments from `first`.
 fn meets_image(
     alloc: Global,
     sig: &Signature,
     names: &mut Names,
     first: u32,
     args: &[RulePat],
+    parts: &[PartName<'_>],
 ) -> Result<MPat, AllocError>
     requires arguments { HaveImages sig.now (2 ^ 32 - first) (plain_patterns args.now) }
+    requires parts { AreNamesBelow (2 ^ 32 - first) (part_names parts.now) }
     requires few { length args.now ≤ 2 ^ 32 }
     ensures image { IfOk result
         (λ p. sentence_image sig.now names.new
-        (meets 0 (all_shifted first (plain_patterns args.now))) ≡ Some p) }
+        (meets (names_behind first (part_names parts.now)) 0
+        (all_shifted first (plain_patterns args.now))) ≡ Some p) }
     ensures names { HasGained sig.now names.old names.new }
 {
     let mut made = MPat::top(alloc)?;
     for i in (0..args.len()).rev() {
-        let argument = image(alloc, sig, names, first, &args[i])?;
+        let inside = names_in(alloc, parts, i)?;
+        let argument = left_image(alloc, sig, names, first, &args[i], &inside)?;
         let parameter = MPat::var(alloc, VarNo(i as u32))?;
         made = MPat::and(alloc, &MPat::member(alloc, &parameter, &argument)?, &made)?;
     }

@@ -15,10 +15,11 @@ use Rattle.term_core.specs.Patterns.{application, no_pattern}
 use Rattle.rule_core.specs.Matching.{OccursIn}
 use Rattle.rule_core.specs.declared.signature.Signature.{Signature}
 use Rattle.ml_image.specs.Images.{both, sort_image}
-use Rattle.ml_image.specs.Sentences.{Sentence, term, symbol, apply, top, not, and, implies, equals}
+use Rattle.ml_image.specs.Sentences.{Sentence, term, symbol, inject, apply, top, not, and, implies}
+use Rattle.ml_image.specs.Sentences.{equals}
 use Rattle.ml_image.specs.Sentences.{is_in, functional, exists, forall, next, sentence_image}
 use Rattle.ml_image.proofs.ImageLaws.{none_some, some_same}
-use Rattle.mm_justify.proofs.ImageLeaves.{term_leaves}
+use Rattle.mm_justify.proofs.ImageLeaves.{term_leaves, inject_leaves}
 use Rattle.mm_adequate.specs.Assuming.{few_variables}
 
 -- ---- sentences
@@ -27,6 +28,7 @@ use Rattle.mm_adequate.specs.Assuming.{few_variables}
 abbrev pub IsBelow : ℕ → Sentence → Type 0
 IsBelow k (term a) = (x : ℕ) → OccursIn x a → x < k
 IsBelow k (symbol f) = Unit {0}
+IsBelow k (inject a b) = Unit {0}
 IsBelow k (apply p q) = IsBelow k p × IsBelow k q
 IsBelow k top = Unit {0}
 IsBelow k (not p) = IsBelow k p
@@ -147,6 +149,11 @@ image_below sig names k l (symbol f) h p e =
     term_leaves sig names (objects_below k)
     (record { sorts = λ n w t. tt; constants = λ n w t. tt }) (application f no_pattern)
     (λ x i. absurd i) p e in
+    (free_below k p leaves, few_below k l p leaves)
+image_below sig names k l (inject a b) h p e =
+    let leaves : EachLeaf (objects_below k) p =
+    inject_leaves sig names (objects_below k)
+    (record { sorts = λ n w t. tt; constants = λ n w t. tt }) a b p e in
     (free_below k p leaves, few_below k l p leaves)
 image_below sig names k l (apply p q) h r e =
     two_below k logic.App (sentence_image sig names p) (sentence_image sig names q)

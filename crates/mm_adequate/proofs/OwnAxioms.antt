@@ -2,8 +2,10 @@
 use Rattle.std.proofs.Common.{◌≡◌, ℕ, ◌+◌, ◌<◌, ◌≤◌, ◌^◌, zero, suc, Bool, true, false, List, []}
 use Rattle.std.proofs.Common.{◌∷◌, ◌++◌, map, length, Option, Some, None, option_map, refl, sym, ap}
 use Rattle.std.proofs.Common.{◌∙◌, subst, arith, ◌⊎◌, inl, inr, length-append}
-use Rattle.std.specs.Prelude.{All, Contains, IfSome}
-use Rattle.std.proofs.lemmas.List.Elements.{All-contains}
+use Rattle.std.specs.Prelude.{All, Contains, IfSome, if◌then◌else◌, slice_get}
+use Rattle.std.proofs.lemmas.List.Elements.{All-contains, All-head, All-tail, All-cons, All-map}
+use Rattle.std.proofs.lemmas.List.Elements.{All-weaker}
+use Rattle.std.proofs.lemmas.Option.{slice_get_within}
 use Rattle.ml_pat.specs.Judgements.{fresh}
 use Rattle.term_core.specs.Terms.{DomainValue}
 use Rattle.term_core.specs.Patterns.{Pattern, Patterns, variable, domain_value, application}
@@ -12,18 +14,22 @@ use Rattle.rule_core.specs.Rules.{RewriteRule, Equation}
 use Rattle.rule_core.specs.Theories.{RewriteTheory, equations_of}
 use Rattle.rule_core.specs.Matching.{OccursIn, OccursInSome}
 use Rattle.rule_core.specs.Sorting.{HasSort, HaveSorts, IsSymbol}
-use Rattle.rule_core.specs.WellSorted.{IsSignature, IsCondition, IsRuleOf, IsEquationOf}
+use Rattle.rule_core.specs.NamedParts.{Name, part_of}
+use Rattle.rule_core.specs.WellSorted.{IsSignature, IsCondition, IsRuleOf, IsEquationOf, HaveNames}
 use Rattle.rule_core.specs.WellSorted.{IsWellSorted}
 use Rattle.rule_core.specs.declared.signature.Signature.{Signature}
 use Rattle.rule_core.specs.declared.signature.SymInfo.{SymInfo}
 use Rattle.rule_core.specs.declared.signature.SortRef.{SortRef}
 use Rattle.ml_image.specs.Assumed.{IsAssumed}
-use Rattle.ml_image.specs.HasImages.{HasImage, HaveImages, count_of}
+use Rattle.ml_image.specs.HasImages.{HasImage, HaveImages, AreNamesBelow, count_of}
+use Rattle.ml_image.specs.NamedSides.{whole, of_whole, way_in, at_way, of_child, named_part}
+use Rattle.ml_image.specs.NamedSides.{named_parts, left_sentence, applied_sides}
 use Rattle.ml_image.specs.Images.{shifted, all_shifted}
-use Rattle.ml_image.specs.Sentences.{Sentence, term, symbol, top, not, implies, equals, for_all}
+use Rattle.ml_image.specs.Sentences.{Sentence, term, symbol, inject, apply, top, not, and, implies}
+use Rattle.ml_image.specs.Sentences.{equals, for_all}
 use Rattle.ml_image.specs.Sentences.{variables, apply_all, conjunctions}
 use Rattle.ml_image.specs.OwnAxioms.{sort_of, is_true, condition_sentence, SaysRule, IsOwnAxiom}
-use Rattle.ml_image.specs.OwnAxioms.{meets, sort_numbered, Declares, SaysEquation}
+use Rattle.ml_image.specs.OwnAxioms.{meets, name_behind, sort_numbered, Declares, SaysEquation}
 use Rattle.ml_image.specs.OwnAxioms.{direct, kompile, IsEquationFor, of_variables, SaysTotal}
 use Rattle.ml_image.specs.OwnAxioms.{SaysApart, SaysFree, of_rule, of_equation, total, apart, free}
 use Rattle.ml_image.specs.OwnAxioms.{subsort, collapse}
@@ -147,13 +153,106 @@ below_pairs k [] qs h j = tt
 below_pairs k (p ∷ ps) [] h j = tt
 below_pairs k (p ∷ ps) (q ∷ qs) h j = ((h.0, j.0), below_pairs k ps qs h.1 j.1)
 
-below_meets : (k j : ℕ) (ps : Patterns) → j + count_of ps ≤ k
-    → ((x : ℕ) → OccursInSome x ps → x < k) → IsBelow k (meets j ps)
-below_meets k j no_pattern l h = tt
-below_meets k j (more_patterns p ps) l h = (
-  ((λ x i. omega (arith, l, i)), (λ x i. h x (inl i))),
-  below_meets k (j + 1) ps (omega (arith, l)) (λ x i. h x (inr i)),
+-- ---- left sides whose parts have names
+
+abbrev LowName : ℕ → Name → Type 0
+LowName k n = n.variable < k
+
+below_at : (k : ℕ) (place : List ℕ) (n : Name) (names : List Name) → LowName k n
+    → AreNamesBelow k names → AreNamesBelow k (whole place n names)
+below_at k [] n names low h = All-cons (LowName k) n names low h
+below_at k (i ∷ way) n names low h = h
+
+below_whole : (k : ℕ) (names : List Name) → AreNamesBelow k names → AreNamesBelow k (of_whole names)
+below_whole k [] h = h
+below_whole k (n ∷ names) h =
+    below_at k n.place n (of_whole names) (All-head (LowName k) n names h)
+    (below_whole k names (All-tail (LowName k) n names h))
+
+below_way : (k : ℕ) (way : Option (List ℕ)) (n : Name) (names : List Name) → LowName k n
+    → AreNamesBelow k names → AreNamesBelow k (at_way way n names)
+below_way k None n names low h = h
+below_way k (Some way) n names low h =
+    All-cons (LowName k) (record n { place = way }) names low h
+
+below_child : (k j : ℕ) (names : List Name) → AreNamesBelow k names
+    → AreNamesBelow k (of_child j names)
+below_child k j [] h = h
+below_child k j (n ∷ names) h =
+    below_way k (way_in j n.place) n (of_child j names) (All-head (LowName k) n names h)
+    (below_child k j names (All-tail (LowName k) n names h))
+
+below_part : (k : ℕ) (part : Sentence) (n : Name) → IsBelow k part → n.variable < k
+    → IsBelow k (named_part part n)
+below_part k part n h low = go n.first
+  where
+    is : IsBelow k (term (variable n.variable))
+    is x i = omega (arith, low, i)
+
+    go : (b : Bool) → IsBelow k
+        (if b then and (term (variable n.variable)) part
+        else and part (term (variable n.variable)))
+    go true = (is, h)
+    go false = (h, is)
+
+below_parts : (k : ℕ) (part : Sentence) (names : List Name) → IsBelow k part
+    → AreNamesBelow k names → IsBelow k (named_parts part names)
+below_parts k part [] h low = h
+below_parts k part (n ∷ names) h low =
+    below_parts k (named_part part n) names
+    (below_part k part n h (All-head (LowName k) n names low)) (All-tail (LowName k) n names low)
+
+mutual
+  below_left : (k : ℕ) (names : List Name) (p : Pattern) → AreNamesBelow k names
+      → ((x : ℕ) → OccursIn x p → x < k) → IsBelow k (left_sentence names p)
+  below_left k names (variable y) low h =
+      below_parts k (term (variable y)) (of_whole names) h (below_whole k names low)
+  below_left k names (domain_value s v) low h =
+      below_parts k (term (domain_value s v)) (of_whole names) h (below_whole k names low)
+  below_left k names (application f ps) low h =
+      below_parts k (applied_sides names 0 (symbol f) ps) (of_whole names)
+      (below_sides k names 0 (symbol f) ps low tt h) (below_whole k names low)
+  below_left k names (injection a b p) low h =
+      below_parts k (apply (inject a b) (left_sentence (of_child 0 names) p)) (of_whole names)
+      (tt, below_left k (of_child 0 names) p (below_child k 0 names low) h)
+      (below_whole k names low)
+  below_left k names (call f ss ps) low h =
+      below_parts k (term (call f ss ps)) (of_whole names) h (below_whole k names low)
+
+  below_sides : (k : ℕ) (names : List Name) (j : ℕ) (head : Sentence) (ps : Patterns)
+      → AreNamesBelow k names → IsBelow k head → ((x : ℕ) → OccursInSome x ps → x < k)
+      → IsBelow k (applied_sides names j head ps)
+  below_sides k names j head no_pattern low head_low h = head_low
+  below_sides k names j head (more_patterns p ps) low head_low h =
+      below_sides k names (j + 1) (apply head (left_sentence (of_child j names) p)) ps low
+      (head_low, below_left k (of_child j names) p (below_child k j names low) (λ x i. h x (inl i)))
+      (λ x i. h x (inr i))
+
+below_meets : (k : ℕ) (names : List Name) (j : ℕ) (ps : Patterns) → AreNamesBelow k names
+    → j + count_of ps ≤ k → ((x : ℕ) → OccursInSome x ps → x < k) → IsBelow k (meets names j ps)
+below_meets k names j no_pattern low l h = tt
+below_meets k names j (more_patterns p ps) low l h = (
+  (
+    (λ x i. omega (arith, l, i)),
+    below_left k (of_child j names) p (below_child k j names low) (λ x i. h x (inl i)),
+  ),
+  below_meets k names (j + 1) ps low (omega (arith, l)) (λ x i. h x (inr i)),
 )
+
+names_behind : (n k : ℕ) (names : List Name) → AreNamesBelow k names
+    → AreNamesBelow (n + k) (map (name_behind n) names)
+names_behind n k names h =
+    All-map (LowName (n + k)) (name_behind n) names
+    (All-weaker (LowName k) (λ (m : Name). n + m.variable < n + k)
+    (λ m low. omega (arith, low)) names h)
+
+-- the variables of names are variables of the rule or the equation
+names_below : (sig : Signature) (vars : List ℕ) (ps : Patterns) (names : List Name)
+    → HaveNames sig vars ps names → AreNamesBelow (length vars) names
+names_below sig vars ps names have =
+    All-weaker (λ (n : Name). (p : Pattern) × (sort : ℕ) × (part_of ps n.place ≡ Some p)
+    × HasSort sig vars p sort × (slice_get vars n.variable ≡ Some sort)) (LowName (length vars))
+    (λ n (p, sort, there, sorted, is). slice_get_within vars n.variable sort is) names have.sorted
 
 -- ---- conditions
 
@@ -162,9 +261,10 @@ ConditionUses k None = Unit {0}
 ConditionUses k (Some p) = (x : ℕ) → OccursIn x p → x < k
 
 condition_uses : (sig : Signature) (vars : List ℕ) (ps : Patterns) (o : Option Pattern)
-    → IsSignature sig → IfSome o (IsCondition sig vars ps) → ConditionUses (length vars) o
-condition_uses sig vars ps None ok h = tt
-condition_uses sig vars ps (Some p) ok (sort, name, info, there, kind, sorted, only) =
+    (names : List Name) → IsSignature sig → IfSome o (IsCondition sig vars ps names)
+    → ConditionUses (length vars) o
+condition_uses sig vars ps None names ok h = tt
+condition_uses sig vars ps (Some p) names ok (sort, name, info, there, kind, sorted, only) =
     λ x i. sorted_uses sig vars p sort x ok sorted i
 
 condition_shifted : (n k : ℕ) (o : Option Pattern) → ConditionUses k o
@@ -202,10 +302,14 @@ below_rule theory r p ok few there says = go ok.one_sort
         subst (IsBelow 0) (sym says.says)
         (closes r.variables _ (few.rules r there) (
           (
-            (λ x i. sorted_uses theory.sig r.variables r.left sort x ok.signature is.left i),
+            below_left (length r.variables) (of_child 0 r.names) r.left
+                (below_child (length r.variables) 0 r.names
+                (names_below theory.sig r.variables (more_patterns r.left no_pattern) r.names
+                is.names))
+                (λ x i. sorted_uses theory.sig r.variables r.left sort x ok.signature is.left i),
             below_condition theory.sig r.variables (length r.variables) r.condition says.condition
                 (condition_uses theory.sig r.variables (more_patterns r.left no_pattern)
-                r.condition ok.signature is.condition) says.conditional,
+                r.condition r.names ok.signature is.condition) says.conditional,
           ),
           (λ x i. sorted_uses theory.sig r.variables r.right sort x ok.signature is.right i),
         ))
@@ -242,7 +346,11 @@ below_equation theory f e p ok few for says = go says
 
     condition : ConditionUses (length e.variables) e.condition
     condition =
-        condition_uses theory.sig e.variables e.arguments e.condition ok.signature is.condition
+        condition_uses theory.sig e.variables e.arguments e.condition e.names ok.signature
+        is.condition
+
+    named : AreNamesBelow (length e.variables) e.names
+    named = names_below theory.sig e.variables e.arguments e.names is.names
 
     go : SaysEquation theory.sig f e p → IsBelow 0 p
     go (direct c none conditional says_it) =
@@ -250,7 +358,10 @@ below_equation theory f e p ok few for says = go says
         (closes e.variables _ (omega (arith, few.equations f e for.listed)) (
           below_condition theory.sig e.variables (length e.variables) e.condition c condition
               conditional,
-          (arguments, right),
+          (
+            below_sides (length e.variables) e.names 0 (symbol f) e.arguments named tt arguments,
+            right,
+          ),
         ))
     go (kompile c info sorts sort some many declared conditional says_it) =
         let k : ℕ = length (sorts ++ e.variables) in
@@ -271,7 +382,11 @@ below_equation theory f e p ok few for says = go says
                 ConditionUses m (option_map (shifted (length sorts)) e.condition)) (sym long)
                 (condition_shifted (length sorts) (length e.variables) e.condition condition))
                 conditional,
-            below_meets k 0 (all_shifted (length sorts) e.arguments) (omega (arith, count, long))
+            below_meets k (map (name_behind (length sorts)) e.names) 0
+                (all_shifted (length sorts) e.arguments)
+                (subst (λ (m : ℕ). AreNamesBelow m (map (name_behind (length sorts)) e.names))
+                (sym long) (names_behind (length sorts) (length e.variables) e.names named))
+                (omega (arith, count, long))
                 (λ x i. omega (
                   arith,
                   long,

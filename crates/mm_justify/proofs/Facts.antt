@@ -20,6 +20,7 @@ use Rattle.term_core.specs.Patterns.{domain_value, injection, call, no_pattern, 
 use Rattle.term_core.specs.Terms.{DomainValue}
 use Rattle.rule_core.specs.Matching.{OccursInSome}
 use Rattle.rule_core.specs.Theories.{RewriteTheory}
+use Rattle.rule_core.specs.NamedParts.{Name}
 use Rattle.rule_core.specs.declared.signature.Signature.{Signature}
 use Rattle.ml_image.specs.Tokens.{token_of_symbol, number_in_names}
 use Rattle.ml_image.specs.Images.{both, sort_image, symbol_image, image_of, applied}
@@ -27,6 +28,7 @@ use Rattle.ml_image.specs.Sentences.{Sentence, term, symbol, apply, not, and, im
 use Rattle.ml_image.specs.Sentences.{functional, exists, next, sentence_image, for_all, variables}
 use Rattle.ml_image.specs.Sentences.{apply_all}
 use Rattle.ml_image.specs.Sentences.{conjunctions}
+use Rattle.ml_image.specs.NamedSides.{left_sentence, applied_sides, of_child}
 use Rattle.ml_image.specs.OwnAxioms.{direct, kompile, behind_parameters, meets, of_variables}
 use Rattle.ml_image.specs.OwnAxioms.{IsOwnAxiom, of_rule, of_equation, total, apart, free, subsort}
 use Rattle.ml_image.specs.OwnAxioms.{collapse}
@@ -130,12 +132,15 @@ symbol_no_variable sig names f p is =
     let w = map_there logic.constant (number_in_names names (token_of_symbol sig f)) p is in
     ap is_variable w.2
 
-applied_no_variable : (sig : Signature) (names : List Token) (ps : RulePatterns)
-    (head : Option Pattern) → NoVariable head → NoVariable (applied sig names head ps)
-applied_no_variable sig names no_pattern head lacks = lacks
-applied_no_variable sig names (more_patterns q qs) head lacks =
-    applied_no_variable sig names qs (both logic.app head (image_of sig names q))
-    (λ p is. ap is_variable (both_there logic.app head (image_of sig names q) p is).4)
+sides_no_variable : (sig : Signature) (names : List Token) (parts : List Name) (k : ℕ)
+    (head : Sentence) (ps : RulePatterns) → NoVariable (sentence_image sig names head)
+    → NoVariable (sentence_image sig names (applied_sides parts k head ps))
+sides_no_variable sig names parts k head no_pattern lacks = lacks
+sides_no_variable sig names parts k head (more_patterns q qs) lacks =
+    let side : Sentence = left_sentence (of_child k parts) q in
+    sides_no_variable sig names parts (k + 1) (apply head side) qs
+    (λ p is. ap is_variable
+    (both_there logic.app (sentence_image sig names head) (sentence_image sig names side) p is).4)
 
 apply_no_variable : (sig : Signature) (names : List Token) (qs : List Sentence) (head : Sentence)
     → NoVariable (sentence_image sig names head)
@@ -205,17 +210,18 @@ own_no : (theory : RewriteTheory) (names : List Token) (s : Sentence) → IsOwnA
     → NoFact theory.sig names s
 own_no theory names s (of_rule r there says) =
     subst (NoFact theory.sig names) (sym says.says) (closed_no theory.sig names 0 r.variables _
-    (implies_no theory.sig names (term r.left) says.condition (next (term r.right))))
+    (implies_no theory.sig names (left_sentence (of_child 0 r.names) r.left) says.condition
+    (next (term r.right))))
 own_no theory names s (of_equation f e there (direct c none says is)) =
     subst (NoFact theory.sig names) (sym is) (closed_no theory.sig names 0 e.variables _
-    (equation_no theory.sig names c (term (call f [] e.arguments)) (term e.right)
-    (applied_no_variable theory.sig names e.arguments (symbol_image theory.sig names f)
+    (equation_no theory.sig names c (applied_sides e.names 0 (symbol f) e.arguments) (term e.right)
+    (sides_no_variable theory.sig names e.names 0 (symbol f) e.arguments
     (symbol_no_variable theory.sig names f))))
 own_no theory names s
     (of_equation f e there (kompile c info sorts sort some many declared says is)) =
     subst (NoFact theory.sig names) (sym is) (closed_no theory.sig names 0
     (behind_parameters sorts e).variables _ (implies_no theory.sig names c
-    (meets 0 (behind_parameters sorts e).arguments)
+    (meets (behind_parameters sorts e).names 0 (behind_parameters sorts e).arguments)
     (equals (of_variables f 0 (length sorts)) (term (behind_parameters sorts e).right))))
 own_no theory names s (total f says) =
     subst (NoFact theory.sig names) (sym says.says) (closed_no theory.sig names 0 says.sorts _

@@ -21,7 +21,8 @@ use Rattle.ml_image.specs.Tokens.{sort_token, symbol_token, value_token, name_at
 use Rattle.ml_image.specs.Tokens.{token_of_symbol, token_of_value, number_in_names}
 use Rattle.ml_image.specs.Images.{both, symbol_image, sort_image, at_sorts, injection_symbol}
 use Rattle.ml_image.specs.Images.{some_symbol_image, injection_image, image_of, applied}
-use Rattle.ml_image.specs.Sentences.{Sentence, term, symbol, apply, top, not, and, implies, equals}
+use Rattle.ml_image.specs.Sentences.{Sentence, term, symbol, inject, apply, top, not, and, implies}
+use Rattle.ml_image.specs.Sentences.{equals}
 use Rattle.ml_image.specs.Sentences.{is_in, functional, exists, forall, next, sentence_image}
 use Rattle.ml_image.proofs.ImageLaws.{none_some, some_same}
 use Rattle.mm_proof.specs.Tokens.{name_of}
@@ -205,6 +206,12 @@ some_leaves : (sig : Signature) (names : List Token) (f : LeafFacts) → Known n
 some_leaves sig names f known None p h = absurd (none_some p h)
 some_leaves sig names f known (Some g) p h = symbol_leaves sig names f known g p h
 
+pub inject_leaves : (sig : Signature) (names : List Token) (f : LeafFacts) → Known names f
+    → (a b : ℕ) → Each f (injection_image sig names a b)
+inject_leaves sig names f known a b =
+    sorts_leaves sig names f known (a ∷ b ∷ []) (some_symbol_image sig names (injection_symbol sig))
+    (some_leaves sig names f known (injection_symbol sig))
+
 -- the image of a pattern, if the fact is true of its variables
 mutual
   pub term_leaves : (sig : Signature) (names : List Token) (f : LeafFacts) → Known names f
@@ -219,9 +226,7 @@ mutual
       (symbol_leaves sig names f known g) p h
   term_leaves sig names f known (injection a b q) objects p h =
       two_leaves f app (λ x y hx hy. (hx, hy)) (injection_image sig names a b)
-      (image_of sig names q) (sorts_leaves sig names f known (a ∷ b ∷ [])
-      (some_symbol_image sig names (injection_symbol sig))
-      (some_leaves sig names f known (injection_symbol sig)))
+      (image_of sig names q) (inject_leaves sig names f known a b)
       (term_leaves sig names f known q objects) p h
   term_leaves sig names f known (call g ss ps) objects p h =
       applied_leaves sig names f known ps (at_sorts sig names (symbol_image sig names g) ss) objects
@@ -244,6 +249,7 @@ pub sentence_leaves : (sig : Signature) (names : List Token) (f : LeafFacts) →
 sentence_leaves sig names f known objects (term a) =
     term_leaves sig names f known a (λ x h. objects x)
 sentence_leaves sig names f known objects (symbol g) = symbol_leaves sig names f known g
+sentence_leaves sig names f known objects (inject a b) = inject_leaves sig names f known a b
 sentence_leaves sig names f known objects (apply a b) =
     two_leaves f logic.app (λ x y hx hy. (hx, hy)) _ _ (sentence_leaves sig names f known objects a)
     (sentence_leaves sig names f known objects b)

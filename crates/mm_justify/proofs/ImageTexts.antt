@@ -5,7 +5,7 @@ use Rattle.std.proofs.lemmas.Fmt.{decimal_by_steps, decimal-digits_of}
 use Rattle.rule_core.specs.declared.signature.Signature.{Signature}
 use Rattle.mm_justify.specs.ImageCases.{DeclaresMoves, MovingSpelt, DeclaresNumbers, NumbersSpelt}
 use Rattle.mm_justify.specs.ImageCases.{DeclaresLists, ListsSpelt, DeclaresAddition, AdditionSpelt}
-use Rattle.mm_justify.specs.ImageCases.{TriedImages}
+use Rattle.mm_justify.specs.ImageCases.{DeclaresParts, PartsSpelt, TriedImages}
 
 -- the digits of a number below 10
 digit : (n : ℕ) → n ≤ 9 → decimal n ≡ (48 + n) ∷ []
@@ -79,5 +79,19 @@ numbers sig h = record {
   sum = rw (h.integers, h.add, d2, d3, d5) refl;
 }
 
+parts : (sig : Signature) → DeclaresParts sig → PartsSpelt sig
+parts sig h = record {
+  part = rw (h.items, h.f, h.g, h.h, d0, d1) refl;
+  whole = rw (h.items, h.f, h.g, h.h, d0, d1, d2, d3) refl;
+  directly = rw (h.items, h.f, h.h, d0, d1, d2) refl;
+  kompiled = rw (h.items, h.f, h.h, d0, d1, d2, d3, d4) refl;
+}
+
 pub tried_images : TriedImages
-tried_images = record { moving = moving; numbers = numbers; lists = lists; additions = additions }
+tried_images = record {
+  moving = moving;
+  numbers = numbers;
+  lists = lists;
+  additions = additions;
+  parts = parts;
+}

@@ -31,6 +31,7 @@ use Rattle.ml_image.specs.Images.{both, image_of, sort_image}
 use Rattle.ml_image.specs.Sentences.{Sentence, term, symbol, top, not, and, implies, equals, exists}
 use Rattle.ml_image.specs.Sentences.{functional, next, sentence_image, for_all, variables}
 use Rattle.ml_image.specs.Sentences.{apply_all, conjunctions}
+use Rattle.ml_image.specs.NamedSides.{left_sentence, applied_sides, of_child}
 use Rattle.ml_image.specs.OwnAxioms.{is_true, sort_of, condition_sentence, direct, kompile}
 use Rattle.ml_image.specs.OwnAxioms.{behind_parameters, meets, of_variables, IsOwnAxiom, of_rule}
 use Rattle.ml_image.specs.OwnAxioms.{of_equation, total, apart, free, subsort, collapse}
@@ -361,16 +362,17 @@ own_other : (theory : RewriteTheory) (ts : List Token) (s : Sentence) → IsOwnA
     → AreOther theory.sig ts s
 own_other theory ts s (of_rule r there says) =
     subst (AreOther theory.sig ts) (sym says.says) (closed_other theory.sig ts 0 r.variables _
-    (after_and_other theory.sig ts (term r.left) says.condition (next (term r.right))))
+    (after_and_other theory.sig ts (left_sentence (of_child 0 r.names) r.left) says.condition
+    (next (term r.right))))
 own_other theory ts s (of_equation f e there (direct c none says is)) =
     subst (AreOther theory.sig ts) (sym is) (closed_other theory.sig ts 0 e.variables _
     (condition_other theory.sig ts e.variables e.condition c
-    (equals (term (call f [] e.arguments)) (term e.right)) says))
+    (equals (applied_sides e.names 0 (symbol f) e.arguments) (term e.right)) says))
 own_other theory ts s
     (of_equation f e there (kompile c info sorts sort some many declared says is)) =
     subst (AreOther theory.sig ts) (sym is) (closed_other theory.sig ts 0
     (behind_parameters sorts e).variables _ (after_and_other theory.sig ts c
-    (meets 0 (behind_parameters sorts e).arguments)
+    (meets (behind_parameters sorts e).names 0 (behind_parameters sorts e).arguments)
     (equals (of_variables f 0 (length sorts)) (term (behind_parameters sorts e).right))))
 own_other theory ts s (total f says) =
     subst (AreOther theory.sig ts) (sym says.says) (closed_other theory.sig ts 0 says.sorts

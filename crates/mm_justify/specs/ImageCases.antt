@@ -1,11 +1,13 @@
 -- The images of what small definitions say, token by token.
-use Rattle.std.specs.Prelude.{◌≡◌, ℕ, pos, List, [], ◌∷◌, Some, None, option_map, codes, ◌++◌}
+use Rattle.std.specs.Prelude.{◌≡◌, ℕ, pos, true, false, List, [], ◌∷◌, Some, None, option_map, codes}
+use Rattle.std.specs.Prelude.{◌++◌}
 use Rattle.mm_text.specs.Bytes.{Token}
 use Rattle.mm_header.specs.HeaderRows.{words_of}
 use Rattle.term_core.specs.Terms.{integer}
 use Rattle.term_core.specs.Patterns.{Pattern, Patterns, variable, domain_value, application}
 use Rattle.term_core.specs.Patterns.{injection, call, no_pattern, more_patterns}
 use Rattle.rule_core.specs.Rules.{RewriteRule, Equation}
+use Rattle.rule_core.specs.NamedParts.{Name}
 use Rattle.rule_core.specs.declared.signature.Signature.{Signature}
 use Rattle.ml_image.specs.Tokens.{name_at}
 use Rattle.ml_image.specs.Images.{injection_symbol}
@@ -47,6 +49,7 @@ moving_names =
 abbrev pub moves : RewriteRule
 moves = record {
   left = application 1 (one (injection 1 3 (variable 0)));
+  names = [];
   condition = None;
   right = application 2 (one (injection 1 2 (variable 0)));
   variables = 1 ∷ [];
@@ -88,6 +91,7 @@ ten = domain_value 0 (integer (pos 10))
 abbrev pub above_ten : RewriteRule
 above_ten = record {
   left = application 2 (one (variable 0));
+  names = [];
   condition = Some (call 0 [] (two (variable 0) ten));
   right = application 3 (one (variable 0));
   variables = 0 ∷ [];
@@ -128,6 +132,8 @@ abbrev pub append_nothing : Equation
 append_nothing = record {
   parameters = 2;
   arguments = two (application 1 no_pattern) (variable 0);
+  names = [];
+  last_resort = None;
   condition = None;
   right = variable 0;
   variables = 0 ∷ [];
@@ -139,6 +145,8 @@ abbrev pub append_item : Equation
 append_item = record {
   parameters = 2;
   arguments = two (application 0 (two (variable 0) (variable 1))) (variable 2);
+  names = [];
+  last_resort = None;
   condition = None;
   right = application 0 (two (variable 0) (call 2 [] (two (variable 1) (variable 2))));
   variables = 1 ∷ 0 ∷ 0 ∷ [];
@@ -206,6 +214,7 @@ addition = record {
       (application 1 (two (injection 1 2
       (application 2 (two (injection 0 1 (variable 0)) (injection 0 1 (variable 1))))) (variable
       2))));
+  names = [];
   condition = None;
   right = application 4
       (one (application 1
@@ -232,8 +241,77 @@ pub record AdditionSpelt (sig : Signature) : Type 0 where
       ++ codes "s:SortKItem ) ( \\app ( \\at ( \\at f:inj s:SortInt ) s:SortExp ) x:0 ) ) ( "
       ++ codes "\\app ( \\at ( \\at f:inj s:SortInt ) s:SortKItem ) x:0 ) ) )")
 
+-- ---- names of parts of left sides
+
+pub record DeclaresParts (sig : Signature) : Type 0 where
+  pub items : name_at sig.sorts 0 ≡ Some (codes "S")
+  pub f : name_at sig.symbols 0 ≡ Some (codes "f")
+  pub g : name_at sig.symbols 1 ≡ Some (codes "g")
+  pub h : name_at sig.symbols 2 ≡ Some (codes "h")
+
+abbrev pub part_names : List Token
+part_names = codes "s:S" ∷ codes "f:f" ∷ codes "f:g" ∷ codes "f:h" ∷ []
+
+abbrev pub named_after : ℕ → List ℕ → Name
+named_after x place = record { variable = x; place = place; first = false }
+
+-- `g(\and(f(X), Y)) => h(X, Y)`
+abbrev pub names_part : RewriteRule
+names_part = record {
+  left = application 1 (one (application 0 (one (variable 0))));
+  names = named_after 1 (0 ∷ 0 ∷ []) ∷ [];
+  condition = None;
+  right = application 2 (two (variable 0) (variable 1));
+  variables = 0 ∷ 0 ∷ [];
+  priority = 50;
+  place = 0;
+}
+
+-- `\and(Z, \and(g(\and(f(X), Y)), W)) => h(Z, W)`: a name that is written first, around another
+abbrev pub names_whole : RewriteRule
+names_whole = record names_part {
+  names =
+      named_after 1 (0 ∷ 0 ∷ []) ∷ named_after 2 (0 ∷ [])
+      ∷ record { variable = 3; place = 0 ∷ []; first = true } ∷ [];
+  variables = 0 ∷ 0 ∷ 0 ∷ 0 ∷ [];
+}
+
+-- `h(f(X), \and(f(Y), Z)) = Z`
+abbrev pub names_argument : Equation
+names_argument = record {
+  parameters = 2;
+  arguments =
+      two (application 0 (one (variable 0))) (application 0 (one (variable 1)));
+  names = named_after 2 (1 ∷ []) ∷ [];
+  last_resort = None;
+  condition = None;
+  right = variable 2;
+  variables = 0 ∷ 0 ∷ 0 ∷ [];
+  priority = 50;
+  place = 0;
+}
+
+pub record PartsSpelt (sig : Signature) : Type 0 where
+  pub part : IsSpelt sig part_names (rule_sentence names_part top)
+      (codes "( \\all x:0 s:S ( \\all x:1 s:S ( \\imp ( \\and ( \\app f:g ( \\and ( \\app f:f x:0 "
+      ++ codes ") x:1 ) ) \\top ) ( \\next ( \\app ( \\app f:h x:0 ) x:1 ) ) ) ) )")
+  pub whole : IsSpelt sig part_names (rule_sentence names_whole top)
+      (codes "( \\all x:0 s:S ( \\all x:1 s:S ( \\all x:2 s:S ( \\all x:3 s:S ( \\imp ( \\and ( "
+      ++ codes "\\and x:3 ( \\and ( \\app f:g ( \\and ( \\app f:f x:0 ) x:1 ) ) x:2 ) ) \\top ) ( "
+      ++ codes "\\next ( \\app ( \\app f:h x:0 ) x:1 ) ) ) ) ) ) )")
+  pub directly : IsSpelt sig part_names (direct_sentence 2 names_argument top)
+      (codes "( \\all x:0 s:S ( \\all x:1 s:S ( \\all x:2 s:S ( \\imp \\top ( \\eq ( \\app ( \\app "
+      ++ codes "f:h ( \\app f:f x:0 ) ) ( \\and ( \\app f:f x:1 ) x:2 ) ) x:2 ) ) ) ) )")
+  pub kompiled : IsSpelt sig part_names
+      (kompile_sentence 2 2 (behind_parameters (0 ∷ 0 ∷ []) names_argument) top)
+      (codes "( \\all x:0 s:S ( \\all x:1 s:S ( \\all x:2 s:S ( \\all x:3 s:S ( \\all x:4 s:S ( "
+      ++ codes "\\imp ( \\and \\top ( \\and ( \\mem x:0 ( \\app f:f x:2 ) ) ( \\and ( \\mem x:1 ( "
+      ++ codes "\\and ( \\app f:f x:3 ) x:4 ) ) \\top ) ) ) ( \\eq ( \\app ( \\app f:h x:0 ) x:1 ) "
+      ++ codes "x:4 ) ) ) ) ) ) )")
+
 pub record TriedImages : Type 0 where
   pub moving : (sig : Signature) → DeclaresMoves sig → MovingSpelt sig
   pub numbers : (sig : Signature) → DeclaresNumbers sig → NumbersSpelt sig
   pub lists : (sig : Signature) → DeclaresLists sig → ListsSpelt sig
   pub additions : (sig : Signature) → DeclaresAddition sig → AdditionSpelt sig
+  pub parts : (sig : Signature) → DeclaresParts sig → PartsSpelt sig

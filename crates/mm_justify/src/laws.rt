@@ -14,7 +14,7 @@ ghost use Rattle.mm_justify.specs.StatingLaws.{ClaimsAreHolds, NamesAreNames};
 
 /// By the definition, a small text justifies a run, and no program has an axiom that one symbol
 /// reaches another. Frames of an axiom with two variables are accepted or not, as they should be.
-/// The images of what four small definitions say have the expected tokens.
+/// The images of what five small definitions say have the expected tokens.
 pub fn tried()
     ensures justifies { SmallJustifies }
     ensures refuses { ConclusionIsNoAxiom }

@@ -3,7 +3,7 @@ use Rattle.ml_pat.specs.Patterns.{Pattern}
 use Rattle.term_core.specs.Patterns.{Pattern as RulePattern}
 use Rattle.term_core.specs.RulePatterns.{plain_pattern}
 use Rattle.ml_image.specs.Images.{image_of}
-use Rattle.ml_image.proofs.SentenceLaws.{shifted-zero}
+use Rattle.ml_image.proofs.NamedLaws.{shifted-zero}
 use Rattle.ml_image.proofs.images.term_image.Goals as goal
 
 pub returns-clause-image : goal.returns-clause-image

@@ -3,11 +3,12 @@ use Rattle.ml_pat.specs.Patterns.{Pattern}
 use Rattle.ml_pat.specs.Patterns as logic
 use Rattle.term_core.specs.RulePatterns.{plain_pattern, sort_numbers}
 use Rattle.term_core.specs.PatternLists.{plain_patterns}
-use Rattle.rule_core.specs.ProgramView.{sorts_of, function_equation}
+use Rattle.rule_core.specs.ProgramView.{sorts_of, names_of, function_equation}
 use Rattle.rule_core.specs.declared.rules.VarInfo.{VarInfo}
 use Rattle.ml_image.specs.Counted.{IsConditionImage}
 use Rattle.ml_image.proofs.ImageLaws.{gained_twice}
 use Rattle.ml_image.proofs.ConditionLaws.{HasImage-more, HaveImages-more}
+use Rattle.ml_image.proofs.NamedLaws.{below_more}
 use Rattle.ml_image.proofs.SentenceLaws.{direct_closes}
 use Rattle.ml_image.proofs.rules.direct_image.Goals as goal
 
@@ -17,6 +18,13 @@ call_image-requires-clause-arguments c =
     omega (arith, c.requires.equation.few) in
     HaveImages-more c.args.sig.now (length (sorts_of c.args.equation.now.vars.items)) 4294967296
     (plain_patterns c.args.equation.now.args.items) few c.requires.equation.arguments
+
+pub call_image-requires-clause-names : goal.call_image-requires-clause-names
+call_image-requires-clause-names c =
+    let few : length (sorts_of c.args.equation.now.vars.items) ≤ 4294967296 =
+    omega (arith, c.requires.equation.few) in
+    below_more (length (sorts_of c.args.equation.now.vars.items)) 4294967296
+    (names_of c.args.equation.now.named.items) few c.requires.equation.names
 
 pub term_image-requires : goal.term_image-requires
 term_image-requires c =
