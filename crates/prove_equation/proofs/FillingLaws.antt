@@ -13,7 +13,7 @@ use Rattle.term_core.specs.Patterns.{Pattern as RulePattern, variable, domain_va
 use Rattle.term_core.specs.Patterns.{injection, call, binding, ground_pattern}
 use Rattle.rule_core.specs.Rules.{Equation}
 use Rattle.rule_core.specs.Sorting.{HasSort, HasValue, IsTermOf, IsSymbol, sort_at}
-use Rattle.rule_core.specs.Matching.{MatchAll, RespectsSorts}
+use Rattle.rule_core.specs.Matching.{MatchNamed, RespectsSorts}
 use Rattle.rule_core.specs.ProgramView.{theory_of}
 use Rattle.rule_core.specs.WellSorted.{IsWellSorted}
 use Rattle.rule_core.specs.declared.signature.Signature.{Signature}
@@ -22,16 +22,18 @@ use Rattle.rule_core.specs.declared.rules.Program.{Program}
 use Rattle.ml_image.specs.Images.{both, image_of}
 use Rattle.ml_image.specs.HasImages.{HasImage, IsTruth, IsCondition, HasEquationImage}
 use Rattle.ml_image.specs.OwnAxioms.{IsEquationFor, condition_sentence, sort_of, made_sort, is_true}
-use Rattle.ml_image.specs.Sentences.{Sentence, sentence_image, term, equals}
+use Rattle.ml_image.specs.NamedSides.{applied_sides}
+use Rattle.ml_image.specs.Sentences.{Sentence, sentence_image, term, symbol, equals}
 use Rattle.ml_image.specs.Sentences as says
 use Rattle.ml_image.proofs.ImageLaws.{some_same}
 use Rattle.prove_term.specs.Contexts.{Context, HasContext, HasGrown, StaysIn}
 use Rattle.prove_term.specs.Filling.{filled}
+use Rattle.prove_term.specs.FilledSides.{filled_sentence}
 use Rattle.prove_term.specs.Values.{SaysValue}
 use Rattle.prove_term.proofs.ContextLaws.{stays_grown}
 use Rattle.prove_term.proofs.EquationLaws.{says_equation_grown}
 use Rattle.prove_term.proofs.ImageShapes.{both_some}
-use Rattle.prove_schema.specs.Schemas.{with_metas, meta_facts, parts_of}
+use Rattle.prove_schema.specs.Schemas.{with_metas, meta_facts, parts_of, IsOpenFrom}
 use Rattle.prove_schema.specs.Using.{IsProved, by_condition, IsUsable, IsUsed, StaysUsed}
 use Rattle.prove_schema.specs.Elements.{AllBound, AreElementsFor}
 use Rattle.prove_schema.proofs.OpenLaws.{image_is_open, open_metas, open_no_variable}
@@ -40,7 +42,9 @@ use Rattle.prove_schema.proofs.InstanceLaws.{AreImages, AllThere, filled_image, 
 use Rattle.prove_schema.proofs.UsingLaws.{as_many_facts, facts_closed}
 use Rattle.prove_schema.proofs.ElementLaws.{pattern_grown}
 use Rattle.prove_schema.proofs.BindingLaws.{HasImages, elements_have, elements_within, proved_fact}
-use Rattle.prove_schema.proofs.SentenceLaws.{schema_over_places}
+use Rattle.prove_schema.proofs.SentenceLaws.{sentence_is_open, schema_over_places}
+use Rattle.prove_schema.proofs.LeftSides.{IsSide, names_below, applied_is_side, side_is_open}
+use Rattle.prove_schema.proofs.LeftSides.{filled_side}
 use Rattle.prove_equation.specs.EquationLemmas.{SaysEquationSchema, IsEquationLemma}
 use Rattle.prove_equation.specs.Conditions.{CanUseAt, SaysCondition, BindsEach, listed}
 use Rattle.prove_equation.specs.Filled.{CanFill, SaysFilledEquation}
@@ -81,15 +85,15 @@ pub all_there : (vars : List ℕ) (theta : List (Option Tree)) → BindsEach var
     → AllThere theta (length vars)
 all_there vars theta binds x low = some_there (binding theta x) (binds x low)
 
--- ---- a lemma of an equality of patterns
+-- ---- a lemma of an equality of a left side and a pattern
 
-pub record IsEqualitySchema (cx : Context) (vars : List ℕ) (l r : RulePattern)
+pub record IsEqualitySchema (cx : Context) (vars : List ℕ) (l : Sentence) (r : RulePattern)
     (parts : List Pattern) (lemma : Theorem) : Type 0 where
   pub numbers : List ℕ
   pub are : AreNumbers cx.program.sig cx.names vars numbers
   pub left : Pattern
-  pub left_image : image_of cx.program.sig cx.names l ≡ Some left
-  pub left_has : HasImage cx.program.sig (length vars) l
+  pub left_image : sentence_image cx.program.sig cx.names l ≡ Some left
+  pub left_has : IsSide cx.program.sig (length vars) l
   pub right : Pattern
   pub right_image : image_of cx.program.sig cx.names r ≡ Some right
   pub right_has : HasImage cx.program.sig (length vars) r
@@ -97,9 +101,16 @@ pub record IsEqualitySchema (cx : Context) (vars : List ℕ) (l r : RulePattern)
   pub assumes : (h : Pattern) → Contains lemma.hypotheses h
       → Contains (meta_facts 0 numbers ++ parts) h
 
+left_open : (cx : Context) (vars : List ℕ) (l : Sentence) (r : RulePattern) (parts : List Pattern)
+    (lemma : Theorem) (s : IsEqualitySchema cx vars l r parts lemma)
+    → IsOpenFrom 0 (length vars) s.left
+left_open cx vars l r parts lemma s =
+    sentence_is_open cx.program.sig cx.names (length vars) l
+    (side_is_open cx.program.sig (length vars) l s.left_has) s.left s.left_image
+
 -- the lemma can be used if the parts of its condition are proved
-pub schema_usable : (cx : Context) (vars : List ℕ) (l r : RulePattern) (parts : List Pattern)
-    (lemma : Theorem) (theta : List (Option Tree)) (ts others : List Theorem)
+pub schema_usable : (cx : Context) (vars : List ℕ) (l : Sentence) (r : RulePattern)
+    (parts : List Pattern) (lemma : Theorem) (theta : List (Option Tree)) (ts others : List Theorem)
     (s : IsEqualitySchema cx vars l r parts lemma) → (i : HasImages cx theta s.numbers ts)
     → ((h : Pattern) → Contains parts h → IsProved i.patterns s.numbers others h)
     → IsUsable i.patterns s.numbers lemma ts others
@@ -109,8 +120,7 @@ schema_usable cx vars l r parts lemma theta ts others s i proved =
     let total : length vars ≡ length i.patterns =
     sym (numbers_length cx.program.sig cx.names vars s.numbers s.are) ∙ many.1 ∙ sym many.0 in
     let left : IsMetaBelow (length vars) (with_metas s.left) =
-    open_metas 0 (length vars) s.left (image_is_open cx.program.sig cx.names (length vars) l
-    s.left_has s.left s.left_image) in
+    open_metas 0 (length vars) s.left (left_open cx vars l r parts lemma s) in
     let right : IsMetaBelow (length vars) (with_metas s.right) =
     open_metas 0 (length vars) s.right (image_is_open cx.program.sig cx.names (length vars) r
     s.right_has s.right s.right_image) in
@@ -133,17 +143,18 @@ schema_usable cx vars l r parts lemma theta ts others s i proved =
     one h (inr part) = proved h part
 
 -- what the lemma says of the terms
-pub record SaysOfTerms (cx : Context) (theta : List (Option Tree)) (l r : RulePattern)
+pub record SaysOfTerms (cx : Context) (theta : List (Option Tree)) (l : Sentence) (r : RulePattern)
     (p : Pattern) : Type 0 where
   pub left : Pattern
-  pub left_image : image_of cx.program.sig cx.names (filled theta l) ≡ Some left
+  pub left_image : sentence_image cx.program.sig cx.names (filled_sentence theta l) ≡ Some left
   pub right : Pattern
   pub right_image : image_of cx.program.sig cx.names (filled theta r) ≡ Some right
   pub says : p ≡ equal left right
   pub no_variable : HasNoVariable left × HasNoVariable right
 
-pub schema_says : (cx : Context) (vars : List ℕ) (l r : RulePattern) (parts : List Pattern)
-    (lemma : Theorem) (theta : List (Option Tree)) (ts : List Theorem) (t : Theorem)
+pub schema_says : (cx : Context) (vars : List ℕ) (l : Sentence) (r : RulePattern)
+    (parts : List Pattern) (lemma : Theorem) (theta : List (Option Tree)) (ts : List Theorem)
+    (t : Theorem)
     (s : IsEqualitySchema cx vars l r parts lemma) → (i : HasImages cx theta s.numbers ts)
     → AllThere theta (length vars) → t.conclusion ≡ instance i.patterns lemma.conclusion
     → SaysOfTerms cx theta l r t.conclusion
@@ -152,7 +163,7 @@ schema_says cx vars l r parts lemma theta ts t s i there is =
     record {
       left = instance i.patterns (with_metas s.left);
       left_image =
-          filled_image cx.program.sig cx.names theta i.patterns (length vars) l i.images there
+          filled_side cx.program.sig cx.names theta i.patterns (length vars) l i.images there
           s.left_has s.left s.left_image;
       right = instance i.patterns (with_metas s.right);
       right_image =
@@ -160,9 +171,8 @@ schema_says cx vars l r parts lemma theta ts t s i there is =
           s.right_has s.right s.right_image;
       says = is ∙ ap (instance i.patterns) s.says;
       no_variable = (
-        instance_closed i.patterns (with_metas s.left) closed (open_no_variable 0 (length vars)
-            s.left
-            (image_is_open cx.program.sig cx.names (length vars) l s.left_has s.left s.left_image)),
+        instance_closed i.patterns (with_metas s.left) closed
+            (open_no_variable 0 (length vars) s.left (left_open cx vars l r parts lemma s)),
         instance_closed i.patterns (with_metas s.right) closed (open_no_variable 0 (length vars)
             s.right (image_is_open cx.program.sig cx.names (length vars) r s.right_has s.right
             s.right_image)),
@@ -170,19 +180,20 @@ schema_says cx vars l r parts lemma theta ts t s i there is =
     }
 
 -- the result stays in the context
-pub schema_stays : (cx : Context) (vars : List ℕ) (l r : RulePattern) (parts : List Pattern)
-    (lemma : Theorem) (theta : List (Option Tree)) (ts others : List Theorem) (t : Theorem)
+pub schema_stays : (cx : Context) (vars : List ℕ) (l : Sentence) (r : RulePattern)
+    (parts : List Pattern) (lemma : Theorem) (theta : List (Option Tree)) (ts others : List Theorem)
+    (t : Theorem)
     → IsEqualitySchema cx vars l r parts lemma → Contains cx.lemmas lemma
     → AreElementsFor cx theta ts → ((s : Scope) → HasContext s cx → AreWithin s others)
     → StaysUsed lemma ts others t → StaysIn cx t
 schema_stays cx vars l r parts lemma theta ts others t s there are stay used scope has =
-    let image : sentence_image cx.program.sig cx.names (equals (term l) (term r)) ≡ Some
+    let image : sentence_image cx.program.sig cx.names (equals l (term r)) ≡ Some
     (equal s.left s.right) =
     ap (λ (o : Option Pattern). both equal o (image_of cx.program.sig cx.names r)) s.left_image
     ∙ ap (both equal (Some s.left)) s.right_image in
     used scope (has.lemmas lemma there)
     (subst (λ (p : Pattern). IsOverPlaces scope p) (sym s.says)
-    (schema_over_places scope cx (equals (term l) (term r)) (equal s.left s.right) has image))
+    (schema_over_places scope cx (equals l (term r)) (equal s.left s.right) has image))
     (elements_within scope cx theta ts has are) (stay scope has)
 
 -- ---- the condition
@@ -330,8 +341,8 @@ can_use_grown {old} {new} {f} {e} {lemma} {theta} {ts} {o} g can = record {
   own = subst (λ (p : Program). IsEquationFor (theory_of p) f e) (sym g.program) can.own;
   is_lemma = equation_lemma_grown old new f e lemma g can.is_lemma;
   matches =
-      subst (λ (p : Program). MatchAll p.sig e.variables e.arguments ts theta) (sym g.program)
-      can.matches;
+      subst (λ (p : Program). MatchNamed p.sig e.variables e.arguments e.names ts theta)
+      (sym g.program) can.matches;
   bound = can.bound;
   condition = condition_grown old new e.variables theta e.condition o g can.condition;
 }
@@ -358,7 +369,7 @@ shape_of cx f e lemma none s =
 direct_schema : (cx : Context) (f : ℕ) (e : Equation) (lemma : Theorem)
     → HasEquationImage cx.program.sig f e → (s : SaysEquationSchema cx f e lemma)
     → (d : IsDirect cx.program.sig cx.names f e s.sentence)
-    → IsEqualitySchema cx e.variables (call f [] e.arguments) e.right
+    → IsEqualitySchema cx e.variables (applied_sides e.names 0 (symbol f) e.arguments) e.right
     (parts_of (with_metas d.condition)) lemma
 direct_schema cx f e lemma has s d =
     let same : (s.numbers ≡ d.numbers) × (s.condition ≡ d.condition) ×
@@ -370,7 +381,9 @@ direct_schema cx f e lemma has s d =
       are = d.are;
       left = d.left;
       left_image = d.left_image;
-      left_has = (has.function, tt, has.arguments);
+      left_has =
+          applied_is_side cx.program.sig (length e.variables) e.names 0 (symbol f) e.arguments
+          (names_below (length e.variables) e.names has.names) tt has.arguments;
       right = d.right;
       right_image = d.right_image;
       right_has = has.right;
@@ -393,7 +406,8 @@ pub record IsCited (cx : Context) (f : ℕ) (e : Equation) (lemma : Theorem)
 record IsReadyToFill (cx : Context) (f : ℕ) (e : Equation) (lemma : Theorem)
     (theta : List (Option Tree)) (o : Option Theorem) (ts : List Theorem) : Type 0 where
   parts : List Pattern
-  schema : IsEqualitySchema cx e.variables (call f [] e.arguments) e.right parts lemma
+  schema : IsEqualitySchema cx e.variables (applied_sides e.names 0 (symbol f) e.arguments) e.right
+      parts lemma
   images : HasImages cx theta schema.numbers ts
   proved : (h : Pattern) → Contains parts h → IsProved images.patterns schema.numbers (listed o) h
 
@@ -430,7 +444,7 @@ cited_usable cx f e lemma theta o ts w =
     let r : IsReadyToFill cx f e lemma theta o ts = ready cx f e lemma theta o ts w in (
       r.images.patterns,
       r.schema.numbers,
-      schema_usable cx e.variables (call f [] e.arguments) e.right r.parts lemma theta ts
+      schema_usable cx e.variables (applied_sides e.names 0 (symbol f) e.arguments) e.right r.parts lemma theta ts
           (listed o) r.schema r.images r.proved,
     )
 
@@ -441,10 +455,10 @@ pub cited_says : (cx : Context) (f : ℕ) (e : Equation) (lemma : Theorem)
 cited_says cx f e lemma theta o ts t w used =
     let r : IsReadyToFill cx f e lemma theta o ts = ready cx f e lemma theta o ts w in
     let usable : IsUsable r.images.patterns r.schema.numbers lemma ts (listed o) =
-    schema_usable cx e.variables (call f [] e.arguments) e.right r.parts lemma theta ts
+    schema_usable cx e.variables (applied_sides e.names 0 (symbol f) e.arguments) e.right r.parts lemma theta ts
     (listed o) r.schema r.images r.proved in
-    let says : SaysOfTerms cx theta (call f [] e.arguments) e.right t.conclusion =
-    schema_says cx e.variables (call f [] e.arguments) e.right r.parts lemma theta ts t r.schema
+    let says : SaysOfTerms cx theta (applied_sides e.names 0 (symbol f) e.arguments) e.right t.conclusion =
+    schema_says cx e.variables (applied_sides e.names 0 (symbol f) e.arguments) e.right r.parts lemma theta ts t r.schema
     r.images (all_there e.variables theta w.can.bound)
     (used r.images.patterns r.schema.numbers usable) in
     record {
@@ -461,6 +475,6 @@ pub cited_stays : (cx : Context) (f : ℕ) (e : Equation) (lemma : Theorem)
     → IsCited cx f e lemma theta o ts → StaysUsed lemma ts (listed o) t → StaysIn cx t
 cited_stays cx f e lemma theta o ts t w used =
     let r : IsReadyToFill cx f e lemma theta o ts = ready cx f e lemma theta o ts w in
-    schema_stays cx e.variables (call f [] e.arguments) e.right r.parts lemma theta ts (listed o) t
+    schema_stays cx e.variables (applied_sides e.names 0 (symbol f) e.arguments) e.right r.parts lemma theta ts (listed o) t
     r.schema w.can.is_lemma.listed w.elements
     (condition_within cx e.variables theta e.condition o w.can.condition) used

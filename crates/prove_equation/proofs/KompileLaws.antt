@@ -15,6 +15,7 @@ use Rattle.term_core.specs.Forests.{forest}
 use Rattle.term_core.specs.Patterns.{Pattern as RulePattern, Patterns as RulePatterns, variable}
 use Rattle.term_core.specs.Patterns.{domain_value, application, injection, call, no_pattern}
 use Rattle.term_core.specs.Patterns.{more_patterns, binding, ground_pattern, ground_patterns}
+use Rattle.rule_core.specs.NamedParts.{Name}
 use Rattle.rule_core.specs.Rules.{Equation}
 use Rattle.rule_core.specs.Theories.{equations_of}
 use Rattle.rule_core.specs.ProgramView.{theory_of}
@@ -27,13 +28,15 @@ use Rattle.rule_core.specs.declared.signature.SymInfo.{SymInfo}
 use Rattle.rule_core.proofs.SortedInstances.{instances_are_sorted}
 use Rattle.ml_image.specs.Images.{both, image_of, shifted, all_shifted}
 use Rattle.ml_image.specs.HasImages.{HasImage, HaveImages, IsTruth, IsCondition, HasEquationImage}
-use Rattle.ml_image.specs.OwnAxioms.{condition_sentence, is_true, meets, sort_numbered}
-use Rattle.ml_image.specs.Sentences.{sentence_image, symbol, variables}
+use Rattle.ml_image.specs.NamedSides.{left_sentence, of_child}
+use Rattle.ml_image.specs.OwnAxioms.{condition_sentence, is_true, meets, sort_numbered, name_behind}
+use Rattle.ml_image.specs.Sentences.{Sentence, sentence_image, term, symbol, variables}
 use Rattle.ml_image.specs.Sentences as sentence
 use Rattle.ml_image.proofs.ImageLaws.{none_some, some_same}
 use Rattle.ml_image.proofs.SentenceLaws.{one_symbol}
 use Rattle.prove_term.specs.Contexts.{Context, HasContext, HasGrown, StaysIn}
 use Rattle.prove_term.specs.Filling.{filled, all_filled}
+use Rattle.prove_term.specs.FilledSides.{filled_sentence}
 use Rattle.prove_term.specs.Values.{SaysValue, SaysEquationAt}
 use Rattle.prove_term.proofs.ContextLaws.{grown_twice}
 use Rattle.prove_term.proofs.ImageShapes.{both_some}
@@ -41,16 +44,19 @@ use Rattle.prove_schema.specs.Schemas.{with_metas, parts_of, meta_facts}
 use Rattle.prove_schema.specs.Using.{IsProved, by_member, IsUsable, IsUsed, StaysUsed}
 use Rattle.prove_schema.specs.Elements.{IsElementOf, AreElementsFor}
 use Rattle.prove_schema.proofs.ElementLaws.{elements_grown}
-use Rattle.prove_schema.proofs.OpenLaws.{image_is_open, open_metas}
+use Rattle.prove_schema.proofs.OpenLaws.{open_metas}
+use Rattle.prove_schema.proofs.SentenceLaws.{sentence_is_open}
+use Rattle.prove_schema.proofs.LeftSides.{IsSide, AreBelow, names_below, of_child_below}
+use Rattle.prove_schema.proofs.LeftSides.{side_is_open, left_is_side, filled_side}
 use Rattle.prove_schema.proofs.ClosingLaws.{numbers_length}
-use Rattle.prove_schema.proofs.InstanceLaws.{AreImages, AllThere, filled_image}
+use Rattle.prove_schema.proofs.InstanceLaws.{AreImages, AllThere}
 use Rattle.prove_schema.proofs.ScopeLaws.{stays_no_hypotheses}
 use Rattle.prove_schema.proofs.UsingLaws.{as_many_facts}
 use Rattle.prove_equation.specs.EquationLemmas.{SaysEquationSchema}
 use Rattle.prove_equation.specs.Conditions.{CanUseAt, ProvesAt, SaysCondition, listed}
 use Rattle.prove_equation.specs.Parameters.{behind_terms, IsMembership, AreMemberships}
 use Rattle.prove_equation.proofs.ShapeLaws.{IsKompile, kompile_shape, closed_same, condition_is}
-use Rattle.prove_equation.proofs.ShapeLaws.{shifted_has, condition_behind, behind}
+use Rattle.prove_equation.proofs.ShapeLaws.{shifted_has, condition_behind, behind, names_behind}
 use Rattle.prove_schema.proofs.BindingLaws.{HasImages, elements_have}
 use Rattle.prove_equation.proofs.FillingLaws.{IsEqualitySchema, SaysOfTerms, can_use_grown}
 use Rattle.prove_equation.proofs.FillingLaws.{schema_usable, schema_says, schema_stays}
@@ -58,7 +64,8 @@ use Rattle.prove_equation.proofs.FillingLaws.{condition_proved, condition_within
 use Rattle.prove_equation.proofs.FillingLaws.{sort_of_sorted}
 use Rattle.prove_equation.proofs.ParameterLaws.{length-behind, there-behind, elements-behind}
 use Rattle.prove_equation.proofs.ParameterLaws.{AreOfSorts, as_many_sorts, respects-behind}
-use Rattle.prove_equation.proofs.ParameterLaws.{filled-behind, variable_patterns, variables-image}
+use Rattle.prove_equation.proofs.ParameterLaws.{filled-behind, child-behind}
+use Rattle.prove_equation.proofs.ParameterLaws.{variable_patterns, variables-image}
 use Rattle.prove_equation.proofs.ParameterLaws.{variables-have, variables-filled}
 use Rattle.prove_equation.proofs.MembershipLaws.{memberships_grown}
 
@@ -116,6 +123,14 @@ pub record AreAt (cx : Context) (theta : List (Option Tree)) (qs : List Pattern)
   pub there : AllThere theta n
   pub many : n ≡ length qs
 
+-- argument j with the names of its parts, behind k parameters
+abbrev IsMovedSide : Context → List (Option Tree) → List (Option Tree) → ℕ → ℕ → List Name → ℕ
+    → RulePattern → Type 0
+IsMovedSide cx theta whole n k names j p =
+    IsSide cx.program.sig n (left_sentence (of_child j (map (name_behind k) names)) (shifted k p))
+    × (filled_sentence whole (left_sentence (of_child j (map (name_behind k) names)) (shifted k p))
+    ≡ filled_sentence theta (left_sentence (of_child j names) p))
+
 one_more : (j i : ℕ) → j + 1 + i ≡ j + suc i
 one_more j i = omega arith
 
@@ -123,13 +138,14 @@ same_image : (a b : Pattern) (o : Option Pattern) → o ≡ Some a → o ≡ Som
 same_image a b o h k = some_same a b (sym h ∙ k)
 
 member_proved : (cx : Context) (theta whole : List (Option Tree)) (qs : List Pattern) (ns : List ℕ)
-    (others : List Theorem) (n k j : ℕ) (u : Tree) (p : RulePattern) (t : Theorem)
-    (y h : Pattern) → AreAt cx whole qs n → HasImage cx.program.sig n (shifted k p)
-    → filled whole (shifted k p) ≡ filled theta p → IsMembership cx theta p u t
-    → slice_get others j ≡ Some t → binding whole j ≡ Some u
-    → image_of cx.program.sig cx.names (shifted k p) ≡ Some y → h ≡ member (meta j) (with_metas y)
+    (others : List Theorem) (n j : ℕ) (u : Tree) (names : List Name) (p : RulePattern)
+    (s : Sentence) (t : Theorem) (y h : Pattern) → AreAt cx whole qs n
+    → IsSide cx.program.sig n s
+    → filled_sentence whole s ≡ filled_sentence theta (left_sentence names p)
+    → IsMembership cx theta names p u t → slice_get others j ≡ Some t → binding whole j ≡ Some u
+    → sentence_image cx.program.sig cx.names s ≡ Some y → h ≡ member (meta j) (with_metas y)
     → IsProved qs ns others h
-member_proved cx theta whole qs ns others n k j u p t y h at has same (says, stays) place bound
+member_proved cx theta whole qs ns others n j u names p s t y h at has same (says, stays) place bound
     image is =
     let q : (q : Pattern) × ((slice_get qs j ≡ Some q)
     × (image_of cx.program.sig cx.names (ground_pattern u) ≡ Some q)) =
@@ -139,17 +155,17 @@ member_proved cx theta whole qs ns others n k j u p t y h at has same (says, sta
     says.element_image q.1.1 in
     let meta_is : slice_index_or qs j (meta j) ≡ q.0 =
     get_or_from_slice_get qs j q.0 (meta j) q.1.0 in
-    let filled_is : image_of cx.program.sig cx.names (filled theta p) ≡ Some
-    (instance qs (with_metas y)) =
-    ap (image_of cx.program.sig cx.names) (sym same)
-    ∙ filled_image cx.program.sig cx.names whole qs n (shifted k p) at.images at.there has y
-    image in
+    let side : Sentence = filled_sentence theta (left_sentence names p) in
+    let filled_is : sentence_image cx.program.sig cx.names side ≡ Some (instance qs (with_metas y)) =
+    ap (sentence_image cx.program.sig cx.names) (sym same)
+    ∙ filled_side cx.program.sig cx.names whole qs n s at.images at.there has y image in
     let wholes : says.whole ≡ instance qs (with_metas y) =
     same_image says.whole (instance qs (with_metas y))
-    (image_of cx.program.sig cx.names (filled theta p)) says.whole_image filled_is in
+    (sentence_image cx.program.sig cx.names side) says.whole_image filled_is in
     let low : j < length qs = slice_get_within qs j q.0 q.1.0 in
     let open_y : IsMetaBelow n (with_metas y) =
-    open_metas 0 n y (image_is_open cx.program.sig cx.names n (shifted k p) has y image) in
+    open_metas 0 n y
+    (sentence_is_open cx.program.sig cx.names n s (side_is_open cx.program.sig n s has) y image) in
     let below : IsMetaBelow (length qs) (member (meta j) (with_metas y)) =
     (low, subst (λ (m : ℕ). IsMetaBelow m (with_metas y)) at.many open_y) in
     by_member j (with_metas y) t place is (subst (IsMetaBelow (length qs)) (sym is) below)
@@ -157,47 +173,47 @@ member_proved cx theta whole qs ns others n k j u p t y h at has same (says, sta
     ∙ ap (member (slice_index_or qs j (meta j))) wholes ∙ ap (instance qs) (sym is))
 
 members_proved : (cx : Context) (theta whole : List (Option Tree)) (qs : List Pattern) (ns : List ℕ)
-    (others : List Theorem) (n m k j : ℕ) (ps : RulePatterns) (us : List Tree)
-    (ms : List Theorem) (met h : Pattern) → AreAt cx whole qs n → HaveImages cx.program.sig m ps
-    → ((p : RulePattern) → HasImage cx.program.sig m p
-    → HasImage cx.program.sig n (shifted k p) × (filled whole (shifted k p) ≡ filled theta p))
+    (others : List Theorem) (n m k : ℕ) (names : List Name) (j : ℕ) (ps : RulePatterns)
+    (us : List Tree) (ms : List Theorem) (met h : Pattern) → AreAt cx whole qs n
+    → HaveImages cx.program.sig m ps
+    → ((i : ℕ) (p : RulePattern) → HasImage cx.program.sig m p
+    → IsMovedSide cx theta whole n k names i p)
     → ((i : ℕ) (t : Theorem) → slice_get ms i ≡ Some t → slice_get others (j + i) ≡ Some t)
     → ((i : ℕ) (u : Tree) → slice_get us i ≡ Some u → binding whole (j + i) ≡ Some u)
-    → AreMemberships cx theta ps us ms
-    → sentence_image cx.program.sig cx.names (meets j (all_shifted k ps)) ≡ Some met
+    → AreMemberships cx theta names j ps us ms
+    → sentence_image cx.program.sig cx.names
+    (meets (map (name_behind k) names) j (all_shifted k ps)) ≡ Some met
     → Contains (parts_of (with_metas met)) h → IsProved qs ns others h
-members_proved cx theta whole qs ns others n m k j no_pattern us ms met h at has moved places bounds
-    are image part =
+members_proved cx theta whole qs ns others n m k names j no_pattern us ms met h at has moved places
+    bounds are image part =
     absurd (omega (
       arith,
       (subst (λ (q : Pattern). Contains (parts_of (with_metas q)) h)
           (sym (some_same top met image)) part).1,
     ))
-members_proved cx theta whole qs ns others n m k j (more_patterns p ps) [] ms met h at has moved
-    places bounds are image part =
-    absurd are
-members_proved cx theta whole qs ns others n m k j (more_patterns p ps) (u ∷ us) [] met h at has
+members_proved cx theta whole qs ns others n m k names j (more_patterns p ps) [] ms met h at has
     moved places bounds are image part =
     absurd are
-members_proved cx theta whole qs ns others n m k j (more_patterns p ps) (u ∷ us) (t ∷ ms) met h at
+members_proved cx theta whole qs ns others n m k names j (more_patterns p ps) (u ∷ us) [] met h at
     has moved places bounds are image part =
+    absurd are
+members_proved cx theta whole qs ns others n m k names j (more_patterns p ps) (u ∷ us) (t ∷ ms) met h
+    at has moved places bounds are image part =
     let first : Option Pattern =
-    both member (Some (var j)) (image_of cx.program.sig cx.names (shifted k p)) in
+    both member (Some (var j)) (sentence_image cx.program.sig cx.names side) in
     let w : (a : Pattern) × (b : Pattern) ×
-    (both member (Some (var j)) (image_of cx.program.sig cx.names (shifted k p)) ≡ Some a) ×
-    (sentence_image cx.program.sig cx.names (meets (j + 1) (all_shifted k ps)) ≡ Some b) ×
-    (met ≡ and a b) =
-    both_some and (both member (Some (var j)) (image_of cx.program.sig cx.names (shifted k p)))
-    (sentence_image cx.program.sig cx.names (meets (j + 1) (all_shifted k ps))) met image in
+    (both member (Some (var j)) (sentence_image cx.program.sig cx.names side) ≡ Some a) ×
+    (sentence_image cx.program.sig cx.names others_meet ≡ Some b) × (met ≡ and a b) =
+    both_some and first (sentence_image cx.program.sig cx.names others_meet) met image in
     let v : (x : Pattern) × (y : Pattern) × (Some (var j) ≡ Some x) ×
-    (image_of cx.program.sig cx.names (shifted k p) ≡ Some y) × (w.0 ≡ member x y) =
-    both_some member (Some (var j)) (image_of cx.program.sig cx.names (shifted k p)) w.0 w.2 in
+    (sentence_image cx.program.sig cx.names side ≡ Some y) × (w.0 ≡ member x y) =
+    both_some member (Some (var j)) (sentence_image cx.program.sig cx.names side) w.0 w.2 in
     let met_is : met ≡ and (member (var j) v.1) w.1 =
     w.4
     ∙ ap (λ (a : Pattern). and a w.1)
     (v.4 ∙ ap (λ (x : Pattern). member x v.1) (sym (some_same (var j) v.0 v.2))) in
     go v.1 w.1 v.3 w.3 (λ b q is_b there.
-    members_proved cx theta whole qs ns others n m k (j + 1) ps us ms b q at has.1 moved
+    members_proved cx theta whole qs ns others n m k names (j + 1) ps us ms b q at has.1 moved
     (λ x z above. ap (slice_get others) (one_more j x) ∙ places (suc x) z above)
     (λ x z above. ap (binding whole) (one_more j x) ∙ bounds (suc x) z above) are.1 is_b
     there) (subst (λ (q : Pattern). Contains (parts_of (with_metas q)) h) met_is part)
@@ -205,18 +221,23 @@ members_proved cx theta whole qs ns others n m k j (more_patterns p ps) (u ∷ u
     zero_more : j + 0 ≡ j
     zero_more = omega arith
 
-    go : (y b : Pattern) → image_of cx.program.sig cx.names (shifted k p) ≡ Some y
-        → sentence_image cx.program.sig cx.names (meets (j + 1) (all_shifted k ps)) ≡ Some b
+    side : Sentence
+    side = left_sentence (of_child j (map (name_behind k) names)) (shifted k p)
+
+    others_meet : Sentence
+    others_meet = meets (map (name_behind k) names) (j + 1) (all_shifted k ps)
+
+    go : (y b : Pattern) → sentence_image cx.program.sig cx.names side ≡ Some y
+        → sentence_image cx.program.sig cx.names others_meet ≡ Some b
         → ((b q : Pattern)
-        → sentence_image cx.program.sig cx.names (meets (j + 1) (all_shifted k ps)) ≡ Some b
+        → sentence_image cx.program.sig cx.names others_meet ≡ Some b
         → Contains (parts_of (with_metas b)) q → IsProved qs ns others q)
         → Contains (member (meta j) (with_metas y) ∷ parts_of (with_metas b)) h
         → IsProved qs ns others h
     go y b is_y is_b below (zero, low, is) =
-        let here : HasImage cx.program.sig n (shifted k p) ×
-        (filled whole (shifted k p) ≡ filled theta p) =
-        moved p has.0 in
-        member_proved cx theta whole qs ns others n k j u p t y h at here.0 here.1 are.0
+        let here : IsMovedSide cx theta whole n k names j p = moved j p has.0 in
+        member_proved cx theta whole qs ns others n j u (of_child j names) p side t y h at here.0
+        here.1 are.0
         (ap (slice_get others) (sym zero_more) ∙ places zero t refl)
         (ap (binding whole) (sym zero_more) ∙ bounds zero u refl) is_y (sym is)
     go y b is_y is_b below (suc i, low, is) = below b h is_b (i, omega (arith, low), is)
@@ -250,14 +271,14 @@ pub record IsMet (cx : Context) (f : ℕ) (e : Equation) (lemma : Theorem)
   pub kompile : e.parameters ≢ 0
   pub terms : AllZip (IsElementOf cx) us fs
   pub elements : AreElementsFor cx theta gs
-  pub members : AreMemberships cx theta e.arguments us ms
+  pub members : AreMemberships cx theta e.names 0 e.arguments us ms
 
 -- all of it is still known when the context has grown
 pub met_later : {old cx : Context} {f : ℕ} {e : Equation} {lemma : Theorem}
     {theta : List (Option Tree)} {o : Option Theorem} {fs gs ms : List Theorem} (a b : Context)
     (us : List Tree) → HasGrown old a → HasGrown a b → HasGrown b cx
     → CanUseAt old f e lemma theta (forest us) o → e.parameters ≢ 0 → AllZip (IsElementOf a) us fs
-    → AreMemberships b theta e.arguments us ms → AreElementsFor cx theta gs
+    → AreMemberships b theta e.names 0 e.arguments us ms → AreElementsFor cx theta gs
     → IsMet cx f e lemma theta us o fs gs ms
 met_later {old} {cx} {f} {e} {lemma} {theta} {o} {fs} {gs} {ms} a b us g h k can some terms members
     elements =
@@ -266,7 +287,7 @@ met_later {old} {cx} {f} {e} {lemma} {theta} {o} {fs} {gs} {ms} a b us g h k can
       kompile = some;
       terms = elements_grown a cx us fs (grown_twice a b cx h k) terms;
       elements = elements;
-      members = memberships_grown b cx theta e.arguments us ms k members;
+      members = memberships_grown b cx theta e.names 0 e.arguments us ms k members;
     }
 
 -- the equation after its parameters, and the terms before the bindings of the substitution
@@ -280,6 +301,26 @@ record IsPlaced (cx : Context) (f : ℕ) (e : Equation) (p : Pattern) (theta : L
   moved : (p : RulePattern) → HasImage cx.program.sig (length e.variables) p →
       HasImage cx.program.sig (length (shape.sorts ++ e.variables)) (shifted (length shape.sorts) p)
       × (filled (behind_terms us theta) (shifted (length shape.sorts) p) ≡ filled theta p)
+  moved_side : (j : ℕ) (p : RulePattern) → HasImage cx.program.sig (length e.variables) p →
+      IsMovedSide cx theta (behind_terms us theta) (length (shape.sorts ++ e.variables))
+      (length shape.sorts) e.names j p
+
+-- an argument with the names of its parts, behind the parameters
+side_moved : (cx : Context) (theta : List (Option Tree)) (us : List Tree) (n total k : ℕ)
+    (names : List Name) (j : ℕ) (p : RulePattern) → total ≡ k + n → length us ≡ k
+    → AllThere theta n → AreBelow n names → HasImage cx.program.sig n p
+    → IsMovedSide cx theta (behind_terms us theta) total k names j p
+side_moved cx theta us n total k names j p is_total count there low has = (
+  subst (λ (m : ℕ). IsSide cx.program.sig m (left_sentence (of_child j (map (name_behind k) names))
+      (shifted k p))) (sym is_total)
+      (left_is_side cx.program.sig (k + n) (of_child j (map (name_behind k) names)) (shifted k p)
+      (of_child_below (k + n) j (map (name_behind k) names) (names_behind k n names low))
+      (shifted_has cx.program.sig k n p has)),
+  subst (λ (m : ℕ). filled_sentence (behind_terms us theta)
+      (left_sentence (of_child j (map (name_behind m) names)) (shifted m p))
+      ≡ filled_sentence theta (left_sentence (of_child j names) p)) count
+      (child-behind cx.program.sig us theta n names j p there low has),
+)
 
 placed : (cx : Context) (f : ℕ) (e : Equation) (lemma : Theorem) (theta : List (Option Tree))
     (us : List Tree) (o : Option Theorem) (fs gs ms : List Theorem)
@@ -341,6 +382,10 @@ placed cx f e lemma theta us o fs gs ms w =
         subst (λ (k : ℕ). filled (behind_terms us theta) (shifted k p) ≡ filled theta p) count
             (filled-behind cx.program.sig us theta (length e.variables) p there has),
       );
+      moved_side =
+          λ j p has. side_moved cx theta us (length e.variables) (length (d.sorts ++ e.variables))
+          (length d.sorts) e.names j p total count there
+          (names_below (length e.variables) e.names w.can.image.names) has;
     }
 
 -- what the condition's theorem proves
@@ -406,7 +451,7 @@ kompile_schema : (cx : Context) (f : ℕ) (e : Equation) (lemma : Theorem)
     → HasEquationImage cx.program.sig f e → (s : SaysEquationSchema cx f e lemma)
     → (d : IsKompile cx.program.sig cx.names f e s.sentence)
     → IsEqualitySchema cx (d.sorts ++ e.variables)
-    (call f [] (variable_patterns 0 (length d.sorts))) (shifted (length d.sorts) e.right)
+    (term (call f [] (variable_patterns 0 (length d.sorts)))) (shifted (length d.sorts) e.right)
     (parts_of (with_metas (and d.condition d.met))) lemma
 kompile_schema cx f e lemma has s d =
     let same : (s.numbers ≡ d.numbers) × (s.condition ≡ and d.condition d.met) ×
@@ -461,8 +506,8 @@ kompile_proved cx f e lemma theta us o fs gs ms w i h part =
     go (inr met) =
         members_proved cx theta (behind_terms us theta) i.images.patterns i.shape.numbers
         (ms ++ listed o) (length (i.shape.sorts ++ e.variables)) (length e.variables)
-        (length i.shape.sorts) 0 e.arguments us ms i.shape.met h i.at w.can.image.arguments
-        i.moved
+        (length i.shape.sorts) e.names 0 e.arguments us ms i.shape.met h i.at
+        w.can.image.arguments i.moved_side
         (λ x t there.
         ap (slice_get (ms ++ listed o)) (from_zero x) ∙ there_front ms (listed o) x t there)
         (λ x u there.
@@ -480,7 +525,7 @@ met_usable cx f e lemma theta us o fs gs ms w =
       i.images.patterns,
       i.shape.numbers,
       schema_usable cx (i.shape.sorts ++ e.variables)
-          (call f [] (variable_patterns 0 (length i.shape.sorts)))
+          (term (call f [] (variable_patterns 0 (length i.shape.sorts))))
           (shifted (length i.shape.sorts) e.right)
           (parts_of (with_metas (and i.shape.condition i.shape.met))) lemma
           (behind_terms us theta) (fs ++ gs) (ms ++ listed o)
@@ -497,23 +542,23 @@ met_says cx f e lemma theta us o fs gs ms t w used =
     let i : IsPlaced cx f e w.can.is_lemma.says.sentence theta us fs gs =
     placed cx f e lemma theta us o fs gs ms w in
     let schema : IsEqualitySchema cx (i.shape.sorts ++ e.variables)
-    (call f [] (variable_patterns 0 (length i.shape.sorts)))
+    (term (call f [] (variable_patterns 0 (length i.shape.sorts))))
     (shifted (length i.shape.sorts) e.right)
     (parts_of (with_metas (and i.shape.condition i.shape.met))) lemma =
     kompile_schema cx f e lemma w.can.image w.can.is_lemma.says i.shape in
     let usable : IsUsable i.images.patterns i.shape.numbers lemma (fs ++ gs) (ms ++ listed o) =
     schema_usable cx (i.shape.sorts ++ e.variables)
-    (call f [] (variable_patterns 0 (length i.shape.sorts)))
+    (term (call f [] (variable_patterns 0 (length i.shape.sorts))))
     (shifted (length i.shape.sorts) e.right)
     (parts_of (with_metas (and i.shape.condition i.shape.met))) lemma
     (behind_terms us theta) (fs ++ gs) (ms ++ listed o)
     (kompile_schema cx f e lemma w.can.image w.can.is_lemma.says i.shape) i.images
     (kompile_proved cx f e lemma theta us o fs gs ms w i) in
     let says : SaysOfTerms cx (behind_terms us theta)
-    (call f [] (variable_patterns 0 (length i.shape.sorts)))
+    (term (call f [] (variable_patterns 0 (length i.shape.sorts))))
     (shifted (length i.shape.sorts) e.right) t.conclusion =
     schema_says cx (i.shape.sorts ++ e.variables)
-    (call f [] (variable_patterns 0 (length i.shape.sorts)))
+    (term (call f [] (variable_patterns 0 (length i.shape.sorts))))
     (shifted (length i.shape.sorts) e.right)
     (parts_of (with_metas (and i.shape.condition i.shape.met))) lemma
     (behind_terms us theta) (fs ++ gs) t
@@ -541,16 +586,16 @@ within-append : (s : Scope) (ts us : List Theorem) → AreWithin s ts → AreWit
 within-append s [] us h k = k
 within-append s (t ∷ ts) us h k = (h.0, within-append s ts us h.1 k)
 
-members_within : (s : Scope) (cx : Context) (theta : List (Option Tree)) (ps : RulePatterns)
-    (us : List Tree) (ms : List Theorem) → HasContext s cx → AreMemberships cx theta ps us ms
-    → AreWithin s ms
-members_within s cx theta no_pattern [] [] has h = tt
-members_within s cx theta no_pattern [] (m ∷ ms) has h = absurd h
-members_within s cx theta no_pattern (u ∷ us) ms has h = absurd h
-members_within s cx theta (more_patterns p ps) [] ms has h = absurd h
-members_within s cx theta (more_patterns p ps) (u ∷ us) [] has h = absurd h
-members_within s cx theta (more_patterns p ps) (u ∷ us) (m ∷ ms) has h =
-    (h.0.1 s has, members_within s cx theta ps us ms has h.1)
+members_within : (s : Scope) (cx : Context) (theta : List (Option Tree)) (names : List Name)
+    (k : ℕ) (ps : RulePatterns) (us : List Tree) (ms : List Theorem) → HasContext s cx
+    → AreMemberships cx theta names k ps us ms → AreWithin s ms
+members_within s cx theta names k no_pattern [] [] has h = tt
+members_within s cx theta names k no_pattern [] (m ∷ ms) has h = absurd h
+members_within s cx theta names k no_pattern (u ∷ us) ms has h = absurd h
+members_within s cx theta names k (more_patterns p ps) [] ms has h = absurd h
+members_within s cx theta names k (more_patterns p ps) (u ∷ us) [] has h = absurd h
+members_within s cx theta names k (more_patterns p ps) (u ∷ us) (m ∷ ms) has h =
+    (h.0.1 s has, members_within s cx theta names (k + 1) ps us ms has h.1)
 
 met_stays : (cx : Context) (f : ℕ) (e : Equation) (lemma : Theorem) (theta : List (Option Tree))
     (us : List Tree) (o : Option Theorem) (fs gs ms : List Theorem) (t : Theorem)
@@ -560,14 +605,14 @@ met_stays cx f e lemma theta us o fs gs ms t w used =
     let i : IsPlaced cx f e w.can.is_lemma.says.sentence theta us fs gs =
     placed cx f e lemma theta us o fs gs ms w in
     schema_stays cx (i.shape.sorts ++ e.variables)
-    (call f [] (variable_patterns 0 (length i.shape.sorts)))
+    (term (call f [] (variable_patterns 0 (length i.shape.sorts))))
     (shifted (length i.shape.sorts) e.right)
     (parts_of (with_metas (and i.shape.condition i.shape.met))) lemma
     (behind_terms us theta) (fs ++ gs) (ms ++ listed o) t
     (kompile_schema cx f e lemma w.can.image w.can.is_lemma.says i.shape) w.can.is_lemma.listed
     i.elements
     (λ s has. within-append s ms (listed o)
-    (members_within s cx theta e.arguments us ms has w.members)
+    (members_within s cx theta e.names 0 e.arguments us ms has w.members)
     (condition_within cx e.variables theta e.condition o w.can.condition s has)) used
 
 pub met_proves : (cx : Context) (f : ℕ) (e : Equation) (lemma : Theorem)

@@ -1,10 +1,10 @@
 -- Terms are members of the patterns that become them, as these are written.
 use Rattle.std.proofs.Common.{◌≡◌, ◌<◌, ◌≤◌, ◌+◌, ℕ, zero, suc, List, [], ◌∷◌, ◌++◌, Option, Some}
-use Rattle.std.proofs.Common.{None, option_map, length, get_or, take, refl, sym, ◌∙◌, ap, subst}
+use Rattle.std.proofs.Common.{None, length, get_or, take, refl, sym, ◌∙◌, ap, subst}
 use Rattle.std.proofs.Common.{arith}
-use Rattle.std.specs.Prelude.{IfSome, IsSomeAnd}
+use Rattle.std.specs.Prelude.{IsSomeAnd}
 use Rattle.std.specs.List.{AllZip}
-use Rattle.std.proofs.lemmas.List.{take_more}
+use Rattle.std.proofs.lemmas.List.{take_more, length-take-le}
 use Rattle.ml_pat.specs.Patterns.{Pattern, equal, member, var}
 use Rattle.ml_pat.specs.Judgements.{substituted as put_in}
 use Rattle.ml_kernel.specs.Lemmas.{HasNoVariable}
@@ -12,31 +12,29 @@ use Rattle.ml_kernel.specs.Theorems.{Theorem}
 use Rattle.ml_kernel.proofs.InstanceLaws.{substituted-without}
 use Rattle.ml_derived.specs.Scopes.{IsOver, StaysWithin}
 use Rattle.ml_derived.specs.Equalities.{CanCarry, IsCarried, IsFromClosed, IsFlip}
-use Rattle.term_core.specs.Terms.{Tree, Forest, node, inj, no_tree, more_trees, height, leaf}
-use Rattle.term_core.specs.Terms.{injected}
+use Rattle.term_core.specs.Terms.{Tree, Forest, no_tree, more_trees, height}
 use Rattle.term_core.specs.Forests.{forest}
-use Rattle.term_core.specs.Patterns.{Pattern as RulePattern, Patterns as RulePatterns, variable}
-use Rattle.term_core.specs.Patterns.{domain_value, application, injection, call, no_pattern}
-use Rattle.term_core.specs.Patterns.{more_patterns, instance_of, instances_of, with_first}
-use Rattle.term_core.specs.Patterns.{ground_pattern}
-use Rattle.term_core.specs.Instances.{substituted, all_substituted, FitsWithin}
+use Rattle.term_core.specs.Patterns.{Pattern as RulePattern, Patterns as RulePatterns, no_pattern}
+use Rattle.term_core.specs.Patterns.{more_patterns, instance_of, instances_of, ground_pattern}
+use Rattle.term_core.specs.Instances.{FitsWithin}
 use Rattle.term_core.specs.RulePatterns.{plain_pattern}
 use Rattle.term_core.specs.PatternLists.{plain_patterns}
 use Rattle.term_core.specs.declared.rule_patterns.RulePat.{RulePat}
+use Rattle.rule_core.specs.NamedParts.{Name}
 use Rattle.rule_core.specs.Rules.{Equation}
 use Rattle.rule_core.specs.Sorting.{HasSort, HaveSorts}
 use Rattle.rule_core.specs.MatchLaws.{AreTermsOf}
 use Rattle.rule_core.specs.declared.signature.Signature.{Signature}
 use Rattle.rule_core.specs.declared.signature.SortRef.{SortRef}
-use Rattle.rule_core.proofs.SortedInstances.{mapped, both_there, instances_are_sorted}
+use Rattle.rule_core.proofs.SortedInstances.{both_there, instances_are_sorted}
 use Rattle.ml_image.specs.Images.{image_of}
+use Rattle.ml_image.specs.NamedSides.{left_sentence, of_child}
+use Rattle.ml_image.specs.Sentences.{Sentence}
 use Rattle.ml_image.proofs.ImageLaws.{none_some, some_same}
 use Rattle.prove_term.specs.Contexts.{Context, HasGrown, StaysIn}
-use Rattle.prove_term.specs.Filling.{filled}
-use Rattle.prove_term.specs.EqualImages.{SaysEqual, SaysEqualImages}
-use Rattle.prove_term.proofs.ContextLaws.{stays_grown}
+use Rattle.prove_term.specs.FilledSides.{filled_sentence, SaysNamed, SaysNamedImage}
+use Rattle.prove_term.proofs.ContextLaws.{image_grown, stays_grown}
 use Rattle.prove_schema.specs.Elements.{AreTerms, IsElementOf}
-use Rattle.prove_term.proofs.FillingLaws.{filled_written}
 use Rattle.prove_schema.proofs.ElementLaws.{pattern_grown}
 use Rattle.prove_equation.specs.Conditions.{CanUseAt}
 use Rattle.prove_equation.specs.Parameters.{SaysMember, IsMembership, AreMemberships, IsInItself}
@@ -116,64 +114,27 @@ entered_stays itself turned entered context (Some u) t is (p, q, equality, own, 
 
 -- ---- a term as a member of a pattern
 
-mutual
-  instance_written : (theta : List (Option Tree)) (p : RulePattern) (u : Tree)
-      → instance_of theta p ≡ Some u → (t : Tree) × (substituted theta p ≡ Some t)
-  instance_written theta (variable x) u h = (u, h)
-  instance_written theta (domain_value s v) u h = (leaf s v, refl)
-  instance_written theta (application f ps) u h =
-      let from : (us : Forest) × ((instances_of theta ps ≡ Some us) × (node f us ≡ u)) =
-      mapped (node f) (instances_of theta ps) u h in
-      let below : (ts : Forest) × (all_substituted theta ps ≡ Some ts) =
-      instances_written theta ps from.0 from.1.0 in
-      (node f below.0, ap (option_map (node f)) below.1)
-  instance_written theta (injection a b p) u h =
-      let from : (v : Tree) × ((instance_of theta p ≡ Some v) × (injected a b v ≡ u)) =
-      mapped (injected a b) (instance_of theta p) u h in
-      let below : (t : Tree) × (substituted theta p ≡ Some t) =
-      instance_written theta p from.0 from.1.0 in
-      (inj a b below.0, ap (option_map (inj a b)) below.1)
-  instance_written theta (call f ss ps) u h = absurd (none_some u h)
-
-  instances_written : (theta : List (Option Tree)) (ps : RulePatterns) (us : Forest)
-      → instances_of theta ps ≡ Some us → (ts : Forest) × (all_substituted theta ps ≡ Some ts)
-  instances_written theta no_pattern us h = (no_tree, refl)
-  instances_written theta (more_patterns p ps) us h =
-      let parts : (t : Tree) × ((vs : Forest)
-      × ((us ≡ more_trees t vs)
-      × ((instance_of theta p ≡ Some t) × (instances_of theta ps ≡ Some vs)))) =
-      both_there (instance_of theta p) (instances_of theta ps) us h in
-      let first : (t : Tree) × (substituted theta p ≡ Some t) =
-      instance_written theta p parts.0 parts.1.1.1.0 in
-      let others : (ts : Forest) × (all_substituted theta ps ≡ Some ts) =
-      instances_written theta ps parts.1.0 parts.1.1.1.1 in (
-        more_trees first.0 others.0,
-        ap (λ (o : Option Tree). with_first o (all_substituted theta ps)) first.1
-            ∙ ap (with_first (Some first.0)) others.1,
-      )
-
 -- what is known of the term and the pattern
-pub record IsShown (cx : Context) (theta : List (Option Tree)) (p : RulePattern) (u : Tree)
-    (itself : Theorem) (o : Option Theorem) : Type 0 where
+pub record IsShown (cx : Context) (theta : List (Option Tree)) (names : List Name)
+    (p : RulePattern) (u : Tree) (itself : Theorem) (o : Option Theorem) : Type 0 where
   pub element : Pattern
   pub element_image : image_of cx.program.sig cx.names (ground_pattern u) ≡ Some element
   pub says : itself.conclusion ≡ member element element
   pub stays : StaysIn cx itself
-  pub equals : SaysEqualImages cx theta p o
-  pub equal_stays : IfSome o (StaysIn cx)
+  pub equals : SaysNamedImage cx theta names p o
   pub makes : instance_of theta p ≡ Some u
 
-pub shown : (old new : Context) (theta : List (Option Tree)) (p : RulePattern) (u : Tree)
-    (fact itself : Theorem) (o : Option Theorem) → HasGrown old new → IsElementOf old u fact
-    → IsInItself fact itself → StaysWithin [] (fact ∷ []) itself → SaysEqualImages new theta p o
-    → IfSome o (StaysIn new) → instance_of theta p ≡ Some u → IsShown new theta p u itself o
-shown old new theta p u fact itself o g (says, stays) own within equals kept makes = record {
+pub shown : (old new : Context) (theta : List (Option Tree)) (names : List Name) (p : RulePattern)
+    (u : Tree) (fact itself : Theorem) (o : Option Theorem) → HasGrown old new
+    → IsElementOf old u fact → IsInItself fact itself → StaysWithin [] (fact ∷ []) itself
+    → SaysNamedImage new theta names p o → instance_of theta p ≡ Some u
+    → IsShown new theta names p u itself o
+shown old new theta names p u fact itself o g (says, stays) own within equals makes = record {
   element = says.image;
   element_image = pattern_grown old new (ground_pattern u) says.image g says.is_image;
   says = own says.image says.number says.says;
   stays = λ s has. within s tt (stays_grown old new fact g stays s has, tt);
   equals = equals;
-  equal_stays = kept;
   makes = makes;
 }
 
@@ -182,22 +143,20 @@ same_right : (cx : Context) (u : Tree) (p q : Pattern)
     → image_of cx.program.sig cx.names (ground_pattern u) ≡ Some q → p ≡ q
 same_right cx u p q h k = some_same p q (sym h ∙ k)
 
-equal_of : (cx : Context) (theta : List (Option Tree)) (p : RulePattern) (u : Tree)
-    (itself e : Theorem) → IsShown cx theta p u itself (Some e)
-    → (t : Tree) × (substituted theta p ≡ Some t) × SaysEqual cx t u e.conclusion
-equal_of cx theta p u itself e w =
-    let written : (t : Tree) × (substituted theta p ≡ Some t) =
-    instance_written theta p u w.makes in
-    (written.0, written.1, w.equals.1 written.0 u written.1 w.makes)
+-- what the theorem says, if there is one
+equal_of : (cx : Context) (theta : List (Option Tree)) (names : List Name) (p : RulePattern)
+    (u : Tree) (itself e : Theorem) → IsShown cx theta names p u itself (Some e)
+    → SaysNamed cx (filled_sentence theta (left_sentence names p)) (ground_pattern u) e.conclusion
+equal_of cx theta names p u itself e w = (w.equals u w.makes).0
 
-pub shown_enters : (cx : Context) (theta : List (Option Tree)) (p : RulePattern) (u : Tree)
-    (itself : Theorem) (o : Option Theorem) → IsShown cx theta p u itself o
+pub shown_enters : (cx : Context) (theta : List (Option Tree)) (names : List Name) (p : RulePattern)
+    (u : Tree) (itself : Theorem) (o : Option Theorem) → IsShown cx theta names p u itself o
     → CanEnter itself.conclusion o
-shown_enters cx theta p u itself None w = tt
-shown_enters cx theta p u itself (Some e) w =
-    let h : (t : Tree) × (substituted theta p ≡ Some t) × SaysEqual cx t u e.conclusion =
-    equal_of cx theta p u itself e w in
-    let says : SaysEqual cx h.0 u e.conclusion = h.2 in
+shown_enters cx theta names p u itself None w = tt
+shown_enters cx theta names p u itself (Some e) w =
+    let says : SaysNamed cx (filled_sentence theta (left_sentence names p)) (ground_pattern u)
+    e.conclusion =
+    equal_of cx theta names p u itself e w in
     let same : w.element ≡ says.right =
     same_right cx u w.element says.right w.element_image says.right_image in (
       says.left,
@@ -209,38 +168,36 @@ shown_enters cx theta p u itself (Some e) w =
       says.no_variable.1,
     )
 
-pub shown_member : (cx : Context) (theta : List (Option Tree)) (p : RulePattern) (u : Tree)
-    (itself entered : Theorem) (o : Option Theorem) → IsShown cx theta p u itself o
-    → IsEntered itself o entered → StaysEntered itself o entered → IsMembership cx theta p u entered
-shown_member cx theta p u itself entered None w is stays = (
+pub shown_member : (cx : Context) (theta : List (Option Tree)) (names : List Name) (p : RulePattern)
+    (u : Tree) (itself entered : Theorem) (o : Option Theorem)
+    → IsShown cx theta names p u itself o → IsEntered itself o entered
+    → StaysEntered itself o entered → IsMembership cx theta names p u entered
+shown_member cx theta names p u itself entered None w is stays = (
   record {
     element = w.element;
     element_image = w.element_image;
     whole = w.element;
-    whole_image =
-        ap (image_of cx.program.sig cx.names) (filled_written theta p u (w.equals ∙ w.makes))
-        ∙ w.element_image;
+    whole_image = w.equals u w.makes ∙ w.element_image;
     says = ap (λ (t : Theorem). t.conclusion) is ∙ w.says;
   },
   subst (StaysIn cx) (sym is) w.stays,
 )
-shown_member cx theta p u itself entered (Some e) w is stays =
-    let h : (t : Tree) × (substituted theta p ≡ Some t) × SaysEqual cx t u e.conclusion =
-    equal_of cx theta p u itself e w in
-    let says : SaysEqual cx h.0 u e.conclusion = h.2 in
+shown_member cx theta names p u itself entered (Some e) w is stays =
+    let says : SaysNamed cx (filled_sentence theta (left_sentence names p)) (ground_pattern u)
+    e.conclusion =
+    equal_of cx theta names p u itself e w in
     let same : w.element ≡ says.right =
     same_right cx u w.element says.right w.element_image says.right_image in (
       record {
         element = says.right;
         element_image = says.right_image;
         whole = says.left;
-        whole_image = ap (image_of cx.program.sig cx.names) (filled_written theta p h.0 h.1)
-            ∙ says.left_image;
+        whole_image = says.left_image;
         says =
             is says.left says.right says.says (w.says ∙ ap (λ (q : Pattern). member q q) same)
             says.no_variable.1;
       },
-      (λ s has. stays s (has.objects 0, tt) (w.equal_stays s has, (w.stays s has, tt))),
+      (λ s has. stays s (has.objects 0, tt) ((w.equals u w.makes).1 s has, (w.stays s has, tt))),
     )
 
 pub fits_term : (n : ℕ) (theta : List (Option Tree)) (p : RulePattern) (u : Tree)
@@ -250,59 +207,81 @@ fits_term n theta p u makes low =
 
 -- ---- one after another
 
-pub memberships_grown : (old new : Context) (theta : List (Option Tree)) (ps : RulePatterns)
-    (us : List Tree) (ms : List Theorem) → HasGrown old new → AreMemberships old theta ps us ms
-    → AreMemberships new theta ps us ms
-memberships_grown old new theta no_pattern [] [] g h = tt
-memberships_grown old new theta no_pattern [] (m ∷ ms) g h = absurd h
-memberships_grown old new theta no_pattern (u ∷ us) ms g h = absurd h
-memberships_grown old new theta (more_patterns p ps) [] ms g h = absurd h
-memberships_grown old new theta (more_patterns p ps) (u ∷ us) [] g h = absurd h
-memberships_grown old new theta (more_patterns p ps) (u ∷ us) (m ∷ ms) g h =
-    ((one h.0.0, stays_grown old new m g h.0.1), memberships_grown old new theta ps us ms g h.1)
+-- the same number of the argument
+at_argument : (cx : Context) (theta : List (Option Tree)) (names : List Name) (j k : ℕ)
+    (p : RulePattern) (u : Tree) (m : Theorem) → j ≡ k
+    → IsMembership cx theta (of_child j names) p u m
+    → IsMembership cx theta (of_child k names) p u m
+at_argument cx theta names j k p u m same here =
+    subst (λ (i : ℕ). IsMembership cx theta (of_child i names) p u m) same here
+
+pub memberships_grown : (old new : Context) (theta : List (Option Tree)) (names : List Name) (k : ℕ)
+    (ps : RulePatterns) (us : List Tree) (ms : List Theorem) → HasGrown old new
+    → AreMemberships old theta names k ps us ms → AreMemberships new theta names k ps us ms
+memberships_grown old new theta names k no_pattern [] [] g h = tt
+memberships_grown old new theta names k no_pattern [] (m ∷ ms) g h = absurd h
+memberships_grown old new theta names k no_pattern (u ∷ us) ms g h = absurd h
+memberships_grown old new theta names k (more_patterns p ps) [] ms g h = absurd h
+memberships_grown old new theta names k (more_patterns p ps) (u ∷ us) [] g h = absurd h
+memberships_grown old new theta names k (more_patterns p ps) (u ∷ us) (m ∷ ms) g h = (
+  (one h.0.0, stays_grown old new m g h.0.1),
+  memberships_grown old new theta names (k + 1) ps us ms g h.1,
+)
   where
-    one : SaysMember old theta p u m.conclusion → SaysMember new theta p u m.conclusion
+    side : Sentence
+    side = filled_sentence theta (left_sentence (of_child k names) p)
+
+    one : SaysMember old theta (of_child k names) p u m.conclusion
+        → SaysMember new theta (of_child k names) p u m.conclusion
     one says = record {
       element = says.element;
       element_image = pattern_grown old new (ground_pattern u) says.element g says.element_image;
       whole = says.whole;
-      whole_image = pattern_grown old new (filled theta p) says.whole g says.whole_image;
+      whole_image = image_grown old new side says.whole g says.whole_image;
       says = says.says;
     }
 
-memberships_push : (cx : Context) (theta : List (Option Tree)) (ps : List RulePat) (us : List Tree)
-    (ms : List Theorem) (p : RulePat) (u : Tree) (m : Theorem)
-    → AreMemberships cx theta (plain_patterns ps) us ms
-    → IsMembership cx theta (plain_pattern p) u m
-    → AreMemberships cx theta (plain_patterns (ps ++ p ∷ [])) (us ++ u ∷ []) (ms ++ m ∷ [])
-memberships_push cx theta [] [] [] p u m h k = (k, tt)
-memberships_push cx theta [] [] (n ∷ ms) p u m h k = absurd h
-memberships_push cx theta [] (v ∷ us) ms p u m h k = absurd h
-memberships_push cx theta (q ∷ ps) [] ms p u m h k = absurd h
-memberships_push cx theta (q ∷ ps) (v ∷ us) [] p u m h k = absurd h
-memberships_push cx theta (q ∷ ps) (v ∷ us) (n ∷ ms) p u m h k =
-    (h.0, memberships_push cx theta ps us ms p u m h.1 k)
+memberships_push : (cx : Context) (theta : List (Option Tree)) (names : List Name) (k : ℕ)
+    (ps : List RulePat) (us : List Tree) (ms : List Theorem) (p : RulePat) (u : Tree) (m : Theorem)
+    → AreMemberships cx theta names k (plain_patterns ps) us ms
+    → IsMembership cx theta (of_child (k + length ps) names) (plain_pattern p) u m
+    → AreMemberships cx theta names k (plain_patterns (ps ++ p ∷ [])) (us ++ u ∷ []) (ms ++ m ∷ [])
+memberships_push cx theta names k [] [] [] p u m h here =
+    (at_argument cx theta names (k + 0) k (plain_pattern p) u m (omega arith) here, tt)
+memberships_push cx theta names k [] [] (n ∷ ms) p u m h here = absurd h
+memberships_push cx theta names k [] (v ∷ us) ms p u m h here = absurd h
+memberships_push cx theta names k (q ∷ ps) [] ms p u m h here = absurd h
+memberships_push cx theta names k (q ∷ ps) (v ∷ us) [] p u m h here = absurd h
+memberships_push cx theta names k (q ∷ ps) (v ∷ us) (n ∷ ms) p u m h here = (
+  h.0,
+  memberships_push cx theta names (k + 1) ps us ms p u m h.1
+      (at_argument cx theta names (k + length (q ∷ ps)) (k + 1 + length ps) (plain_pattern p) u m
+      (omega arith) here),
+)
 
-pub one_more_membership : (old new : Context) (theta : List (Option Tree)) (ps : List RulePat)
-    (us : List Tree) (i : ℕ) (p : RulePat) (u : Tree) (ms : List Theorem) (m : Theorem)
-    → i < length ps → i < length us → p ≡ get_or ps i p → u ≡ get_or us i u → HasGrown old new
-    → AreMemberships old theta (plain_patterns (take i ps)) (take i us) ms
-    → IsMembership new theta (plain_pattern p) u m
-    → AreMemberships new theta (plain_patterns (take (i + 1) ps)) (take (i + 1) us) (ms ++ m ∷ [])
-one_more_membership old new theta ps us i p u ms m low below at on g before here =
+pub one_more_membership : (old new : Context) (theta : List (Option Tree)) (names : List Name)
+    (ps : List RulePat) (us : List Tree) (i : ℕ) (p : RulePat) (u : Tree) (ms : List Theorem)
+    (m : Theorem) → i < length ps → i < length us → p ≡ get_or ps i p → u ≡ get_or us i u
+    → HasGrown old new
+    → AreMemberships old theta names 0 (plain_patterns (take i ps)) (take i us) ms
+    → IsMembership new theta (of_child i names) (plain_pattern p) u m
+    → AreMemberships new theta names 0 (plain_patterns (take (i + 1) ps)) (take (i + 1) us)
+    (ms ++ m ∷ [])
+one_more_membership old new theta names ps us i p u ms m low below at on g before here =
     let front : take (i + 1) ps ≡ take i ps ++ p ∷ [] =
     take_more ps i p low ∙ ap (λ (q : RulePat). take i ps ++ q ∷ []) (sym at) in
     let terms : take (i + 1) us ≡ take i us ++ u ∷ [] =
     take_more us i u below ∙ ap (λ (v : Tree). take i us ++ v ∷ []) (sym on) in
+    let many : i ≡ 0 + length (take i ps) = omega (arith, length-take-le i ps (omega (arith, low))) in
     subst (λ (qs : List RulePat).
-    AreMemberships new theta (plain_patterns qs) (take (i + 1) us) (ms ++ m ∷ []))
+    AreMemberships new theta names 0 (plain_patterns qs) (take (i + 1) us) (ms ++ m ∷ []))
     (sym front)
     (subst (λ (vs : List Tree).
-    AreMemberships new theta (plain_patterns (take i ps ++ p ∷ [])) vs (ms ++ m ∷ []))
+    AreMemberships new theta names 0 (plain_patterns (take i ps ++ p ∷ [])) vs (ms ++ m ∷ []))
     (sym terms)
-    (memberships_push new theta (take i ps) (take i us) ms p u m
-    (memberships_grown old new theta (plain_patterns (take i ps)) (take i us) ms g before)
-    here))
+    (memberships_push new theta names 0 (take i ps) (take i us) ms p u m
+    (memberships_grown old new theta names 0 (plain_patterns (take i ps)) (take i us) ms g before)
+    (at_argument new theta names i (0 + length (take i ps)) (plain_pattern p) u m many here)))
 
 -- one of the arguments
 one_of : (theta : List (Option Tree)) (q : RulePat) (ps : List RulePat) (v : Tree) (us : List Tree)

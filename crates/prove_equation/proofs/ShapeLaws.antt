@@ -1,12 +1,17 @@
 -- The image of an equation, taken apart.
-use Rattle.std.proofs.Common.{◌≡◌, ◌≢◌, ◌≤◌, ◌+◌, ◌⊎◌, ℕ, zero, suc, List, [], ◌∷◌, ◌++◌, Option}
-use Rattle.std.proofs.Common.{Some, None, option_map, length, length-append, slice_get, inl, inr}
-use Rattle.std.proofs.Common.{refl, sym, ◌∙◌, ap, subst, arith}
+use Rattle.std.proofs.Common.{◌≡◌, ◌≢◌, ◌≤◌, ◌+◌, ◌^◌, ◌⊎◌, ℕ, zero, suc, List, [], ◌∷◌, ◌++◌, Option}
+use Rattle.std.proofs.Common.{Some, None, option_map, length, length-append, map, slice_get, inl}
+use Rattle.std.proofs.Common.{inr, refl, sym, ◌∙◌, ap, subst, arith}
 use Rattle.ml_pat.specs.Patterns.{Pattern, imp, and, equal, all}
 use Rattle.term_core.specs.Patterns.{Pattern as RulePattern, Patterns as RulePatterns, variable}
 use Rattle.term_core.specs.Patterns.{domain_value, application, injection, call, no_pattern}
 use Rattle.term_core.specs.Patterns.{more_patterns}
+use Rattle.term_core.specs.PatternLists.{plain_patterns}
+use Rattle.term_core.specs.declared.rule_patterns.RulePat.{RulePat}
+use Rattle.rule_core.specs.NamedParts.{Name}
 use Rattle.rule_core.specs.Rules.{Equation}
+use Rattle.rule_core.specs.ProgramView.{function_equation}
+use Rattle.rule_core.specs.declared.rules.Equation.{Equation as CodeEquation}
 use Rattle.rule_core.specs.declared.signature.Signature.{Signature}
 use Rattle.rule_core.specs.declared.signature.SymInfo.{SymInfo}
 use Rattle.ml_image.specs.Images.{both, image_of, shifted, all_shifted}
@@ -14,16 +19,20 @@ use Rattle.ml_image.specs.HasImages as own
 use Rattle.ml_image.specs.HasImages.{HasImage, HaveImages, HasEquationImage, HasParameters}
 use Rattle.ml_image.specs.HasImages.{count_of}
 use Rattle.ml_image.specs.OwnAxioms.{SaysEquation, direct, kompile, condition_sentence, sort_of}
-use Rattle.ml_image.specs.OwnAxioms.{is_true, meets, Declares}
+use Rattle.ml_image.specs.OwnAxioms.{is_true, meets, Declares, name_behind}
+use Rattle.ml_image.specs.NamedSides.{left_sentence, applied_sides, of_child}
 use Rattle.ml_image.specs.Sentences.{Sentence, sentence_image, IsImageOf, term, symbol, apply, top}
 use Rattle.ml_image.specs.Sentences.{implies, equals, is_in, for_all, variables, apply_all}
 use Rattle.ml_image.specs.Sentences as says
 use Rattle.ml_image.proofs.ImageLaws.{some_same}
+use Rattle.prove_term.specs.Contexts.{Context}
 use Rattle.prove_term.proofs.ImageShapes.{both_some}
 use Rattle.prove_schema.specs.Schemas.{IsOpenFrom, closed, IsSentence}
 use Rattle.prove_schema.proofs.OpenLaws.{image_is_open}
 use Rattle.prove_schema.proofs.ClosingLaws.{AreNumbers, IsClosed, closed_image, numbers_length}
 use Rattle.prove_schema.proofs.SentenceLaws.{IsOpenSentence, sentence_is_open}
+use Rattle.prove_schema.proofs.LeftSides.{AreBelow, names_below, of_child_below, side_is_open}
+use Rattle.prove_schema.proofs.LeftSides.{left_is_side, applied_is_side}
 
 -- ---- one sentence has one condition
 
@@ -79,7 +88,8 @@ pub record IsDirect (sig : Signature) (names : List (List ℕ)) (f : ℕ) (e : E
   pub condition : Pattern
   pub is_condition : sentence_image sig names holds ≡ Some condition
   pub left : Pattern
-  pub left_image : image_of sig names (call f [] e.arguments) ≡ Some left
+  pub left_image : sentence_image sig names (applied_sides e.names 0 (symbol f) e.arguments)
+      ≡ Some left
   pub right : Pattern
   pub right_image : image_of sig names e.right ≡ Some right
   pub says : p ≡ closed 0 numbers (imp condition (equal left right))
@@ -118,13 +128,14 @@ direct_shape sig names f e p none
     (s, kompile c info sorts sort some many declared holds is, image) =
     absurd (some none)
 direct_shape sig names f e p none (s, direct c zero_parameters holds is, image) =
-    let body : Sentence = implies c (equals (term (call f [] e.arguments)) (term e.right)) in
+    let side : Sentence = applied_sides e.names 0 (symbol f) e.arguments in
+    let body : Sentence = implies c (equals side (term e.right)) in
     let inside : IsClosed sig names 0 e.variables body p =
     closed_image sig names 0 e.variables body p
     (ap (sentence_image sig names) (sym is) ∙ image) in
-    let parts : Sides (sentence_image sig names c) (image_of sig names (call f [] e.arguments))
+    let parts : Sides (sentence_image sig names c) (sentence_image sig names side)
     (image_of sig names e.right) inside.body =
-    sides (sentence_image sig names c) (image_of sig names (call f [] e.arguments))
+    sides (sentence_image sig names c) (sentence_image sig names side)
     (image_of sig names e.right) inside.body inside.is_body in
     record {
       numbers = inside.numbers;
@@ -151,9 +162,12 @@ direct_is_sentence sig names f e p has d =
     sentence_is_open sig names (length e.variables) d.holds
     (condition_open sig e.variables e.condition d.holds has.condition d.is_holds)
     d.condition d.is_condition in
+    let side : Sentence = applied_sides e.names 0 (symbol f) e.arguments in
     let left : IsOpenFrom 0 (length e.variables) d.left =
-    image_is_open sig names (length e.variables) (call f [] e.arguments)
-    (has.function, tt, has.arguments) d.left d.left_image in
+    sentence_is_open sig names (length e.variables) side
+    (side_is_open sig (length e.variables) side
+    (applied_is_side sig (length e.variables) e.names 0 (symbol f) e.arguments
+    (names_below (length e.variables) e.names has.names) tt has.arguments)) d.left d.left_image in
     let right : IsOpenFrom 0 (length e.variables) d.right =
     image_is_open sig names (length e.variables) e.right has.right d.right d.right_image in
     record {
@@ -180,8 +194,8 @@ pub record IsKompile (sig : Signature) (names : List (List ℕ)) (f : ℕ) (e : 
   pub condition : Pattern
   pub is_condition : sentence_image sig names holds ≡ Some condition
   pub met : Pattern
-  pub is_met : sentence_image sig names (meets 0 (all_shifted (length sorts) e.arguments))
-      ≡ Some met
+  pub is_met : sentence_image sig names (meets (map (name_behind (length sorts)) e.names) 0
+      (all_shifted (length sorts) e.arguments)) ≡ Some met
   pub left : Pattern
   pub left_image : sentence_image sig names (apply_all (symbol f) (variables 0 (length sorts)))
       ≡ Some left
@@ -196,7 +210,8 @@ kompile_shape sig names f e p some (s, direct c zero_parameters holds is, image)
 kompile_shape sig names f e p some
     (s, kompile c info sorts sort other many declared holds is, image) =
     let k : ℕ = length sorts in
-    let ms : Sentence = meets 0 (all_shifted (length sorts) e.arguments) in
+    let ms : Sentence =
+    meets (map (name_behind (length sorts)) e.names) 0 (all_shifted (length sorts) e.arguments) in
     let fs : Sentence = apply_all (symbol f) (variables 0 (length sorts)) in
     let body : Sentence =
     implies (says.and c ms) (equals fs (term (shifted (length sorts) e.right))) in
@@ -280,11 +295,23 @@ condition_behind sig sorts vars (Some p) h = record {
   truths = h.truths;
 }
 
-meets_open : (sig : Signature) (n j : ℕ) (ps : RulePatterns) → HaveImages sig n ps
-    → j + count_of ps ≤ n → IsOpenSentence sig n (meets j ps)
-meets_open sig n j no_pattern h few = tt
-meets_open sig n j (more_patterns p ps) h few =
-    ((omega (arith, few), h.0), meets_open sig n (j + 1) ps h.1 (omega (arith, few)))
+pub names_behind : (k n : ℕ) (names : List Name) → AreBelow n names
+    → AreBelow (k + n) (map (name_behind k) names)
+names_behind k n [] h = tt
+names_behind k n (m ∷ names) h = (omega (arith, h.0), names_behind k n names h.1)
+
+meets_open : (sig : Signature) (n : ℕ) (names : List Name) (j : ℕ) (ps : RulePatterns)
+    → AreBelow n names → HaveImages sig n ps → j + count_of ps ≤ n
+    → IsOpenSentence sig n (meets names j ps)
+meets_open sig n names j no_pattern low h few = tt
+meets_open sig n names j (more_patterns p ps) low h few = (
+  (
+    omega (arith, few),
+    side_is_open sig n (left_sentence (of_child j names) p)
+        (left_is_side sig n (of_child j names) p (of_child_below n j names low) h.0),
+  ),
+  meets_open sig n names (j + 1) ps low h.1 (omega (arith, few)),
+)
 
 applied_open : (sig : Signature) (n m j : ℕ) (s : Sentence) → IsOpenSentence sig n s → j + m ≤ n
     → IsOpenSentence sig n (apply_all s (variables j m))
@@ -304,6 +331,19 @@ has_parameters sig f e some has = go has.parameters
     go : (e.parameters ≡ 0) ⊎ HasParameters sig f e → HasParameters sig f e
     go (inl none) = absurd (some none)
     go (inr h) = h
+
+count_plain : (ps : List RulePat) → count_of (plain_patterns ps) ≡ length ps
+count_plain [] = refl
+count_plain (p ∷ ps) = ap suc (count_plain ps)
+
+-- an equation in the form of kompile has one parameter for each argument, so it has few arguments
+pub few_arguments : (cx : Context) (e : CodeEquation) (ps : List RulePat)
+    → HasEquationImage cx.program.sig e.fun.0 (function_equation e) → e.params ≢ 0
+    → ps ≡ e.args.items → length ps ≤ 2 ^ 32
+few_arguments cx e ps has some same =
+    let params : HasParameters cx.program.sig e.fun.0 (function_equation e) =
+    has_parameters cx.program.sig e.fun.0 (function_equation e) some has in
+    omega (arith, has.few, params.each, count_plain e.args.items, ap length same)
 
 pub kompile_is_sentence : (sig : Signature) (names : List (List ℕ)) (f : ℕ) (e : Equation)
     (p : Pattern) → e.parameters ≢ 0 → HasEquationImage sig f e
@@ -327,12 +367,17 @@ kompile_is_sentence sig names f e p some has d =
     (all_shifted (length d.sorts) e.arguments) =
     subst (λ (n : ℕ). HaveImages sig n (all_shifted (length d.sorts) e.arguments)) (sym total)
     (all_shifted_have sig (length d.sorts) (length e.variables) e.arguments has.arguments) in
+    let inside : List Name = map (name_behind (length d.sorts)) e.names in
+    let low : AreBelow (length (d.sorts ++ e.variables)) inside =
+    subst (λ (n : ℕ). AreBelow n inside) (sym total)
+    (names_behind (length d.sorts) (length e.variables) e.names
+    (names_below (length e.variables) e.names has.names)) in
     let met : IsOpenFrom 0 (length (d.sorts ++ e.variables)) d.met =
     sentence_is_open sig names (length (d.sorts ++ e.variables))
-    (meets 0 (all_shifted (length d.sorts) e.arguments))
-    (meets_open sig (length (d.sorts ++ e.variables)) 0 (all_shifted (length d.sorts) e.arguments)
-    args (omega (arith, total, enough, count_shifted (length d.sorts) e.arguments))) d.met
-    d.is_met in
+    (meets inside 0 (all_shifted (length d.sorts) e.arguments))
+    (meets_open sig (length (d.sorts ++ e.variables)) inside 0
+    (all_shifted (length d.sorts) e.arguments) low args
+    (omega (arith, total, enough, count_shifted (length d.sorts) e.arguments))) d.met d.is_met in
     let left : IsOpenFrom 0 (length (d.sorts ++ e.variables)) d.left =
     sentence_is_open sig names (length (d.sorts ++ e.variables))
     (apply_all (symbol f) (variables 0 (length d.sorts)))

@@ -5,25 +5,25 @@ use Rattle.ml_pat.specs.Patterns.{Pattern, equal}
 use Rattle.ml_kernel.specs.Theorems.{Theorem}
 use Rattle.ml_derived.specs.Equalities.{IsFlip, AreJoinable, IsJoin}
 use Rattle.term_core.specs.Terms.{Tree, Forest}
-use Rattle.term_core.specs.Patterns.{Patterns as RulePatterns, call, ground_patterns}
-use Rattle.term_core.specs.Instances.{all_substituted}
+use Rattle.term_core.specs.Patterns.{Pattern as RulePattern, call, instances_of, ground_patterns}
 use Rattle.rule_core.specs.Rules.{Equation}
 use Rattle.rule_core.specs.Theories.{equations_of}
 use Rattle.rule_core.specs.ProgramView.{theory_of}
 use Rattle.rule_core.specs.Sorting.{HaveSorts}
 use Rattle.rule_core.specs.WellSorted.{IsWellSorted, IsEquationOf}
 use Rattle.rule_core.specs.declared.signature.SortRef.{SortRef}
-use Rattle.ml_image.specs.Images.{image_of}
+use Rattle.ml_image.specs.NamedSides.{applied_sides}
 use Rattle.ml_image.specs.OwnAxioms.{IsEquationFor}
+use Rattle.ml_image.specs.Sentences.{Sentence, symbol, sentence_image}
 use Rattle.ml_image.proofs.ImageLaws.{none_some, some_same}
 use Rattle.prove_term.specs.Contexts.{Context, HasGrown, StaysIn, StaysInWith}
 use Rattle.prove_term.specs.Filling.{filled}
+use Rattle.prove_term.specs.FilledSides.{filled_sentence, AreEqualSides, SaysNamed}
+use Rattle.prove_term.specs.FilledSides.{SaysNamedCall}
 use Rattle.prove_term.specs.Applications.{HasClosedSides}
-use Rattle.prove_term.specs.EqualCalls.{SaysEqualCall, SaysEqualCalls}
 use Rattle.prove_term.specs.Values.{SaysEquationAt}
-use Rattle.prove_term.proofs.ContextLaws.{stays_grown}
+use Rattle.prove_term.proofs.ContextLaws.{image_grown, stays_grown}
 use Rattle.prove_term.proofs.EqualityChains.{stays_with_grown}
-use Rattle.prove_term.proofs.FillingLaws.{all_filled_written}
 use Rattle.prove_schema.proofs.ElementLaws.{pattern_grown}
 use Rattle.prove_schema.proofs.ScopeLaws.{stays_no_hypotheses}
 use Rattle.prove_equation.specs.Conditions.{ProvesAt}
@@ -80,7 +80,8 @@ pub record IsWritten (cx : Context) (f : ℕ) (e : Equation) (theta : List (Opti
     (us : Forest) (made : Theorem) (normal : Option Theorem) : Type 0 where
   pub says : SaysFilledEquation cx f e theta made.conclusion
   pub stays : StaysIn cx made
-  pub calls : SaysEqualCalls cx f theta e.arguments us normal
+  pub calls : SaysNamedCall cx theta e.names f e.arguments normal
+  pub makes : instances_of theta e.arguments ≡ Some us
 
 pub filled_grown : (old new : Context) (f : ℕ) (e : Equation) (theta : List (Option Tree))
     (p : Pattern) → HasGrown old new → SaysFilledEquation old f e theta p
@@ -88,7 +89,9 @@ pub filled_grown : (old new : Context) (f : ℕ) (e : Equation) (theta : List (O
 filled_grown old new f e theta p g says = record {
   left = says.left;
   left_image =
-      pattern_grown old new (filled theta (call f [] e.arguments)) says.left g says.left_image;
+      image_grown old new
+      (filled_sentence theta (applied_sides e.names 0 (symbol f) e.arguments)) says.left g
+      says.left_image;
   right = says.right;
   right_image = pattern_grown old new (filled theta e.right) says.right g says.right_image;
   says = says.says;
@@ -98,34 +101,34 @@ filled_grown old new f e theta p g says = record {
 pub written_at : (old new : Context) (f : ℕ) (e : Equation) (theta : List (Option Tree))
     (us : Forest) (made : Theorem) (normal : Option Theorem) → HasGrown old new
     → SaysFilledEquation old f e theta made.conclusion → StaysIn old made
-    → SaysEqualCalls new f theta e.arguments us normal → IsWritten new f e theta us made normal
-written_at old new f e theta us made normal g says stays calls =
+    → SaysNamedCall new theta e.names f e.arguments normal → instances_of theta e.arguments ≡ Some us
+    → IsWritten new f e theta us made normal
+written_at old new f e theta us made normal g says stays calls makes =
     record {
       says = filled_grown old new f e theta made.conclusion g says;
       stays = stays_grown old new made g stays;
       calls = calls;
+      makes = makes;
     }
 
-calls_grown : (old new : Context) (f : ℕ) (theta : List (Option Tree)) (ps : RulePatterns)
-    (us : Forest) (o : Option Theorem) → HasGrown old new → SaysEqualCalls old f theta ps us o
-    → SaysEqualCalls new f theta ps us o
-calls_grown old new f theta ps us None g h = h
-calls_grown old new f theta ps us (Some t) g h =
-    let says : SaysEqualCall old f h.0 us t.conclusion = h.2 in (
-      h.0,
-      h.1,
-      record {
-        left = says.left;
-        left_image =
-            pattern_grown old new (call f [] (ground_patterns h.0)) says.left g says.left_image;
-        right = says.right;
-        right_image =
-            pattern_grown old new (call f [] (ground_patterns us)) says.right g says.right_image;
-        says = says.says;
-        no_variable = says.no_variable;
-      },
-      stays_grown old new t g h.3,
-    )
+-- the side and the call of the terms are still equal in a context that has grown
+sides_grown : (old new : Context) (s : Sentence) (p : RulePattern) (left : Pattern)
+    (o : Option Theorem) → HasGrown old new
+    → sentence_image old.program.sig old.names s ≡ Some left → AreEqualSides old s p o
+    → AreEqualSides new s p o
+sides_grown old new s p left None g image same =
+    image_grown old new s left g image ∙ sym (pattern_grown old new p left g (sym same ∙ image))
+sides_grown old new s p left (Some t) g image (says, stays) = (
+  record {
+    left = says.left;
+    left_image = image_grown old new s says.left g says.left_image;
+    right = says.right;
+    right_image = pattern_grown old new p says.right g says.right_image;
+    says = says.says;
+    no_variable = says.no_variable;
+  },
+  stays_grown old new t g stays,
+)
 
 pub written_grown : (old new : Context) (f : ℕ) (e : Equation) (theta : List (Option Tree))
     (us : Forest) (made : Theorem) (normal : Option Theorem) → HasGrown old new
@@ -133,37 +136,37 @@ pub written_grown : (old new : Context) (f : ℕ) (e : Equation) (theta : List (
 written_grown old new f e theta us made normal g h = record {
   says = filled_grown old new f e theta made.conclusion g h.says;
   stays = stays_grown old new made g h.stays;
-  calls = calls_grown old new f theta e.arguments us normal g h.calls;
+  calls =
+      λ vs made. sides_grown old new
+      (filled_sentence theta (applied_sides e.names 0 (symbol f) e.arguments))
+      (call f [] (ground_patterns vs)) h.says.left normal g h.says.left_image (h.calls vs made);
+  makes = h.makes;
 }
 
--- the image of the function of the arguments as they are written
-left_is : (cx : Context) (f : ℕ) (e : Equation) (theta : List (Option Tree)) (ts : Forest)
-    (p q : Pattern) → all_substituted theta e.arguments ≡ Some ts
-    → image_of cx.program.sig cx.names (filled theta (call f [] e.arguments)) ≡ Some p
-    → image_of cx.program.sig cx.names (call f [] (ground_patterns ts)) ≡ Some q → p ≡ q
-left_is cx f e theta ts p q written is other =
-    some_same p q (sym is
-    ∙ ap (λ (ps : RulePatterns). image_of cx.program.sig cx.names (call f [] ps))
-    (all_filled_written theta e.arguments ts written) ∙ other)
+-- the image of a sentence
+one_image : (cx : Context) (s : Sentence) (p q : Pattern)
+    → sentence_image cx.program.sig cx.names s ≡ Some p
+    → sentence_image cx.program.sig cx.names s ≡ Some q → p ≡ q
+one_image cx s p q h k = some_same p q (sym h ∙ k)
 
 pub written_turns : (cx : Context) (f : ℕ) (e : Equation) (theta : List (Option Tree)) (us : Forest)
     (made : Theorem) (normal : Option Theorem) → IsWritten cx f e theta us made normal
     → CanTurn made.conclusion normal
 written_turns cx f e theta us made None w = tt
 written_turns cx f e theta us made (Some t) w =
-    let ts : Forest = w.calls.0 in
-    let call_says : SaysEqualCall cx f w.calls.0 us t.conclusion = w.calls.2 in
-    let same : w.says.left ≡ call_says.left =
-    left_is cx f e theta w.calls.0 w.says.left call_says.left w.calls.1 w.says.left_image
-    call_says.left_image in (
-      call_says.left,
-      call_says.right,
+    let side : Sentence = filled_sentence theta (applied_sides e.names 0 (symbol f) e.arguments) in
+    let says : SaysNamed cx side (call f [] (ground_patterns us)) t.conclusion =
+    (w.calls us w.makes).0 in
+    let same : w.says.left ≡ says.left =
+    one_image cx side w.says.left says.left w.says.left_image says.left_image in (
+      says.left,
+      says.right,
       w.says.right,
-      call_says.says,
+      says.says,
       w.says.says
           ∙ ap (λ (p : Pattern). equal p w.says.right) same,
-      call_says.no_variable.0,
-      call_says.no_variable.1,
+      says.no_variable.0,
+      says.no_variable.1,
       w.says.no_variable.1,
     )
 
@@ -172,28 +175,27 @@ written_says : (cx : Context) (f : ℕ) (e : Equation) (theta : List (Option Tre
     → IsTurned made normal turned → SaysEquationAt cx f e theta us turned.conclusion
 written_says cx f e theta us made turned None w is = record {
   left = w.says.left;
-  left_image =
-      ap (λ (ps : RulePatterns). image_of cx.program.sig cx.names (call f [] ps))
-      (sym (all_filled_written theta e.arguments us w.calls)) ∙ w.says.left_image;
+  left_image = sym (w.calls us w.makes) ∙ w.says.left_image;
   right = w.says.right;
   right_image = w.says.right_image;
   says = ap (λ (t : Theorem). t.conclusion) is ∙ w.says.says;
   no_variable = w.says.no_variable;
 }
 written_says cx f e theta us made turned (Some t) w is =
-    let call_says : SaysEqualCall cx f w.calls.0 us t.conclusion = w.calls.2 in
-    let same : w.says.left ≡ call_says.left =
-    left_is cx f e theta w.calls.0 w.says.left call_says.left w.calls.1 w.says.left_image
-    call_says.left_image in
+    let side : Sentence = filled_sentence theta (applied_sides e.names 0 (symbol f) e.arguments) in
+    let says : SaysNamed cx side (call f [] (ground_patterns us)) t.conclusion =
+    (w.calls us w.makes).0 in
+    let same : w.says.left ≡ says.left =
+    one_image cx side w.says.left says.left w.says.left_image says.left_image in
     record {
-      left = call_says.right;
-      left_image = call_says.right_image;
+      left = says.right;
+      left_image = says.right_image;
       right = w.says.right;
       right_image = w.says.right_image;
       says =
-          is call_says.left call_says.right w.says.right call_says.says
+          is says.left says.right w.says.right says.says
           (w.says.says ∙ ap (λ (p : Pattern). equal p w.says.right) same);
-      no_variable = (call_says.no_variable.1, w.says.no_variable.1);
+      no_variable = (says.no_variable.1, w.says.no_variable.1);
     }
 
 written_stays : (cx : Context) (f : ℕ) (e : Equation) (theta : List (Option Tree)) (us : Forest)
@@ -201,7 +203,7 @@ written_stays : (cx : Context) (f : ℕ) (e : Equation) (theta : List (Option Tr
     → StaysTurned cx made normal turned → StaysIn cx turned
 written_stays cx f e theta us made turned None w is = subst (StaysIn cx) (sym is) w.stays
 written_stays cx f e theta us made turned (Some t) w within =
-    λ s has. within s has tt (w.calls.3 s has, (w.stays s has, tt))
+    λ s has. within s has tt ((w.calls us w.makes).1 s has, (w.stays s has, tt))
 
 pub written_proves : (cx : Context) (f : ℕ) (e : Equation) (theta : List (Option Tree))
     (us : Forest) (made turned : Theorem) (normal : Option Theorem)

@@ -5,7 +5,7 @@ use Rattle.term_core.specs.Patterns.{Pattern as RulePattern, binding}
 use Rattle.ml_kernel.specs.Theorems.{Theorem}
 use Rattle.rule_core.specs.Rules.{Equation}
 use Rattle.rule_core.specs.Sorting.{HasSort}
-use Rattle.rule_core.specs.Matching.{MatchAll}
+use Rattle.rule_core.specs.Matching.{MatchNamed}
 use Rattle.rule_core.specs.ProgramView.{theory_of}
 use Rattle.rule_core.specs.WellSorted.{IsWellSorted}
 use Rattle.ml_image.specs.HasImages.{HasEquationImage}
@@ -44,7 +44,7 @@ pub record CanUseAt (cx : Context) (f : ℕ) (e : Equation) (lemma : Theorem)
   pub image : HasEquationImage cx.program.sig f e
   pub own : IsEquationFor (theory_of cx.program) f e
   pub is_lemma : IsEquationLemma cx f e lemma
-  pub matches : MatchAll cx.program.sig e.variables e.arguments ts theta
+  pub matches : MatchNamed cx.program.sig e.variables e.arguments e.names ts theta
   pub bound : BindsEach e.variables theta
   pub condition : SaysCondition cx e.variables theta e.condition o
 

@@ -2,7 +2,6 @@
 -- this becomes what it says with the arguments in normal form.
 use Rattle.std.specs.Prelude.{◌≡◌, ℕ, List, [], ◌∷◌, Option, Some, None, length}
 use Rattle.term_core.specs.Terms.{Tree}
-use Rattle.term_core.specs.Patterns.{call}
 use Rattle.ml_pat.specs.Patterns.{Pattern, equal}
 use Rattle.ml_kernel.specs.Lemmas.{HasNoVariable}
 use Rattle.ml_kernel.specs.Theorems.{Theorem}
@@ -10,8 +9,11 @@ use Rattle.rule_core.specs.Rules.{Equation}
 use Rattle.rule_core.specs.Matching.{RespectsSorts}
 use Rattle.ml_image.specs.Images.{image_of}
 use Rattle.ml_image.specs.HasImages.{HasEquationImage}
+use Rattle.ml_image.specs.NamedSides.{applied_sides}
+use Rattle.ml_image.specs.Sentences.{symbol, sentence_image}
 use Rattle.prove_term.specs.Contexts.{Context, StaysInWith}
 use Rattle.prove_term.specs.Filling.{filled}
+use Rattle.prove_term.specs.FilledSides.{filled_sentence}
 use Rattle.prove_equation.specs.Conditions.{BindsEach, SaysCondition}
 use Rattle.prove_equation.specs.EquationLemmas.{IsEquationLemma}
 
@@ -27,13 +29,14 @@ pub record CanFill (cx : Context) (f : ℕ) (e : Equation) (lemma : Theorem)
   pub bound : BindsEach e.variables theta
   pub condition : SaysCondition cx e.variables theta e.condition o
 
--- The pattern says that the image of the function f of the equation's arguments equals the image of
--- the right side. The variables of both are replaced by the terms of a substitution.
+-- The pattern says that the image of the function f of the equation's arguments, whose parts may have
+-- names, equals the image of the right side. The variables of both are replaced by the terms of a
+-- substitution.
 pub record SaysFilledEquation (cx : Context) (f : ℕ) (e : Equation) (theta : List (Option Tree))
     (p : Pattern) : Type 0 where
   pub left : Pattern
-  pub left_image : image_of cx.program.sig cx.names (filled theta (call f [] e.arguments))
-      ≡ Some left
+  pub left_image : sentence_image cx.program.sig cx.names
+      (filled_sentence theta (applied_sides e.names 0 (symbol f) e.arguments)) ≡ Some left
   pub right : Pattern
   pub right_image : image_of cx.program.sig cx.names (filled theta e.right) ≡ Some right
   pub says : p ≡ equal left right

@@ -11,7 +11,7 @@ ghost use Rattle.prove_equation.specs.Filled.{StaysTurned};
 use crate::conditions::given;
 use ml_kernel::{Lemma, Thm};
 use prove_schema::{elements, schema_at};
-use prove_term::{Cx, call_eq, flip, join};
+use prove_term::{Cx, call_eq_named, flip, join};
 use rule_core::Equation;
 use std::alloc::{AllocError, Global};
 use term_core::{Subst, Term};
@@ -36,7 +36,15 @@ pub(crate) fn direct_at(
     ensures grown { HasGrown cx.old cx.new }
 {
     let made = filled(alloc, cx, lemma, equation, subst, condition)?;
-    let normal = call_eq(alloc, cx, equation.fun, &equation.args, subst, args)?;
+    let normal = call_eq_named(
+        alloc,
+        cx,
+        equation.fun,
+        &equation.args,
+        &equation.named,
+        subst,
+        args,
+    )?;
     from_normal(alloc, cx, made, &normal)
 }
 

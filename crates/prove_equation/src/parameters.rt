@@ -1,19 +1,23 @@
 // Equations in the form of kompile, at terms: each term is a member of the argument of its
 // parameter.
-ghost use Rattle.std.specs.Prelude.{◌≡◌, ◌≢◌, ◌++◌, [], ◌∷◌, ℕ, List, IfOk, Some};
+ghost use Rattle.std.specs.Prelude.{◌≡◌, ◌≢◌, ◌≤◌, ◌^◌, ◌++◌, [], ◌∷◌, ℕ, List, length, IfOk};
+ghost use Rattle.std.specs.Prelude.{Some};
 ghost use Rattle.std.specs.List.{AllZip};
 ghost use Rattle.ml_pat.specs.Patterns.{fun, imp, member};
 ghost use Rattle.ml_derived.specs.Scopes.{StaysWithin};
 ghost use Rattle.term_core.specs.Forests.{forest};
-ghost use Rattle.term_core.specs.Patterns.{instance_of, instances_of};
+ghost use Rattle.term_core.specs.Patterns.{Patterns, instance_of, instances_of};
 ghost use Rattle.term_core.specs.PatternLists.{plain_patterns};
 ghost use Rattle.term_core.specs.RulePatterns.{plain_pattern};
 ghost use Rattle.rule_core.specs.Matching.{RespectsSorts};
-ghost use Rattle.rule_core.specs.ProgramView.{function_equation};
+ghost use Rattle.rule_core.specs.NamedParts.{pattern_at};
+ghost use Rattle.rule_core.specs.ProgramView.{function_equation, names_of};
 ghost use Rattle.rule_core.specs.Sorting.{HasSort, HaveSorts};
 ghost use Rattle.rule_core.specs.WellSorted.{IsSignature};
 ghost use Rattle.rule_core.specs.declared.signature.SortRef.{SortRef};
+ghost use Rattle.ml_image.specs.NamedSides.{of_child};
 ghost use Rattle.prove_term.specs.Contexts.{HasGrown};
+ghost use Rattle.prove_term.specs.FilledSides.{AreBoundToParts};
 ghost use Rattle.prove_schema.specs.Elements.{IsElementOf};
 ghost use Rattle.prove_equation.specs.Conditions.{CanUseAt, ProvesAt};
 ghost use Rattle.prove_equation.specs.Parameters.{AreMemberships, CanEnter, IsEntered, IsInItself};
@@ -25,8 +29,8 @@ use ml_derived::{carry, flip, mp};
 use ml_kernel::{Lemma, Thm};
 use ml_pat::{MForm, MPat, MSort, VarNo};
 use prove_schema::{elements, schema_at, term_elements};
-use prove_term::{Cx, inj_eq};
-use rule_core::Equation;
+use prove_term::{Cx, inj_eq_named};
+use rule_core::{Equation, Named};
 use std::alloc::{AllocError, Global};
 use term_core::{RulePat, Subst, Term};
 
@@ -50,7 +54,15 @@ pub(crate) fn kompile_at(
     ensures grown { HasGrown cx.old cx.new }
 {
     let first = term_elements(alloc, cx, args)?;
-    let members = memberships(alloc, cx, &equation.args, subst, args, &first)?;
+    let members = memberships(
+        alloc,
+        cx,
+        &equation.args,
+        &equation.named,
+        subst,
+        args,
+        &first,
+    )?;
     let rest = elements(alloc, cx, subst)?;
     let facts = joined(alloc, &first, &rest)?;
     let held = given(alloc, condition)?;
@@ -72,12 +84,13 @@ fn joined(alloc: Global, first: &[Thm], second: &[Thm]) -> Result<Vec<Thm>, Allo
     Ok(theorems)
 }
 
-// Proves that each term is a member of the pattern at its place, with the pattern's variables
-// replaced by a substitution's terms.
+// Proves that each term is a member of the pattern at its place, with the names of its parts, and
+// with the pattern's variables replaced by a substitution's terms.
 fn memberships(
     alloc: Global,
     cx: &mut Cx<'_>,
     pats: &[RulePat],
+    named: &[Named],
     subst: &Subst,
     terms: &[Term],
     facts: &[Thm],
@@ -87,23 +100,32 @@ fn memberships(
         × HaveSorts cx.old.program.sig variables [] (plain_patterns pats.now) refs
         × RespectsSorts cx.old.program.sig variables subst.now }
     requires makes { instances_of subst.now (plain_patterns pats.now) ≡ Some (forest terms.now) }
+    requires named { AreBoundToParts subst.now (plain_patterns pats.now) (names_of named.now) }
+    requires few { length pats.now ≤ 2 ^ 32 }
     requires facts { AllZip (IsElementOf cx.old) terms.now facts.now }
     ensures members { IfOk result
-        (λ v. AreMemberships cx.new subst.now (plain_patterns pats.now) terms.now v.items) }
+        (λ v. AreMemberships cx.new subst.now (names_of named.now) 0 (plain_patterns pats.now)
+        terms.now v.items) }
     ensures grown { HasGrown cx.old cx.new }
 {
     let mut members = Vec::with_capacity(alloc, pats.len())?;
     for i in 0..pats.len() {
-        members.push(membership(alloc, cx, &pats[i], subst, &terms[i], &facts[i])?)?;
+        let argument = i as u32;
+        members.push(membership(
+            alloc, cx, &pats[i], named, argument, subst, &terms[i], &facts[i],
+        )?)?;
     }
     Ok(members)
 }
 
 // Proves that a term is a member of a pattern that becomes it, with the pattern as it is written.
+// The pattern is the argument with this number, and `named` are the names of parts of the arguments.
 fn membership(
     alloc: Global,
     cx: &mut Cx<'_>,
     pat: &RulePat,
+    named: &[Named],
+    argument: u32,
     subst: &Subst,
     term: &Term,
     fact: &Thm,
@@ -113,14 +135,18 @@ fn membership(
         × HasSort cx.old.program.sig variables (plain_pattern pat.now) sort
         × RespectsSorts cx.old.program.sig variables subst.now }
     requires makes { instance_of subst.now (plain_pattern pat.now) ≡ Some term.now }
+    requires named { (ps : Patterns) × (pattern_at ps argument ≡ Some (plain_pattern pat.now))
+        × AreBoundToParts subst.now ps (names_of named.now) }
     requires fact { IsElementOf cx.old term.now fact.now }
-    ensures member { IfOk result (IsMembership cx.new subst.now (plain_pattern pat.now) term.now) }
+    ensures member { IfOk result
+        (IsMembership cx.new subst.now (of_child argument (names_of named.now))
+        (plain_pattern pat.now) term.now) }
     ensures grown { HasGrown cx.old cx.new }
 {
     // The contract of `height` says that a term is not too high.
     let _height = term.height();
     let itself = in_itself(alloc, fact)?;
-    let equality = inj_eq(alloc, cx, pat, subst)?;
+    let equality = inj_eq_named(alloc, cx, pat, named, argument, subst)?;
     in_written(alloc, itself, &equality)
 }
 

@@ -1,13 +1,13 @@
 -- The plain record of each variant, and the plain records of its arguments.
 use Rattle.std.proofs.Common.{rules, ◌≡◌, ◌<◌, ℕ, zero, suc, List, [], ◌∷◌, Some, length, get_or}
-use Rattle.std.proofs.Common.{map, option_map, slice_get, refl, sym, ◌∙◌, ap, arith}
+use Rattle.std.proofs.Common.{map, slice_get, refl, sym, ◌∙◌, ap, arith}
 use Rattle.std.specs.Global.{Vec, Box}
 use Rattle.term_core.specs.Terms.{Tree}
 use Rattle.term_core.specs.declared.ids.SortId.{SortId}
 use Rattle.term_core.specs.declared.ids.SymId.{SymId}
-use Rattle.rule_core.specs.Records.{Record, bound, itself, made, by_hook, by_equation, no_record}
-use Rattle.rule_core.specs.Records.{more_records}
-use Rattle.rule_core.specs.RecordView.{optional, plain_record, plain_layer, plain_use, records}
+use Rattle.rule_core.specs.Records.{Record, bound, itself, made, by_hook, no_record}
+use Rattle.rule_core.specs.Records.{more_records, Miss}
+use Rattle.rule_core.specs.RecordView.{plain_record, plain_layer, plain_miss, plain_use, records}
 use Rattle.rule_core.specs.declared.records.EvalRecord.{EvalRecord}
 use Rattle.rule_core.specs.declared.records.EvalRecord.TheVariants as form
 use Rattle.rule_core.specs.declared.records.EvalRecord.TheVariants.{rolls-Bound, rolls-Value}
@@ -20,47 +20,49 @@ use Rattle.rule_core.specs.declared.records.EvalRecord.TheFolds.{fold-EqRecord}
 use Rattle.rule_core.specs.declared.records.EvalRecord.TheFolds.{fold-roll-EvalRecord}
 use Rattle.rule_core.specs.declared.records.EvalRecord.TheFolds.{fold_out-EqRecord}
 use Rattle.prove_fun.specs.RecordParts.{listed}
+use Rattle.prove_fun.specs.Using.{used_record}
 
 pub plain-Bound : (x : ℕ) (t : Tree) → plain_record (form.Bound x t) ≡ bound x t
 plain-Bound x t =
     ap plain_record (sym (rolls-Bound x t))
-    ∙ fold-roll-EvalRecord Record Record plain_layer plain_use (layer.Bound x t)
+    ∙ fold-roll-EvalRecord Record Miss Record plain_layer plain_miss plain_use (layer.Bound x t)
 
 pub plain-Value : (t : Tree) → plain_record (form.Value t) ≡ itself t
 plain-Value t = ap plain_record (sym (rolls-Value t))
-    ∙ fold-roll-EvalRecord Record Record plain_layer plain_use (layer.Value t)
+    ∙ fold-roll-EvalRecord Record Miss Record plain_layer plain_miss plain_use (layer.Value t)
 
 pub plain-Ctor : (f : SymId) (rs : Vec EvalRecord) (t : Tree)
     → plain_record (form.Ctor f rs t) ≡ made (records (map plain_record rs.items)) t
 plain-Ctor f rs t =
     ap plain_record (sym (rolls-Ctor f rs t))
-    ∙ fold-roll-EvalRecord Record Record plain_layer plain_use (layer.Ctor f rs t)
+    ∙ fold-roll-EvalRecord Record Miss Record plain_layer plain_miss plain_use (layer.Ctor f rs t)
 
 pub plain-Inj : (a b : SortId) (r : Box EvalRecord) (t : Tree)
     → plain_record (form.Inj a b r t) ≡ made (more_records (plain_record r.value) no_record) t
 plain-Inj a b r t =
     ap plain_record (sym (rolls-Inj a b r t))
-    ∙ fold-roll-EvalRecord Record Record plain_layer plain_use (layer.Inj a b r t)
+    ∙ fold-roll-EvalRecord Record Miss Record plain_layer plain_miss plain_use (layer.Inj a b r t)
 
 pub plain-ByHook : (f : SymId) (rs : Vec EvalRecord) (t : Tree)
     → plain_record (form.ByHook f rs t) ≡ by_hook (records (map plain_record rs.items)) t
 plain-ByHook f rs t =
     ap plain_record (sym (rolls-ByHook f rs t))
-    ∙ fold-roll-EvalRecord Record Record plain_layer plain_use (layer.ByHook f rs t)
+    ∙ fold-roll-EvalRecord Record Miss Record plain_layer plain_miss plain_use (layer.ByHook f rs t)
 
-used_record : (used : EqRecord)
-    → plain_record (form.ByEquation used) ≡ fold-EqRecord Record Record plain_layer plain_use used
-used_record used =
-    ap plain_record (sym (rolls-ByEquation used))
-    ∙ fold-roll-EvalRecord Record Record plain_layer plain_use (layer.ByEquation used)
-
-pub plain-ByEquation : (used : EqRecord)
+folded_use : (used : Box EqRecord)
     → plain_record (form.ByEquation used)
-    ≡ by_equation (records (map plain_record used.args.items)) used.equation used.subst
-    (optional (option_map (λ (b : Box EvalRecord). plain_record b.value) used.cond))
-    (plain_record used.body.value)
+    ≡ fold-EqRecord Record Miss Record plain_layer plain_miss plain_use used.value
+folded_use used =
+    ap plain_record (sym (rolls-ByEquation used))
+    ∙ fold-roll-EvalRecord Record Miss Record plain_layer plain_miss plain_use
+    (layer.ByEquation used)
+
+pub plain-ByEquation : (used : Box EqRecord)
+    → plain_record (form.ByEquation used) ≡ used_record used.value
 plain-ByEquation used =
-    used_record used ∙ (fold_out-EqRecord Record Record plain_layer plain_use used ∙ search rules)
+    folded_use used
+    ∙ (fold_out-EqRecord Record Miss Record plain_layer plain_miss plain_use used.value
+    ∙ search rules)
 
 -- ---- the records of arguments
 

@@ -17,13 +17,15 @@ use Rattle.rule_core.specs.declared.rules.Program.{Program}
 use Rattle.rule_core.specs.Subsorts.{IsBelow}
 use Rattle.rule_core.specs.Sorting.{HaveSorts, IsTermOf, HasInjection, IsSymbol}
 use Rattle.rule_core.specs.MatchLaws.{AreTermsOf}
-use Rattle.rule_core.specs.Matching.{OccursInSome, RespectsSorts, MatchAll}
+use Rattle.rule_core.specs.NamedParts.{Name}
+use Rattle.rule_core.specs.Matching.{OccursInSome, RespectsSorts, MatchNamed}
 use Rattle.rule_core.specs.Evaluation.{HasHead, of_constructor, of_injection, built, most_height}
 use Rattle.rule_core.specs.Evaluation.{IsTrueValue}
-use Rattle.rule_core.specs.Records.{Record, RecordList, OptionalRecord, conditional, Records}
+use Rattle.rule_core.specs.Records.{Record, RecordList, OptionalRecord, MissList, conditional}
+use Rattle.rule_core.specs.Records.{Records}
 use Rattle.rule_core.specs.Records.{RecordAll, RecordsCondition, bound, itself, made, by_hook}
 use Rattle.rule_core.specs.Records.{by_equation, no_record, more_records, result_of, results_of}
-use Rattle.rule_core.specs.WellSorted.{IsWellSorted, IsEquationOf, IsCondition}
+use Rattle.rule_core.specs.WellSorted.{IsWellSorted, IsEquationOf, IsCondition, HaveNames}
 use Rattle.rule_core.specs.declared.signature.SortRef.{SortRef}
 use Rattle.rule_core.specs.declared.signature.SymInfo.{SymInfo}
 use Rattle.rule_core.proofs.EvaluationUnique.{same_head, no_head_of-variable, no_head_of-value}
@@ -69,7 +71,7 @@ variable_filled program theta x (bound y t) (is, there) =
 variable_filled program theta x (itself t) (s, v, is, value) = absurd (let no : ⊥ = cc in no)
 variable_filled program theta x (made rs t) w = absurd (no_head_of-variable w.2)
 variable_filled program theta x (by_hook rs t) w = absurd (let e = w.7 in let no : ⊥ = cc in no)
-variable_filled program theta x (by_equation rs i sigma condition body) w =
+variable_filled program theta x (by_equation rs i sigma condition body missed) w =
     absurd (let e = w.5 in let no : ⊥ = cc in no)
 
 same_value : (s t : ℕ) (v w : DomainValue) → domain_value s v ≡ domain_value t w → (s ≡ t) × (v ≡ w)
@@ -82,7 +84,7 @@ value_filled program theta s v (bound y t) (is, there) = absurd (let no : ⊥ = 
 value_filled program theta s v (itself t) (u, w, is, value) = is ∙ ap ground_pattern (sym value)
 value_filled program theta s v (made rs t) w = absurd (no_head_of-value w.2)
 value_filled program theta s v (by_hook rs t) w = absurd (let e = w.7 in let no : ⊥ = cc in no)
-value_filled program theta s v (by_equation rs i sigma condition body) w =
+value_filled program theta s v (by_equation rs i sigma condition body missed) w =
     absurd (let e = w.5 in let no : ⊥ = cc in no)
 
 -- ---- constructors
@@ -102,7 +104,7 @@ application_made program theta f ps (made rs t) (g, qs, head, is, low, all) =
       subst (λ (xs : RulePatterns). RecordAll (theory_of program) theta xs rs) same.1 all,
     )
 application_made program theta f ps (by_hook rs t) w = absurd (let e = w.7 in let no : ⊥ = cc in no)
-application_made program theta f ps (by_equation rs i sigma condition body) w =
+application_made program theta f ps (by_equation rs i sigma condition body missed) w =
     absurd (let e = w.5 in let no : ⊥ = cc in no)
 
 pub constructor_recorded : (program : Program) (theta : List (Option Tree)) (f : ℕ)
@@ -183,7 +185,7 @@ injection_made program theta a b p (made rs t) (g, qs, head, is, low, all) = go 
         is in
         (one.0, one.1, made_of (injected a b (result_of one.0)) t made', one.2, low)
 injection_made program theta a b p (by_hook rs t) w = absurd (let e = w.7 in let no : ⊥ = cc in no)
-injection_made program theta a b p (by_equation rs i sigma condition body) w =
+injection_made program theta a b p (by_equation rs i sigma condition body missed) w =
     absurd (let e = w.5 in let no : ⊥ = cc in no)
 
 pub injection_recorded : (program : Program) (theta : List (Option Tree)) (a b : ℕ)
@@ -374,7 +376,7 @@ call_made program theta f sorts ps (by_hook rs t) ok w =
       (ok.hooked f w.4 w.3 there w.9.hooked).plain,
       subst (λ (xs : RulePatterns). RecordAll (theory_of program) theta xs rs) args w.12,
     )
-call_made program theta f sorts ps (by_equation rs i sigma condition body) ok w =
+call_made program theta f sorts ps (by_equation rs i sigma condition body missed) ok w =
     let same : w.0 ≡ f = first_same w.0 f w.1 sorts w.2 ps w.5 in
     let args : w.2 ≡ ps = last_same w.0 f w.1 sorts w.2 ps w.5 in
     let there : IsSymbol program.sig f w.3 =
@@ -486,12 +488,13 @@ all_at P xs i x each there =
     subst P (get_or_from_slice_get xs i x x there) (each i x (slice_get_within xs i x there))
 
 pub held_record : (program : Program) (sigma : List (Option Tree)) (variables : List ℕ)
-    (ps : RulePatterns) (ts : Forest) (p : RulePattern) (q : Record) (c : Option RulePattern)
-    (o : OptionalRecord) → IsSortedAndBound program → IsCondition program.sig variables ps p
-    → MatchAll program.sig variables ps ts sigma → heights ts ≤ most_height → c ≡ Some p
+    (ps : RulePatterns) (names : List Name) (ts : Forest) (p : RulePattern) (q : Record)
+    (c : Option RulePattern) (o : OptionalRecord) → IsSortedAndBound program
+    → HaveNames program.sig variables ps names → IsCondition program.sig variables ps names p
+    → MatchNamed program.sig variables ps names ts sigma → heights ts ≤ most_height → c ≡ Some p
     → o ≡ conditional q → RecordsCondition (theory_of program) sigma c o
     → (h : IsRecorded program sigma p q) × (h.variables ≡ variables) × IsTrueValue (result_of q)
-held_record program sigma variables ps ts p q c o ready has matches low is_c is_o held =
+held_record program sigma variables ps names ts p q c o ready named has matches low is_c is_o held =
     let w : RecordsCondition (theory_of program) sigma (Some p) (conditional q) =
     subst (λ (x : Option RulePattern).
     RecordsCondition (theory_of program) sigma x (conditional q)) is_c
@@ -502,7 +505,7 @@ held_record program sigma variables ps ts p q c o ready has matches low is_c is_
         variables = variables;
         sort = has.0;
         sorted = has.5;
-        serves = serves_match program.sig variables ps ts sigma p matches low has.6;
+        serves = serves_match program.sig variables ps names ts sigma p named matches low has.6;
         records = subst (λ (x : RulePattern). Records (theory_of program) sigma x q) (sym same) w.2;
       },
       refl,
@@ -514,15 +517,16 @@ held_record program sigma variables ps ts p q c o ready has matches low is_c is_
 
 pub equation_recorded : (program : Program) (theta : List (Option Tree)) (f : ℕ) (ps : RulePatterns)
     (r : Record) (rs : RecordList) (i : ℕ) (sigma : List (Option Tree))
-    (condition : OptionalRecord) (body : Record) → r ≡ by_equation rs i sigma condition body
+    (condition : OptionalRecord) (body : Record) (missed : MissList)
+    → r ≡ by_equation rs i sigma condition body missed
     → IsRecorded program theta (call f [] ps) r
     → IsUse program f (children_of r) i sigma condition body
 unfolding call_recorded
-equation_recorded program theta f ps r rs i sigma condition body is h =
+equation_recorded program theta f ps r rs i sigma condition body missed is h =
     subst (λ (q : Record). IsUse program f (children_of q) i sigma condition body) (sym is)
     (go (subst (IsRecorded program theta (call f [] ps)) is h))
   where
-    go : IsRecorded program theta (call f [] ps) (by_equation rs i sigma condition body)
+    go : IsRecorded program theta (call f [] ps) (by_equation rs i sigma condition body missed)
         → IsUse program f rs i sigma condition body
     go h =
         let w = h.records in
@@ -536,7 +540,7 @@ equation_recorded program theta f ps r rs i sigma condition body is h =
         all_at (IsEquationOf program.sig w.3) (equations_of (theory_of program) f) i w.4
         (h.ready.well_sorted.equations f w.3 function) there in
         let all : AreRecorded program theta ps rs =
-        (call_recorded program theta f [] ps (by_equation rs i sigma condition body) h).1 in
+        (call_recorded program theta f [] ps (by_equation rs i sigma condition body missed) h).1 in
         let low : heights (results_of rs) ≤ most_height =
         (arguments_good program theta ps rs all).2 in
         record {
@@ -548,20 +552,20 @@ equation_recorded program theta f ps r rs i sigma condition body is h =
           matches = w.9;
           condition_held = w.12;
           conditional = λ p q o e.
-              let has : IsCondition program.sig w.4.variables w.4.arguments p =
+              let has : IsCondition program.sig w.4.variables w.4.arguments w.4.names p =
               subst (λ (x : Option RulePattern).
-              IfSome x (IsCondition program.sig w.4.variables w.4.arguments)) o
+              IfSome x (IsCondition program.sig w.4.variables w.4.arguments w.4.names)) o
               fits.condition in
-              held_record program sigma w.4.variables w.4.arguments (results_of rs) p q
-              w.4.condition condition h.ready has w.9 low o e w.12;
+              held_record program sigma w.4.variables w.4.arguments w.4.names (results_of rs) p q
+              w.4.condition condition h.ready fits.names has w.9 low o e w.12;
           right = record {
             ready = h.ready;
             variables = w.4.variables;
             sort = fits.sort;
             sorted = fits.right;
             serves =
-                serves_match program.sig w.4.variables w.4.arguments (results_of rs) sigma w.4.right
-                w.9 low fits.bound;
+                serves_match program.sig w.4.variables w.4.arguments w.4.names (results_of rs) sigma
+                w.4.right fits.names w.9 low fits.bound;
             records = w.13;
           };
         }

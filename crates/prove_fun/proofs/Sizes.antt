@@ -4,7 +4,7 @@ use Rattle.std.proofs.Common.{subst, arith}
 use Rattle.term_core.specs.Terms.{Tree}
 use Rattle.rule_core.specs.Records.{Record, RecordList, OptionalRecord, bound, itself, made}
 use Rattle.rule_core.specs.Records.{by_hook, by_equation, no_record, more_records, unconditional}
-use Rattle.rule_core.specs.Records.{conditional}
+use Rattle.rule_core.specs.Records.{conditional, MissList}
 use Rattle.prove_fun.specs.RecordParts.{children, children_of, listed}
 
 abbrev mutual
@@ -13,7 +13,8 @@ abbrev mutual
   size (itself t) = 1
   size (made rs t) = sizes rs + 1
   size (by_hook rs t) = sizes rs + 1
-  size (by_equation rs i theta condition body) = sizes rs + (size_if condition + (size body + 1))
+  size (by_equation rs i theta condition body missed) =
+      sizes rs + (size_if condition + (size body + 1))
 
   pub sizes : RecordList → ℕ
   sizes no_record = 0
@@ -39,7 +40,7 @@ children_size (bound x t) = omega arith
 children_size (itself t) = omega arith
 children_size (made rs t) = omega arith
 children_size (by_hook rs t) = omega arith
-children_size (by_equation rs i theta condition body) = omega arith
+children_size (by_equation rs i theta condition body missed) = omega arith
 
 pub child_size : (r : Record) (i : ℕ) (q : Record) → slice_get (children r) i ≡ Some q
     → size q < size r
@@ -51,10 +52,11 @@ some_size (bound x t) = omega arith
 some_size (itself t) = omega arith
 some_size (made rs t) = omega arith
 some_size (by_hook rs t) = omega arith
-some_size (by_equation rs i theta condition body) = omega arith
+some_size (by_equation rs i theta condition body missed) = omega arith
 
 pub equation_size : (r : Record) (rs : RecordList) (i : ℕ) (theta : List (Option Tree))
-    (condition : OptionalRecord) (body : Record) → r ≡ by_equation rs i theta condition body
+    (condition : OptionalRecord) (body : Record) (missed : MissList)
+    → r ≡ by_equation rs i theta condition body missed
     → size_if condition + (size body + 1) ≤ size r
-equation_size r rs i theta condition body is =
+equation_size r rs i theta condition body missed is =
     subst (λ (q : Record). size_if condition + (size body + 1) ≤ size q) (sym is) (omega arith)

@@ -16,10 +16,10 @@ use Rattle.term_core.specs.declared.rule_patterns.RulePat.{RulePat}
 use Rattle.rule_core.specs.Rules.{Equation as PlainEquation}
 use Rattle.rule_core.specs.Theories.{equations_of}
 use Rattle.rule_core.specs.Sorting.{HasSort, IsTermOf}
-use Rattle.rule_core.specs.Matching.{MatchAll}
+use Rattle.rule_core.specs.Matching.{MatchNamed}
 use Rattle.rule_core.specs.BoundVariables.{IsBoundEquation, IsEquationAt}
-use Rattle.rule_core.specs.Evaluation.{IsTrueValue}
-use Rattle.rule_core.specs.ProgramView.{theory_of, function_equation, sorts_of}
+use Rattle.rule_core.specs.Evaluation.{IsTrueValue, MatchesBy}
+use Rattle.rule_core.specs.ProgramView.{theory_of, function_equation, names_of, sorts_of}
 use Rattle.rule_core.specs.Records.{Record, RecordList, OptionalRecord, unconditional}
 use Rattle.rule_core.specs.Records.{RecordsCondition, no_record, more_records, result_of}
 use Rattle.rule_core.specs.Records.{results_of}
@@ -113,7 +113,8 @@ used_own program f rs i sigma o body u = record {
 
 pub binds_each : (program : Program) (f : ℕ) (q : Equation) (ts : Forest)
     (sigma : List (Option Tree)) → IsBoundEquation f q
-    → MatchAll program.sig (sorts_of q.vars.items) (plain_patterns q.args.items) ts sigma
+    → MatchNamed program.sig (sorts_of q.vars.items) (plain_patterns q.args.items)
+    (names_of q.named.items) ts sigma
     → BindsEach (sorts_of q.vars.items) sigma
 binds_each program f q ts sigma bound matches =
     λ x low.
@@ -235,11 +236,11 @@ ready_later a b g h = subst IsSortedAndBound (sym g.program) h
 pub used_matches : (program : Program) (f : ℕ) (rs : RecordList) (i : ℕ)
     (sigma : List (Option Tree)) (o : OptionalRecord) (body : Record) (q : Equation)
     (u : IsUse program f rs i sigma o body) → IsEquationAt program f i q
-    → MatchAll program.sig (sorts_of q.vars.items) (plain_patterns q.args.items) (results_of rs)
-    sigma
+    → MatchNamed program.sig (sorts_of q.vars.items) (plain_patterns q.args.items)
+    (names_of q.named.items) (results_of rs) sigma
 used_matches program f rs i sigma o body q u at =
     subst
-    (λ (e : PlainEquation). MatchAll program.sig e.variables e.arguments (results_of rs) sigma)
+    (λ (e : PlainEquation). MatchesBy (theory_of program) e (results_of rs) sigma)
     (sym (same_equation program f i q u.equation at u.there)) u.matches
 
 pub used_right : (program : Program) (f : ℕ) (rs : RecordList) (i : ℕ) (sigma : List (Option Tree))
@@ -272,8 +273,8 @@ pub record IsAsked (program : Program) (f : ℕ) (rs : RecordList) (i : ℕ)
   pub image : HasEquationImage program.sig q.fun.0 (function_equation q)
   pub own : IsEquationFor (theory_of program) q.fun.0 (function_equation q)
   pub there : slice_get (equations_of (theory_of program) q.fun.0) i ≡ Some (function_equation q)
-  pub matches : MatchAll program.sig (sorts_of q.vars.items) (plain_patterns q.args.items)
-      (results_of rs) sigma
+  pub matches : MatchNamed program.sig (sorts_of q.vars.items) (plain_patterns q.args.items)
+      (names_of q.named.items) (results_of rs) sigma
   pub bound : BindsEach (sorts_of q.vars.items) sigma
 
 pub asked : (program : Program) (f : ℕ) (rs : RecordList) (i : ℕ) (sigma : List (Option Tree))

@@ -8,7 +8,7 @@ children_of (bound x t) = no_record
 children_of (itself t) = no_record
 children_of (made rs t) = rs
 children_of (by_hook rs t) = rs
-children_of (by_equation rs i theta condition body) = rs
+children_of (by_equation rs i theta condition body missed) = rs
 
 abbrev pub listed : RecordList → List Record
 listed no_record = []

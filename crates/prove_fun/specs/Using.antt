@@ -6,15 +6,17 @@ use Rattle.term_core.specs.Patterns.{Pattern}
 use Rattle.ml_kernel.specs.Theorems.{Theorem}
 use Rattle.rule_core.specs.Rules.{Equation}
 use Rattle.rule_core.specs.Theories.{equations_of}
-use Rattle.rule_core.specs.Matching.{MatchAll}
 use Rattle.rule_core.specs.Sorting.{IsSymbol}
-use Rattle.rule_core.specs.Evaluation.{IsTrueValue}
+use Rattle.rule_core.specs.Evaluation.{IsTrueValue, MatchesBy}
 use Rattle.rule_core.specs.ProgramView.{theory_of}
-use Rattle.rule_core.specs.Records.{Record, RecordList, OptionalRecord, RecordsCondition}
+use Rattle.rule_core.specs.Records.{Record, RecordList, OptionalRecord, Miss, RecordsCondition}
 use Rattle.rule_core.specs.Records.{by_equation, result_of, results_of}
-use Rattle.rule_core.specs.RecordView.{optional, plain_record, records}
+use Rattle.rule_core.specs.RecordView.{optional, plain_record, plain_layer, plain_miss, plain_use}
+use Rattle.rule_core.specs.RecordView.{records, misses}
 use Rattle.rule_core.specs.declared.records.EqRecord.{EqRecord}
 use Rattle.rule_core.specs.declared.records.EvalRecord.{EvalRecord}
+use Rattle.rule_core.specs.declared.records.EvalRecord.TheFolds.{fold-Miss}
+use Rattle.rule_core.specs.declared.records.Miss.{Miss as CodeMiss}
 use Rattle.rule_core.specs.declared.rules.Program.{Program}
 use Rattle.rule_core.specs.declared.signature.SymInfo.{SymInfo}
 use Rattle.rule_core.specs.declared.signature.SymKind.TheVariants.{Equations}
@@ -27,12 +29,16 @@ abbrev pub condition_record : EqRecord → OptionalRecord
 condition_record used =
     optional (option_map (λ (b : Box EvalRecord). plain_record b.value) used.cond)
 
+-- why an equation is not used, as a plain record
+abbrev pub missed_record : CodeMiss → Miss
+missed_record = fold-Miss Record Miss Record plain_layer plain_miss plain_use
+
 -- the plain record of the use of an equation
 abbrev pub used_record : EqRecord → Record
 used_record used =
     by_equation (records (map plain_record used.args.items)) used.equation used.subst
-    (condition_record used)
-    (plain_record used.body.value)
+    (condition_record used) (plain_record used.body.value)
+    (misses (map missed_record used.missed.items))
 
 -- The equation number i of the function f was used. It was used at the results of the records rs,
 -- with the substitution sigma, and with records of its condition and of its right side.
@@ -43,7 +49,7 @@ pub record IsUse (program : Program) (f : ℕ) (rs : RecordList) (i : ℕ) (sigm
   pub by_equations : info.kind ≡ Equations
   pub equation : Equation
   pub there : slice_get (equations_of (theory_of program) f) i ≡ Some equation
-  pub matches : MatchAll program.sig equation.variables equation.arguments (results_of rs) sigma
+  pub matches : MatchesBy (theory_of program) equation (results_of rs) sigma
   pub condition_held : RecordsCondition (theory_of program) sigma equation.condition condition
   pub conditional : (p : Pattern) (q : Record) → equation.condition ≡ Some p
       → condition ≡ optional (Some q)

@@ -34,20 +34,28 @@ AllThere theta n = (x : ℕ) → x < n → (t : Tree) × (binding theta x ≡ So
 abbrev pub Becomes : List Pattern → Option Pattern → Option Pattern → Type 0
 Becomes qs old new = (p : Pattern) → old ≡ Some p → new ≡ Some (instance qs (with_metas p))
 
-becomes_constant : (qs : List Pattern) (o : Option ℕ)
+pub becomes_constant : (qs : List Pattern) (o : Option ℕ)
     → Becomes qs (option_map constant o) (option_map constant o)
 becomes_constant qs None p e = absurd (none_some p e)
 becomes_constant qs (Some c) p e =
     ap (λ (r : Pattern). Some (instance qs (with_metas r))) (some_same (constant c) p e)
 
-becomes_app : (qs : List Pattern) (a a' b b' : Option Pattern) → Becomes qs a a' → Becomes qs b b'
-    → Becomes qs (both app a b) (both app a' b')
-becomes_app qs None a' b b' ka kb p e = absurd (none_some p e)
-becomes_app qs (Some x) a' None b' ka kb p e = absurd (none_some p e)
-becomes_app qs (Some x) a' (Some y) b' ka kb p e =
-    ap (λ (o : Option Pattern). both app o b') (ka x refl)
-    ∙ ap (both app (Some (instance qs (with_metas x)))) (kb y refl)
-    ∙ ap (λ (r : Pattern). Some (instance qs (with_metas r))) (some_same (app x y) p e)
+pub becomes_both : (qs : List Pattern) (f : Pattern → Pattern → Pattern)
+    (a a' b b' : Option Pattern)
+    → ((x y : Pattern) → f (instance qs (with_metas x)) (instance qs (with_metas y))
+    ≡ instance qs (with_metas (f x y)))
+    → Becomes qs a a' → Becomes qs b b' → Becomes qs (both f a b) (both f a' b')
+becomes_both qs f None a' b b' inside ka kb p e = absurd (none_some p e)
+becomes_both qs f (Some x) a' None b' inside ka kb p e = absurd (none_some p e)
+becomes_both qs f (Some x) a' (Some y) b' inside ka kb p e =
+    ap (λ (o : Option Pattern). both f o b') (ka x refl)
+    ∙ ap (both f (Some (instance qs (with_metas x)))) (kb y refl)
+    ∙ ap (λ (r : Pattern). Some r) (inside x y)
+    ∙ ap (λ (r : Pattern). Some (instance qs (with_metas r))) (some_same (f x y) p e)
+
+pub becomes_app : (qs : List Pattern) (a a' b b' : Option Pattern) → Becomes qs a a'
+    → Becomes qs b b' → Becomes qs (both app a b) (both app a' b')
+becomes_app qs a a' b b' = becomes_both qs app a a' b b' (λ x y. refl)
 
 becomes_at : (qs : List Pattern) (a a' : Option Pattern) (s : Option ℕ) → Becomes qs a a'
     → Becomes qs (both at_sort a s) (both at_sort a' s)
@@ -70,6 +78,14 @@ becomes_some : (sig : Signature) (names : List (List ℕ)) (qs : List Pattern) (
 becomes_some sig names qs None p e = absurd (none_some p e)
 becomes_some sig names qs (Some f) p e =
     becomes_constant qs (number_in_names names (token_of_symbol sig f)) p e
+
+pub becomes_injection : (sig : Signature) (names : List (List ℕ)) (qs : List Pattern) (a b : ℕ)
+    → Becomes qs (injection_image sig names a b) (injection_image sig names a b)
+becomes_injection sig names qs a b =
+    becomes_at_sorts sig names qs (a ∷ b ∷ [])
+    (some_symbol_image sig names (injection_symbol sig))
+    (some_symbol_image sig names (injection_symbol sig))
+    (becomes_some sig names qs (injection_symbol sig))
 
 -- The image of a pattern with terms in place of its variables is the instance of the pattern's
 -- schema at the images of the terms.
@@ -94,11 +110,7 @@ mutual
   filled_image sig names theta qs n (injection a b p) are there has =
       becomes_app qs (injection_image sig names a b) (injection_image sig names a b)
       (image_of sig names p) (image_of sig names (filled theta p))
-      (becomes_at_sorts sig names qs (a ∷ b ∷ [])
-      (some_symbol_image sig names (injection_symbol sig))
-      (some_symbol_image sig names (injection_symbol sig))
-      (becomes_some sig names qs (injection_symbol sig)))
-      (filled_image sig names theta qs n p are there has.2)
+      (becomes_injection sig names qs a b) (filled_image sig names theta qs n p are there has.2)
   filled_image sig names theta qs n (call f ss ps) are there has =
       filled_applied sig names theta qs n ps (at_sorts sig names (symbol_image sig names f) ss)
       (at_sorts sig names (symbol_image sig names f) ss) are there has.2

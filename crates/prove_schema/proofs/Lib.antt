@@ -4,6 +4,7 @@ pub mod ClosingLaws
 pub mod ScopeLaws
 pub mod OpeningLaws
 pub mod InstanceLaws
+pub mod LeftSides
 pub mod UsingLaws
 pub mod ElementLaws
 pub mod SentenceLaws

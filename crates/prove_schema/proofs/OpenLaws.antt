@@ -96,6 +96,12 @@ open_some sig names n None h e = absurd (none_some h e)
 open_some sig names n (Some f) h e = open_constant n (number_in_names names (token_of_symbol sig f))
     h e
 
+pub injection_is_open : (sig : Signature) (names : List (List ℕ)) (n a b : ℕ) (q : Pattern)
+    → injection_image sig names a b ≡ Some q → IsOpenFrom 0 n q
+injection_is_open sig names n a b =
+    open_at_sorts sig names n (a ∷ b ∷ []) (some_symbol_image sig names (injection_symbol sig))
+    (open_some sig names n (injection_symbol sig))
+
 mutual
   pub image_is_open : (sig : Signature) (names : List (List ℕ)) (n : ℕ) (p : RulePattern)
       → HasImage sig n p → (q : Pattern) → image_of sig names p ≡ Some q → IsOpenFrom 0 n q
@@ -108,9 +114,7 @@ mutual
       (open_constant n (number_in_names names (token_of_symbol sig f))) q e
   image_is_open sig names n (injection a b p) has q e =
       open_app n (injection_image sig names a b) (image_of sig names p)
-      (open_at_sorts sig names n (a ∷ b ∷ []) (some_symbol_image sig names (injection_symbol sig))
-      (open_some sig names n (injection_symbol sig)))
-      (image_is_open sig names n p has.2) q e
+      (injection_is_open sig names n a b) (image_is_open sig names n p has.2) q e
   image_is_open sig names n (call f ss ps) has q e =
       applied_is_open sig names n ps (at_sorts sig names (symbol_image sig names f) ss) has.2
       (open_at_sorts sig names n ss (symbol_image sig names f)

@@ -8,18 +8,19 @@ use Rattle.rule_core.specs.declared.signature.Signature.{Signature}
 use Rattle.ml_image.specs.Tokens.{token_of_symbol, number_in_names}
 use Rattle.ml_image.specs.Images.{both, sort_image}
 use Rattle.ml_image.specs.HasImages.{HasImage}
-use Rattle.ml_image.specs.Sentences.{Sentence, sentence_image, term, symbol, apply, top, not, and}
-use Rattle.ml_image.specs.Sentences.{implies, equals, is_in, functional, exists, forall, next}
+use Rattle.ml_image.specs.Sentences.{Sentence, sentence_image, term, symbol, inject, apply, top, not}
+use Rattle.ml_image.specs.Sentences.{and, implies, equals, is_in, functional, exists, forall, next}
 use Rattle.ml_image.proofs.ImageLaws.{some_same}
 use Rattle.prove_term.specs.Contexts.{Context, HasContext}
 use Rattle.prove_term.proofs.ImageShapes.{both_some, map_some}
 use Rattle.prove_schema.specs.Schemas.{with_metas, IsOpenFrom}
-use Rattle.prove_schema.proofs.OpenLaws.{image_is_open, schema_leaves}
+use Rattle.prove_schema.proofs.OpenLaws.{image_is_open, injection_is_open, schema_leaves}
 
 -- the sentence has no quantifier, and its patterns have images whose variables have numbers below n
 abbrev pub IsOpenSentence : Signature → ℕ → Sentence → Type 0
 IsOpenSentence sig n (term p) = HasImage sig n p
 IsOpenSentence sig n (symbol f) = Unit {0}
+IsOpenSentence sig n (inject a b) = Unit {0}
 IsOpenSentence sig n (apply p q) = IsOpenSentence sig n p × IsOpenSentence sig n q
 IsOpenSentence sig n top = Unit {0}
 IsOpenSentence sig n (not p) = IsOpenSentence sig n p
@@ -67,6 +68,7 @@ pub sentence_is_open : (sig : Signature) (names : List (List ℕ)) (n : ℕ) (s 
 sentence_is_open sig names n (term p) h = image_is_open sig names n p h
 sentence_is_open sig names n (symbol f) h =
     open_number n (number_in_names names (token_of_symbol sig f))
+sentence_is_open sig names n (inject a b) h = injection_is_open sig names n a b
 sentence_is_open sig names n (apply p q) h =
     open_both n logic.app (sentence_image sig names p) (sentence_image sig names q)
     (λ a b x y. (x, y)) (sentence_is_open sig names n p h.0)

@@ -9,6 +9,7 @@ use Rattle.rule_core.specs.declared.signature.Signature.{Signature}
 use Rattle.ml_image.specs.Images.{both, image_of}
 use Rattle.ml_image.specs.HasImages as own
 use Rattle.ml_image.specs.HasImages.{HasRuleImage}
+use Rattle.ml_image.specs.NamedSides.{left_sentence, of_child}
 use Rattle.ml_image.specs.OwnAxioms.{SaysRule, condition_sentence, is_true}
 use Rattle.ml_image.specs.Sentences.{Sentence, sentence_image, IsImageOf}
 use Rattle.ml_image.specs.Sentences as says
@@ -18,6 +19,8 @@ use Rattle.prove_schema.specs.Schemas.{IsOpenFrom, closed, IsSentence, with_meta
 use Rattle.prove_schema.proofs.OpenLaws.{image_is_open}
 use Rattle.prove_schema.proofs.ClosingLaws.{IsClosed, closed_image, numbers_length}
 use Rattle.prove_schema.proofs.SentenceLaws.{sentence_is_open}
+use Rattle.prove_schema.proofs.LeftSides.{IsSide, names_below, of_child_below, left_is_side}
+use Rattle.prove_schema.proofs.LeftSides.{side_is_open}
 use Rattle.prove_equation.proofs.ShapeLaws.{condition_is, condition_open}
 use Rattle.prove_step.specs.RuleLemmas.{AreNumbers, IsCondition}
 
@@ -31,7 +34,7 @@ pub record IsRuleImage (sig : Signature) (names : List (List ℕ)) (r : RewriteR
   pub numbers : List ℕ
   pub are : AreNumbers sig names r.variables numbers
   pub left : Pattern
-  pub left_image : image_of sig names r.left ≡ Some left
+  pub left_image : sentence_image sig names (left_sentence (of_child 0 r.names) r.left) ≡ Some left
   pub holds : Sentence
   pub is_holds : condition_sentence sig r.variables r.condition ≡ Some holds
   pub condition : Pattern
@@ -66,22 +69,32 @@ sides (Some a) (Some c) (Some b) p e =
       says = sym (some_same (body_of a c b) p e);
     }
 
+-- the left side of a rule, with the names of its parts
+pub rule_side : (sig : Signature) (r : RewriteRule) → HasRuleImage sig r
+    → IsSide sig (length r.variables) (left_sentence (of_child 0 r.names) r.left)
+rule_side sig r has =
+    left_is_side sig (length r.variables) (of_child 0 r.names) r.left
+    (of_child_below (length r.variables) 0 r.names
+    (names_below (length r.variables) r.names has.names)) has.left
+
 pub rule_image : (sig : Signature) (names : List (List ℕ)) (r : RewriteRule) (p : Pattern)
     → HasRuleImage sig r → IsImageOf sig names (SaysRule sig r) p → IsRuleImage sig names r p
 rule_image sig names r p has (s, rule, image) =
+    let side : Sentence = left_sentence (of_child 0 r.names) r.left in
     let body : Sentence =
-    says.implies (says.and (says.term r.left) rule.condition) (says.next (says.term r.right)) in
+    says.implies (says.and side rule.condition) (says.next (says.term r.right)) in
     let inside : IsClosed sig names 0 r.variables body p =
     closed_image sig names 0 r.variables body p
     (ap (sentence_image sig names) (sym rule.says) ∙ image) in
-    let parts : Sides (image_of sig names r.left) (sentence_image sig names rule.condition)
+    let parts : Sides (sentence_image sig names side) (sentence_image sig names rule.condition)
     (image_of sig names r.right) inside.body =
-    sides (image_of sig names r.left) (sentence_image sig names rule.condition)
+    sides (sentence_image sig names side) (sentence_image sig names rule.condition)
     (image_of sig names r.right) inside.body inside.is_body in
     let many : length r.variables ≡ length inside.numbers =
     sym (numbers_length sig names r.variables inside.numbers inside.are) in
     let left : IsOpenFrom 0 (length r.variables) parts.left =
-    image_is_open sig names (length r.variables) r.left has.left parts.left parts.is_left in
+    sentence_is_open sig names (length r.variables) side
+    (side_is_open sig (length r.variables) side (rule_side sig r has)) parts.left parts.is_left in
     let condition : IsOpenFrom 0 (length r.variables) parts.condition =
     sentence_is_open sig names (length r.variables) rule.condition
     (condition_open sig r.variables r.condition rule.condition has.condition rule.conditional)

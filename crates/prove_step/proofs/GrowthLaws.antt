@@ -5,6 +5,7 @@ use Rattle.ml_kernel.specs.Theorems.{Theorem}
 use Rattle.rule_core.specs.Rules.{RewriteRule}
 use Rattle.rule_core.specs.ProgramView.{rewrite_rule}
 use Rattle.rule_core.specs.declared.rules.Program.{Program}
+use Rattle.ml_image.specs.NamedSides.{left_sentence, of_child}
 use Rattle.ml_image.specs.OwnAxioms.{condition_sentence}
 use Rattle.prove_term.specs.Contexts.{Context, HasGrown}
 use Rattle.prove_term.proofs.ContextLaws.{grown_none, grown_twice, image_grown, lemma_there_grown}
@@ -34,7 +35,8 @@ schema_grown old new r t g says = record {
   numbers = says.numbers;
   are = numbers_grown old new r.variables says.numbers g says.are;
   left = says.left;
-  left_image = pattern_grown old new r.left says.left g says.left_image;
+  left_image =
+      image_grown old new (left_sentence (of_child 0 r.names) r.left) says.left g says.left_image;
   holds = says.holds;
   is_holds =
       ap (λ (p : Program). condition_sentence p.sig r.variables r.condition) g.program

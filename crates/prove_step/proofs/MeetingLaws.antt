@@ -1,6 +1,6 @@
 -- If no two injections meet, a pattern as it is written becomes a normal term.
-use Rattle.std.proofs.Common.{◌≡◌, ℕ, Bool, true, false, List, Option, Some, None, option_map, inl}
-use Rattle.std.proofs.Common.{inr, refl, sym, ◌∙◌, ap, arith}
+use Rattle.std.proofs.Common.{◌≡◌, ℕ, Bool, true, false, List, [], ◌∷◌, Option, Some, None, length}
+use Rattle.std.proofs.Common.{option_map, inl, inr, refl, sym, ◌∙◌, ap, arith}
 use Rattle.std.specs.Prelude.{◌⊎◌, ◌||◌, ◌==◌, ◌≢◌}
 use Rattle.std.proofs.lemmas.Bool.Decides.{eqb_tells}
 use Rattle.term_core.specs.Terms.{Tree, Forest, leaf, node, inj, injected, height}
@@ -8,7 +8,15 @@ use Rattle.term_core.specs.Patterns.{Pattern, Patterns, variable, domain_value, 
 use Rattle.term_core.specs.Patterns.{injection, call, no_pattern, more_patterns, with_first}
 use Rattle.term_core.specs.Patterns.{instance_of, instances_of}
 use Rattle.term_core.specs.Instances.{substituted, all_substituted}
+use Rattle.rule_core.specs.ProgramView.{names_of}
+use Rattle.rule_core.specs.declared.rules.Named.{Named}
 use Rattle.rule_core.proofs.SortedInstances.{mapped}
+use Rattle.ml_image.specs.Images.{image_of}
+use Rattle.ml_image.specs.NamedSides.{of_child}
+use Rattle.prove_term.specs.Contexts.{Context}
+use Rattle.prove_term.specs.FilledSides.{SaysNamedImage}
+use Rattle.prove_term.proofs.FillingLaws.{filled_written}
+use Rattle.prove_term.proofs.NamingSteps.{filled_left}
 use Rattle.prove_step.specs.Meeting.{is_injection, is_injection_there, becomes_injection, meet_in}
 use Rattle.prove_step.specs.Meeting.{meet_in_some}
 
@@ -91,3 +99,13 @@ mutual
       ap (λ (o : Option Tree). with_first o (all_substituted theta ps))
       (unmet_instance theta p parts.0)
       ∙ ap (with_first (instance_of theta p)) (unmet_instances theta ps parts.1)
+
+-- without names, a left side in which no two injections meet becomes its instance as it is written
+pub unmet_side : (cx : Context) (theta : List (Option Tree)) (named : List Named) (p : Pattern)
+    → length named ≡ 0 → meet_in theta p ≡ false
+    → SaysNamedImage cx theta (of_child 0 (names_of named)) p None
+unmet_side cx theta [] p none unmet = λ u makes.
+    filled_left cx.program.sig cx.names theta p
+    ∙ ap (image_of cx.program.sig cx.names)
+    (filled_written theta p u (unmet_instance theta p unmet ∙ makes))
+unmet_side cx theta (n ∷ named) p none unmet = absurd (omega (arith, none))

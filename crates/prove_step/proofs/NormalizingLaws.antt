@@ -10,17 +10,19 @@ use Rattle.term_core.specs.Patterns.{Pattern as RulePattern, instance_of, ground
 use Rattle.term_core.specs.RulePatterns.{plain_pattern}
 use Rattle.rule_core.specs.Records.{StepRecord, result_of}
 use Rattle.rule_core.specs.Sorting.{IsTermOf}
-use Rattle.rule_core.specs.ProgramView.{rewrite_rule, theory_of}
+use Rattle.rule_core.specs.NamedParts.{Name}
+use Rattle.rule_core.specs.ProgramView.{names_of, rewrite_rule, theory_of}
 use Rattle.rule_core.specs.declared.rules.Rule.{Rule}
 use Rattle.rule_core.specs.declared.rules.Program.{Program}
 use Rattle.rule_core.proofs.SortedInstances.{instance_is_sorted}
 use Rattle.ml_image.specs.Images.{image_of}
+use Rattle.ml_image.specs.NamedSides.{left_sentence, of_child}
+use Rattle.ml_image.specs.Sentences.{Sentence, sentence_image}
 use Rattle.ml_image.proofs.ImageLaws.{some_same}
 use Rattle.prove_term.specs.Contexts.{Context, HasContext, HasGrown, StaysIn}
 use Rattle.prove_term.specs.Filling.{filled}
-use Rattle.prove_term.specs.EqualImages.{SaysEqual, SaysEqualImages}
-use Rattle.prove_term.proofs.ContextLaws.{grown_twice, has_before}
-use Rattle.prove_term.proofs.FillingLaws.{filled_written, written_there}
+use Rattle.prove_term.specs.FilledSides.{filled_sentence, SaysNamed, SaysNamedImage}
+use Rattle.prove_term.proofs.ContextLaws.{grown_twice, has_before, image_grown}
 use Rattle.prove_fun.specs.Valuing.{EqualsValue}
 use Rattle.prove_fun.proofs.Recording.{result_good}
 use Rattle.prove_step.specs.Applying.{SaysFilledStep, SaysFilledAt}
@@ -34,37 +36,43 @@ use Rattle.prove_step.proofs.StepLaws.{closed_term}
 
 -- ---- a side is replaced by its normal form
 
-pub turned_side : (mid new : Context) (theta : List (Option Tree)) (p : RulePattern)
-    (o : Option Theorem) (u : Tree) (from : Pattern) → HasGrown mid new
-    → SaysEqualImages mid theta p o → instance_of theta p ≡ Some u
-    → image_of new.program.sig new.names (filled theta p) ≡ Some from
+-- the side in the context in which it was compared, and in a later one
+pub turned_side : (mid new : Context) (theta : List (Option Tree)) (names : List Name)
+    (p : RulePattern) (o : Option Theorem) (u : Tree) (from : Pattern) → HasGrown mid new
+    → SaysNamedImage mid theta names p o → instance_of theta p ≡ Some u
+    → sentence_image mid.program.sig mid.names (filled_sentence theta (left_sentence names p))
+    ≡ Some from
     → (to : Pattern) × Turns o from to
     × (image_of new.program.sig new.names (ground_pattern u) ≡ Some to)
-turned_side mid new theta p None u from g same makes image = (
+turned_side mid new theta names p None u from g same makes image = (
   from,
   refl,
-  ap (image_of new.program.sig new.names) (sym (filled_written theta p u (same ∙ makes)))
-      ∙ image,
+  pattern_grown mid new (ground_pattern u) from g (sym (same u makes) ∙ image),
 )
-turned_side mid new theta p (Some e) u from g says makes image =
-    let written : (t : Tree) × _ = written_there theta p u makes in
-    let s : SaysEqual mid written.0 u e.conclusion = says.1 written.0 u written.1 makes in
-    let left : s.left ≡ from =
-    some_same s.left from
-    (sym (pattern_grown mid new (ground_pattern written.0) s.left g s.left_image)
-    ∙ ap (image_of new.program.sig new.names) (sym (filled_written theta p written.0 written.1))
-    ∙ image) in (
+turned_side mid new theta names p (Some e) u from g says makes image =
+    let s : SaysNamed mid (filled_sentence theta (left_sentence names p)) (ground_pattern u)
+    e.conclusion =
+    (says u makes).0 in
+    let left : s.left ≡ from = some_same s.left from (sym s.left_image ∙ image) in (
       s.right,
       s.says
           ∙ ap (λ (q : Pattern). equal q s.right) left,
       pattern_grown mid new (ground_pattern u) s.right g s.right_image,
     )
 
-filled_grown : (old new : Context) (theta : List (Option Tree)) (l r : RulePattern) (p : Pattern)
-    → HasGrown old new → SaysFilledStep old theta l r p → SaysFilledStep new theta l r p
+-- the theorem on a side stays in the context
+pub side_stays : (cx : Context) (theta : List (Option Tree)) (names : List Name) (p : RulePattern)
+    (o : Option Theorem) (u : Tree) → SaysNamedImage cx theta names p o
+    → instance_of theta p ≡ Some u → IfSome o (StaysIn cx)
+side_stays cx theta names p None u says makes = tt
+side_stays cx theta names p (Some e) u says makes = (says u makes).1
+
+filled_grown : (old new : Context) (theta : List (Option Tree)) (l : Sentence) (r : RulePattern)
+    (p : Pattern) → HasGrown old new → SaysFilledStep old theta l r p
+    → SaysFilledStep new theta l r p
 filled_grown old new theta l r p g says = record {
   from = says.from;
-  from_image = pattern_grown old new (filled theta l) says.from g says.from_image;
+  from_image = image_grown old new (filled_sentence theta l) says.from g says.from_image;
   to = says.to;
   to_image = pattern_grown old new (filled theta r) says.to g says.to_image;
   says = says.says;
@@ -87,8 +95,9 @@ turned_value cx theta p (Some e) u from says image =
 pub record Turning (cx : Context) (step : StepRecord) (r : Rule) (left right : Option Theorem)
     (written : Theorem) : Type 0 where
   pub facts : StepFacts cx.program step r
-  pub says : SaysFilledStep cx step.theta (plain_pattern r.left) (plain_pattern r.right)
-      written.conclusion
+  pub says : SaysFilledStep cx step.theta
+      (left_sentence (of_child 0 (names_of r.named.items)) (plain_pattern r.left))
+      (plain_pattern r.right) written.conclusion
   pub from : Pattern
   pub from_turned : Turns left says.from from
   pub from_image : image_of cx.program.sig cx.names (ground_pattern facts.term) ≡ Some from
@@ -99,20 +108,25 @@ pub record Turning (cx : Context) (step : StepRecord) (r : Rule) (left right : O
 pub turning : (old mid new : Context) (step : StepRecord) (r : Rule) (left right : Option Theorem)
     (written : Theorem) → HasGrown old mid → HasGrown mid new → StepFacts old.program step r
     → SaysFilledAt old step.rule step.theta written.conclusion
-    → SaysEqualImages mid step.theta (plain_pattern r.left) left
+    → SaysNamedImage mid step.theta (of_child 0 (names_of r.named.items)) (plain_pattern r.left) left
     → EqualsValue new step.theta (plain_pattern r.right) (result_of step.right) right
     → Turning new step r left right written
+unfolding filled_grown
 turning old mid new step r left right written g k facts said turns_left turns_right =
     let whole : HasGrown old new = grown_twice old mid new g k in
     let after : StepFacts new.program step r = facts_later old new step r whole facts in
-    let says : SaysFilledStep new step.theta (plain_pattern r.left) (plain_pattern r.right)
-    written.conclusion =
-    filled_grown old new step.theta (plain_pattern r.left) (plain_pattern r.right)
-    written.conclusion whole (said r facts.there) in
+    let names : List Name = of_child 0 (names_of r.named.items) in
+    let side : Sentence = left_sentence names (plain_pattern r.left) in
+    let says : SaysFilledStep new step.theta side (plain_pattern r.right) written.conclusion =
+    filled_grown old new step.theta side (plain_pattern r.right) written.conclusion whole
+    (said r facts.there) in
+    let before : SaysFilledStep mid step.theta side (plain_pattern r.right) written.conclusion =
+    filled_grown old mid step.theta side (plain_pattern r.right) written.conclusion g
+    (said r facts.there) in
     let from : (to : Pattern) × Turns left says.from to ×
     (image_of new.program.sig new.names (ground_pattern after.term) ≡ Some to) =
-    turned_side mid new step.theta (plain_pattern r.left) left after.term says.from k turns_left
-    after.from says.from_image in
+    turned_side mid new step.theta names (plain_pattern r.left) left after.term says.from k
+    turns_left after.from before.from_image in
     let to : (to : Pattern) × Turns right says.to to ×
     (image_of new.program.sig new.names (ground_pattern (result_of step.right)) ≡ Some to) =
     turned_value new step.theta (plain_pattern r.right) right (result_of step.right) says.to

@@ -1,6 +1,7 @@
 -- What is known of a recorded step, by the rule that it uses.
 use Rattle.std.proofs.Common.{◌≡◌, ◌≤◌, ◌<◌, ℕ, zero, suc, List, [], ◌∷◌, Option, Some, get_or}
-use Rattle.std.proofs.Common.{length, slice_get, inl, inr, refl, sym, ◌∙◌, ap, subst, arith}
+use Rattle.std.proofs.Common.{length, slice_get, inl, inr, ⊎_elim, refl, sym, ◌∙◌, ap, subst}
+use Rattle.std.proofs.Common.{arith}
 use Rattle.std.specs.Prelude.{All, IfSome, IsSomeAnd, ◌⊎◌}
 use Rattle.std.proofs.lemmas.Option.{slice_get_within}
 use Rattle.ml_kernel.specs.Theorems.{Theorem}
@@ -107,8 +108,8 @@ facts_with program step r t ok there listed low matches held right =
       matches = matches;
       from = matched (theory_of program) (rewrite_rule r) t step.theta matches;
       bound =
-          λ x within. (matches.binds.just x).1
-          (inl (bound.each x (omega (arith, within, length-sorts_of r.vars.items))));
+          λ x within. (matches.binds.just x).1 (⊎_elim (λ occurs. inl (inl occurs)) inr
+          (bound.each x (omega (arith, within, length-sorts_of r.vars.items))));
       condition = held;
       right = record {
         ready = ok;
@@ -117,8 +118,9 @@ facts_with program step r t ok there listed low matches held right =
         sorted = fits.1.right;
         serves =
             serves_match program.sig (rewrite_rule r).variables
-            (more_patterns (plain_pattern r.left) no_pattern) (more_trees t no_tree) step.theta
-            (plain_pattern r.right) matches (omega (arith, low)) fits.1.bound;
+            (more_patterns (plain_pattern r.left) no_pattern) (rewrite_rule r).names
+            (more_trees t no_tree) step.theta (plain_pattern r.right) fits.1.names matches
+            (omega (arith, low)) fits.1.bound;
         records = right;
       };
     }
@@ -217,13 +219,14 @@ pub held_condition : (program : Program) (step : StepRecord) (r : Rule) (p : Pat
     × IsTrueValue (result_of q)
 held_condition program step r p q h is_p is_q =
     let has : IsCondition program.sig (rewrite_rule r).variables
-    (more_patterns (plain_pattern r.left) no_pattern) p =
+    (more_patterns (plain_pattern r.left) no_pattern) (rewrite_rule r).names p =
     subst (λ (x : Option Pattern). IfSome x (IsCondition program.sig (rewrite_rule r).variables
-    (more_patterns (plain_pattern r.left) no_pattern))) is_p h.fits.condition in
+    (more_patterns (plain_pattern r.left) no_pattern) (rewrite_rule r).names)) is_p
+    h.fits.condition in
     held_record program step.theta (rewrite_rule r).variables
-    (more_patterns (plain_pattern r.left) no_pattern) (more_trees h.term no_tree) p q
-    (rewrite_rule r).condition step.condition h.ready has h.matches (omega (arith, h.low)) is_p
-    is_q h.condition
+    (more_patterns (plain_pattern r.left) no_pattern) (rewrite_rule r).names
+    (more_trees h.term no_tree) p q (rewrite_rule r).condition step.condition h.ready
+    h.fits.names has h.matches (omega (arith, h.low)) is_p is_q h.condition
 
 -- what is known of the condition of the rule is known of the rule at its place
 pub condition_at : (old new : Context) (step : StepRecord) (r : Rule) (o : Option Theorem)

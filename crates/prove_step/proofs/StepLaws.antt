@@ -7,13 +7,14 @@ use Rattle.ml_kernel.specs.Lemmas.{instance, IsMetaBelow, HasNoMeta, HasNoVariab
 use Rattle.ml_kernel.specs.Theorems.{Theorem}
 use Rattle.ml_derived.specs.Scopes.{Scope, IsOverPlaces}
 use Rattle.term_core.specs.Terms.{Tree}
-use Rattle.term_core.specs.Patterns.{Pattern as RulePattern, ground_pattern}
+use Rattle.term_core.specs.Patterns.{ground_pattern}
 use Rattle.rule_core.specs.Rules.{RewriteRule}
 use Rattle.rule_core.specs.Sorting.{IsTermOf}
 use Rattle.rule_core.specs.WellSorted.{IsSignature}
 use Rattle.rule_core.specs.declared.signature.Signature.{Signature}
 use Rattle.ml_image.specs.Images.{image_of}
-use Rattle.ml_image.specs.Sentences.{term}
+use Rattle.ml_image.specs.NamedSides.{left_sentence, of_child}
+use Rattle.ml_image.specs.Sentences.{Sentence, term, sentence_image}
 use Rattle.ml_image.proofs.WellSortedLaws.{sorted_has_image}
 use Rattle.prove_term.specs.Contexts.{Context, HasContext, StaysIn}
 use Rattle.prove_schema.specs.Schemas.{with_metas, meta_facts, parts_of, IsOpenFrom}
@@ -22,12 +23,14 @@ use Rattle.prove_schema.specs.Elements.{AreElementsFor}
 use Rattle.prove_schema.proofs.OpenLaws.{open_no_variable, open_metas, open_closed, image_is_open}
 use Rattle.prove_schema.proofs.ClosingLaws.{numbers_length}
 use Rattle.prove_schema.proofs.InstanceLaws.{AllThere, filled_image, instance_closed}
-use Rattle.prove_schema.proofs.SentenceLaws.{schema_over_places}
+use Rattle.prove_schema.proofs.LeftSides.{side_is_open, filled_side}
+use Rattle.prove_schema.proofs.SentenceLaws.{sentence_is_open, schema_over_places}
 use Rattle.prove_schema.proofs.UsingLaws.{as_many_facts, facts_closed}
 use Rattle.prove_schema.proofs.BindingLaws.{HasImages, elements_have, elements_within, proved_fact}
 use Rattle.prove_equation.specs.Conditions.{listed}
 use Rattle.prove_equation.proofs.FillingLaws.{all_there, part_proved, condition_within}
 use Rattle.prove_step.specs.Applying.{CanApply, SaysFilledStep}
+use Rattle.prove_step.proofs.AxiomLaws.{rule_side}
 
 -- ---- closed images
 
@@ -74,8 +77,10 @@ ready cx r lemma theta o ts w =
     sym (numbers_length cx.program.sig cx.names r.variables w.can.schema.numbers
     w.can.schema.are) ∙ many.1 ∙ sym many.0 in
     let left : IsOpenFrom 0 (length r.variables) w.can.schema.left =
-    image_is_open cx.program.sig cx.names (length r.variables) r.left w.can.image.left
-    w.can.schema.left w.can.schema.left_image in
+    sentence_is_open cx.program.sig cx.names (length r.variables)
+    (left_sentence (of_child 0 r.names) r.left)
+    (side_is_open cx.program.sig (length r.variables) (left_sentence (of_child 0 r.names) r.left)
+    (rule_side cx.program.sig r w.can.image)) w.can.schema.left w.can.schema.left_image in
     let right : IsOpenFrom 0 (length r.variables) w.can.schema.right =
     image_is_open cx.program.sig cx.names (length r.variables) r.right w.can.image.right
     w.can.schema.right w.can.schema.right_image in
@@ -127,7 +132,8 @@ cited_usable cx r lemma theta o ts w =
 -- terms.
 pub cited_says : (cx : Context) (r : RewriteRule) (lemma : Theorem) (theta : List (Option Tree))
     (o : Option Theorem) (ts : List Theorem) (t : Theorem) → IsCited cx r lemma theta o ts
-    → IsUsed lemma ts (listed o) t → SaysFilledStep cx theta r.left r.right t.conclusion
+    → IsUsed lemma ts (listed o) t
+    → SaysFilledStep cx theta (left_sentence (of_child 0 r.names) r.left) r.right t.conclusion
 cited_says cx r lemma theta o ts t w used =
     let g : IsReadyToStep cx r lemma theta o ts w = ready cx r lemma theta o ts w in
     let is : t.conclusion ≡ instance g.images.patterns lemma.conclusion =
@@ -137,8 +143,9 @@ cited_says cx r lemma theta o ts t w used =
     record {
       from = instance g.images.patterns (with_metas w.can.schema.left);
       from_image =
-          filled_image cx.program.sig cx.names theta g.images.patterns (length r.variables) r.left
-          g.images.images g.there w.can.image.left w.can.schema.left w.can.schema.left_image;
+          filled_side cx.program.sig cx.names theta g.images.patterns (length r.variables)
+          (left_sentence (of_child 0 r.names) r.left) g.images.images g.there
+          (rule_side cx.program.sig r w.can.image) w.can.schema.left w.can.schema.left_image;
       to = instance g.images.patterns (with_metas w.can.schema.right);
       to_image =
           filled_image cx.program.sig cx.names theta g.images.patterns (length r.variables) r.right
@@ -153,9 +160,9 @@ cited_says cx r lemma theta o ts t w used =
     }
 
 -- what the lemma says stays in the context
-side_over : (s : Scope) (cx : Context) (side : RulePattern) (image : Pattern) → HasContext s cx
-    → image_of cx.program.sig cx.names side ≡ Some image → IsOverPlaces s (with_metas image)
-side_over s cx side image has is = schema_over_places s cx (term side) image has is
+side_over : (s : Scope) (cx : Context) (side : Sentence) (image : Pattern) → HasContext s cx
+    → sentence_image cx.program.sig cx.names side ≡ Some image → IsOverPlaces s (with_metas image)
+side_over s cx side image has is = schema_over_places s cx side image has is
 
 pub cited_stays : (cx : Context) (r : RewriteRule) (lemma : Theorem) (theta : List (Option Tree))
     (o : Option Theorem) (ts : List Theorem) (t : Theorem) → IsCited cx r lemma theta o ts
@@ -163,8 +170,9 @@ pub cited_stays : (cx : Context) (r : RewriteRule) (lemma : Theorem) (theta : Li
 cited_stays cx r lemma theta o ts t w used s has =
     let over : IsOverPlaces s lemma.conclusion =
     subst (IsOverPlaces s) (sym w.can.schema.says) (
-      side_over s cx r.left w.can.schema.left has w.can.schema.left_image,
-      side_over s cx r.right w.can.schema.right has w.can.schema.right_image,
+      side_over s cx (left_sentence (of_child 0 r.names) r.left) w.can.schema.left has
+          w.can.schema.left_image,
+      side_over s cx (term r.right) w.can.schema.right has w.can.schema.right_image,
     ) in
     used s (has.lemmas lemma w.can.listed) over (elements_within s cx theta ts has w.elements)
     (condition_within cx r.variables theta r.condition o w.can.condition s has)

@@ -10,14 +10,17 @@ use Rattle.rule_core.specs.Records.{StepRecord}
 use Rattle.rule_core.specs.Rules.{RewriteRule}
 use Rattle.rule_core.specs.Matching.{RespectsSorts}
 use Rattle.rule_core.specs.WellSorted.{IsWellSorted}
-use Rattle.rule_core.specs.ProgramView.{rewrite_rule, theory_of}
+use Rattle.rule_core.specs.ProgramView.{names_of, rewrite_rule, theory_of}
 use Rattle.rule_core.specs.declared.rules.Program.{Program}
 use Rattle.rule_core.specs.declared.rules.Rule.{Rule}
 use Rattle.ml_kernel.specs.Lemmas.{HasNoVariable}
 use Rattle.ml_image.specs.HasImages.{HasRuleImage}
 use Rattle.ml_image.specs.Images.{image_of}
+use Rattle.ml_image.specs.NamedSides.{left_sentence, of_child}
+use Rattle.ml_image.specs.Sentences.{Sentence, sentence_image}
 use Rattle.prove_term.specs.Contexts.{Context}
 use Rattle.prove_term.specs.Filling.{filled}
+use Rattle.prove_term.specs.FilledSides.{filled_sentence}
 use Rattle.prove_equation.specs.Conditions.{BindsEach, SaysCondition}
 use Rattle.prove_step.specs.RuleLemmas.{SaysRuleSchema}
 use Rattle.prove_step.specs.Steps.{IsStepFrom}
@@ -51,11 +54,10 @@ pub record CanApply (cx : Context) (r : RewriteRule) (lemma : Theorem) (theta : 
 
 -- The pattern says that the image of the left side steps to the image of the right side. The
 -- variables of both are replaced by terms. Neither image has an object variable.
-pub record SaysFilledStep (cx : Context) (theta : List (Option Tree)) (left right : RulePattern)
-    (p : Pattern) :
-    Type 0 where
+pub record SaysFilledStep (cx : Context) (theta : List (Option Tree)) (left : Sentence)
+    (right : RulePattern) (p : Pattern) : Type 0 where
   pub from : Pattern
-  pub from_image : image_of cx.program.sig cx.names (filled theta left) ≡ Some from
+  pub from_image : sentence_image cx.program.sig cx.names (filled_sentence theta left) ≡ Some from
   pub to : Pattern
   pub to_image : image_of cx.program.sig cx.names (filled theta right) ≡ Some to
   pub says : p ≡ imp from (next to)
@@ -65,11 +67,13 @@ pub record SaysFilledStep (cx : Context) (theta : List (Option Tree)) (left righ
 abbrev pub SaysFilledAt : Context → ℕ → List (Option Tree) → Pattern → Type 0
 SaysFilledAt cx i theta p =
     (r : Rule) → slice_get cx.program.rules.items i ≡ Some r →
-    SaysFilledStep cx theta (plain_pattern r.left) (plain_pattern r.right) p
+    SaysFilledStep cx theta
+    (left_sentence (of_child 0 (names_of r.named.items)) (plain_pattern r.left))
+    (plain_pattern r.right) p
 
 -- the theorem says this of the rule's sides, if the rule's lemma may be used with this substitution
 abbrev pub SaysApplied : Context → Theorem → List (Option Tree) → Option Theorem → Context → Theorem
     → Type 0
 SaysApplied old lemma theta o new t =
     (r : RewriteRule) → CanApply old r lemma theta o
-    → SaysFilledStep new theta r.left r.right t.conclusion
+    → SaysFilledStep new theta (left_sentence (of_child 0 r.names) r.left) r.right t.conclusion

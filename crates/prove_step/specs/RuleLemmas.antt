@@ -9,6 +9,7 @@ use Rattle.rule_core.specs.ProgramView.{rewrite_rule}
 use Rattle.rule_core.specs.declared.rules.Rule.{Rule}
 use Rattle.rule_core.specs.declared.signature.Signature.{Signature}
 use Rattle.ml_image.specs.Images.{image_of, sort_image}
+use Rattle.ml_image.specs.NamedSides.{left_sentence, of_child}
 use Rattle.ml_image.specs.OwnAxioms.{condition_sentence}
 use Rattle.ml_image.specs.Sentences.{Sentence, sentence_image}
 use Rattle.prove_term.specs.Contexts.{Context}
@@ -18,14 +19,15 @@ use Rattle.prove_schema.specs.Schemas.{with_metas, meta_facts, parts_of}
 abbrev pub AreNumbers : Signature → List (List ℕ) → List ℕ → List ℕ → Type 0
 AreNumbers sig names ss ns = AllZip (λ (s n : ℕ). sort_image sig names s ≡ Some n) ss ns
 
--- The theorem says that the rule's left side steps to its right side, with pattern variables for
--- the rule's variables. It assumes that each pattern variable is one element of the sort of its
+-- The theorem says that the rule's left side, whose parts may have names, steps to its right side,
+-- with pattern variables for the rule's variables. It assumes that each pattern variable is one element of the sort of its
 -- variable, and that the rule's condition holds. It assumes nothing else.
 pub record SaysRuleSchema (cx : Context) (r : RewriteRule) (t : Theorem) : Type 0 where
   pub numbers : List ℕ
   pub are : AreNumbers cx.program.sig cx.names r.variables numbers
   pub left : Pattern
-  pub left_image : image_of cx.program.sig cx.names r.left ≡ Some left
+  pub left_image : sentence_image cx.program.sig cx.names
+      (left_sentence (of_child 0 r.names) r.left) ≡ Some left
   pub holds : Sentence
   pub is_holds : condition_sentence cx.program.sig r.variables r.condition ≡ Some holds
   pub condition : Pattern

@@ -149,7 +149,7 @@ compared_says cx f c theta ps us qs (Some t) head images closed h = (
 
 -- the image of f of terms is closed, because it equals the image of a constructor's term with the
 -- same number
-call_closed : (sig : Signature) (names : List (List ℕ)) (f : ℕ) (us : Forest) (p : Pattern)
+pub call_closed : (sig : Signature) (names : List (List ℕ)) (f : ℕ) (us : Forest) (p : Pattern)
     → image_of sig names (call f [] (ground_patterns us)) ≡ Some p → HasNoVariable p
 call_closed sig names f us p is = image_closed sig names (node f us) p is
 

@@ -27,6 +27,7 @@ use Rattle.prove_term.specs.Applications.{HasClosedSides, applied_to, IsApplicat
 use Rattle.prove_term.specs.EqualImages.{SaysEqualImages}
 use Rattle.prove_term.specs.Comparing.{IsInstance, AreInstances, MakesTerm, MakeTerms, IsJoined}
 use Rattle.prove_term.specs.Comparing.{IsCompared, Compares, AreCompared, AllCompare, IsOverContext}
+use Rattle.prove_term.specs.Comparing.{IsOnce}
 use Rattle.prove_term.proofs.ContextLaws.{image_grown, has_before, stays_grown}
 use Rattle.prove_term.proofs.EqualityChains.{stays_with_grown}
 use Rattle.prove_term.proofs.KeptLaws.{symbol_grown}
@@ -34,7 +35,7 @@ use Rattle.prove_term.proofs.ImageShapes.{applied_images}
 use Rattle.prove_term.proofs.ComparingLaws.{image_closed, closed-injection, application_image}
 use Rattle.prove_term.proofs.ComparingLaws.{arguments_of, ground_injection, as_many_images}
 use Rattle.prove_term.proofs.ComparingLaws.{as_many_made, injection_stayed, injection_moved}
-use Rattle.prove_term.proofs.ComparingInjections.{stays_injected, IsOnce, applied_image}
+use Rattle.prove_term.proofs.ComparingInjections.{stays_injected, applied_image}
 use Rattle.prove_term.proofs.ComparingInjections.{joined_here, joined_further}
 
 -- ---- patterns that stay as they are written

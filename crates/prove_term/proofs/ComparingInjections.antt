@@ -25,6 +25,7 @@ use Rattle.prove_term.specs.InjectionTables.{InjectsBelow}
 use Rattle.prove_term.specs.Carrying.{Collapses, CollapsesTo, CollapsesBy}
 use Rattle.prove_term.specs.Elements.{IsElement, IsElementAt}
 use Rattle.prove_term.specs.Comparing.{IsInstance, MakesTerm, IsJoined, IsCompared, IsFactOn}
+use Rattle.prove_term.specs.Comparing.{IsOnce}
 use Rattle.prove_term.specs.Applications.{IsApplication}
 use Rattle.prove_term.proofs.ContextLaws.{image_grown, stays_grown, contains_there}
 use Rattle.prove_term.proofs.KeptLaws.{sort_grown}
@@ -116,17 +117,6 @@ stays_injected cx theta a b p v head argument (Some e) o joined is made =
     })
 
 -- ---- an injection that becomes one from a lower sort
-
--- the theorem says that both injections of the term of w are one
-pub record IsOnce (cx : Context) (a b d : ℕ) (w : RulePattern) (once : Theorem) : Type 0 where
-  pub head : Pattern
-  pub is_head : injection_image cx.program.sig cx.names b d ≡ Some head
-  pub middle : Pattern
-  pub is_middle : image_of cx.program.sig cx.names (injection a b w) ≡ Some middle
-  pub last : Pattern
-  pub is_last : image_of cx.program.sig cx.names (injection a d w) ≡ Some last
-  pub says : once.conclusion ≡ equal (app head middle) last
-  pub stays : StaysIn cx once
 
 pub fact_grown : (old new : Context) (w : RulePattern) (sort : ℕ) (fact : Theorem)
     → HasGrown old new → IsFactOn old w sort fact → IsFactOn new w sort fact

@@ -1,14 +1,16 @@
 -- Equalities that are turned around and joined, by the lemmas.
 use Rattle.std.proofs.Common.{◌≡◌, List, [], ◌∷◌, sym, ◌∙◌, ap, subst}
-use Rattle.ml_pat.specs.Patterns.{Pattern, equal}
+use Rattle.ml_pat.specs.Patterns.{Pattern, and, equal}
 use Rattle.ml_kernel.specs.Lemmas.{instance, HasNoVariable, HaveNoVariables}
 use Rattle.ml_kernel.specs.Theorems.{Theorem}
 use Rattle.ml_derived.specs.Equalities.{AreJoinable, IsFlip, IsJoin}
 use Rattle.ml_derived.specs.Scopes.{IsOver}
 use Rattle.prove_term.specs.Contexts.{Context, HasGrown, StaysInWith}
-use Rattle.prove_term.specs.EqualityLemmas.{conclusion_of, ProveHypotheses}
+use Rattle.prove_term.specs.EqualityLemmas.{conclusion_of, ProveHypotheses, IsNamedFirst}
+use Rattle.prove_term.specs.EqualityLemmas.{IsNamedLast}
 use Rattle.prove_term.specs.Applications.{HasClosedSides}
 use Rattle.prove_term.specs.declared.equality_lemmas.EqualityLemma.TheVariants.{Flip, Join}
+use Rattle.prove_term.specs.declared.equality_lemmas.EqualityLemma.TheVariants.{NameFirst, NameLast}
 use Rattle.prove_term.proofs.ContextLaws.{has_before}
 use Rattle.prove_term.proofs.EqualityLaws.{both_over, closed_sides, same_sides, three}
 
@@ -45,6 +47,34 @@ flip_stays cx ab made p q images all is stays s has over within =
     let both : IsOver s p × IsOver s q = both_over s ab p q is within.0 in
     subst (λ (ms : List Pattern). StaysInWith cx ms (ab ∷ ab ∷ []) made) all stays s has
     (both.0, (both.1, tt)) (within.0, (within.0, tt))
+
+pub first_proved : (ab : Theorem) (p q : Pattern) (images : List Pattern) → images ≡ two p q
+    → ab.conclusion ≡ equal p q → ProveHypotheses NameFirst images ab ab
+first_proved ab p q images all is =
+    subst (λ (ms : List Pattern). ProveHypotheses NameFirst ms ab ab) (sym all)
+    (record { one = is; two = is })
+
+pub first_says : (e made p q : Pattern) (images : List Pattern) → images ≡ two p q → e ≡ equal p q
+    → made ≡ instance images (conclusion_of NameFirst) → IsNamedFirst e made
+first_says e made p q images all is says p' q' is' =
+    let same : (p ≡ p') × (q ≡ q') = same_sides p q p' q' (sym is ∙ is') in
+    says ∙ ap (λ (ms : List Pattern). instance ms (conclusion_of NameFirst)) all
+    ∙ ap (λ (x : Pattern). equal (and q x) q) same.0
+    ∙ ap (λ (x : Pattern). equal (and x p') x) same.1
+
+pub last_proved : (ab : Theorem) (p q : Pattern) (images : List Pattern) → images ≡ two p q
+    → ab.conclusion ≡ equal p q → ProveHypotheses NameLast images ab ab
+last_proved ab p q images all is =
+    subst (λ (ms : List Pattern). ProveHypotheses NameLast ms ab ab) (sym all)
+    (record { one = is; two = is })
+
+pub last_says : (e made p q : Pattern) (images : List Pattern) → images ≡ two p q → e ≡ equal p q
+    → made ≡ instance images (conclusion_of NameLast) → IsNamedLast e made
+last_says e made p q images all is says p' q' is' =
+    let same : (p ≡ p') × (q ≡ q') = same_sides p q p' q' (sym is ∙ is') in
+    says ∙ ap (λ (ms : List Pattern). instance ms (conclusion_of NameLast)) all
+    ∙ ap (λ (x : Pattern). equal (and x q) q) same.0
+    ∙ ap (λ (x : Pattern). equal (and p' x) x) same.1
 
 -- the first equality ends where the second begins
 linked : (d e p m q r : Pattern) → d ≡ equal p m → e ≡ equal q r → AreJoinable d e → m ≡ q

@@ -20,6 +20,7 @@ use Rattle.prove_term.specs.Applications.{HasClosedSides}
 use Rattle.prove_term.specs.declared.equality_lemmas.EqualityLemma.{EqualityLemma}
 use Rattle.prove_term.specs.declared.equality_lemmas.EqualityLemma.TheVariants.{Flip, Join, CongFun}
 use Rattle.prove_term.specs.declared.equality_lemmas.EqualityLemma.TheVariants.{CongArg, CongApp}
+use Rattle.prove_term.specs.declared.equality_lemmas.EqualityLemma.TheVariants.{NameFirst, NameLast}
 use Rattle.prove_term.proofs.ContextLaws.{contains_there}
 use Rattle.prove_term.proofs.KeptInside.{last_there}
 
@@ -115,6 +116,10 @@ kind CongArg p (inl h) = inr (inl h)
 kind CongArg p (inr h) = inr (inl h)
 kind CongApp p (inl h) = inl h
 kind CongApp p (inr h) = inr (inr h)
+kind NameFirst p (inl h) = inl h
+kind NameFirst p (inr h) = inl h
+kind NameLast p (inl h) = inl h
+kind NameLast p (inr h) = inl h
 
 pub kind_at : (which : EqualityLemma) (ps : List Pattern) (i : ℕ) (p : Pattern)
     → All (IsEqualityHypothesis which) ps → i < length ps → p ≡ get_or ps i p
@@ -149,6 +154,8 @@ is_first CongFun p h f = f
 is_first CongArg p (inl h) f = h
 is_first CongArg p (inr h) f = h
 is_first CongApp p h f = f
+is_first NameFirst p h f = f
+is_first NameLast p h f = f
 
 is_second : (which : EqualityLemma) (p : Pattern) → IsEqualityHypothesis which p → IsLater p
     → p ≡ second_of which
@@ -162,6 +169,10 @@ is_second CongArg p (inl h) l = h
 is_second CongArg p (inr h) l = h
 is_second CongApp p (inl h) l = absurd (not_later p h l)
 is_second CongApp p (inr h) l = h
+is_second NameFirst p (inl h) l = h
+is_second NameFirst p (inr h) l = h
+is_second NameLast p (inl h) l = h
+is_second NameLast p (inr h) l = h
 
 concludes : (which : EqualityLemma) (images : List Pattern) (first second : Theorem)
     → ProveHypotheses which images first second → (p : Pattern) (t : Theorem)
@@ -197,6 +208,8 @@ first_metas Join = (omega arith, omega arith)
 first_metas CongFun = (omega arith, omega arith)
 first_metas CongArg = (omega arith, omega arith)
 first_metas CongApp = (omega arith, omega arith)
+first_metas NameFirst = (omega arith, omega arith)
+first_metas NameLast = (omega arith, omega arith)
 
 second_metas : (which : EqualityLemma) → IsMetaBelow (metas_of which) (second_of which)
 second_metas Flip = (omega arith, omega arith)
@@ -204,6 +217,8 @@ second_metas Join = (omega arith, omega arith)
 second_metas CongFun = (omega arith, omega arith)
 second_metas CongArg = (omega arith, omega arith)
 second_metas CongApp = (omega arith, omega arith)
+second_metas NameFirst = (omega arith, omega arith)
+second_metas NameLast = (omega arith, omega arith)
 
 conclusion_below : (which : EqualityLemma) → IsMetaBelow (metas_of which) (conclusion_of which)
 conclusion_below Flip = (omega arith, omega arith)
@@ -211,6 +226,8 @@ conclusion_below Join = (omega arith, omega arith)
 conclusion_below CongFun = ((omega arith, omega arith), (omega arith, omega arith))
 conclusion_below CongArg = ((omega arith, omega arith), (omega arith, omega arith))
 conclusion_below CongApp = ((omega arith, omega arith), (omega arith, omega arith))
+conclusion_below NameFirst = ((omega arith, omega arith), omega arith)
+conclusion_below NameLast = ((omega arith, omega arith), omega arith)
 
 hypothesis_metas : (which : EqualityLemma) (p : Pattern) → IsEqualityHypothesis which p
     → IsMetaBelow (metas_of which) p
@@ -242,6 +259,8 @@ conclusion_over Join s = (tt, tt)
 conclusion_over CongFun s = ((tt, tt), (tt, tt))
 conclusion_over CongArg s = ((tt, tt), (tt, tt))
 conclusion_over CongApp s = ((tt, tt), (tt, tt))
+conclusion_over NameFirst s = ((tt, tt), tt)
+conclusion_over NameLast s = ((tt, tt), tt)
 
 proofs_within : (s : Scope) (first second : Theorem) (ps : List Pattern) (ts : List Theorem)
     → IsWithin s first → IsWithin s second → AllZip (ProvesEither first second) ps ts

@@ -12,8 +12,8 @@ use Rattle.rule_core.specs.declared.signature.Signature.{Signature}
 use Rattle.ml_image.specs.Tokens.{token_of_symbol, token_of_value, number_in_names}
 use Rattle.ml_image.specs.Images.{both, image_of, applied, symbol_image, sort_image, at_sorts}
 use Rattle.ml_image.specs.Images.{injection_image, some_symbol_image, injection_symbol}
-use Rattle.ml_image.specs.Sentences.{Sentence, term, symbol, apply, top, not, and, implies, equals}
-use Rattle.ml_image.specs.Sentences.{is_in, functional, exists, forall, next, sentence_image}
+use Rattle.ml_image.specs.Sentences.{Sentence, term, symbol, inject, apply, top, not, and, implies}
+use Rattle.ml_image.specs.Sentences.{equals, is_in, functional, exists, forall, next, sentence_image}
 use Rattle.ml_image.specs.Sentences.{for_all, variables, apply_all}
 use Rattle.ml_image.specs.OwnAxioms.{of_variables}
 use Rattle.ml_image.specs.Counted.{at_variables}
@@ -114,6 +114,8 @@ none-sentence : (sig : Signature) (names : List (List ℕ)) (s : Sentence)
     → HasNone (sentence_image sig names s)
 none-sentence sig names (term p) = none-image sig names p
 none-sentence sig names (symbol f) = none-constant (number_in_names names (token_of_symbol sig f))
+none-sentence sig names (inject a b) =
+    none-sorts sig names (a ∷ b ∷ []) _ (none-some_symbol sig names (injection_symbol sig))
 none-sentence sig names (apply p q) =
     none-both logic.app _ _ (λ p q h k. (h, k)) (none-sentence sig names p)
     (none-sentence sig names q)

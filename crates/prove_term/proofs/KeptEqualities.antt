@@ -10,6 +10,7 @@ use Rattle.prove_term.specs.EqualityLemmas.{IsEqualityAt, number_of}
 use Rattle.prove_term.specs.declared.equality_lemmas.EqualityLemma.{EqualityLemma}
 use Rattle.prove_term.specs.declared.equality_lemmas.EqualityLemma.TheVariants.{Flip, Join, CongFun}
 use Rattle.prove_term.specs.declared.equality_lemmas.EqualityLemma.TheVariants.{CongArg, CongApp}
+use Rattle.prove_term.specs.declared.equality_lemmas.EqualityLemma.TheVariants.{NameFirst, NameLast}
 use Rattle.prove_term.proofs.ContextLaws.{lemma_there_grown}
 use Rattle.prove_term.proofs.KeptSorts.{kept_at, same_number}
 
@@ -40,7 +41,9 @@ numbered zero = Flip
 numbered (suc zero) = Join
 numbered (suc (suc zero)) = CongFun
 numbered (suc (suc (suc zero))) = CongArg
-numbered (suc (suc (suc (suc n)))) = CongApp
+numbered (suc (suc (suc (suc zero)))) = CongApp
+numbered (suc (suc (suc (suc (suc zero))))) = NameFirst
+numbered (suc (suc (suc (suc (suc (suc n)))))) = NameLast
 
 numbered-number : (which : EqualityLemma) → numbered (number_of which) ≡ which
 unfolding numbered
@@ -49,6 +52,8 @@ numbered-number Join = refl
 numbered-number CongFun = refl
 numbered-number CongArg = refl
 numbered-number CongApp = refl
+numbered-number NameFirst = refl
+numbered-number NameLast = refl
 
 same_lemma : (which other : EqualityLemma) → number_of which ≡ number_of other → which ≡ other
 same_lemma which other h = sym (numbered-number which) ∙ ap numbered h ∙ numbered-number other

@@ -25,5 +25,9 @@ pub mod KeptEqualities
 pub mod KeptInside
 pub mod KeptLaws
 pub mod KeptSorts
+pub mod NamingCalls
+pub mod NamingParts
+pub mod NamingSteps
+pub mod NamingWholes
 pub mod ResultLaws
 pub mod Substituting

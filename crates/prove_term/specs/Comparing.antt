@@ -1,19 +1,19 @@
 -- Patterns of rules and the normal terms that they become. What a pattern becomes as it is written
 -- may differ from the normal term. Then an equality of both images is proved, part by part.
 use Rattle.std.specs.Prelude.{◌≡◌, ◌≢◌, ℕ, List, [], Option, Some, None}
-use Rattle.ml_pat.specs.Patterns.{Pattern, equal, fun}
+use Rattle.ml_pat.specs.Patterns.{Pattern, app, equal, fun}
 use Rattle.ml_kernel.specs.Lemmas.{HasNoVariable}
 use Rattle.ml_kernel.specs.Theorems.{Theorem}
 use Rattle.ml_derived.specs.Scopes.{Scope, IsOver}
 use Rattle.term_core.specs.Terms.{Tree, Forest}
 use Rattle.term_core.specs.Patterns.{Pattern as RulePattern, Patterns as RulePatterns, instance_of}
-use Rattle.term_core.specs.Patterns.{instances_of, ground_pattern, ground_patterns}
+use Rattle.term_core.specs.Patterns.{instances_of, ground_pattern, ground_patterns, injection}
 use Rattle.term_core.specs.Instances.{substituted, all_substituted}
 use Rattle.rule_core.specs.Sorting.{HasSort, HaveSorts}
 use Rattle.rule_core.specs.Matching.{RespectsSorts}
 use Rattle.rule_core.specs.declared.signature.Signature.{Signature}
 use Rattle.rule_core.specs.declared.signature.SortRef.{SortRef}
-use Rattle.ml_image.specs.Images.{image_of, sort_image}
+use Rattle.ml_image.specs.Images.{image_of, sort_image, injection_image}
 use Rattle.prove_term.specs.Contexts.{Context, HasContext, StaysIn}
 use Rattle.prove_term.specs.Schemas.{AreImages}
 use Rattle.prove_term.specs.Applications.{applied_to}
@@ -113,3 +113,14 @@ pub record IsFactOn (cx : Context) (w : RulePattern) (sort : ℕ) (fact : Theore
   pub closed : HasNoVariable image
   pub no_hypotheses : fact.hypotheses ≡ []
   pub stays : StaysIn cx fact
+
+-- the theorem says that both injections of the term of w are one
+pub record IsOnce (cx : Context) (a b d : ℕ) (w : RulePattern) (once : Theorem) : Type 0 where
+  pub head : Pattern
+  pub is_head : injection_image cx.program.sig cx.names b d ≡ Some head
+  pub middle : Pattern
+  pub is_middle : image_of cx.program.sig cx.names (injection a b w) ≡ Some middle
+  pub last : Pattern
+  pub is_last : image_of cx.program.sig cx.names (injection a d w) ≡ Some last
+  pub says : once.conclusion ≡ equal (app head middle) last
+  pub stays : StaysIn cx once

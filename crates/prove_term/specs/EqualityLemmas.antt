@@ -1,6 +1,6 @@
 -- The lemmas on equalities of pattern variables: what each assumes, and what it says.
 use Rattle.std.specs.Prelude.{◌≡◌, ◌⊎◌, ℕ, IsTrue, List, [], ◌∷◌, All, Contains, Some, slice_get}
-use Rattle.ml_pat.specs.Patterns.{Pattern, equal, app, meta}
+use Rattle.ml_pat.specs.Patterns.{Pattern, equal, and, app, meta}
 use Rattle.ml_kernel.specs.Lemmas.{instance}
 use Rattle.ml_kernel.specs.Theorems.{Theorem}
 use Rattle.ml_derived.specs.Scopes.{Scope, IsStatedIn, AreOver, AreWithin, IsWithin}
@@ -8,6 +8,7 @@ use Rattle.prove_term.specs.Contexts.{Context}
 use Rattle.prove_term.specs.declared.equality_lemmas.EqualityLemma.{EqualityLemma}
 use Rattle.prove_term.specs.declared.equality_lemmas.EqualityLemma.TheVariants.{Flip, Join, CongFun}
 use Rattle.prove_term.specs.declared.equality_lemmas.EqualityLemma.TheVariants.{CongArg, CongApp}
+use Rattle.prove_term.specs.declared.equality_lemmas.EqualityLemma.TheVariants.{NameFirst, NameLast}
 
 -- the equality of two pattern variables
 abbrev pub same_metas : ℕ → ℕ → Pattern
@@ -20,6 +21,8 @@ first_of Join = same_metas 0 1
 first_of CongFun = same_metas 0 1
 first_of CongArg = same_metas 1 2
 first_of CongApp = same_metas 0 1
+first_of NameFirst = same_metas 0 1
+first_of NameLast = same_metas 0 1
 
 abbrev pub second_of : EqualityLemma → Pattern
 second_of Flip = same_metas 0 1
@@ -27,6 +30,8 @@ second_of Join = same_metas 1 2
 second_of CongFun = same_metas 0 1
 second_of CongArg = same_metas 1 2
 second_of CongApp = same_metas 2 3
+second_of NameFirst = same_metas 0 1
+second_of NameLast = same_metas 0 1
 
 -- what a lemma says
 abbrev pub conclusion_of : EqualityLemma → Pattern
@@ -35,6 +40,8 @@ conclusion_of Join = same_metas 0 2
 conclusion_of CongFun = equal (app (meta 0) (meta 2)) (app (meta 1) (meta 2))
 conclusion_of CongArg = equal (app (meta 0) (meta 1)) (app (meta 0) (meta 2))
 conclusion_of CongApp = equal (app (meta 0) (meta 2)) (app (meta 1) (meta 3))
+conclusion_of NameFirst = equal (and (meta 1) (meta 0)) (meta 1)
+conclusion_of NameLast = equal (and (meta 0) (meta 1)) (meta 1)
 
 -- how many pattern variables a lemma has
 abbrev pub metas_of : EqualityLemma → ℕ
@@ -43,6 +50,8 @@ metas_of Join = 3
 metas_of CongFun = 3
 metas_of CongArg = 3
 metas_of CongApp = 4
+metas_of NameFirst = 2
+metas_of NameLast = 2
 
 -- the number under which its place is kept
 abbrev pub number_of : EqualityLemma → ℕ
@@ -51,6 +60,8 @@ number_of Join = 1
 number_of CongFun = 2
 number_of CongArg = 3
 number_of CongApp = 4
+number_of NameFirst = 5
+number_of NameLast = 6
 
 -- each scope of all variables in which these patterns may be assumed has the theorem
 abbrev pub IsMadeFrom : List Pattern → Theorem → Type 0
@@ -101,3 +112,13 @@ abbrev pub CitesEquality : Theorem → List Pattern → Theorem → Theorem → 
 CitesEquality lemma images first second t =
     (s : Scope) → IsStatedIn s lemma.hypotheses lemma.conclusion → AreOver s images
     → AreWithin s (first ∷ second ∷ []) → IsWithin s t
+
+-- ---- names
+
+-- of an equality between p and q: the conjunction of q and p equals q
+abbrev pub IsNamedFirst : Pattern → Pattern → Type 0
+IsNamedFirst e made = (p q : Pattern) → e ≡ equal p q → made ≡ equal (and q p) q
+
+-- the same for the conjunction of p and q
+abbrev pub IsNamedLast : Pattern → Pattern → Type 0
+IsNamedLast e made = (p q : Pattern) → e ≡ equal p q → made ≡ equal (and p q) q

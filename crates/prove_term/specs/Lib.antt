@@ -5,6 +5,7 @@ pub mod Applications
 pub mod Functional
 pub mod RuleAxioms
 pub mod Filling
+pub mod FilledSides
 pub mod EqualImages
 pub mod EqualCalls
 pub mod Values
@@ -23,4 +24,5 @@ pub mod Carrying
 pub mod Elements
 pub mod EqualityLemmas
 pub mod Comparing
+pub mod Naming
 pub mod ContextView

@@ -50,7 +50,7 @@ pub fn call_eq(
 }
 
 // Returns the pattern of a function of terms.
-fn called(alloc: Global, function: SymId, terms: &[Term]) -> Result<RulePat, AllocError>
+pub(crate) fn called(alloc: Global, function: SymId, terms: &[Term]) -> Result<RulePat, AllocError>
     ensures { IfOk result
         (λ p. plain_pattern p ≡ call function.0 [] (ground_patterns (forest terms.now))) }
 {

@@ -58,7 +58,7 @@ pub fn inj_eq(
 // `inj_eq` of `pat`, where `whole` is the pattern of the term that it becomes, and `image` is the
 // image of `whole`.
 #[cycle(compared)]
-fn compared(
+pub(crate) fn compared(
     alloc: Global,
     cx: &mut Cx<'_>,
     pat: &RulePat,
@@ -278,7 +278,7 @@ fn middle_compared(
 
 // Returns the outer and the inner part of the left side of an equality that makes two injections
 // one.
-fn twice(once: &Thm) -> (&MPat, &MPat)
+pub(crate) fn twice(once: &Thm) -> (&MPat, &MPat)
     requires { (f a q : Pattern) × (once.now.conclusion ≡ equal (app f a) q) }
     ensures { (q : Pattern) × (once.now.conclusion ≡ equal (app result.0.now result.1.now) q) }
 {

@@ -11,6 +11,7 @@ ghost use Rattle.prove_term.specs.EqualityLemmas.{IsEqualityHypothesis, IsEquali
 ghost use Rattle.prove_term.specs.EqualityLemmas.{IsLater, ProvesEither};
 ghost use Rattle.prove_term.specs.EqualityLemmas.{ProveHypotheses};
 ghost use Rattle.prove_term.specs.EqualityLemmas.{conclusion_of, metas_of, CitesEquality};
+ghost use Rattle.prove_term.specs.EqualityLemmas.{IsNamedFirst, IsNamedLast};
 
 use crate::context::Cx;
 use crate::equality_lemmas::EqualityLemma;
@@ -86,6 +87,30 @@ pub(crate) fn cong_app(alloc: Global, cx: &mut Cx<'_>, f: &Thm, a: &Thm) -> Resu
     let (r, t) = sides(a.conclusion());
     let images = four(alloc, p, q, r, t)?;
     by_lemma(alloc, cx, EqualityLemma::CongApp, &images, f, a)
+}
+
+// `q & p = q`, from `p = q`.
+pub(crate) fn name_first(alloc: Global, cx: &mut Cx<'_>, ab: &Thm) -> Result<Thm, AllocError>
+    requires { HasClosedSides ab.now.conclusion }
+    ensures conclusion { IfOk result (λ t. IsNamedFirst ab.now.conclusion t.conclusion) }
+    ensures stays { IfOk result (StaysInWith cx.new [] (ab.now ∷ [])) }
+    ensures grown { HasGrown cx.old cx.new }
+{
+    let (p, q) = sides(ab.conclusion());
+    let images = two(alloc, p, q)?;
+    by_lemma(alloc, cx, EqualityLemma::NameFirst, &images, ab, ab)
+}
+
+// `p & q = q`, from `p = q`.
+pub(crate) fn name_last(alloc: Global, cx: &mut Cx<'_>, ab: &Thm) -> Result<Thm, AllocError>
+    requires { HasClosedSides ab.now.conclusion }
+    ensures conclusion { IfOk result (λ t. IsNamedLast ab.now.conclusion t.conclusion) }
+    ensures stays { IfOk result (StaysInWith cx.new [] (ab.now ∷ [])) }
+    ensures grown { HasGrown cx.old cx.new }
+{
+    let (p, q) = sides(ab.conclusion());
+    let images = two(alloc, p, q)?;
+    by_lemma(alloc, cx, EqualityLemma::NameLast, &images, ab, ab)
 }
 
 // The conclusion of a lemma with these patterns for its pattern variables, from both hypotheses.

@@ -8,12 +8,18 @@ ghost use Rattle.prove_term.specs.declared.equality_lemmas.EqualityLemma.TheVari
 ghost use Rattle.prove_term.specs.declared.equality_lemmas.EqualityLemma.TheVariants.{CongFun};
 ghost use Rattle.prove_term.specs.declared.equality_lemmas.EqualityLemma.TheVariants.{CongArg};
 ghost use Rattle.prove_term.specs.declared.equality_lemmas.EqualityLemma.TheVariants.{CongApp};
+ghost use Rattle.prove_term.specs.declared.equality_lemmas.EqualityLemma.TheVariants.{NameFirst};
+ghost use Rattle.prove_term.specs.declared.equality_lemmas.EqualityLemma.TheVariants.{NameLast};
 
+use crate::conjunctions::and_same;
 use crate::context::Cx;
-use ml_derived::{assume, cong_app, cong_arg, cong_fun, flip, join};
+use ml_derived::{assume, carry, cong_app, cong_arg, cong_fun, flip, join};
 use ml_kernel::Thm;
-use ml_pat::MPat;
+use ml_pat::{MPat, VarNo};
 use std::alloc::{AllocError, Global};
+
+// The variable that marks the place in a context.
+const HOLE: VarNo = VarNo(0);
 
 // A lemma on equalities.
 #[derive(Clone, Copy)]
@@ -28,6 +34,10 @@ pub(crate) enum EqualityLemma {
     CongArg,
     // `m:0 m:2 = m:1 m:3`, from `m:0 = m:1` and `m:2 = m:3`.
     CongApp,
+    // `m:1 & m:0 = m:1`, from `m:0 = m:1`.
+    NameFirst,
+    // `m:0 & m:1 = m:1`, from `m:0 = m:1`.
+    NameLast,
 }
 
 impl EqualityLemma {
@@ -41,6 +51,8 @@ impl EqualityLemma {
             EqualityLemma::CongFun => 2,
             EqualityLemma::CongArg => 3,
             EqualityLemma::CongApp => 4,
+            EqualityLemma::NameFirst => 5,
+            EqualityLemma::NameLast => 6,
         }
     }
 }
@@ -100,6 +112,8 @@ fn made_lemma(alloc: Global, which: EqualityLemma) -> Result<Thm, AllocError>
         EqualityLemma::CongFun => cong_fun_lemma(alloc),
         EqualityLemma::CongArg => cong_arg_lemma(alloc),
         EqualityLemma::CongApp => cong_app_lemma(alloc),
+        EqualityLemma::NameFirst => name_first_lemma(alloc),
+        EqualityLemma::NameLast => name_last_lemma(alloc),
     }
 }
 
@@ -140,6 +154,26 @@ fn cong_app_lemma(alloc: Global) -> Result<Thm, AllocError>
     let first = assumed_same(alloc, 0, 1)?;
     let second = assumed_same(alloc, 2, 3)?;
     cong_app(alloc, &first, &second)
+}
+
+fn name_first_lemma(alloc: Global) -> Result<Thm, AllocError>
+    ensures { IfOk result (IsMadeFor NameFirst) }
+{
+    let turned = flip(alloc, &assumed_same(alloc, 0, 1)?)?;
+    let named = MPat::meta(alloc, 1)?;
+    let open = MPat::and(alloc, &named, &MPat::var(alloc, HOLE)?)?;
+    let context = MPat::equal(alloc, &open, &named)?;
+    carry(alloc, &turned, &context, HOLE, &and_same(alloc, &named)?)
+}
+
+fn name_last_lemma(alloc: Global) -> Result<Thm, AllocError>
+    ensures { IfOk result (IsMadeFor NameLast) }
+{
+    let turned = flip(alloc, &assumed_same(alloc, 0, 1)?)?;
+    let named = MPat::meta(alloc, 1)?;
+    let open = MPat::and(alloc, &MPat::var(alloc, HOLE)?, &named)?;
+    let context = MPat::equal(alloc, &open, &named)?;
+    carry(alloc, &turned, &context, HOLE, &and_same(alloc, &named)?)
 }
 
 // Assumes that two pattern variables are equal.

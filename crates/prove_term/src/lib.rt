@@ -9,6 +9,7 @@
 mod calls;
 mod comparing;
 mod congruence;
+mod conjunctions;
 mod constructors;
 mod context;
 mod elements;
@@ -18,6 +19,7 @@ mod equations;
 mod hooks;
 mod injections;
 mod joining;
+mod naming;
 mod schemas;
 mod values;
 
@@ -27,3 +29,4 @@ pub use congruence::{Parts, applied, halves, taken_apart};
 pub use context::Cx;
 pub use elements::fun_of;
 pub use equalities::{flip, join};
+pub use naming::{call_eq_named, inj_eq_named};

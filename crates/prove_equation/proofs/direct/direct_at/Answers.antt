@@ -2,10 +2,11 @@ use Rattle.std.proofs.Common.{List, [], sym, subst}
 use Rattle.term_core.specs.Forests.{forest}
 use Rattle.term_core.specs.PatternLists.{plain_patterns}
 use Rattle.term_core.specs.declared.rule_patterns.RulePat.{RulePat}
-use Rattle.rule_core.specs.ProgramView.{function_equation}
+use Rattle.rule_core.specs.ProgramView.{function_equation, names_of}
 use Rattle.rule_core.specs.Sorting.{HaveSorts}
+use Rattle.rule_core.specs.declared.rules.Named.{Named}
 use Rattle.rule_core.specs.declared.signature.SortRef.{SortRef}
-use Rattle.prove_term.specs.EqualCalls.{SaysEqualCalls}
+use Rattle.prove_term.specs.FilledSides.{AreBoundToParts, SaysNamedCall}
 use Rattle.prove_term.proofs.ContextLaws.{grown_twice}
 use Rattle.prove_schema.proofs.ResultLaws.{if_ok_two}
 use Rattle.prove_equation.proofs.FillingLaws.{can_use_grown}
@@ -24,16 +25,16 @@ filled-requires-clause-used c = record {
   condition = c.requires.usable.condition;
 }
 
-pub call_eq-requires-clause-signature : goal.call_eq-requires-clause-signature
-call_eq-requires-clause-signature c =
+pub call_eq_named-requires-clause-signature : goal.call_eq_named-requires-clause-signature
+call_eq_named-requires-clause-signature c =
     (can_use_grown c.filled.ensures.grown c.requires.usable).well_sorted.signature
 
-pub call_eq-requires-clause-symbol : goal.call_eq-requires-clause-symbol
-call_eq-requires-clause-symbol c =
+pub call_eq_named-requires-clause-symbol : goal.call_eq_named-requires-clause-symbol
+call_eq_named-requires-clause-symbol c =
     (can_use_grown c.filled.ensures.grown c.requires.usable).image.function
 
-pub call_eq-requires-clause-sorted : goal.call_eq-requires-clause-sorted
-call_eq-requires-clause-sorted c =
+pub call_eq_named-requires-clause-sorted : goal.call_eq_named-requires-clause-sorted
+call_eq_named-requires-clause-sorted c =
     let can = can_use_grown c.filled.ensures.grown c.requires.usable in
     let args : (refs : List SortRef) × HaveSorts c.filled.new.cx.program.sig
     (function_equation c.args.equation.now).variables []
@@ -48,55 +49,70 @@ call_eq-requires-clause-sorted c =
       can.matches.binds.sorted,
     )
 
+pub call_eq_named-requires-clause-named : goal.call_eq_named-requires-clause-named
+call_eq_named-requires-clause-named c =
+    subst (λ (ps : List RulePat).
+    AreBoundToParts c.args.subst.now (plain_patterns ps) (names_of c.deref-2.result.now))
+    (sym c.deref.ensures.value)
+    (subst (λ (ns : List Named). AreBoundToParts c.args.subst.now
+    (function_equation c.args.equation.now).arguments (names_of ns)) (sym c.deref-2.ensures.value)
+    c.requires.usable.matches.named)
+
 pub from_normal-requires : goal.from_normal-requires
 from_normal-requires c =
-    let calls : SaysEqualCalls c.call_eq.new.cx c.args.equation.now.fun.0 c.args.subst.now
-    (function_equation c.args.equation.now).arguments (forest c.args.args.now)
-    c.in_ok-normal.normal =
-    subst (λ (ps : List RulePat). SaysEqualCalls c.call_eq.new.cx c.args.equation.now.fun.0
-    c.args.subst.now (plain_patterns ps) (forest c.args.args.now) c.in_ok-normal.normal)
-    c.deref.ensures.value c.in_ok-normal.ensures.says in
-    let w : IsWritten c.call_eq.new.cx c.args.equation.now.fun.0
+    let calls : SaysNamedCall c.call_eq_named.new.cx c.args.subst.now
+    (function_equation c.args.equation.now).names c.args.equation.now.fun.0
+    (function_equation c.args.equation.now).arguments c.in_ok-normal.normal =
+    subst (λ (ps : List RulePat). SaysNamedCall c.call_eq_named.new.cx c.args.subst.now
+    (function_equation c.args.equation.now).names c.args.equation.now.fun.0 (plain_patterns ps)
+    c.in_ok-normal.normal) c.deref.ensures.value
+    (subst (λ (ns : List Named). SaysNamedCall c.call_eq_named.new.cx c.args.subst.now (names_of ns)
+    c.args.equation.now.fun.0 (plain_patterns c.deref.result.now) c.in_ok-normal.normal)
+    c.deref-2.ensures.value c.in_ok-normal.ensures.says) in
+    let w : IsWritten c.call_eq_named.new.cx c.args.equation.now.fun.0
     (function_equation c.args.equation.now) c.args.subst.now (forest c.args.args.now)
     c.in_ok-made.made c.in_ok-normal.normal =
-    written_at c.filled.new.cx c.call_eq.new.cx c.args.equation.now.fun.0
+    written_at c.filled.new.cx c.call_eq_named.new.cx c.args.equation.now.fun.0
     (function_equation c.args.equation.now) c.args.subst.now (forest c.args.args.now)
     c.in_ok-made.made c.in_ok-normal.normal
-    c.call_eq.ensures.grown c.in_ok-made.ensures.says c.in_ok-made.ensures.stays calls in
-    written_turns c.call_eq.new.cx c.args.equation.now.fun.0 (function_equation c.args.equation.now)
+    c.call_eq_named.ensures.grown c.in_ok-made.ensures.says c.in_ok-made.ensures.stays calls c.requires.usable.matches.makes in
+    written_turns c.call_eq_named.new.cx c.args.equation.now.fun.0 (function_equation c.args.equation.now)
     c.args.subst.now (forest c.args.args.now) c.in_ok-made.made c.in_ok-normal.normal w
 
 pub returns-clause-proves : goal.returns-clause-proves
 returns-clause-proves c =
-    let calls : SaysEqualCalls c.call_eq.new.cx c.args.equation.now.fun.0 c.args.subst.now
-    (function_equation c.args.equation.now).arguments (forest c.args.args.now)
-    c.in_ok-normal.normal =
-    subst (λ (ps : List RulePat). SaysEqualCalls c.call_eq.new.cx c.args.equation.now.fun.0
-    c.args.subst.now (plain_patterns ps) (forest c.args.args.now) c.in_ok-normal.normal)
-    c.deref.ensures.value c.in_ok-normal.ensures.says in
-    let w : IsWritten c.call_eq.new.cx c.args.equation.now.fun.0
+    let calls : SaysNamedCall c.call_eq_named.new.cx c.args.subst.now
+    (function_equation c.args.equation.now).names c.args.equation.now.fun.0
+    (function_equation c.args.equation.now).arguments c.in_ok-normal.normal =
+    subst (λ (ps : List RulePat). SaysNamedCall c.call_eq_named.new.cx c.args.subst.now
+    (function_equation c.args.equation.now).names c.args.equation.now.fun.0 (plain_patterns ps)
+    c.in_ok-normal.normal) c.deref.ensures.value
+    (subst (λ (ns : List Named). SaysNamedCall c.call_eq_named.new.cx c.args.subst.now (names_of ns)
+    c.args.equation.now.fun.0 (plain_patterns c.deref.result.now) c.in_ok-normal.normal)
+    c.deref-2.ensures.value c.in_ok-normal.ensures.says) in
+    let w : IsWritten c.call_eq_named.new.cx c.args.equation.now.fun.0
     (function_equation c.args.equation.now) c.args.subst.now (forest c.args.args.now)
     c.in_ok-made.made c.in_ok-normal.normal =
-    written_at c.filled.new.cx c.call_eq.new.cx c.args.equation.now.fun.0
+    written_at c.filled.new.cx c.call_eq_named.new.cx c.args.equation.now.fun.0
     (function_equation c.args.equation.now) c.args.subst.now (forest c.args.args.now)
     c.in_ok-made.made c.in_ok-normal.normal
-    c.call_eq.ensures.grown c.in_ok-made.ensures.says c.in_ok-made.ensures.stays calls in
+    c.call_eq_named.ensures.grown c.in_ok-made.ensures.says c.in_ok-made.ensures.stays calls c.requires.usable.matches.makes in
     if_ok_two c.from_normal.result
     (λ t is within. written_proves c.from_normal.new.cx c.args.equation.now.fun.0
     (function_equation c.args.equation.now) c.args.subst.now (forest c.args.args.now)
     c.in_ok-made.made t c.in_ok-normal.normal
-    (written_grown c.call_eq.new.cx c.from_normal.new.cx c.args.equation.now.fun.0
+    (written_grown c.call_eq_named.new.cx c.from_normal.new.cx c.args.equation.now.fun.0
     (function_equation c.args.equation.now) c.args.subst.now (forest c.args.args.now)
     c.in_ok-made.made c.in_ok-normal.normal c.from_normal.ensures.grown w) is within)
     c.from_normal.ensures.says c.from_normal.ensures.stays
 
 pub returns-clause-grown : goal.returns-clause-grown
 returns-clause-grown c =
-    grown_twice c.args.cx.now c.call_eq.new.cx c.from_normal.new.cx
-    (grown_twice c.args.cx.now c.filled.new.cx c.call_eq.new.cx c.filled.ensures.grown
-    c.call_eq.ensures.grown) c.from_normal.ensures.grown
+    grown_twice c.args.cx.now c.call_eq_named.new.cx c.from_normal.new.cx
+    (grown_twice c.args.cx.now c.filled.new.cx c.call_eq_named.new.cx c.filled.ensures.grown
+    c.call_eq_named.ensures.grown) c.from_normal.ensures.grown
 
 pub returns-in_err-normal-clause-grown : goal.returns-in_err-normal-clause-grown
 returns-in_err-normal-clause-grown c =
-    grown_twice c.args.cx.now c.filled.new.cx c.call_eq.new.cx c.filled.ensures.grown
-    c.call_eq.ensures.grown
+    grown_twice c.args.cx.now c.filled.new.cx c.call_eq_named.new.cx c.filled.ensures.grown
+    c.call_eq_named.ensures.grown

@@ -5,9 +5,11 @@ use Rattle.ml_kernel.specs.Theorems.{Theorem}
 use Rattle.term_core.specs.Patterns.{instances_of}
 use Rattle.term_core.specs.PatternLists.{plain_patterns}
 use Rattle.term_core.specs.declared.rule_patterns.RulePat.{RulePat}
-use Rattle.rule_core.specs.ProgramView.{function_equation}
+use Rattle.rule_core.specs.ProgramView.{function_equation, names_of}
 use Rattle.rule_core.specs.Sorting.{HaveSorts}
+use Rattle.rule_core.specs.declared.rules.Named.{Named}
 use Rattle.rule_core.specs.declared.signature.SortRef.{SortRef}
+use Rattle.prove_term.specs.FilledSides.{AreBoundToParts}
 use Rattle.prove_term.proofs.ContextLaws.{grown_twice}
 use Rattle.prove_schema.specs.Elements.{IsElementOf}
 use Rattle.prove_schema.specs.Using.{IsUsable, IsUsed, StaysUsed}
@@ -15,6 +17,7 @@ use Rattle.prove_schema.proofs.ResultLaws.{if_ok_two}
 use Rattle.prove_equation.specs.Conditions.{listed}
 use Rattle.prove_equation.specs.Parameters.{AreMemberships}
 use Rattle.prove_equation.proofs.FillingLaws.{all_bound, can_use_grown}
+use Rattle.prove_equation.proofs.ShapeLaws.{few_arguments}
 use Rattle.prove_equation.proofs.TurningLaws.{arguments_sorted}
 use Rattle.prove_equation.proofs.MembershipLaws.{met_terms}
 use Rattle.prove_equation.proofs.KompileLaws.{IsMet, met_later, met_usable, met_proves}
@@ -51,10 +54,24 @@ memberships-requires-clause-makes c =
     ap (λ (ps : List RulePat). instances_of c.args.subst.now (plain_patterns ps))
     c.deref.ensures.value ∙ c.requires.usable.matches.makes
 
+pub memberships-requires-clause-named : goal.memberships-requires-clause-named
+memberships-requires-clause-named c =
+    subst (λ (ps : List RulePat).
+    AreBoundToParts c.args.subst.now (plain_patterns ps) (names_of c.deref-2.result.now))
+    (sym c.deref.ensures.value)
+    (subst (λ (ns : List Named). AreBoundToParts c.args.subst.now
+    (function_equation c.args.equation.now).arguments (names_of ns)) (sym c.deref-2.ensures.value)
+    c.requires.usable.matches.named)
+
+pub memberships-requires-clause-few : goal.memberships-requires-clause-few
+memberships-requires-clause-few c =
+    few_arguments c.args.cx.now c.args.equation.now c.deref.result.now c.requires.usable.image
+    c.requires.kompile c.deref.ensures.value
+
 pub memberships-requires-clause-facts : goal.memberships-requires-clause-facts
 memberships-requires-clause-facts c =
     subst (λ (ts : List Theorem). AllZip (IsElementOf c.term_elements.new.cx) c.args.args.now ts)
-    (sym c.deref-2.ensures.value) c.in_ok-first.ensures.facts
+    (sym c.deref-3.ensures.value) c.in_ok-first.ensures.facts
 
 pub elements-requires-clause-well_sorted : goal.elements-requires-clause-well_sorted
 elements-requires-clause-well_sorted c =
@@ -75,16 +92,16 @@ elements-requires-clause-bound c =
 
 pub schema_at-requires : goal.schema_at-requires
 schema_at-requires c =
-    let facts : c.deref-7.result.now ≡ c.in_ok-first.first.items ++ c.in_ok-rest.rest.items =
-    c.deref-7.ensures.value ∙ c.in_ok-facts.ensures
-    ∙ ap (λ (ts : List Theorem). ts ++ c.deref-4.result.now) c.deref-3.ensures.value
-    ∙ ap (λ (ts : List Theorem). c.in_ok-first.first.items ++ ts) c.deref-4.ensures.value in
-    let others : c.deref-8.result.now ≡ c.in_ok-members.members.items ++ listed
+    let facts : c.deref-8.result.now ≡ c.in_ok-first.first.items ++ c.in_ok-rest.rest.items =
+    c.deref-8.ensures.value ∙ c.in_ok-facts.ensures
+    ∙ ap (λ (ts : List Theorem). ts ++ c.deref-5.result.now) c.deref-4.ensures.value
+    ∙ ap (λ (ts : List Theorem). c.in_ok-first.first.items ++ ts) c.deref-5.ensures.value in
+    let others : c.deref-9.result.now ≡ c.in_ok-members.members.items ++ listed
     c.args.condition.now =
-    c.deref-8.ensures.value ∙ c.in_ok-others.ensures
-    ∙ ap (λ (ts : List Theorem). ts ++ c.deref-6.result.now) c.deref-5.ensures.value
+    c.deref-9.ensures.value ∙ c.in_ok-others.ensures
+    ∙ ap (λ (ts : List Theorem). ts ++ c.deref-7.result.now) c.deref-6.ensures.value
     ∙ ap (λ (ts : List Theorem). c.in_ok-members.members.items ++ ts)
-    (c.deref-6.ensures.value ∙ c.in_ok-held.ensures) in
+    (c.deref-7.ensures.value ∙ c.in_ok-held.ensures) in
     let w : IsMet c.elements.new.cx c.args.equation.now.fun.0
     (function_equation c.args.equation.now) c.args.lemma.now c.args.subst.now
     c.args.args.now c.args.condition.now c.in_ok-first.first.items c.in_ok-rest.rest.items
@@ -93,10 +110,13 @@ schema_at-requires c =
     c.term_elements.ensures.grown c.memberships.ensures.grown c.elements.ensures.grown
     c.requires.usable c.requires.kompile c.in_ok-first.ensures.facts
     (subst (λ (ps : List RulePat). AreMemberships c.memberships.new.cx c.args.subst.now
-    (plain_patterns ps) c.args.args.now c.in_ok-members.members.items) c.deref.ensures.value
-    c.in_ok-members.ensures.members) c.in_ok-rest.ensures.facts in
+    (function_equation c.args.equation.now).names 0 (plain_patterns ps) c.args.args.now
+    c.in_ok-members.members.items) c.deref.ensures.value
+    (subst (λ (ns : List Named). AreMemberships c.memberships.new.cx c.args.subst.now (names_of ns) 0
+    (plain_patterns c.deref.result.now) c.args.args.now c.in_ok-members.members.items)
+    c.deref-2.ensures.value c.in_ok-members.ensures.members)) c.in_ok-rest.ensures.facts in
     subst (λ (ts : List Theorem). (qs : List Pattern) × (ns : List ℕ)
-    × IsUsable qs ns c.args.lemma.now ts c.deref-8.result.now) (sym facts)
+    × IsUsable qs ns c.args.lemma.now ts c.deref-9.result.now) (sym facts)
     (subst (λ (os : List Theorem). (qs : List Pattern) × (ns : List ℕ)
     × IsUsable qs ns c.args.lemma.now (c.in_ok-first.first.items ++ c.in_ok-rest.rest.items)
     os) (sym others)
@@ -106,16 +126,16 @@ schema_at-requires c =
 
 pub returns-clause-proves : goal.returns-clause-proves
 returns-clause-proves c =
-    let facts : c.deref-7.result.now ≡ c.in_ok-first.first.items ++ c.in_ok-rest.rest.items =
-    c.deref-7.ensures.value ∙ c.in_ok-facts.ensures
-    ∙ ap (λ (ts : List Theorem). ts ++ c.deref-4.result.now) c.deref-3.ensures.value
-    ∙ ap (λ (ts : List Theorem). c.in_ok-first.first.items ++ ts) c.deref-4.ensures.value in
-    let others : c.deref-8.result.now ≡ c.in_ok-members.members.items ++ listed
+    let facts : c.deref-8.result.now ≡ c.in_ok-first.first.items ++ c.in_ok-rest.rest.items =
+    c.deref-8.ensures.value ∙ c.in_ok-facts.ensures
+    ∙ ap (λ (ts : List Theorem). ts ++ c.deref-5.result.now) c.deref-4.ensures.value
+    ∙ ap (λ (ts : List Theorem). c.in_ok-first.first.items ++ ts) c.deref-5.ensures.value in
+    let others : c.deref-9.result.now ≡ c.in_ok-members.members.items ++ listed
     c.args.condition.now =
-    c.deref-8.ensures.value ∙ c.in_ok-others.ensures
-    ∙ ap (λ (ts : List Theorem). ts ++ c.deref-6.result.now) c.deref-5.ensures.value
+    c.deref-9.ensures.value ∙ c.in_ok-others.ensures
+    ∙ ap (λ (ts : List Theorem). ts ++ c.deref-7.result.now) c.deref-6.ensures.value
     ∙ ap (λ (ts : List Theorem). c.in_ok-members.members.items ++ ts)
-    (c.deref-6.ensures.value ∙ c.in_ok-held.ensures) in
+    (c.deref-7.ensures.value ∙ c.in_ok-held.ensures) in
     let w : IsMet c.elements.new.cx c.args.equation.now.fun.0
     (function_equation c.args.equation.now) c.args.lemma.now c.args.subst.now
     c.args.args.now c.args.condition.now c.in_ok-first.first.items c.in_ok-rest.rest.items
@@ -124,8 +144,11 @@ returns-clause-proves c =
     c.term_elements.ensures.grown c.memberships.ensures.grown c.elements.ensures.grown
     c.requires.usable c.requires.kompile c.in_ok-first.ensures.facts
     (subst (λ (ps : List RulePat). AreMemberships c.memberships.new.cx c.args.subst.now
-    (plain_patterns ps) c.args.args.now c.in_ok-members.members.items) c.deref.ensures.value
-    c.in_ok-members.ensures.members) c.in_ok-rest.ensures.facts in
+    (function_equation c.args.equation.now).names 0 (plain_patterns ps) c.args.args.now
+    c.in_ok-members.members.items) c.deref.ensures.value
+    (subst (λ (ns : List Named). AreMemberships c.memberships.new.cx c.args.subst.now (names_of ns) 0
+    (plain_patterns c.deref.result.now) c.args.args.now c.in_ok-members.members.items)
+    c.deref-2.ensures.value c.in_ok-members.ensures.members)) c.in_ok-rest.ensures.facts in
     if_ok_two c.schema_at.result
     (λ t used within. met_proves c.elements.new.cx c.args.equation.now.fun.0
     (function_equation c.args.equation.now) c.args.lemma.now c.args.subst.now c.args.args.now
@@ -133,11 +156,11 @@ returns-clause-proves c =
     c.in_ok-members.members.items t w
     (subst (λ (os : List Theorem).
     IsUsed c.args.lemma.now (c.in_ok-first.first.items ++ c.in_ok-rest.rest.items) os t)
-    others (subst (λ (ts : List Theorem). IsUsed c.args.lemma.now ts c.deref-8.result.now t)
+    others (subst (λ (ts : List Theorem). IsUsed c.args.lemma.now ts c.deref-9.result.now t)
     facts used))
     (subst (λ (os : List Theorem).
     StaysUsed c.args.lemma.now (c.in_ok-first.first.items ++ c.in_ok-rest.rest.items) os t)
-    others (subst (λ (ts : List Theorem). StaysUsed c.args.lemma.now ts c.deref-8.result.now t)
+    others (subst (λ (ts : List Theorem). StaysUsed c.args.lemma.now ts c.deref-9.result.now t)
     facts within))) c.schema_at.ensures.says c.schema_at.ensures.stays
 
 pub returns-clause-grown : goal.returns-clause-grown

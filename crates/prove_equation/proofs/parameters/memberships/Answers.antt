@@ -11,6 +11,8 @@ use Rattle.rule_core.specs.Matching.{RespectsSorts}
 use Rattle.rule_core.specs.Sorting.{HasSort}
 use Rattle.rule_core.specs.WellSorted.{IsSignature}
 use Rattle.rule_core.specs.declared.rules.Program.{Program}
+use Rattle.rule_core.specs.ProgramView.{names_of}
+use Rattle.rule_core.proofs.NamingLaws.{at_in_list}
 use Rattle.prove_term.proofs.ContextLaws.{grown_twice, grown_none}
 use Rattle.prove_schema.proofs.ElementLaws.{elements_grown}
 use Rattle.prove_equation.specs.Parameters.{AreMemberships}
@@ -64,6 +66,14 @@ membership-requires-clause-makes c =
     c.index-pats-i.result c.index-terms-i.result c.requires.makes c.loop-i-test.true
     c.index-pats-i.is c.index-terms-i.is
 
+pub membership-requires-clause-named : goal.membership-requires-clause-named
+membership-requires-clause-named c = (
+  plain_patterns c.args.pats.now,
+  at_in_list c.args.pats.now c.loop-i.i c.index-pats-i.result c.loop-i-test.true
+      c.index-pats-i.is,
+  c.requires.named,
+)
+
 pub membership-requires-clause-fact : goal.membership-requires-clause-fact
 membership-requires-clause-fact c =
     fact_item c.loop-i.cx c.args.terms.now c.args.facts.now c.loop-i.i c.index-terms-i.result
@@ -100,10 +110,10 @@ loop-i-preserved c =
       grown_twice c.args.cx.now c.loop-i.cx c.membership.new.cx c.loop-i.invariant.0
           c.membership.ensures.grown,
       subst (λ (ts : List Theorem). AreMemberships c.membership.new.cx c.args.subst.now
-          (plain_patterns (take (c.loop-i.i + 1) c.args.pats.now))
+          (names_of c.args.named.now) 0 (plain_patterns (take (c.loop-i.i + 1) c.args.pats.now))
           (take (c.loop-i.i + 1) c.args.terms.now) ts) (sym items)
-          (one_more_membership c.loop-i.cx c.membership.new.cx c.args.subst.now c.args.pats.now
-          c.args.terms.now c.loop-i.i c.index-pats-i.result c.index-terms-i.result
+          (one_more_membership c.loop-i.cx c.membership.new.cx c.args.subst.now
+          (names_of c.args.named.now) c.args.pats.now c.args.terms.now c.loop-i.i c.index-pats-i.result c.index-terms-i.result
           c.loop-i.members.items t
           c.loop-i-test.true low c.index-pats-i.is c.index-terms-i.is c.membership.ensures.grown
           c.loop-i.invariant.1 c.in_ok-membership.ensures.member),
@@ -115,8 +125,8 @@ returns-clause-members c =
     length-instances c.args.subst.now c.args.pats.now c.args.terms.now c.requires.makes in
     let enough : length c.args.pats.now ≤ c.loop-i.i = omega arith in
     let also : length c.args.terms.now ≤ c.loop-i.i = omega arith in
-    subst (λ (ps : List RulePat). AreMemberships c.loop-i.cx c.args.subst.now (plain_patterns ps)
-    c.args.terms.now c.loop-i.members.items) (take_all c.loop-i.i c.args.pats.now enough)
+    subst (λ (ps : List RulePat). AreMemberships c.loop-i.cx c.args.subst.now
+    (names_of c.args.named.now) 0 (plain_patterns ps) c.args.terms.now c.loop-i.members.items) (take_all c.loop-i.i c.args.pats.now enough)
     (subst (λ (us : List Tree). AreMemberships c.loop-i.cx c.args.subst.now
-    (plain_patterns (take c.loop-i.i c.args.pats.now)) us c.loop-i.members.items)
+    (names_of c.args.named.now) 0 (plain_patterns (take c.loop-i.i c.args.pats.now)) us c.loop-i.members.items)
     (take_all c.loop-i.i c.args.terms.now also) c.loop-i.invariant.1)

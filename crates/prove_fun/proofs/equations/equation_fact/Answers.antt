@@ -3,9 +3,9 @@ use Rattle.ml_kernel.specs.Theorems.{Theorem}
 use Rattle.term_core.specs.Terms.{Forest}
 use Rattle.term_core.specs.Forests.{forest}
 use Rattle.term_core.specs.PatternLists.{plain_patterns}
-use Rattle.rule_core.specs.Matching.{MatchAll}
+use Rattle.rule_core.specs.Matching.{MatchNamed}
 use Rattle.rule_core.specs.Rules.{Equation as PlainEquation}
-use Rattle.rule_core.specs.ProgramView.{function_equation, sorts_of}
+use Rattle.rule_core.specs.ProgramView.{names_of, function_equation, sorts_of}
 use Rattle.rule_core.specs.Records.{results_of}
 use Rattle.rule_core.specs.BoundVariables.{IsEquationAt}
 use Rattle.rule_core.specs.RecordView.{plain_record}
@@ -68,9 +68,10 @@ equation_at-requires c =
       own = is.own;
       is_lemma = c.in_ok-lemma.ensures.lemma;
       matches =
-          subst (λ (ts : Forest). MatchAll c.lemma_of.new.cx.program.sig
+          subst (λ (ts : Forest). MatchNamed c.lemma_of.new.cx.program.sig
           (sorts_of c.equation_of-equation.result.now.vars.items)
-          (plain_patterns c.equation_of-equation.result.now.args.items) ts c.args.used.now.subst)
+          (plain_patterns c.equation_of-equation.result.now.args.items)
+          (names_of c.equation_of-equation.result.now.named.items) ts c.args.used.now.subst)
           (sym terms) is.matches;
       bound = is.bound;
       condition =

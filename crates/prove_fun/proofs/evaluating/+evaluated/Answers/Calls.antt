@@ -22,6 +22,7 @@ use Rattle.prove_fun.proofs.Recording.{itself_no_call, made_no_call}
 use Rattle.prove_fun.proofs.KeptLaws.{kept_grown}
 use Rattle.prove_fun.proofs.Nodes.{call_parts, values_evaluated, call_closed, call_joinable}
 use Rattle.prove_fun.proofs.Nodes.{call_joined, call_alone}
+use Rattle.prove_fun.specs.Using.{used_record}
 use Rattle.prove_fun.proofs.evaluating.+evaluated.Goals as goal
 
 -- ---- calls
@@ -113,7 +114,8 @@ called-unreachable-requires-in-Inj t c =
 
 pub called-by_equation-requires : goal.called-by_equation-requires
 called-by_equation-requires t c =
-    let is = ap plain_record c.in-ByEquation.is ∙ plain-ByEquation c.in-ByEquation.used in
+    let is = ap plain_record c.in-ByEquation.is ∙ plain-ByEquation c.in-ByEquation.used
+    ∙ ap used_record (sym c.deref.ensures) in
     (omega (arith, c.decreases), (c.requires.recorded, (is, (c.requires.image, c.requires.kept))))
 
 -- ---- a call at the values of its arguments

@@ -11,7 +11,7 @@ use Rattle.term_core.specs.PatternLists.{plain_patterns}
 use Rattle.term_core.specs.declared.rule_patterns.RulePat.{RulePat}
 use Rattle.rule_core.specs.declared.rules.Program.{Program}
 use Rattle.rule_core.specs.Records.{Record, result_of, results_of}
-use Rattle.rule_core.specs.RecordView.{plain_record, records}
+use Rattle.rule_core.specs.RecordView.{misses, plain_record, records}
 use Rattle.rule_core.specs.Rules.{Equation as PlainEquation}
 use Rattle.rule_core.specs.Theories.{equations_of}
 use Rattle.rule_core.specs.ProgramView.{theory_of}
@@ -22,7 +22,7 @@ use Rattle.prove_term.specs.Contexts.{Context, HasGrown, StaysIn}
 use Rattle.prove_term.specs.Values.{SaysEquationAt}
 use Rattle.prove_term.specs.Filling.{filled}
 use Rattle.rule_core.specs.BoundVariables.{IsEquationAt}
-use Rattle.prove_fun.specs.Using.{IsUse, condition_record, used_record}
+use Rattle.prove_fun.specs.Using.{IsUse, condition_record, missed_record, used_record}
 use Rattle.prove_term.proofs.ResultLaws.{if_ok}
 use Rattle.prove_term.proofs.ContextLaws.{grown_twice, image_grown}
 use Rattle.prove_term.proofs.ComparingLaws.{image_closed}
@@ -46,7 +46,8 @@ use_of : (program : Program) (theta : List (Option Tree)) (f : ℕ) (args : List
 use_of program theta f args r used is h =
     equation_recorded program theta f (plain_patterns args) r
     (records (map plain_record used.args.items)) used.equation used.subst
-    (condition_record used) (plain_record used.body.value) is h
+    (condition_record used) (plain_record used.body.value)
+    (misses (map missed_record used.missed.items)) is h
 
 pub by_equation-equation_of-equation-requires : goal.by_equation-equation_of-equation-requires
 by_equation-equation_of-equation-requires t c =
@@ -69,7 +70,7 @@ by_equation-condition_held-requires t c =
     c.requires.recorded in
     let low =
     equation_size (plain_record c.args.evaluation.now) _ _ _ (condition_record c.args.used.now)
-    (plain_record c.args.used.now.body.value) c.requires.used in (
+    (plain_record c.args.used.now.body.value) _ c.requires.used in (
       omega (arith, low, some_size (plain_record c.args.used.now.body.value), c.decreases),
       (
         c.requires.recorded.ready,
@@ -192,7 +193,7 @@ by_equation-evaluated-requires t c =
     c.equation_of-equation.result.now u at in
     let low =
     equation_size (plain_record c.args.evaluation.now) _ _ _ (condition_record c.args.used.now)
-    (plain_record c.args.used.now.body.value) c.requires.used in
+    (plain_record c.args.used.now.body.value) _ c.requires.used in
     let g : HasGrown c.args.cx.now c.at_values.new.cx =
     grown_twice c.args.cx.now c.condition_held.new.cx c.at_values.new.cx
     c.in_ok-held.ensures.grown (grown_twice c.condition_held.new.cx c.equation_fact.new.cx

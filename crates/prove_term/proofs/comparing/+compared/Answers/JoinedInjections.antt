@@ -11,9 +11,9 @@ use Rattle.prove_term.specs.Contexts.{Context, HasGrown}
 use Rattle.prove_term.specs.Applications.{IsApplication}
 use Rattle.prove_term.specs.Injections.{IsCollapseAt}
 use Rattle.prove_term.specs.Carrying.{Collapses, CollapsesTo, CollapsesBy}
-use Rattle.prove_term.specs.Comparing.{MakesTerm, Compares, IsFactOn}
+use Rattle.prove_term.specs.Comparing.{MakesTerm, Compares, IsFactOn, IsOnce}
 use Rattle.prove_term.proofs.ElementLaws.{lemma_found}
-use Rattle.prove_term.proofs.ComparingInjections.{IsOnce, once_of, once_grown, fact_grown}
+use Rattle.prove_term.proofs.ComparingInjections.{once_of, once_grown, fact_grown}
 use Rattle.prove_term.proofs.ComparingInjections.{fact_collapses, moved_made, moved_reaches}
 use Rattle.prove_term.proofs.ResultLaws.{if_ok_two}
 use Rattle.prove_term.proofs.ContextLaws.{grown_twice}
