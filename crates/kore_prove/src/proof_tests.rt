@@ -224,7 +224,10 @@ fn a_run_that_computes_leaves_its_proof(rt: HostRuntime) -> Result<(), Fail> {
 }
 
 /// The number of the first case with another result, or without a valid proof of what it states.
-fn first_unproved(alloc: Global, cases: &[(Case<'_>, &str)]) -> Result<Option<usize>, AllocError> {
+pub(crate) fn first_unproved(
+    alloc: Global,
+    cases: &[(Case<'_>, &str)],
+) -> Result<Option<usize>, AllocError> {
     for (number, (case, stated)) in cases.iter().enumerate() {
         let (desk, holds) = call(alloc, case)?;
         let database = desk.file("p.mm").unwrap_or_default();

@@ -425,3 +425,65 @@ axiom{R} \equals{SortInt{},R}(down{}(N:SortInt{}),
   \and{SortInt{}}(down{}(sub{}(N:SortInt{},\dv{SortInt{}}("1"))),\top{SortInt{}}())) []
 endmodule []
 "#;
+
+/// A part of a left side has a name.
+pub(crate) const NAMED_PART: &str = r#"[]
+module J
+sort S{} []
+sort T{} []
+symbol p{}() : S{} [constructor{}()]
+symbol f{}(S{}) : S{} [constructor{}()]
+symbol g{}(S{}) : T{} [constructor{}()]
+symbol h{}(S{},S{}) : T{} [constructor{}()]
+axiom{} \rewrites{T{}}(\and{T{}}(g{}(\and{S{}}(f{}(X:S{}),Y:S{})),\top{T{}}()),
+  \and{T{}}(h{}(X:S{},Y:S{}),\top{T{}}())) []
+endmodule []
+"#;
+
+/// Names inside of a named part, two names of one part, a name that is written first, and a name of a
+/// part that has an injection and a repeated variable.
+pub(crate) const NESTED_NAMES: &str = r#"[]
+module N
+sort A{} []
+sort B{} []
+sort T{} []
+symbol inj{From,To}(From) : To [sortInjection{}()]
+axiom{R} \exists{R}(V:B{},\equals{B{},R}(V:B{},inj{A{},B{}}(W:A{}))) [subsort{A{},B{}}()]
+symbol a{}() : A{} [constructor{}()]
+symbol s{}(A{}) : A{} [constructor{}()]
+symbol in{}(B{},B{}) : T{} [constructor{}()]
+symbol out{}(A{},A{},A{},B{},B{}) : T{} [constructor{}()]
+axiom{} \rewrites{T{}}(\and{T{}}(in{}(
+  inj{A{},B{}}(\and{A{}}(X:A{},s{}(\and{A{}}(\and{A{}}(s{}(Y:A{}),Z:A{}),V:A{})))),
+  \and{B{}}(inj{A{},B{}}(Y:A{}),W:B{})),\top{T{}}()),
+  \and{T{}}(out{}(X:A{},Z:A{},V:A{},W:B{},inj{A{},B{}}(Y:A{})),\top{T{}}())) []
+endmodule []
+"#;
+
+/// Arguments of equations have named parts: of one that is written directly, and of one as kompile
+/// writes it, with a condition on the name.
+pub(crate) const NAMED_ARGUMENTS: &str = r#"[]
+module E
+hooked-sort SortInt{} [hook{}("INT.Int")]
+hooked-sort SortBool{} [hook{}("BOOL.Bool")]
+hooked-symbol gt{}(SortInt{},SortInt{}) : SortBool{} [hook{}("INT.gt"), function{}()]
+sort L{} []
+sort T{} []
+symbol nil{}() : L{} [constructor{}()]
+symbol cons{}(SortInt{},L{}) : L{} [constructor{}()]
+symbol twice{}(L{}) : L{} [function{}()]
+symbol tail{}(L{},SortInt{}) : L{} [function{}()]
+symbol t{}(L{}) : T{} [constructor{}()]
+axiom{S} \equals{L{},S}(twice{}(\and{L{}}(cons{}(X:SortInt{},Y:L{}),Z:L{})),
+  \and{L{}}(cons{}(X:SortInt{},Z:L{}),\top{L{}}())) []
+axiom{R} \implies{R}(
+  \and{R}(\equals{SortBool{}, R}(gt{}(X:SortInt{}, N:SortInt{}), \dv{SortBool{}}("true")),
+    \and{R}(\in{L{}, R}(X0:L{}, \and{L{}}(Z:L{}, cons{}(X:SortInt{}, \and{L{}}(cons{}(M:SortInt{}, Y:L{}), W:L{})))),
+      \and{R}(\in{SortInt{}, R}(X1:SortInt{}, N:SortInt{}), \top{R}()))),
+  \equals{L{}, R}(tail{}(X0:L{}, X1:SortInt{}), \and{L{}}(cons{}(M:SortInt{}, W:L{}), \top{L{}}()))) []
+axiom{R} \implies{R}(
+  \and{R}(\top{R}(), \and{R}(\in{L{}, R}(X0:L{}, Z:L{}),
+    \and{R}(\in{SortInt{}, R}(X1:SortInt{}, N:SortInt{}), \top{R}()))),
+  \equals{L{}, R}(tail{}(X0:L{}, X1:SortInt{}), \and{L{}}(Z:L{}, \top{L{}}()))) [priority{}("51")]
+endmodule []
+"#;
