@@ -18,6 +18,7 @@ pub mod ProgramLaws
 pub mod AnswerLaws
 pub mod AcceptedLaws
 pub mod MeaningSorts
+pub mod NameCounts
 pub mod NameLaws
 pub mod BoundPrograms
 pub mod KeptSorts
