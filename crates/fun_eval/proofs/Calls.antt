@@ -213,7 +213,7 @@ pub right_gives : {R : Type 0} (tells : R → Record → Type 0)
     → IsRecorded (tells body.recorded) theory theta e.right body.term
     → ((rs : RecordList) (o : OptionalRecord) (r : Record) (ms : MissList)
     → all_tell args.records.items rs → TellsOption tells cond o → tells body.recorded r
-    → missed_tell ms → tells recorded (kept.by_equation rs number theta o r ms))
+    → missed_tell ms → tells recorded (kept.by_equation f rs number theta o r ms))
     → Equates theory n f (equations_of theory f) (forest args.terms.items) c (value body.term rest)
     × ((rs : RecordList) → all_tell args.records.items rs
     → results_of rs ≡ forest args.terms.items
@@ -229,10 +229,9 @@ right_gives {R} tells all_tell missed_tell theory n f args c number left rest th
           (λ (x : plain.Equation). EvaluatesIn theory n f theta x.right left (value body.term rest))
           same evaluated),
       (λ rs all results. (
-        kept.by_equation rs number theta met.0 told.0 missed.1,
+        kept.by_equation f rs number theta met.0 told.0 missed.1,
         makes rs met.0 told.0 missed.1 all met.1 told.1 missed.3,
         (λ sigma sorts ps recorded_all. (
-          f,
           sorts,
           ps,
           is.info,

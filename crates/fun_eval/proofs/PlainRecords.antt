@@ -31,7 +31,7 @@ plain-ByEquation used =
 pub plain-used : (used : EqRecord-F EvalRecord code.Miss EqRecord) (boxed : Box EqRecord)
     → boxed.value ≡ roll-EqRecord used
     → plain_record (form.ByEquation boxed)
-    ≡ by_equation (records (map plain_record used.args.items)) used.equation used.subst
+    ≡ by_equation used.fun.0 (records (map plain_record used.args.items)) used.equation used.subst
     (optional (option_map (λ (b : Box EvalRecord). plain_record b.value) used.cond))
     (plain_record used.body.value) (misses (map plain_missed used.missed.items))
 plain-used used boxed is = plain-ByEquation boxed

@@ -6,7 +6,7 @@ use Rattle.term_core.specs.Terms.{DomainValue, integer, truth, Tree, leaf, node,
 use Rattle.term_core.specs.Terms.{injected}
 use Rattle.term_core.specs.Forests.{forest}
 use Rattle.term_core.specs.Patterns.{Pattern, Patterns, variable, domain_value, binding}
-use Rattle.term_core.specs.Patterns.{application, injection, call, no_pattern, more_patterns}
+use Rattle.term_core.specs.Patterns.{application, injection, call}
 use Rattle.term_core.specs.HookValues.{Operation, on_integer, on_integers, compares, on_truth}
 use Rattle.term_core.specs.HookValues.{on_truths, operation_value, argument_kinds, value_by}
 use Rattle.term_core.specs.HookValues.{hook_value, hooks, Hook}
@@ -26,8 +26,7 @@ use Rattle.rule_core.specs.Evaluation.{IsInjectionSymbol, of_constructor, of_inj
 use Rattle.rule_core.specs.Evaluation.{bound, itself, made, made_too_high, function_called}
 use Rattle.rule_core.specs.Evaluation.{EvaluateAll, none_left, one_more, HasOutcome, by_hook}
 use Rattle.rule_core.specs.Evaluation.{hook_fails, by_equations, Equates, EvaluatesIn, inside}
-use Rattle.rule_core.specs.Records.{Record, RecordList, no_record, more_records, RecordAll, Records}
-use Rattle.rule_core.specs.Records.{results_of, result_of}
+use Rattle.rule_core.specs.Records.{Record, RecordList, RecordAll, Records, results_of, result_of}
 use Rattle.rule_core.specs.Records as kept
 use Rattle.rule_core.specs.declared.signature.SortRef.{SortRef}
 use Rattle.rule_core.specs.declared.signature.SymInfo.{SymInfo}
@@ -233,14 +232,14 @@ hook_called : {R : Type 0} (tells : R → Record → Type 0) (all_tell : List R 
     (theory : RewriteTheory) (n f row sort k : ℕ) (info : SymInfo) (args : Answers R)
     → IsSymbol theory.sig f info → info.kind ≡ Hooked (record { 0 = row })
     → sort_at [] info.result ≡ Some sort → (r : Result (Answer R × ℕ) EvalEnd)
-    → HookGives tells all_tell row sort args k r → Calls tells all_tell theory n f args (suc k) r
+    → HookGives tells all_tell f row sort args k r → Calls tells all_tell theory n f args (suc k) r
 hook_called {R} tells all_tell theory n f row sort k info args i hook at r h =
     comes-weaker
     (λ (a : Answer R) (left : ℕ). ((vs : List DomainValue) × (v : DomainValue)
     × AreValues (forest args.terms.items) vs × (hook_value row vs ≡ Some (Ok v))
     × (a.term ≡ leaf sort v)) × (left ≡ k)
     × ((rs : RecordList) → all_tell args.records.items rs
-    → tells a.recorded (kept.by_hook rs a.term)))
+    → tells a.recorded (kept.by_hook f rs a.term)))
     (λ cause. (vs : List DomainValue) × (why : NoValue) × AreValues (forest args.terms.items) vs
     × (hook_value row vs ≡ Some (Err why)) × (cause ≡ no_value row why))
     (λ (a : Answer R) (left : ℕ). HasOutcome theory n f (forest args.terms.items) (suc k)
@@ -272,13 +271,12 @@ hook_called {R} tells all_tell theory n f row sort k info args i hook at r h =
           → ((vs : List DomainValue) × (v : DomainValue) × AreValues (forest args.terms.items) vs
           × (hook_value row vs ≡ Some (Ok v)) × (a.term ≡ leaf sort v))
           → ((rs : RecordList) → all_tell args.records.items rs
-          → tells a.recorded (kept.by_hook rs a.term))
+          → tells a.recorded (kept.by_hook f rs a.term))
           → IsRecordedCall tells all_tell theory f args a
       told a w tell = λ rs all results. (
-        kept.by_hook rs a.term,
+        kept.by_hook f rs a.term,
         tell rs all,
         (λ theta sorts ps recorded. (
-          f,
           sorts,
           ps,
           info,
@@ -305,7 +303,7 @@ pub hook_calls : {R : Type 0} (tells : R → Record → Type 0)
     (all_tell : List R → RecordList → Type 0) (theory : RewriteTheory) (n f sort c k : ℕ)
     (row : HookNo) (info : SymInfo) (args : Answers R) → IsSymbol theory.sig f info
     → info.kind ≡ Hooked row → sort_at [] info.result ≡ Some sort → c ≡ suc k
-    → (r : Result (Answer R × ℕ) EvalEnd) → HookGives tells all_tell row.0 sort args k r
+    → (r : Result (Answer R × ℕ) EvalEnd) → HookGives tells all_tell f row.0 sort args k r
     → Calls tells all_tell theory n f args c r
 hook_calls tells all_tell theory n f sort c k row info args i hook at e r h =
     subst (λ j. Calls tells all_tell theory n f args j r) (sym e)
@@ -364,7 +362,7 @@ constructed_gives {R} tells all_tell theory n m f c d theta ps args e all record
     (λ (a : Answer R) (left : ℕ). (a.term ≡ node f (forest args.terms.items))
     × (height a.term ≤ most_height) × (left ≡ d)
     × ((rs : RecordList) → all_tell args.records.items rs
-    → tells a.recorded (kept.made rs a.term)))
+    → tells a.recorded (kept.made f rs a.term)))
     (λ cause. (cause ≡ too_high f) × (most_height < height (node f (forest args.terms.items))))
     (λ (a : Answer R) (left : ℕ). Evaluates theory (suc n) theta (application f ps) c
     (value a.term left)
@@ -377,16 +375,9 @@ constructed_gives {R} tells all_tell theory n m f c d theta ps args e all record
           subst (λ j. Evaluates theory (suc n) theta (application f ps) c (value a.term j))
           (sym w.2) here),
       (
-        kept.made recorded.0 a.term,
+        kept.made f recorded.0 a.term,
         w.3 recorded.0 recorded.1,
-        (
-          f,
-          ps,
-          of_constructor,
-          ap (λ us. Some (node f us)) recorded.3 ∙ ap Some (sym w.0),
-          w.1,
-          recorded.2,
-        ),
+        (ps, refl, w.0 ∙ ap (node f) (sym recorded.3), w.1, recorded.2),
         refl,
       ),
     ))
@@ -407,7 +398,7 @@ injected_gives {R} tells theory n m f from to c d theta p below i e all recorded
     (λ (a : Answer R) (left : ℕ). (a.term ≡ injected from to below.term)
     × (height a.term ≤ most_height) × (left ≡ d)
     × ((r : Record) → tells below.recorded r
-    → tells a.recorded (kept.made (more_records r no_record) a.term)))
+    → tells a.recorded (kept.injected_record from to r a.term)))
     (λ cause. (cause ≡ too_high f) × (most_height < height (injected from to below.term)))
     (λ (a : Answer R) (left : ℕ). Evaluates theory (suc n) theta (injection from to p) c
     (value a.term left)
@@ -420,17 +411,9 @@ injected_gives {R} tells theory n m f from to c d theta p below i e all recorded
           subst (λ j. Evaluates theory (suc n) theta (injection from to p) c (value a.term j))
           (sym w.2) here),
       (
-        kept.made (more_records recorded.0 no_record) a.term,
+        kept.injected_record from to recorded.0 a.term,
         w.3 recorded.0 recorded.1,
-        (
-          f,
-          more_patterns p no_pattern,
-          of_injection i,
-          ap (λ u. Some (injected from to u)) recorded.3
-              ∙ ap Some (sym w.0),
-          w.1,
-          (p, no_pattern, refl, recorded.2, refl),
-        ),
+        (p, refl, (f, i), w.0 ∙ ap (injected from to) (sym recorded.3), w.1, recorded.2),
         refl,
       ),
     ))

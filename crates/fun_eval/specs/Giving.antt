@@ -14,7 +14,7 @@ use Rattle.rule_core.specs.Matching.{OccursInSome, RespectsSorts}
 use Rattle.rule_core.specs.Evaluation.{Cause, value, blocked, values, all_blocked, no_value}
 use Rattle.rule_core.specs.Evaluation.{too_high, most_height, Evaluates, EvaluateAll, HasOutcome}
 use Rattle.rule_core.specs.Evaluation.{EvaluatesIn}
-use Rattle.rule_core.specs.Records.{Record, RecordList, no_record, more_records, made, by_hook}
+use Rattle.rule_core.specs.Records.{Record, RecordList, made, injected_record, by_hook}
 use Rattle.rule_core.specs.Records.{Records, RecordAll, results_of, result_of}
 use Rattle.rule_core.specs.RunView.{cause_of}
 use Rattle.rule_core.specs.declared.signature.Signature.{Signature}
@@ -157,7 +157,7 @@ Constructs {R} tells all_tell f args c answer =
     (λ (a : Answer R) (left : ℕ).
     (a.term ≡ node f (forest args.terms.items)) × (height a.term ≤ most_height)
     × (left ≡ c)
-    × ((rs : RecordList) → all_tell args.records.items rs → tells a.recorded (made rs a.term)))
+    × ((rs : RecordList) → all_tell args.records.items rs → tells a.recorded (made f rs a.term)))
     (λ cause. (cause ≡ too_high f) × (most_height < height (node f (forest args.terms.items))))
     answer
 
@@ -170,19 +170,20 @@ InjectsTo {R} tells f from to below c answer =
     (a.term ≡ injected from to below.term) × (height a.term ≤ most_height)
     × (left ≡ c)
     × ((r : Record) → tells below.recorded r
-    → tells a.recorded (made (more_records r no_record) a.term)))
+    → tells a.recorded (injected_record from to r a.term)))
     (λ cause. (cause ≡ too_high f) × (most_height < height (injected from to below.term)))
     answer
 
--- the value of a hook at terms
+-- the value of the hook of a function at terms
 abbrev pub HookGives : {R : Type 0} → (R → Record → Type 0) → (List R → RecordList → Type 0) → ℕ → ℕ
-    → Answers R → ℕ → Result (Answer R × ℕ) EvalEnd → Type 0
-HookGives {R} tells all_tell row sort args c answer =
+    → ℕ → Answers R → ℕ → Result (Answer R × ℕ) EvalEnd → Type 0
+HookGives {R} tells all_tell f row sort args c answer =
     Comes
     (λ (a : Answer R) (left : ℕ).
     ((vs : List DomainValue) × (v : DomainValue) × AreValues (forest args.terms.items) vs
     × (hook_value row vs ≡ Some (Ok v)) × (a.term ≡ leaf sort v)) × (left ≡ c)
-    × ((rs : RecordList) → all_tell args.records.items rs → tells a.recorded (by_hook rs a.term)))
+    × ((rs : RecordList) → all_tell args.records.items rs
+    → tells a.recorded (by_hook f rs a.term)))
     (λ cause. (vs : List DomainValue) × (why : NoValue) × AreValues (forest args.terms.items) vs
     × (hook_value row vs ≡ Some (Err why)) × (cause ≡ no_value row why))
     answer

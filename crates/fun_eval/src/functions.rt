@@ -88,7 +88,7 @@ pub(crate) fn call_hook<R: Recording>(
     left: u32,
 ) -> Result<(Answer<R>, u32), EvalEnd>
     requires { AreHookArguments hook.0 (forest args.terms.items) }
-    ensures { HookGives R.tells R.all_tell hook.0 sort.0 args left result }
+    ensures { HookGives R.tells R.all_tell sym.0 hook.0 sort.0 args left result }
 {
     let Answers { terms, records } = args;
     match hook_answer(hook, &terms) {

@@ -1,8 +1,8 @@
 // What is kept of an evaluation besides its value.
 ghost use Rattle.std.specs.Prelude.{◌≡◌, List, IfOk, OnOk, map, option_map};
 ghost use Rattle.rule_core.specs.Records.{Record, RecordList, OptionalRecord, no_record};
-ghost use Rattle.rule_core.specs.Records.{more_records, MissList, none_missed, condition_false};
-ghost use Rattle.rule_core.specs.Records.{bound as bound_record, itself, made};
+ghost use Rattle.rule_core.specs.Records.{MissList, none_missed, condition_false};
+ghost use Rattle.rule_core.specs.Records.{bound as bound_record, itself, made, injected_record};
 ghost use Rattle.rule_core.specs.Records.{by_hook as hook_record};
 ghost use Rattle.rule_core.specs.Records.{by_equation as equation_record};
 ghost use Rattle.rule_core.specs.RecordView.{misses, optional, plain_record, records};
@@ -68,7 +68,7 @@ pub trait Recording: Drop {
     /// A constructor built the term from its arguments.
     fn ctor(sym: SymId, args: Vec<Self>, term: &Term) -> Result<Self, AllocError>
         ensures { IfOk result (λ made_now. (rs : RecordList) → all_tell args.items rs
-            → tells made_now (made rs term.now)) };
+            → tells made_now (made sym.0 rs term.now)) };
 
     /// The injection from one sort to another built the term.
     fn inj(
@@ -79,12 +79,12 @@ pub trait Recording: Drop {
         term: &Term,
     ) -> Result<Self, AllocError>
         ensures { IfOk result (λ made_now. (r : Record) → tells below r
-            → tells made_now (made (more_records r no_record) term.now)) };
+            → tells made_now (injected_record from.0 to.0 r term.now)) };
 
     /// The term is the value of a function's hook.
     fn by_hook(sym: SymId, args: Vec<Self>, term: &Term) -> Result<Self, AllocError>
         ensures { IfOk result (λ made_now. (rs : RecordList) → all_tell args.items rs
-            → tells made_now (hook_record rs term.now)) };
+            → tells made_now (hook_record sym.0 rs term.now)) };
 
     /// The equation with this number, among those of the function, was used.
     fn by_equation(
@@ -100,7 +100,8 @@ pub trait Recording: Drop {
         ensures { IfOk result (λ made_now.
             (rs : RecordList) (o : OptionalRecord) (r : Record) (ms : MissList)
             → all_tell args.items rs → TellsOption tells cond o → tells body r
-            → misses_tell missed ms → tells made_now (equation_record rs equation subst o r ms)) };
+            → misses_tell missed ms
+            → tells made_now (equation_record sym.0 rs equation subst o r ms)) };
 }
 
 /// A recording that keeps nothing and takes no memory.
@@ -235,7 +236,7 @@ impl Recording for EvalRecord {
     fn ctor(sym: SymId, args: Vec<EvalRecord>, term: &Term) -> Result<EvalRecord, AllocError>
         ensures { IfOk result
             (λ made_now. (rs : RecordList) → records (map plain_record args.items) ≡ rs
-            → plain_record made_now ≡ made rs term.now) }
+            → plain_record made_now ≡ made sym.0 rs term.now) }
     {
         Ok(EvalRecord::Ctor(sym, args, term.share()?))
     }
@@ -253,7 +254,7 @@ impl Recording for EvalRecord {
     fn by_hook(sym: SymId, args: Vec<EvalRecord>, term: &Term) -> Result<EvalRecord, AllocError>
         ensures { IfOk result
             (λ made_now. (rs : RecordList) → records (map plain_record args.items) ≡ rs
-            → plain_record made_now ≡ hook_record rs term.now) }
+            → plain_record made_now ≡ hook_record sym.0 rs term.now) }
     {
         Ok(EvalRecord::ByHook(sym, args, term.share()?))
     }
@@ -274,7 +275,7 @@ impl Recording for EvalRecord {
             → TellsOption (λ one k. plain_record one ≡ k) cond o
             → plain_record body ≡ r
             → misses (map plain_missed missed.items) ≡ ms
-            → plain_record made_now ≡ equation_record rs equation subst o r ms) }
+            → plain_record made_now ≡ equation_record fun.0 rs equation subst o r ms) }
     {
         let cond = boxed(alloc, cond)?;
         let body = Box::new(alloc, body)?;

@@ -5,8 +5,7 @@ use Rattle.std.specs.Global.{Vec, Box}
 use Rattle.term_core.specs.Terms.{Tree}
 use Rattle.term_core.specs.declared.ids.SortId.{SortId}
 use Rattle.term_core.specs.declared.ids.SymId.{SymId}
-use Rattle.rule_core.specs.Records.{Record, bound, itself, made, by_hook, no_record}
-use Rattle.rule_core.specs.Records.{more_records, Miss}
+use Rattle.rule_core.specs.Records.{Record, bound, itself, made, injected_record, by_hook, Miss}
 use Rattle.rule_core.specs.RecordView.{plain_record, plain_layer, plain_miss, plain_use, records}
 use Rattle.rule_core.specs.declared.records.EvalRecord.{EvalRecord}
 use Rattle.rule_core.specs.declared.records.EvalRecord.TheVariants as form
@@ -32,19 +31,19 @@ plain-Value t = ap plain_record (sym (rolls-Value t))
     ∙ fold-roll-EvalRecord Record Miss Record plain_layer plain_miss plain_use (layer.Value t)
 
 pub plain-Ctor : (f : SymId) (rs : Vec EvalRecord) (t : Tree)
-    → plain_record (form.Ctor f rs t) ≡ made (records (map plain_record rs.items)) t
+    → plain_record (form.Ctor f rs t) ≡ made f.0 (records (map plain_record rs.items)) t
 plain-Ctor f rs t =
     ap plain_record (sym (rolls-Ctor f rs t))
     ∙ fold-roll-EvalRecord Record Miss Record plain_layer plain_miss plain_use (layer.Ctor f rs t)
 
 pub plain-Inj : (a b : SortId) (r : Box EvalRecord) (t : Tree)
-    → plain_record (form.Inj a b r t) ≡ made (more_records (plain_record r.value) no_record) t
+    → plain_record (form.Inj a b r t) ≡ injected_record a.0 b.0 (plain_record r.value) t
 plain-Inj a b r t =
     ap plain_record (sym (rolls-Inj a b r t))
     ∙ fold-roll-EvalRecord Record Miss Record plain_layer plain_miss plain_use (layer.Inj a b r t)
 
 pub plain-ByHook : (f : SymId) (rs : Vec EvalRecord) (t : Tree)
-    → plain_record (form.ByHook f rs t) ≡ by_hook (records (map plain_record rs.items)) t
+    → plain_record (form.ByHook f rs t) ≡ by_hook f.0 (records (map plain_record rs.items)) t
 plain-ByHook f rs t =
     ap plain_record (sym (rolls-ByHook f rs t))
     ∙ fold-roll-EvalRecord Record Miss Record plain_layer plain_miss plain_use (layer.ByHook f rs t)

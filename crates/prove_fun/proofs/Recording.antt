@@ -6,7 +6,7 @@ use Rattle.std.proofs.lemmas.Option.{slice_get_within, get_or_from_slice_get}
 use Rattle.term_core.specs.Terms.{Tree, Forest, leaf, node, height, heights, injected, DomainValue}
 use Rattle.term_core.specs.Terms.{IsNormal, AreNormal}
 use Rattle.term_core.specs.Patterns.{Pattern as RulePattern, Patterns as RulePatterns, variable}
-use Rattle.term_core.specs.Patterns.{domain_value, application, injection, call, no_pattern}
+use Rattle.term_core.specs.Patterns.{domain_value, application, injection, call}
 use Rattle.term_core.specs.Patterns.{more_patterns, binding, ground_pattern}
 use Rattle.term_core.specs.RulePatterns.{plain_pattern}
 use Rattle.term_core.specs.PatternLists.{plain_patterns}
@@ -19,16 +19,15 @@ use Rattle.rule_core.specs.Sorting.{HaveSorts, IsTermOf, HasInjection, IsSymbol}
 use Rattle.rule_core.specs.MatchLaws.{AreTermsOf}
 use Rattle.rule_core.specs.NamedParts.{Name}
 use Rattle.rule_core.specs.Matching.{OccursInSome, RespectsSorts, MatchNamed}
-use Rattle.rule_core.specs.Evaluation.{HasHead, of_constructor, of_injection, built, most_height}
-use Rattle.rule_core.specs.Evaluation.{IsTrueValue}
+use Rattle.rule_core.specs.Evaluation.{most_height, IsTrueValue}
 use Rattle.rule_core.specs.Records.{Record, RecordList, OptionalRecord, MissList, conditional}
 use Rattle.rule_core.specs.Records.{Records}
-use Rattle.rule_core.specs.Records.{RecordAll, RecordsCondition, bound, itself, made, by_hook}
-use Rattle.rule_core.specs.Records.{by_equation, no_record, more_records, result_of, results_of}
+use Rattle.rule_core.specs.Records.{RecordAll, RecordsCondition, bound, itself, made}
+use Rattle.rule_core.specs.Records.{injected_record, by_hook, by_equation, no_record, more_records}
+use Rattle.rule_core.specs.Records.{result_of, results_of}
 use Rattle.rule_core.specs.WellSorted.{IsWellSorted, IsEquationOf, IsCondition, HaveNames}
 use Rattle.rule_core.specs.declared.signature.SortRef.{SortRef}
 use Rattle.rule_core.specs.declared.signature.SymInfo.{SymInfo}
-use Rattle.rule_core.proofs.EvaluationUnique.{same_head, no_head_of-variable, no_head_of-value}
 use Rattle.rule_core.proofs.EvaluationUnique.{same_symbol}
 use Rattle.rule_core.proofs.EvaluationAnswers.{serves_match}
 use Rattle.rule_core.proofs.Determined.{values_are_sorted, record_tells_value}
@@ -69,10 +68,12 @@ pub variable_filled : (program : Program) (theta : List (Option Tree)) (x : ℕ)
 variable_filled program theta x (bound y t) (is, there) =
     ap (in_place x) (ap (binding theta) (same_variable x y is) ∙ there)
 variable_filled program theta x (itself t) (s, v, is, value) = absurd (let no : ⊥ = cc in no)
-variable_filled program theta x (made rs t) w = absurd (no_head_of-variable w.2)
-variable_filled program theta x (by_hook rs t) w = absurd (let e = w.7 in let no : ⊥ = cc in no)
-variable_filled program theta x (by_equation rs i sigma condition body missed) w =
-    absurd (let e = w.5 in let no : ⊥ = cc in no)
+variable_filled program theta x (made f rs t) w = absurd (let e = w.1 in let no : ⊥ = cc in no)
+variable_filled program theta x (injected_record a b r t) w =
+    absurd (let e = w.1 in let no : ⊥ = cc in no)
+variable_filled program theta x (by_hook f rs t) w = absurd (let e = w.6 in let no : ⊥ = cc in no)
+variable_filled program theta x (by_equation f rs i sigma condition body missed) w =
+    absurd (let e = w.4 in let no : ⊥ = cc in no)
 
 same_value : (s t : ℕ) (v w : DomainValue) → domain_value s v ≡ domain_value t w → (s ≡ t) × (v ≡ w)
 same_value s t v w e = (cc, cc)
@@ -82,15 +83,18 @@ pub value_filled : (program : Program) (theta : List (Option Tree)) (s : ℕ) (v
     → filled theta (domain_value s v) ≡ ground_pattern (result_of r)
 value_filled program theta s v (bound y t) (is, there) = absurd (let no : ⊥ = cc in no)
 value_filled program theta s v (itself t) (u, w, is, value) = is ∙ ap ground_pattern (sym value)
-value_filled program theta s v (made rs t) w = absurd (no_head_of-value w.2)
-value_filled program theta s v (by_hook rs t) w = absurd (let e = w.7 in let no : ⊥ = cc in no)
-value_filled program theta s v (by_equation rs i sigma condition body missed) w =
-    absurd (let e = w.5 in let no : ⊥ = cc in no)
+value_filled program theta s v (made f rs t) w = absurd (let e = w.1 in let no : ⊥ = cc in no)
+value_filled program theta s v (injected_record a b r t) w =
+    absurd (let e = w.1 in let no : ⊥ = cc in no)
+value_filled program theta s v (by_hook f rs t) w = absurd (let e = w.6 in let no : ⊥ = cc in no)
+value_filled program theta s v (by_equation f rs i sigma condition body missed) w =
+    absurd (let e = w.4 in let no : ⊥ = cc in no)
 
 -- ---- constructors
 
-made_of : (t u : Tree) → Some t ≡ Some u → u ≡ t
-made_of t u e = cc
+same_application : (f g : ℕ) (ps qs : RulePatterns) → application f ps ≡ application g qs
+    → (g ≡ f) × (qs ≡ ps)
+same_application f g ps qs e = (cc, cc)
 
 application_made : (program : Program) (theta : List (Option Tree)) (f : ℕ) (ps : RulePatterns)
     (r : Record) → Records (theory_of program) theta (application f ps) r
@@ -98,14 +102,17 @@ application_made : (program : Program) (theta : List (Option Tree)) (f : ℕ) (p
     × RecordAll (theory_of program) theta ps (children_of r)
 application_made program theta f ps (bound y t) (is, there) = absurd (let no : ⊥ = cc in no)
 application_made program theta f ps (itself t) (u, w, is, value) = absurd (let no : ⊥ = cc in no)
-application_made program theta f ps (made rs t) (g, qs, head, is, low, all) =
-    let same : (g ≡ f) × (qs ≡ ps) = same_head head of_constructor in (
-      made_of (node f (results_of rs)) t is,
+application_made program theta f ps (made g rs t) (qs, is, makes, low, all) =
+    let same : (g ≡ f) × (qs ≡ ps) = same_application f g ps qs is in (
+      makes ∙ ap (λ (k : ℕ). node k (results_of rs)) same.0,
       subst (λ (xs : RulePatterns). RecordAll (theory_of program) theta xs rs) same.1 all,
     )
-application_made program theta f ps (by_hook rs t) w = absurd (let e = w.7 in let no : ⊥ = cc in no)
-application_made program theta f ps (by_equation rs i sigma condition body missed) w =
-    absurd (let e = w.5 in let no : ⊥ = cc in no)
+application_made program theta f ps (injected_record a b r t) w =
+    absurd (let e = w.1 in let no : ⊥ = cc in no)
+application_made program theta f ps (by_hook g rs t) w =
+    absurd (let e = w.6 in let no : ⊥ = cc in no)
+application_made program theta f ps (by_equation g rs i sigma condition body missed) w =
+    absurd (let e = w.4 in let no : ⊥ = cc in no)
 
 pub constructor_recorded : (program : Program) (theta : List (Option Tree)) (f : ℕ)
     (ps : RulePatterns) (r : Record) → IsRecorded program theta (application f ps) r
@@ -141,23 +148,9 @@ pub record IsInjection (program : Program) (theta : List (Option Tree)) (a b : �
   pub injects : HasInjection program.sig × IsBelow program.sig.subsorts a b
   pub low : height (injected a b (result_of below)) ≤ most_height
 
-only_record : (program : Program) (theta : List (Option Tree)) (p : RulePattern) (rs : RecordList)
-    → RecordAll (theory_of program) theta (more_patterns p no_pattern) rs
-    → (q : Record) × (rs ≡ more_records q no_record) × Records (theory_of program) theta p q
-only_record program theta p no_record h = absurd (let no : ⊥ = cc in no)
-only_record program theta p (more_records q no_record) (x, xs, is, one, rest) =
-    let same : p ≡ x = cc in
-    (q, refl, subst (λ (y : RulePattern). Records (theory_of program) theta y q) (sym same) one)
-only_record program theta p (more_records q (more_records s rs)) w =
-    let none : w.1 ≡ no_pattern = rest_none p w.0 w.1 w.2 in
-    absurd (more_than_none w.4.0 w.4.1 (sym none ∙ w.4.2))
-  where
-    rest_none : (p x : RulePattern) (xs : RulePatterns)
-        → more_patterns p no_pattern ≡ more_patterns x xs → xs ≡ no_pattern
-    rest_none p x xs e = cc
-
-    more_than_none : (y : RulePattern) (ys : RulePatterns) → no_pattern ≡ more_patterns y ys → ⊥
-    more_than_none y ys e = let no : ⊥ = cc in no
+same_injection : (a b c d : ℕ) (p q : RulePattern) → injection a b p ≡ injection c d q
+    → (c ≡ a) × (d ≡ b) × (q ≡ p)
+same_injection a b c d p q e = (cc, cc, cc)
 
 injection_made : (program : Program) (theta : List (Option Tree)) (a b : ℕ) (p : RulePattern)
     (r : Record) → Records (theory_of program) theta (injection a b p) r
@@ -166,27 +159,21 @@ injection_made : (program : Program) (theta : List (Option Tree)) (a b : ℕ) (p
     × (height (result_of r) ≤ most_height)
 injection_made program theta a b p (bound y t) (is, there) = absurd (let no : ⊥ = cc in no)
 injection_made program theta a b p (itself t) (u, w, is, value) = absurd (let no : ⊥ = cc in no)
-injection_made program theta a b p (made rs t) (g, qs, head, is, low, all) = go (head_is g qs head)
-  where
-    head_is : (g : ℕ) (qs : RulePatterns) → HasHead (theory_of program) (injection a b p) g qs
-        → qs ≡ more_patterns p no_pattern
-    head_is g qs (of_injection i) = refl
-
-    go : qs ≡ more_patterns p no_pattern
-        → (q : Record) × (rs ≡ more_records q no_record) × (t ≡ injected a b (result_of q))
-        × Records (theory_of program) theta p q × (height t ≤ most_height)
-    go same =
-        let one : (q : Record) × (rs ≡ more_records q no_record) × Records (theory_of program) theta
-        p q =
-        only_record program theta p rs (subst
-        (λ (xs : RulePatterns). RecordAll (theory_of program) theta xs rs) same all) in
-        let made' : built (injection a b p) (results_of (more_records one.0 no_record)) ≡ Some t =
-        subst (λ (xs : RecordList). built (injection a b p) (results_of xs) ≡ Some t) one.1
-        is in
-        (one.0, one.1, made_of (injected a b (result_of one.0)) t made', one.2, low)
-injection_made program theta a b p (by_hook rs t) w = absurd (let e = w.7 in let no : ⊥ = cc in no)
-injection_made program theta a b p (by_equation rs i sigma condition body missed) w =
-    absurd (let e = w.5 in let no : ⊥ = cc in no)
+injection_made program theta a b p (made f rs t) w = absurd (let e = w.1 in let no : ⊥ = cc in no)
+injection_made program theta a b p (injected_record c d q t) (x, is, i, makes, low, one) =
+    let same : (c ≡ a) × (d ≡ b) × (x ≡ p) = same_injection a b c d p x is in (
+      q,
+      refl,
+      makes
+          ∙ ap (λ (k : ℕ). injected k d (result_of q)) same.0
+          ∙ ap (λ (k : ℕ). injected a k (result_of q)) same.1,
+      subst (λ (y : RulePattern). Records (theory_of program) theta y q) same.2 one,
+      low,
+    )
+injection_made program theta a b p (by_hook f rs t) w =
+    absurd (let e = w.6 in let no : ⊥ = cc in no)
+injection_made program theta a b p (by_equation f rs i sigma condition body missed) w =
+    absurd (let e = w.4 in let no : ⊥ = cc in no)
 
 pub injection_recorded : (program : Program) (theta : List (Option Tree)) (a b : ℕ)
     (p : RulePattern) (r : Record) → IsRecorded program theta (injection a b p) r
@@ -364,27 +351,29 @@ call_made : (program : Program) (theta : List (Option Tree)) (f : ℕ) (sorts : 
     × RecordAll (theory_of program) theta ps (children_of r)
 call_made program theta f sorts ps (bound y t) ok (is, there) = absurd (let no : ⊥ = cc in no)
 call_made program theta f sorts ps (itself t) ok (u, w, is, value) = absurd (let no : ⊥ = cc in no)
-call_made program theta f sorts ps (made rs t) ok w =
-    absurd (let e : None ≡ Some t = w.3 in let no : ⊥ = cc in no)
-call_made program theta f sorts ps (by_hook rs t) ok w =
-    let same : w.0 ≡ f = first_same w.0 f w.1 sorts w.2 ps w.7 in
-    let args : w.2 ≡ ps = last_same w.0 f w.1 sorts w.2 ps w.7 in
-    let there : IsSymbol program.sig f w.3 =
-    subst (λ (n : ℕ). IsSymbol program.sig n w.3) same w.8 in (
-      w.3,
+call_made program theta f sorts ps (made g rs t) ok w =
+    absurd (let e = w.1 in let no : ⊥ = cc in no)
+call_made program theta f sorts ps (injected_record a b r t) ok w =
+    absurd (let e = w.1 in let no : ⊥ = cc in no)
+call_made program theta f sorts ps (by_hook g rs t) ok w =
+    let same : g ≡ f = first_same g f w.0 sorts w.1 ps w.6 in
+    let args : w.1 ≡ ps = last_same g f w.0 sorts w.1 ps w.6 in
+    let there : IsSymbol program.sig f w.2 =
+    subst (λ (n : ℕ). IsSymbol program.sig n w.2) same w.7 in (
+      w.2,
       there,
-      (ok.hooked f w.4 w.3 there w.9.hooked).plain,
-      subst (λ (xs : RulePatterns). RecordAll (theory_of program) theta xs rs) args w.12,
-    )
-call_made program theta f sorts ps (by_equation rs i sigma condition body missed) ok w =
-    let same : w.0 ≡ f = first_same w.0 f w.1 sorts w.2 ps w.5 in
-    let args : w.2 ≡ ps = last_same w.0 f w.1 sorts w.2 ps w.5 in
-    let there : IsSymbol program.sig f w.3 =
-    subst (λ (n : ℕ). IsSymbol program.sig n w.3) same w.6 in (
-      w.3,
-      there,
-      ok.functions f w.3 there w.7,
+      (ok.hooked f w.3 w.2 there w.8.hooked).plain,
       subst (λ (xs : RulePatterns). RecordAll (theory_of program) theta xs rs) args w.11,
+    )
+call_made program theta f sorts ps (by_equation g rs i sigma condition body missed) ok w =
+    let same : g ≡ f = first_same g f w.0 sorts w.1 ps w.4 in
+    let args : w.1 ≡ ps = last_same g f w.0 sorts w.1 ps w.4 in
+    let there : IsSymbol program.sig f w.2 =
+    subst (λ (n : ℕ). IsSymbol program.sig n w.2) same w.5 in (
+      w.2,
+      there,
+      ok.functions f w.2 there w.6,
+      subst (λ (xs : RulePatterns). RecordAll (theory_of program) theta xs rs) args w.10,
     )
 
 -- a function has no sort parameters
@@ -415,43 +404,43 @@ call_recorded program theta f sorts ps r h =
 
 -- the result of a hook
 pub hook_recorded : (program : Program) (theta : List (Option Tree)) (f : ℕ) (ps : RulePatterns)
-    (r : Record) (rs : RecordList) (t : Tree) → r ≡ by_hook rs t
+    (r : Record) (g : ℕ) (rs : RecordList) (t : Tree) → r ≡ by_hook g rs t
     → IsRecorded program theta (call f [] ps) r
     → IsHookCall program.sig f (results_of (children_of r)) (result_of r)
 unfolding call_recorded
-hook_recorded program theta f ps r rs t is h =
+hook_recorded program theta f ps r g rs t is h =
     subst (λ (q : Record). IsHookCall program.sig f (results_of (children_of q)) (result_of q))
     (sym is) (go (subst (IsRecorded program theta (call f [] ps)) is h))
   where
-    go : IsRecorded program theta (call f [] ps) (by_hook rs t)
+    go : IsRecorded program theta (call f [] ps) (by_hook g rs t)
         → IsHookCall program.sig f (results_of rs) t
     go h =
         let w = h.records in
-        let same : w.0 ≡ f = first_same w.0 f w.1 [] w.2 ps w.7 in
-        let there : IsSymbol program.sig f w.3 =
-        subst (λ (n : ℕ). IsSymbol program.sig n w.3) same w.8 in
-        let info : h.sorted.0 ≡ w.3 = same_symbol program.sig f h.sorted.0 w.3 h.sorted.1 there in
+        let same : g ≡ f = first_same g f w.0 [] w.1 ps w.6 in
+        let there : IsSymbol program.sig f w.2 =
+        subst (λ (n : ℕ). IsSymbol program.sig n w.2) same w.7 in
+        let info : h.sorted.0 ≡ w.2 = same_symbol program.sig f h.sorted.0 w.2 h.sorted.1 there in
         let all : AreRecorded program theta ps rs =
-        (call_recorded program theta f [] ps (by_hook rs t) h).1 in
+        (call_recorded program theta f [] ps (by_hook g rs t) h).1 in
         let good : AreTermsOf program.sig [] (results_of rs) h.sorted.0.args.items =
         (arguments_good program theta ps rs all).0 in
-        let value : IsTermOf program.sig (leaf w.6 w.5) h.sort =
-        subst (λ (u : Tree). IsTermOf program.sig u h.sort) w.11
-        (result_good program theta (call f [] ps) (by_hook rs t) h).0 in
+        let value : IsTermOf program.sig (leaf w.5 w.4) h.sort =
+        subst (λ (u : Tree). IsTermOf program.sig u h.sort) w.10
+        (result_good program theta (call f [] ps) (by_hook g rs t) h).0 in
         record {
-          info = w.3;
+          info = w.2;
           there = there;
-          row = w.4;
-          fits = h.ready.well_sorted.hooked f w.4 w.3 there w.9.hooked;
+          row = w.3;
+          fits = h.ready.well_sorted.hooked f w.3 w.2 there w.8.hooked;
           sorted =
               subst (λ (i : SymInfo). AreTermsOf program.sig [] (results_of rs) i.args.items) info
               good;
-          value = w.5;
-          answers = w.9;
-          sort = w.6;
-          at = w.10;
+          value = w.4;
+          answers = w.8;
+          sort = w.5;
+          at = w.9;
           has = value.1;
-          result = w.11;
+          result = w.10;
         }
 
 pub bound_no_call : (program : Program) (theta : List (Option Tree)) (f : ℕ) (ps : RulePatterns)
@@ -472,13 +461,22 @@ itself_no_call program theta f ps r t is h =
     go w = let e : call f [] ps ≡ domain_value w.0 w.1 = w.2 in let no : ⊥ = cc in no
 
 pub made_no_call : (program : Program) (theta : List (Option Tree)) (f : ℕ) (ps : RulePatterns)
-    (r : Record) (rs : RecordList) (t : Tree) → r ≡ made rs t
+    (r : Record) (g : ℕ) (rs : RecordList) (t : Tree) → r ≡ made g rs t
     → IsRecorded program theta (call f [] ps) r → ⊥
-made_no_call program theta f ps r rs t is h =
+made_no_call program theta f ps r g rs t is h =
     go (subst (Records (theory_of program) theta (call f [] ps)) is h.records)
   where
-    go : Records (theory_of program) theta (call f [] ps) (made rs t) → ⊥
-    go w = let e : None ≡ Some t = w.3 in let no : ⊥ = cc in no
+    go : Records (theory_of program) theta (call f [] ps) (made g rs t) → ⊥
+    go w = let e : call f [] ps ≡ application g w.0 = w.1 in let no : ⊥ = cc in no
+
+pub injected_no_call : (program : Program) (theta : List (Option Tree)) (f : ℕ) (ps : RulePatterns)
+    (r : Record) (a b : ℕ) (q : Record) (t : Tree) → r ≡ injected_record a b q t
+    → IsRecorded program theta (call f [] ps) r → ⊥
+injected_no_call program theta f ps r a b q t is h =
+    go (subst (Records (theory_of program) theta (call f [] ps)) is h.records)
+  where
+    go : Records (theory_of program) theta (call f [] ps) (injected_record a b q t) → ⊥
+    go w = let e : call f [] ps ≡ injection a b w.0 = w.1 in let no : ⊥ = cc in no
 
 -- ---- the use of an equation
 
@@ -516,56 +514,57 @@ held_record program sigma variables ps names ts p q c o ready named has matches 
     some_pattern p q e = cc
 
 pub equation_recorded : (program : Program) (theta : List (Option Tree)) (f : ℕ) (ps : RulePatterns)
-    (r : Record) (rs : RecordList) (i : ℕ) (sigma : List (Option Tree))
+    (r : Record) (g : ℕ) (rs : RecordList) (i : ℕ) (sigma : List (Option Tree))
     (condition : OptionalRecord) (body : Record) (missed : MissList)
-    → r ≡ by_equation rs i sigma condition body missed
+    → r ≡ by_equation g rs i sigma condition body missed
     → IsRecorded program theta (call f [] ps) r
     → IsUse program f (children_of r) i sigma condition body
 unfolding call_recorded
-equation_recorded program theta f ps r rs i sigma condition body missed is h =
+equation_recorded program theta f ps r g rs i sigma condition body missed is h =
     subst (λ (q : Record). IsUse program f (children_of q) i sigma condition body) (sym is)
     (go (subst (IsRecorded program theta (call f [] ps)) is h))
   where
-    go : IsRecorded program theta (call f [] ps) (by_equation rs i sigma condition body missed)
+    go : IsRecorded program theta (call f [] ps) (by_equation g rs i sigma condition body missed)
         → IsUse program f rs i sigma condition body
     go h =
         let w = h.records in
-        let same : w.0 ≡ f = first_same w.0 f w.1 [] w.2 ps w.5 in
-        let function : IsSymbol program.sig f w.3 =
-        subst (λ (n : ℕ). IsSymbol program.sig n w.3) same w.6 in
-        let there : slice_get (equations_of (theory_of program) f) i ≡ Some w.4 =
-        subst (λ (n : ℕ). slice_get (equations_of (theory_of program) n) i ≡ Some w.4) same
-        w.8 in
-        let fits : IsEquationOf program.sig w.3 w.4 =
-        all_at (IsEquationOf program.sig w.3) (equations_of (theory_of program) f) i w.4
-        (h.ready.well_sorted.equations f w.3 function) there in
+        let same : g ≡ f = first_same g f w.0 [] w.1 ps w.4 in
+        let function : IsSymbol program.sig f w.2 =
+        subst (λ (n : ℕ). IsSymbol program.sig n w.2) same w.5 in
+        let there : slice_get (equations_of (theory_of program) f) i ≡ Some w.3 =
+        subst (λ (n : ℕ). slice_get (equations_of (theory_of program) n) i ≡ Some w.3) same
+        w.7 in
+        let fits : IsEquationOf program.sig w.2 w.3 =
+        all_at (IsEquationOf program.sig w.2) (equations_of (theory_of program) f) i w.3
+        (h.ready.well_sorted.equations f w.2 function) there in
         let all : AreRecorded program theta ps rs =
-        (call_recorded program theta f [] ps (by_equation rs i sigma condition body missed) h).1 in
+        (call_recorded program theta f [] ps (by_equation g rs i sigma condition body missed) h).1
+        in
         let low : heights (results_of rs) ≤ most_height =
         (arguments_good program theta ps rs all).2 in
         record {
-          info = w.3;
+          info = w.2;
           function = function;
-          by_equations = w.7;
-          equation = w.4;
+          by_equations = w.6;
+          equation = w.3;
           there = there;
-          matches = w.9;
-          condition_held = w.12;
+          matches = w.8;
+          condition_held = w.11;
           conditional = λ p q o e.
-              let has : IsCondition program.sig w.4.variables w.4.arguments w.4.names p =
+              let has : IsCondition program.sig w.3.variables w.3.arguments w.3.names p =
               subst (λ (x : Option RulePattern).
-              IfSome x (IsCondition program.sig w.4.variables w.4.arguments w.4.names)) o
+              IfSome x (IsCondition program.sig w.3.variables w.3.arguments w.3.names)) o
               fits.condition in
-              held_record program sigma w.4.variables w.4.arguments w.4.names (results_of rs) p q
-              w.4.condition condition h.ready fits.names has w.9 low o e w.12;
+              held_record program sigma w.3.variables w.3.arguments w.3.names (results_of rs) p q
+              w.3.condition condition h.ready fits.names has w.8 low o e w.11;
           right = record {
             ready = h.ready;
-            variables = w.4.variables;
+            variables = w.3.variables;
             sort = fits.sort;
             sorted = fits.right;
             serves =
-                serves_match program.sig w.4.variables w.4.arguments w.4.names (results_of rs) sigma
-                w.4.right fits.names w.9 low fits.bound;
-            records = w.13;
+                serves_match program.sig w.3.variables w.3.arguments w.3.names (results_of rs) sigma
+                w.3.right fits.names w.8 low fits.bound;
+            records = w.12;
           };
         }

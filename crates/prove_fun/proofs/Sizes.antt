@@ -3,17 +3,18 @@ use Rattle.std.proofs.Common.{◌≡◌, ◌<◌, ◌≤◌, ◌+◌, ℕ, zero,
 use Rattle.std.proofs.Common.{subst, arith}
 use Rattle.term_core.specs.Terms.{Tree}
 use Rattle.rule_core.specs.Records.{Record, RecordList, OptionalRecord, bound, itself, made}
-use Rattle.rule_core.specs.Records.{by_hook, by_equation, no_record, more_records, unconditional}
-use Rattle.rule_core.specs.Records.{conditional, MissList}
+use Rattle.rule_core.specs.Records.{injected_record, by_hook, by_equation, no_record, more_records}
+use Rattle.rule_core.specs.Records.{unconditional, conditional, MissList}
 use Rattle.prove_fun.specs.RecordParts.{children, children_of, listed}
 
 abbrev mutual
   pub size : Record → ℕ
   size (bound x t) = 1
   size (itself t) = 1
-  size (made rs t) = sizes rs + 1
-  size (by_hook rs t) = sizes rs + 1
-  size (by_equation rs i theta condition body missed) =
+  size (made f rs t) = sizes rs + 1
+  size (injected_record a b r t) = size r + 1
+  size (by_hook f rs t) = sizes rs + 1
+  size (by_equation f rs i theta condition body missed) =
       sizes rs + (size_if condition + (size body + 1))
 
   pub sizes : RecordList → ℕ
@@ -38,9 +39,10 @@ item_size (more_records r rs) (suc i) q there = omega (arith, item_size rs i q t
 children_size : (r : Record) → sizes (children_of r) < size r
 children_size (bound x t) = omega arith
 children_size (itself t) = omega arith
-children_size (made rs t) = omega arith
-children_size (by_hook rs t) = omega arith
-children_size (by_equation rs i theta condition body missed) = omega arith
+children_size (made f rs t) = omega arith
+children_size (injected_record a b r t) = omega arith
+children_size (by_hook f rs t) = omega arith
+children_size (by_equation f rs i theta condition body missed) = omega arith
 
 pub child_size : (r : Record) (i : ℕ) (q : Record) → slice_get (children r) i ≡ Some q
     → size q < size r
@@ -50,13 +52,14 @@ child_size r i q there = omega (arith, item_size (children_of r) i q there, chil
 pub some_size : (r : Record) → 1 ≤ size r
 some_size (bound x t) = omega arith
 some_size (itself t) = omega arith
-some_size (made rs t) = omega arith
-some_size (by_hook rs t) = omega arith
-some_size (by_equation rs i theta condition body missed) = omega arith
+some_size (made f rs t) = omega arith
+some_size (injected_record a b r t) = omega arith
+some_size (by_hook f rs t) = omega arith
+some_size (by_equation f rs i theta condition body missed) = omega arith
 
-pub equation_size : (r : Record) (rs : RecordList) (i : ℕ) (theta : List (Option Tree))
+pub equation_size : (r : Record) (f : ℕ) (rs : RecordList) (i : ℕ) (theta : List (Option Tree))
     (condition : OptionalRecord) (body : Record) (missed : MissList)
-    → r ≡ by_equation rs i theta condition body missed
+    → r ≡ by_equation f rs i theta condition body missed
     → size_if condition + (size body + 1) ≤ size r
-equation_size r rs i theta condition body missed is =
+equation_size r f rs i theta condition body missed is =
     subst (λ (q : Record). size_if condition + (size body + 1) ≤ size q) (sym is) (omega arith)

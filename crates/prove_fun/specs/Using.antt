@@ -36,7 +36,7 @@ missed_record = fold-Miss Record Miss Record plain_layer plain_miss plain_use
 -- the plain record of the use of an equation
 abbrev pub used_record : EqRecord → Record
 used_record used =
-    by_equation (records (map plain_record used.args.items)) used.equation used.subst
+    by_equation used.fun.0 (records (map plain_record used.args.items)) used.equation used.subst
     (condition_record used) (plain_record used.body.value)
     (misses (map missed_record used.missed.items))
 

@@ -3,8 +3,8 @@ use Rattle.std.proofs.Common.{◌≡◌, ℕ, suc, zero, ◌+◌, ◌-◌, ◌<�
 use Rattle.std.proofs.Common.{Some, None, refl, sym, ◌∙◌, ap, subst, slice_get, take, le_trans}
 use Rattle.std.proofs.Common.{◌⊎◌, arith}
 use Rattle.std.specs.Prelude.{IsSome, IsNone}
-use Rattle.term_core.specs.Terms.{Tree, leaf, Forest, more_trees}
-use Rattle.term_core.specs.Patterns.{Pattern, Patterns, call}
+use Rattle.term_core.specs.Terms.{Tree, leaf, node, injected, Forest, no_tree, more_trees, height}
+use Rattle.term_core.specs.Patterns.{Pattern, Patterns, injection, call, no_pattern, more_patterns}
 use Rattle.rule_core.specs.Rules.{Equation, Guard}
 use Rattle.rule_core.specs.Theories.{RewriteTheory, equations_of}
 use Rattle.rule_core.specs.Evaluation.{MatchesBy, IsUnmatchedBy}
@@ -14,7 +14,8 @@ use Rattle.rule_core.specs.Evaluation.{Evaluates, bound, itself, made, function_
 use Rattle.rule_core.specs.Evaluation.{none_left, one_more, HasOutcome, by_hook, by_equations}
 use Rattle.rule_core.specs.Evaluation.{Equates, unmatched, condition_fails, used, Tests}
 use Rattle.rule_core.specs.Evaluation.{no_condition, condition, EvaluatesIn, inside, IsTrueValue}
-use Rattle.rule_core.specs.Evaluation.{Says}
+use Rattle.rule_core.specs.Evaluation.{Says, HasHead, of_constructor, of_injection, of_call}
+use Rattle.rule_core.specs.Evaluation.{most_height}
 use Rattle.rule_core.specs.FirstRule.{most_nesting}
 use Rattle.rule_core.specs.HookCalls.{HookAnswers}
 use Rattle.rule_core.specs.Records.{Record, RecordList, no_record, more_records, OptionalRecord}
@@ -227,9 +228,8 @@ by_equation_record theory f info {ts = ts} is defined sorts ps args r =
     (results_of args.0) r.missed
     (subst (λ us. AreMissed theory (take r.place (equations_of theory f)) us r.missed) back
     r.passed) in (
-      kept.by_equation args.0 r.place r.sigma r.test r.body said.0,
+      kept.by_equation f args.0 r.place r.sigma r.test r.body said.0,
       (
-        f,
         sorts,
         ps,
         info,
@@ -256,6 +256,43 @@ condition_record theory p (says_true is) kept_value =
 condition_record theory p (says_other other) kept_value =
     (p, kept_value.0, refl, kept_value.1, λ is. other (subst IsTrueValue kept_value.2 is))
 
+-- a list of records of one pattern has one record
+abbrev AreOne : RewriteTheory → List (Option Tree) → Pattern → RecordList → Type 0
+AreOne theory theta p rs =
+    (r : Record) × Records theory theta p r × (results_of rs ≡ more_trees (result_of r) no_tree)
+
+one_record : (theory : RewriteTheory) (theta : List (Option Tree)) (p : Pattern) (rs : RecordList)
+    → RecordAll theory theta (more_patterns p no_pattern) rs → AreOne theory theta p rs
+one_record theory theta p no_record all = let no : ⊥ = cc in absurd no
+one_record theory theta p (more_records r no_record) all =
+    let only : more_patterns p no_pattern ≡ more_patterns all.0 all.1 = all.2 in
+    let same : all.0 ≡ p = cc in
+    (r, subst (λ q. Records theory theta q r) same all.3, refl)
+one_record theory theta p (more_records r (more_records s rs)) all =
+    let only : more_patterns p no_pattern ≡ more_patterns all.0 all.1 = all.2 in
+    let more : all.1 ≡ more_patterns all.4.0 all.4.1 = all.4.2 in
+    let no : ⊥ = cc in absurd no
+
+-- what a constructor or an injection builds has a record
+built_record : (theory : RewriteTheory) {theta : List (Option Tree)} {f : ℕ} {p : Pattern}
+    {ps : Patterns} {ts : Forest} (t : Tree) → HasHead theory p f ps → built p ts ≡ Some t
+    → height t ≤ most_height → RecordsOf theory theta ps ts → RecordOf theory theta p t
+built_record theory {ts = ts} t (of_constructor {f = f} {ps = ps}) b low args =
+    let there : Some (node f ts) ≡ Some t = b in
+    let same : t ≡ node f ts = cc in (
+      kept.made f args.0 t,
+      (ps, refl, same ∙ ap (node f) (sym args.2), low, args.1),
+      refl,
+    )
+built_record theory {theta} {ts = ts} t (of_injection {a = a} {b = b} {f = f} {p = q} i) b_is low
+    args =
+    let one = one_record theory theta q args.0 args.1 in
+    let there : Some (injected a b (result_of one.0)) ≡ Some t =
+    subst (λ us. built (injection a b q) us ≡ Some t) (sym args.2 ∙ one.2) b_is in
+    let same : t ≡ injected a b (result_of one.0) = cc in
+    (kept.injected_record a b one.0 t, (q, refl, (f, i), same, low, one.1), refl)
+built_record theory t of_call b low args = let no : ⊥ = cc in absurd no
+
 mutual
   pub has_record : (theory : RewriteTheory) {n c d : ℕ} {theta : List (Option Tree)} {p : Pattern}
       {t : Tree} → Evaluates theory n theta p c (value t d) → n ≤ most_nesting → c ≤ most_calls
@@ -263,9 +300,8 @@ mutual
   has_record theory (bound {x = x} {t = t} e) le few = (kept.bound x t, (refl, e), refl)
   has_record theory (itself {s = s} {v = v}) le few =
       (kept.itself (leaf s v), (s, v, refl, refl), refl)
-  has_record theory (made {f = f} {p = p} {ps = ps} {t = t} h all b low) le few =
-      let args = have_records theory all (omega arith) few in
-      (kept.made args.0 t, (f, ps, h, ap (built p) args.2 ∙ b, low, args.1), refl)
+  has_record theory (made {t = t} h all b low) le few =
+      built_record theory t h b low (have_records theory all (omega arith) few)
   has_record theory (function_called {c = c} {d = d} {sorts = sorts} {ps = ps} all applied) le few =
       let fewer : d ≤ c = all_calls_fall all in
       has_call_record theory applied (omega arith) (le_trans fewer few) sorts ps
@@ -290,9 +326,8 @@ mutual
       → RecordOf theory theta (call f sorts ps) t
   has_call_record theory (by_hook {f = f} {sort = sort} {info = info} {v = v} {row = row} i a s) le
       few sorts ps args = (
-        kept.by_hook args.0 (leaf sort v),
+        kept.by_hook f args.0 (leaf sort v),
         (
-          f,
           sorts,
           ps,
           info,

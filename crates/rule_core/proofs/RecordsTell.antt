@@ -1,6 +1,6 @@
 -- A record of a pattern describes an evaluation of it, with some nesting and some calls left.
 use Rattle.std.proofs.Common.{◌≡◌, ℕ, suc, zero, ◌+◌, ◌<◌, ◌≤◌, ⊎_elim, List, [], ◌∷◌, Option, Some}
-use Rattle.std.proofs.Common.{refl, subst, slice_get, arith}
+use Rattle.std.proofs.Common.{refl, sym, ap, subst, slice_get, arith}
 use Rattle.term_core.specs.Terms.{Tree, leaf, Forest, more_trees}
 use Rattle.term_core.specs.Patterns.{Pattern, Patterns, call, more_patterns}
 use Rattle.rule_core.specs.Rules.{Equation}
@@ -10,7 +10,7 @@ use Rattle.rule_core.specs.Evaluation.{value, values, holds, fails, says_true, E
 use Rattle.rule_core.specs.Evaluation.{itself, made, function_called, EvaluateAll, none_left}
 use Rattle.rule_core.specs.Evaluation.{one_more, HasOutcome, by_hook, by_equations, Equates}
 use Rattle.rule_core.specs.Evaluation.{unmatched, condition_fails, used, Tests, no_condition}
-use Rattle.rule_core.specs.Evaluation.{condition, EvaluatesIn, inside}
+use Rattle.rule_core.specs.Evaluation.{condition, EvaluatesIn, inside, of_constructor, of_injection}
 use Rattle.rule_core.specs.FirstRule.{most_nesting}
 use Rattle.rule_core.specs.Records.{Record, RecordList, no_record, more_records, OptionalRecord}
 use Rattle.rule_core.specs.Records.{unconditional, conditional, result_of, results_of, most_calls}
@@ -142,28 +142,38 @@ mutual
       (r : Record) → Records theory theta p r → Somehow (ValueBy theory theta p (result_of r))
   record_tells theory theta p (kept.bound x t) w = rw w.0 (0, 0, 0, bound w.1)
   record_tells theory theta p (kept.itself t) w = rw (w.2, w.3) (0, 0, 0, itself)
-  record_tells theory theta p (kept.made rs t) w =
-      let all : Somehow (ValuesBy theory theta w.1 (results_of rs)) =
-      records_tell theory theta w.1 rs w.5 in
-      (suc all.0, all.1, all.2, made w.2 all.3 w.3 w.4)
-  record_tells theory theta p (kept.by_hook rs t) w =
-      rw (w.7, w.11) (called_somehow theory theta w.0 w.1 w.2 (results_of rs) (leaf w.6 w.5) 0 1 0
-      (records_tell theory theta w.2 rs w.12)
-      (λ n k le. let one : 1 + k ≡ suc (0 + k) = omega arith in rw one (by_hook w.8 w.9 w.10)))
-  record_tells theory theta p (kept.by_equation rs i sigma o body missed) w =
+  record_tells theory theta p (kept.made f rs t) w =
+      let all : Somehow (ValuesBy theory theta w.0 (results_of rs)) =
+      records_tell theory theta w.0 rs w.4 in
+      rw w.1 (suc all.0, all.1, all.2, made of_constructor all.3 (ap Some (sym w.2)) w.3)
+  record_tells theory theta p (kept.injected_record a b r t) w =
+      let e : Somehow (ValueBy theory theta w.0 (result_of r)) =
+      record_tells theory theta w.0 r w.5 in
+      rw w.1 (
+        suc e.0,
+        e.1,
+        e.2,
+        made (of_injection w.2.1) (one_more e.3 none_left)
+            (ap Some (sym w.3)) w.4,
+      )
+  record_tells theory theta p (kept.by_hook f rs t) w =
+      rw (w.6, w.10) (called_somehow theory theta f w.0 w.1 (results_of rs) (leaf w.5 w.4) 0 1 0
+      (records_tell theory theta w.1 rs w.11)
+      (λ n k le. let one : 1 + k ≡ suc (0 + k) = omega arith in rw one (by_hook w.7 w.8 w.9)))
+  record_tells theory theta p (kept.by_equation f rs i sigma o body missed) w =
       let used_there : (rest : List Equation) → Somehow
-      (EquatedBy theory w.0 (w.4 ∷ rest) (results_of rs) (result_of body)) =
-      λ rest. used_somehow theory w.0 w.4 rest (results_of rs) sigma (result_of body) w.9
-      (condition_told theory w.0 sigma w.4.condition o w.12)
-      (record_tells theory sigma w.4.right body w.13) in
+      (EquatedBy theory f (w.3 ∷ rest) (results_of rs) (result_of body)) =
+      λ rest. used_somehow theory f w.3 rest (results_of rs) sigma (result_of body) w.8
+      (condition_told theory f sigma w.3.condition o w.11)
+      (record_tells theory sigma w.3.right body w.12) in
       let equated : Somehow
-      (EquatedBy theory w.0 (equations_of theory w.0) (results_of rs) (result_of body)) =
-      equated_somehow theory w.0 (equations_of theory w.0) (results_of rs) (result_of body) i
-      w.4 w.8 w.10 used_there in
-      rw w.5 (called_somehow theory theta w.0 w.1 w.2 (results_of rs) (result_of body) equated.0
-      (suc equated.1) equated.2 (records_tell theory theta w.2 rs w.11)
+      (EquatedBy theory f (equations_of theory f) (results_of rs) (result_of body)) =
+      equated_somehow theory f (equations_of theory f) (results_of rs) (result_of body) i
+      w.3 w.7 w.9 used_there in
+      rw w.4 (called_somehow theory theta f w.0 w.1 (results_of rs) (result_of body) equated.0
+      (suc equated.1) equated.2 (records_tell theory theta w.1 rs w.10)
       (λ n k le. let one : suc equated.1 + k ≡ suc (equated.1 + k) = omega arith in
-      rw one (by_equations w.6 w.7 (equates_more theory k equated.3 n le))))
+      rw one (by_equations w.5 w.6 (equates_more theory k equated.3 n le))))
 
   records_tell : (theory : RewriteTheory) (theta : List (Option Tree)) (ps : Patterns)
       (rs : RecordList) → RecordAll theory theta ps rs

@@ -8,7 +8,7 @@ use Rattle.term_core.specs.Patterns.{Pattern, Patterns, variable, domain_value, 
 use Rattle.term_core.specs.Patterns.{injection, call, no_pattern, more_patterns, binding}
 use Rattle.rule_core.specs.Rules.{Equation}
 use Rattle.rule_core.specs.Theories.{RewriteTheory, equations_of}
-use Rattle.rule_core.specs.Matching.{MatchNamed}
+use Rattle.rule_core.specs.Matching.{MatchNamed, AreUnmatched}
 use Rattle.rule_core.specs.Sorting.{IsSymbol, sort_at}
 use Rattle.rule_core.specs.HookCalls.{HookAnswers, HookFails}
 use Rattle.rule_core.specs.declared.signature.Signature.{Signature}
@@ -82,7 +82,7 @@ MatchesBy theory e ts theta = MatchNamed theory.sig e.variables e.arguments e.na
 
 -- no substitution does
 abbrev pub IsUnmatchedBy : RewriteTheory → Equation → Forest → Type 0
-IsUnmatchedBy theory e ts = (theta : List (Option Tree)) → MatchesBy theory e ts theta → ⊥
+IsUnmatchedBy theory e ts = AreUnmatched theory.sig e.variables e.arguments e.names ts
 
 mutual
   -- with this nesting and this many calls left, the pattern has this outcome under the substitution

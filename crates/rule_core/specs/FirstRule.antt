@@ -5,7 +5,7 @@ use Rattle.term_core.specs.Terms.{Tree, no_tree, more_trees}
 use Rattle.term_core.specs.Patterns.{Pattern, no_pattern, more_patterns}
 use Rattle.rule_core.specs.Rules.{RewriteRule}
 use Rattle.rule_core.specs.Theories.{RewriteTheory}
-use Rattle.rule_core.specs.Matching.{MatchNamed}
+use Rattle.rule_core.specs.Matching.{MatchNamed, AreUnmatched}
 use Rattle.rule_core.specs.Evaluation.{Cause, Evaluated, ConditionOutcome, holds, fails, untested}
 use Rattle.rule_core.specs.Evaluation.{Says, Evaluates}
 
@@ -21,7 +21,9 @@ Matches theory rule t theta =
 
 -- no substitution does
 abbrev pub IsUnmatched : RewriteTheory → RewriteRule → Tree → Type 0
-IsUnmatched theory rule t = (theta : List (Option Tree)) → Matches theory rule t theta → ⊥
+IsUnmatched theory rule t =
+    AreUnmatched theory.sig rule.variables (more_patterns rule.left no_pattern) rule.names
+    (more_trees t no_tree)
 
 -- the condition of a rule, if it has one
 pub data Meets (theory : RewriteTheory) (theta : List (Option Tree)) : Option Pattern → ℕ

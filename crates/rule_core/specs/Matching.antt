@@ -63,3 +63,8 @@ pub record MatchNamed (sig : Signature) (variables : List ℕ) (ps : Patterns) (
   pub binds : BindsNamed sig variables ps names theta
   pub makes : instances_of theta ps ≡ Some ts
   pub named : All (λ n. binding theta n.variable ≡ part_instance theta ps n.place) names
+
+-- under no substitution does this hold
+abbrev pub AreUnmatched : Signature → List ℕ → Patterns → List Name → Forest → Type 0
+AreUnmatched sig variables ps names ts =
+    (theta : List (Option Tree)) → MatchNamed sig variables ps names ts theta → ⊥

@@ -1,8 +1,9 @@
 -- The plain records that represent the records of the code.
 use Rattle.std.specs.Prelude.{List, [], ◌∷◌, Option, Some, None, option_map}
 use Rattle.rule_core.specs.Records.{Record, RecordList, OptionalRecord, bound, itself, made}
-use Rattle.rule_core.specs.Records.{by_hook, by_equation, no_record, more_records, unconditional}
-use Rattle.rule_core.specs.Records.{conditional, Miss, no_match, condition_false, MissList, none_missed, more_missed}
+use Rattle.rule_core.specs.Records.{injected_record, by_hook, by_equation, no_record, more_records}
+use Rattle.rule_core.specs.Records.{unconditional, conditional, Miss, no_match, condition_false}
+use Rattle.rule_core.specs.Records.{MissList, none_missed, more_missed}
 use Rattle.rule_core.specs.Records as plain
 use Rattle.rule_core.specs.declared.records.EvalRecord.{EvalRecord}
 use Rattle.rule_core.specs.declared.records.StepRecord.{StepRecord}
@@ -33,15 +34,15 @@ plain_miss (layer.CondFalse sigma r) = condition_false sigma r
 
 abbrev pub plain_use : EqRecord-F Record Miss Record → Record
 plain_use used =
-    by_equation (records used.args.items) used.equation used.subst
+    by_equation used.fun.0 (records used.args.items) used.equation used.subst
     (optional (option_map (λ r. r.value) used.cond)) used.body.value (misses used.missed.items)
 
 abbrev pub plain_layer : EvalRecord-F Record Miss Record → Record
 plain_layer (layer.Bound x t) = bound x t
 plain_layer (layer.Value t) = itself t
-plain_layer (layer.Ctor f rs t) = made (records rs.items) t
-plain_layer (layer.Inj a b r t) = made (more_records r.value no_record) t
-plain_layer (layer.ByHook f rs t) = by_hook (records rs.items) t
+plain_layer (layer.Ctor f rs t) = made f.0 (records rs.items) t
+plain_layer (layer.Inj a b r t) = injected_record a.0 b.0 r.value t
+plain_layer (layer.ByHook f rs t) = by_hook f.0 (records rs.items) t
 plain_layer (layer.ByEquation used) = used.value
 
 abbrev pub plain_record : EvalRecord → Record

@@ -2,31 +2,35 @@
 -- so that a proof can be built from it.
 use Rattle.std.specs.Prelude.{◌≡◌, ◌<◌, ◌≤◌, ◌-◌, ◌^◌, ◌⊎◌, ℕ, List, [], ◌∷◌, slice_get, take}
 use Rattle.std.specs.Prelude.{Option, Some, None, IsNone, IsSome}
-use Rattle.term_core.specs.Terms.{Tree, leaf, Forest, no_tree, more_trees, height, DomainValue}
-use Rattle.term_core.specs.Patterns.{Pattern, Patterns, variable, domain_value, call, no_pattern}
-use Rattle.term_core.specs.Patterns.{more_patterns, binding}
+use Rattle.term_core.specs.Terms.{Tree, leaf, node, injected, Forest, no_tree, more_trees, height}
+use Rattle.term_core.specs.Terms.{DomainValue}
+use Rattle.term_core.specs.Patterns.{Pattern, Patterns, variable, domain_value, application}
+use Rattle.term_core.specs.Patterns.{injection, call, no_pattern, more_patterns, binding}
 use Rattle.rule_core.specs.Rules.{RewriteRule, Equation}
 use Rattle.rule_core.specs.Theories.{RewriteTheory, equations_of}
 use Rattle.rule_core.specs.Sorting.{IsSymbol, sort_at}
 use Rattle.rule_core.specs.HookCalls.{HookAnswers}
-use Rattle.rule_core.specs.Evaluation.{HasHead, built, most_height, IsTrueValue, IsUnmatchedBy}
+use Rattle.rule_core.specs.Evaluation.{IsInjectionSymbol, most_height, IsTrueValue, IsUnmatchedBy}
 use Rattle.rule_core.specs.Evaluation.{MatchesBy, Tests, fails}
 use Rattle.rule_core.specs.FirstRule.{Matches, IsUnmatched, Meets, most_nesting}
 use Rattle.rule_core.specs.declared.signature.SymInfo.{SymInfo}
 use Rattle.rule_core.specs.declared.signature.SymKind.TheVariants.{Equations}
 
--- A variable's binding; a value; what a constructor or an injection built; what a hook returned; or
--- the equation that was used. For an equation it has its number, its substitution, the record of
--- its condition, if it has one, the record of its right side, and what was missed: for an equation
--- of the last resort, why each other equation of the function is not used. An equation is missed if
--- it does not match, or if its condition is not true under the substitution that matches.
+-- A variable's binding; a value; what a constructor built; what the injection from a sort to another
+-- built; what the hook of a function returned; or the equation of a function that was used. For an
+-- equation it has its number, its substitution, the record of its condition, if it has one, the
+-- record of its right side, and what was missed: for an equation of the last resort, why each other
+-- equation of the function is not used. An equation is missed if it does not match, or if its
+-- condition is not true under the substitution that matches.
 mutual
   pub data Record : Type 0 where
     bound : ℕ → Tree → Record
     itself : Tree → Record
-    made : RecordList → Tree → Record
-    by_hook : RecordList → Tree → Record
-    by_equation : RecordList → ℕ → List (Option Tree) → OptionalRecord → Record → MissList → Record
+    made : ℕ → RecordList → Tree → Record
+    injected_record : ℕ → ℕ → Record → Tree → Record
+    by_hook : ℕ → RecordList → Tree → Record
+    by_equation : ℕ → RecordList → ℕ → List (Option Tree) → OptionalRecord → Record → MissList
+        → Record
 
   pub data RecordList : Type 0 where
     no_record : RecordList
@@ -48,9 +52,10 @@ mutual
 abbrev pub result_of : Record → Tree
 result_of (bound x t) = t
 result_of (itself t) = t
-result_of (made rs t) = t
-result_of (by_hook rs t) = t
-result_of (by_equation rs i theta condition body missed) = result_of body
+result_of (made f rs t) = t
+result_of (injected_record a b r t) = t
+result_of (by_hook f rs t) = t
+result_of (by_equation f rs i theta condition body missed) = result_of body
 
 abbrev pub results_of : RecordList → Forest
 results_of no_record = no_tree
@@ -74,15 +79,18 @@ abbrev mutual
   Records theory theta p (bound x t) = (p ≡ variable x) × (binding theta x ≡ Some t)
   Records theory theta p (itself t) =
       (s : ℕ) × (v : DomainValue) × (p ≡ domain_value s v) × (t ≡ leaf s v)
-  Records theory theta p (made rs t) = (f : ℕ) × (ps : Patterns) × HasHead theory p f ps
-      × (built p (results_of rs) ≡ Some t) × (height t ≤ most_height) × RecordAll theory theta ps rs
-  Records theory theta p (by_hook rs t) =
-      (f : ℕ) × (sorts : List ℕ) × (ps : Patterns) × (info : SymInfo) × (row : ℕ)
-      × (v : DomainValue) × (sort : ℕ)
+  Records theory theta p (made f rs t) = (ps : Patterns) × (p ≡ application f ps)
+      × (t ≡ node f (results_of rs)) × (height t ≤ most_height) × RecordAll theory theta ps rs
+  Records theory theta p (injected_record a b r t) = (q : Pattern) × (p ≡ injection a b q)
+      × ((f : ℕ) × IsInjectionSymbol theory.sig f) × (t ≡ injected a b (result_of r))
+      × (height t ≤ most_height) × Records theory theta q r
+  Records theory theta p (by_hook f rs t) =
+      (sorts : List ℕ) × (ps : Patterns) × (info : SymInfo) × (row : ℕ) × (v : DomainValue)
+      × (sort : ℕ)
       × (p ≡ call f sorts ps) × IsSymbol theory.sig f info × HookAnswers info row (results_of rs) v
       × (sort_at [] info.result ≡ Some sort) × (t ≡ leaf sort v) × RecordAll theory theta ps rs
-  Records theory theta p (by_equation rs i sigma condition body missed) =
-      (f : ℕ) × (sorts : List ℕ) × (ps : Patterns) × (info : SymInfo) × (e : Equation)
+  Records theory theta p (by_equation f rs i sigma condition body missed) =
+      (sorts : List ℕ) × (ps : Patterns) × (info : SymInfo) × (e : Equation)
       × (p ≡ call f sorts ps)
       × IsSymbol theory.sig f info × (info.kind ≡ Equations)
       × (slice_get (equations_of theory f) i ≡ Some e)

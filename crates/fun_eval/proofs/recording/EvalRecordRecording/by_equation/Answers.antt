@@ -11,7 +11,7 @@ use Rattle.fun_eval.proofs.recording.EvalRecordRecording.by_equation.Goals as go
 
 pub returns : goal.returns
 returns c = λ rs o r ms all met body missed.
-    let whole : plain_record (form.ByEquation c.in_ok-new.field-0) ≡ equation_record
+    let whole : plain_record (form.ByEquation c.in_ok-new.field-0) ≡ equation_record c.args.fun.0
     (records (map plain_record c.args.args.items)) c.args.equation c.args.subst
     (optional (option_map (λ (b : Box EvalRecord). plain_record b.value) c.in_ok-cond.cond))
     (plain_record c.in_ok-body.body.value) (misses (map plain_missed c.args.missed.items)) =
@@ -30,13 +30,14 @@ returns c = λ rs o r ms all met body missed.
     let right : plain_record c.in_ok-body.body.value ≡ r =
     ap plain_record c.in_ok-body.ensures.ok ∙ body in
     whole
-    ∙ (ap (λ (ss : RecordList). equation_record ss c.args.equation c.args.subst
+    ∙ (ap (λ (ss : RecordList). equation_record c.args.fun.0 ss c.args.equation c.args.subst
     (optional (option_map (λ (b : Box EvalRecord). plain_record b.value)
     c.in_ok-cond.cond)) (plain_record c.in_ok-body.body.value)
     (misses (map plain_missed c.args.missed.items))) all
-    ∙ (ap (λ (p : OptionalRecord). equation_record rs c.args.equation c.args.subst p
+    ∙ (ap (λ (p : OptionalRecord). equation_record c.args.fun.0 rs c.args.equation c.args.subst p
     (plain_record c.in_ok-body.body.value) (misses (map plain_missed c.args.missed.items)))
     condition
-    ∙ (ap (λ (q : Record). equation_record rs c.args.equation c.args.subst o q
+    ∙ (ap (λ (q : Record). equation_record c.args.fun.0 rs c.args.equation c.args.subst o q
     (misses (map plain_missed c.args.missed.items))) right
-    ∙ ap (λ (ns : MissList). equation_record rs c.args.equation c.args.subst o r ns) missed)))
+    ∙ ap (λ (ns : MissList). equation_record c.args.fun.0 rs c.args.equation c.args.subst o r ns)
+    missed)))

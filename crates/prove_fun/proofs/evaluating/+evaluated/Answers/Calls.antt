@@ -18,7 +18,7 @@ use Rattle.prove_fun.proofs.PlainRecords.{plain-Bound, plain-Value as record-Val
 use Rattle.prove_fun.proofs.PlainRecords.{plain-Ctor as record-Ctor, plain-Inj as record-Inj}
 use Rattle.prove_fun.proofs.PlainRecords.{plain-ByHook, plain-ByEquation}
 use Rattle.prove_fun.proofs.Recording.{as_many_records, call_recorded, hook_recorded, bound_no_call}
-use Rattle.prove_fun.proofs.Recording.{itself_no_call, made_no_call}
+use Rattle.prove_fun.proofs.Recording.{itself_no_call, made_no_call, injected_no_call}
 use Rattle.prove_fun.proofs.KeptLaws.{kept_grown}
 use Rattle.prove_fun.proofs.Nodes.{call_parts, values_evaluated, call_closed, call_joinable}
 use Rattle.prove_fun.proofs.Nodes.{call_joined, call_alone}
@@ -31,7 +31,7 @@ pub called-hook_fact-requires-clause-call : goal.called-hook_fact-requires-claus
 called-hook_fact-requires-clause-call t c =
     let is = ap plain_record c.in-ByHook.is ∙ plain-ByHook _ _ _ in
     hook_recorded c.args.cx.now.program c.args.subst.now c.args.symbol.0
-    (plain_patterns c.args.args.now) (plain_record c.args.evaluation.now) _ _ is
+    (plain_patterns c.args.args.now) (plain_record c.args.evaluation.now) _ _ _ is
     c.requires.recorded
 
 pub called-hook_fact-requires-clause-count : goal.called-hook_fact-requires-clause-count
@@ -102,14 +102,14 @@ pub called-unreachable-requires-in-Ctor : goal.called-unreachable-requires-in-Ct
 called-unreachable-requires-in-Ctor t c =
     let is = ap plain_record c.in-Ctor.is ∙ record-Ctor _ _ _ in
     made_no_call c.args.cx.now.program c.args.subst.now c.args.symbol.0
-    (plain_patterns c.args.args.now) (plain_record c.args.evaluation.now) _ _ is
+    (plain_patterns c.args.args.now) (plain_record c.args.evaluation.now) _ _ _ is
     c.requires.recorded
 
 pub called-unreachable-requires-in-Inj : goal.called-unreachable-requires-in-Inj
 called-unreachable-requires-in-Inj t c =
     let is = ap plain_record c.in-Inj.is ∙ record-Inj _ _ _ _ in
-    made_no_call c.args.cx.now.program c.args.subst.now c.args.symbol.0
-    (plain_patterns c.args.args.now) (plain_record c.args.evaluation.now) _ _ is
+    injected_no_call c.args.cx.now.program c.args.subst.now c.args.symbol.0
+    (plain_patterns c.args.args.now) (plain_record c.args.evaluation.now) _ _ _ _ is
     c.requires.recorded
 
 pub called-by_equation-requires : goal.called-by_equation-requires

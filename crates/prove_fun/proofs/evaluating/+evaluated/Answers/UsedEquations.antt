@@ -44,7 +44,7 @@ use_of : (program : Program) (theta : List (Option Tree)) (f : ℕ) (args : List
     (used : EqRecord) → r ≡ used_record used
     → IsRecorded program theta (call f [] (plain_patterns args)) r → Use program f r used
 use_of program theta f args r used is h =
-    equation_recorded program theta f (plain_patterns args) r
+    equation_recorded program theta f (plain_patterns args) r used.fun.0
     (records (map plain_record used.args.items)) used.equation used.subst
     (condition_record used) (plain_record used.body.value)
     (misses (map missed_record used.missed.items)) is h
@@ -69,7 +69,7 @@ by_equation-condition_held-requires t c =
     (plain_record c.args.evaluation.now) c.args.used.now c.requires.used
     c.requires.recorded in
     let low =
-    equation_size (plain_record c.args.evaluation.now) _ _ _ (condition_record c.args.used.now)
+    equation_size (plain_record c.args.evaluation.now) _ _ _ _ (condition_record c.args.used.now)
     (plain_record c.args.used.now.body.value) _ c.requires.used in (
       omega (arith, low, some_size (plain_record c.args.used.now.body.value), c.decreases),
       (
@@ -192,7 +192,7 @@ by_equation-evaluated-requires t c =
     used_right c.args.cx.now.program c.args.symbol.0 _ c.args.used.now.equation _ _ _
     c.equation_of-equation.result.now u at in
     let low =
-    equation_size (plain_record c.args.evaluation.now) _ _ _ (condition_record c.args.used.now)
+    equation_size (plain_record c.args.evaluation.now) _ _ _ _ (condition_record c.args.used.now)
     (plain_record c.args.used.now.body.value) _ c.requires.used in
     let g : HasGrown c.args.cx.now c.at_values.new.cx =
     grown_twice c.args.cx.now c.condition_held.new.cx c.at_values.new.cx
