@@ -45,7 +45,7 @@ right_is byte name ss p no_more is are = is
 right_is byte name ss p (and_more q qs) is are = (is, (right_is byte name ss q qs are.0 are.1, tt))
 
 fold_is : (left : Bool) (byte : ℕ) (name : List ℕ) (ss : List SortTree) (ps : PatternTrees)
-    → (is_none (listed_patterns ps) && true) ≡ false → AreApplicative (all_unfolded ps)
+    → is_none (listed_patterns ps) ≡ false → AreApplicative (all_unfolded ps)
     → IsApplicative (fold_of left byte name ss (all_unfolded ps))
 fold_is left byte name ss no_patterns some are = absurd (false≢true (sym some))
 fold_is true byte name ss (pattern_then p ps) some are =
@@ -188,7 +188,7 @@ right_side whole byte name ss p (and_more q qs) is are =
     (is, (right_side whole byte name ss q qs are.0 are.1, tt))
 
 fold_side : (whole : List PatternTree) (left : Bool) (byte : ℕ) (name : List ℕ)
-    (ss : List SortTree) (ps : PatternTrees) → (is_none (listed_patterns ps) && true) ≡ false
+    (ss : List SortTree) (ps : PatternTrees) → is_none (listed_patterns ps) ≡ false
     → AreSides whole (all_unfolded ps)
     → IsSide whole (fold_of left byte name ss (all_unfolded ps))
 fold_side whole left byte name ss no_patterns some are = absurd (false≢true (sym some))

@@ -11,24 +11,17 @@ abbrev pub is_and : Op → Bool
 is_and And = true
 is_and op = false
 
--- Which forms are sought: `\and`; all forms other than `\and`, a variable, an application, a domain
--- value, a fold and a binder; or both.
+-- Which forms are sought: all forms other than `\and`, a variable, an application, a domain value, a
+-- fold and a binder; or these and `\and`. Strings, and folds of something that cannot be folded, are
+-- always sought.
 pub data Sought : Type 0 where
-  only_conjunctions : Sought
   others : Sought
   all_forms : Sought
 
 -- the connective is one of the sought forms
 abbrev pub covers : Sought → Op → Bool
-covers only_conjunctions op = is_and op
 covers others op = not (is_and op)
 covers all_forms op = true
-
--- strings, and folds of something that cannot be folded, are among the sought forms
-abbrev pub covers_others : Sought → Bool
-covers_others only_conjunctions = false
-covers_others others = true
-covers_others all_forms = true
 
 -- there is exactly one pattern
 abbrev pub is_one : List PatternTree → Bool
@@ -44,7 +37,7 @@ is_none (p ∷ ps) = false
 -- one of the sought forms occurs in the pattern, or (`have_form`) in one of the patterns
 abbrev mutual
   pub has_form : Sought → PatternTree → Bool
-  has_form sought (string at text) = covers_others sought
+  has_form sought (string at text) = true
   has_form sought (symbol_applied at n ss ps) = have_form sought ps
   has_form sought (connected at op ss ps) = covers sought op || have_form sought ps
   has_form sought (binder_applied at b ss x p) = has_form sought p
@@ -58,18 +51,17 @@ abbrev mutual
   -- one of the sought forms occurs in the fold of this pattern; a fold can be of an application, or
   -- of a connective, with an argument
   pub fold_has_form : Sought → PatternTree → Bool
-  fold_has_form sought (element_variable at n s) = covers_others sought
-  fold_has_form sought (set_variable at n s) = covers_others sought
-  fold_has_form sought (string at text) = covers_others sought
+  fold_has_form sought (element_variable at n s) = true
+  fold_has_form sought (set_variable at n s) = true
+  fold_has_form sought (string at text) = true
   fold_has_form sought (symbol_applied at n ss ps) =
-      (is_none (listed_patterns ps) && covers_others sought)
-      || have_form sought ps
+      is_none (listed_patterns ps) || have_form sought ps
   fold_has_form sought (connected at op ss ps) =
       (not (is_one (listed_patterns ps)) && covers sought op)
       || have_form sought ps
-  fold_has_form sought (binder_applied at b ss x p) = covers_others sought
-  fold_has_form sought (value_written at s text place) = covers_others sought
-  fold_has_form sought (folded at left p) = covers_others sought
+  fold_has_form sought (binder_applied at b ss x p) = true
+  fold_has_form sought (value_written at s text place) = true
+  fold_has_form sought (folded at left p) = true
 
 -- a quantifier, `\mu`, `\nu` or a set variable occurs in the pattern, or (`have_binder`) in one of
 -- the patterns

@@ -6,7 +6,9 @@ pub mod Shapes
 pub mod SideTests
 pub mod Statements
 pub mod EquationForms
+pub mod LastResorts
 pub mod Views
 pub mod StatementViews
 pub mod EquationViews
 pub mod PartViews
+pub mod ResortViews

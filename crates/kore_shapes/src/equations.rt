@@ -51,7 +51,7 @@ fn top_with(op: Op, sorts: &[Sort], args: &[Pat], sort: &Sort) -> bool
 }
 
 /// The two patterns of `\and{S}(p,q)` of this sort S. Returns none for any other pattern.
-fn conjuncts<'a>(pat: &'a Pat, sort: &Sort) -> Option<(&'a Pat, &'a Pat)>
+pub(crate) fn conjuncts<'a>(pat: &'a Pat, sort: &Sort) -> Option<(&'a Pat, &'a Pat)>
     ensures { option_map plain_pair result
         ≡ the_conjuncts (plain_sort sort.now) (pattern_tree pat.now) }
 {
@@ -144,7 +144,7 @@ fn entry<'a>(guard: &'a Pat, over: &Sort, variable: &Pat) -> Option<(&'a Pat, &'
 /// The patterns of which a guard says that the variables are members: p0, p1, .. of
 /// `\and{R}(\in{S0,R}(X0,p0),\and{R}(\in{S1,R}(X1,p1),..\top{R}()))`. Returns none if the guard has
 /// another form.
-fn members<'a>(
+pub(crate) fn members<'a>(
     alloc: Global,
     guard: &'a Pat,
     over: &Sort,
@@ -305,7 +305,7 @@ fn borrowed<'a>(alloc: Global, pats: &'a [Pat]) -> Result<Vec<&'a Pat>, AllocErr
 
 /// kompile's form with this condition and these patterns. Returns none if a variable of its left
 /// side occurs anywhere else.
-fn kompiled<'a>(
+pub(crate) fn kompiled<'a>(
     stated: &Statement<'a>,
     condition: &'a Pat,
     patterns: Vec<&'a Pat>,

@@ -6,7 +6,6 @@ ghost use Rattle.kore_shapes.specs.Forms.{has_form as has_one, have_form as have
 ghost use Rattle.kore_shapes.specs.Forms.{fold_has_form as fold_has_one};
 ghost use Rattle.kore_shapes.specs.Forms.{is_one as there_is_one, is_none as there_is_none};
 ghost use Rattle.kore_shapes.specs.Forms.{covers as does_cover};
-ghost use Rattle.kore_shapes.specs.Forms.{covers_others as does_cover_others};
 ghost use Rattle.kore_shapes.specs.Forms.{has_binder as has_one_binder};
 ghost use Rattle.kore_shapes.specs.Forms.{have_binder as have_one_binder};
 ghost use Rattle.kore_shapes.specs.SoughtForms.{sought as sought_forms};
@@ -16,8 +15,6 @@ use kore_ast::{Op, Pat, PatForm};
 /// Forms of patterns other than a variable, an application, a domain value, a fold and a binder.
 #[derive(Clone, Copy, PartialEq, Eq)]
 pub enum SoughtForms {
-    /// Only `\and`.
-    Conjunctions,
     /// All but `\and`.
     Others,
     /// All of these.
@@ -28,16 +25,9 @@ fn covers(sought: SoughtForms, op: Op) -> bool
     ensures { result ≡ does_cover (sought_forms sought) op }
 {
     match sought {
-        SoughtForms::Conjunctions => matches!(op, Op::And),
         SoughtForms::Others => !matches!(op, Op::And),
         SoughtForms::All => true,
     }
-}
-
-fn covers_others(sought: SoughtForms) -> bool
-    ensures { result ≡ does_cover_others (sought_forms sought) }
-{
-    matches!(sought, SoughtForms::Others | SoughtForms::All)
 }
 
 /// Whether one of these forms occurs in the pattern, at any depth. Folds are read, so the head of a
@@ -51,7 +41,7 @@ pub fn has_form(pat: &Pat, sought: SoughtForms) -> bool
         PatForm::Built(op, _, args) => covers(sought, *op) || have_form(args, sought),
         PatForm::Bound(_, _, _, body) => has_form(body, sought),
         PatForm::Fold(_, inner) => fold_has_form(inner, sought),
-        PatForm::Text(_) => covers_others(sought),
+        PatForm::Text(_) => true,
         PatForm::Elem(..) | PatForm::SetVar(..) | PatForm::Value(..) => false,
     }
 }
@@ -75,19 +65,18 @@ fn fold_has_form(pat: &Pat, sought: SoughtForms) -> bool
     ensures { result ≡ fold_has_one (sought_forms sought) (pattern_tree pat.now) }
 {
     match &pat.form {
-        PatForm::App(_, _, args) => is_empty_fold(args, sought) || have_form(args, sought),
+        PatForm::App(_, _, args) => is_none(args) || have_form(args, sought),
         PatForm::Built(op, _, args) => is_head(args, sought, *op) || have_form(args, sought),
-        PatForm::Elem(..) | PatForm::SetVar(..) | PatForm::Text(_) => covers_others(sought),
-        PatForm::Bound(..) | PatForm::Value(..) | PatForm::Fold(..) => covers_others(sought),
+        PatForm::Elem(..) | PatForm::SetVar(..) | PatForm::Text(_) => true,
+        PatForm::Bound(..) | PatForm::Value(..) | PatForm::Fold(..) => true,
     }
 }
 
-/// Whether there are no patterns, and a fold without arguments is among the sought forms.
-fn is_empty_fold(pats: &[Pat], sought: SoughtForms) -> bool
-    ensures { result
-        ≡ (there_is_none (map pattern_tree pats.now) && does_cover_others (sought_forms sought)) }
+/// Whether there are no patterns.
+fn is_none(pats: &[Pat]) -> bool
+    ensures { result ≡ there_is_none (map pattern_tree pats.now) }
 {
-    pats.is_empty() && covers_others(sought)
+    pats.is_empty()
 }
 
 /// Whether the connective of a fold of these patterns counts, and is among the sought forms. It

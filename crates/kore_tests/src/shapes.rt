@@ -173,7 +173,6 @@ static FORMS: [(&str, bool, bool, bool); 9] = [
 fn forms(rt: HostRuntime) -> Result<(), Fail> {
     for (text, and, other, binder) in &FORMS {
         let pat = pattern(rt.alloc(), text)?;
-        assert!(rt; has_form(&pat, SoughtForms::Conjunctions) == *and, "{text}");
         assert!(rt; has_form(&pat, SoughtForms::Others) == *other, "{text}");
         assert!(rt;
             has_form(&pat, SoughtForms::All) == (*and || *other),
