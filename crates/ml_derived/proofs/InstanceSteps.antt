@@ -85,12 +85,12 @@ at_start sentence facts h = record {
   stays = λ s hp ht. ht.0;
 }
 
-next_fact : (facts : List Theorem) (i : ℕ) (fact : Theorem) → i < length facts
+pub next_fact : (facts : List Theorem) (i : ℕ) (fact : Theorem) → i < length facts
     → fact ≡ get_or facts i fact → drop i facts ≡ fact ∷ drop (i + 1) facts
 next_fact facts i fact lt is =
     rw (add-one, drop-cons facts i fact) (ap (λ (t : Theorem). t ∷ drop (suc i) facts) (sym is))
 
-within_at : (s : Scope) (ts : List Theorem) (i : ℕ) (t : Theorem) → AreWithin s ts → i < length ts
+pub within_at : (s : Scope) (ts : List Theorem) (i : ℕ) (t : Theorem) → AreWithin s ts → i < length ts
     → t ≡ get_or ts i t → IsWithin s t
 within_at s [] i t h lt is = absurd (omega (arith, lt))
 within_at s (u ∷ ts) zero t h lt is = subst (IsWithin s) (sym is) h.0

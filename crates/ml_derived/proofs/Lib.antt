@@ -4,4 +4,5 @@ pub mod StayingLaws
 pub mod PutLaws
 pub mod ContextLaws
 pub mod InstanceSteps
+pub mod OpenSteps
 pub mod ApplyingLaws

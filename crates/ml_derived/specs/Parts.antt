@@ -42,3 +42,19 @@ IsEquality t = (p : Pattern) × ((q : Pattern) × (t ≡ equal p q))
 -- the pattern can be substituted for x
 abbrev pub CanReplace : Pattern → ℕ → Pattern → Type 0
 CanReplace context x p = (made : Pattern) × (substituted context x p ≡ Some made)
+
+-- Under the hypothesis h the sentence binds a variable, and the fact says that a pattern is one
+-- element of the variable's sort. The pattern can be substituted for the variable.
+pub record FitsUnder (h sentence fact : Pattern) : Type 0 where
+  pub variable : ℕ
+  pub sort : ℕ
+  pub body : Pattern
+  pub by : Pattern
+  pub made : Pattern
+  pub binds : sentence ≡ imp h (all variable sort body)
+  pub says : fact ≡ imp h (fun by sort)
+  pub put : substituted body variable by ≡ Some made
+
+-- the sentence with the pattern of the fact substituted for its variable, under the hypothesis
+abbrev pub IsPutUnder : Pattern → Pattern → Pattern → Pattern → Type 0
+IsPutUnder h sentence fact r = (fits : FitsUnder h sentence fact) → r ≡ imp h fits.made

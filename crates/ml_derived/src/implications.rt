@@ -55,8 +55,8 @@ pub(crate) fn chained(
     under(alloc, ab, &lifted, p, q, r)
 }
 
-// `h -> q`, from q.
-pub(crate) fn lift(alloc: Global, h: &MPat, a: &Thm) -> Result<Thm, AllocError>
+/// `h -> q`, from q. An error: out of memory.
+pub fn lift(alloc: Global, h: &MPat, a: &Thm) -> Result<Thm, AllocError>
     ensures conclusion { IfOk result (λ t. t.conclusion ≡ imp h.now a.now.conclusion) }
     ensures stays { IfOk result (StaysWithin (h.now ∷ []) (a.now ∷ [])) }
 {
@@ -66,8 +66,8 @@ pub(crate) fn lift(alloc: Global, h: &MPat, a: &Thm) -> Result<Thm, AllocError>
     mp(alloc, a, &weaken, q, &weaker)
 }
 
-// `h -> q`, from `h -> p` and `h -> p -> q`.
-pub(crate) fn under(
+/// `h -> q`, from `h -> p` and `h -> p -> q`. An error: out of memory.
+pub fn under(
     alloc: Global,
     a: &Thm,
     b: &Thm,

@@ -1,14 +1,17 @@
-// Instances of sentences: closed patterns are substituted for the variables that a sentence binds.
+// Instances of sentences: patterns are substituted for the variables that a sentence binds. They are
+// closed, or under a hypothesis they may have variables.
 ghost use Rattle.std.specs.Prelude.{◌≡◌, [], ◌∷◌, IfOk, Some};
 ghost use Rattle.ml_pat.specs.Patterns.{all, imp, fun};
 ghost use Rattle.ml_pat.specs.Judgements.{substituted};
 ghost use Rattle.ml_kernel.specs.Lemmas.{HasNoVariable};
 ghost use Rattle.ml_kernel.specs.Theorems.{conclusions};
 ghost use Rattle.ml_derived.specs.Instances.{put, HasInstance, IsInstance};
+ghost use Rattle.ml_derived.specs.Instances.{HasOpenInstance, SaysOpenInstance};
 ghost use Rattle.ml_derived.specs.Parts.{IsElementOf, IsForAll, IsFunctional, IsPutIn, FitsBinder};
+ghost use Rattle.ml_derived.specs.Parts.{FitsUnder, IsPutUnder};
 ghost use Rattle.ml_derived.specs.Scopes.{StaysWithin};
 
-use crate::implications::{chained, under};
+use crate::implications::{chained, lift, sides, under};
 use crate::rules::{inst, mp};
 use ml_kernel::Thm;
 use ml_pat::{MForm, MPat, MSort, VarNo, subst};
@@ -85,6 +88,52 @@ pub fn instance_under(
     let rule = inst(alloc, body, q, made, variable, sort)?;
     let open = chained(alloc, a, &rule, h, &bound, &wanting)?;
     under(alloc, fact, &open, h, &element, made)
+}
+
+/// `h -> made`, where `made` is the sentence with patterns substituted for its outermost bound
+/// variables, one for each fact. A fact says that under h the pattern is one element of the
+/// variable's sort. The patterns may have variables. Without facts `made` is the sentence. An error:
+/// out of memory.
+pub fn instance_open(
+    alloc: Global,
+    sentence: &Thm,
+    h: &MPat,
+    facts: &[Thm],
+) -> Result<Thm, AllocError>
+    requires { HasOpenInstance h.now sentence.now.conclusion (conclusions facts.now) }
+    ensures conclusion { IfOk result (λ t. SaysOpenInstance h.now sentence.now.conclusion
+        (conclusions facts.now) t.conclusion) }
+    ensures stays { IfOk result (StaysWithin (h.now ∷ []) (sentence.now ∷ facts.now)) }
+{
+    let mut present = lift(alloc, h, sentence)?;
+    for fact in facts {
+        present = open_at(alloc, &present, fact, h)?;
+    }
+    Ok(present)
+}
+
+// The instance at the pattern of one fact, under h.
+fn open_at(alloc: Global, sentence: &Thm, fact: &Thm, h: &MPat) -> Result<Thm, AllocError>
+    requires { FitsUnder h.now sentence.now.conclusion fact.now.conclusion }
+    ensures conclusion { IfOk result
+        (λ t. IsPutUnder h.now sentence.now.conclusion fact.now.conclusion t.conclusion) }
+    ensures stays { IfOk result (StaysWithin [] (sentence.now ∷ fact.now ∷ [])) }
+{
+    let (_, quantified) = sides(sentence.conclusion());
+    let (_, said) = sides(fact.conclusion());
+    let (variable, sort, body) = bound(quantified);
+    let q = element(said);
+    match subst(alloc, body, variable, q)? {
+        Some(made) => {
+            let binder = Binder {
+                variable,
+                sort,
+                body,
+            };
+            instance_under(alloc, sentence, fact, h, binder, q, &made)
+        }
+        None => unreachable!(),
+    }
 }
 
 // The pattern with a closed pattern substituted for each free x.

@@ -26,8 +26,8 @@ pub use hypothetical::{
     back, before, bot_to_not, both_under, chain_under, from_not, itself, not_to_bot, pack, swap,
     swap_under, then, to_not, turn, under_two, unpack, wider,
 };
-pub use implications::{both, chain, free_of_condition, free_of_top};
-pub use instances::{Binder, instance, instance_under};
+pub use implications::{both, chain, free_of_condition, free_of_top, lift, under};
+pub use instances::{Binder, instance, instance_open, instance_under};
 pub use reaching::{reach_here, reach_step};
 pub use refuting::{Element, disjoint, no_argument, no_function, unequal};
 pub use rules::{

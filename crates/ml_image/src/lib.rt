@@ -28,3 +28,4 @@ pub use laws::{apart_laws, condition_laws, naming_laws};
 pub use naming::{PartName, names_in, part_names};
 pub use rules::{equation_image, rule_image};
 pub use subsorts::{inj_collapse, inj_total};
+pub use tokens::sort_number;

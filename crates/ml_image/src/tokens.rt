@@ -16,8 +16,9 @@ use rule_core::Signature;
 use std::alloc::{AllocError, Global};
 use term_core::{SortId, Value};
 
-// The number of a sort's token.
-pub(crate) fn sort_number(
+/// Returns the number of a sort's token. An error: out of memory. The names may have gained tokens
+/// even then.
+pub fn sort_number(
     alloc: Global,
     sig: &Signature,
     names: &mut Names,

@@ -20,7 +20,8 @@ use Rattle.ml_image.specs.Sentences.{term}
 use Rattle.ml_image.proofs.ImageLaws.{some_same}
 use Rattle.ml_image.proofs.WellSortedLaws.{sorted_has_image}
 use Rattle.prove_term.specs.Contexts.{Context, HasGrown, StaysIn, StaysInWith}
-use Rattle.prove_term.specs.Injections.{inject, HasEnds, IsCollapseAt}
+use Rattle.prove_term.specs.Injections.{IsCollapseAt}
+use Rattle.prove_term.specs.Numbered.{inject, HasEnds}
 use Rattle.prove_term.specs.InjectionTables.{InjectsBelow}
 use Rattle.prove_term.specs.Carrying.{Collapses, CollapsesTo, CollapsesBy}
 use Rattle.prove_term.specs.Elements.{IsElement, IsElementAt}

@@ -14,7 +14,8 @@ use Rattle.ml_image.proofs.ImageLaws.{some_same}
 use Rattle.ml_image.proofs.WellSortedLaws.{constructor_has_totality}
 use Rattle.prove_term.specs.Contexts.{Context}
 use Rattle.ml_image.specs.Assumed.{IsAssumed}
-use Rattle.prove_term.specs.Constructing.{Constructs, HasArity, HasNumbers, SaysTotality}
+use Rattle.prove_term.specs.Constructing.{HasArity, SaysTotality}
+use Rattle.prove_term.specs.Numbered.{Constructs, HasNumbers}
 use Rattle.prove_term.specs.Constructing.{IsConstructorAt, totality}
 use Rattle.prove_term.specs.Assuming.{IsTotality, TotalFrom}
 use Rattle.prove_term.proofs.ImageShapes.{totality_shape, as_many_numbers}

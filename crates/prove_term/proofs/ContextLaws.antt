@@ -8,7 +8,9 @@ use Rattle.ml_pat.specs.Patterns.{Pattern}
 use Rattle.ml_kernel.specs.Theorems.{Theorem, own_axiom}
 use Rattle.ml_kernel.specs.UsedLeaves.{EachUsed}
 use Rattle.ml_kernel.specs.MayCite.{EachCited}
-use Rattle.ml_derived.specs.Scopes.{Scope, AreAssumed, leaves_of, cites_of}
+use Rattle.ml_kernel.specs.RenamedAxioms.{IsAxiomAs}
+use Rattle.ml_kernel.specs.Renamings.{by_place}
+use Rattle.ml_derived.specs.Scopes.{Scope, IsOver, AreAssumed, leaves_of, cites_of}
 use Rattle.rule_core.specs.declared.rules.Program.{Program}
 use Rattle.rule_core.specs.declared.signature.Signature.{Signature}
 use Rattle.rule_core.specs.ProgramView.{theory_of}
@@ -19,6 +21,7 @@ use Rattle.ml_image.proofs.NamingLaws.{gained-sentence}
 use Rattle.prove_term.specs.Contexts.{Context, HasContext, StaysIn, IsLemmaIn, IsContext, HasGrown}
 use Rattle.prove_term.specs.Contexts.{new_context}
 use Rattle.ml_image.specs.Assumed.{IsAssumed}
+use Rattle.prove_term.proofs.Renumbering.{renamed_leaves}
 
 -- ---- growing
 
@@ -243,4 +246,24 @@ axiom_stays cx n t ok there none by = λ s has.
       cited =
           subst (EachCited (cites_of s)) (sym by)
           (has.axioms t.conclusion (contains_there cx.axioms n t.conclusion there));
+    }
+
+-- the same with new numbers for its variables
+pub axiom_as_stays : (cx : Context) (n : ℕ) (t : Theorem) (new : List ℕ) → IsContext cx
+    → IsAxiomAs cx.axioms n new t → t.hypotheses ≡ [] → StaysIn cx t
+axiom_as_stays cx n t new ok cited none = λ s has.
+    let there : Contains cx.axioms cited.pattern =
+    contains_there cx.axioms n cited.pattern cited.there in
+    let known : IsImageOf cx.program.sig cx.names (IsAssumed (theory_of cx.program))
+    cited.pattern =
+    ok.axioms cited.pattern there in
+    record {
+      hypotheses = none_assumed s t.hypotheses none;
+      conclusion =
+          subst (IsOver s) (sym cited.conclusion)
+          (renamed_leaves (leaves_of s) (by_place new) cited.pattern has.objects
+          (has.images known.0 cited.pattern known.2));
+      used = subst (EachUsed (leaves_of s)) (sym cited.derivation) tt;
+      cited =
+          subst (EachCited (cites_of s)) (sym cited.derivation) (has.axioms cited.pattern there);
     }

@@ -20,7 +20,8 @@ use Rattle.ml_image.specs.Sentences.{term, functional}
 use Rattle.ml_image.specs.OwnAxioms.{sort_numbered}
 use Rattle.ml_image.proofs.ImageLaws.{some_same}
 use Rattle.prove_term.specs.Contexts.{Context, HasContext, HasGrown, StaysIn}
-use Rattle.prove_term.specs.Schemas.{AreImages, AreSortImages, at_metas, meta_facts, facts}
+use Rattle.prove_term.specs.Schemas.{AreImages, at_metas, meta_facts, facts}
+use Rattle.prove_term.specs.Numbered.{AreSortImages}
 use Rattle.prove_term.specs.Schemas.{reversed}
 use Rattle.prove_term.specs.Applications.{applied_to}
 use Rattle.prove_term.specs.Constructing.{IsConstructorAt}

@@ -13,15 +13,18 @@ use Rattle.ml_image.specs.Tokens.{token_of_symbol, token_of_value, number_in_nam
 use Rattle.ml_image.specs.Images.{both, image_of, applied, symbol_image, sort_image, at_sorts}
 use Rattle.ml_image.specs.Images.{injection_image, some_symbol_image, injection_symbol}
 use Rattle.ml_image.specs.Sentences.{Sentence, term, symbol, inject, apply, top, not, and, implies}
-use Rattle.ml_image.specs.Sentences.{equals, is_in, functional, exists, forall, next, sentence_image}
+use Rattle.ml_image.specs.Sentences.{equals, is_in, functional, exists, forall, next}
+use Rattle.ml_image.specs.Sentences.{sentence_image}
 use Rattle.ml_image.specs.Sentences.{for_all, variables, apply_all}
 use Rattle.ml_image.specs.OwnAxioms.{of_variables}
 use Rattle.ml_image.specs.Counted.{at_variables}
 use Rattle.ml_image.proofs.ImageLaws.{none_some, some_same}
 use Rattle.ml_image.proofs.ClosingLaws.{variables_image}
 use Rattle.prove_term.specs.ValueAxioms.{IsValueFact}
-use Rattle.prove_term.specs.Constructing.{HasNumbers, totality}
-use Rattle.prove_term.specs.Schemas.{all_from, AreSortImages, AreImages}
+use Rattle.prove_term.specs.Constructing.{totality}
+use Rattle.prove_term.specs.Numbered.{HasNumbers}
+use Rattle.prove_term.specs.Schemas.{AreImages}
+use Rattle.prove_term.specs.Numbered.{all_from, AreSortImages}
 use Rattle.prove_term.specs.Applications.{applied_to}
 
 -- ---- options
@@ -212,7 +215,7 @@ as_many_numbers sig names (s ∷ ss) (n ∷ ns) h = ap suc (as_many_numbers sig 
 -- ---- the totality of a constructor
 
 -- if an application to variables has an image, what is applied has one
-applied_variables_some : (sig : Signature) (names : List (List ℕ)) (n k : ℕ) (s : Sentence)
+pub applied_variables_some : (sig : Signature) (names : List (List ℕ)) (n k : ℕ) (s : Sentence)
     (p : Pattern) → sentence_image sig names (apply_all s (variables k n)) ≡ Some p
     → (h : Pattern) × (sentence_image sig names s ≡ Some h)
 applied_variables_some sig names zero k s p h = (p, h)

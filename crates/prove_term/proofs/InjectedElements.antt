@@ -13,7 +13,8 @@ use Rattle.ml_image.specs.Sentences.{term}
 use Rattle.ml_image.proofs.ImageLaws.{some_same}
 use Rattle.ml_image.proofs.WellSortedLaws.{sorted_has_image}
 use Rattle.prove_term.specs.Contexts.{Context, HasGrown, StaysIn}
-use Rattle.prove_term.specs.Injections.{inject, IsInjectionAt}
+use Rattle.prove_term.specs.Injections.{IsInjectionAt}
+use Rattle.prove_term.specs.Numbered.{inject}
 use Rattle.prove_term.specs.InjectionTables.{InjectsBelow}
 use Rattle.prove_term.specs.Carrying.{Cites, CitedFrom, CitedBy}
 use Rattle.prove_term.specs.Elements.{IsSorted, IsElement, IsElementAt}

@@ -10,8 +10,10 @@ use Rattle.rule_core.specs.declared.signature.Signature.{Signature}
 use Rattle.ml_image.specs.Images.{some_symbol_image, injection_symbol}
 use Rattle.ml_image.proofs.ImageLaws.{none_some, symbol-keeps}
 use Rattle.prove_term.specs.Contexts.{Context, HasGrown}
-use Rattle.prove_term.specs.Injections.{HasEnds, SaysInjecting, SaysCollapsing, IsInjectionAt}
+use Rattle.prove_term.specs.Injections.{SaysInjecting, SaysCollapsing, IsInjectionAt}
+use Rattle.prove_term.specs.Numbered.{HasEnds}
 use Rattle.prove_term.specs.Injections.{IsCollapseAt}
+use Rattle.prove_term.specs.OpenAxioms.{SaysInjectiveFrom}
 use Rattle.prove_term.specs.SortKeys.{pair_cmp, triple_cmp}
 use Rattle.prove_term.proofs.ContextLaws.{lemma_there_grown}
 use Rattle.prove_term.proofs.KeptLaws.{sort_grown}
@@ -93,3 +95,8 @@ collapsing_grown a b x y z p g h = record {
   is_last = sort_grown a b z h.last g h.is_last;
   says = h.says;
 }
+
+pub injective_grown : (a b : Context) (x y k : ℕ) (p : Pattern) → HasGrown a b
+    → SaysInjectiveFrom a x y k p → SaysInjectiveFrom b x y k p
+unfolding ends_grown
+injective_grown a b x y k p g h = record { ends = ends_grown a b x y g h.ends; says = h.says }

@@ -8,7 +8,8 @@ use Rattle.ml_kernel.specs.Theorems.{Theorem, AddsNew, all_hypotheses, conclusio
 use Rattle.ml_derived.specs.Scopes.{IsOver, IsWithin, StaysWithin, AssumesWithin}
 use Rattle.ml_derived.proofs.RuleLaws.{lemma_within}
 use Rattle.prove_term.specs.Assuming.{Opens, OpenedFrom, IsSome, OneElementFrom}
-use Rattle.prove_term.specs.Injections.{inject, injecting, collapsing, SaysInjected, SaysCollapsed}
+use Rattle.prove_term.specs.Injections.{injecting, collapsing, SaysInjected, SaysCollapsed}
+use Rattle.prove_term.specs.Numbered.{inject}
 use Rattle.prove_term.specs.Injections.{InjectedFrom, CollapsedFrom, Joins, StaysJoined}
 use Rattle.prove_term.specs.Carrying.{Cites, CitedFrom, CitedBy, Collapses, CollapsesTo}
 use Rattle.prove_term.specs.Carrying.{CollapsesBy, Twice, SaysTwice, TwiceFrom, StaysTwice, Carries}

@@ -17,7 +17,8 @@ use Rattle.ml_image.specs.HasImages.{CanInject}
 use Rattle.ml_image.proofs.ImageLaws.{none_some, some_same}
 use Rattle.prove_term.specs.Contexts.{Context}
 use Rattle.ml_image.specs.Assumed.{IsAssumed}
-use Rattle.prove_term.specs.Injections.{inject, HasEnds, SaysInjecting, SaysCollapsing}
+use Rattle.prove_term.specs.Injections.{SaysInjecting, SaysCollapsing}
+use Rattle.prove_term.specs.Numbered.{inject, HasEnds}
 use Rattle.prove_term.specs.InjectionTables.{AllowsPair, InjectsBelow}
 use Rattle.prove_term.proofs.ImageShapes.{both_some, map_some}
 
@@ -102,7 +103,8 @@ same_constant : (c d : ℕ) → logic.constant c ≡ logic.constant d → c ≡ 
 same_constant c d h = cc
 
 -- there is only one injection symbol
-same_symbol : (sig : Signature) (names : List (List ℕ)) (a b d f : ℕ) (e : HasEnds sig names a b)
+pub same_symbol : (sig : Signature) (names : List (List ℕ)) (a b d f : ℕ)
+    (e : HasEnds sig names a b)
     (g : HasEnds sig names d f) → e.symbol ≡ g.symbol
 same_symbol sig names a b d f e g =
     same_constant e.symbol g.symbol (some_same (logic.constant e.symbol) (logic.constant g.symbol)
@@ -265,6 +267,13 @@ pub can_inject : (sig : Signature) (a b : ℕ) → AllowsPair sig a b → CanInj
 can_inject sig a b h =
     let w : (a < length sig.sorts) × (b < length sig.sorts) =
     both_sorts sig a b h.signature (by_pair h.pair) in
+    (h.symbol, (w.0, (w.1, tt)))
+
+pub can_inject_below : (sig : Signature) (a b : ℕ) → InjectsBelow sig a b
+    → CanInject sig (a ∷ b ∷ [])
+can_inject_below sig a b h =
+    let w : (a < length sig.sorts) × (b < length sig.sorts) =
+    both_sorts sig a b h.signature h.below in
     (h.symbol, (w.0, (w.1, tt)))
 
 pub can_collapse : (sig : Signature) (a b d : ℕ) → IsBelow sig.subsorts a b → InjectsBelow sig b d

@@ -14,7 +14,8 @@ use Rattle.rule_core.proofs.Belows.{IsBelow-trans}
 use Rattle.ml_image.specs.Sentences.{term}
 use Rattle.ml_image.proofs.ImageLaws.{some_same}
 use Rattle.prove_term.specs.Contexts.{Context, HasContext, IsLemmaIn}
-use Rattle.prove_term.specs.Injections.{inject, HasEnds, SaysInjecting, SaysCollapsing}
+use Rattle.prove_term.specs.Injections.{SaysInjecting, SaysCollapsing}
+use Rattle.prove_term.specs.Numbered.{inject, HasEnds}
 use Rattle.prove_term.specs.Injections.{SaysInjected, IsInjected, IsInjectionAt, IsCollapsed}
 use Rattle.prove_term.specs.Injections.{IsCollapseAt, InjectedFrom, CollapsedFrom, Joins}
 use Rattle.prove_term.specs.Injections.{JoinedFrom, StaysJoined}

@@ -15,7 +15,7 @@ use Rattle.prove_term.specs.ContextView.{context_of, IsKept}
 use Rattle.prove_term.specs.declared.context.Cx.TheInside.{Inside}
 use Rattle.prove_term.proofs.ContextLaws.{grown_none, grown_names, grown_axiom, grown_lemma}
 use Rattle.prove_term.proofs.ContextLaws.{context_gains, context_states, context_learns}
-use Rattle.prove_term.proofs.KeptLaws.{rules_grown, values_grown, constructors_grown}
+use Rattle.prove_term.proofs.KeptLaws.{rules_grown, values_grown, constructors_grown, stated_grown}
 use Rattle.prove_term.proofs.InjectionGrown.{injections_grown, collapses_grown}
 use Rattle.prove_term.proofs.KeptEqualities.{equalities_grown}
 use Rattle.prove_term.proofs.ImageShapes.{sentence_has_no_meta}
@@ -36,6 +36,8 @@ kept_gains a names h gained =
           rules_grown (context_of a) (context_of (record a { names = names })) a.rules g h.rules;
       values =
           values_grown (context_of a) (context_of (record a { names = names })) a.values g h.values;
+      stated =
+          stated_grown (context_of a) (context_of (record a { names = names })) a.stated g h.stated;
       constructors =
           constructors_grown (context_of a) (context_of (record a { names = names })) a.constructors
           g h.constructors;
@@ -86,6 +88,9 @@ kept_states {A} {E} r a v p theory is h image ok err = go (either_way r ok err)
           values =
               values_grown (context_of a) (context_of (record a { theory = a.theory ++ p ∷ [] }))
               a.values g h.values;
+          stated =
+              stated_grown (context_of a)
+              (context_of (record a { theory = a.theory ++ p ∷ [] })) a.stated g h.stated;
           constructors =
               constructors_grown (context_of a)
               (context_of (record a { theory = a.theory ++ p ∷ [] })) a.constructors g
@@ -140,6 +145,9 @@ kept_learns a v t lemmas theorems is h stays more told =
       values =
           values_grown (context_of a) (context_of (record a { lemmas = lemmas })) a.values g
           h.values;
+      stated =
+          stated_grown (context_of a) (context_of (record a { lemmas = lemmas })) a.stated g
+          h.stated;
       constructors =
           constructors_grown (context_of a) (context_of (record a { lemmas = lemmas }))
           a.constructors g h.constructors;

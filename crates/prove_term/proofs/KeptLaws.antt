@@ -1,6 +1,6 @@
 -- What is kept of rules, values and constructors stays right when a context grows.
 use Rattle.std.proofs.Common.{◌≡◌, ℕ, List, [], ◌∷◌, Some, option_map, map, inl, get_or, sym, ◌∙◌}
-use Rattle.std.proofs.Common.{ap, subst, slice_get}
+use Rattle.std.proofs.Common.{ap, subst, slice_get, arith, length, length-append, ◌<◌}
 use Rattle.std.specs.Prelude.{IfSome, Contains}
 use Rattle.std.specs.BTreeMap as tree
 use Rattle.std.specs.BTreeMap.{BTreeMap}
@@ -21,8 +21,9 @@ use Rattle.ml_image.specs.Assumed.{IsAssumed}
 use Rattle.prove_term.specs.RuleAxioms.{SaysRuleAt}
 use Rattle.prove_term.specs.Stated.{IsRuleAxiom}
 use Rattle.prove_term.specs.ValueAxioms.{IsValueAxiom}
-use Rattle.prove_term.specs.Schemas.{AreSortImages}
-use Rattle.prove_term.specs.Constructing.{HasNumbers, IsNumbered, IsConstructorAt, SaysTotality}
+use Rattle.prove_term.specs.Numbered.{AreSortImages}
+use Rattle.prove_term.specs.Constructing.{IsConstructorAt, SaysTotality}
+use Rattle.prove_term.specs.Numbered.{HasNumbers, IsNumbered}
 use Rattle.prove_term.specs.declared.context.ValueAxiom.{ValueAxiom}
 use Rattle.prove_term.proofs.ContextLaws.{image_grown, axiom_grown, lemma_there_grown}
 use Rattle.prove_term.proofs.ContextLaws.{contains_there}
@@ -54,6 +55,20 @@ pub rules_grown : (a b : Context) (kept : BTreeMap ℕ AxiomNo) → HasGrown a b
     → IfSome (tree.get nat_cmp kept i) (λ no. IsRuleAxiom b i no.0)
 rules_grown a b kept g h =
     λ i. IfSome_then (tree.get nat_cmp kept i) (h i) (λ no is. rule_axiom_grown a b i no.0 g is)
+
+-- ---- axioms that are stated once
+
+pub stated_grown : (a b : Context) (kept : BTreeMap ℕ AxiomNo) → HasGrown a b
+    → ((i : ℕ) → IfSome (tree.get nat_cmp kept i) (λ no. no.0 < length a.axioms)) → (i : ℕ)
+    → IfSome (tree.get nat_cmp kept i) (λ no. no.0 < length b.axioms)
+stated_grown a b kept g h =
+    λ i. IfSome_then (tree.get nat_cmp kept i) (h i)
+    (λ no low. omega (
+      arith,
+      low,
+      ap (λ (ps : List Pattern). length ps) g.more_axioms,
+      length-append a.axioms g.axioms,
+    ))
 
 -- ---- values
 

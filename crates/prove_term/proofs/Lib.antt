@@ -1,6 +1,9 @@
+pub mod ApartImages
+pub mod ApartShapes
 pub mod ApplicationLaws
 pub mod CallLaws
 pub mod AssumingLaws
+pub mod CollapsedTerms
 pub mod ComparingCalls
 pub mod ComparingInjections
 pub mod ComparingLaws
@@ -29,5 +32,8 @@ pub mod NamingCalls
 pub mod NamingParts
 pub mod NamingSteps
 pub mod NamingWholes
+pub mod OpenAxiomLaws
+pub mod RaisedShapes
+pub mod Renumbering
 pub mod ResultLaws
 pub mod Substituting

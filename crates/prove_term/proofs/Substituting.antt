@@ -7,7 +7,8 @@ use Rattle.ml_pat.specs.Judgements.{fresh, absent, IsAbsent, substituted}
 use Rattle.ml_pat.proofs.LeafLaws.{both_true}
 use Rattle.ml_kernel.specs.Lemmas.{HasNoVariable}
 use Rattle.ml_image.specs.Counted.{at_variables}
-use Rattle.prove_term.specs.Schemas.{at_metas, all_from, totality_from}
+use Rattle.prove_term.specs.Schemas.{at_metas, totality_from}
+use Rattle.prove_term.specs.Numbered.{all_from}
 
 -- ---- a variable below others
 

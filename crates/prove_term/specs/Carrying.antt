@@ -4,7 +4,8 @@ use Rattle.ml_pat.specs.Patterns.{Pattern, equal, fun, meta}
 use Rattle.ml_kernel.specs.Lemmas.{HasNoVariable}
 use Rattle.ml_kernel.specs.Theorems.{Theorem, IsByLemma}
 use Rattle.ml_derived.specs.Scopes.{Scope, IsStatedIn, IsWithin}
-use Rattle.prove_term.specs.Injections.{inject, SaysInjected, SaysCollapsed}
+use Rattle.prove_term.specs.Injections.{SaysInjected, SaysCollapsed}
+use Rattle.prove_term.specs.Numbered.{inject}
 
 -- the lemma is on an injection from s to t, and the proof says that p is one element of s
 pub record Cites (c s t : ℕ) (p : Pattern) (lemma proof : Theorem) : Type 0 where

@@ -5,34 +5,9 @@ use Rattle.ml_kernel.specs.Theorems.{Theorem}
 use Rattle.rule_core.specs.Sorting.{IsSymbol}
 use Rattle.rule_core.specs.declared.signature.Signature.{Signature}
 use Rattle.rule_core.specs.declared.signature.SymInfo.{SymInfo}
-use Rattle.rule_core.specs.declared.signature.SymKind.TheVariants.{Ctor}
-use Rattle.ml_image.specs.Images.{symbol_image, sort_image}
-use Rattle.ml_image.specs.OwnAxioms.{IsConstructor}
 use Rattle.prove_term.specs.Contexts.{Context}
-use Rattle.prove_term.specs.Schemas.{AreSortImages, totality_from, at_metas, meta_facts, reversed}
-
--- the symbol with this number is a constructor
-abbrev pub Constructs : Signature → ℕ → Type 0
-Constructs sig f = (info : SymInfo) × IsSymbol sig f info × (info.kind ≡ Ctor)
-
--- the numbers, among the names, of a symbol, of the sorts of its arguments, and of the sort of its
--- result
-pub record HasNumbers (sig : Signature) (names : List (List ℕ)) (f : ℕ) (sorts : List ℕ)
-    (sort : ℕ) : Type 0 where
-  pub head : ℕ
-  pub is_head : symbol_image sig names f ≡ Some (constant head)
-  pub numbers : List ℕ
-  pub are_numbers : AreSortImages sig names sorts numbers
-  pub number : ℕ
-  pub is_number : sort_image sig names sort ≡ Some number
-
--- the declaration of a constructor, with its numbers
-pub record IsNumbered (sig : Signature) (names : List (List ℕ)) (f : ℕ) : Type 0 where
-  pub info : SymInfo
-  pub sorts : List ℕ
-  pub sort : ℕ
-  pub constructs : IsConstructor sig f info sorts sort
-  pub numbers : HasNumbers sig names f sorts sort
+use Rattle.prove_term.specs.Schemas.{totality_from, at_metas, meta_facts, reversed}
+use Rattle.prove_term.specs.Numbered.{IsNumbered}
 
 -- for all arguments, a constructor with these numbers makes one element of its sort
 abbrev pub totality : ℕ → List ℕ → ℕ → Pattern

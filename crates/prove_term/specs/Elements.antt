@@ -11,7 +11,8 @@ use Rattle.rule_core.specs.declared.signature.SortRef.{SortRef}
 use Rattle.ml_image.specs.Images.{image_of, sort_image}
 use Rattle.ml_image.specs.OwnAxioms.{sort_numbered}
 use Rattle.prove_term.specs.Contexts.{Context, HasContext}
-use Rattle.prove_term.specs.Schemas.{AreImages, AreSortImages, facts, reversed}
+use Rattle.prove_term.specs.Schemas.{AreImages, facts, reversed}
+use Rattle.prove_term.specs.Numbered.{AreSortImages}
 
 abbrev pub IsSorted : Signature → RulePattern → Type 0
 IsSorted sig p = (sort : ℕ) × HasSort sig [] p sort

@@ -1,24 +1,11 @@
 -- Injections between sorts: what axioms and lemmas say about them.
-use Rattle.std.specs.Prelude.{◌≡◌, ℕ, Some, IsTrue, List, [], ◌∷◌, Contains, slice_get}
-use Rattle.ml_pat.specs.Patterns.{Pattern, all, ex, equal, fun, app, at_sort, var, meta, constant}
+use Rattle.std.specs.Prelude.{◌≡◌, ℕ, Some, IsTrue, [], ◌∷◌, Contains, slice_get}
+use Rattle.ml_pat.specs.Patterns.{Pattern, all, ex, equal, fun, var, meta}
 use Rattle.ml_kernel.specs.Theorems.{Theorem}
 use Rattle.ml_derived.specs.Scopes.{Scope, IsOver, IsStatedIn, IsWithin}
-use Rattle.rule_core.specs.declared.signature.Signature.{Signature}
-use Rattle.ml_image.specs.Images.{injection_symbol, some_symbol_image, sort_image}
+use Rattle.ml_image.specs.Images.{sort_image}
 use Rattle.prove_term.specs.Contexts.{Context}
-
--- the injection symbol at two sorts, applied to a pattern
-abbrev pub inject : ℕ → ℕ → ℕ → Pattern → Pattern
-inject c s t p = app (at_sort (at_sort (constant c) s) t) p
-
--- the numbers of the injection symbol and of two sorts among the names
-pub record HasEnds (sig : Signature) (names : List (List ℕ)) (a b : ℕ) : Type 0 where
-  pub symbol : ℕ
-  pub is_symbol : some_symbol_image sig names (injection_symbol sig) ≡ Some (constant symbol)
-  pub lower : ℕ
-  pub is_lower : sort_image sig names a ≡ Some lower
-  pub upper : ℕ
-  pub is_upper : sort_image sig names b ≡ Some upper
+use Rattle.prove_term.specs.Numbered.{inject, HasEnds}
 
 -- each element of the sort s, injected into the sort t, is one element of t
 abbrev pub injecting : ℕ → ℕ → ℕ → Pattern

@@ -10,6 +10,9 @@ pub mod EqualImages
 pub mod EqualCalls
 pub mod Values
 pub mod EquationAxioms
+pub mod Numbered
+pub mod InjectionTables
+pub mod OpenAxioms
 -- Private: what clauses of private functions cite, and how private fields are seen.
 pub mod Schemas
 pub mod Falling
@@ -18,8 +21,8 @@ pub mod ValueAxioms
 pub mod Constructing
 pub mod Assuming
 pub mod Injections
-pub mod InjectionTables
 pub mod SortKeys
+pub mod Raised
 pub mod Carrying
 pub mod Elements
 pub mod EqualityLemmas

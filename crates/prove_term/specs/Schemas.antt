@@ -1,21 +1,17 @@
 -- Patterns over numbered variables and pattern variables, as they occur in sentences and lemmas
 -- about symbols.
 use Rattle.std.specs.Prelude.{◌≡◌, ℕ, ◌+◌, zero, suc, List, [], ◌∷◌, ◌++◌, length, Some}
-use Rattle.ml_pat.specs.Patterns.{Pattern, app, all, fun, var, meta, constant, ex, equal}
+use Rattle.ml_pat.specs.Patterns.{Pattern, app, fun, var, meta, constant, ex, equal}
 use Rattle.rule_core.specs.declared.signature.Signature.{Signature}
 use Rattle.term_core.specs.Patterns.{Patterns, no_pattern, more_patterns}
 use Rattle.ml_image.specs.Counted.{at_variables}
-use Rattle.ml_image.specs.Images.{image_of, sort_image}
+use Rattle.ml_image.specs.Images.{image_of}
+use Rattle.prove_term.specs.Numbered.{all_from}
 
 -- the head, applied to n pattern variables numbered from k on
 abbrev pub at_metas : Pattern → ℕ → ℕ → Pattern
 at_metas head k zero = head
 at_metas head k (suc n) = at_metas (app head (meta k)) (k + 1) n
-
--- `for each x:k of the first sort, each x:(k+1) of the second, ..`
-abbrev pub all_from : ℕ → List ℕ → Pattern → Pattern
-all_from k [] p = p
-all_from k (s ∷ ss) p = all k s (all_from (k + 1) ss p)
 
 -- the facts that each pattern variable, numbered from k on, is one element of its sort
 abbrev pub meta_facts : ℕ → List ℕ → List Pattern
@@ -27,14 +23,6 @@ abbrev pub facts : List Pattern → List ℕ → List Pattern
 facts [] ss = []
 facts (q ∷ qs) [] = []
 facts (q ∷ qs) (s ∷ ss) = fun q s ∷ facts qs ss
-
--- the numbers ns of the sorts ss among the names
-abbrev pub AreSortImages : Signature → List (List ℕ) → List ℕ → List ℕ → Type 0
-AreSortImages sig names [] [] = Unit {0}
-AreSortImages sig names [] (n ∷ ns) = ⊥
-AreSortImages sig names (s ∷ ss) [] = ⊥
-AreSortImages sig names (s ∷ ss) (n ∷ ns) =
-    (sort_image sig names s ≡ Some n) × AreSortImages sig names ss ns
 
 -- the images of patterns
 abbrev pub AreImages : Signature → List (List ℕ) → Patterns → List Pattern → Type 0

@@ -5,7 +5,8 @@ ghost use Rattle.rule_core.specs.WellSorted.{IsSignature};
 ghost use Rattle.ml_image.specs.Sentences.{IsImageOf};
 ghost use Rattle.prove_term.specs.Contexts.{HasGrown, StaysIn};
 ghost use Rattle.ml_image.specs.Assumed.{IsAssumed};
-ghost use Rattle.prove_term.specs.Constructing.{Constructs, IsConstructorAt, SaysTotality};
+ghost use Rattle.prove_term.specs.Constructing.{IsConstructorAt, SaysTotality};
+ghost use Rattle.prove_term.specs.Numbered.{Constructs};
 ghost use Rattle.prove_term.specs.Constructing.{HasArity};
 
 use crate::context::Cx;
@@ -62,12 +63,16 @@ impl<'p> Cx<'p> {
         ensures grown { HasGrown self.old self.new }
     {
         let image = self.totality_image(alloc, symbol)?;
-        let no = self.state(image)?;
+        let no = self.state_once(image)?;
         self.axiom(alloc, no)
     }
 
     // Returns the image of that sentence.
-    fn totality_image(&mut self, alloc: Global, symbol: SymId) -> Result<MPat, AllocError>
+    pub(crate) fn totality_image(
+        &mut self,
+        alloc: Global,
+        symbol: SymId,
+    ) -> Result<MPat, AllocError>
         requires signature { IsSignature self.old.program.sig }
         requires constructs { Constructs self.old.program.sig symbol.0 }
         ensures says { IfOk result (SaysTotality self.new symbol.0) }
@@ -83,7 +88,7 @@ impl<'p> Cx<'p> {
     }
 
     // Returns how many arguments a symbol has.
-    fn count(&self, symbol: SymId) -> usize
+    pub(crate) fn count(&self, symbol: SymId) -> usize
         ensures { HasArity self.now.program.sig symbol.0 result }
     {
         match self.program.sig.symbols.value(symbol.0 as usize) {

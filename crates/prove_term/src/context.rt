@@ -1,6 +1,10 @@
 // The context of the proofs about a program.
 ghost use Rattle.std.specs.Prelude.{◌≡◌, ◌^◌, ◌<◌, ◌∷◌, ◌++◌, [], IfOk, OnOk, OnErr, Some, length};
 ghost use Rattle.std.specs.Prelude.{slice_get};
+ghost use Rattle.ml_pat.specs.Patterns.{Pattern};
+ghost use Rattle.ml_kernel.specs.RenamedAxioms.{MayRename};
+ghost use Rattle.ml_kernel.specs.Renamings.{by_place, renamed};
+ghost use Rattle.ml_kernel.specs.StepView.{numbers_of};
 ghost use Rattle.term_core.specs.RulePatterns.{plain_pattern};
 ghost use Rattle.rule_core.specs.ProgramView.{rewrite_rule, theory_of};
 ghost use Rattle.rule_core.specs.declared.rules.Rule.{Rule};
@@ -14,7 +18,7 @@ ghost use Rattle.prove_term.specs.Stated.{IsRuleAxiom};
 
 use ml_image::{rule_image, term_image};
 use ml_kernel::{AxiomNo, Lemma, Theory, Thm};
-use ml_pat::{MPat, MSort, Names};
+use ml_pat::{MPat, MSort, Names, VarNo};
 use rule_core::Program;
 use std::alloc::{AllocError, Global};
 use std::collections::BTreeMap;
@@ -28,6 +32,8 @@ pub struct Cx<'p> {
     pub(crate) names: Names,
     theory: Theory,
     lemmas: Vec<Lemma>,
+    // The number of an axiom with this fingerprint, for axioms that are stated once.
+    pub(crate) stated: BTreeMap<u64, AxiomNo>,
     // The theorems of the lemmas, with their derivations.
     theorems: Vec<Thm>,
     // The axiom of each rule that was used.
@@ -79,6 +85,7 @@ impl Drop for Cx<'_> {
             names: _,
             theory: _,
             lemmas: _,
+            stated: _,
             theorems: _,
             rules: _,
             values: _,
@@ -102,6 +109,7 @@ impl<'p> Cx<'p> {
             names: Names::hashed_by(alloc, program.sig.symbols.hasher().start),
             theory: Theory::new(alloc),
             lemmas: Vec::new(alloc),
+            stated: BTreeMap::new(alloc),
             theorems: Vec::new(alloc),
             rules: BTreeMap::new(alloc),
             values: BTreeMap::new(alloc),
@@ -233,6 +241,23 @@ impl<'p> Cx<'p> {
         ensures stays { IfOk result (StaysIn self.now) }
     {
         self.theory.axiom(alloc, no)
+    }
+
+    // Returns an axiom as a theorem, with new numbers for its variables.
+    pub(crate) fn axiom_as(
+        &self,
+        alloc: Global,
+        no: AxiomNo,
+        new: &[VarNo],
+    ) -> Result<Thm, AllocError>
+        requires number { no.0 < length self.now.axioms }
+        requires renames { MayRename self.now.axioms no.0 (numbers_of new.now) }
+        ensures says { IfOk result (λ t. (p : Pattern) → slice_get self.now.axioms no.0 ≡ Some p →
+            t.conclusion ≡ renamed (by_place (numbers_of new.now)) p) }
+        ensures no_hypotheses { IfOk result (λ t. t.hypotheses ≡ []) }
+        ensures stays { IfOk result (StaysIn self.now) }
+    {
+        self.theory.axiom_as(alloc, no, new)
     }
 
     /// Keeps a theorem as a lemma. The theorem may use only what the context has, and may assume

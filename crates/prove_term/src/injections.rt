@@ -146,12 +146,17 @@ impl<'p> Cx<'p> {
         ensures grown { HasGrown self.old self.new }
     {
         let image = self.subsort_image(alloc, from, to)?;
-        let no = self.state(image)?;
+        let no = self.state_once(image)?;
         self.axiom(alloc, no)
     }
 
     // Returns the image of that sentence.
-    fn subsort_image(&mut self, alloc: Global, from: SortId, to: SortId) -> Result<MPat, AllocError>
+    pub(crate) fn subsort_image(
+        &mut self,
+        alloc: Global,
+        from: SortId,
+        to: SortId,
+    ) -> Result<MPat, AllocError>
         requires { AllowsPair self.old.program.sig from.0 to.0 }
         ensures says { IfOk result (SaysInjecting self.new from.0 to.0) }
         ensures assumed { IfOk result
@@ -226,12 +231,12 @@ impl<'p> Cx<'p> {
         ensures grown { HasGrown self.old self.new }
     {
         let image = self.collapse_image(alloc, from, through, to)?;
-        let no = self.state(image)?;
+        let no = self.state_once(image)?;
         self.axiom(alloc, no)
     }
 
     // Returns the image of that sentence.
-    fn collapse_image(
+    pub(crate) fn collapse_image(
         &mut self,
         alloc: Global,
         from: SortId,

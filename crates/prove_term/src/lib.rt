@@ -7,6 +7,7 @@
 #![tactic(auto, using(crate::proofs::ContextLaws::grown_twice, crate::proofs::ContextLaws::grown_none))]
 
 mod calls;
+mod collapsing;
 mod comparing;
 mod congruence;
 mod conjunctions;
@@ -20,10 +21,14 @@ mod hooks;
 mod injections;
 mod joining;
 mod naming;
+mod open_axioms;
 mod schemas;
+mod sorts;
+mod stated;
 mod values;
 
 pub use calls::call_eq;
+pub use collapsing::collapse_eq;
 pub use comparing::inj_eq;
 pub use congruence::{Parts, applied, halves, taken_apart};
 pub use context::Cx;

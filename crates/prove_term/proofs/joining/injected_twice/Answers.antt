@@ -1,7 +1,7 @@
 use Rattle.std.proofs.Common.{◌≡◌, ◌∷◌, [], ap, ◌∙◌, subst}
 use Rattle.ml_pat.specs.Patterns.{Pattern, fun, meta}
 use Rattle.ml_derived.specs.Scopes.{AssumesWithin}
-use Rattle.prove_term.specs.Injections.{inject}
+use Rattle.prove_term.specs.Numbered.{inject}
 use Rattle.prove_term.proofs.ResultLaws.{if_ok_two}
 use Rattle.prove_term.proofs.InjectionLaws.{first_of_one, once_cites, second_cites, says_twice}
 use Rattle.prove_term.proofs.InjectionLaws.{twice_stays}

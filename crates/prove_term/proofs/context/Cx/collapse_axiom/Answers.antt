@@ -8,9 +8,10 @@ use Rattle.prove_term.proofs.context.Cx.collapse_axiom.Goals as goal
 pub returns-clause-says : goal.returns-clause-says
 returns-clause-says c =
     if_ok c.axiom.result
-    (λ t there. subst (SaysCollapsing c.state.new.self c.args.from.0 c.args.through.0 c.args.to.0)
-    (same_there c.state.new.self.axioms c.in_ok-no.no.0 c.in_ok-image.image t.conclusion
+    (λ t there. subst (SaysCollapsing c.state_once.new.self c.args.from.0 c.args.through.0
+    c.args.to.0)
+    (same_there c.state_once.new.self.axioms c.in_ok-no.no.0 c.in_ok-image.image t.conclusion
     c.in_ok-no.ensures.there there)
-    (collapsing_grown c.collapse_image.new.self c.state.new.self c.args.from.0 c.args.through.0
+    (collapsing_grown c.collapse_image.new.self c.state_once.new.self c.args.from.0 c.args.through.0
     c.args.to.0 c.in_ok-image.image c.in_ok-no.ensures.grown c.in_ok-image.ensures.says))
     c.axiom.ensures.conclusion

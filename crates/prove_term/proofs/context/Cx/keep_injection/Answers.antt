@@ -11,6 +11,7 @@ invariant_of-self-2 c = record {
   rules = c.self.invariant.rules;
   values = c.self.invariant.values;
   theorems = c.self.invariant.theorems;
+  stated = c.self.invariant.stated;
   constructors = c.self.invariant.constructors;
   injections =
       injections_kept (context_of c.self.inside) c.self.inside.injections c.insert.new.self

@@ -8,9 +8,10 @@ use Rattle.prove_term.proofs.context.Cx.totality.Goals as goal
 pub returns-clause-says : goal.returns-clause-says
 returns-clause-says c =
     if_ok c.axiom.result
-    (λ t there. subst (SaysTotality c.state.new.self c.args.symbol.0)
-    (same_there c.state.new.self.axioms c.in_ok-no.no.0 c.in_ok-image.image t.conclusion
+    (λ t there. subst (SaysTotality c.state_once.new.self c.args.symbol.0)
+    (same_there c.state_once.new.self.axioms c.in_ok-no.no.0 c.in_ok-image.image t.conclusion
     c.in_ok-no.ensures.there there)
-    (totality_grown c.totality_image.new.self c.state.new.self c.args.symbol.0 c.in_ok-image.image
+    (totality_grown c.totality_image.new.self c.state_once.new.self c.args.symbol.0
+    c.in_ok-image.image
     c.in_ok-no.ensures.grown c.in_ok-image.ensures.says))
     c.axiom.ensures.conclusion
