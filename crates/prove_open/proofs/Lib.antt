@@ -1,0 +1,15 @@
+pub mod ScopeLaws
+pub mod ValueLaws
+pub mod OpenInstances
+pub mod RaisingLaws
+pub mod CoverLaws
+pub mod GatheringLaws
+pub mod ElementLaws
+pub mod ConstructingLaws
+pub mod FactSideLaws
+pub mod FactInstances
+pub mod FactsTaken
+pub mod FreedomLaws
+pub mod GivenLaws
+pub mod KeptApart
+pub mod FactParts
