@@ -1,2 +1,30 @@
-mod Reasons
-mod Finality
+pub mod Reasons
+pub mod Finality
+pub mod Places
+pub mod Pairs
+pub mod Growing
+pub mod FreshImages
+pub mod Roots
+pub mod Shapes
+pub mod Staying
+pub mod Applications
+pub mod Conversions
+pub mod Goals
+pub mod PlaceSorts
+pub mod LargerImages
+pub mod Distinct
+pub mod WeakFacts
+pub mod InCommon
+pub mod Findings
+pub mod PairsOver
+pub mod Bound
+pub mod Listed
+pub mod Reached
+pub mod TwoBindings
+pub mod Inverted
+pub mod Denied
+pub mod Switched
+pub mod NoClash
+pub mod Comparisons
+pub mod Begun
+pub mod Collapsed
