@@ -16,7 +16,7 @@ use Rattle.prove_term.specs.OpenAxioms.{at_numbered}
 use Rattle.prove_term.specs.Schemas.{AreImages}
 use Rattle.prove_term.proofs.ImageShapes.{both_some, map_some, applied_images}
 use Rattle.prove_term.proofs.InjectionShapes.{injection_shape, injection_made}
-use Rattle.prove_open.specs.Differences.{HasHead}
+use Rattle.prove_open.specs.Differences.{IsValueOrConstructor}
 use Rattle.prove_open.specs.FactSides.{head_form, injected_form, side_form, head_parts}
 use Rattle.prove_open.specs.FactSides.{injected_parts, side_parts, HasSide}
 use Rattle.prove_open.specs.Values.{at_values, given_from, BindsFrom}
@@ -68,7 +68,7 @@ constant_becomes sig names e p o form image is =
     }
 
 head_becomes : (sig : Signature) (names : List (List ℕ)) (e : ℕ → Pattern) (k m : ℕ)
-    (p : RulePattern) (qs : List Pattern) (form : Pattern) → HasHead p
+    (p : RulePattern) (qs : List Pattern) (form : Pattern) → IsValueOrConstructor p
     → AreImages sig names (head_parts p) qs
     → given_from e (k + m) (count_of (head_parts p)) ≡ qs
     → image_of sig names (shifted k (head_form m p)) ≡ Some form → Becomes sig names e p form

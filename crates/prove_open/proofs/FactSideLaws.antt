@@ -21,7 +21,7 @@ use Rattle.ml_image.specs.Sides.{side_pattern, IsHead, IsSide, Differ}
 use Rattle.ml_image.proofs.ConstructorLaws.{read_sorts, AreSorts-append}
 use Rattle.ml_image.proofs.WellSortedLaws.{sorted_has_image}
 use Rattle.prove_open.specs.Givens.{IsCovered, HasFact}
-use Rattle.prove_open.specs.Differences.{HasHead, DifferAtRoot}
+use Rattle.prove_open.specs.Differences.{IsValueOrConstructor, DifferAtRoot}
 use Rattle.prove_open.specs.FactSides.{is_injected, is_application, head_form, injected_form}
 use Rattle.prove_open.specs.FactSides.{side_form, head_parts, injected_parts, side_parts, HasSide}
 use Rattle.prove_open.specs.declared.givens.Given.{Given}
@@ -101,7 +101,7 @@ pub record IsOfSide (sig : Signature) (sorts : List ℕ) (g : Given) (deep : Boo
   pub refs_are : refs ≡ map sort_numbered ss
 
 of_head : (sig : Signature) (sorts : List ℕ) (g : Given) (p : Pattern) (sort : ℕ)
-    → IsSignature sig → IsAcFree sig → IsCovered sig sorts g p sort → HasHead p
+    → IsSignature sig → IsAcFree sig → IsCovered sig sorts g p sort → IsValueOrConstructor p
     → IsOfHead sig sorts g p sort
 of_head sig sorts g (variable x) sort ok free c h = absurd h
 of_head sig sorts g (domain_value s v) sort ok free c h = record {
@@ -152,7 +152,7 @@ of_head sig sorts g (injection a b p) sort ok free c h = absurd h
 of_head sig sorts g (call f ss ps) sort ok free c h = absurd h
 
 plain_side : (sig : Signature) (sorts : List ℕ) (g : Given) (deep : Bool) (p : Pattern) (sort : ℕ)
-    → HasHead p → IsOfHead sig sorts g p sort → IsOfSide sig sorts g deep p sort
+    → IsValueOrConstructor p → IsOfHead sig sorts g p sort → IsOfSide sig sorts g deep p sort
 plain_side sig sorts g deep (variable x) sort h i = absurd h
 plain_side sig sorts g deep (domain_value s v) sort h i = record {
   ss = i.ss;
@@ -341,7 +341,7 @@ numbered_images sig m k zero low = tt
 numbered_images sig m k (suc n) low =
     (omega (arith, low), numbered_images sig m (k + 1) n (omega (arith, low)))
 
-head_image : (sig : Signature) (n m k : ℕ) (p : Pattern) → HasImage sig n p → HasHead p
+head_image : (sig : Signature) (n m k : ℕ) (p : Pattern) → HasImage sig n p → IsValueOrConstructor p
     → k + count_of (head_parts p) ≤ m → HasImage sig m (head_form k p)
 head_image sig n m k (variable x) i h low = absurd h
 head_image sig n m k (domain_value s v) i h low = i

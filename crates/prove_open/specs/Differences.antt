@@ -11,10 +11,10 @@ use Rattle.prove_open.specs.declared.differences.Difference.{Difference}
 use Rattle.prove_open.specs.declared.differences.Difference.TheVariants.{Unequal, Disjoint}
 
 -- a value or a constructor
-abbrev pub HasHead : RulePattern → Type 0
-HasHead (domain_value s v) = Unit {0}
-HasHead (application f ps) = Unit {0}
-HasHead _ = ⊥
+abbrev pub IsValueOrConstructor : RulePattern → Type 0
+IsValueOrConstructor (domain_value s v) = Unit {0}
+IsValueOrConstructor (application f ps) = Unit {0}
+IsValueOrConstructor _ = ⊥
 
 -- The two patterns, of one sort, have no common instance, since they differ at the root: different
 -- values, a value and a constructor, different constructors, an injection and one of these, or two
@@ -30,7 +30,7 @@ DifferAtRoot pairs (application f ps) (injection a d q) = Unit {0}
 DifferAtRoot pairs (injection b c p) (domain_value r w) = Unit {0}
 DifferAtRoot pairs (injection b c p) (application g qs) = Unit {0}
 DifferAtRoot pairs (injection b c p) (injection a d q) =
-    (a ≢ b) × (IsBelow pairs a b → ⊥) × HasHead q
+    (a ≢ b) × (IsBelow pairs a b → ⊥) × IsValueOrConstructor q
 DifferAtRoot pairs _ _ = ⊥
 
 -- the theorem says, under the hypothesis, that the two are not equal, or that they have nothing in

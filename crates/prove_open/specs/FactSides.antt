@@ -16,7 +16,7 @@ use Rattle.ml_image.specs.Sentences.{Sentence}
 use Rattle.prove_term.specs.Contexts.{Context, StaysIn}
 use Rattle.prove_open.specs.Givens.{IsCovered}
 use Rattle.prove_open.specs.Under.{DeniesUnder}
-use Rattle.prove_open.specs.Differences.{HasHead, DifferAtRoot}
+use Rattle.prove_open.specs.Differences.{IsValueOrConstructor, DifferAtRoot}
 use Rattle.prove_open.specs.Elements.{AreElementsUnder}
 use Rattle.prove_open.specs.declared.givens.Given.{Given}
 
@@ -60,11 +60,11 @@ side_parts deep p = head_parts p
 -- injected is a value or a constructor
 abbrev pub IsInjectedPart : Bool → Pattern → Type 0
 IsInjectedPart false p = Unit {0}
-IsInjectedPart true p = HasHead p
+IsInjectedPart true p = IsValueOrConstructor p
 
 abbrev pub HasSide : Bool → Pattern → Type 0
 HasSide deep (injection a b p) = IsInjectedPart deep p
-HasSide deep p = HasHead p
+HasSide deep p = IsValueOrConstructor p
 
 -- the same, as a record, which proofs keep folded
 pub record IsSided (deep : Bool) (p : Pattern) : Type 0 where

@@ -8,4 +8,3 @@ pub mod Instances
 pub mod Elements
 pub mod FactSides
 pub mod Hypotheses
-pub mod Sides

@@ -202,9 +202,9 @@ fn injected(
     )
 }
 
-// Returns the number after those of the variables. A number of 2^32 or more is refused as out of
-// memory.
-pub(crate) fn first_new(sorts: &[SortId]) -> Result<u32, AllocError>
+/// Returns the number after those of the variables that have these sorts. `AllocError`: it is 2^32
+/// or more.
+pub fn first_new(sorts: &[SortId]) -> Result<u32, AllocError>
     ensures { IfOk result (λ k. k ≡ length sorts.now) }
 {
     if sorts.len() > u32::MAX as usize {

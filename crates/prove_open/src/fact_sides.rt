@@ -4,7 +4,7 @@ ghost use Rattle.term_core.specs.PatternLists.{plain_patterns};
 ghost use Rattle.term_core.specs.RulePatterns.{plain_pattern, sort_numbers};
 ghost use Rattle.ml_image.specs.Sides.{numbered};
 ghost use Rattle.prove_term.specs.Contexts.{HasGrown};
-ghost use Rattle.prove_open.specs.Differences.{HasHead};
+ghost use Rattle.prove_open.specs.Differences.{IsValueOrConstructor};
 ghost use Rattle.prove_open.specs.Elements.{IsReady, HasElement};
 ghost use Rattle.prove_open.specs.FactSides.{is_injected, head_form, side_form, head_parts};
 ghost use Rattle.prove_open.specs.FactSides.{side_parts, IsSided, HaveFacts, HaveBothFacts};
@@ -44,7 +44,7 @@ fn variables(alloc: Global, count: usize, k: u32) -> Result<Vec<RulePat>, AllocE
 
 // The pattern, if it is a value, or the constructor with variables numbered from k.
 fn head_of(alloc: Global, pat: &RulePat, k: u32) -> Result<RulePat, AllocError>
-    requires { HasHead (plain_pattern pat.now) }
+    requires { IsValueOrConstructor (plain_pattern pat.now) }
     ensures { IfOk result (λ p. plain_pattern p ≡ head_form k (plain_pattern pat.now)) }
 {
     match pat {
@@ -94,7 +94,7 @@ fn head_facts(
     requires ready { IsReady cx.old (sort_numbers sorts.now) given.now }
     requires covered { HasElement cx.old.program.sig (sort_numbers sorts.now) given.now
         (plain_pattern pat.now) }
-    requires head { HasHead (plain_pattern pat.now) }
+    requires head { IsValueOrConstructor (plain_pattern pat.now) }
     ensures have { IfOk result (λ v. HaveFacts cx.new (sort_numbers sorts.now) given.now
         (head_parts (plain_pattern pat.now)) v.items) }
     ensures grown { HasGrown cx.old cx.new }

@@ -16,6 +16,6 @@ mod injections;
 mod instances;
 
 pub use differences::{Difference, difference_under};
-pub use elements::element_under;
+pub use elements::{element_under, first_new};
 pub use freedom::{freedom_under, injective_under};
 pub use givens::Given;

@@ -16,7 +16,7 @@ use Rattle.prove_term.proofs.ContextLaws.{image_grown}
 use Rattle.prove_open.specs.Givens.{IsGiven, HasFact, all_sorted}
 use Rattle.prove_open.specs.Under.{SaysUnder}
 use Rattle.prove_open.specs.declared.givens.Given.{Given}
-use Rattle.refute.specs.Refutations.{Says, in_common, mismatched, inverted, all_bound, variables_of}
+use Rattle.refute.specs.Refutations.{SaysSentence, in_common, mismatched, inverted, all_bound, variables_in_order}
 use Rattle.refute.specs.Refuting.{IsGoal, IsPair, IsSetting}
 use Rattle.refute.specs.Bindings.{SaysInCommon}
 use Rattle.refute.specs.declared.settings.Setting.{Setting}
@@ -42,7 +42,7 @@ clash_setting old new s grown sorted no_ac given high is = record {
 
 pub begun_pair : (old new : Context) (sorts : List ℕ) (g : Given) (p : RulePattern) (sort : ℕ)
     (t : Tree) (xs ys : List ℕ) → HasGrown old new → HasSort old.program.sig sorts p sort
-    → HasNoCall p → IsTermOf old.program.sig t sort → IsNormal t → ys ≡ variables_of p → xs ≡ ys
+    → HasNoCall p → IsTermOf old.program.sig t sort → IsNormal t → ys ≡ variables_in_order p → xs ≡ ys
     → ((x : ℕ) → Contains xs x → HasFact g x) → IsPair new.program.sig sorts g p t
 begun_pair old new sorts g p sort t xs ys grown h k is normal listed same facts =
     program_grown old new (λ (program : Program). IsPair program.sig sorts g p t) grown
@@ -53,29 +53,29 @@ begun_pair old new sorts g p sort t xs ys grown h k is normal listed same facts 
 hypothesis_later : (old new : Context) (sorts : List ℕ) (h : Pattern) (p : RulePattern)
     (xs ys : List ℕ) → HasGrown old new
     → sentence_image old.program.sig old.names (all_sorted sorts xs) ≡ Some h
-    → ys ≡ variables_of p → xs ≡ ys
-    → sentence_image new.program.sig new.names (all_sorted sorts (variables_of p)) ≡ Some h
+    → ys ≡ variables_in_order p → xs ≡ ys
+    → sentence_image new.program.sig new.names (all_sorted sorts (variables_in_order p)) ≡ Some h
 hypothesis_later old new sorts h p xs ys grown is listed same =
-    image_grown old new (all_sorted sorts (variables_of p)) h grown
+    image_grown old new (all_sorted sorts (variables_in_order p)) h grown
     (subst (λ (zs : List ℕ).
     sentence_image old.program.sig old.names (all_sorted sorts zs) ≡ Some h) (same ∙ listed) is)
 
 pub mismatch_said : (old new : Context) (sorts : List ℕ) (h : Pattern) (p q : RulePattern)
     (t : Tree) (xs ys : List ℕ) (r : Pattern) → HasGrown old new
     → sentence_image old.program.sig old.names (all_sorted sorts xs) ≡ Some h
-    → ys ≡ variables_of p → xs ≡ ys → q ≡ ground_pattern t
-    → SaysUnder new h (not (and (term p) (term q))) r → Says new (mismatched sorts p t) r
+    → ys ≡ variables_in_order p → xs ≡ ys → q ≡ ground_pattern t
+    → SaysUnder new h (not (and (term p) (term q))) r → SaysSentence new (mismatched sorts p t) r
 mismatch_said old new sorts h p q t xs ys r grown is listed same whole says =
-    says_under new (all_sorted sorts (variables_of p)) (not (in_common p t)) h r
+    says_under new (all_sorted sorts (variables_in_order p)) (not (in_common p t)) h r
     (hypothesis_later old new sorts h p xs ys grown is listed same)
     (subst (λ (w : RulePattern). SaysUnder new h (not (and (term p) (term w))) r) whole says)
 
 pub inversion_said : (old new : Context) (sorts : List ℕ) (h : Pattern) (p : RulePattern)
     (t : Tree) (theta : List (Option Tree)) (xs ys zs : List ℕ) (r : Pattern) → HasGrown old new
     → sentence_image old.program.sig old.names (all_sorted sorts xs) ≡ Some h
-    → ys ≡ variables_of p → xs ≡ ys → zs ≡ ys
-    → SaysInCommon new h p t (all_bound theta zs) r → Says new (inverted sorts theta p t) r
+    → ys ≡ variables_in_order p → xs ≡ ys → zs ≡ ys
+    → SaysInCommon new h p t (all_bound theta zs) r → SaysSentence new (inverted sorts theta p t) r
 inversion_said old new sorts h p t theta xs ys zs r grown is listed same there says =
-    says_inverted new (all_sorted sorts (variables_of p)) (all_bound theta (variables_of p)) h p t r
+    says_inverted new (all_sorted sorts (variables_in_order p)) (all_bound theta (variables_in_order p)) h p t r
     (hypothesis_later old new sorts h p xs ys grown is listed same)
     (subst (λ (ws : List ℕ). SaysInCommon new h p t (all_bound theta ws) r) (there ∙ listed) says)

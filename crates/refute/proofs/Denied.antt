@@ -14,7 +14,7 @@ use Rattle.prove_open.specs.Under.{SaysUnder}
 use Rattle.prove_open.specs.declared.differences.Difference.TheVariants.{Disjoint, Unequal}
 use Rattle.refute.specs.Bindings.{AreTwoBindings, IsDeniedByBoth}
 use Rattle.refute.specs.Bindings.{bound_if_common, equals_bound}
-use Rattle.refute.specs.Refutations.{Says, in_common}
+use Rattle.refute.specs.Refutations.{SaysSentence, in_common}
 use Rattle.refute.specs.Refuting.{Denies}
 use Rattle.refute.proofs.Conversions.{disjoint_parts, unequal_parts}
 use Rattle.refute.proofs.FreshImages.{image_keeps}
@@ -40,7 +40,7 @@ pub record IsApart (cx : Context) (p q : RulePattern) (c : Pattern) : Type 0 whe
   pub says : c ≡ logic.not (logic.equal left right)
 
 pub apart_shape : (cx : Context) (p q : RulePattern) (c : Pattern)
-    → Says cx (not (equals (term p) (term q))) c → IsApart cx p q c
+    → SaysSentence cx (not (equals (term p) (term q))) c → IsApart cx p q c
 apart_shape cx p q c is =
     let outer : (x : Pattern)
     × (sentence_image cx.program.sig cx.names (equals (term p) (term q)) ≡ Some x)
@@ -58,7 +58,7 @@ apart_shape cx p q c is =
 
 pub apart_said : (cx : Context) (h : Pattern) (p q : RulePattern) (c : Pattern) (t : Theorem)
     → Denies cx h p q (Unequal t) → t.conclusion ≡ logic.imp h c
-    → Says cx (not (equals (term p) (term q))) c
+    → SaysSentence cx (not (equals (term p) (term q))) c
 apart_said cx h p q c t denies is =
     let parts : IsUnequal cx h p q t.conclusion =
     (unequal_parts cx h p q (Unequal t) t refl denies).0 in
@@ -133,7 +133,7 @@ pub two_bindings_are : (cx : Context) (h : Pattern) (x y : ℕ) (u w : Tree) (so
     (p : RulePattern) (t : Tree) (one other differ : Pattern)
     → IsTermOf cx.program.sig w sort → SaysUnder cx h (bound_if_common x u p t) one
     → SaysUnder cx h (bound_if_common x w p t) other
-    → Says cx (not (equals (term (ground_pattern u)) (term (ground_pattern w)))) differ
+    → SaysSentence cx (not (equals (term (ground_pattern u)) (term (ground_pattern w)))) differ
     → AreTwoBindings y one other differ
 two_bindings_are cx h x y u w sort p t one other differ is first second apart =
     let a : IsBound cx h x u p t one = is_bound cx h x u p t one first in

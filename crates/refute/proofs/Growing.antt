@@ -11,12 +11,11 @@ use Rattle.rule_core.specs.WellSorted.{IsWellSorted}
 use Rattle.rule_core.specs.declared.rules.Program.{Program}
 use Rattle.ml_image.specs.Sentences.{Sentence}
 use Rattle.prove_term.specs.Contexts.{Context, HasGrown}
-use Rattle.prove_term.proofs.ContextLaws.{grown_none, grown_twice, has_before, image_grown}
+use Rattle.prove_term.proofs.ContextLaws.{grown_none, grown_twice, image_grown}
 use Rattle.prove_term.proofs.ContextLaws.{stays_grown}
-use Rattle.prove_term.proofs.KeptLaws.{sort_grown}
-use Rattle.prove_open.specs.Givens.{IsFactOn, IsGiven}
 use Rattle.prove_open.specs.Under.{SaysUnder, DeniesUnder}
 use Rattle.prove_open.specs.Differences.{SaysDifference}
+use Rattle.prove_open.proofs.GatheringLaws.{given_grown}
 use Rattle.prove_open.specs.declared.givens.Given.{Given}
 use Rattle.prove_open.specs.declared.differences.Difference.{Difference}
 use Rattle.prove_open.specs.declared.differences.Difference.TheVariants.{Unequal, Disjoint}
@@ -47,23 +46,6 @@ denies_under_grown a b h s p g is = record {
   image = is.image;
   is_image = image_grown a b s is.image g is.is_image;
   says = is.says;
-}
-
-pub given_grown : (a b : Context) (sorts : List ℕ) (g : Given) → HasGrown a b → IsGiven a sorts g
-    → IsGiven b sorts g
-given_grown a b sorts g grown is = record {
-  predicate = is.predicate;
-  over = λ s has. is.over s (has_before a b s grown has);
-  facts = λ x t there.
-      let fact : IsFactOn a sorts g.hypothesis x t = is.facts x t there in
-      record {
-        sort = fact.sort;
-        is_sort = fact.is_sort;
-        number = fact.number;
-        is_number = sort_grown a b fact.sort fact.number grown fact.is_number;
-        says = fact.says;
-        stays = stays_grown a b t grown fact.stays;
-      };
 }
 
 pub goal_grown : (a b : Context) (h : Pattern) (what : Goal) → HasGrown a b → IsGoal a h what

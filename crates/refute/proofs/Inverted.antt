@@ -15,7 +15,7 @@ use Rattle.prove_term.proofs.ContextLaws.{image_grown, stays_grown}
 use Rattle.prove_open.specs.Under.{SaysUnder}
 use Rattle.refute.specs.Bindings.{SaysInCommon, IsInverting, AreJoinable, IsJoined}
 use Rattle.refute.specs.Bindings.{bound_if_common, equals_bound}
-use Rattle.refute.specs.Refutations.{Says, in_common, all_bound, is_bound_to}
+use Rattle.refute.specs.Refutations.{SaysSentence, in_common, all_bound, is_bound_to}
 use Rattle.refute.proofs.Shapes.{AreImplied, implied_shape, one_image}
 
 pub common_grown : (old new : Context) (h : Pattern) (p : RulePattern) (t : Tree) (s : Sentence)
@@ -139,12 +139,12 @@ next_inverting cx h p t theta xs k j x u one other made next at bound says kept 
 
 pub says_inverted : (cx : Context) (g s : Sentence) (h : Pattern) (p : RulePattern) (t : Tree)
     (r : Pattern) → sentence_image cx.program.sig cx.names g ≡ Some h
-    → SaysInCommon cx h p t s r → Says cx (implies (and g (in_common p t)) s) r
+    → SaysInCommon cx h p t s r → SaysSentence cx (implies (and g (in_common p t)) s) r
 says_inverted cx g s h p t r is there =
     rw (is, there.is_common, there.is_image) (ap (λ (k : Pattern). Some k) (sym there.says))
 
 pub says_under : (cx : Context) (g s : Sentence) (h r : Pattern)
     → sentence_image cx.program.sig cx.names g ≡ Some h → SaysUnder cx h s r
-    → Says cx (implies g s) r
+    → SaysSentence cx (implies g s) r
 says_under cx g s h r is says =
     rw (is, says.is_image) (ap (λ (k : Pattern). Some k) (sym says.says))

@@ -6,12 +6,10 @@ pub mod Growing
 pub mod FreshImages
 pub mod Roots
 pub mod Shapes
-pub mod Staying
 pub mod Applications
 pub mod Conversions
 pub mod Goals
 pub mod PlaceSorts
-pub mod LargerImages
 pub mod Distinct
 pub mod WeakFacts
 pub mod InCommon

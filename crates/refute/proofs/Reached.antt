@@ -21,7 +21,7 @@ use Rattle.prove_open.specs.declared.givens.Given.{Given}
 use Rattle.refute.specs.Bindings.{AllCome, HasTwo}
 use Rattle.refute.specs.ClashLaws.{MatchReaches}
 use Rattle.refute.specs.Clashes.{ComesTo, Clash, Fails, clash, two_bindings}
-use Rattle.refute.specs.Refutations.{variables_of}
+use Rattle.refute.specs.Refutations.{variables_in_order}
 use Rattle.refute.specs.Refuting.{IsPair}
 use Rattle.refute.proofs.Listed.{occurs_listed, listed_occurs, all_contained}
 use Rattle.refute.proofs.PlaceSorts.{comes_occurs}
@@ -56,7 +56,7 @@ mutual
       occur_low sig sorts ps refs x h.3 k.1 occurs
 
 pub variables_low : (sig : Signature) (sorts : List SortId) (p : Pattern) (sort : ℕ)
-    (xs : List ℕ) → HasSort sig (sort_numbers sorts) p sort → HasNoCall p → xs ≡ variables_of p
+    (xs : List ℕ) → HasSort sig (sort_numbers sorts) p sort → HasNoCall p → xs ≡ variables_in_order p
     → All (λ (x : ℕ). x < length sorts) xs
 variables_low sig sorts p sort xs h k is =
     all_contained (λ (x : ℕ). x < length sorts) xs
@@ -70,7 +70,7 @@ variables_low sig sorts p sort xs h k is =
 
 pub given_pair : (sig : Signature) (sorts : List ℕ) (g : Given) (p : Pattern) (sort : ℕ) (t : Tree)
     (xs : List ℕ) → HasSort sig sorts p sort → HasNoCall p → IsTermOf sig t sort → IsNormal t
-    → xs ≡ variables_of p → ((x : ℕ) → Contains xs x → HasFact g x) → IsPair sig sorts g p t
+    → xs ≡ variables_in_order p → ((x : ℕ) → Contains xs x → HasFact g x) → IsPair sig sorts g p t
 given_pair sig sorts g p sort t xs h k is normal listed facts = record {
   sort = sort;
   left = record {
@@ -93,7 +93,7 @@ pub all_come : MatchReaches → (sig : Signature) (sorts : List ℕ) (p : Patter
     (t : Tree) (theta : List (Option Tree)) (xs : List ℕ) → HasNoCycle sig.subsorts
     → HasSort sig sorts p sort → HasNoCall p → IsTermOf sig t sort → IsNormal t
     → MatchAll sig sorts (more_patterns p no_pattern) (more_trees t no_tree) theta
-    → xs ≡ variables_of p → AllCome sig.subsorts theta p t xs
+    → xs ≡ variables_in_order p → AllCome sig.subsorts theta p t xs
 all_come reaches sig sorts p sort t theta xs acyclic h k is normal matches listed =
     all_contained
     (λ (x : ℕ). (u : Tree) × (binding theta x ≡ Some u) × ComesTo sig.subsorts (variable x) u p t)
@@ -113,7 +113,7 @@ all_come reaches sig sorts p sort t theta xs acyclic h k is normal matches liste
 pub two_at_one : (pairs : List (ℕ × ℕ)) (p : Pattern) (t : Tree) (xs : List ℕ)
     → Fails pairs p t
     → ((q : Pattern) (u : Tree) → ComesTo pairs q u p t → Clash pairs q u → ⊥)
-    → xs ≡ variables_of p → (x : ℕ) × Contains xs x × HasTwo pairs x p t
+    → xs ≡ variables_in_order p → (x : ℕ) × Contains xs x × HasTwo pairs x p t
 two_at_one pairs p t xs (clash q u comes clashes) free listed = absurd (free q u comes clashes)
 two_at_one pairs p t xs (two_bindings x u w one other differ) free listed = (
   x,

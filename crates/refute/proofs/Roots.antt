@@ -3,10 +3,10 @@ use Rattle.std.proofs.Common.{inl, inr, ℕ, List}
 use Rattle.term_core.specs.Terms.{Tree, leaf, node, inj, IsNormal, IsNoInjection}
 use Rattle.term_core.specs.Patterns.{Pattern, variable, domain_value, application, injection, call}
 use Rattle.term_core.specs.Patterns.{ground_pattern}
-use Rattle.prove_open.specs.Differences.{DifferAtRoot, HasHead}
+use Rattle.prove_open.specs.Differences.{DifferAtRoot, IsValueOrConstructor}
 use Rattle.refute.specs.Clashes.{Clash}
 
-has_head : (t : Tree) → IsNoInjection t → HasHead (ground_pattern t)
+has_head : (t : Tree) → IsNoInjection t → IsValueOrConstructor (ground_pattern t)
 has_head (leaf s v) h = tt
 has_head (node f ts) h = tt
 has_head (inj a b t) h = absurd h

@@ -10,7 +10,7 @@ use Rattle.rule_core.specs.Sorting.{IsTermOf}
 use Rattle.ml_image.specs.Sentences.{term, not, equals}
 use Rattle.prove_term.specs.Contexts.{Context, HasGrown, StaysIn}
 use Rattle.refute.specs.Bindings.{CanSwitch, IsSwitched}
-use Rattle.refute.specs.Refutations.{EqualsTerm, Says, SaysNotTrue}
+use Rattle.refute.specs.Refutations.{EqualsTerm, SaysSentence, SaysNotTrue}
 use Rattle.refute.proofs.Conversions.{image_later}
 use Rattle.refute.proofs.Denied.{IsApart, apart_shape, ground_keeps}
 use Rattle.refute.proofs.Shapes.{image_in, one_image}
@@ -26,7 +26,7 @@ record AreOver (cx : Context) (t d : Tree) (eq differ : Pattern) : Type 0 where
 
 are_over : (old new : Context) (t d : Tree) (eq differ : Pattern) → HasGrown old new
     → EqualsTerm old t eq
-    → Says new (not (equals (term (ground_pattern t)) (term (ground_pattern d)))) differ
+    → SaysSentence new (not (equals (term (ground_pattern t)) (term (ground_pattern d)))) differ
     → AreOver new t d eq differ
 are_over old new t d eq differ grown (p, q, equation, image) apart =
     let a : IsApart new (ground_pattern t) (ground_pattern d) differ =
@@ -45,7 +45,7 @@ are_over old new t d eq differ grown (p, q, equation, image) apart =
 
 pub can_switch : (old new : Context) (t d : Tree) (sort y : ℕ) (eq differ : Pattern)
     → HasGrown old new → EqualsTerm old t eq
-    → Says new (not (equals (term (ground_pattern t)) (term (ground_pattern d)))) differ
+    → SaysSentence new (not (equals (term (ground_pattern t)) (term (ground_pattern d)))) differ
     → IsTermOf new.program.sig d sort → CanSwitch y eq differ
 can_switch old new t d sort y eq differ grown equals_t apart is =
     let a : AreOver new t d eq differ = are_over old new t d eq differ grown equals_t apart in
@@ -60,7 +60,7 @@ can_switch old new t d sort y eq differ grown equals_t apart is =
 
 pub switched_says : (old new : Context) (t : Tree) (sort : ℕ) (eq differ made : Pattern)
     → HasGrown old new → EqualsTerm old t eq
-    → Says new
+    → SaysSentence new
     (not (equals (term (ground_pattern t)) (term (ground_pattern (leaf sort (truth true))))))
     differ
     → IsSwitched eq differ made → SaysNotTrue new sort eq made

@@ -16,31 +16,31 @@ use Rattle.prove_term.specs.Contexts.{Context}
 use Rattle.prove_open.specs.Givens.{all_sorted}
 
 -- whether the number is in the list
-abbrev pub is_listed : ℕ → List ℕ → Bool
-is_listed x [] = false
-is_listed x (y ∷ ys) = (x == y) || is_listed x ys
+abbrev pub is_one_of : ℕ → List ℕ → Bool
+is_one_of x [] = false
+is_one_of x (y ∷ ys) = (x == y) || is_one_of x ys
 
 -- the list, with x at its end if it is not in it
-abbrev pub with_variable : List ℕ → ℕ → List ℕ
-with_variable xs x = if is_listed x xs then xs else xs ++ x ∷ []
+abbrev pub and_new : List ℕ → ℕ → List ℕ
+and_new xs x = if is_one_of x xs then xs else xs ++ x ∷ []
 
 -- the list, with the variables of the pattern that are not in it behind, in the order in which they
 -- first occur
 abbrev mutual
-  pub with_variables : List ℕ → Pattern → List ℕ
-  with_variables xs (variable x) = with_variable xs x
-  with_variables xs (domain_value s v) = xs
-  with_variables xs (application f ps) = with_all_variables xs ps
-  with_variables xs (injection a b p) = with_variables xs p
-  with_variables xs (call f ss ps) = with_all_variables xs ps
+  pub and_new_of : List ℕ → Pattern → List ℕ
+  and_new_of xs (variable x) = and_new xs x
+  and_new_of xs (domain_value s v) = xs
+  and_new_of xs (application f ps) = and_new_of_all xs ps
+  and_new_of xs (injection a b p) = and_new_of xs p
+  and_new_of xs (call f ss ps) = and_new_of_all xs ps
 
-  pub with_all_variables : List ℕ → Patterns → List ℕ
-  with_all_variables xs no_pattern = xs
-  with_all_variables xs (more_patterns p ps) = with_all_variables (with_variables xs p) ps
+  pub and_new_of_all : List ℕ → Patterns → List ℕ
+  and_new_of_all xs no_pattern = xs
+  and_new_of_all xs (more_patterns p ps) = and_new_of_all (and_new_of xs p) ps
 
 -- the variables of the pattern, in the order in which they first occur
-abbrev pub variables_of : Pattern → List ℕ
-variables_of p = with_variables [] p
+abbrev pub variables_in_order : Pattern → List ℕ
+variables_in_order p = and_new_of [] p
 
 -- what the pattern and the term have in common
 abbrev pub in_common : Pattern → Tree → Sentence
@@ -49,7 +49,7 @@ in_common p t = and (term p) (term (ground_pattern t))
 -- If each variable of the pattern is one element of its sort, then the pattern and the term have
 -- nothing in common.
 abbrev pub mismatched : List ℕ → Pattern → Tree → Sentence
-mismatched sorts p t = implies (all_sorted sorts (variables_of p)) (not (in_common p t))
+mismatched sorts p t = implies (all_sorted sorts (variables_in_order p)) (not (in_common p t))
 
 -- the variable equals its binding, if it has one
 abbrev pub is_bound_to : ℕ → Option Tree → Sentence
@@ -66,12 +66,12 @@ all_bound theta (x ∷ xs) = and (is_bound_to x (binding theta x)) (all_bound th
 -- something in common, then each variable equals its binding.
 abbrev pub inverted : List ℕ → List (Option Tree) → Pattern → Tree → Sentence
 inverted sorts theta p t =
-    implies (and (all_sorted sorts (variables_of p)) (in_common p t))
-    (all_bound theta (variables_of p))
+    implies (and (all_sorted sorts (variables_in_order p)) (in_common p t))
+    (all_bound theta (variables_in_order p))
 
 -- the pattern is the image of the sentence
-abbrev pub Says : Context → Sentence → LogicPattern → Type 0
-Says cx s p = sentence_image cx.program.sig cx.names s ≡ Some p
+abbrev pub SaysSentence : Context → Sentence → LogicPattern → Type 0
+SaysSentence cx s p = sentence_image cx.program.sig cx.names s ≡ Some p
 
 -- the pattern e says that something equals the image of the term
 abbrev pub EqualsTerm : Context → Tree → LogicPattern → Type 0

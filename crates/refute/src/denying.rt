@@ -221,7 +221,7 @@ fn injection_denied(
 }
 
 // `refuted` for an injected pattern and the injection of a term from a lower sort. The pattern is
-// compared with the term, injected into its sort.
+// compared with the term, injected into its sort. This copies the pattern of the term.
 #[cycle(refuted)]
 fn lowered_refuted(
     alloc: Global,

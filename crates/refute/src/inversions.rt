@@ -13,7 +13,7 @@ ghost use Rattle.rule_core.specs.ProgramView.{theory_of};
 ghost use Rattle.rule_core.specs.Sorting.{AreSorts, HasSort, IsTermOf};
 ghost use Rattle.rule_core.specs.WellSorted.{HasNoCall, IsWellSorted};
 ghost use Rattle.prove_term.specs.Contexts.{HasGrown, StaysIn};
-ghost use Rattle.refute.specs.Refutations.{Says, inverted, all_bound};
+ghost use Rattle.refute.specs.Refutations.{SaysSentence, inverted, all_bound};
 ghost use Rattle.refute.specs.Refuting.{IsPair, IsSetting};
 ghost use Rattle.refute.specs.Bindings.{SaysInCommon, IsInverting, AllCome, AreJoinable, IsJoined};
 
@@ -21,8 +21,8 @@ use crate::laws::clash_laws;
 use crate::parts::sides;
 use crate::settings::{Goal, Setting, few_sorts, new_variable};
 use crate::supposing::binding_under;
-use crate::variables::variables_of;
-use ml_derived::{both_under, mp, p_1, pack, top};
+use crate::variables::variables_in_order;
+use ml_derived::{both_under, lift, pack, top};
 use ml_image::condition_laws;
 use ml_kernel::Thm;
 use ml_pat::MPat;
@@ -35,7 +35,8 @@ use term_core::{RulePat, SortId, Subst, Term, pattern_of};
 /// and a term that it matches have something in common: each variable equals its binding. `sorts`
 /// has the sorts of the variables, by their numbers. `AllocError`: out of memory, or there are so
 /// many variables or arguments that new variables have no number below 2^32. After an error the
-/// context may have grown. The recursion is as deep as the pattern is high.
+/// context may have grown. The recursion is as deep as the pattern is high. The pattern is gone
+/// through once for each variable.
 pub fn inversion(
     alloc: Global,
     cx: &mut Cx<'_>,
@@ -54,7 +55,7 @@ pub fn inversion(
     requires matches { MatchAll cx.old.program.sig (sort_numbers sorts.now)
         (more_patterns (plain_pattern pat.now) no_pattern) (more_trees term.now no_tree)
         subst.now }
-    ensures says { IfOk result (λ t. Says cx.new
+    ensures says { IfOk result (λ t. SaysSentence cx.new
         (inverted (sort_numbers sorts.now) subst.now (plain_pattern pat.now) term.now)
         t.conclusion) }
     ensures no_hypotheses { IfOk result (λ t. t.hypotheses ≡ []) }
@@ -64,7 +65,7 @@ pub fn inversion(
     // The term is normal. So comparing comes to each variable with its binding.
     let _high = term.height();
     clash_laws();
-    let variables = variables_of(alloc, pat)?;
+    let variables = variables_in_order(alloc, pat)?;
     let given = Given::of(alloc, cx, sorts, &variables)?;
     let whole = pattern_of(alloc, term)?;
     let setting = Setting {
@@ -112,11 +113,7 @@ fn always(alloc: Global, p: &MPat) -> Result<Thm, AllocError>
     ensures conclusion { IfOk result (λ t. t.conclusion ≡ imp p.now logic.top) }
     ensures stays { IfOk result (StaysWithin (p.now ∷ []) []) }
 {
-    let holds = top(alloc)?;
-    let everything = holds.conclusion();
-    let weaker = p_1(alloc, everything, p)?;
-    let made = MPat::imp(alloc, p, everything)?;
-    mp(alloc, &holds, &weaker, everything, &made)
+    lift(alloc, p, &top(alloc)?)
 }
 
 // Proves that each of the variables equals its binding, if the hypothesis holds and the pattern and

@@ -13,7 +13,7 @@ ghost use Rattle.rule_core.specs.WellSorted.{HasNoCall, IsWellSorted};
 ghost use Rattle.ml_image.specs.Sentences.{term, not, and, equals};
 ghost use Rattle.prove_term.specs.Contexts.{HasGrown, StaysIn};
 ghost use Rattle.prove_open.specs.Under.{SaysUnder};
-ghost use Rattle.refute.specs.Refutations.{Says, in_common, mismatched};
+ghost use Rattle.refute.specs.Refutations.{SaysSentence, in_common, mismatched};
 ghost use Rattle.refute.specs.Refuting.{AreCovered, Denies, IsPair, IsSetting};
 ghost use Rattle.refute.specs.Bindings.{HasTwo, AreTwoBindings, IsDeniedByBoth};
 
@@ -24,7 +24,7 @@ use crate::parts::{equals, sides};
 use crate::rising::{as_disjoint, as_unequal};
 use crate::settings::{Goal, Setting, new_variable};
 use crate::supposing::binding_under;
-use crate::variables::variables_of;
+use crate::variables::variables_in_order;
 use ml_derived::{bot_to_not, denied_by_two, mp, not_both, top};
 use ml_kernel::Thm;
 use ml_pat::VarNo;
@@ -37,7 +37,8 @@ use term_core::{RulePat, SortId, Term, pattern_of};
 /// variables is one element of its sort. `sorts` has the sorts of the variables, by their numbers.
 /// `AllocError`: out of memory, or there are so many variables or arguments that new variables have
 /// no number below 2^32. After an error the context may have grown. The recursion is as deep as the
-/// pattern is high.
+/// pattern is high. The pattern is gone through once if there is a clash, and otherwise once for
+/// each variable until one would have to be two different terms.
 pub fn mismatch(
     alloc: Global,
     cx: &mut Cx<'_>,
@@ -54,7 +55,7 @@ pub fn mismatch(
     requires no_call { HasNoCall (plain_pattern pat.now) }
     requires mismatch { NoneMatches cx.old.program.sig (sort_numbers sorts.now)
         (more_patterns (plain_pattern pat.now) no_pattern) (more_trees term.now no_tree) }
-    ensures says { IfOk result (λ t. Says cx.new
+    ensures says { IfOk result (λ t. SaysSentence cx.new
         (mismatched (sort_numbers sorts.now) (plain_pattern pat.now) term.now) t.conclusion) }
     ensures no_hypotheses { IfOk result (λ t. t.hypotheses ≡ []) }
     ensures stays { IfOk result (StaysIn cx.new) }
@@ -63,7 +64,7 @@ pub fn mismatch(
     // The term is normal. So there is a reason why the pattern does not match it.
     let _high = term.height();
     clash_laws();
-    let variables = variables_of(alloc, pat)?;
+    let variables = variables_in_order(alloc, pat)?;
     let given = Given::of(alloc, cx, sorts, &variables)?;
     let whole = pattern_of(alloc, term)?;
     let setting = Setting {
@@ -177,7 +178,7 @@ pub(crate) fn differ(
     requires sorted { (sort : ℕ) × IsTermOf cx.old.program.sig left.now sort
         × IsTermOf cx.old.program.sig right.now sort }
     requires differ { left.now ≢ right.now }
-    ensures says { IfOk result (λ t. Says cx.new
+    ensures says { IfOk result (λ t. SaysSentence cx.new
         (not (equals (term (ground_pattern left.now)) (term (ground_pattern right.now))))
         t.conclusion) }
     ensures stays { IfOk result (StaysIn cx.new) }

@@ -3,7 +3,7 @@ ghost use Rattle.std.specs.Prelude.{◌<◌, ◌^◌, ◌≡◌, IfOk, length};
 
 use ml_kernel::Thm;
 use ml_pat::VarNo;
-use prove_open::Given;
+use prove_open::{Given, first_new};
 use std::alloc::AllocError;
 use term_core::{SortId, Term};
 
@@ -34,10 +34,7 @@ pub(crate) struct Setting<'a> {
 pub(crate) fn new_variable(sorts: &[SortId]) -> Result<VarNo, AllocError>
     ensures { IfOk result (λ y. y.0 ≡ length sorts.now) }
 {
-    match u32::try_from(sorts.len()) {
-        Ok(number) => Ok(VarNo(number)),
-        Err(_) => Err(AllocError),
-    }
+    Ok(VarNo(first_new(sorts)?))
 }
 
 // Has no effect at run time. It states that there are fewer than 2^32 sorts.

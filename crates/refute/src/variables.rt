@@ -2,15 +2,16 @@
 ghost use Rattle.std.specs.Prelude.{◌≡◌, IfOk};
 ghost use Rattle.term_core.specs.PatternLists.{plain_patterns};
 ghost use Rattle.term_core.specs.RulePatterns.{plain_pattern};
-ghost use Rattle.refute.specs.Refutations.{is_listed, variables_of, with_variables};
-ghost use Rattle.refute.specs.Refutations.{with_all_variables};
+ghost use Rattle.refute.specs.Refutations.{is_one_of, variables_in_order, and_new_of};
+ghost use Rattle.refute.specs.Refutations.{and_new_of_all};
 
 use std::alloc::{AllocError, Global};
 use term_core::RulePat;
 
-// The variables of a pattern, in the order in which they first occur.
-pub(crate) fn variables_of(alloc: Global, pat: &RulePat) -> Result<Vec<u32>, AllocError>
-    ensures { IfOk result (λ xs. xs.items ≡ variables_of (plain_pattern pat.now)) }
+// The variables of a pattern, in the order in which they first occur. Each occurrence is looked for
+// among the variables before it.
+pub(crate) fn variables_in_order(alloc: Global, pat: &RulePat) -> Result<Vec<u32>, AllocError>
+    ensures { IfOk result (λ xs. xs.items ≡ variables_in_order (plain_pattern pat.now)) }
 {
     let mut variables = Vec::new(alloc);
     add_variables(pat, &mut variables)?;
@@ -21,11 +22,11 @@ pub(crate) fn variables_of(alloc: Global, pat: &RulePat) -> Result<Vec<u32>, All
 #[cycle(add_variables)]
 fn add_variables(pat: &RulePat, variables: &mut Vec<u32>) -> Result<(), AllocError>
     ensures { IfOk result
-        (λ u. variables.new.items ≡ with_variables variables.old.items (plain_pattern pat.now)) }
+        (λ u. variables.new.items ≡ and_new_of variables.old.items (plain_pattern pat.now)) }
 {
     match pat {
         RulePat::Var(x) => {
-            if !is_listed(*x, variables) {
+            if !is_one_of(*x, variables) {
                 variables.push(*x)?;
             }
             Ok(())
@@ -41,7 +42,7 @@ fn add_variables(pat: &RulePat, variables: &mut Vec<u32>) -> Result<(), AllocErr
 #[cycle(add_variables)]
 fn add_all_variables(pats: &[RulePat], variables: &mut Vec<u32>) -> Result<(), AllocError>
     ensures { IfOk result (λ u. variables.new.items
-        ≡ with_all_variables variables.old.items (plain_patterns pats.now)) }
+        ≡ and_new_of_all variables.old.items (plain_patterns pats.now)) }
 {
     for pat in pats {
         add_variables(pat, variables)?;
@@ -50,8 +51,8 @@ fn add_all_variables(pats: &[RulePat], variables: &mut Vec<u32>) -> Result<(), A
 }
 
 // Whether the variable is in the list.
-fn is_listed(x: u32, variables: &[u32]) -> bool
-    ensures { result ≡ is_listed x variables.now }
+fn is_one_of(x: u32, variables: &[u32]) -> bool
+    ensures { result ≡ is_one_of x variables.now }
 {
     for y in variables {
         if x == *y {

@@ -10,12 +10,12 @@ use Rattle.prove_term.proofs.ResultLaws.{if_ok}
 use Rattle.refute.proofs.Conversions.{image_later}
 use Rattle.refute.proofs.Growing.{program_grown, new_is_high}
 use Rattle.refute.proofs.InCommon.{top_in_common, common_over}
-use Rattle.refute.proofs.LargerImages.{larger_image}
+use Rattle.ml_image.proofs.ConditionLaws.{HasImage-more}
 use Rattle.refute.proofs.inversions.at_first.Goals as goal
 
 pub image-requires : goal.image-requires
 image-requires c =
-    larger_image c.args.cx.now.program.sig (length (sort_numbers c.args.setting.now.sorts.now))
+    HasImage-more c.args.cx.now.program.sig (length (sort_numbers c.args.setting.now.sorts.now))
     4294967296 (plain_pattern c.args.pat.now)
     (omega (
       arith,
@@ -34,7 +34,7 @@ image-requires-2 c =
     (λ (program : Program). HasImage program.sig 4294967296 (plain_pattern c.args.whole.now))
     c.in_ok-left.ensures.grown
     (subst (HasImage c.args.cx.now.program.sig 4294967296) (sym c.requires.covered.1)
-    (larger_image c.args.cx.now.program.sig 0 4294967296 (ground_pattern c.requires.covered.0)
+    (HasImage-more c.args.cx.now.program.sig 0 4294967296 (ground_pattern c.requires.covered.0)
     (omega arith)
     (c.condition_laws.ensures.pattern c.args.cx.now.program.sig []
     (ground_pattern c.requires.covered.0) c.requires.covered.2.sort

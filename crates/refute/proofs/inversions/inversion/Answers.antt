@@ -8,7 +8,8 @@ use Rattle.refute.specs.declared.settings.Goal.TheVariants as aim
 use Rattle.refute.proofs.Begun.{clash_setting, begun_pair, inversion_said}
 use Rattle.refute.proofs.Growing.{program_grown, setting_grown, pair_grown}
 use Rattle.refute.proofs.Reached.{variables_low, all_come}
-use Rattle.refute.proofs.Staying.{if_ok, stays_no_hypotheses}
+use Rattle.prove_term.proofs.ResultLaws.{if_ok}
+use Rattle.prove_open.proofs.ScopeLaws.{stays_no_hypotheses}
 use Rattle.refute.proofs.inversions.inversion.Goals as goal
 
 pub of-requires-clause-variables : goal.of-requires-clause-variables

@@ -13,7 +13,7 @@ use Rattle.refute.specs.Clashes.{ComesTo}
 use Rattle.refute.proofs.Bound.{pair_sorted, two_sorted, three_stay}
 use Rattle.refute.proofs.Denied.{two_bindings_are, none_common_said}
 use Rattle.refute.proofs.Growing.{program_grown, setting_grown, pair_grown, says_under_grown}
-use Rattle.refute.proofs.Staying.{if_ok}
+use Rattle.prove_term.proofs.ResultLaws.{if_ok}
 use Rattle.refute.proofs.mismatches.by_bindings.Goals as goal
 
 pub bound_twice-requires-clause-sorted : goal.bound_twice-requires-clause-sorted

@@ -13,7 +13,8 @@ use Rattle.refute.proofs.Growing.{program_grown, setting_grown, pair_grown, cove
 use Rattle.refute.proofs.NoClash.{no_clash_there}
 use Rattle.refute.proofs.Pairs.{pair_covered}
 use Rattle.refute.proofs.Reached.{variables_low, two_at_one}
-use Rattle.refute.proofs.Staying.{if_ok, stays_no_hypotheses}
+use Rattle.prove_term.proofs.ResultLaws.{if_ok}
+use Rattle.prove_open.proofs.ScopeLaws.{stays_no_hypotheses}
 use Rattle.refute.proofs.mismatches.mismatch.Goals as goal
 
 pub of-requires-clause-variables : goal.of-requires-clause-variables

@@ -7,7 +7,7 @@ use Rattle.prove_term.proofs.ContextLaws.{grown_twice, stays_grown}
 use Rattle.prove_term.proofs.ResultLaws.{if_ok_two}
 use Rattle.refute.proofs.Conversions.{element_made, element_taken, element_image, unequal_parts}
 use Rattle.refute.proofs.Conversions.{denies_disjoint}
-use Rattle.refute.proofs.Growing.{given_grown}
+use Rattle.prove_open.proofs.GatheringLaws.{given_grown}
 use Rattle.refute.proofs.Shapes.{IsUnequal}
 use Rattle.refute.proofs.rising.as_disjoint.Goals as goal
 use Rattle.refute.proofs.rising.as_disjoint.Goals.{After-element_of-in-Unequal}

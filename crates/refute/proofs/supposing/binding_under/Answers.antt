@@ -14,7 +14,7 @@ use Rattle.refute.proofs.Bound.{none_parts, bound_said, one_stays}
 use Rattle.refute.proofs.Conversions.{image_later}
 use Rattle.refute.proofs.Growing.{program_grown, setting_grown, pair_grown}
 use Rattle.refute.proofs.Shapes.{image_in}
-use Rattle.refute.proofs.Staying.{if_ok}
+use Rattle.prove_term.proofs.ResultLaws.{if_ok}
 use Rattle.refute.proofs.supposing.binding_under.Goals as goal
 
 pub term_image-requires-clause-sorted : goal.term_image-requires-clause-sorted

@@ -1,7 +1,7 @@
 use Rattle.std.proofs.Common.{◌≡◌, sym, ◌∙◌, ap, subst}
 use Rattle.ml_pat.specs.Patterns.{imp, bot}
 use Rattle.ml_derived.specs.Scopes.{IsOver}
-use Rattle.refute.proofs.Staying.{if_ok}
+use Rattle.prove_term.proofs.ResultLaws.{if_ok}
 use Rattle.refute.proofs.supposing.denied.Goals as goal
 
 pub returns-clause-stays : goal.returns-clause-stays

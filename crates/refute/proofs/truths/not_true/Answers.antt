@@ -5,9 +5,10 @@ use Rattle.rule_core.specs.Sorting.{HasValue, IsTermOf}
 use Rattle.rule_core.specs.declared.rules.Program.{Program}
 use Rattle.ml_image.specs.Sentences.{term, not, equals}
 use Rattle.prove_term.proofs.ContextLaws.{stays_grown}
-use Rattle.refute.specs.Refutations.{Says}
+use Rattle.refute.specs.Refutations.{SaysSentence}
 use Rattle.refute.proofs.Growing.{program_grown}
-use Rattle.refute.proofs.Staying.{if_ok, stays_no_hypotheses}
+use Rattle.prove_term.proofs.ResultLaws.{if_ok}
+use Rattle.prove_open.proofs.ScopeLaws.{stays_no_hypotheses}
 use Rattle.refute.proofs.Switched.{can_switch, switched_says, two_stay}
 use Rattle.refute.proofs.truths.not_true.Goals as goal
 
@@ -41,7 +42,7 @@ returns-clause-says c =
     (λ t is. switched_says c.args.cx.now c.differ.new.cx c.args.term.now c.args.sort.0
     c.args.eq.now.conclusion c.in_ok-differ.differ.conclusion t.conclusion
     c.in_ok-differ.ensures.grown c.requires.eq
-    (subst (λ (d : Tree). Says c.differ.new.cx
+    (subst (λ (d : Tree). SaysSentence c.differ.new.cx
     (not (equals (term (ground_pattern c.args.term.now)) (term (ground_pattern d))))
     c.in_ok-differ.differ.conclusion) c.in_ok-truth.ensures c.in_ok-differ.ensures.says) is)
     c.switched.ensures.conclusion
