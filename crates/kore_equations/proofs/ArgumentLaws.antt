@@ -9,7 +9,7 @@ use Rattle.kore_check.proofs.Items.{drop-item, drop-drop}
 use Rattle.kore_check.specs.Folds.{unfolded}
 use Rattle.kore_check.specs.PatternFaults.{first_wanted}
 use Rattle.kore_axioms.specs.RuleFaults.{is_empty, faults_at_sort}
-use Rattle.kore_equations.specs.ReadableEquations.{all_read}
+use Rattle.kore_equations.specs.ReadableSides.{all_read}
 use Rattle.kore_equations.specs.ClearEquations.{each_faultless}
 
 true_first : (b : Bool) (rest whole : Bool) → b ≡ true → (b && rest) ≡ whole → rest ≡ whole

@@ -8,9 +8,9 @@ use Rattle.kore_equations.specs.ReadingLaws.{ReadingsExclude}
 
 pub readings_exclude : ReadingsExclude
 readings_exclude sig f a e is not =
-    let classes : equates is.stated ≡ equates not.stated = sym is.class ∙ not.class in
+    let classes : equates is.stated ≡ equates not.stated = sym is.states.class ∙ not.states.class in
     let stated : is.stated ≡ not.stated = cc in
-    let infos : Some is.info ≡ Some not.info = sym is.declared ∙ not.declared in
+    let infos : Some is.info ≡ Some not.info = sym is.states.declared ∙ not.states.declared in
     let info : is.info ≡ not.info = cc in
     not.unreadable is.parts
     (subst (λ (i : SymInfo). IsReadable sig a i not.stated is.parts) info

@@ -1,7 +1,15 @@
 pub mod ArgumentLaws
-pub mod BinderLaws
 pub mod MeaningLaws
+pub mod OneMeaning
+pub mod BoundMeanings
 pub mod ClassLaws
 pub mod ClearLaws
 pub mod FineLaws
+pub mod ClearParts
+pub mod GuardLaws
+pub mod MeantLaws
+pub mod MadeEquations
+pub mod OrderLaws
+pub mod ReadingLoops
+pub mod SameLists
 pub mod ExclusionLaws

@@ -19,7 +19,7 @@ use Rattle.kore_check.proofs.Items.{drop-item}
 use Rattle.kore_check.proofs.VariableLaws.{with_variable-extends}
 use Rattle.rule_core.specs.NamedParts.{Name}
 use Rattle.kore_check.specs.PartNames.{names_in, names_in_all}
-use Rattle.kore_equations.specs.ReadableEquations.{all_read}
+use Rattle.kore_equations.specs.ReadableSides.{all_read}
 use Rattle.kore_equations.specs.BuiltEquations.{IsFine, AreFine}
 
 mutual

@@ -8,35 +8,33 @@ ghost use Rattle.kore_check.specs.FoldHeights.{cut};
 ghost use Rattle.rule_core.specs.Evaluation.{most_height};
 ghost use Rattle.kore_check.specs.PatternFaults.{first_wanted};
 ghost use Rattle.kore_shapes.specs.Views.{pattern_at, plain_condition};
-ghost use Rattle.kore_shapes.specs.PartViews.{plain_parts};
-ghost use Rattle.kore_equations.specs.ReadableEquations.{all_read};
-ghost use Rattle.kore_equations.specs.ClearEquations.{each_faultless, are_parts_sorted};
+ghost use Rattle.kore_equations.specs.ReadableSides.{all_read};
+ghost use Rattle.kore_equations.specs.ClearEquations.{each_faultless, are_clear_sorts};
 
 use kore_ast::Pat;
 use kore_axioms::{is_faultless, is_faultless_condition};
 use kore_check::height_of;
-use kore_shapes::{Condition, EquationParts};
+use kore_shapes::Condition;
 use rule_core::{Signature, SortRef, SymInfo};
 use term_core::{MAX_HEIGHT, SortId};
 
-/// Whether the parts of an equation under this condition have no fault of their sorts, and its
-/// function applied to the patterns is not too high.
-pub(crate) fn is_sorted(
+/// Whether there are as many patterns as the function has arguments, the function applied to them is
+/// not too high, and they and the condition have no fault of their sorts.
+pub(crate) fn are_sorted(
     sig: &Signature,
     symbol: &SymInfo,
+    pats: &[&Pat],
     condition: Condition<'_>,
-    parts: &EquationParts<'_>,
 ) -> bool
     requires { IsNumbered sig.now }
     ensures { result
-        ≡ are_parts_sorted sig.now symbol.now (plain_condition condition.entry)
-        (plain_parts parts.now) }
+        ≡ are_clear_sorts sig.now symbol.now (map pattern_at pats.now)
+        (plain_condition condition.entry) }
 {
-    fits_height(&parts.patterns)
-        && are_parameters(sig, parts.parameters, &symbol.args)
-        && are_arguments(sig, &parts.patterns, &symbol.args)
+    pats.len() == symbol.args.len()
+        && fits_height(pats)
+        && are_arguments(sig, pats, &symbol.args)
         && is_faultless_condition(sig, condition)
-        && is_faultless(sig, parts.right, result_sort(symbol))
 }
 
 /// Whether a symbol applied to these patterns is not too high.
@@ -59,7 +57,7 @@ fn highest(pats: &[&Pat]) -> u32
 }
 
 /// Whether variables have no fault as the arguments of a symbol with these places.
-fn are_parameters(sig: &Signature, pats: &[Pat], places: &[SortRef]) -> bool
+pub(crate) fn are_parameters(sig: &Signature, pats: &[Pat], places: &[SortRef]) -> bool
     requires { IsNumbered sig.now }
     ensures { result ≡ each_faultless sig.now places.now (all_read (map pattern_tree pats.now)) }
 {

@@ -26,16 +26,20 @@ use Rattle.kore_check.specs.PatternMeanings.{none_mean, more_mean, with_variable
 use Rattle.kore_check.specs.PatternMeanings.{with_all_variables, applied_pattern}
 use Rattle.kore_check.specs.PatternSorts.{symbol_named, sort_numbers}
 use Rattle.kore_shapes.specs.EquationForms.{EquationParts}
+use Rattle.kore_shapes.specs.Forms.{all_forms, has_form, has_binder}
+use Rattle.kore_shapes.specs.Shapes.{Condition}
 use Rattle.kore_shapes.specs.Statements.{StatedEquation}
 use Rattle.kore_axioms.specs.AxiomMeanings.{MeansTest, MeansRule}
 use Rattle.kore_axioms.specs.Conditions.{tested_pattern}
 use Rattle.kore_axioms.specs.RuleFaults.{is_empty, faults_at_sort, is_bound}
 use Rattle.kore_axioms.specs.RuleParts.{rule_parts}
 use Rattle.kore_axioms.specs.Uses.{have_symbol}
-use Rattle.kore_equations.specs.EquationMeanings.{MeansEquation, IsUnreadable}
-use Rattle.kore_equations.specs.ReadableEquations.{IsReadable, all_read, condition_of_equation}
+use Rattle.kore_equations.specs.EquationMeanings.{StatesEquation, MeansParts, MeansEquation}
+use Rattle.kore_equations.specs.EquationMeanings.{IsUnreadable}
+use Rattle.kore_equations.specs.ReadableSides.{all_read, are_sorted, have_good_uses, AreReadable}
+use Rattle.kore_equations.specs.ReadableSides.{is_readable_right}
+use Rattle.kore_equations.specs.ReadableEquations.{IsReadable, condition_of_equation}
 use Rattle.kore_equations.specs.ReadableEquations.{is_sort_over, fits_function, is_one_sort}
-use Rattle.kore_equations.specs.ReadableEquations.{equation_faults, is_sorted, has_good_uses}
 use Rattle.kore_rules.proofs.AlikeSignatures.{IsAlike, AreAlike, Symbols, info_at, info_alike}
 use Rattle.kore_rules.proofs.AlikeSignatures.{position_alike, with_symbols, symbol_alike}
 use Rattle.kore_rules.proofs.AlikeSignatures.{numbers_alike, arguments_alike, at_sort_alike}
@@ -169,11 +173,10 @@ module _ (s : Signature) (xs : Symbols) (same : AllZip IsSameSymbol s.symbols xs
 
   module _ (a : AxiomDeclaration) (info other : SymInfo) (e : StatedEquation) (q : EquationParts)
       (h : IsAlike info other) where
-    fits_alike : fits_function s a info e q ≡ fits_function t a other e q
+    fits_alike : fits_function s a info e ≡ fits_function t a other e
     fits_alike = λ i.
         over_alike a.params e.over i
-        && (is_one_sort (sort_number s.sorts e.sort) (sort_at [] (h.result i))
-        && (length q.patterns == length (h.args i)))
+        && is_one_sort (sort_number s.sorts e.sort) (sort_at [] (h.result i))
 
     arguments_same : (ps : Unfoldeds)
         → argument_faults s [] info.args.items ps ≡ argument_faults t [] other.args.items ps
@@ -181,49 +184,72 @@ module _ (s : Signature) (xs : Symbols) (same : AllZip IsSameSymbol s.symbols xs
         arguments_alike s xs same [] info.args.items ps
         ∙ ap (λ (refs : List SortRef). argument_faults t [] refs ps) h.args
 
-    right_same : (u : Unfolded)
+    faults_alike : (u : Unfolded)
         → faults_at_sort s (sort_at [] info.result) u ≡ faults_at_sort t (sort_at [] other.result) u
-    right_same u =
+    faults_alike u =
         at_sort_alike s xs same (sort_at [] info.result) u
         ∙ ap (λ (of : SortRef). faults_at_sort t (sort_at [] of) u) h.result
 
-    equation_faults_alike : equation_faults s info e q ≡ equation_faults t other e q
-    equation_faults_alike = λ i.
-        arguments_same (all_read q.parameters) i
-        ++ (arguments_same (all_read q.patterns) i
-        ++ (condition_alike s xs same (condition_of_equation s e q) i
-        ++ right_same (unfolded q.right) i))
+    sorted_alike : (ps : List PatternTree) (c : Condition)
+        → are_sorted s info ps c ≡ are_sorted t other ps c
+    sorted_alike ps c = λ i.
+        (length ps == length (h.args i))
+        && (is_empty (arguments_same (all_read ps) i ++ condition_alike s xs same c i)
+        && nat_le (unfolded_heights (all_read ps) + 1) most_height)
 
-    sorted_alike : is_sorted s info e q ≡ is_sorted t other e q
-    sorted_alike = λ i.
-        is_empty (equation_faults_alike i)
-        && nat_le (unfolded_heights (all_read q.patterns) + 1) most_height
+    uses_alike : (ps : List PatternTree) (c : Condition)
+        → have_good_uses s info ps c ≡ have_good_uses t other ps c
+    uses_alike ps c = λ i.
+        not (have_symbol (plain_functions_alike s xs same i) (all_read ps))
+        && (not (h.ac i || have_symbol (ac_symbols_alike s xs same i) (all_read ps))
+        && is_bound (all_read ps) (tested_pattern c))
 
-    uses_alike : has_good_uses s info e q ≡ has_good_uses t other e q
-    uses_alike = λ i.
-        not (have_symbol (plain_functions_alike s xs same i) (all_read q.patterns))
-        && (not (h.ac i || have_symbol (ac_symbols_alike s xs same i) (all_read q.patterns))
-        && (is_bound (all_read q.patterns) (tested_pattern (condition_of_equation s e q))
-        && is_bound (all_read q.patterns) (Some q.right)))
+    right_alike : (ps : List PatternTree) (r : PatternTree)
+        → is_readable_right s info ps r ≡ is_readable_right t other ps r
+    right_alike ps r = λ i.
+        (not (has_form all_forms r) && not (has_binder r))
+        && (is_empty (faults_alike (unfolded r) i) && is_bound (all_read ps) (Some r))
+
+    sides_alike : (ps : List PatternTree) (c : Condition) → AreReadable s info ps c
+        → AreReadable t other ps c
+    sides_alike ps c r = record {
+      good_form = r.good_form;
+      sorted = sym (sorted_alike ps c) ∙ r.sorted;
+      good_uses = sym (uses_alike ps c) ∙ r.good_uses;
+    }
+
+    sides_back : (ps : List PatternTree) (c : Condition) → AreReadable t other ps c
+        → AreReadable s info ps c
+    sides_back ps c r = record {
+      good_form = r.good_form;
+      sorted = sorted_alike ps c ∙ r.sorted;
+      good_uses = uses_alike ps c ∙ r.good_uses;
+    }
 
     readable_alike : IsReadable s a info e q → IsReadable t a other e q
     readable_alike r = record {
       no_last_resort = r.no_last_resort;
       form = r.form;
-      function = sym fits_alike ∙ r.function;
-      good_form = r.good_form;
-      sorted = sym sorted_alike ∙ r.sorted;
-      good_uses = sym uses_alike ∙ r.good_uses;
+      parts = record {
+        function = sym fits_alike ∙ r.parts.function;
+        priority = r.parts.priority;
+        parameters = sym (arguments_same (all_read q.parameters)) ∙ r.parts.parameters;
+        sides = sides_alike q.patterns (condition_of_equation s e q) r.parts.sides;
+        right = sym (right_alike q.patterns q.right) ∙ r.parts.right;
+      };
     }
 
     readable_back : IsReadable t a other e q → IsReadable s a info e q
     readable_back r = record {
       no_last_resort = r.no_last_resort;
       form = r.form;
-      function = fits_alike ∙ r.function;
-      good_form = r.good_form;
-      sorted = sorted_alike ∙ r.sorted;
-      good_uses = uses_alike ∙ r.good_uses;
+      parts = record {
+        function = fits_alike ∙ r.parts.function;
+        priority = r.parts.priority;
+        parameters = arguments_same (all_read q.parameters) ∙ r.parts.parameters;
+        sides = sides_back q.patterns (condition_of_equation s e q) r.parts.sides;
+        right = right_alike q.patterns q.right ∙ r.parts.right;
+      };
     }
 
   declared_alike : (f : List ℕ) (info : SymInfo) → symbol_named s f ≡ Some info
@@ -231,44 +257,54 @@ module _ (s : Signature) (xs : Symbols) (same : AllZip IsSameSymbol s.symbols xs
   declared_alike f info e =
       some_alike (symbol_named s f) (symbol_named t f) info (symbol_alike s xs same f) e
 
+  states_alike : (f : List ℕ) (a : AxiomDeclaration) (e : StatedEquation) (info other : SymInfo)
+      → symbol_named t f ≡ Some other → StatesEquation s f a e info → StatesEquation t f a e other
+  states_alike f a e info other declared r = record {
+    class = sym (class_alike s xs same a) ∙ r.class;
+    function = r.function;
+    declared = declared;
+  }
+
+  parts_alike : (a : AxiomDeclaration) (e : StatedEquation) (q : EquationParts) (x : Equation)
+      → MeansParts s a e q x → MeansParts t a e q x
+  parts_alike a e q x r = record {
+    variables = r.variables;
+    numbered = r.numbered ∙ all_variables_alike [] (all_read q.patterns);
+    parameters = r.parameters;
+    means_arguments = all_mean_alike r.means_arguments;
+    names = r.names ∙ all_names_alike r.variables [] 0 (all_read q.patterns);
+    means_condition =
+        test_alike r.variables (tested_pattern (condition_of_equation s e q)) x.condition
+        r.means_condition;
+    means_right = means_alike r.means_right;
+    sorts = r.sorts;
+    priority = r.priority;
+    place = r.place;
+  }
+
   equation_alike : (f : List ℕ) (a : AxiomDeclaration) (x : Equation) → MeansEquation s f a x
       → MeansEquation t f a x
   equation_alike f a x r =
       let other : (other : SymInfo) × (symbol_named t f ≡ Some other) × IsAlike r.info other =
-      declared_alike f r.info r.declared in
+      declared_alike f r.info r.states.declared in
       record {
         stated = r.stated;
-        class = sym (class_alike s xs same a) ∙ r.class;
-        function = r.function;
         info = other.0;
-        declared = other.1;
+        states = states_alike f a r.stated r.info other.0 other.1 r.states;
         parts = r.parts;
         readable = readable_alike a r.info other.0 r.stated r.parts other.2 r.readable;
-        variables = r.variables;
-        numbered = r.numbered ∙ all_variables_alike [] (all_read r.parts.patterns);
-        parameters = r.parameters;
-        means_arguments = all_mean_alike r.means_arguments;
-        names = r.names ∙ all_names_alike r.variables [] 0 (all_read r.parts.patterns);
+        means = parts_alike a r.stated r.parts x r.means;
         last_resort = r.last_resort;
-        means_condition =
-            test_alike r.variables (tested_pattern (condition_of_equation s r.stated r.parts))
-            x.condition r.means_condition;
-        means_right = means_alike r.means_right;
-        sorts = r.sorts;
-        priority = r.priority;
-        place = r.place;
       }
 
   unreadable_alike : (f : List ℕ) (a : AxiomDeclaration) → IsUnreadable s f a → IsUnreadable t f a
   unreadable_alike f a r =
       let other : (other : SymInfo) × (symbol_named t f ≡ Some other) × IsAlike r.info other =
-      declared_alike f r.info r.declared in
+      declared_alike f r.info r.states.declared in
       record {
         stated = r.stated;
-        class = sym (class_alike s xs same a) ∙ r.class;
-        function = r.function;
         info = other.0;
-        declared = other.1;
+        states = states_alike f a r.stated r.info other.0 other.1 r.states;
         unreadable =
             λ parts is.
             r.unreadable parts (readable_back a r.info other.0 r.stated parts other.2 is);

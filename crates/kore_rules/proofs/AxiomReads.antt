@@ -41,10 +41,10 @@ pair_same a b x y e f = ap (λ (n : ℕ). pair_of n x) e ∙ ap (pair_of b) f
 -- an axiom is an equation of at most one function
 function_one : (sig : Signature) (f g : List ℕ) (a : AxiomDeclaration) (x y : plain.Equation)
     → MeansEquation sig f a x → MeansEquation sig g a y → f ≡ g
-function_one sig f g a x y r s = sym r.function
-    ∙ ap (λ (e : StatedEquation). e.function) (equates_one r.stated s.stated (sym r.class
-    ∙ s.class))
-    ∙ s.function
+function_one sig f g a x y r s = sym r.states.function
+    ∙ ap (λ (e : StatedEquation). e.function) (equates_one r.stated s.stated (sym r.states.class
+    ∙ s.states.class))
+    ∙ s.states.function
 
 numbered_one : (sig : Signature) (f : List ℕ) (a : AxiomDeclaration) (n : ℕ) (x : plain.Equation)
     → number_of_name sig.symbols f ≡ Some n → MeansEquation sig f a x → (y : ℕ × plain.Equation)
@@ -60,9 +60,9 @@ equation_not_unreadable : (sig : Signature) (f g : List ℕ) (a : AxiomDeclarati
     (x : plain.Equation) → MeansEquation sig f a x → IsUnreadable sig g a → ⊥
 equation_not_unreadable sig f g a x r s =
     let functions : g ≡ f =
-    sym s.function
+    sym s.states.function
     ∙ ap (λ (e : StatedEquation). e.function)
-    (equates_one s.stated r.stated (sym s.class ∙ r.class)) ∙ r.function in
+    (equates_one s.stated r.stated (sym s.states.class ∙ r.states.class)) ∙ r.states.function in
     readable_or_not sig f a x r (subst (λ (h : List ℕ). IsUnreadable sig h a) functions s)
 
 -- an axiom that is not an unreadable equation changes no mark
@@ -110,10 +110,10 @@ one_mark sig axioms a f k old new number is set before n =
         | inl b ↦ left_true (is_marked old n) (n == k) ((before n).1 b)
         | inr (g, its, same) ↦
             let functions : g ≡ f =
-            sym same.function
+            sym same.states.function
             ∙ ap (λ (e : StatedEquation). e.function)
-            (equates_one same.stated is.stated (sym same.class ∙ is.class))
-            ∙ is.function in
+            (equates_one same.stated is.stated (sym same.states.class ∙ is.states.class))
+            ∙ is.states.function in
             let numbers : n ≡ k =
             some_same n k (sym its ∙ ap (number_of_name sig.symbols) functions ∙ number) in
             right_true (is_marked old n) (n == k) (eq-eqb n k numbers)
@@ -179,7 +179,7 @@ read_equation sig axioms a f old new e grown rules marks number is before = reco
       numbered_equation) grown ∙ map-append numbered_equation old.equations.items (e ∷ [])))
       (read_more (IsNumberedEquation sig) numbered_place axioms
       (map numbered_equation old.equations.items) a (numbered_equation e) (f, number, is.means)
-      (numbered_one sig f a e.fun.0 (function_equation e) number is.means) is.means.place
+      (numbered_one sig f a e.fun.0 (function_equation e) number is.means) is.means.means.place
       before.equations);
   named_rules =
       subst (AreOf (MeansNamedRule sig) (axioms ++ a ∷ [])) (sym rules)
@@ -237,12 +237,12 @@ read_nothing sig axioms a old no_rule no_equation before = record {
   equations =
       read_same (IsNumberedEquation sig) numbered_place axioms
       (map numbered_equation old.equations.items) a
-      (λ y h. let is = h.2 in no_equation is.stated is.class) before.equations;
+      (λ y h. let is = h.2 in no_equation is.stated is.states.class) before.equations;
   named_rules = of_same (MeansNamedRule sig) axioms old.rules.items a before.named_rules;
   named_equations =
       of_same (IsSomeEquation sig) axioms old.equations.items a before.named_equations;
   marked = before.marked;
   unreadable =
       same_marks sig axioms a old.unreadable.items old.unreadable.items refl
-      (λ f h. no_equation h.stated h.class) before.unreadable;
+      (λ f h. no_equation h.stated h.states.class) before.unreadable;
 }

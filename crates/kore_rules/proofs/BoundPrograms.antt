@@ -30,7 +30,7 @@ use Rattle.kore_shapes.specs.Shapes.{side, heads_condition}
 use Rattle.kore_axioms.specs.AxiomMeanings.{MeansRule}
 use Rattle.kore_axioms.proofs.RuleLaws.{class_rewrites}
 use Rattle.kore_equations.specs.EquationMeanings.{MeansEquation}
-use Rattle.kore_equations.specs.ReadableEquations.{all_read}
+use Rattle.kore_equations.specs.ReadableSides.{all_read}
 use Rattle.kore_equations.proofs.ClassLaws.{class_equates}
 use Rattle.kore_rules.specs.MadePrograms.{ListsOwnEquations}
 use Rattle.kore_rules.specs.Programs.{IsProgramUnder}
@@ -98,30 +98,30 @@ bound_equation sig f a n e own is most =
     let patterns = is.parts.patterns in
     let parts =
     parts_count (variable_count a.pattern) is.stated is.parts is.readable.form
-    (statement_count a.pattern is.stated (class_equates sig a is.stated is.class).stated) in
-    let long : length e.vars.items ≡ length is.variables =
-    sym (length_mapped (λ (v : VarInfo). v.sort.0) e.vars.items) ∙ ap length is.sorts
-    ∙ length_mapped (λ (v : List ℕ × ℕ). v.1) is.variables in
+    (statement_count a.pattern is.stated (class_equates sig a is.stated is.states.class).stated) in
+    let long : length e.vars.items ≡ length is.means.variables =
+    sym (length_mapped (λ (v : VarInfo). v.sort.0) e.vars.items) ∙ ap length is.means.sorts
+    ∙ length_mapped (λ (v : List ℕ × ℕ). v.1) is.means.variables in
     let many : length patterns ≡ length e.args.items =
-    sym (count_read patterns) ∙ as_many sig is.variables is.means_arguments
+    sym (count_read patterns) ∙ as_many sig is.means.variables is.means.means_arguments
     ∙ plain_number e.args.items in
     let counted = all_few_variables sig patterns in
-    let numbered : length is.variables ≡ length (with_all_variables sig [] (all_read patterns)) =
-    ap length is.numbered in
+    let numbered : length is.means.variables ≡ length (with_all_variables sig [] (all_read patterns)) =
+    ap length is.means.numbered in
     let least = parts.patterns in
     let given = parts.parameters in
-    let parameters = is.parameters in
+    let parameters = is.means.parameters in
     record {
       own = own;
       parameters =
-          ⊎_elim (λ none. inl (is.parameters ∙ none)) (λ one. inr (is.parameters ∙ one ∙ many))
+          ⊎_elim (λ none. inl (is.means.parameters ∙ none)) (λ one. inr (is.means.parameters ∙ one ∙ many))
           parts.form;
       few = omega (arith, long, counted, numbered, least, given, parameters, most);
       each =
           λ x lt. subst
           (λ (ns : List Name). OccursInSome x (plain_patterns e.args.items) ⊎ IsNamed ns x)
-          (sym is.names) (each_occurs_in_some sig is.variables (all_read patterns)
-          (plain_patterns e.args.items) is.numbered is.means_arguments x (omega (arith, lt, long)));
+          (sym is.means.names) (each_occurs_in_some sig is.means.variables (all_read patterns)
+          (plain_patterns e.args.items) is.means.numbered is.means.means_arguments x (omega (arith, lt, long)));
     }
 
 -- ---- the program

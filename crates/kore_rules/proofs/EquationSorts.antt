@@ -1,7 +1,7 @@
 -- A readable equation is well-sorted.
 use Rattle.std.proofs.Common.{◌≡◌, ◌<◌, ℕ, ◌+◌, Bool, true, false, List, [], ◌∷◌, length, Option}
 use Rattle.std.proofs.Common.{Some, None, refl, ap, sym, ◌∙◌, subst, arith}
-use Rattle.std.specs.Prelude.{All, IfSome, not}
+use Rattle.std.specs.Prelude.{◌==◌, All, IfSome, not}
 use Rattle.std.proofs.lemmas.Bool.{false≢true, eqb-true}
 use Rattle.std.proofs.lemmas.List.Elements.{All-nil, All-head, All-tail}
 use Rattle.kore_text.specs.Trees.{PatternTree, AxiomDeclaration}
@@ -32,8 +32,8 @@ use Rattle.kore_axioms.specs.RuleFaults.{is_empty, is_bound}
 use Rattle.kore_axioms.specs.Uses.{have_symbol, is_plain_function}
 use Rattle.kore_axioms.proofs.ApplicativeLaws.{neither}
 use Rattle.kore_axioms.proofs.BoundLaws.{no_faults}
-use Rattle.kore_equations.specs.ReadableEquations.{all_read, condition_of_equation, equation_faults}
-use Rattle.kore_equations.specs.ReadableEquations.{is_one_sort, is_sort_over}
+use Rattle.kore_equations.specs.ReadableSides.{all_read, faults_of_sides}
+use Rattle.kore_equations.specs.ReadableEquations.{condition_of_equation, is_one_sort, is_sort_over}
 use Rattle.kore_equations.specs.EquationMeanings.{MeansEquation}
 use Rattle.kore_equations.proofs.ClearLaws.{empty_is}
 use Rattle.kore_rules.proofs.KeptSorts.{IsKept, sort_kept, all_sorts_kept}
@@ -84,44 +84,43 @@ pub sorted_equation : (declared final : Signature) (axioms : List AxiomDeclarati
     → IsSortedEquation final info e
 sorted_equation declared final axioms f a e info kept good r params refs same_args same_result =
     let q = r.parts in
+    let p = r.readable.parts in
     let over = condition_of_equation declared r.stated q in
-    let fits = both_true (is_sort_over declared a.params r.stated.over) _ r.readable.function in
-    let sorts =
-    both_true
-    (is_one_sort (sort_number declared.sorts r.stated.sort) (sort_at [] r.info.result)) _
-    fits.1 in
-    let result = one_sort _ _ sorts.0 in
-    let many : length q.patterns ≡ length r.info.args.items = eqb-true _ _ sorts.1 in
+    let fits = both_true (is_sort_over declared a.params r.stated.over) _ p.function in
+    let result = one_sort _ _ fits.1 in
+    let counted = both_true (length q.patterns == length r.info.args.items) _ p.sides.sorted in
+    let many : length q.patterns ≡ length r.info.args.items = eqb-true _ _ counted.0 in
     let sorted =
-    both_true (is_empty (equation_faults declared r.info r.stated q)) _ r.readable.sorted in
-    let faults = no_faults _ _ (empty_is (equation_faults declared r.info r.stated q) sorted.0) in
-    let patterns = no_faults _ _ faults.1 in
-    let sides = no_faults _ _ patterns.1 in
+    both_true (is_empty (faults_of_sides declared r.info q.patterns over)) _ counted.1 in
+    let patterns =
+    no_faults _ _ (empty_is (faults_of_sides declared r.info q.patterns over) sorted.0) in
     let uses =
     both_true (not (have_symbol (is_plain_function declared) (all_read q.patterns))) _
-    r.readable.good_uses in
+    p.sides.good_uses in
     let ac = both_true _ _ uses.1 in
-    let bound = both_true (is_bound (all_read q.patterns) (tested_pattern over)) _ ac.1 in
-    let vars : List (List ℕ × ℕ) = r.variables in
+    let right = both_true _ _ (both_true _ _ p.right).1 in
+    let faults : List Fault =
+    faults_at_sort declared (sort_at [] r.info.result) (unfolded q.right) in
+    let vars : List (List ℕ × ℕ) = r.means.variables in
     let V : List ℕ = variable_sorts vars in
-    let same : V ≡ e.variables = sym r.sorts in
+    let same : V ≡ e.variables = sym r.means.sorts in
     let numbers : AreDeclared declared vars =
-    subst (AreDeclared declared) (sym r.numbered) (all_variables_declared declared []
+    subst (AreDeclared declared) (sym r.means.numbered) (all_variables_declared declared []
     (all_read q.patterns) (All-nil (λ (n : ℕ). n < length declared.sorts))) in
     let plain_refs : All (IsReference declared 0) r.info.args.items =
     subst (λ (n : ℕ). All (IsReference declared n) r.info.args.items) params refs in
     let arguments : HaveSorts declared V [] e.arguments r.info.args.items =
     sorted_arguments declared vars r.info.args.items good plain_refs patterns.0
-    (count_read q.patterns ∙ many) r.means_arguments in
+    (count_read q.patterns ∙ many) r.means.means_arguments in
     let calls : HaveNoCall e.arguments =
     all_no_call declared vars (not_true _ uses.0) (neither _ _ (not_true _ ac.0)).1
-    r.means_arguments in
+    r.means.means_arguments in
     let ns : List Name = names_in_all declared vars [] 0 (all_read q.patterns) in
     let named : HaveNames declared V e.arguments ns =
     have_names declared vars q.patterns e.arguments good
-    (sides_of_equation declared a r.stated q r.class r.readable.form r.readable.good_form)
+    (sides_of_equation q.patterns over p.sides.good_form)
     (arguments_clear declared [] (all_read q.patterns) r.info.args.items patterns.0) calls
-    r.means_arguments in
+    r.means.means_arguments in
     record {
       variables =
           subst (λ (ss : List ℕ). All (λ (n : ℕ). n < length final.sorts) ss) same (subst
@@ -133,20 +132,20 @@ sorted_equation declared final axioms f a e info kept good r params refs same_ar
       no_call = calls;
       names =
           subst (λ (ss : List ℕ). HaveNames final ss e.arguments e.names) same
-          (subst (λ (ms : List Name). HaveNames final V e.arguments ms) (sym r.names)
+          (subst (λ (ms : List Name). HaveNames final V e.arguments ms) (sym r.means.names)
           (names_kept declared final axioms V e.arguments ns kept named));
       condition =
           subst (λ (ss : List ℕ). IfSome e.condition (IsCondition final ss e.arguments e.names)) same
           (subst (λ (ms : List Name). IfSome e.condition (IsCondition final V e.arguments ms))
-          (sym r.names)
+          (sym r.means.names)
           (sorted_condition declared final axioms vars (given_condition r.stated.over q.condition)
-          over e.condition kept good r.means_arguments refl sides.0 bound.0 r.means_condition));
+          over e.condition kept good r.means.means_arguments refl patterns.1 ac.1 r.means.means_condition));
       sort = result.0;
       result = ap (sort_at []) same_result ∙ result.1;
       right = subst (λ (ss : List ℕ). HasSort final ss e.right result.0) same
           (sort_kept declared final axioms V e.right result.0 kept (sorted_side declared vars
-          (sort_at [] r.info.result) result.0 good sides.1 result.1 r.means_right));
+          (sort_at [] r.info.result) result.0 good (empty_is faults right.0) result.1 r.means.means_right));
       bound =
-          subst (λ (ms : List Name). UsesOnly e.arguments ms e.right) (sym r.names)
-          (uses_only declared vars r.means_arguments bound.1 r.means_right);
+          subst (λ (ms : List Name). UsesOnly e.arguments ms e.right) (sym r.means.names)
+          (uses_only declared vars r.means.means_arguments right.1 r.means.means_right);
     }

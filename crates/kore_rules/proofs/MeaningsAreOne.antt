@@ -1,4 +1,4 @@
--- A pattern means one rule pattern. An axiom means one rule, and one equation of a function.
+-- An axiom means one rule, and one equation of a function.
 use Rattle.std.proofs.Common.{◌≡◌, ℕ, List, [], ◌∷◌, map, length, Option, Some, None, refl, sym, ap}
 use Rattle.std.proofs.Common.{◌∙◌, subst}
 use Rattle.kore_text.specs.Trees.{PatternTree, AxiomDeclaration}
@@ -20,43 +20,13 @@ use Rattle.kore_axioms.specs.AxiomClasses.{rewrites, equates}
 use Rattle.kore_axioms.specs.AxiomMeanings.{MeansTest, MeansRule}
 use Rattle.kore_axioms.specs.Conditions.{tested_pattern}
 use Rattle.kore_axioms.specs.RuleParts.{rule_parts, left_of, right_of}
-use Rattle.kore_equations.specs.EquationMeanings.{MeansEquation, IsUnreadable}
-use Rattle.kore_equations.specs.ReadableEquations.{IsReadable, condition_of_equation, all_read}
+use Rattle.kore_equations.specs.EquationMeanings.{MeansParts, MeansEquation, IsUnreadable}
+use Rattle.kore_equations.specs.ReadableSides.{all_read}
+use Rattle.kore_equations.specs.ReadableEquations.{IsReadable, condition_of_equation}
+use Rattle.kore_equations.proofs.OneMeaning.{means_one, all_mean_one, test_means_one}
 
 some_same : {A : Type 0} (x y : A) → Some x ≡ Some y → x ≡ y
 some_same x y e = cc
-
-mutual
-  pub means_one : (sig : Signature) (vars : List (List ℕ × ℕ)) {u : Unfolded} {p q : Pattern}
-      → Means sig vars u p → Means sig vars u q → p ≡ q
-  means_one sig vars (by_variable a b) (by_variable c d) = cc
-  means_one sig vars (by_value a b) (by_value c d) = cc
-  means_one sig vars (by_symbol a b all e) (by_symbol c d same f) =
-      let one = all_mean_one sig vars all same in
-      let a0 = a.0 in
-      let a1 = a.1 in
-      let c0 = c.0 in
-      let c1 = c.1 in cc
-  means_one sig vars (by_name {p = p} {q = q} {r = r} a b part) (by_name {p = x} {q = y} {r = z} c d
-      same) =
-      some_same r z (sym part ∙ ap (λ (w : Pattern). named_part w q) (means_one sig vars a c)
-      ∙ ap (named_part x) (means_one sig vars b d) ∙ same)
-
-  pub all_mean_one : (sig : Signature) (vars : List (List ℕ × ℕ)) {us : Unfoldeds}
-      {ps qs : Patterns} → AllMean sig vars us ps → AllMean sig vars us qs → ps ≡ qs
-  all_mean_one sig vars none_mean none_mean = refl
-  all_mean_one sig vars (more_mean a all) (more_mean b same) =
-      let first = means_one sig vars a b in
-      let rest = all_mean_one sig vars all same in cc
-
-test_means_one : (sig : Signature) (vars : List (List ℕ × ℕ)) (b : Option PatternTree)
-    (p q : Option Pattern) → MeansTest sig vars b p → MeansTest sig vars b q → p ≡ q
-test_means_one sig vars None None None m n = refl
-test_means_one sig vars None None (Some q) m n = absurd n
-test_means_one sig vars None (Some p) q m n = absurd m
-test_means_one sig vars (Some b) None q m n = absurd m
-test_means_one sig vars (Some b) (Some p) None m n = absurd n
-test_means_one sig vars (Some b) (Some p) (Some q) m n = ap Some (means_one sig vars m n)
 
 rewrites_one : (v w : Rewriting) → rewrites v ≡ rewrites w → v ≡ w
 rewrites_one v w e = cc
@@ -144,57 +114,66 @@ same_equation : (x y : Equation) → x.parameters ≡ y.parameters → x.argumen
 same_equation x y a b names last c d e f g = λ i.
     equation_with (a i) (b i) (names i) (last i) (c i) (d i) (e i) (f i) (g i)
 
-pub equation_one : (sig : Signature) (f : List ℕ) (a : AxiomDeclaration) (x y : Equation)
-    → MeansEquation sig f a x → MeansEquation sig f a y → x ≡ y
-equation_one sig f a x y r s =
-    let stated : r.stated ≡ s.stated = equates_one r.stated s.stated (sym r.class ∙ s.class) in
-    let parts : r.parts ≡ s.parts =
-    some_same r.parts s.parts
-    (sym r.readable.form ∙ ap equation_parts stated ∙ s.readable.form) in
+parts_one : (sig : Signature) (a : AxiomDeclaration) (d e : StatedEquation) (p q : EquationParts)
+    (x y : Equation) → d ≡ e → p ≡ q → x.last_resort ≡ y.last_resort → MeansParts sig a d p x
+    → MeansParts sig a e q y → x ≡ y
+parts_one sig a d e p q x y stated parts last r s =
     let vars : r.variables ≡ s.variables =
     r.numbered
-    ∙ ap (λ (q : EquationParts). with_all_variables sig [] (all_read q.patterns)) parts
+    ∙ ap (λ (w : EquationParts). with_all_variables sig [] (all_read w.patterns)) parts
     ∙ sym s.numbered in
-    let arguments : AllMean sig r.variables (all_read r.parts.patterns) y.arguments =
-    subst (λ (q : EquationParts). AllMean sig r.variables (all_read q.patterns) y.arguments)
+    let arguments : AllMean sig r.variables (all_read p.patterns) y.arguments =
+    subst (λ (w : EquationParts). AllMean sig r.variables (all_read w.patterns) y.arguments)
     (sym parts) (subst
-    (λ (vs : List (List ℕ × ℕ)). AllMean sig vs (all_read s.parts.patterns) y.arguments)
+    (λ (vs : List (List ℕ × ℕ)). AllMean sig vs (all_read q.patterns) y.arguments)
     (sym vars) s.means_arguments) in
-    let right : Means sig r.variables (unfolded r.parts.right) y.right =
-    subst (λ (q : EquationParts). Means sig r.variables (unfolded q.right) y.right) (sym parts)
-    (subst (λ (vs : List (List ℕ × ℕ)). Means sig vs (unfolded s.parts.right) y.right)
+    let right : Means sig r.variables (unfolded p.right) y.right =
+    subst (λ (w : EquationParts). Means sig r.variables (unfolded w.right) y.right) (sym parts)
+    (subst (λ (vs : List (List ℕ × ℕ)). Means sig vs (unfolded q.right) y.right)
     (sym vars) s.means_right) in
-    let condition : MeansTest sig r.variables
-    (tested_pattern (condition_of_equation sig r.stated r.parts))
+    let condition : MeansTest sig r.variables (tested_pattern (condition_of_equation sig d p))
     y.condition =
-    subst (λ (e : StatedEquation).
-    MeansTest sig r.variables (tested_pattern (condition_of_equation sig e r.parts)) y.condition)
+    subst (λ (f : StatedEquation).
+    MeansTest sig r.variables (tested_pattern (condition_of_equation sig f p)) y.condition)
     (sym stated)
-    (subst (λ (q : EquationParts).
-    MeansTest sig r.variables (tested_pattern (condition_of_equation sig s.stated q)) y.condition)
+    (subst (λ (w : EquationParts).
+    MeansTest sig r.variables (tested_pattern (condition_of_equation sig e w)) y.condition)
     (sym parts)
     (subst (λ (vs : List (List ℕ × ℕ)).
-    MeansTest sig vs (tested_pattern (condition_of_equation sig s.stated s.parts)) y.condition)
+    MeansTest sig vs (tested_pattern (condition_of_equation sig e q)) y.condition)
     (sym vars) s.means_condition)) in
     same_equation x y
-    (r.parameters ∙ ap (λ (q : EquationParts). length q.parameters) parts ∙ sym s.parameters)
+    (r.parameters ∙ ap (λ (w : EquationParts). length w.parameters) parts ∙ sym s.parameters)
     (all_mean_one sig r.variables r.means_arguments arguments)
     (r.names
-    ∙ ap (λ (vs : List (List ℕ × ℕ)). names_in_all sig vs [] 0 (all_read r.parts.patterns)) vars
-    ∙ ap (λ (q : EquationParts). names_in_all sig s.variables [] 0 (all_read q.patterns)) parts
-    ∙ sym s.names) (r.last_resort ∙ sym s.last_resort)
-    (test_means_one sig r.variables (tested_pattern (condition_of_equation sig r.stated r.parts))
+    ∙ ap (λ (vs : List (List ℕ × ℕ)). names_in_all sig vs [] 0 (all_read p.patterns)) vars
+    ∙ ap (λ (w : EquationParts). names_in_all sig s.variables [] 0 (all_read w.patterns)) parts
+    ∙ sym s.names) last
+    (test_means_one sig r.variables (tested_pattern (condition_of_equation sig d p))
     x.condition y.condition r.means_condition condition)
     (means_one sig r.variables r.means_right right)
     (r.sorts ∙ ap (map (λ (v : List ℕ × ℕ). v.1)) vars ∙ sym s.sorts)
     (r.priority ∙ sym s.priority) (r.place ∙ sym s.place)
 
+pub equation_one : (sig : Signature) (f : List ℕ) (a : AxiomDeclaration) (x y : Equation)
+    → MeansEquation sig f a x → MeansEquation sig f a y → x ≡ y
+equation_one sig f a x y r s =
+    let stated : r.stated ≡ s.stated =
+    equates_one r.stated s.stated (sym r.states.class ∙ s.states.class) in
+    let parts : r.parts ≡ s.parts =
+    some_same r.parts s.parts
+    (sym r.readable.form ∙ ap equation_parts stated ∙ s.readable.form) in
+    parts_one sig a r.stated s.stated r.parts s.parts x y stated parts
+    (r.last_resort ∙ sym s.last_resort) r.means s.means
+
 -- a readable equation is not unreadable
 pub readable_or_not : (sig : Signature) (f : List ℕ) (a : AxiomDeclaration) (x : Equation)
     → MeansEquation sig f a x → IsUnreadable sig f a → ⊥
 readable_or_not sig f a x r s =
-    let stated : r.stated ≡ s.stated = equates_one r.stated s.stated (sym r.class ∙ s.class) in
-    let info : r.info ≡ s.info = some_same r.info s.info (sym r.declared ∙ s.declared) in
+    let stated : r.stated ≡ s.stated =
+    equates_one r.stated s.stated (sym r.states.class ∙ s.states.class) in
+    let info : r.info ≡ s.info =
+    some_same r.info s.info (sym r.states.declared ∙ s.states.declared) in
     s.unreadable r.parts (subst (λ (i : SymInfo). IsReadable sig a i s.stated r.parts) info
     (subst (λ (e : StatedEquation). IsReadable sig a r.info e r.parts) stated r.readable))
 
@@ -203,11 +182,11 @@ readable_or_not sig f a x r s =
 pub rule_not_equation : (sig : Signature) (f : List ℕ) (a : AxiomDeclaration) (x : RewriteRule)
     (y : Equation) → MeansRule sig a x → MeansEquation sig f a y → ⊥
 rule_not_equation sig f a x y r s =
-    let both : rewrites r.shape ≡ equates s.stated = sym r.class ∙ s.class in
+    let both : rewrites r.shape ≡ equates s.stated = sym r.class ∙ s.states.class in
     let never : ⊥ = cc in never
 
 pub rule_not_unreadable : (sig : Signature) (f : List ℕ) (a : AxiomDeclaration) (x : RewriteRule)
     → MeansRule sig a x → IsUnreadable sig f a → ⊥
 rule_not_unreadable sig f a x r s =
-    let both : rewrites r.shape ≡ equates s.stated = sym r.class ∙ s.class in
+    let both : rewrites r.shape ≡ equates s.stated = sym r.class ∙ s.states.class in
     let never : ⊥ = cc in never

@@ -43,7 +43,7 @@ use Rattle.kore_axioms.specs.LeftNames.{times, times_in_all, times_in, only_vari
 use Rattle.kore_axioms.specs.LeftNames.{is_written_once}
 use Rattle.kore_axioms.proofs.ApplicativeLaws.{IsSide, AreSides}
 use Rattle.kore_axioms.proofs.BoundLaws.{same_written}
-use Rattle.kore_equations.specs.ReadableEquations.{all_read}
+use Rattle.kore_equations.specs.ReadableSides.{all_read}
 use Rattle.kore_rules.proofs.MeaningSorts.{no_number}
 
 pub some_same : {X : Type 0} (x y : X) → Some x ≡ Some y → x ≡ y

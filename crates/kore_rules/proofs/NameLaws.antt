@@ -33,7 +33,7 @@ use Rattle.kore_check.proofs.CheckLaws.{some_or_none}
 use Rattle.kore_check.proofs.NamedMeanings.{IsPartOf, part_cases}
 use Rattle.kore_axioms.proofs.ApplicativeLaws.{AreSides}
 use Rattle.kore_axioms.proofs.BoundLaws.{no_faults}
-use Rattle.kore_equations.specs.ReadableEquations.{all_read}
+use Rattle.kore_equations.specs.ReadableSides.{all_read}
 use Rattle.kore_rules.proofs.KeptSorts.{IsKept, sort_kept}
 use Rattle.kore_rules.proofs.MeaningSorts.{sorted_at, no_number}
 use Rattle.kore_rules.proofs.NameCounts.{some_same, patterns_times, name_times, variable_is}

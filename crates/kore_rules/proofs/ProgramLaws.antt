@@ -212,7 +212,7 @@ unnamed : (sig : Signature) (f : List ℕ) (a : AxiomDeclaration) → number_of_
     ≡ None
     → IsUnreadable sig f a → ⊥
 unnamed sig f a none bad =
-    let both : Some bad.info ≡ None = sym bad.declared ∙ no_symbol none in
+    let both : Some bad.info ≡ None = sym bad.states.declared ∙ no_symbol none in
     let never : ⊥ = cc in never
   where
     no_symbol : number_of_name sig.symbols f ≡ None → symbol_named sig f ≡ None

@@ -155,7 +155,7 @@ equations_are_one : (sig : Signature) (f : List ℕ)
     → AreOne (MeansEquation sig f) (λ (e : Equation). e.place)
 equations_are_one sig f = record {
   one = λ a x y is other. equation_one sig f a x y is other;
-  there = λ a x is. is.place;
+  there = λ a x is. is.means.place;
 }
 
 equations_found : (sig : Signature) (axioms : List AxiomDeclaration) (f : List ℕ) (kind : SymKind)

@@ -38,13 +38,15 @@ use Rattle.kore_axioms.proofs.BuiltLaws.{bound_counted, bound_all}
 use Rattle.kore_axioms.proofs.CheckedLaws.{all_bound}
 use Rattle.kore_axioms.proofs.FirstLaws.{none_by_byte}
 use Rattle.kore_axioms.proofs.RuleLaws.{fine_rule}
-use Rattle.kore_equations.specs.BuiltEquations.{AreFine, IsFineEquation}
+use Rattle.kore_equations.specs.BuiltEquations.{IsFine as IsFinePattern, AreFine, IsFineTest}
+use Rattle.kore_equations.specs.BuiltEquations.{AreFineSides}
 use Rattle.kore_equations.specs.ClearEquations.{clear_parts, are_bound}
 use Rattle.kore_equations.specs.EquationMeanings.{MeansEquation, IsUnreadable}
-use Rattle.kore_equations.specs.ReadableEquations.{IsReadable, all_read, condition_of_equation}
+use Rattle.kore_equations.specs.ReadableSides.{all_read}
+use Rattle.kore_equations.specs.ReadableEquations.{IsReadable, condition_of_equation}
 use Rattle.kore_equations.proofs.ClassLaws.{function_declared}
-use Rattle.kore_equations.proofs.ClearLaws.{is_readable, none_unreadable, unbound_unreadable}
-use Rattle.kore_equations.proofs.FineLaws.{fine_equation}
+use Rattle.kore_equations.proofs.ClearParts.{clear_is, is_readable, none_unreadable}
+use Rattle.kore_equations.proofs.ClearParts.{unbound_unreadable, fine_of_parts}
 use Rattle.kore_rules.proofs.MeaningsAreOne.{equates_one, readable_or_not}
 use Rattle.kore_rules.proofs.MeaningsFound.{Variables, HasMeaning, meaning, all_meanings}
 
@@ -155,6 +157,13 @@ are_faultless sig (and_more u us) h = ((h.0.clear, h.0.form), are_faultless sig 
 abbrev IsRead : Signature → AxiomDeclaration → List ℕ → Type 0
 IsRead sig a f = ((e : Equation) × MeansEquation sig f a e) ⊎ IsUnreadable sig f a
 
+tested_fine : (sig : Signature) (o : Option PatternTree) → IsFineTest sig o → (p : PatternTree)
+    → o ≡ Some p → IsFaultless sig (unfolded p)
+tested_fine sig None fine p is = absurd (let never : ⊥ = cc in never)
+tested_fine sig (Some q) fine p is =
+    subst (λ (x : PatternTree). IsFaultless sig (unfolded x)) (let same : q ≡ p = cc in same)
+    (fine.clear, fine.form)
+
 equation_of_parts : (sig : Signature) (a : AxiomDeclaration) (e : StatedEquation) (info : SymInfo)
     (q : EquationParts) → IsSignature sig → axiom_class sig a ≡ equates e
     → symbol_named sig e.function ≡ Some info → clear_parts sig a info e ≡ Some q
@@ -162,15 +171,14 @@ equation_of_parts : (sig : Signature) (a : AxiomDeclaration) (e : StatedEquation
 equation_of_parts sig a e info q sorted class declared clear bound =
     let c = condition_of_equation sig e q in
     let qs : Unfoldeds = all_read q.patterns in
-    let f : IsFineEquation sig c q = fine_equation sig a info e q class clear in
+    let forms = fine_of_parts sig a info e q (clear_is sig a info e q clear).clear in
+    let f : AreFineSides sig q.patterns c = forms.sides in
+    let fine : IsFinePattern sig (unfolded q.right) = forms.right in
     let vars : Variables = with_all_variables sig [] qs in
     let arguments = all_meanings sig sorted qs [] (are_faultless sig qs f.patterns) in
     let meant : AreMeant sig vars (tested_pattern c) q.right =
-    are_meant sig sorted qs (tested_pattern c) q.right (λ p is. (
-      (f.test p is).clear,
-      (f.test p is).form,
-    ))
-    (f.right.clear, f.right.form) bound in (
+    are_meant sig sorted qs (tested_pattern c) q.right (tested_fine sig (tested_pattern c) f.test)
+    (fine.clear, fine.form) bound in (
       record {
         parameters = length q.parameters;
         arguments = arguments.0;
@@ -184,23 +192,23 @@ equation_of_parts sig a e info q sorted class declared clear bound =
       },
       record {
         stated = e;
-        class = class;
-        function = refl;
         info = info;
-        declared = declared;
+        states = record { class = class; function = refl; declared = declared };
         parts = q;
         readable = is_readable sig a info e q clear bound;
-        variables = vars;
-        numbered = refl;
-        parameters = refl;
-        means_arguments = arguments.1 vars (extends-refl vars);
-        names = refl;
+        means = record {
+          variables = vars;
+          numbered = refl;
+          parameters = refl;
+          means_arguments = arguments.1 vars (extends-refl vars);
+          names = refl;
+          means_condition = meant.means_condition;
+          means_right = meant.right_pattern.1 vars (extends-refl vars);
+          sorts = refl;
+          priority = refl;
+          place = refl;
+        };
         last_resort = refl;
-        means_condition = meant.means_condition;
-        means_right = meant.right_pattern.1 vars (extends-refl vars);
-        sorts = refl;
-        priority = refl;
-        place = refl;
       },
     )
 
@@ -214,10 +222,8 @@ equation_read sig a e sorted class = by_parts (clear_parts sig a declared.0 e) r
       → IsUnreadable sig e.function a
   unreadable never = record {
     stated = e;
-    class = class;
-    function = refl;
     info = declared.0;
-    declared = declared.1;
+    states = record { class = class; function = refl; declared = declared.1 };
     unreadable = never;
   }
 
@@ -246,17 +252,17 @@ IsNoOf sig f a = ((e : Equation) → MeansEquation sig f a e → ⊥) × (IsUnre
 other_class : (sig : Signature) (f : List ℕ) (a : AxiomDeclaration) (k : AxiomClass)
     → axiom_class sig a ≡ k → ((e : StatedEquation) → k ≡ equates e → ⊥) → IsNoOf sig f a
 other_class sig f a k class other =
-    (λ e is. other is.stated (sym class ∙ is.class), λ is. other is.stated (sym class ∙ is.class))
+    (λ e is. other is.stated (sym class ∙ is.states.class), λ is. other is.stated (sym class ∙ is.states.class))
 
 other_function : (sig : Signature) (f : List ℕ) (a : AxiomDeclaration) (e : StatedEquation)
     → axiom_class sig a ≡ equates e → (e.function ≡ f → ⊥) → IsNoOf sig f a
 other_function sig f a e class other = (
   λ x is. other (ap (λ (s : StatedEquation). s.function) (equates_one e is.stated (sym class
-      ∙ is.class))
-      ∙ is.function),
+      ∙ is.states.class))
+      ∙ is.states.function),
   λ is. other (ap (λ (s : StatedEquation). s.function) (equates_one e is.stated (sym class
-      ∙ is.class))
-      ∙ is.function),
+      ∙ is.states.class))
+      ∙ is.states.function),
 )
 
 pub read_or_not : (sig : Signature) (f : List ℕ) (a : AxiomDeclaration) → IsSignature sig

@@ -37,7 +37,7 @@ use Rattle.kore_shapes.specs.EquationForms.{right_side, is_member, member_with, 
 use Rattle.kore_shapes.specs.EquationForms.{entry, members, stands_alone, occur_nowhere_else}
 use Rattle.kore_shapes.specs.EquationForms.{direct_parts, kompiled, parts_under, parts_with}
 use Rattle.kore_shapes.specs.EquationForms.{equation_parts}
-use Rattle.kore_equations.specs.ReadableEquations.{all_read}
+use Rattle.kore_equations.specs.ReadableSides.{all_read}
 
 -- the number of places of the pattern where an element variable occurs
 abbrev mutual

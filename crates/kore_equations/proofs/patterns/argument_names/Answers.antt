@@ -4,7 +4,7 @@ use Rattle.rule_core.specs.declared.rules.Named.{Named}
 use Rattle.kore_check.specs.Folds.{unfolded}
 use Rattle.kore_check.specs.PartNames.{names_in, names_in_all}
 use Rattle.kore_shapes.specs.Views.{pattern_at}
-use Rattle.kore_equations.specs.ReadableEquations.{all_read}
+use Rattle.kore_equations.specs.ReadableSides.{all_read}
 use Rattle.kore_equations.proofs.MeaningLaws.{next_names, last_names}
 use Rattle.kore_equations.proofs.patterns.argument_names.Goals as goal
 

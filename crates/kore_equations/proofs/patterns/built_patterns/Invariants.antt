@@ -5,7 +5,7 @@ use Rattle.term_core.specs.RulePatterns.{plain_pattern}
 use Rattle.kore_check.specs.PatternMeanings.{AllMean, with_all_variables}
 use Rattle.kore_check.specs.Building.{Extends}
 use Rattle.kore_shapes.specs.Views.{pattern_at}
-use Rattle.kore_equations.specs.ReadableEquations.{all_read}
+use Rattle.kore_equations.specs.ReadableSides.{all_read}
 use Rattle.kore_equations.specs.BuiltEquations.{AreFine}
 use Rattle.kore_equations.proofs.patterns.built_patterns.Given as goal
 

@@ -1,6 +1,6 @@
 use Rattle.std.proofs.Common.{◌≡◌, drop, map}
 use Rattle.kore_shapes.specs.Views.{pattern_at}
-use Rattle.kore_equations.specs.ReadableEquations.{all_read}
+use Rattle.kore_equations.specs.ReadableSides.{all_read}
 use Rattle.kore_equations.specs.ClearEquations.{each_faultless}
 use Rattle.kore_equations.proofs.sorts.are_arguments.Given as goal
 

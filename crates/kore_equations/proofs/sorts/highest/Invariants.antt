@@ -3,7 +3,7 @@ use Rattle.std.specs.Prelude.{max}
 use Rattle.kore_check.specs.Folds.{unfolded_heights}
 use Rattle.kore_check.specs.FoldHeights.{cut}
 use Rattle.kore_shapes.specs.Views.{pattern_at}
-use Rattle.kore_equations.specs.ReadableEquations.{all_read}
+use Rattle.kore_equations.specs.ReadableSides.{all_read}
 use Rattle.kore_equations.proofs.sorts.highest.Given as goal
 
 abbrev pub invariant-loop-pat : goal.invariant-loop-pat

@@ -4,7 +4,7 @@ use Rattle.kore_check.specs.Folds.{all_unfolded}
 use Rattle.kore_shapes.specs.Views.{pattern_at}
 use Rattle.kore_axioms.specs.Uses.{have_symbol}
 use Rattle.kore_axioms.specs.UsedSymbols.{is_used}
-use Rattle.kore_equations.proofs.readable.have_symbol.Given as goal
+use Rattle.kore_equations.proofs.sides.have_symbol.Given as goal
 
 abbrev pub invariant-loop-pat : goal.invariant-loop-pat
 invariant-loop-pat l =

@@ -1,0 +1,6 @@
+-- Marks, by number.
+use Rattle.std.specs.Prelude.{ℕ, Bool, false, List, slice_index_or}
+
+-- the mark with this number is set
+abbrev pub is_marked : List Bool → ℕ → Bool
+is_marked marks n = slice_index_or marks n false
