@@ -21,14 +21,15 @@ use Rattle.rule_core.specs.declared.signature.SortInfo.{SortInfo}
 use Rattle.rule_core.specs.declared.signature.SortRef.{SortRef}
 use Rattle.rule_core.specs.declared.signature.SortRef.TheVariants.{Param, Sort}
 use Rattle.rule_core.specs.declared.signature.SymInfo.{SymInfo}
+use Rattle.kore_sig.specs.FirstFault.{Fault}
 use Rattle.kore_sig.specs.SortReferences.{sort_number}
-use Rattle.kore_check.specs.Folds.{Unfoldeds, count}
+use Rattle.kore_check.specs.Folds.{unfolded, Unfoldeds, count}
 use Rattle.kore_check.specs.PatternFaults.{argument_faults}
 use Rattle.kore_check.specs.PatternMeanings.{AllMean, none_mean, more_mean}
 use Rattle.kore_check.specs.SortedMeanings.{variable_sorts}
 use Rattle.kore_shapes.specs.Shapes.{given_condition}
 use Rattle.kore_axioms.specs.Conditions.{tested_pattern}
-use Rattle.kore_axioms.specs.RuleFaults.{is_empty, is_bound}
+use Rattle.kore_axioms.specs.RuleFaults.{is_empty, faults_at_sort, is_bound}
 use Rattle.kore_axioms.specs.Uses.{have_symbol, is_plain_function}
 use Rattle.kore_axioms.proofs.ApplicativeLaws.{neither}
 use Rattle.kore_axioms.proofs.BoundLaws.{no_faults}

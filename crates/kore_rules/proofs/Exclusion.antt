@@ -18,7 +18,7 @@ use Rattle.kore_rules.specs.AcceptanceLaws.{AcceptedTermIsNotRefused, TermRefusa
 use Rattle.kore_rules.specs.FirstRefusal.{FirstOfAxioms, FirstOfTerm}
 use Rattle.kore_rules.specs.Refused.{FirstOfDefinition}
 use Rattle.kore_rules.proofs.AlikeSignatures.{axioms_alike}
-use Rattle.kore_rules.proofs.MeaningsAreOne.{means_one}
+use Rattle.kore_equations.proofs.OneMeaning.{means_one}
 use Rattle.kore_rules.proofs.OneFault.{term_is_one, axioms_are_one}
 
 -- the first fault of the axioms, by any signature that the declarations give

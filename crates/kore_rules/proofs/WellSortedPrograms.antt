@@ -220,7 +220,7 @@ equation_sorted d declared theory f info p (name, there) =
     (λ e known.
     let is = ((p.program.equations f name info there).just e).0 known in
     let r = is.1.2 in
-    let infos : Some own ≡ Some r.info = sym named ∙ r.declared in
+    let infos : Some own ≡ Some r.info = sym named ∙ r.states.declared in
     let same : own ≡ r.info = cc in
     let kind : own.kind ≡ Equations =
     equations_declared declared axioms _ own info.kind of.kind is.0 in
