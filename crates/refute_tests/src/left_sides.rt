@@ -71,7 +71,7 @@ fn found(
     rule: &Rule,
     term: &Term,
 ) -> Result<Option<Subst>, AllocError>
-    requires scoped { MatchesByOwnVariables rule.now }
+    requires { MatchesByOwnVariables rule.now }
     ensures { IfOk result (FindsMatch subsorts.now (vec_len rule.now.vars)
         (more_patterns (plain_pattern rule.now.left) no_pattern) (more_trees term.now no_tree)) }
 {
