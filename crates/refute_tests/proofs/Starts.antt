@@ -1,5 +1,5 @@
 -- Terms whose value is `false`.
-use Rattle.std.proofs.Common.{◌≡◌, ◌≢◌, ℕ, List, [], ◌∷◌, Option, Some, Bool, inl, refl}
+use Rattle.std.proofs.Common.{◌≡◌, ◌≢◌, ℕ, List, [], ◌∷◌, Option, Some, inl, refl}
 use Rattle.std.proofs.Common.{sym, subst, ◌∙◌, true, false, arith}
 use Rattle.ml_pat.specs.Patterns.{Pattern as LogicPattern}
 use Rattle.term_core.specs.Terms.{Tree, leaf, truth}
@@ -15,7 +15,6 @@ use Rattle.rule_core.specs.declared.signature.SortKind.TheVariants as kind
 use Rattle.rule_core.specs.declared.signature.SortRef.TheVariants.{Sort}
 use Rattle.rule_core.proofs.SortedInstances.{sorted_use_first}
 use Rattle.prove_term.specs.Contexts.{Context}
-use Rattle.prove_term.specs.Filling.{filled}
 use Rattle.prove_term.specs.Values.{SaysValue}
 use Rattle.rewriter.specs.Configurations.{IsConfiguration}
 use Rattle.refute.specs.Refutations.{EqualsTerm}
@@ -30,7 +29,8 @@ nothing_serves sig theta p sort none sorted =
     subst (λ (s : List (Option Tree)). BindsVariablesOf sig [] s p) (sym none) (record {
       bound =
           λ x stands. absurd (let low = sorted_use_first sig [] [] (more_patterns p no_pattern)
-          (Sort (record { 0 = sort }) ∷ []) (sort, refl, sorted, tt) x (inl stands) in omega (arith, low));
+          (Sort (record { 0 = sort }) ∷ []) (sort, refl, sorted, tt) x (inl stands) in
+          omega (arith, low));
       sorted = λ x t bound. nothing_bound x t bound;
       low = λ x t bound. nothing_bound x t bound;
     })
