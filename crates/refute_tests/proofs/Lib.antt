@@ -1,0 +1,3 @@
+pub mod PlainNames
+pub mod LeftSides
+pub mod Starts
