@@ -1,12 +1,12 @@
 -- A pattern with a name in the place of the part that it names: its sort, its variables and its
 -- instance.
-use Rattle.std.proofs.Common.{◌≡◌, ◌≢◌, ◌⊎◌, inl, inr, ◌<◌, ℕ, zero, suc, ◌+◌, Bool, true, false}
-use Rattle.std.proofs.Common.{List, [], ◌∷◌, Option, Some, None, option_map, length, nat_eq}
+use Rattle.std.proofs.Common.{◌≡◌, ◌≢◌, ◌⊎◌, inl, inr, ℕ, zero, suc, ◌+◌, Bool, true, false}
+use Rattle.std.proofs.Common.{List, [], ◌∷◌, Option, Some, None, option_map, nat_eq}
 use Rattle.std.proofs.Common.{refl, sym, ◌∙◌, ap, subst, arith, slice_get}
 use Rattle.std.specs.Prelude.{◌==◌, ◌||◌, if◌then◌else◌, All}
 use Rattle.std.specs.Option.{option_and_then}
 use Rattle.std.proofs.lemmas.Bool.{eqb-true, false≢true}
-use Rattle.term_core.specs.Terms.{Tree, Forest, node, injected, no_tree, more_trees}
+use Rattle.term_core.specs.Terms.{Tree, node, injected, no_tree, more_trees}
 use Rattle.term_core.specs.Patterns.{Pattern, Patterns, variable, domain_value, application}
 use Rattle.term_core.specs.Patterns.{injection, call, no_pattern, more_patterns, binding}
 use Rattle.term_core.specs.Patterns.{instance_of, instances_of, with_first}

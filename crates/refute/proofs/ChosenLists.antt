@@ -1,8 +1,7 @@
 -- Lists of patterns with a name in the place of the part that it names.
 use Rattle.std.proofs.Common.{◌≡◌, ℕ, ◌+◌, ◌<◌, List, [], ◌∷◌, ◌++◌, length, map, drop, get_or}
-use Rattle.std.proofs.Common.{refl, sym, ◌∙◌, ap, subst, append_assoc, arith, zero, suc}
-use Rattle.std.proofs.lemmas.List.{drop_more, map-append}
-use Rattle.term_core.specs.Patterns.{Pattern, Patterns, more_patterns}
+use Rattle.std.proofs.Common.{refl, sym, ◌∙◌, ap, subst, arith, zero, suc}
+use Rattle.term_core.specs.Patterns.{Pattern, more_patterns}
 use Rattle.term_core.specs.Instances.{patterns}
 use Rattle.term_core.specs.PatternLists.{plain_patterns}
 use Rattle.term_core.specs.RulePatterns.{plain_pattern}
@@ -18,32 +17,12 @@ chosen_list x names k [] = []
 chosen_list x names k (p ∷ ps) =
     chosen x (of_child k names) (plain_pattern p) ∷ chosen_list x names (k + 1) ps
 
-pub chosen_listed : (x : ℕ) (names : List Name) (k : ℕ) (ps : List RulePat)
+chosen_listed : (x : ℕ) (names : List Name) (k : ℕ) (ps : List RulePat)
     → patterns (chosen_list x names k ps) ≡ all_chosen x names k (plain_patterns ps)
 chosen_listed x names k [] = refl
 chosen_listed x names k (p ∷ ps) =
     ap (more_patterns (chosen x (of_child k names) (plain_pattern p)))
     (chosen_listed x names (k + 1) ps)
-
--- one more pattern
-pub chosen_more : (x : ℕ) (names : List Name) (args done new : List RulePat) (i : ℕ)
-    (made : RulePat) (a : RulePat) → i < length args → a ≡ get_or args i a
-    → plain_pattern made ≡ chosen x (of_child i names) (plain_pattern a)
-    → new ≡ done ++ made ∷ []
-    → map plain_pattern done ++ chosen_list x names i (drop i args) ≡ chosen_list x names 0 args
-    → map plain_pattern new ++ chosen_list x names (i + 1) (drop (i + 1) args)
-    ≡ chosen_list x names 0 args
-chosen_more x names args done new i made a low at is more before =
-    let rest : List Pattern = chosen_list x names (i + 1) (drop (i + 1) args) in
-    ap (λ (qs : List RulePat). map plain_pattern qs ++ rest) more
-    ∙ ap (λ (qs : List Pattern). qs ++ rest) (map-append plain_pattern done (made ∷ []))
-    ∙ append_assoc (map plain_pattern done) (plain_pattern made ∷ []) rest
-    ∙ ap (λ (q : Pattern). map plain_pattern done ++ q ∷ rest) is
-    ∙ ap (λ (p : RulePat).
-    map plain_pattern done ++ chosen x (of_child i names) (plain_pattern p) ∷ rest) at
-    ∙ ap (λ (ps : List RulePat). map plain_pattern done ++ chosen_list x names i ps)
-    (sym (drop_more args i a low))
-    ∙ before
 
 -- none is left
 pub chosen_all : (x : ℕ) (names : List Name) (args done : List RulePat) (i : ℕ)

@@ -10,7 +10,7 @@ use Rattle.ml_pat.specs.Patterns as logic
 use Rattle.ml_kernel.specs.Theorems.{Theorem}
 use Rattle.ml_derived.specs.Implications.{IsChain}
 use Rattle.ml_derived.specs.Scopes.{IsOver, StaysWithin}
-use Rattle.term_core.specs.Patterns.{Pattern as RulePattern, Patterns as RulePatterns, variable}
+use Rattle.term_core.specs.Patterns.{Pattern as RulePattern, variable}
 use Rattle.term_core.specs.Patterns.{application, injection}
 use Rattle.term_core.specs.PatternLists.{plain_patterns}
 use Rattle.term_core.specs.RulePatterns.{plain_pattern}
@@ -28,20 +28,16 @@ use Rattle.ml_image.specs.PartNames.{part_name, part_names, part_sentence}
 use Rattle.ml_image.specs.Sentences.{Sentence, term, symbol, inject, apply, and, sentence_image}
 use Rattle.ml_image.specs.declared.naming.PartName.{PartName}
 use Rattle.ml_image.proofs.NamedLaws.{plain_left, left_parts}
-use Rattle.prove_term.specs.Contexts.{Context, StaysIn}
+use Rattle.prove_term.specs.Contexts.{Context}
 use Rattle.refute.specs.Choosing.{is_named, or_name, chosen, all_chosen, part_chosen}
-use Rattle.refute.specs.Dropping.{Implies, IsImplication, IsApplied, with_name}
+use Rattle.refute.specs.Dropping.{Implies, IsApplied, with_name}
 use Rattle.refute.proofs.ChosenLaws.{chosen_parts, chosen_none}
 use Rattle.refute.proofs.WholeNames.{named_from, unnamed_from, none_left}
 
 -- ---- one theorem
 
-pub implication_of : (cx : Context) (s r : Sentence) (t : Theorem) → Implies cx s r t
-    → IsImplication t.conclusion
-implication_of cx s r t is = (is.from, is.to, is.says)
-
 -- an image implies itself
-pub implies_itself : (cx : Context) (s r : Sentence) (p : Pattern) (t : Theorem)
+implies_itself : (cx : Context) (s r : Sentence) (p : Pattern) (t : Theorem)
     → sentence_image cx.program.sig cx.names s ≡ Some p
     → sentence_image cx.program.sig cx.names r ≡ Some p → t.conclusion ≡ imp p p
     → StaysWithin (p ∷ []) [] t → Implies cx s r t
@@ -63,7 +59,7 @@ applied_image cx s r p q one other =
     ∙ ap (both app (Some p)) other
 
 -- a function and an argument
-pub implies_applied : (cx : Context) (s r u v : Sentence) (one other made : Theorem)
+implies_applied : (cx : Context) (s r u v : Sentence) (one other made : Theorem)
     → Implies cx s r one → Implies cx u v other
     → IsApplied one.conclusion other.conclusion made.conclusion
     → StaysWithin [] (one ∷ other ∷ []) made → Implies cx (apply s u) (apply r v) made
@@ -77,7 +73,7 @@ implies_applied cx s r u v one other made a b says stays = record {
 }
 
 -- what has the same image
-pub implies_same : (cx : Context) (s r u v : Sentence) (t : Theorem)
+implies_same : (cx : Context) (s r u v : Sentence) (t : Theorem)
     → sentence_image cx.program.sig cx.names s ≡ sentence_image cx.program.sig cx.names u
     → sentence_image cx.program.sig cx.names r ≡ sentence_image cx.program.sig cx.names v
     → Implies cx s r t → Implies cx u v t
@@ -376,22 +372,6 @@ applied_next cx names x f i args a t one new low at argument applies stays befor
           (sentence_image cx.program.sig cx.names before.target)
           (all_chosen x names i (plain_patterns ps))) (sym split) ∙ before.right;
     }
-
-pub applied_last : (cx : Context) (names : List Name) (x f i : ℕ) (args : List RulePat)
-    (t : Theorem) → i ≡ length args → AreAppliedFrom cx names x f i args t
-    → Implies cx (applied_sides names 0 (symbol f) (plain_patterns args))
-    (term (application f (all_chosen x names 0 (plain_patterns args)))) t
-applied_last cx names x f i args t all last =
-    let none : drop i args ≡ [] = none_left args i all in
-    implies_same cx last.side last.target
-    (applied_sides names 0 (symbol f) (plain_patterns args))
-    (term (application f (all_chosen x names 0 (plain_patterns args)))) t
-    (ap (sentence_image cx.program.sig cx.names)
-    (ap (λ (ps : List RulePat). applied_sides names i last.side (plain_patterns ps)) (sym none)
-    ∙ last.left))
-    (ap (λ (ps : List RulePat). applied cx.program.sig cx.names
-    (sentence_image cx.program.sig cx.names last.target)
-    (all_chosen x names i (plain_patterns ps))) (sym none) ∙ last.right) last.implies
 
 -- a variable, a value or a call
 pub leaf_implies : (cx : Context) (names : List Name) (x : ℕ) (p : RulePat) (image : Pattern)

@@ -1,11 +1,11 @@
 -- The parts of implications between applications and between conjunctions.
-use Rattle.std.proofs.Common.{◌≡◌, [], ◌∷◌, Bool, true, false, refl, sym, ◌∙◌, ap, subst}
-use Rattle.ml_pat.specs.Patterns.{Pattern, imp, app, and, bot, not, top}
+use Rattle.std.proofs.Common.{◌≡◌, sym, ◌∙◌, ap, subst}
+use Rattle.ml_pat.specs.Patterns.{Pattern, imp, app, and, bot, not}
 use Rattle.ml_kernel.specs.Theorems.{Theorem}
 use Rattle.ml_derived.specs.Implications.{IsChain}
-use Rattle.ml_derived.specs.Scopes.{Scope, IsOver, StaysWithin, AreWithin}
+use Rattle.ml_derived.specs.Scopes.{Scope, IsOver}
 use Rattle.refute.specs.Dropping.{IsApplied, AreDroppable, AreDroppableDenial}
-use Rattle.refute.specs.Dropping.{IsOfNamed, IsDenialOfNamed}
+use Rattle.refute.specs.Dropping.{IsOfNamed}
 
 imp_left : (p q r s : Pattern) → imp p q ≡ imp r s → p ≡ r
 imp_left p q r s h = cc
@@ -48,7 +48,7 @@ denial_read c h q t k r n is outer inner = (
     denied_same x y e = cc
 
 -- the denial as an implication of `bot`
-pub none_is : (denial none h q t k r n : Pattern) → denial ≡ imp h (not (and q t))
+none_is : (denial none h q t k r n : Pattern) → denial ≡ imp h (not (and q t))
     → denial ≡ imp k r → r ≡ not n → none ≡ imp k (imp n bot)
     → none ≡ imp h (imp (and q t) bot)
 none_is denial none h q t k r n is outer inner made =

@@ -38,14 +38,14 @@ inverting_grown old new h w s r grown is = record {
 -- the equation and what was there, over one common part
 record AreOverOne (cx : Context) (h : Pattern) (w e s : Sentence) (one other : Pattern) : Type 0
   where
-  common : Pattern
-  is_common : sentence_image cx.program.sig cx.names w ≡ Some common
-  image : Pattern
-  is_image : sentence_image cx.program.sig cx.names e ≡ Some image
-  sofar : Pattern
-  is_sofar : sentence_image cx.program.sig cx.names s ≡ Some sofar
-  equation : one ≡ logic.imp h (logic.imp common image)
-  present : other ≡ logic.imp (logic.and h common) sofar
+    common : Pattern
+    is_common : sentence_image cx.program.sig cx.names w ≡ Some common
+    image : Pattern
+    is_image : sentence_image cx.program.sig cx.names e ≡ Some image
+    sofar : Pattern
+    is_sofar : sentence_image cx.program.sig cx.names s ≡ Some sofar
+    equation : one ≡ logic.imp h (logic.imp common image)
+    present : other ≡ logic.imp (logic.and h common) sofar
 
 over_one : (cx : Context) (h : Pattern) (w e s : Sentence) (one other : Pattern)
     → SaysUnder cx h (implies w e) one → SaysInCommon cx h w s other

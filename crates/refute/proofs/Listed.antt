@@ -55,7 +55,7 @@ from_variable xs x y h = go (is_one_of x xs) h
     go false h = last (Contains-append_cases xs (x ∷ []) y h)
 
 mutual
-  pub keeps_variables : (xs : List ℕ) (p : Pattern) (y : ℕ) → Contains xs y
+  keeps_variables : (xs : List ℕ) (p : Pattern) (y : ℕ) → Contains xs y
       → Contains (and_new_of xs p) y
   keeps_variables xs (variable x) y h = keeps_variable xs x y h
   keeps_variables xs (domain_value s v) y h = h

@@ -1,18 +1,18 @@
 -- What holds when a left side with names and a term begin to be compared.
-use Rattle.std.proofs.Common.{◌≡◌, ◌≢◌, ◌⊎◌, inl, inr, ◌<◌, ℕ, List, [], ◌∷◌, Option, Some, length}
-use Rattle.std.proofs.Common.{refl, sym, ◌∙◌, ap, subst, arith}
+use Rattle.std.proofs.Common.{◌≡◌, ◌≢◌, ◌⊎◌, inl, inr, ◌<◌, ℕ, List, [], Option, Some, length}
+use Rattle.std.proofs.Common.{sym, ◌∙◌, ap, subst, arith}
 use Rattle.std.specs.Prelude.{All, Contains, option_map, slice_get}
 use Rattle.std.proofs.lemmas.List.{length-map}
 use Rattle.std.proofs.lemmas.Option.{slice_get_within, get_or_from_slice_get}
 use Rattle.ml_pat.specs.Patterns.{Pattern}
 use Rattle.ml_pat.specs.Patterns as logic
 use Rattle.term_core.specs.Terms.{Tree, Forest, IsNormal, no_tree, more_trees}
-use Rattle.term_core.specs.Patterns.{Pattern as RulePattern, variable, no_pattern, more_patterns}
-use Rattle.term_core.specs.Patterns.{binding, instance_of, instances_of, ground_pattern}
+use Rattle.term_core.specs.Patterns.{Pattern as RulePattern, no_pattern, more_patterns}
+use Rattle.term_core.specs.Patterns.{instance_of, ground_pattern}
 use Rattle.term_core.specs.RulePatterns.{sort_numbers}
 use Rattle.term_core.specs.declared.ids.SortId.{SortId}
 use Rattle.rule_core.specs.Matching.{OccursIn, RespectsSorts, MatchAll, MatchNamed}
-use Rattle.rule_core.specs.NamedParts.{Name, IsNamed}
+use Rattle.rule_core.specs.NamedParts.{Name}
 use Rattle.rule_core.specs.Sorting.{HasSort, IsTermOf}
 use Rattle.rule_core.specs.Subsorts.{HasNoCycle}
 use Rattle.rule_core.specs.WellSorted.{HasNoCall, HaveNames}
@@ -20,7 +20,7 @@ use Rattle.rule_core.specs.declared.rules.Program.{Program}
 use Rattle.rule_core.specs.declared.signature.Signature.{Signature}
 use Rattle.rule_core.proofs.SortedInstances.{both_there}
 use Rattle.ml_image.specs.Images.{both}
-use Rattle.ml_image.specs.Sentences.{Sentence, term, and, not, implies, sentence_image}
+use Rattle.ml_image.specs.Sentences.{term, not, sentence_image}
 use Rattle.ml_image.specs.NamedSides.{of_child}
 use Rattle.ml_image.proofs.NamedLaws.{plain_left}
 use Rattle.prove_term.specs.Contexts.{Context, HasGrown}
@@ -234,7 +234,7 @@ plain_matches sig variables theta p t names none matches =
   where
     alone : {A : Type 0} → A ⊎ ⊥ → A
     alone (inl a) = a
-    alone (inr no) = absurd no
+    alone (inr never) = absurd never
 
 -- ---- with the hypothesis
 

@@ -1,5 +1,5 @@
 -- What holds of a pattern with the names of its parts, from what holds of it without them.
-use Rattle.std.proofs.Common.{◌≡◌, [], ◌∷◌, ℕ, List, Some, refl, sym, ◌∙◌, ap, subst}
+use Rattle.std.proofs.Common.{◌≡◌, [], ◌∷◌, Some, refl, sym, ◌∙◌, ap, subst}
 use Rattle.ml_pat.specs.Patterns.{Pattern}
 use Rattle.ml_pat.specs.Patterns as logic
 use Rattle.ml_kernel.specs.Theorems.{Theorem}
@@ -85,11 +85,11 @@ two_rules_stay cx one other made first second stays = λ s has.
 
 record IsDenying (cx : Context) (h : Pattern) (q : RulePattern) (t : Tree) (c : Pattern) : Type 0
   where
-  left : Pattern
-  is_left : image_in cx q ≡ Some left
-  right : Pattern
-  is_right : image_in cx (ground_pattern t) ≡ Some right
-  says : c ≡ logic.imp h (logic.not (logic.and left right))
+    left : Pattern
+    is_left : image_in cx q ≡ Some left
+    right : Pattern
+    is_right : image_in cx (ground_pattern t) ≡ Some right
+    says : c ≡ logic.imp h (logic.not (logic.and left right))
 
 denying : (cx : Context) (h : Pattern) (q : RulePattern) (t : Tree) (c : Pattern)
     → SaysUnder cx h (not (in_common q t)) c → IsDenying cx h q t c
@@ -154,9 +154,9 @@ top_inverts cx h s r t drop made d e w premise over is read right first says sta
       };
       stays = λ scope has. stays scope (
         subst (IsOver scope) (sym first) (
-              over scope has,
-              (has.images s d left, has.images (term (ground_pattern t)) w right),
-            ),
+          over scope has,
+          (has.images s d left, has.images (term (ground_pattern t)) w right),
+        ),
         tt,
       ) tt;
     }

@@ -1,6 +1,6 @@
 -- If the instance of a pattern is the term, comparing comes to each variable that occurs in it.
 use Rattle.std.proofs.Common.{◌≡◌, inl, inr, ℕ, List, [], ◌∷◌, Option, Some, refl, sym, ◌∙◌, ap, subst}
-use Rattle.term_core.specs.Terms.{Tree, leaf, node, inj, Forest, no_tree, more_trees, injected}
+use Rattle.term_core.specs.Terms.{Tree, leaf, node, inj, Forest, injected}
 use Rattle.term_core.specs.Patterns.{Pattern, Patterns, variable, domain_value, application}
 use Rattle.term_core.specs.Patterns.{injection, call, no_pattern, more_patterns, binding}
 use Rattle.term_core.specs.Patterns.{instance_of, instances_of}

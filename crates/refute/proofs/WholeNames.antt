@@ -1,19 +1,14 @@
 -- The names of a whole pattern, one after another.
-use Rattle.std.proofs.Common.{◌≡◌, ◌≢◌, ◌⊎◌, inl, inr, ℕ, ◌+◌, ◌<◌, Bool, true, false, List, [], ◌∷◌}
-use Rattle.std.proofs.Common.{length, drop, get_or, refl, sym, ◌∙◌, ap, eq-eqb}
-use Rattle.std.specs.Prelude.{◌==◌, ◌||◌, if◌then◌else◌}
-use Rattle.std.proofs.lemmas.Bool.{eqb-true}
+use Rattle.std.proofs.Common.{◌≡◌, ℕ, ◌+◌, ◌<◌, List, [], ◌∷◌}
+use Rattle.std.proofs.Common.{length, drop, get_or, refl, ◌∙◌, ap}
 use Rattle.std.proofs.lemmas.List.{drop_more}
 use Rattle.rule_core.specs.NamedParts.{Name}
 use Rattle.ml_image.specs.NamedSides.{whole, of_whole}
 use Rattle.ml_image.specs.PartNames.{part_name, part_names}
 use Rattle.ml_image.specs.declared.naming.PartName.{PartName}
-use Rattle.refute.specs.Choosing.{is_named}
-use Rattle.refute.specs.Refutations.{and_new}
-use Rattle.refute.specs.Written.{with_first_names, with_last_names}
 
 -- the name at a place, and the names behind it
-pub names_from : (names : List PartName) (i : ℕ) (d : PartName) → i < length names
+names_from : (names : List PartName) (i : ℕ) (d : PartName) → i < length names
     → of_whole (part_names (drop i names))
     ≡ whole (get_or names i d).way.now (part_name (get_or names i d))
     (of_whole (part_names (drop (i + 1) names)))
@@ -46,21 +41,6 @@ unnamed_from names i d low other =
     names_from names i d low
     ∙ whole_none (get_or names i d).way.now (part_name (get_or names i d))
     (of_whole (part_names (drop (i + 1) names))) other
-
--- ---- whether x is one of them
-
-pub is_named_here : (x : ℕ) (n : Name) (names : List Name) → n.variable ≡ x
-    → is_named x (n ∷ names) ≡ true
-is_named_here x n names is =
-    ap (λ (b : Bool). b || is_named x names) (eq-eqb n.variable x is)
-
-pub is_named_later : (x : ℕ) (n : Name) (names : List Name) → n.variable ≢ x
-    → is_named x (n ∷ names) ≡ is_named x names
-is_named_later x n names other = go (n.variable == x) refl
-  where
-    go : (b : Bool) → (n.variable == x) ≡ b → (b || is_named x names) ≡ is_named x names
-    go true is = absurd (other (eqb-true n.variable x is))
-    go false is = refl
 
 pub none_left : {A : Type 0} (xs : List A) (i : ℕ) → i ≡ length xs → drop i xs ≡ []
 none_left xs i is = ap (λ (n : ℕ). drop n xs) is ∙ go xs

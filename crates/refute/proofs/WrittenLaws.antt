@@ -3,7 +3,6 @@ use Rattle.std.proofs.Common.{◌≡◌, ◌⊎◌, inl, inr, ℕ, ◌+◌, Bool
 use Rattle.std.proofs.Common.{refl, sym, ◌∙◌, ap, subst}
 use Rattle.std.specs.Prelude.{◌==◌, ◌||◌, if◌then◌else◌, Contains}
 use Rattle.std.proofs.Common.{eq-eqb}
-use Rattle.std.proofs.lemmas.Bool.{false≢true}
 use Rattle.term_core.specs.Patterns.{Pattern, Patterns, variable, domain_value, application}
 use Rattle.term_core.specs.Patterns.{injection, call, no_pattern, more_patterns}
 use Rattle.rule_core.specs.Matching.{OccursIn, OccursInSome}
@@ -15,7 +14,7 @@ use Rattle.refute.specs.Choosing.{is_named, or_name, chosen, all_chosen}
 use Rattle.refute.specs.NamedRefutations.{and_new_in, variables_as_written}
 use Rattle.refute.specs.Refutations.{and_new, and_new_of, and_new_of_all, variables_in_order}
 use Rattle.refute.specs.Written.{with_first_names, with_last_names, and_new_in_all}
-use Rattle.refute.proofs.Listed.{keeps_variable, has_variable, from_variable, keeps_variables}
+use Rattle.refute.proofs.Listed.{keeps_variable, has_variable, from_variable}
 use Rattle.refute.proofs.Listed.{keeps_all, there_occur, occur_there, none_there}
 
 -- ---- what is added

@@ -87,8 +87,8 @@ IsDeniedByBoth one made =
 -- the theorem says this
 pub record IsInverting (cx : Context) (h : LogicPattern) (w s : Sentence) (r : Theorem) : Type 0
   where
-  pub says : SaysInCommon cx h w s r.conclusion
-  pub stays : StaysIn cx r
+    pub says : SaysInCommon cx h w s r.conclusion
+    pub stays : StaysIn cx r
 
 -- comparing comes to each of the variables with its binding
 abbrev pub AllCome : List (ℕ × ℕ) → List (Option Tree) → Pattern → Tree → List ℕ → Type 0

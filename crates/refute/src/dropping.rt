@@ -1,7 +1,7 @@
 // Left sides without the names of their parts. A part that has a name stands in a conjunction with the
 // name. So it implies the part without the name, and the name without the part.
 ghost use Rattle.std.specs.Prelude.{◌≡◌, ◌∷◌, IfOk, Some, []};
-ghost use Rattle.ml_pat.specs.Patterns.{Pattern, imp, app};
+ghost use Rattle.ml_pat.specs.Patterns.{imp, app};
 ghost use Rattle.ml_derived.specs.Scopes.{StaysWithin};
 ghost use Rattle.term_core.specs.PatternLists.{plain_patterns};
 ghost use Rattle.term_core.specs.Patterns.{Pattern as RulePattern, application};
@@ -124,13 +124,7 @@ fn applied(alloc: Global, function: &Thm, argument: &Thm) -> Result<Thm, AllocEr
 }
 
 // `f a -> g a`, from `f -> g`.
-fn in_function(
-    alloc: Global,
-    thm: &Thm,
-    f: &MPat,
-    g: &MPat,
-    a: &MPat,
-) -> Result<Thm, AllocError>
+fn in_function(alloc: Global, thm: &Thm, f: &MPat, g: &MPat, a: &MPat) -> Result<Thm, AllocError>
     requires { thm.now.conclusion ≡ imp f.now g.now }
     ensures conclusion { IfOk result
         (λ t. t.conclusion ≡ imp (app f.now a.now) (app g.now a.now)) }
@@ -144,13 +138,7 @@ fn in_function(
 }
 
 // `f a -> f b`, from `a -> b`.
-fn in_argument(
-    alloc: Global,
-    thm: &Thm,
-    f: &MPat,
-    a: &MPat,
-    b: &MPat,
-) -> Result<Thm, AllocError>
+fn in_argument(alloc: Global, thm: &Thm, f: &MPat, a: &MPat, b: &MPat) -> Result<Thm, AllocError>
     requires { thm.now.conclusion ≡ imp a.now b.now }
     ensures conclusion { IfOk result
         (λ t. t.conclusion ≡ imp (app f.now a.now) (app f.now b.now)) }

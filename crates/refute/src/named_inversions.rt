@@ -1,7 +1,7 @@
 // What the variables of a pattern that matches a term equal, and what the names of its parts equal.
 ghost use Rattle.std.specs.Prelude.{◌≡◌, ℕ, All, IfOk, []};
 ghost use Rattle.ml_image.specs.Sentences.{top};
-ghost use Rattle.term_core.specs.Terms.{Tree, no_tree, more_trees};
+ghost use Rattle.term_core.specs.Terms.{no_tree, more_trees};
 ghost use Rattle.term_core.specs.Patterns.{no_pattern, more_patterns, ground_pattern, variable};
 ghost use Rattle.term_core.specs.RulePatterns.{plain_pattern, sort_numbers};
 ghost use Rattle.rule_core.specs.AcSymbols.{IsAcFree};
@@ -95,9 +95,7 @@ pub fn inversion_named(
         image,
     };
     let whole = pattern_of(alloc, term)?;
-    inverted(
-        alloc, cx, &setting, &variables, subst, &side, &whole, term,
-    )
+    inverted(alloc, cx, &setting, &variables, subst, &side, &whole, term)
 }
 
 // Proves that each of the variables equals its binding, if the hypothesis holds and the side with its

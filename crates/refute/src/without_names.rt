@@ -1,6 +1,5 @@
 // From what holds of a pattern without the names of its parts to what holds of it with them.
-ghost use Rattle.std.specs.Prelude.{◌≡◌, ◌∷◌, IfOk, []};
-ghost use Rattle.ml_pat.specs.Patterns.{Pattern, and, imp, not};
+ghost use Rattle.std.specs.Prelude.{◌∷◌, IfOk, []};
 ghost use Rattle.ml_derived.specs.Scopes.{StaysWithin};
 ghost use Rattle.refute.specs.Dropping.{AreDroppable, AreDroppableDenial, IsDenialOfNamed};
 ghost use Rattle.refute.specs.Dropping.{IsOfNamed};

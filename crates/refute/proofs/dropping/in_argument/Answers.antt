@@ -11,13 +11,13 @@ returns-clause-stays c =
       everything,
       (
         c.in_ok-rule.ensures.stays s (hp.0, tt) (
-              c.in_ok-lift.ensures.stays s (
-                    always_over s c.conclusion-always.result.now c.in_ok-everything.everything
-                        c.conclusion-always.ensures everything.conclusion,
-                    tt,
-                  ) ht,
-              tt,
-            ),
+          c.in_ok-lift.ensures.stays s (
+            always_over s c.conclusion-always.result.now c.in_ok-everything.everything
+                c.conclusion-always.ensures everything.conclusion,
+            tt,
+          ) ht,
+          tt,
+        ),
         tt,
       ),
     ))

@@ -1,7 +1,6 @@
 use Rattle.std.proofs.Common.{◌+◌, sym, subst, arith}
 use Rattle.ml_kernel.specs.Theorems.{Theorem}
 use Rattle.ml_image.proofs.NamedLaws.{none_there, some_there}
-use Rattle.prove_term.proofs.ResultLaws.{if_ok}
 use Rattle.refute.specs.Dropping.{IsImplication}
 use Rattle.refute.proofs.DroppingLaws.{IsWholeFrom, whole_first, whole_next, whole_same, whole_last}
 use Rattle.refute.proofs.dropping.whole_dropped.Goals.{then-is_empty+in_ok-present, else-is_empty}

@@ -1,15 +1,14 @@
-use Rattle.std.proofs.Common.{◌≡◌, ◌<◌, ℕ, List, [], length, refl, ap, sym, ◌∙◌, subst}
+use Rattle.std.proofs.Common.{◌≡◌, ◌<◌, ℕ, List, length, refl, ap, sym, ◌∙◌, subst}
 use Rattle.std.specs.Prelude.{All, Contains}
 use Rattle.term_core.specs.RulePatterns.{plain_pattern, sort_numbers}
 use Rattle.rule_core.specs.NamedParts.{Name}
 use Rattle.rule_core.specs.ProgramView.{names_of}
-use Rattle.rule_core.specs.Sorting.{HasSort, IsTermOf}
+use Rattle.rule_core.specs.Sorting.{HasSort}
 use Rattle.rule_core.specs.declared.rules.Named.{Named}
 use Rattle.rule_core.specs.declared.rules.Program.{Program}
 use Rattle.ml_image.specs.NamedSides.{of_child}
 use Rattle.ml_image.specs.PartNames.{part_names}
 use Rattle.ml_image.proofs.NamedLaws.{none_there}
-use Rattle.prove_term.specs.Contexts.{HasGrown}
 use Rattle.prove_term.proofs.ContextLaws.{grown_twice}
 use Rattle.prove_term.proofs.ResultLaws.{if_ok}
 use Rattle.prove_open.proofs.ScopeLaws.{stays_no_hypotheses}
