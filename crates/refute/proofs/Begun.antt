@@ -74,8 +74,9 @@ pub inversion_said : (old new : Context) (sorts : List ℕ) (h : Pattern) (p : R
     (t : Tree) (theta : List (Option Tree)) (xs ys zs : List ℕ) (r : Pattern) → HasGrown old new
     → sentence_image old.program.sig old.names (all_sorted sorts xs) ≡ Some h
     → ys ≡ variables_in_order p → xs ≡ ys → zs ≡ ys
-    → SaysInCommon new h p t (all_bound theta zs) r → SaysSentence new (inverted sorts theta p t) r
+    → SaysInCommon new h (in_common p t) (all_bound theta zs) r → SaysSentence new (inverted sorts theta p t) r
 inversion_said old new sorts h p t theta xs ys zs r grown is listed same there says =
-    says_inverted new (all_sorted sorts (variables_in_order p)) (all_bound theta (variables_in_order p)) h p t r
+    says_inverted new (all_sorted sorts (variables_in_order p)) (in_common p t)
+    (all_bound theta (variables_in_order p)) h r
     (hypothesis_later old new sorts h p xs ys grown is listed same)
-    (subst (λ (ws : List ℕ). SaysInCommon new h p t (all_bound theta ws) r) (there ∙ listed) says)
+    (subst (λ (ws : List ℕ). SaysInCommon new h (in_common p t) (all_bound theta ws) r) (there ∙ listed) says)

@@ -35,7 +35,7 @@ lowered_other a b t other = go (a == b) refl
     go false is = refl
 
 -- what an injected term was before
-came_from : (sig : Signature) (a b c d : ℕ) (w t : Tree) → HasNoCycle sig.subsorts
+pub came_from : (sig : Signature) (a b c d : ℕ) (w t : Tree) → HasNoCycle sig.subsorts
     → IsTermOf sig w b → injected b c w ≡ inj a d t
     → IsUpTo sig.subsorts a b × (w ≡ lowered a b t)
 came_from sig a b c d (leaf s v) t acyclic is e =

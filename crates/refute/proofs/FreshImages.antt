@@ -1,5 +1,5 @@
 -- A variable that is none of a pattern's is not free in its image.
-use Rattle.std.proofs.Common.{◌≡◌, ◌≤◌, ◌==◌, ℕ, Bool, List, length, Some, refl, ap, eq-eqb}
+use Rattle.std.proofs.Common.{◌≡◌, ◌≤◌, ℕ, Bool, List, length, Some, refl, ap, eq-eqb}
 use Rattle.std.specs.Prelude.{if◌then◌else◌}
 use Rattle.ml_pat.specs.Patterns.{Pattern, var}
 use Rattle.ml_pat.specs.Judgements.{substituted}

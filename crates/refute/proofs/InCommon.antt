@@ -8,13 +8,14 @@ use Rattle.term_core.specs.Patterns.{Pattern as RulePattern, ground_pattern}
 use Rattle.ml_image.specs.Sentences.{term, top}
 use Rattle.prove_term.specs.Contexts.{Context, HasContext, HasGrown}
 use Rattle.refute.specs.Bindings.{SaysInCommon}
+use Rattle.refute.specs.Refutations.{in_common}
 use Rattle.refute.proofs.Conversions.{image_later}
 use Rattle.refute.proofs.Shapes.{image_in}
 
 pub top_in_common : (old new : Context) (h : Pattern) (p w : RulePattern) (t : Tree)
     (l r c : Pattern) → HasGrown old new → image_in old p ≡ Some l → image_in new w ≡ Some r
     → w ≡ ground_pattern t → c ≡ logic.imp (logic.and h (logic.and l r)) logic.top
-    → SaysInCommon new h p t top c
+    → SaysInCommon new h (in_common p t) top c
 top_in_common old new h p w t l r c grown one other is says =
     let left : image_in new p ≡ Some l = image_later old new p l grown one in
     let right : image_in new (ground_pattern t) ≡ Some r = ap (image_in new) (sym is) ∙ other in

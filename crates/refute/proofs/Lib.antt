@@ -26,3 +26,12 @@ pub mod NoClash
 pub mod Comparisons
 pub mod Begun
 pub mod Collapsed
+pub mod WrittenLaws
+pub mod ChosenLaws
+pub mod ReachingLaws
+pub mod ChosenLists
+pub mod WholeNames
+pub mod ImplicationShapes
+pub mod DroppingLaws
+pub mod NamedCommon
+pub mod NamedBegun

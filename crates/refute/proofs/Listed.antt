@@ -28,21 +28,21 @@ only_one : (x y : ℕ) → Contains (x ∷ []) y → y ≡ x
 only_one x y (zero, low, is) = sym is
 only_one x y (suc k, low, is) = absurd (omega (arith, low))
 
-keeps_variable : (xs : List ℕ) (x y : ℕ) → Contains xs y → Contains (and_new xs x) y
+pub keeps_variable : (xs : List ℕ) (x y : ℕ) → Contains xs y → Contains (and_new xs x) y
 keeps_variable xs x y h = go (is_one_of x xs)
   where
     go : (b : Bool) → Contains (if b then xs else xs ++ x ∷ []) y
     go true = h
     go false = Contains-append_left xs (x ∷ []) y h
 
-has_variable : (xs : List ℕ) (x : ℕ) → Contains (and_new xs x) x
+pub has_variable : (xs : List ℕ) (x : ℕ) → Contains (and_new xs x) x
 has_variable xs x = go (is_one_of x xs) refl
   where
     go : (b : Bool) → is_one_of x xs ≡ b → Contains (if b then xs else xs ++ x ∷ []) x
     go true e = listed_there x xs e
     go false e = Contains-append_right xs (x ∷ []) x (one_there x)
 
-from_variable : (xs : List ℕ) (x y : ℕ) → Contains (and_new xs x) y
+pub from_variable : (xs : List ℕ) (x y : ℕ) → Contains (and_new xs x) y
     → Contains xs y ⊎ (y ≡ x)
 from_variable xs x y h = go (is_one_of x xs) h
   where
@@ -63,7 +63,7 @@ mutual
   keeps_variables xs (injection a b p) y h = keeps_variables xs p y h
   keeps_variables xs (call f ss ps) y h = keeps_all xs ps y h
 
-  keeps_all : (xs : List ℕ) (ps : Patterns) (y : ℕ) → Contains xs y
+  pub keeps_all : (xs : List ℕ) (ps : Patterns) (y : ℕ) → Contains xs y
       → Contains (and_new_of_all xs ps) y
   keeps_all xs no_pattern y h = h
   keeps_all xs (more_patterns p ps) y h =
@@ -79,7 +79,7 @@ mutual
   occurs_there xs (injection a b p) y h = occurs_there xs p y h
   occurs_there xs (call f ss ps) y h = occur_there xs ps y h
 
-  occur_there : (xs : List ℕ) (ps : Patterns) (y : ℕ) → OccursInSome y ps
+  pub occur_there : (xs : List ℕ) (ps : Patterns) (y : ℕ) → OccursInSome y ps
       → Contains (and_new_of_all xs ps) y
   occur_there xs no_pattern y h = absurd h
   occur_there xs (more_patterns p ps) y (inl h) =
@@ -106,7 +106,7 @@ mutual
   there_occurs xs (injection a b p) y h = there_occurs xs p y h
   there_occurs xs (call f ss ps) y h = there_occur xs ps y h
 
-  there_occur : (xs : List ℕ) (ps : Patterns) (y : ℕ) → Contains (and_new_of_all xs ps) y
+  pub there_occur : (xs : List ℕ) (ps : Patterns) (y : ℕ) → Contains (and_new_of_all xs ps) y
       → Contains xs y ⊎ OccursInSome y ps
   there_occur xs no_pattern y h = inl h
   there_occur xs (more_patterns p ps) y h =
@@ -115,7 +115,7 @@ mutual
 pub occurs_listed : (p : Pattern) (x : ℕ) → OccursIn x p → Contains (variables_in_order p) x
 occurs_listed p x h = occurs_there [] p x h
 
-none_there : (x : ℕ) → Contains [] x → ⊥
+pub none_there : (x : ℕ) → Contains [] x → ⊥
 none_there x (k, low, is) = omega (arith, low)
 
 pub listed_occurs : (p : Pattern) (x : ℕ) → Contains (variables_in_order p) x → OccursIn x p

@@ -35,7 +35,7 @@ none_some a h = cc
 -- ---- variables of well-sorted patterns
 
 mutual
-  occurs_low : (sig : Signature) (sorts : List ℕ) (p : Pattern) (sort x : ℕ)
+  pub occurs_low : (sig : Signature) (sorts : List ℕ) (p : Pattern) (sort x : ℕ)
       → HasSort sig sorts p sort → HasNoCall p → OccursIn x p → x < length sorts
   occurs_low sig sorts (variable y) sort x h k occurs =
       let low : y < length sorts = slice_get_within sorts y sort h in omega (arith, low, occurs)
@@ -113,12 +113,11 @@ all_come reaches sig sorts p sort t theta xs acyclic h k is normal matches liste
 pub two_at_one : (pairs : List (ℕ × ℕ)) (p : Pattern) (t : Tree) (xs : List ℕ)
     → Fails pairs p t
     → ((q : Pattern) (u : Tree) → ComesTo pairs q u p t → Clash pairs q u → ⊥)
-    → xs ≡ variables_in_order p → (x : ℕ) × Contains xs x × HasTwo pairs x p t
+    → ((x : ℕ) → OccursIn x p → Contains xs x) → (x : ℕ) × Contains xs x × HasTwo pairs x p t
 two_at_one pairs p t xs (clash q u comes clashes) free listed = absurd (free q u comes clashes)
 two_at_one pairs p t xs (two_bindings x u w one other differ) free listed = (
   x,
-  subst (λ (ys : List ℕ). Contains ys x) (sym listed)
-      (occurs_listed p x (comes_occurs pairs x (variable x) u one refl)),
+  listed x (comes_occurs pairs x (variable x) u one refl),
   record {
     first = u;
     second = w;

@@ -57,12 +57,12 @@ equals_bound x u = equals (term (variable x)) (term (ground_pattern u))
 abbrev pub bound_if_common : ℕ → Tree → Pattern → Tree → Sentence
 bound_if_common x u p t = implies (in_common p t) (equals_bound x u)
 
--- r says that the sentence s holds if the hypothesis does, and the pattern and the term have
--- something in common
-pub record SaysInCommon (cx : Context) (h : LogicPattern) (p : Pattern) (t : Tree) (s : Sentence)
-    (r : LogicPattern) : Type 0 where
+-- r says that the sentence s holds if the hypothesis and the sentence w do; w is what a left side and
+-- a term have in common
+pub record SaysInCommon (cx : Context) (h : LogicPattern) (w s : Sentence) (r : LogicPattern)
+    : Type 0 where
   pub common : LogicPattern
-  pub is_common : sentence_image cx.program.sig cx.names (in_common p t) ≡ Some common
+  pub is_common : sentence_image cx.program.sig cx.names w ≡ Some common
   pub image : LogicPattern
   pub is_image : sentence_image cx.program.sig cx.names s ≡ Some image
   pub says : r ≡ imp (logic.and h common) image
@@ -85,10 +85,10 @@ IsDeniedByBoth one made =
     (h w e : LogicPattern) → one ≡ imp h (imp w e) → made ≡ imp h (logic.not w)
 
 -- the theorem says this
-pub record IsInverting (cx : Context) (h : LogicPattern) (p : Pattern) (t : Tree) (s : Sentence)
-    (r : Theorem) : Type 0 where
-  pub says : SaysInCommon cx h p t s r.conclusion
-  pub stays : StaysIn cx r
+pub record IsInverting (cx : Context) (h : LogicPattern) (w s : Sentence) (r : Theorem) : Type 0
+  where
+    pub says : SaysInCommon cx h w s r.conclusion
+    pub stays : StaysIn cx r
 
 -- comparing comes to each of the variables with its binding
 abbrev pub AllCome : List (ℕ × ℕ) → List (Option Tree) → Pattern → Tree → List ℕ → Type 0

@@ -1,5 +1,6 @@
 -- Public: what public clauses say, and public definitions of other crates.
 pub mod Refutations
+pub mod NamedRefutations
 -- Laws: what follows from public definitions. Each is a clause of a function that does nothing.
 pub mod Clashes
 pub mod ClashLaws
@@ -8,3 +9,7 @@ pub mod Meetings
 pub mod Refuting
 pub mod Bindings
 pub mod Supposing
+pub mod Choosing
+pub mod Dropping
+pub mod Written
+pub mod NamedSettings

@@ -13,7 +13,7 @@ ghost use Rattle.rule_core.specs.ProgramView.{theory_of};
 ghost use Rattle.rule_core.specs.Sorting.{AreSorts, HasSort, IsTermOf};
 ghost use Rattle.rule_core.specs.WellSorted.{HasNoCall, IsWellSorted};
 ghost use Rattle.prove_term.specs.Contexts.{HasGrown, StaysIn};
-ghost use Rattle.refute.specs.Refutations.{SaysSentence, inverted, all_bound};
+ghost use Rattle.refute.specs.Refutations.{SaysSentence, all_bound, in_common, inverted};
 ghost use Rattle.refute.specs.Refuting.{IsPair, IsSetting};
 ghost use Rattle.refute.specs.Bindings.{SaysInCommon, IsInverting, AllCome, AreJoinable, IsJoined};
 
@@ -94,7 +94,7 @@ fn at_first(
         × IsPair cx.old.program.sig (sort_numbers setting.now.sorts.now)
         setting.now.given (plain_pattern pat.now) t }
     ensures says { IfOk result (λ r. (t : Tree) → plain_pattern whole.now ≡ ground_pattern t →
-        SaysInCommon cx.new setting.now.given.hypothesis (plain_pattern pat.now) t
+        SaysInCommon cx.new setting.now.given.hypothesis (in_common (plain_pattern pat.now) t)
         top r.conclusion) }
     ensures stays { IfOk result (StaysIn cx.new) }
     ensures grown { HasGrown cx.old cx.new }
@@ -109,7 +109,7 @@ fn at_first(
 }
 
 // `p -> top`.
-fn always(alloc: Global, p: &MPat) -> Result<Thm, AllocError>
+pub(crate) fn always(alloc: Global, p: &MPat) -> Result<Thm, AllocError>
     ensures conclusion { IfOk result (λ t. t.conclusion ≡ imp p.now logic.top) }
     ensures stays { IfOk result (StaysWithin (p.now ∷ []) []) }
 {
@@ -136,10 +136,10 @@ fn all_inverted(
     requires whole { plain_pattern whole.now ≡ ground_pattern term.now }
     requires come { AllCome cx.old.program.sig.subsorts subst.now (plain_pattern pat.now) term.now
         variables.now }
-    requires start { IsInverting cx.old setting.now.given.hypothesis (plain_pattern pat.now)
-        term.now top start }
+    requires start { IsInverting cx.old setting.now.given.hypothesis
+        (in_common (plain_pattern pat.now) term.now) top start }
     ensures says { IfOk result (λ t. IsInverting cx.new setting.now.given.hypothesis
-        (plain_pattern pat.now) term.now (all_bound subst.now variables.now) t) }
+        (in_common (plain_pattern pat.now) term.now) (all_bound subst.now variables.now) t) }
     ensures grown { HasGrown cx.old cx.new }
 {
     let mut present = start;
@@ -157,7 +157,7 @@ fn all_inverted(
 }
 
 // `h & w -> e & p`, from `h -> w -> e` and `h & w -> p`.
-fn one_more(alloc: Global, equation: &Thm, present: &Thm) -> Result<Thm, AllocError>
+pub(crate) fn one_more(alloc: Global, equation: &Thm, present: &Thm) -> Result<Thm, AllocError>
     requires { AreJoinable equation.now.conclusion present.now.conclusion }
     ensures conclusion { IfOk result
         (λ t. IsJoined equation.now.conclusion present.now.conclusion t.conclusion) }

@@ -6,13 +6,14 @@ ghost use Rattle.term_core.specs.Terms.{no_tree, more_trees};
 ghost use Rattle.term_core.specs.Patterns.{no_pattern, more_patterns, ground_pattern};
 ghost use Rattle.term_core.specs.RulePatterns.{plain_pattern, sort_numbers};
 ghost use Rattle.rule_core.specs.AcSymbols.{IsAcFree};
-ghost use Rattle.rule_core.specs.Matching.{NoneMatches};
+ghost use Rattle.rule_core.specs.Matching.{NoneMatches, OccursIn};
 ghost use Rattle.rule_core.specs.ProgramView.{theory_of};
 ghost use Rattle.rule_core.specs.Sorting.{AreSorts, HasSort, IsTermOf};
 ghost use Rattle.rule_core.specs.WellSorted.{HasNoCall, IsWellSorted};
 ghost use Rattle.ml_image.specs.Sentences.{term, not, and, equals};
 ghost use Rattle.prove_term.specs.Contexts.{HasGrown, StaysIn};
 ghost use Rattle.prove_open.specs.Under.{SaysUnder};
+ghost use Rattle.refute.specs.Clashes.{Fails};
 ghost use Rattle.refute.specs.Refutations.{SaysSentence, in_common, mismatched};
 ghost use Rattle.refute.specs.Refuting.{AreCovered, Denies, IsPair, IsSetting};
 ghost use Rattle.refute.specs.Bindings.{HasTwo, AreTwoBindings, IsDeniedByBoth};
@@ -73,9 +74,34 @@ pub fn mismatch(
         new: new_variable(sorts)?,
         goal: Goal::Clash,
     };
-    match refuted(alloc, cx, &setting, pat, &whole, term)? {
-        Some(difference) => by_clash(alloc, cx, &setting, pat, &whole, difference),
-        None => by_bindings(alloc, cx, &setting, &variables, pat, &whole, term),
+    none_under(alloc, cx, &setting, &variables, pat, &whole, term)
+}
+
+// Proves that under the hypothesis a pattern and a term have nothing in common. Comparing them comes
+// to a clash, or to two different terms at one of the variables. `whole` is the pattern of the term.
+pub(crate) fn none_under(
+    alloc: Global,
+    cx: &mut Cx<'_>,
+    setting: &Setting<'_>,
+    variables: &[u32],
+    pat: &RulePat,
+    whole: &RulePat,
+    term: &Term,
+) -> Result<Thm, AllocError>
+    requires setting { IsSetting cx.old setting.now }
+    requires pair { IsPair cx.old.program.sig (sort_numbers setting.now.sorts.now)
+        setting.now.given (plain_pattern pat.now) term.now }
+    requires whole { plain_pattern whole.now ≡ ground_pattern term.now }
+    requires fails { Fails cx.old.program.sig.subsorts (plain_pattern pat.now) term.now }
+    requires listed { (x : ℕ) → OccursIn x (plain_pattern pat.now) → Contains variables.now x }
+    ensures says { IfOk result (λ t. SaysUnder cx.new setting.now.given.hypothesis
+        (not (in_common (plain_pattern pat.now) term.now)) t.conclusion) }
+    ensures stays { IfOk result (StaysIn cx.new) }
+    ensures grown { HasGrown cx.old cx.new }
+{
+    match refuted(alloc, cx, setting, pat, whole, term)? {
+        Some(difference) => by_clash(alloc, cx, setting, pat, whole, difference),
+        None => by_bindings(alloc, cx, setting, variables, pat, whole, term),
     }
 }
 

@@ -2,8 +2,8 @@
 ghost use Rattle.std.specs.Prelude.{◌≡◌, IfOk};
 ghost use Rattle.term_core.specs.PatternLists.{plain_patterns};
 ghost use Rattle.term_core.specs.RulePatterns.{plain_pattern};
-ghost use Rattle.refute.specs.Refutations.{is_one_of, variables_in_order, and_new_of};
-ghost use Rattle.refute.specs.Refutations.{and_new_of_all};
+ghost use Rattle.refute.specs.Refutations.{is_one_of, variables_in_order, and_new};
+ghost use Rattle.refute.specs.Refutations.{and_new_of, and_new_of_all};
 
 use std::alloc::{AllocError, Global};
 use term_core::RulePat;
@@ -20,17 +20,12 @@ pub(crate) fn variables_in_order(alloc: Global, pat: &RulePat) -> Result<Vec<u32
 
 // Adds the variables of the pattern that are not in the list, in that order.
 #[cycle(add_variables)]
-fn add_variables(pat: &RulePat, variables: &mut Vec<u32>) -> Result<(), AllocError>
+pub(crate) fn add_variables(pat: &RulePat, variables: &mut Vec<u32>) -> Result<(), AllocError>
     ensures { IfOk result
         (λ u. variables.new.items ≡ and_new_of variables.old.items (plain_pattern pat.now)) }
 {
     match pat {
-        RulePat::Var(x) => {
-            if !is_one_of(*x, variables) {
-                variables.push(*x)?;
-            }
-            Ok(())
-        }
+        RulePat::Var(x) => add_variable(*x, variables),
         RulePat::Value(..) => Ok(()),
         RulePat::Ctor(_, args) => add_all_variables(args, variables),
         RulePat::Inj(_, _, below) => add_variables(below, variables),
@@ -46,6 +41,16 @@ fn add_all_variables(pats: &[RulePat], variables: &mut Vec<u32>) -> Result<(), A
 {
     for pat in pats {
         add_variables(pat, variables)?;
+    }
+    Ok(())
+}
+
+// Adds the variable if it is not in the list.
+pub(crate) fn add_variable(x: u32, variables: &mut Vec<u32>) -> Result<(), AllocError>
+    ensures { IfOk result (λ u. variables.new.items ≡ and_new variables.old.items x) }
+{
+    if !is_one_of(x, variables) {
+        variables.push(x)?;
     }
     Ok(())
 }

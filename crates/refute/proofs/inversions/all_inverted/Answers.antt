@@ -9,7 +9,7 @@ use Rattle.ml_image.specs.Sentences.{Sentence}
 use Rattle.prove_term.proofs.ContextLaws.{grown_none, grown_twice}
 use Rattle.refute.specs.Bindings.{IsInverting, equals_bound}
 use Rattle.refute.specs.Clashes.{ComesTo}
-use Rattle.refute.specs.Refutations.{all_bound}
+use Rattle.refute.specs.Refutations.{all_bound, in_common}
 use Rattle.refute.proofs.Growing.{program_grown, setting_grown, pair_grown}
 use Rattle.refute.proofs.Inverted.{all_dropped, inverting_grown, joinable, next_inverting}
 use Rattle.refute.proofs.Reached.{come_to, has_binding}
@@ -21,7 +21,7 @@ loop-left-init c = record {
   grown = grown_none c.args.cx.now;
   inverts =
       subst (λ (s : Sentence). IsInverting c.args.cx.now c.args.setting.now.given.hypothesis
-      (plain_pattern c.args.pat.now) c.args.term.now s c.args.start)
+      (in_common (plain_pattern c.args.pat.now) c.args.term.now) s c.args.start)
       (sym (all_dropped c.args.subst.now c.args.variables.now)) c.requires.start;
 }
 
@@ -69,15 +69,15 @@ binding_under-requires-clause-comes c =
 pub one_more-requires : goal.one_more-requires
 one_more-requires c =
     let there : IsInverting c.binding_under.new.cx c.args.setting.now.given.hypothesis
-    (plain_pattern c.args.pat.now) c.args.term.now
+    (in_common (plain_pattern c.args.pat.now) c.args.term.now)
     (all_bound c.args.subst.now (drop c.loop-left.left c.args.variables.now))
     c.loop-left.present =
     inverting_grown c.loop-left.cx c.binding_under.new.cx
-    c.args.setting.now.given.hypothesis (plain_pattern c.args.pat.now) c.args.term.now
+    c.args.setting.now.given.hypothesis (in_common (plain_pattern c.args.pat.now) c.args.term.now)
     (all_bound c.args.subst.now (drop c.loop-left.left c.args.variables.now))
     c.loop-left.present c.in_ok-equation.ensures.grown c.loop-left.invariant.inverts in
     joinable c.binding_under.new.cx c.args.setting.now.given.hypothesis
-    (plain_pattern c.args.pat.now) c.args.term.now
+    (in_common (plain_pattern c.args.pat.now) c.args.term.now)
     (equals_bound (get_or c.args.variables.now (c.loop-left.left - 1) 0) c.in-Some.bound.now)
     (all_bound c.args.subst.now (drop c.loop-left.left c.args.variables.now))
     c.in_ok-equation.equation.conclusion c.loop-left.present.conclusion
@@ -95,7 +95,7 @@ loop-left-preserved c =
           c.loop-left.invariant.grown c.in_ok-equation.ensures.grown;
       inverts =
           next_inverting c.binding_under.new.cx c.args.setting.now.given.hypothesis
-          (plain_pattern c.args.pat.now) c.args.term.now c.args.subst.now c.args.variables.now
+          (in_common (plain_pattern c.args.pat.now) c.args.term.now) c.args.subst.now c.args.variables.now
           (c.loop-left.left - 1) c.loop-left.left x c.in-Some.bound.now
           c.in_ok-equation.equation c.loop-left.present c.in_ok-present.present
           (omega (arith, c.loop-left-test.true))
@@ -103,7 +103,7 @@ loop-left-preserved c =
           (sym c.get.ensures ∙ ap option_copied c.in-Some.is)
           c.in_ok-equation.ensures.says c.in_ok-equation.ensures.stays
           (inverting_grown c.loop-left.cx c.binding_under.new.cx
-          c.args.setting.now.given.hypothesis (plain_pattern c.args.pat.now) c.args.term.now
+          c.args.setting.now.given.hypothesis (in_common (plain_pattern c.args.pat.now) c.args.term.now)
           (all_bound c.args.subst.now (drop c.loop-left.left c.args.variables.now))
           c.loop-left.present c.in_ok-equation.ensures.grown c.loop-left.invariant.inverts)
           c.in_ok-present.ensures.conclusion c.in_ok-present.ensures.stays;
@@ -113,7 +113,7 @@ pub returns-clause-says : goal.returns-clause-says
 returns-clause-says c =
     let none : c.loop-left.left ≡ 0 = omega (arith, c.loop-left-test.false) in
     subst (λ (n : ℕ). IsInverting c.loop-left.cx c.args.setting.now.given.hypothesis
-    (plain_pattern c.args.pat.now) c.args.term.now
+    (in_common (plain_pattern c.args.pat.now) c.args.term.now)
     (all_bound c.args.subst.now (drop n c.args.variables.now)) c.loop-left.present)
     none c.loop-left.invariant.inverts
 
