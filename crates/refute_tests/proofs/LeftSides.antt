@@ -56,11 +56,10 @@ own_variables sig r t is x stands =
 pub are_sorts : (sig : Signature) (ns : List ℕ) → All (λ s. s < length sig.sorts) ns
     → AreSorts sig ns
 are_sorts sig [] all = tt
-are_sorts sig (n ∷ ns) all =
-    (
-      All-get_or (λ s. s < length sig.sorts) (n ∷ ns) 0 n (omega arith) all,
-      are_sorts sig ns (All-tail (λ s. s < length sig.sorts) n ns all),
-    )
+are_sorts sig (n ∷ ns) all = (
+  All-get_or (λ s. s < length sig.sorts) (n ∷ ns) 0 n (omega arith) all,
+  are_sorts sig ns (All-tail (λ s. s < length sig.sorts) n ns all),
+)
 
 count_of : (r : Rule) → length (rewrite_rule r).variables ≡ vec_len r.vars
 count_of r = let count : length (rewrite_rule r).variables ≡ length r.vars.items =

@@ -14,5 +14,5 @@ value_eq-requires-clause-sorted c =
       is.0,
       is.1,
       nothing_serves c.args.cx.now.program.sig c.in_ok-none.none (plain_pattern c.args.start.now)
-      is.0 c.in_ok-none.ensures is.1,
+          is.0 c.in_ok-none.ensures is.1,
     )
