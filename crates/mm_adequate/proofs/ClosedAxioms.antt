@@ -185,6 +185,9 @@ few_bound : (P : ℕ → Type 0) (x : ℕ) → ((y : ℕ) → P y → y < 2 ^ 64
 few_bound P x few small y (inl h) = few y h
 few_bound P x few small y (inr h) = omega (arith, small, h)
 
+both_truths : true ≡ false → ⊥
+both_truths i = cc
+
 pub image_below : (sig : Signature) (names : List Token) (P : ℕ → Type 0)
     → ((x : ℕ) → P x → x < 2 ^ 64) → (s : Sentence) → HasFree P s → (p : Pattern) → sentence_image
     sig names s ≡ Some p → HasOnly P p
@@ -208,15 +211,9 @@ image_below sig names P few (apply p q) h r e =
     two_below P logic.App (sentence_image sig names p) (sentence_image sig names q)
     (image_below sig names P few p h.0) (image_below sig names P few q h.1) r e
 image_below sig names P few top h p e =
-    subst (HasOnly P) (some_same logic.top p e) ((λ x i. absurd (none x i)), tt)
-  where
-    none : (x : ℕ) → true ≡ false → ⊥
-    none x i = cc
+    subst (HasOnly P) (some_same logic.top p e) ((λ x i. absurd (both_truths i)), tt)
 image_below sig names P few bottom h p e =
-    subst (HasOnly P) (some_same logic.bot p e) ((λ x i. absurd (none x i)), tt)
-  where
-    none : (x : ℕ) → true ≡ false → ⊥
-    none x i = cc
+    subst (HasOnly P) (some_same logic.bot p e) ((λ x i. absurd (both_truths i)), tt)
 image_below sig names P few (not p) h r e =
     one_below P logic.Not (sentence_image sig names p) (image_below sig names P few p h) r e
 image_below sig names P few (and p q) h r e =
