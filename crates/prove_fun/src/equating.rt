@@ -12,6 +12,7 @@ use prove_term::{Cx, join};
 use std::alloc::{AllocError, Global};
 
 // From `a = b` and `b = c`: `a = c`. If an equality is missing, its sides are the same.
+#[inline(never)]
 pub(crate) fn joined(
     alloc: Global,
     cx: &mut Cx<'_>,
@@ -30,6 +31,7 @@ pub(crate) fn joined(
 }
 
 // From `a = b` and `b = c`: `a = c`. If the second equality is missing, its sides are the same.
+#[inline(never)]
 pub(crate) fn followed(
     alloc: Global,
     cx: &mut Cx<'_>,

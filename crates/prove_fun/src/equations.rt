@@ -35,6 +35,7 @@ pub(crate) fn equation_of(program: &Program, symbol: SymId, number: u32) -> &Equ
 // Proves that the function of its arguments' values equals the right side of the used equation,
 // with its variables replaced by what they were matched with. The call has `count` arguments. The
 // condition is known to hold.
+#[inline(never)]
 pub(crate) fn equation_fact(
     alloc: Global,
     cx: &mut Cx<'_>,

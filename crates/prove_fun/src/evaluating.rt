@@ -333,6 +333,7 @@ fn by_equation(
 
 // Proves that the condition of the used equation holds, if it has one.
 #[cycle(evaluated)]
+#[inline(never)]
 fn condition_held(
     alloc: Global,
     cx: &mut Cx<'_>,
@@ -389,6 +390,7 @@ fn value_held(
 // From a theorem on a function of the arguments' values, proves the same for the function of the
 // arguments' images.
 #[cycle(evaluated)]
+#[inline(never)]
 fn at_values(
     alloc: Global,
     cx: &mut Cx<'_>,
@@ -442,6 +444,7 @@ fn as_written(once: &Option<Thm>, image: &MPat) -> Result<MPat, AllocError>
 
 // Proves that an injection of a term equals its normal form. If the term is an injection itself,
 // the normal form injects directly.
+#[inline(never)]
 fn injected_once(
     alloc: Global,
     cx: &mut Cx<'_>,
