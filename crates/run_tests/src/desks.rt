@@ -50,6 +50,23 @@ fn reads_whole_files_in_pieces_of_any_size(rt: HostRuntime) -> Result<(), Fail> 
     Ok(())
 }
 
+/// With a limit of 100 bytes a file of 100 is read, and one of 101 is too large.
+#[test]
+fn a_file_may_have_as_many_bytes_as_the_limit(rt: HostRuntime) -> Result<(), Fail> {
+    let alloc = rt.alloc();
+    let bytes = [b'-'; 101];
+    for (count, fits) in [(100, true), (101, false)] {
+        let name = String::from_str(alloc, "a")?;
+        let files = vec![in alloc; (name, bytes[..count].to_vec(alloc)?)]?;
+        let mut desk = MemDesk::new(files, 7, Vec::new(alloc));
+        match read_file(alloc, &mut desk, "a", 100) {
+            Ok(read) => assert!(rt; fits && read.len() == 100),
+            Err(end) => assert!(rt; !fits && end == ReadEnd::TooLarge),
+        }
+    }
+    Ok(())
+}
+
 #[test]
 fn a_desk_in_memory_fails_where_it_is_asked_to(rt: HostRuntime) -> Result<(), Fail> {
     let alloc = rt.alloc();
