@@ -1,7 +1,8 @@
 -- The equations of a called function, and evaluations that stop.
 use Rattle.std.proofs.Common.{◌≡◌, ℕ, suc, ◌<◌, List, length, get_or}
-use Rattle.std.proofs.Common.{Option, Some, None, refl, sym, ◌∙◌, subst, take, ◌⊎◌, arith}
-use Rattle.std.specs.Prelude.{Err, slice_get, IfSome, IsSome, IsNone}
+use Rattle.std.proofs.Common.{Option, Some, None, refl, sym, ◌∙◌, subst, take, ◌⊎◌, ⊎_elim}
+use Rattle.std.proofs.Common.{arith}
+use Rattle.std.specs.Prelude.{Err, IfErr, IfOk, Ok, Result, slice_get, IfSome, IsSome, IsNone}
 use Rattle.std.proofs.lemmas.Option.{slice_get_within}
 use Rattle.term_core.specs.Terms.{Tree, Forest}
 use Rattle.term_core.specs.Forests.{forest}
@@ -36,6 +37,7 @@ use Rattle.fun_eval.specs.declared.answer.Answer.{Answer}
 use Rattle.fun_eval.specs.declared.answer.Answers.{Answers}
 use Rattle.fun_eval.specs.declared.answer.EvalEnd.{EvalEnd}
 use Rattle.fun_eval.specs.declared.answer.EvalEnd.TheVariants.{Blocked, Memory}
+use Rattle.fun_eval.specs.declared.equations.Choice.{Choice}
 use Rattle.fun_eval.proofs.Names.{is_equation}
 use Rattle.fun_eval.proofs.PatternsInTurn.{GoesOn, goes_on-stop}
 use Rattle.fun_eval.proofs.Trials.{TriedUpTo, stopped_at}
@@ -260,6 +262,66 @@ right_gives {R} tells all_tell missed_tell theory n f args c number left rest th
     )
 
 -- ---- numbers of equations and functions
+
+-- what is told of a choice is told of the same choice
+pub told_alike : {R M : Type 0} (tells : R → Record → Type 0) (misses_tell : M → MissList → Type 0)
+    (all : RecordList → Type 0) (f : ℕ) (taken chosen : Choice R M) (right given : R)
+    → taken ≡ chosen
+    → ((rs : RecordList) (o : OptionalRecord) (r : Record) (ms : MissList)
+    → all rs → TellsOption tells taken.cond o → tells right r → misses_tell taken.missed ms
+    → tells given (kept.by_equation f rs taken.number taken.subst o r ms))
+    → (rs : RecordList) (o : OptionalRecord) (r : Record) (ms : MissList)
+    → all rs → TellsOption tells chosen.cond o → tells right r → misses_tell chosen.missed ms
+    → tells given (kept.by_equation f rs chosen.number chosen.subst o r ms)
+told_alike {R} {M} tells misses_tell all f taken chosen right given same told =
+    let Told : Choice R M → Type 0 = λ x.
+    (rs : RecordList) (o : OptionalRecord) (r : Record) (ms : MissList)
+    → all rs → TellsOption tells x.cond o → tells right r → misses_tell x.missed ms
+    → tells given (kept.by_equation f rs x.number x.subst o r ms) in
+    subst Told same told
+
+-- a call, by what is recorded of it after the right side is evaluated
+pub right_called : {R : Type 0} (tells : R → Record → Type 0)
+    (all_tell : List R → RecordList → Type 0) (missed_tell : MissList → Type 0)
+    (theory : RewriteTheory) (n f : ℕ) (args : Answers R) (c number left : ℕ)
+    (theta : List (Option Tree)) (cond : Option R) (e : plain.Equation)
+    (body given : Result (Answer R × ℕ) EvalEnd)
+    → (is : IsDefined theory f (forest args.terms.items))
+    → (chosen : IsChosen theory n f (forest args.terms.items) c number theta left)
+    → IsRecordedCondition tells theory theta chosen.equation.condition cond
+    → RecordsMissed missed_tell theory f number (forest args.terms.items)
+    → slice_get (equations_of theory f) number ≡ Some e
+    → GivesWithin tells theory n f theta e.right left body
+    → IfOk given (λ made. (right : Answer R) × (body ≡ Ok (right, made.1))
+    × (made.0.term ≡ right.term)
+    × ((rs : RecordList) (o : OptionalRecord) (r : Record) (ms : MissList)
+    → all_tell args.records.items rs → TellsOption tells cond o → tells right.recorded r
+    → missed_tell ms → tells made.0.recorded (kept.by_equation f rs number theta o r ms)))
+    → IfErr given (λ end. (end ≡ Memory) ⊎ (body ≡ Err end))
+    → CallsByEquations tells all_tell theory n f args c given
+right_called {R} tells all_tell missed_tell theory n f args c number left theta cond e body
+    (Ok made) is chosen met missed there within said stopped =
+    let right = said.0 in
+    let here : GivesWithin tells theory n f theta e.right left (Ok (right, made.1)) =
+    subst (GivesWithin tells theory n f theta e.right left) said.1 within in
+    let Says : Tree → Type 0 = λ t.
+    Equates theory n f (equations_of theory f) (forest args.terms.items) c (value t made.1)
+    × ((rs : RecordList) → all_tell args.records.items rs
+    → results_of rs ≡ forest args.terms.items
+    → (r : Record) × tells made.0.recorded r × IsCallRecord theory f rs r
+    × (result_of r ≡ t)) in
+    subst Says (sym said.2) (right_gives tells all_tell missed_tell theory n f args c number left
+    made.1 theta cond e right made.0.recorded is chosen met missed there here.0 here.1 said.3)
+right_called {R} tells all_tell missed_tell theory n f args c number left theta cond e body
+    (Err end) is chosen met missed there within said stopped =
+    ⊎_elim
+    (λ (memory : end ≡ Memory).
+    subst (λ (x : EvalEnd). CallsByEquations tells all_tell theory n f args c (Err x))
+    (sym memory) tt)
+    (λ (same : body ≡ Err end).
+    right_stops tells all_tell theory n f args c number left theta e end chosen there
+    (subst (GivesWithin tells theory n f theta e.right left) same within))
+    stopped
 
 pub chosen_within : (theory : RewriteTheory) (n f : ℕ) (ts : Forest) (c number left : ℕ)
     (theta : List (Option Tree)) → IsChosen theory n f ts c number theta left

@@ -17,9 +17,10 @@ use Rattle.match_tree.specs.declared.slots.Hit.TheVariants as answer
 use Rattle.match_tree.specs.declared.slots.NodeNo.{NodeNo}
 use Rattle.match_tree.specs.declared.slots.NodeNo.TheVariants as place
 use Rattle.match_tree.proofs.ProgramLaws.{unmatched_equations_are_skipped}
-use Rattle.fun_eval.specs.Equations.{Chooses, ChoiceSays, FailsAt, RecordsMissed, RecordsPassed}
+use Rattle.fun_eval.specs.Equations.{Chooses, ChosenSays, FailsAt, RecordsMissed, RecordsPassed}
 use Rattle.fun_eval.specs.Equations.{TrialSays, TriesNumber}
 use Rattle.fun_eval.specs.declared.answer.EvalEnd.{EvalEnd}
+use Rattle.fun_eval.specs.declared.equations.Choice.{Choice}
 use Rattle.fun_eval.specs.declared.equations.Trial.{Trial}
 use Rattle.fun_eval.specs.declared.equations.Trial.TheVariants.{Failed, Used}
 use Rattle.fun_eval.proofs.Misses.{unmatched_by}
@@ -119,17 +120,20 @@ at_row theory n f tree ts first c left row resume hit was is =
 pub row_chosen : {R M : Type 0} (tells : R → Record → Type 0) (misses_tell : M → MissList → Type 0)
     (theory : RewriteTheory) (n f : ℕ) (tree : code.Tree) (ts : List Tree)
     (first c left rest row : ℕ) (resume : NodeNo) (theta : List (Option Tree)) (cond : Option R)
-    (missed : M) (trial : Trial R)
+    (missed : M) (trial : Trial R) (kept : Choice R M)
     → IsAtRow theory n f tree ts first c left row resume
     → TriesNumber tells theory n f row (forest ts) left (Ok (trial, rest))
     → trial ≡ Used theta cond → RecordsMissed (misses_tell missed) theory f row (forest ts)
-    → ChoiceSays tells misses_tell theory n f (forest ts) c
-    (Some (record { number = row; subst = theta; cond = cond; missed = missed })) rest
-row_chosen {R} tells misses_tell theory n f tree ts first c left rest row resume theta cond missed
-    trial at (e, there, says) is why =
+    → kept ≡ record { number = row; subst = theta; cond = cond; missed = missed }
+    → ChosenSays tells misses_tell theory n f (forest ts) c kept rest
+row_chosen {R} {M} tells misses_tell theory n f tree ts first c left rest row resume theta cond
+    missed trial kept at (e, there, says) is why holds =
     let T : Trial R → Type 0 = λ o. TrialSays tells theory n f e (forest ts) left o rest in
     let used : TrialSays tells theory n f e (forest ts) left (Used theta cond) rest =
-    subst T is says in (
+    subst T is says in
+    let C : Choice R M → Type 0 =
+    λ x. ChosenSays tells misses_tell theory n f (forest ts) c x rest in
+    subst C (sym holds) (
       chosen theory n f (forest ts) c row left rest e theta at.tried at.unused there used.0 used.1,
       used.2,
       why,

@@ -1,6 +1,7 @@
 -- What the private functions that try equations return.
 use Rattle.std.specs.Prelude.{◌≡◌, ◌⊎◌, ◌<◌, ℕ, true, List, [], Option, Some, None, IsSome, IsNone}
 use Rattle.std.specs.Prelude.{Result, slice_get, take}
+use Rattle.std.specs.Global.{Box}
 use Rattle.term_core.specs.Terms.{Tree, Forest}
 use Rattle.term_core.specs.Forests.{forest}
 use Rattle.term_core.specs.Patterns.{Pattern}
@@ -130,18 +131,25 @@ pub record IsChosen (theory : RewriteTheory) (n f : ℕ) (ts : Forest) (c number
   pub gives : (r : Evaluated) → EvaluatesIn theory n f theta equation.right left r →
       Equates theory n f (equations_of theory f) ts c r
 
-abbrev pub ChoiceSays : {R M : Type 0} → (R → Record → Type 0) → (M → MissList → Type 0)
-    → RewriteTheory → ℕ → ℕ → Forest → ℕ → Option (Choice R M) → ℕ → Type 0
-ChoiceSays tells misses_tell theory n f ts c None left =
-    Equates theory n f (equations_of theory f) ts c (blocked (no_equation f))
-ChoiceSays tells misses_tell theory n f ts c (Some chosen) left =
+-- this equation is used, and this is recorded of its condition and of the equations before it
+abbrev pub ChosenSays : {R M : Type 0} → (R → Record → Type 0) → (M → MissList → Type 0)
+    → RewriteTheory → ℕ → ℕ → Forest → ℕ → Choice R M → ℕ → Type 0
+ChosenSays tells misses_tell theory n f ts c chosen left =
     (is : IsChosen theory n f ts c chosen.number chosen.subst left)
     × IsRecordedCondition tells theory chosen.subst is.equation.condition chosen.cond
     × RecordsMissed (misses_tell chosen.missed) theory f chosen.number ts
 
+abbrev pub ChoiceSays : {R M : Type 0} → (R → Record → Type 0) → (M → MissList → Type 0)
+    → RewriteTheory → ℕ → ℕ → Forest → ℕ → Option (Box (Choice R M)) → ℕ → Type 0
+ChoiceSays tells misses_tell theory n f ts c None left =
+    Equates theory n f (equations_of theory f) ts c (blocked (no_equation f))
+ChoiceSays tells misses_tell theory n f ts c (Some chosen) left =
+    ChosenSays tells misses_tell theory n f ts c chosen.value left
+
 -- which equation is used, if any; or a condition is blocked before that
 abbrev pub Chooses : {R M : Type 0} → (R → Record → Type 0) → (M → MissList → Type 0)
-    → RewriteTheory → ℕ → ℕ → Forest → ℕ → Result (Option (Choice R M) × ℕ) EvalEnd → Type 0
+    → RewriteTheory → ℕ → ℕ → Forest → ℕ → Result (Option (Box (Choice R M)) × ℕ) EvalEnd
+    → Type 0
 Chooses tells misses_tell theory n f ts c answer =
     Comes
     (ChoiceSays tells misses_tell theory n f ts c)

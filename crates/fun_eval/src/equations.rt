@@ -1,8 +1,10 @@
 // Equations that match terms.
 ghost use Rattle.std.specs.Prelude.{◌≡◌, ◌<◌, ◌≤◌, ◌+◌, ℕ, length, map, slice_get, Some, IfOk};
-ghost use Rattle.std.specs.Prelude.{OnOk};
+ghost use Rattle.std.specs.Prelude.{◌⊎◌, Err, IfErr, Ok, OnOk};
 ghost use Rattle.term_core.specs.Forests.{forest};
 ghost use Rattle.rule_core.specs.Theories.{equations_of};
+ghost use Rattle.rule_core.specs.Records.{MissList, OptionalRecord, Record, RecordList};
+ghost use Rattle.rule_core.specs.Records.{by_equation as equation_record};
 ghost use Rattle.rule_core.specs.ProgramView.{theory_of, function_equation};
 ghost use Rattle.match_tree.specs.Finding.{BeginsAt, GivesOn};
 ghost use Rattle.match_tree.specs.ProgramLaws.{IsFirstEquation, NoEquationMatches};
@@ -11,7 +13,11 @@ ghost use Rattle.match_tree.specs.Programs.{IsEquationTree};
 ghost use Rattle.match_tree.specs.SlotView.{RowMatches};
 ghost use Rattle.fun_eval.specs.Equations.{FailsAt, IsDefined, MatchesNumber, RecordsMissed};
 ghost use Rattle.fun_eval.specs.Equations.{RecordsPassed};
+ghost use Rattle.fun_eval.specs.RecordLists.{TellsOption};
+ghost use Rattle.fun_eval.specs.declared.answer.Answer.{Answer};
+ghost use Rattle.fun_eval.specs.declared.answer.EvalEnd.TheVariants.{Memory};
 
+use crate::answer::{Answer, EvalEnd};
 use crate::engine::Engine;
 use crate::recording::Recording;
 use crate::terms::{bind_row, find_row};
@@ -134,6 +140,38 @@ pub(crate) fn pass<R: Recording>(
     }
     passed.count = row as usize + 1;
     Ok(())
+}
+
+// The value of a call, with what is recorded of it, from what is recorded of its arguments, the
+// equation that is used and the evaluation of its right side. It does all that follows that
+// evaluation, so that nothing of this takes stack meanwhile.
+#[inline(never)]
+pub(crate) fn recorded_call<R: Recording>(
+    alloc: Global,
+    sym: SymId,
+    args: Vec<R>,
+    chosen: Box<Choice<R, R::Misses>>,
+    body: Result<(Answer<R>, u32), EvalEnd>,
+) -> Result<(Answer<R>, u32), EvalEnd>
+    ensures value { IfOk result (λ given. (right : Answer R) × (body ≡ Ok (right, given.1))
+        × (given.0.term ≡ right.term)
+        × ((rs : RecordList) (o : OptionalRecord) (r : Record) (ms : MissList)
+        → R.all_tell args.items rs → TellsOption R.tells chosen.value.cond o
+        → R.tells right.recorded r → R.misses_tell chosen.value.missed ms
+        → R.tells given.0.recorded
+        (equation_record sym.0 rs chosen.value.number chosen.value.subst o r ms))) }
+    ensures stopped { IfErr result (λ end. (end ≡ Memory) ⊎ (body ≡ Err end)) }
+{
+    let (right, left) = body?;
+    let Answer { term, recorded } = right;
+    let Choice {
+        number,
+        subst,
+        cond,
+        missed,
+    } = Box::into_inner(chosen);
+    let recorded = R::by_equation(alloc, sym, args, number, subst, cond, recorded, missed)?;
+    Ok((Answer { term, recorded }, left))
 }
 
 // What is recorded of the equations before this one, which is used: why they are not, if it is of

@@ -23,6 +23,7 @@ use crate::answer::{Answer, Answers, EvalEnd};
 use crate::engine::Engine;
 use crate::equations::{
     Choice, Passed, Trial, equation_of, match_equation, missed_before, next_equation, pass,
+    recorded_call,
 };
 use crate::functions::{call_hook, construct, inject, result_sort, symbol};
 use crate::recording::Recording;
@@ -192,8 +193,10 @@ fn evaluate_all<R: Recording>(
     Ok((Answers { terms, records }, left))
 }
 
-// The value of a function at terms.
+// The value of a function at terms. It is a call of its own, so that it takes no stack while the
+// arguments of a function are evaluated.
 #[cycle(evaluation)]
+#[inline(never)]
 fn apply<R: Recording>(
     alloc: Global,
     engine: &Engine<'_>,
@@ -243,23 +246,17 @@ fn apply_equations<R: Recording>(
     let Some(chosen) = chosen else {
         return Err(EvalEnd::Blocked(Blocked::NoEquation(sym)));
     };
-    let Choice {
-        number,
-        subst,
-        cond,
-        missed,
-    } = chosen;
     // The program is well-sorted.
     let _program = engine.program();
-    let right = &equation_of(engine, sym, number).right;
-    let (body, rest) = evaluate_in::<R>(alloc, engine, sym, right, &subst, left, nest)?;
-    let Answer { term, recorded } = body;
-    let recorded = R::by_equation(alloc, sym, records, number, subst, cond, recorded, missed)?;
-    Ok((Answer { term, recorded }, rest))
+    let right = &equation_of(engine, sym, chosen.number).right;
+    let body = evaluate_in::<R>(alloc, engine, sym, right, &chosen.subst, left, nest);
+    recorded_call(alloc, sym, records, chosen, body)
 }
 
-// The first equation of a function that is used at terms.
+// The first equation of a function that is used at terms, in a box, so that it takes no stack while
+// its right side is evaluated.
 #[cycle(evaluation)]
+#[inline(never)]
 fn choose_equation<R: Recording>(
     alloc: Global,
     engine: &Engine<'_>,
@@ -267,7 +264,7 @@ fn choose_equation<R: Recording>(
     terms: &[Term],
     calls: u32,
     nest: u32,
-) -> Result<(Option<Choice<R, R::Misses>>, u32), EvalEnd>
+) -> Result<(Option<Box<Choice<R, R::Misses>>>, u32), EvalEnd>
     requires fits { IsDefined (theory_of engine.now) sym.0 (forest terms.now) }
     requires nest { nest ≤ most_nesting }
     ensures { Chooses R.tells R.misses_tell (theory_of engine.now) nest sym.0 (forest terms.now)
@@ -293,7 +290,7 @@ fn choose_equation<R: Recording>(
                     cond,
                     missed,
                 };
-                return Ok((Some(choice), rest));
+                return Ok((Some(Box::new(alloc, choice)?), rest));
             }
         }
         left = rest;

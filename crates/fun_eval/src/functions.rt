@@ -37,6 +37,7 @@ pub(crate) fn result_sort(result_ref: SortRef) -> SortId
 }
 
 // A constructor applied to its arguments' values.
+#[inline(never)]
 pub(crate) fn construct<R: Recording>(
     alloc: Global,
     sym: SymId,
@@ -55,6 +56,7 @@ pub(crate) fn construct<R: Recording>(
 }
 
 // The injection of a value, whose symbol is `sym`.
+#[inline(never)]
 pub(crate) fn inject<R: Recording>(
     alloc: Global,
     sym: SymId,

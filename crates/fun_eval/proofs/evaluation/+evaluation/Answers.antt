@@ -31,7 +31,7 @@ use Rattle.fun_eval.proofs.Recordings.{recorded-more}
 use Rattle.fun_eval.proofs.Calls.{arguments_stop, injected_stops, pattern_stops}
 use Rattle.fun_eval.proofs.Calls.{triable, right_evaluable, condition_evaluable}
 use Rattle.fun_eval.proofs.Calls.{no_test, test_holds, test_fails, test_stops}
-use Rattle.fun_eval.proofs.Calls.{right_stops, right_gives, chosen_within}
+use Rattle.fun_eval.proofs.Calls.{right_called, chosen_within}
 use Rattle.fun_eval.proofs.Calls.{has_list}
 use Rattle.fun_eval.proofs.Matches.{found_within, own_match}
 use Rattle.fun_eval.proofs.Walks.{IsTrying, at_row, begins_trying, equations_nearer, none_is_used}
@@ -411,12 +411,12 @@ apply_equations-equation_of-requires g t c =
     (theory_of c.args.engine.now) c.args.nest
     c.args.sym.0 ts c.args.calls (Some c.in-Some.chosen) c.in_ok-chosen.left) values_same
     here in
-    chosen_within (theory_of c.args.engine.now) c.args.nest c.args.sym.0
-    (forest c.args.args.terms.items) c.args.calls c.in-Some.chosen.number c.in_ok-chosen.left
-    c.in-Some.chosen.subst says.0
+    rw c.deref-2.ensures (chosen_within (theory_of c.args.engine.now) c.args.nest c.args.sym.0
+    (forest c.args.args.terms.items) c.args.calls c.in-Some.chosen.value.number c.in_ok-chosen.left
+    c.in-Some.chosen.value.subst says.0)
 
-pub apply_equations-evaluate_in-requires : goal.apply_equations-evaluate_in-requires
-apply_equations-evaluate_in-requires g t c κs within =
+pub apply_equations-evaluate_in-body-requires : goal.apply_equations-evaluate_in-body-requires
+apply_equations-evaluate_in-body-requires g t c κs within =
     let values_same : forest c.deref.result.now ≡ forest c.args.args.terms.items =
     ap forest c.deref.ensures.value in
     let here : ChoiceSays g.R.Recording.tells g.R.Recording.misses_tell
@@ -432,7 +432,8 @@ apply_equations-evaluate_in-requires g t c κs within =
     subst (λ ts. ChoiceSays g.R.Recording.tells g.R.Recording.misses_tell
     (theory_of c.args.engine.now) c.args.nest
     c.args.sym.0 ts c.args.calls (Some c.in-Some.chosen) c.in_ok-chosen.left) values_same
-    here in (
+    here in
+    rw c.deref-3.ensures (
       omega arith,
       (
         within.0,
@@ -440,10 +441,11 @@ apply_equations-evaluate_in-requires g t c κs within =
           within.1,
           (
             right_evaluable (theory_of c.args.engine.now) c.args.nest c.args.sym.0
-                (forest c.args.args.terms.items) c.args.calls c.in-Some.chosen.number
-                c.in_ok-chosen.left c.in-Some.chosen.subst
+                (forest c.args.args.terms.items) c.args.calls c.in-Some.chosen.value.number
+                c.in_ok-chosen.left c.in-Some.chosen.value.subst
                 (function_equation c.equation_of.result.now) c.program-program.ensures.sorted
-                c.requires.fits says.0 c.equation_of.ensures,
+                c.requires.fits says.0
+                (rw (sym c.deref-2.ensures) c.equation_of.ensures),
             c.requires.nest,
           ),
         ),
@@ -468,38 +470,14 @@ apply_equations-returns g t c =
     (theory_of c.args.engine.now) c.args.nest
     c.args.sym.0 ts c.args.calls (Some c.in-Some.chosen) c.in_ok-chosen.left) values_same
     here in
-    right_gives g.R.Recording.tells g.R.Recording.all_tell
-    (g.R.Recording.misses_tell c.in-Some.chosen.missed) (theory_of c.args.engine.now) c.args.nest
-    c.args.sym.0 c.args.args c.args.calls c.in-Some.chosen.number c.in_ok-chosen.left
-    c.in_ok-body.rest c.in-Some.chosen.subst c.in-Some.chosen.cond
-    (function_equation c.equation_of.result.now) c.in_ok-body.body
-    c.in_ok-recorded.recorded c.requires.fits says.0 says.1 says.2 c.equation_of.ensures
-    c.in_ok-body.ensures.0 c.in_ok-body.ensures.1 c.in_ok-recorded.ensures
-
-pub apply_equations-returns-in_err-body : goal.apply_equations-returns-in_err-body
-apply_equations-returns-in_err-body g t c =
-    let values_same : forest c.deref.result.now ≡ forest c.args.args.terms.items =
-    ap forest c.deref.ensures.value in
-    let here : ChoiceSays g.R.Recording.tells g.R.Recording.misses_tell
-    (theory_of c.args.engine.now) c.args.nest c.args.sym.0
-    (forest c.deref.result.now) c.args.calls (Some c.in-Some.chosen) c.in_ok-chosen.left =
-    subst (λ o. ChoiceSays g.R.Recording.tells g.R.Recording.misses_tell
-    (theory_of c.args.engine.now) c.args.nest
-    c.args.sym.0 (forest c.deref.result.now) c.args.calls o c.in_ok-chosen.left)
-    c.in-Some.is c.in_ok-chosen.ensures in
-    let says : ChoiceSays g.R.Recording.tells g.R.Recording.misses_tell
-    (theory_of c.args.engine.now) c.args.nest c.args.sym.0
-    (forest c.args.args.terms.items) c.args.calls (Some c.in-Some.chosen) c.in_ok-chosen.left =
-    subst (λ ts. ChoiceSays g.R.Recording.tells g.R.Recording.misses_tell
-    (theory_of c.args.engine.now) c.args.nest
-    c.args.sym.0 ts c.args.calls (Some c.in-Some.chosen) c.in_ok-chosen.left) values_same
-    here in
-    let p = err_from_is_err_and c.from_residual-in_err-body.result
-    c.from_residual-in_err-body.ensures.1 in
-    rw (p.1, p.2) (right_stops g.R.Recording.tells g.R.Recording.all_tell (theory_of
-    c.args.engine.now) c.args.nest c.args.sym.0 c.args.args c.args.calls c.in-Some.chosen.number
-    c.in_ok-chosen.left c.in-Some.chosen.subst (function_equation c.equation_of.result.now)
-    c.in_err-body.field-0.0 says.0 c.equation_of.ensures c.in_err-body.ensures)
+    right_called g.R.Recording.tells g.R.Recording.all_tell
+    (g.R.Recording.misses_tell c.in-Some.chosen.value.missed) (theory_of c.args.engine.now)
+    c.args.nest c.args.sym.0 c.args.args c.args.calls c.in-Some.chosen.value.number
+    c.in_ok-chosen.left c.in-Some.chosen.value.subst c.in-Some.chosen.value.cond
+    (function_equation c.equation_of.result.now) c.evaluate_in-body.result
+    c.recorded_call.result c.requires.fits says.0 says.1 says.2
+    (rw (sym c.deref-2.ensures) c.equation_of.ensures)
+    (rw (sym c.deref-3.ensures) c.evaluate_in-body.ensures) c.recorded_call.ensures.value c.recorded_call.ensures.stopped
 
 -- ---- choose_equation
 
@@ -596,10 +574,10 @@ choose_equation-returns-in-Used g t c =
     row_chosen g.R.Recording.tells g.R.Recording.misses_tell (theory_of c.args.engine.now)
     c.args.nest c.args.sym.0 c.equation_tree-tree.result.now c.args.terms.now
     c.loop-hit.passed.count c.args.calls c.loop-hit.left c.in_ok-trial.rest c.in-Row.row
-    c.in-Row.resume c.in-Used.subst c.in-Used.cond c.in_ok-missed-in-Used.missed c.in_ok-trial.trial at
-    c.in_ok-trial.ensures c.in-Used.is
+    c.in-Row.resume c.in-Used.subst c.in-Used.cond c.in_ok-missed-in-Used.missed c.in_ok-trial.trial
+    c.in_ok-new-in-Used.field-0.value at c.in_ok-trial.ensures c.in-Used.is
     (c.in_ok-missed-in-Used.ensures (forest c.args.terms.now) c.loop-hit.invariant.passed
-    at.trying.tells.earlier)
+    at.trying.tells.earlier) c.in_ok-new-in-Used.ensures.ok
 
 pub choose_equation-returns-in_err-trial : goal.choose_equation-returns-in_err-trial
 choose_equation-returns-in_err-trial g t c =
