@@ -81,8 +81,8 @@ mismatch_named-requires-clause-names c =
     let numbers : sort_numbers c.deref-in-None.result.now ≡ (rewrite_rule r).variables =
     ap sort_numbers c.deref-in-None.ensures.value ∙ c.in_ok-sorts.ensures
     ∙ ap sorts_of c.deref.ensures.value in
-    have_names p.sig r c.args.config.now (sort_numbers c.deref-in-None.result.now) c.deref-in-None-2.result.now one
-    numbers c.deref-in-None-2.ensures.value
+    have_names p.sig r c.args.config.now (sort_numbers c.deref-in-None.result.now)
+    c.deref-in-None-2.result.now one numbers c.deref-in-None-2.ensures.value
 
 pub mismatch_named-requires-clause-mismatch : goal.mismatch_named-requires-clause-mismatch
 mismatch_named-requires-clause-mismatch c =
@@ -180,8 +180,8 @@ inversion_named-requires-clause-names c =
     let numbers : sort_numbers c.deref-in-Some-2.result.now ≡ (rewrite_rule r).variables =
     ap sort_numbers c.deref-in-Some-2.ensures.value ∙ c.in_ok-sorts.ensures
     ∙ ap sorts_of c.deref.ensures.value in
-    have_names p.sig r c.args.config.now (sort_numbers c.deref-in-Some-2.result.now) c.deref-in-Some-3.result.now one
-    numbers c.deref-in-Some-3.ensures.value
+    have_names p.sig r c.args.config.now (sort_numbers c.deref-in-Some-2.result.now)
+    c.deref-in-Some-3.result.now one numbers c.deref-in-Some-3.ensures.value
 
 pub inversion_named-requires-clause-matches : goal.inversion_named-requires-clause-matches
 inversion_named-requires-clause-matches c =
@@ -193,9 +193,10 @@ inversion_named-requires-clause-matches c =
     let numbers : sort_numbers c.deref-in-Some-2.result.now ≡ (rewrite_rule r).variables =
     ap sort_numbers c.deref-in-Some-2.ensures.value ∙ c.in_ok-sorts.ensures
     ∙ ap sorts_of c.deref.ensures.value in
-    names_added p.sig r c.args.config.now (sort_numbers c.deref-in-Some-2.result.now) c.from_ref.result.now
-    c.deref-in-Some.result.now c.deref-in-Some-3.result.now c.in-Some.subst c.in_ok-subst-in-Some.subst one
-    numbers c.from_ref.ensures.value c.deref-in-Some.ensures.value c.deref-in-Some-3.ensures.value
+    names_added p.sig r c.args.config.now (sort_numbers c.deref-in-Some-2.result.now)
+    c.from_ref.result.now c.deref-in-Some.result.now c.deref-in-Some-3.result.now
+    c.in-Some.subst c.in_ok-subst-in-Some.subst one numbers c.from_ref.ensures.value
+    c.deref-in-Some.ensures.value c.deref-in-Some-3.ensures.value
     (one_matches p c.program-program.result.now r c.args.config.now
     (sort_numbers c.deref-in-Some-2.result.now) c.in_ok-found.field-0 c.in-Some.subst
     c.program-program.ensures one numbers c.in-Some.is c.in_ok-found.ensures)
