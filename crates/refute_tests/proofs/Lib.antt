@@ -1,3 +1,4 @@
 pub mod PlainNames
 pub mod LeftSides
+pub mod NamedSides
 pub mod Starts

@@ -6,7 +6,7 @@ ghost use Rattle.kore_rules.specs.Names.{HasIdentifierNames};
 ghost use Rattle.rewriter.specs.Configurations.{IsConfiguration};
 
 use crate::accepted::{configuration, program_of};
-use crate::definitions::{ITEM, ITEMS, PAIRS, ROOTS};
+use crate::definitions::{ITEM, ITEMS, NAMED, PAIRS, ROOTS};
 use crate::left_sides::about_left_side;
 use crate::proof_files::{add_lemma, last_stated};
 use mm_verify::verify;
@@ -232,6 +232,43 @@ static DIFFERENT: [Case; 3] = [
     },
 ];
 
+/// Parts with names.
+static NAMES: [Case; 2] = [
+    Case {
+        definition: NAMED,
+        term: r#"g{}(f{}(p{}()),q{}())"#,
+        stated: &[
+            "p |- ( \\imp ( \\and ( \\and ( \\fun x:0 s:S ) ( \\and ( \\fun x:1 s:S ) ( \\and ( \
+             \\fun x:2 s:S ) \\top ) ) ) ( \\and ( \\app ( \\app f:g ( \\and ( \\app f:f x:0 ) x:1 \
+             ) ) x:2 ) ( \\app ( \\app f:g ( \\app f:f f:p ) ) f:q ) ) ) ( \\and ( \\eq x:0 f:p ) \
+             ( \\and ( \\eq x:1 ( \\app f:f f:p ) ) ( \\and ( \\eq x:2 f:q ) \\top ) ) ) ) ",
+            "p |- ( \\imp ( \\and ( \\and ( \\fun x:0 s:S ) ( \\and ( \\fun x:1 s:S ) ( \\and ( \
+             \\fun x:2 s:S ) \\top ) ) ) ( \\and ( \\app ( \\app f:g ( \\and x:0 ( \\app f:f ( \
+             \\and f:p x:1 ) ) ) ) x:2 ) ( \\app ( \\app f:g ( \\app f:f f:p ) ) f:q ) ) ) ( \\and \
+             ( \\eq x:0 ( \\app f:f f:p ) ) ( \\and ( \\eq x:1 f:p ) ( \\and ( \\eq x:2 f:q ) \
+             \\top ) ) ) ) ",
+            "p |- ( \\imp ( \\and ( \\fun x:0 s:S ) ( \\and ( \\fun x:1 s:S ) \\top ) ) ( \\not ( \
+             \\and ( \\app ( \\app f:g ( \\and f:q x:0 ) ) x:1 ) ( \\app ( \\app f:g ( \\app f:f \
+             f:p ) ) f:q ) ) ) ) ",
+        ],
+    },
+    Case {
+        definition: NAMED,
+        term: r#"g{}(p{}(),p{}())"#,
+        stated: &[
+            "p |- ( \\imp ( \\and ( \\fun x:0 s:S ) ( \\and ( \\fun x:1 s:S ) ( \\and ( \\fun x:2 \
+             s:S ) \\top ) ) ) ( \\not ( \\and ( \\app ( \\app f:g ( \\and ( \\app f:f x:0 ) x:1 ) \
+             ) x:2 ) ( \\app ( \\app f:g f:p ) f:p ) ) ) ) ",
+            "p |- ( \\imp ( \\and ( \\fun x:0 s:S ) ( \\and ( \\fun x:1 s:S ) ( \\and ( \\fun x:2 \
+             s:S ) \\top ) ) ) ( \\not ( \\and ( \\app ( \\app f:g ( \\and x:0 ( \\app f:f ( \\and \
+             f:p x:1 ) ) ) ) x:2 ) ( \\app ( \\app f:g f:p ) f:p ) ) ) ) ",
+            "p |- ( \\imp ( \\and ( \\fun x:0 s:S ) ( \\and ( \\fun x:1 s:S ) \\top ) ) ( \\not ( \
+             \\and ( \\app ( \\app f:g ( \\and f:q x:0 ) ) x:1 ) ( \\app ( \\app f:g f:p ) f:p ) ) \
+             ) ) ",
+        ],
+    },
+];
+
 /// A left side with one variable twice does not match a pair of different constants. A clash may be
 /// three levels down, or at the root. Each variable is bound to its own tower.
 #[test]
@@ -250,6 +287,13 @@ fn injected_variables_take_lower_sorts(rt: HostRuntime) {
 #[test]
 fn each_two_roots_differ(rt: HostRuntime) {
     assert_eq!(rt; first_unproved(rt.alloc(), &DIFFERENT), None);
+}
+
+/// The name of a part equals the term in its place. The statement has the name where it is written.
+/// If a part with a name does not match, the left side does not.
+#[test]
+fn names_of_parts_are_bound(rt: HostRuntime) {
+    assert_eq!(rt; first_unproved(rt.alloc(), &NAMES), None);
 }
 
 /// The numbers of the first case and of its first rule of which something else is stated, or of no

@@ -90,6 +90,23 @@ axiom{} \rewrites{T{}}(v{}(S:SortString{},inj{A{},E{}}(Z:A{})),ok{}()) []
 endmodule []
 "#;
 
+/// Pairs. Parts of the left sides have names: one written behind its part, one before a part that
+/// holds another such part, and one of a constant.
+pub(crate) const NAMED: &str = r#"[]
+module N
+sort S{} []
+sort T{} []
+symbol p{}() : S{} [constructor{}()]
+symbol q{}() : S{} [constructor{}()]
+symbol f{}(S{}) : S{} [constructor{}()]
+symbol g{}(S{},S{}) : T{} [constructor{}()]
+symbol ok{}() : T{} [constructor{}()]
+axiom{} \rewrites{T{}}(g{}(\and{S{}}(f{}(X:S{}),Y:S{}),Z:S{}),ok{}()) []
+axiom{} \rewrites{T{}}(g{}(\and{S{}}(Y:S{},f{}(\and{S{}}(p{}(),W:S{}))),X:S{}),ok{}()) []
+axiom{} \rewrites{T{}}(g{}(\and{S{}}(q{}(),Y:S{}),X:S{}),ok{}()) []
+endmodule []
+"#;
+
 /// Truth values that are computed.
 pub(crate) const TRUTHS: &str = r#"[]
 module B

@@ -13,15 +13,17 @@ ghost use Rattle.prove_term.specs.Contexts.{HasGrown, StaysIn};
 
 use ml_kernel::Thm;
 use prove_term::Cx;
-use refute::{inversion, mismatch};
-use rule_core::{Program, Rule, Subsorts, VarInfo, find_match};
+use refute::{inversion, inversion_named, mismatch, mismatch_named};
+use rule_core::{Program, Rule, Subsorts, VarInfo, find_match, with_names};
 use std::alloc::{AllocError, Global};
 use std::marker::Brand;
+use std::slice::from_ref;
 use std::sync::ledger::{Blank, Ledger};
 use term_core::{SortId, Steps, Subst, Term};
 
 /// Proves that the left side of the rule at `number` and the configuration have nothing in common,
-/// if it does not match the configuration. If it matches, it proves what the variables equal.
+/// if it does not match the configuration. If it matches, it proves what the variables equal. It
+/// takes the left side with the names of its parts.
 pub(crate) fn about_left_side(
     alloc: Global,
     cx: &mut Cx<'_>,
@@ -38,10 +40,42 @@ pub(crate) fn about_left_side(
 {
     let program = cx.program();
     let rule = rule_of(program, number);
+    if !rule.named.is_empty() {
+        return about_named_side(alloc, cx, number, config);
+    }
     let sorts = variable_sorts(alloc, &rule.vars)?;
     match found(alloc, &program.sig.subsorts, rule, config)? {
         None => mismatch(alloc, cx, &sorts, &rule.left, config),
         Some(subst) => inversion(alloc, cx, &sorts, &rule.left, &subst, config),
+    }
+}
+
+// The same, by the calls for left sides some of whose parts have names.
+fn about_named_side(
+    alloc: Global,
+    cx: &mut Cx<'_>,
+    number: usize,
+    config: &Term,
+) -> Result<Thm, AllocError>
+    requires well_sorted { IsWellSorted (theory_of cx.old.program) }
+    requires no_ac { IsAcFree cx.old.program.sig }
+    requires there { number < length (theory_of cx.old.program).rules }
+    requires config { IsConfiguration (theory_of cx.old.program) config.now }
+    ensures no_hypotheses { IfOk result (λ t. t.hypotheses ≡ []) }
+    ensures stays { IfOk result (StaysIn cx.new) }
+    ensures grown { HasGrown cx.old cx.new }
+{
+    // The height of the configuration is at most the greatest height.
+    let _high = config.height();
+    let program = cx.program();
+    let rule = rule_of(program, number);
+    let sorts = variable_sorts(alloc, &rule.vars)?;
+    match found(alloc, &program.sig.subsorts, rule, config)? {
+        None => mismatch_named(alloc, cx, &sorts, &rule.left, &rule.named, config),
+        Some(subst) => {
+            let subst = with_names(alloc, from_ref(&rule.left), &rule.named, subst)?;
+            inversion_named(alloc, cx, &sorts, &rule.left, &rule.named, &subst, config)
+        }
     }
 }
 
@@ -64,7 +98,8 @@ fn variable_sorts(alloc: Global, vars: &[VarInfo]) -> Result<Vec<SortId>, AllocE
     Ok(sorts)
 }
 
-// The substitution by which the left side of the rule matches the term, if one does.
+// The substitution by which the left side of the rule matches the term, if one does. It binds no
+// names of parts.
 fn found(
     alloc: Global,
     subsorts: &Subsorts,
