@@ -1,6 +1,6 @@
 -- Two signatures that agree give each symbol the same kind under the same axioms, and it has one
 -- kind only.
-use Rattle.std.proofs.Common.{◌≡◌, ℕ, zero, suc, List, [], ◌∷◌, Option, Some, None, refl, sym, ap}
+use Rattle.std.proofs.Common.{◌≡◌, ℕ, List, [], ◌∷◌, Option, Some, None, refl, sym, ap}
 use Rattle.std.proofs.Common.{◌∙◌, subst}
 use Rattle.std.specs.Prelude.{Contains, String, slice_get, option_map, string_bytes}
 use Rattle.std.specs.Global.{Global}
@@ -15,59 +15,14 @@ use Rattle.rule_core.specs.declared.signature.SymInfo.{SymInfo}
 use Rattle.rule_core.specs.declared.signature.SymKind.{SymKind}
 use Rattle.rule_core.specs.declared.signature.SymKind.TheVariants.{Equations, Hooked, Closed}
 use Rattle.kore_sig.specs.SignatureLaws.{IsSameSymbol, AreSameSignature}
-use Rattle.kore_equations.specs.EquationMeanings.{IsUnreadable}
+use Rattle.kore_rules.specs.EquationsAmong.{IsUnreadableAmong}
 use Rattle.kore_rules.specs.Programs.{HasFittingHook, HasKind, as_declared, hooked_kind}
 use Rattle.kore_rules.specs.Programs.{without_hook, by_unreadable, equations_kind}
-use Rattle.kore_rules.proofs.AlikeMeanings.{entries_replaced, unreadable_carried}
-use Rattle.kore_rules.proofs.AlikeSignatures.{IsAlike, Symbols, with_symbols}
+use Rattle.kore_rules.proofs.AlikeMeanings.{entries_replaced}
+use Rattle.kore_rules.proofs.AlikeLastResorts.{unreadable_carried}
+use Rattle.kore_rules.proofs.AlikeSignatures.{IsAlike, Symbols, with_symbols, all_back}
+use Rattle.kore_rules.proofs.AlikeSignatures.{signatures_back, entry_alike, alike_back}
 use Rattle.kore_rules.proofs.HookLaws.{own_number}
-
--- ---- entries
-
-pub same_back : (e f : List ℕ × SymInfo) → IsSameSymbol e f → IsSameSymbol f e
-same_back e f h = record {
-  name = sym h.name;
-  kind = sym h.kind;
-  params = sym h.params;
-  args = sym h.args;
-  result = sym h.result;
-  hook = sym h.hook;
-  ac = sym h.ac;
-}
-
-all_back : (xs ys : Symbols) → AllZip IsSameSymbol xs ys → AllZip IsSameSymbol ys xs
-all_back [] [] same = tt
-all_back [] (y ∷ ys) same = absurd same
-all_back (x ∷ xs) [] same = absurd same
-all_back (x ∷ xs) (y ∷ ys) same = (same_back x y same.0, all_back xs ys same.1)
-
-pub signatures_back : (u v : Signature) → AreSameSignature u v → AreSameSignature v u
-signatures_back u v same = record {
-  sorts = sym same.sorts;
-  symbols = all_back u.symbols v.symbols same.symbols;
-  subsorts = sym same.subsorts;
-}
-
--- the entry at the same place is the same symbol
-pub entry_alike : (xs ys : Symbols) (n : ℕ) (e : List ℕ × SymInfo) → AllZip IsSameSymbol xs ys
-    → slice_get xs n ≡ Some e
-    → (f : List ℕ × SymInfo) × (slice_get ys n ≡ Some f) × IsSameSymbol e f
-entry_alike [] ys n e same there = absurd (let never : ⊥ = cc in never)
-entry_alike (x ∷ xs) [] n e same there = absurd same
-entry_alike (x ∷ xs) (y ∷ ys) zero e same there =
-    let is : x ≡ e = cc in
-    (y, refl, subst (λ (d : List ℕ × SymInfo). IsSameSymbol d y) is same.0)
-entry_alike (x ∷ xs) (y ∷ ys) (suc n) e same there = entry_alike xs ys n e same.1 there
-
-alike_back : (a b : SymInfo) → IsAlike a b → IsAlike b a
-alike_back a b h = record {
-  kind = sym h.kind;
-  params = sym h.params;
-  args = sym h.args;
-  result = sym h.result;
-  hook = sym h.hook;
-  ac = sym h.ac;
-}
 
 -- ---- hooks
 
@@ -149,10 +104,10 @@ kind_carried u v same axioms f info other h (without_hook {name = name} kind hoo
     (alike_back info other h) name row fits))
 kind_carried u v same axioms f info other h (by_unreadable {a = a} kind none there bad) =
     by_unreadable (sym h.kind ∙ kind) (hook_none info other h none) there
-    (unreadable_carried u v same f a bad)
+    (unreadable_carried u v same axioms f a bad)
 kind_carried u v same axioms f info other h (equations_kind kind none good) =
     equations_kind (sym h.kind ∙ kind) (hook_none info other h none)
-    (λ a there bad. good a there (unreadable_carried v u (signatures_back u v same) f a bad))
+    (λ a there bad. good a there (unreadable_carried v u (signatures_back u v same) axioms f a bad))
 
 some_same : {A : Type 0} (x y : A) → Some x ≡ Some y → x ≡ y
 some_same x y e = cc
@@ -211,7 +166,7 @@ module _ (sig : Signature) (axioms : List AxiomDeclaration) (f : List ℕ) (info
       absurd (some_none info hook without)
 
   unread_one : (a : AxiomDeclaration) → info.kind ≡ Equations → info.hook ≡ None
-      → Contains axioms a → IsUnreadable sig f a → {k : SymKind} → HasKind sig axioms f info k
+      → Contains axioms a → IsUnreadableAmong sig axioms f a → {k : SymKind} → HasKind sig axioms f info k
       → Closed ≡ k
   unread_one a kind none there bad (as_declared differs) = absurd (differs kind)
   unread_one a kind none there bad (hooked_kind also hook fits) =
@@ -221,7 +176,7 @@ module _ (sig : Signature) (axioms : List AxiomDeclaration) (f : List ℕ) (info
   unread_one a kind none there bad (equations_kind also without good) = absurd (good a there bad)
 
   equations_one : info.kind ≡ Equations → info.hook ≡ None
-      → ((a : AxiomDeclaration) → Contains axioms a → IsUnreadable sig f a → ⊥) → {k : SymKind}
+      → ((a : AxiomDeclaration) → Contains axioms a → IsUnreadableAmong sig axioms f a → ⊥) → {k : SymKind}
       → HasKind sig axioms f info k → Equations ≡ k
   equations_one kind none good (as_declared differs) = absurd (differs kind)
   equations_one kind none good (hooked_kind also hook fits) =

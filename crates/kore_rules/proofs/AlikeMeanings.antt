@@ -1,6 +1,6 @@
 -- Two signatures that agree give patterns, rules and equations the same meanings.
 use Rattle.std.proofs.Common.{◌≡◌, ℕ, List, [], ◌∷◌, ◌++◌, Option, Some, None, refl, sym, ap, ◌∙◌, ◌+◌}
-use Rattle.std.proofs.Common.{subst, length}
+use Rattle.std.proofs.Common.{subst, length, map}
 use Rattle.std.specs.Prelude.{◌==◌, ◌&&◌, ◌||◌, not, nat_le}
 use Rattle.std.specs.List.{AllZip}
 use Rattle.kore_text.specs.Trees.{SortTree, sort_parameter, sort_applied, PatternTree}
@@ -35,10 +35,13 @@ use Rattle.kore_axioms.specs.RuleFaults.{is_empty, faults_at_sort, is_bound}
 use Rattle.kore_axioms.specs.RuleParts.{rule_parts}
 use Rattle.kore_axioms.specs.Uses.{have_symbol}
 use Rattle.kore_equations.specs.EquationMeanings.{StatesEquation, MeansParts, MeansEquation}
-use Rattle.kore_equations.specs.EquationMeanings.{IsUnreadable}
+use Rattle.kore_axioms.specs.AxiomClasses.{axiom_class}
+use Rattle.kore_shapes.specs.LastResorts.{GuardParts}
+use Rattle.kore_equations.specs.Guards.{condition_of_guard, QuantifyEach, Repeats}
 use Rattle.kore_equations.specs.ReadableSides.{all_read, are_sorted, have_good_uses, AreReadable}
 use Rattle.kore_equations.specs.ReadableSides.{is_readable_right}
-use Rattle.kore_equations.specs.ReadableEquations.{IsReadable, condition_of_equation}
+use Rattle.kore_equations.specs.ReadableEquations.{HasReadableParts, IsReadable}
+use Rattle.kore_equations.specs.ReadableEquations.{condition_of_equation}
 use Rattle.kore_equations.specs.ReadableEquations.{is_sort_over, fits_function, is_one_sort}
 use Rattle.kore_rules.proofs.AlikeSignatures.{IsAlike, AreAlike, Symbols, info_at, info_alike}
 use Rattle.kore_rules.proofs.AlikeSignatures.{position_alike, with_symbols, symbol_alike}
@@ -218,38 +221,20 @@ module _ (s : Signature) (xs : Symbols) (same : AllZip IsSameSymbol s.symbols xs
       good_uses = sym (uses_alike ps c) ∙ r.good_uses;
     }
 
-    sides_back : (ps : List PatternTree) (c : Condition) → AreReadable t other ps c
-        → AreReadable s info ps c
-    sides_back ps c r = record {
-      good_form = r.good_form;
-      sorted = sorted_alike ps c ∙ r.sorted;
-      good_uses = uses_alike ps c ∙ r.good_uses;
+    parts_readable : HasReadableParts s a info e q → HasReadableParts t a other e q
+    parts_readable r = record {
+      function = sym fits_alike ∙ r.function;
+      priority = r.priority;
+      parameters = sym (arguments_same (all_read q.parameters)) ∙ r.parameters;
+      sides = sides_alike q.patterns (condition_of_equation s e q) r.sides;
+      right = sym (right_alike q.patterns q.right) ∙ r.right;
     }
 
     readable_alike : IsReadable s a info e q → IsReadable t a other e q
     readable_alike r = record {
       no_last_resort = r.no_last_resort;
       form = r.form;
-      parts = record {
-        function = sym fits_alike ∙ r.parts.function;
-        priority = r.parts.priority;
-        parameters = sym (arguments_same (all_read q.parameters)) ∙ r.parts.parameters;
-        sides = sides_alike q.patterns (condition_of_equation s e q) r.parts.sides;
-        right = sym (right_alike q.patterns q.right) ∙ r.parts.right;
-      };
-    }
-
-    readable_back : IsReadable t a other e q → IsReadable s a info e q
-    readable_back r = record {
-      no_last_resort = r.no_last_resort;
-      form = r.form;
-      parts = record {
-        function = fits_alike ∙ r.parts.function;
-        priority = r.parts.priority;
-        parameters = arguments_same (all_read q.parameters) ∙ r.parts.parameters;
-        sides = sides_back q.patterns (condition_of_equation s e q) r.parts.sides;
-        right = right_alike q.patterns q.right ∙ r.parts.right;
-      };
+      parts = parts_readable r.parts;
     }
 
   declared_alike : (f : List ℕ) (info : SymInfo) → symbol_named s f ≡ Some info
@@ -297,17 +282,30 @@ module _ (s : Signature) (xs : Symbols) (same : AllZip IsSameSymbol s.symbols xs
         last_resort = r.last_resort;
       }
 
-  unreadable_alike : (f : List ℕ) (a : AxiomDeclaration) → IsUnreadable s f a → IsUnreadable t f a
-  unreadable_alike f a r =
-      let other : (other : SymInfo) × (symbol_named t f ≡ Some other) × IsAlike r.info other =
-      declared_alike f r.info r.states.declared in
-      record {
-        stated = r.stated;
-        info = other.0;
-        states = states_alike f a r.stated r.info other.0 other.1 r.states;
-        unreadable =
-            λ parts is.
-            r.unreadable parts (readable_back a r.info other.0 r.stated parts other.2 is);
+  -- ---- equations of the last resort
+
+  quantify_alike : (vars : List (List ℕ × ℕ)) (ps : List PatternTree) (order : List ℕ)
+      → QuantifyEach s vars ps order → QuantifyEach t vars ps order
+  quantify_alike vars ps order q = record {
+    numbers =
+        sym (λ i. map (λ (x : PatternTree). number_alike vars (unfolded x) i) ps) ∙ q.numbers;
+    different = q.different;
+    count = q.count;
+  }
+
+  repeats_alike : (a : AxiomDeclaration) (info other : SymInfo) (d : StatedEquation)
+      (q : EquationParts) (g : GuardParts) (x : Equation) (order : List ℕ) → IsAlike info other
+      → Repeats s info d.over g x order → Repeats t other d.over g x order
+  repeats_alike a info other d q g x order h r =
+      let c : Condition = condition_of_guard s d.over g in record {
+        readable = sides_alike a info other d q h g.patterns c r.readable;
+        variables = r.variables;
+        numbered = r.numbered ∙ all_variables_alike [] (all_read g.patterns);
+        sorts = r.sorts;
+        means_arguments = all_mean_alike r.means_arguments;
+        names = r.names ∙ all_names_alike r.variables [] 0 (all_read g.patterns);
+        means_condition = test_alike r.variables (tested_pattern c) x.condition r.means_condition;
+        quantified = quantify_alike r.variables g.variables order r.quantified;
       }
 
 -- ---- two signatures that agree
@@ -332,8 +330,39 @@ equation_carried u v same f a x h =
     subst (λ (sig : Signature). MeansEquation sig f a x) (entries_replaced u v same)
     (equation_alike u v.symbols same.symbols f a x h)
 
-pub unreadable_carried : (u v : Signature) → AreSameSignature u v → (f : List ℕ)
-    (a : AxiomDeclaration) → IsUnreadable u f a → IsUnreadable v f a
-unreadable_carried u v same f a h =
-    subst (λ (sig : Signature). IsUnreadable sig f a) (entries_replaced u v same)
-    (unreadable_alike u v.symbols same.symbols f a h)
+pub states_carried : (u v : Signature) → AreSameSignature u v → (f : List ℕ)
+    (a : AxiomDeclaration) (e : StatedEquation) (info : SymInfo) → StatesEquation u f a e info
+    → (other : SymInfo) × IsAlike info other × StatesEquation v f a e other
+states_carried u v same f a e info h =
+    subst (λ (sig : Signature). (other : SymInfo) × IsAlike info other
+    × StatesEquation sig f a e other) (entries_replaced u v same)
+    (let other = declared_alike u v.symbols same.symbols f info h.declared in
+    (other.0, other.2, states_alike u v.symbols same.symbols f a e info other.0 other.1 h))
+
+pub parts_carried : (u v : Signature) → AreSameSignature u v → (a : AxiomDeclaration)
+    (info other : SymInfo) (e : StatedEquation) (q : EquationParts) → IsAlike info other
+    → HasReadableParts u a info e q → HasReadableParts v a other e q
+parts_carried u v same a info other e q alike h =
+    subst (λ (sig : Signature). HasReadableParts sig a other e q) (entries_replaced u v same)
+    (parts_readable u v.symbols same.symbols a info other e q alike h)
+
+pub meaning_carried : (u v : Signature) → AreSameSignature u v → (a : AxiomDeclaration)
+    (e : StatedEquation) (q : EquationParts) (x : Equation) → MeansParts u a e q x
+    → MeansParts v a e q x
+meaning_carried u v same a e q x h =
+    subst (λ (sig : Signature). MeansParts sig a e q x) (entries_replaced u v same)
+    (parts_alike u v.symbols same.symbols a e q x h)
+
+pub repeats_carried : (u v : Signature) → AreSameSignature u v → (a : AxiomDeclaration)
+    (info other : SymInfo) (d : StatedEquation) (q : EquationParts) (g : GuardParts) (x : Equation)
+    (order : List ℕ) → IsAlike info other → Repeats u info d.over g x order
+    → Repeats v other d.over g x order
+repeats_carried u v same a info other d q g x order alike h =
+    subst (λ (sig : Signature). Repeats sig other d.over g x order) (entries_replaced u v same)
+    (repeats_alike u v.symbols same.symbols a info other d q g x order alike h)
+
+pub class_carried : (u v : Signature) → AreSameSignature u v → (a : AxiomDeclaration)
+    → axiom_class u a ≡ axiom_class v a
+class_carried u v same a =
+    class_alike u v.symbols same.symbols a
+    ∙ ap (λ (sig : Signature). axiom_class sig a) (entries_replaced u v same)

@@ -402,3 +402,50 @@ axioms_alike s t same axioms r h =
     λ i. record { sorts = same.sorts i; symbols = t.symbols; subsorts = same.subsorts i } in
     subst (λ (sig : Signature). FirstOfAxioms sig axioms r) moved
     (in_order s t.symbols same.symbols axioms r h)
+
+-- ---- entries
+
+pub same_back : (e f : List ℕ × SymInfo) → IsSameSymbol e f → IsSameSymbol f e
+same_back e f h = record {
+  name = sym h.name;
+  kind = sym h.kind;
+  params = sym h.params;
+  args = sym h.args;
+  result = sym h.result;
+  hook = sym h.hook;
+  ac = sym h.ac;
+}
+
+pub all_back : (xs ys : Symbols) → AllZip IsSameSymbol xs ys → AllZip IsSameSymbol ys xs
+all_back [] [] same = tt
+all_back [] (y ∷ ys) same = absurd same
+all_back (x ∷ xs) [] same = absurd same
+all_back (x ∷ xs) (y ∷ ys) same = (same_back x y same.0, all_back xs ys same.1)
+
+pub signatures_back : (u v : Signature) → AreSameSignature u v → AreSameSignature v u
+signatures_back u v same = record {
+  sorts = sym same.sorts;
+  symbols = all_back u.symbols v.symbols same.symbols;
+  subsorts = sym same.subsorts;
+}
+
+-- the entry at the same place is the same symbol
+pub entry_alike : (xs ys : Symbols) (n : ℕ) (e : List ℕ × SymInfo) → AllZip IsSameSymbol xs ys
+    → slice_get xs n ≡ Some e
+    → (f : List ℕ × SymInfo) × (slice_get ys n ≡ Some f) × IsSameSymbol e f
+entry_alike [] ys n e same there = absurd (let never : ⊥ = cc in never)
+entry_alike (x ∷ xs) [] n e same there = absurd same
+entry_alike (x ∷ xs) (y ∷ ys) zero e same there =
+    let is : x ≡ e = cc in
+    (y, refl, subst (λ (d : List ℕ × SymInfo). IsSameSymbol d y) is same.0)
+entry_alike (x ∷ xs) (y ∷ ys) (suc n) e same there = entry_alike xs ys n e same.1 there
+
+pub alike_back : (a b : SymInfo) → IsAlike a b → IsAlike b a
+alike_back a b h = record {
+  kind = sym h.kind;
+  params = sym h.params;
+  args = sym h.args;
+  result = sym h.result;
+  hook = sym h.hook;
+  ac = sym h.ac;
+}

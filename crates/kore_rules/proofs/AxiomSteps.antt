@@ -1,8 +1,8 @@
 -- What is read of some axioms and of one more.
-use Rattle.std.proofs.Common.{◌≡◌, ◌≤◌, ℕ, suc, ◌+◌, Bool, true, false, cond, List, [], ◌∷◌, ◌++◌}
-use Rattle.std.proofs.Common.{length, Contains, refl, sym, ap, ◌∙◌, subst, arith, ◌⊎◌, inl, inr}
+use Rattle.std.proofs.Common.{◌≡◌, ◌≤◌, ℕ, ◌+◌, Bool, true, false, cond, List, [], ◌∷◌, ◌++◌}
+use Rattle.std.proofs.Common.{Contains, sym, ap, subst, arith, ◌⊎◌, inl, inr}
 use Rattle.std.proofs.Common.{length-append}
-use Rattle.std.specs.Prelude.{count_by, ◌==◌, ◌↔◌}
+use Rattle.std.specs.Prelude.{count_by, ◌==◌}
 use Rattle.std.proofs.lemmas.List.Elements.{Contains-append_left, Contains-push}
 use Rattle.std.proofs.lemmas.List.Elements.{Contains-push_cases}
 use Rattle.std.proofs.lemmas.List.Sums.{sum_by_push}
@@ -96,3 +96,31 @@ of_more {X} Is axioms xs a x is before = λ y has. elim (Contains-push_cases xs 
 pub of_same : {X : Type 0} (Is : AxiomDeclaration → X → Type 0) (axioms : List AxiomDeclaration)
     (xs : List X) (a : AxiomDeclaration) → AreOf Is axioms xs → AreOf Is (axioms ++ a ∷ []) xs
 of_same {X} Is axioms xs a before = λ y has. some_more (λ b. Is b y) axioms a (before y has)
+
+-- ---- how many axioms pass a test
+
+pub within_same : (test : AxiomDeclaration → Bool) (axioms : List AxiomDeclaration)
+    (a : AxiomDeclaration) (n : ℕ) → n ≤ count_by test axioms
+    → n ≤ count_by test (axioms ++ a ∷ [])
+within_same test axioms a n le = let m = count_push test axioms a in omega (arith, le, m)
+
+pub within_more : (test : AxiomDeclaration → Bool) (axioms : List AxiomDeclaration)
+    (a : AxiomDeclaration) (n : ℕ) → test a ≡ true → n ≤ count_by test axioms
+    → n + 1 ≤ count_by test (axioms ++ a ∷ [])
+within_more test axioms a n is le =
+    let m = count_push test axioms a in
+    let one : one_if (test a) ≡ 1 = ap one_if is in omega (arith, le, m, one)
+
+pub count_more : (test : AxiomDeclaration → Bool) (axioms : List AxiomDeclaration)
+    (a : AxiomDeclaration) → test a ≡ true
+    → count_by test (axioms ++ a ∷ []) ≡ count_by test axioms + 1
+count_more test axioms a is =
+    let m = count_push test axioms a in
+    let one : one_if (test a) ≡ 1 = ap one_if is in omega (arith, m, one)
+
+pub count_same : (test : AxiomDeclaration → Bool) (axioms : List AxiomDeclaration)
+    (a : AxiomDeclaration) → test a ≡ false
+    → count_by test (axioms ++ a ∷ []) ≡ count_by test axioms
+count_same test axioms a isnt =
+    let m = count_push test axioms a in
+    let none : one_if (test a) ≡ 0 = ap one_if isnt in omega (arith, m, none)

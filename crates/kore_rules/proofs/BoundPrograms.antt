@@ -2,15 +2,17 @@
 use Rattle.std.proofs.Common.{◌≡◌, ◌<◌, ◌≤◌, ℕ, ◌+◌, ◌*◌, List, [], ◌∷◌, map, length}
 use Rattle.std.proofs.Common.{slice_get, Contains, Option, Some, None, ◌⊎◌, ⊎_elim, inl, inr, refl}
 use Rattle.std.proofs.Common.{sym, ap, ◌∙◌, subst, arith}
-use Rattle.std.specs.Prelude.{Vec}
+use Rattle.std.specs.Prelude.{Vec, IfSome, take, option_map}
 use Rattle.std.specs.Global.{Global}
-use Rattle.std.proofs.lemmas.Option.{slice_get_within}
+use Rattle.std.proofs.lemmas.Option.{slice_get_within, slice_get-map}
 use Rattle.kore_text.specs.Trees.{AxiomDeclaration}
 use Rattle.term_core.specs.Patterns.{Patterns, no_pattern, more_patterns}
 use Rattle.term_core.specs.PatternLists.{plain_patterns}
 use Rattle.term_core.specs.RulePatterns.{plain_pattern}
 use Rattle.term_core.specs.declared.rule_patterns.RulePat.{RulePat}
 use Rattle.rule_core.specs.BoundVariables.{IsBoundRule, IsBoundEquation, HasBoundVariables}
+use Rattle.rule_core.specs.BoundVariables.{IsEquationAt}
+use Rattle.rule_core.specs.Guards.{AreGuards}
 use Rattle.rule_core.specs.Matching.{OccursIn, OccursInSome}
 use Rattle.rule_core.specs.NamedParts.{Name, IsNamed}
 use Rattle.rule_core.specs.ProgramView.{rewrite_rule, function_equation, theory_of}
@@ -22,6 +24,8 @@ use Rattle.rule_core.specs.declared.rules.Rule.{Rule}
 use Rattle.rule_core.specs.declared.rules.VarInfo.{VarInfo}
 use Rattle.rule_core.specs.declared.signature.Signature.{Signature}
 use Rattle.rule_core.specs.declared.signature.SymInfo.{SymInfo}
+use Rattle.rule_core.specs.declared.signature.SymKind.{SymKind}
+use Rattle.rule_core.specs.declared.signature.SymKind.TheVariants.{Equations}
 use Rattle.kore_check.specs.Folds.{Unfoldeds, unfolded, count}
 use Rattle.kore_check.specs.PatternMeanings.{with_variables, with_all_variables, AllMean, none_mean}
 use Rattle.kore_check.specs.PatternMeanings.{more_mean}
@@ -29,18 +33,24 @@ use Rattle.kore_check.proofs.BuildLaws.{some_there}
 use Rattle.kore_shapes.specs.Shapes.{side, heads_condition}
 use Rattle.kore_axioms.specs.AxiomMeanings.{MeansRule}
 use Rattle.kore_axioms.proofs.RuleLaws.{class_rewrites}
-use Rattle.kore_equations.specs.EquationMeanings.{MeansEquation}
+use Rattle.kore_shapes.specs.Statements.{StatedEquation}
+use Rattle.kore_shapes.specs.EquationForms.{EquationParts}
+use Rattle.kore_equations.specs.EquationMeanings.{MeansParts}
 use Rattle.kore_equations.specs.ReadableSides.{all_read}
 use Rattle.kore_equations.proofs.ClassLaws.{class_equates}
 use Rattle.kore_rules.specs.MadePrograms.{ListsOwnEquations}
-use Rattle.kore_rules.specs.Programs.{IsProgramUnder}
+use Rattle.kore_rules.specs.EquationsAmong.{IsEquationAmong}
+use Rattle.kore_rules.specs.Programs.{AreEquationsOf, IsProgramUnder}
 use Rattle.kore_rules.proofs.EquationSorts.{count_read}
+use Rattle.kore_rules.proofs.GuardCounts.{resort_count}
+use Rattle.kore_rules.proofs.GuardPrograms.{bound_guards}
+use Rattle.kore_rules.proofs.KeptSorts.{kept}
 use Rattle.kore_rules.proofs.MeaningSorts.{each_occurs, each_occurs_in_some}
 use Rattle.kore_rules.proofs.ProgramLaws.{length_mapped, contains_map, contains_at, listed_view}
 use Rattle.kore_rules.proofs.ProgramLaws.{listed_there}
 use Rattle.kore_rules.proofs.VariableCounts.{variable_count, few_variables, all_few_variables}
 use Rattle.kore_rules.proofs.VariableCounts.{before_count, side_count, main_count, statement_count}
-use Rattle.kore_rules.proofs.VariableCounts.{parts_count}
+use Rattle.kore_rules.proofs.VariableCounts.{parts_count, ArePartsWithin}
 
 -- an axiom has fewer variables than half of 2^32
 abbrev HasFewVariables : AxiomDeclaration → Type 0
@@ -91,38 +101,59 @@ plain_number : (ps : List RulePat) → pattern_number (plain_patterns ps) ≡ le
 plain_number [] = refl
 plain_number (p ∷ ps) = ap (λ (n : ℕ). n + 1) (plain_number ps) ∙ omega arith
 
-bound_equation : (sig : Signature) (f : List ℕ) (a : AxiomDeclaration) (n : ℕ) (e : Equation)
-    → e.fun.0 ≡ n → MeansEquation sig f a (function_equation e) → HasFewVariables a
-    → IsBoundEquation n e
-bound_equation sig f a n e own is most =
-    let patterns = is.parts.patterns in
-    let parts =
-    parts_count (variable_count a.pattern) is.stated is.parts is.readable.form
-    (statement_count a.pattern is.stated (class_equates sig a is.stated is.states.class).stated) in
-    let long : length e.vars.items ≡ length is.means.variables =
-    sym (length_mapped (λ (v : VarInfo). v.sort.0) e.vars.items) ∙ ap length is.means.sorts
-    ∙ length_mapped (λ (v : List ℕ × ℕ). v.1) is.means.variables in
+bound_equation : (sig : Signature) (a : AxiomDeclaration) (stated : StatedEquation)
+    (q : EquationParts) (n : ℕ) (e : Equation) → e.fun.0 ≡ n
+    → MeansParts sig a stated q (function_equation e) → ArePartsWithin (variable_count a.pattern) q
+    → HasFewVariables a → IsBoundEquation n e
+bound_equation sig a stated q n e own m parts most =
+    let patterns = q.patterns in
+    let long : length e.vars.items ≡ length m.variables =
+    sym (length_mapped (λ (v : VarInfo). v.sort.0) e.vars.items) ∙ ap length m.sorts
+    ∙ length_mapped (λ (v : List ℕ × ℕ). v.1) m.variables in
     let many : length patterns ≡ length e.args.items =
-    sym (count_read patterns) ∙ as_many sig is.means.variables is.means.means_arguments
+    sym (count_read patterns) ∙ as_many sig m.variables m.means_arguments
     ∙ plain_number e.args.items in
     let counted = all_few_variables sig patterns in
-    let numbered : length is.means.variables ≡ length (with_all_variables sig [] (all_read patterns)) =
-    ap length is.means.numbered in
+    let numbered : length m.variables ≡ length (with_all_variables sig [] (all_read patterns)) =
+    ap length m.numbered in
     let least = parts.patterns in
     let given = parts.parameters in
-    let parameters = is.means.parameters in
+    let parameters = m.parameters in
     record {
       own = own;
       parameters =
-          ⊎_elim (λ none. inl (is.means.parameters ∙ none)) (λ one. inr (is.means.parameters ∙ one ∙ many))
+          ⊎_elim (λ none. inl (m.parameters ∙ none)) (λ one. inr (m.parameters ∙ one ∙ many))
           parts.form;
       few = omega (arith, long, counted, numbered, least, given, parameters, most);
       each =
           λ x lt. subst
           (λ (ns : List Name). OccursInSome x (plain_patterns e.args.items) ⊎ IsNamed ns x)
-          (sym is.means.names) (each_occurs_in_some sig is.means.variables (all_read patterns)
-          (plain_patterns e.args.items) is.means.numbered is.means.means_arguments x (omega (arith, lt, long)));
+          (sym m.names) (each_occurs_in_some sig m.variables (all_read patterns)
+          (plain_patterns e.args.items) m.numbered m.means_arguments x (omega (arith, lt, long)));
     }
+
+-- an equation among the axioms has few parts
+bound_among : (sig : Signature) (axioms : List AxiomDeclaration) (f : List ℕ)
+    (a : AxiomDeclaration) (n : ℕ) (e : Equation) → e.fun.0 ≡ n
+    → IsEquationAmong sig axioms f a (function_equation e) → HasFewVariables a
+    → IsBoundEquation n e
+bound_among sig axioms f a n e own (inl is) most =
+    bound_equation sig a is.stated is.parts n e own is.means
+    (parts_count (variable_count a.pattern) is.stated is.parts is.readable.form
+    (statement_count a.pattern is.stated (class_equates sig a is.stated is.states.class).stated))
+    most
+bound_among sig axioms f a n e own (inr last) most =
+    let is = last.means in
+    let within =
+    resort_count (variable_count a.pattern) is.stated is.parts is.readable.form
+    (statement_count a.pattern is.stated (class_equates sig a is.stated is.states.class).stated) in
+    let whole = within.whole in
+    bound_equation sig a is.stated is.parts.equation n e own is.means
+    (record {
+      patterns = omega (arith, whole);
+      parameters = within.parameters;
+      form = inr within.each;
+    }) most
 
 -- ---- the program
 
@@ -131,6 +162,69 @@ symbol_there : (symbols : List (List ℕ × SymInfo)) (f : ℕ) (o : Option (Lis
     → (s : List ℕ × SymInfo) × (slice_get symbols f ≡ Some s)
 symbol_there symbols f None is lt = absurd (some_there symbols f lt is)
 symbol_there symbols f (Some s) is lt = (s, is)
+
+-- an equation of a program, and which axiom it is
+record IsOfAxiom (declared : Signature) (axioms : List AxiomDeclaration) (p : Program) (f i : ℕ)
+    (e : Equation) : Type 0 where
+  pub name : List ℕ
+  pub kind : SymKind
+  pub all : AreEquationsOf declared axioms name kind (equations_of (theory_of p) f)
+  pub is : kind ≡ Equations
+  pub place : slice_get (equations_of (theory_of p) f) i ≡ Some (function_equation e)
+  pub axiom_of : AxiomDeclaration
+  pub there : Contains axioms axiom_of
+  pub among : IsEquationAmong declared axioms name axiom_of (function_equation e)
+
+of_axiom : (declared : Signature) (axioms : List AxiomDeclaration) (p : Program)
+    → IsProgramUnder declared axioms (theory_of p) → (f i : ℕ) (e : Equation)
+    → IsEquationAt p f i e → IsOfAxiom declared axioms p f i e
+of_axiom declared axioms p program f i e at =
+    let es = at.0 in
+    let within = slice_get_within p.equations.items f es at.1 in
+    let lists =
+    length_mapped (λ (v : Vec Equation Global). map function_equation v.items)
+    p.equations.items in
+    let listed = program.listed in
+    let symbol =
+    symbol_there p.sig.symbols f (slice_get p.sig.symbols f) refl
+    (omega (arith, within, lists, listed)) in
+    let view : equations_of (theory_of p) f ≡ map function_equation es.items =
+    listed_view p.equations.items f
+    ∙ ap (map function_equation) (listed_there p.equations.items f es at.1) in
+    let place : slice_get (equations_of (theory_of p) f) i ≡ Some (function_equation e) =
+    ap (λ (xs : List plain.Equation). slice_get xs i) view
+    ∙ slice_get-map function_equation es.items i
+    ∙ ap (option_map function_equation) at.2 in
+    let all = program.equations f symbol.0.0 symbol.0.1 symbol.1 in
+    let is =
+    (all.just (function_equation e)).0
+    (contains_at (equations_of (theory_of p) f) i (function_equation e) place) in
+    record {
+      name = symbol.0.0;
+      kind = symbol.0.1.kind;
+      all = all;
+      is = is.0;
+      place = place;
+      axiom_of = is.1.0;
+      there = is.1.1;
+      among = is.1.2;
+    }
+
+-- its guards, if it has some
+guards_of : (declared : Signature) (axioms : List AxiomDeclaration) (p : Program)
+    → IsProgramUnder declared axioms (theory_of p) → (f i : ℕ) (e : Equation)
+    → (of : IsOfAxiom declared axioms p f i e) → HasFewVariables of.axiom_of
+    → IsEquationAmong declared axioms of.name of.axiom_of (function_equation e)
+    → IfSome (function_equation e).last_resort
+    (AreGuards p.sig (take i (equations_of (theory_of p) f)) (function_equation e))
+guards_of declared axioms p program f i e of few (inl is) =
+    subst (λ (o : Option (List plain.Guard)). IfSome o
+    (AreGuards p.sig (take i (equations_of (theory_of p) f)) (function_equation e)))
+    (sym is.last_resort) tt
+guards_of declared axioms p program f i e of few (inr last) =
+    bound_guards declared p.sig axioms of.name of.kind (equations_of (theory_of p) f) of.axiom_of
+    (function_equation e) i (kept declared axioms (theory_of p) program) of.all of.is of.there last
+    of.place few
 
 pub bound_program : (declared : Signature) (axioms : List AxiomDeclaration) (p : Program)
     → IsProgramUnder declared axioms (theory_of p) → ListsOwnEquations p
@@ -142,23 +236,10 @@ bound_program declared axioms p program own few = record {
       (contains_map rewrite_rule p.rules.items r (contains_at p.rules.items i r at)) in
       bound_rule declared of.0 r of.2 (few of.0 of.1);
   equations = λ f i e at.
-      let es = at.0 in
-      let within = slice_get_within p.equations.items f es at.1 in
-      let lists =
-      length_mapped (λ (v : Vec Equation Global). map function_equation v.items)
-      p.equations.items in
-      let listed = program.listed in
-      let symbol =
-      symbol_there p.sig.symbols f (slice_get p.sig.symbols f) refl
-      (omega (arith, within, lists, listed)) in
-      let view : equations_of (theory_of p) f ≡ map function_equation es.items =
-      listed_view p.equations.items f
-      ∙ ap (map function_equation) (listed_there p.equations.items f es at.1) in
-      let inside =
-      subst (λ (xs : List plain.Equation). Contains xs (function_equation e)) (sym view)
-      (contains_map function_equation es.items e (contains_at es.items i e at.2)) in
-      let is =
-      ((program.equations f symbol.0.0 symbol.0.1 symbol.1).just (function_equation e)).0
-      inside in
-      bound_equation declared symbol.0.0 is.1.0 f e (own f i e at) is.1.2 (few is.1.0 is.1.1);
+      let of = of_axiom declared axioms p program f i e at in
+      bound_among declared axioms of.name of.axiom_of f e (own f i e at) of.among
+      (few of.axiom_of of.there);
+  guards = λ f i e at.
+      let of = of_axiom declared axioms p program f i e at in
+      guards_of declared axioms p program f i e of (few of.axiom_of of.there) of.among;
 }

@@ -1,7 +1,7 @@
 -- Hooks by name, and the kinds of functions.
-use Rattle.std.proofs.Common.{◌≡◌, ◌<◌, ℕ, ◌+◌, Bool, true, false, List, [], map, length, get_or}
+use Rattle.std.proofs.Common.{◌≡◌, ◌<◌, ℕ, Bool, true, false, List, [], length, get_or}
 use Rattle.std.proofs.Common.{Contains, Option, Some, None, refl, sym, ap, ◌∙◌, subst, arith}
-use Rattle.std.specs.Prelude.{◌↔◌, IsTrue, String, slice_get, option_map, string_bytes, is_none}
+use Rattle.std.specs.Prelude.{◌↔◌, IsTrue, String, slice_get, option_map, string_bytes}
 use Rattle.std.specs.Global.{Global}
 use Rattle.std.specs.List.{range_with_len}
 use Rattle.std.specs.Str.{bytes_eq}
@@ -22,11 +22,11 @@ use Rattle.rule_core.specs.declared.signature.SymKind.{SymKind}
 use Rattle.rule_core.specs.declared.signature.SymKind.TheVariants.{Injection, Ctor, Equations}
 use Rattle.rule_core.specs.declared.signature.SymKind.TheVariants.{Hooked, Closed, NoKind}
 use Rattle.rule_core.specs.KindTests.{is_defined_kind}
-use Rattle.kore_equations.specs.EquationMeanings.{IsUnreadable}
+use Rattle.kore_rules.specs.EquationsAmong.{IsUnreadableAmong}
 use Rattle.kore_rules.specs.Programs.{HasFittingHook, HasKind, as_declared, hooked_kind}
 use Rattle.kore_rules.specs.Programs.{without_hook, by_unreadable, equations_kind}
 use Rattle.kore_rules.specs.ScalarSorts.{MarksTerms, fits_row, kind_in_row, kind_of_number}
-use Rattle.kore_rules.specs.ScalarSorts.{kind_by_hook, kind_of_function, final_kind, hook_row}
+use Rattle.kore_rules.specs.ScalarSorts.{kind_of_function, final_kind, hook_row}
 use Rattle.kore_rules.proofs.KindLaws.{HasPairs, fits_true, fits_from}
 
 some_same : {A : Type 0} (x y : A) → Some x ≡ Some y → x ≡ y
@@ -75,7 +75,8 @@ no_such_hook sig info name none row (h, there, named, fits) =
 -- ---- kinds
 
 abbrev pub Unreadables : Signature → List AxiomDeclaration → List ℕ → Type 0
-Unreadables sig axioms f = (a : AxiomDeclaration) × Contains axioms a × IsUnreadable sig f a
+Unreadables sig axioms f =
+    (a : AxiomDeclaration) × Contains axioms a × IsUnreadableAmong sig axioms f a
 
 by_fits : (sig : Signature) (axioms : List AxiomDeclaration) (marks : List Bool)
     → HasPairs sig axioms → MarksTerms sig axioms marks

@@ -1,11 +1,10 @@
 -- What symbols are used for, from the marked sorts and the equations that are not readable.
-use Rattle.std.proofs.Common.{◌≡◌, ◌<◌, ℕ, zero, suc, ◌+◌, Bool, true, false, List, [], ◌∷◌, ◌++◌}
-use Rattle.std.proofs.Common.{map, length, get_or, Contains, Option, Some, None, refl, sym, ap, ◌∙◌}
-use Rattle.std.proofs.Common.{subst, arith, eq-eqb, ◌⊎◌, inl, inr}
-use Rattle.std.specs.Prelude.{◌||◌, ◌&&◌, ◌==◌, ◌↔◌, not, IsTrue, slice_get, option_map, flat_map}
-use Rattle.std.specs.Prelude.{filter_map, string_bytes}
+use Rattle.std.proofs.Common.{◌≡◌, ℕ, zero, suc, Bool, true, false, List, [], ◌∷◌}
+use Rattle.std.proofs.Common.{map, Contains, Option, Some, None, refl, sym, ap, ◌∙◌}
+use Rattle.std.proofs.Common.{subst, eq-eqb}
+use Rattle.std.specs.Prelude.{◌||◌, ◌&&◌, ◌==◌, not, slice_get, option_map, flat_map}
+use Rattle.std.specs.Prelude.{filter_map}
 use Rattle.std.specs.List.{list_any, cons_option, AllZip}
-use Rattle.std.specs.Option.{option_and_then}
 use Rattle.std.proofs.lemmas.Bool.{eqb-true, false≢true}
 use Rattle.std.proofs.lemmas.List.Folds.{list_any-append}
 use Rattle.std.proofs.lemmas.Option.{slice_get_within, get_or_from_slice_get, slice_get-get_or}
@@ -15,7 +14,7 @@ use Rattle.term_core.specs.HookSignatures.{signature}
 use Rattle.kore_text.specs.Trees.{SortTree, PatternTree, AxiomDeclaration}
 use Rattle.rule_core.specs.Subsorts.{IsBelow, by_pair, by_chain}
 use Rattle.rule_core.specs.Sorting.{IsSymbol}
-use Rattle.rule_core.specs.HookSorts.{IsOfKind, IsSortOf, RefersTo, ReferTo, FitsHook}
+use Rattle.rule_core.specs.HookSorts.{IsOfKind, RefersTo, ReferTo, FitsHook}
 use Rattle.rule_core.specs.declared.signature.Signature.{Signature}
 use Rattle.rule_core.specs.declared.signature.SortInfo.{SortInfo}
 use Rattle.rule_core.specs.declared.signature.SortKind.{SortKind}
@@ -39,7 +38,7 @@ use Rattle.kore_rules.specs.ScalarSorts.{refer_to, fits_row}
 
 -- ---- tests on lists
 
-abbrev Found : {X : Type 0} → (X → Bool) → List X → Type 0
+abbrev pub Found : {X : Type 0} → (X → Bool) → List X → Type 0
 Found {X} test xs = (i : ℕ) × (x : X) × (slice_get xs i ≡ Some x) × (test x ≡ true)
 
 found_by : {X : Type 0} (test : X → Bool) (x : X) (xs : List X) (t : Bool) → test x ≡ t
@@ -49,7 +48,7 @@ found_by test x xs true here e rest = (0, x, refl, here)
 found_by test x xs false here e rest =
     let found = rest e in (suc found.0, found.1, found.2, found.3)
 
-any_found : {X : Type 0} (test : X → Bool) (xs : List X) → list_any test xs ≡ true → Found test xs
+pub any_found : {X : Type 0} (test : X → Bool) (xs : List X) → list_any test xs ≡ true → Found test xs
 any_found test [] e = absurd (let never : ⊥ = cc in never)
 any_found test (x ∷ xs) e = found_by test x xs (test x) refl e (λ h. any_found test xs h)
 
@@ -57,7 +56,7 @@ or_right : (a b : Bool) → b ≡ true → (a || b) ≡ true
 or_right true b e = refl
 or_right false b e = e
 
-any_there : {X : Type 0} (test : X → Bool) (xs : List X) (i : ℕ) (x : X) → slice_get xs i ≡ Some x
+pub any_there : {X : Type 0} (test : X → Bool) (xs : List X) (i : ℕ) (x : X) → slice_get xs i ≡ Some x
     → test x ≡ true → list_any test xs ≡ true
 any_there test [] i x is e = absurd (let never : ⊥ = cc in never)
 any_there test (y ∷ ys) zero x is e = let same : y ≡ x = cc in rw (ap test same ∙ e) refl
@@ -90,7 +89,7 @@ not_true false e = refl
 
 -- ---- constructors of a sort
 
-constructor_from : (k : SymKind) → is_constructor_kind k ≡ true → k ≡ Ctor
+pub constructor_from : (k : SymKind) → is_constructor_kind k ≡ true → k ≡ Ctor
 constructor_from Injection e = absurd (false≢true e)
 constructor_from Ctor e = refl
 constructor_from Equations e = absurd (false≢true e)

@@ -1,9 +1,13 @@
 pub mod NotedSteps
 pub mod VariableCounts
+pub mod GuardCounts
 pub mod Places
 pub mod InTrialOrder
 pub mod AxiomSteps
 pub mod MeaningsAreOne
+pub mod AmongLaws
+pub mod LastResortReads
+pub mod AllListed
 pub mod MarkLaws
 pub mod ListedLaws
 pub mod ReadLaws
@@ -20,6 +24,7 @@ pub mod AcceptedLaws
 pub mod MeaningSorts
 pub mod NameCounts
 pub mod NameLaws
+pub mod GuardPrograms
 pub mod BoundPrograms
 pub mod KeptSorts
 pub mod RuleSorts
@@ -37,7 +42,9 @@ pub mod Exclusion
 pub mod FaultsFound
 pub mod MeaningsFound
 pub mod RulesFound
+pub mod Decisions
 pub mod ListsFound
+pub mod LastResortsFound
 pub mod HookTexts
 pub mod SignaturesFound
 pub mod ProgramsFound
@@ -45,5 +52,6 @@ pub mod SignatureFacts
 pub mod AcceptedPrograms
 pub mod OneOrder
 pub mod AlikeMeanings
+pub mod AlikeLastResorts
 pub mod AlikeKinds
 pub mod OneProgram

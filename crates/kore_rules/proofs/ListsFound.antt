@@ -5,13 +5,14 @@ use Rattle.std.proofs.Common.{eq-eqb}
 use Rattle.std.specs.Prelude.{◌⊎◌, ◌↔◌, ◌==◌, All, Contains, count_by, nat_lt}
 use Rattle.std.proofs.lemmas.Bool.{false≢true}
 use Rattle.std.proofs.lemmas.Bool.Decides.{Decides-ltb}
-use Rattle.std.proofs.lemmas.List.Elements.{All-nil, All-cons, All-head, All-tail}
+use Rattle.std.proofs.lemmas.List.Elements.{All-nil, All-cons}
 use Rattle.std.proofs.lemmas.List.Sums.{sum_by-cons}
 use Rattle.kore_text.specs.Trees.{AxiomDeclaration}
 use Rattle.rule_core.specs.Rules.{ComesBefore, AreInOrder}
 use Rattle.kore_sig.proofs.FirstLaws.{contains_here, contains_there, contains_cases, contains_none}
 use Rattle.kore_rules.specs.AxiomsRead.{AreRead, AreApart, AreFew}
 use Rattle.kore_rules.proofs.AxiomSteps.{read_more, read_same}
+use Rattle.kore_rules.proofs.OneOrder.{each_key}
 use Rattle.kore_rules.proofs.ProgramLaws.{read_apart}
 use Rattle.kore_rules.proofs.RulesFound.{Decided}
 
@@ -90,14 +91,6 @@ all_keys key P [] each = All-nil P
 all_keys key P (x ∷ xs) each =
     All-cons P (key x) (map key xs) (each x (contains_here x xs))
     (all_keys key P xs (λ y has. each y (contains_there x y xs has)))
-
-pub each_key : {X : Type 0} (key : X → ℕ × ℕ) (P : ℕ × ℕ → Type 0) (xs : List X) (x : X)
-    → All P (map key xs) → Contains xs x → P (key x)
-each_key key P [] x all has = absurd (contains_none x has)
-each_key key P (y ∷ ys) x all has = elim (contains_cases y x ys has) [
-  | inl same ↦ subst (λ z. P (key z)) same (All-head P (key y) (map key ys) all)
-  | inr later ↦ each_key key P ys x (All-tail P (key y) (map key ys) all) later
-]
 
 -- the same things in order, with this one among them
 record Inserted {X : Type 0} (key : X → ℕ × ℕ) (x : X) (xs : List X) : Type 0 where

@@ -1,26 +1,30 @@
 -- An axiom means one rule, and one equation of a function.
-use Rattle.std.proofs.Common.{◌≡◌, ℕ, List, [], ◌∷◌, map, length, Option, Some, None, refl, sym, ap}
-use Rattle.std.proofs.Common.{◌∙◌, subst}
-use Rattle.kore_text.specs.Trees.{PatternTree, AxiomDeclaration}
+use Rattle.std.proofs.Common.{◌≡◌, ℕ, List, [], ◌∷◌, map, length, Option, Some, refl, sym, ap}
+use Rattle.std.proofs.Common.{◌∙◌, subst, ◌<◌, arith}
+use Rattle.std.specs.List.{AllZip}
+use Rattle.kore_text.specs.Trees.{SortTree, PatternTree, AxiomDeclaration}
 use Rattle.term_core.specs.Patterns.{Pattern, Patterns}
 use Rattle.rule_core.specs.Rules.{RewriteRule, Equation, Guard}
 use Rattle.rule_core.specs.declared.signature.Signature.{Signature}
 use Rattle.rule_core.specs.declared.signature.SymInfo.{SymInfo}
-use Rattle.kore_check.specs.Folds.{Unfolded, Unfoldeds, unfolded}
-use Rattle.kore_check.specs.PatternMeanings.{Means, by_variable, by_value, by_symbol, by_name}
-use Rattle.kore_check.specs.PatternMeanings.{AllMean, none_mean, more_mean, with_variables}
-use Rattle.kore_check.specs.PatternMeanings.{named_part}
-use Rattle.kore_check.specs.PartNames.{names_in, names_in_all}
+use Rattle.kore_check.specs.Folds.{unfolded}
+use Rattle.kore_check.specs.PatternMeanings.{Means}
+use Rattle.kore_check.specs.PatternMeanings.{AllMean, with_variables}
+use Rattle.kore_check.specs.PartNames.{names_in, names_in_all, number_of_variable}
 use Rattle.rule_core.specs.NamedParts.{Name}
 use Rattle.kore_check.specs.PatternMeanings.{with_all_variables}
 use Rattle.kore_shapes.specs.Shapes.{Rewriting}
 use Rattle.kore_shapes.specs.Statements.{StatedEquation}
 use Rattle.kore_shapes.specs.EquationForms.{EquationParts, equation_parts}
+use Rattle.kore_shapes.specs.LastResorts.{GuardParts, LastResortParts, last_resort_parts}
 use Rattle.kore_axioms.specs.AxiomClasses.{rewrites, equates}
 use Rattle.kore_axioms.specs.AxiomMeanings.{MeansTest, MeansRule}
 use Rattle.kore_axioms.specs.Conditions.{tested_pattern}
 use Rattle.kore_axioms.specs.RuleParts.{rule_parts, left_of, right_of}
 use Rattle.kore_equations.specs.EquationMeanings.{MeansParts, MeansEquation, IsUnreadable}
+use Rattle.kore_equations.specs.Guards.{MeansGuard}
+use Rattle.kore_equations.specs.LastResortEquations.{IsReadableLastResort, MeansLastResort}
+use Rattle.kore_equations.specs.LastResortEquations.{IsUnreadableLastResort}
 use Rattle.kore_equations.specs.ReadableSides.{all_read}
 use Rattle.kore_equations.specs.ReadableEquations.{IsReadable, condition_of_equation}
 use Rattle.kore_equations.proofs.OneMeaning.{means_one, all_mean_one, test_means_one}
@@ -165,6 +169,91 @@ equation_one sig f a x y r s =
     (sym r.readable.form ∙ ap equation_parts stated ∙ s.readable.form) in
     parts_one sig a r.stated s.stated r.parts s.parts x y stated parts
     (r.last_resort ∙ sym s.last_resort) r.means s.means
+
+-- ---- equations of the last resort
+
+pub orders_one : (m n : List ℕ) → map {B = Option ℕ} Some m ≡ map Some n → m ≡ n
+orders_one [] [] e = refl
+orders_one [] (y ∷ n) e = absurd (let never : ⊥ = cc in never)
+orders_one (x ∷ m) [] e = absurd (let never : ⊥ = cc in never)
+orders_one (x ∷ m) (y ∷ n) e =
+    let first : x ≡ y = cc in
+    let rest : map {B = Option ℕ} Some m ≡ map Some n = cc in
+    let same : m ≡ n = orders_one m n rest in cc
+
+abbrev guard_with : ℕ → List ℕ → Guard
+guard_with n order = record { equation = n; order = order }
+
+guard_one : (sig : Signature) (info : SymInfo) (over : SortTree) (es : List Equation)
+    (g : GuardParts) (m n : Guard) → MeansGuard sig info over es g m
+    → MeansGuard sig info over es g n → m ≡ n
+guard_one sig info over es g m n r s =
+    let numbers : m.equation ≡ n.equation =
+    omega (
+      arith,
+      (λ (lt : m.equation < n.equation).
+          s.first m.equation r.equation m.order lt r.listed r.repeats),
+      (λ (lt : n.equation < m.equation).
+          r.first n.equation s.equation n.order lt s.listed s.repeats),
+    ) in
+    let vars : r.repeats.variables ≡ s.repeats.variables =
+    r.repeats.numbered ∙ sym s.repeats.numbered in
+    let orders : m.order ≡ n.order =
+    orders_one m.order n.order (sym r.repeats.quantified.numbers
+    ∙ ap (λ (vs : List (List ℕ × ℕ)).
+    map (λ (x : PatternTree). number_of_variable sig vs (unfolded x)) g.variables) vars
+    ∙ s.repeats.quantified.numbers) in
+    λ i. guard_with (numbers i) (orders i)
+
+guards_one : (sig : Signature) (info : SymInfo) (over : SortTree) (es : List Equation)
+    (gs : List GuardParts) (ms ns : List Guard) → AllZip (MeansGuard sig info over es) gs ms
+    → AllZip (MeansGuard sig info over es) gs ns → ms ≡ ns
+guards_one sig info over es [] [] [] r s = refl
+guards_one sig info over es [] [] (n ∷ ns) r s = absurd s
+guards_one sig info over es [] (m ∷ ms) ns r s = absurd r
+guards_one sig info over es (g ∷ gs) [] ns r s = absurd r
+guards_one sig info over es (g ∷ gs) (m ∷ ms) [] r s = absurd s
+guards_one sig info over es (g ∷ gs) (m ∷ ms) (n ∷ ns) r s =
+    let first : m ≡ n = guard_one sig info over es g m n r.0 s.0 in
+    let rest : ms ≡ ns = guards_one sig info over es gs ms ns r.1 s.1 in cc
+
+pub last_resort_one : (sig : Signature) (f : List ℕ) (es : List Equation) (a : AxiomDeclaration)
+    (x y : Equation) → MeansLastResort sig f es a x → MeansLastResort sig f es a y → x ≡ y
+last_resort_one sig f es a x y r s =
+    let stated : r.stated ≡ s.stated =
+    equates_one r.stated s.stated (sym r.states.class ∙ s.states.class) in
+    let info : r.info ≡ s.info =
+    some_same r.info s.info (sym r.states.declared ∙ s.states.declared) in
+    let parts : r.parts ≡ s.parts =
+    some_same r.parts s.parts
+    (sym r.readable.form ∙ ap last_resort_parts stated ∙ s.readable.form) in
+    let others : AllZip (MeansGuard sig r.info r.stated.over es) r.parts.guards s.guards =
+    subst (λ (q : LastResortParts).
+    AllZip (MeansGuard sig r.info r.stated.over es) q.guards s.guards) (sym parts)
+    (subst (λ (i : SymInfo). AllZip (MeansGuard sig i r.stated.over es) s.parts.guards s.guards)
+    (sym info)
+    (subst (λ (e : StatedEquation).
+    AllZip (MeansGuard sig s.info e.over es) s.parts.guards s.guards) (sym stated)
+    s.mean_guards)) in
+    let guards : r.guards ≡ s.guards =
+    guards_one sig r.info r.stated.over es r.parts.guards r.guards s.guards r.mean_guards others in
+    parts_one sig a r.stated s.stated r.parts.equation s.parts.equation x y stated
+    (ap (λ (q : LastResortParts). q.equation) parts)
+    (r.last_resort ∙ ap (λ (gs : List Guard). Some gs) guards ∙ sym s.last_resort) r.means s.means
+
+-- a readable one is not unreadable
+pub last_or_not : (sig : Signature) (f : List ℕ) (es : List Equation) (a : AxiomDeclaration)
+    (x : Equation) → MeansLastResort sig f es a x → IsUnreadableLastResort sig f es a → ⊥
+last_or_not sig f es a x r s =
+    let stated : r.stated ≡ s.stated =
+    equates_one r.stated s.stated (sym r.states.class ∙ s.states.class) in
+    let info : r.info ≡ s.info =
+    some_same r.info s.info (sym r.states.declared ∙ s.states.declared) in
+    s.unreadable r.parts (subst (λ (i : SymInfo). IsReadableLastResort sig a i s.stated es r.parts)
+    info (subst (λ (e : StatedEquation). IsReadableLastResort sig a r.info e es r.parts) stated
+    r.readable))
+
+-- ---- readable or not
 
 -- a readable equation is not unreadable
 pub readable_or_not : (sig : Signature) (f : List ℕ) (a : AxiomDeclaration) (x : Equation)

@@ -1,10 +1,18 @@
 -- Two lists in the order of trial that have the same members are the same list.
 use Rattle.std.proofs.Common.{◌≡◌, ℕ, List, [], ◌∷◌, map, refl, sym, ap, ◌∙◌, subst, arith, inl}
 use Rattle.std.proofs.Common.{inr}
-use Rattle.std.specs.Prelude.{Contains}
+use Rattle.std.specs.Prelude.{All, Contains}
+use Rattle.std.proofs.lemmas.List.Elements.{All-head, All-tail}
 use Rattle.rule_core.specs.Rules.{ComesBefore, AreInOrder}
 use Rattle.kore_sig.proofs.FirstLaws.{contains_here, contains_there, contains_cases, contains_none}
-use Rattle.kore_rules.proofs.ListsFound.{each_key}
+
+pub each_key : {X : Type 0} (key : X → ℕ × ℕ) (P : ℕ × ℕ → Type 0) (xs : List X) (x : X)
+    → All P (map key xs) → Contains xs x → P (key x)
+each_key key P [] x all has = absurd (contains_none x has)
+each_key key P (y ∷ ys) x all has = elim (contains_cases y x ys has) [
+  | inl same ↦ subst (λ z. P (key z)) same (All-head P (key y) (map key ys) all)
+  | inr later ↦ each_key key P ys x (All-tail P (key y) (map key ys) all) later
+]
 
 not_both : (x y : ℕ × ℕ) → ComesBefore x y → ComesBefore y x → ⊥
 not_both x y (inl h) (inl k) = omega (arith, h, k)

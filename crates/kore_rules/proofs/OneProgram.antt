@@ -15,15 +15,16 @@ use Rattle.kore_sig.specs.Declarations.{axioms_of}
 use Rattle.kore_sig.specs.SignatureLaws.{IsSameSymbol, AreSameSignature, SignatureIsOne}
 use Rattle.kore_sig.specs.Signatures.{IsSignatureOf}
 use Rattle.kore_axioms.specs.AxiomMeanings.{MeansRule}
-use Rattle.kore_equations.specs.EquationMeanings.{MeansEquation}
+use Rattle.kore_rules.specs.EquationsAmong.{IsEquationAmong}
 use Rattle.kore_rules.specs.AcceptanceLaws.{DefinitionIsOne}
 use Rattle.kore_rules.specs.Programs.{HasKind, IsSymbolOf, AreRulesOf, AreEquationsOf}
 use Rattle.kore_rules.specs.Programs.{IsProgramUnder, IsTopOf}
 use Rattle.kore_rules.specs.SamePrograms.{ProgramIsOne}
 use Rattle.kore_rules.proofs.AcceptedLaws.{top_any}
-use Rattle.kore_rules.proofs.AlikeKinds.{signatures_back, entry_alike, kind_carried, kind_one}
-use Rattle.kore_rules.proofs.AlikeMeanings.{rule_carried, equation_carried}
-use Rattle.kore_rules.proofs.AlikeSignatures.{Symbols, alike}
+use Rattle.kore_rules.proofs.AlikeKinds.{kind_carried, kind_one}
+use Rattle.kore_rules.proofs.AlikeLastResorts.{among_carried}
+use Rattle.kore_rules.proofs.AlikeMeanings.{rule_carried}
+use Rattle.kore_rules.proofs.AlikeSignatures.{Symbols, alike, signatures_back, entry_alike}
 use Rattle.kore_rules.proofs.OneOrder.{one_list}
 use Rattle.kore_rules.proofs.RuleFirsts.{NoneFrom, one_sort_of_rules}
 
@@ -88,7 +89,7 @@ module _ (s t : Signature) (same : AreSameSignature s t) (axioms : List AxiomDec
       → Contains xs x → Contains ys x
   equations_within f g j k xs ys name kind a b x has =
       let is : (j ≡ Equations) × ((d : AxiomDeclaration) × Contains axioms d
-      × MeansEquation s f d x) =
+      × IsEquationAmong s axioms f d x) =
       (a.just x).0 has in
       let d : AxiomDeclaration = is.1.0 in
       (b.just x).1 (
@@ -96,8 +97,8 @@ module _ (s t : Signature) (same : AreSameSignature s t) (axioms : List AxiomDec
         (
           d,
           is.1.1,
-          subst (λ (h : List ℕ). MeansEquation t h d x) name
-              (equation_carried s t same f d x is.1.2),
+          subst (λ (h : List ℕ). IsEquationAmong t axioms h d x) name
+              (among_carried s t same axioms f d x is.1.2),
         ),
       )
 

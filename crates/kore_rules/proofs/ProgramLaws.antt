@@ -1,15 +1,15 @@
 -- The program that is made from what was read.
 use Rattle.std.proofs.Common.{◌≡◌, ◌<◌, ◌≤◌, ℕ, zero, suc, ◌+◌, Bool, true, false, cond, List, []}
-use Rattle.std.proofs.Common.{◌∷◌, ◌++◌, map, length, Contains, Option, Some, None, refl, sym, ap}
-use Rattle.std.proofs.Common.{◌∙◌, subst, arith, ◌⊎◌, inl, inr, All, eq-eqb}
-use Rattle.std.specs.Prelude.{◌↔◌, ◌&&◌, ◌==◌, IsTrue, Vec, slice_get, slice_index_or, filter}
+use Rattle.std.proofs.Common.{◌∷◌, map, length, Contains, Option, Some, None, refl, sym, ap}
+use Rattle.std.proofs.Common.{◌∙◌, subst, arith, inl, inr, All, eq-eqb}
+use Rattle.std.specs.Prelude.{◌↔◌, ◌==◌, IsTrue, Vec, slice_get, slice_index_or, filter}
 use Rattle.std.specs.Prelude.{count_by}
 use Rattle.std.specs.Global.{Global}
 use Rattle.std.specs.List.{AllZip}
 use Rattle.std.specs.List.Sorted.{IsPermutation}
 use Rattle.std.proofs.lemmas.Bool.{eqb-true, false≢true}
 use Rattle.std.proofs.lemmas.List.Elements.{All-nil, All-cons, All-head, All-tail}
-use Rattle.std.proofs.lemmas.List.Sums.{sum_by-cons, length-filter, count_by-le-length}
+use Rattle.std.proofs.lemmas.List.Sums.{sum_by-cons}
 use Rattle.std.proofs.lemmas.List.Sorted.{IsPermutation-sym, Contains-permutation}
 use Rattle.std.proofs.lemmas.List.Sorted.{length_permutation}
 use Rattle.kore_text.specs.Trees.{AxiomDeclaration}
@@ -22,23 +22,24 @@ use Rattle.rule_core.specs.declared.rules.Equation.{Equation}
 use Rattle.rule_core.specs.declared.rules.Rule.{Rule}
 use Rattle.rule_core.specs.declared.signature.Signature.{Signature}
 use Rattle.rule_core.specs.declared.signature.SymInfo.{SymInfo}
-use Rattle.rule_core.specs.declared.signature.SymKind.{SymKind}
-use Rattle.rule_core.specs.declared.signature.SymKind.TheVariants.{Equations}
 use Rattle.rule_core.proofs.Tables.{number_of-entry}
 use Rattle.kore_sig.proofs.ListLaws.{number_within}
 use Rattle.kore_sig.proofs.FirstLaws.{contains_here, contains_there, contains_cases, contains_none}
-use Rattle.kore_check.specs.PatternSorts.{symbol_named}
 use Rattle.rule_core.specs.KindTests.{is_defined_kind}
 use Rattle.kore_axioms.specs.AxiomMeanings.{MeansRule}
 use Rattle.kore_axioms.specs.NamedRules.{MeansNamedRule}
-use Rattle.kore_equations.specs.EquationMeanings.{MeansEquation, IsUnreadable}
-use Rattle.kore_rules.specs.AxiomsRead.{AreRead, AreApart, AreFew, HasUnreadable}
-use Rattle.kore_rules.specs.AxiomsRead.{IsNumberedEquation, numbered_equation, is_marked}
+use Rattle.kore_axioms.specs.AxiomClasses.{axiom_class}
+use Rattle.kore_equations.proofs.ClassLaws.{number_there}
+use Rattle.kore_rules.specs.EquationsAmong.{IsUnreadableAmong}
+use Rattle.kore_rules.specs.LastResortsRead.{AreAllListed}
+use Rattle.kore_rules.specs.AxiomsRead.{AreRead, AreApart, AreFew, HasStated}
+use Rattle.kore_rules.specs.AxiomsRead.{numbered_equation, is_marked}
 use Rattle.kore_rules.specs.Programs.{HasKind, IsSymbolOf, AreRulesOf, AreEquationsOf}
-use Rattle.kore_rules.specs.KeptNames.{AreOf, IsSomeEquation}
-use Rattle.kore_rules.specs.ScalarSorts.{MarksTerms, IsFinal, final_kind, is_marked_at}
-use Rattle.kore_rules.specs.TrialOrder.{rule_key, equation_key, belongs_to, has_equations}
+use Rattle.kore_rules.specs.KeptNames.{AreOf}
+use Rattle.kore_rules.specs.ScalarSorts.{MarksTerms, IsFinal, is_marked_at}
+use Rattle.kore_rules.specs.TrialOrder.{rule_key, equation_key, is_of, has_equations}
 use Rattle.kore_rules.specs.TrialOrder.{is_by_equations, listed_at}
+use Rattle.kore_rules.proofs.AmongLaws.{equation_stated}
 use Rattle.kore_rules.proofs.FinalLaws.{own_number}
 use Rattle.kore_rules.proofs.HookLaws.{final_is, Unreadables, defined}
 use Rattle.kore_rules.proofs.KindLaws.{HasPairs}
@@ -168,7 +169,7 @@ filter_in_order key test (x ∷ xs) h =
 abbrev plain_rule_key : RewriteRule → ℕ × ℕ
 plain_rule_key r = (r.priority, r.place)
 
-abbrev plain_equation_key : plain.Equation → ℕ × ℕ
+abbrev pub plain_equation_key : plain.Equation → ℕ × ℕ
 plain_equation_key e = (e.priority, e.place)
 
 rule_keys : (rules : List Rule) → map plain_rule_key (map rewrite_rule rules) ≡ map rule_key rules
@@ -201,34 +202,34 @@ rules_are sig axioms old new read moved in_order = record {
 
 -- ---- symbols
 
-name_at : (es : List (List ℕ × SymInfo)) (f g : List ℕ) (n : ℕ) → number_of_name es f ≡ Some n
+pub name_at : (es : List (List ℕ × SymInfo)) (f g : List ℕ) (n : ℕ) → number_of_name es f ≡ Some n
     → number_of_name es g ≡ Some n → f ≡ g
 name_at es f g n a b =
     let x = number_of-entry es f n a in
     let y = number_of-entry es g n b in
     ap (λ (e : List ℕ × SymInfo). e.0) (some_same (f, x.0) (g, y.0) (sym x.1 ∙ y.1))
 
-unnamed : (sig : Signature) (f : List ℕ) (a : AxiomDeclaration) → number_of_name sig.symbols f
-    ≡ None
-    → IsUnreadable sig f a → ⊥
-unnamed sig f a none bad =
-    let both : Some bad.info ≡ None = sym bad.states.declared ∙ no_symbol none in
-    let never : ⊥ = cc in never
-  where
-    no_symbol : number_of_name sig.symbols f ≡ None → symbol_named sig f ≡ None
-    no_symbol e = rw e refl
+unnamed : (sig : Signature) (axioms : List AxiomDeclaration) (f : List ℕ) (a : AxiomDeclaration)
+    → number_of_name sig.symbols f ≡ None → IsUnreadableAmong sig axioms f a → ⊥
+unnamed sig axioms f a none bad =
+    let stated = equation_stated f (axiom_class sig a) bad.states in
+    number_there sig a stated.0 stated.1 (ap (number_of_name sig.symbols) stated.2 ∙ none)
+
+-- an axiom states an equation of the function with this number that is not readable
+abbrev pub HasUnreadable : Signature → List AxiomDeclaration → ℕ → Type 0
+HasUnreadable sig axioms n = HasStated sig (IsUnreadableAmong sig axioms) axioms n
 
 unreadable_same : (sig : Signature) (axioms : List AxiomDeclaration) (marks : List Bool)
     → ((n : ℕ) → IsTrue (is_marked marks n) ↔ HasUnreadable sig axioms n)
     → (f : List ℕ) (o : Option ℕ) → number_of_name sig.symbols f ≡ o → IsTrue (is_marked_at marks o)
     ↔ Unreadables sig axioms f
 unreadable_same sig axioms marks is f None e =
-    (λ h. absurd (false≢true h), λ h. absurd (unnamed sig f h.0 e h.2))
+    (λ h. absurd (false≢true h), λ h. absurd (unnamed sig axioms f h.0 e h.2))
 unreadable_same sig axioms marks is f (Some n) e = (
   λ h. let found = (is n).0 h in
       let named = found.2 in
       let same : named.0 ≡ f = name_at sig.symbols named.0 f n named.1 e in
-      (found.0, found.1, subst (λ (g : List ℕ). IsUnreadable sig g found.0) same named.2),
+      (found.0, found.1, subst (λ (g : List ℕ). IsUnreadableAmong sig axioms g found.0) same named.2),
   λ h. (is n).1 (h.0, h.1, (f, e, h.2)),
 )
 
@@ -274,14 +275,6 @@ listed_there (first ∷ lists) zero es at =
     ap (λ (v : Vec Equation Global). v.items) (some_same first es at)
 listed_there (first ∷ lists) (suc n) es at = listed_there lists n es at
 
-both_true : (a b : Bool) → (a && b) ≡ true → (a ≡ true) × (b ≡ true)
-both_true true b e = (refl, e)
-both_true false b e = absurd (let never : ⊥ = cc in never)
-
-both_from : (a b : Bool) → a ≡ true → b ≡ true → (a && b) ≡ true
-both_from true b e f = f
-both_from false b e f = absurd (let never : ⊥ = cc in never)
-
 declared_at : (R : List ℕ × SymInfo → List ℕ × SymInfo → Type 0) (ds ms : List (List ℕ × SymInfo))
     (n : ℕ) (m : List ℕ × SymInfo) → AllZip R ds ms → slice_get ms n ≡ Some m
     → (d : List ℕ × SymInfo) × (slice_get ds n ≡ Some d) × R d m
@@ -294,81 +287,127 @@ declared_at R (d ∷ ds) (y ∷ ms) (suc n) m z e = declared_at R ds ms n m z.1 
 abbrev numbered : ℕ → plain.Equation → ℕ × plain.Equation
 numbered n e = (n, e)
 
-pub equations_are : (sig : Signature) (axioms : List AxiomDeclaration)
-    (made : List (List ℕ × SymInfo)) (old new : List Equation)
-    (lists : List (Vec Equation Global)) (n : ℕ) (f : List ℕ) (info : SymInfo)
-    → AreDistinct (names_of sig.symbols) → AllZip (IsSymbolOf sig axioms) sig.symbols made
-    → AreRead (IsNumberedEquation sig) (λ (e : ℕ × plain.Equation). e.1.place) axioms
-    (map numbered_equation old) → IsPermutation old new → AreInOrder (map equation_key new)
-    → listed_at lists n ≡ filter (belongs_to made n) new → slice_get made n ≡ Some (f, info)
-    → AreEquationsOf sig axioms f info.kind (slice_index_or (function_equations lists) n [])
-equations_are sig axioms made old new lists n f info distinct symbols read moved in_order listed
-    there =
-    let test : Equation → Bool = belongs_to made n in
-    let all = filter test new in
-    let view : slice_index_or (function_equations lists) n [] ≡ map function_equation all =
-    listed_view lists n ∙ ap (map function_equation) listed in
-    let d = declared_at (IsSymbolOf sig axioms) sig.symbols made n (f, info) symbols there in
-    let number : number_of_name sig.symbols f ≡ Some n =
-    ap (number_of_name sig.symbols) d.2.name ∙ own_number sig.symbols n d.0 distinct d.1 in
-    let has : has_equations made n ≡ is_defined_kind info.kind = ap is_by_equations there in
-    record {
-      just = λ e. (
-        λ inside.
-            let found =
-            contains_mapped function_equation all e
-            (subst (λ (es : List plain.Equation). Contains es e) view inside) in
-            let x = found.0 in
-            let kept = contains_filtered test new x found.1 in
-            let parts = both_true (x.fun.0 == n) (has_equations made x.fun.0) kept.1 in
-            let here : x.fun.0 ≡ n = eqb-true x.fun.0 n parts.0 in
-            let some =
-            (read.just (numbered_equation x)).0 (contains_map numbered_equation old x
-            (Contains-permutation new old x (IsPermutation-sym old new moved) kept.0)) in
-            let named = some.2 in
-            let g = named.0 in
-            let same : g ≡ f = name_at sig.symbols g f n (named.1 ∙ ap Some here) number in (
-              defined info.kind (sym has ∙ ap (has_equations made) (sym here) ∙ parts.1),
-              (
-                some.0,
-                some.1,
-                subst (λ (y : plain.Equation). MeansEquation sig f some.0 y) found.2 (subst
-                    (λ (h : List ℕ). MeansEquation sig h some.0 (function_equation x)) same
-                    named.2),
-              ),
-            ),
-        λ (kind, (a, inside, is)).
-            let given = (read.just (numbered n e)).1 (a, inside, (f, number, is)) in
-            let found = contains_mapped numbered_equation old (numbered n e) given in
-            let x = found.0 in
-            let here : x.fun.0 ≡ n = ap (λ (y : ℕ × plain.Equation). y.0) found.2 in
-            let same : function_equation x ≡ e = ap (λ (y : ℕ × plain.Equation). y.1) found.2 in
-            let passes : test x ≡ true =
-            both_from (x.fun.0 == n) (has_equations made x.fun.0) (eq-eqb x.fun.0 n here)
-            (ap (has_equations made) here ∙ has ∙ ap is_defined_kind kind) in
-            subst (λ (es : List plain.Equation). Contains es e) (sym view)
-            (subst (Contains (map function_equation all)) same (contains_map function_equation all x
-            (contains_filter test new x (Contains-permutation old new x moved found.1)
-            passes))),
-      );
-      in_order =
-          subst (λ (es : List plain.Equation). AreInOrder (map plain_equation_key es)) (sym view)
-          (subst AreInOrder (sym (equation_keys all))
-          (filter_in_order equation_key test new in_order));
-    }
+-- an axiom is this thing, of the function with this number
+abbrev pub IsNumberedBy : Signature → (List ℕ → AxiomDeclaration → plain.Equation → Type 0)
+    → AxiomDeclaration → ℕ × plain.Equation → Type 0
+IsNumberedBy sig Is a e = (f : List ℕ) × (number_of_name sig.symbols f ≡ Some e.0) × Is f a e.1
 
--- an equation is listed for its own function
-pub listed_own : (made : List (List ℕ × SymInfo)) (new : List Equation)
-    (lists : List (Vec Equation Global)) (f i : ℕ) (es : Vec Equation Global) (e : Equation)
-    → listed_at lists f ≡ filter (belongs_to made f) new → slice_get lists f ≡ Some es
-    → slice_get es.items i ≡ Some e → e.fun.0 ≡ f
-listed_own made new lists f i es e listed there at =
-    let test : Equation → Bool = belongs_to made f in
-    let same : es.items ≡ filter test new = sym (listed_there lists f es there) ∙ listed in
-    let kept =
-    contains_filtered test new e
-    (subst (λ (xs : List Equation). Contains xs e) same (contains_at es.items i e at)) in
-    eqb-true e.fun.0 f (both_true (e.fun.0 == f) (has_equations made e.fun.0) kept.1).0
+-- of equations that were read, those of one function are exactly what the axioms are
+pub listed_just : (sig : Signature) (Is : List ℕ → AxiomDeclaration → plain.Equation → Type 0)
+    (axioms : List AxiomDeclaration) (old new : List Equation) (f : List ℕ) (n : ℕ)
+    → number_of_name sig.symbols f ≡ Some n
+    → AreRead (IsNumberedBy sig Is) (λ (e : ℕ × plain.Equation). e.1.place) axioms
+    (map numbered_equation old) → IsPermutation old new → (e : plain.Equation)
+    → Contains (map function_equation (filter (is_of n) new)) e
+    ↔ ((a : AxiomDeclaration) × Contains axioms a × Is f a e)
+listed_just sig Is axioms old new f n number read moved e = (
+  λ inside.
+      let found = contains_mapped function_equation (filter (is_of n) new) e inside in
+      let x = found.0 in
+      let kept = contains_filtered (is_of n) new x found.1 in
+      let here : x.fun.0 ≡ n = eqb-true x.fun.0 n kept.1 in
+      let some =
+      (read.just (numbered_equation x)).0 (contains_map numbered_equation old x
+      (Contains-permutation new old x (IsPermutation-sym old new moved) kept.0)) in
+      let named = some.2 in
+      let g = named.0 in
+      let same : g ≡ f = name_at sig.symbols g f n (named.1 ∙ ap Some here) number in (
+        some.0,
+        some.1,
+        subst (λ (y : plain.Equation). Is f some.0 y) found.2
+            (subst (λ (h : List ℕ). Is h some.0 (function_equation x)) same named.2),
+      ),
+  λ (a, inside, is).
+      let given = (read.just (numbered n e)).1 (a, inside, (f, number, is)) in
+      let found = contains_mapped numbered_equation old (numbered n e) given in
+      let x = found.0 in
+      let here : x.fun.0 ≡ n = ap (λ (y : ℕ × plain.Equation). y.0) found.2 in
+      let same : function_equation x ≡ e = ap (λ (y : ℕ × plain.Equation). y.1) found.2 in
+      subst (Contains (map function_equation (filter (is_of n) new))) same
+      (contains_map function_equation (filter (is_of n) new) x
+      (contains_filter (is_of n) new x (Contains-permutation old new x moved found.1)
+      (eq-eqb x.fun.0 n here))),
+)
+
+-- they are in the order of trial
+pub listed_in_order : (new : List Equation) (n : ℕ) → AreInOrder (map equation_key new)
+    → AreInOrder (map plain_equation_key (map function_equation (filter (is_of n) new)))
+listed_in_order new n in_order =
+    subst AreInOrder (sym (equation_keys (filter (is_of n) new)))
+    (filter_in_order equation_key (is_of n) new in_order)
+
+pub filter_own : (new : List Equation) (n : ℕ) (e : Equation) → Contains (filter (is_of n) new) e
+    → Contains new e × (e.fun.0 ≡ n)
+filter_own new n e has =
+    let kept = contains_filtered (is_of n) new e has in (kept.0, eqb-true e.fun.0 n kept.1)
+
+-- ---- the equations of a program
+
+-- the lists with those of symbols of other kinds emptied
+abbrev pub AreEmptied : List (List ℕ × SymInfo) → List (Vec Equation Global)
+    → List (Vec Equation Global) → Type 0
+AreEmptied made old new =
+    (n : ℕ) → listed_at new n ≡ cond (has_equations made n) (listed_at old n) []
+
+pub equations_are : (sig : Signature) (axioms : List AxiomDeclaration)
+    (made : List (List ℕ × SymInfo)) (old new : List (Vec Equation Global)) (n : ℕ) (f : List ℕ)
+    (info : SymInfo) → AreDistinct (names_of sig.symbols)
+    → AllZip (IsSymbolOf sig axioms) sig.symbols made → AreAllListed sig axioms old
+    → AreEmptied made old new → slice_get made n ≡ Some (f, info)
+    → AreEquationsOf sig axioms f info.kind (slice_index_or (function_equations new) n [])
+equations_are sig axioms made old new n f info distinct symbols all emptied there =
+    by_kind (is_defined_kind info.kind) refl
+  where
+    d : (d : List ℕ × SymInfo) × (slice_get sig.symbols n ≡ Some d)
+        × IsSymbolOf sig axioms d (f, info)
+    d = declared_at (IsSymbolOf sig axioms) sig.symbols made n (f, info) symbols there
+
+    number : number_of_name sig.symbols f ≡ Some n
+    number = ap (number_of_name sig.symbols) d.2.name ∙ own_number sig.symbols n d.0 distinct d.1
+
+    has : has_equations made n ≡ is_defined_kind info.kind
+    has = ap is_by_equations there
+
+    view : (b : Bool) → is_defined_kind info.kind ≡ b
+        → slice_index_or (function_equations new) n []
+        ≡ map function_equation (cond b (listed_at old n) [])
+    view b is =
+        listed_view new n
+        ∙ ap (map function_equation)
+        (emptied n ∙ ap (λ (t : Bool). cond t (listed_at old n) []) (has ∙ is))
+
+    by_kind : (b : Bool) → is_defined_kind info.kind ≡ b
+        → AreEquationsOf sig axioms f info.kind (slice_index_or (function_equations new) n [])
+    by_kind true is =
+        let tried = all.listed f n number in
+        subst (AreEquationsOf sig axioms f info.kind) (sym (view true is)) (record {
+          just = λ e. (
+            λ inside. (defined info.kind is, (tried.just e).0 inside),
+            λ (kind, some). (tried.just e).1 some,
+          );
+          in_order = tried.in_order;
+        })
+    by_kind false is =
+        subst (AreEquationsOf sig axioms f info.kind) (sym (view false is)) (record {
+          just = λ e. (
+            λ inside. absurd (contains_none e inside),
+            λ (kind, some). absurd (false≢true (sym is ∙ ap is_defined_kind kind)),
+          );
+          in_order = tt;
+        })
+
+-- what is listed now was listed before
+pub was_listed : (made : List (List ℕ × SymInfo)) (old new : List (Vec Equation Global)) (f i : ℕ)
+    (es : Vec Equation Global) (e : Equation) → AreEmptied made old new
+    → slice_get new f ≡ Some es → slice_get es.items i ≡ Some e → Contains (listed_at old f) e
+was_listed made old new f i es e emptied there at =
+    by_case (has_equations made f)
+    (subst (λ (xs : List Equation). Contains xs e)
+    (sym (listed_there new f es there) ∙ emptied f) (contains_at es.items i e at))
+  where
+    by_case : (b : Bool) → Contains (cond b (listed_at old f) []) e → Contains (listed_at old f) e
+    by_case true has = has
+    by_case false has = absurd (contains_none e has)
 
 -- ---- names
 
@@ -378,22 +417,6 @@ pub moved_rules : (sig : Signature) (axioms : List AxiomDeclaration) (old new : 
     → AreOf (MeansNamedRule sig) axioms new
 moved_rules sig axioms old new of moved = λ r has.
     of r (Contains-permutation new old r (IsPermutation-sym old new moved) has)
-
--- an equation that is listed for a function is still what an axiom is
-pub listed_of : (sig : Signature) (axioms : List AxiomDeclaration)
-    (made : List (List ℕ × SymInfo)) (old new : List Equation)
-    (lists : List (Vec Equation Global)) (f i : ℕ) (es : Vec Equation Global) (e : Equation)
-    → AreOf (IsSomeEquation sig) axioms old → IsPermutation old new
-    → listed_at lists f ≡ filter (belongs_to made f) new → slice_get lists f ≡ Some es
-    → slice_get es.items i ≡ Some e
-    → (a : AxiomDeclaration) × Contains axioms a × IsSomeEquation sig a e
-listed_of sig axioms made old new lists f i es e of moved listed there at =
-    let test : Equation → Bool = belongs_to made f in
-    let same : es.items ≡ filter test new = sym (listed_there lists f es there) ∙ listed in
-    let kept =
-    contains_filtered test new e
-    (subst (λ (xs : List Equation). Contains xs e) same (contains_at es.items i e at)) in
-    of e (Contains-permutation new old e (IsPermutation-sym old new moved) kept.0)
 
 -- ---- how many rules and equations
 
@@ -408,24 +431,24 @@ few_rules sig axioms old new few read moved =
     let d = length_permutation old new moved in omega (arith, a, b, c, d)
 
 pub few_equations : (sig : Signature) (axioms : List AxiomDeclaration)
-    (made : List (List ℕ × SymInfo)) (old new : List Equation)
-    (lists : List (Vec Equation Global)) (n : ℕ) → AreFew axioms
-    → AreRead (IsNumberedEquation sig) (λ (e : ℕ × plain.Equation). e.1.place) axioms
-    (map numbered_equation old) → IsPermutation old new
-    → listed_at lists n ≡ filter (belongs_to made n) new
-    → length (slice_index_or (function_equations lists) n []) ≤ 4294967296
-few_equations sig axioms made old new lists n few read moved listed =
+    (made : List (List ℕ × SymInfo)) (old new : List (Vec Equation Global)) (n : ℕ)
+    → AreFew axioms → AreAllListed sig axioms old → AreEmptied made old new
+    → length (slice_index_or (function_equations new) n []) ≤ 4294967296
+few_equations sig axioms made old new n few all emptied =
     let a = few.short in
-    let b = read.short in
-    let c = length_mapped numbered_equation old in
-    let d = length_permutation old new moved in
-    let e : length (slice_index_or (function_equations lists) n []) ≡ length
-    (map function_equation (filter (belongs_to made n) new)) =
-    ap length (listed_view lists n ∙ ap (map function_equation) listed) in
-    let f = length_mapped function_equation (filter (belongs_to made n) new) in
-    let g = length-filter (belongs_to made n) new in
-    let h = count_by-le-length (belongs_to made n) new in
-    omega (arith, a, b, c, d, e, f, g, h)
+    let b = all.few n in
+    let same : length (slice_index_or (function_equations new) n [])
+    ≡ length (map function_equation (listed_at new n)) =
+    ap length (listed_view new n) in
+    let long = length_mapped function_equation (listed_at new n) in
+    let less = by_case (has_equations made n) in
+    let is : length (listed_at new n) ≡ length (cond (has_equations made n) (listed_at old n) []) =
+    ap length (emptied n) in
+    omega (arith, a, b, same, long, less, is)
+  where
+    by_case : (b : Bool) → length (cond b (listed_at old n) []) ≤ length (listed_at old n)
+    by_case true = omega arith
+    by_case false = omega arith
 
 all_from : {X : Type 0} (P : X → Type 0) (xs : List X) → ((x : X) → Contains xs x → P x) → All P xs
 all_from P [] each = All-nil P
@@ -434,14 +457,12 @@ all_from P (x ∷ xs) each =
     (all_from P xs (λ y has. each y (contains_there x y xs has)))
 
 -- the function of each equation is a symbol
-pub functions_there : (sig : Signature) (axioms : List AxiomDeclaration)
-    (made : List (List ℕ × SymInfo)) (old new : List Equation)
-    → length made ≡ length sig.symbols
-    → AreRead (IsNumberedEquation sig) (λ (e : ℕ × plain.Equation). e.1.place) axioms
-    (map numbered_equation old) → IsPermutation old new
-    → All (λ (e : Equation). e.fun.0 < length made) new
-functions_there sig axioms made old new same read moved =
-    all_from (λ (e : Equation). e.fun.0 < length made) new (λ e has.
+pub functions_there : (sig : Signature) (Is : List ℕ → AxiomDeclaration → plain.Equation → Type 0)
+    (axioms : List AxiomDeclaration) (len : ℕ) (old new : List Equation) → len ≡ length sig.symbols
+    → AreRead (IsNumberedBy sig Is) (λ (e : ℕ × plain.Equation). e.1.place) axioms
+    (map numbered_equation old) → IsPermutation old new → All (λ (e : Equation). e.fun.0 < len) new
+functions_there sig Is axioms len old new same read moved =
+    all_from (λ (e : Equation). e.fun.0 < len) new (λ e has.
     let some =
     (read.just (numbered_equation e)).0 (contains_map numbered_equation old e
     (Contains-permutation new old e (IsPermutation-sym old new moved) has)) in

@@ -31,7 +31,7 @@ use Rattle.kore_axioms.specs.AxiomClasses.{passed_over, axiom_class}
 use Rattle.rule_core.specs.KindTests.{is_defined_kind}
 use Rattle.kore_axioms.specs.AxiomMeanings.{MeansRule}
 use Rattle.kore_axioms.specs.RuleFaults.{FirstOfRule}
-use Rattle.kore_equations.specs.EquationMeanings.{MeansEquation, IsUnreadable}
+use Rattle.kore_rules.specs.EquationsAmong.{IsEquationAmong, IsUnreadableAmong}
 use Rattle.kore_rules.specs.Acceptance.{IsAccepted}
 use Rattle.kore_rules.specs.Refused.{IsRefused, HasTextFault}
 use Rattle.kore_rules.specs.AcceptanceLaws.{EachTextIsDecided}
@@ -45,13 +45,15 @@ use Rattle.kore_rules.proofs.AcceptedLaws.{axioms_few, axioms_refused, definitio
 use Rattle.kore_rules.proofs.AcceptedLaws.{signature_refused, text_refused, top_any}
 use Rattle.kore_rules.proofs.FaultsFound.{definition_is_found, declaration_fault_is_found}
 use Rattle.kore_rules.proofs.FaultsFound.{axiom_fault_is_found}
-use Rattle.kore_rules.proofs.HookLaws.{final_is, Unreadables, defined}
+use Rattle.kore_rules.proofs.HookLaws.{final_is, defined}
 use Rattle.kore_rules.proofs.KindLaws.{HasPairs}
 use Rattle.kore_rules.proofs.ListsFound.{AreOne, AreListed, listed}
 use Rattle.kore_rules.proofs.MarkLaws.{makes_declared}
-use Rattle.kore_rules.proofs.MeaningsAreOne.{rule_one, equation_one}
+use Rattle.kore_rules.proofs.AmongLaws.{among_one, among_place}
+use Rattle.kore_rules.proofs.LastResortsFound.{among_decided, unreadable_decided}
+use Rattle.kore_rules.proofs.MeaningsAreOne.{rule_one}
 use Rattle.kore_rules.proofs.RuleFirsts.{rule_clear, sort_declared}
-use Rattle.kore_rules.proofs.RulesFound.{rule_decided, equation_decided, unreadable_decided}
+use Rattle.kore_rules.proofs.RulesFound.{rule_decided}
 use Rattle.kore_rules.proofs.SignatureFacts.{faultless_signature}
 use Rattle.kore_rules.proofs.SignaturesFound.{signature_found}
 
@@ -123,23 +125,28 @@ marks_found sig axioms sorted = (
 
 -- ---- symbols and their equations
 
-unreadables_found : (sig : Signature) (axioms : List AxiomDeclaration) (f : List ℕ)
-    → IsSignature sig → (b : Bool) × (IsTrue b ↔ Unreadables sig axioms f)
-unreadables_found sig [] f sorted =
+unreadables_found : (sig : Signature) (axioms some : List AxiomDeclaration) (f : List ℕ)
+    → IsSignature sig → AreFew axioms
+    → (b : Bool) × (IsTrue b
+    ↔ ((a : AxiomDeclaration) × Contains some a × IsUnreadableAmong sig axioms f a))
+unreadables_found sig axioms [] f sorted few =
     (false, (λ h. absurd (false≢true h), λ some. absurd (contains_none some.0 some.1)))
-unreadables_found sig (a ∷ axioms) f sorted =
-    by_case (unreadable_decided sig f a sorted) (unreadables_found sig axioms f sorted)
+unreadables_found sig axioms (a ∷ rest) f sorted few =
+    by_case (unreadable_decided sig axioms f a sorted few)
+    (unreadables_found sig axioms rest f sorted few)
   where
-    by_case : IsUnreadable sig f a ⊎ (IsUnreadable sig f a → ⊥)
-        → (b : Bool) × (IsTrue b ↔ Unreadables sig axioms f)
-        → (b : Bool) × (IsTrue b ↔ Unreadables sig (a ∷ axioms) f)
-    by_case (inl bad) rest = (true, (λ h. (a, contains_here a axioms, bad), λ some. refl))
+    by_case : IsUnreadableAmong sig axioms f a ⊎ (IsUnreadableAmong sig axioms f a → ⊥)
+        → (b : Bool) × (IsTrue b
+        ↔ ((c : AxiomDeclaration) × Contains rest c × IsUnreadableAmong sig axioms f c))
+        → (b : Bool) × (IsTrue b
+        ↔ ((c : AxiomDeclaration) × Contains (a ∷ rest) c × IsUnreadableAmong sig axioms f c))
+    by_case (inl bad) later = (true, (λ h. (a, contains_here a rest, bad), λ some. refl))
     by_case (inr fine) (b, same) = (
       b,
       (
-        λ h. let some = same.0 h in (some.0, contains_there a some.0 axioms some.1, some.2),
-        λ some. elim (contains_cases a some.0 axioms some.1) [
-          | inl here ↦ absurd (fine (subst (IsUnreadable sig f) (sym here) some.2))
+        λ h. let some = same.0 h in (some.0, contains_there a some.0 rest some.1, some.2),
+        λ some. elim (contains_cases a some.0 rest some.1) [
+          | inl here ↦ absurd (fine (subst (IsUnreadableAmong sig axioms f) (sym here) some.2))
           | inr later ↦ same.1 (some.0, later, some.2)
         ],
       ),
@@ -151,20 +158,20 @@ equation_key e = (e.priority, e.place)
 abbrev rule_key : RewriteRule → ℕ × ℕ
 rule_key r = (r.priority, r.place)
 
-equations_are_one : (sig : Signature) (f : List ℕ)
-    → AreOne (MeansEquation sig f) (λ (e : Equation). e.place)
-equations_are_one sig f = record {
-  one = λ a x y is other. equation_one sig f a x y is other;
-  there = λ a x is. is.means.place;
+equations_are_one : (sig : Signature) (axioms : List AxiomDeclaration) (f : List ℕ)
+    → AreOne (IsEquationAmong sig axioms f) (λ (e : Equation). e.place)
+equations_are_one sig axioms f = record {
+  one = λ a x y is other. among_one sig axioms f a x y is other;
+  there = λ a x is. among_place sig axioms f a x is;
 }
 
 equations_found : (sig : Signature) (axioms : List AxiomDeclaration) (f : List ℕ) (kind : SymKind)
     → IsSignature sig → AreFew axioms → (es : List Equation) × AreEquationsOf sig axioms f kind es
 equations_found sig axioms f kind sorted few = by_case (is_defined_kind kind) refl where
-  all : AreListed (MeansEquation sig f) equation_key axioms
+  all : AreListed (IsEquationAmong sig axioms f) equation_key axioms
   all =
-      listed (MeansEquation sig f) equation_key (equations_are_one sig f) axioms few
-      (λ a has. equation_decided sig f a sorted)
+      listed (IsEquationAmong sig axioms f) equation_key (equations_are_one sig axioms f) axioms few
+      (λ a has. among_decided sig axioms f a sorted few)
 
   by_case : (b : Bool) → is_defined_kind kind ≡ b
       → (es : List Equation) × AreEquationsOf sig axioms f kind es
@@ -200,7 +207,7 @@ symbol_made : (sig : Signature) (axioms : List AxiomDeclaration) (marks : List B
     (declared : List ℕ × SymInfo) → IsSignature sig → AreFew axioms → HasPairs sig axioms
     → MarksTerms sig axioms marks → IsMade sig axioms declared
 symbol_made sig axioms marks declared sorted few pairs terms =
-    let bad = unreadables_found sig axioms declared.0 sorted in
+    let bad = unreadables_found sig axioms axioms declared.0 sorted few in
     let kind : SymKind = final_kind sig marks declared.1 bad.0 in
     let es = equations_found sig axioms declared.0 kind sorted few in record {
       made = (declared.0, record declared.1 { kind = kind });

@@ -9,7 +9,7 @@ use Rattle.std.proofs.lemmas.Bool.{false≢true}
 use Rattle.std.proofs.lemmas.Slice.Eq.{bytes_eq-Decides}
 use Rattle.kore_text.specs.Trees.{SortTree, PatternTree, AxiomDeclaration}
 use Rattle.term_core.specs.Patterns.{Pattern}
-use Rattle.rule_core.specs.Rules.{RewriteRule, Equation}
+use Rattle.rule_core.specs.Rules.{RewriteRule, Equation, Guard}
 use Rattle.rule_core.specs.WellSorted.{IsSignature}
 use Rattle.rule_core.specs.declared.signature.Signature.{Signature}
 use Rattle.rule_core.specs.declared.signature.SymInfo.{SymInfo}
@@ -40,8 +40,8 @@ use Rattle.kore_axioms.proofs.FirstLaws.{none_by_byte}
 use Rattle.kore_axioms.proofs.RuleLaws.{fine_rule}
 use Rattle.kore_equations.specs.BuiltEquations.{IsFine as IsFinePattern, AreFine, IsFineTest}
 use Rattle.kore_equations.specs.BuiltEquations.{AreFineSides}
-use Rattle.kore_equations.specs.ClearEquations.{clear_parts, are_bound}
-use Rattle.kore_equations.specs.EquationMeanings.{MeansEquation, IsUnreadable}
+use Rattle.kore_equations.specs.ClearEquations.{are_clear_parts, clear_parts, are_bound}
+use Rattle.kore_equations.specs.EquationMeanings.{MeansParts, MeansEquation, IsUnreadable}
 use Rattle.kore_equations.specs.ReadableSides.{all_read}
 use Rattle.kore_equations.specs.ReadableEquations.{IsReadable, condition_of_equation}
 use Rattle.kore_equations.proofs.ClassLaws.{function_declared}
@@ -66,13 +66,13 @@ extends_same : (vars more : Variables) → vars ≡ more → Extends vars more
 extends_same vars more same = subst (λ (vs : Variables). Extends vars vs) same (extends-refl vars)
 
 -- the condition and the right side mean something with these variables, if they have no others
-record AreMeant (sig : Signature) (vars : Variables) (test : Option PatternTree)
+pub record AreMeant (sig : Signature) (vars : Variables) (test : Option PatternTree)
     (right : PatternTree) : Type 0 where
   pub condition : Option Pattern
   pub means_condition : MeansTest sig vars test condition
   pub right_pattern : HasMeaning sig vars (unfolded right)
 
-are_meant : (sig : Signature) → IsSignature sig
+pub are_meant : (sig : Signature) → IsSignature sig
     → (qs : Unfoldeds) (test : Option PatternTree) (right : PatternTree)
     → ((p : PatternTree) → test ≡ Some p → IsFaultless sig (unfolded p))
     → IsFaultless sig (unfolded right) → (is_bound qs test && is_bound qs (Some right)) ≡ true
@@ -149,70 +149,90 @@ rule_found sig first a w sorted class clear =
 
 -- ---- equations
 
-are_faultless : (sig : Signature) (us : Unfoldeds) → AreFine sig us → AreFaultless sig us
+pub are_faultless : (sig : Signature) (us : Unfoldeds) → AreFine sig us → AreFaultless sig us
 are_faultless sig no_more h = tt
 are_faultless sig (and_more u us) h = ((h.0.clear, h.0.form), are_faultless sig us h.1)
 
 -- the axiom is an equation of its function, or is not readable
-abbrev IsRead : Signature → AxiomDeclaration → List ℕ → Type 0
+abbrev pub IsRead : Signature → AxiomDeclaration → List ℕ → Type 0
 IsRead sig a f = ((e : Equation) × MeansEquation sig f a e) ⊎ IsUnreadable sig f a
 
-tested_fine : (sig : Signature) (o : Option PatternTree) → IsFineTest sig o → (p : PatternTree)
+pub tested_fine : (sig : Signature) (o : Option PatternTree) → IsFineTest sig o → (p : PatternTree)
     → o ≡ Some p → IsFaultless sig (unfolded p)
 tested_fine sig None fine p is = absurd (let never : ⊥ = cc in never)
 tested_fine sig (Some q) fine p is =
     subst (λ (x : PatternTree). IsFaultless sig (unfolded x)) (let same : q ≡ p = cc in same)
     (fine.clear, fine.form)
 
-equation_of_parts : (sig : Signature) (a : AxiomDeclaration) (e : StatedEquation) (info : SymInfo)
-    (q : EquationParts) → IsSignature sig → axiom_class sig a ≡ equates e
-    → symbol_named sig e.function ≡ Some info → clear_parts sig a info e ≡ Some q
-    → are_bound sig e q ≡ true → (x : Equation) × MeansEquation sig e.function a x
-equation_of_parts sig a e info q sorted class declared clear bound =
+-- the equation of parts that are clear and bound, with these guards
+pub record IsMadeOfParts (sig : Signature) (a : AxiomDeclaration) (e : StatedEquation)
+    (q : EquationParts) (guards : Option (List Guard)) : Type 0 where
+  pub equation : Equation
+  pub means : MeansParts sig a e q equation
+  pub last_resort : equation.last_resort ≡ guards
+
+pub parts_found : (sig : Signature) (a : AxiomDeclaration) (e : StatedEquation) (info : SymInfo)
+    (q : EquationParts) (guards : Option (List Guard)) → IsSignature sig
+    → are_clear_parts sig a info e q ≡ true → are_bound sig e q ≡ true
+    → IsMadeOfParts sig a e q guards
+parts_found sig a e info q guards sorted clear bound =
     let c = condition_of_equation sig e q in
     let qs : Unfoldeds = all_read q.patterns in
-    let forms = fine_of_parts sig a info e q (clear_is sig a info e q clear).clear in
+    let forms = fine_of_parts sig a info e q clear in
     let f : AreFineSides sig q.patterns c = forms.sides in
     let fine : IsFinePattern sig (unfolded q.right) = forms.right in
     let vars : Variables = with_all_variables sig [] qs in
     let arguments = all_meanings sig sorted qs [] (are_faultless sig qs f.patterns) in
     let meant : AreMeant sig vars (tested_pattern c) q.right =
     are_meant sig sorted qs (tested_pattern c) q.right (tested_fine sig (tested_pattern c) f.test)
-    (fine.clear, fine.form) bound in (
-      record {
+    (fine.clear, fine.form) bound in
+    record {
+      equation = record {
         parameters = length q.parameters;
         arguments = arguments.0;
         names = names_in_all sig vars [] 0 qs;
-        last_resort = None;
+        last_resort = guards;
         condition = meant.condition;
         right = meant.right_pattern.0;
         variables = map (λ (v : List ℕ × ℕ). v.1) vars;
         priority = priority_of a.attributes;
         place = a.at;
-      },
+      };
+      means = record {
+        variables = vars;
+        numbered = refl;
+        parameters = refl;
+        means_arguments = arguments.1 vars (extends-refl vars);
+        names = refl;
+        means_condition = meant.means_condition;
+        means_right = meant.right_pattern.1 vars (extends-refl vars);
+        sorts = refl;
+        priority = refl;
+        place = refl;
+      };
+      last_resort = refl;
+    }
+
+equation_of_parts : (sig : Signature) (a : AxiomDeclaration) (e : StatedEquation) (info : SymInfo)
+    (q : EquationParts) → IsSignature sig → axiom_class sig a ≡ equates e
+    → symbol_named sig e.function ≡ Some info → clear_parts sig a info e ≡ Some q
+    → are_bound sig e q ≡ true → (x : Equation) × MeansEquation sig e.function a x
+equation_of_parts sig a e info q sorted class declared clear bound =
+    let made : IsMadeOfParts sig a e q None =
+    parts_found sig a e info q None sorted (clear_is sig a info e q clear).clear bound in (
+      made.equation,
       record {
         stated = e;
         info = info;
         states = record { class = class; function = refl; declared = declared };
         parts = q;
         readable = is_readable sig a info e q clear bound;
-        means = record {
-          variables = vars;
-          numbered = refl;
-          parameters = refl;
-          means_arguments = arguments.1 vars (extends-refl vars);
-          names = refl;
-          means_condition = meant.means_condition;
-          means_right = meant.right_pattern.1 vars (extends-refl vars);
-          sorts = refl;
-          priority = refl;
-          place = refl;
-        };
-        last_resort = refl;
+        means = made.means;
+        last_resort = made.last_resort;
       },
     )
 
-equation_read : (sig : Signature) (a : AxiomDeclaration) (e : StatedEquation) → IsSignature sig
+pub equation_read : (sig : Signature) (a : AxiomDeclaration) (e : StatedEquation) → IsSignature sig
     → axiom_class sig a ≡ equates e → IsRead sig a e.function
 equation_read sig a e sorted class = by_parts (clear_parts sig a declared.0 e) refl where
   declared : (info : SymInfo) × (symbol_named sig e.function ≡ Some info)
@@ -295,14 +315,6 @@ equation_decided sig f a sorted = by_reading (read_or_not sig f a sorted) where
   by_reading (inl (inl found)) = inl found
   by_reading (inl (inr bad)) = inr (λ e is. readable_or_not sig f a e is bad)
   by_reading (inr none) = inr none.0
-
-pub unreadable_decided : (sig : Signature) (f : List ℕ) (a : AxiomDeclaration) → IsSignature sig
-    → IsUnreadable sig f a ⊎ (IsUnreadable sig f a → ⊥)
-unreadable_decided sig f a sorted = by_reading (read_or_not sig f a sorted) where
-  by_reading : IsRead sig a f ⊎ IsNoOf sig f a → IsUnreadable sig f a ⊎ (IsUnreadable sig f a → ⊥)
-  by_reading (inl (inl found)) = inr (λ bad. readable_or_not sig f a found.0 found.1 bad)
-  by_reading (inl (inr bad)) = inl bad
-  by_reading (inr none) = inr none.1
 
 -- an axiom without faults is decided to be a rule or not
 pub rule_decided : (sig : Signature) (a : AxiomDeclaration) → IsSignature sig

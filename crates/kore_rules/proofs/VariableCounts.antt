@@ -60,7 +60,7 @@ abbrev pub listed_count : List PatternTree → ℕ
 listed_count [] = 0
 listed_count (p ∷ ps) = variable_count p + listed_count ps
 
-as_listed : (ps : PatternTrees) → variables_count ps ≡ listed_count (listed_patterns ps)
+pub as_listed : (ps : PatternTrees) → variables_count ps ≡ listed_count (listed_patterns ps)
 as_listed no_patterns = refl
 as_listed (pattern_then p ps) = ap (λ (n : ℕ). variable_count p + n) (as_listed ps)
 
@@ -71,7 +71,7 @@ as_trees (p ∷ ps) = ap (λ (n : ℕ). variable_count p + n) (as_trees ps)
 -- ---- patterns with their folds expanded
 
 abbrev mutual
-  read_count : Unfolded → ℕ
+  pub read_count : Unfolded → ℕ
   read_count (named_variable at n s) = 1
   read_count (written_value at s text byte) = 0
   read_count (applied_symbol at byte n ss us) = all_read_count us
@@ -163,7 +163,7 @@ folded_count at op ss (and_more u (and_more v us)) =
     connective_count at op ss (and_more u (and_more v us))
 
 mutual
-  unfolded_count : (p : PatternTree) → read_count (unfolded p) ≤ variable_count p
+  pub unfolded_count : (p : PatternTree) → read_count (unfolded p) ≤ variable_count p
   unfolded_count (element_variable at n s) = omega arith
   unfolded_count (set_variable at n s) = omega arith
   unfolded_count (string at text) = omega arith
@@ -314,12 +314,12 @@ main_count n misshapen p h e = absurd (let never : ⊥ = cc in never)
 
 -- ---- the statement of an equation
 
-mapped_there : {X Y : Type 0} (f : X → Y) (o : Option X) (y : Y) → option_map f o ≡ Some y
+pub mapped_there : {X Y : Type 0} (f : X → Y) (o : Option X) (y : Y) → option_map f o ≡ Some y
     → (x : X) × (o ≡ Some x) × (f x ≡ y)
 mapped_there f None y e = absurd (let never : ⊥ = cc in never)
 mapped_there f (Some x) y e = (x, refl, (let same : f x ≡ y = cc in same))
 
-then_there : {X Y : Type 0} (f : X → Option Y) (o : Option X) (y : Y) → option_and_then f o ≡ Some y
+pub then_there : {X Y : Type 0} (f : X → Option Y) (o : Option X) (y : Y) → option_and_then f o ≡ Some y
     → (x : X) × (o ≡ Some x) × (f x ≡ Some y)
 then_there f None y e = absurd (let never : ⊥ = cc in never)
 then_there f (Some x) y e = (x, refl, e)
@@ -492,7 +492,7 @@ conjuncts_with_count s Floor ts ps both is = absurd (let never : ⊥ = cc in nev
 conjuncts_with_count s Equals ts ps both is = absurd (let never : ⊥ = cc in never)
 conjuncts_with_count s Member ts ps both is = absurd (let never : ⊥ = cc in never)
 
-conjuncts_count : (s : SortTree) (p : PatternTree) (both : PatternTree × PatternTree)
+pub conjuncts_count : (s : SortTree) (p : PatternTree) (both : PatternTree × PatternTree)
     → conjuncts s p ≡ Some both → variable_count both.0 + variable_count both.1 ≤ variable_count p
 conjuncts_count s (element_variable at n t) both is = absurd (let never : ⊥ = cc in never)
 conjuncts_count s (set_variable at n t) both is = absurd (let never : ⊥ = cc in never)
@@ -568,7 +568,7 @@ entry_count r x g both is =
 
 -- the members of a guard have at most as many variables as the guard, and there is one for each
 -- variable
-members_count : (r : SortTree) (xs : List PatternTree) (g : PatternTree) (ps : List PatternTree)
+pub members_count : (r : SortTree) (xs : List PatternTree) (g : PatternTree) (ps : List PatternTree)
     → members r xs g ≡ Some ps → (listed_count ps ≤ variable_count g) × (length ps ≡ length xs)
 members_count r [] g ps is = by_case (is_top_of r g) is where
   by_case : (b : Bool) → cond b (Some []) None ≡ Some ps
@@ -606,7 +606,7 @@ alone_count (binder_applied at b ss x p) others h = absurd (false≢true h)
 alone_count (value_written at s text place) others h = absurd (false≢true h)
 alone_count (folded at left p) others h = absurd (false≢true h)
 
-apart_count : (xs others : List PatternTree) → occur_nowhere_else xs others ≡ true
+pub apart_count : (xs others : List PatternTree) → occur_nowhere_else xs others ≡ true
     → length xs ≤ listed_count xs
 apart_count [] others h = omega arith
 apart_count (x ∷ xs) others h =

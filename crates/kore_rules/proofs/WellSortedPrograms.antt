@@ -32,6 +32,7 @@ use Rattle.kore_rules.specs.Programs.{HasKind, as_declared, hooked_kind, without
 use Rattle.kore_rules.specs.Programs.{by_unreadable, equations_kind, IsSymbolOf, IsProgramUnder}
 use Rattle.kore_rules.specs.Programs.{IsTopOf}
 use Rattle.kore_rules.specs.RefusedTexts.{IsSortOfRules}
+use Rattle.kore_rules.proofs.AmongLaws.{among_parts}
 use Rattle.kore_rules.proofs.DeclaredKinds.{functions_plain, never_hooked, named_by_number}
 use Rattle.kore_rules.proofs.EquationSorts.{sorted_equation}
 use Rattle.kore_rules.proofs.KeptSorts.{IsKept, kept, kind_kept, declared_symbol, signature_kept}
@@ -219,13 +220,14 @@ equation_sorted d declared theory f info p (name, there) =
     All-weaker (Contains (equations_of theory f)) (IsSortedEquation theory.sig info)
     (λ e known.
     let is = ((p.program.equations f name info there).just e).0 known in
-    let r = is.1.2 in
+    let r = among_parts declared axioms name is.1.0 e is.1.2 in
     let infos : Some own ≡ Some r.info = sym named ∙ r.states.declared in
     let same : own ≡ r.info = cc in
     let kind : own.kind ≡ Equations =
     equations_declared declared axioms _ own info.kind of.kind is.0 in
     let plain : own.params ≡ 0 = functions_plain d declared f (name, own) p.signature at kind in
-    sorted_equation declared theory.sig axioms name is.1.0 e info is_kept p.sorted r
+    sorted_equation declared theory.sig axioms is.1.0 r.stated r.info r.parts e info is_kept
+    p.sorted r.readable r.means
     (ap (λ (i : SymInfo). i.params) (sym same) ∙ plain)
     (subst (λ (i : SymInfo). All (IsReference declared i.params) i.args.items) same
     (p.sorted.declared f own (name, at)).arguments)

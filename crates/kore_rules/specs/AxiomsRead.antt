@@ -1,6 +1,6 @@
 -- What has been read of the axioms so far.
 use Rattle.std.specs.Prelude.{◌≡◌, ◌↔◌, ◌≤◌, ◌==◌, ◌^◌, ℕ, Bool, List, map, length, Option, Some}
-use Rattle.std.specs.Prelude.{None, option_map, Contains, slice_index_or, count_by, IsTrue, false}
+use Rattle.std.specs.Prelude.{None, option_map, Contains, slice_index_or, count_by, IsTrue, false, not}
 use Rattle.std.specs.Borrow.{Bor}
 use Rattle.kore_text.specs.Trees.{SortTree, AxiomDeclaration}
 use Rattle.kore_ast.specs.Plain.{plain_sort, plain_axiom_decl}
@@ -18,7 +18,9 @@ use Rattle.kore_axioms.specs.AxiomClasses.{rewrites, axiom_class}
 use Rattle.kore_axioms.specs.AxiomMeanings.{MeansRule}
 use Rattle.kore_axioms.specs.NamedRules.{MeansNamedRule}
 use Rattle.kore_equations.specs.EquationMeanings.{MeansEquation, IsUnreadable}
-use Rattle.kore_rules.specs.KeptNames.{AreOf, IsSomeEquation}
+use Rattle.kore_equations.specs.NamedEquations.{MeansNamedEquation}
+use Rattle.kore_rules.specs.EquationsAmong.{is_last_resort}
+use Rattle.kore_rules.specs.KeptNames.{AreOf}
 use Rattle.kore_rules.specs.declared.axioms.Readings.{Readings}
 
 abbrev pub tree_at : Bor AxiomDecl → AxiomDeclaration
@@ -45,11 +47,23 @@ IsNumberedEquation sig a e =
 abbrev pub numbered_equation : Equation → ℕ × plain.Equation
 numbered_equation e = (e.fun.0, function_equation e)
 
--- one of the axioms is an equation of the function with this number, and is not readable
-abbrev pub HasUnreadable : Signature → List AxiomDeclaration → ℕ → Type 0
-HasUnreadable sig axioms n =
+-- the axiom is this equation, and the equation's variables have their names in the axiom
+abbrev pub IsNamedOrdinary : Signature → AxiomDeclaration → Equation → Type 0
+IsNamedOrdinary sig a e = (f : List ℕ) × MeansNamedEquation sig f a e
+
+-- one of the axioms states an equation of the function with this number, which is so
+abbrev pub HasStated : Signature → (List ℕ → AxiomDeclaration → Type 0) → List AxiomDeclaration
+    → ℕ → Type 0
+HasStated sig Is axioms n =
     (a : AxiomDeclaration) × Contains axioms a
-    × ((f : List ℕ) × (number_of_name sig.symbols f ≡ Some n) × IsUnreadable sig f a)
+    × ((f : List ℕ) × (number_of_name sig.symbols f ≡ Some n) × Is f a)
+
+-- the axiom states an equation that is not readable and none of the last resort
+abbrev pub IsUnreadableOrdinary : Signature → List ℕ → AxiomDeclaration → Type 0
+IsUnreadableOrdinary sig f a = (is_last_resort a ≡ false) × IsUnreadable sig f a
+
+abbrev pub is_ordinary : AxiomDeclaration → Bool
+is_ordinary a = not (is_last_resort a)
 
 -- the mark with this number is set
 abbrev pub is_marked : List Bool → ℕ → Bool
@@ -73,9 +87,11 @@ pub record HaveRead (sig : Signature) (axioms : List AxiomDeclaration) (read : R
   pub equations : AreRead (IsNumberedEquation sig) (λ (e : ℕ × plain.Equation). e.1.place) axioms
       (map numbered_equation read.equations.items)
   pub named_rules : AreOf (MeansNamedRule sig) axioms read.rules.items
-  pub named_equations : AreOf (IsSomeEquation sig) axioms read.equations.items
+  pub named_equations : AreOf (IsNamedOrdinary sig) axioms read.equations.items
+  pub ordinary : length read.equations.items ≤ count_by is_ordinary axioms
   pub marked : length read.unreadable.items ≡ length sig.symbols
-  pub unreadable : (n : ℕ) → IsTrue (is_marked read.unreadable.items n) ↔ HasUnreadable sig axioms n
+  pub unreadable : (n : ℕ) → IsTrue (is_marked read.unreadable.items n)
+      ↔ HasStated sig (IsUnreadableOrdinary sig) axioms n
 
 -- no place occurs twice
 abbrev pub AreApart : List (ℕ × ℕ) → Type 0

@@ -1,6 +1,7 @@
 -- Public: what public clauses say, and public definitions of other crates.
 pub mod GroundTerms
 pub mod FirstRefusal
+pub mod EquationsAmong
 pub mod KeptNames
 pub mod Programs
 pub mod Refused
@@ -16,5 +17,6 @@ pub mod GroundNotes
 pub mod AxiomsRead
 pub mod ScalarSorts
 pub mod TrialOrder
+pub mod LastResortsRead
 pub mod Starts
 pub mod MadePrograms

@@ -16,7 +16,7 @@ use Rattle.kore_sig.specs.SortReferences.{sort_number}
 use Rattle.kore_shapes.specs.Shapes.{Rewriting}
 use Rattle.kore_axioms.specs.AxiomClasses.{rewrites, axiom_class}
 use Rattle.kore_axioms.specs.AxiomMeanings.{MeansRule}
-use Rattle.kore_equations.specs.EquationMeanings.{MeansEquation, IsUnreadable}
+use Rattle.kore_rules.specs.EquationsAmong.{IsEquationAmong, IsUnreadableAmong}
 
 -- a hook has this name and this number, and the declaration fits it
 abbrev pub HasFittingHook : Signature → SymInfo → List ℕ → ℕ → Type 0
@@ -36,9 +36,9 @@ pub data HasKind (sig : Signature) (axioms : List AxiomDeclaration) (f : List �
       → option_map string_bytes info.hook ≡ Some name
       → ((row : ℕ) → HasFittingHook sig info name row → ⊥) → HasKind sig axioms f info Closed
   by_unreadable : {a : AxiomDeclaration} → info.kind ≡ Equations → info.hook ≡ None
-      → Contains axioms a → IsUnreadable sig f a → HasKind sig axioms f info Closed
+      → Contains axioms a → IsUnreadableAmong sig axioms f a → HasKind sig axioms f info Closed
   equations_kind : info.kind ≡ Equations → info.hook ≡ None →
-      ((a : AxiomDeclaration) → Contains axioms a → IsUnreadable sig f a → ⊥)
+      ((a : AxiomDeclaration) → Contains axioms a → IsUnreadableAmong sig axioms f a → ⊥)
       → HasKind sig axioms f info Equations
 
 -- a symbol of the program is the declared one, except for its kind
@@ -66,7 +66,7 @@ pub record AreEquationsOf (sig : Signature) (axioms : List AxiomDeclaration) (f 
     (es : List Equation) : Type 0 where
   pub just : (e : Equation) → Contains es e
       ↔ ((kind ≡ Equations) × ((a : AxiomDeclaration) × Contains axioms a
-      × MeansEquation sig f a e))
+      × IsEquationAmong sig axioms f a e))
   pub in_order : AreInOrder (map (λ (e : Equation). (e.priority, e.place)) es)
 
 -- The program of a definition whose declarations give the signature `declared`.

@@ -1,5 +1,5 @@
 -- Rules and equations in the order of trial, and the equations of each function.
-use Rattle.std.specs.Prelude.{◌==◌, ◌&&◌, ℕ, Bool, false, List, [], Vec, map, Option, Some, None}
+use Rattle.std.specs.Prelude.{◌==◌, ℕ, Bool, false, List, [], Vec, map, Option, Some, None}
 use Rattle.std.specs.Prelude.{slice_index_or, slice_get}
 use Rattle.std.specs.Global.{Global}
 use Rattle.rule_core.specs.declared.rules.Equation.{Equation}
@@ -22,9 +22,9 @@ is_by_equations (Some e) = is_defined_kind e.1.kind
 abbrev pub has_equations : List (List ℕ × SymInfo) → ℕ → Bool
 has_equations symbols n = is_by_equations (slice_get symbols n)
 
--- the equation is one of this function, and the function has the values of its equations
-abbrev pub belongs_to : List (List ℕ × SymInfo) → ℕ → Equation → Bool
-belongs_to symbols n e = (e.fun.0 == n) && has_equations symbols e.fun.0
+-- the equation is one of the function with this number
+abbrev pub is_of : ℕ → Equation → Bool
+is_of n e = e.fun.0 == n
 
 -- the equations that are listed for the function with this number
 abbrev pub listed_at : List (Vec Equation Global) → ℕ → List Equation

@@ -25,8 +25,9 @@ ghost use Rattle.kore_rules.specs.RefusedTexts.{RefusesFor, top_of, number_of_so
 
 use crate::axioms::{Readings, read_axioms};
 use crate::declared::{axioms_of, signature_of};
+use crate::equations::{Listed, all_equations};
 use crate::kinds::final_symbols;
-use crate::order::{by_function, put_equations_in_order, put_rules_in_order};
+use crate::order::{empty_others, put_rules_in_order};
 use crate::sorts::sorts_with_terms;
 use crate::start::start_of;
 use crate::texts::{definition_in, pattern_in};
@@ -40,14 +41,16 @@ use std::alloc::{AllocError, Global};
 use term_core::{RulePat, SortId};
 
 /// Returns the program that a definition means. Each variable of a rule occurs in its left side,
-/// and each variable of an equation occurs in its arguments. A variable has its name in the text.
+/// and each variable of an equation occurs in its arguments. A guard lists each variable of the
+/// equation that it repeats. A variable has its name in the text.
 ///
 /// The error is the first fault of the text, or else that of its declarations, or else that of its
 /// axioms in the order of the file, or that memory ran out.
 ///
 /// It goes through the text a few times, and through each declaration a few times, with a look-up
-/// for each name. It sorts the rules and the equations. Its recursion is no deeper than the open
-/// brackets of the text.
+/// for each name. It sorts the rules and the equations. It compares each guard of an equation of the
+/// last resort with the other equations of its function, until one is found that the guard repeats.
+/// Its recursion is no deeper than the open brackets of the text.
 pub fn accept(alloc: Global, bytes: &[u8]) -> Result<Program, Refusal>
     requires { length bytes.now < 2 ^ 32 }
     ensures accepted { IfOk result (λ p. IsAccepted bytes.now (theory_of p) (top_of p)) }
@@ -132,12 +135,14 @@ fn program_under(
     ensures own { IfOk result ListsOwnEquations }
 {
     let with_terms = sorts_with_terms(alloc, &sig, axioms)?;
-    let symbols = final_symbols(alloc, hasher, &sig, &with_terms, &readings.unreadable)?;
     let mut rules = readings.rules;
     put_rules_in_order(&mut rules)?;
-    let mut equations = readings.equations;
-    put_equations_in_order(&mut equations)?;
-    let equations = by_function(alloc, &symbols, equations)?;
+    let Listed {
+        lists: mut equations,
+        unreadable,
+    } = all_equations(alloc, &sig, axioms, readings.equations, readings.unreadable)?;
+    let symbols = final_symbols(alloc, hasher, &sig, &with_terms, &unreadable)?;
+    empty_others(alloc, &symbols, &mut equations);
     let sig = Signature {
         sorts: sig.sorts,
         symbols,

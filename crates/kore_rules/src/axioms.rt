@@ -16,6 +16,7 @@ ghost use Rattle.kore_rules.specs.FirstRefusal.{FirstOfClass, FirstOfAxioms};
 ghost use Rattle.kore_rules.specs.FirstRefusal.{first_sort as the_first_sort};
 ghost use Rattle.kore_rules.specs.RefusedTexts.{RefusesFor};
 
+use crate::last_resorts::is_last_resort;
 use kore_ast::{AxiomDecl, Sort};
 use kore_axioms::{AxiomClass, Refusal, checked_rule, class_of};
 use kore_equations::{Reading, read_equation};
@@ -28,9 +29,9 @@ use std::alloc::{AllocError, Global};
 pub(crate) struct Readings {
     /// The rewrite rules, in the order of the file.
     pub(crate) rules: Vec<Rule>,
-    /// The equations of all functions, in the order of the file.
+    /// The equations of all functions, in the order of the file, without those of the last resort.
     pub(crate) equations: Vec<Equation>,
-    /// For each symbol, by its number: whether it has an equation that is not readable.
+    /// For each symbol, by its number: whether it has such an equation that is not readable.
     pub(crate) unreadable: Vec<bool>,
 }
 
@@ -152,7 +153,8 @@ fn add_rule(
     Ok(())
 }
 
-/// Adds the equation that an axiom is, or marks its function if the equation is not readable.
+/// Adds the equation that an axiom is, or marks its function if the equation is not readable. An
+/// equation of the last resort is passed over, since it is read beside the others.
 fn add_equation(
     alloc: Global,
     sig: &Signature,
@@ -168,6 +170,9 @@ fn add_equation(
     ensures { OnOk result ((axioms : List AxiomDeclaration) → HaveRead sig.now axioms readings.old →
         HaveRead sig.now (axioms ++ plain_axiom_decl decl.now ∷ []) readings.new) }
 {
+    if is_last_resort(decl) {
+        return Ok(());
+    }
     match read_equation(alloc, sig, decl, stated)? {
         Reading::Equation(equation) => {
             readings.equations.push(equation)?;

@@ -4,7 +4,7 @@ ghost use Rattle.std.specs.Prelude.{IfOk, OnOk, if◌then◌else◌};
 ghost use Rattle.std.specs.List.Sorted.{IsPermutation};
 ghost use Rattle.rule_core.specs.Rules.{AreInOrder};
 ghost use Rattle.kore_rules.specs.AxiomsRead.{AreApart};
-ghost use Rattle.kore_rules.specs.TrialOrder.{rule_key, equation_key, belongs_to, listed_at};
+ghost use Rattle.kore_rules.specs.TrialOrder.{rule_key, equation_key, is_of, listed_at};
 ghost use Rattle.kore_rules.specs.TrialOrder.{has_equations as does_have};
 
 use rule_core::{Equation, Rule, SymInfo, SymKind, Table};
@@ -30,40 +30,50 @@ pub(crate) fn put_equations_in_order(equations: &mut Vec<Equation>) -> Result<()
     Ok(())
 }
 
-/// The equations of each function, by its number, in the order given. A symbol of another kind has
-/// none.
+/// The equations of each function, by its number, in the order given. There are `len` numbers.
 pub(crate) fn by_function(
     alloc: Global,
-    symbols: &Table<SymInfo>,
+    len: usize,
     equations: Vec<Equation>,
 ) -> Result<Vec<Vec<Equation>>, AllocError>
-    requires { All (λ e. e.fun.0 < length symbols.now) equations.items }
-    ensures len { IfOk result (λ lists. length lists.items ≡ length symbols.now) }
+    requires { All (λ e. e.fun.0 < len) equations.items }
+    ensures len { IfOk result (λ lists. length lists.items ≡ len) }
     ensures listed { IfOk result (λ lists. (n : ℕ) → listed_at lists.items n
-        ≡ filter (belongs_to symbols.now n) equations.items) }
+        ≡ filter (is_of n) equations.items) }
 {
-    let mut lists = empty_lists(alloc, symbols.len())?;
-    for equation in equations {
-        place(symbols, equation, &mut lists)?;
-    }
+    let mut lists = empty_lists(alloc, len)?;
+    add_all(equations, &mut lists)?;
     Ok(lists)
 }
 
-/// Adds an equation to the list of its function, if the function has the values of its equations.
-fn place(
-    symbols: &Table<SymInfo>,
-    equation: Equation,
+/// Adds each equation to the list of its function, in the order given.
+pub(crate) fn add_all(
+    equations: Vec<Equation>,
     lists: &mut Vec<Vec<Equation>>,
 ) -> Result<(), AllocError>
-    requires { equation.fun.0 < length lists.old.items }
+    requires { All (λ e. e.fun.0 < length lists.old.items) equations.items }
     ensures len { OnOk result (length lists.new.items ≡ length lists.old.items) }
     ensures listed { OnOk result ((n : ℕ) → listed_at lists.new.items n
-        ≡ listed_at lists.old.items n ++ filter (belongs_to symbols.now n) (equation ∷ [])) }
+        ≡ listed_at lists.old.items n ++ filter (is_of n) equations.items) }
 {
-    if has_equations(symbols, equation.fun.0 as usize) {
+    for equation in equations {
         add(equation, lists)?;
     }
     Ok(())
+}
+
+/// Empties the lists of the symbols that are no functions with the values of their equations.
+pub(crate) fn empty_others(alloc: Global, symbols: &Table<SymInfo>, lists: &mut Vec<Vec<Equation>>)
+    requires { length lists.old.items ≡ length symbols.now }
+    ensures len { length lists.new.items ≡ length lists.old.items }
+    ensures listed { (n : ℕ) → listed_at lists.new.items n
+        ≡ (if does_have symbols.now n then listed_at lists.old.items n else []) }
+{
+    for number in 0..lists.len() {
+        if !has_equations(symbols, number) {
+            lists[number] = Vec::new(alloc);
+        }
+    }
 }
 
 /// Whether the function with this number has the values of its equations.

@@ -18,6 +18,8 @@ mod check;
 #[cfg(test)]
 mod equations;
 #[cfg(test)]
+mod last_resort_programs;
+#[cfg(test)]
 mod last_resort_readings;
 #[cfg(test)]
 mod last_resorts;

@@ -1,9 +1,9 @@
 -- Quantifiers, added one by one, and variables as arguments.
-use Rattle.std.proofs.Common.{◌≡◌, ◌≢◌, ℕ, ◌+◌, ◌-◌, ◌<◌, ◌≤◌, zero, suc, List, [], ◌∷◌, ◌++◌}
+use Rattle.std.proofs.Common.{◌≡◌, ℕ, ◌+◌, ◌<◌, zero, suc, List, [], ◌∷◌, ◌++◌}
 use Rattle.std.proofs.Common.{Option, Some, refl, sym, ◌∙◌, ap, subst, length, take, drop, get_or}
 use Rattle.std.proofs.Common.{map, arith}
-use Rattle.std.proofs.lemmas.List.{take_more, drop_more, map-append}
-use Rattle.ml_pat.specs.Patterns.{Pattern, app, and, var, all}
+use Rattle.std.proofs.lemmas.List.{take_more, map-append}
+use Rattle.ml_pat.specs.Patterns.{Pattern, app, and, var, ex, all}
 use Rattle.term_core.specs.RulePatterns.{sort_numbers}
 use Rattle.term_core.specs.declared.ids.SortId.{SortId}
 use Rattle.rule_core.specs.ProgramView.{sorts_of}
@@ -12,8 +12,8 @@ use Rattle.rule_core.specs.declared.signature.Signature.{Signature}
 use Rattle.rule_core.specs.declared.signature.SortRef.{SortRef}
 use Rattle.rule_core.specs.declared.signature.SortRef.TheVariants.{Param, Sort}
 use Rattle.ml_image.specs.Images.{both, sort_image}
-use Rattle.ml_image.specs.Sentences.{Sentence, sentence_image, for_all, variables, apply_all}
-use Rattle.ml_image.specs.Sentences.{conjunctions}
+use Rattle.ml_image.specs.Sentences.{Sentence, sentence_image, for_all, for_some, variables}
+use Rattle.ml_image.specs.Sentences.{apply_all, conjunctions}
 use Rattle.ml_image.specs.OwnAxioms.{sort_numbered}
 use Rattle.ml_image.specs.Counted.{at_variables, at_pairs}
 use Rattle.ml_image.specs.Gained.{HasGained}
@@ -86,6 +86,29 @@ closed-next sig old new ss i j d s made n is low gained before sort =
     ∙ ap (λ (o : Option ℕ). both (all j) o
     (sentence_image sig new (for_all (j + 1) (drop (j + 1) (sort_numbers ss)) s))) sort
     ∙ ap (λ (o : Option Pattern). both (all j) (Some n) o) below
+
+-- the same for existential quantifiers, whose variables are numbered from k
+pub some_closed-next : (sig : Signature) (old new : List (List ℕ)) (ss : List SortId)
+    (k i j : ℕ) (d : SortId) (s : Sentence) (made : Pattern) (n : ℕ) → i ≡ j + 1 → j < length ss
+    → HasGained sig old new
+    → sentence_image sig old (for_some (k + i) (drop i (sort_numbers ss)) s) ≡ Some made
+    → sort_image sig new (get_or ss j d).0 ≡ Some n
+    → sentence_image sig new (for_some (k + j) (drop j (sort_numbers ss)) s)
+    ≡ Some (ex (k + j) n made)
+some_closed-next sig old new ss k i j d s made n is low gained before sort =
+    let further : k + i ≡ k + j + 1 = omega (arith, is) in
+    let below : sentence_image sig new
+    (for_some (k + j + 1) (drop (j + 1) (sort_numbers ss)) s) ≡ Some made =
+    ap (λ (m : ℕ). sentence_image sig new
+    (for_some m (drop (j + 1) (sort_numbers ss)) s)) (sym further)
+    ∙ ap (λ (m : ℕ). sentence_image sig new (for_some (k + i) (drop m (sort_numbers ss)) s))
+    (sym is)
+    ∙ gained-sentence sig old new (for_some (k + i) (drop i (sort_numbers ss)) s) gained made
+    before in
+    ap (λ (ns : List ℕ). sentence_image sig new (for_some (k + j) ns s)) (numbers-drop ss j d low)
+    ∙ ap (λ (o : Option ℕ). both (ex (k + j)) o (sentence_image sig new
+    (for_some (k + j + 1) (drop (j + 1) (sort_numbers ss)) s))) sort
+    ∙ ap (λ (o : Option Pattern). both (ex (k + j)) (Some n) o) below
 
 -- ---- applications to variables
 

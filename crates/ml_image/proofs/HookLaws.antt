@@ -1,6 +1,6 @@
 -- The arguments at which hooks have values: one or two, of the hook's kinds.
-use Rattle.std.proofs.Common.{◌≡◌, ◌≢◌, ℤ, ℕ, ◌⊎◌, get_or, arith, List, [], ◌∷◌, Option, Some, None}
-use Rattle.std.proofs.Common.{Result, Ok, Err, option_map, length, map, slice_get, inl, inr, refl}
+use Rattle.std.proofs.Common.{◌≡◌, ◌≢◌, ℕ, ◌⊎◌, get_or, arith, List, [], ◌∷◌, Option, Some, None}
+use Rattle.std.proofs.Common.{Result, Ok, option_map, length, map, slice_get, inl, inr, refl}
 use Rattle.std.proofs.Common.{sym, ◌∙◌, ap, suc}
 use Rattle.term_core.specs.Terms.{DomainValue}
 use Rattle.term_core.specs.Values.{scalar_value}

@@ -16,7 +16,7 @@ use Rattle.term_core.specs.Patterns.{domain_value, application, injection, call,
 use Rattle.term_core.specs.Patterns.{more_patterns}
 use Rattle.rule_core.specs.declared.signature.Signature.{Signature}
 use Rattle.ml_image.specs.Tokens.{token_of_sort, token_of_symbol, token_of_value, number_in_names}
-use Rattle.ml_image.specs.Images.{both, symbol_image, sort_image, at_sorts, image_of, applied}
+use Rattle.ml_image.specs.Images.{both, symbol_image, at_sorts, image_of, applied}
 use Rattle.ml_image.specs.Images.{some_symbol_image, injection_symbol, injection_image}
 use Rattle.rule_core.specs.KindTests.{is_injection}
 use Rattle.ml_image.specs.Injecting.{IsInjectionAt}

@@ -12,3 +12,4 @@ pub mod SideLaws
 pub mod ApartLaws
 pub mod HookLaws
 pub mod WellSortedLaws
+pub mod LastResortLaws

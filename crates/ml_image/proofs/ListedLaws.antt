@@ -3,7 +3,7 @@
 use Rattle.std.proofs.Common.{◌≡◌, ℕ, ◌+◌, ◌<◌, ◌≤◌, zero, suc, List, [], ◌∷◌, ◌++◌, Option, Some}
 use Rattle.std.proofs.Common.{option_map, refl, sym, ◌∙◌, ap, length, take, drop, get_or, map}
 use Rattle.std.proofs.Common.{arith}
-use Rattle.std.proofs.lemmas.List.{take_more, drop_more, get_or-map}
+use Rattle.std.proofs.lemmas.List.{drop_more}
 use Rattle.std.proofs.Math.Seq.{drop-length, take_all}
 use Rattle.ml_pat.specs.Patterns.{Pattern, app, and, member, var, constant}
 use Rattle.term_core.specs.Terms.{DomainValue}
@@ -17,16 +17,16 @@ use Rattle.term_core.specs.declared.rule_patterns.RulePat.{RulePat}
 use Rattle.rule_core.specs.Sorting.{HasValue}
 use Rattle.rule_core.specs.declared.signature.Signature.{Signature}
 use Rattle.ml_image.specs.Tokens.{token_of_value, number_in_names}
-use Rattle.ml_image.specs.Images.{both, image_of, applied, shifted, all_shifted}
+use Rattle.ml_image.specs.Images.{both, image_of, applied, renamed, all_renamed}
 use Rattle.ml_image.specs.Sentences.{sentence_image}
 use Rattle.ml_image.specs.NamedSides.{left_sentence, of_child}
-use Rattle.ml_image.specs.OwnAxioms.{meets}
-use Rattle.ml_image.specs.PartNames.{left_behind, names_behind}
+use Rattle.ml_image.specs.Premises.{meets}
+use Rattle.ml_image.specs.PartNames.{left_renamed, names_renamed}
 use Rattle.ml_image.specs.TrueFacts.{HaveValues, value_patterns}
 use Rattle.ml_image.specs.Gained.{HasGained}
 use Rattle.ml_image.proofs.ImageLaws.{gained-applied}
 use Rattle.ml_image.proofs.NamingLaws.{gained-sentence}
-use Rattle.ml_image.proofs.NamedLaws.{of_child-behind}
+use Rattle.ml_image.proofs.NamedLaws.{of_child-renamed}
 use Rattle.rule_core.specs.NamedParts.{Name}
 
 -- ---- values
@@ -162,41 +162,41 @@ one_default (v ∷ vs) (suc i) d e low = one_default vs i d e (omega (arith, low
 
 -- ---- parameters
 
-pub meets-none : (k : ℕ) (first : ℕ) (names : List Name) (args : List RulePat)
-    → meets names k (all_shifted first (plain_patterns (drop (length args) args)))
-    ≡ meets names k (all_shifted first (plain_patterns []))
-meets-none k first names args =
-    ap (λ (ps : List RulePat). meets names k (all_shifted first (plain_patterns ps)))
+pub meets-none : (k : ℕ) (g : ℕ → ℕ) (names : List Name) (args : List RulePat)
+    → meets names k (all_renamed g (plain_patterns (drop (length args) args)))
+    ≡ meets names k (all_renamed g (plain_patterns []))
+meets-none k g names args =
+    ap (λ (ps : List RulePat). meets names k (all_renamed g (plain_patterns ps)))
     (drop-length args)
 
-pub meets-next : (sig : Signature) (old new : List (List ℕ)) (first : ℕ) (names : List Name)
+pub meets-next : (sig : Signature) (old new : List (List ℕ)) (g : ℕ → ℕ) (names : List Name)
     (args : List RulePat) (i j : ℕ) (a : RulePat) (made p : Pattern) → i ≡ j + 1
     → j < length args → a ≡ get_or args j a → HasGained sig old new
     → sentence_image sig old
-    (meets (names_behind first names) i (all_shifted first (plain_patterns (drop i args))))
+    (meets (names_renamed g names) i (all_renamed g (plain_patterns (drop i args))))
     ≡ Some made
-    → sentence_image sig new (left_behind first (of_child j names) (plain_pattern a)) ≡ Some p
+    → sentence_image sig new (left_renamed g (of_child j names) (plain_pattern a)) ≡ Some p
     → sentence_image sig new
-    (meets (names_behind first names) j (all_shifted first (plain_patterns (drop j args))))
+    (meets (names_renamed g names) j (all_renamed g (plain_patterns (drop j args))))
     ≡ Some (and (member (var j) p) made)
-meets-next sig old new first names args i j a made p is low at gained before argument =
-    let ns : List Name = names_behind first names in
+meets-next sig old new g names args i j a made p is low at gained before argument =
+    let ns : List Name = names_renamed g names in
     let front : drop j args ≡ a ∷ drop (j + 1) args =
     drop_more args j a low ∙ ap (λ (b : RulePat). b ∷ drop (j + 1) args) (sym at) in
     let below : sentence_image sig new
-    (meets ns (j + 1) (all_shifted first (plain_patterns (drop (j + 1) args)))) ≡ Some made =
+    (meets ns (j + 1) (all_renamed g (plain_patterns (drop (j + 1) args)))) ≡ Some made =
     ap (λ (k : ℕ).
-    sentence_image sig new (meets ns k (all_shifted first (plain_patterns (drop k args)))))
+    sentence_image sig new (meets ns k (all_renamed g (plain_patterns (drop k args)))))
     (sym is)
-    ∙ gained-sentence sig old new (meets ns i (all_shifted first (plain_patterns (drop i args))))
+    ∙ gained-sentence sig old new (meets ns i (all_renamed g (plain_patterns (drop i args))))
     gained made before in
     let argument' : sentence_image sig new
-    (left_sentence (of_child j ns) (shifted first (plain_pattern a))) ≡ Some p =
+    (left_sentence (of_child j ns) (renamed g (plain_pattern a))) ≡ Some p =
     ap (λ (ms : List Name).
-    sentence_image sig new (left_sentence ms (shifted first (plain_pattern a))))
-    (of_child-behind j first names) ∙ argument in
+    sentence_image sig new (left_sentence ms (renamed g (plain_pattern a))))
+    (of_child-renamed j g names) ∙ argument in
     ap (λ (bs : List RulePat).
-    sentence_image sig new (meets ns j (all_shifted first (plain_patterns bs)))) front
+    sentence_image sig new (meets ns j (all_renamed g (plain_patterns bs)))) front
     ∙ ap (λ (o : Option Pattern). both and (both member (Some (var j)) o) (sentence_image sig new
-    (meets ns (j + 1) (all_shifted first (plain_patterns (drop (j + 1) args)))))) argument'
+    (meets ns (j + 1) (all_renamed g (plain_patterns (drop (j + 1) args)))))) argument'
     ∙ ap (λ (o : Option Pattern). both and (Some (member (var j) p)) o) below

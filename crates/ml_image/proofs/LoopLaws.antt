@@ -12,41 +12,41 @@ use Rattle.term_core.specs.declared.ids.SortId.{SortId}
 use Rattle.rule_core.specs.declared.signature.Signature.{Signature}
 use Rattle.ml_image.specs.Tokens.{token_of_sort, number_in_names}
 use Rattle.rule_core.specs.Sorting.{AreSorts}
-use Rattle.ml_image.specs.Images.{both, at_sorts, image_of, applied, shifted, all_shifted}
+use Rattle.ml_image.specs.Images.{both, at_sorts, image_of, applied, renamed, all_renamed}
 use Rattle.ml_image.specs.HasImages.{HasImage, HaveImages}
 use Rattle.ml_image.specs.Gained.{HasGained}
 use Rattle.ml_image.proofs.ImageLaws.{gained-at_sorts, gained-applied}
 
-applied-push : (sig : Signature) (names : List (List ℕ)) (k : ℕ) (ps : List RulePattern)
+applied-push : (sig : Signature) (names : List (List ℕ)) (g : ℕ → ℕ) (ps : List RulePattern)
     (p : RulePattern) (head : Option Pattern)
-    → applied sig names head (all_shifted k (patterns (ps ++ p ∷ [])))
-    ≡ both app (applied sig names head (all_shifted k (patterns ps)))
-    (image_of sig names (shifted k p))
-applied-push sig names k [] p head = refl
-applied-push sig names k (q ∷ ps) p head =
-    applied-push sig names k ps p (both app head (image_of sig names (shifted k q)))
+    → applied sig names head (all_renamed g (patterns (ps ++ p ∷ [])))
+    ≡ both app (applied sig names head (all_renamed g (patterns ps)))
+    (image_of sig names (renamed g p))
+applied-push sig names g [] p head = refl
+applied-push sig names g (q ∷ ps) p head =
+    applied-push sig names g ps p (both app head (image_of sig names (renamed g q)))
 
-pub applied-next : (sig : Signature) (old new : List (List ℕ)) (k : ℕ) (head : Pattern)
+pub applied-next : (sig : Signature) (old new : List (List ℕ)) (g : ℕ → ℕ) (head : Pattern)
     (ps : List RulePat) (i : ℕ) (p : RulePat) (made a : Pattern) → HasGained sig old new
     → i < length ps → p ≡ get_or ps i p
-    → applied sig old (Some head) (all_shifted k (plain_patterns (take i ps))) ≡ Some made
-    → image_of sig new (shifted k (plain_pattern p)) ≡ Some a
-    → applied sig new (Some head) (all_shifted k (plain_patterns (take (i + 1) ps)))
+    → applied sig old (Some head) (all_renamed g (plain_patterns (take i ps))) ≡ Some made
+    → image_of sig new (renamed g (plain_pattern p)) ≡ Some a
+    → applied sig new (Some head) (all_renamed g (plain_patterns (take (i + 1) ps)))
     ≡ Some (app made a)
-applied-next sig old new k head ps i p made a g lt e before arg =
+applied-next sig old new g head ps i p made a gained lt e before arg =
     let front : take (i + 1) ps ≡ take i ps ++ p ∷ [] =
     take_more ps i p lt ∙ ap (λ (q : RulePat). take i ps ++ q ∷ []) (sym e) in
     let listed : map plain_pattern (take (i + 1) ps) ≡ map plain_pattern (take i ps) ++
     plain_pattern p ∷ [] =
     ap (λ (qs : List RulePat). map plain_pattern qs) front
     ∙ map-append plain_pattern (take i ps) (p ∷ []) in
-    let kept : applied sig new (Some head) (all_shifted k (plain_patterns (take i ps))) ≡ Some
+    let kept : applied sig new (Some head) (all_renamed g (plain_patterns (take i ps))) ≡ Some
     made =
-    gained-applied sig old new (all_shifted k (plain_patterns (take i ps))) (Some head) (Some head)
-    g (λ q h. h) made before in
-    ap (λ (qs : List RulePattern). applied sig new (Some head) (all_shifted k (patterns qs))) listed
-    ∙ applied-push sig new k (map plain_pattern (take i ps)) (plain_pattern p) (Some head)
-    ∙ ap (λ (o : Option Pattern). both app o (image_of sig new (shifted k (plain_pattern p)))) kept
+    gained-applied sig old new (all_renamed g (plain_patterns (take i ps))) (Some head) (Some head)
+    gained (λ q h. h) made before in
+    ap (λ (qs : List RulePattern). applied sig new (Some head) (all_renamed g (patterns qs))) listed
+    ∙ applied-push sig new g (map plain_pattern (take i ps)) (plain_pattern p) (Some head)
+    ∙ ap (λ (o : Option Pattern). both app o (image_of sig new (renamed g (plain_pattern p)))) kept
     ∙ ap (λ (o : Option Pattern). both app (Some made) o) arg
 
 at_sorts-push : (sig : Signature) (names : List (List ℕ)) (ss : List ℕ) (s : ℕ)

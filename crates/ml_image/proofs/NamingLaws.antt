@@ -1,13 +1,14 @@
 -- Images do not change when names gain tokens.
-use Rattle.std.proofs.Common.{◌≡◌, ℕ, List, [], ◌∷◌, ◌++◌, Some, length, drop, refl, ap, ◌∙◌, sym}
+use Rattle.std.proofs.Common.{◌≡◌, ℕ, List, [], ◌∷◌, ◌++◌, length, drop, refl, ap, ◌∙◌, sym}
 use Rattle.std.proofs.Common.{subst}
 use Rattle.ml_pat.specs.Patterns.{Pattern}
 use Rattle.ml_pat.specs.Patterns as logic
 use Rattle.rule_core.specs.declared.signature.Signature.{Signature}
 use Rattle.ml_image.specs.Tokens.{token_of_sort}
-use Rattle.ml_image.specs.Images.{image_of}
-use Rattle.ml_image.specs.Sentences.{Sentence, term, symbol, inject, apply, top, not, and, implies}
-use Rattle.ml_image.specs.Sentences.{equals, is_in, functional, exists, forall, next, sentence_image}
+use Rattle.ml_image.specs.Sentences.{Sentence, term, symbol, inject, apply, top, bottom, not}
+use Rattle.ml_image.specs.Sentences.{and, or, implies, equals, is_in, functional, exists, forall}
+use Rattle.ml_image.specs.Sentences.{next}
+use Rattle.ml_image.specs.Sentences.{sentence_image}
 use Rattle.ml_image.specs.Gained.{AreOwnTokens, HasGained}
 use Rattle.ml_image.proofs.ImageLaws.{Keeps, both-keeps, map-keeps, numbered-keeps, symbol-keeps}
 use Rattle.ml_image.proofs.ImageLaws.{image-keeps, injection-keeps}
@@ -33,9 +34,12 @@ sentence-keeps sig names more (inject a b) = injection-keeps sig names more a b
 sentence-keeps sig names more (apply p q) =
     both-keeps logic.app _ _ _ _ (sentence-keeps sig names more p) (sentence-keeps sig names more q)
 sentence-keeps sig names more top = λ m h. h
+sentence-keeps sig names more bottom = λ m h. h
 sentence-keeps sig names more (not p) = map-keeps logic.not _ _ (sentence-keeps sig names more p)
 sentence-keeps sig names more (and p q) =
     both-keeps logic.and _ _ _ _ (sentence-keeps sig names more p) (sentence-keeps sig names more q)
+sentence-keeps sig names more (or p q) =
+    both-keeps logic.or _ _ _ _ (sentence-keeps sig names more p) (sentence-keeps sig names more q)
 sentence-keeps sig names more (implies p q) =
     both-keeps logic.imp _ _ _ _ (sentence-keeps sig names more p) (sentence-keeps sig names more q)
 sentence-keeps sig names more (equals p q) =

@@ -2,13 +2,13 @@
 -- gained tokens later.
 use Rattle.std.proofs.Common.{◌≡◌, ◌≢◌, ℕ, ◌+◌, ◌⊎◌, inl, inr, suc, List, [], ◌∷◌, ◌++◌, Option}
 use Rattle.std.proofs.Common.{Some, None, option_map, Result, IfOk, refl, sym, ◌∙◌, ap, length}
-use Rattle.std.proofs.Common.{slice_get, map, Contains, arith}
+use Rattle.std.proofs.Common.{slice_get, map, Contains, subst, arith}
+use Rattle.std.specs.Prelude.{IfSome, All, ◌<◌, ◌^◌}
 use Rattle.ml_pat.specs.Patterns.{Pattern}
 use Rattle.ml_pat.specs.Patterns as logic
-use Rattle.term_core.specs.Patterns.{Pattern as RulePattern, Patterns as RulePatterns, variable}
-use Rattle.term_core.specs.Patterns.{domain_value, application, injection, call, no_pattern}
-use Rattle.term_core.specs.Patterns.{more_patterns}
-use Rattle.rule_core.specs.Rules.{RewriteRule, Equation}
+use Rattle.term_core.specs.Patterns.{Pattern as RulePattern, variable}
+use Rattle.term_core.specs.Patterns.{domain_value, application, injection, call}
+use Rattle.rule_core.specs.Rules.{RewriteRule, Equation, Guard}
 use Rattle.rule_core.specs.declared.signature.Signature.{Signature}
 use Rattle.rule_core.specs.declared.signature.SortRef.{SortRef}
 use Rattle.rule_core.specs.declared.signature.SortRef.TheVariants.{Param, Sort}
@@ -16,22 +16,29 @@ use Rattle.rule_core.specs.declared.signature.SymInfo.{SymInfo}
 use Rattle.rule_core.specs.Subsorts.{IsBelow}
 use Rattle.rule_core.specs.Sorting.{IsSymbol}
 use Rattle.ml_image.specs.Images.{both, image_of, applied, symbol_image, sort_image}
-use Rattle.ml_image.specs.Images.{injection_image, shifted, all_shifted}
-use Rattle.ml_image.specs.Sentences.{Sentence, term, symbol, and, implies, equals, exists, next}
-use Rattle.ml_image.specs.Sentences.{sentence_image, for_all, variables, IsImageOf}
+use Rattle.ml_image.specs.Images.{injection_image, shifted, all_renamed}
+use Rattle.ml_image.specs.Sentences.{Sentence, term, symbol, not, and, implies, equals, exists}
+use Rattle.ml_image.specs.Sentences.{next}
+use Rattle.ml_image.specs.Sentences.{sentence_image, for_all, IsImageOf}
 use Rattle.ml_image.specs.NamedSides.{left_sentence, applied_sides, of_child}
-use Rattle.ml_image.specs.PartNames.{names_behind}
-use Rattle.ml_image.specs.OwnAxioms.{sort_of, is_true, condition_sentence, SaysRule, meets}
+use Rattle.ml_image.specs.Premises.{sort_of, is_true, condition_sentence, meets, renamed_name}
+use Rattle.ml_image.specs.LastResorts.{condition_renamed, premise, guards_sentence}
+use Rattle.ml_image.specs.Held.{without_guards, held}
+use Rattle.ml_image.specs.OwnAxioms.{SaysRule}
 use Rattle.ml_image.specs.OwnAxioms.{sort_numbered, Declares, SaysEquation, direct, kompile}
-use Rattle.ml_image.specs.OwnAxioms.{IsConstructor, of_variables, SaysTotal, SaysSubsort}
+use Rattle.ml_image.specs.OwnAxioms.{last_resort, IsConstructor, of_variables, SaysTotal}
+use Rattle.ml_image.specs.OwnAxioms.{SaysSubsort}
 use Rattle.ml_image.specs.OwnAxioms.{SaysCollapse}
 use Rattle.term_core.specs.Terms.{DomainValue}
 use Rattle.ml_image.specs.Tokens.{token_of_value, number_in_names}
 use Rattle.ml_image.specs.TrueFacts.{SaysHook, value_patterns}
+use Rattle.ml_image.specs.HasImages.{HasFittingGuards, IsGuard, HasPremise, HasEquationImage}
+use Rattle.ml_image.specs.HasImages.{after_guards}
 use Rattle.ml_image.specs.Closing.{Closes}
-use Rattle.ml_image.specs.Counted.{condition_at, IsConditionImage}
+use Rattle.ml_image.specs.Counted.{IsConditionImage}
 use Rattle.ml_image.specs.Gained.{HasGained}
-use Rattle.ml_image.proofs.ImageLaws.{some_same, if_ok, gained_twice, gained-injection}
+use Rattle.ml_image.proofs.ImageLaws.{none_some, some_same, if_ok, gained_twice}
+use Rattle.ml_image.proofs.ImageLaws.{gained-injection}
 use Rattle.ml_image.proofs.NamingLaws.{gained-sentence}
 use Rattle.ml_image.proofs.NamedLaws.{shifted-zero}
 
@@ -52,17 +59,17 @@ sort_of-behind sig sorts vars (application f ps) = refl
 sort_of-behind sig sorts vars (injection a b p) = refl
 sort_of-behind sig sorts vars (call f ss ps) = refl
 
-condition_at-zero : (sig : Signature) (vars : List ℕ) (p : Option RulePattern)
-    → condition_at sig vars 0 p ≡ condition_sentence sig vars p
-condition_at-zero sig vars None = refl
-condition_at-zero sig vars (Some p) =
+condition-zero : (sig : Signature) (vars : List ℕ) (p : Option RulePattern)
+    → condition_renamed sig (λ x. 0 + x) vars p ≡ condition_sentence sig vars p
+condition-zero sig vars None = refl
+condition-zero sig vars (Some p) =
     ap (λ (q : RulePattern). option_map (is_true q) (sort_of sig vars p)) (shifted-zero p)
 
-condition_at-behind : (sig : Signature) (sorts vars : List ℕ) (p : Option RulePattern)
+condition-behind : (sig : Signature) (sorts vars : List ℕ) (p : Option RulePattern)
     → condition_sentence sig (sorts ++ vars) (option_map (shifted (length sorts)) p)
-    ≡ condition_at sig vars (length sorts) p
-condition_at-behind sig sorts vars None = refl
-condition_at-behind sig sorts vars (Some p) =
+    ≡ condition_renamed sig (λ x. length sorts + x) vars p
+condition-behind sig sorts vars None = refl
+condition-behind sig sorts vars (Some p) =
     ap (option_map (is_true (shifted (length sorts) p))) (sort_of-behind sig sorts vars p)
 
 -- ---- declarations
@@ -100,7 +107,8 @@ pub rule_closes : {E : Type 0} (sig : Signature) (n1 n2 n3 n4 : List (List ℕ))
     (l c u body : Pattern) (sorts : List ℕ) (result : Result Pattern E) → HasGained sig n1 n2
     → HasGained sig n2 n3
     → sentence_image sig n1 (left_sentence (of_child 0 r.names) r.left) ≡ Some l
-    → IsConditionImage sig n2 r.variables 0 r.condition c → image_of sig n3 r.right ≡ Some u
+    → IsConditionImage sig n2 r.variables (λ x. 0 + x) r.condition c → image_of sig n3 r.right ≡
+    Some u
     → body ≡ logic.imp (logic.and l c) (logic.next u) → sorts ≡ r.variables
     → IfOk result (Closes sig n3 n4 sorts body) → IfOk result (IsImageOf sig n4 (SaysRule sig r))
 rule_closes sig n1 n2 n3 n4 r l c u body sorts result g2 g3 left (cs, says, condition) right is same
@@ -124,24 +132,25 @@ rule_closes sig n1 n2 n3 n4 r l c u body sorts result g2 g3 left (cs, says, cond
     (implies (and ls cs) (next (term r.right))) result
     (record {
       condition = cs;
-      conditional = sym (condition_at-zero sig r.variables r.condition) ∙ says;
+      conditional = sym (condition-zero sig r.variables r.condition) ∙ says;
       says =
           ap (λ (ss : List ℕ).
           for_all 0 ss (implies (and ls cs) (next (term r.right)))) same;
     })
     (whole ∙ ap (λ (p : Pattern). Some p) (sym is)) closes
 
-pub direct_closes : {E : Type 0} (sig : Signature) (n1 n2 n3 n4 : List (List ℕ)) (f : ℕ)
-    (e : Equation) (c l u body : Pattern) (sorts : List ℕ) (result : Result Pattern E)
-    → HasGained sig n1 n2 → HasGained sig n2 n3 → e.parameters ≡ 0
-    → IsConditionImage sig n1 e.variables 0 e.condition c
+pub direct_closes : {E : Type 0} (sig : Signature) (n1 n2 n3 n4 : List (List ℕ))
+    (equations : List Equation) (f : ℕ) (e : Equation) (c l u body : Pattern) (sorts : List ℕ)
+    (result : Result Pattern E)
+    → HasGained sig n1 n2 → HasGained sig n2 n3 → e.last_resort ≡ None → e.parameters ≡ 0
+    → IsConditionImage sig n1 e.variables (λ x. 0 + x) e.condition c
     → sentence_image sig n2 (applied_sides e.names 0 (symbol f) e.arguments) ≡ Some l
     → image_of sig n3 e.right ≡ Some u
     → body ≡ logic.imp c (logic.equal l u) → sorts ≡ e.variables
     → IfOk result (Closes sig n3 n4 sorts body)
-    → IfOk result (IsImageOf sig n4 (SaysEquation sig f e))
-direct_closes sig n1 n2 n3 n4 f e c l u body sorts result g2 g3 none (cs, says, condition) left
-    right is same closes =
+    → IfOk result (IsImageOf sig n4 (SaysEquation sig equations f e))
+direct_closes sig n1 n2 n3 n4 equations f e c l u body sorts result g2 g3 ordinary none
+    (cs, says, condition) left right is same closes =
     let condition' : sentence_image sig n3 cs ≡ Some c =
     gained-sentence sig n1 n3 cs (gained_twice sig n1 n2 n3 g2 g3) c condition in
     let left' : sentence_image sig n3 (applied_sides e.names 0 (symbol f) e.arguments) ≡ Some l =
@@ -159,62 +168,114 @@ direct_closes sig n1 n2 n3 n4 f e c l u body sorts result g2 g3 none (cs, says, 
     left'
     ∙ ap (λ (o : Option Pattern). both logic.imp (Some c) (both logic.equal (Some l) o))
     right in
-    closed_image sig n3 n4 sorts body (SaysEquation sig f e) s result
-    (direct cs none (sym (condition_at-zero sig e.variables e.condition) ∙ says)
+    closed_image sig n3 n4 sorts body (SaysEquation sig equations f e) s result
+    (direct cs ordinary none (sym (condition-zero sig e.variables e.condition) ∙ says)
     (ap (λ (ss : List ℕ). for_all 0 ss s) same))
     (whole ∙ ap (λ (p : Pattern). Some p) (sym is)) closes
 
-pub kompile_closes : {E : Type 0} (sig : Signature) (n1 n2 n3 n4 n5 : List (List ℕ)) (f : ℕ)
-    (info : SymInfo) (params : List ℕ) (sort : ℕ) (e : Equation) (c m h u body : Pattern)
-    (sorts : List ℕ) (result : Result Pattern E) → HasGained sig n1 n2 → HasGained sig n2 n3
-    → HasGained sig n3 n4 → e.parameters ≢ 0 → e.parameters ≡ length params
-    → Declares sig f info params sort
-    → IsConditionImage sig n1 e.variables (length params) e.condition c
-    → sentence_image sig n2 (meets (names_behind (length params) e.names) 0
-    (all_shifted (length params) e.arguments)) ≡ Some m
-    → sentence_image sig n3 (of_variables f 0 (length params)) ≡ Some h
-    → image_of sig n4 (shifted (length params) e.right) ≡ Some u
-    → body ≡ logic.imp (logic.and c m) (logic.equal h u) → sorts ≡ params ++ e.variables
-    → IfOk result (Closes sig n4 n5 sorts body)
-    → IfOk result (IsImageOf sig n5 (SaysEquation sig f e))
-kompile_closes sig n1 n2 n3 n4 n5 f info params sort e c m h u body sorts result g2 g3 g4 some many
-    declared (cs, says, condition) met function right is same closes =
-    let ms : Sentence = meets (names_behind (length params) e.names) 0
-    (all_shifted (length params) e.arguments) in
+-- ---- equations in the form of kompile
+
+-- what a result that exists was made of
+map_made : {A B : Type 0} (f : A → B) (o : Option A) (b : B) → option_map f o ≡ Some b
+    → (a : A) × (o ≡ Some a) × (f a ≡ b)
+map_made f None b h = absurd (none_some b h)
+map_made f (Some a) b h = (a, refl, some_same (f a) b h)
+
+both_made : {A B C : Type 0} (f : A → B → C) (o : Option A) (q : Option B) (c : C)
+    → both f o q ≡ Some c → (a : A) × (b : B) × (o ≡ Some a) × (q ≡ Some b) × (f a b ≡ c)
+both_made f None q c h = absurd (none_some c h)
+both_made f (Some a) None c h = absurd (none_some c h)
+both_made f (Some a) (Some b) c h = (a, b, refl, refl, some_same (f a b) c h)
+
+-- an equation with this requirement
+abbrev requiring : List ℕ → ℕ → Equation → Sentence → Sentence
+requiring params f e s =
+    for_all 0 (params ++ e.variables)
+    (implies s (equals (of_variables f 0 (length params)) (term (shifted (length params) e.right))))
+
+-- its parameters are in its arguments
+abbrev met : ℕ → Equation → Sentence
+met k e = meets (map (renamed_name (λ x. k + x)) e.names) 0 (all_renamed (λ x. k + x) e.arguments)
+
+held_says : (sig : Signature) (equations : List Equation) (f : ℕ) (info : SymInfo)
+    (params : List ℕ) (sort : ℕ) (e : Equation) (s : Sentence) → e.parameters ≢ 0
+    → e.parameters ≡ length params → Declares sig f info params sort
+    → held sig equations e ≡ Some s → SaysEquation sig equations f e (requiring params f e s)
+held_says sig equations f info params sort e s some many declared says =
+    go e.last_resort refl (subst
+    (λ (k : ℕ). without_guards sig equations (k + length e.variables) e.last_resort
+    (premise sig (λ x. k + x) e) ≡ Some s) many says)
+  where
+    behind_all : (c : Sentence)
+        → condition_renamed sig (λ x. length params + x) e.variables e.condition ≡ Some c
+        → condition_sentence sig (params ++ e.variables)
+        (option_map (shifted (length params)) e.condition) ≡ Some c
+    behind_all c is = condition-behind sig params e.variables e.condition ∙ is
+
+    go : (o : Option (List Guard)) → e.last_resort ≡ o
+        → without_guards sig equations (length params + length e.variables) o
+        (premise sig (λ x. length params + x) e) ≡ Some s
+        → SaysEquation sig equations f e (requiring params f e s)
+    go None ordinary is =
+        let c : (c : Sentence)
+        × (condition_renamed sig (λ x. length params + x) e.variables e.condition ≡ Some c)
+        × (and c (met (length params) e) ≡ s) =
+        map_made (λ (c : Sentence). and c (met (length params) e)) _ s is in
+        kompile c.0 info params sort ordinary some many declared (behind_all c.0 c.1)
+        (ap (requiring params f e) (sym c.2))
+    go (Some guards) last is =
+        let w : (n : Sentence) × (a : Sentence)
+        × (option_map not (guards_sentence sig equations (length params + length e.variables)
+        guards) ≡ Some n)
+        × (premise sig (λ x. length params + x) e ≡ Some a) × (and n a ≡ s) =
+        both_made and _ _ s is in
+        let g : (g : Sentence) × (guards_sentence sig equations
+        (length params + length e.variables) guards ≡ Some g) × (not g ≡ w.0) =
+        map_made not _ w.0 w.2 in
+        let c : (c : Sentence)
+        × (condition_renamed sig (λ x. length params + x) e.variables e.condition ≡ Some c)
+        × (and c (met (length params) e) ≡ w.1) =
+        map_made (λ (c : Sentence). and c (met (length params) e)) _ w.1 w.3 in
+        last_resort guards g.0 c.0 info params sort last some many declared g.1
+        (behind_all c.0 c.1)
+        (ap (requiring params f e) (sym w.4
+        ∙ ap (λ (n : Sentence). and n w.1) (sym g.2)
+        ∙ ap (λ (a : Sentence). and (not g.0) a) (sym c.2)))
+
+pub kompile_closes : {E : Type 0} (sig : Signature) (n1 n2 n3 n4 : List (List ℕ))
+    (equations : List Equation) (f : ℕ) (info : SymInfo) (params : List ℕ) (sort : ℕ)
+    (e : Equation) (c h u body : Pattern) (sorts : List ℕ) (result : Result Pattern E)
+    → HasGained sig n1 n2 → HasGained sig n2 n3 → e.parameters ≢ 0
+    → e.parameters ≡ length params → Declares sig f info params sort
+    → IsImageOf sig n1 (λ s. held sig equations e ≡ Some s) c
+    → sentence_image sig n2 (of_variables f 0 (length params)) ≡ Some h
+    → image_of sig n3 (shifted (length params) e.right) ≡ Some u
+    → body ≡ logic.imp c (logic.equal h u) → sorts ≡ params ++ e.variables
+    → IfOk result (Closes sig n3 n4 sorts body)
+    → IfOk result (IsImageOf sig n4 (SaysEquation sig equations f e))
+kompile_closes sig n1 n2 n3 n4 equations f info params sort e c h u body sorts result g2 g3 some
+    many declared (cs, says, condition) function right is same closes =
     let fs : Sentence = of_variables f 0 (length params) in
     let us : Sentence = term (shifted (length params) e.right) in
-    let s : Sentence = implies (and cs ms) (equals fs us) in
-    let g24 : HasGained sig n2 n4 = gained_twice sig n2 n3 n4 g3 g4 in
-    let condition' : sentence_image sig n4 cs ≡ Some c =
-    gained-sentence sig n1 n4 cs (gained_twice sig n1 n2 n4 g2 g24) c condition in
-    let met' : sentence_image sig n4 (meets (names_behind (length params) e.names) 0
-    (all_shifted (length params) e.arguments)) ≡ Some m =
-    gained-sentence sig n2 n4 ms g24 m met in
-    let function' : sentence_image sig n4 (of_variables f 0 (length params)) ≡ Some h =
-    gained-sentence sig n3 n4 fs g4 h function in
-    let whole : both logic.imp (both logic.and (sentence_image sig n4 cs)
-    (sentence_image sig n4 (meets (names_behind (length params) e.names) 0
-    (all_shifted (length params) e.arguments))))
-    (both logic.equal (sentence_image sig n4 (of_variables f 0 (length params)))
-    (image_of sig n4 (shifted (length params) e.right))) ≡ Some
-    (logic.imp (logic.and c m) (logic.equal h u)) =
-    ap (λ (o : Option Pattern). both logic.imp (both logic.and o
-    (sentence_image sig n4 (meets (names_behind (length params) e.names) 0
-    (all_shifted (length params) e.arguments))))
-    (both logic.equal (sentence_image sig n4 (of_variables f 0 (length params)))
-    (image_of sig n4 (shifted (length params) e.right)))) condition'
-    ∙ ap (λ (o : Option Pattern). both logic.imp (both logic.and (Some c) o)
-    (both logic.equal (sentence_image sig n4 (of_variables f 0 (length params)))
-    (image_of sig n4 (shifted (length params) e.right)))) met'
-    ∙ ap (λ (o : Option Pattern). both logic.imp (both logic.and (Some c) (Some m))
-    (both logic.equal o (image_of sig n4 (shifted (length params) e.right)))) function'
-    ∙ ap (λ (o : Option Pattern).
-    both logic.imp (both logic.and (Some c) (Some m)) (both logic.equal (Some h) o))
+    let s : Sentence = implies cs (equals fs us) in
+    let condition' : sentence_image sig n3 cs ≡ Some c =
+    gained-sentence sig n1 n3 cs (gained_twice sig n1 n2 n3 g2 g3) c condition in
+    let function' : sentence_image sig n3 (of_variables f 0 (length params)) ≡ Some h =
+    gained-sentence sig n2 n3 fs g3 h function in
+    let whole : both logic.imp (sentence_image sig n3 cs)
+    (both logic.equal (sentence_image sig n3 (of_variables f 0 (length params)))
+    (image_of sig n3 (shifted (length params) e.right))) ≡ Some
+    (logic.imp c (logic.equal h u)) =
+    ap (λ (o : Option Pattern). both logic.imp o
+    (both logic.equal (sentence_image sig n3 (of_variables f 0 (length params)))
+    (image_of sig n3 (shifted (length params) e.right)))) condition'
+    ∙ ap (λ (o : Option Pattern). both logic.imp (Some c)
+    (both logic.equal o (image_of sig n3 (shifted (length params) e.right)))) function'
+    ∙ ap (λ (o : Option Pattern). both logic.imp (Some c) (both logic.equal (Some h) o))
     right in
-    closed_image sig n4 n5 sorts body (SaysEquation sig f e) s result
-    (kompile cs info params sort some many declared
-    (condition_at-behind sig params e.variables e.condition ∙ says)
-    (ap (λ (ss : List ℕ). for_all 0 ss s) same))
+    closed_image sig n3 n4 sorts body (SaysEquation sig equations f e) s result
+    (subst (λ (ss : List ℕ). SaysEquation sig equations f e (for_all 0 ss s)) (sym same)
+    (held_says sig equations f info params sort e cs some many declared says))
     (whole ∙ ap (λ (p : Pattern). Some p) (sym is)) closes
 
 pub total_closes : {E : Type 0} (sig : Signature) (n1 n2 n3 : List (List ℕ)) (f : ℕ)
@@ -334,3 +395,26 @@ hook_said sig n1 n2 f vs s says head called value t result gained symbol_is call
 pub has_parameters : {P : Type 0} (n : ℕ) → (n ≡ 0) ⊎ P → n ≢ 0 → P
 has_parameters n (inl none) some = absurd (some none)
 has_parameters n (inr has) some = has
+
+-- an equation without parameters is not one of the last resort
+pub ordinary : (equations : List Equation) (e : Equation) → HasFittingGuards equations e
+    → e.parameters ≡ 0 → e.last_resort ≡ None
+ordinary equations e fits none = go e.last_resort fits
+  where
+    go : (o : Option (List Guard)) → IfSome o (λ (gs : List Guard). (e.parameters ≢ 0)
+        × All (IsGuard equations) gs
+        × (after_guards (e.parameters + length e.variables) gs < 2 ^ 32)) → o ≡ None
+    go None h = refl
+    go (Some gs) h = absurd (h.0 none)
+
+-- the premise of an equation with parameters has an image
+pub has_premise : (sig : Signature) (equations : List Equation) (f : ℕ) (e : Equation)
+    → HasEquationImage sig equations f e → e.parameters ≢ 0 → HasPremise sig e
+has_premise sig equations f e has some = record {
+  sorts = has.sorts;
+  arguments = has.arguments;
+  names = has.names;
+  condition = has.condition;
+  few =
+      omega (arith, has.few, (has_parameters e.parameters has.parameters some).each);
+}

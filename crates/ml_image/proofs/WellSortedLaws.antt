@@ -1,5 +1,6 @@
 -- The statements of a well-sorted theory have images.
-use Rattle.std.proofs.Common.{◌≡◌, ◌≤◌, ◌<◌, ◌+◌, ◌^◌, ◌⊎◌, ℕ, Bool, true, false, cond, zero, suc}
+use Rattle.std.proofs.Common.{◌≡◌, ◌≢◌, ◌≤◌, ◌<◌, ◌+◌, ◌^◌, ◌⊎◌, ℕ, Bool, true, false, cond, zero}
+use Rattle.std.proofs.Common.{suc}
 use Rattle.std.proofs.Common.{List, [], ◌∷◌, Option, Some, None, length, map, slice_get, inl, inr}
 use Rattle.std.proofs.Common.{refl, sym, ◌∙◌, ap, subst, arith}
 use Rattle.std.specs.Prelude.{IsSome, IfSome, All, Contains, slice_index_or}
@@ -9,29 +10,27 @@ use Rattle.std.proofs.lemmas.Option.{slice_get_within}
 use Rattle.term_core.specs.Terms.{truth}
 use Rattle.term_core.specs.Patterns.{Pattern, Patterns, variable, domain_value, application}
 use Rattle.term_core.specs.Patterns.{injection, call, no_pattern, more_patterns}
-use Rattle.rule_core.specs.Rules.{RewriteRule, Equation}
-use Rattle.rule_core.specs.Theories.{RewriteTheory, equations_of}
+use Rattle.rule_core.specs.Rules.{RewriteRule, Equation, Guard}
+use Rattle.rule_core.specs.Theories.{equations_of}
 use Rattle.rule_core.specs.Subsorts.{IsBelow, by_pair, by_chain}
-use Rattle.rule_core.specs.Sorting.{HasSort, HaveSorts, HasValue, HasInjection, IsSymbol, IsValueOf}
+use Rattle.rule_core.specs.Sorting.{HasSort, HaveSorts, HasInjection, IsSymbol, IsValueOf}
 use Rattle.rule_core.specs.Sorting.{sort_at, AreSorts}
 use Rattle.rule_core.specs.WellSorted.{IsReference, IsDeclaration, IsPair, IsSignature, IsCondition}
-use Rattle.rule_core.specs.WellSorted.{HaveNames, IsRuleOf, IsEquationOf, IsWellSorted}
+use Rattle.rule_core.specs.WellSorted.{HaveNames, IsRuleOf, IsEquationOf}
 use Rattle.rule_core.specs.NamedParts.{Name, part_of}
 use Rattle.rule_core.specs.declared.signature.Signature.{Signature}
-use Rattle.rule_core.specs.declared.signature.SortInfo.{SortInfo}
 use Rattle.rule_core.specs.declared.signature.SortKind.{SortKind}
-use Rattle.rule_core.specs.declared.signature.SortKind.TheVariants as sort_kind
 use Rattle.rule_core.specs.declared.signature.SymInfo.{SymInfo}
-use Rattle.rule_core.specs.declared.signature.SymKind.TheVariants.{Injection, Ctor, Equations}
 use Rattle.rule_core.specs.declared.signature.SortRef.{SortRef}
 use Rattle.rule_core.specs.declared.signature.SortRef.TheVariants.{Param, Sort}
-use Rattle.rule_core.proofs.Bindings.{IsSome-of}
 use Rattle.ml_image.specs.Images.{injection_symbol}
 use Rattle.rule_core.specs.KindTests.{is_injection}
-use Rattle.ml_image.specs.OwnAxioms.{sort_of, made_sort, sort_numbered, Declares}
+use Rattle.ml_image.specs.Premises.{sort_of, made_sort}
+use Rattle.ml_image.specs.OwnAxioms.{sort_numbered}
 use Rattle.ml_image.specs.HasImages as own
 use Rattle.ml_image.specs.HasImages.{HasImage, HaveImages, HasRuleImage, HasEquationImage}
 use Rattle.ml_image.specs.HasImages.{HasParameters, HasTotality, MakesTerms, count_of}
+use Rattle.ml_image.specs.HasImages.{HasPremise, IsGuard, after_guards}
 use Rattle.ml_image.specs.ConditionLaws.{SortedHasImage, RuleHasImage, EquationHasImage}
 use Rattle.ml_image.specs.ConditionLaws.{ConstructorHasTotality}
 use Rattle.ml_image.proofs.ImageLaws.{none_some, some_same}
@@ -154,7 +153,8 @@ rule_has_image theory r ok there few = go ok.one_sort
           few = few;
           sorts = are_sorts theory.sig r.variables is.variables;
           left = sorted_has theory.sig r.variables r.left sort ok.signature is.left;
-          names = names_below theory.sig r.variables (more_patterns r.left no_pattern) r.names is.names;
+          names = names_below theory.sig r.variables (more_patterns r.left no_pattern) r.names
+              is.names;
           condition =
               condition_met theory.sig r.variables (more_patterns r.left no_pattern) r.names
               r.condition ok.signature is.condition;
@@ -214,7 +214,7 @@ counted sig vars sorts (more_patterns p ps) (r ∷ refs) h =
     ap suc (counted sig vars sorts ps refs h.3)
 
 pub equation_has_image : EquationHasImage
-equation_has_image theory f info e ok there kind listed few parameters =
+equation_has_image theory f info e ok there kind listed few parameters fits =
     let is : IsEquationOf theory.sig info e =
     All-contains (IsEquationOf theory.sig info) (equations_of theory f) e
     (ok.equations f info there) listed in
@@ -231,8 +231,42 @@ equation_has_image theory f info e ok there kind listed few parameters =
           is.condition;
       right = sorted_has theory.sig e.variables e.right is.sort ok.signature is.right;
       parameters = go is parameters;
+      guards = fits;
+      repeated = premises is e.last_resort fits;
     }
   where
+    low_count : {n : ℕ} → e.parameters ≢ 0
+        → (e.parameters ≡ 0) ⊎ (e.parameters ≡ count_of e.arguments)
+        → count_of e.arguments ≡ n → n ≤ 2 ^ 32
+    low_count some (inl none) many = absurd (some none)
+    low_count some (inr each) many = omega (arith, few, each, many)
+
+    -- each equation of the function has as many arguments as this one has parameters
+    premises : IsEquationOf theory.sig info e → (o : Option (List Guard))
+        → IfSome o (λ (gs : List Guard). (e.parameters ≢ 0)
+        × All (IsGuard (equations_of theory f)) gs
+        × (after_guards (e.parameters + length e.variables) gs < 2 ^ 32))
+        → IfSome o (λ (gs : List Guard). All (HasPremise theory.sig) (equations_of theory f))
+    premises is None h = tt
+    premises is (Some gs) h = λ i d low.
+        let other : Equation = slice_index_or (equations_of theory f) i d in
+        let of : IsEquationOf theory.sig info other = ok.equations f info there i d low in
+        let many : count_of e.arguments ≡ count_of other.arguments =
+        counted theory.sig e.variables [] e.arguments info.args.items is.arguments
+        ∙ sym (counted theory.sig other.variables [] other.arguments info.args.items of.arguments)
+        in
+        record {
+          sorts = are_sorts theory.sig other.variables of.variables;
+          arguments =
+              all_sorted_have theory.sig other.variables [] other.arguments info.args.items
+              ok.signature of.arguments;
+          names = names_below theory.sig other.variables other.arguments other.names of.names;
+          condition =
+              condition_met theory.sig other.variables other.arguments other.names other.condition
+              ok.signature of.condition;
+          few = low_count h.0 parameters many;
+        }
+
     go : IsEquationOf theory.sig info e → (e.parameters ≡ 0) ⊎ (e.parameters ≡ count_of e.arguments)
         → (e.parameters ≡ 0) ⊎ HasParameters theory.sig f e
     go is (inl none) = inl none

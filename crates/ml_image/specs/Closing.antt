@@ -6,6 +6,7 @@ use Rattle.rule_core.specs.Sorting.{IsSymbol}
 use Rattle.rule_core.specs.declared.signature.Signature.{Signature}
 use Rattle.rule_core.specs.declared.signature.SymInfo.{SymInfo}
 use Rattle.ml_image.specs.Sentences.{Sentence, symbol, not, and, implies, sentence_image, for_all}
+use Rattle.ml_image.specs.Sentences.{for_some}
 use Rattle.ml_image.specs.Sentences.{variables, apply_all, conjunctions}
 use Rattle.ml_image.specs.OwnAxioms.{sort_numbered, of_variables}
 
@@ -14,6 +15,12 @@ use Rattle.ml_image.specs.OwnAxioms.{sort_numbered, of_variables}
 abbrev pub Closes : Signature → List (List ℕ) → List (List ℕ) → List ℕ → Pattern → Pattern → Type 0
 Closes sig old new sorts body p = (s : Sentence) → sentence_image sig old s ≡ Some body
     → sentence_image sig new (for_all 0 sorts s) ≡ Some p
+
+-- the same with existential quantifiers, and the variables numbered from k
+abbrev pub ClosesSome : Signature → List (List ℕ) → List (List ℕ) → ℕ → List ℕ → Pattern → Pattern
+    → Type 0
+ClosesSome sig old new k sorts body p = (s : Sentence) → sentence_image sig old s ≡ Some body
+    → sentence_image sig new (for_some k sorts s) ≡ Some p
 
 -- the symbol is declared with arguments of these sorts
 pub record TakesSorts (sig : Signature) (f : ℕ) (sorts : List ℕ) : Type 0 where

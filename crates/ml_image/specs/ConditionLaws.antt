@@ -10,7 +10,7 @@ use Rattle.rule_core.specs.declared.signature.Signature.{Signature}
 use Rattle.rule_core.specs.declared.signature.SymInfo.{SymInfo}
 use Rattle.rule_core.specs.declared.signature.SymKind.TheVariants.{Ctor, Equations}
 use Rattle.ml_image.specs.HasImages.{HasImage, HasRuleImage, HasEquationImage, HasTotality}
-use Rattle.ml_image.specs.HasImages.{count_of}
+use Rattle.ml_image.specs.HasImages.{HasFittingGuards, count_of}
 
 -- a well-sorted pattern has an image
 abbrev pub SortedHasImage : Type 0
@@ -25,14 +25,16 @@ RuleHasImage =
     (theory : RewriteTheory) (r : RewriteRule) → IsWellSorted theory → Contains theory.rules r →
     length r.variables ≤ 2 ^ 32 → HasRuleImage theory.sig r
 
--- an equation has an image, if it has no parameters or one for each argument
+-- an equation has an image, if it has no parameters or one for each argument, and its guards fit
 abbrev pub EquationHasImage : Type 0
 EquationHasImage =
     (theory : RewriteTheory) (f : ℕ) (info : SymInfo) (e : Equation) → IsWellSorted theory
     → IsSymbol theory.sig f info →
     info.kind ≡ Equations → Contains (equations_of theory f) e
     → e.parameters + length e.variables ≤ 2 ^ 32 →
-    (e.parameters ≡ 0) ⊎ (e.parameters ≡ count_of e.arguments) → HasEquationImage theory.sig f e
+    (e.parameters ≡ 0) ⊎ (e.parameters ≡ count_of e.arguments)
+    → HasFittingGuards (equations_of theory f) e
+    → HasEquationImage theory.sig (equations_of theory f) f e
 
 -- the totality of a constructor has an image
 abbrev pub ConstructorHasTotality : Type 0

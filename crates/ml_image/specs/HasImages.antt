@@ -1,17 +1,19 @@
 -- The conditions under which an image can be made: the sorts and symbols belong to the signature,
 -- and each value is a value of its sort.
+pub use Rattle.rule_core.specs.Guards.{after_guards}
 use Rattle.std.specs.Prelude.{◌≡◌, ◌≢◌, ◌<◌, ◌≤◌, ◌+◌, ◌^◌, ℕ, true, false, IsSome, List, [], ◌∷◌}
-use Rattle.std.specs.Prelude.{length, Option, Some, None, ◌⊎◌, suc, All}
+use Rattle.std.specs.Prelude.{length, slice_get, Option, Some, None, IfSome, ◌⊎◌, suc, All}
 use Rattle.term_core.specs.Terms.{truth}
 use Rattle.term_core.specs.Patterns.{Pattern, Patterns, variable, domain_value, application}
 use Rattle.term_core.specs.Patterns.{injection, call, no_pattern, more_patterns}
-use Rattle.rule_core.specs.Rules.{RewriteRule, Equation}
+use Rattle.rule_core.specs.Rules.{RewriteRule, Equation, Guard}
 use Rattle.rule_core.specs.NamedParts.{Name}
 use Rattle.rule_core.specs.Sorting.{HasValue, AreSorts}
 use Rattle.rule_core.specs.declared.signature.Signature.{Signature}
 use Rattle.rule_core.specs.declared.signature.SymInfo.{SymInfo}
 use Rattle.ml_image.specs.Images.{injection_symbol}
-use Rattle.ml_image.specs.OwnAxioms.{sort_of, Declares, IsConstructor}
+use Rattle.ml_image.specs.Premises.{sort_of}
+use Rattle.ml_image.specs.OwnAxioms.{Declares, IsConstructor}
 use Rattle.ml_image.specs.Sides.{AreApart}
 
 -- The pattern has an image: its variables have numbers below n, its sorts and symbols belong to the
@@ -69,8 +71,30 @@ pub record HasParameters (sig : Signature) (f : ℕ) (e : Equation) : Type 0 whe
   pub as_many : e.parameters ≡ length sorts
   pub each : e.parameters ≡ count_of e.arguments
 
--- the equation of this function has an image
-pub record HasEquationImage (sig : Signature) (f : ℕ) (e : Equation) : Type 0 where
+-- the condition of the equation has an image, and so have its arguments
+pub record HasPremise (sig : Signature) (e : Equation) : Type 0 where
+  pub sorts : AreSorts sig e.variables
+  pub arguments : HaveImages sig (length e.variables) e.arguments
+  pub names : AreNamesBelow (length e.variables) e.names
+  pub condition : IsCondition sig e.variables e.condition
+  pub few : count_of e.arguments ≤ 2 ^ 32
+
+-- the guard repeats one of these equations, and lists variables of it
+pub record IsGuard (equations : List Equation) (g : Guard) : Type 0 where
+  pub equation : Equation
+  pub there : slice_get equations g.equation ≡ Some equation
+  pub order : All (λ x. x < length equation.variables) g.order
+
+-- An equation of the last resort is in the form of kompile. Its guards repeat some of these
+-- equations. The numbers of its variables and of theirs fit in 32 bits.
+abbrev pub HasFittingGuards : List Equation → Equation → Type 0
+HasFittingGuards equations e = IfSome e.last_resort (λ (gs : List Guard). (e.parameters ≢ 0)
+    × All (IsGuard equations) gs
+    × (after_guards (e.parameters + length e.variables) gs < 2 ^ 32))
+
+-- the equation of this function, which is one of these, has an image
+pub record HasEquationImage (sig : Signature) (equations : List Equation) (f : ℕ) (e : Equation) :
+    Type 0 where
   pub few : e.parameters + length e.variables ≤ 2 ^ 32
   pub sorts : AreSorts sig e.variables
   pub function : f < length sig.symbols
@@ -79,6 +103,8 @@ pub record HasEquationImage (sig : Signature) (f : ℕ) (e : Equation) : Type 0 
   pub condition : IsCondition sig e.variables e.condition
   pub right : HasImage sig (length e.variables) e.right
   pub parameters : (e.parameters ≡ 0) ⊎ HasParameters sig f e
+  pub guards : HasFittingGuards equations e
+  pub repeated : IfSome e.last_resort (λ (gs : List Guard). All (HasPremise sig) equations)
 
 -- The symbol with this number is a constructor whose declaration names sorts of the signature. It
 -- has fewer than 2^31 arguments, so that the numbers of twice as many variables fit in 32 bits.

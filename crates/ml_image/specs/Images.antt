@@ -66,15 +66,22 @@ abbrev mutual
   applied sig names head (more_patterns p ps) =
       applied sig names (both app head (image_of sig names p)) ps
 
--- the pattern with its variables numbered from k
+-- the pattern with each variable x as the variable g x
 abbrev mutual
-  pub shifted : ℕ → RulePattern → RulePattern
-  shifted k (variable x) = variable (k + x)
-  shifted k (domain_value s v) = domain_value s v
-  shifted k (application f ps) = application f (all_shifted k ps)
-  shifted k (injection a b p) = injection a b (shifted k p)
-  shifted k (call f ss ps) = call f ss (all_shifted k ps)
+  pub renamed : (ℕ → ℕ) → RulePattern → RulePattern
+  renamed g (variable x) = variable (g x)
+  renamed g (domain_value s v) = domain_value s v
+  renamed g (application f ps) = application f (all_renamed g ps)
+  renamed g (injection a b p) = injection a b (renamed g p)
+  renamed g (call f ss ps) = call f ss (all_renamed g ps)
 
-  pub all_shifted : ℕ → RulePatterns → RulePatterns
-  all_shifted k no_pattern = no_pattern
-  all_shifted k (more_patterns p ps) = more_patterns (shifted k p) (all_shifted k ps)
+  pub all_renamed : (ℕ → ℕ) → RulePatterns → RulePatterns
+  all_renamed g no_pattern = no_pattern
+  all_renamed g (more_patterns p ps) = more_patterns (renamed g p) (all_renamed g ps)
+
+-- the pattern with its variables numbered from k
+abbrev pub shifted : ℕ → RulePattern → RulePattern
+shifted k = renamed (λ x. k + x)
+
+abbrev pub all_shifted : ℕ → RulePatterns → RulePatterns
+all_shifted k = all_renamed (λ x. k + x)

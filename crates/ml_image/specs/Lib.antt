@@ -4,6 +4,8 @@ pub mod Images
 pub mod Sentences
 pub mod NamedSides
 pub mod PartNames
+pub mod Premises
+pub mod LastResorts
 pub mod OwnAxioms
 pub mod Sides
 pub mod TrueFacts
@@ -17,6 +19,8 @@ pub mod ConditionLaws
 pub mod ApartLaws
 -- Private: what clauses of private functions cite, and how private fields are seen.
 pub mod Injecting
+pub mod Numbering
 pub mod Counted
+pub mod Held
 pub mod Closing
 pub mod SideSorts

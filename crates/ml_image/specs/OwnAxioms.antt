@@ -1,51 +1,27 @@
 -- The statements of a definition's rules, equations, symbols and sorts in matching logic: its own
 -- axioms (Chen and Rosu 2019; K framework, attributes `constructor`, `subsort` and `function`).
-use Rattle.std.specs.Prelude.{◌≡◌, ◌≢◌, ◌+◌, ◌<◌, ℕ, false, true, List, [], ◌∷◌, ◌++◌, length, map}
-use Rattle.std.specs.Prelude.{slice_get, Contains, Option, Some, None, option_map}
-use Rattle.term_core.specs.Terms.{truth}
-use Rattle.term_core.specs.Patterns.{Pattern, Patterns, variable, domain_value, application}
-use Rattle.term_core.specs.Patterns.{injection, call, no_pattern, more_patterns}
-use Rattle.rule_core.specs.Rules.{RewriteRule, Equation}
-use Rattle.rule_core.specs.NamedParts.{Name}
+pub use Rattle.ml_image.specs.Premises.{made_sort, sort_of, is_true, condition_sentence}
+pub use Rattle.ml_image.specs.Premises.{name_behind}
+pub use Rattle.ml_image.specs.Premises.{meets}
+use Rattle.std.specs.Prelude.{◌≡◌, ◌≢◌, ◌+◌, ◌<◌, ℕ, false, List, [], ◌∷◌, ◌++◌, length, map}
+use Rattle.std.specs.Prelude.{Contains, Some, None, option_map}
+use Rattle.term_core.specs.Patterns.{variable, injection}
+use Rattle.rule_core.specs.Rules.{RewriteRule, Equation, Guard}
 use Rattle.rule_core.specs.Theories.{RewriteTheory, equations_of}
 use Rattle.rule_core.specs.Subsorts.{IsBelow}
-use Rattle.rule_core.specs.Sorting.{IsSymbol, sort_at}
+use Rattle.rule_core.specs.Sorting.{IsSymbol}
 use Rattle.rule_core.specs.declared.signature.Signature.{Signature}
 use Rattle.rule_core.specs.declared.signature.SymInfo.{SymInfo}
 use Rattle.rule_core.specs.declared.signature.SymKind.TheVariants.{Ctor, Equations}
 use Rattle.rule_core.specs.declared.signature.SortRef.{SortRef}
 use Rattle.rule_core.specs.declared.signature.SortRef.TheVariants.{Sort}
 use Rattle.ml_image.specs.Images.{shifted, all_shifted}
-use Rattle.ml_image.specs.Sentences.{Sentence, term, symbol, top, not, and, implies, equals, is_in}
+use Rattle.ml_image.specs.Sentences.{Sentence, term, symbol, not, and, implies, equals}
 use Rattle.ml_image.specs.Sentences.{exists, next, for_all, variables, apply_all, conjunctions}
 use Rattle.ml_image.specs.NamedSides.{left_sentence, applied_sides, of_child}
+use Rattle.ml_image.specs.LastResorts.{guards_sentence, last_resort_sentence}
 
 -- ---- rules and equations
-
--- the result sort of the symbol at these sort arguments
-abbrev pub made_sort : Signature → ℕ → List ℕ → Option ℕ
-made_sort sig f sorts = option_sort (slice_get sig.symbols f)
-  where
-    option_sort : Option (List ℕ × SymInfo) → Option ℕ
-    option_sort None = None
-    option_sort (Some e) = sort_at sorts e.1.result
-
--- the sort of a pattern whose variables have these sorts
-abbrev pub sort_of : Signature → List ℕ → Pattern → Option ℕ
-sort_of sig sorts (variable x) = slice_get sorts x
-sort_of sig sorts (domain_value s v) = Some s
-sort_of sig sorts (application f ps) = made_sort sig f []
-sort_of sig sorts (injection a b p) = Some b
-sort_of sig sorts (call f ss ps) = made_sort sig f ss
-
--- the sentence that the pattern, which has this sort, is the value `true`
-abbrev pub is_true : Pattern → ℕ → Sentence
-is_true p s = equals (term p) (term (domain_value s (truth true)))
-
--- the sentence of a condition: it is true; without a condition it is `top`
-abbrev pub condition_sentence : Signature → List ℕ → Option Pattern → Option Sentence
-condition_sentence sig sorts None = Some top
-condition_sentence sig sorts (Some p) = option_map (is_true p) (sort_of sig sorts p)
 
 -- The sentence of a rewrite rule with this condition: an instance of its left side, if the
 -- condition holds, makes a step to that of its right side.
@@ -66,10 +42,6 @@ direct_sentence f e c =
     for_all 0 e.variables
     (implies c (equals (applied_sides e.names 0 (symbol f) e.arguments) (term e.right)))
 
--- the name with its variable numbered from k
-abbrev pub name_behind : ℕ → Name → Name
-name_behind k n = record n { variable = k + n.variable }
-
 -- the equation with parameters of these sorts, which come before its other variables
 abbrev pub behind_parameters : List ℕ → Equation → Equation
 behind_parameters sorts e = record e {
@@ -79,12 +51,6 @@ behind_parameters sorts e = record e {
   right = shifted (length sorts) e.right;
   variables = sorts ++ e.variables;
 }
-
--- each parameter, numbered from k, is in its pattern, whose parts may have names
-abbrev pub meets : List Name → ℕ → Patterns → Sentence
-meets names k no_pattern = top
-meets names k (more_patterns p ps) =
-    and (is_in (term (variable k)) (left_sentence (of_child k names) p)) (meets names (k + 1) ps)
 
 -- The sentence of an equation in the form of kompile with n parameters: if the condition holds and
 -- each parameter is in its argument, the function applied to the parameters equals the right side.
@@ -105,18 +71,30 @@ pub record Declares (sig : Signature) (f : ℕ) (info : SymInfo) (sorts : List �
   pub takes : info.args.items ≡ map sort_numbered sorts
   pub makes : info.result ≡ sort_numbered sort
 
--- the sentence of an equation: an equation without parameters is written directly, and one with a
--- parameter for each argument is in the form of kompile
-pub data SaysEquation (sig : Signature) (f : ℕ) (e : Equation) (p : Sentence) : Type 0 where
-  direct : (c : Sentence) → e.parameters ≡ 0 → condition_sentence sig e.variables e.condition
-      ≡ Some c →
-      p ≡ direct_sentence f e c → SaysEquation sig f e p
-  kompile : (c : Sentence) (info : SymInfo) (sorts : List ℕ) (sort : ℕ) → e.parameters ≢ 0 →
-      e.parameters ≡ length sorts → Declares sig f info sorts sort →
+-- The sentence of an equation, which is one of these. An equation without parameters is written
+-- directly. One with a parameter for each argument is in the form of kompile, and it may be an
+-- equation of the last resort. The variables of its guards are numbered after its own.
+pub data SaysEquation (sig : Signature) (equations : List Equation) (f : ℕ) (e : Equation)
+    (p : Sentence) : Type 0 where
+  direct : (c : Sentence) → e.last_resort ≡ None → e.parameters ≡ 0 →
+      condition_sentence sig e.variables e.condition ≡ Some c →
+      p ≡ direct_sentence f e c → SaysEquation sig equations f e p
+  kompile : (c : Sentence) (info : SymInfo) (sorts : List ℕ) (sort : ℕ) → e.last_resort ≡ None →
+      e.parameters ≢ 0 → e.parameters ≡ length sorts → Declares sig f info sorts sort →
       condition_sentence sig (behind_parameters sorts e).variables
       (behind_parameters sorts e).condition
       ≡ Some c →
-      p ≡ kompile_sentence f (length sorts) (behind_parameters sorts e) c → SaysEquation sig f e p
+      p ≡ kompile_sentence f (length sorts) (behind_parameters sorts e) c
+      → SaysEquation sig equations f e p
+  last_resort : (guards : List Guard) (g c : Sentence) (info : SymInfo) (sorts : List ℕ) (sort : ℕ)
+      → e.last_resort ≡ Some guards →
+      e.parameters ≢ 0 → e.parameters ≡ length sorts → Declares sig f info sorts sort →
+      guards_sentence sig equations (length sorts + length e.variables) guards ≡ Some g →
+      condition_sentence sig (behind_parameters sorts e).variables
+      (behind_parameters sorts e).condition
+      ≡ Some c →
+      p ≡ last_resort_sentence f (length sorts) (behind_parameters sorts e) g c
+      → SaysEquation sig equations f e p
 
 -- the function is defined by equations, and this is one of them
 pub record IsEquationFor (theory : RewriteTheory) (f : ℕ) (e : Equation) : Type 0 where
@@ -199,8 +177,8 @@ pub record SaysCollapse (sig : Signature) (a b c : ℕ) (p : Sentence) : Type 0 
 pub data IsOwnAxiom (theory : RewriteTheory) (p : Sentence) : Type 0 where
   of_rule : (r : RewriteRule) → Contains theory.rules r → SaysRule theory.sig r p
       → IsOwnAxiom theory p
-  of_equation : (f : ℕ) (e : Equation) → IsEquationFor theory f e → SaysEquation theory.sig f e p
-      → IsOwnAxiom theory p
+  of_equation : (f : ℕ) (e : Equation) → IsEquationFor theory f e
+      → SaysEquation theory.sig (equations_of theory f) f e p → IsOwnAxiom theory p
   total : (f : ℕ) → SaysTotal theory.sig f p → IsOwnAxiom theory p
   apart : (f g : ℕ) → SaysApart theory.sig f g p → IsOwnAxiom theory p
   free : (f : ℕ) → SaysFree theory.sig f p → IsOwnAxiom theory p

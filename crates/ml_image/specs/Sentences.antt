@@ -1,23 +1,26 @@
 -- The statements of a definition in matching logic, over its own sorts and symbols, and their
 -- images (Chen and Rosu 2019).
-use Rattle.std.specs.Prelude.{◌≡◌, ℕ, ◌+◌, suc, zero, List, [], ◌∷◌, Option, Some, None, option_map}
+use Rattle.std.specs.Prelude.{◌≡◌, ℕ, ◌+◌, suc, zero, List, [], ◌∷◌, Option, Some, option_map}
 use Rattle.ml_pat.specs.Patterns.{Pattern}
 use Rattle.ml_pat.specs.Patterns as logic
 use Rattle.term_core.specs.Patterns.{Pattern as RulePattern, variable}
 use Rattle.rule_core.specs.declared.signature.Signature.{Signature}
 use Rattle.ml_image.specs.Images.{both, symbol_image, sort_image, injection_image, image_of}
 
--- A sentence is built from rules' patterns and from symbols. `inject a b` is the injection symbol from
--- the sort a to the sort b. `is_in x p` says that the element x is in p. `functional p s` says that p is one element of the sort s. `next p` is everything that can
--- make one step to p. A quantifier has the number of its variable and its sort.
+-- A sentence is built from rules' patterns and from symbols. `inject a b` is the injection symbol
+-- from the sort a to the sort b. `is_in x p` says that the element x is in p. `functional p s` says
+-- that p is one element of the sort s. `next p` is everything that can make one step to p. A
+-- quantifier has the number of its variable and its sort.
 pub data Sentence : Type 0 where
   term : RulePattern → Sentence
   symbol : ℕ → Sentence
   inject : ℕ → ℕ → Sentence
   apply : Sentence → Sentence → Sentence
   top : Sentence
+  bottom : Sentence
   not : Sentence → Sentence
   and : Sentence → Sentence → Sentence
+  or : Sentence → Sentence → Sentence
   implies : Sentence → Sentence → Sentence
   equals : Sentence → Sentence → Sentence
   is_in : Sentence → Sentence → Sentence
@@ -35,9 +38,12 @@ sentence_image sig names (inject a b) = injection_image sig names a b
 sentence_image sig names (apply p q) =
     both logic.app (sentence_image sig names p) (sentence_image sig names q)
 sentence_image sig names top = Some logic.top
+sentence_image sig names bottom = Some logic.bot
 sentence_image sig names (not p) = option_map logic.not (sentence_image sig names p)
 sentence_image sig names (and p q) =
     both logic.and (sentence_image sig names p) (sentence_image sig names q)
+sentence_image sig names (or p q) =
+    both logic.or (sentence_image sig names p) (sentence_image sig names q)
 sentence_image sig names (implies p q) =
     both logic.imp (sentence_image sig names p) (sentence_image sig names q)
 sentence_image sig names (equals p q) =
@@ -56,6 +62,11 @@ sentence_image sig names (next p) = option_map logic.next (sentence_image sig na
 abbrev pub for_all : ℕ → List ℕ → Sentence → Sentence
 for_all k [] p = p
 for_all k (s ∷ ss) p = forall k s (for_all (k + 1) ss p)
+
+-- `for some x:k of the first sort, some x:(k+1) of the second, ..`, the first outermost
+abbrev pub for_some : ℕ → List ℕ → Sentence → Sentence
+for_some k [] p = p
+for_some k (s ∷ ss) p = exists k s (for_some (k + 1) ss p)
 
 -- this many variables, numbered from k
 abbrev pub variables : ℕ → ℕ → List Sentence

@@ -5,7 +5,7 @@ ghost use Rattle.term_core.specs.RulePatterns.{sort_numbers};
 ghost use Rattle.rule_core.specs.Sorting.{AreSorts};
 ghost use Rattle.rule_core.specs.ProgramView.{sorts_of};
 ghost use Rattle.ml_image.specs.OwnAxioms.{sort_numbered};
-ghost use Rattle.ml_image.specs.Closing.{Closes};
+ghost use Rattle.ml_image.specs.Closing.{Closes, ClosesSome};
 ghost use Rattle.ml_image.specs.Counted.{at_variables, at_pairs};
 ghost use Rattle.ml_image.specs.Gained.{HasGained};
 
@@ -34,6 +34,30 @@ pub(crate) fn close(
     for i in (0..sorts.len()).rev() {
         let sort = sort_number(alloc, sig, names, sorts[i])?;
         made = MPat::all(alloc, VarNo(i as u32), sort, &made)?;
+    }
+    Ok(made)
+}
+
+// The pattern, existentially quantified over variables of these sorts. The variables are numbered
+// from `first`, and the first one is the outermost.
+pub(crate) fn close_some(
+    alloc: Global,
+    sig: &Signature,
+    names: &mut Names,
+    first: u32,
+    sorts: &[SortId],
+    body: MPat,
+) -> Result<MPat, AllocError>
+    requires sorts { AreSorts sig.now (sort_numbers sorts.now) }
+    requires few { first + length sorts.now ≤ 2 ^ 32 }
+    ensures image { IfOk result
+        (ClosesSome sig.now names.old names.new first (sort_numbers sorts.now) body) }
+    ensures names { HasGained sig.now names.old names.new }
+{
+    let mut made = body;
+    for i in (0..sorts.len()).rev() {
+        let sort = sort_number(alloc, sig, names, sorts[i])?;
+        made = MPat::ex(alloc, VarNo(first + i as u32), sort, &made)?;
     }
     Ok(made)
 }

@@ -6,11 +6,13 @@ ghost use Rattle.term_core.specs.RulePatterns.{plain_pattern, sort_numbers};
 ghost use Rattle.term_core.specs.PatternLists.{plain_patterns};
 ghost use Rattle.rule_core.specs.Sorting.{AreSorts};
 ghost use Rattle.ml_image.specs.Images.{image_of, applied, at_sorts, symbol_image};
-ghost use Rattle.ml_image.specs.Images.{injection_symbol, injection_image, shifted, all_shifted};
+ghost use Rattle.ml_image.specs.Images.{injection_symbol, injection_image, renamed, all_renamed};
+ghost use Rattle.ml_image.specs.Numbering.{number_in, room};
 ghost use Rattle.ml_image.specs.HasImages.{HasImage, HaveImages};
 ghost use Rattle.ml_image.specs.Injecting.{IsInjectionAt};
 ghost use Rattle.ml_image.specs.Gained.{HasGained};
 
+use crate::numbering::Numbering;
 use crate::tokens::{sort_number, symbol_number, value_number};
 use ml_pat::{MPat, Names, VarNo};
 use rule_core::{Signature, SymKind};
@@ -30,33 +32,34 @@ pub fn term_image(
     ensures image { IfOk result (λ p. image_of sig.now names.new (plain_pattern pat.now) ≡ Some p) }
     ensures names { HasGained sig.now names.old names.new }
 {
-    image(alloc, sig, names, 0, pat)
+    image(alloc, sig, names, &Numbering::Shifted(0), pat)
 }
 
-// The image of a pattern whose variables are numbered from `first`, by its form.
+// The image of a pattern whose variables have these numbers, by its form.
 #[cycle(image)]
 pub(crate) fn image(
     alloc: Global,
     sig: &Signature,
     names: &mut Names,
-    first: u32,
+    numbering: &Numbering<'_>,
     pat: &RulePat,
 ) -> Result<MPat, AllocError>
-    requires { HasImage sig.now (2 ^ 32 - first) (plain_pattern pat.now) }
+    requires { HasImage sig.now (room numbering.now) (plain_pattern pat.now) }
     ensures image { IfOk result
-        (λ p. image_of sig.now names.new (shifted first (plain_pattern pat.now)) ≡ Some p) }
+        (λ p. image_of sig.now names.new (renamed (number_in numbering.now) (plain_pattern pat.now))
+        ≡ Some p) }
     ensures names { HasGained sig.now names.old names.new }
 {
     match pat {
-        RulePat::Var(x) => MPat::var(alloc, VarNo(first + *x)),
+        RulePat::Var(x) => MPat::var(alloc, VarNo(numbering.number(*x))),
         RulePat::Ctor(symbol, args) => {
             let head = head_image(alloc, sig, names, symbol.0 as usize)?;
-            applied(alloc, sig, names, first, head, args)
+            applied(alloc, sig, names, numbering, head, args)
         }
         RulePat::Call(symbol, sorts, args) => {
             let head = head_image(alloc, sig, names, symbol.0 as usize)?;
             let head = at_sorts(alloc, sig, names, head, sorts)?;
-            applied(alloc, sig, names, first, head, args)
+            applied(alloc, sig, names, numbering, head, args)
         }
         RulePat::Value(sort, value) => {
             let number = value_number(alloc, sig, names, *sort, value)?;
@@ -64,7 +67,7 @@ pub(crate) fn image(
         }
         RulePat::Inj(from, to, below) => {
             let head = injection_image(alloc, sig, names, *from, *to)?;
-            let below = image(alloc, sig, names, first, below)?;
+            let below = image(alloc, sig, names, numbering, below)?;
             MPat::app(alloc, &head, &below)
         }
     }
@@ -76,19 +79,19 @@ pub(crate) fn applied(
     alloc: Global,
     sig: &Signature,
     names: &mut Names,
-    first: u32,
+    numbering: &Numbering<'_>,
     head: MPat,
     args: &[RulePat],
 ) -> Result<MPat, AllocError>
-    requires { HaveImages sig.now (2 ^ 32 - first) (plain_patterns args.now) }
+    requires { HaveImages sig.now (room numbering.now) (plain_patterns args.now) }
     ensures image { IfOk result
-        (λ p. applied sig.now names.new (Some head) (all_shifted first (plain_patterns args.now))
-        ≡ Some p) }
+        (λ p. applied sig.now names.new (Some head)
+        (all_renamed (number_in numbering.now) (plain_patterns args.now)) ≡ Some p) }
     ensures names { HasGained sig.now names.old names.new }
 {
     let mut made = head;
     for arg in args {
-        let arg = image(alloc, sig, names, first, arg)?;
+        let arg = image(alloc, sig, names, numbering, arg)?;
         made = MPat::app(alloc, &made, &arg)?;
     }
     Ok(made)

@@ -14,7 +14,8 @@ pub fn naming_laws()
 
 /// Has no effect at run time. It states which statements of a well-sorted theory have images: its
 /// patterns, its rules, the equations of its functions, and that its constructors are total. The
-/// only further condition is a bound on the numbers of variables.
+/// only further conditions are bounds on the numbers of variables, and that guards repeat equations
+/// of their function.
 pub fn condition_laws()
     ensures pattern { SortedHasImage }
     ensures rule { RuleHasImage }

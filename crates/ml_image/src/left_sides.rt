@@ -1,42 +1,45 @@
 // The images of left sides. A part that has a name stands in a conjunction with the variable that
 // names it (Kore language document, "Patterns"). Without names they are the images of patterns.
-ghost use Rattle.std.specs.Prelude.{◌≡◌, ◌-◌, ◌<◌, ◌^◌, IfOk, Some, length};
+ghost use Rattle.std.specs.Prelude.{◌≡◌, ◌<◌, IfOk, Some, length};
 ghost use Rattle.term_core.specs.RulePatterns.{plain_pattern};
 ghost use Rattle.term_core.specs.PatternLists.{plain_patterns};
 ghost use Rattle.ml_image.specs.HasImages.{AreNamesBelow, HasImage, HaveImages};
 ghost use Rattle.ml_image.specs.Sentences.{sentence_image};
-ghost use Rattle.ml_image.specs.PartNames.{part_names, left_behind, part_behind, sides_behind};
-ghost use Rattle.ml_image.specs.PartNames.{IsConjoined, with_name};
+ghost use Rattle.ml_image.specs.PartNames.{part_names, left_renamed, part_renamed};
+ghost use Rattle.ml_image.specs.PartNames.{sides_renamed, IsConjoined, with_name};
 ghost use Rattle.ml_image.specs.Gained.{HasGained};
+ghost use Rattle.ml_image.specs.Numbering.{number_in, room};
 
 use crate::images::{head_image, image, injection_image};
 use crate::naming::{PartName, names_in};
+use crate::numbering::Numbering;
 use ml_pat::{MPat, Names, VarNo};
 use rule_core::Signature;
 use std::alloc::{AllocError, Global};
 use term_core::{RulePat, SymId};
 
-// The image of a pattern whose parts have these names. All variables are numbered from `first`.
+// The image of a pattern whose parts have these names. All variables have these numbers.
 #[cycle(left_image)]
 pub(crate) fn left_image(
     alloc: Global,
     sig: &Signature,
     names: &mut Names,
-    first: u32,
+    numbering: &Numbering<'_>,
     pat: &RulePat,
     parts: &[PartName<'_>],
 ) -> Result<MPat, AllocError>
-    requires pattern { HasImage sig.now (2 ^ 32 - first) (plain_pattern pat.now) }
-    requires parts { AreNamesBelow (2 ^ 32 - first) (part_names parts.now) }
+    requires pattern { HasImage sig.now (room numbering.now) (plain_pattern pat.now) }
+    requires parts { AreNamesBelow (room numbering.now) (part_names parts.now) }
     ensures image { IfOk result (λ p. sentence_image sig.now names.new
-        (left_behind first (part_names parts.now) (plain_pattern pat.now)) ≡ Some p) }
+        (left_renamed (number_in numbering.now) (part_names parts.now) (plain_pattern pat.now)) ≡
+        Some p) }
     ensures names { HasGained sig.now names.old names.new }
 {
     if parts.is_empty() {
-        return image(alloc, sig, names, first, pat);
+        return image(alloc, sig, names, numbering, pat);
     }
-    let part = part_image(alloc, sig, names, first, pat, parts)?;
-    conjoined(alloc, first, part, parts)
+    let part = part_image(alloc, sig, names, numbering, pat, parts)?;
+    conjoined(alloc, numbering, part, parts)
 }
 
 // `left_image` without the names of the whole pattern.
@@ -45,28 +48,29 @@ fn part_image(
     alloc: Global,
     sig: &Signature,
     names: &mut Names,
-    first: u32,
+    numbering: &Numbering<'_>,
     pat: &RulePat,
     parts: &[PartName<'_>],
 ) -> Result<MPat, AllocError>
-    requires pattern { HasImage sig.now (2 ^ 32 - first) (plain_pattern pat.now) }
-    requires parts { AreNamesBelow (2 ^ 32 - first) (part_names parts.now) }
+    requires pattern { HasImage sig.now (room numbering.now) (plain_pattern pat.now) }
+    requires parts { AreNamesBelow (room numbering.now) (part_names parts.now) }
     ensures image { IfOk result (λ p. sentence_image sig.now names.new
-        (part_behind first (part_names parts.now) (plain_pattern pat.now)) ≡ Some p) }
+        (part_renamed (number_in numbering.now) (part_names parts.now) (plain_pattern pat.now)) ≡
+        Some p) }
     ensures names { HasGained sig.now names.old names.new }
 {
     match pat {
         RulePat::Ctor(symbol, args) => {
-            sides_image(alloc, sig, names, first, *symbol, args, parts)
+            sides_image(alloc, sig, names, numbering, *symbol, args, parts)
         }
         RulePat::Inj(from, to, below) => {
             let inside = names_in(alloc, parts, 0)?;
             let head = injection_image(alloc, sig, names, *from, *to)?;
-            let below = left_image(alloc, sig, names, first, below, &inside)?;
+            let below = left_image(alloc, sig, names, numbering, below, &inside)?;
             MPat::app(alloc, &head, &below)
         }
         RulePat::Var(_) | RulePat::Value(..) | RulePat::Call(..) => {
-            image(alloc, sig, names, first, pat)
+            image(alloc, sig, names, numbering, pat)
         }
     }
 }
@@ -77,42 +81,43 @@ pub(crate) fn sides_image(
     alloc: Global,
     sig: &Signature,
     names: &mut Names,
-    first: u32,
+    numbering: &Numbering<'_>,
     symbol: SymId,
     args: &[RulePat],
     parts: &[PartName<'_>],
 ) -> Result<MPat, AllocError>
     requires symbol { symbol.0 < length sig.now.symbols }
-    requires patterns { HaveImages sig.now (2 ^ 32 - first) (plain_patterns args.now) }
-    requires parts { AreNamesBelow (2 ^ 32 - first) (part_names parts.now) }
+    requires patterns { HaveImages sig.now (room numbering.now) (plain_patterns args.now) }
+    requires parts { AreNamesBelow (room numbering.now) (part_names parts.now) }
     ensures image { IfOk result (λ p. sentence_image sig.now names.new
-        (sides_behind first (part_names parts.now) symbol.0 (plain_patterns args.now)) ≡ Some p) }
+        (sides_renamed (number_in numbering.now) (part_names parts.now) symbol.0 (plain_patterns
+        args.now)) ≡ Some p) }
     ensures names { HasGained sig.now names.old names.new }
 {
     let mut made = head_image(alloc, sig, names, symbol.0 as usize)?;
     for i in 0..args.len() {
         let inside = names_in(alloc, parts, i)?;
-        let arg = left_image(alloc, sig, names, first, &args[i], &inside)?;
+        let arg = left_image(alloc, sig, names, numbering, &args[i], &inside)?;
         made = MPat::app(alloc, &made, &arg)?;
     }
     Ok(made)
 }
 
 // A pattern with those of these names that name the whole of it, the first innermost. Their
-// variables are numbered from `first`.
+// variables have these numbers.
 fn conjoined(
     alloc: Global,
-    first: u32,
+    numbering: &Numbering<'_>,
     part: MPat,
     parts: &[PartName<'_>],
 ) -> Result<MPat, AllocError>
-    requires { AreNamesBelow (2 ^ 32 - first) (part_names parts.now) }
-    ensures { IfOk result (IsConjoined first (part_names parts.now) part) }
+    requires { AreNamesBelow (room numbering.now) (part_names parts.now) }
+    ensures { IfOk result (IsConjoined (number_in numbering.now) (part_names parts.now) part) }
 {
     let mut made = part;
     for name in parts {
         if name.way.is_empty() {
-            made = with_name(alloc, first, name, &made)?;
+            made = with_name(alloc, numbering, name, &made)?;
         }
     }
     Ok(made)
@@ -121,14 +126,14 @@ fn conjoined(
 // The conjunction of a pattern and the variable that names it, as they are written.
 fn with_name(
     alloc: Global,
-    first: u32,
+    numbering: &Numbering<'_>,
     name: &PartName<'_>,
     part: &MPat,
 ) -> Result<MPat, AllocError>
-    requires { name.now.var < 2 ^ 32 - first }
-    ensures { IfOk result (λ p. p ≡ with_name first name.now part.now) }
+    requires { name.now.var < room numbering.now }
+    ensures { IfOk result (λ p. p ≡ with_name (number_in numbering.now) name.now part.now) }
 {
-    let variable = MPat::var(alloc, VarNo(first + name.var))?;
+    let variable = MPat::var(alloc, VarNo(numbering.number(name.var)))?;
     if name.first {
         MPat::and(alloc, &variable, part)
     } else {

@@ -1,26 +1,34 @@
 // The images of rewrite rules and equations.
-ghost use Rattle.std.specs.Prelude.{◌≡◌, ◌≢◌, ◌<◌, ◌≤◌, ◌-◌, ◌+◌, ◌^◌, [], length, IfOk, Some};
-ghost use Rattle.std.specs.Prelude.{option_map, option_copied, slice_get};
+ghost use Rattle.std.specs.Prelude.{◌≡◌, ◌≢◌, ◌<◌, ◌≤◌, ◌+◌, ◌^◌, [], length, map, IfOk, Some};
+ghost use Rattle.std.specs.Prelude.{option_map, option_copied, slice_get, IfSome, All};
 ghost use Rattle.ml_pat.specs.Patterns.{imp, and, equal, next};
 ghost use Rattle.term_core.specs.RulePatterns.{plain_pattern, sort_numbers};
 ghost use Rattle.term_core.specs.PatternLists.{plain_patterns};
 ghost use Rattle.rule_core.specs.ProgramView.{sorts_of, names_of, rewrite_rule, function_equation};
 ghost use Rattle.term_core.specs.declared.ids.SortId.{SortId};
-ghost use Rattle.ml_image.specs.Images.{all_shifted};
+ghost use Rattle.ml_image.specs.Images.{all_renamed};
 ghost use Rattle.ml_image.specs.Sentences.{IsImageOf, sentence_image, symbol};
 ghost use Rattle.ml_image.specs.NamedSides.{applied_sides, left_sentence, of_child};
-ghost use Rattle.ml_image.specs.PartNames.{part_names, names_behind};
-ghost use Rattle.ml_image.specs.OwnAxioms.{SaysRule, SaysEquation, sort_of, made_sort, meets};
+ghost use Rattle.ml_image.specs.PartNames.{part_names, names_renamed};
+ghost use Rattle.ml_image.specs.Premises.{sort_of, made_sort, meets};
+ghost use Rattle.ml_image.specs.LastResorts.{premise};
+ghost use Rattle.ml_image.specs.OwnAxioms.{SaysRule, SaysEquation};
 ghost use Rattle.ml_image.specs.HasImages.{HaveImages, HasRuleImage, HasEquationImage, IsTruth};
-ghost use Rattle.ml_image.specs.HasImages.{IsCondition, AreNamesBelow, HasImage};
+ghost use Rattle.ml_image.specs.HasImages.{IsCondition, AreNamesBelow, HasImage, HasPremise};
+ghost use Rattle.ml_image.specs.HasImages.{HasFittingGuards};
+ghost use Rattle.ml_image.specs.Numbering.{number_in, room};
 ghost use Rattle.ml_image.specs.Counted.{IsConditionImage};
+ghost use Rattle.ml_image.specs.Held.{held};
 ghost use Rattle.ml_image.specs.Gained.{HasGained};
 
 use crate::closing::{close, named_sorts, variable_sorts};
 use crate::constructors::{declaration, of_variables};
 use crate::images::{image, term_image};
+use crate::last_resorts::guards_image;
 use crate::left_sides::{left_image, sides_image};
 use crate::naming::{PartName, names_in, part_names};
+use crate::numbering::Numbering;
+use crate::numbering::Numbering::Shifted;
 use crate::tokens::value_number;
 use ml_pat::{MPat, Names, VarNo};
 use rule_core::{Equation, Rule, Signature, SortRef, VarInfo};
@@ -42,7 +50,7 @@ pub fn rule_image(
     ensures names { HasGained sig.now names.old names.new }
 {
     let left = left_side_image(alloc, sig, names, rule)?;
-    let condition = condition_image(alloc, sig, names, 0, &rule.vars, &rule.cond)?;
+    let condition = condition_image(alloc, sig, names, &Shifted(0), &rule.vars, &rule.cond)?;
     let right = term_image(alloc, sig, names, &rule.right)?;
     let body = step_to(alloc, &left, &condition, &right)?;
     let sorts = variable_sorts(alloc, &rule.vars)?;
@@ -65,7 +73,7 @@ fn left_side_image(
     ensures names { HasGained sig.now names.old names.new }
 {
     let parts = names_in(alloc, &part_names(alloc, &rule.named)?, 0)?;
-    left_image(alloc, sig, names, 0, &rule.left, &parts)
+    left_image(alloc, sig, names, &Shifted(0), &rule.left, &parts)
 }
 
 // `left & condition -> next right`.
@@ -76,56 +84,57 @@ fn step_to(alloc: Global, left: &MPat, condition: &MPat, right: &MPat) -> Result
     MPat::imp(alloc, &from, &MPat::next(alloc, right)?)
 }
 
-// The image of a condition, with its variables numbered from `first`: the statement that it is
-// `true`. Without a condition it is `top`.
+// The image of a condition whose variables have these numbers: the statement that it is `true`.
+// Without a condition it is `top`.
 fn condition_image(
     alloc: Global,
     sig: &Signature,
     names: &mut Names,
-    first: u32,
+    numbering: &Numbering<'_>,
     vars: &[VarInfo],
     condition: &Option<RulePat>,
 ) -> Result<MPat, AllocError>
     requires condition { IsCondition sig.now (sorts_of vars.now)
         (option_map plain_pattern condition.now) }
-    requires few { first + length vars.now ≤ 2 ^ 32 }
+    requires few { length vars.now ≤ room numbering.now }
     ensures image { IfOk result
-        (IsConditionImage sig.now names.new (sorts_of vars.now) first
+        (IsConditionImage sig.now names.new (sorts_of vars.now) (number_in numbering.now)
         (option_map plain_pattern condition.now)) }
     ensures names { HasGained sig.now names.old names.new }
 {
     match condition {
-        Some(pat) => truth_image(alloc, sig, names, first, vars, pat),
+        Some(pat) => truth_image(alloc, sig, names, numbering, vars, pat),
         None => MPat::top(alloc),
     }
 }
 
-// The statement that `pat`, with its variables numbered from `first`, is `true`.
+// The statement that `pat`, whose variables have these numbers, is `true`.
 fn truth_image(
     alloc: Global,
     sig: &Signature,
     names: &mut Names,
-    first: u32,
+    numbering: &Numbering<'_>,
     vars: &[VarInfo],
     pat: &RulePat,
 ) -> Result<MPat, AllocError>
     requires condition { IsTruth sig.now (sorts_of vars.now) (plain_pattern pat.now) }
-    requires few { first + length vars.now ≤ 2 ^ 32 }
+    requires few { length vars.now ≤ room numbering.now }
     ensures image { IfOk result
-        (IsConditionImage sig.now names.new (sorts_of vars.now) first
+        (IsConditionImage sig.now names.new (sorts_of vars.now) (number_in numbering.now)
         (Some (plain_pattern pat.now))) }
     ensures names { HasGained sig.now names.old names.new }
 {
     let Some(sort) = sort_of(sig, vars, pat) else {
         unreachable!()
     };
-    let held = image(alloc, sig, names, first, pat)?;
+    let held = image(alloc, sig, names, numbering, pat)?;
     let truth = value_number(alloc, sig, names, sort, &Value::Bool(true))?;
     MPat::equal(alloc, &held, &MPat::constant(alloc, truth)?)
 }
 
-// The sort of a pattern.
-fn sort_of(sig: &Signature, vars: &[VarInfo], pat: &RulePat) -> Option<SortId>
+/// Returns the sort of a pattern whose variables have these sorts, or none if a variable or a symbol
+/// of it is not there.
+pub fn sort_of(sig: &Signature, vars: &[VarInfo], pat: &RulePat) -> Option<SortId>
     ensures { option_map (λ (s : SortId). s.0) result
         ≡ sort_of sig.now (sorts_of vars.now) (plain_pattern pat.now) }
 {
@@ -156,27 +165,31 @@ fn made_sort(sig: &Signature, symbol: SymId, sorts: &[SortId]) -> Option<SortId>
     }
 }
 
-/// The image of an equation of a function (Chen and Rosu 2019; K framework, "Functions"): for all
-/// its variables, if the condition is `true`, the function applied to its arguments equals its
-/// right side. An equation in the form of kompile has a parameter for each argument of the
-/// function. It says that each parameter is in its argument. The parameters come before its other
-/// variables. An error: out of memory. The names may have gained tokens even then.
+/// The image of an equation of a function (Chen and Rosu 2019; K framework, "Functions" and
+/// "owise"), which is one of these: for all its variables, if the condition is `true`, the function
+/// applied to its arguments equals its right side. An equation in the form of kompile has a
+/// parameter for each argument of the function. It says that each parameter is in its argument. The
+/// parameters come before its other variables. An equation of the last resort also says that no
+/// guard holds. An error: out of memory. The names may have gained tokens even then.
 pub fn equation_image(
     alloc: Global,
     sig: &Signature,
     names: &mut Names,
+    equations: &[Equation],
     equation: &Equation,
 ) -> Result<MPat, AllocError>
-    requires { HasEquationImage sig.now equation.now.fun.0 (function_equation equation.now) }
+    requires { HasEquationImage sig.now (map function_equation equations.now) equation.now.fun.0
+        (function_equation equation.now) }
     ensures image { IfOk result
         (IsImageOf sig.now names.new
-        (SaysEquation sig.now equation.now.fun.0 (function_equation equation.now))) }
+        (SaysEquation sig.now (map function_equation equations.now) equation.now.fun.0
+        (function_equation equation.now))) }
     ensures names { HasGained sig.now names.old names.new }
 {
     if equation.params == 0 {
-        direct_image(alloc, sig, names, equation)
+        direct_image(alloc, sig, names, equations, equation)
     } else {
-        kompile_image(alloc, sig, names, equation)
+        kompile_image(alloc, sig, names, equations, equation)
     }
 }
 
@@ -185,17 +198,26 @@ fn direct_image(
     alloc: Global,
     sig: &Signature,
     names: &mut Names,
+    equations: &[Equation],
     equation: &Equation,
 ) -> Result<MPat, AllocError>
-    requires equation { HasEquationImage sig.now equation.now.fun.0
-        (function_equation equation.now) }
+    requires equation { HasEquationImage sig.now (map function_equation equations.now)
+        equation.now.fun.0 (function_equation equation.now) }
     requires direct { equation.now.params ≡ 0 }
     ensures image { IfOk result
         (IsImageOf sig.now names.new
-        (SaysEquation sig.now equation.now.fun.0 (function_equation equation.now))) }
+        (SaysEquation sig.now (map function_equation equations.now) equation.now.fun.0
+        (function_equation equation.now))) }
     ensures names { HasGained sig.now names.old names.new }
 {
-    let condition = condition_image(alloc, sig, names, 0, &equation.vars, &equation.cond)?;
+    let condition = condition_image(
+        alloc,
+        sig,
+        names,
+        &Shifted(0),
+        &equation.vars,
+        &equation.cond,
+    )?;
     let call = call_image(alloc, sig, names, equation)?;
     let right = term_image(alloc, sig, names, &equation.right)?;
     let body = MPat::imp(alloc, &condition, &MPat::equal(alloc, &call, &right)?)?;
@@ -220,7 +242,15 @@ fn call_image(
     ensures names { HasGained sig.now names.old names.new }
 {
     let parts = part_names(alloc, &equation.named)?;
-    sides_image(alloc, sig, names, 0, equation.fun, &equation.args, &parts)
+    sides_image(
+        alloc,
+        sig,
+        names,
+        &Shifted(0),
+        equation.fun,
+        &equation.args,
+        &parts,
+    )
 }
 
 // The image of an equation in the form of kompile.
@@ -228,87 +258,105 @@ fn kompile_image(
     alloc: Global,
     sig: &Signature,
     names: &mut Names,
+    equations: &[Equation],
     equation: &Equation,
 ) -> Result<MPat, AllocError>
-    requires equation { HasEquationImage sig.now equation.now.fun.0
-        (function_equation equation.now) }
+    requires equation { HasEquationImage sig.now (map function_equation equations.now)
+        equation.now.fun.0 (function_equation equation.now) }
     requires kompile { equation.now.params ≢ 0 }
     ensures image { IfOk result
         (IsImageOf sig.now names.new
-        (SaysEquation sig.now equation.now.fun.0 (function_equation equation.now))) }
+        (SaysEquation sig.now (map function_equation equations.now) equation.now.fun.0
+        (function_equation equation.now))) }
     ensures names { HasGained sig.now names.old names.new }
 {
     let count = equation.params;
-    let condition = condition_image(alloc, sig, names, count, &equation.vars, &equation.cond)?;
-    let met = parameters_image(alloc, sig, names, equation)?;
+    let held = held_image(alloc, sig, names, equations, equation)?;
     let function = of_variables(alloc, sig, names, equation.fun, 0, count)?;
-    let right = image(alloc, sig, names, count, &equation.right)?;
-    let body = met_equal(alloc, &condition, &met, &function, &right)?;
+    let right = image(alloc, sig, names, &Shifted(count), &equation.right)?;
+    let body = MPat::imp(alloc, &held, &MPat::equal(alloc, &function, &right)?)?;
     let mut sorts = named_sorts(alloc, &declaration(sig, equation.fun).args)?;
     sorts.extend_from_slice(&variable_sorts(alloc, &equation.vars)?)?;
     close(alloc, sig, names, &sorts, body)
 }
 
-// `condition & met -> function = right`.
-fn met_equal(
-    alloc: Global,
-    condition: &MPat,
-    met: &MPat,
-    function: &MPat,
-    right: &MPat,
-) -> Result<MPat, AllocError>
-    ensures { IfOk result
-        (λ p. p ≡ imp (and condition.now met.now) (equal function.now right.now)) }
-{
-    let holds = MPat::and(alloc, condition, met)?;
-    MPat::imp(alloc, &holds, &MPat::equal(alloc, function, right)?)
-}
-
-// The statement that each parameter of an equation is in its argument.
-fn parameters_image(
+// What an equation in the form of kompile requires: its premise, and that no guard holds.
+fn held_image(
     alloc: Global,
     sig: &Signature,
     names: &mut Names,
+    equations: &[Equation],
     equation: &Equation,
 ) -> Result<MPat, AllocError>
-    requires arguments { HaveImages sig.now (2 ^ 32 - equation.now.params)
-        (plain_patterns equation.now.args.items) }
-    requires names { AreNamesBelow (2 ^ 32 - equation.now.params)
-        (names_of equation.now.named.items) }
-    requires few { length equation.now.args.items ≤ 2 ^ 32 }
+    requires premise { HasPremise sig.now (function_equation equation.now) }
+    requires few { equation.now.params + length equation.now.vars.items ≤ 2 ^ 32 }
+    requires guards { HasFittingGuards (map function_equation equations.now)
+        (function_equation equation.now) }
+    requires repeated { IfSome equation.now.owise
+        (λ gs. All (HasPremise sig.now) (map function_equation equations.now)) }
     ensures image { IfOk result
-        (λ p. sentence_image sig.now names.new
-        (meets (names_behind equation.now.params (names_of equation.now.named.items)) 0
-        (all_shifted equation.now.params (plain_patterns equation.now.args.items))) ≡ Some p) }
+        (IsImageOf sig.now names.new
+        (λ s. held sig.now (map function_equation equations.now) (function_equation equation.now)
+        ≡ Some s)) }
     ensures names { HasGained sig.now names.old names.new }
 {
+    let count = equation.params;
+    let premise = premise_image(alloc, sig, names, &Shifted(count), equation)?;
+    match &equation.owise {
+        None => Ok(premise),
+        Some(guards) => {
+            let first = count + equation.vars.len() as u32;
+            let guards = guards_image(alloc, sig, names, first, equations, guards)?;
+            MPat::and(alloc, &MPat::not(alloc, &guards)?, &premise)
+        }
+    }
+}
+
+// The statement that the condition of an equation is `true` and that each parameter is in its
+// argument. The variables of the equation have these numbers.
+pub(crate) fn premise_image(
+    alloc: Global,
+    sig: &Signature,
+    names: &mut Names,
+    numbering: &Numbering<'_>,
+    equation: &Equation,
+) -> Result<MPat, AllocError>
+    requires premise { HasPremise sig.now (function_equation equation.now) }
+    requires few { length equation.now.vars.items ≤ room numbering.now }
+    ensures image { IfOk result
+        (IsImageOf sig.now names.new
+        (λ s. premise sig.now (number_in numbering.now) (function_equation equation.now) ≡ Some s)) }
+    ensures names { HasGained sig.now names.old names.new }
+{
+    let condition = condition_image(alloc, sig, names, numbering, &equation.vars, &equation.cond)?;
     let parts = part_names(alloc, &equation.named)?;
-    meets_image(alloc, sig, names, equation.params, &equation.args, &parts)
+    let met = meets_image(alloc, sig, names, numbering, &equation.args, &parts)?;
+    MPat::and(alloc, &condition, &met)
 }
 
 // The statement that each parameter is in its argument, whose parts may have names. The parameters
-// are numbered from 0, and the variables and names of the arguments from `first`.
+// are numbered from 0, and the variables and names of the arguments have these numbers.
 fn meets_image(
     alloc: Global,
     sig: &Signature,
     names: &mut Names,
-    first: u32,
+    numbering: &Numbering<'_>,
     args: &[RulePat],
     parts: &[PartName<'_>],
 ) -> Result<MPat, AllocError>
-    requires arguments { HaveImages sig.now (2 ^ 32 - first) (plain_patterns args.now) }
-    requires parts { AreNamesBelow (2 ^ 32 - first) (part_names parts.now) }
+    requires arguments { HaveImages sig.now (room numbering.now) (plain_patterns args.now) }
+    requires parts { AreNamesBelow (room numbering.now) (part_names parts.now) }
     requires few { length args.now ≤ 2 ^ 32 }
     ensures image { IfOk result
         (λ p. sentence_image sig.now names.new
-        (meets (names_behind first (part_names parts.now)) 0
-        (all_shifted first (plain_patterns args.now))) ≡ Some p) }
+        (meets (names_renamed (number_in numbering.now) (part_names parts.now)) 0
+        (all_renamed (number_in numbering.now) (plain_patterns args.now))) ≡ Some p) }
     ensures names { HasGained sig.now names.old names.new }
 {
     let mut made = MPat::top(alloc)?;
     for i in (0..args.len()).rev() {
         let inside = names_in(alloc, parts, i)?;
-        let argument = left_image(alloc, sig, names, first, &args[i], &inside)?;
+        let argument = left_image(alloc, sig, names, numbering, &args[i], &inside)?;
         let parameter = MPat::var(alloc, VarNo(i as u32))?;
         made = MPat::and(alloc, &MPat::member(alloc, &parameter, &argument)?, &made)?;
     }

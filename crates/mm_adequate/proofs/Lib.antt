@@ -5,5 +5,6 @@ pub mod Databases
 pub mod Spelling
 pub mod Assumptions
 pub mod ClosedAxioms
+pub mod FreeVariables
 pub mod OwnAxioms
 pub mod Adequacy

@@ -1,36 +1,35 @@
 -- The sentences of a well-sorted program's own axioms, and of true facts, have no free variables.
 use Rattle.std.proofs.Common.{◌≡◌, ℕ, ◌+◌, ◌<◌, ◌≤◌, ◌^◌, zero, suc, Bool, true, false, List, []}
-use Rattle.std.proofs.Common.{◌∷◌, ◌++◌, map, length, Option, Some, None, option_map, refl, sym, ap}
+use Rattle.std.proofs.Common.{◌∷◌, ◌++◌, map, length, Some, option_map, refl, sym, ap}
 use Rattle.std.proofs.Common.{◌∙◌, subst, arith, ◌⊎◌, inl, inr, length-append}
-use Rattle.std.specs.Prelude.{All, Contains, IfSome, if◌then◌else◌, slice_get}
-use Rattle.std.proofs.lemmas.List.Elements.{All-contains, All-head, All-tail, All-cons, All-map}
-use Rattle.std.proofs.lemmas.List.Elements.{All-weaker}
-use Rattle.std.proofs.lemmas.Option.{slice_get_within}
+use Rattle.std.proofs.Common.{pos_of_ne-zero}
+use Rattle.std.specs.Prelude.{All, Contains}
+use Rattle.std.proofs.lemmas.List.Elements.{All-contains}
 use Rattle.ml_pat.specs.Judgements.{fresh}
 use Rattle.term_core.specs.Terms.{DomainValue}
-use Rattle.term_core.specs.Patterns.{Pattern, Patterns, variable, domain_value, application}
-use Rattle.term_core.specs.Patterns.{injection, call, no_pattern, more_patterns}
+use Rattle.term_core.specs.Patterns.{Pattern, variable}
+use Rattle.term_core.specs.Patterns.{injection, no_pattern, more_patterns}
 use Rattle.rule_core.specs.Rules.{RewriteRule, Equation}
 use Rattle.rule_core.specs.Theories.{RewriteTheory, equations_of}
 use Rattle.rule_core.specs.Matching.{OccursIn, OccursInSome}
-use Rattle.rule_core.specs.Sorting.{HasSort, HaveSorts, IsSymbol}
-use Rattle.rule_core.specs.NamedParts.{Name, part_of}
-use Rattle.rule_core.specs.WellSorted.{IsSignature, IsCondition, IsRuleOf, IsEquationOf, HaveNames}
+use Rattle.rule_core.specs.Sorting.{IsSymbol}
+use Rattle.rule_core.specs.WellSorted.{IsRuleOf, IsEquationOf}
 use Rattle.rule_core.specs.WellSorted.{IsWellSorted}
 use Rattle.rule_core.specs.declared.signature.Signature.{Signature}
 use Rattle.rule_core.specs.declared.signature.SymInfo.{SymInfo}
-use Rattle.rule_core.specs.declared.signature.SortRef.{SortRef}
 use Rattle.ml_image.specs.Assumed.{IsAssumed}
-use Rattle.ml_image.specs.HasImages.{HasImage, HaveImages, AreNamesBelow, count_of}
-use Rattle.ml_image.specs.NamedSides.{whole, of_whole, way_in, at_way, of_child, named_part}
-use Rattle.ml_image.specs.NamedSides.{named_parts, left_sentence, applied_sides}
+use Rattle.ml_image.specs.HasImages.{AreNamesBelow, count_of}
+use Rattle.ml_image.specs.HasImages.{after_guards}
+use Rattle.ml_image.specs.NamedSides.{of_child}
 use Rattle.ml_image.specs.Images.{shifted, all_shifted}
-use Rattle.ml_image.specs.Sentences.{Sentence, term, symbol, inject, apply, top, not, and, implies}
-use Rattle.ml_image.specs.Sentences.{equals, for_all}
-use Rattle.ml_image.specs.Sentences.{variables, apply_all, conjunctions}
-use Rattle.ml_image.specs.OwnAxioms.{sort_of, is_true, condition_sentence, SaysRule, IsOwnAxiom}
-use Rattle.ml_image.specs.OwnAxioms.{meets, name_behind, sort_numbered, Declares, SaysEquation}
-use Rattle.ml_image.specs.OwnAxioms.{direct, kompile, IsEquationFor, of_variables, SaysTotal}
+use Rattle.ml_image.specs.Sentences.{Sentence, term, symbol, not}
+use Rattle.ml_image.specs.Sentences.{implies, equals, exists, variables}
+use Rattle.ml_image.specs.Sentences.{conjunctions}
+use Rattle.ml_image.specs.Premises.{condition_sentence, meets}
+use Rattle.ml_image.specs.Premises.{name_behind}
+use Rattle.ml_image.specs.OwnAxioms.{SaysRule, IsOwnAxiom, Declares, SaysEquation}
+use Rattle.ml_image.specs.OwnAxioms.{direct, kompile, last_resort, IsEquationFor, of_variables}
+use Rattle.ml_image.specs.OwnAxioms.{SaysTotal}
 use Rattle.ml_image.specs.OwnAxioms.{SaysApart, SaysFree, of_rule, of_equation, total, apart, free}
 use Rattle.ml_image.specs.OwnAxioms.{subsort, collapse}
 use Rattle.ml_image.specs.Sides.{Head, value, constructor, Side, plain, injected_variable}
@@ -39,249 +38,15 @@ use Rattle.ml_image.specs.Sides.{side_pattern, IsHead, IsSide}
 use Rattle.ml_image.specs.TrueFacts.{value_patterns, IsTrueFact, of_value, of_hook, of_unequal}
 use Rattle.ml_image.specs.TrueFacts.{of_injective, SaysUnequal}
 use Rattle.ml_image.proofs.ImageLaws.{some_same}
-use Rattle.ml_image.proofs.WellSortedLaws.{sorted_has_image}
 use Rattle.mm_adequate.specs.Assuming.{AssumesClosed, HasFewVariables}
 use Rattle.mm_adequate.proofs.ClosedAxioms.{IsBelow, image_below}
-
--- ---- variables of well-sorted patterns
-
-mutual
-  image_uses : (sig : Signature) (n : ℕ) (p : Pattern) (x : ℕ) → HasImage sig n p → OccursIn x p
-      → x < n
-  image_uses sig n (variable y) x h i = omega (arith, h, i)
-  image_uses sig n (domain_value s v) x h i = absurd i
-  image_uses sig n (application f ps) x h i = images_use sig n ps x h.1 i
-  image_uses sig n (injection a b p) x h i = image_uses sig n p x h.2 i
-  image_uses sig n (call f ss ps) x h i = images_use sig n ps x h.2 i
-
-  images_use : (sig : Signature) (n : ℕ) (ps : Patterns) (x : ℕ) → HaveImages sig n ps
-      → OccursInSome x ps → x < n
-  images_use sig n no_pattern x h i = absurd i
-  images_use sig n (more_patterns p ps) x h (inl i) = image_uses sig n p x h.0 i
-  images_use sig n (more_patterns p ps) x h (inr i) = images_use sig n ps x h.1 i
-
-sorted_uses : (sig : Signature) (vars : List ℕ) (p : Pattern) (sort x : ℕ) → IsSignature sig
-    → HasSort sig vars p sort → OccursIn x p → x < length vars
-sorted_uses sig vars p sort x ok h i =
-    image_uses sig (length vars) p x (sorted_has_image sig vars p sort ok h) i
-
-all_sorted_use : (sig : Signature) (vars sorts : List ℕ) (ps : Patterns) (refs : List SortRef)
-    (x : ℕ) → IsSignature sig → HaveSorts sig vars sorts ps refs → OccursInSome x ps
-    → x < length vars
-all_sorted_use sig vars sorts no_pattern refs x ok h i = absurd i
-all_sorted_use sig vars sorts (more_patterns p ps) [] x ok h i = absurd h
-all_sorted_use sig vars sorts (more_patterns p ps) (r ∷ refs) x ok h (inl i) =
-    sorted_uses sig vars p h.0 x ok h.2 i
-all_sorted_use sig vars sorts (more_patterns p ps) (r ∷ refs) x ok h (inr i) =
-    all_sorted_use sig vars sorts ps refs x ok h.3 i
-
-counted : (sig : Signature) (vars sorts : List ℕ) (ps : Patterns) (refs : List SortRef)
-    → HaveSorts sig vars sorts ps refs → count_of ps ≡ length refs
-counted sig vars sorts no_pattern [] h = refl
-counted sig vars sorts no_pattern (r ∷ refs) h = absurd h
-counted sig vars sorts (more_patterns p ps) [] h = absurd h
-counted sig vars sorts (more_patterns p ps) (r ∷ refs) h =
-    ap suc (counted sig vars sorts ps refs h.3)
-
-mutual
-  shifted_uses : (n k : ℕ) (p : Pattern) (x : ℕ) → ((y : ℕ) → OccursIn y p → y < k)
-      → OccursIn x (shifted n p) → x < n + k
-  shifted_uses n k (variable y) x h i = omega (arith, h y refl, i)
-  shifted_uses n k (domain_value s v) x h i = absurd i
-  shifted_uses n k (application f ps) x h i = all_shifted_use n k ps x h i
-  shifted_uses n k (injection a b p) x h i = shifted_uses n k p x h i
-  shifted_uses n k (call f ss ps) x h i = all_shifted_use n k ps x h i
-
-  all_shifted_use : (n k : ℕ) (ps : Patterns) (x : ℕ) → ((y : ℕ) → OccursInSome y ps → y < k)
-      → OccursInSome x (all_shifted n ps) → x < n + k
-  all_shifted_use n k no_pattern x h i = absurd i
-  all_shifted_use n k (more_patterns p ps) x h (inl i) =
-      shifted_uses n k p x (λ y j. h y (inl j)) i
-  all_shifted_use n k (more_patterns p ps) x h (inr i) =
-      all_shifted_use n k ps x (λ y j. h y (inr j)) i
-
-count_shifted : (n : ℕ) (ps : Patterns) → count_of (all_shifted n ps) ≡ count_of ps
-count_shifted n no_pattern = refl
-count_shifted n (more_patterns p ps) = ap suc (count_shifted n ps)
-
-length-numbered : (sorts : List ℕ) → length (map sort_numbered sorts) ≡ length sorts
-length-numbered [] = refl
-length-numbered (s ∷ sorts) = ap suc (length-numbered sorts)
-
--- ---- sentences that are built from others
-
-below_for_all : (k : ℕ) (ss : List ℕ) (p : Sentence) → k + length ss ≤ 2 ^ 64
-    → IsBelow (k + length ss) p → IsBelow k (for_all k ss p)
-below_for_all k [] p l h =
-    let same : k + 0 ≡ k = omega arith in
-    subst (λ (n : ℕ). IsBelow n p) same h
-below_for_all k (s ∷ ss) p l h =
-    let same : k + suc (length ss) ≡ (k + 1) + length ss = omega arith in (
-      refl,
-      (
-        omega (arith, l),
-        below_for_all (k + 1) ss p (omega (arith, l)) (subst (λ (n : ℕ). IsBelow n p) same h),
-      ),
-    )
-
-closes : (ss : List ℕ) (p : Sentence) → length ss ≤ 2 ^ 64 → IsBelow (length ss) p
-    → IsBelow 0 (for_all 0 ss p)
-closes ss p l h =
-    let same : length ss ≡ 0 + length ss = omega arith in
-    below_for_all 0 ss p (omega (arith, l)) (subst (λ (n : ℕ). IsBelow n p) same h)
-
-abbrev AllBelow : ℕ → List Sentence → Type 0
-AllBelow k [] = Unit {0}
-AllBelow k (p ∷ ps) = IsBelow k p × AllBelow k ps
-
-below_apply : (k : ℕ) (head : Sentence) (ps : List Sentence) → IsBelow k head → AllBelow k ps
-    → IsBelow k (apply_all head ps)
-below_apply k head [] h all = h
-below_apply k head (p ∷ ps) h all = below_apply k _ ps (h, all.0) all.1
-
-below_variables : (k j n : ℕ) → j + n ≤ k → AllBelow k (variables j n)
-below_variables k j zero l = tt
-below_variables k j (suc n) l =
-    ((λ x i. omega (arith, l, i)), below_variables k (j + 1) n (omega (arith, l)))
-
-below_of : (k f j n : ℕ) → j + n ≤ k → IsBelow k (of_variables f j n)
-below_of k f j n l = below_apply k (symbol f) (variables j n) tt (below_variables k j n l)
-
-below_pairs : (k : ℕ) (ps qs : List Sentence) → AllBelow k ps → AllBelow k qs
-    → AllBelow k (conjunctions ps qs)
-below_pairs k [] qs h j = tt
-below_pairs k (p ∷ ps) [] h j = tt
-below_pairs k (p ∷ ps) (q ∷ qs) h j = ((h.0, j.0), below_pairs k ps qs h.1 j.1)
-
--- ---- left sides whose parts have names
-
-abbrev LowName : ℕ → Name → Type 0
-LowName k n = n.variable < k
-
-below_at : (k : ℕ) (place : List ℕ) (n : Name) (names : List Name) → LowName k n
-    → AreNamesBelow k names → AreNamesBelow k (whole place n names)
-below_at k [] n names low h = All-cons (LowName k) n names low h
-below_at k (i ∷ way) n names low h = h
-
-below_whole : (k : ℕ) (names : List Name) → AreNamesBelow k names → AreNamesBelow k (of_whole names)
-below_whole k [] h = h
-below_whole k (n ∷ names) h =
-    below_at k n.place n (of_whole names) (All-head (LowName k) n names h)
-    (below_whole k names (All-tail (LowName k) n names h))
-
-below_way : (k : ℕ) (way : Option (List ℕ)) (n : Name) (names : List Name) → LowName k n
-    → AreNamesBelow k names → AreNamesBelow k (at_way way n names)
-below_way k None n names low h = h
-below_way k (Some way) n names low h =
-    All-cons (LowName k) (record n { place = way }) names low h
-
-below_child : (k j : ℕ) (names : List Name) → AreNamesBelow k names
-    → AreNamesBelow k (of_child j names)
-below_child k j [] h = h
-below_child k j (n ∷ names) h =
-    below_way k (way_in j n.place) n (of_child j names) (All-head (LowName k) n names h)
-    (below_child k j names (All-tail (LowName k) n names h))
-
-below_part : (k : ℕ) (part : Sentence) (n : Name) → IsBelow k part → n.variable < k
-    → IsBelow k (named_part part n)
-below_part k part n h low = go n.first
-  where
-    is : IsBelow k (term (variable n.variable))
-    is x i = omega (arith, low, i)
-
-    go : (b : Bool) → IsBelow k
-        (if b then and (term (variable n.variable)) part
-        else and part (term (variable n.variable)))
-    go true = (is, h)
-    go false = (h, is)
-
-below_parts : (k : ℕ) (part : Sentence) (names : List Name) → IsBelow k part
-    → AreNamesBelow k names → IsBelow k (named_parts part names)
-below_parts k part [] h low = h
-below_parts k part (n ∷ names) h low =
-    below_parts k (named_part part n) names
-    (below_part k part n h (All-head (LowName k) n names low)) (All-tail (LowName k) n names low)
-
-mutual
-  below_left : (k : ℕ) (names : List Name) (p : Pattern) → AreNamesBelow k names
-      → ((x : ℕ) → OccursIn x p → x < k) → IsBelow k (left_sentence names p)
-  below_left k names (variable y) low h =
-      below_parts k (term (variable y)) (of_whole names) h (below_whole k names low)
-  below_left k names (domain_value s v) low h =
-      below_parts k (term (domain_value s v)) (of_whole names) h (below_whole k names low)
-  below_left k names (application f ps) low h =
-      below_parts k (applied_sides names 0 (symbol f) ps) (of_whole names)
-      (below_sides k names 0 (symbol f) ps low tt h) (below_whole k names low)
-  below_left k names (injection a b p) low h =
-      below_parts k (apply (inject a b) (left_sentence (of_child 0 names) p)) (of_whole names)
-      (tt, below_left k (of_child 0 names) p (below_child k 0 names low) h)
-      (below_whole k names low)
-  below_left k names (call f ss ps) low h =
-      below_parts k (term (call f ss ps)) (of_whole names) h (below_whole k names low)
-
-  below_sides : (k : ℕ) (names : List Name) (j : ℕ) (head : Sentence) (ps : Patterns)
-      → AreNamesBelow k names → IsBelow k head → ((x : ℕ) → OccursInSome x ps → x < k)
-      → IsBelow k (applied_sides names j head ps)
-  below_sides k names j head no_pattern low head_low h = head_low
-  below_sides k names j head (more_patterns p ps) low head_low h =
-      below_sides k names (j + 1) (apply head (left_sentence (of_child j names) p)) ps low
-      (head_low, below_left k (of_child j names) p (below_child k j names low) (λ x i. h x (inl i)))
-      (λ x i. h x (inr i))
-
-below_meets : (k : ℕ) (names : List Name) (j : ℕ) (ps : Patterns) → AreNamesBelow k names
-    → j + count_of ps ≤ k → ((x : ℕ) → OccursInSome x ps → x < k) → IsBelow k (meets names j ps)
-below_meets k names j no_pattern low l h = tt
-below_meets k names j (more_patterns p ps) low l h = (
-  (
-    (λ x i. omega (arith, l, i)),
-    below_left k (of_child j names) p (below_child k j names low) (λ x i. h x (inl i)),
-  ),
-  below_meets k names (j + 1) ps low (omega (arith, l)) (λ x i. h x (inr i)),
-)
-
-names_behind : (n k : ℕ) (names : List Name) → AreNamesBelow k names
-    → AreNamesBelow (n + k) (map (name_behind n) names)
-names_behind n k names h =
-    All-map (LowName (n + k)) (name_behind n) names
-    (All-weaker (LowName k) (λ (m : Name). n + m.variable < n + k)
-    (λ m low. omega (arith, low)) names h)
-
--- the variables of names are variables of the rule or the equation
-names_below : (sig : Signature) (vars : List ℕ) (ps : Patterns) (names : List Name)
-    → HaveNames sig vars ps names → AreNamesBelow (length vars) names
-names_below sig vars ps names have =
-    All-weaker (λ (n : Name). (p : Pattern) × (sort : ℕ) × (part_of ps n.place ≡ Some p)
-    × HasSort sig vars p sort × (slice_get vars n.variable ≡ Some sort)) (LowName (length vars))
-    (λ n (p, sort, there, sorted, is). slice_get_within vars n.variable sort is) names have.sorted
-
--- ---- conditions
-
-abbrev ConditionUses : ℕ → Option Pattern → Type 0
-ConditionUses k None = Unit {0}
-ConditionUses k (Some p) = (x : ℕ) → OccursIn x p → x < k
-
-condition_uses : (sig : Signature) (vars : List ℕ) (ps : Patterns) (o : Option Pattern)
-    (names : List Name) → IsSignature sig → IfSome o (IsCondition sig vars ps names)
-    → ConditionUses (length vars) o
-condition_uses sig vars ps None names ok h = tt
-condition_uses sig vars ps (Some p) names ok (sort, name, info, there, kind, sorted, only) =
-    λ x i. sorted_uses sig vars p sort x ok sorted i
-
-condition_shifted : (n k : ℕ) (o : Option Pattern) → ConditionUses k o
-    → ConditionUses (n + k) (option_map (shifted n) o)
-condition_shifted n k None h = tt
-condition_shifted n k (Some p) h = λ x i. shifted_uses n k p x h i
-
-below_condition : (sig : Signature) (vars : List ℕ) (k : ℕ) (o : Option Pattern) (c : Sentence)
-    → ConditionUses k o → condition_sentence sig vars o ≡ Some c → IsBelow k c
-below_condition sig vars k None c h e = let is : top ≡ c = cc in subst (IsBelow k) is tt
-below_condition sig vars k (Some p) c h e = go (sort_of sig vars p) e
-  where
-    go : (s : Option ℕ) → option_map (is_true p) s ≡ Some c → IsBelow k c
-    go None i = absurd (cc)
-    go (Some s) i =
-        let is : is_true p s ≡ c = cc in
-        subst (IsBelow k) is (h, (λ x j. absurd j))
+use Rattle.mm_adequate.proofs.FreeVariables.{sorted_uses, all_sorted_use, counted, shifted_uses}
+use Rattle.mm_adequate.proofs.FreeVariables.{all_shifted_use, count_shifted, length-numbered}
+use Rattle.mm_adequate.proofs.FreeVariables.{below_bound, closes, below_apply, below_variables}
+use Rattle.mm_adequate.proofs.FreeVariables.{below_of, below_pairs, below_child, below_left}
+use Rattle.mm_adequate.proofs.FreeVariables.{below_sides, below_meets, names_behind, names_below}
+use Rattle.mm_adequate.proofs.FreeVariables.{ConditionUses, condition_uses, condition_shifted}
+use Rattle.mm_adequate.proofs.FreeVariables.{below_condition, below_guards}
 
 -- ---- rules and equations
 
@@ -302,8 +67,8 @@ below_rule theory r p ok few there says = go ok.one_sort
         subst (IsBelow 0) (sym says.says)
         (closes r.variables _ (few.rules r there) (
           (
-            below_left (length r.variables) (of_child 0 r.names) r.left
-                (below_child (length r.variables) 0 r.names
+            below_left (λ x. x < length r.variables) (of_child 0 r.names) r.left
+                (below_child (λ x. x < length r.variables) 0 r.names
                 (names_below theory.sig r.variables (more_patterns r.left no_pattern) r.names
                 is.names))
                 (λ x i. sorted_uses theory.sig r.variables r.left sort x ok.signature is.left i),
@@ -322,7 +87,7 @@ same_symbol sig f one other h k =
 
 below_equation : (theory : RewriteTheory) (f : ℕ) (e : Equation) (p : Sentence)
     → IsWellSorted theory → HasFewVariables theory → IsEquationFor theory f e
-    → SaysEquation theory.sig f e p → IsBelow 0 p
+    → SaysEquation theory.sig (equations_of theory f) f e p → IsBelow 0 p
 below_equation theory f e p ok few for says = go says
   where
     sig : Signature
@@ -352,55 +117,102 @@ below_equation theory f e p ok few for says = go says
     named : AreNamesBelow (length e.variables) e.names
     named = names_below theory.sig e.variables e.arguments e.names is.names
 
-    go : SaysEquation theory.sig f e p → IsBelow 0 p
-    go (direct c none conditional says_it) =
-        subst (IsBelow 0) (sym says_it)
-        (closes e.variables _ (omega (arith, few.equations f e for.listed)) (
-          below_condition theory.sig e.variables (length e.variables) e.condition c condition
-              conditional,
-          (
-            below_sides (length e.variables) e.names 0 (symbol f) e.arguments named tt arguments,
-            right,
-          ),
-        ))
-    go (kompile c info sorts sort some many declared conditional says_it) =
+    arguments_many : (info : SymInfo) (sorts : List ℕ) (sort : ℕ)
+        → Declares theory.sig f info sorts sort → length for.info.args.items ≡ length sorts
+    arguments_many info sorts sort declared =
+        ap (λ (i : SymInfo). length i.args.items)
+        (same_symbol theory.sig f for.info info for.function declared.there)
+        ∙ ap length declared.takes ∙ length-numbered sorts
+
+    -- the condition, and the parameters in their arguments
+    required : (info : SymInfo) (sorts : List ℕ) (sort : ℕ) (c : Sentence)
+        → Declares theory.sig f info sorts sort
+        → condition_sentence theory.sig (sorts ++ e.variables)
+        (option_map (shifted (length sorts)) e.condition) ≡ Some c
+        → IsBelow (length (sorts ++ e.variables)) c
+        × IsBelow (length (sorts ++ e.variables))
+        (meets (map (name_behind (length sorts)) e.names) 0
+        (all_shifted (length sorts) e.arguments))
+    required info sorts sort c declared conditional =
         let k : ℕ = length (sorts ++ e.variables) in
         let long : k ≡ length sorts + length e.variables = length-append sorts e.variables in
         let count : count_of (all_shifted (length sorts) e.arguments) ≡ length sorts =
         count_shifted (length sorts) e.arguments
         ∙ counted theory.sig e.variables [] e.arguments for.info.args.items is.arguments
-        ∙ ap (λ (i : SymInfo). length i.args.items)
-        (same_symbol theory.sig f for.info info for.function declared.there)
-        ∙ ap length declared.takes ∙ length-numbered sorts in
+        ∙ arguments_many info sorts sort declared in (
+          below_condition theory.sig (sorts ++ e.variables) k
+              (option_map (shifted (length sorts)) e.condition) c
+              (subst (λ (m : ℕ).
+              ConditionUses m (option_map (shifted (length sorts)) e.condition)) (sym long)
+              (condition_shifted (length sorts) (length e.variables) e.condition condition))
+              conditional,
+          below_meets (λ x. x < length (sorts ++ e.variables))
+              (map (name_behind (length sorts)) e.names) 0
+              (all_shifted (length sorts) e.arguments)
+              (subst (λ (m : ℕ). AreNamesBelow m (map (name_behind (length sorts)) e.names))
+              (sym long) (names_behind (length sorts) (length e.variables) e.names named))
+              (λ x i. omega (arith, count, long, i))
+              (λ x i. omega (
+                arith,
+                long,
+                all_shifted_use (length sorts) (length e.variables) e.arguments x arguments i,
+              )),
+        )
+
+    -- the function applied to the parameters, and the right side
+    equated : (info : SymInfo) (sorts : List ℕ) (sort : ℕ)
+        → Declares theory.sig f info sorts sort
+        → IsBelow (length (sorts ++ e.variables)) (of_variables f 0 (length sorts))
+        × IsBelow (length (sorts ++ e.variables)) (term (shifted (length sorts) e.right))
+    equated info sorts sort declared =
+        let k : ℕ = length (sorts ++ e.variables) in
+        let long : k ≡ length sorts + length e.variables = length-append sorts e.variables in (
+          below_of k f 0 (length sorts) (omega (arith, long)),
+          (λ x i. omega (
+            arith,
+            long,
+            shifted_uses (length sorts) (length e.variables) e.right x right i,
+          )),
+        )
+
+    go : SaysEquation theory.sig (equations_of theory f) f e p → IsBelow 0 p
+    go (direct c ordinary none conditional says_it) =
+        subst (IsBelow 0) (sym says_it)
+        (closes e.variables _ (omega (arith, few.equations f e for.listed)) (
+          below_condition theory.sig e.variables (length e.variables) e.condition c condition
+              conditional,
+          (
+            below_sides (λ x. x < length e.variables) e.names 0 (symbol f) e.arguments named tt
+                arguments,
+            right,
+          ),
+        ))
+    go (kompile c info sorts sort ordinary some many declared conditional says_it) =
+        let k : ℕ = length (sorts ++ e.variables) in
+        let long : k ≡ length sorts + length e.variables = length-append sorts e.variables in
+        subst (IsBelow 0) (sym says_it)
+        (closes (sorts ++ e.variables) _
+        (omega (arith, long, many, few.equations f e for.listed)) (
+          required info sorts sort c declared conditional,
+          equated info sorts sort declared,
+        ))
+    go (last_resort guards g c info sorts sort last some many declared tells conditional says_it) =
+        let k : ℕ = length (sorts ++ e.variables) in
+        let long : k ≡ length sorts + length e.variables = length-append sorts e.variables in
+        let after : after_guards (length sorts + length e.variables) guards ≤ 2 ^ 64 =
+        subst (λ (n : ℕ). after_guards (n + length e.variables) guards ≤ 2 ^ 64) many
+        (few.guards f e guards for.listed last) in
         subst (IsBelow 0) (sym says_it)
         (closes (sorts ++ e.variables) _
         (omega (arith, long, many, few.equations f e for.listed)) (
           (
-            below_condition theory.sig (sorts ++ e.variables) k
-                (option_map (shifted (length sorts)) e.condition) c
-                (subst (λ (m : ℕ).
-                ConditionUses m (option_map (shifted (length sorts)) e.condition)) (sym long)
-                (condition_shifted (length sorts) (length e.variables) e.condition condition))
-                conditional,
-            below_meets k (map (name_behind (length sorts)) e.names) 0
-                (all_shifted (length sorts) e.arguments)
-                (subst (λ (m : ℕ). AreNamesBelow m (map (name_behind (length sorts)) e.names))
-                (sym long) (names_behind (length sorts) (length e.variables) e.names named))
-                (omega (arith, count, long))
-                (λ x i. omega (
-                  arith,
-                  long,
-                  all_shifted_use (length sorts) (length e.variables) e.arguments x arguments i,
-                )),
+            below_guards theory ok f for.info for.function k
+                (omega (arith, long, pos_of_ne-zero some, many))
+                (omega (arith, long, arguments_many info sorts sort declared))
+                (length sorts + length e.variables) guards after g tells,
+            required info sorts sort c declared conditional,
           ),
-          (
-            below_of k f 0 (length sorts) (omega (arith, long)),
-            (λ x i. omega (
-              arith,
-              long,
-              shifted_uses (length sorts) (length e.variables) e.right x right i,
-            )),
-          ),
+          equated info sorts sort declared,
         ))
 
 -- ---- constructors
@@ -418,8 +230,11 @@ below_total theory f p says =
     let low : n < 2 ^ 63 = few_sorts theory f says.info says.sorts says.sort says.constructs.0
     in
     subst (IsBelow 0) (sym says.says)
-    (closes says.sorts _ (omega (arith, low))
-    (refl, (omega (arith, low), ((λ x i. omega (arith, i)), below_of (n + 1) f 0 n (omega arith)))))
+    (closes says.sorts _ (omega (arith, low)) (
+      omega (arith, low),
+      below_bound n (equals (term (variable n)) (of_variables f 0 n))
+          ((λ x i. omega (arith, i)), below_of (n + 1) f 0 n (omega arith)),
+    ))
 
 below_apart : (theory : RewriteTheory) (f g : ℕ) (p : Sentence)
     → SaysApart theory.sig f g p → IsBelow 0 p
@@ -464,10 +279,18 @@ below_own theory p ok few (apart f g says) = below_apart theory f g p says
 below_own theory p ok few (free f says) = below_free theory f p says
 below_own theory p ok few (subsort a b says) =
     subst (IsBelow 0) (sym says.says)
-    (refl, (omega arith, (refl, (omega arith, ((λ x i. omega (arith, i)), (λ x i. omega (arith, i)))))))
+    (closes (a ∷ [])
+    (exists 1 b (equals (term (variable 1)) (term (injection a b (variable 0))))) (omega arith) (
+      omega arith,
+      below_bound 1 (equals (term (variable 1)) (term (injection a b (variable 0))))
+          ((λ x i. omega (arith, i)), (λ x i. omega (arith, i))),
+    ))
 below_own theory p ok few (collapse a b c says) =
     subst (IsBelow 0) (sym says.says)
-    (refl, (omega arith, ((λ x i. omega (arith, i)), (λ x i. omega (arith, i)))))
+    (closes (a ∷ [])
+    (equals (term (injection b c (injection a b (variable 0))))
+    (term (injection a c (variable 0)))) (omega arith)
+    ((λ x i. omega (arith, i)), (λ x i. omega (arith, i))))
 
 no_variable : (sorts : List ℕ) (vs : List DomainValue) (x : ℕ)
     → OccursInSome x (value_patterns sorts vs) → ⊥
@@ -554,13 +377,17 @@ pub assumes_closed : (theory : RewriteTheory) → IsWellSorted theory → HasFew
     → AssumesClosed theory
 assumes_closed theory ok few = record {
   closed = λ s names p x assumed image_is.
-      closed_at (fresh x p) ((image_below theory.sig names 0 (omega arith) s
+      closed_at (fresh x p) ((image_below theory.sig names (λ x. x < 0) none_few s
       (below_assumed theory s ok few assumed) p image_is).0 x);
   few = λ s names p assumed image_is.
-      (image_below theory.sig names 0 (omega arith) s (below_assumed theory s ok few assumed) p
+      (image_below theory.sig names (λ x. x < 0) none_few s (below_assumed theory s ok few assumed)
+      p
       image_is).1;
 }
   where
+    none_few : (x : ℕ) → x < 0 → x < 2 ^ 64
+    none_few x l = absurd (omega (arith, l))
+
     closed_at : (b : Bool) {x : ℕ} → (b ≡ false → x < 0) → b ≡ true
     closed_at true h = refl
     closed_at false h = absurd (omega (arith, h refl))

@@ -6,9 +6,10 @@ use Rattle.ml_pat.specs.Patterns.{constant}
 use Rattle.ml_pat.specs.Judgements.{fresh}
 use Rattle.ml_pat.specs.Leaves.{LeafFacts, EachLeaf}
 use Rattle.term_core.specs.Patterns.{Pattern as RulePattern}
-use Rattle.rule_core.specs.Rules.{RewriteRule, Equation}
+use Rattle.rule_core.specs.Rules.{RewriteRule, Equation, Guard}
 use Rattle.rule_core.specs.Theories.{RewriteTheory, equations_of}
 use Rattle.ml_image.specs.Assumed.{IsAssumed}
+use Rattle.ml_image.specs.HasImages.{after_guards}
 use Rattle.ml_image.specs.Images.{image_of}
 use Rattle.ml_image.specs.Sentences.{Sentence, sentence_image}
 use Rattle.mm_proof.specs.Tokens.{name_of}
@@ -65,8 +66,11 @@ pub record AssumesClosed (theory : RewriteTheory) : Type 0 where
   pub few : (s : Sentence) (names : List Token) (p : Pattern) → IsAssumed theory s
       → sentence_image theory.sig names s ≡ Some p → EachLeaf few_variables p
 
--- a rule, and an equation with its parameters, have at most 2^64 variables
+-- a rule, and an equation with its parameters and its guards, have at most 2^64 variables
 pub record HasFewVariables (theory : RewriteTheory) : Type 0 where
   pub rules : (r : RewriteRule) → Contains theory.rules r → length r.variables ≤ 2 ^ 64
   pub equations : (f : ℕ) (e : Equation) → Contains (equations_of theory f) e
       → e.parameters + length e.variables ≤ 2 ^ 64
+  pub guards : (f : ℕ) (e : Equation) (guards : List Guard) → Contains (equations_of theory f) e
+      → e.last_resort ≡ Some guards
+      → after_guards (e.parameters + length e.variables) guards ≤ 2 ^ 64

@@ -23,13 +23,15 @@ use Rattle.rule_core.specs.Theories.{RewriteTheory}
 use Rattle.rule_core.specs.NamedParts.{Name}
 use Rattle.rule_core.specs.declared.signature.Signature.{Signature}
 use Rattle.ml_image.specs.Tokens.{token_of_symbol, number_in_names}
-use Rattle.ml_image.specs.Images.{both, sort_image, symbol_image, image_of, applied}
+use Rattle.ml_image.specs.Images.{both, sort_image, symbol_image}
 use Rattle.ml_image.specs.Sentences.{Sentence, term, symbol, apply, not, and, implies, equals}
 use Rattle.ml_image.specs.Sentences.{functional, exists, next, sentence_image, for_all, variables}
 use Rattle.ml_image.specs.Sentences.{apply_all}
 use Rattle.ml_image.specs.Sentences.{conjunctions}
 use Rattle.ml_image.specs.NamedSides.{left_sentence, applied_sides, of_child}
-use Rattle.ml_image.specs.OwnAxioms.{direct, kompile, behind_parameters, meets, of_variables}
+use Rattle.ml_image.specs.OwnAxioms.{direct, kompile, last_resort, behind_parameters}
+use Rattle.ml_image.specs.OwnAxioms.{of_variables}
+use Rattle.ml_image.specs.Premises.{meets}
 use Rattle.ml_image.specs.OwnAxioms.{IsOwnAxiom, of_rule, of_equation, total, apart, free, subsort}
 use Rattle.ml_image.specs.OwnAxioms.{collapse}
 use Rattle.ml_image.specs.TrueFacts.{value_patterns, IsTrueFact, of_value, of_hook, of_unequal}
@@ -212,16 +214,22 @@ own_no theory names s (of_rule r there says) =
     subst (NoFact theory.sig names) (sym says.says) (closed_no theory.sig names 0 r.variables _
     (implies_no theory.sig names (left_sentence (of_child 0 r.names) r.left) says.condition
     (next (term r.right))))
-own_no theory names s (of_equation f e there (direct c none says is)) =
+own_no theory names s (of_equation f e there (direct c ordinary none says is)) =
     subst (NoFact theory.sig names) (sym is) (closed_no theory.sig names 0 e.variables _
     (equation_no theory.sig names c (applied_sides e.names 0 (symbol f) e.arguments) (term e.right)
     (sides_no_variable theory.sig names e.names 0 (symbol f) e.arguments
     (symbol_no_variable theory.sig names f))))
 own_no theory names s
-    (of_equation f e there (kompile c info sorts sort some many declared says is)) =
+    (of_equation f e there (kompile c info sorts sort ordinary some many declared says is)) =
     subst (NoFact theory.sig names) (sym is) (closed_no theory.sig names 0
     (behind_parameters sorts e).variables _ (implies_no theory.sig names c
     (meets (behind_parameters sorts e).names 0 (behind_parameters sorts e).arguments)
+    (equals (of_variables f 0 (length sorts)) (term (behind_parameters sorts e).right))))
+own_no theory names s (of_equation f e there
+    (last_resort guards g c info sorts sort last some many declared tells says is)) =
+    subst (NoFact theory.sig names) (sym is) (closed_no theory.sig names 0
+    (behind_parameters sorts e).variables _ (implies_no theory.sig names (not g)
+    (and c (meets (behind_parameters sorts e).names 0 (behind_parameters sorts e).arguments))
     (equals (of_variables f 0 (length sorts)) (term (behind_parameters sorts e).right))))
 own_no theory names s (total f says) =
     subst (NoFact theory.sig names) (sym says.says) (closed_no theory.sig names 0 says.sorts _

@@ -21,8 +21,8 @@ use Rattle.ml_image.specs.Tokens.{sort_token, symbol_token, value_token, name_at
 use Rattle.ml_image.specs.Tokens.{token_of_symbol, token_of_value, number_in_names}
 use Rattle.ml_image.specs.Images.{both, symbol_image, sort_image, at_sorts, injection_symbol}
 use Rattle.ml_image.specs.Images.{some_symbol_image, injection_image, image_of, applied}
-use Rattle.ml_image.specs.Sentences.{Sentence, term, symbol, inject, apply, top, not, and, implies}
-use Rattle.ml_image.specs.Sentences.{equals}
+use Rattle.ml_image.specs.Sentences.{Sentence, term, symbol, inject, apply, top, bottom, not}
+use Rattle.ml_image.specs.Sentences.{and, or, implies, equals}
 use Rattle.ml_image.specs.Sentences.{is_in, functional, exists, forall, next, sentence_image}
 use Rattle.ml_image.proofs.ImageLaws.{none_some, some_same}
 use Rattle.mm_proof.specs.Tokens.{name_of}
@@ -255,10 +255,15 @@ sentence_leaves sig names f known objects (apply a b) =
     (sentence_leaves sig names f known objects b)
 sentence_leaves sig names f known objects top =
     λ p h. subst (EachLeaf f) (some_same logic.top p h) tt
+sentence_leaves sig names f known objects bottom =
+    λ p h. subst (EachLeaf f) (some_same logic.bot p h) tt
 sentence_leaves sig names f known objects (not a) =
     one_leaves f logic.not (λ x hx. hx) _ (sentence_leaves sig names f known objects a)
 sentence_leaves sig names f known objects (and a b) =
     two_leaves f logic.and (λ x y hx hy. (hx, hy)) _ _ (sentence_leaves sig names f known objects a)
+    (sentence_leaves sig names f known objects b)
+sentence_leaves sig names f known objects (or a b) =
+    two_leaves f logic.or (λ x y hx hy. (hx, hy)) _ _ (sentence_leaves sig names f known objects a)
     (sentence_leaves sig names f known objects b)
 sentence_leaves sig names f known objects (implies a b) =
     two_leaves f logic.imp (λ x y hx hy. (hx, hy)) _ _ (sentence_leaves sig names f known objects a)

@@ -6,6 +6,8 @@ use Rattle.rule_core.specs.declared.signature.Signature.{Signature}
 use Rattle.mm_justify.specs.ImageCases.{DeclaresMoves, MovingSpelt, DeclaresNumbers, NumbersSpelt}
 use Rattle.mm_justify.specs.ImageCases.{DeclaresLists, ListsSpelt, DeclaresAddition, AdditionSpelt}
 use Rattle.mm_justify.specs.ImageCases.{DeclaresParts, PartsSpelt, TriedImages}
+use Rattle.mm_justify.specs.LastResortCases.{DeclaresIntegers, IntegersSpelt, DeclaresGuards}
+use Rattle.mm_justify.specs.LastResortCases.{GuardsSpelt, TriedLastResorts}
 
 -- the digits of a number below 10
 digit : (n : ℕ) → n ≤ 9 → decimal n ≡ (48 + n) ∷ []
@@ -31,6 +33,15 @@ d4 = digit 4 (omega arith)
 
 d5 : decimal 5 ≡ 53 ∷ []
 d5 = digit 5 (omega arith)
+
+d6 : decimal 6 ≡ 54 ∷ []
+d6 = digit 6 (omega arith)
+
+d7 : decimal 7 ≡ 55 ∷ []
+d7 = digit 7 (omega arith)
+
+d8 : decimal 8 ≡ 56 ∷ []
+d8 = digit 8 (omega arith)
 
 d10 : decimal 10 ≡ 49 ∷ (48 ∷ [])
 d10 = decimal-digits_of 10 (omega arith) (omega arith)
@@ -86,6 +97,29 @@ parts sig h = record {
   directly = rw (h.items, h.f, h.h, d0, d1, d2) refl;
   kompiled = rw (h.items, h.f, h.h, d0, d1, d2, d3, d4) refl;
 }
+
+integers : (sig : Signature) → DeclaresIntegers sig → IntegersSpelt sig
+integers sig h =
+    rw (
+      h.injects,
+      h.inj,
+      h.lists,
+      h.items,
+      h.integers,
+      h.truths,
+      h.kseq,
+      h.dotk,
+      h.is_int,
+      d0,
+      d1,
+      d2,
+    ) refl
+
+guards : (sig : Signature) → DeclaresGuards sig → GuardsSpelt sig
+guards sig h = rw (h.items, h.truths, h.f, h.h, d0, d1, d2, d3, d4, d5, d6, d7, d8) refl
+
+pub tried_last_resorts : TriedLastResorts
+tried_last_resorts = record { integers = integers; guards = guards }
 
 pub tried_images : TriedImages
 tried_images = record {

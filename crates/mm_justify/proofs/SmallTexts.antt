@@ -32,8 +32,9 @@ use Rattle.ml_image.specs.Sentences.{Sentence, term, symbol, top, not, and, impl
 use Rattle.ml_image.specs.Sentences.{functional, next, sentence_image, for_all, variables}
 use Rattle.ml_image.specs.Sentences.{apply_all, conjunctions}
 use Rattle.ml_image.specs.NamedSides.{left_sentence, applied_sides, of_child}
-use Rattle.ml_image.specs.OwnAxioms.{is_true, sort_of, condition_sentence, direct, kompile}
-use Rattle.ml_image.specs.OwnAxioms.{behind_parameters, meets, of_variables, IsOwnAxiom, of_rule}
+use Rattle.ml_image.specs.Premises.{is_true, sort_of, condition_sentence, meets}
+use Rattle.ml_image.specs.OwnAxioms.{direct, kompile, last_resort}
+use Rattle.ml_image.specs.OwnAxioms.{behind_parameters, of_variables, IsOwnAxiom, of_rule}
 use Rattle.ml_image.specs.OwnAxioms.{of_equation, total, apart, free, subsort, collapse}
 use Rattle.ml_image.specs.TrueFacts.{value_patterns, IsTrueFact, of_value, of_hook, of_unequal}
 use Rattle.ml_image.specs.TrueFacts.{of_injective}
@@ -364,15 +365,21 @@ own_other theory ts s (of_rule r there says) =
     subst (AreOther theory.sig ts) (sym says.says) (closed_other theory.sig ts 0 r.variables _
     (after_and_other theory.sig ts (left_sentence (of_child 0 r.names) r.left) says.condition
     (next (term r.right))))
-own_other theory ts s (of_equation f e there (direct c none says is)) =
+own_other theory ts s (of_equation f e there (direct c ordinary none says is)) =
     subst (AreOther theory.sig ts) (sym is) (closed_other theory.sig ts 0 e.variables _
     (condition_other theory.sig ts e.variables e.condition c
     (equals (applied_sides e.names 0 (symbol f) e.arguments) (term e.right)) says))
 own_other theory ts s
-    (of_equation f e there (kompile c info sorts sort some many declared says is)) =
+    (of_equation f e there (kompile c info sorts sort ordinary some many declared says is)) =
     subst (AreOther theory.sig ts) (sym is) (closed_other theory.sig ts 0
     (behind_parameters sorts e).variables _ (after_and_other theory.sig ts c
     (meets (behind_parameters sorts e).names 0 (behind_parameters sorts e).arguments)
+    (equals (of_variables f 0 (length sorts)) (term (behind_parameters sorts e).right))))
+own_other theory ts s (of_equation f e there
+    (last_resort guards g c info sorts sort last some many declared tells says is)) =
+    subst (AreOther theory.sig ts) (sym is) (closed_other theory.sig ts 0
+    (behind_parameters sorts e).variables _ (after_and_other theory.sig ts (not g)
+    (and c (meets (behind_parameters sorts e).names 0 (behind_parameters sorts e).arguments))
     (equals (of_variables f 0 (length sorts)) (term (behind_parameters sorts e).right))))
 own_other theory ts s (total f says) =
     subst (AreOther theory.sig ts) (sym says.says) (closed_other theory.sig ts 0 says.sorts

@@ -10,4 +10,5 @@ pub mod JustifyingLaws
 pub mod CountingLaws
 pub mod JustifyingCases
 pub mod ImageCases
+pub mod LastResortCases
 pub mod ImageLaws

@@ -4,6 +4,7 @@ ghost use Rattle.mm_justify.specs.CountingLaws.{HeaderCounts};
 ghost use Rattle.mm_justify.specs.CountingLaws.{TheoremCounts, TrueFactsAreFacts};
 ghost use Rattle.mm_justify.specs.ImageCases.{TriedImages};
 ghost use Rattle.mm_justify.specs.ImageLaws.{ImageIsClosed, SentenceHasNoMeta, SentenceIsOver};
+ghost use Rattle.mm_justify.specs.LastResortCases.{TriedLastResorts};
 ghost use Rattle.mm_justify.specs.JustifyingCases.{ConclusionIsNoAxiom, SmallJustifies};
 ghost use Rattle.mm_justify.specs.JustifyingCases.{TriedFrames};
 ghost use Rattle.mm_justify.specs.JustifyingLaws.{AxiomHasOnly, DeclaredHasOnly, HeaderHasOnly};
@@ -14,12 +15,14 @@ ghost use Rattle.mm_justify.specs.StatingLaws.{ClaimsAreHolds, NamesAreNames};
 
 /// By the definition, a small text justifies a run, and no program has an axiom that one symbol
 /// reaches another. Frames of an axiom with two variables are accepted or not, as they should be.
-/// The images of what five small definitions say have the expected tokens.
+/// The images of what seven small definitions say have the expected tokens. Two of them have an
+/// equation of the last resort.
 pub fn tried()
     ensures justifies { SmallJustifies }
     ensures refuses { ConclusionIsNoAxiom }
     ensures frames { TriedFrames }
     ensures images { TriedImages }
+    ensures last_resorts { TriedLastResorts }
 {}
 
 /// What a writer of proof files states, it states in the words of what justifies a run: its tokens

@@ -1,6 +1,6 @@
 -- How the lemma of an equation is made from its axiom.
-use Rattle.std.proofs.Common.{◌≡◌, ◌+◌, ℕ, zero, suc, List, [], ◌∷◌, ◌++◌, inl, inr, sym, subst}
-use Rattle.std.proofs.Common.{arith}
+use Rattle.std.proofs.Common.{◌≡◌, ◌+◌, ℕ, zero, suc, List, [], ◌∷◌, ◌++◌, length, inl, inr, sym}
+use Rattle.std.proofs.Common.{subst, arith}
 use Rattle.std.specs.Prelude.{IsTrue, Contains, ◌⊎◌}
 use Rattle.std.proofs.lemmas.List.Elements.{Contains-append_left, Contains-append_right}
 use Rattle.std.proofs.lemmas.List.Elements.{Contains-append_cases}
@@ -8,6 +8,8 @@ use Rattle.ml_pat.specs.Patterns.{Pattern, top, imp, and}
 use Rattle.ml_kernel.specs.Theorems.{Theorem}
 use Rattle.ml_derived.specs.Scopes.{Scope, IsOver, AreAssumed, IsWithin}
 use Rattle.rule_core.specs.Rules.{Equation}
+use Rattle.rule_core.specs.Theories.{equations_of}
+use Rattle.rule_core.specs.ProgramView.{theory_of}
 use Rattle.rule_core.specs.declared.rules.Program.{Program}
 use Rattle.ml_image.specs.HasImages.{HasEquationImage}
 use Rattle.prove_term.specs.Contexts.{Context, HasGrown, StaysIn, IsLemmaIn}
@@ -51,22 +53,28 @@ facts_over s k (n ∷ ns) p q metas over (suc i, low, is) =
 -- what is known of an equation, its axiom, the axiom at pattern variables, and the latter without
 -- its condition
 pub record IsOpened (cx : Context) (f : ℕ) (e : Equation) (stated whole : Theorem) : Type 0 where
-  pub image : HasEquationImage cx.program.sig f e
+  pub image : HasEquationImage cx.program.sig (equations_of (theory_of cx.program) f) f e
   pub axiom_says : SaysEquationOf cx f e stated.conclusion
   pub axiom_stays : StaysIn cx stated
   pub says : IsSchemaOf stated.conclusion whole.conclusion
   pub stays : StaysOpen stated whole
 
 pub image_grown : (old cx : Context) (f : ℕ) (e : Equation) → HasGrown old cx
-    → HasEquationImage old.program.sig f e → HasEquationImage cx.program.sig f e
-image_grown old cx f e g h = subst (λ (p : Program). HasEquationImage p.sig f e) (sym g.program) h
+    → HasEquationImage old.program.sig (equations_of (theory_of old.program) f) f e
+    → HasEquationImage cx.program.sig (equations_of (theory_of cx.program) f) f e
+image_grown old cx f e g h =
+    subst (λ (p : Program). HasEquationImage p.sig (equations_of (theory_of p) f) f e)
+    (sym g.program) h
 
-implied : (cx : Context) (f : ℕ) (e : Equation) (p : Pattern) → HasEquationImage cx.program.sig f e
+implied : (cx : Context) (f : ℕ) (e : Equation) (p : Pattern)
+    → HasEquationImage cx.program.sig (equations_of (theory_of cx.program) f) f e
     → SaysEquationOf cx f e p → IsImplied p
-implied cx f e p has says = equation_implied cx.program.sig cx.names f e p has says
+implied cx f e p has says =
+    equation_implied cx.program.sig cx.names (equations_of (theory_of cx.program) f) f e p has says
 
 pub axiom_for_all : (old cx : Context) (f : ℕ) (e : Equation) (p : Pattern) → HasGrown old cx
-    → HasEquationImage old.program.sig f e → SaysEquationOf cx f e p → IsForAll p
+    → HasEquationImage old.program.sig (equations_of (theory_of old.program) f) f e
+    → SaysEquationOf cx f e p → IsForAll p
 axiom_for_all old cx f e p g has says =
     let i : IsImplied p = implied cx f e p (image_grown old cx f e g has) says in
     (i.numbers, imp i.condition i.equality, i.closes)
@@ -75,44 +83,49 @@ pub opened_conditional : (cx : Context) (f : ℕ) (e : Equation) (stated whole :
     → IsOpened cx f e stated whole → IsConditional whole.conclusion
 opened_conditional cx f e stated whole o =
     let i : IsImplied stated.conclusion = implied cx f e stated.conclusion o.image o.axiom_says in (
-      with_metas i.condition,
-      with_metas i.equality,
+      with_metas (length i.numbers) i.condition,
+      with_metas (length i.numbers) i.equality,
       o.says i.numbers (imp i.condition i.equality) i.closes,
     )
 
 opened_assuming : (cx : Context) (f : ℕ) (e : Equation) (stated whole freed : Theorem)
     → IsOpened cx f e stated whole → StaysFollowing whole freed → (i : IsImplied stated.conclusion)
-    → StaysAssuming cx (meta_facts 0 i.numbers ++ parts_of (with_metas i.condition)) freed
+    → StaysAssuming cx (meta_facts 0 i.numbers ++ parts_of
+    (with_metas (length i.numbers) i.condition)) freed
 opened_assuming cx f e stated whole freed o follows i s has may =
     let facts : List Pattern = meta_facts 0 i.numbers in
-    let conditions : List Pattern = parts_of (with_metas i.condition) in
+    let conditions : List Pattern = parts_of (with_metas (length i.numbers) i.condition) in
     let axiom_within : IsWithin s stated = o.axiom_stays s has in
     let axiom_over : IsOver s (closed 0 i.numbers (imp i.condition i.equality)) =
     subst (IsOver s) i.closes.says axiom_within.conclusion in
     let facts_assumed : AreAssumed s (meta_facts 0 i.numbers) =
     λ p there. (
       may p (Contains-append_left (meta_facts 0 i.numbers)
-          (parts_of (with_metas i.condition)) p there),
+          (parts_of (with_metas (length i.numbers) i.condition)) p there),
       facts_over s 0 i.numbers (imp i.condition i.equality) p has.metas axiom_over there,
     ) in
     let whole_within : IsWithin s whole =
     o.stays i.numbers (imp i.condition i.equality) i.closes s axiom_within facts_assumed in
-    let says : whole.conclusion ≡ imp (with_metas i.condition) (with_metas i.equality) =
+    let says : whole.conclusion ≡ imp (with_metas (length i.numbers) i.condition)
+    (with_metas (length i.numbers) i.equality) =
     o.says i.numbers (imp i.condition i.equality) i.closes in
-    let whole_over : IsOver s (imp (with_metas i.condition) (with_metas i.equality)) =
+    let whole_over : IsOver s
+    (imp (with_metas (length i.numbers) i.condition) (with_metas (length i.numbers) i.equality)) =
     subst (IsOver s) says whole_within.conclusion in
-    follows (with_metas i.condition) (with_metas i.equality) says s whole_within
+    follows (with_metas (length i.numbers) i.condition) (with_metas (length i.numbers) i.equality)
+    says s whole_within
     (λ p there. (
       may p (Contains-append_right (meta_facts 0 i.numbers)
-          (parts_of (with_metas i.condition)) p there),
-      parts_over s (with_metas i.condition) p whole_over.0 there,
+          (parts_of (with_metas (length i.numbers) i.condition)) p there),
+      parts_over s (with_metas (length i.numbers) i.condition) p whole_over.0 there,
     ))
 
 pub opened_lemma : (cx : Context) (f : ℕ) (e : Equation) (stated whole freed : Theorem)
     → IsOpened cx f e stated whole → StaysFollowing whole freed → IsLemmaIn cx freed
 opened_lemma cx f e stated whole freed o follows =
     let i : IsImplied stated.conclusion = implied cx f e stated.conclusion o.image o.axiom_says in
-    lemma_of cx (meta_facts 0 i.numbers ++ parts_of (with_metas i.condition)) freed
+    lemma_of cx (meta_facts 0 i.numbers ++ parts_of (with_metas (length i.numbers) i.condition))
+    freed
     (opened_assuming cx f e stated whole freed o follows i)
 
 pub opened_says : (cx : Context) (f : ℕ) (e : Equation) (stated whole freed : Theorem)
@@ -128,9 +141,11 @@ opened_says cx f e stated whole freed o follows stays =
       equality = i.equality;
       closes = i.closes;
       says =
-          follows (with_metas i.condition) (with_metas i.equality)
+          follows (with_metas (length i.numbers) i.condition)
+          (with_metas (length i.numbers) i.equality)
           (o.says i.numbers (imp i.condition i.equality) i.closes);
       assumes =
-          assumes_only cx (meta_facts 0 i.numbers ++ parts_of (with_metas i.condition)) freed
+          assumes_only cx (meta_facts 0 i.numbers ++ parts_of
+          (with_metas (length i.numbers) i.condition)) freed
           (opened_assuming cx f e stated whole freed o stays i);
     }

@@ -1,7 +1,9 @@
+pub mod GuardLaws
 pub mod ShapeLaws
 pub mod LemmaLaws
 pub mod FillingLaws
 pub mod TurningLaws
 pub mod ParameterLaws
+pub mod ArgumentLaws
 pub mod KompileLaws
 pub mod MembershipLaws

@@ -368,7 +368,7 @@ terms_of sig (u ∷ us) (r ∷ refs) h zero d low = (h.0, h.2)
 terms_of sig (u ∷ us) (r ∷ refs) h (suc k) d low = terms_of sig us refs h.3 k d (omega (arith, low))
 
 pub met_terms : {cx : Context} {f : ℕ} {e : Equation} {lemma : Theorem} {theta : List (Option Tree)}
-    {o : Option Theorem} (us : List Tree) → CanUseAt cx f e lemma theta (forest us) o
+    {o d : Option Theorem} (us : List Tree) → CanUseAt cx f e lemma theta (forest us) o d
     → AreTerms cx.program.sig us
 met_terms {cx} {f} {e} {lemma} {theta} us can =
     let args : (refs : List SortRef) × HaveSorts cx.program.sig e.variables [] e.arguments refs =

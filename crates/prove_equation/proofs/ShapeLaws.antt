@@ -1,15 +1,16 @@
 -- The image of an equation, taken apart.
-use Rattle.std.proofs.Common.{◌≡◌, ◌≢◌, ◌≤◌, ◌+◌, ◌^◌, ◌⊎◌, ℕ, zero, suc, List, [], ◌∷◌, ◌++◌, Option}
-use Rattle.std.proofs.Common.{Some, None, option_map, length, length-append, map, slice_get, inl}
+use Rattle.std.proofs.Common.{◌≡◌, ◌≢◌, ◌≤◌, ◌+◌, ◌^◌, ◌⊎◌, ℕ, zero, suc, List, [], ◌∷◌, ◌++◌}
+use Rattle.std.proofs.Common.{Option, Some, None, option_map, length, length-append, map, slice_get}
+use Rattle.std.proofs.Common.{inl}
 use Rattle.std.proofs.Common.{inr, refl, sym, ◌∙◌, ap, subst, arith}
-use Rattle.ml_pat.specs.Patterns.{Pattern, imp, and, equal, all}
+use Rattle.ml_pat.specs.Patterns.{Pattern, not, imp, and, equal, all}
 use Rattle.term_core.specs.Patterns.{Pattern as RulePattern, Patterns as RulePatterns, variable}
 use Rattle.term_core.specs.Patterns.{domain_value, application, injection, call, no_pattern}
 use Rattle.term_core.specs.Patterns.{more_patterns}
 use Rattle.term_core.specs.PatternLists.{plain_patterns}
 use Rattle.term_core.specs.declared.rule_patterns.RulePat.{RulePat}
 use Rattle.rule_core.specs.NamedParts.{Name}
-use Rattle.rule_core.specs.Rules.{Equation}
+use Rattle.rule_core.specs.Rules.{Equation, Guard}
 use Rattle.rule_core.specs.ProgramView.{function_equation}
 use Rattle.rule_core.specs.declared.rules.Equation.{Equation as CodeEquation}
 use Rattle.rule_core.specs.declared.signature.Signature.{Signature}
@@ -18,21 +19,24 @@ use Rattle.ml_image.specs.Images.{both, image_of, shifted, all_shifted}
 use Rattle.ml_image.specs.HasImages as own
 use Rattle.ml_image.specs.HasImages.{HasImage, HaveImages, HasEquationImage, HasParameters}
 use Rattle.ml_image.specs.HasImages.{count_of}
-use Rattle.ml_image.specs.OwnAxioms.{SaysEquation, direct, kompile, condition_sentence, sort_of}
-use Rattle.ml_image.specs.OwnAxioms.{is_true, meets, Declares, name_behind}
+use Rattle.ml_image.specs.LastResorts.{guards_sentence}
+use Rattle.ml_image.specs.OwnAxioms.{SaysEquation, direct, kompile, last_resort, Declares}
+use Rattle.ml_image.specs.OwnAxioms.{condition_sentence, sort_of, is_true, meets, name_behind}
 use Rattle.ml_image.specs.NamedSides.{left_sentence, applied_sides, of_child}
 use Rattle.ml_image.specs.Sentences.{Sentence, sentence_image, IsImageOf, term, symbol, apply, top}
 use Rattle.ml_image.specs.Sentences.{implies, equals, is_in, for_all, variables, apply_all}
 use Rattle.ml_image.specs.Sentences as says
 use Rattle.ml_image.proofs.ImageLaws.{some_same}
 use Rattle.prove_term.specs.Contexts.{Context}
-use Rattle.prove_term.proofs.ImageShapes.{both_some}
-use Rattle.prove_schema.specs.Schemas.{IsOpenFrom, closed, IsSentence}
-use Rattle.prove_schema.proofs.OpenLaws.{image_is_open}
+use Rattle.prove_term.proofs.ImageShapes.{both_some, map_some}
+use Rattle.prove_schema.specs.Schemas.{IsBodyFrom, closed, IsSentence}
+use Rattle.prove_schema.proofs.OpenLaws.{IsOpenFrom, open_is_body, image_is_open}
+use Rattle.prove_schema.proofs.BodyLaws.{sentence_is_body}
 use Rattle.prove_schema.proofs.ClosingLaws.{AreNumbers, IsClosed, closed_image, numbers_length}
 use Rattle.prove_schema.proofs.SentenceLaws.{IsOpenSentence, sentence_is_open}
 use Rattle.prove_schema.proofs.LeftSides.{AreBelow, names_below, of_child_below, side_is_open}
 use Rattle.prove_schema.proofs.LeftSides.{left_is_side, applied_is_side}
+use Rattle.prove_equation.proofs.GuardLaws.{guards_quantify}
 
 -- ---- one sentence has one condition
 
@@ -122,12 +126,16 @@ sides c l r p h =
       says = w.4 ∙ ap (imp w.0) v.4;
     }
 
-pub direct_shape : (sig : Signature) (names : List (List ℕ)) (f : ℕ) (e : Equation) (p : Pattern)
-    → e.parameters ≡ 0 → IsImageOf sig names (SaysEquation sig f e) p → IsDirect sig names f e p
-direct_shape sig names f e p none
-    (s, kompile c info sorts sort some many declared holds is, image) =
+pub direct_shape : (sig : Signature) (names : List (List ℕ)) (equations : List Equation) (f : ℕ)
+    (e : Equation) (p : Pattern) → e.parameters ≡ 0
+    → IsImageOf sig names (SaysEquation sig equations f e) p → IsDirect sig names f e p
+direct_shape sig names equations f e p none
+    (s, kompile c info sorts sort plain some many declared holds is, image) =
     absurd (some none)
-direct_shape sig names f e p none (s, direct c zero_parameters holds is, image) =
+direct_shape sig names equations f e p none
+    (s, last_resort guards g c info sorts sort last some many declared tells holds is, image) =
+    absurd (some none)
+direct_shape sig names equations f e p none (s, direct c plain zero_parameters holds is, image) =
     let side : Sentence = applied_sides e.names 0 (symbol f) e.arguments in
     let body : Sentence = implies c (equals side (term e.right)) in
     let inside : IsClosed sig names 0 e.variables body p =
@@ -151,13 +159,13 @@ direct_shape sig names f e p none (s, direct c zero_parameters holds is, image) 
       says = inside.says ∙ ap (closed 0 inside.numbers) parts.says;
     }
 
-pub direct_is_sentence : (sig : Signature) (names : List (List ℕ)) (f : ℕ) (e : Equation)
-    (p : Pattern) → HasEquationImage sig f e → (d : IsDirect sig names f e p)
+pub direct_is_sentence : (sig : Signature) (names : List (List ℕ)) (equations : List Equation)
+    (f : ℕ) (e : Equation) (p : Pattern) → HasEquationImage sig equations f e
+    → (d : IsDirect sig names f e p)
     → IsSentence d.numbers (imp d.condition (equal d.left d.right)) p
-direct_is_sentence sig names f e p has d =
+direct_is_sentence sig names equations f e p has d =
     let many : length e.variables ≡ length d.numbers =
     sym (numbers_length sig names e.variables d.numbers d.are) in
-    let Open : Pattern → Type 0 = IsOpenFrom 0 (length e.variables) in
     let condition : IsOpenFrom 0 (length e.variables) d.condition =
     sentence_is_open sig names (length e.variables) d.holds
     (condition_open sig e.variables e.condition d.holds has.condition d.is_holds)
@@ -173,14 +181,24 @@ direct_is_sentence sig names f e p has d =
     record {
       says = d.says;
       is_open =
-          subst (λ (n : ℕ). IsOpenFrom 0 n (imp d.condition (equal d.left d.right))) many
-          (condition, (left, right));
+          subst (λ (n : ℕ). IsBodyFrom 0 n (imp d.condition (equal d.left d.right))) many
+          (open_is_body 0 (length e.variables) (imp d.condition (equal d.left d.right))
+          (condition, (left, right)));
     }
 
 -- ---- an equation in the form of kompile
 
-pub record IsKompile (sig : Signature) (names : List (List ℕ)) (f : ℕ) (e : Equation)
-    (p : Pattern) : Type 0 where
+-- The pattern is `inner`, and also says that no guard holds, if there are guards. Their variables
+-- are numbered from k.
+abbrev pub IsGuarded : Signature → List (List ℕ) → List Equation → ℕ → Option (List Guard) → Pattern
+    → Pattern → Type 0
+IsGuarded sig names equations k None inner premise = premise ≡ inner
+IsGuarded sig names equations k (Some gs) inner premise =
+    (s : Sentence) × (g : Pattern) × (guards_sentence sig equations k gs ≡ Some s)
+    × (sentence_image sig names s ≡ Some g) × (premise ≡ and (not g) inner)
+
+pub record IsKompile (sig : Signature) (names : List (List ℕ)) (equations : List Equation) (f : ℕ)
+    (e : Equation) (p : Pattern) : Type 0 where
   pub info : SymInfo
   pub sorts : List ℕ
   pub sort : ℕ
@@ -196,38 +214,55 @@ pub record IsKompile (sig : Signature) (names : List (List ℕ)) (f : ℕ) (e : 
   pub met : Pattern
   pub is_met : sentence_image sig names (meets (map (name_behind (length sorts)) e.names) 0
       (all_shifted (length sorts) e.arguments)) ≡ Some met
+  pub premise : Pattern
+  pub guarded : IsGuarded sig names equations (length sorts + length e.variables) e.last_resort
+      (and condition met) premise
   pub left : Pattern
   pub left_image : sentence_image sig names (apply_all (symbol f) (variables 0 (length sorts)))
       ≡ Some left
   pub right : Pattern
   pub right_image : image_of sig names (shifted (length sorts) e.right) ≡ Some right
-  pub says : p ≡ closed 0 numbers (imp (and condition met) (equal left right))
+  pub says : p ≡ closed 0 numbers (imp premise (equal left right))
 
-pub kompile_shape : (sig : Signature) (names : List (List ℕ)) (f : ℕ) (e : Equation) (p : Pattern)
-    → e.parameters ≢ 0 → IsImageOf sig names (SaysEquation sig f e) p → IsKompile sig names f e p
-kompile_shape sig names f e p some (s, direct c zero_parameters holds is, image) =
-    absurd (some zero_parameters)
-kompile_shape sig names f e p some
-    (s, kompile c info sorts sort other many declared holds is, image) =
-    let k : ℕ = length sorts in
-    let ms : Sentence =
-    meets (map (name_behind (length sorts)) e.names) 0 (all_shifted (length sorts) e.arguments) in
+-- the sides of a conjunction that may come after a negation
+IsPremise : Signature → List (List ℕ) → List Equation → Equation → List ℕ → Sentence → Sentence
+    → Type 0
+IsPremise sig names equations e sorts c premise =
+    (q : Pattern) → sentence_image sig names premise ≡ Some q → (x : Pattern) × (y : Pattern)
+    × (sentence_image sig names c ≡ Some x)
+    × (sentence_image sig names (meets (map (name_behind (length sorts)) e.names) 0
+    (all_shifted (length sorts) e.arguments)) ≡ Some y)
+    × IsGuarded sig names equations (length sorts + length e.variables) e.last_resort (and x y) q
+
+kompile_made : (sig : Signature) (names : List (List ℕ)) (equations : List Equation) (f : ℕ)
+    (e : Equation) (p : Pattern) (info : SymInfo) (sorts : List ℕ) (sort : ℕ) (c premise : Sentence)
+    → e.parameters ≡ length sorts → Declares sig f info sorts sort
+    → condition_sentence sig (sorts ++ e.variables)
+    (option_map (shifted (length sorts)) e.condition) ≡ Some c
+    → IsPremise sig names equations e sorts c premise
+    → sentence_image sig names (for_all 0 (sorts ++ e.variables) (implies premise
+    (equals (apply_all (symbol f) (variables 0 (length sorts)))
+    (term (shifted (length sorts) e.right))))) ≡ Some p
+    → IsKompile sig names equations f e p
+unfolding IsPremise
+kompile_made sig names equations f e p info sorts sort c premise many declared holds parts_of_it
+    image =
     let fs : Sentence = apply_all (symbol f) (variables 0 (length sorts)) in
-    let body : Sentence =
-    implies (says.and c ms) (equals fs (term (shifted (length sorts) e.right))) in
+    let body : Sentence = implies premise (equals fs (term (shifted (length sorts) e.right))) in
     let inside : IsClosed sig names 0 (sorts ++ e.variables) body p =
-    closed_image sig names 0 (sorts ++ e.variables) body p
-    (ap (sentence_image sig names) (sym is) ∙ image) in
-    let parts : Sides (both and (sentence_image sig names c) (sentence_image sig names ms))
+    closed_image sig names 0 (sorts ++ e.variables) body p image in
+    let parts : Sides (sentence_image sig names premise)
     (sentence_image sig names fs) (image_of sig names (shifted (length sorts) e.right))
     inside.body =
-    sides (both and (sentence_image sig names c) (sentence_image sig names ms))
+    sides (sentence_image sig names premise)
     (sentence_image sig names fs) (image_of sig names (shifted (length sorts) e.right))
     inside.body inside.is_body in
     let w : (x : Pattern) × (y : Pattern) × (sentence_image sig names c ≡ Some x) ×
-    (sentence_image sig names ms ≡ Some y) × (parts.condition ≡ and x y) =
-    both_some and (sentence_image sig names c) (sentence_image sig names ms) parts.condition
-    parts.is_condition in
+    (sentence_image sig names (meets (map (name_behind (length sorts)) e.names) 0
+    (all_shifted (length sorts) e.arguments)) ≡ Some y) ×
+    IsGuarded sig names equations (length sorts + length e.variables) e.last_resort (and x y)
+    parts.condition =
+    parts_of_it parts.condition parts.is_condition in
     record {
       info = info;
       sorts = sorts;
@@ -242,14 +277,69 @@ kompile_shape sig names f e p some
       is_condition = w.2;
       met = w.1;
       is_met = w.3;
+      premise = parts.condition;
+      guarded = w.4;
       left = parts.left;
       left_image = parts.is_left;
       right = parts.right;
       right_image = parts.is_right;
-      says = inside.says
-          ∙ ap (closed 0 inside.numbers)
-          (parts.says ∙ ap (λ (q : Pattern). imp q (equal parts.left parts.right)) w.4);
+      says = inside.says ∙ ap (closed 0 inside.numbers) parts.says;
     }
+
+pub kompile_shape : (sig : Signature) (names : List (List ℕ)) (equations : List Equation) (f : ℕ)
+    (e : Equation) (p : Pattern) → e.parameters ≢ 0
+    → IsImageOf sig names (SaysEquation sig equations f e) p → IsKompile sig names equations f e p
+unfolding IsPremise
+kompile_shape sig names equations f e p some
+    (s, direct c plain zero_parameters holds is, image) =
+    absurd (some zero_parameters)
+kompile_shape sig names equations f e p some
+    (s, kompile c info sorts sort plain other many declared holds is, image) =
+    let ms : Sentence =
+    meets (map (name_behind (length sorts)) e.names) 0 (all_shifted (length sorts) e.arguments) in
+    kompile_made sig names equations f e p info sorts sort c (says.and c ms) many declared holds
+    (λ q made.
+    let w : (x : Pattern) × (y : Pattern) × (sentence_image sig names c ≡ Some x) ×
+    (sentence_image sig names ms ≡ Some y) × (q ≡ and x y) =
+    both_some and (sentence_image sig names c) (sentence_image sig names ms) q made in (
+      w.0,
+      w.1,
+      w.2,
+      w.3,
+      subst (λ (l : Option (List Guard)). IsGuarded sig names equations
+          (length sorts + length e.variables) l (and w.0 w.1) q) (sym plain) w.4,
+    )) (ap (sentence_image sig names) (sym is) ∙ image)
+kompile_shape sig names equations f e p some
+    (s, last_resort guards g c info sorts sort last other many declared tells holds is, image) =
+    let ms : Sentence =
+    meets (map (name_behind (length sorts)) e.names) 0 (all_shifted (length sorts) e.arguments) in
+    kompile_made sig names equations f e p info sorts sort c
+    (says.and (says.not g) (says.and c ms)) many declared holds
+    (λ q made.
+    let v : (x : Pattern) × (y : Pattern) ×
+    (option_map not (sentence_image sig names g) ≡ Some x) ×
+    (both and (sentence_image sig names c) (sentence_image sig names ms) ≡ Some y) ×
+    (q ≡ and x y) =
+    both_some and (option_map not (sentence_image sig names g))
+    (both and (sentence_image sig names c) (sentence_image sig names ms)) q made in
+    let u : (x : Pattern) × (sentence_image sig names g ≡ Some x) × (v.0 ≡ not x) =
+    map_some not (sentence_image sig names g) v.0 v.2 in
+    let w : (x : Pattern) × (y : Pattern) × (sentence_image sig names c ≡ Some x) ×
+    (sentence_image sig names ms ≡ Some y) × (v.1 ≡ and x y) =
+    both_some and (sentence_image sig names c) (sentence_image sig names ms) v.1 v.3 in (
+      w.0,
+      w.1,
+      w.2,
+      w.3,
+      subst (λ (l : Option (List Guard)). IsGuarded sig names equations
+          (length sorts + length e.variables) l (and w.0 w.1) q) (sym last) (
+            g,
+            u.0,
+            tells,
+            u.1,
+            v.4 ∙ ap (λ (a : Pattern). and a v.1) u.2 ∙ ap (and (not u.0)) w.4,
+          ),
+    )) (ap (sentence_image sig names) (sym is) ∙ image)
 
 -- patterns after parameters
 mutual
@@ -324,9 +414,9 @@ count_shifted : (k : ℕ) (ps : RulePatterns) → count_of (all_shifted k ps) �
 count_shifted k no_pattern = refl
 count_shifted k (more_patterns p ps) = ap suc (count_shifted k ps)
 
-has_parameters : (sig : Signature) (f : ℕ) (e : Equation) → e.parameters ≢ 0
-    → HasEquationImage sig f e → HasParameters sig f e
-has_parameters sig f e some has = go has.parameters
+has_parameters : (sig : Signature) (equations : List Equation) (f : ℕ) (e : Equation)
+    → e.parameters ≢ 0 → HasEquationImage sig equations f e → HasParameters sig f e
+has_parameters sig equations f e some has = go has.parameters
   where
     go : (e.parameters ≡ 0) ⊎ HasParameters sig f e → HasParameters sig f e
     go (inl none) = absurd (some none)
@@ -337,24 +427,38 @@ count_plain [] = refl
 count_plain (p ∷ ps) = ap suc (count_plain ps)
 
 -- an equation in the form of kompile has one parameter for each argument, so it has few arguments
-pub few_arguments : (cx : Context) (e : CodeEquation) (ps : List RulePat)
-    → HasEquationImage cx.program.sig e.fun.0 (function_equation e) → e.params ≢ 0
+pub few_arguments : (cx : Context) (equations : List Equation) (e : CodeEquation)
+    (ps : List RulePat)
+    → HasEquationImage cx.program.sig equations e.fun.0 (function_equation e) → e.params ≢ 0
     → ps ≡ e.args.items → length ps ≤ 2 ^ 32
-few_arguments cx e ps has some same =
+few_arguments cx equations e ps has some same =
     let params : HasParameters cx.program.sig e.fun.0 (function_equation e) =
-    has_parameters cx.program.sig e.fun.0 (function_equation e) some has in
+    has_parameters cx.program.sig equations e.fun.0 (function_equation e) some has in
     omega (arith, has.few, params.each, count_plain e.args.items, ap length same)
 
-pub kompile_is_sentence : (sig : Signature) (names : List (List ℕ)) (f : ℕ) (e : Equation)
-    (p : Pattern) → e.parameters ≢ 0 → HasEquationImage sig f e
-    → (d : IsKompile sig names f e p)
-    → IsSentence d.numbers (imp (and d.condition d.met) (equal d.left d.right)) p
-kompile_is_sentence sig names f e p some has d =
+-- what an equation requires is the body of a schema
+guarded_body : (sig : Signature) (names : List (List ℕ)) (equations : List Equation) (n k : ℕ)
+    (l : Option (List Guard)) (inner premise : Pattern) → n ≤ k
+    → IsGuarded sig names equations k l inner premise → IsBodyFrom 0 n inner
+    → IsBodyFrom 0 n premise
+guarded_body sig names equations n k None inner premise low is body =
+    subst (IsBodyFrom 0 n) (sym is) body
+guarded_body sig names equations n k (Some gs) inner premise low (s, g, tells, image, is) body =
+    subst (IsBodyFrom 0 n) (sym is) (
+      sentence_is_body sig names n s (guards_quantify sig equations n k gs s low tells) g image,
+      body,
+    )
+
+pub kompile_is_sentence : (sig : Signature) (names : List (List ℕ)) (equations : List Equation)
+    (f : ℕ) (e : Equation) (p : Pattern) → e.parameters ≢ 0 → HasEquationImage sig equations f e
+    → (d : IsKompile sig names equations f e p)
+    → IsSentence d.numbers (imp d.premise (equal d.left d.right)) p
+kompile_is_sentence sig names equations f e p some has d =
     let k : ℕ = length d.sorts in
     let both_sorts : List ℕ = d.sorts ++ e.variables in
     let total : length (d.sorts ++ e.variables) ≡ length d.sorts + length e.variables =
     length-append d.sorts e.variables in
-    let params : HasParameters sig f e = has_parameters sig f e some has in
+    let params : HasParameters sig f e = has_parameters sig equations f e some has in
     let enough : count_of e.arguments ≡ length d.sorts = sym params.each ∙ d.as_many in
     let many : length (d.sorts ++ e.variables) ≡ length d.numbers =
     sym (numbers_length sig names (d.sorts ++ e.variables) d.numbers d.are) in
@@ -391,8 +495,14 @@ kompile_is_sentence sig names f e p some has d =
     record {
       says = d.says;
       is_open =
-          subst (λ (n : ℕ). IsOpenFrom 0 n (imp (and d.condition d.met) (equal d.left d.right)))
-          many ((condition, met), (left, right));
+          subst (λ (n : ℕ). IsBodyFrom 0 n (imp d.premise (equal d.left d.right))) many (
+            guarded_body sig names equations (length (d.sorts ++ e.variables))
+                (length d.sorts + length e.variables) e.last_resort (and d.condition d.met)
+                d.premise (omega (arith, total)) d.guarded
+                (open_is_body 0 (length (d.sorts ++ e.variables)) (and d.condition d.met)
+                (condition, met)),
+            open_is_body 0 (length (d.sorts ++ e.variables)) (equal d.left d.right) (left, right),
+          );
     }
 
 -- ---- both
@@ -408,25 +518,26 @@ zero_or : (n : ℕ) → (n ≡ 0) ⊎ (n ≢ 0)
 zero_or zero = inl refl
 zero_or (suc n) = inr (λ e. omega (arith, e))
 
-pub equation_implied : (sig : Signature) (names : List (List ℕ)) (f : ℕ) (e : Equation)
-    (p : Pattern) → HasEquationImage sig f e → IsImageOf sig names (SaysEquation sig f e) p
-    → IsImplied p
-equation_implied sig names f e p has image = go (zero_or e.parameters)
+pub equation_implied : (sig : Signature) (names : List (List ℕ)) (equations : List Equation)
+    (f : ℕ) (e : Equation) (p : Pattern) → HasEquationImage sig equations f e
+    → IsImageOf sig names (SaysEquation sig equations f e) p → IsImplied p
+equation_implied sig names equations f e p has image = go (zero_or e.parameters)
   where
     go : (e.parameters ≡ 0) ⊎ (e.parameters ≢ 0) → IsImplied p
     go (inl none) =
-        let d : IsDirect sig names f e p = direct_shape sig names f e p none image in
+        let d : IsDirect sig names f e p = direct_shape sig names equations f e p none image in
         record {
           numbers = d.numbers;
           condition = d.condition;
           equality = equal d.left d.right;
-          closes = direct_is_sentence sig names f e p has d;
+          closes = direct_is_sentence sig names equations f e p has d;
         }
     go (inr some) =
-        let d : IsKompile sig names f e p = kompile_shape sig names f e p some image in
+        let d : IsKompile sig names equations f e p =
+        kompile_shape sig names equations f e p some image in
         record {
           numbers = d.numbers;
-          condition = and d.condition d.met;
+          condition = d.premise;
           equality = equal d.left d.right;
-          closes = kompile_is_sentence sig names f e p some has d;
+          closes = kompile_is_sentence sig names equations f e p some has d;
         }

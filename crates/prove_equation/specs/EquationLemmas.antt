@@ -1,5 +1,5 @@
 -- What the lemma of an equation says.
-use Rattle.std.specs.Prelude.{◌≡◌, ℕ, List, ◌++◌, Contains}
+use Rattle.std.specs.Prelude.{◌≡◌, ℕ, List, ◌++◌, length, Contains}
 use Rattle.ml_pat.specs.Patterns.{Pattern, imp}
 use Rattle.ml_kernel.specs.Theorems.{Theorem}
 use Rattle.rule_core.specs.Rules.{Equation}
@@ -17,9 +17,9 @@ pub record SaysEquationSchema (cx : Context) (f : ℕ) (e : Equation) (t : Theor
   pub condition : Pattern
   pub equality : Pattern
   pub closes : IsSentence numbers (imp condition equality) sentence
-  pub says : t.conclusion ≡ with_metas equality
+  pub says : t.conclusion ≡ with_metas (length numbers) equality
   pub assumes : (h : Pattern) → Contains t.hypotheses h →
-      Contains (meta_facts 0 numbers ++ parts_of (with_metas condition)) h
+      Contains (meta_facts 0 numbers ++ parts_of (with_metas (length numbers) condition)) h
 
 -- the theorem is a lemma of the context, and is the lemma of the equation
 pub record IsEquationLemma (cx : Context) (f : ℕ) (e : Equation) (t : Theorem) : Type 0 where

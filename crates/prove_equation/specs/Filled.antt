@@ -6,6 +6,8 @@ use Rattle.ml_pat.specs.Patterns.{Pattern, equal}
 use Rattle.ml_kernel.specs.Lemmas.{HasNoVariable}
 use Rattle.ml_kernel.specs.Theorems.{Theorem}
 use Rattle.rule_core.specs.Rules.{Equation}
+use Rattle.rule_core.specs.Theories.{equations_of}
+use Rattle.rule_core.specs.ProgramView.{theory_of}
 use Rattle.rule_core.specs.Matching.{RespectsSorts}
 use Rattle.ml_image.specs.Images.{image_of}
 use Rattle.ml_image.specs.HasImages.{HasEquationImage}
@@ -21,7 +23,7 @@ use Rattle.prove_equation.specs.EquationLemmas.{IsEquationLemma}
 pub record CanFill (cx : Context) (f : ℕ) (e : Equation) (lemma : Theorem)
     (theta : List (Option Tree))
     (o : Option Theorem) : Type 0 where
-  pub image : HasEquationImage cx.program.sig f e
+  pub image : HasEquationImage cx.program.sig (equations_of (theory_of cx.program) f) f e
   pub direct : e.parameters ≡ 0
   pub is_lemma : IsEquationLemma cx f e lemma
   pub room : length theta ≡ length e.variables

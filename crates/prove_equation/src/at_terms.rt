@@ -16,8 +16,9 @@ use term_core::{Subst, Term};
 /// Proves what the lemma of an equation says of its function at terms that its arguments match: the
 /// function of the terms equals the right side, with its variables replaced by what they were
 /// matched with. `condition` says that the equation's condition is true there, if it has one.
-/// `AllocError`: out of memory, or the error of `fun_of`. After an error the context may have
-/// grown. The cost grows with the terms that the match binds to the variables.
+/// `denied` says that none of its guards holds at the terms, if it has guards. `AllocError`: out of
+/// memory, or the error of `fun_of`. After an error the context may have grown. The cost grows with
+/// the terms that the match binds to the variables.
 pub fn equation_at(
     alloc: Global,
     cx: &mut Cx<'_>,
@@ -26,9 +27,10 @@ pub fn equation_at(
     subst: &Subst,
     args: &[Term],
     condition: &Option<Thm>,
+    denied: &Option<Thm>,
 ) -> Result<Thm, AllocError>
     requires { CanUseAt cx.old equation.now.fun.0 (function_equation equation.now) lemma.now
-        subst.now (forest args.now) condition.now }
+        subst.now (forest args.now) condition.now denied.now }
     ensures proves { IfOk result
         (ProvesAt cx.new equation.now.fun.0 (function_equation equation.now) subst.now
         (forest args.now)) }
@@ -37,6 +39,6 @@ pub fn equation_at(
     if equation.params == 0 {
         direct_at(alloc, cx, lemma, equation, subst, args, condition)
     } else {
-        kompile_at(alloc, cx, lemma, equation, subst, args, condition)
+        kompile_at(alloc, cx, lemma, equation, subst, args, condition, denied)
     }
 }

@@ -1,5 +1,5 @@
 // Direct equations, which have no parameters, at terms.
-ghost use Rattle.std.specs.Prelude.{◌≡◌, IfOk};
+ghost use Rattle.std.specs.Prelude.{◌≡◌, IfOk, None};
 ghost use Rattle.term_core.specs.Forests.{forest};
 ghost use Rattle.rule_core.specs.ProgramView.{function_equation, theory_of};
 ghost use Rattle.rule_core.specs.WellSorted.{IsWellSorted};
@@ -17,7 +17,7 @@ use std::alloc::{AllocError, Global};
 use term_core::{Subst, Term};
 
 // Proves what the lemma of a direct equation says of its function at terms that its arguments
-// match.
+// match. Such an equation has no guards.
 pub(crate) fn direct_at(
     alloc: Global,
     cx: &mut Cx<'_>,
@@ -28,7 +28,7 @@ pub(crate) fn direct_at(
     condition: &Option<Thm>,
 ) -> Result<Thm, AllocError>
     requires usable { CanUseAt cx.old equation.now.fun.0 (function_equation equation.now) lemma.now
-        subst.now (forest args.now) condition.now }
+        subst.now (forest args.now) condition.now None }
     requires direct { equation.now.params ≡ 0 }
     ensures proves { IfOk result
         (ProvesAt cx.new equation.now.fun.0 (function_equation equation.now) subst.now

@@ -1,6 +1,7 @@
 // Equations as lemmas.
 ghost use Rattle.std.specs.Prelude.{IfOk};
 ghost use Rattle.rule_core.specs.ProgramView.{function_equation, theory_of};
+ghost use Rattle.rule_core.specs.Theories.{equations_of};
 ghost use Rattle.ml_image.specs.HasImages.{HasEquationImage};
 ghost use Rattle.ml_image.specs.OwnAxioms.{IsEquationFor};
 ghost use Rattle.prove_term.specs.Contexts.{HasGrown, IsLemmaIn};
@@ -14,15 +15,17 @@ use std::alloc::{AllocError, Global};
 
 /// Turns an equation of a function into a lemma, with pattern variables for its variables, and in
 /// the form of kompile also for its parameters. The lemma assumes that each pattern variable is one
-/// element of its sort, that each parameter is a member of its argument, and what the condition
-/// says. `AllocError`: out of memory. After an error the context may have grown. Each call states
-/// the equation's image as an axiom. A caller that uses an equation often keeps its lemma.
+/// element of its sort, that each parameter is a member of its argument, what the condition says,
+/// and that no guard holds. `AllocError`: out of memory. After an error the context may have grown.
+/// Each call states the equation's image as an axiom. A caller that uses an equation often keeps
+/// its lemma.
 pub fn equation_lemma(
     alloc: Global,
     cx: &mut Cx<'_>,
     equation: &Equation,
 ) -> Result<Thm, AllocError>
-    requires image { HasEquationImage cx.old.program.sig equation.now.fun.0
+    requires image { HasEquationImage cx.old.program.sig
+        (equations_of (theory_of cx.old.program) equation.now.fun.0) equation.now.fun.0
         (function_equation equation.now) }
     requires own { IsEquationFor (theory_of cx.old.program) equation.now.fun.0
         (function_equation equation.now) }

@@ -44,9 +44,10 @@ pub(crate) fn kompile_at(
     subst: &Subst,
     args: &[Term],
     condition: &Option<Thm>,
+    denied: &Option<Thm>,
 ) -> Result<Thm, AllocError>
     requires usable { CanUseAt cx.old equation.now.fun.0 (function_equation equation.now) lemma.now
-        subst.now (forest args.now) condition.now }
+        subst.now (forest args.now) condition.now denied.now }
     requires kompile { equation.now.params ≢ 0 }
     ensures proves { IfOk result
         (ProvesAt cx.new equation.now.fun.0 (function_equation equation.now) subst.now
@@ -65,8 +66,10 @@ pub(crate) fn kompile_at(
     )?;
     let rest = elements(alloc, cx, subst)?;
     let facts = joined(alloc, &first, &rest)?;
+    let denials = given(alloc, denied)?;
+    let before = joined(alloc, &members, &denials)?;
     let held = given(alloc, condition)?;
-    let others = joined(alloc, &members, &held)?;
+    let others = joined(alloc, &before, &held)?;
     schema_at(alloc, lemma, &facts, &others)
 }
 

@@ -1,8 +1,12 @@
 pub mod Equalities
+pub mod FalseConditions
 pub mod Gathering
+pub mod GuardLaws
 pub mod Hooking
 pub mod Injecting
+pub mod Items
 pub mod KeptLaws
+pub mod Missing
 pub mod Nodes
 pub mod PlainRecords
 pub mod Recording

@@ -1,11 +1,12 @@
 -- The plain record of each variant, and the plain records of its arguments.
 use Rattle.std.proofs.Common.{rules, ◌≡◌, ◌<◌, ℕ, zero, suc, List, [], ◌∷◌, Some, length, get_or}
-use Rattle.std.proofs.Common.{map, slice_get, refl, sym, ◌∙◌, ap, arith}
+use Rattle.std.proofs.Common.{Option, map, slice_get, refl, sym, ◌∙◌, ap, arith}
 use Rattle.std.specs.Global.{Vec, Box}
 use Rattle.term_core.specs.Terms.{Tree}
 use Rattle.term_core.specs.declared.ids.SortId.{SortId}
 use Rattle.term_core.specs.declared.ids.SymId.{SymId}
 use Rattle.rule_core.specs.Records.{Record, bound, itself, made, injected_record, by_hook, Miss}
+use Rattle.rule_core.specs.Records.{no_match, condition_false}
 use Rattle.rule_core.specs.RecordView.{plain_record, plain_layer, plain_miss, plain_use, records}
 use Rattle.rule_core.specs.declared.records.EvalRecord.{EvalRecord}
 use Rattle.rule_core.specs.declared.records.EvalRecord.TheVariants as form
@@ -18,8 +19,11 @@ use Rattle.rule_core.specs.declared.records.EqRecord.{EqRecord}
 use Rattle.rule_core.specs.declared.records.EvalRecord.TheFolds.{fold-EqRecord}
 use Rattle.rule_core.specs.declared.records.EvalRecord.TheFolds.{fold-roll-EvalRecord}
 use Rattle.rule_core.specs.declared.records.EvalRecord.TheFolds.{fold_out-EqRecord}
+use Rattle.rule_core.specs.declared.records.EvalRecord.TheFolds.{fold-roll-Miss}
+use Rattle.rule_core.specs.declared.records.Miss.TheVariants as miss
+use Rattle.rule_core.specs.declared.records.Miss.TheVariants.{rolls-NoMatch, rolls-CondFalse}
 use Rattle.prove_fun.specs.RecordParts.{listed}
-use Rattle.prove_fun.specs.Using.{used_record}
+use Rattle.prove_fun.specs.Using.{missed_record, used_record}
 
 pub plain-Bound : (x : ℕ) (t : Tree) → plain_record (form.Bound x t) ≡ bound x t
 plain-Bound x t =
@@ -62,6 +66,17 @@ plain-ByEquation used =
     folded_use used
     ∙ (fold_out-EqRecord Record Miss Record plain_layer plain_miss plain_use used.value
     ∙ search rules)
+
+pub plain-NoMatch : missed_record miss.NoMatch ≡ no_match
+plain-NoMatch =
+    ap missed_record (sym rolls-NoMatch)
+    ∙ fold-roll-Miss Record Miss Record plain_layer plain_miss plain_use layer.NoMatch
+
+pub plain-CondFalse : (sigma : List (Option Tree)) (r : EvalRecord)
+    → missed_record (miss.CondFalse sigma r) ≡ condition_false sigma (plain_record r)
+plain-CondFalse sigma r =
+    ap missed_record (sym (rolls-CondFalse sigma r))
+    ∙ fold-roll-Miss Record Miss Record plain_layer plain_miss plain_use (layer.CondFalse sigma r)
 
 -- ---- the records of arguments
 

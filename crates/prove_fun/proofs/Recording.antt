@@ -1,7 +1,8 @@
 -- Records of evaluations, part by part, and the sorts of their results.
 use Rattle.std.proofs.Common.{◌≡◌, ◌<◌, ◌≤◌, ℕ, zero, suc, List, [], ◌∷◌, length, Option, Some}
 use Rattle.std.proofs.Common.{None, get_or, refl, sym, ◌∙◌, ap, subst, arith, inl, inr, slice_get}
-use Rattle.std.specs.Prelude.{IsSome, IfSome, All}
+use Rattle.std.specs.Prelude.{◌⊎◌, IsNone, IsSome, IfSome, All, take}
+use Rattle.std.proofs.lemmas.List.{length-take-le}
 use Rattle.std.proofs.lemmas.Option.{slice_get_within, get_or_from_slice_get}
 use Rattle.term_core.specs.Terms.{Tree, Forest, leaf, node, height, heights, injected, DomainValue}
 use Rattle.term_core.specs.Terms.{IsNormal, AreNormal}
@@ -19,8 +20,11 @@ use Rattle.rule_core.specs.Sorting.{HaveSorts, IsTermOf, HasInjection, IsSymbol}
 use Rattle.rule_core.specs.MatchLaws.{AreTermsOf}
 use Rattle.rule_core.specs.NamedParts.{Name}
 use Rattle.rule_core.specs.Matching.{OccursInSome, RespectsSorts, MatchNamed}
-use Rattle.rule_core.specs.Evaluation.{most_height, IsTrueValue}
-use Rattle.rule_core.specs.Records.{Record, RecordList, OptionalRecord, MissList, conditional}
+use Rattle.rule_core.specs.RecordView.{misses}
+use Rattle.rule_core.specs.Rules.{Equation, Guard}
+use Rattle.rule_core.specs.Evaluation.{most_height, IsTrueValue, MatchesBy}
+use Rattle.rule_core.specs.Records.{Record, RecordList, OptionalRecord, Miss, conditional}
+use Rattle.rule_core.specs.Records.{no_match, condition_false, none_missed, AreMissed}
 use Rattle.rule_core.specs.Records.{Records}
 use Rattle.rule_core.specs.Records.{RecordAll, RecordsCondition, bound, itself, made}
 use Rattle.rule_core.specs.Records.{injected_record, by_hook, by_equation, no_record, more_records}
@@ -34,7 +38,9 @@ use Rattle.rule_core.proofs.Determined.{values_are_sorted, record_tells_value}
 use Rattle.prove_term.specs.Filling.{filled, in_place}
 use Rattle.prove_fun.specs.RecordParts.{children_of, listed, children}
 use Rattle.prove_fun.specs.Evaluating.{IsSortedAndBound, IsRecorded, AreRecorded, IsHookCall}
+use Rattle.prove_fun.specs.Missing.{IsFalseAt, IsMissedAt, AreMissedAt}
 use Rattle.prove_fun.specs.Using.{IsUse}
+use Rattle.prove_fun.proofs.Items.{item_taken}
 
 -- ---- results
 
@@ -485,6 +491,26 @@ pub all_at : {X : Type 0} (P : X → Type 0) (xs : List X) (i : ℕ) (x : X) →
 all_at P xs i x each there =
     subst P (get_or_from_slice_get xs i x x there) (each i x (slice_get_within xs i x there))
 
+-- the record of the condition of an equation that matches
+pub condition_recorded : (program : Program) (sigma : List (Option Tree)) (variables : List ℕ)
+    (ps : RulePatterns) (names : List Name) (ts : Forest) (p : RulePattern) (q : Record)
+    → IsSortedAndBound program
+    → HaveNames program.sig variables ps names → IsCondition program.sig variables ps names p
+    → MatchNamed program.sig variables ps names ts sigma → heights ts ≤ most_height
+    → Records (theory_of program) sigma p q
+    → (h : IsRecorded program sigma p q) × (h.variables ≡ variables)
+condition_recorded program sigma variables ps names ts p q ready named has matches low records = (
+  record {
+    ready = ready;
+    variables = variables;
+    sort = has.0;
+    sorted = has.5;
+    serves = serves_match program.sig variables ps names ts sigma p named matches low has.6;
+    records = records;
+  },
+  refl,
+)
+
 pub held_record : (program : Program) (sigma : List (Option Tree)) (variables : List ℕ)
     (ps : RulePatterns) (names : List Name) (ts : Forest) (p : RulePattern) (q : Record)
     (c : Option RulePattern) (o : OptionalRecord) → IsSortedAndBound program
@@ -497,35 +523,150 @@ held_record program sigma variables ps names ts p q c o ready named has matches 
     subst (λ (x : Option RulePattern).
     RecordsCondition (theory_of program) sigma x (conditional q)) is_c
     (subst (RecordsCondition (theory_of program) sigma c) is_o held) in
-    let same : p ≡ w.0 = some_pattern p w.0 w.1 in (
-      record {
-        ready = ready;
-        variables = variables;
-        sort = has.0;
-        sorted = has.5;
-        serves = serves_match program.sig variables ps names ts sigma p named matches low has.6;
-        records = subst (λ (x : RulePattern). Records (theory_of program) sigma x q) (sym same) w.2;
-      },
-      refl,
-      w.3,
-    )
+    let same : p ≡ w.0 = some_pattern p w.0 w.1 in
+    let made =
+    condition_recorded program sigma variables ps names ts p q ready named has matches low
+    (subst (λ (x : RulePattern). Records (theory_of program) sigma x q) (sym same) w.2) in
+    (made.0, made.1, w.3)
   where
     some_pattern : (p q : RulePattern) → Some p ≡ Some q → p ≡ q
     some_pattern p q e = cc
 
+-- ---- equations that are missed
+
+same_item : (m n : Miss) → Some m ≡ Some n → m ≡ n
+same_item m n e = cc
+
+-- what an entry says of its equation
+missed_item : (program : Program) (info : SymInfo) (ts : Forest) (e : Equation)
+    (sigma : List (Option Tree)) (p : RulePattern) (r : Record) → IsSortedAndBound program
+    → IsEquationOf program.sig info e → heights ts ≤ most_height
+    → MatchesBy (theory_of program) e ts sigma → e.condition ≡ Some p
+    → Records (theory_of program) sigma p r → (IsTrueValue (result_of r) → ⊥)
+    → IsFalseAt program e ts sigma r
+missed_item program info ts e sigma p r ready fits low matches is records untrue =
+    let has : IsCondition program.sig e.variables e.arguments e.names p =
+    subst (λ (x : Option RulePattern).
+    IfSome x (IsCondition program.sig e.variables e.arguments e.names)) is fits.condition in
+    let made =
+    condition_recorded program sigma e.variables e.arguments e.names ts p r ready fits.names has
+    matches low records in
+    record {
+      matches = matches;
+      condition = p;
+      conditional = is;
+      recorded = made.0;
+      own = made.1;
+      untrue = untrue;
+    }
+
+-- each entry says that the equation at its place is missed
+missed_items : (program : Program) (info : SymInfo) (ts : Forest) (es : List Equation)
+    (ms : List Miss) → IsSortedAndBound program
+    → ((j : ℕ) (e : Equation) → slice_get es j ≡ Some e → IsEquationOf program.sig info e)
+    → heights ts ≤ most_height → AreMissed (theory_of program) es ts (misses ms)
+    → (length ms ≡ length es) × ((j : ℕ) (m : Miss) → slice_get ms j ≡ Some m
+    → (e : Equation) × (slice_get es j ≡ Some e) × IsMissedAt program e ts m)
+missed_items program info ts es [] ready fits low are =
+    (ap length (sym are), λ j m there. absurd (let no : ⊥ = cc in no))
+missed_items program info ts es (no_match ∷ ms) ready fits low (e, others, is, unmatched, rest) =
+    let fit : (j : ℕ) (x : Equation) → slice_get others j ≡ Some x
+    → IsEquationOf program.sig info x =
+    λ j x there. fits (suc j) x (ap (λ (xs : List Equation). slice_get xs (suc j)) is ∙ there) in
+    let more = missed_items program info ts others ms ready fit low rest in
+    (ap suc more.0 ∙ ap length (sym is), go more.1)
+  where
+    go : ((j : ℕ) (m : Miss) → slice_get ms j ≡ Some m
+        → (x : Equation) × (slice_get others j ≡ Some x) × IsMissedAt program x ts m)
+        → (j : ℕ) (m : Miss) → slice_get (no_match ∷ ms) j ≡ Some m
+        → (x : Equation) × (slice_get es j ≡ Some x) × IsMissedAt program x ts m
+    go more zero m there = (
+      e,
+      ap (λ (xs : List Equation). slice_get xs zero) is,
+      subst (IsMissedAt program e ts) (same_item no_match m there) unmatched,
+    )
+    go more (suc j) m there =
+        let w = more j m there in
+        (w.0, ap (λ (xs : List Equation). slice_get xs (suc j)) is ∙ w.1, w.2)
+missed_items program info ts es (condition_false sigma r ∷ ms) ready fits low
+    (e, others, q, is, matches, condition, records, untrue, rest) =
+    let fit : (j : ℕ) (x : Equation) → slice_get others j ≡ Some x
+    → IsEquationOf program.sig info x =
+    λ j x there. fits (suc j) x (ap (λ (xs : List Equation). slice_get xs (suc j)) is ∙ there) in
+    let one : IsFalseAt program e ts sigma r =
+    missed_item program info ts e sigma q r ready
+    (fits zero e (ap (λ (xs : List Equation). slice_get xs zero) is)) low matches condition records
+    untrue in
+    let more = missed_items program info ts others ms ready fit low rest in
+    (ap suc more.0 ∙ ap length (sym is), go one more.1)
+  where
+    go : IsFalseAt program e ts sigma r → ((j : ℕ) (m : Miss) → slice_get ms j ≡ Some m
+        → (x : Equation) × (slice_get others j ≡ Some x) × IsMissedAt program x ts m)
+        → (j : ℕ) (m : Miss) → slice_get (condition_false sigma r ∷ ms) j ≡ Some m
+        → (x : Equation) × (slice_get es j ≡ Some x) × IsMissedAt program x ts m
+    go one more zero m there = (
+      e,
+      ap (λ (xs : List Equation). slice_get xs zero) is,
+      subst (IsMissedAt program e ts) (same_item (condition_false sigma r) m there) one,
+    )
+    go one more (suc j) m there =
+        let w = more j m there in
+        (w.0, ap (λ (xs : List Equation). slice_get xs (suc j)) is ∙ w.1, w.2)
+
+-- what the entries of a use say
+record AreMisses (program : Program) (f : ℕ) (ts : Forest) (i : ℕ) (o : Option (List Guard))
+    (ms : List Miss) : Type 0 where
+  missed : AreMissedAt program f ts ms
+  all_missed : IfSome o (λ (gs : List Guard). length ms ≡ i)
+
+missed_before : (program : Program) (f : ℕ) (info : SymInfo) (ts : Forest) (i : ℕ) (e : Equation)
+    (ms : List Miss) → IsSortedAndBound program
+    → ((j : ℕ) (x : Equation) → slice_get (equations_of (theory_of program) f) j ≡ Some x
+    → IsEquationOf program.sig info x)
+    → heights ts ≤ most_height
+    → slice_get (equations_of (theory_of program) f) i ≡ Some e
+    → (IsNone e.last_resort × (misses ms ≡ none_missed)) ⊎ (IsSome e.last_resort
+    × AreMissed (theory_of program) (take i (equations_of (theory_of program) f)) ts (misses ms))
+    → AreMisses program f ts i e.last_resort ms
+missed_before program f info ts i e [] ready fits low there (inl none) = record {
+  missed = λ j m at. absurd (let no : ⊥ = cc in no);
+  all_missed = go e.last_resort none.0;
+}
+  where
+    go : (o : Option (List Guard)) → IsNone o
+        → IfSome o (λ (gs : List Guard). 0 ≡ i)
+    go None is = tt
+    go (Some gs) is = absurd (let no : ⊥ = cc in no)
+missed_before program f info ts i e (m ∷ ms) ready fits low there (inl none) =
+    absurd (let e = none.1 in let no : ⊥ = cc in no)
+missed_before program f info ts i e ms ready fits low there (inr (some, are)) =
+    let es = equations_of (theory_of program) f in
+    let all =
+    missed_items program info ts (take i es) ms ready
+    (λ j x at. fits j x (item_taken i es j x at).0) low are in
+    let short : i < length es = slice_get_within es i e there in
+    record {
+      missed = λ j m at. let w = all.1 j m at in (w.0, (item_taken i es j w.0 w.1).0, w.2);
+      all_missed = go e.last_resort (all.0 ∙ length-take-le i es (omega (arith, short)));
+    }
+  where
+    go : (o : Option (List Guard)) → length ms ≡ i → IfSome o (λ (gs : List Guard). length ms ≡ i)
+    go None is = tt
+    go (Some gs) is = is
+
 pub equation_recorded : (program : Program) (theta : List (Option Tree)) (f : ℕ) (ps : RulePatterns)
     (r : Record) (g : ℕ) (rs : RecordList) (i : ℕ) (sigma : List (Option Tree))
-    (condition : OptionalRecord) (body : Record) (missed : MissList)
-    → r ≡ by_equation g rs i sigma condition body missed
+    (condition : OptionalRecord) (body : Record) (ms : List Miss)
+    → r ≡ by_equation g rs i sigma condition body (misses ms)
     → IsRecorded program theta (call f [] ps) r
-    → IsUse program f (children_of r) i sigma condition body
+    → IsUse program f (results_of (children_of r)) i sigma condition body ms
 unfolding call_recorded
-equation_recorded program theta f ps r g rs i sigma condition body missed is h =
-    subst (λ (q : Record). IsUse program f (children_of q) i sigma condition body) (sym is)
+equation_recorded program theta f ps r g rs i sigma condition body ms is h =
+    subst (λ (q : Record). IsUse program f (results_of (children_of q)) i sigma condition body ms) (sym is)
     (go (subst (IsRecorded program theta (call f [] ps)) is h))
   where
-    go : IsRecorded program theta (call f [] ps) (by_equation g rs i sigma condition body missed)
-        → IsUse program f rs i sigma condition body
+    go : IsRecorded program theta (call f [] ps) (by_equation g rs i sigma condition body (misses ms))
+        → IsUse program f (results_of rs) i sigma condition body ms
     go h =
         let w = h.records in
         let same : g ≡ f = first_same g f w.0 [] w.1 ps w.4 in
@@ -538,10 +679,18 @@ equation_recorded program theta f ps r g rs i sigma condition body missed is h =
         all_at (IsEquationOf program.sig w.2) (equations_of (theory_of program) f) i w.3
         (h.ready.well_sorted.equations f w.2 function) there in
         let all : AreRecorded program theta ps rs =
-        (call_recorded program theta f [] ps (by_equation g rs i sigma condition body missed) h).1
+        (call_recorded program theta f [] ps (by_equation g rs i sigma condition body (misses ms)) h).1
         in
-        let low : heights (results_of rs) ≤ most_height =
-        (arguments_good program theta ps rs all).2 in
+        let good = arguments_good program theta ps rs all in
+        let low : heights (results_of rs) ≤ most_height = good.2 in
+        let info : h.sorted.0 ≡ w.2 = same_symbol program.sig f h.sorted.0 w.2 h.sorted.1 function in
+        let before : AreMisses program f (results_of rs) i w.3.last_resort ms =
+        missed_before program f w.2 (results_of rs) i w.3 ms h.ready (λ j x at.
+        all_at (IsEquationOf program.sig w.2) (equations_of (theory_of program) f) j x
+        (h.ready.well_sorted.equations f w.2 function) at) low there
+        (subst (λ (n : ℕ). (IsNone w.3.last_resort × (misses ms ≡ none_missed))
+        ⊎ (IsSome w.3.last_resort × AreMissed (theory_of program)
+        (take i (equations_of (theory_of program) n)) (results_of rs) (misses ms))) same w.13) in
         record {
           info = w.2;
           function = function;
@@ -567,4 +716,9 @@ equation_recorded program theta f ps r g rs i sigma condition body missed is h =
                 w.3.right fits.names w.8 low fits.bound;
             records = w.12;
           };
+          sorted =
+              subst (λ (x : SymInfo). AreTermsOf program.sig [] (results_of rs) x.args.items) info
+              good.0;
+          are_missed = before.missed;
+          all_missed = before.all_missed;
         }

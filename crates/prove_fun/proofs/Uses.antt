@@ -2,8 +2,9 @@
 use Rattle.std.proofs.Common.{◌≡◌, ◌<◌, ℕ, zero, suc, List, [], ◌∷◌, ◌++◌, Option, Some, None}
 use Rattle.std.proofs.Common.{length, map, option_map, get_or, slice_get, take, inl, inr, refl, sym}
 use Rattle.std.proofs.Common.{◌∙◌, ap, subst, arith}
-use Rattle.std.specs.Prelude.{true, Vec, slice_index_or, ◌⊎◌}
+use Rattle.std.specs.Prelude.{true, Vec, slice_index_or, ◌⊎◌, ◌≢◌, ◌+◌, ◌^◌, IfSome, All}
 use Rattle.std.specs.Global.{Global}
+use Rattle.std.proofs.lemmas.Option.{slice_get-get_or}
 use Rattle.ml_pat.specs.Patterns.{Pattern}
 use Rattle.ml_kernel.specs.Lemmas.{HasNoVariable}
 use Rattle.ml_kernel.specs.Theorems.{Theorem}
@@ -13,19 +14,21 @@ use Rattle.term_core.specs.Patterns.{Pattern as RulePattern}
 use Rattle.term_core.specs.PatternLists.{plain_patterns}
 use Rattle.term_core.specs.RulePatterns.{plain_pattern}
 use Rattle.term_core.specs.declared.rule_patterns.RulePat.{RulePat}
-use Rattle.rule_core.specs.Rules.{Equation as PlainEquation}
+use Rattle.rule_core.specs.Rules.{Equation as PlainEquation, Guard}
 use Rattle.rule_core.specs.Theories.{equations_of}
 use Rattle.rule_core.specs.Sorting.{HasSort, IsTermOf}
 use Rattle.rule_core.specs.Matching.{MatchNamed}
 use Rattle.rule_core.specs.BoundVariables.{IsBoundEquation, IsEquationAt}
 use Rattle.rule_core.specs.Evaluation.{IsTrueValue, MatchesBy}
 use Rattle.rule_core.specs.ProgramView.{theory_of, function_equation, names_of, sorts_of}
-use Rattle.rule_core.specs.Records.{Record, RecordList, OptionalRecord, unconditional}
+use Rattle.rule_core.specs.Records.{Record, RecordList, OptionalRecord, Miss, unconditional}
 use Rattle.rule_core.specs.Records.{RecordsCondition, no_record, more_records, result_of}
 use Rattle.rule_core.specs.Records.{results_of}
+use Rattle.rule_core.specs.Guards.{IsGuardAmong, AreGuards, after_guards}
+use Rattle.rule_core.specs.declared.signature.Signature.{Signature}
 use Rattle.rule_core.specs.declared.rules.Equation.{Equation}
 use Rattle.rule_core.specs.declared.rules.Program.{Program}
-use Rattle.ml_image.specs.HasImages.{HasEquationImage, count_of}
+use Rattle.ml_image.specs.HasImages.{HasEquationImage, HasFittingGuards, IsGuard, count_of}
 use Rattle.ml_image.specs.OwnAxioms.{IsEquationFor}
 use Rattle.ml_image.proofs.ConditionLaws.{length-sorts_of}
 use Rattle.ml_image.proofs.WellSortedLaws.{equation_has_image}
@@ -34,12 +37,14 @@ use Rattle.prove_term.specs.Filling.{filled}
 use Rattle.prove_term.specs.Values.{SaysEquationAt, SaysValue}
 use Rattle.prove_term.proofs.ContextLaws.{contains_there, grown_twice, image_grown}
 use Rattle.ml_image.specs.Sentences.{term}
-use Rattle.prove_equation.specs.Conditions.{BindsEach, SaysCondition}
+use Rattle.prove_equation.specs.Conditions.{BindsEach, ListEachVariable, SaysCondition}
+use Rattle.prove_equation.proofs.GuardLaws.{guards_list_each}
 use Rattle.prove_fun.specs.RecordParts.{listed}
 use Rattle.prove_fun.specs.Evaluating.{IsSortedAndBound, IsImage, IsRecorded, HasEqual, Equates}
 use Rattle.prove_fun.specs.Evaluating.{SaysCall}
 use Rattle.prove_fun.specs.Using.{IsUse, SaysConditionAt}
 use Rattle.prove_fun.proofs.Equalities.{has_equal_grown}
+use Rattle.prove_fun.proofs.Items.{item_taken}
 use Rattle.prove_fun.proofs.Recording.{result_good}
 
 -- ---- the place of an equation
@@ -101,10 +106,10 @@ same_equation program f i q e at there =
 
 -- ---- the requirements of a use
 
-pub used_own : (program : Program) (f : ℕ) (rs : RecordList) (i : ℕ) (sigma : List (Option Tree))
-    (o : OptionalRecord) (body : Record) (u : IsUse program f rs i sigma o body)
+pub used_own : (program : Program) (f : ℕ) (ts : Forest) (i : ℕ) (sigma : List (Option Tree))
+    (o : OptionalRecord) (body : Record) (ms : List Miss) (u : IsUse program f ts i sigma o body ms)
     → IsEquationFor (theory_of program) f u.equation
-used_own program f rs i sigma o body u = record {
+used_own program f ts i sigma o body ms u = record {
   info = u.info;
   function = u.function;
   by_equations = u.by_equations;
@@ -124,15 +129,45 @@ count_patterns : (ps : List RulePat) → count_of (plain_patterns ps) ≡ length
 count_patterns [] = refl
 count_patterns (p ∷ ps) = ap suc (count_patterns ps)
 
+-- ---- guards
+
+-- a guard that repeats one of the equations before another one has an image
+is_guard : (n : ℕ) (es : List PlainEquation) (g : Guard) → IsGuardAmong (take n es) g
+    → IsGuard es g
+is_guard n es g among = record {
+  equation = among.equation;
+  there = (item_taken n es g.equation among.equation among.there).0;
+  order = λ i d lt. (among.each (get_or g.order i d)).0
+      (contains_there g.order i (get_or g.order i d)
+      (slice_get-get_or g.order i d lt));
+}
+
+fitting : (sig : Signature) (n : ℕ) (es : List PlainEquation) (e : PlainEquation)
+    → IfSome e.last_resort (AreGuards sig (take n es) e) → HasFittingGuards es e
+fitting sig n es e = go e.last_resort
+  where
+    go : (o : Option (List Guard)) → IfSome o (AreGuards sig (take n es) e)
+        → IfSome o (λ (gs : List Guard). (e.parameters ≢ 0) × All (IsGuard es) gs
+        × (after_guards (e.parameters + length e.variables) gs < 2 ^ 32))
+    go None are = tt
+    go (Some gs) are = (
+      are.parameters,
+      (λ i d lt. is_guard n es (get_or gs i d) (are.each i d lt)),
+      are.few,
+    )
+
 -- the equation has an image
-has_image : (program : Program) (f : ℕ) (q : Equation) → IsSortedAndBound program
-    → IsBoundEquation f q
+has_image : (program : Program) (f i : ℕ) (q : Equation) → IsSortedAndBound program
+    → IsEquationAt program f i q
     → IsEquationFor (theory_of program) f (function_equation q)
-    → HasEquationImage program.sig f (function_equation q)
-has_image program f q ready bound own =
+    → HasEquationImage program.sig (equations_of (theory_of program) f) f (function_equation q)
+has_image program f i q ready at own =
+    let bound : IsBoundEquation f q = ready.bound.equations f i q at in
     equation_has_image (theory_of program) f own.info (function_equation q) ready.well_sorted
     own.function own.by_equations own.listed
     (omega (arith, bound.few, length-sorts_of q.vars.items)) (go bound.parameters)
+    (fitting program.sig i (equations_of (theory_of program) f) (function_equation q)
+    (ready.bound.guards f i q at))
   where
     go : (q.params ≡ 0) ⊎ (q.params ≡ length q.args.items)
         → (q.params ≡ 0) ⊎ (q.params ≡ count_of (plain_patterns q.args.items))
@@ -222,77 +257,89 @@ pub recorded_later : (a b : Context) (theta : List (Option Tree)) (p : RulePatte
     → HasGrown a b → IsRecorded a.program theta p r → IsRecorded b.program theta p r
 recorded_later a b theta p r g h = subst (λ (x : Program). IsRecorded x theta p r) (sym g.program) h
 
-pub use_later : (a b : Context) (f : ℕ) (rs : RecordList) (i : ℕ) (sigma : List (Option Tree))
-    (o : OptionalRecord) (body : Record) → HasGrown a b → IsUse a.program f rs i sigma o body
-    → IsUse b.program f rs i sigma o body
-use_later a b f rs i sigma o body g h =
-    subst (λ (x : Program). IsUse x f rs i sigma o body) (sym g.program) h
+pub use_later : (a b : Context) (f : ℕ) (ts : Forest) (i : ℕ) (sigma : List (Option Tree))
+    (o : OptionalRecord) (body : Record) (ms : List Miss) → HasGrown a b → IsUse a.program f ts i sigma o body ms
+    → IsUse b.program f ts i sigma o body ms
+use_later a b f ts i sigma o body ms g h =
+    subst (λ (x : Program). IsUse x f ts i sigma o body ms) (sym g.program) h
 
 pub ready_later : (a b : Context) → HasGrown a b → IsSortedAndBound a.program
     → IsSortedAndBound b.program
 ready_later a b g h = subst IsSortedAndBound (sym g.program) h
 
 -- the requirements on an equation of the code
-pub used_matches : (program : Program) (f : ℕ) (rs : RecordList) (i : ℕ)
-    (sigma : List (Option Tree)) (o : OptionalRecord) (body : Record) (q : Equation)
-    (u : IsUse program f rs i sigma o body) → IsEquationAt program f i q
+pub used_matches : (program : Program) (f : ℕ) (ts : Forest) (i : ℕ)
+    (sigma : List (Option Tree)) (o : OptionalRecord) (body : Record) (ms : List Miss) (q : Equation)
+    (u : IsUse program f ts i sigma o body ms) → IsEquationAt program f i q
     → MatchNamed program.sig (sorts_of q.vars.items) (plain_patterns q.args.items)
-    (names_of q.named.items) (results_of rs) sigma
-used_matches program f rs i sigma o body q u at =
+    (names_of q.named.items) ts sigma
+used_matches program f ts i sigma o body ms q u at =
     subst
-    (λ (e : PlainEquation). MatchesBy (theory_of program) e (results_of rs) sigma)
+    (λ (e : PlainEquation). MatchesBy (theory_of program) e ts sigma)
     (sym (same_equation program f i q u.equation at u.there)) u.matches
 
-pub used_right : (program : Program) (f : ℕ) (rs : RecordList) (i : ℕ) (sigma : List (Option Tree))
-    (o : OptionalRecord) (body : Record) (q : Equation) (u : IsUse program f rs i sigma o body)
+pub used_right : (program : Program) (f : ℕ) (ts : Forest) (i : ℕ) (sigma : List (Option Tree))
+    (o : OptionalRecord) (body : Record) (ms : List Miss) (q : Equation) (u : IsUse program f ts i sigma o body ms)
     → IsEquationAt program f i q → u.equation.right ≡ plain_pattern q.right
-used_right program f rs i sigma o body q u at =
+used_right program f ts i sigma o body ms q u at =
     ap (λ (e : PlainEquation). e.right) (sym (same_equation program f i q u.equation at u.there))
 
-pub used_condition : (program : Program) (f : ℕ) (rs : RecordList) (i : ℕ)
-    (sigma : List (Option Tree)) (o : OptionalRecord) (body : Record) (q : Equation)
-    (u : IsUse program f rs i sigma o body) → IsEquationAt program f i q
+pub used_condition : (program : Program) (f : ℕ) (ts : Forest) (i : ℕ)
+    (sigma : List (Option Tree)) (o : OptionalRecord) (body : Record) (ms : List Miss) (q : Equation)
+    (u : IsUse program f ts i sigma o body ms) → IsEquationAt program f i q
     → u.equation.condition ≡ option_map plain_pattern q.cond
-used_condition program f rs i sigma o body q u at =
+used_condition program f ts i sigma o body ms q u at =
     ap (λ (e : PlainEquation). e.condition)
     (sym (same_equation program f i q u.equation at u.there))
 
--- ---- items
-
-pub item_there : {A : Type 0} (xs : List A) (i : ℕ) (x : A) → i < length xs → x ≡ get_or xs i x
-    → slice_get xs i ≡ Some x
-item_there [] i x low at = absurd (omega (arith, low))
-item_there (y ∷ xs) zero x low at = ap (λ z. Some z) (sym at)
-item_there (y ∷ xs) (suc i) x low at = item_there xs i x (omega (arith, low)) at
-
 -- ---- the requirements on the use of an equation of the code
 
-pub record IsAsked (program : Program) (f : ℕ) (rs : RecordList) (i : ℕ)
+pub record IsAsked (program : Program) (f : ℕ) (ts : Forest) (i : ℕ)
     (sigma : List (Option Tree)) (q : Equation) : Type 0 where
   pub function : q.fun.0 ≡ f
-  pub image : HasEquationImage program.sig q.fun.0 (function_equation q)
+  pub image : HasEquationImage program.sig (equations_of (theory_of program) q.fun.0) q.fun.0
+      (function_equation q)
   pub own : IsEquationFor (theory_of program) q.fun.0 (function_equation q)
   pub there : slice_get (equations_of (theory_of program) q.fun.0) i ≡ Some (function_equation q)
   pub matches : MatchNamed program.sig (sorts_of q.vars.items) (plain_patterns q.args.items)
-      (names_of q.named.items) (results_of rs) sigma
+      (names_of q.named.items) ts sigma
   pub bound : BindsEach (sorts_of q.vars.items) sigma
+  pub each : IfSome (function_equation q).last_resort
+      (ListEachVariable (equations_of (theory_of program) q.fun.0))
 
-pub asked : (program : Program) (f : ℕ) (rs : RecordList) (i : ℕ) (sigma : List (Option Tree))
-    (o : OptionalRecord) (body : Record) (q : Equation) → IsSortedAndBound program
-    → IsUse program f rs i sigma o body → IsEquationAt program f i q
-    → IsAsked program f rs i sigma q
-asked program f rs i sigma o body q ready u at =
+-- each guard lists each variable of the equation that it repeats
+list_each : (program : Program) (f i : ℕ) (q : Equation) → IsSortedAndBound program
+    → IsEquationAt program f i q
+    → IfSome (function_equation q).last_resort
+    (ListEachVariable (equations_of (theory_of program) f))
+list_each program f i q ready at =
+    go (function_equation q).last_resort (ready.bound.guards f i q at)
+  where
+    go : (o : Option (List Guard))
+        → IfSome o (AreGuards program.sig (take i (equations_of (theory_of program) f))
+        (function_equation q))
+        → IfSome o (ListEachVariable (equations_of (theory_of program) f))
+    go None are = tt
+    go (Some gs) are =
+        guards_list_each program.sig i (equations_of (theory_of program) f) (function_equation q) gs
+        are
+
+pub asked : (program : Program) (f : ℕ) (ts : Forest) (i : ℕ) (sigma : List (Option Tree))
+    (o : OptionalRecord) (body : Record) (ms : List Miss) (q : Equation) → IsSortedAndBound program
+    → IsUse program f ts i sigma o body ms → IsEquationAt program f i q
+    → IsAsked program f ts i sigma q
+asked program f ts i sigma o body ms q ready u at =
     let bound : IsBoundEquation f q = ready.bound.equations f i q at in
     let own : IsEquationFor (theory_of program) f (function_equation q) =
     subst (λ (e : PlainEquation). IsEquationFor (theory_of program) f e)
     (sym (same_equation program f i q u.equation at u.there))
-    (used_own program f rs i sigma o body u) in
-    let matches = used_matches program f rs i sigma o body q u at in
+    (used_own program f ts i sigma o body ms u) in
+    let matches = used_matches program f ts i sigma o body ms q u at in
     record {
       function = bound.own;
       image =
-          subst (λ (n : ℕ). HasEquationImage program.sig n (function_equation q)) (sym bound.own)
-          (has_image program f q ready bound own);
+          subst (λ (n : ℕ). HasEquationImage program.sig (equations_of (theory_of program) n) n
+          (function_equation q)) (sym bound.own) (has_image program f i q ready at own);
       own =
           subst (λ (n : ℕ). IsEquationFor (theory_of program) n (function_equation q))
           (sym bound.own) own;
@@ -301,23 +348,27 @@ asked program f rs i sigma o body q ready u at =
           slice_get (equations_of (theory_of program) n) i ≡ Some (function_equation q))
           (sym bound.own) (plain_there program f i q at);
       matches = matches;
-      bound = binds_each program f q (results_of rs) sigma bound matches;
+      bound = binds_each program f q ts sigma bound matches;
+      each =
+          subst (λ (n : ℕ). IfSome (function_equation q).last_resort
+          (ListEachVariable (equations_of (theory_of program) n))) (sym bound.own)
+          (list_each program f i q ready at);
     }
 
-pub asked_later : (a b : Context) (f : ℕ) (rs : RecordList) (i : ℕ) (sigma : List (Option Tree))
-    (q : Equation) → HasGrown a b → IsAsked a.program f rs i sigma q
-    → IsAsked b.program f rs i sigma q
-asked_later a b f rs i sigma q g h =
-    subst (λ (p : Program). IsAsked p f rs i sigma q) (sym g.program) h
+pub asked_later : (a b : Context) (f : ℕ) (ts : Forest) (i : ℕ) (sigma : List (Option Tree))
+    (q : Equation) → HasGrown a b → IsAsked a.program f ts i sigma q
+    → IsAsked b.program f ts i sigma q
+asked_later a b f ts i sigma q g h =
+    subst (λ (p : Program). IsAsked p f ts i sigma q) (sym g.program) h
 
 -- ---- the condition of the used equation
 
-pub condition_at : (cx : Context) (program : Program) (f : ℕ) (rs : RecordList) (i : ℕ)
-    (sigma : List (Option Tree)) (o : OptionalRecord) (body : Record) (t : Option Theorem)
-    (u : IsUse program f rs i sigma o body) → cx.program ≡ program
+pub condition_at : (cx : Context) (program : Program) (f : ℕ) (ts : Forest) (i : ℕ)
+    (sigma : List (Option Tree)) (o : OptionalRecord) (body : Record) (ms : List Miss) (t : Option Theorem)
+    (u : IsUse program f ts i sigma o body ms) → cx.program ≡ program
     → SaysCondition cx u.equation.variables sigma u.equation.condition t
     → SaysConditionAt cx f i sigma t
-condition_at cx program f rs i sigma o body t u same h = λ e there.
+condition_at cx program f ts i sigma o body ms t u same h = λ e there.
     let own : slice_get (equations_of (theory_of program) f) i ≡ Some e =
     subst (λ (p : Program). slice_get (equations_of (theory_of p) f) i ≡ Some e) same there in
     subst (λ (x : PlainEquation). SaysCondition cx x.variables sigma x.condition t)

@@ -5,4 +5,6 @@ pub mod KeptLemmas
 pub mod KeptView
 pub mod RecordParts
 pub mod Evaluating
+pub mod Missing
 pub mod Using
+pub mod Denying

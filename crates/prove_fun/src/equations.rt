@@ -5,15 +5,17 @@ ghost use Rattle.rule_core.specs.Rules.{Equation as PlainEquation};
 ghost use Rattle.rule_core.specs.Theories.{equations_of};
 ghost use Rattle.rule_core.specs.ProgramView.{theory_of};
 ghost use Rattle.rule_core.specs.BoundVariables.{IsEquationAt};
-ghost use Rattle.rule_core.specs.Records.{Record, OptionalRecord, results_of};
+ghost use Rattle.rule_core.specs.Records.{results_of};
 ghost use Rattle.rule_core.specs.RecordView.{plain_record};
 ghost use Rattle.prove_term.specs.Contexts.{HasGrown, StaysIn};
 ghost use Rattle.prove_term.specs.Values.{SaysEquationAt};
 ghost use Rattle.prove_fun.specs.KeptLemmas.{IsKeptIn};
 ghost use Rattle.prove_fun.specs.RecordParts.{children, children_of};
 ghost use Rattle.prove_fun.specs.Evaluating.{IsSortedAndBound};
-ghost use Rattle.prove_fun.specs.Using.{IsUse, SaysConditionAt};
+ghost use Rattle.prove_fun.specs.Missing.{AreValued};
+ghost use Rattle.prove_fun.specs.Using.{IsUseRecord, SaysConditionAt, missed_records};
 
+use crate::denying::denied_guards;
 use crate::lemma_places::{LemmaPlaces, lemma_of};
 use crate::parts::child;
 use ml_kernel::Thm;
@@ -24,53 +26,61 @@ use std::alloc::{AllocError, Global};
 use term_core::{SymId, Term};
 
 // Returns the equation of a function with a number.
-pub(crate) fn equation_of(program: &Program, symbol: SymId, number: u32) -> &Equation
+pub(crate) fn equation_of(program: &Program, symbol: SymId, number: usize) -> &Equation
     requires { (e : PlainEquation)
         × (slice_get (equations_of (theory_of program.now) symbol.0) number ≡ Some e) }
     ensures { IsEquationAt program.now symbol.0 number result.now }
 {
-    &program.equations[symbol.0 as usize][number as usize]
+    &program.equations[symbol.0 as usize][number]
 }
 
-// Proves that the function of its arguments' values equals the right side of the used equation,
-// with its variables replaced by what they were matched with. The call has `count` arguments. The
-// condition is known to hold.
+// Proves that the function of these terms equals the right side of the equation that was used at
+// them, with its variables replaced by what they were matched with. The condition is known to hold,
+// and so are the values of the conditions of the equations that were missed.
 pub(crate) fn equation_fact(
     alloc: Global,
     cx: &mut Cx<'_>,
     kept: &mut LemmaPlaces,
     symbol: SymId,
-    evaluation: &EvalRecord,
     used: &EqRecord,
-    count: usize,
+    terms: &[Term],
     condition: &Option<Thm>,
+    values: &[Option<Thm>],
 ) -> Result<Thm, AllocError>
     requires ready { IsSortedAndBound cx.old.program }
-    requires used { (condition : OptionalRecord) × (body : Record)
-        × IsUse cx.old.program symbol.0 (children_of (plain_record evaluation.now))
-        used.now.equation used.now.subst
-        condition body }
-    requires count { count ≡ length (children (plain_record evaluation.now)) }
+    requires used { IsUseRecord cx.old.program symbol.0 (forest terms.now) used.now }
     requires condition { SaysConditionAt cx.old symbol.0 used.now.equation used.now.subst
         condition.now }
+    requires values { AreValued cx.old symbol.0 (missed_records used.now) values.now }
     requires kept { IsKeptIn cx.old kept.old }
     ensures says { IfOk result (λ t. (e : PlainEquation) →
         slice_get (equations_of (theory_of cx.old.program) symbol.0) used.now.equation ≡ Some e →
-        SaysEquationAt cx.new symbol.0 e used.now.subst
-        (results_of (children_of (plain_record evaluation.now)))
-        t.conclusion) }
+        SaysEquationAt cx.new symbol.0 e used.now.subst (forest terms.now) t.conclusion) }
     ensures stays { IfOk result (StaysIn cx.new) }
     ensures grown { HasGrown cx.old cx.new }
     ensures kept { IsKeptIn cx.new kept.new }
 {
-    let equation = equation_of(cx.program(), symbol, used.equation);
+    let equation = equation_of(cx.program(), symbol, used.equation as usize);
+    let denied = denied_guards(alloc, cx, symbol, equation, used, terms, values)?;
     let lemma = lemma_of(alloc, cx, kept, used.equation, equation)?;
-    let terms = results(alloc, evaluation, count)?;
-    equation_at(alloc, cx, &lemma, equation, &used.subst, &terms, condition)
+    equation_at(
+        alloc,
+        cx,
+        &lemma,
+        equation,
+        &used.subst,
+        terms,
+        condition,
+        &denied,
+    )
 }
 
 // Returns the values of the `count` arguments.
-fn results(alloc: Global, evaluation: &EvalRecord, count: usize) -> Result<Vec<Term>, AllocError>
+pub(crate) fn results(
+    alloc: Global,
+    evaluation: &EvalRecord,
+    count: usize,
+) -> Result<Vec<Term>, AllocError>
     requires { count ≡ length (children (plain_record evaluation.now)) }
     ensures { IfOk result
         (λ v. forest v.items ≡ results_of (children_of (plain_record evaluation.now))) }

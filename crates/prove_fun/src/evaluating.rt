@@ -1,9 +1,9 @@
 // Patterns and the records of their evaluations: the image of a pattern, with its variables
 // replaced by the terms of a substitution, equals the image of its value.
-ghost use Rattle.std.specs.Prelude.{◌≡◌, ◌≤◌, ℕ, List, IfOk, IfSome, Some, []};
+ghost use Rattle.std.specs.Prelude.{◌≡◌, ◌≤◌, ℕ, List, IfOk, IfSome, Some, [], length, map, slice_get};
 ghost use Rattle.ml_pat.specs.Patterns.{Pattern};
 ghost use Rattle.ml_kernel.specs.Lemmas.{HasNoVariable};
-ghost use Rattle.term_core.specs.Terms.{height, injected};
+ghost use Rattle.term_core.specs.Terms.{Forest, height, injected};
 ghost use Rattle.term_core.specs.Patterns.{application, call, ground_pattern, ground_patterns};
 ghost use Rattle.term_core.specs.Patterns.{injection};
 ghost use Rattle.term_core.specs.RulePatterns.{plain_pattern};
@@ -11,33 +11,36 @@ ghost use Rattle.term_core.specs.PatternLists.{plain_patterns};
 ghost use Rattle.rule_core.specs.Sorting.{HasInjection, HasSort, IsTermOf};
 ghost use Rattle.rule_core.specs.Subsorts.{IsBelow};
 ghost use Rattle.rule_core.specs.ProgramView.{theory_of};
+ghost use Rattle.rule_core.specs.Rules.{Equation as PlainEquation};
+ghost use Rattle.rule_core.specs.Theories.{equations_of};
 ghost use Rattle.rule_core.specs.BoundVariables.{HasBoundVariables, IsEquationAt};
-ghost use Rattle.rule_core.specs.Records.{Record, RecordList, Records, result_of, results_of};
+ghost use Rattle.rule_core.specs.Records.{Records, result_of, results_of};
 ghost use Rattle.rule_core.specs.RecordView.{plain_record};
 ghost use Rattle.rule_core.specs.WellSorted.{IsSignature, IsWellSorted, BindsVariablesOf};
 ghost use Rattle.prove_term.specs.Contexts.{Context, HasGrown, StaysIn};
 ghost use Rattle.prove_term.specs.Schemas.{AreImages};
 ghost use Rattle.prove_term.specs.Applications.{applied_to};
 ghost use Rattle.prove_term.specs.Comparing.{IsOverContext};
-ghost use Rattle.prove_term.specs.Values.{SaysValue};
+ghost use Rattle.prove_term.specs.Values.{SaysEquationAt, SaysValue};
 ghost use Rattle.prove_fun.specs.Valuing.{EqualsValue};
 ghost use Rattle.prove_fun.specs.KeptLemmas.{IsKeptIn};
-ghost use Rattle.prove_fun.specs.RecordParts.{children_of};
+ghost use Rattle.prove_fun.specs.RecordParts.{children, children_of};
 ghost use Rattle.prove_fun.specs.Evaluating.{AreEvaluated, AreRecorded, Equates, IsEvaluated};
 ghost use Rattle.prove_fun.specs.Evaluating.{IsImage};
 ghost use Rattle.prove_fun.specs.Evaluating.{IsInjectedOnce, IsSortedAndBound, IsRecorded};
 ghost use Rattle.prove_fun.specs.Evaluating.{SaysCall};
-ghost use Rattle.prove_fun.specs.Using.{IsUse, SaysConditionAt, condition_record, used_record};
+ghost use Rattle.prove_fun.specs.Missing.{AreMissedAt, AreValued, IsMissedAt, IsValued};
+ghost use Rattle.prove_fun.specs.Using.{IsUseRecord, SaysConditionAt, missed_record, used_record};
 
 use crate::equating::{equality, followed, joined};
-use crate::equations::{equation_fact, equation_of};
+use crate::equations::{equation_fact, equation_of, results};
 use crate::hooks::hook_fact;
 use crate::lemma_places::LemmaPlaces;
 use crate::parts::{child, sides};
 use ml_kernel::Thm;
 use ml_pat::MPat;
 use prove_term::{Cx, applied, halves, inj_eq, join, taken_apart};
-use rule_core::{EqRecord, Equation, EvalRecord};
+use rule_core::{EqRecord, Equation, EvalRecord, Miss};
 use std::alloc::{AllocError, Global};
 use term_core::{MAX_HEIGHT, RulePat, SortId, Subst, SymId, Term, pattern_of};
 
@@ -315,9 +318,17 @@ fn by_equation(
     ensures grown { HasGrown cx.old cx.new }
     ensures kept { IsKeptIn cx.new kept.new }
 {
-    let equation = equation_of(cx.program(), symbol, used.equation);
-    let held = condition_held(alloc, cx, kept, symbol, equation, used)?;
-    let fact = equation_fact(alloc, cx, kept, symbol, evaluation, used, args.len(), &held)?;
+    let equation = equation_of(cx.program(), symbol, used.equation as usize);
+    let fact = used_equation(
+        alloc,
+        cx,
+        kept,
+        symbol,
+        equation,
+        evaluation,
+        used,
+        args.len(),
+    )?;
     let first = at_values(alloc, cx, kept, args, subst, evaluation, &fact)?;
     let right = evaluated(
         alloc,
@@ -329,6 +340,98 @@ fn by_equation(
         image,
     )?;
     followed(alloc, cx, first, &right)
+}
+
+// Proves that the function of the arguments' values equals the right side of the equation that was
+// used, with its variables replaced by what they were matched with. The call has `count` arguments.
+#[cycle(evaluated)]
+fn used_equation(
+    alloc: Global,
+    cx: &mut Cx<'_>,
+    kept: &mut LemmaPlaces,
+    symbol: SymId,
+    equation: &Equation,
+    evaluation: &EvalRecord,
+    used: &EqRecord,
+    count: usize,
+) -> Result<Thm, AllocError>
+    requires ready { IsSortedAndBound cx.old.program }
+    requires equation { IsEquationAt cx.old.program symbol.0 used.now.equation equation.now }
+    requires record { plain_record evaluation.now ≡ used_record used.now }
+    requires used { IsUseRecord cx.old.program symbol.0
+        (results_of (children_of (plain_record evaluation.now))) used.now }
+    requires count { count ≡ length (children (plain_record evaluation.now)) }
+    requires kept { IsKeptIn cx.old kept.old }
+    ensures says { IfOk result (λ t. (e : PlainEquation) →
+        slice_get (equations_of (theory_of cx.old.program) symbol.0) used.now.equation ≡ Some e →
+        SaysEquationAt cx.new symbol.0 e used.now.subst
+        (results_of (children_of (plain_record evaluation.now))) t.conclusion) }
+    ensures stays { IfOk result (StaysIn cx.new) }
+    ensures grown { HasGrown cx.old cx.new }
+    ensures kept { IsKeptIn cx.new kept.new }
+{
+    let held = condition_held(alloc, cx, kept, symbol, equation, used)?;
+    let values = missed_values(alloc, cx, kept, symbol, &used.missed)?;
+    let terms = results(alloc, evaluation, count)?;
+    equation_fact(alloc, cx, kept, symbol, used, &terms, &held, &values)
+}
+
+// For each equation that was missed though it matches, proves that its condition equals the value
+// that was recorded.
+#[cycle(evaluated)]
+fn missed_values(
+    alloc: Global,
+    cx: &mut Cx<'_>,
+    kept: &mut LemmaPlaces,
+    symbol: SymId,
+    missed: &[Miss],
+) -> Result<Vec<Option<Thm>>, AllocError>
+    requires missed { (ts : Forest)
+        × AreMissedAt cx.old.program symbol.0 ts (map missed_record missed.now) }
+    requires kept { IsKeptIn cx.old kept.old }
+    ensures values { IfOk result
+        (λ v. AreValued cx.new symbol.0 (map missed_record missed.now) v.items) }
+    ensures grown { HasGrown cx.old cx.new }
+    ensures kept { IsKeptIn cx.new kept.new }
+{
+    let mut values = Vec::with_capacity(alloc, missed.len())?;
+    for i in 0..missed.len() {
+        let miss = &missed[i];
+        values.push(missed_value(alloc, cx, kept, symbol, i, miss)?)?;
+    }
+    Ok(values)
+}
+
+// The same for the equation with a number.
+#[cycle(evaluated)]
+fn missed_value(
+    alloc: Global,
+    cx: &mut Cx<'_>,
+    kept: &mut LemmaPlaces,
+    symbol: SymId,
+    number: usize,
+    miss: &Miss,
+) -> Result<Option<Thm>, AllocError>
+    requires missed { (ts : Forest) × (e : PlainEquation)
+        × (slice_get (equations_of (theory_of cx.old.program) symbol.0) number ≡ Some e)
+        × IsMissedAt cx.old.program e ts (missed_record miss.now) }
+    requires kept { IsKeptIn cx.old kept.old }
+    ensures value { IfOk result (λ o. (e : PlainEquation) →
+        slice_get (equations_of (theory_of cx.old.program) symbol.0) number ≡ Some e →
+        IsValued cx.new e (missed_record miss.now) o) }
+    ensures grown { HasGrown cx.old cx.new }
+    ensures kept { IsKeptIn cx.new kept.new }
+{
+    match miss {
+        Miss::NoMatch => Ok(None),
+        Miss::CondFalse(subst, evaluation) => {
+            let equation = equation_of(cx.program(), symbol, number);
+            let Some(pat) = &equation.cond else {
+                unreachable!()
+            };
+            Ok(Some(value_held(alloc, cx, kept, pat, subst, evaluation)?))
+        }
+    }
 }
 
 // Proves that the condition of the used equation holds, if it has one.
@@ -343,9 +446,7 @@ fn condition_held(
 ) -> Result<Option<Thm>, AllocError>
     requires ready { IsSortedAndBound cx.old.program }
     requires equation { IsEquationAt cx.old.program symbol.0 used.now.equation equation.now }
-    requires used { (rs : RecordList) × (body : Record)
-        × IsUse cx.old.program symbol.0 rs used.now.equation used.now.subst
-        (condition_record used.now) body }
+    requires used { (ts : Forest) × IsUseRecord cx.old.program symbol.0 ts used.now }
     requires kept { IsKeptIn cx.old kept.old }
     ensures says { IfOk result (SaysConditionAt cx.new symbol.0 used.now.equation used.now.subst) }
     ensures grown { HasGrown cx.old cx.new }

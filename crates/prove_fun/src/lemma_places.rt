@@ -70,7 +70,8 @@ pub(crate) fn lemma_of(
     number: u32,
     equation: &Equation,
 ) -> Result<Lemma, AllocError>
-    requires image { HasEquationImage cx.old.program.sig equation.now.fun.0
+    requires image { HasEquationImage cx.old.program.sig
+        (equations_of (theory_of cx.old.program) equation.now.fun.0) equation.now.fun.0
         (function_equation equation.now) }
     requires own { IsEquationFor (theory_of cx.old.program) equation.now.fun.0
         (function_equation equation.now) }
@@ -94,7 +95,8 @@ fn place_of(
     number: u32,
     equation: &Equation,
 ) -> Result<usize, AllocError>
-    requires image { HasEquationImage cx.old.program.sig equation.now.fun.0
+    requires image { HasEquationImage cx.old.program.sig
+        (equations_of (theory_of cx.old.program) equation.now.fun.0) equation.now.fun.0
         (function_equation equation.now) }
     requires own { IsEquationFor (theory_of cx.old.program) equation.now.fun.0
         (function_equation equation.now) }

@@ -2,6 +2,7 @@
 // value. The proof follows the record of the evaluation.
 #![tactic(auto, using(crate::proofs::KeptLaws::growing))]
 
+mod denying;
 mod equating;
 mod equations;
 mod evaluating;

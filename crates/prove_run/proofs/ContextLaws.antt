@@ -24,8 +24,7 @@ use Rattle.mm_claims.specs.Keeping.{Fits}
 use Rattle.mm_claims.proofs.LaterLaws.{fits_later}
 use Rattle.mm_justify.specs.Justifying.{HasOnlyAxiomsOf}
 use Rattle.prove_term.specs.Contexts.{Context, HasGrown}
-use Rattle.prove_schema.specs.Schemas.{IsOpenFrom}
-use Rattle.prove_schema.proofs.OpenLaws.{open_no_variable, open_closed, image_is_open}
+use Rattle.prove_schema.proofs.OpenLaws.{IsOpenFrom, open_no_variable, open_closed, image_is_open}
 use Rattle.proof_writer.specs.declared.writer.Writer.{Writer}
 use Rattle.proof_writer.specs.Writing.{HasNoVariables, HasWritten, IsTextOf}
 

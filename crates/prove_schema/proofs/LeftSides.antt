@@ -14,8 +14,9 @@ use Rattle.rule_core.specs.declared.signature.Signature.{Signature}
 use Rattle.rule_core.proofs.EvaluationUnique.{all_first, all_rest}
 use Rattle.ml_image.specs.Tokens.{token_of_symbol, number_in_names}
 use Rattle.ml_image.specs.HasImages.{HasImage, HaveImages, AreNamesBelow}
-use Rattle.ml_image.specs.Sentences.{Sentence, sentence_image, term, symbol, inject, apply, top, not}
-use Rattle.ml_image.specs.Sentences.{and, implies, equals, is_in, functional, exists, forall, next}
+use Rattle.ml_image.specs.Sentences.{Sentence, sentence_image, term, symbol, inject, apply, top}
+use Rattle.ml_image.specs.Sentences.{bottom, not, and, or, implies, equals, is_in, functional}
+use Rattle.ml_image.specs.Sentences.{exists, forall, next}
 use Rattle.ml_image.specs.NamedSides.{whole, of_whole, way_in, at_way, of_child, named_part}
 use Rattle.ml_image.specs.NamedSides.{named_parts, left_sentence, applied_sides}
 use Rattle.prove_term.specs.FilledSides.{filled_sentence}
@@ -25,7 +26,8 @@ use Rattle.prove_schema.proofs.SentenceLaws.{IsOpenSentence}
 
 -- ---- the parts of left sides
 
--- a sentence of patterns whose variables have numbers below n, symbols, applications and conjunctions
+-- a sentence of patterns whose variables have numbers below n, symbols, applications and
+-- conjunctions
 abbrev pub IsSide : Signature → ℕ → Sentence → Type 0
 IsSide sig n (term p) = HasImage sig n p
 IsSide sig n (symbol f) = Unit {0}
@@ -34,13 +36,16 @@ IsSide sig n (apply p q) = IsSide sig n p × IsSide sig n q
 IsSide sig n (and p q) = IsSide sig n p × IsSide sig n q
 IsSide sig n p = ⊥
 
-pub side_is_open : (sig : Signature) (n : ℕ) (s : Sentence) → IsSide sig n s → IsOpenSentence sig n s
+pub side_is_open : (sig : Signature) (n : ℕ) (s : Sentence) → IsSide sig n s
+    → IsOpenSentence sig n s
 side_is_open sig n (term p) h = h
 side_is_open sig n (symbol f) h = tt
 side_is_open sig n (inject a b) h = tt
 side_is_open sig n (apply p q) h = (side_is_open sig n p h.0, side_is_open sig n q h.1)
 side_is_open sig n (and p q) h = (side_is_open sig n p h.0, side_is_open sig n q h.1)
 side_is_open sig n top h = absurd h
+side_is_open sig n bottom h = absurd h
+side_is_open sig n (or p q) h = absurd h
 side_is_open sig n (not p) h = absurd h
 side_is_open sig n (implies p q) h = absurd h
 side_is_open sig n (equals p q) h = absurd h
@@ -55,25 +60,27 @@ side_is_open sig n (next p) h = absurd h
 pub filled_side : (sig : Signature) (names : List (List ℕ)) (theta : List (Option Tree))
     (qs : List Pattern) (n : ℕ) (s : Sentence) → AreImages sig names theta qs → AllThere theta n
     → IsSide sig n s
-    → Becomes qs (sentence_image sig names s) (sentence_image sig names (filled_sentence theta s))
+    → Becomes n qs (sentence_image sig names s) (sentence_image sig names (filled_sentence theta s))
 filled_side sig names theta qs n (term p) are there has =
     filled_image sig names theta qs n p are there has
 filled_side sig names theta qs n (symbol f) are there has =
-    becomes_constant qs (number_in_names names (token_of_symbol sig f))
-filled_side sig names theta qs n (inject a b) are there has = becomes_injection sig names qs a b
+    becomes_constant n qs (number_in_names names (token_of_symbol sig f))
+filled_side sig names theta qs n (inject a b) are there has = becomes_injection sig names n qs a b
 filled_side sig names theta qs n (apply p q) are there has =
-    becomes_both qs logic.app (sentence_image sig names p)
+    becomes_both n qs logic.app (sentence_image sig names p)
     (sentence_image sig names (filled_sentence theta p)) (sentence_image sig names q)
     (sentence_image sig names (filled_sentence theta q)) (λ x y. refl)
     (filled_side sig names theta qs n p are there has.0)
     (filled_side sig names theta qs n q are there has.1)
 filled_side sig names theta qs n (and p q) are there has =
-    becomes_both qs logic.and (sentence_image sig names p)
+    becomes_both n qs logic.and (sentence_image sig names p)
     (sentence_image sig names (filled_sentence theta p)) (sentence_image sig names q)
     (sentence_image sig names (filled_sentence theta q)) (λ x y. refl)
     (filled_side sig names theta qs n p are there has.0)
     (filled_side sig names theta qs n q are there has.1)
 filled_side sig names theta qs n top are there has = absurd has
+filled_side sig names theta qs n bottom are there has = absurd has
+filled_side sig names theta qs n (or p q) are there has = absurd has
 filled_side sig names theta qs n (not p) are there has = absurd has
 filled_side sig names theta qs n (implies p q) are there has = absurd has
 filled_side sig names theta qs n (equals p q) are there has = absurd has

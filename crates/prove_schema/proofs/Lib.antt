@@ -5,6 +5,8 @@ pub mod ScopeLaws
 pub mod OpeningLaws
 pub mod InstanceLaws
 pub mod LeftSides
+pub mod BodyLaws
+pub mod BoundSides
 pub mod UsingLaws
 pub mod ElementLaws
 pub mod SentenceLaws

@@ -1,9 +1,11 @@
 -- What occurs in schemas, and in images of patterns.
-use Rattle.std.proofs.Common.{◌≡◌, ℕ, List, [], ◌∷◌, Option, Some, None, option_map, refl, ap}
-use Rattle.std.proofs.Common.{subst, arith}
-use Rattle.std.specs.Prelude.{IsTrue}
+use Rattle.std.proofs.Common.{◌≡◌, ◌<◌, ◌≤◌, ℕ, Bool, true, false, List, [], ◌∷◌, Option, Some}
+use Rattle.std.proofs.Common.{None, option_map, refl, sym, ap, subst, arith}
+use Rattle.std.specs.Prelude.{IsTrue, if◌then◌else◌}
+use Rattle.std.proofs.Math.Dec.{ltb}
+use Rattle.std.proofs.lemmas.Bool.{lt-ltb, le-ltb, ltb-true, ltb-false}
 use Rattle.ml_pat.specs.Patterns.{Pattern, nullary, unary, binary, sorted, quantified, app, at_sort}
-use Rattle.ml_pat.specs.Patterns.{var, meta, constant}
+use Rattle.ml_pat.specs.Patterns.{var, meta, constant, Ex, All}
 use Rattle.ml_pat.specs.Leaves.{LeafFacts, EachLeaf}
 use Rattle.ml_kernel.specs.Lemmas.{IsMetaBelow, HasNoVariable}
 use Rattle.ml_derived.specs.Scopes.{Scope, IsOver}
@@ -16,49 +18,103 @@ use Rattle.ml_image.specs.Images.{both, symbol_image, sort_image, at_sorts, imag
 use Rattle.ml_image.specs.Images.{some_symbol_image, injection_symbol, injection_image}
 use Rattle.ml_image.specs.HasImages.{HasImage, HaveImages}
 use Rattle.ml_image.proofs.ImageLaws.{none_some, some_same}
-use Rattle.prove_schema.specs.Schemas.{with_metas, IsOpenFrom}
+use Rattle.prove_schema.specs.Schemas.{with_metas, IsBodyFrom}
+
+-- ---- patterns without quantifiers
+
+-- The pattern has no quantifier. The numbers of its object variables are at least k and below n.
+-- The numbers of its pattern variables are below n.
+abbrev pub IsOpenFrom : ℕ → ℕ → Pattern → Type 0
+IsOpenFrom k n (nullary c) = Unit {0}
+IsOpenFrom k n (binary c p q) = IsOpenFrom k n p × IsOpenFrom k n q
+IsOpenFrom k n (unary c p) = IsOpenFrom k n p
+IsOpenFrom k n (sorted c p s) = IsOpenFrom k n p
+IsOpenFrom k n (quantified c x s p) = ⊥
+IsOpenFrom k n (var x) = (k ≤ x) × (x < n)
+IsOpenFrom k n (meta i) = i < n
+IsOpenFrom k n (constant c) = Unit {0}
+
+pub open_is_body : (k n : ℕ) (p : Pattern) → IsOpenFrom k n p → IsBodyFrom k n p
+open_is_body k n (binary c p q) h = (open_is_body k n p h.0, open_is_body k n q h.1)
+open_is_body k n (unary c p) h = open_is_body k n p h
+open_is_body k n (sorted c p s) h = open_is_body k n p h
+open_is_body k n (quantified c x s p) h = absurd h
+open_is_body k n (var x) h = h.0
+open_is_body k n (nullary c) h = tt
+open_is_body k n (meta i) h = h
+open_is_body k n (constant c) h = tt
 
 -- ---- what occurs in a schema
 
-pub open_no_variable : (k n : ℕ) (p : Pattern) → IsOpenFrom k n p → HasNoVariable (with_metas p)
+-- a variable below n, and one from n on
+pub meta_below : (n x : ℕ) → x < n → with_metas n (var x) ≡ meta x
+meta_below n x low = ap (λ (b : Bool). if b then meta x else var x) (lt-ltb x n low)
+
+pub var_above : (n x : ℕ) → n ≤ x → with_metas n (var x) ≡ var x
+var_above n x high = ap (λ (b : Bool). if b then meta x else var x) (le-ltb x n high)
+
+pub open_no_variable : (k n : ℕ) (p : Pattern) → IsOpenFrom k n p → HasNoVariable (with_metas n p)
 open_no_variable k n (binary c p q) h = (open_no_variable k n p h.0, open_no_variable k n q h.1)
 open_no_variable k n (unary c p) h = open_no_variable k n p h
 open_no_variable k n (sorted c p s) h = open_no_variable k n p h
 open_no_variable k n (quantified c x s p) h = absurd h
-open_no_variable k n p h = tt
+open_no_variable k n (var x) h = subst HasNoVariable (sym (meta_below n x h.1)) tt
+open_no_variable k n (nullary c) h = tt
+open_no_variable k n (meta i) h = tt
+open_no_variable k n (constant c) h = tt
 
-pub open_metas : (k n : ℕ) (p : Pattern) → IsOpenFrom k n p → IsMetaBelow n (with_metas p)
-open_metas k n (binary c p q) h = (open_metas k n p h.0, open_metas k n q h.1)
-open_metas k n (unary c p) h = open_metas k n p h
-open_metas k n (sorted c p s) h = open_metas k n p h
-open_metas k n (quantified c x s p) h = absurd h
-open_metas k n (var x) h = h.1
-open_metas k n (meta i) h = h
-open_metas k n p h = tt
+pub body_metas : (k n : ℕ) (p : Pattern) → IsBodyFrom k n p → IsMetaBelow n (with_metas n p)
+body_metas k n (binary c p q) h = (body_metas k n p h.0, body_metas k n q h.1)
+body_metas k n (unary c p) h = body_metas k n p h
+body_metas k n (sorted c p s) h = body_metas k n p h
+body_metas k n (quantified Ex x s p) h = body_metas k n p h.1
+body_metas k n (quantified All x s p) h = absurd h
+body_metas k n (var x) h = go (ltb x n) refl
+  where
+    go : (b : Bool) → ltb x n ≡ b → IsMetaBelow n (with_metas n (var x))
+    go true is = subst (IsMetaBelow n) (sym (meta_below n x (ltb-true x n is))) (ltb-true x n is)
+    go false is = subst (IsMetaBelow n) (sym (var_above n x (ltb-false x n is))) tt
+body_metas k n (nullary c) h = tt
+body_metas k n (meta i) h = h
+body_metas k n (constant c) h = tt
 
--- a pattern without object variables is its own schema
-pub open_closed : (n : ℕ) (p : Pattern) → IsOpenFrom n n p → with_metas p ≡ p
-open_closed n (binary c p q) h = rw (open_closed n p h.0, open_closed n q h.1) refl
-open_closed n (unary c p) h = ap (unary c) (open_closed n p h)
-open_closed n (sorted c p s) h = ap (λ (r : Pattern). sorted c r s) (open_closed n p h)
-open_closed n (quantified c x s p) h = absurd h
-open_closed n (var x) h = absurd (omega (arith, h.0, h.1))
-open_closed n p h = refl
+pub open_metas : (k n : ℕ) (p : Pattern) → IsOpenFrom k n p → IsMetaBelow n (with_metas n p)
+open_metas k n p h = body_metas k n p (open_is_body k n p h)
+
+-- a pattern whose object variables are numbered from n on is its own schema
+pub body_closed : (n : ℕ) (p : Pattern) → IsBodyFrom n n p → with_metas n p ≡ p
+body_closed n (binary c p q) h = rw (body_closed n p h.0, body_closed n q h.1) refl
+body_closed n (unary c p) h = ap (unary c) (body_closed n p h)
+body_closed n (sorted c p s) h = ap (λ (r : Pattern). sorted c r s) (body_closed n p h)
+body_closed n (quantified Ex x s p) h = ap (quantified Ex x s) (body_closed n p h.1)
+body_closed n (quantified All x s p) h = absurd h
+body_closed n (var x) h = var_above n x h
+body_closed n (nullary c) h = refl
+body_closed n (meta i) h = refl
+body_closed n (constant c) h = refl
+
+pub open_closed : (n : ℕ) (p : Pattern) → IsOpenFrom n n p → with_metas n p ≡ p
+open_closed n p h = body_closed n p (open_is_body n n p h)
 
 -- the leaves of a schema are leaves of the pattern, or pattern variables
-pub schema_leaves : (f : LeafFacts) (p : Pattern) → ((i : ℕ) → f.meta i) → EachLeaf f p
-    → EachLeaf f (with_metas p)
-schema_leaves f (nullary c) m h = tt
-schema_leaves f (binary c p q) m h = (schema_leaves f p m h.0, schema_leaves f q m h.1)
-schema_leaves f (unary c p) m h = schema_leaves f p m h
-schema_leaves f (sorted c p s) m h = (schema_leaves f p m h.0, h.1)
-schema_leaves f (quantified c x s p) m h = (schema_leaves f p m h.0, h.1)
-schema_leaves f (var x) m h = m x
-schema_leaves f p m h = h
+pub schema_leaves : (f : LeafFacts) (n : ℕ) (p : Pattern) → ((i : ℕ) → f.meta i) → EachLeaf f p
+    → EachLeaf f (with_metas n p)
+schema_leaves f n (nullary c) m h = tt
+schema_leaves f n (binary c p q) m h = (schema_leaves f n p m h.0, schema_leaves f n q m h.1)
+schema_leaves f n (unary c p) m h = schema_leaves f n p m h
+schema_leaves f n (sorted c p s) m h = (schema_leaves f n p m h.0, h.1)
+schema_leaves f n (quantified c x s p) m h = (schema_leaves f n p m h.0, h.1)
+schema_leaves f n (var x) m h = either (ltb x n)
+  where
+    either : (b : Bool) → EachLeaf f (if b then meta x else var x)
+    either true = m x
+    either false = h
+schema_leaves f n (meta i) m h = h
+schema_leaves f n (constant c) m h = h
 
-pub schema_over : (s : Scope) (p : Pattern) → ((i : ℕ) → IsTrue (s.meta i)) → IsOver s p
-    → IsOver s (with_metas p)
-schema_over s p metas over = schema_leaves _ p metas over
+pub schema_over : (s : Scope) (n : ℕ) (p : Pattern) → ((i : ℕ) → IsTrue (s.meta i)) → IsOver s p
+    → IsOver s (with_metas n p)
+schema_over s n p metas over = schema_leaves _ n p metas over
 
 -- ---- images are open
 

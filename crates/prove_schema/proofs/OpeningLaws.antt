@@ -8,10 +8,11 @@ use Rattle.ml_pat.specs.PatternView.{pattern_of}
 use Rattle.ml_pat.specs.declared.patterns.MForm.{MForm}
 use Rattle.ml_pat.specs.declared.patterns.MForm.TheVariants as form
 use Rattle.ml_kernel.specs.Theorems.{Theorem, conclusions}
-use Rattle.ml_derived.specs.Scopes.{Scope, AreAssumed, AreWithin, IsOver, AssumesWithin, StaysWithin}
+use Rattle.ml_derived.specs.Scopes.{Scope, AreAssumed, AreWithin, IsOver, AssumesWithin}
+use Rattle.ml_derived.specs.Scopes.{StaysWithin}
 use Rattle.ml_derived.specs.Instances.{IsInstance, HasInstance}
 use Rattle.ml_derived.proofs.InstanceSteps.{IsInstance-unique}
-use Rattle.prove_schema.specs.Schemas.{with_metas, IsOpenFrom, closed, meta_facts, parts_of}
+use Rattle.prove_schema.specs.Schemas.{with_metas, IsBodyFrom, closed, meta_facts, parts_of}
 use Rattle.prove_schema.specs.Schemas.{IsSentence}
 use Rattle.prove_schema.specs.Opening.{IsForAll, IsSchemaOf, StaysOpen, IsFollowing, StaysFollowing}
 use Rattle.prove_schema.specs.Assumptions.{AreAssumptions, facts_of, HoldsByParts}
@@ -60,9 +61,9 @@ one_more_quantifier ts t p fact rest all_facts is front before =
 
 -- ---- the sentence at pattern variables
 
-open_no_facts : (k n : ℕ) (p : Pattern) → IsOpenFrom k n p → facts_of p ≡ []
-open_no_facts k n (all x s p) h = absurd h
-open_no_facts k n p h = refl
+body_no_facts : (k n : ℕ) (p : Pattern) → IsBodyFrom k n p → facts_of p ≡ []
+body_no_facts k n (all x s p) h = absurd h
+body_no_facts k n p h = refl
 
 closed_facts : (k : ℕ) (ns : List ℕ) (p : Pattern) → facts_of p ≡ []
     → facts_of (closed k ns p) ≡ meta_facts k ns
@@ -74,26 +75,28 @@ closed_facts k (n ∷ ns) p none =
 pub sentence_facts : (numbers : List ℕ) (body p : Pattern) → IsSentence numbers body p
     → facts_of p ≡ meta_facts 0 numbers
 sentence_facts numbers body p is = ap facts_of is.says
-    ∙ closed_facts 0 numbers body (open_no_facts 0 (length numbers) body is.is_open)
+    ∙ closed_facts 0 numbers body (body_no_facts 0 (length numbers) body is.is_open)
 
 pub sentence_instance : (numbers : List ℕ) (body p : Pattern) (facts : List Pattern)
-    → IsSentence numbers body p → facts ≡ facts_of p → IsInstance p facts (with_metas body)
+    → IsSentence numbers body p → facts ≡ facts_of p
+    → IsInstance p facts (with_metas (length numbers) body)
 sentence_instance numbers body p facts is are =
     let same : facts ≡ meta_facts 0 numbers = are ∙ sentence_facts numbers body p is in
     let zero_more : 0 + length numbers ≡ length numbers = omega arith in
-    subst (λ (fs : List Pattern). IsInstance p fs (with_metas body)) (sym same)
-    (subst (λ (q : Pattern). IsInstance q (meta_facts 0 numbers) (with_metas body)) (sym is.says)
+    subst (λ (fs : List Pattern). IsInstance p fs (with_metas (length numbers) body)) (sym same)
+    (subst (λ (q : Pattern). IsInstance q (meta_facts 0 numbers) (with_metas (length numbers) body))
+    (sym is.says)
     (schema_instance 0 (length numbers) numbers body zero_more is.is_open))
 
 pub sentence_has_instance : (p : Pattern) (facts : List Pattern) → IsForAll p → facts ≡ facts_of p
     → HasInstance p facts
 sentence_has_instance p facts (numbers, body, is) are =
-    (with_metas body, sentence_instance numbers body p facts is are)
+    (with_metas (length numbers) body, sentence_instance numbers body p facts is are)
 
 pub opened_says : (p q : Pattern) (facts : List Pattern) → facts ≡ facts_of p → IsInstance p facts q
     → IsSchemaOf p q
 opened_says p q facts are made numbers body is =
-    IsInstance-unique p facts q (with_metas body) made
+    IsInstance-unique p facts q (with_metas (length numbers) body) made
     (sentence_instance numbers body p facts is are)
 
 pub opened_stays : (sentence t : Theorem) (ts : List Theorem)

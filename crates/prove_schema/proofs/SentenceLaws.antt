@@ -8,13 +8,15 @@ use Rattle.rule_core.specs.declared.signature.Signature.{Signature}
 use Rattle.ml_image.specs.Tokens.{token_of_symbol, number_in_names}
 use Rattle.ml_image.specs.Images.{both, sort_image}
 use Rattle.ml_image.specs.HasImages.{HasImage}
-use Rattle.ml_image.specs.Sentences.{Sentence, sentence_image, term, symbol, inject, apply, top, not}
-use Rattle.ml_image.specs.Sentences.{and, implies, equals, is_in, functional, exists, forall, next}
+use Rattle.ml_image.specs.Sentences.{Sentence, sentence_image, term, symbol, inject, apply, top}
+use Rattle.ml_image.specs.Sentences.{bottom, not, and, or, implies, equals, is_in, functional}
+use Rattle.ml_image.specs.Sentences.{exists, forall, next}
 use Rattle.ml_image.proofs.ImageLaws.{some_same}
 use Rattle.prove_term.specs.Contexts.{Context, HasContext}
 use Rattle.prove_term.proofs.ImageShapes.{both_some, map_some}
-use Rattle.prove_schema.specs.Schemas.{with_metas, IsOpenFrom}
-use Rattle.prove_schema.proofs.OpenLaws.{image_is_open, injection_is_open, schema_leaves}
+use Rattle.prove_schema.specs.Schemas.{with_metas}
+use Rattle.prove_schema.proofs.OpenLaws.{IsOpenFrom, image_is_open, injection_is_open}
+use Rattle.prove_schema.proofs.OpenLaws.{schema_leaves}
 
 -- the sentence has no quantifier, and its patterns have images whose variables have numbers below n
 abbrev pub IsOpenSentence : Signature → ℕ → Sentence → Type 0
@@ -23,8 +25,10 @@ IsOpenSentence sig n (symbol f) = Unit {0}
 IsOpenSentence sig n (inject a b) = Unit {0}
 IsOpenSentence sig n (apply p q) = IsOpenSentence sig n p × IsOpenSentence sig n q
 IsOpenSentence sig n top = Unit {0}
+IsOpenSentence sig n bottom = Unit {0}
 IsOpenSentence sig n (not p) = IsOpenSentence sig n p
 IsOpenSentence sig n (and p q) = IsOpenSentence sig n p × IsOpenSentence sig n q
+IsOpenSentence sig n (or p q) = IsOpenSentence sig n p × IsOpenSentence sig n q
 IsOpenSentence sig n (implies p q) = IsOpenSentence sig n p × IsOpenSentence sig n q
 IsOpenSentence sig n (equals p q) = IsOpenSentence sig n p × IsOpenSentence sig n q
 IsOpenSentence sig n (is_in p q) = IsOpenSentence sig n p × IsOpenSentence sig n q
@@ -74,10 +78,15 @@ sentence_is_open sig names n (apply p q) h =
     (λ a b x y. (x, y)) (sentence_is_open sig names n p h.0)
     (sentence_is_open sig names n q h.1)
 sentence_is_open sig names n top h = λ r is. subst (IsOpenFrom 0 n) (some_same logic.top r is) tt
+sentence_is_open sig names n bottom h = λ r is. subst (IsOpenFrom 0 n) (some_same logic.bot r is) tt
 sentence_is_open sig names n (not p) h =
     open_map n logic.not (sentence_image sig names p) (λ a x. x) (sentence_is_open sig names n p h)
 sentence_is_open sig names n (and p q) h =
     open_both n logic.and (sentence_image sig names p) (sentence_image sig names q)
+    (λ a b x y. (x, y)) (sentence_is_open sig names n p h.0)
+    (sentence_is_open sig names n q h.1)
+sentence_is_open sig names n (or p q) h =
+    open_both n logic.or (sentence_image sig names p) (sentence_image sig names q)
     (λ a b x y. (x, y)) (sentence_is_open sig names n p h.0)
     (sentence_is_open sig names n q h.1)
 sentence_is_open sig names n (implies p q) h =
@@ -101,10 +110,11 @@ sentence_is_open sig names n (next p) h =
     open_map n logic.next (sentence_image sig names p) (λ a x. x) (sentence_is_open sig names n p h)
 
 -- the schema of an image uses only what a scope with the context has, apart from pattern variables
-pub schema_over_places : (s : Scope) (cx : Context) (q : Sentence) (p : Pattern) → HasContext s cx
-    → sentence_image cx.program.sig cx.names q ≡ Some p → IsOverPlaces s (with_metas p)
-schema_over_places s cx q p has is =
-    schema_leaves (place_leaves_of s) p (λ i. tt)
+pub schema_over_places : (s : Scope) (cx : Context) (n : ℕ) (q : Sentence) (p : Pattern)
+    → HasContext s cx → sentence_image cx.program.sig cx.names q ≡ Some p
+    → IsOverPlaces s (with_metas n p)
+schema_over_places s cx n q p has is =
+    schema_leaves (place_leaves_of s) n p (λ i. tt)
     (EachLeaf-implied (leaves_of s) (place_leaves_of s) p
     (record { sort = λ i h. h; constant = λ i h. h; object = λ i h. h; meta = λ i h. tt })
     (has.images q p is))

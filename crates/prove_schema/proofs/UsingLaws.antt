@@ -7,7 +7,7 @@ use Rattle.std.specs.List.{AllZip}
 use Rattle.std.proofs.lemmas.List.{take_more, take_all}
 use Rattle.std.proofs.lemmas.Option.{slice_get_within, get_or_from_slice_get}
 use Rattle.std.proofs.lemmas.List.Elements.{All-head, All-tail}
-use Rattle.ml_pat.specs.Patterns.{Pattern, equal, member, fun, meta}
+use Rattle.ml_pat.specs.Patterns.{Pattern, not, equal, member, fun, meta}
 use Rattle.ml_pat.specs.PatternView.{pattern_of}
 use Rattle.ml_pat.specs.declared.patterns.MForm.{MForm}
 use Rattle.ml_pat.specs.declared.patterns.MForm.TheVariants as form
@@ -17,9 +17,10 @@ use Rattle.ml_kernel.specs.Lemmas.{HaveNoVariables}
 use Rattle.ml_kernel.specs.Theorems.{Theorem, conclusions}
 use Rattle.ml_derived.specs.Scopes.{Scope, AreOver, AreWithin, IsOver, IsWithin, CitesWithin}
 use Rattle.ml_image.proofs.ImageLaws.{some_same}
-use Rattle.prove_schema.specs.Using.{AreFacts, IsProved, by_fact, by_member, by_condition, IsUsable}
-use Rattle.prove_schema.specs.Using.{IsUsed, StaysUsed}
-use Rattle.prove_schema.specs.Giving.{CanProve, IsGiven, AreGiven}
+use Rattle.prove_schema.specs.Using.{AreFacts, IsProved, by_fact, by_member, by_condition}
+use Rattle.prove_schema.specs.Using.{by_negation, IsLastButCondition, IsUsable, IsUsed, StaysUsed}
+use Rattle.prove_schema.specs.Giving.{CanProve, IsGiven, AreGiven, IsNegationAt, HasNegation}
+use Rattle.prove_schema.specs.Giving.{IsNegationOf}
 
 -- ---- facts
 
@@ -135,6 +136,11 @@ proved_fun qs ns others h p n (by_condition x q r t at last is below says) e =
   where
     differ : fun p n ≡ equal q r → ⊥
     differ k = cc
+proved_fun qs ns others h p n (by_negation x q t at last is below says) e =
+    absurd (differ (sym e ∙ is))
+  where
+    differ : fun p n ≡ not q → ⊥
+    differ k = cc
 
 -- the proof at a place of `others`
 pub record HasOther (qs : List Pattern) (others : List Theorem) (h : Pattern) (x : ℕ) : Type 0 where
@@ -158,6 +164,11 @@ proved_member qs ns others h p q (by_condition x r u t at last is below says) e 
   where
     differ : member p q ≡ equal r u → ⊥
     differ k = cc
+proved_member qs ns others h p q (by_negation x r t at last is below says) e =
+    absurd (differ (sym e ∙ is))
+  where
+    differ : member p q ≡ not r → ⊥
+    differ k = cc
 
 pub proved_equal : (qs : List Pattern) (ns : List ℕ) (others : List Theorem) (h p q : Pattern)
     → IsProved qs ns others h → h ≡ equal p q
@@ -172,12 +183,37 @@ proved_equal qs ns others h p q (by_member x r t at is below says) e = absurd (d
     differ k = cc
 proved_equal qs ns others h p q (by_condition x r u t at last is below says) e =
     (x, last, record { proof = t; there = at; says = says })
+proved_equal qs ns others h p q (by_negation x r t at last is below says) e =
+    absurd (differ (sym e ∙ is))
+  where
+    differ : equal p q ≡ not r → ⊥
+    differ k = cc
 
--- the three forms of hypotheses; no other form has a proof
+pub proved_not : (qs : List Pattern) (ns : List ℕ) (others : List Theorem) (h p : Pattern)
+    → IsProved qs ns others h → h ≡ not p
+    → (x : ℕ) × IsLastButCondition others x × HasOther qs others h x
+proved_not qs ns others h p (by_fact x m at is) e = absurd (differ (sym e ∙ is))
+  where
+    differ : not p ≡ fun (meta x) m → ⊥
+    differ k = cc
+proved_not qs ns others h p (by_member x r t at is below says) e = absurd (differ (sym e ∙ is))
+  where
+    differ : not p ≡ member (meta x) r → ⊥
+    differ k = cc
+proved_not qs ns others h p (by_condition x r u t at last is below says) e =
+    absurd (differ (sym e ∙ is))
+  where
+    differ : not p ≡ equal r u → ⊥
+    differ k = cc
+proved_not qs ns others h p (by_negation x r t at last is below says) e =
+    (x, last, record { proof = t; there = at; says = says })
+
+-- the four forms of hypotheses; no other form has a proof
 abbrev HasForm : Pattern → Type 0
 HasForm (equal p q) = Unit {0}
 HasForm (member p q) = Unit {0}
 HasForm (fun p s) = Unit {0}
+HasForm (not p) = Unit {0}
 HasForm p = ⊥
 
 has_form : (qs : List Pattern) (ns : List ℕ) (others : List Theorem) (h : Pattern)
@@ -185,21 +221,25 @@ has_form : (qs : List Pattern) (ns : List ℕ) (others : List Theorem) (h : Patt
 has_form qs ns others h (by_fact x n at is) = subst HasForm (sym is) tt
 has_form qs ns others h (by_member x p t at is below says) = subst HasForm (sym is) tt
 has_form qs ns others h (by_condition x p q t at last is below says) = subst HasForm (sym is) tt
+has_form qs ns others h (by_negation x p t at last is below says) = subst HasForm (sym is) tt
 
 only_forms : (f : MForm) → HasForm (pattern_of f) → ((p q : Pattern) → f ≡ form.Equal p q → ⊥)
     → ((p q : Pattern) → f ≡ form.Member p q → ⊥)
-    → ((p : Pattern) (s : MSort) → f ≡ form.Fun p s → ⊥) → ⊥
-only_forms (form.Equal p q) h a b c = a p q refl
-only_forms (form.Member p q) h a b c = b p q refl
-only_forms (form.Fun p s) h a b c = c p s refl
-only_forms f h a b c = h
+    → ((p : Pattern) (s : MSort) → f ≡ form.Fun p s → ⊥)
+    → ((p : Pattern) → f ≡ form.Not p → ⊥) → ⊥
+only_forms (form.Equal p q) h a b c d = a p q refl
+only_forms (form.Member p q) h a b c d = b p q refl
+only_forms (form.Fun p s) h a b c d = c p s refl
+only_forms (form.Not p) h a b c d = d p refl
+only_forms f h a b c d = h
 
 pub no_other_form : (qs : List Pattern) (ns : List ℕ) (others : List Theorem) (h : Pattern)
     (f : MForm) → IsProved qs ns others h → h ≡ pattern_of f
     → ((p q : Pattern) → f ≡ form.Equal p q → ⊥) → ((p q : Pattern) → f ≡ form.Member p q → ⊥)
-    → ((p : Pattern) (s : MSort) → f ≡ form.Fun p s → ⊥) → ⊥
-no_other_form qs ns others h f proved is a b c =
-    only_forms f (subst HasForm is (has_form qs ns others h proved)) a b c
+    → ((p : Pattern) (s : MSort) → f ≡ form.Fun p s → ⊥)
+    → ((p : Pattern) → f ≡ form.Not p → ⊥) → ⊥
+no_other_form qs ns others h f proved is a b c d =
+    only_forms f (subst HasForm is (has_form qs ns others h proved)) a b c d
 
 -- ---- the given proofs
 
@@ -280,6 +320,98 @@ given_condition facts others h p q k t is last there = record {
       ∙ by.2.says;
 }
 
+-- ---- negations
+
+-- what a negation says at the patterns, and where it is
+pub negation_at : (qs : List Pattern) (ns : List ℕ) (others : List Theorem) (h p : Pattern)
+    → IsProved qs ns others h → h ≡ not p → HasNegation others
+negation_at qs ns others h p proved is =
+    let by : (x : ℕ) × IsLastButCondition others x × HasOther qs others h x =
+    proved_not qs ns others h p proved is in (
+      by.0,
+      record {
+        theorem = by.2.proof;
+        there = by.2.there;
+        last = by.1;
+        negated = instance qs p;
+        says = by.2.says ∙ ap (instance qs) is;
+      },
+    )
+
+pub some_theorems : (ts : List Theorem) → HasNegation ts → 0 < length ts
+some_theorems ts (x, at) = omega (arith, slice_get_within ts x at.theorem at.there)
+
+IsNot : Pattern → Type 0
+IsNot (not p) = Unit {0}
+IsNot p = ⊥
+
+not_form : (f : MForm) → IsNot (pattern_of f) → ((p : Pattern) → f ≡ form.Not p → ⊥) → ⊥
+unfolding IsNot
+not_form (form.Not p) h k = k p refl
+not_form f h k = h
+
+-- if the last theorem is a negation, it is the one
+pub negation_last : (ts : List Theorem) (k : ℕ) (t : Theorem) (p : Pattern)
+    → slice_get ts k ≡ Some t → k + 1 ≡ length ts → t.conclusion ≡ not p → IsNegationOf ts t
+negation_last ts k t p there last is x at = go at.last
+  where
+    differ : (a b : Pattern) → not p ≡ equal a b → ⊥
+    differ a b e = cc
+
+    go : IsLastButCondition ts x → slice_get ts x ≡ Some t
+    go (inl here) =
+        let same : x ≡ k = omega (arith, here, last) in
+        ap (slice_get ts) same ∙ there
+    go (inr (before, (u, a, b, is_there, says))) =
+        let same : x + 1 ≡ k = omega (arith, before, last) in
+        let one : u ≡ t = some_same u t (sym is_there ∙ ap (slice_get ts) same ∙ there) in
+        absurd (differ a b (sym is ∙ ap (λ (v : Theorem). v.conclusion) (sym one) ∙ says))
+
+-- if it is not, the one before it is
+pub negation_before : (ts : List Theorem) (k : ℕ) (t : Theorem) (f : MForm) (x : ℕ)
+    → slice_get ts k ≡ Some t → k + 1 ≡ length ts → t.conclusion ≡ pattern_of f
+    → ((p : Pattern) → f ≡ form.Not p → ⊥) → IsNegationAt ts x → x + 2 ≡ length ts
+unfolding IsNot
+negation_before ts k t f x there last is other at = go at.last
+  where
+    go : IsLastButCondition ts x → x + 2 ≡ length ts
+    go (inl here) =
+        let same : x ≡ k = omega (arith, here, last) in
+        let one : at.theorem ≡ t =
+        some_same at.theorem t (sym at.there ∙ ap (slice_get ts) same ∙ there) in
+        let says : not at.negated ≡ pattern_of f =
+        sym at.says ∙ ap (λ (v : Theorem). v.conclusion) one ∙ is in
+        absurd (not_form f (subst IsNot says tt) other)
+    go (inr before) = before.0
+
+pub negation_only : (ts : List Theorem) (k : ℕ) (t u : Theorem) (f : MForm) (j : ℕ)
+    → slice_get ts k ≡ Some t → k + 1 ≡ length ts → t.conclusion ≡ pattern_of f
+    → ((p : Pattern) → f ≡ form.Not p → ⊥) → j + 2 ≡ length ts → slice_get ts j ≡ Some u
+    → IsNegationOf ts u
+negation_only ts k t u f j there last is other place found x at =
+    let before : x + 2 ≡ length ts = negation_before ts k t f x there last is other at in
+    let same : x ≡ j = omega (arith, before, place) in
+    ap (slice_get ts) same ∙ found
+
+pub given_negation : (facts others : List Theorem) (h p : Pattern) (t : Theorem) → h ≡ not p
+    → HasNegation others → IsNegationOf others t → IsGiven facts others h t
+given_negation facts others h p t is (y, at) one = record {
+  given = inr (contains_there others y t (one y at));
+  says = λ qs ns are proved.
+      let by : (x : ℕ) × IsLastButCondition others x × HasOther qs others h x =
+      proved_not qs ns others h p proved is in
+      let there : slice_get others by.0 ≡ Some t =
+      one by.0 (record {
+        theorem = by.2.proof;
+        there = by.2.there;
+        last = by.1;
+        negated = instance qs p;
+        says = by.2.says ∙ ap (instance qs) is;
+      }) in
+      ap (λ (u : Theorem). u.conclusion) (some_same t by.2.proof (sym there ∙ by.2.there))
+      ∙ by.2.says;
+}
+
 -- ---- one proof after another
 
 pub zip_push : {X Y : Type 0} (R : X → Y → Type 0) (xs : List X) (ys : List Y) (x : X) (y : Y)
@@ -309,6 +441,7 @@ proved_below qs ns others h many (by_fact x n at is) =
     subst (IsMetaBelow (length qs)) (sym is) low
 proved_below qs ns others h many (by_member x p t at is below says) = below
 proved_below qs ns others h many (by_condition x p q t at last is below says) = below
+proved_below qs ns others h many (by_negation x p t at last is below says) = below
 
 all_below : (qs : List Pattern) (ns : List ℕ) (others : List Theorem) (hs : List Pattern)
     → length ns ≡ length qs → All (IsProved qs ns others) hs → AreMetasBelow (length qs) hs

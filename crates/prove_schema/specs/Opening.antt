@@ -1,5 +1,5 @@
 -- What a sentence becomes as a schema, and what the schema assumes.
-use Rattle.std.specs.Prelude.{◌≡◌, ℕ, List}
+use Rattle.std.specs.Prelude.{◌≡◌, ℕ, List, length}
 use Rattle.ml_pat.specs.Patterns.{Pattern, imp}
 use Rattle.ml_kernel.specs.Theorems.{Theorem}
 use Rattle.ml_derived.specs.Scopes.{Scope, AreAssumed, IsWithin}
@@ -12,7 +12,8 @@ IsForAll p = (numbers : List ℕ) × (body : Pattern) × IsSentence numbers body
 -- q says of pattern variables what p says of all elements
 abbrev pub IsSchemaOf : Pattern → Pattern → Type 0
 IsSchemaOf p q =
-    (numbers : List ℕ) (body : Pattern) → IsSentence numbers body p → q ≡ with_metas body
+    (numbers : List ℕ) (body : Pattern) → IsSentence numbers body p
+    → q ≡ with_metas (length numbers) body
 
 -- If a scope has the sentence, and may assume that each pattern variable is one element of the sort
 -- of its variable, it has the theorem t.

@@ -2,7 +2,7 @@
 ghost use Rattle.std.specs.Prelude.{◌≡◌, ◌<◌, ℕ, List, Some, IfOk, length, slice_get};
 ghost use Rattle.ml_pat.specs.Patterns.{Pattern, fun, meta};
 ghost use Rattle.prove_schema.specs.Using.{AreFacts, IsProved, IsUsable, IsUsed, StaysUsed};
-ghost use Rattle.prove_schema.specs.Giving.{AreGiven, CanProve, IsGiven};
+ghost use Rattle.prove_schema.specs.Giving.{AreGiven, CanProve, HasNegation, IsGiven, IsNegationOf};
 
 use ml_derived::use_lemma;
 use ml_kernel::{Lemma, Thm};
@@ -12,8 +12,8 @@ use std::alloc::{AllocError, Global};
 /// Proves what a schema concludes when patterns replace its pattern variables. `facts` says of each
 /// pattern in turn that it is one element of its variable's sort. `others` proves the other
 /// hypotheses at these patterns. Its theorems say in turn that one of the first patterns is a
-/// member of a pattern. If there is a condition, the last theorem says it. `AllocError`: out of
-/// memory.
+/// member of a pattern. If there is a negation, a theorem after these says it. If there is a
+/// condition, the last theorem says it. `AllocError`: out of memory.
 pub fn schema_at(
     alloc: Global,
     lemma: &Lemma,
@@ -80,7 +80,20 @@ fn proof<'a>(hypothesis: &MPat, facts: &'a [Thm], others: &'a [Thm]) -> &'a Thm
         MForm::Fun(element, _) => nth(facts, number(element)),
         MForm::Member(element, _) => nth(others, number(element)),
         MForm::Equal(..) => nth(others, others.len() - 1),
+        MForm::Not(_) => negation(others),
         _ => unreachable!(),
+    }
+}
+
+// Returns the last theorem, or the one before it if the last is no negation.
+fn negation(theorems: &[Thm]) -> &Thm
+    requires { HasNegation theorems.now }
+    ensures { IsNegationOf theorems.now result.now }
+{
+    let last = nth(theorems, theorems.len() - 1);
+    match last.conclusion().form() {
+        MForm::Not(_) => last,
+        _ => nth(theorems, theorems.len() - 2),
     }
 }
 

@@ -15,8 +15,8 @@ use Rattle.ml_image.specs.Sentences.{Sentence, sentence_image, IsImageOf}
 use Rattle.ml_image.specs.Sentences as says
 use Rattle.ml_image.proofs.ImageLaws.{none_some, some_same}
 use Rattle.prove_term.proofs.ImageShapes.{both_some}
-use Rattle.prove_schema.specs.Schemas.{IsOpenFrom, closed, IsSentence, with_metas}
-use Rattle.prove_schema.proofs.OpenLaws.{image_is_open}
+use Rattle.prove_schema.specs.Schemas.{IsBodyFrom, closed, IsSentence, with_metas}
+use Rattle.prove_schema.proofs.OpenLaws.{IsOpenFrom, open_is_body, image_is_open}
 use Rattle.prove_schema.proofs.ClosingLaws.{IsClosed, closed_image, numbers_length}
 use Rattle.prove_schema.proofs.SentenceLaws.{sentence_is_open}
 use Rattle.prove_schema.proofs.LeftSides.{IsSide, names_below, of_child_below, left_is_side}
@@ -42,7 +42,7 @@ pub record IsRuleImage (sig : Signature) (names : List (List ℕ)) (r : RewriteR
   pub right : Pattern
   pub right_image : image_of sig names r.right ≡ Some right
   pub says : p ≡ closed 0 numbers (body_of left condition right)
-  pub is_open : IsOpenFrom 0 (length numbers) (body_of left condition right)
+  pub is_open : IsBodyFrom 0 (length numbers) (body_of left condition right)
 
 record Sides (l c r : Option Pattern) (p : Pattern) : Type 0 where
   left : Pattern
@@ -114,8 +114,9 @@ rule_image sig names r p has (s, rule, image) =
       right_image = parts.is_right;
       says = inside.says ∙ ap (closed 0 inside.numbers) parts.says;
       is_open =
-          subst (λ (n : ℕ). IsOpenFrom 0 n (body_of parts.left parts.condition parts.right)) many
-          ((left, condition), right);
+          subst (λ (n : ℕ). IsBodyFrom 0 n (body_of parts.left parts.condition parts.right)) many
+          (open_is_body 0 (length r.variables)
+          (body_of parts.left parts.condition parts.right) ((left, condition), right));
     }
 
 -- the image says the body for all elements of the sorts of the rule's variables
@@ -125,25 +126,27 @@ pub image_sentence : (sig : Signature) (names : List (List ℕ)) (r : RewriteRul
 image_sentence sig names r p i = record { says = i.says; is_open = i.is_open }
 
 -- the image of a condition
-condition_form : (sig : Signature) (names : List (List ℕ)) (vars : List ℕ) (o : Option RulePattern)
-    (holds : Sentence) (c : Pattern) → own.IsCondition sig vars o
+condition_form : (sig : Signature) (names : List (List ℕ)) (n : ℕ) (vars : List ℕ)
+    (o : Option RulePattern) (holds : Sentence) (c : Pattern) → own.IsCondition sig vars o
     → condition_sentence sig vars o ≡ Some holds → sentence_image sig names holds ≡ Some c
-    → IsCondition (with_metas c)
-condition_form sig names vars None holds c has is image =
+    → IsCondition (with_metas n c)
+condition_form sig names n vars None holds c has is image =
     let nothing : holds ≡ says.top = some_same holds says.top (sym is) in
     let same : c ≡ top = some_same c top (sym image ∙ ap (sentence_image sig names) nothing) in
-    inl (ap with_metas same)
-condition_form sig names vars (Some q) holds c has is image =
+    inl (ap (with_metas n) same)
+condition_form sig names n vars (Some q) holds c has is image =
     let truth_of : holds ≡ is_true q has.sort =
     condition_is sig vars q has.sort holds has.sorted is in
     let w : (a : Pattern) × (b : Pattern) × (image_of sig names q ≡ Some a) ×
     (image_of sig names (domain_value has.sort (truth true)) ≡ Some b) × (c ≡ equal a b) =
     both_some equal (image_of sig names q) (image_of sig names (domain_value has.sort (truth true)))
     c (ap (sentence_image sig names) (sym truth_of) ∙ image) in
-    inr (with_metas w.0, with_metas w.1, ap with_metas w.4)
+    inr (with_metas n w.0, with_metas n w.1, ap (with_metas n) w.4)
 
 pub image_condition : (sig : Signature) (names : List (List ℕ)) (r : RewriteRule) (p : Pattern)
-    → HasRuleImage sig r → (i : IsRuleImage sig names r p) → IsCondition (with_metas i.condition)
+    → HasRuleImage sig r → (i : IsRuleImage sig names r p)
+    → IsCondition (with_metas (length i.numbers) i.condition)
 image_condition sig names r p has i =
-    condition_form sig names r.variables r.condition i.holds i.condition has.condition i.is_holds
+    condition_form sig names (length i.numbers) r.variables r.condition i.holds i.condition
+    has.condition i.is_holds
     i.condition_image

@@ -1,6 +1,6 @@
 -- How the lemma of a rule is made from its axiom as a schema.
 use Rattle.std.proofs.Common.{◌≡◌, ◌+◌, ℕ, zero, suc, List, [], ◌∷◌, ◌++◌, Option, Some, slice_get}
-use Rattle.std.proofs.Common.{inl, inr, sym, ◌∙◌, ap, subst, arith}
+use Rattle.std.proofs.Common.{length, inl, inr, sym, ◌∙◌, ap, subst, arith}
 use Rattle.std.specs.Prelude.{IsTrue, Contains, ◌⊎◌}
 use Rattle.std.proofs.lemmas.List.Elements.{Contains-append_left, Contains-append_right}
 use Rattle.ml_pat.specs.PatternView.{pattern_of}
@@ -111,8 +111,9 @@ image_for_all cx i p a = (
 -- the rule at pattern variables
 pub whole_says : (cx : Context) (i : ℕ) (p q : Pattern) (a : ImageAt cx i p) → IsSchemaOf p q
     → q
-    ≡ body_of (with_metas a.image.left) (with_metas a.image.condition)
-    (with_metas a.image.right)
+    ≡ body_of (with_metas (length a.image.numbers) a.image.left)
+    (with_metas (length a.image.numbers) a.image.condition)
+    (with_metas (length a.image.numbers) a.image.right)
 whole_says cx i p q a schema =
     schema a.image.numbers (body_of a.image.left a.image.condition a.image.right)
     (image_sentence cx.program.sig cx.names (rewrite_rule a.rule) p a.image)
@@ -120,17 +121,19 @@ whole_says cx i p q a schema =
 pub whole_conditional : (cx : Context) (i : ℕ) (p q : Pattern) → ImageAt cx i p → IsSchemaOf p q
     → IsConditional q
 whole_conditional cx i p q a schema = (
-  with_metas a.image.left,
-  with_metas a.image.condition,
-  next (with_metas a.image.right),
+  with_metas (length a.image.numbers) a.image.left,
+  with_metas (length a.image.numbers) a.image.condition,
+  next (with_metas (length a.image.numbers) a.image.right),
   whole_says cx i p q a schema,
 )
 
 pub whole_condition : (cx : Context) (i : ℕ) (p q c : Pattern) (a : ImageAt cx i p) → IsSchemaOf p q
-    → HasCondition c q → c ≡ with_metas a.image.condition
+    → HasCondition c q → c ≡ with_metas (length a.image.numbers) a.image.condition
 whole_condition cx i p q c a schema (l, (r, is)) =
-    condition_same l c r (with_metas a.image.left) (with_metas a.image.condition)
-    (next (with_metas a.image.right)) (sym is ∙ whole_says cx i p q a schema)
+    condition_same l c r (with_metas (length a.image.numbers) a.image.left)
+    (with_metas (length a.image.numbers) a.image.condition)
+    (next (with_metas (length a.image.numbers) a.image.right))
+    (sym is ∙ whole_says cx i p q a schema)
 
 pub is_condition : (cx : Context) (i : ℕ) (p q c : Pattern) → ImageAt cx i p → IsSchemaOf p q
     → HasCondition c q → IsCondition c
@@ -151,12 +154,13 @@ pub record Opened (cx : Context) (i : ℕ) (stated whole held : Theorem) : Type 
 opened_assuming : (cx : Context) (i : ℕ) (stated whole held freed : Theorem)
     (o : Opened cx i stated whole held) → StaysWithin [] (whole ∷ held ∷ []) freed
     → StaysAssuming cx
-    (meta_facts 0 o.at.image.numbers ++ parts_of (with_metas o.at.image.condition)) freed
+    (meta_facts 0 o.at.image.numbers ++ parts_of
+    (with_metas (length o.at.image.numbers) o.at.image.condition)) freed
 opened_assuming cx i stated whole held freed o freed_stays s has may =
     let facts_assumed : AreAssumed s (meta_facts 0 o.at.image.numbers) =
     λ p there. (
       may p (Contains-append_left (meta_facts 0 o.at.image.numbers)
-          (parts_of (with_metas o.at.image.condition)) p there),
+          (parts_of (with_metas (length o.at.image.numbers) o.at.image.condition)) p there),
       facts_over s cx 0 (rewrite_rule o.at.rule).variables o.at.image.numbers p has o.at.image.are
           there,
     ) in
@@ -164,17 +168,19 @@ opened_assuming cx i stated whole held freed o freed_stays s has may =
     o.whole_stays o.at.image.numbers (body_of o.at.image.left o.at.image.condition o.at.image.right)
     (image_sentence cx.program.sig cx.names (rewrite_rule o.at.rule) stated.conclusion
     o.at.image) s (o.axiom_stays s has) facts_assumed in
-    let over : IsOver s (body_of (with_metas o.at.image.left) (with_metas o.at.image.condition)
-    (with_metas o.at.image.right)) =
+    let over : IsOver s (body_of (with_metas (length o.at.image.numbers) o.at.image.left)
+    (with_metas (length o.at.image.numbers) o.at.image.condition)
+    (with_metas (length o.at.image.numbers) o.at.image.right)) =
     subst (IsOver s) (whole_says cx i stated.conclusion whole.conclusion o.at o.schema)
     whole_within.conclusion in
-    let parts_assumed : AreAssumed s (parts_of (with_metas o.at.image.condition)) =
+    let parts_assumed : AreAssumed s
+    (parts_of (with_metas (length o.at.image.numbers) o.at.image.condition)) =
     λ p there. (
       may p (Contains-append_right (meta_facts 0 o.at.image.numbers)
-          (parts_of (with_metas o.at.image.condition)) p there),
-      parts_over s (with_metas o.at.image.condition) p over.0.1 there,
+          (parts_of (with_metas (length o.at.image.numbers) o.at.image.condition)) p there),
+      parts_over s (with_metas (length o.at.image.numbers) o.at.image.condition) p over.0.1 there,
     ) in
-    let same : held.conclusion ≡ with_metas o.at.image.condition =
+    let same : held.conclusion ≡ with_metas (length o.at.image.numbers) o.at.image.condition =
     whole_condition cx i stated.conclusion whole.conclusion held.conclusion o.at o.schema
     o.held_has in
     freed_stays s tt (
@@ -189,7 +195,8 @@ opened_assuming cx i stated whole held freed o freed_stays s has may =
 pub opened_lemma : (cx : Context) (i : ℕ) (stated whole held freed : Theorem)
     → Opened cx i stated whole held → StaysWithin [] (whole ∷ held ∷ []) freed → IsLemmaIn cx freed
 opened_lemma cx i stated whole held freed o freed_stays =
-    lemma_of cx (meta_facts 0 o.at.image.numbers ++ parts_of (with_metas o.at.image.condition))
+    lemma_of cx (meta_facts 0 o.at.image.numbers ++ parts_of
+    (with_metas (length o.at.image.numbers) o.at.image.condition))
     freed (opened_assuming cx i stated whole held freed o freed_stays)
 
 opened_schema : (cx : Context) (i : ℕ) (stated whole held freed : Theorem)
@@ -197,7 +204,7 @@ opened_schema : (cx : Context) (i : ℕ) (stated whole held freed : Theorem)
     → IsFreedOf held.conclusion whole.conclusion freed.conclusion
     → StaysWithin [] (whole ∷ held ∷ []) freed → SaysRuleSchema cx (rewrite_rule o.at.rule) freed
 opened_schema cx i stated whole held freed o freed_is freed_stays =
-    let same : held.conclusion ≡ with_metas o.at.image.condition =
+    let same : held.conclusion ≡ with_metas (length o.at.image.numbers) o.at.image.condition =
     whole_condition cx i stated.conclusion whole.conclusion held.conclusion o.at o.schema
     o.held_has in
     record {
@@ -211,14 +218,17 @@ opened_schema cx i stated whole held freed o freed_is freed_stays =
       condition_image = o.at.image.condition_image;
       right = o.at.image.right;
       right_image = o.at.image.right_image;
-      says = freed_is (with_metas o.at.image.left) (next (with_metas o.at.image.right))
+      says = freed_is (with_metas (length o.at.image.numbers) o.at.image.left)
+          (next (with_metas (length o.at.image.numbers) o.at.image.right))
           (whole_says cx i stated.conclusion whole.conclusion o.at o.schema
           ∙ ap (λ (c : Pattern).
-          body_of (with_metas o.at.image.left) c (with_metas o.at.image.right))
+          body_of (with_metas (length o.at.image.numbers) o.at.image.left) c
+          (with_metas (length o.at.image.numbers) o.at.image.right))
           (sym same));
       assumes =
           assumes_only cx
-          (meta_facts 0 o.at.image.numbers ++ parts_of (with_metas o.at.image.condition)) freed
+          (meta_facts 0 o.at.image.numbers ++ parts_of
+          (with_metas (length o.at.image.numbers) o.at.image.condition)) freed
           (opened_assuming cx i stated whole held freed o freed_stays);
     }
 

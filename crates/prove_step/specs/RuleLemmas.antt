@@ -1,6 +1,6 @@
 -- Rules as lemmas: what the lemma of a rule says of its pattern variables.
 use Rattle.std.specs.Prelude.{◌≡◌, ◌⊎◌, ◌++◌, ℕ, List, Contains, Option, Some, None, slice_get}
-use Rattle.std.specs.Prelude.{slice_index_or}
+use Rattle.std.specs.Prelude.{slice_index_or, length}
 use Rattle.std.specs.List.{AllZip}
 use Rattle.ml_pat.specs.Patterns.{Pattern, top, imp, and, equal, next}
 use Rattle.ml_kernel.specs.Theorems.{Theorem}
@@ -20,7 +20,8 @@ abbrev pub AreNumbers : Signature → List (List ℕ) → List ℕ → List ℕ 
 AreNumbers sig names ss ns = AllZip (λ (s n : ℕ). sort_image sig names s ≡ Some n) ss ns
 
 -- The theorem says that the rule's left side, whose parts may have names, steps to its right side,
--- with pattern variables for the rule's variables. It assumes that each pattern variable is one element of the sort of its
+-- with pattern variables for the rule's variables. It assumes that each pattern variable is one
+-- element of the sort of its
 -- variable, and that the rule's condition holds. It assumes nothing else.
 pub record SaysRuleSchema (cx : Context) (r : RewriteRule) (t : Theorem) : Type 0 where
   pub numbers : List ℕ
@@ -34,9 +35,10 @@ pub record SaysRuleSchema (cx : Context) (r : RewriteRule) (t : Theorem) : Type 
   pub condition_image : sentence_image cx.program.sig cx.names holds ≡ Some condition
   pub right : Pattern
   pub right_image : image_of cx.program.sig cx.names r.right ≡ Some right
-  pub says : t.conclusion ≡ imp (with_metas left) (next (with_metas right))
+  pub says : t.conclusion ≡ imp (with_metas (length numbers) left)
+      (next (with_metas (length numbers) right))
   pub assumes : (h : Pattern) → Contains t.hypotheses h →
-      Contains (meta_facts 0 numbers ++ parts_of (with_metas condition)) h
+      Contains (meta_facts 0 numbers ++ parts_of (with_metas (length numbers) condition)) h
 
 -- the theorem says this for the rule at place i
 abbrev pub SaysSchemaAt : Context → ℕ → Theorem → Type 0

@@ -12,7 +12,8 @@ use Rattle.rule_core.specs.declared.signature.Signature.{Signature}
 use Rattle.ml_image.specs.Tokens.{token_of_symbol, token_of_value, number_in_names}
 use Rattle.ml_image.specs.Images.{both, image_of, applied, symbol_image, sort_image, at_sorts}
 use Rattle.ml_image.specs.Images.{injection_image, some_symbol_image, injection_symbol}
-use Rattle.ml_image.specs.Sentences.{Sentence, term, symbol, inject, apply, top, not, and, implies}
+use Rattle.ml_image.specs.Sentences.{Sentence, term, symbol, inject, apply, top, bottom, not, and}
+use Rattle.ml_image.specs.Sentences.{or, implies}
 use Rattle.ml_image.specs.Sentences.{equals, is_in, functional, exists, forall, next}
 use Rattle.ml_image.specs.Sentences.{sentence_image}
 use Rattle.ml_image.specs.Sentences.{for_all, variables, apply_all}
@@ -123,9 +124,13 @@ none-sentence sig names (apply p q) =
     none-both logic.app _ _ (λ p q h k. (h, k)) (none-sentence sig names p)
     (none-sentence sig names q)
 none-sentence sig names top = λ r h. subst HasNoMeta (some_same logic.top r h) tt
+none-sentence sig names bottom = λ r h. subst HasNoMeta (some_same logic.bot r h) tt
 none-sentence sig names (not p) = none-map logic.not _ (λ p h. h) (none-sentence sig names p)
 none-sentence sig names (and p q) =
     none-both logic.and _ _ (λ p q h k. (h, k)) (none-sentence sig names p)
+    (none-sentence sig names q)
+none-sentence sig names (or p q) =
+    none-both logic.or _ _ (λ p q h k. (h, k)) (none-sentence sig names p)
     (none-sentence sig names q)
 none-sentence sig names (implies p q) =
     none-both logic.imp _ _ (λ p q h k. (h, k)) (none-sentence sig names p)

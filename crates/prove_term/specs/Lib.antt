@@ -10,6 +10,7 @@ pub mod EqualImages
 pub mod EqualCalls
 pub mod Values
 pub mod EquationAxioms
+pub mod GuardsAt
 pub mod Numbered
 pub mod InjectionTables
 pub mod OpenAxioms

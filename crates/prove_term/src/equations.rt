@@ -1,6 +1,7 @@
 // Equations of functions as axioms.
 ghost use Rattle.std.specs.Prelude.{◌≡◌, [], IfOk};
 ghost use Rattle.rule_core.specs.ProgramView.{function_equation, theory_of};
+ghost use Rattle.rule_core.specs.Theories.{equations_of};
 ghost use Rattle.ml_image.specs.HasImages.{HasEquationImage};
 ghost use Rattle.ml_image.specs.OwnAxioms.{IsEquationFor};
 ghost use Rattle.prove_term.specs.Contexts.{HasGrown, StaysIn};
@@ -18,7 +19,8 @@ impl<'p> Cx<'p> {
     /// caller that uses an equation often keeps the theorem, or what follows from it. `AllocError`:
     /// out of memory. After an error the context may have grown.
     pub fn equation_axiom(&mut self, alloc: Global, equation: &Equation) -> Result<Thm, AllocError>
-        requires image { HasEquationImage self.old.program.sig equation.now.fun.0
+        requires image { HasEquationImage self.old.program.sig
+            (equations_of (theory_of self.old.program) equation.now.fun.0) equation.now.fun.0
             (function_equation equation.now) }
         requires own { IsEquationFor (theory_of self.old.program) equation.now.fun.0
             (function_equation equation.now) }
@@ -36,12 +38,17 @@ impl<'p> Cx<'p> {
 
     // Returns the image of an equation.
     fn equation_image(&mut self, alloc: Global, equation: &Equation) -> Result<MPat, AllocError>
-        requires { HasEquationImage self.old.program.sig equation.now.fun.0
+        requires image { HasEquationImage self.old.program.sig
+            (equations_of (theory_of self.old.program) equation.now.fun.0) equation.now.fun.0
+            (function_equation equation.now) }
+        requires own { IsEquationFor (theory_of self.old.program) equation.now.fun.0
             (function_equation equation.now) }
         ensures says { IfOk result
             (SaysEquationOf self.new equation.now.fun.0 (function_equation equation.now)) }
         ensures grown { HasGrown self.old self.new }
     {
-        equation_image(alloc, &self.program.sig, &mut self.names, equation)
+        let program = self.program;
+        let equations = &program.equations[equation.fun.0 as usize];
+        equation_image(alloc, &program.sig, &mut self.names, equations, equation)
     }
 }

@@ -22,6 +22,7 @@ pub mod RunCuts
 pub mod RunView
 pub mod ProgramView
 pub mod Naming
+pub mod Guards
 pub mod BoundVariables
 pub mod RecordView
 pub mod RuleVariables

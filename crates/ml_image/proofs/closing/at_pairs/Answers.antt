@@ -1,5 +1,5 @@
 use Rattle.std.proofs.Common.{◌≡◌, ℕ, ◌+◌, suc, ap, sym, ◌∙◌, refl, arith}
-use Rattle.ml_pat.specs.Patterns.{Pattern, app, var}
+use Rattle.ml_pat.specs.Patterns.{Pattern, app}
 use Rattle.ml_image.specs.Counted.{at_pairs}
 use Rattle.ml_image.proofs.ClosingLaws.{at_pairs-push}
 use Rattle.ml_image.proofs.closing.at_pairs.Goals as goal

@@ -1,6 +1,5 @@
 use Rattle.std.proofs.Common.{◌≡◌, ℕ, ◌+◌, suc, ap, sym, ◌∙◌, refl, arith}
-use Rattle.std.proofs.Common.{add-one}
-use Rattle.ml_pat.specs.Patterns.{Pattern, app, var}
+use Rattle.ml_pat.specs.Patterns.{Pattern, app}
 use Rattle.ml_image.specs.Counted.{at_variables}
 use Rattle.ml_image.proofs.ClosingLaws.{at_variables-push}
 use Rattle.ml_image.proofs.closing.at_variables.Goals as goal

@@ -1,9 +1,9 @@
-use Rattle.std.proofs.Common.{◌≡◌, ℕ, ◌+◌, ◌-◌, ◌<◌, List, length, drop, Some, Option, ap, sym, ◌∙◌}
+use Rattle.std.proofs.Common.{◌≡◌, ℕ, ◌-◌, ◌<◌, List, length, drop, Some, ap, sym, ◌∙◌}
 use Rattle.std.proofs.Common.{subst, arith}
 use Rattle.std.proofs.lemmas.List.{get_or_default}
 use Rattle.ml_pat.specs.Patterns.{Pattern}
 use Rattle.term_core.specs.RulePatterns.{sort_numbers}
-use Rattle.ml_image.specs.Sentences.{Sentence, sentence_image, for_all}
+use Rattle.ml_image.specs.Sentences.{sentence_image, for_all}
 use Rattle.ml_image.proofs.ImageLaws.{gained_twice, gained-nothing}
 use Rattle.ml_image.proofs.LoopLaws.{sort-item}
 use Rattle.ml_image.proofs.ClosingLaws.{closed-next, drop-numbers}

@@ -2,7 +2,6 @@ use Rattle.std.proofs.Common.{◌≡◌, Some, ap, ◌∙◌}
 use Rattle.ml_pat.specs.Patterns as logic
 use Rattle.ml_pat.specs.Patterns.{Pattern}
 use Rattle.ml_image.specs.Sentences.{sentence_image}
-use Rattle.ml_image.specs.OwnAxioms.{of_variables}
 use Rattle.ml_image.specs.Closing.{apart_body}
 use Rattle.ml_image.proofs.ImageLaws.{gained_twice, if_ok}
 use Rattle.ml_image.proofs.ConstructorLaws.{apart_image}

@@ -1,14 +1,11 @@
-use Rattle.std.proofs.Common.{◌≡◌, ◌<◌, ℕ, pos, get_or, List, Some, Option, length, take, map, refl}
+use Rattle.std.proofs.Common.{◌<◌, pos, get_or, Some, length, refl}
 use Rattle.std.proofs.Common.{ap, sym, ◌∙◌, subst, arith}
 use Rattle.ml_pat.specs.Patterns.{Pattern, app}
 use Rattle.term_core.specs.Terms.{DomainValue}
-use Rattle.term_core.specs.RulePatterns.{sort_numbers}
 use Rattle.term_core.specs.Values.{scalar_value}
 use Rattle.term_core.specs.declared.values.Scalar.TheVariants.{Int}
 use Rattle.rule_core.specs.Sorting.{HasValue}
 use Rattle.ml_image.specs.Tokens.{token_of_value, number_in_names}
-use Rattle.ml_image.specs.Images.{applied}
-use Rattle.ml_image.specs.TrueFacts.{value_patterns}
 use Rattle.ml_image.proofs.ImageLaws.{gained_twice, gained-nothing}
 use Rattle.ml_image.proofs.ListedLaws.{many_sorts, value_item, values-next, taken_all, one_default}
 use Rattle.ml_image.proofs.facts.at_values.Goals as goal

@@ -1,6 +1,5 @@
-use Rattle.std.proofs.Common.{◌≡◌, ℕ, List, Option, Some, Result, Ok, length, map, ap, sym, ◌∙◌}
+use Rattle.std.proofs.Common.{◌≡◌, List, Some, length, map, ap, sym, ◌∙◌}
 use Rattle.std.proofs.Common.{arith}
-use Rattle.term_core.specs.HookValues.{Kind}
 use Rattle.term_core.specs.HookSignatures.{hook_arguments}
 use Rattle.term_core.specs.declared.values.Scalar.{Scalar}
 use Rattle.hook_table.specs.Scalars.{kind_of}

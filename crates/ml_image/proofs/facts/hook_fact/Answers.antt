@@ -1,14 +1,13 @@
-use Rattle.std.proofs.Common.{◌≡◌, ℕ, List, Option, Some, Result, Ok, map, ap, sym, ◌∙◌, subst}
-use Rattle.ml_pat.specs.Patterns.{Pattern}
+use Rattle.std.proofs.Common.{◌≡◌, ℕ, List, Some, map, ap, sym, ◌∙◌, subst}
 use Rattle.term_core.specs.Terms.{DomainValue}
 use Rattle.term_core.specs.Values.{value_of, scalar_value}
 use Rattle.term_core.specs.RulePatterns.{sort_numbers}
 use Rattle.rule_core.specs.declared.signature.SymInfo.{SymInfo}
 use Rattle.ml_image.specs.Tokens.{token_of_value, number_in_names}
-use Rattle.ml_image.specs.Images.{symbol_image, applied}
+use Rattle.ml_image.specs.Images.{applied}
 use Rattle.ml_image.specs.OwnAxioms.{sort_numbered}
 use Rattle.ml_image.specs.TrueFacts.{HaveValues, value_patterns}
-use Rattle.ml_image.proofs.ImageLaws.{gained_twice, gained-symbol, some_same}
+use Rattle.ml_image.proofs.ImageLaws.{gained_twice, gained-symbol}
 use Rattle.ml_image.proofs.ConstructorLaws.{read_sorts, one_sort}
 use Rattle.ml_image.proofs.SentenceLaws.{hook_said, one_symbol}
 use Rattle.ml_image.proofs.HookLaws.{ok_same}

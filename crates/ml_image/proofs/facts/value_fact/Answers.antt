@@ -2,7 +2,6 @@ use Rattle.std.proofs.Common.{◌≡◌, ℕ, Option, Some, option_map, refl, ap
 use Rattle.ml_pat.specs.Patterns.{Pattern, fun, constant}
 use Rattle.term_core.specs.Values.{value_of}
 use Rattle.term_core.specs.Patterns.{domain_value}
-use Rattle.ml_image.specs.Tokens.{token_of_value, number_in_names}
 use Rattle.ml_image.specs.Images.{both, sort_image, image_of}
 use Rattle.ml_image.specs.Sentences.{term, functional, IsImageOf}
 use Rattle.ml_image.specs.TrueFacts.{SaysValue}

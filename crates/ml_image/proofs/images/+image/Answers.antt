@@ -1,4 +1,4 @@
-use Rattle.std.proofs.Common.{◌≡◌, Some, List, Option, IfOk, ap, sym, ◌∙◌, subst, ◌+◌, ◌-◌, ◌^◌}
+use Rattle.std.proofs.Common.{◌≡◌, Some, List, Option, IfOk, ap, sym, ◌∙◌, subst, ◌+◌}
 use Rattle.std.proofs.Common.{◌≤◌, arith}
 use Rattle.ml_pat.specs.Patterns.{Pattern, app}
 use Rattle.term_core.specs.Patterns.{Pattern as RulePattern, application, injection, call}
@@ -8,8 +8,9 @@ use Rattle.term_core.specs.declared.ids.SortId.{SortId}
 use Rattle.term_core.specs.declared.rule_patterns.RulePat.{RulePat}
 use Rattle.term_core.proofs.PatternLaws.{depth, depths, depth_of-item}
 use Rattle.term_core.proofs.PlainPatterns.{plain-Ctor, plain-Inj, plain-Call}
+use Rattle.ml_image.specs.Numbering.{number_in, room}
 use Rattle.ml_image.specs.Images.{both, injection_image, image_of, applied, at_sorts, symbol_image}
-use Rattle.ml_image.specs.Images.{shifted, all_shifted}
+use Rattle.ml_image.specs.Images.{renamed, all_renamed}
 use Rattle.ml_image.specs.HasImages.{HasImage}
 use Rattle.ml_image.proofs.ImageLaws.{gained_twice, gained-symbol, gained-at_sorts}
 use Rattle.ml_image.proofs.ImageLaws.{gained-injection, if_ok}
@@ -22,7 +23,7 @@ applied-image-requires t c =
     depth_of-item c.args.args.now c.loop-arg.arg-index c.arg-item.result c.arg-item.is
     c.loop-arg-test.true in (
       omega (arith, low, c.decreases),
-      image-item c.args.sig.now (2 ^ 32 - c.args.first) c.args.args.now c.loop-arg.arg-index
+      image-item c.args.sig.now (room c.args.numbering.now) c.args.args.now c.loop-arg.arg-index
           c.arg-item.result c.requires c.loop-arg-test.true c.arg-item.is,
     )
 
@@ -36,7 +37,8 @@ applied-returns-in_err-made-clause-names t c =
 
 pub applied-loop-arg-preserved : goal.applied-loop-arg-preserved
 applied-loop-arg-preserved t c = (
-  applied-next c.args.sig.now c.loop-arg.names c.image.new.names c.args.first c.args.head
+  applied-next c.args.sig.now c.loop-arg.names c.image.new.names (number_in c.args.numbering.now)
+      c.args.head
       c.args.args.now c.loop-arg.arg-index c.arg-item.result c.loop-arg.made c.in_ok-arg.arg
       c.image.ensures.names c.loop-arg-test.true c.arg-item.is c.loop-arg.invariant.0
       c.in_ok-arg.ensures.image
@@ -49,9 +51,9 @@ image-applied-requires t c =
     let is : plain_pattern c.args.pat.now ≡ application c.in-Ctor.symbol.0
     (plain_patterns c.in-Ctor.args.items) =
     ap plain_pattern c.in-Ctor.is ∙ plain-Ctor _ _ in
-    let own : HasImage c.args.sig.now (2 ^ 32 - c.args.first)
+    let own : HasImage c.args.sig.now (room c.args.numbering.now)
     (application c.in-Ctor.symbol.0 (plain_patterns c.in-Ctor.args.items)) =
-    subst (λ (p : RulePattern). HasImage c.args.sig.now (2 ^ 32 - c.args.first) p) is
+    subst (λ (p : RulePattern). HasImage c.args.sig.now (room c.args.numbering.now) p) is
     c.requires in
     let high : depth (plain_pattern c.args.pat.now) ≡ depths (plain_patterns c.in-Ctor.args.items) +
     1 =
@@ -71,10 +73,10 @@ image-applied-requires-in-Call t c =
     let is : plain_pattern c.args.pat.now ≡ call c.in-Call.symbol.0
     (sort_numbers c.in-Call.sorts.items) (plain_patterns c.in-Call.args.items) =
     ap plain_pattern c.in-Call.is ∙ plain-Call _ _ _ in
-    let own : HasImage c.args.sig.now (2 ^ 32 - c.args.first)
+    let own : HasImage c.args.sig.now (room c.args.numbering.now)
     (call c.in-Call.symbol.0 (sort_numbers c.in-Call.sorts.items)
     (plain_patterns c.in-Call.args.items)) =
-    subst (λ (p : RulePattern). HasImage c.args.sig.now (2 ^ 32 - c.args.first) p) is
+    subst (λ (p : RulePattern). HasImage c.args.sig.now (room c.args.numbering.now) p) is
     c.requires in
     let high : depth (plain_pattern c.args.pat.now) ≡ depths (plain_patterns c.in-Call.args.items) +
     1 =
@@ -95,15 +97,18 @@ image-returns-in_ok-head-in-Ctor-clause-image t c =
     gained-symbol c.args.sig.now _ _ _ c.applied.ensures.names _
     c.in_ok-head-in-Ctor.ensures.image in
     let whole : image_of c.args.sig.now c.applied.new.names
-    (shifted c.args.first (plain_pattern c.args.pat.now)) ≡ applied c.args.sig.now
+    (renamed (number_in c.args.numbering.now) (plain_pattern c.args.pat.now)) ≡ applied
+    c.args.sig.now
     c.applied.new.names (Some c.in_ok-head-in-Ctor.head)
-    (all_shifted c.args.first (plain_patterns c.deref.result.now)) =
-    ap (λ (q : RulePattern). image_of c.args.sig.now c.applied.new.names (shifted c.args.first q))
+    (all_renamed (number_in c.args.numbering.now) (plain_patterns c.deref.result.now)) =
+    ap (λ (q : RulePattern). image_of c.args.sig.now c.applied.new.names (renamed (number_in
+    c.args.numbering.now) q))
     is
     ∙ ap (λ (o : Option Pattern). applied c.args.sig.now c.applied.new.names o
-    (all_shifted c.args.first (plain_patterns c.in-Ctor.args.items))) head
+    (all_renamed (number_in c.args.numbering.now) (plain_patterns c.in-Ctor.args.items))) head
     ∙ ap (λ (ps : List RulePat). applied c.args.sig.now c.applied.new.names
-    (Some c.in_ok-head-in-Ctor.head) (all_shifted c.args.first (plain_patterns ps)))
+    (Some c.in_ok-head-in-Ctor.head) (all_renamed (number_in c.args.numbering.now) (plain_patterns
+    ps)))
     (sym c.deref.ensures.value) in
     subst (λ (o : Option Pattern). IfOk c.applied.result (λ p. o ≡ Some p)) (sym whole)
     c.applied.ensures.image
@@ -138,15 +143,18 @@ image-returns-in_ok-head-in-Call-2-clause-image t c =
     at_sorts c.args.sig.now c.at_sorts.new.names o (sort_numbers c.in-Call.sorts.items))
     symbol ∙ sorts) in
     let whole : image_of c.args.sig.now c.applied-in-Call.new.names
-    (shifted c.args.first (plain_pattern c.args.pat.now)) ≡ applied c.args.sig.now
+    (renamed (number_in c.args.numbering.now) (plain_pattern c.args.pat.now)) ≡ applied
+    c.args.sig.now
     c.applied-in-Call.new.names (Some c.in_ok-head-in-Call-2.head)
-    (all_shifted c.args.first (plain_patterns c.deref-in-Call-2.result.now)) =
+    (all_renamed (number_in c.args.numbering.now) (plain_patterns c.deref-in-Call-2.result.now)) =
     ap (λ (q : RulePattern).
-    image_of c.args.sig.now c.applied-in-Call.new.names (shifted c.args.first q)) is
+    image_of c.args.sig.now c.applied-in-Call.new.names (renamed (number_in c.args.numbering.now)
+    q)) is
     ∙ ap (λ (o : Option Pattern). applied c.args.sig.now c.applied-in-Call.new.names o
-    (all_shifted c.args.first (plain_patterns c.in-Call.args.items))) head
+    (all_renamed (number_in c.args.numbering.now) (plain_patterns c.in-Call.args.items))) head
     ∙ ap (λ (ps : List RulePat). applied c.args.sig.now c.applied-in-Call.new.names
-    (Some c.in_ok-head-in-Call-2.head) (all_shifted c.args.first (plain_patterns ps)))
+    (Some c.in_ok-head-in-Call-2.head) (all_renamed (number_in c.args.numbering.now) (plain_patterns
+    ps)))
     (sym c.deref-in-Call-2.ensures.value) in
     subst (λ (o : Option Pattern). IfOk c.applied-in-Call.result (λ p. o ≡ Some p)) (sym whole)
     c.applied-in-Call.ensures.image
@@ -174,20 +182,22 @@ image-returns-in_ok-below-in-Inj-clause-image t c =
     c.in-Inj.to.0 c.image.ensures.names c.in_ok-head-in-Inj.head
     c.in_ok-head-in-Inj.ensures.image in
     let below : image_of c.args.sig.now c.image.new.names
-    (shifted c.args.first (plain_pattern c.in-Inj.below.value)) ≡ Some
+    (renamed (number_in c.args.numbering.now) (plain_pattern c.in-Inj.below.value)) ≡ Some
     c.in_ok-below-in-Inj.below =
     ap (λ (p : RulePat).
-    image_of c.args.sig.now c.image.new.names (shifted c.args.first (plain_pattern p)))
+    image_of c.args.sig.now c.image.new.names (renamed (number_in c.args.numbering.now)
+    (plain_pattern p)))
     (sym c.deref-in-Inj.ensures) ∙ c.in_ok-below-in-Inj.ensures.image in
     let whole : image_of c.args.sig.now c.image.new.names
-    (shifted c.args.first (plain_pattern c.args.pat.now)) ≡ Some
+    (renamed (number_in c.args.numbering.now) (plain_pattern c.args.pat.now)) ≡ Some
     (app c.in_ok-head-in-Inj.head c.in_ok-below-in-Inj.below) =
-    ap (λ (q : RulePattern). image_of c.args.sig.now c.image.new.names (shifted c.args.first q)) is
+    ap (λ (q : RulePattern). image_of c.args.sig.now c.image.new.names (renamed (number_in
+    c.args.numbering.now) q)) is
     ∙ ap (λ (o : Option Pattern). both app o (image_of c.args.sig.now c.image.new.names
-    (shifted c.args.first (plain_pattern c.in-Inj.below.value)))) head
+    (renamed (number_in c.args.numbering.now) (plain_pattern c.in-Inj.below.value)))) head
     ∙ ap (λ (o : Option Pattern). both app (Some c.in_ok-head-in-Inj.head) o) below in
     if_ok _ (λ p. image_of c.args.sig.now c.image.new.names
-    (shifted c.args.first (plain_pattern c.args.pat.now)) ≡ Some p) c.app.result
+    (renamed (number_in c.args.numbering.now) (plain_pattern c.args.pat.now)) ≡ Some p) c.app.result
     (λ (p : Pattern) (made : p ≡ app c.in_ok-head-in-Inj.head c.in_ok-below-in-Inj.below).
     whole ∙ ap (λ (q : Pattern). Some q) (sym made)) c.app.ensures
 

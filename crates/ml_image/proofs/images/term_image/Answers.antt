@@ -1,5 +1,4 @@
 use Rattle.std.proofs.Common.{◌≡◌, Some, IfOk, subst}
-use Rattle.ml_pat.specs.Patterns.{Pattern}
 use Rattle.term_core.specs.Patterns.{Pattern as RulePattern}
 use Rattle.term_core.specs.RulePatterns.{plain_pattern}
 use Rattle.ml_image.specs.Images.{image_of}

@@ -2,8 +2,9 @@ use Rattle.std.proofs.Common.{◌≡◌, ◌+◌, ◌*◌, Some, take}
 use Rattle.term_core.specs.RulePatterns.{plain_pattern}
 use Rattle.term_core.specs.PatternLists.{plain_patterns}
 use Rattle.term_core.proofs.PatternLaws.{depth, depths}
+use Rattle.ml_image.specs.Numbering.{number_in}
 use Rattle.ml_image.specs.Gained.{HasGained}
-use Rattle.ml_image.specs.PartNames.{part_names, sides_behind}
+use Rattle.ml_image.specs.PartNames.{part_names, sides_renamed}
 use Rattle.ml_image.specs.Sentences.{sentence_image}
 use Rattle.ml_image.proofs.left_sides.+left_image.Given as goal
 
@@ -19,7 +20,8 @@ decreases-sides_image l = 3 * depths (plain_patterns l.args.now) + 3
 abbrev pub invariant-sides_image-loop-i : goal.invariant-sides_image-loop-i
 invariant-sides_image-loop-i l = record {
   images : sentence_image l.sig l.names
-      (sides_behind l.first (part_names l.parts) l.fn.symbol.0 (plain_patterns (take l.i l.args)))
+      (sides_renamed (number_in l.numbering) (part_names l.parts) l.fn.symbol.0 (plain_patterns
+      (take l.i l.args)))
       ≡ Some l.made;
   gained : HasGained l.sig l.initial.names l.names;
 }

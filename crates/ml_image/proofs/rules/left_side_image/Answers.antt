@@ -1,12 +1,12 @@
-use Rattle.std.proofs.Common.{◌≡◌, Some, List, IfOk, ap, sym, ◌∙◌, subst}
+use Rattle.std.proofs.Common.{◌≡◌, ◌+◌, Some, List, IfOk, ap, sym, ◌∙◌, subst}
 use Rattle.term_core.specs.RulePatterns.{plain_pattern}
 use Rattle.rule_core.specs.NamedParts.{Name}
 use Rattle.rule_core.specs.ProgramView.{names_of}
 use Rattle.ml_image.specs.HasImages.{AreNamesBelow}
 use Rattle.ml_image.specs.NamedSides.{of_child}
-use Rattle.ml_image.specs.PartNames.{part_names, left_behind}
+use Rattle.ml_image.specs.PartNames.{part_names, left_renamed}
 use Rattle.ml_image.specs.Sentences.{Sentence, sentence_image}
-use Rattle.ml_image.proofs.NamedLaws.{left_zero, of_child-below}
+use Rattle.ml_image.proofs.NamedLaws.{from_zero, left-kept, of_child-below}
 use Rattle.ml_image.proofs.rules.left_side_image.Goals as goal
 use Rattle.ml_image.proofs.rules.left_side_image.Goals.{After-deref-3}
 
@@ -25,12 +25,14 @@ left_image-requires-clause-parts c =
 
 pub returns-clause-image : goal.returns-clause-image
 returns-clause-image c =
-    let parts : part_names c.deref-3.result.now ≡ of_child 0 (names_of c.args.rule.now.named.items) =
+    let parts : part_names c.deref-3.result.now ≡ of_child 0 (names_of c.args.rule.now.named.items)
+    =
     parts_are (goal.at.returns-clause-image c).After-deref-3 in
-    let same : left_behind 0 (part_names c.deref-3.result.now) (plain_pattern c.args.rule.now.left)
+    let same : left_renamed (λ x. 0 + x) (part_names c.deref-3.result.now) (plain_pattern
+    c.args.rule.now.left)
     ≡ _ =
-    ap (λ (ns : List Name). left_behind 0 ns (plain_pattern c.args.rule.now.left)) parts
-    ∙ left_zero (of_child 0 (names_of c.args.rule.now.named.items))
+    ap (λ (ns : List Name). left_renamed (λ x. 0 + x) ns (plain_pattern c.args.rule.now.left)) parts
+    ∙ left-kept (λ x. 0 + x) from_zero (of_child 0 (names_of c.args.rule.now.named.items))
     (plain_pattern c.args.rule.now.left) in
     subst (λ (s : Sentence). IfOk c.left_image.result
     (λ p. sentence_image c.args.sig.now c.left_image.new.names s ≡ Some p)) same

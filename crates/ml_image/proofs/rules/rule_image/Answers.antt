@@ -1,4 +1,4 @@
-use Rattle.std.proofs.Common.{◌≡◌, ◌≤◌, List, length, option_map, ap, sym, ◌∙◌, subst, arith}
+use Rattle.std.proofs.Common.{◌≡◌, ◌+◌, List, length, option_map, ap, ◌∙◌, subst}
 use Rattle.rule_core.specs.declared.rules.VarInfo.{VarInfo}
 use Rattle.ml_image.specs.Counted.{IsConditionImage}
 use Rattle.term_core.specs.RulePatterns.{plain_pattern, sort_numbers}
@@ -35,10 +35,11 @@ returns-clause-image c =
     ap sort_numbers c.deref-3.ensures.value ∙ c.in_ok-sorts.ensures
     ∙ ap sorts_of c.deref-2.ensures.value in
     let condition : IsConditionImage c.args.sig.now c.condition_image.new.names
-    (sorts_of c.args.rule.now.vars.items) 0 (option_map plain_pattern c.args.rule.now.cond)
+    (sorts_of c.args.rule.now.vars.items) (λ x. 0 + x) (option_map plain_pattern
+    c.args.rule.now.cond)
     c.in_ok-condition.condition =
     subst (λ (vs : List VarInfo). IsConditionImage c.args.sig.now c.condition_image.new.names
-    (sorts_of vs) 0 (option_map plain_pattern c.args.rule.now.cond)
+    (sorts_of vs) (λ x. 0 + x) (option_map plain_pattern c.args.rule.now.cond)
     c.in_ok-condition.condition) c.deref.ensures.value c.in_ok-condition.ensures.image in
     rule_closes c.args.sig.now c.left_side_image.new.names c.condition_image.new.names
     c.term_image.new.names c.close.new.names (rewrite_rule c.args.rule.now) c.in_ok-left.left

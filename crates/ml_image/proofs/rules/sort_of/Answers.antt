@@ -1,12 +1,11 @@
-use Rattle.std.proofs.Common.{◌≡◌, ℕ, Option, Some, None, option_map, slice_get, ap, sym, ◌∙◌}
+use Rattle.std.proofs.Common.{◌≡◌, Some, None, option_map, slice_get, ap, sym, ◌∙◌}
 use Rattle.std.specs.Option.{option_copied}
-use Rattle.term_core.specs.Patterns.{variable}
 use Rattle.term_core.specs.RulePatterns.{plain_pattern}
 use Rattle.term_core.specs.declared.ids.SortId.{SortId}
 use Rattle.term_core.proofs.PlainPatterns.{plain-Var}
 use Rattle.rule_core.specs.ProgramView.{sorts_of}
 use Rattle.rule_core.specs.declared.rules.VarInfo.{VarInfo}
-use Rattle.ml_image.specs.OwnAxioms.{sort_of}
+use Rattle.ml_image.specs.Premises.{sort_of}
 use Rattle.ml_image.proofs.ConditionLaws.{sorts_of-get}
 use Rattle.ml_image.proofs.rules.sort_of.Goals as goal
 

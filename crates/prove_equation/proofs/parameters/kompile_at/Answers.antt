@@ -5,7 +5,8 @@ use Rattle.ml_kernel.specs.Theorems.{Theorem}
 use Rattle.term_core.specs.Patterns.{instances_of}
 use Rattle.term_core.specs.PatternLists.{plain_patterns}
 use Rattle.term_core.specs.declared.rule_patterns.RulePat.{RulePat}
-use Rattle.rule_core.specs.ProgramView.{function_equation, names_of}
+use Rattle.rule_core.specs.ProgramView.{function_equation, names_of, theory_of}
+use Rattle.rule_core.specs.Theories.{equations_of}
 use Rattle.rule_core.specs.Sorting.{HaveSorts}
 use Rattle.rule_core.specs.declared.rules.Named.{Named}
 use Rattle.rule_core.specs.declared.signature.SortRef.{SortRef}
@@ -65,7 +66,9 @@ memberships-requires-clause-named c =
 
 pub memberships-requires-clause-few : goal.memberships-requires-clause-few
 memberships-requires-clause-few c =
-    few_arguments c.args.cx.now c.args.equation.now c.deref.result.now c.requires.usable.image
+    few_arguments c.args.cx.now
+    (equations_of (theory_of c.args.cx.now.program) c.args.equation.now.fun.0) c.args.equation.now
+    c.deref.result.now c.requires.usable.image
     c.requires.kompile c.deref.ensures.value
 
 pub memberships-requires-clause-facts : goal.memberships-requires-clause-facts
@@ -92,19 +95,27 @@ elements-requires-clause-bound c =
 
 pub schema_at-requires : goal.schema_at-requires
 schema_at-requires c =
-    let facts : c.deref-8.result.now ≡ c.in_ok-first.first.items ++ c.in_ok-rest.rest.items =
-    c.deref-8.ensures.value ∙ c.in_ok-facts.ensures
+    let facts : c.deref-10.result.now ≡ c.in_ok-first.first.items ++ c.in_ok-rest.rest.items =
+    c.deref-10.ensures.value ∙ c.in_ok-facts.ensures
     ∙ ap (λ (ts : List Theorem). ts ++ c.deref-5.result.now) c.deref-4.ensures.value
     ∙ ap (λ (ts : List Theorem). c.in_ok-first.first.items ++ ts) c.deref-5.ensures.value in
-    let others : c.deref-9.result.now ≡ c.in_ok-members.members.items ++ listed
-    c.args.condition.now =
-    c.deref-9.ensures.value ∙ c.in_ok-others.ensures
+    let before : c.in_ok-before.before.items ≡ c.in_ok-members.members.items ++ listed
+    c.args.denied.now =
+    c.in_ok-before.ensures
     ∙ ap (λ (ts : List Theorem). ts ++ c.deref-7.result.now) c.deref-6.ensures.value
     ∙ ap (λ (ts : List Theorem). c.in_ok-members.members.items ++ ts)
-    (c.deref-7.ensures.value ∙ c.in_ok-held.ensures) in
+    (c.deref-7.ensures.value ∙ c.in_ok-denials.ensures) in
+    let others : c.deref-11.result.now
+    ≡ (c.in_ok-members.members.items ++ listed c.args.denied.now) ++ listed c.args.condition.now =
+    c.deref-11.ensures.value ∙ c.in_ok-others.ensures
+    ∙ ap (λ (ts : List Theorem). ts ++ c.deref-9.result.now) (c.deref-8.ensures.value ∙ before)
+    ∙ ap (λ (ts : List Theorem).
+    (c.in_ok-members.members.items ++ listed c.args.denied.now) ++ ts)
+    (c.deref-9.ensures.value ∙ c.in_ok-held.ensures) in
     let w : IsMet c.elements.new.cx c.args.equation.now.fun.0
     (function_equation c.args.equation.now) c.args.lemma.now c.args.subst.now
-    c.args.args.now c.args.condition.now c.in_ok-first.first.items c.in_ok-rest.rest.items
+    c.args.args.now c.args.condition.now c.args.denied.now c.in_ok-first.first.items
+    c.in_ok-rest.rest.items
     c.in_ok-members.members.items =
     met_later c.term_elements.new.cx c.memberships.new.cx c.args.args.now
     c.term_elements.ensures.grown c.memberships.ensures.grown c.elements.ensures.grown
@@ -112,33 +123,42 @@ schema_at-requires c =
     (subst (λ (ps : List RulePat). AreMemberships c.memberships.new.cx c.args.subst.now
     (function_equation c.args.equation.now).names 0 (plain_patterns ps) c.args.args.now
     c.in_ok-members.members.items) c.deref.ensures.value
-    (subst (λ (ns : List Named). AreMemberships c.memberships.new.cx c.args.subst.now (names_of ns) 0
+    (subst (λ (ns : List Named). AreMemberships c.memberships.new.cx c.args.subst.now (names_of ns)
+    0
     (plain_patterns c.deref.result.now) c.args.args.now c.in_ok-members.members.items)
     c.deref-2.ensures.value c.in_ok-members.ensures.members)) c.in_ok-rest.ensures.facts in
     subst (λ (ts : List Theorem). (qs : List Pattern) × (ns : List ℕ)
-    × IsUsable qs ns c.args.lemma.now ts c.deref-9.result.now) (sym facts)
+    × IsUsable qs ns c.args.lemma.now ts c.deref-11.result.now) (sym facts)
     (subst (λ (os : List Theorem). (qs : List Pattern) × (ns : List ℕ)
     × IsUsable qs ns c.args.lemma.now (c.in_ok-first.first.items ++ c.in_ok-rest.rest.items)
     os) (sym others)
     (met_usable c.elements.new.cx c.args.equation.now.fun.0 (function_equation c.args.equation.now)
-    c.args.lemma.now c.args.subst.now c.args.args.now c.args.condition.now
+    c.args.lemma.now c.args.subst.now c.args.args.now c.args.condition.now c.args.denied.now
     c.in_ok-first.first.items c.in_ok-rest.rest.items c.in_ok-members.members.items w))
 
 pub returns-clause-proves : goal.returns-clause-proves
 returns-clause-proves c =
-    let facts : c.deref-8.result.now ≡ c.in_ok-first.first.items ++ c.in_ok-rest.rest.items =
-    c.deref-8.ensures.value ∙ c.in_ok-facts.ensures
+    let facts : c.deref-10.result.now ≡ c.in_ok-first.first.items ++ c.in_ok-rest.rest.items =
+    c.deref-10.ensures.value ∙ c.in_ok-facts.ensures
     ∙ ap (λ (ts : List Theorem). ts ++ c.deref-5.result.now) c.deref-4.ensures.value
     ∙ ap (λ (ts : List Theorem). c.in_ok-first.first.items ++ ts) c.deref-5.ensures.value in
-    let others : c.deref-9.result.now ≡ c.in_ok-members.members.items ++ listed
-    c.args.condition.now =
-    c.deref-9.ensures.value ∙ c.in_ok-others.ensures
+    let before : c.in_ok-before.before.items ≡ c.in_ok-members.members.items ++ listed
+    c.args.denied.now =
+    c.in_ok-before.ensures
     ∙ ap (λ (ts : List Theorem). ts ++ c.deref-7.result.now) c.deref-6.ensures.value
     ∙ ap (λ (ts : List Theorem). c.in_ok-members.members.items ++ ts)
-    (c.deref-7.ensures.value ∙ c.in_ok-held.ensures) in
+    (c.deref-7.ensures.value ∙ c.in_ok-denials.ensures) in
+    let others : c.deref-11.result.now
+    ≡ (c.in_ok-members.members.items ++ listed c.args.denied.now) ++ listed c.args.condition.now =
+    c.deref-11.ensures.value ∙ c.in_ok-others.ensures
+    ∙ ap (λ (ts : List Theorem). ts ++ c.deref-9.result.now) (c.deref-8.ensures.value ∙ before)
+    ∙ ap (λ (ts : List Theorem).
+    (c.in_ok-members.members.items ++ listed c.args.denied.now) ++ ts)
+    (c.deref-9.ensures.value ∙ c.in_ok-held.ensures) in
     let w : IsMet c.elements.new.cx c.args.equation.now.fun.0
     (function_equation c.args.equation.now) c.args.lemma.now c.args.subst.now
-    c.args.args.now c.args.condition.now c.in_ok-first.first.items c.in_ok-rest.rest.items
+    c.args.args.now c.args.condition.now c.args.denied.now c.in_ok-first.first.items
+    c.in_ok-rest.rest.items
     c.in_ok-members.members.items =
     met_later c.term_elements.new.cx c.memberships.new.cx c.args.args.now
     c.term_elements.ensures.grown c.memberships.ensures.grown c.elements.ensures.grown
@@ -146,21 +166,22 @@ returns-clause-proves c =
     (subst (λ (ps : List RulePat). AreMemberships c.memberships.new.cx c.args.subst.now
     (function_equation c.args.equation.now).names 0 (plain_patterns ps) c.args.args.now
     c.in_ok-members.members.items) c.deref.ensures.value
-    (subst (λ (ns : List Named). AreMemberships c.memberships.new.cx c.args.subst.now (names_of ns) 0
+    (subst (λ (ns : List Named). AreMemberships c.memberships.new.cx c.args.subst.now (names_of ns)
+    0
     (plain_patterns c.deref.result.now) c.args.args.now c.in_ok-members.members.items)
     c.deref-2.ensures.value c.in_ok-members.ensures.members)) c.in_ok-rest.ensures.facts in
     if_ok_two c.schema_at.result
     (λ t used within. met_proves c.elements.new.cx c.args.equation.now.fun.0
     (function_equation c.args.equation.now) c.args.lemma.now c.args.subst.now c.args.args.now
-    c.args.condition.now c.in_ok-first.first.items c.in_ok-rest.rest.items
+    c.args.condition.now c.args.denied.now c.in_ok-first.first.items c.in_ok-rest.rest.items
     c.in_ok-members.members.items t w
     (subst (λ (os : List Theorem).
     IsUsed c.args.lemma.now (c.in_ok-first.first.items ++ c.in_ok-rest.rest.items) os t)
-    others (subst (λ (ts : List Theorem). IsUsed c.args.lemma.now ts c.deref-9.result.now t)
+    others (subst (λ (ts : List Theorem). IsUsed c.args.lemma.now ts c.deref-11.result.now t)
     facts used))
     (subst (λ (os : List Theorem).
     StaysUsed c.args.lemma.now (c.in_ok-first.first.items ++ c.in_ok-rest.rest.items) os t)
-    others (subst (λ (ts : List Theorem). StaysUsed c.args.lemma.now ts c.deref-9.result.now t)
+    others (subst (λ (ts : List Theorem). StaysUsed c.args.lemma.now ts c.deref-11.result.now t)
     facts within))) c.schema_at.ensures.says c.schema_at.ensures.stays
 
 pub returns-clause-grown : goal.returns-clause-grown
@@ -194,6 +215,18 @@ returns-in_err-held-clause-grown c =
 
 pub returns-in_err-others-clause-grown : goal.returns-in_err-others-clause-grown
 returns-in_err-others-clause-grown c =
+    grown_twice c.args.cx.now c.memberships.new.cx c.elements.new.cx
+    (grown_twice c.args.cx.now c.term_elements.new.cx c.memberships.new.cx
+    c.term_elements.ensures.grown c.memberships.ensures.grown) c.elements.ensures.grown
+
+pub returns-in_err-denials-clause-grown : goal.returns-in_err-denials-clause-grown
+returns-in_err-denials-clause-grown c =
+    grown_twice c.args.cx.now c.memberships.new.cx c.elements.new.cx
+    (grown_twice c.args.cx.now c.term_elements.new.cx c.memberships.new.cx
+    c.term_elements.ensures.grown c.memberships.ensures.grown) c.elements.ensures.grown
+
+pub returns-in_err-before-clause-grown : goal.returns-in_err-before-clause-grown
+returns-in_err-before-clause-grown c =
     grown_twice c.args.cx.now c.memberships.new.cx c.elements.new.cx
     (grown_twice c.args.cx.now c.term_elements.new.cx c.memberships.new.cx
     c.term_elements.ensures.grown c.memberships.ensures.grown) c.elements.ensures.grown

@@ -3,7 +3,8 @@ use Rattle.std.specs.Prelude.{Vec}
 use Rattle.std.specs.Global.{Global}
 use Rattle.std.proofs.lemmas.Option.{get_or_from_slice_get}
 use Rattle.rule_core.specs.declared.rules.Equation.{Equation}
-use Rattle.prove_fun.proofs.Uses.{code_found, item_there}
+use Rattle.prove_fun.proofs.Items.{item_there}
+use Rattle.prove_fun.proofs.Uses.{code_found}
 use Rattle.prove_fun.proofs.equations.equation_of.Goals as goal
 
 pub index-requires-2 : goal.index-requires-2

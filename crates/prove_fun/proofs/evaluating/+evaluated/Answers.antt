@@ -4,6 +4,7 @@ mod Conditions
 mod Constructors
 mod Forms
 mod Injections
+mod Missed
 mod UsedEquations
 use Rattle.prove_term.proofs.ContextLaws.{grown_twice}
 use Rattle.prove_fun.proofs.KeptLaws.{kept_grown}
@@ -159,23 +160,8 @@ at_values-returns-clause-says = Calls.at_values-returns-clause-says
 pub by_equation-equation_of-equation-requires : goal.by_equation-equation_of-equation-requires
 by_equation-equation_of-equation-requires = UsedEquations.by_equation-equation_of-equation-requires
 
-pub by_equation-condition_held-requires : goal.by_equation-condition_held-requires
-by_equation-condition_held-requires = UsedEquations.by_equation-condition_held-requires
-
-pub by_equation-equation_fact-requires-clause-ready :
-    goal.by_equation-equation_fact-requires-clause-ready
-by_equation-equation_fact-requires-clause-ready =
-    UsedEquations.by_equation-equation_fact-requires-clause-ready
-
-pub by_equation-equation_fact-requires-clause-used :
-    goal.by_equation-equation_fact-requires-clause-used
-by_equation-equation_fact-requires-clause-used =
-    UsedEquations.by_equation-equation_fact-requires-clause-used
-
-pub by_equation-equation_fact-requires-clause-count :
-    goal.by_equation-equation_fact-requires-clause-count
-by_equation-equation_fact-requires-clause-count =
-    UsedEquations.by_equation-equation_fact-requires-clause-count
+pub by_equation-used_equation-requires : goal.by_equation-used_equation-requires
+by_equation-used_equation-requires = UsedEquations.by_equation-used_equation-requires
 
 pub by_equation-at_values-requires : goal.by_equation-at_values-requires
 by_equation-at_values-requires = UsedEquations.by_equation-at_values-requires
@@ -219,7 +205,52 @@ condition_held-returns-in-None-default-clause-says =
 pub condition_held-unreachable-requires : goal.condition_held-unreachable-requires
 condition_held-unreachable-requires = Conditions.condition_held-unreachable-requires
 
+-- ---- equations that were missed
+
+pub missed_value-unreachable-requires : goal.missed_value-unreachable-requires
+missed_value-unreachable-requires = Missed.missed_value-unreachable-requires
+
+pub missed_value-value_held-requires : goal.missed_value-value_held-requires
+missed_value-value_held-requires = Missed.missed_value-value_held-requires
+
+pub missed_value-returns-in_ok-value_held-in-CondFalse-clause-value :
+    goal.missed_value-returns-in_ok-value_held-in-CondFalse-clause-value
+missed_value-returns-in_ok-value_held-in-CondFalse-clause-value =
+    Missed.missed_value-returns-in_ok-value_held-in-CondFalse-clause-value
+
+pub missed_values-missed_value-requires : goal.missed_values-missed_value-requires
+missed_values-missed_value-requires = Missed.missed_values-missed_value-requires
+
+pub missed_values-loop-i-preserved : goal.missed_values-loop-i-preserved
+missed_values-loop-i-preserved = Missed.missed_values-loop-i-preserved
+
+pub used_equation-missed_values-requires : goal.used_equation-missed_values-requires
+used_equation-missed_values-requires = Missed.used_equation-missed_values-requires
+
+pub used_equation-equation_fact-requires-clause-condition :
+    goal.used_equation-equation_fact-requires-clause-condition
+used_equation-equation_fact-requires-clause-condition =
+    Missed.used_equation-equation_fact-requires-clause-condition
+
 -- ---- growing contexts
+
+pub used_equation-returns-in_err-values-clause-grown :
+    goal.used_equation-returns-in_err-values-clause-grown
+used_equation-returns-in_err-values-clause-grown t c =
+    grown_twice c.args.cx.now c.condition_held.new.cx c.missed_values.new.cx
+    c.in_ok-held.ensures.grown c.missed_values.ensures.grown
+
+pub used_equation-returns-in_err-terms-clause-grown :
+    goal.used_equation-returns-in_err-terms-clause-grown
+used_equation-returns-in_err-terms-clause-grown t c =
+    grown_twice c.args.cx.now c.condition_held.new.cx c.missed_values.new.cx
+    c.in_ok-held.ensures.grown c.in_ok-values.ensures.grown
+
+pub used_equation-returns-clause-grown : goal.used_equation-returns-clause-grown
+used_equation-returns-clause-grown t c =
+    grown_twice c.args.cx.now c.missed_values.new.cx c.equation_fact.new.cx
+    (grown_twice c.args.cx.now c.condition_held.new.cx c.missed_values.new.cx
+    c.in_ok-held.ensures.grown c.in_ok-values.ensures.grown) c.equation_fact.ensures.grown
 
 pub all_evaluated-returns-in_err-made-clause-grown :
     goal.all_evaluated-returns-in_err-made-clause-grown
@@ -260,33 +291,25 @@ called-returns-in_ok-fact-in-ByHook-clause-grown t c =
     grown_twice c.args.cx.now c.hook_fact.new.cx c.at_values.new.cx
     c.in_ok-fact-in-ByHook.ensures.grown c.at_values.ensures.grown
 
-pub by_equation-returns-in_err-fact-clause-grown : goal.by_equation-returns-in_err-fact-clause-grown
-by_equation-returns-in_err-fact-clause-grown t c =
-    grown_twice c.args.cx.now c.condition_held.new.cx c.equation_fact.new.cx
-    c.in_ok-held.ensures.grown c.equation_fact.ensures.grown
-
 pub by_equation-returns-in_err-first-clause-grown :
     goal.by_equation-returns-in_err-first-clause-grown
 by_equation-returns-in_err-first-clause-grown t c =
-    grown_twice c.args.cx.now c.condition_held.new.cx c.at_values.new.cx c.in_ok-held.ensures.grown
-    (grown_twice c.condition_held.new.cx c.equation_fact.new.cx c.at_values.new.cx
-    c.in_ok-fact.ensures.grown c.at_values.ensures.grown)
+    grown_twice c.args.cx.now c.used_equation.new.cx c.at_values.new.cx c.in_ok-fact.ensures.grown
+    c.at_values.ensures.grown
 
 pub by_equation-returns-in_err-right-clause-grown :
     goal.by_equation-returns-in_err-right-clause-grown
 by_equation-returns-in_err-right-clause-grown t c =
-    grown_twice c.args.cx.now c.condition_held.new.cx c.evaluated.new.cx c.in_ok-held.ensures.grown
-    (grown_twice c.condition_held.new.cx c.equation_fact.new.cx c.evaluated.new.cx
-    c.in_ok-fact.ensures.grown (grown_twice c.equation_fact.new.cx c.at_values.new.cx
-    c.evaluated.new.cx c.in_ok-first.ensures.grown c.evaluated.ensures.grown))
+    grown_twice c.args.cx.now c.used_equation.new.cx c.evaluated.new.cx c.in_ok-fact.ensures.grown
+    (grown_twice c.used_equation.new.cx c.at_values.new.cx c.evaluated.new.cx
+    c.in_ok-first.ensures.grown c.evaluated.ensures.grown)
 
 pub by_equation-returns-clause-grown : goal.by_equation-returns-clause-grown
 by_equation-returns-clause-grown t c =
     grown_twice c.args.cx.now c.evaluated.new.cx c.followed.new.cx
-    (grown_twice c.args.cx.now c.condition_held.new.cx c.evaluated.new.cx c.in_ok-held.ensures.grown
-    (grown_twice c.condition_held.new.cx c.equation_fact.new.cx c.evaluated.new.cx
-    c.in_ok-fact.ensures.grown (grown_twice c.equation_fact.new.cx c.at_values.new.cx
-    c.evaluated.new.cx c.in_ok-first.ensures.grown c.in_ok-right.ensures.grown)))
+    (grown_twice c.args.cx.now c.used_equation.new.cx c.evaluated.new.cx c.in_ok-fact.ensures.grown
+    (grown_twice c.used_equation.new.cx c.at_values.new.cx c.evaluated.new.cx
+    c.in_ok-first.ensures.grown c.in_ok-right.ensures.grown))
     c.followed.ensures.grown
 
 pub value_held-returns-in_err-found-clause-grown : goal.value_held-returns-in_err-found-clause-grown

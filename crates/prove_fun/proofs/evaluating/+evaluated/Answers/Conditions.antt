@@ -114,12 +114,12 @@ value_held-returns-clause-stays t c =
 
 pub condition_held-value_held-requires : goal.condition_held-value_held-requires
 condition_held-value_held-requires t c =
-    let u = c.requires.used.2 in
+    let u = c.requires.used.1 in
     let p : RulePattern = plain_pattern c.in-Some-Some.pat in
     let q : Record = plain_record c.in-Some-Some.evaluation.value in
     let is_p : u.equation.condition ≡ Some p =
     used_condition c.args.cx.now.program c.args.symbol.0 _ c.args.used.now.equation _ _ _
-    c.args.equation.now u c.requires.equation
+    _ c.args.equation.now u c.requires.equation
     ∙ ap (option_map plain_pattern) c.in-Some-Some.is-0 in
     let is_q : condition_record c.args.used.now ≡ optional (Some q) =
     ap (λ (o : Option (Box EvalRecord)).
@@ -145,12 +145,12 @@ condition_held-value_held-requires t c =
 pub condition_held-returns-in_ok-value_held-in-Some-Some-clause-says :
     goal.condition_held-returns-in_ok-value_held-in-Some-Some-clause-says
 condition_held-returns-in_ok-value_held-in-Some-Some-clause-says t c =
-    let u = c.requires.used.2 in
+    let u = c.requires.used.1 in
     let p : RulePattern = plain_pattern c.in-Some-Some.pat in
     let q : Record = plain_record c.in-Some-Some.evaluation.value in
     let is_p : u.equation.condition ≡ Some p =
     used_condition c.args.cx.now.program c.args.symbol.0 _ c.args.used.now.equation _ _ _
-    c.args.equation.now u c.requires.equation
+    _ c.args.equation.now u c.requires.equation
     ∙ ap (option_map plain_pattern) c.in-Some-Some.is-0 in
     let is_q : condition_record c.args.used.now ≡ optional (Some q) =
     ap (λ (o : Option (Box EvalRecord)).
@@ -166,7 +166,7 @@ condition_held-returns-in_ok-value_held-in-Some-Some-clause-says t c =
     let g : c.value_held.new.cx.program ≡ c.args.cx.now.program =
     c.in_ok-value_held-in-Some-Some.ensures.grown.program in
     condition_at c.value_held.new.cx c.args.cx.now.program c.args.symbol.0 _
-    c.args.used.now.equation c.args.used.now.subst _ _ (Some made) u g
+    c.args.used.now.equation c.args.used.now.subst _ _ _ (Some made) u g
     (subst (λ (x : Option RulePattern). SaysCondition c.value_held.new.cx u.equation.variables
     c.args.used.now.subst x (Some made)) (sym is_p)
     (condition_says c.value_held.new.cx c.args.cx.now.program u.equation.variables
@@ -176,21 +176,21 @@ condition_held-returns-in_ok-value_held-in-Some-Some-clause-says t c =
 pub condition_held-returns-in-None-default-clause-says :
     goal.condition_held-returns-in-None-default-clause-says
 condition_held-returns-in-None-default-clause-says t c =
-    let u = c.requires.used.2 in
+    let u = c.requires.used.1 in
     let none : u.equation.condition ≡ None =
     used_condition c.args.cx.now.program c.args.symbol.0 _ c.args.used.now.equation _ _ _
-    c.args.equation.now u c.requires.equation
+    _ c.args.equation.now u c.requires.equation
     ∙ ap (option_map plain_pattern) c.in-None-default.is-0 in
     condition_at c.args.cx.now c.args.cx.now.program c.args.symbol.0 _ c.args.used.now.equation
-    c.args.used.now.subst _ _ None u refl (condition_none c.args.cx.now u.equation.variables
+    c.args.used.now.subst _ _ _ None u refl (condition_none c.args.cx.now u.equation.variables
     c.args.used.now.subst u.equation.condition none)
 
 pub condition_held-unreachable-requires : goal.condition_held-unreachable-requires
 condition_held-unreachable-requires t c =
-    let u = c.requires.used.2 in
+    let u = c.requires.used.1 in
     let is_p =
     used_condition c.args.cx.now.program c.args.symbol.0 _ c.args.used.now.equation _ _ _
-    c.args.equation.now u c.requires.equation
+    _ c.args.equation.now u c.requires.equation
     ∙ ap (option_map plain_pattern) c.in-Some-None.is-0 in
     let none : condition_record c.args.used.now ≡ unconditional =
     ap (λ (o : Option (Box EvalRecord)).

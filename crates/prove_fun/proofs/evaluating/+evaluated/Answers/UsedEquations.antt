@@ -11,7 +11,7 @@ use Rattle.term_core.specs.PatternLists.{plain_patterns}
 use Rattle.term_core.specs.declared.rule_patterns.RulePat.{RulePat}
 use Rattle.rule_core.specs.declared.rules.Program.{Program}
 use Rattle.rule_core.specs.Records.{Record, result_of, results_of}
-use Rattle.rule_core.specs.RecordView.{misses, plain_record, records}
+use Rattle.rule_core.specs.RecordView.{plain_record, records}
 use Rattle.rule_core.specs.Rules.{Equation as PlainEquation}
 use Rattle.rule_core.specs.Theories.{equations_of}
 use Rattle.rule_core.specs.ProgramView.{theory_of}
@@ -22,7 +22,7 @@ use Rattle.prove_term.specs.Contexts.{Context, HasGrown, StaysIn}
 use Rattle.prove_term.specs.Values.{SaysEquationAt}
 use Rattle.prove_term.specs.Filling.{filled}
 use Rattle.rule_core.specs.BoundVariables.{IsEquationAt}
-use Rattle.prove_fun.specs.Using.{IsUse, condition_record, missed_record, used_record}
+use Rattle.prove_fun.specs.Using.{IsUseRecord, condition_record, missed_records, used_record}
 use Rattle.prove_term.proofs.ResultLaws.{if_ok}
 use Rattle.prove_term.proofs.ContextLaws.{grown_twice, image_grown}
 use Rattle.prove_term.proofs.ComparingLaws.{image_closed}
@@ -30,15 +30,12 @@ use Rattle.prove_fun.specs.RecordParts.{children_of}
 use Rattle.prove_fun.specs.Evaluating.{IsRecorded, AreRecorded, IsImage, Equates, HasEqual}
 use Rattle.prove_fun.specs.Evaluating.{IsEvaluated, SaysCall}
 use Rattle.prove_fun.proofs.Recording.{as_many_records, call_recorded, equation_recorded}
-use Rattle.prove_fun.proofs.Sizes.{size, some_size, equation_size}
-use Rattle.prove_fun.proofs.Uses.{equation_call, then_parts, recorded_later, use_later, ready_later}
-use Rattle.prove_fun.proofs.Uses.{used_right}
+use Rattle.prove_fun.proofs.Sizes.{size, equation_size}
+use Rattle.prove_fun.proofs.Uses.{equation_call, then_parts, recorded_later, used_right}
 use Rattle.prove_fun.proofs.evaluating.+evaluated.Goals as goal
 
 abbrev Use : (program : Program) (f : ℕ) (r : Record) (used : EqRecord) → Type 0
-Use program f r used =
-    IsUse program f (children_of r) used.equation used.subst (condition_record used)
-    (plain_record used.body.value)
+Use program f r used = IsUseRecord program f (results_of (children_of r)) used
 
 use_of : (program : Program) (theta : List (Option Tree)) (f : ℕ) (args : List RulePat) (r : Record)
     (used : EqRecord) → r ≡ used_record used
@@ -46,8 +43,7 @@ use_of : (program : Program) (theta : List (Option Tree)) (f : ℕ) (args : List
 use_of program theta f args r used is h =
     equation_recorded program theta f (plain_patterns args) r used.fun.0
     (records (map plain_record used.args.items)) used.equation used.subst
-    (condition_record used) (plain_record used.body.value)
-    (misses (map missed_record used.missed.items)) is h
+    (condition_record used) (plain_record used.body.value) (missed_records used) is h
 
 pub by_equation-equation_of-equation-requires : goal.by_equation-equation_of-equation-requires
 by_equation-equation_of-equation-requires t c =
@@ -61,17 +57,18 @@ by_equation-equation_of-equation-requires t c =
           c.args.used.now.equation ≡ Some u.equation) (sym c.program.ensures) u.there,
     )
 
-pub by_equation-condition_held-requires : goal.by_equation-condition_held-requires
-by_equation-condition_held-requires t c =
+pub by_equation-used_equation-requires : goal.by_equation-used_equation-requires
+by_equation-used_equation-requires t c =
     let u : Use c.args.cx.now.program c.args.symbol.0 (plain_record c.args.evaluation.now)
     c.args.used.now =
     use_of c.args.cx.now.program c.args.subst.now c.args.symbol.0 c.args.args.now
     (plain_record c.args.evaluation.now) c.args.used.now c.requires.used
     c.requires.recorded in
-    let low =
-    equation_size (plain_record c.args.evaluation.now) _ _ _ _ (condition_record c.args.used.now)
-    (plain_record c.args.used.now.body.value) _ c.requires.used in (
-      omega (arith, low, some_size (plain_record c.args.used.now.body.value), c.decreases),
+    let all =
+    (call_recorded c.args.cx.now.program c.args.subst.now c.args.symbol.0 []
+    (plain_patterns c.args.args.now) (plain_record c.args.evaluation.now)
+    c.requires.recorded).1 in (
+      omega (arith, c.decreases),
       (
         c.requires.recorded.ready,
         (
@@ -79,46 +76,19 @@ by_equation-condition_held-requires t c =
               c.equation_of-equation.result.now) c.program.ensures
               c.equation_of-equation.ensures,
           (
+            c.requires.used,
             (
-              children_of (plain_record c.args.evaluation.now),
-              plain_record c.args.used.now.body.value,
               u,
+              (
+                sym (as_many_records c.args.cx.now.program c.args.subst.now c.args.args.now
+                    (children_of (plain_record c.args.evaluation.now)) all.records),
+                c.requires.kept,
+              ),
             ),
-            c.requires.kept,
           ),
         ),
       ),
     )
-
-pub by_equation-equation_fact-requires-clause-ready :
-    goal.by_equation-equation_fact-requires-clause-ready
-by_equation-equation_fact-requires-clause-ready t c =
-    ready_later c.args.cx.now c.condition_held.new.cx c.in_ok-held.ensures.grown
-    c.requires.recorded.ready
-
-pub by_equation-equation_fact-requires-clause-used :
-    goal.by_equation-equation_fact-requires-clause-used
-by_equation-equation_fact-requires-clause-used t c =
-    let u : Use c.args.cx.now.program c.args.symbol.0 (plain_record c.args.evaluation.now)
-    c.args.used.now =
-    use_of c.args.cx.now.program c.args.subst.now c.args.symbol.0 c.args.args.now
-    (plain_record c.args.evaluation.now) c.args.used.now c.requires.used
-    c.requires.recorded in (
-      condition_record c.args.used.now,
-      plain_record c.args.used.now.body.value,
-      use_later c.args.cx.now c.condition_held.new.cx c.args.symbol.0 _ _ _ _ _
-          c.in_ok-held.ensures.grown u,
-    )
-
-pub by_equation-equation_fact-requires-clause-count :
-    goal.by_equation-equation_fact-requires-clause-count
-by_equation-equation_fact-requires-clause-count t c =
-    let all =
-    (call_recorded c.args.cx.now.program c.args.subst.now c.args.symbol.0 []
-    (plain_patterns c.args.args.now) (plain_record c.args.evaluation.now)
-    c.requires.recorded).1 in
-    sym (as_many_records c.args.cx.now.program c.args.subst.now c.args.args.now (children_of
-    (plain_record c.args.evaluation.now)) all.records)
 
 -- what is known of the fact
 record IsFact (old cx : Context) (f : ℕ) (r : Record) (used : EqRecord) (fact : Theorem) :
@@ -130,17 +100,15 @@ record IsFact (old cx : Context) (f : ℕ) (r : Record) (used : EqRecord) (fact 
   applied : Use old.program f r used
   same : applied.equation.right ≡ equation_right
 
-fact_of : (old mid cx : Context) (f : ℕ) (r : Record) (used : EqRecord) (fact : Theorem)
-    → HasGrown old mid → Use old.program f r used
+fact_of : (old cx : Context) (f : ℕ) (r : Record) (used : EqRecord) (fact : Theorem)
+    → Use old.program f r used
     → ((e : PlainEquation)
-    → slice_get (equations_of (theory_of mid.program) f) used.equation ≡ Some e
+    → slice_get (equations_of (theory_of old.program) f) used.equation ≡ Some e
     → SaysEquationAt cx f e used.subst (results_of (children_of r)) fact.conclusion)
     → StaysIn cx fact → IsFact old cx f r used fact
-fact_of old mid cx f r used fact g u says stays =
+fact_of old cx f r used fact u says stays =
     let s : SaysEquationAt cx f u.equation used.subst (results_of (children_of r)) fact.conclusion =
-    says u.equation (subst
-    (λ (p : Program). slice_get (equations_of (theory_of p) f) used.equation ≡ Some u.equation)
-    (sym g.program) u.there) in
+    says u.equation u.there in
     record {
       right = s.right;
       says = equation_call cx f u.equation used.subst (results_of (children_of r)) fact s stays;
@@ -157,18 +125,16 @@ by_equation-at_values-requires t c =
     use_of c.args.cx.now.program c.args.subst.now c.args.symbol.0 c.args.args.now
     (plain_record c.args.evaluation.now) c.args.used.now c.requires.used
     c.requires.recorded in
-    let fact : IsFact c.args.cx.now c.equation_fact.new.cx c.args.symbol.0
+    let fact : IsFact c.args.cx.now c.used_equation.new.cx c.args.symbol.0
     (plain_record c.args.evaluation.now) c.args.used.now c.in_ok-fact.fact =
-    fact_of c.args.cx.now c.condition_held.new.cx c.equation_fact.new.cx c.args.symbol.0
-    (plain_record c.args.evaluation.now) c.args.used.now c.in_ok-fact.fact
-    c.in_ok-held.ensures.grown u c.in_ok-fact.ensures.says c.in_ok-fact.ensures.stays in
+    fact_of c.args.cx.now c.used_equation.new.cx c.args.symbol.0
+    (plain_record c.args.evaluation.now) c.args.used.now c.in_ok-fact.fact u
+    c.in_ok-fact.ensures.says c.in_ok-fact.ensures.stays in
     let all =
     (call_recorded c.args.cx.now.program c.args.subst.now c.args.symbol.0 []
     (plain_patterns c.args.args.now) (plain_record c.args.evaluation.now)
     c.requires.recorded).1 in
-    let g : HasGrown c.args.cx.now c.equation_fact.new.cx =
-    grown_twice c.args.cx.now c.condition_held.new.cx c.equation_fact.new.cx
-    c.in_ok-held.ensures.grown c.in_ok-fact.ensures.grown in (
+    let g : HasGrown c.args.cx.now c.used_equation.new.cx = c.in_ok-fact.ensures.grown in (
       omega (arith, c.decreases),
       (
         subst (λ (p : Program). AreRecorded p c.args.subst.now (plain_patterns c.args.args.now)
@@ -189,15 +155,14 @@ by_equation-evaluated-requires t c =
     c.equation_of-equation.result.now) c.program.ensures
     c.equation_of-equation.ensures in
     let right =
-    used_right c.args.cx.now.program c.args.symbol.0 _ c.args.used.now.equation _ _ _
+    used_right c.args.cx.now.program c.args.symbol.0 _ c.args.used.now.equation _ _ _ _
     c.equation_of-equation.result.now u at in
     let low =
     equation_size (plain_record c.args.evaluation.now) _ _ _ _ (condition_record c.args.used.now)
     (plain_record c.args.used.now.body.value) _ c.requires.used in
     let g : HasGrown c.args.cx.now c.at_values.new.cx =
-    grown_twice c.args.cx.now c.condition_held.new.cx c.at_values.new.cx
-    c.in_ok-held.ensures.grown (grown_twice c.condition_held.new.cx c.equation_fact.new.cx
-    c.at_values.new.cx c.in_ok-fact.ensures.grown c.in_ok-first.ensures.grown) in
+    grown_twice c.args.cx.now c.used_equation.new.cx c.at_values.new.cx
+    c.in_ok-fact.ensures.grown c.in_ok-first.ensures.grown in
     let h : IsRecorded c.args.cx.now.program c.args.used.now.subst
     (plain_pattern c.equation_of-equation.result.now.right)
     (plain_record c.args.used.now.body.value) =
@@ -223,7 +188,7 @@ by_equation-evaluated-requires t c =
       ),
     )
 
-both_of : (old mid cx next last : Context) (theta : List (Option Tree)) (f : ℕ)
+both_of : (old cx next last : Context) (theta : List (Option Tree)) (f : ℕ)
     (args : List RulePat) (r : Record) (used : EqRecord) (q : RulePattern) (image : Pattern)
     (fact first : Theorem) (second : Option Theorem) → (known : IsFact old cx f r used fact)
     → known.applied.equation.right ≡ q → HasGrown cx next → HasGrown next last
@@ -232,7 +197,7 @@ both_of : (old mid cx next last : Context) (theta : List (Option Tree)) (f : ℕ
     → IsEvaluated last used.subst q image second
     → HasEqual last (filled theta (call f [] (plain_patterns args))) known.right (Some first)
     × (Equates last known.right image second × HasNoVariable known.right)
-both_of old mid cx next last theta f args r used q image fact first second known is g k says right =
+both_of old cx next last theta f args r used q image fact first second known is g k says right =
     then_parts cx next last used.subst (filled theta (call f [] (plain_patterns args)))
     known.equation_right q known.right image first second g k known.is_right
     (sym known.same ∙ is) (says f known.right known.says) right
@@ -248,17 +213,16 @@ by_equation-followed-requires t c =
     subst (λ (p : Program). IsEquationAt p c.args.symbol.0 c.args.used.now.equation
     c.equation_of-equation.result.now) c.program.ensures
     c.equation_of-equation.ensures in
-    let fact : IsFact c.args.cx.now c.equation_fact.new.cx c.args.symbol.0
+    let fact : IsFact c.args.cx.now c.used_equation.new.cx c.args.symbol.0
     (plain_record c.args.evaluation.now) c.args.used.now c.in_ok-fact.fact =
-    fact_of c.args.cx.now c.condition_held.new.cx c.equation_fact.new.cx c.args.symbol.0
-    (plain_record c.args.evaluation.now) c.args.used.now c.in_ok-fact.fact
-    c.in_ok-held.ensures.grown u c.in_ok-fact.ensures.says c.in_ok-fact.ensures.stays in
+    fact_of c.args.cx.now c.used_equation.new.cx c.args.symbol.0
+    (plain_record c.args.evaluation.now) c.args.used.now c.in_ok-fact.fact u
+    c.in_ok-fact.ensures.says c.in_ok-fact.ensures.stays in
     let right =
-    used_right c.args.cx.now.program c.args.symbol.0 _ c.args.used.now.equation _ _ _
+    used_right c.args.cx.now.program c.args.symbol.0 _ c.args.used.now.equation _ _ _ _
     c.equation_of-equation.result.now fact.applied at in
     let both =
-    both_of c.args.cx.now c.condition_held.new.cx c.equation_fact.new.cx c.at_values.new.cx
-    c.evaluated.new.cx c.args.subst.now c.args.symbol.0 c.args.args.now
+    both_of c.args.cx.now c.used_equation.new.cx c.at_values.new.cx c.evaluated.new.cx c.args.subst.now c.args.symbol.0 c.args.args.now
     (plain_record c.args.evaluation.now) c.args.used.now
     (plain_pattern c.equation_of-equation.result.now.right) c.args.image.now
     c.in_ok-fact.fact c.in_ok-first.first c.in_ok-right.right fact right
@@ -292,17 +256,16 @@ by_equation-returns-clause-says t c =
     subst (λ (p : Program). IsEquationAt p c.args.symbol.0 c.args.used.now.equation
     c.equation_of-equation.result.now) c.program.ensures
     c.equation_of-equation.ensures in
-    let fact : IsFact c.args.cx.now c.equation_fact.new.cx c.args.symbol.0
+    let fact : IsFact c.args.cx.now c.used_equation.new.cx c.args.symbol.0
     (plain_record c.args.evaluation.now) c.args.used.now c.in_ok-fact.fact =
-    fact_of c.args.cx.now c.condition_held.new.cx c.equation_fact.new.cx c.args.symbol.0
-    (plain_record c.args.evaluation.now) c.args.used.now c.in_ok-fact.fact
-    c.in_ok-held.ensures.grown u c.in_ok-fact.ensures.says c.in_ok-fact.ensures.stays in
+    fact_of c.args.cx.now c.used_equation.new.cx c.args.symbol.0
+    (plain_record c.args.evaluation.now) c.args.used.now c.in_ok-fact.fact u
+    c.in_ok-fact.ensures.says c.in_ok-fact.ensures.stays in
     let right =
-    used_right c.args.cx.now.program c.args.symbol.0 _ c.args.used.now.equation _ _ _
+    used_right c.args.cx.now.program c.args.symbol.0 _ c.args.used.now.equation _ _ _ _
     c.equation_of-equation.result.now fact.applied at in
     let both =
-    both_of c.args.cx.now c.condition_held.new.cx c.equation_fact.new.cx c.at_values.new.cx
-    c.evaluated.new.cx c.args.subst.now c.args.symbol.0 c.args.args.now
+    both_of c.args.cx.now c.used_equation.new.cx c.at_values.new.cx c.evaluated.new.cx c.args.subst.now c.args.symbol.0 c.args.args.now
     (plain_record c.args.evaluation.now) c.args.used.now
     (plain_pattern c.equation_of-equation.result.now.right) c.args.image.now
     c.in_ok-fact.fact c.in_ok-first.first c.in_ok-right.right fact right

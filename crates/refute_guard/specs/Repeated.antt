@@ -1,0 +1,78 @@
+-- An equation with the variables of a guard that repeats it, and terms at which it is not used.
+use Rattle.std.specs.Prelude.{◌≡◌, ◌<◌, ◌^◌, ℕ, List, length, All, Option}
+use Rattle.std.specs.Prelude.{Some, slice_get}
+use Rattle.ml_pat.specs.Patterns.{Pattern as LogicPattern, imp}
+use Rattle.ml_kernel.specs.Theorems.{Theorem}
+use Rattle.term_core.specs.Terms.{Tree}
+use Rattle.term_core.specs.Patterns.{Pattern, binding}
+use Rattle.term_core.specs.RulePatterns.{sort_numbers}
+use Rattle.rule_core.specs.AcSymbols.{IsAcFree}
+use Rattle.rule_core.specs.Matching.{OccursIn}
+use Rattle.rule_core.specs.ProgramView.{theory_of}
+use Rattle.rule_core.specs.Sorting.{AreSorts}
+use Rattle.rule_core.specs.WellSorted.{IsWellSorted}
+use Rattle.ml_image.specs.Premises.{is_true}
+use Rattle.ml_image.specs.Sentences.{Sentence, not, and, sentence_image}
+use Rattle.prove_term.specs.Contexts.{Context, StaysIn}
+use Rattle.prove_term.specs.Filling.{filled}
+use Rattle.prove_open.specs.Givens.{IsGiven, HasFact}
+use Rattle.refute_guard.specs.declared.guards.Missed.{Missed}
+use Rattle.refute_guard.specs.declared.guards.Missed.TheVariants.{NoMatch, ConditionFalse}
+use Rattle.refute_guard.specs.Arguments.{IsArgument, IsVariableOf, MatchTogether, all_in}
+use Rattle.refute_guard.specs.declared.arguments.Argument.{Argument}
+use Rattle.refute_guard.specs.declared.guarded.Guarded.{Guarded}
+
+-- The guard says of its variables that the condition c holds and that the terms are in the arguments.
+pub record IsGuarded (cx : Context) (c : Sentence) (x : Guarded) : Type 0 where
+  pub well_sorted : IsWellSorted (theory_of cx.program)
+  pub no_ac : IsAcFree cx.program.sig
+  pub sorts : AreSorts cx.program.sig (sort_numbers x.sorts.items)
+  pub given : IsGiven cx (sort_numbers x.sorts.items) x.given
+  pub few : length x.sorts.items < 2 ^ 32
+  pub arguments : All (IsArgument cx.program.sig (sort_numbers x.sorts.items)) x.arguments.items
+  pub facts : (i y : ℕ) (a : Argument) → slice_get x.arguments.items i ≡ Some a → IsVariableOf a y
+      → HasFact x.given y
+  pub body : sentence_image cx.program.sig cx.names (and c (all_in x.arguments.items))
+      ≡ Some x.body
+
+-- ---- why the equation is not used
+
+-- The condition is that q is true. Each of its variables is one of an argument. The theorem says that
+-- q is not true with the terms of `theta` in place of its variables. Substitutions that match the
+-- arguments, if they are one, have only bindings of `theta`.
+pub record FailsTogether (cx : Context) (sorts : List ℕ) (arguments : List Argument)
+    (c : Sentence) (t : Theorem) : Type 0 where
+  pub q : Pattern
+  pub sort : ℕ
+  pub is : c ≡ is_true q sort
+  pub theta : List (Option Tree)
+  pub says : sentence_image cx.program.sig cx.names (not (is_true (filled theta q) sort))
+      ≡ Some t.conclusion
+  pub stays : StaysIn cx t
+  pub uses : (x : ℕ) → OccursIn x q
+      → (i : ℕ) × (a : Argument) × (slice_get arguments i ≡ Some a) × IsVariableOf a x
+  pub bindings : (found : List (List (Option Tree)))
+      → MatchTogether cx.program.sig sorts arguments found
+      → (i x : ℕ) (sigma : List (Option Tree)) (u : Tree) → slice_get found i ≡ Some sigma
+      → binding sigma x ≡ Some u → binding theta x ≡ Some u
+
+-- this is why the equation of these arguments and this condition is not used at the terms
+abbrev pub IsMissedHere : Context → List ℕ → List Argument → Sentence → Missed → Type 0
+IsMissedHere cx sorts arguments c NoMatch =
+    (found : List (List (Option Tree))) → MatchTogether cx.program.sig sorts arguments found → ⊥
+IsMissedHere cx sorts arguments c (ConditionFalse subst t) =
+    FailsTogether cx sorts arguments c t.now
+
+-- ---- what follows from the guard
+
+-- under the hypothesis g the body b implies the sentence
+pub record SaysUnderTwo (cx : Context) (g b : LogicPattern) (s : Sentence) (p : LogicPattern)
+    : Type 0 where
+  pub image : LogicPattern
+  pub is_image : sentence_image cx.program.sig cx.names s ≡ Some image
+  pub says : p ≡ imp g (imp b image)
+
+-- the theorem says this of the guard's body
+pub record IsOfBody (cx : Context) (x : Guarded) (s : Sentence) (t : Theorem) : Type 0 where
+  pub says : SaysUnderTwo cx x.given.hypothesis x.body s t.conclusion
+  pub stays : StaysIn cx t
