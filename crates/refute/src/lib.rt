@@ -4,8 +4,9 @@
 // a variable would have to be two different terms, they have nothing in common: `mismatch`. If the
 // pattern matches, each variable equals its binding wherever they have something in common:
 // `inversion`. Each theorem is under the hypothesis that the variables are elements of their sorts
-// (specs/Refutations.antt). `mismatch_named` and `inversion_named` say the same of a pattern some of
-// whose parts have names, with its names (specs/NamedRefutations.antt).
+// (specs/Refutations.antt). Two different terms of one sort are not equal: `differ`. `mismatch_named`
+// and `inversion_named` say the same of a pattern some of whose parts have names, with its names
+// (specs/NamedRefutations.antt).
 #![tactic(auto, using(crate::proofs::Growing::growing))]
 
 mod bindings;
@@ -30,7 +31,7 @@ mod written;
 
 pub use inversions::inversion;
 pub use laws::clash_laws;
-pub use mismatches::mismatch;
+pub use mismatches::{differ, mismatch};
 pub use named_inversions::inversion_named;
 pub use named_mismatches::mismatch_named;
 pub use truths::not_true;

@@ -192,13 +192,10 @@ fn denied_by_both(
     denied_by_two(alloc, one, other, &clash, h, w, first, second)
 }
 
-// Proves that two different terms of one sort are not equal.
-pub(crate) fn differ(
-    alloc: Global,
-    cx: &mut Cx<'_>,
-    left: &Term,
-    right: &Term,
-) -> Result<Thm, AllocError>
+/// Proves that two different terms of one sort are not equal. `AllocError`: out of memory, or there
+/// are so many variables or arguments that new variables have no number below 2^32. After an error
+/// the context may have grown. The recursion is as deep as the terms are high.
+pub fn differ(alloc: Global, cx: &mut Cx<'_>, left: &Term, right: &Term) -> Result<Thm, AllocError>
     requires well_sorted { IsWellSorted (theory_of cx.old.program) }
     requires no_ac { IsAcFree cx.old.program.sig }
     requires sorted { (sort : ℕ) × IsTermOf cx.old.program.sig left.now sort

@@ -3,7 +3,6 @@ pub mod BoundEquations
 pub mod Closings
 pub mod ConditionFillings
 pub mod ConditionFresh
-pub mod Distincts
 pub mod EquationLaws
 pub mod FalseConditions
 pub mod FoundEnds

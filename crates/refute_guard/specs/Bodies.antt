@@ -1,7 +1,7 @@
 -- What private clauses say of renamed equations, of bindings and of conditions.
 use Rattle.std.specs.Prelude.{◌≡◌, ℕ, List}
 use Rattle.std.specs.Prelude.{length, Contains, Option, Some}
-use Rattle.ml_pat.specs.Patterns.{Pattern as LogicPattern, top, imp, and as conj, fun, var, equal}
+use Rattle.ml_pat.specs.Patterns.{Pattern as LogicPattern, and as conj, var, equal}
 use Rattle.ml_pat.specs.Patterns as logic
 use Rattle.ml_pat.specs.Judgements.{substituted}
 use Rattle.ml_kernel.specs.Theorems.{Theorem}
@@ -59,21 +59,6 @@ pub record AreTwoEquations (y : ℕ) (one other differ : LogicPattern) : Type 0 
   pub is_other : IsUnderTwo g b (equal x q) other
   pub is_differ : differ ≡ logic.not (equal p q)
   pub keeps : (u : LogicPattern) → substituted q y u ≡ Some q
-
--- `top -> ~(p & t)` and `fun p s`, where the variable 0 can be replaced in p and t
-pub record AreApart (none fact : LogicPattern) : Type 0 where
-  pub p : LogicPattern
-  pub t : LogicPattern
-  pub s : ℕ
-  pub is_none : none ≡ imp top (logic.not (conj p t))
-  pub is_fact : fact ≡ fun p s
-  pub keeps_p : (u : LogicPattern) → substituted p 0 u ≡ Some p
-  pub keeps_t : (u : LogicPattern) → substituted t 0 u ≡ Some t
-
--- `~(p = t)`
-abbrev pub AreUnequal : LogicPattern → LogicPattern → Type 0
-AreUnequal none made =
-    (p t : LogicPattern) → none ≡ imp top (logic.not (conj p t)) → made ≡ logic.not (equal p t)
 
 -- ---- conditions
 

@@ -15,7 +15,6 @@ ghost use Rattle.refute_guard.specs.Implications.{IsUnderTwo};
 ghost use Rattle.refute_guard.specs.Repeated.{IsGuarded, IsOfBody};
 ghost use Rattle.refute_guard.specs.declared.arguments.Argument.{Argument};
 
-use crate::distinct::distinct;
 use crate::equations::{conclusion, equation_of};
 use crate::guarded::Guarded;
 use crate::hypotheses::weaker;
@@ -26,7 +25,7 @@ use ml_derived::{denied_by_two, not_both, not_to_bot};
 use ml_kernel::Thm;
 use ml_pat::VarNo;
 use prove_term::Cx;
-use refute::inversion_named;
+use refute::{differ, inversion_named};
 use std::alloc::{AllocError, Global};
 use term_core::Subst;
 
@@ -89,7 +88,7 @@ pub(crate) fn by_bindings(
     };
     let one = equation_at(alloc, cx, guard, twice.first, theta, x)?;
     let other = equation_at(alloc, cx, guard, twice.second, sigma, x)?;
-    let differ = distinct(alloc, cx, t, u)?;
+    let differ = differ(alloc, cx, t, u)?;
     not_two(alloc, &one, &other, &differ, VarNo(x))
 }
 

@@ -39,7 +39,8 @@ pub enum Missed<'a> {
 /// `AllocError`: out of memory, or there are so many variables or arguments that new variables have
 /// no number below 2^32. After an error the context may have grown. The recursion is as deep as the
 /// arguments are high, and as an argument has variables. Each argument is gone through once for each
-/// of its variables, but not if it does not match its term, or if nothing is needed of it.
+/// of its variables, but not if it does not match its term, or if nothing is needed of it. A condition
+/// is gone through once for each variable of each argument.
 pub fn guard_denied(
     alloc: Global,
     cx: &mut Cx<'_>,

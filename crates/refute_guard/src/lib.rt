@@ -11,7 +11,6 @@ mod arguments;
 mod bindings;
 mod closing;
 mod conditions;
-mod distinct;
 mod equations;
 mod guarded;
 mod guards;

@@ -99,7 +99,8 @@ pub(crate) struct Twice {
     pub(crate) second: usize,
 }
 
-// A variable that two of the substitutions bind to different terms, if there is one.
+// A variable that two of the substitutions bind to different terms, if there is one. Each two are
+// compared. There are at most 64, as many as a symbol has arguments.
 pub(crate) fn bound_twice(found: &[Subst]) -> Option<Twice>
     requires { All (λ theta. length theta ≤ 2 ^ 32) found.now }
     ensures there { IfSome result (λ w. (theta : List (Option Tree)) × (sigma : List (Option Tree))

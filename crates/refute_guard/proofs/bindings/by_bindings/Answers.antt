@@ -66,25 +66,25 @@ sorted c =
     some_same : (x y : ℕ) → Some x ≡ Some y → x ≡ y
     some_same x y e = cc
 
-pub distinct-requires-clause-no_ac : goal.distinct-requires-clause-no_ac
-distinct-requires-clause-no_ac c =
-    let at : In_ok-other = (goal.at.distinct-requires-clause-no_ac c).In_ok-other in
+pub differ-requires-clause-no_ac : goal.differ-requires-clause-no_ac
+differ-requires-clause-no_ac c =
+    let at : In_ok-other = (goal.at.differ-requires-clause-no_ac c).In_ok-other in
     (guarded_grown c.args.cx.now c.equation_at-2.new.cx c.requires.guard.0 c.args.guard.now (grown at)
     c.requires.guard.1).no_ac
 
-pub distinct-requires-clause-sorted : goal.distinct-requires-clause-sorted
-distinct-requires-clause-sorted c =
-    sorted (goal.at.distinct-requires-clause-sorted c).In_ok-other
+pub differ-requires-clause-sorted : goal.differ-requires-clause-sorted
+differ-requires-clause-sorted c =
+    sorted (goal.at.differ-requires-clause-sorted c).In_ok-other
 
 pub returns-in_err-differ-clause-grown : goal.returns-in_err-differ-clause-grown
 returns-in_err-differ-clause-grown c =
-    grown_twice c.args.cx.now c.equation_at-2.new.cx c.distinct.new.cx
+    grown_twice c.args.cx.now c.equation_at-2.new.cx c.differ.new.cx
     (grown (goal.at.returns-in_err-differ-clause-grown c).In_ok-other) c.in_err-differ.ensures.grown
 
 pub not_two-requires : goal.not_two-requires
 not_two-requires c =
     let at : In_ok-other = (goal.at.not_two-requires c).In_ok-other in
-    two_equations c.equation_at.new.cx c.equation_at-2.new.cx c.distinct.new.cx
+    two_equations c.equation_at.new.cx c.equation_at-2.new.cx c.differ.new.cx
     c.args.guard.now.given.hypothesis c.args.guard.now.body c.args.twice.variable (sorted at).0
     c.in-Some-Some.t.now c.in-Some-Some.u.now c.in_ok-one.one.conclusion
     c.in_ok-other.other.conclusion c.in_ok-differ.differ.conclusion c.in_ok-other.ensures.grown
@@ -108,12 +108,12 @@ returns-clause-says c =
             c.in_ok-one.ensures.says.says.image c.in_ok-one.ensures.says.says.says;
       };
       stays = λ s has. stays s (has.objects c.args.twice.variable, tt) (
-        stays_grown c.equation_at-2.new.cx c.distinct.new.cx c.in_ok-one.one
+        stays_grown c.equation_at-2.new.cx c.differ.new.cx c.in_ok-one.one
             c.in_ok-differ.ensures.grown
             (stays_grown c.equation_at.new.cx c.equation_at-2.new.cx c.in_ok-one.one
             c.in_ok-other.ensures.grown c.in_ok-one.ensures.says.stays) s has,
         (
-          stays_grown c.equation_at-2.new.cx c.distinct.new.cx c.in_ok-other.other
+          stays_grown c.equation_at-2.new.cx c.differ.new.cx c.in_ok-other.other
               c.in_ok-differ.ensures.grown c.in_ok-other.ensures.says.stays s has,
           (c.in_ok-differ.ensures.stays s has, tt),
         ),
@@ -123,5 +123,5 @@ returns-clause-says c =
 
 pub returns-clause-grown : goal.returns-clause-grown
 returns-clause-grown c =
-    grown_twice c.args.cx.now c.equation_at-2.new.cx c.distinct.new.cx
+    grown_twice c.args.cx.now c.equation_at-2.new.cx c.differ.new.cx
     (grown (goal.at.returns-clause-grown c).In_ok-other) c.in_ok-differ.ensures.grown
