@@ -91,14 +91,14 @@ under_grown old new sorts given p t g u = λ sort c.
       stays = stays_grown old new t g before.stays;
     }
 
-zip_weaker : {X Y : Type 0} (R S : X → Y → Type 0) (xs : List X) (ys : List Y)
+pub zip_weaker : {X Y : Type 0} (R S : X → Y → Type 0) (xs : List X) (ys : List Y)
     → ((x : X) (y : Y) → R x y → S x y) → AllZip R xs ys → AllZip S xs ys
 zip_weaker R S [] [] f h = tt
 zip_weaker R S [] (b ∷ ys) f h = absurd h
 zip_weaker R S (a ∷ xs) [] f h = absurd h
 zip_weaker R S (a ∷ xs) (b ∷ ys) f h = (f a b h.0, zip_weaker R S xs ys f h.1)
 
-zip_push : {X Y : Type 0} (R : X → Y → Type 0) (xs : List X) (ys : List Y) (x : X) (y : Y)
+pub zip_push : {X Y : Type 0} (R : X → Y → Type 0) (xs : List X) (ys : List Y) (x : X) (y : Y)
     → AllZip R xs ys → R x y → AllZip R (xs ++ x ∷ []) (ys ++ y ∷ [])
 zip_push R [] [] x y h k = (k, tt)
 zip_push R [] (b ∷ ys) x y h k = absurd h

@@ -4,7 +4,9 @@ pub mod OpenInstances
 pub mod RaisingLaws
 pub mod CoverLaws
 pub mod GatheringLaws
+pub mod GroundLaws
 pub mod ElementLaws
+pub mod KnownLaws
 pub mod ConstructingLaws
 pub mod FactSideLaws
 pub mod FactInstances

@@ -6,5 +6,6 @@ pub mod Differences
 pub mod Values
 pub mod Instances
 pub mod Elements
+pub mod Known
 pub mod FactSides
 pub mod Hypotheses

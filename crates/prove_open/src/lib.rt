@@ -14,6 +14,7 @@ mod freedom;
 mod givens;
 mod injections;
 mod instances;
+mod known;
 
 pub use differences::{Difference, difference_under};
 pub use elements::{element_under, first_new};

@@ -24,16 +24,17 @@ use Rattle.ml_image.specs.Sentences.{not, sentence_image}
 use Rattle.ml_image.proofs.ImageLaws.{some_same}
 use Rattle.prove_term.specs.Contexts.{Context}
 use Rattle.prove_term.specs.Filling.{in_place, filled, all_filled}
-use Rattle.refute_guard.specs.Arguments.{IsVariableOf, MatchTogether, part_names_of, pattern_of}
-use Rattle.refute_guard.specs.Bodies.{IsRepeated}
-use Rattle.refute_guard.specs.Guards.{FailsAt, IsAppliedTo, IsOrderOf}
-use Rattle.refute_guard.specs.Renaming.{AreRenamed, names_at}
+use Rattle.guard_body.specs.Arguments.{IsVariableOf, MatchTogether, part_names_of, pattern_of}
+use Rattle.guard_body.specs.Guarded.{IsRepeated}
+use Rattle.refute_guard.specs.Guards.{FailsAt}
+use Rattle.guard_body.specs.Guarded.{IsAppliedTo, IsOrderOf}
+use Rattle.guard_body.specs.Renaming.{AreRenamed, names_at}
 use Rattle.refute_guard.specs.Repeated.{FailsTogether}
-use Rattle.refute_guard.specs.declared.arguments.Argument.{Argument}
-use Rattle.refute_guard.specs.declared.guarded.Guarded.{Guarded}
-use Rattle.refute_guard.proofs.RenamedNames.{IsPlaced, placed}
-use Rattle.refute_guard.proofs.Renamings.{occurs_before, occurs_renamed, occurs_where}
-use Rattle.refute_guard.proofs.RepeatedLaws.{IsListed, listed}
+use Rattle.guard_body.specs.declared.arguments.Argument.{Argument}
+use Rattle.guard_body.specs.declared.guarded.Guarded.{Guarded}
+use Rattle.guard_body.proofs.RenamedNames.{IsPlaced, placed}
+use Rattle.guard_body.proofs.Renamings.{occurs_before, occurs_renamed, occurs_where}
+use Rattle.guard_body.proofs.RepeatedLaws.{IsListed, listed}
 
 -- ---- the substitution
 

@@ -9,11 +9,11 @@ use Rattle.term_core.specs.declared.ids.SortId.{SortId}
 use Rattle.rule_core.specs.declared.signature.Signature.{Signature}
 use Rattle.ml_image.specs.Sentences.{Sentence}
 use Rattle.prove_term.specs.Contexts.{Context}
-use Rattle.refute_guard.specs.Arguments.{AreFound, AreOne, AreTwoFor, MatchTogether}
-use Rattle.refute_guard.specs.Arguments.{MatchesArgument, NoneMatchesArgument}
-use Rattle.refute_guard.specs.Repeated.{IsGuarded}
-use Rattle.refute_guard.specs.declared.arguments.Argument.{Argument}
-use Rattle.refute_guard.specs.declared.guarded.Guarded.{Guarded}
+use Rattle.guard_body.specs.Arguments.{AreFound, AreOne, AreTwoFor, MatchTogether}
+use Rattle.guard_body.specs.Arguments.{MatchesArgument, NoneMatchesArgument}
+use Rattle.guard_body.specs.Guarded.{IsGuarded}
+use Rattle.guard_body.specs.declared.arguments.Argument.{Argument}
+use Rattle.guard_body.specs.declared.guarded.Guarded.{Guarded}
 use Rattle.refute_guard.proofs.GuardConditions.{there_at}
 
 -- the next argument matches by none

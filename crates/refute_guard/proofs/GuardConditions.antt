@@ -7,7 +7,7 @@ use Rattle.std.specs.Prelude.{All, Contains, IsSome}
 use Rattle.std.proofs.lemmas.Bool.{false≢true}
 use Rattle.std.proofs.lemmas.List.{length-map}
 use Rattle.std.proofs.lemmas.Option.{slice_get_within, get_or_from_slice_get}
-use Rattle.ml_pat.specs.Patterns.{Pattern as LogicPattern, imp, bot}
+use Rattle.ml_pat.specs.Patterns.{Pattern as LogicPattern, bot}
 use Rattle.ml_pat.specs.Patterns as logic
 use Rattle.ml_pat.specs.Judgements.{IsFresh}
 use Rattle.ml_kernel.specs.Theorems.{Theorem}
@@ -28,13 +28,14 @@ use Rattle.prove_term.specs.Filling.{filled}
 use Rattle.prove_term.proofs.ContextLaws.{image_grown, stays_grown}
 use Rattle.prove_term.proofs.ImageShapes.{both_some, map_some}
 use Rattle.refute.specs.Refutations.{all_bound}
-use Rattle.refute_guard.specs.Arguments.{IsArgument, IsVariableOf, MatchTogether, MatchesArgument}
-use Rattle.refute_guard.specs.Arguments.{all_in, part_names_of, pattern_of}
+use Rattle.guard_body.specs.Arguments.{IsArgument, IsVariableOf, MatchTogether, MatchesArgument}
+use Rattle.guard_body.specs.Arguments.{all_in, part_names_of, pattern_of}
 use Rattle.refute_guard.specs.Bodies.{CanFill, IsFilled, variables_of}
 use Rattle.refute_guard.specs.Implications.{IsUnderTwo}
-use Rattle.refute_guard.specs.Repeated.{FailsTogether, IsGuarded, IsOfBody, SaysUnderTwo}
-use Rattle.refute_guard.specs.declared.arguments.Argument.{Argument}
-use Rattle.refute_guard.specs.declared.guarded.Guarded.{Guarded}
+use Rattle.refute_guard.specs.Repeated.{FailsTogether, IsOfBody, SaysUnderTwo}
+use Rattle.guard_body.specs.Guarded.{IsGuarded}
+use Rattle.guard_body.specs.declared.arguments.Argument.{Argument}
+use Rattle.guard_body.specs.declared.guarded.Guarded.{Guarded}
 use Rattle.refute_guard.proofs.BodyImages.{condition_free, filled_closed}
 use Rattle.refute_guard.proofs.Growths.{program_grown}
 use Rattle.refute_guard.proofs.NamedWritten.{variable_written}

@@ -29,18 +29,20 @@ use Rattle.prove_term.specs.GuardsAt.{are_in}
 use Rattle.prove_term.proofs.ContextLaws.{image_grown}
 use Rattle.prove_open.specs.Givens.{all_sorted}
 use Rattle.prove_open.proofs.ScopeLaws.{stays_no_hypotheses}
-use Rattle.refute_guard.specs.Arguments.{all_in, in_argument, part_names_of, pattern_of}
-use Rattle.refute_guard.specs.Bodies.{IsRepeated}
-use Rattle.refute_guard.specs.Guards.{DeniesGuard, IsOrderOf}
-use Rattle.refute_guard.specs.Hypotheses.{down_from}
+use Rattle.guard_body.specs.Arguments.{all_in, in_argument, part_names_of, pattern_of}
+use Rattle.guard_body.specs.Guarded.{IsRepeated}
+use Rattle.refute_guard.specs.Guards.{DeniesGuard}
+use Rattle.guard_body.specs.Guarded.{IsOrderOf}
+use Rattle.guard_body.specs.Hypotheses.{down_from}
 use Rattle.refute_guard.specs.Implications.{IsOpen, elements, for_some_of, variable_of}
-use Rattle.refute_guard.specs.Renaming.{AreRenamed, sorts_from}
+use Rattle.guard_body.specs.Renaming.{AreRenamed, sorts_from}
 use Rattle.refute_guard.specs.Repeated.{IsOfBody}
-use Rattle.refute_guard.specs.declared.arguments.Argument.{Argument}
-use Rattle.refute_guard.specs.declared.guarded.Guarded.{Guarded}
-use Rattle.refute_guard.proofs.GivenVariables.{IsSorted, down_low, nothing_sorted, sorted_parts}
-use Rattle.refute_guard.proofs.RenamedNames.{names_of_child}
-use Rattle.refute_guard.proofs.RepeatedLaws.{order_within}
+use Rattle.guard_body.specs.declared.arguments.Argument.{Argument}
+use Rattle.guard_body.specs.declared.guarded.Guarded.{Guarded}
+use Rattle.refute_guard.proofs.GivenVariables.{IsSorted, nothing_sorted, sorted_parts}
+use Rattle.guard_body.proofs.CountedDown.{down_low}
+use Rattle.guard_body.proofs.RenamedNames.{names_of_child}
+use Rattle.guard_body.proofs.RepeatedLaws.{order_within}
 
 -- ---- the arguments
 

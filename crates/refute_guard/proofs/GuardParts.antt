@@ -28,13 +28,14 @@ use Rattle.prove_open.specs.Givens.{HasFact, IsOverContext, all_sorted}
 use Rattle.prove_open.proofs.GatheringLaws.{given_grown}
 use Rattle.refute.specs.NamedRefutations.{inverted_named, mismatched_named, named_in_common}
 use Rattle.refute.specs.Refutations.{SaysSentence, all_bound, is_bound_to}
-use Rattle.refute_guard.specs.Arguments.{IsArgument, IsVariableOf, all_in, in_argument, part_names_of}
-use Rattle.refute_guard.specs.Arguments.{pattern_of}
+use Rattle.guard_body.specs.Arguments.{IsArgument, IsVariableOf, all_in, in_argument, part_names_of}
+use Rattle.guard_body.specs.Arguments.{pattern_of}
 use Rattle.refute_guard.specs.Bodies.{variables_of}
 use Rattle.refute_guard.specs.Implications.{AreDisjointAt, AreInvertedAt, IsInvertedAt, all_of}
-use Rattle.refute_guard.specs.Repeated.{IsGuarded, SaysUnderTwo}
-use Rattle.refute_guard.specs.declared.arguments.Argument.{Argument}
-use Rattle.refute_guard.specs.declared.guarded.Guarded.{Guarded}
+use Rattle.refute_guard.specs.Repeated.{SaysUnderTwo}
+use Rattle.guard_body.specs.Guarded.{IsGuarded}
+use Rattle.guard_body.specs.declared.arguments.Argument.{Argument}
+use Rattle.guard_body.specs.declared.guarded.Guarded.{Guarded}
 use Rattle.refute_guard.proofs.Growths.{program_grown}
 use Rattle.refute_guard.proofs.WrittenVariables.{child_named, written_variables}
 

@@ -7,10 +7,10 @@ use Rattle.rule_core.specs.Matching.{OccursInSome}
 use Rattle.rule_core.specs.NamedParts.{IsNamed}
 use Rattle.rule_core.specs.declared.signature.Signature.{Signature}
 use Rattle.rule_core.proofs.Bindings.{IsSome-of}
-use Rattle.refute_guard.specs.Arguments.{IsArgument, IsVariableOf, MatchesArgument, part_names_of}
-use Rattle.refute_guard.specs.Arguments.{pattern_of}
+use Rattle.guard_body.specs.Arguments.{IsArgument, IsVariableOf, MatchesArgument, part_names_of}
+use Rattle.guard_body.specs.Arguments.{pattern_of}
 use Rattle.refute_guard.specs.Bodies.{variables_of}
-use Rattle.refute_guard.specs.declared.arguments.Argument.{Argument}
+use Rattle.guard_body.specs.declared.arguments.Argument.{Argument}
 use Rattle.refute_guard.proofs.NamedWritten.{variable_written}
 
 -- it binds only variables of the argument

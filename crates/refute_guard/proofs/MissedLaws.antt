@@ -21,17 +21,18 @@ use Rattle.ml_image.proofs.WellSortedLaws.{names_below}
 use Rattle.prove_term.specs.Contexts.{Context, HasGrown}
 use Rattle.prove_term.specs.Filling.{filled}
 use Rattle.prove_term.proofs.ContextLaws.{image_grown, stays_grown}
-use Rattle.refute_guard.specs.Arguments.{MatchTogether}
-use Rattle.refute_guard.specs.Bodies.{IsRepeated}
-use Rattle.refute_guard.specs.Guards.{IsAppliedTo, IsMissed, IsOrderOf}
-use Rattle.refute_guard.specs.Renaming.{sorts_from}
+use Rattle.guard_body.specs.Arguments.{MatchTogether}
+use Rattle.guard_body.specs.Guarded.{IsRepeated}
+use Rattle.refute_guard.specs.Guards.{IsMissed}
+use Rattle.guard_body.specs.Guarded.{IsAppliedTo, IsOrderOf}
+use Rattle.guard_body.specs.Renaming.{sorts_from}
 use Rattle.refute_guard.specs.Repeated.{IsMissedHere}
-use Rattle.refute_guard.specs.declared.guarded.Guarded.{Guarded}
+use Rattle.guard_body.specs.declared.guarded.Guarded.{Guarded}
 use Rattle.refute_guard.specs.declared.guards.Missed.{Missed}
 use Rattle.refute_guard.specs.declared.guards.Missed.TheVariants.{NoMatch, ConditionFalse}
 use Rattle.refute_guard.proofs.FalseConditions.{fails_together}
-use Rattle.refute_guard.proofs.RepeatedLaws.{named_low, renumbers}
-use Rattle.refute_guard.proofs.TogetherLaws.{AreTogether, from_whole, matches_whole, pulled}
+use Rattle.guard_body.proofs.RepeatedLaws.{named_low, renumbers}
+use Rattle.guard_body.proofs.TogetherLaws.{AreTogether, from_whole, matches_whole, pulled}
 use Rattle.rule_core.proofs.SortedInstances.{sorted_use_first}
 
 -- substitutions that match the guard's arguments, and are one

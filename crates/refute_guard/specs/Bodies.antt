@@ -1,46 +1,23 @@
 -- What private clauses say of renamed equations, of bindings and of conditions.
 use Rattle.std.specs.Prelude.{◌≡◌, ℕ, List}
-use Rattle.std.specs.Prelude.{length, Contains, Option, Some}
+use Rattle.std.specs.Prelude.{Contains, Option, Some}
 use Rattle.ml_pat.specs.Patterns.{Pattern as LogicPattern, and as conj, var, equal}
 use Rattle.ml_pat.specs.Patterns as logic
 use Rattle.ml_pat.specs.Judgements.{substituted}
 use Rattle.ml_kernel.specs.Theorems.{Theorem}
-use Rattle.term_core.specs.Terms.{Tree, Forest}
+use Rattle.term_core.specs.Terms.{Tree}
 use Rattle.term_core.specs.Patterns.{Pattern, binding}
-use Rattle.term_core.specs.RulePatterns.{sort_numbers}
 use Rattle.rule_core.specs.Matching.{OccursIn}
-use Rattle.rule_core.specs.Rules.{Equation}
-use Rattle.ml_image.specs.LastResorts.{number_from, condition_renamed}
 use Rattle.ml_image.specs.NamedSides.{of_child}
 use Rattle.ml_image.specs.Premises.{is_true}
-use Rattle.ml_image.specs.Sentences.{Sentence, sentence_image}
 use Rattle.prove_term.specs.Contexts.{Context, StaysIn}
 use Rattle.prove_term.specs.Filling.{filled}
-use Rattle.prove_open.specs.Givens.{all_sorted}
 use Rattle.refute.specs.NamedRefutations.{variables_as_written}
 use Rattle.refute.specs.Refutations.{all_bound}
-use Rattle.refute_guard.specs.Hypotheses.{down_from}
 use Rattle.refute_guard.specs.Implications.{IsUnderTwo}
-use Rattle.refute_guard.specs.Arguments.{part_names_of, pattern_of}
-use Rattle.refute_guard.specs.Renaming.{AreRenamed, sorts_from}
-use Rattle.refute_guard.specs.Repeated.{IsGuarded, SaysUnderTwo}
-use Rattle.refute_guard.specs.declared.arguments.Argument.{Argument}
-use Rattle.refute_guard.specs.declared.guarded.Guarded.{Guarded}
-
--- ---- renamed equations
-
--- the guard repeats the equation at the terms, with its variables numbered from k in this order
-pub record IsRepeated (cx : Context) (k : ℕ) (order : List ℕ) (ts : Forest) (e : Equation)
-    (x : Guarded) : Type 0 where
-  pub condition : Sentence
-  pub is_condition : condition_renamed cx.program.sig (number_from k order) e.variables e.condition
-      ≡ Some condition
-  pub guarded : IsGuarded cx condition x
-  pub sorts : sort_numbers x.sorts.items ≡ sorts_from k e.variables order
-  pub hypothesis : sentence_image cx.program.sig cx.names
-      (all_sorted (sort_numbers x.sorts.items) (down_from k (length order)))
-      ≡ Some x.given.hypothesis
-  pub arguments : AreRenamed (number_from k order) e.names 0 e.arguments ts x.arguments.items
+use Rattle.guard_body.specs.Arguments.{part_names_of, pattern_of}
+use Rattle.refute_guard.specs.Repeated.{SaysUnderTwo}
+use Rattle.guard_body.specs.declared.arguments.Argument.{Argument}
 
 -- ---- bindings
 

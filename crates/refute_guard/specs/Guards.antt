@@ -1,17 +1,14 @@
 -- What is proved of guards of equations of the last resort: that they do not hold at terms, given why
 -- the equations that they repeat are not used there.
-use Rattle.std.specs.Prelude.{◌≡◌, ◌↔◌, ◌+◌, ◌<◌, ℕ, List, [], ◌∷◌, length, Contains, Option, Some}
+pub use Rattle.guard_body.specs.Guarded.{IsOrderOf, IsAppliedTo}
+use Rattle.std.specs.Prelude.{◌≡◌, ◌+◌, ℕ, List, [], ◌∷◌, length, Option, Some}
 use Rattle.std.specs.Prelude.{slice_get}
 use Rattle.ml_kernel.specs.Theorems.{Theorem}
 use Rattle.term_core.specs.Terms.{Tree, Forest}
-use Rattle.term_core.specs.Patterns.{Pattern, ground_patterns}
+use Rattle.term_core.specs.Patterns.{Pattern}
 use Rattle.rule_core.specs.Evaluation.{MatchesBy, IsUnmatchedBy}
 use Rattle.rule_core.specs.ProgramView.{theory_of}
 use Rattle.rule_core.specs.Rules.{Equation, Guard}
-use Rattle.rule_core.specs.Sorting.{HaveSorts}
-use Rattle.rule_core.specs.WellSorted.{AreDifferent, IsEquationOf}
-use Rattle.rule_core.specs.declared.signature.Signature.{Signature}
-use Rattle.rule_core.specs.declared.signature.SymInfo.{SymInfo}
 use Rattle.ml_image.specs.Premises.{sort_of, is_true}
 use Rattle.ml_image.specs.Sentences.{Sentence, bottom, not, implies, sentence_image}
 use Rattle.prove_term.specs.Contexts.{Context, StaysIn}
@@ -19,17 +16,6 @@ use Rattle.prove_term.specs.Filling.{filled}
 use Rattle.prove_term.specs.GuardsAt.{guard_at, guards_at}
 use Rattle.refute_guard.specs.declared.guards.Missed.{Missed}
 use Rattle.refute_guard.specs.declared.guards.Missed.TheVariants.{NoMatch, ConditionFalse}
-
--- the list has each of the first n variables once
-pub record IsOrderOf (n : ℕ) (order : List ℕ) : Type 0 where
-  pub each : (x : ℕ) → Contains order x ↔ (x < n)
-  pub different : AreDifferent order
-
--- the equation is one of a function with arguments of some sorts, and the terms have these sorts
-abbrev pub IsAppliedTo : Signature → Equation → Forest → Type 0
-IsAppliedTo sig e ts =
-    (info : SymInfo) × IsEquationOf sig info e
-    × HaveSorts sig [] [] (ground_patterns ts) info.args.items
 
 -- the equation matches the terms by the substitution, and the theorem says that its condition, with
 -- the terms of the substitution in place of its variables, is not true

@@ -1,39 +1,20 @@
 -- An equation with the variables of a guard that repeats it, and terms at which it is not used.
-use Rattle.std.specs.Prelude.{◌≡◌, ◌<◌, ◌^◌, ℕ, List, length, All, Option}
+use Rattle.std.specs.Prelude.{◌≡◌, ℕ, List, Option}
 use Rattle.std.specs.Prelude.{Some, slice_get}
 use Rattle.ml_pat.specs.Patterns.{Pattern as LogicPattern, imp}
 use Rattle.ml_kernel.specs.Theorems.{Theorem}
 use Rattle.term_core.specs.Terms.{Tree}
 use Rattle.term_core.specs.Patterns.{Pattern, binding}
-use Rattle.term_core.specs.RulePatterns.{sort_numbers}
-use Rattle.rule_core.specs.AcSymbols.{IsAcFree}
 use Rattle.rule_core.specs.Matching.{OccursIn}
-use Rattle.rule_core.specs.ProgramView.{theory_of}
-use Rattle.rule_core.specs.Sorting.{AreSorts}
-use Rattle.rule_core.specs.WellSorted.{IsWellSorted}
 use Rattle.ml_image.specs.Premises.{is_true}
 use Rattle.ml_image.specs.Sentences.{Sentence, not, and, sentence_image}
 use Rattle.prove_term.specs.Contexts.{Context, StaysIn}
 use Rattle.prove_term.specs.Filling.{filled}
-use Rattle.prove_open.specs.Givens.{IsGiven, HasFact}
 use Rattle.refute_guard.specs.declared.guards.Missed.{Missed}
 use Rattle.refute_guard.specs.declared.guards.Missed.TheVariants.{NoMatch, ConditionFalse}
-use Rattle.refute_guard.specs.Arguments.{IsArgument, IsVariableOf, MatchTogether, all_in}
-use Rattle.refute_guard.specs.declared.arguments.Argument.{Argument}
-use Rattle.refute_guard.specs.declared.guarded.Guarded.{Guarded}
-
--- The guard says of its variables that the condition c holds and that the terms are in the arguments.
-pub record IsGuarded (cx : Context) (c : Sentence) (x : Guarded) : Type 0 where
-  pub well_sorted : IsWellSorted (theory_of cx.program)
-  pub no_ac : IsAcFree cx.program.sig
-  pub sorts : AreSorts cx.program.sig (sort_numbers x.sorts.items)
-  pub given : IsGiven cx (sort_numbers x.sorts.items) x.given
-  pub few : length x.sorts.items < 2 ^ 32
-  pub arguments : All (IsArgument cx.program.sig (sort_numbers x.sorts.items)) x.arguments.items
-  pub facts : (i y : ℕ) (a : Argument) → slice_get x.arguments.items i ≡ Some a → IsVariableOf a y
-      → HasFact x.given y
-  pub body : sentence_image cx.program.sig cx.names (and c (all_in x.arguments.items))
-      ≡ Some x.body
+use Rattle.guard_body.specs.Arguments.{IsVariableOf, MatchTogether}
+use Rattle.guard_body.specs.declared.arguments.Argument.{Argument}
+use Rattle.guard_body.specs.declared.guarded.Guarded.{Guarded}
 
 -- ---- why the equation is not used
 

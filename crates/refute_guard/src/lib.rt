@@ -7,22 +7,16 @@
 // a condition that is not true (specs/Guards.antt). `no_guard` proves that none of several holds.
 #![tactic(auto, using(refute::proofs::Growing::growing))]
 
-mod arguments;
 mod bindings;
 mod closing;
 mod conditions;
 mod equations;
-mod guarded;
 mod guards;
 mod hypotheses;
-mod images;
-mod matches;
 mod members;
 mod mismatched;
 mod none;
 mod parts;
-mod renaming;
-mod repeating;
 
 pub use guards::{Missed, guard_denied};
 pub use none::no_guard;

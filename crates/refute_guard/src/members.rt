@@ -1,6 +1,6 @@
 // What follows from a member of a guard's body: from the statement that a term is in an argument.
-ghost use Rattle.std.specs.Prelude.{◌≡◌, ◌<◌, ◌∷◌, ℕ, List, IfOk, [], Some, length, slice_get};
-ghost use Rattle.ml_pat.specs.Patterns.{Pattern, bot, imp, and, member, not};
+ghost use Rattle.std.specs.Prelude.{◌≡◌, ◌<◌, ◌∷◌, List, IfOk, [], Some, length, slice_get};
+ghost use Rattle.ml_pat.specs.Patterns.{Pattern, bot, imp, and, member};
 ghost use Rattle.ml_pat.specs.Judgements.{IsPredicate};
 ghost use Rattle.ml_derived.specs.Scopes.{StaysWithin};
 ghost use Rattle.refute_guard.specs.Implications.{all_of, AreDisjointAt, IsNoneAt, AreInvertedAt};

@@ -10,12 +10,12 @@ use Rattle.prove_term.specs.Contexts.{HasGrown}
 use Rattle.prove_term.proofs.ContextLaws.{grown_twice, stays_grown}
 use Rattle.prove_term.proofs.ResultLaws.{if_ok_two}
 use Rattle.refute.specs.Refutations.{is_bound_to}
-use Rattle.refute_guard.specs.Arguments.{MatchesArgument}
+use Rattle.guard_body.specs.Arguments.{MatchesArgument}
 use Rattle.refute_guard.specs.Repeated.{SaysUnderTwo}
 use Rattle.refute_guard.proofs.GuardParts.{guarded_grown}
 use Rattle.refute_guard.proofs.Growths.{program_grown}
 use Rattle.refute_guard.proofs.TwoBindings.{two_equations}
-use Rattle.refute_guard.proofs.bindings.by_bindings.Goals.{In_ok-one, In_ok-other}
+use Rattle.refute_guard.proofs.bindings.by_bindings.Goals.{In_ok-other}
 use Rattle.refute_guard.proofs.bindings.by_bindings.Goals as goal
 
 pub equation_at-requires-2-clause-guard : goal.equation_at-requires-2-clause-guard

@@ -3,11 +3,11 @@ use Rattle.term_core.specs.RulePatterns.{sort_numbers}
 use Rattle.term_core.specs.Patterns.{binding}
 use Rattle.refute.specs.Refutations.{all_bound}
 use Rattle.refute_guard.specs.Implications.{first_equation}
-use Rattle.refute_guard.specs.Arguments.{IsArgument}
+use Rattle.guard_body.specs.Arguments.{IsArgument}
 use Rattle.refute_guard.specs.Bodies.{variables_of}
 use Rattle.refute_guard.specs.Repeated.{IsOfBody}
 use Rattle.refute_guard.proofs.BoundEquations.{IsFound, equation_found}
-use Rattle.refute_guard.proofs.FoundLists.{all_there}
+use Rattle.guard_body.proofs.FoundLists.{all_there}
 use Rattle.refute_guard.proofs.MatchedVariables.{bound_written}
 use Rattle.refute_guard.proofs.bindings.equation_at.Goals.{In_ok-equations}
 use Rattle.refute_guard.proofs.bindings.equation_at.Goals as goal

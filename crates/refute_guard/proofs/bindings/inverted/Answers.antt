@@ -10,11 +10,12 @@ use Rattle.refute.specs.Refutations.{SaysSentence, all_bound}
 use Rattle.rule_core.specs.ProgramView.{names_of}
 use Rattle.rule_core.specs.declared.rules.Named.{Named}
 use Rattle.ml_image.specs.NamedSides.{of_child}
-use Rattle.refute_guard.specs.Arguments.{pattern_of}
+use Rattle.guard_body.specs.Arguments.{pattern_of}
 use Rattle.refute_guard.specs.Bodies.{variables_of}
-use Rattle.refute_guard.specs.Repeated.{IsGuarded, IsOfBody}
-use Rattle.refute_guard.specs.declared.arguments.Argument.{Argument}
-use Rattle.refute_guard.proofs.FoundLists.{item_there}
+use Rattle.refute_guard.specs.Repeated.{IsOfBody}
+use Rattle.guard_body.specs.Guarded.{IsGuarded}
+use Rattle.guard_body.specs.declared.arguments.Argument.{Argument}
+use Rattle.guard_body.proofs.FoundLists.{item_there}
 use Rattle.refute_guard.proofs.Shapes.{and_left, imp_left}
 use Rattle.refute.specs.NamedRefutations.{inverted_named}
 use Rattle.refute_guard.proofs.GuardParts.{IsInversion, IsPlace, body_over, guarded_grown}

@@ -5,7 +5,7 @@ use Rattle.term_core.specs.RulePatterns.{sort_numbers}
 use Rattle.prove_term.specs.Contexts.{Context, HasGrown}
 use Rattle.prove_term.proofs.ContextLaws.{grown_none, grown_twice}
 use Rattle.refute_guard.specs.Bodies.{variables_of}
-use Rattle.refute_guard.proofs.FoundLists.{item_there}
+use Rattle.guard_body.proofs.FoundLists.{item_there}
 use Rattle.refute_guard.proofs.GuardConditions.{IsSofar, IsSofarFrom, argument_at, body_denied}
 use Rattle.refute_guard.proofs.GuardConditions.{can_fill, few_bound, matches_at}
 use Rattle.refute_guard.proofs.GuardConditions.{sofar_begins, sofar_denied, sofar_fills}

@@ -4,11 +4,11 @@ use Rattle.term_core.specs.Terms.{Tree}
 use Rattle.term_core.specs.RulePatterns.{sort_numbers}
 use Rattle.term_core.specs.declared.ids.SortId.{SortId}
 use Rattle.rule_core.specs.declared.rules.Program.{Program}
-use Rattle.refute_guard.specs.Arguments.{AreFound, AreOne, MatchTogether}
-use Rattle.refute_guard.specs.declared.arguments.Argument.{Argument}
+use Rattle.guard_body.specs.Arguments.{AreFound, AreOne, MatchTogether}
+use Rattle.guard_body.specs.declared.arguments.Argument.{Argument}
 use Rattle.refute_guard.proofs.FoundEnds.{all_together, each_short, matched_at, next_mismatched}
 use Rattle.refute_guard.proofs.FoundEnds.{two_read}
-use Rattle.refute_guard.proofs.FoundLists.{item_there}
+use Rattle.guard_body.proofs.FoundLists.{item_there}
 use Rattle.refute_guard.proofs.guards.body_denied.Goals.{In_ok-found, In-Some, After-index-sigma}
 use Rattle.refute_guard.proofs.guards.body_denied.Goals as goal
 

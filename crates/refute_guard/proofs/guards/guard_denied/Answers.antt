@@ -8,7 +8,7 @@ use Rattle.refute_guard.proofs.GuardEnds.{AreOpened, all_opened, denies, is_open
 use Rattle.rule_core.specs.WellSorted.{IsWellSorted}
 use Rattle.rule_core.specs.declared.rules.Program.{Program}
 use Rattle.prove_term.specs.Contexts.{HasGrown}
-use Rattle.refute_guard.specs.Guards.{IsAppliedTo, IsOrderOf}
+use Rattle.guard_body.specs.Guarded.{IsAppliedTo, IsOrderOf}
 use Rattle.refute_guard.proofs.MissedLaws.{missed_grown, missed_here}
 use Rattle.refute_guard.proofs.guards.guard_denied.Goals.{In_ok-none}
 use Rattle.refute_guard.proofs.guards.guard_denied.Goals as goal

@@ -10,10 +10,10 @@ use Rattle.refute.specs.Refutations.{SaysSentence}
 use Rattle.rule_core.specs.ProgramView.{names_of}
 use Rattle.rule_core.specs.declared.rules.Named.{Named}
 use Rattle.ml_image.specs.NamedSides.{of_child}
-use Rattle.refute_guard.specs.Arguments.{pattern_of}
+use Rattle.guard_body.specs.Arguments.{pattern_of}
 use Rattle.refute_guard.specs.Bodies.{variables_of}
-use Rattle.refute_guard.specs.Repeated.{IsGuarded}
-use Rattle.refute_guard.proofs.FoundLists.{item_there}
+use Rattle.guard_body.specs.Guarded.{IsGuarded}
+use Rattle.guard_body.proofs.FoundLists.{item_there}
 use Rattle.refute_guard.proofs.Shapes.{imp_left}
 use Rattle.refute.specs.NamedRefutations.{mismatched_named}
 use Rattle.refute_guard.proofs.GuardParts.{IsMismatch, IsPlace, body_over, disjoint_at}

@@ -1,0 +1,9 @@
+pub mod CountedDown
+pub mod ImageLaws
+pub mod RenamedLists
+pub mod RenamedNames
+pub mod Renamings
+pub mod RepeatedLaws
+pub mod FoundLaws
+pub mod FoundLists
+pub mod TogetherLaws

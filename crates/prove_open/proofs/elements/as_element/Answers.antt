@@ -1,0 +1,1 @@
+use Rattle.prove_open.proofs.elements.as_element.Goals as goal

@@ -1,0 +1,1 @@
+use Rattle.prove_open.proofs.elements.as_elements.Goals as goal

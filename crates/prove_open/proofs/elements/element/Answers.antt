@@ -1,0 +1,1 @@
+use Rattle.prove_open.proofs.elements.element.Goals as goal

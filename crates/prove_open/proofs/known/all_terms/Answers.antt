@@ -1,0 +1,1 @@
+use Rattle.prove_open.proofs.known.all_terms.Goals as goal

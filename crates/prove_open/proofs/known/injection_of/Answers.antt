@@ -1,0 +1,1 @@
+use Rattle.prove_open.proofs.known.injection_of.Goals as goal

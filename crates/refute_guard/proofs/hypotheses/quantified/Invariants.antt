@@ -1,6 +1,0 @@
-use Rattle.std.proofs.Common.{◌≡◌, ◌-◌}
-use Rattle.refute_guard.proofs.GivenVariables.{down_to}
-use Rattle.refute_guard.proofs.hypotheses.quantified.Given as goal
-
-abbrev pub invariant-loop-i : goal.invariant-loop-i
-invariant-loop-i l = l.variables.items ≡ down_to l.first (l.fn.count - l.i) l.i

@@ -1,8 +1,0 @@
-use Rattle.refute_guard.proofs.FoundLists.{NoneBelow, NoneWith}
-use Rattle.refute_guard.proofs.matches.bound_twice.Given as goal
-
-abbrev pub invariant-loop-first : goal.invariant-loop-first
-invariant-loop-first l = NoneBelow l.found l.first
-
-abbrev pub invariant-loop-second : goal.invariant-loop-second
-invariant-loop-second l = NoneWith l.found l.first l.second
