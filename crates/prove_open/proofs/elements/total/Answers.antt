@@ -1,26 +1,15 @@
-use Rattle.std.proofs.Common.{rules, ◌≡◌, ◌<◌, ◌≤◌, ◌+◌, ℕ, List, [], ◌∷◌, ◌++◌, length, take, sym}
-use Rattle.std.proofs.Common.{◌∙◌, ap, subst, arith}
-use Rattle.ml_pat.specs.Patterns.{Pattern}
-use Rattle.ml_kernel.specs.Theorems.{Theorem, conclusions}
-use Rattle.ml_derived.specs.Scopes.{StaysWithin}
-use Rattle.term_core.specs.Patterns.{application, injection, variable}
-use Rattle.term_core.specs.RulePatterns.{plain_pattern, sort_numbers}
+use Rattle.std.proofs.Common.{◌≡◌, ℕ, length, sym}
+use Rattle.std.proofs.Common.{◌∙◌, subst}
+use Rattle.term_core.specs.Patterns.{application}
+use Rattle.term_core.specs.RulePatterns.{sort_numbers}
 use Rattle.term_core.specs.PatternLists.{plain_patterns}
-use Rattle.term_core.proofs.PatternLaws.{depth, depths, depth_of-item}
-use Rattle.term_core.proofs.PlainPatterns.{plain-Var}
-use Rattle.rule_core.specs.declared.rules.Program.{Program}
 use Rattle.prove_term.specs.Contexts.{HasGrown}
 use Rattle.prove_term.specs.OpenAxioms.{SaysTotalFrom}
-use Rattle.prove_term.specs.InjectionTables.{InjectsBelow}
-use Rattle.prove_term.proofs.ResultLaws.{if_ok, if_ok_two}
-use Rattle.prove_term.proofs.ContextLaws.{grown_twice}
+use Rattle.prove_term.proofs.ResultLaws.{if_ok_two}
 use Rattle.prove_term.proofs.InjectionSteps.{length-numbers}
-use Rattle.prove_open.specs.Instances.{IsForPatterns, HoldsOfPatterns}
-use Rattle.prove_open.specs.Elements.{IsReady, HasElement, AreElementsUnder, IsElementAt, RaisesTo}
-use Rattle.prove_open.proofs.CoverLaws.{covered_arguments, have_elements}
-use Rattle.prove_open.proofs.GatheringLaws.{ready_grown, has_element_grown, item_has_element}
-use Rattle.prove_open.proofs.GatheringLaws.{one_more, elements_grown}
-use Rattle.prove_open.proofs.ElementLaws.{variable_under, injects, inner_element, injected_under}
+use Rattle.prove_open.specs.Elements.{IsReady, HasElement}
+use Rattle.prove_open.proofs.GatheringLaws.{ready_grown, has_element_grown}
+use Rattle.prove_open.proofs.GatheringLaws.{elements_grown}
 use Rattle.prove_open.proofs.ConstructingLaws.{arguments, arguments_of, total_for, IsTotal, total_some}
 use Rattle.prove_open.proofs.ConstructingLaws.{total_element}
 use Rattle.prove_open.proofs.elements.total.Goals as goal
@@ -47,8 +36,6 @@ at_patterns-requires c =
     (length (sort_numbers c.args.sorts.now)) c.in_ok-total.total.conclusion =
     subst (λ (n : ℕ). SaysTotalFrom c.total_from.new.self c.args.symbol.0 n
     c.in_ok-total.total.conclusion) k c.in_ok-total.ensures.says in
-    subst (λ (ts : List Theorem). IsForPatterns c.args.given.now.hypothesis
-    c.in_ok-total.total.conclusion (conclusions ts)) (sym c.deref.ensures.value)
     (total_for c.total_from.new.self c.args.given.now.hypothesis
     (length (sort_numbers c.args.sorts.now)) c.args.symbol.0 (plain_patterns c.args.args.now)
     c.in_ok-total.total.conclusion c.args.facts.now says
@@ -86,12 +73,8 @@ one_under-requires c =
           (sort_numbers c.args.sorts.now) c.args.given.now c.args.args.now
           c.args.facts.now c.in_ok-total.ensures.grown c.requires.facts;
       holds =
-          subst (λ (ts : List Theorem). HoldsOfPatterns c.args.given.now.hypothesis
-          c.in_ok-total.total.conclusion (conclusions ts) c.in_ok-some.some.conclusion)
-          c.deref.ensures.value c.in_ok-some.ensures.conclusion;
+          c.in_ok-some.ensures.conclusion;
       stays =
-          subst (λ (ts : List Theorem). StaysWithin (c.args.given.now.hypothesis ∷ [])
-          (c.in_ok-total.total ∷ ts) c.in_ok-some.some) c.deref.ensures.value
           c.in_ok-some.ensures.stays;
     } in
     total_some c.total_from.new.self (sort_numbers c.args.sorts.now) c.args.given.now
@@ -121,12 +104,8 @@ returns-clause-is c =
           (sort_numbers c.args.sorts.now) c.args.given.now c.args.args.now
           c.args.facts.now c.in_ok-total.ensures.grown c.requires.facts;
       holds =
-          subst (λ (ts : List Theorem). HoldsOfPatterns c.args.given.now.hypothesis
-          c.in_ok-total.total.conclusion (conclusions ts) c.in_ok-some.some.conclusion)
-          c.deref.ensures.value c.in_ok-some.ensures.conclusion;
+          c.in_ok-some.ensures.conclusion;
       stays =
-          subst (λ (ts : List Theorem). StaysWithin (c.args.given.now.hypothesis ∷ [])
-          (c.in_ok-total.total ∷ ts) c.in_ok-some.some) c.deref.ensures.value
           c.in_ok-some.ensures.stays;
     } in
     if_ok_two c.one_under.result
