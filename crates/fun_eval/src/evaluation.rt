@@ -192,8 +192,10 @@ fn evaluate_all<R: Recording>(
     Ok((Answers { terms, records }, left))
 }
 
-// The value of a function at terms.
+// The value of a function at terms. It is a call of its own, so that it takes no stack while the
+// arguments of a function are evaluated.
 #[cycle(evaluation)]
+#[inline(never)]
 fn apply<R: Recording>(
     alloc: Global,
     engine: &Engine<'_>,

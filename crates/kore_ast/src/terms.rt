@@ -1,5 +1,6 @@
 // Reading sorts and patterns. The recursion is only as deep as they are nested. Each level is
-// inside a bracket that was counted.
+// inside a bracket that was counted. The kinds of patterns are read by calls of their own, so that a
+// level takes the stack of its own kind alone.
 
 ghost use Rattle.std.specs.Prelude.{◌≡◌, ◌≤◌, ◌<◌, ◌-◌, Bool, true, map, IfOk, OnOk, Some};
 ghost use Rattle.kore_ast.specs.Plain.{plain_sort, pattern_tree};
@@ -73,6 +74,7 @@ impl<'a> Reader<'a> {
 
     /// An element variable, or the application of a symbol.
     #[cycle(patterns)]
+    #[inline(never)]
     fn named(&mut self) -> Result<Pat, AllocError>
         requires { head_of (seen (left self.old)) ≡ heads.Name }
         ensures exact { IfOk result (λ x.
@@ -99,6 +101,7 @@ impl<'a> Reader<'a> {
     }
 
     /// A set variable.
+    #[inline(never)]
     fn set_variable(&mut self) -> Result<Pat, AllocError>
         requires { head_of (seen (left self.old)) ≡ heads.SetName }
         ensures exact { IfOk result (λ x.
@@ -115,6 +118,7 @@ impl<'a> Reader<'a> {
     }
 
     /// A string.
+    #[inline(never)]
     fn text(&mut self) -> Result<Pat, AllocError>
         requires { is_textual (head_of (seen (left self.old))) ≡ true }
         ensures exact { IfOk result (λ x.
@@ -130,6 +134,7 @@ impl<'a> Reader<'a> {
 
     /// A connective with its sorts and arguments.
     #[cycle(patterns)]
+    #[inline(never)]
     fn connected(&mut self, op: Op) -> Result<Pat, AllocError>
         requires { head_of (seen (left self.old)) ≡ heads.Builtin (built.Connective op) }
         ensures exact { IfOk result (λ x.
@@ -149,6 +154,7 @@ impl<'a> Reader<'a> {
 
     /// A binder with its sorts, its variable and its body.
     #[cycle(patterns)]
+    #[inline(never)]
     fn binding(&mut self, binder: Binder) -> Result<Pat, AllocError>
         requires { head_of (seen (left self.old)) ≡ heads.Builtin (built.Binding binder) }
         ensures exact { IfOk result (λ x.
@@ -172,6 +178,7 @@ impl<'a> Reader<'a> {
     }
 
     /// A domain value.
+    #[inline(never)]
     fn domain_value(&mut self) -> Result<Pat, AllocError>
         requires { head_of (seen (left self.old)) ≡ heads.Builtin built.Value }
         ensures exact { IfOk result (λ x.
@@ -193,6 +200,7 @@ impl<'a> Reader<'a> {
 
     /// A fold.
     #[cycle(patterns)]
+    #[inline(never)]
     fn fold(&mut self, from_left: bool) -> Result<Pat, AllocError>
         requires { head_of (seen (left self.old)) ≡ heads.Builtin (built.Fold from_left) }
         ensures exact { IfOk result (λ x.
