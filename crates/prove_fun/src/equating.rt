@@ -12,6 +12,7 @@ use prove_term::{Cx, join};
 use std::alloc::{AllocError, Global};
 
 // From `a = b` and `b = c`: `a = c`. If an equality is missing, its sides are the same.
+#[inline(never)]
 pub(crate) fn joined(
     alloc: Global,
     cx: &mut Cx<'_>,
@@ -30,6 +31,7 @@ pub(crate) fn joined(
 }
 
 // From `a = b` and `b = c`: `a = c`. If the second equality is missing, its sides are the same.
+#[inline(never)]
 pub(crate) fn followed(
     alloc: Global,
     cx: &mut Cx<'_>,
@@ -49,6 +51,7 @@ pub(crate) fn followed(
 }
 
 // Returns an equality in each case. If none was found, it says that the image equals itself.
+#[inline(never)]
 pub(crate) fn equality(alloc: Global, found: Option<Thm>, image: &MPat) -> Result<Thm, AllocError>
     ensures { IfOk result (λ t. (cx : Context) (a : Pattern) → IsOverContext cx image.now →
         Equates cx a image.now found → Equates cx a image.now (Some t)) }

@@ -37,6 +37,7 @@ pub(crate) fn equation_of(program: &Program, symbol: SymId, number: usize) -> &E
 // Proves that the function of these terms equals the right side of the equation that was used at
 // them, with its variables replaced by what they were matched with. The condition is known to hold,
 // and so are the values of the conditions of the equations that were missed.
+#[inline(never)]
 pub(crate) fn equation_fact(
     alloc: Global,
     cx: &mut Cx<'_>,
@@ -76,6 +77,7 @@ pub(crate) fn equation_fact(
 }
 
 // Returns the values of the `count` arguments.
+#[inline(never)]
 pub(crate) fn results(
     alloc: Global,
     evaluation: &EvalRecord,

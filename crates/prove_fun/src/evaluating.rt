@@ -1,5 +1,8 @@
 // Patterns and the records of their evaluations: the image of a pattern, with its variables
 // replaced by the terms of a substitution, equals the image of its value.
+//
+// It recurses over records. What a level does for one kind of record is a call of its own, so that a
+// level takes the stack of its own kind alone.
 ghost use Rattle.std.specs.Prelude.{◌≡◌, ◌≤◌, ℕ, List, IfOk, IfSome, Some, [], length, map, slice_get};
 ghost use Rattle.ml_pat.specs.Patterns.{Pattern};
 ghost use Rattle.ml_kernel.specs.Lemmas.{HasNoVariable};
@@ -221,6 +224,7 @@ fn all_evaluated(
 
 // The same for an injection.
 #[cycle(evaluated)]
+#[inline(never)]
 fn injected(
     alloc: Global,
     cx: &mut Cx<'_>,
@@ -294,6 +298,7 @@ fn called(
 
 // The same for a call whose value an equation gave.
 #[cycle(evaluated)]
+#[inline(never)]
 fn by_equation(
     alloc: Global,
     cx: &mut Cx<'_>,
@@ -345,6 +350,7 @@ fn by_equation(
 // Proves that the function of the arguments' values equals the right side of the equation that was
 // used, with its variables replaced by what they were matched with. The call has `count` arguments.
 #[cycle(evaluated)]
+#[inline(never)]
 fn used_equation(
     alloc: Global,
     cx: &mut Cx<'_>,
@@ -379,6 +385,7 @@ fn used_equation(
 // For each equation that was missed though it matches, proves that its condition equals the value
 // that was recorded.
 #[cycle(evaluated)]
+#[inline(never)]
 fn missed_values(
     alloc: Global,
     cx: &mut Cx<'_>,
@@ -463,6 +470,7 @@ fn condition_held(
 
 // Proves that a pattern equals its value.
 #[cycle(evaluated)]
+#[inline(never)]
 fn value_held(
     alloc: Global,
     cx: &mut Cx<'_>,
@@ -490,6 +498,7 @@ fn value_held(
 // From a theorem on a function of the arguments' values, proves the same for the function of the
 // arguments' images.
 #[cycle(evaluated)]
+#[inline(never)]
 fn at_values(
     alloc: Global,
     cx: &mut Cx<'_>,
@@ -543,6 +552,7 @@ fn as_written(once: &Option<Thm>, image: &MPat) -> Result<MPat, AllocError>
 
 // Proves that an injection of a term equals its normal form. If the term is an injection itself,
 // the normal form injects directly.
+#[inline(never)]
 fn injected_once(
     alloc: Global,
     cx: &mut Cx<'_>,

@@ -21,6 +21,7 @@ use term_core::{RulePat, Scalar, SymId, Term, Value, pattern_of};
 
 // Proves that the function of its arguments' values equals the value of the hook. The call has
 // `count` arguments.
+#[inline(never)]
 pub(crate) fn hook_fact(
     alloc: Global,
     cx: &mut Cx<'_>,
