@@ -1,5 +1,6 @@
 -- A guard at terms: what it says of its variables.
-use Rattle.std.specs.Prelude.{◌≡◌, ◌↔◌, ◌<◌, ◌^◌, ℕ, List, length, All, Contains, Some, slice_get}
+use Rattle.std.specs.Prelude.{◌≡◌, ◌↔◌, ◌<◌, ◌^◌, ℕ, List, [], length, All, Contains, Some}
+use Rattle.std.specs.Prelude.{slice_get}
 use Rattle.term_core.specs.Terms.{Forest}
 use Rattle.term_core.specs.Patterns.{ground_patterns}
 use Rattle.term_core.specs.RulePatterns.{sort_numbers}
