@@ -17,9 +17,12 @@ unquantified (var x) = var x
 unquantified (meta i) = meta i
 unquantified (constant c) = constant c
 
--- the pattern p is q under quantifiers over variables of these sorts, numbered from k
+-- the pattern p states q of each x:k of this sort
+abbrev pub IsUnder : Signature → List (List ℕ) → ℕ → ℕ → Pattern → Pattern → Type 0
+IsUnder sig names k s p q = (n : ℕ) × (sort_image sig names s ≡ Some n) × (p ≡ all k n q)
+
+-- the pattern p states q of all variables of these sorts, numbered from k
 abbrev pub IsClosed : Signature → List (List ℕ) → ℕ → List ℕ → Pattern → Pattern → Type 0
 IsClosed sig names k [] p q = p ≡ q
 IsClosed sig names k (s ∷ ss) p q =
-    (n : ℕ) × (r : Pattern) × (sort_image sig names s ≡ Some n) × (p ≡ all k n r)
-    × IsClosed sig names (k + 1) ss r q
+    (r : Pattern) × IsUnder sig names k s p r × IsClosed sig names (k + 1) ss r q

@@ -2,10 +2,10 @@
 ghost use Rattle.std.specs.Prelude.{◌≡◌, ◌≤◌, ◌<◌, ◌^◌, length, MatchOption};
 ghost use Rattle.ml_pat.specs.Patterns.{Pattern};
 ghost use Rattle.term_core.specs.RulePatterns.{sort_numbers};
-ghost use Rattle.true_facts.specs.Closing.{unquantified, IsClosed};
+ghost use Rattle.true_facts.specs.Closing.{unquantified, IsUnder, IsClosed};
 
 use crate::shapes::as_all;
-use crate::tokens::sort_of;
+use crate::tokens::is_sort;
 use ml_pat::{MPat, Names};
 use rule_core::Signature;
 use term_core::SortId;
@@ -37,13 +37,33 @@ pub(crate) fn closed_over<'p>(
 {
     let mut body = pattern;
     for i in 0..sorts.len() {
-        let Some((x, sort, inner)) = as_all(body) else {
+        let Some(inner) = under(sig, names, body, first + i, sorts[i]) else {
             return None;
         };
-        if x.0 as usize != first + i || sort_of(sig, names, sort) != Some(sorts[i]) {
-            return None;
-        }
         body = inner;
     }
     Some(body)
+}
+
+// What the pattern states of each variable with this number and of this sort.
+fn under<'p>(
+    sig: &Signature,
+    names: &Names,
+    pattern: &'p MPat,
+    number: usize,
+    sort: SortId,
+) -> Option<&'p MPat>
+    requires { length sig.now.sorts ≤ 2 ^ 32 }
+    ensures { MatchOption result
+        ((q : Pattern) → IsUnder sig.now names.now number sort.0 pattern.now q → ⊥)
+        (λ q. IsUnder sig.now names.now number sort.0 pattern.now q.now) }
+{
+    let Some((x, of, body)) = as_all(pattern) else {
+        return None;
+    };
+    if x.0 as usize == number && is_sort(sig, names, of, sort) {
+        Some(body)
+    } else {
+        None
+    }
 }

@@ -7,7 +7,7 @@ ghost use Rattle.ml_image.specs.TrueFacts.{IsTrueFact, SaysValue};
 use crate::hook_facts::is_hook_fact;
 use crate::injections::is_injective_fact;
 use crate::shapes::as_fun;
-use crate::tokens::sort_of;
+use crate::tokens::is_sort;
 use crate::unequal::is_unequal_fact;
 use crate::values::value_at;
 use ml_pat::{MPat, Names};
@@ -55,5 +55,5 @@ fn is_value_fact(
     let Some(typed) = value_at(alloc, sig, names, of)? else {
         return Ok(false);
     };
-    Ok(sort_of(sig, names, sort) == Some(typed.sort))
+    Ok(is_sort(sig, names, sort, typed.sort))
 }

@@ -1,5 +1,5 @@
 // The bytes that hexadecimal digits spell.
-ghost use Rattle.std.specs.Prelude.{◌≡◌, ◌≢◌, ◌<◌, ℕ, IfOk, MatchOption};
+ghost use Rattle.std.specs.Prelude.{◌≡◌, ◌≢◌, ◌<◌, ◌/◌, ◌%◌, ℕ, IfOk, MatchOption};
 ghost use Rattle.std.specs.Char.{digit_char};
 ghost use Rattle.true_facts.specs.Digits.{AreSpelled};
 

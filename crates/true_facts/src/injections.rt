@@ -9,7 +9,7 @@ ghost use Rattle.true_facts.specs.Only.{IsOnly};
 ghost use Rattle.true_facts.specs.Injections.{injection_found, injective};
 
 use crate::shapes::{as_all, as_app, as_at, as_constant, as_equal, as_imp};
-use crate::tokens::{sort_of, symbol_of};
+use crate::tokens::{is_sort, sort_of, symbol_of};
 use ml_image::injection_symbol;
 use ml_pat::{MPat, MSort, Names, VarNo};
 use rule_core::Signature;
@@ -85,7 +85,7 @@ pub(crate) fn is_injective_fact(
     let Some(found) = injection_at(sig, names, head) else {
         return Ok(false);
     };
-    if !sig.subsorts.below(found.from, found.to) || sort_of(sig, names, sort) != Some(found.from) {
+    if !sig.subsorts.below(found.from, found.to) || !is_sort(sig, names, sort, found.from) {
         return Ok(false);
     }
     Ok(stated(alloc, sort, head)?.same(pattern))

@@ -6,7 +6,7 @@ ghost use Rattle.true_facts.specs.Only.{IsOnly};
 ghost use Rattle.true_facts.specs.Sides.{IsHeadAt, head_found, IsSideAt, side_found, plain_side};
 ghost use Rattle.true_facts.specs.Sides.{IsInjectedAt, plain_head};
 
-use crate::constructors::{constructor_at, is_variable};
+use crate::constructors::{Declared, Made, constructor_at, is_variable};
 use crate::injections::{Injection, injection_at};
 use crate::shapes::as_app;
 use crate::values::value_at;
@@ -133,11 +133,10 @@ fn head_at(
     let Some(made) = constructor_at(alloc, sig, names, pattern, first)? else {
         return Ok(None);
     };
-    let head = Head::Constructor(made.symbol, made.declared.args);
-    Ok(Some(SortedHead {
-        sort: made.declared.sort,
-        head,
-    }))
+    let Made { symbol, declared } = made;
+    let Declared { sort, args } = declared;
+    let head = Head::Constructor(symbol, args);
+    Ok(Some(SortedHead { sort, head }))
 }
 
 impl Side {

@@ -1,6 +1,6 @@
 // The sorts and symbols that numbers of tokens stand for.
 ghost use Rattle.std.specs.Prelude.{◌≡◌, ◌≢◌, ◌≤◌, ◌^◌, ◌++◌, ℕ, List, length, MatchOption, Some};
-ghost use Rattle.std.specs.Prelude.{slice_get};
+ghost use Rattle.std.specs.Prelude.{slice_get, IsTrue, ◌↔◌};
 ghost use Rattle.ml_pat.specs.Patterns.{constant};
 ghost use Rattle.ml_image.specs.Images.{sort_image, symbol_image};
 ghost use Rattle.true_facts.specs.Only.{IsOnly};
@@ -36,6 +36,17 @@ pub(crate) fn sort_of(sig: &Signature, names: &Names, number: MSort) -> Option<S
         return None;
     };
     Some(SortId(place as u32))
+}
+
+// Whether the number is that of the sort's token.
+pub(crate) fn is_sort(sig: &Signature, names: &Names, number: MSort, sort: SortId) -> bool
+    requires { length sig.now.sorts ≤ 2 ^ 32 }
+    ensures { IsTrue result ↔ (sort_image sig.now names.now sort.0 ≡ Some number.0) }
+{
+    match sort_of(sig, names, number) {
+        Some(found) => found == sort,
+        None => false,
+    }
 }
 
 // The symbol whose token has this number.

@@ -1,0 +1,4 @@
+pub mod OnlyLaws
+pub mod TokenLaws
+pub mod ClosingLaws
+pub mod ConstructorLaws
