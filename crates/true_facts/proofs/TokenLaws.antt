@@ -208,3 +208,16 @@ constant_only number n r one s = (
   λ h. (one s).0 (constant_same (number s) n h),
   λ e. ap (λ (o : Option ℕ). option_map constant o) ((one s).1 e),
 )
+
+-- ---- values of a table
+
+pub value_there : {V : Type 0} (es : List (List ℕ × V)) (n : ℕ) (v : V)
+    → option_map (λ (e : List ℕ × V). e.1) (slice_get es n) ≡ Some v
+    → (name : List ℕ) × (slice_get es n ≡ Some (name, v))
+value_there {V} es n v h = by_entry (slice_get es n) refl h
+  where
+    by_entry : (o : Option (List ℕ × V)) → slice_get es n ≡ o
+        → option_map (λ (e : List ℕ × V). e.1) o ≡ Some v
+        → (name : List ℕ) × (slice_get es n ≡ Some (name, v))
+    by_entry None e h = absurd (none_some v h)
+    by_entry (Some d) e h = (d.0, e ∙ ap (λ (w : V). Some (d.0, w)) (some_same d.1 v h))

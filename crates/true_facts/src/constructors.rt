@@ -111,7 +111,10 @@ fn declaration(
     let Some(info) = sig.symbols.value(symbol) else {
         return Ok(None);
     };
-    if info.kind != SymKind::Ctor || info.ac {
+    let SymKind::Ctor = info.kind else {
+        return Ok(None);
+    };
+    if info.ac {
         return Ok(None);
     }
     let SortRef::Sort(sort) = info.result else {
