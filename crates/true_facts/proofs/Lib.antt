@@ -2,3 +2,4 @@ pub mod OnlyLaws
 pub mod TokenLaws
 pub mod ClosingLaws
 pub mod ConstructorLaws
+pub mod DigitLaws

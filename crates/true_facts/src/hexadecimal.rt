@@ -9,27 +9,25 @@ use std::alloc::{AllocError, Global};
 pub(crate) fn bytes_of(alloc: Global, digits: &[u8]) -> Result<Option<Vec<u8>>, AllocError>
     ensures { IfOk result (AreSpelled digits.now) }
 {
-    let mut bytes = Vec::with_capacity(alloc, digits.len() / 2)?;
-    let mut left = digits;
-    while let [high, low, rest @ ..] = left {
-        let Some(byte) = byte_of(*high, *low) else {
+    if digits.len() % 2 == 1 {
+        return Ok(None);
+    }
+    let count = digits.len() / 2;
+    let mut bytes = Vec::with_capacity(alloc, count)?;
+    for i in 0..count {
+        let Some(byte) = byte_of(digits[2 * i], digits[2 * i + 1]) else {
             return Ok(None);
         };
         bytes.push(byte)?;
-        left = rest;
     }
-    if left.is_empty() {
-        Ok(Some(bytes))
-    } else {
-        Ok(None)
-    }
+    Ok(Some(bytes))
 }
 
 // The byte that two digits spell.
 fn byte_of(high: u8, low: u8) -> Option<u8>
     ensures { MatchOption result
         ((b : ℕ) → b < 256 → high ≡ digit_char (b / 16) → low ≢ digit_char (b % 16))
-        (λ b. (high ≡ digit_char (b / 16)) × (low ≡ digit_char (b % 16))) }
+        (λ b. (b < 256) × (high ≡ digit_char (b / 16)) × (low ≡ digit_char (b % 16))) }
 {
     let Some(first) = digit_of(high) else {
         return None;
