@@ -183,9 +183,11 @@ constructor_is sig names p k n f d head symbol declared (c, spelled) =
     sym head ∙ ap applied_head spelled ∙ applied_head-variables (constant c) k (length d.1) in
     let image : symbol_image sig names f ≡ Some (constant c) =
     (symbol f).1 refl ∙ ap (λ (q : Pattern). Some q) same in
-    only_some (IsMade sig names p k) (f, d)
-    ((declared d).1 refl, made_image sig names f k (length d.1) (constant c) image
-    ∙ ap (λ (q : Pattern). Some q) (sym spelled))
+    only_some (IsMade sig names p k) (f, d) (
+      (declared d).1 refl,
+      made_image sig names f k (length d.1) (constant c) image
+          ∙ ap (λ (q : Pattern). Some q) (sym spelled),
+    )
     (λ m h.
     let h' : HasParts sig p k (Some f) m = parts sig names p k n (Some f) m head symbol h in
     let first : f ≡ m.0 = some_same f m.0 h'.symbol in

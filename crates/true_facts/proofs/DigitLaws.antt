@@ -1,7 +1,8 @@
 -- Hexadecimal digits that were read from the left, two for each byte.
 use Rattle.std.proofs.Common.{◌≡◌, ◌≢◌, ◌<◌, ◌+◌, ◌*◌, ◌/◌, ◌%◌, ℕ, suc, zero, List, [], ◌∷◌, ◌++◌, length}
 use Rattle.std.proofs.Common.{drop, get_or, refl, sym, ◌∙◌, ap, subst, arith, append_assoc}
-use Rattle.std.specs.Char.{digit_char}
+use Rattle.std.specs.Char.{digit_char, digit_value}
+use Rattle.std.proofs.lemmas.Str.{digit_value-digit_char}
 use Rattle.std.proofs.lemmas.List.{drop_more}
 use Rattle.ml_image.specs.Tokens.{hexadecimal}
 use Rattle.ml_image.proofs.HexLaws.{hexadecimal-push}
@@ -76,3 +77,28 @@ bytes-push [] b are low (suc k) d within = absurd (omega arith)
 bytes-push (f ∷ front) b are low zero d within = are 0 d (omega arith)
 bytes-push (f ∷ front) b are low (suc k) d within =
     bytes-push front b (λ j e near. are (suc j) e (omega arith)) low k d (omega arith)
+
+-- ---- bytes that have the same digits
+
+digit_same : (m n : ℕ) → m < 16 → n < 16 → digit_char m ≡ digit_char n → m ≡ n
+digit_same m n lm ln h =
+    sym (digit_value-digit_char m (omega arith)) ∙ ap digit_value h
+    ∙ digit_value-digit_char n (omega arith)
+
+pub same_bytes : (xs ys : List ℕ) → AreBytes xs → AreBytes ys → hexadecimal xs ≡ hexadecimal ys
+    → xs ≡ ys
+same_bytes [] [] hx hy h = refl
+same_bytes [] (y ∷ ys) hx hy h = absurd (cc)
+same_bytes (x ∷ xs) [] hx hy h = absurd (cc)
+same_bytes (x ∷ xs) (y ∷ ys) hx hy h =
+    let high : digit_char (x / 16) ≡ digit_char (y / 16) = cc in
+    let low : digit_char (x % 16) ≡ digit_char (y % 16) = cc in
+    let rest : hexadecimal xs ≡ hexadecimal ys = cc in
+    let small : x < 256 = hx 0 0 (omega arith) in
+    let also : y < 256 = hy 0 0 (omega arith) in
+    let first : x / 16 ≡ y / 16 = digit_same (x / 16) (y / 16) (omega arith) (omega arith) high in
+    let second : x % 16 ≡ y % 16 = digit_same (x % 16) (y % 16) (omega arith) (omega arith) low in
+    let same : x ≡ y = omega arith in
+    ap (λ (n : ℕ). n ∷ xs) same ∙ ap (λ (ns : List ℕ). y ∷ ns)
+    (same_bytes xs ys (λ k d within. hx (suc k) d (omega arith))
+    (λ k d within. hy (suc k) d (omega arith)) rest)

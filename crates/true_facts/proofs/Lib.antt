@@ -3,3 +3,7 @@ pub mod TokenLaws
 pub mod ClosingLaws
 pub mod ConstructorLaws
 pub mod DigitLaws
+pub mod ColonLaws
+pub mod IntegerLaws
+pub mod ValueLaws
+pub mod ValueTokenLaws

@@ -138,7 +138,7 @@ abbrev pub number_behind : {V : Type 0} → List (List ℕ) → List ℕ → Lis
 number_behind ts prefix es s = number_in_names ts (option_map (λ name. prefix ++ name)
     (name_at es s))
 
-same_name : (ts : List (List ℕ)) (n : ℕ) (prefix x y : List ℕ)
+pub same_name : (ts : List (List ℕ)) (n : ℕ) (prefix x y : List ℕ)
     → slice_get ts n ≡ Some (prefix ++ x) → slice_get ts n ≡ Some (prefix ++ y) → x ≡ y
 same_name ts n prefix x y hx hy =
     append_cancel_left prefix x y (some_same (prefix ++ x) (prefix ++ y) (sym hx ∙ hy))

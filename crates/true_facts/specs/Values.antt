@@ -3,9 +3,10 @@ use Rattle.std.specs.Prelude.{◌≡◌, ℕ, List, Option, Some, option_map, sl
 use Rattle.ml_pat.specs.Patterns.{Pattern}
 use Rattle.term_core.specs.Terms.{DomainValue}
 use Rattle.term_core.specs.Patterns.{domain_value}
+use Rattle.term_core.specs.ValueTexts.{value_text}
 use Rattle.term_core.specs.Values.{value_of}
 use Rattle.term_core.specs.declared.values.Value.{Value}
-use Rattle.rule_core.specs.Sorting.{HasValue}
+use Rattle.rule_core.specs.Sorting.{HasValue, IsValueOf}
 use Rattle.rule_core.specs.declared.signature.Signature.{Signature}
 use Rattle.rule_core.specs.declared.signature.SortInfo.{SortInfo}
 use Rattle.rule_core.specs.declared.signature.SortKind.{SortKind}
@@ -22,6 +23,10 @@ abbrev pub IsKindAt : Signature → ℕ → SortKind → Type 0
 IsKindAt sig s kind =
     (name : List ℕ) × (info : SortInfo) × (slice_get sig.sorts s ≡ Some (name, info))
     × (info.kind ≡ kind)
+
+-- the value of a sort of this kind with this text
+abbrev pub HasValueText : SortKind → List ℕ → DomainValue → Type 0
+HasValueText k bytes v = IsValueOf k v × (value_text v ≡ bytes)
 
 abbrev pub value_found : Option Value → Option DomainValue
 value_found r = option_map value_of r

@@ -11,6 +11,8 @@ ghost use Rattle.rule_core.specs.Sorting.{IsValueOf};
 ghost use Rattle.ml_image.specs.Tokens.{hexadecimal};
 ghost use Rattle.true_facts.specs.Only.{IsOnly};
 ghost use Rattle.true_facts.specs.Values.{typed_found, value_found, IsValueAt, IsKindAt};
+ghost use Rattle.true_facts.specs.Values.{HasValueText};
+ghost use Rattle.rule_core.specs.declared.signature.SortKind.TheVariants as kind;
 ghost use Rattle.true_facts.specs.Digits.{HasNoColon};
 
 use crate::hexadecimal::bytes_of;
@@ -100,12 +102,32 @@ fn value_spelled(alloc: Global, kind: SortKind, digits: &str) -> Result<Option<V
 // The value of a sort of this kind whose text this is.
 fn value_in(alloc: Global, kind: SortKind, text: &str) -> Result<Option<Value>, AllocError>
     ensures { IfOk result
-        (λ r. IsOnly (λ v. IsValueOf kind v × (value_text v ≡ text.now)) (value_found r)) }
+        (λ r. IsOnly (HasValueText kind text.now) (value_found r)) }
 {
     match kind {
-        SortKind::Int => Ok(integer_of(text).map(Value::Int)),
-        SortKind::Bool => Ok(truth_of(text).map(Value::Bool)),
+        SortKind::Int => Ok(integer_in(text)),
+        SortKind::Bool => Ok(truth_in(text)),
         SortKind::Map | SortKind::Other => Ok(Some(words(alloc, text)?)),
+    }
+}
+
+// The integer whose canonical text this is, as a value.
+fn integer_in(text: &str) -> Option<Value>
+    ensures { IsOnly (HasValueText kind.Int text.now) (value_found result) }
+{
+    match integer_of(text) {
+        Some(number) => Some(Value::Int(number)),
+        None => None,
+    }
+}
+
+// The truth value whose name this is, as a value.
+fn truth_in(text: &str) -> Option<Value>
+    ensures { IsOnly (HasValueText kind.Bool text.now) (value_found result) }
+{
+    match truth_of(text) {
+        Some(truth) => Some(Value::Bool(truth)),
+        None => None,
     }
 }
 
@@ -136,8 +158,7 @@ fn truth_of(text: &str) -> Option<bool>
 
 // The text as a value.
 fn words(alloc: Global, text: &str) -> Result<Value, AllocError>
-    ensures value { IfOk result (λ v. value_of v ≡ words_value text.now) }
-    ensures utf8 { IsTrue (is_utf8 text.now) }
+    ensures { IfOk result (λ v. (value_of v ≡ words_value text.now) × IsTrue (is_utf8 text.now)) }
 {
     Ok(Value::Text(RcStr::from_str(alloc, text)?))
 }

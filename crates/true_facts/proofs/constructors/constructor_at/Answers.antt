@@ -66,8 +66,14 @@ returns-else-is_at_variables c =
     let sorts : sort_numbers c.in-Some-2.declared.args.items ≡ m.1.1 =
     ap (λ (d : ℕ × List ℕ). d.1) same in
     let long : length m.1.1 ≡ c.len.result =
-    omega (arith, ap length sorts, length-numbers c.in-Some-2.declared.args.items,
-    c.len.ensures) in
-    false≢true (sym c.if-is_at_variables.false ∙ c.is_at_variables.ensures.1 (h'.constant_number,
-    subst (λ (n : ℕ). c.args.pattern.now
-    ≡ at_variables (constant h'.constant_number) c.args.first n) long h'.spelled)))
+    omega (
+      arith,
+      ap length sorts,
+      length-numbers c.in-Some-2.declared.args.items,
+      c.len.ensures,
+    ) in
+    false≢true (sym c.if-is_at_variables.false ∙ c.is_at_variables.ensures.1 (
+      h'.constant_number,
+      subst (λ (n : ℕ). c.args.pattern.now
+          ≡ at_variables (constant h'.constant_number) c.args.first n) long h'.spelled,
+    )))

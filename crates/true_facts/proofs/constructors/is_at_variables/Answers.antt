@@ -37,10 +37,15 @@ returns c =
     let none : c.loop-i.i ≡ 0 = omega (arith, c.loop-i-test.false) in
     let test = constant_test (λ (n : ConstNo). n.0) c.as_constant.result c.loop-i.head.now
     c.is_some.result c.as_constant.ensures c.is_some.ensures in (
-      λ t. ((test.0 t).0, (c.loop-i.invariant (test.0 t).0).1
-          (subst (λ (i : ℕ). c.loop-i.head.now ≡ at_variables (constant (test.0 t).0) c.args.first i)
-          (sym none) (test.0 t).1)),
-      λ h. test.1 (h.0,
-          subst (λ (i : ℕ). c.loop-i.head.now ≡ at_variables (constant h.0) c.args.first i)
-          none ((c.loop-i.invariant h.0).0 h.1)),
+      λ t. (
+        (test.0 t).0,
+        (c.loop-i.invariant (test.0 t).0).1
+            (subst (λ (i : ℕ). c.loop-i.head.now ≡ at_variables (constant (test.0 t).0) c.args.first i)
+            (sym none) (test.0 t).1),
+      ),
+      λ h. test.1 (
+        h.0,
+        subst (λ (i : ℕ). c.loop-i.head.now ≡ at_variables (constant h.0) c.args.first i)
+            none ((c.loop-i.invariant h.0).0 h.1),
+      ),
     )

@@ -11,8 +11,7 @@ returns c =
     omega (arith, c.in-Some-digit_of.ensures.0) in
     let low : c.in-Some-digit_of.second
     ≡ (c.in-Some.first * 16 + c.in-Some-digit_of.second) % 16 =
-    omega (arith, c.in-Some-digit_of.ensures.0) in
-    (
+    omega (arith, c.in-Some-digit_of.ensures.0) in (
       omega (arith, c.in-Some.ensures.0, c.in-Some-digit_of.ensures.0),
       c.in-Some.ensures.1 ∙ ap digit_char high,
       c.in-Some-digit_of.ensures.1 ∙ ap digit_char low,

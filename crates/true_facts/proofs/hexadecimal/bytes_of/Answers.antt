@@ -43,8 +43,10 @@ returns-in_default c = λ bytes are h.
 pub returns : goal.returns
 returns c =
     let past : length c.args.digits.now ≤ 2 * c.loop-i.i =
-    omega (arith, c.loop-i-test.false, c.if-digits-eq1.false) in
-    (c.loop-i.invariant.0, c.loop-i.invariant.1
-    ∙ ap (λ (ds : List ℕ). hexadecimal c.loop-i.bytes.items ++ ds)
-    (drop_all (2 * c.loop-i.i) c.args.digits.now past)
-    ∙ append-nil (hexadecimal c.loop-i.bytes.items))
+    omega (arith, c.loop-i-test.false, c.if-digits-eq1.false) in (
+      c.loop-i.invariant.0,
+      c.loop-i.invariant.1
+          ∙ ap (λ (ds : List ℕ). hexadecimal c.loop-i.bytes.items ++ ds)
+          (drop_all (2 * c.loop-i.i) c.args.digits.now past)
+          ∙ append-nil (hexadecimal c.loop-i.bytes.items),
+    )
