@@ -7,3 +7,7 @@ pub mod ColonLaws
 pub mod IntegerLaws
 pub mod ValueLaws
 pub mod ValueTokenLaws
+pub mod HookFactLaws
+pub mod BothLaws
+pub mod HookCalls
+pub mod HookShapes

@@ -1,5 +1,7 @@
 -- What is the only thing with a property.
-use Rattle.std.proofs.Common.{◌≡◌, Option, Some, None, ap, subst, ◌∙◌}
+use Rattle.std.proofs.Common.{◌≡◌, ◌↔◌, false, Option, Some, None, ap, subst, ◌∙◌}
+use Rattle.std.specs.Prelude.{IsTrue}
+use Rattle.std.proofs.lemmas.Bool.{false≢true}
 use Rattle.ml_image.proofs.ImageLaws.{none_some, some_same}
 use Rattle.true_facts.specs.Only.{IsOnly}
 
@@ -22,3 +24,7 @@ pair_same {A} {B} a x b y first second =
 pub only_at : {A X : Type 0} (P : A → Type 0) (seen : Option X → Option A) (o p : Option X)
     → o ≡ p → IsOnly P (seen o) → IsOnly P (seen p)
 only_at P seen o p same one = subst (λ q. IsOnly P (seen q)) same one
+
+-- what does not hold is answered by false
+pub is_false : (P : Type 0) → (P → ⊥) → IsTrue false ↔ P
+is_false P none = (λ t. absurd (false≢true t), λ h. absurd (none h))

@@ -183,10 +183,11 @@ value_is sig names p name digits place k w dn d h named kind one =
     let numbered : number_in_names names (token_of_value sig place w) ≡ Some h.number =
     numbered_to names (λ (l : List ℕ). value_token l w) (name_at sig.sorts place) h.number name dn
     (name_there sig.sorts name place named) there in
-    only_some (IsValueAt sig names p) (place, w)
-    ((kind.0, kind.1, kind.2, subst (λ (j : SortKind). IsValueOf j w) (sym kind.3) has.0),
-    ap (λ (o : Option ℕ). option_map constant o) numbered
-    ∙ ap (λ (q : Pattern). Some q) (sym h.is_constant))
+    only_some (IsValueAt sig names p) (place, w) (
+      (kind.0, kind.1, kind.2, subst (λ (j : SortKind). IsValueOf j w) (sym kind.3) has.0),
+      ap (λ (o : Option ℕ). option_map constant o) numbered
+          ∙ ap (λ (q : Pattern). Some q) (sym h.is_constant),
+    )
     (λ x v.
     let read = sort_read sig names p name digits place k x d h named kind v in
     pair_same place x.0 w x.1 read.0 (some_same w x.1 ((one x.1).0 read.1)))

@@ -1,22 +1,24 @@
 // The fact that a function with a hook has the value that the hook computes.
 ghost use Rattle.std.specs.Prelude.{◌≡◌, ◌↔◌, ◌≤◌, ◌^◌, [], ◌∷◌, ℕ, List, length, map, IfOk, IsTrue};
-ghost use Rattle.std.specs.Prelude.{Some, Ok};
+ghost use Rattle.std.specs.Prelude.{Some, Ok, ◌≢◌, MatchOption};
+ghost use Rattle.term_core.specs.declared.values.Scalar.{Scalar};
 ghost use Rattle.term_core.specs.Terms.{DomainValue};
 ghost use Rattle.term_core.specs.RulePatterns.{sort_numbers};
-ghost use Rattle.term_core.specs.Values.{scalar_value};
+ghost use Rattle.term_core.specs.Values.{scalar_value, value_of};
 ghost use Rattle.term_core.specs.HookValues.{hook_value};
 ghost use Rattle.ml_image.specs.OwnAxioms.{sort_numbered};
 ghost use Rattle.ml_image.specs.Sentences.{IsImageOf};
 ghost use Rattle.ml_image.specs.TrueFacts.{SaysHook};
 ghost use Rattle.true_facts.specs.Only.{IsOnly};
-ghost use Rattle.true_facts.specs.Hooks.{number_found, IsNumberAt, IsComputed, CallsHook};
+ghost use Rattle.true_facts.specs.Hooks.{number_found, IsNumberAt, IsComputed};
+ghost use Rattle.true_facts.specs.Hooks.{IsHooked, hook_found};
 
 use crate::shapes::{as_app, as_constant, as_equal};
 use crate::tokens::symbol_of;
 use crate::values::value_at;
 use hook_table::{apply, fits};
 use ml_pat::{MPat, Names};
-use rule_core::{Signature, SortRef, SymInfo, SymKind};
+use rule_core::{Signature, SortRef, SymKind};
 use std::alloc::{AllocError, Global};
 use term_core::{HookNo, Scalar, SortId, Value};
 
@@ -46,21 +48,19 @@ pub(crate) fn is_hook_fact(
     let Some(value) = number_at(alloc, sig, names, made)? else {
         return Ok(false);
     };
-    let Some((head, arg)) = as_app(call) else {
+    let Some((rest, arg)) = as_app(call) else {
         return Ok(false);
     };
     let Some(last) = number_at(alloc, sig, names, arg)? else {
         return Ok(false);
     };
-    let Some((head, arg)) = as_app(head) else {
-        return Ok(computes(sig, names, head, &[last.sort], &[last.scalar], value));
+    let Some((head, arg)) = as_app(rest) else {
+        return Ok(computes_one(sig, names, rest, last, value));
     };
     let Some(first) = number_at(alloc, sig, names, arg)? else {
         return Ok(false);
     };
-    let sorts = [first.sort, last.sort];
-    let args = [first.scalar, last.scalar];
-    Ok(computes(sig, names, head, &sorts, &args, value))
+    Ok(computes_two(sig, names, head, first, last, value))
 }
 
 // The whole number or truth value whose image is the pattern, and its sort.
@@ -77,46 +77,89 @@ fn number_at(
     let Some(typed) = value_at(alloc, sig, names, pattern)? else {
         return Ok(None);
     };
-    let sort = typed.sort;
-    match typed.value {
-        Value::Int(n) => Ok(Some(Sorted {
-            sort,
-            scalar: Scalar::Int(n),
+    match scalar_of(&typed.value) {
+        Some(scalar) => Ok(Some(Sorted {
+            sort: typed.sort,
+            scalar,
         })),
-        Value::Bool(b) => Ok(Some(Sorted {
-            sort,
-            scalar: Scalar::Bool(b),
-        })),
-        Value::Text(_) => Ok(None),
+        None => Ok(None),
     }
 }
 
-// Whether the pattern is the constant of a function of these sorts with a hook that computes the
-// value from the arguments.
-fn computes(
+// The value, if it is a whole number or a truth value.
+fn scalar_of(value: &Value) -> Option<Scalar>
+    ensures { MatchOption result ((s : Scalar) → value_of value.now ≢ scalar_value s)
+        (λ s. value_of value.now ≡ scalar_value s) }
+{
+    match value {
+        Value::Int(n) => Some(Scalar::Int(*n)),
+        Value::Bool(b) => Some(Scalar::Bool(*b)),
+        Value::Text(_) => None,
+    }
+}
+
+// Whether the pattern is the constant of a function with a hook that computes the value from the
+// argument.
+fn computes_one(sig: &Signature, names: &Names, head: &MPat, arg: Sorted, value: Sorted) -> bool
+    ensures { IsTrue result
+        ↔ IsComputed sig.now names.now head.now (arg.sort.0 ∷ []) (scalar_value arg.scalar ∷ [])
+        value.sort.0 (scalar_value value.scalar) }
+{
+    match hook_at(sig, names, head, &[arg.sort], value.sort) {
+        Some(hook) => answers(hook, &[arg.scalar], value.scalar),
+        None => false,
+    }
+}
+
+// The same from two arguments.
+fn computes_two(
+    sig: &Signature,
+    names: &Names,
+    head: &MPat,
+    first: Sorted,
+    second: Sorted,
+    value: Sorted,
+) -> bool
+    ensures { IsTrue result
+        ↔ IsComputed sig.now names.now head.now (first.sort.0 ∷ (second.sort.0 ∷ []))
+        (scalar_value first.scalar ∷ (scalar_value second.scalar ∷ []))
+        value.sort.0 (scalar_value value.scalar) }
+{
+    match hook_at(sig, names, head, &[first.sort, second.sort], value.sort) {
+        Some(hook) => answers(hook, &[first.scalar, second.scalar], value.scalar),
+        None => false,
+    }
+}
+
+// The hook of the function from these sorts to this one whose constant is the pattern.
+fn hook_at(
     sig: &Signature,
     names: &Names,
     head: &MPat,
     sorts: &[SortId],
-    args: &[Scalar],
-    value: Sorted,
-) -> bool
-    ensures { IsTrue result
-        ↔ IsComputed sig.now names.now head.now (sort_numbers sorts.now)
-        (map scalar_value args.now) value.sort.0 (scalar_value value.scalar) }
+    result_sort: SortId,
+) -> Option<HookNo>
+    ensures { IsOnly
+        (IsHooked sig.now names.now head.now (sort_numbers sorts.now) result_sort.0)
+        (hook_found result) }
 {
     let Some(number) = as_constant(head) else {
-        return false;
+        return None;
     };
     let Some(symbol) = symbol_of(sig, names, number) else {
-        return false;
+        return None;
     };
     let Some(info) = sig.symbols.value(symbol) else {
-        return false;
+        return None;
     };
-    takes(&info.args, sorts)
-        && info.result == SortRef::Sort(value.sort)
-        && hook_gives(info, args, value.scalar)
+    let SymKind::Hooked(hook) = info.kind else {
+        return None;
+    };
+    if takes(&info.args, sorts) && refers_to(info.result, result_sort) {
+        Some(hook)
+    } else {
+        None
+    }
 }
 
 // Whether the references are to these sorts.
@@ -127,25 +170,20 @@ fn takes(refs: &[SortRef], sorts: &[SortId]) -> bool
         return false;
     }
     for (of, sort) in refs.iter().zip(sorts) {
-        if *of != SortRef::Sort(*sort) {
+        if !refers_to(*of, *sort) {
             return false;
         }
     }
     true
 }
 
-// Whether the symbol is a function with a hook that computes this value from the arguments.
-fn hook_gives(info: &SymInfo, args: &[Scalar], value: Scalar) -> bool
-    ensures { IsTrue result
-        ↔ CallsHook info.now.kind (map scalar_value args.now) (scalar_value value) }
+// Whether the reference is to this sort.
+fn refers_to(of: SortRef, sort: SortId) -> bool
+    ensures { IsTrue result ↔ (of ≡ sort_numbered sort.0) }
 {
-    let SymKind::Hooked(hook) = info.kind else {
-        return false;
-    };
-    match args {
-        [x] => answers(hook, &[*x], value),
-        [x, y] => answers(hook, &[*x, *y], value),
-        _ => false,
+    match of {
+        SortRef::Sort(named) => named == sort,
+        SortRef::Param(_) => false,
     }
 }
 
