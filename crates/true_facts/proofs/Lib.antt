@@ -11,3 +11,5 @@ pub mod HookFactLaws
 pub mod BothLaws
 pub mod HookCalls
 pub mod HookShapes
+pub mod ValueFactLaws
+pub mod InjectionLaws

@@ -85,7 +85,10 @@ pub(crate) fn is_injective_fact(
     let Some(found) = injection_at(sig, names, head) else {
         return Ok(false);
     };
-    if !sig.subsorts.below(found.from, found.to) || !is_sort(sig, names, sort, found.from) {
+    if !sig.subsorts.below(found.from, found.to) {
+        return Ok(false);
+    }
+    if !is_sort(sig, names, sort, found.from) {
         return Ok(false);
     }
     Ok(stated(alloc, sort, head)?.same(pattern))
