@@ -151,3 +151,13 @@ about_there sig names p rest body head q r t k n j m outer inner last fact =
       subst (λ (g : Pattern). IsAbout sig names p n g h.2) (sym heads)
           (subst (λ (i : ℕ). IsAbout sig names p i h.1 h.2) (sym numbers) h.3),
     )
+
+-- and the fact is about this injection, if it is the one of that pattern
+pub about_this : (sig : Signature) (names : List (List ℕ)) (p rest body head q r t : Pattern)
+    (k n j m : ℕ) (x : ℕ × ℕ) → p ≡ all k n rest → rest ≡ all j m body
+    → body ≡ imp (equal (app head q) r) t → IsOnly (IsInjectionAt sig names head) (Some x)
+    → IsInjectiveFact sig names p → IsAbout sig names p n head x
+about_this sig names p rest body head q r t k n j m x outer inner last one fact =
+    let h = about_there sig names p rest body head q r t k n j m outer inner last fact in
+    subst (λ (y : ℕ × ℕ). IsAbout sig names p n head y)
+    (sym (some_same x h.0 ((one h.0).0 h.1.is_injection))) h.1
