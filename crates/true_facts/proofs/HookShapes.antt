@@ -152,31 +152,33 @@ pub fact_one : (sig : Signature) (names : List (List ℕ)) (p c made head q : Pa
     → IsHookFact sig names p
 fact_one sig names p c made head q a v is applied value arg
     (row, (f, info, image, declared, kind), answers) = (
-  f,
-  scalar_value a.1 ∷ [],
-  (equals (term (call f [] (value_patterns (a.0 ∷ []) (scalar_value a.1 ∷ []))))
-      (term (domain_value v.0 (scalar_value v.1))),
-  record {
-    info = info;
-    sorts = a.0 ∷ [];
-    sort = v.0;
-    declared = declared;
-    row = row;
-    hooked = kind;
-    arguments = (arg.0, tt);
-    value = scalar_value v.1;
-    answers = answers;
-    has = value.0;
-    says = refl;
-  },
-  both_made equal (both app (symbol_image sig names f)
-      (image_of sig names (domain_value a.0 (scalar_value a.1))))
-      (image_of sig names (domain_value v.0 (scalar_value v.1))) (app head q) made
-      (both_made app (symbol_image sig names f)
-      (image_of sig names (domain_value a.0 (scalar_value a.1))) head q image arg.1) value.1
-      ∙ ap (λ (r : Pattern). Some (equal r made)) (sym applied)
-      ∙ ap (λ (r : Pattern). Some r) (sym is)),
-)
+      f,
+      scalar_value a.1 ∷ [],
+      (
+        equals (term (call f [] (value_patterns (a.0 ∷ []) (scalar_value a.1 ∷ []))))
+            (term (domain_value v.0 (scalar_value v.1))),
+        record {
+          info = info;
+          sorts = a.0 ∷ [];
+          sort = v.0;
+          declared = declared;
+          row = row;
+          hooked = kind;
+          arguments = (arg.0, tt);
+          value = scalar_value v.1;
+          answers = answers;
+          has = value.0;
+          says = refl;
+        },
+        both_made equal (both app (symbol_image sig names f)
+            (image_of sig names (domain_value a.0 (scalar_value a.1))))
+            (image_of sig names (domain_value v.0 (scalar_value v.1))) (app head q) made
+            (both_made app (symbol_image sig names f)
+            (image_of sig names (domain_value a.0 (scalar_value a.1))) head q image arg.1) value.1
+            ∙ ap (λ (r : Pattern). Some (equal r made)) (sym applied)
+            ∙ ap (λ (r : Pattern). Some r) (sym is),
+      ),
+    )
 
 pub fact_two : (sig : Signature) (names : List (List ℕ)) (p c made rest head q r : Pattern)
     (a b v : ℕ × Scalar) → p ≡ equal c made → c ≡ app rest r → rest ≡ app head q
@@ -185,38 +187,40 @@ pub fact_two : (sig : Signature) (names : List (List ℕ)) (p c made rest head q
     v.0 (scalar_value v.1) → IsHookFact sig names p
 fact_two sig names p c made rest head q r a b v is outer inner value first second
     (row, (f, info, image, declared, kind), answers) = (
-  f,
-  scalar_value a.1 ∷ (scalar_value b.1 ∷ []),
-  (equals (term (call f [] (value_patterns (a.0 ∷ (b.0 ∷ []))
-      (scalar_value a.1 ∷ (scalar_value b.1 ∷ [])))))
-      (term (domain_value v.0 (scalar_value v.1))),
-  record {
-    info = info;
-    sorts = a.0 ∷ (b.0 ∷ []);
-    sort = v.0;
-    declared = declared;
-    row = row;
-    hooked = kind;
-    arguments = (first.0, (second.0, tt));
-    value = scalar_value v.1;
-    answers = answers;
-    has = value.0;
-    says = refl;
-  },
-  both_made equal (both app (both app (symbol_image sig names f)
-      (image_of sig names (domain_value a.0 (scalar_value a.1))))
-      (image_of sig names (domain_value b.0 (scalar_value b.1))))
-      (image_of sig names (domain_value v.0 (scalar_value v.1))) (app (app head q) r) made
-      (both_made app (both app (symbol_image sig names f)
-      (image_of sig names (domain_value a.0 (scalar_value a.1))))
-      (image_of sig names (domain_value b.0 (scalar_value b.1))) (app head q) r
-      (both_made app (symbol_image sig names f)
-      (image_of sig names (domain_value a.0 (scalar_value a.1))) head q image first.1) second.1)
-      value.1
-      ∙ ap (λ (h : Pattern). Some (equal (app h r) made)) (sym inner)
-      ∙ ap (λ (h : Pattern). Some (equal h made)) (sym outer)
-      ∙ ap (λ (h : Pattern). Some h) (sym is)),
-)
+      f,
+      scalar_value a.1 ∷ (scalar_value b.1 ∷ []),
+      (
+        equals (term (call f [] (value_patterns (a.0 ∷ (b.0 ∷ []))
+            (scalar_value a.1 ∷ (scalar_value b.1 ∷ [])))))
+            (term (domain_value v.0 (scalar_value v.1))),
+        record {
+          info = info;
+          sorts = a.0 ∷ (b.0 ∷ []);
+          sort = v.0;
+          declared = declared;
+          row = row;
+          hooked = kind;
+          arguments = (first.0, (second.0, tt));
+          value = scalar_value v.1;
+          answers = answers;
+          has = value.0;
+          says = refl;
+        },
+        both_made equal (both app (both app (symbol_image sig names f)
+            (image_of sig names (domain_value a.0 (scalar_value a.1))))
+            (image_of sig names (domain_value b.0 (scalar_value b.1))))
+            (image_of sig names (domain_value v.0 (scalar_value v.1))) (app (app head q) r) made
+            (both_made app (both app (symbol_image sig names f)
+            (image_of sig names (domain_value a.0 (scalar_value a.1))))
+            (image_of sig names (domain_value b.0 (scalar_value b.1))) (app head q) r
+            (both_made app (symbol_image sig names f)
+            (image_of sig names (domain_value a.0 (scalar_value a.1))) head q image first.1) second.1)
+            value.1
+            ∙ ap (λ (h : Pattern). Some (equal (app h r) made)) (sym inner)
+            ∙ ap (λ (h : Pattern). Some (equal h made)) (sym outer)
+            ∙ ap (λ (h : Pattern). Some h) (sym is),
+      ),
+    )
 
 -- ---- what the parts of such a pattern are
 

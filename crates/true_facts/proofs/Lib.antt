@@ -13,3 +13,4 @@ pub mod HookCalls
 pub mod HookShapes
 pub mod ValueFactLaws
 pub mod InjectionLaws
+pub mod SideLaws

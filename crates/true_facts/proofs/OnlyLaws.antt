@@ -1,7 +1,8 @@
 -- What is the only thing with a property.
-use Rattle.std.proofs.Common.{◌≡◌, ◌↔◌, false, Option, Some, None, ap, subst, ◌∙◌}
-use Rattle.std.specs.Prelude.{IsTrue}
-use Rattle.std.proofs.lemmas.Bool.{false≢true}
+use Rattle.std.proofs.Common.{◌≡◌, ◌≢◌, ◌↔◌, ℕ, Bool, true, false, Option, Some, None, refl, sym}
+use Rattle.std.proofs.Common.{ap, subst, ◌∙◌, eq-eqb}
+use Rattle.std.specs.Prelude.{IsTrue, not, ◌==◌}
+use Rattle.std.proofs.lemmas.Bool.{false≢true, eqb-true}
 use Rattle.ml_image.proofs.ImageLaws.{none_some, some_same}
 use Rattle.true_facts.specs.Only.{IsOnly}
 
@@ -28,3 +29,17 @@ only_at P seen o p same one = subst (λ q. IsOnly P (seen q)) same one
 -- what does not hold is answered by false
 pub is_false : (P : Type 0) → (P → ⊥) → IsTrue false ↔ P
 is_false P none = (λ t. absurd (false≢true t), λ h. absurd (none h))
+
+-- ---- numbers that were compared
+
+pub unlike : (x y : ℕ) (b : Bool) → b ≡ not (x == y) → b ≡ true → x ≢ y
+unlike x y b is t e =
+    let same : (x == y) ≡ true = eq-eqb x y e in
+    false≢true (ap not (sym same) ∙ sym is ∙ t)
+
+pub alike : (x y : ℕ) (b : Bool) → b ≡ not (x == y) → b ≡ false → x ≡ y
+alike x y b is f = eqb-true x y (by_test (x == y) (sym is ∙ f))
+  where
+    by_test : (t : Bool) → not t ≡ false → t ≡ true
+    by_test true e = refl
+    by_test false e = absurd (false≢true (sym e))

@@ -1,15 +1,16 @@
 -- Sides and their images, and how the sides of the code are seen.
-use Rattle.std.specs.Prelude.{◌≡◌, ◌⊎◌, ℕ, List, Option, Some, option_map}
-use Rattle.ml_pat.specs.Patterns.{Pattern}
+use Rattle.std.specs.Prelude.{◌≡◌, ◌≢◌, ◌⊎◌, ℕ, List, Option, Some, option_map}
+use Rattle.ml_pat.specs.Patterns.{Pattern, app}
 use Rattle.term_core.specs.Patterns.{Pattern as RulePattern, variable}
 use Rattle.term_core.specs.RulePatterns.{sort_numbers}
 use Rattle.term_core.specs.Values.{value_of}
 use Rattle.rule_core.specs.Subsorts.{IsBelow}
 use Rattle.rule_core.specs.declared.signature.Signature.{Signature}
-use Rattle.ml_image.specs.Images.{image_of}
+use Rattle.ml_image.specs.Images.{image_of, injection_image}
 use Rattle.ml_image.specs.Sides.{Head, Side, value, constructor, plain, injected_variable}
 use Rattle.ml_image.specs.Sides.{injected_head, IsHead, IsSide, head_pattern, side_pattern}
 use Rattle.ml_image.specs.Sides.{Differ}
+use Rattle.true_facts.specs.Only.{IsOnly}
 use Rattle.true_facts.specs.declared.sides.Head.{Head as CodeHead}
 use Rattle.true_facts.specs.declared.sides.Head.TheVariants as head
 use Rattle.true_facts.specs.declared.sides.Side.{Side as CodeSide}
@@ -44,6 +45,21 @@ IsHeadAt sig names p k h =
 abbrev pub IsSideAt : Signature → List (List ℕ) → Pattern → ℕ → ℕ × Side → Type 0
 IsSideAt sig names p k s =
     IsSide sig s.0 s.1 × (image_of sig names (side_pattern s.0 k s.1) ≡ Some p)
+
+-- the same for a side that is a head
+abbrev pub IsPlainAt : Signature → List (List ℕ) → Pattern → ℕ → ℕ × Side → Type 0
+IsPlainAt sig names p k s = (h : Head) × (s.1 ≡ plain h) × IsHeadAt sig names p k (s.0, h)
+
+-- the pattern applies the injection from the sort a to the sort b, and no other, to q
+abbrev pub AppliesInjection : Signature → List (List ℕ) → Pattern → ℕ → ℕ → Pattern → Type 0
+AppliesInjection sig names p a b q =
+    (head : Pattern) × (p ≡ app head q)
+    × IsOnly (λ (x : ℕ × ℕ). injection_image sig names x.0 x.1 ≡ Some head) (Some (a, b))
+
+-- the pattern applies no injection
+abbrev pub AppliesNoInjection : Signature → List (List ℕ) → Pattern → Type 0
+AppliesNoInjection sig names p =
+    (a b : ℕ) (head q : Pattern) → injection_image sig names a b ≡ Some head → p ≢ app head q
 
 -- what is injected from this sort in the side, as a pattern, if the side injects something
 abbrev pub IsInjected : ℕ → ℕ → Side → RulePattern → Type 0

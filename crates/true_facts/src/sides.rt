@@ -1,10 +1,11 @@
 // The two sides of a fact about patterns that have no common instance.
-ghost use Rattle.std.specs.Prelude.{◌≡◌, ◌↔◌, ◌≤◌, ◌<◌, ◌^◌, length, IfOk, IsTrue};
+ghost use Rattle.std.specs.Prelude.{◌≡◌, ◌↔◌, ◌≤◌, ◌<◌, ◌^◌, length, IfOk, IsTrue, MatchOption};
 ghost use Rattle.term_core.specs.RulePatterns.{sort_numbers};
 ghost use Rattle.ml_image.specs.Sides.{side_sorts, head_sorts, Differ};
 ghost use Rattle.true_facts.specs.Only.{IsOnly};
 ghost use Rattle.true_facts.specs.Sides.{IsHeadAt, head_found, IsSideAt, side_found, plain_side};
-ghost use Rattle.true_facts.specs.Sides.{IsInjectedAt, plain_head};
+ghost use Rattle.true_facts.specs.Sides.{IsInjectedAt, IsPlainAt, plain_head};
+ghost use Rattle.true_facts.specs.Sides.{AppliesInjection, AppliesNoInjection};
 
 use crate::constructors::{Declared, Made, constructor_at, is_variable};
 use crate::injections::{Injection, injection_at};
@@ -57,11 +58,40 @@ pub(crate) fn side_at(
     ensures { IfOk result
         (λ r. IsOnly (IsSideAt sig.now names.now pattern.now first) (side_found r)) }
 {
-    if let Some((head, arg)) = as_app(pattern) {
-        if let Some(injection) = injection_at(sig, names, head) {
-            return injected_at(alloc, sig, names, injection, arg, first);
-        }
+    match injected(sig, names, pattern) {
+        Some((injection, arg)) => injected_at(alloc, sig, names, injection, arg, first),
+        None => plain_at(alloc, sig, names, pattern, first),
     }
+}
+
+// The injection that the pattern applies, and to what it applies it.
+fn injected<'p>(sig: &Signature, names: &Names, pattern: &'p MPat) -> Option<(Injection, &'p MPat)>
+    requires { length sig.now.sorts ≤ 2 ^ 32 }
+    ensures { MatchOption result (AppliesNoInjection sig.now names.now pattern.now)
+        (λ r. AppliesInjection sig.now names.now pattern.now r.0.from.0 r.0.to.0 r.1.now) }
+{
+    let Some((head, arg)) = as_app(pattern) else {
+        return None;
+    };
+    let Some(injection) = injection_at(sig, names, head) else {
+        return None;
+    };
+    Some((injection, arg))
+}
+
+// The side that is the head whose image is the pattern.
+fn plain_at(
+    alloc: Global,
+    sig: &Signature,
+    names: &Names,
+    pattern: &MPat,
+    first: usize,
+) -> Result<Option<SortedSide>, AllocError>
+    requires sorts { length sig.now.sorts ≤ 2 ^ 32 }
+    requires first { first < 2 ^ 63 }
+    ensures { IfOk result
+        (λ r. IsOnly (IsPlainAt sig.now names.now pattern.now first) (side_found r)) }
+{
     let Some(plain) = head_at(alloc, sig, names, pattern, first)? else {
         return Ok(None);
     };

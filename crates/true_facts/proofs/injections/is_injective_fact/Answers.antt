@@ -46,10 +46,10 @@ returns c = (
         shape = sym (c.same.ensures.0 t) ∙ c.in_ok-stated.ensures;
       }),
   λ h.
-    let a = about_this c.args.sig.now c.args.names.now c.args.pattern.now c.in-Some.rest.now
-    c.in-Some-as_all.body.now c.in-Some-applied_first.head.now _ _ _ _ c.in-Some.sort.0 _ _
-    (c.in-Some-injection_at.found.from.0, c.in-Some-injection_at.found.to.0)
-    c.in-Some.ensures c.in-Some-as_all.ensures c.in-Some-applied_first.ensures.3
-    c.in-Some-injection_at.ensures h in
-    c.same.ensures.1 (c.in_ok-stated.ensures ∙ sym a.shape),
+      let a = about_this c.args.sig.now c.args.names.now c.args.pattern.now c.in-Some.rest.now
+      c.in-Some-as_all.body.now c.in-Some-applied_first.head.now _ _ _ _ c.in-Some.sort.0 _ _
+      (c.in-Some-injection_at.found.from.0, c.in-Some-injection_at.found.to.0)
+      c.in-Some.ensures c.in-Some-as_all.ensures c.in-Some-applied_first.ensures.3
+      c.in-Some-injection_at.ensures h in
+      c.same.ensures.1 (c.in_ok-stated.ensures ∙ sym a.shape),
 )
