@@ -1,8 +1,11 @@
 -- Patterns under quantifiers, one quantifier after another.
-use Rattle.std.proofs.Common.{◌≡◌, ◌≢◌, ◌↔◌, ◌<◌, ◌≤◌, ℕ, ◌+◌, List, [], ◌∷◌, length, drop, get_or}
-use Rattle.std.proofs.Common.{Option, Some, refl, sym, ◌∙◌, ap, subst, arith}
+use Rattle.std.proofs.Common.{◌≡◌, ◌≢◌, ◌↔◌, ◌<◌, ◌≤◌, ℕ, ◌+◌, List, [], ◌∷◌, ◌++◌, length, drop}
+use Rattle.std.proofs.Common.{get_or, Option, Some, None, MatchOption, Bool, is_some, refl, sym, ◌∙◌}
+use Rattle.std.proofs.Common.{ap, subst, arith}
+use Rattle.std.specs.Prelude.{IsTrue}
+use Rattle.std.proofs.lemmas.Bool.{false≢true}
 use Rattle.std.proofs.lemmas.List.{drop_more, get_or-map, drop_all, length-map}
-use Rattle.ml_pat.specs.Patterns.{Pattern, all, nullary, unary, binary, sorted, quantified, var}
+use Rattle.ml_pat.specs.Patterns.{Pattern, all, not, nullary, unary, binary, sorted, quantified, var}
 use Rattle.ml_pat.specs.Patterns.{meta, constant, Ex, All}
 use Rattle.term_core.specs.RulePatterns.{sort_numbers}
 use Rattle.term_core.specs.declared.ids.SortId.{SortId}
@@ -82,3 +85,41 @@ pub unquantified-closed : (sig : Signature) (names : List (List ℕ)) (k : ℕ) 
 unquantified-closed sig names k [] p q h = ap unquantified h
 unquantified-closed sig names k (s ∷ ss) p q (r, (n, there, is), closed) =
     ap unquantified is ∙ unquantified-closed sig names (k + 1) ss r q closed
+
+-- ---- quantifiers in two parts
+
+pub closed-same : (sig : Signature) (names : List (List ℕ)) (k : ℕ) (ss : List ℕ) (p q r : Pattern)
+    → IsClosed sig names k ss p q → IsClosed sig names k ss p r → q ≡ r
+closed-same sig names k [] p q r first second = sym first ∙ second
+closed-same sig names k (s ∷ ss) p q r (u, is, closed) (v, also, further) =
+    let same : u ≡ v = one_under sig names k s p u v is also in
+    closed-same sig names (k + 1) ss v q r
+    (subst (λ (b : Pattern). IsClosed sig names (k + 1) ss b q) same closed) further
+
+pub closed-join : (sig : Signature) (names : List (List ℕ)) (k n : ℕ) (xs ys : List ℕ)
+    (p q r : Pattern) → n ≡ k + length xs → IsClosed sig names k xs p q
+    → IsClosed sig names n ys q r → IsClosed sig names k (xs ++ ys) p r
+closed-join sig names k n [] ys p q r is first second =
+    let same : n ≡ k = omega arith in
+    subst (λ (b : Pattern). IsClosed sig names k ys b r) (sym first)
+    (subst (λ (j : ℕ). IsClosed sig names j ys q r) same second)
+closed-join sig names k n (x ∷ xs) ys p q r is (u, under, closed) second =
+    (u, under, closed-join sig names (k + 1) n xs ys u q r (omega arith) closed second)
+
+pub closed-split : (sig : Signature) (names : List (List ℕ)) (k n : ℕ) (xs ys : List ℕ)
+    (p r : Pattern) → n ≡ k + length xs → IsClosed sig names k (xs ++ ys) p r
+    → (q : Pattern) × IsClosed sig names k xs p q × IsClosed sig names n ys q r
+closed-split sig names k n [] ys p r is h =
+    let same : k ≡ n = omega arith in
+    (p, refl, subst (λ (j : ℕ). IsClosed sig names j ys p r) same h)
+closed-split sig names k n (x ∷ xs) ys p r is (u, under, closed) =
+    let rest = closed-split sig names (k + 1) n xs ys u r (omega arith) closed in
+    (rest.0, (u, under, rest.1), rest.2)
+
+-- whether the pattern is a negation
+pub negation_test : {A : Type 0} (of : A → Pattern) (o : Option A) (q : Pattern) (b : Bool)
+    → MatchOption o ((p : Pattern) → q ≢ not p) (λ a. q ≡ not (of a)) → b ≡ is_some o
+    → IsTrue b ↔ ((p : Pattern) × (q ≡ not p))
+negation_test of None q b is test =
+    (λ t. absurd (false≢true (sym test ∙ t)), λ h. absurd (is h.0 h.1))
+negation_test of (Some a) q b is test = (λ t. (of a, is), λ h. test)

@@ -14,3 +14,4 @@ pub mod HookShapes
 pub mod ValueFactLaws
 pub mod InjectionLaws
 pub mod SideLaws
+pub mod UnequalLaws

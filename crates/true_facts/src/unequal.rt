@@ -41,7 +41,10 @@ pub(crate) fn is_unequal_fact(
         return Ok(false);
     };
     let others = other.side.sorts(alloc)?;
-    Ok(are_apart(sig, &one, &other) && is_closed(sig, names, pattern, &sorts, &others))
+    if !are_apart(sig, &one, &other) {
+        return Ok(false);
+    }
+    Ok(is_closed(sig, names, pattern, &sorts, &others))
 }
 
 // Whether the sides have the same sort and no common instance.
