@@ -15,3 +15,4 @@ pub mod ValueFactLaws
 pub mod InjectionLaws
 pub mod SideLaws
 pub mod UnequalLaws
+pub mod FactLaws

@@ -29,12 +29,16 @@ pub fn is_true_fact(
     ensures { IfOk result
         (λ yes. IsTrue yes ↔ IsImageOf sig.now names.now (IsTrueFact sig.now) pattern.now) }
 {
-    Ok(
-        is_value_fact(alloc, sig, names, pattern)?
-            || is_hook_fact(alloc, sig, names, pattern)?
-            || is_unequal_fact(alloc, sig, names, pattern)?
-            || is_injective_fact(alloc, sig, names, pattern)?,
-    )
+    if is_value_fact(alloc, sig, names, pattern)? {
+        return Ok(true);
+    }
+    if is_hook_fact(alloc, sig, names, pattern)? {
+        return Ok(true);
+    }
+    if is_unequal_fact(alloc, sig, names, pattern)? {
+        return Ok(true);
+    }
+    is_injective_fact(alloc, sig, names, pattern)
 }
 
 // Whether the pattern states that a value is one element of its sort.
