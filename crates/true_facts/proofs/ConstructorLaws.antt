@@ -1,7 +1,7 @@
 -- Constructors at variables, and what their declarations say.
-use Rattle.std.proofs.Common.{◌≡◌, ◌≢◌, ◌↔◌, ◌<◌, ◌≤◌, ℕ, ◌+◌, zero, suc, List, [], ◌∷◌, length}
-use Rattle.std.proofs.Common.{take, get_or, map, Option, Some, None, refl, sym, ◌∙◌, ap, subst}
-use Rattle.std.proofs.Common.{arith, Bool, true, false, option_map, MatchOption, is_some, IsTrue}
+use Rattle.std.proofs.Common.{◌≡◌, ◌≢◌, ◌↔◌, ℕ, ◌+◌, zero, suc, List, length}
+use Rattle.std.proofs.Common.{map, Option, Some, None, refl, sym, ◌∙◌, ap, subst}
+use Rattle.std.proofs.Common.{arith, Bool, false, option_map, MatchOption, is_some, IsTrue}
 use Rattle.std.proofs.lemmas.Bool.{false≢true}
 use Rattle.ml_pat.specs.Patterns.{Pattern, app, nullary, unary, binary, sorted, quantified, var}
 use Rattle.ml_pat.specs.Patterns.{meta, constant, Imp, And, Or, Equal, Member, App}

@@ -1,9 +1,9 @@
 -- The true facts are facts of four kinds.
-use Rattle.std.proofs.Common.{◌≡◌, ◌↔◌, ℕ, List, Bool, true, refl}
+use Rattle.std.proofs.Common.{◌↔◌, ℕ, List, Bool, true, refl}
 use Rattle.std.specs.Prelude.{IsTrue}
 use Rattle.ml_pat.specs.Patterns.{Pattern}
 use Rattle.rule_core.specs.declared.signature.Signature.{Signature}
-use Rattle.ml_image.specs.Sentences.{Sentence, sentence_image, IsImageOf}
+use Rattle.ml_image.specs.Sentences.{IsImageOf}
 use Rattle.ml_image.specs.TrueFacts.{IsTrueFact, of_value, of_hook, of_unequal, of_injective}
 use Rattle.true_facts.proofs.HookShapes.{IsHookFact}
 use Rattle.true_facts.proofs.InjectionLaws.{IsInjectiveFact}

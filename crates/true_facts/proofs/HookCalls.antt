@@ -1,6 +1,6 @@
 -- The arguments and the values of hooks: one or two whole numbers or truth values.
-use Rattle.std.proofs.Common.{◌≡◌, ℕ, ◌⊎◌, inl, inr, List, [], ◌∷◌, Option, Some, None, Result, Ok, Err}
-use Rattle.std.proofs.Common.{Bool, slice_get, refl, sym, ◌∙◌, ap}
+use Rattle.std.proofs.Common.{◌≡◌, ℕ, List, [], ◌∷◌, Option, Some, None, Result, Ok, Err}
+use Rattle.std.proofs.Common.{Bool, slice_get, refl, sym}
 use Rattle.std.specs.Prelude.{ℤ}
 use Rattle.term_core.specs.Terms.{DomainValue, integer, truth, text}
 use Rattle.term_core.specs.Values.{scalar_value}
@@ -10,7 +10,6 @@ use Rattle.term_core.specs.HookValues.{outcome}
 use Rattle.term_core.specs.declared.values.NoValue.{NoValue}
 use Rattle.term_core.specs.declared.values.Scalar.{Scalar}
 use Rattle.term_core.specs.declared.values.Scalar.TheVariants.{Int, Bool as Truth}
-use Rattle.ml_image.proofs.ImageLaws.{none_some, some_same}
 
 -- one argument or two
 pub data AreFew (vs : List DomainValue) : Type 0 where

@@ -1,16 +1,13 @@
 -- Functions with hooks at values, as patterns of the logic.
-use Rattle.std.proofs.Common.{◌≡◌, ◌≢◌, ◌↔◌, ℕ, ◌⊎◌, inl, inr, List, [], ◌∷◌, length, map, Option, Some}
-use Rattle.std.proofs.Common.{None, Result, Ok, option_map, Bool, true, false, refl, sym, ◌∙◌, ap}
-use Rattle.std.proofs.Common.{subst, arith}
+use Rattle.std.proofs.Common.{◌≡◌, ◌≢◌, ◌↔◌, ℕ, List, map, Some}
+use Rattle.std.proofs.Common.{None, Ok, Bool, false, refl, sym, ◌∙◌, ap}
+use Rattle.std.proofs.Common.{subst}
 use Rattle.std.specs.Prelude.{IsTrue}
 use Rattle.std.proofs.lemmas.Bool.{false≢true}
-use Rattle.ml_pat.specs.Patterns.{Pattern, equal, app, constant}
-use Rattle.term_core.specs.Terms.{DomainValue, integer, truth, text}
-use Rattle.term_core.specs.Patterns.{domain_value, call}
+use Rattle.ml_pat.specs.Patterns.{Pattern, constant}
+use Rattle.term_core.specs.Terms.{DomainValue}
 use Rattle.term_core.specs.Values.{scalar_value}
-use Rattle.term_core.specs.HookValues.{Operation, on_integer, on_integers, compares, on_truth}
-use Rattle.term_core.specs.HookValues.{on_truths, Hook, hooks, operation_value, value_by, hook_value}
-use Rattle.term_core.specs.declared.values.NoValue.{NoValue}
+use Rattle.term_core.specs.HookValues.{hook_value}
 use Rattle.term_core.specs.declared.values.Scalar.{Scalar}
 use Rattle.term_core.specs.declared.values.Scalar.TheVariants.{Int, Bool as Truth}
 use Rattle.term_core.specs.declared.ids.HookNo.{HookNo}
@@ -18,7 +15,7 @@ use Rattle.rule_core.specs.Sorting.{IsSymbol}
 use Rattle.rule_core.specs.declared.signature.Signature.{Signature}
 use Rattle.rule_core.specs.declared.signature.SymInfo.{SymInfo}
 use Rattle.rule_core.specs.declared.signature.SymKind.TheVariants.{Hooked}
-use Rattle.ml_image.specs.OwnAxioms.{Declares, sort_numbered}
+use Rattle.ml_image.specs.OwnAxioms.{sort_numbered}
 use Rattle.ml_image.specs.Images.{symbol_image}
 use Rattle.ml_image.proofs.HookLaws.{same_row}
 use Rattle.ml_image.proofs.ImageLaws.{none_some, some_same}

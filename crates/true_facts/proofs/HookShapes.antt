@@ -1,7 +1,6 @@
 -- The patterns that state a value of a function with a hook.
-use Rattle.std.proofs.Common.{◌≡◌, ◌≢◌, ◌↔◌, ℕ, List, [], ◌∷◌, Option, Some, None, Ok, option_map, Bool}
+use Rattle.std.proofs.Common.{◌≡◌, ◌≢◌, ℕ, List, [], ◌∷◌, Option, Some, Ok}
 use Rattle.std.proofs.Common.{refl, sym, ◌∙◌, ap, subst}
-use Rattle.std.specs.Prelude.{IsTrue}
 use Rattle.ml_pat.specs.Patterns.{Pattern, equal, app, constant}
 use Rattle.term_core.specs.Terms.{DomainValue}
 use Rattle.term_core.specs.Patterns.{domain_value, call}
@@ -14,9 +13,8 @@ use Rattle.rule_core.specs.declared.signature.SymKind.TheVariants.{Hooked}
 use Rattle.ml_image.specs.OwnAxioms.{Declares}
 use Rattle.ml_image.specs.Images.{both, symbol_image, image_of, applied}
 use Rattle.ml_image.specs.Sentences.{Sentence, term, equals, sentence_image, IsImageOf}
-use Rattle.ml_image.specs.Tokens.{number_in_names, token_of_symbol}
 use Rattle.ml_image.specs.TrueFacts.{SaysHook, HaveValues, value_patterns}
-use Rattle.ml_image.proofs.ImageLaws.{none_some, some_same}
+use Rattle.ml_image.proofs.ImageLaws.{some_same}
 use Rattle.true_facts.specs.Only.{IsOnly}
 use Rattle.true_facts.specs.Values.{IsValueAt}
 use Rattle.true_facts.specs.Hooks.{IsComputed, IsNumberAt}

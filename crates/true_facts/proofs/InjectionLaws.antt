@@ -1,14 +1,13 @@
 -- Injections and what states that they are injective, as patterns of the logic.
-use Rattle.std.proofs.Common.{◌≡◌, ◌≢◌, ◌↔◌, ℕ, List, [], ◌∷◌, Option, Some, None, option_map, Bool}
+use Rattle.std.proofs.Common.{◌≡◌, ℕ, List, [], ◌∷◌, Option, Some, None}
 use Rattle.std.proofs.Common.{refl, sym, ◌∙◌, ap, subst}
-use Rattle.std.specs.Prelude.{IsTrue}
 use Rattle.ml_pat.specs.Patterns.{Pattern, imp, equal, app, all, var, at_sort}
 use Rattle.term_core.specs.Patterns.{variable, injection}
 use Rattle.rule_core.specs.Subsorts.{IsBelow}
 use Rattle.rule_core.specs.declared.signature.Signature.{Signature}
 use Rattle.ml_image.specs.Images.{both, sort_image, some_symbol_image}
 use Rattle.ml_image.specs.Images.{injection_symbol, injection_image}
-use Rattle.ml_image.specs.Sentences.{Sentence, term, implies, equals, for_all, sentence_image}
+use Rattle.ml_image.specs.Sentences.{term, implies, equals, for_all, sentence_image}
 use Rattle.ml_image.specs.Sentences.{IsImageOf}
 use Rattle.ml_image.specs.TrueFacts.{SaysInjective}
 use Rattle.ml_image.proofs.ImageLaws.{none_some, some_same}

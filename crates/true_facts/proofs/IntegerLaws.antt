@@ -13,7 +13,7 @@ use Rattle.rule_core.proofs.Belows.{both_true}
 use Rattle.term_core.specs.HookValues.{is_in_range}
 use Rattle.true_facts.specs.Only.{IsOnly}
 use Rattle.true_facts.proofs.OnlyLaws.{only_none, only_some}
-use Rattle.std.specs.Str.Parse.{ParsesSigned, digits_value}
+use Rattle.std.specs.Str.Parse.{ParsesSigned}
 use Rattle.std.proofs.lemmas.Fmt.{decimal_is_IsNumeral_wide}
 use Rattle.std.proofs.lemmas.Result.{Ok-from_Ok_iff}
 use Rattle.std.proofs.lemmas.Str.Parse.{numerals_by_value, tells_digits, parse_signed_digits}

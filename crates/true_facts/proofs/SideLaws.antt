@@ -1,21 +1,20 @@
 -- The sides of facts, as patterns of the logic.
-use Rattle.std.proofs.Common.{◌≡◌, ◌≢◌, ◌↔◌, ℕ, List, [], ◌∷◌, ◌++◌, length, Option, Some, None}
+use Rattle.std.proofs.Common.{◌≡◌, ◌≢◌, ℕ, List, ◌++◌, length, Option, Some, None}
 use Rattle.std.proofs.Common.{slice_get, get_or, refl, sym, ◌∙◌, ap, subst, arith}
 use Rattle.std.specs.Prelude.{codes}
 use Rattle.ml_pat.specs.Patterns.{Pattern, app, var, constant, at_sort}
-use Rattle.term_core.specs.Patterns.{Pattern as RulePattern, variable, application, domain_value}
+use Rattle.term_core.specs.Patterns.{Pattern as RulePattern, variable}
 use Rattle.term_core.specs.Terms.{DomainValue}
 use Rattle.rule_core.specs.Subsorts.{IsBelow}
 use Rattle.rule_core.specs.declared.signature.Signature.{Signature}
-use Rattle.ml_image.specs.Counted.{at_variables}
 use Rattle.ml_image.specs.Images.{both, image_of, injection_image}
 use Rattle.ml_image.specs.Sides.{Head, Side, value, constructor, plain, injected_variable}
-use Rattle.ml_image.specs.Sides.{injected_head, IsHead, IsSide, head_pattern, side_pattern}
+use Rattle.ml_image.specs.Sides.{injected_head, head_pattern}
 use Rattle.ml_image.specs.Tokens.{name_at}
 use Rattle.ml_image.proofs.ImageLaws.{none_some, some_same}
 use Rattle.true_facts.specs.Constructors.{applied_head, IsMade}
 use Rattle.true_facts.specs.Only.{IsOnly}
-use Rattle.true_facts.specs.Sides.{IsHeadAt, IsSideAt, IsPlainAt, IsInjected, IsInjectedAt}
+use Rattle.true_facts.specs.Sides.{IsHeadAt, IsSideAt, IsPlainAt, IsInjectedAt}
 use Rattle.true_facts.specs.Sides.{AppliesInjection, AppliesNoInjection}
 use Rattle.true_facts.specs.Values.{IsValueAt}
 use Rattle.true_facts.proofs.BothLaws.{both_parts, both_made}

@@ -1,15 +1,14 @@
 -- The numbers of different tokens: each is the place of its token.
 use Rattle.std.proofs.Common.{◌≡◌, ◌≢◌, ◌<◌, ℕ, ◌+◌, zero, suc, arith, List, [], ◌∷◌, ◌++◌, length}
 use Rattle.std.proofs.Common.{Bool, true, false, cond, Option, Some, None, option_map, slice_get}
-use Rattle.std.proofs.Common.{map, refl, sym, ◌∙◌, ap, subst}
+use Rattle.std.proofs.Common.{refl, sym, ◌∙◌, ap}
 use Rattle.std.specs.List.{position_from}
 use Rattle.std.specs.Str.{bytes_eq}
-use Rattle.std.proofs.lemmas.Bool.{false≢true}
 use Rattle.std.proofs.lemmas.List.{append_cancel_left}
-use Rattle.std.proofs.lemmas.Option.{slice_get-map, slice_get_within}
+use Rattle.std.proofs.lemmas.Option.{slice_get-map}
 use Rattle.std.proofs.lemmas.Slice.Eq.{bytes_eq-Decides}
 use Rattle.ml_pat.specs.Named.{token_number, IsNoneOf, AreDistinct}
-use Rattle.ml_pat.specs.Patterns.{Pattern, constant}
+use Rattle.ml_pat.specs.Patterns.{constant}
 use Rattle.rule_core.specs.Named.{number_of_name}
 use Rattle.rule_core.specs.DistinctNames.{names_of}
 use Rattle.rule_core.specs.DistinctNames.{AreDistinct as HaveDistinctNames}

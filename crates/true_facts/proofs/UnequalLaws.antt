@@ -8,7 +8,7 @@ use Rattle.rule_core.specs.declared.signature.Signature.{Signature}
 use Rattle.ml_image.specs.Images.{both, image_of, sort_image}
 use Rattle.ml_image.specs.Sentences.{Sentence, term, equals, for_all, sentence_image, IsImageOf}
 use Rattle.ml_image.specs.Sentences.{not as deny}
-use Rattle.ml_image.specs.Sides.{Side, IsSide, Differ, side_sorts, side_pattern, AreApart}
+use Rattle.ml_image.specs.Sides.{Side, Differ, side_sorts, side_pattern, AreApart}
 use Rattle.ml_image.specs.TrueFacts.{SaysUnequal}
 use Rattle.ml_image.proofs.ImageLaws.{none_some, some_same}
 use Rattle.true_facts.specs.Closing.{unquantified, IsClosed}
@@ -225,19 +225,21 @@ pub unequal_test : (sig : Signature) (names : List (List ℕ)) (p denied left ri
     → IsTrue b ↔ IsUnequalFact sig names p
 unequal_test sig names p denied left right one other n sorts b is equality first many second apart
     are test = (
-  λ t.
-      let x = test.0 t in
-      let same : not x.0 ≡ not denied =
-      sym (unquantified-closed sig names 0 sorts p (not x.0) x.1) ∙ is in
-      let bodies : x.0 ≡ equal left right = let e : x.0 ≡ denied = cc in e ∙ equality in
-      unequal_fact sig names p left right one other ((first one).1 refl)
-      (subst (λ (k : ℕ). IsSideAt sig names right k other) many ((second other).1 refl)) apart
-      (subst (λ (ss : List ℕ). IsClosed sig names 0 ss p (not (equal left right))) are
-      (subst (λ (q : Pattern). IsClosed sig names 0 sorts p (not q)) bodies x.1)),
-  λ fact.
-      let h : HasSides sig names p left right one =
-      sides_there sig names p denied left right one is equality first fact in
-      test.1 (equal left right,
-      subst (λ (ss : List ℕ). IsClosed sig names 0 ss p (not (equal left right))) (sym are)
-      (apart_there sig names p left right one other n many second h).1),
-)
+      λ t.
+          let x = test.0 t in
+          let same : not x.0 ≡ not denied =
+          sym (unquantified-closed sig names 0 sorts p (not x.0) x.1) ∙ is in
+          let bodies : x.0 ≡ equal left right = let e : x.0 ≡ denied = cc in e ∙ equality in
+          unequal_fact sig names p left right one other ((first one).1 refl)
+          (subst (λ (k : ℕ). IsSideAt sig names right k other) many ((second other).1 refl)) apart
+          (subst (λ (ss : List ℕ). IsClosed sig names 0 ss p (not (equal left right))) are
+          (subst (λ (q : Pattern). IsClosed sig names 0 sorts p (not q)) bodies x.1)),
+      λ fact.
+          let h : HasSides sig names p left right one =
+          sides_there sig names p denied left right one is equality first fact in
+          test.1 (
+            equal left right,
+            subst (λ (ss : List ℕ). IsClosed sig names 0 ss p (not (equal left right))) (sym are)
+                (apart_there sig names p left right one other n many second h).1,
+          ),
+    )

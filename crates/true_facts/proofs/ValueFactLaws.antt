@@ -1,5 +1,5 @@
 -- The patterns that state that a value is one element of its sort.
-use Rattle.std.proofs.Common.{◌≡◌, ◌≢◌, ◌↔◌, ℕ, List, Option, Some, None, Bool, refl, sym, ◌∙◌, ap, subst}
+use Rattle.std.proofs.Common.{◌≡◌, ◌↔◌, ℕ, List, Option, Some, Bool, refl, sym, ◌∙◌, ap, subst}
 use Rattle.std.specs.Prelude.{IsTrue}
 use Rattle.ml_pat.specs.Patterns.{Pattern, fun}
 use Rattle.term_core.specs.Terms.{DomainValue}
@@ -8,7 +8,7 @@ use Rattle.rule_core.specs.declared.signature.Signature.{Signature}
 use Rattle.ml_image.specs.Images.{both, image_of, sort_image}
 use Rattle.ml_image.specs.Sentences.{term, functional, sentence_image, IsImageOf}
 use Rattle.ml_image.specs.TrueFacts.{SaysValue}
-use Rattle.ml_image.proofs.ImageLaws.{none_some, some_same}
+use Rattle.ml_image.proofs.ImageLaws.{some_same}
 use Rattle.true_facts.specs.Only.{IsOnly}
 use Rattle.true_facts.specs.Values.{IsValueAt}
 use Rattle.true_facts.proofs.BothLaws.{both_parts, both_made}

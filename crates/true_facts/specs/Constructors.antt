@@ -1,14 +1,13 @@
 -- Constructors that are applied to variables, and how the constructors of the code are seen.
-use Rattle.std.specs.Prelude.{◌≡◌, ℕ, List, Vec, Option, Some, option_map, length}
+use Rattle.std.specs.Prelude.{◌≡◌, ℕ, List, Vec, Option, Some, option_map}
 use Rattle.std.specs.Global.{Global}
-use Rattle.ml_pat.specs.Patterns.{Pattern, app, nullary, unary, binary, sorted, quantified, var}
-use Rattle.ml_pat.specs.Patterns.{meta, constant, Imp, And, Or, Equal, Member, App}
-use Rattle.term_core.specs.Patterns.{application}
+use Rattle.ml_pat.specs.Patterns.{Pattern, nullary, unary, binary, sorted, quantified, var}
+use Rattle.ml_pat.specs.Patterns.{meta, constant, App}
 use Rattle.term_core.specs.RulePatterns.{sort_numbers}
 use Rattle.term_core.specs.declared.ids.SortId.{SortId}
 use Rattle.rule_core.specs.declared.signature.Signature.{Signature}
 use Rattle.ml_image.specs.Images.{image_of}
-use Rattle.ml_image.specs.Sides.{Head, constructor, IsHead, head_pattern}
+use Rattle.ml_image.specs.Sides.{constructor, IsHead, head_pattern}
 use Rattle.true_facts.specs.declared.constructors.Declared.{Declared}
 use Rattle.true_facts.specs.declared.constructors.Made.{Made}
 

@@ -4,7 +4,6 @@ use Rattle.ml_pat.specs.Patterns.{Pattern, app}
 use Rattle.term_core.specs.Patterns.{Pattern as RulePattern, variable}
 use Rattle.term_core.specs.RulePatterns.{sort_numbers}
 use Rattle.term_core.specs.Values.{value_of}
-use Rattle.rule_core.specs.Subsorts.{IsBelow}
 use Rattle.rule_core.specs.declared.signature.Signature.{Signature}
 use Rattle.ml_image.specs.Images.{image_of, injection_image}
 use Rattle.ml_image.specs.Sides.{Head, Side, value, constructor, plain, injected_variable}

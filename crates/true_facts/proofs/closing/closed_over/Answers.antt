@@ -1,5 +1,4 @@
-use Rattle.std.proofs.Common.{◌≡◌, ◌+◌, ◌<◌, length, drop, ℕ, refl, sym, subst, arith}
-use Rattle.ml_pat.specs.Patterns.{Pattern}
+use Rattle.std.proofs.Common.{◌≡◌, ◌+◌, ℕ, refl, sym, subst, arith}
 use Rattle.term_core.specs.RulePatterns.{sort_numbers}
 use Rattle.true_facts.specs.Closing.{IsClosed}
 use Rattle.true_facts.proofs.ClosingLaws.{closed-next, not_closed, closed-all}

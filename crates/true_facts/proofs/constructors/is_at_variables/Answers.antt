@@ -1,6 +1,6 @@
-use Rattle.std.proofs.Common.{◌≡◌, ◌≢◌, ◌↔◌, ℕ, ◌+◌, ◌-◌, sym, subst, true, false, arith}
+use Rattle.std.proofs.Common.{◌≡◌, ℕ, ◌-◌, sym, subst, arith}
 use Rattle.std.proofs.lemmas.Bool.{false≢true}
-use Rattle.ml_pat.specs.Patterns.{Pattern, constant, var}
+use Rattle.ml_pat.specs.Patterns.{constant}
 use Rattle.ml_pat.specs.declared.numbers.ConstNo.{ConstNo}
 use Rattle.ml_image.specs.Counted.{at_variables}
 use Rattle.true_facts.proofs.ConstructorLaws.{variables-next, no_application, other_argument}

@@ -1,7 +1,6 @@
-use Rattle.std.proofs.Common.{◌≡◌, map, sym, ◌∙◌}
+use Rattle.std.proofs.Common.{sym, ◌∙◌}
 use Rattle.rule_core.specs.Sorting.{IsSymbol}
 use Rattle.term_core.specs.RulePatterns.{sort_numbers}
-use Rattle.ml_image.specs.OwnAxioms.{sort_numbered}
 use Rattle.true_facts.proofs.TokenLaws.{value_there}
 use Rattle.true_facts.proofs.HookFactLaws.{hook_is}
 use Rattle.true_facts.proofs.hook_facts.hook_at.Goals as goal

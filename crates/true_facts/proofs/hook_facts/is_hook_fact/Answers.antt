@@ -2,12 +2,11 @@ use Rattle.std.proofs.Common.{◌≡◌, ℕ, List, Option, Some, None, refl}
 use Rattle.ml_image.proofs.ImageLaws.{none_some}
 use Rattle.ml_pat.specs.Patterns.{Pattern}
 use Rattle.rule_core.specs.declared.signature.Signature.{Signature}
-use Rattle.term_core.specs.declared.values.Scalar.{Scalar}
 use Rattle.true_facts.specs.Only.{IsOnly}
 use Rattle.true_facts.specs.Hooks.{IsNumberAt, number_found}
 use Rattle.true_facts.specs.declared.hook_facts.Sorted.{Sorted}
 use Rattle.true_facts.proofs.OnlyLaws.{only_at, is_false}
-use Rattle.true_facts.proofs.HookShapes.{IsHookFact, HasCall, fact_one, fact_two, value_there}
+use Rattle.true_facts.proofs.HookShapes.{IsHookFact, fact_one, fact_two, value_there}
 use Rattle.true_facts.proofs.HookShapes.{no_call, last_there, one_there, first_there, two_there}
 use Rattle.true_facts.proofs.HookShapes.{call_there, pair}
 use Rattle.true_facts.proofs.hook_facts.is_hook_fact.Goals as goal

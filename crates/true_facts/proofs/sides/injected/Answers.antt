@@ -1,4 +1,4 @@
-use Rattle.std.proofs.Common.{◌≡◌, ℕ, Some, sym, ◌∙◌, ap}
+use Rattle.std.proofs.Common.{◌≡◌, Some, sym, ◌∙◌, ap}
 use Rattle.ml_pat.specs.Patterns.{Pattern, app}
 use Rattle.ml_image.proofs.ImageLaws.{none_some}
 use Rattle.true_facts.proofs.sides.injected.Goals as goal

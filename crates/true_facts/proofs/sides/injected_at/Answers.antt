@@ -1,6 +1,5 @@
-use Rattle.std.proofs.Common.{◌≡◌, ◌≢◌, ℕ, Some, None, sym, ◌∙◌}
+use Rattle.std.proofs.Common.{Some, None, sym, ◌∙◌}
 use Rattle.std.proofs.lemmas.Bool.{false≢true}
-use Rattle.ml_pat.specs.Patterns.{var}
 use Rattle.true_facts.specs.Sides.{IsHeadAt, head_found, plain_head}
 use Rattle.true_facts.proofs.OnlyLaws.{only_at, unlike, alike}
 use Rattle.true_facts.proofs.SideLaws.{variable_side, no_injected, other_sort, head_side}

@@ -1,4 +1,4 @@
-use Rattle.std.proofs.Common.{◌≡◌, ℕ, ◌+◌, ◌++◌, length, Bor, sym, ◌∙◌, subst, arith}
+use Rattle.std.proofs.Common.{◌≡◌, ◌+◌, ◌++◌, length, Bor, subst, arith}
 use Rattle.ml_pat.specs.Patterns.{Pattern, not}
 use Rattle.ml_image.proofs.ListedLaws.{length-numbers}
 use Rattle.term_core.specs.RulePatterns.{sort_numbers}

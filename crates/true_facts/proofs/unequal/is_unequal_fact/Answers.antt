@@ -1,4 +1,4 @@
-use Rattle.std.proofs.Common.{◌≡◌, ℕ, List, ◌++◌, length, Option, Some, None, sym, ◌∙◌, ap, arith}
+use Rattle.std.proofs.Common.{◌≡◌, ℕ, List, ◌++◌, length, Some, None, sym, ◌∙◌, ap, arith}
 use Rattle.std.proofs.lemmas.Bool.{false≢true}
 use Rattle.ml_pat.specs.Patterns.{equal}
 use Rattle.ml_image.specs.Sides.{side_sorts}
@@ -44,8 +44,12 @@ returns-in_default-3 c =
     only_at (IsSideAt c.args.sig.now c.args.names.now c.in-Some-as_equal.left.now 0) side_found
     c.in_ok-one.field-0 (Some c.in-Some-2.one) c.in-Some-2.is c.in_ok-one.ensures in
     let many : c.len.result ≡ length (side_sorts (plain_side c.in-Some-2.one.side)) =
-    omega (arith, ap length c.in_ok-sorts.ensures, length-numbers c.in_ok-sorts.sorts.items,
-    c.len.ensures) in
+    omega (
+      arith,
+      ap length c.in_ok-sorts.ensures,
+      length-numbers c.in_ok-sorts.sorts.items,
+      c.len.ensures,
+    ) in
     is_false (IsUnequalFact c.args.sig.now c.args.names.now c.args.pattern.now) (λ h.
     no_right c.args.sig.now c.args.names.now c.args.pattern.now c.in-Some-as_equal.left.now
     c.in-Some-as_equal.right.now (sorted_side c.in-Some-2.one) c.len.result many
@@ -62,8 +66,12 @@ returns-then-not-are_apart c =
     only_at (IsSideAt c.args.sig.now c.args.names.now c.in-Some-as_equal.left.now 0) side_found
     c.in_ok-one.field-0 (Some c.in-Some-2.one) c.in-Some-2.is c.in_ok-one.ensures in
     let many : c.len.result ≡ length (side_sorts (plain_side c.in-Some-2.one.side)) =
-    omega (arith, ap length c.in_ok-sorts.ensures, length-numbers c.in_ok-sorts.sorts.items,
-    c.len.ensures) in
+    omega (
+      arith,
+      ap length c.in_ok-sorts.ensures,
+      length-numbers c.in_ok-sorts.sorts.items,
+      c.len.ensures,
+    ) in
     let second : IsOnly
     (IsSideAt c.args.sig.now c.args.names.now c.in-Some-as_equal.right.now c.len.result)
     (Some (sorted_side c.in-Some-3.other)) =
@@ -86,8 +94,12 @@ returns c =
     only_at (IsSideAt c.args.sig.now c.args.names.now c.in-Some-as_equal.left.now 0) side_found
     c.in_ok-one.field-0 (Some c.in-Some-2.one) c.in-Some-2.is c.in_ok-one.ensures in
     let many : c.len.result ≡ length (side_sorts (plain_side c.in-Some-2.one.side)) =
-    omega (arith, ap length c.in_ok-sorts.ensures, length-numbers c.in_ok-sorts.sorts.items,
-    c.len.ensures) in
+    omega (
+      arith,
+      ap length c.in_ok-sorts.ensures,
+      length-numbers c.in_ok-sorts.sorts.items,
+      c.len.ensures,
+    ) in
     let second : IsOnly
     (IsSideAt c.args.sig.now c.args.names.now c.in-Some-as_equal.right.now c.len.result)
     (Some (sorted_side c.in-Some-3.other)) =

@@ -1,7 +1,5 @@
-use Rattle.std.proofs.Common.{◌≡◌, ◌<◌, ◌++◌, ◌∷◌, List, ℕ, Option, Some, None, length, sym, ◌∙◌, ap, arith}
-use Rattle.rule_core.specs.Named.{number_of_name}
+use Rattle.std.proofs.Common.{◌<◌, Some, None, length, sym, ◌∙◌, arith}
 use Rattle.term_core.specs.Values.{value_of}
-use Rattle.ml_image.specs.Tokens.{name_at}
 use Rattle.true_facts.specs.Values.{value_found}
 use Rattle.true_facts.proofs.OnlyLaws.{only_at}
 use Rattle.true_facts.proofs.TokenLaws.{name_there, name_within}

@@ -1,4 +1,4 @@
-use Rattle.std.proofs.Common.{◌≡◌, ◌≢◌, List, ℕ, Option, Some, None, sym, ◌∙◌, ap, subst}
+use Rattle.std.proofs.Common.{◌≡◌, Option, Some, None, sym, ◌∙◌, ap, subst}
 use Rattle.std.specs.Str.{IsUtf8}
 use Rattle.ml_image.specs.Tokens.{hexadecimal}
 use Rattle.ml_image.proofs.ImageLaws.{if_ok}
