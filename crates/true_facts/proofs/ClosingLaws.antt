@@ -1,12 +1,12 @@
 -- Patterns under quantifiers, one quantifier after another.
 use Rattle.std.proofs.Common.{◌≡◌, ◌≢◌, ◌↔◌, ◌<◌, ◌≤◌, ℕ, ◌+◌, List, [], ◌∷◌, ◌++◌, length, drop}
-use Rattle.std.proofs.Common.{get_or, Option, Some, None, MatchOption, Bool, is_some, refl, sym, ◌∙◌}
-use Rattle.std.proofs.Common.{ap, subst, arith}
+use Rattle.std.proofs.Common.{get_or, Option, Some, None, MatchOption, Bool, is_some, refl, sym}
+use Rattle.std.proofs.Common.{◌∙◌, ap, subst, arith}
 use Rattle.std.specs.Prelude.{IsTrue}
 use Rattle.std.proofs.lemmas.Bool.{false≢true}
 use Rattle.std.proofs.lemmas.List.{drop_more, get_or-map, drop_all, length-map}
-use Rattle.ml_pat.specs.Patterns.{Pattern, all, not, nullary, unary, binary, sorted, quantified, var}
-use Rattle.ml_pat.specs.Patterns.{meta, constant, Ex, All}
+use Rattle.ml_pat.specs.Patterns.{Pattern, all, not, nullary, unary, binary, sorted, quantified}
+use Rattle.ml_pat.specs.Patterns.{var, meta, constant, Ex, All}
 use Rattle.term_core.specs.RulePatterns.{sort_numbers}
 use Rattle.term_core.specs.declared.ids.SortId.{SortId}
 use Rattle.rule_core.specs.declared.signature.Signature.{Signature}
@@ -23,7 +23,8 @@ sorts-drop ss i d low =
     let within : i < length (sort_numbers ss) =
     omega (arith, length-map ss (λ (s : SortId). s.0)) in
     drop_more (sort_numbers ss) i 0 within
-    ∙ ap (λ (n : ℕ). n ∷ drop (i + 1) (sort_numbers ss)) (get_or-map (λ (s : SortId). s.0) ss i d 0 low)
+    ∙ ap (λ (n : ℕ). n ∷ drop (i + 1) (sort_numbers ss))
+    (get_or-map (λ (s : SortId). s.0) ss i d 0 low)
 
 -- one quantifier further
 pub closed-next : (sig : Signature) (names : List (List ℕ)) (k i : ℕ) (ss : List SortId)

@@ -5,7 +5,8 @@ use Rattle.std.specs.Prelude.{ℤ}
 use Rattle.term_core.specs.Terms.{DomainValue, integer, truth, text}
 use Rattle.term_core.specs.Values.{scalar_value}
 use Rattle.term_core.specs.HookValues.{Operation, on_integer, on_integers, compares, on_truth}
-use Rattle.term_core.specs.HookValues.{on_truths, Hook, hooks, operation_value, value_by, hook_value}
+use Rattle.term_core.specs.HookValues.{on_truths, Hook, hooks, operation_value, value_by}
+use Rattle.term_core.specs.HookValues.{hook_value}
 use Rattle.term_core.specs.HookValues.{outcome}
 use Rattle.term_core.specs.declared.values.NoValue.{NoValue}
 use Rattle.term_core.specs.declared.values.Scalar.{Scalar}
@@ -44,13 +45,15 @@ whole : (vs : List DomainValue) (v : DomainValue) (r : Result ℤ NoValue) → A
     → Some (outcome integer r) ≡ good v → IsCalled vs v
 whole vs v (Ok z) few h =
     let same : good (integer z) ≡ good v = h in
-    let values : integer z ≡ v = cc in record { arguments = few; made = Int z; is_made = sym values }
+    let values : integer z ≡ v = cc in
+    record { arguments = few; made = Int z; is_made = sym values }
 whole vs v (Err e) few h = absurd (cc)
 
 logical : (vs : List DomainValue) (v : DomainValue) (b : Bool) → AreFew vs
     → good (truth b) ≡ good v → IsCalled vs v
 logical vs v b few h =
-    let values : truth b ≡ v = cc in record { arguments = few; made = Truth b; is_made = sym values }
+    let values : truth b ≡ v = cc in
+    record { arguments = few; made = Truth b; is_made = sym values }
 
 by_operation : (op : Operation) (vs : List DomainValue) (v : DomainValue)
     → operation_value op vs ≡ good v → IsCalled vs v

@@ -37,7 +37,8 @@ AtNumber P x = P (x.0, scalar_value x.1)
 
 pub number_absent : (P : ℕ × DomainValue → Type 0) → IsOnly P None → IsOnly (AtNumber P) None
 number_absent P none =
-    only_none (AtNumber P) (λ x h. none_some (x.0, scalar_value x.1) ((none (x.0, scalar_value x.1)).0 h))
+    only_none (AtNumber P)
+    (λ x h. none_some (x.0, scalar_value x.1) ((none (x.0, scalar_value x.1)).0 h))
 
 pub number_other : (P : ℕ × DomainValue → Type 0) (t : ℕ × DomainValue) → IsOnly P (Some t)
     → ((s : Scalar) → t.1 ≢ scalar_value s) → IsOnly (AtNumber P) None

@@ -212,7 +212,8 @@ fact_two sig names p c made rest head q r a b v is outer inner value first secon
             (image_of sig names (domain_value a.0 (scalar_value a.1))))
             (image_of sig names (domain_value b.0 (scalar_value b.1))) (app head q) r
             (both_made app (symbol_image sig names f)
-            (image_of sig names (domain_value a.0 (scalar_value a.1))) head q image first.1) second.1)
+            (image_of sig names (domain_value a.0 (scalar_value a.1))) head q image first.1)
+            second.1)
             value.1
             ∙ ap (λ (h : Pattern). Some (equal (app h r) made)) (sym inner)
             ∙ ap (λ (h : Pattern). Some (equal h made)) (sym outer)
@@ -273,7 +274,8 @@ one_there sig names c rest arg v last is one none (call_one head q a applied has
     let args : arg ≡ q = cc in
     let heads : rest ≡ head = cc in
     let found : last ≡ a =
-    some_same last a ((one a).0 (subst (λ (x : Pattern). IsNumberAt sig names x a) (sym args) has)) in
+    some_same last a
+    ((one a).0 (subst (λ (x : Pattern). IsNumberAt sig names x a) (sym args) has)) in
     subst (λ (h : Pattern). IsComputed sig names h (last.0 ∷ []) (scalar_value last.1 ∷ []) v.0
     (scalar_value v.1)) (sym heads)
     (subst (λ (x : ℕ × Scalar). IsComputed sig names head (x.0 ∷ []) (scalar_value x.1 ∷ []) v.0

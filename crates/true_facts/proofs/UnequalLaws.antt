@@ -1,6 +1,6 @@
 -- The patterns that state that two patterns without a common instance are not equal.
-use Rattle.std.proofs.Common.{◌≡◌, ◌↔◌, ◌⊎◌, ℕ, ◌+◌, List, [], ◌∷◌, ◌++◌, length, Option, Some, None}
-use Rattle.std.proofs.Common.{option_map, Bool, refl, sym, ◌∙◌, ap, subst}
+use Rattle.std.proofs.Common.{◌≡◌, ◌↔◌, ◌⊎◌, ℕ, ◌+◌, List, [], ◌∷◌, ◌++◌, length, Option, Some}
+use Rattle.std.proofs.Common.{None, option_map, Bool, refl, sym, ◌∙◌, ap, subst}
 use Rattle.std.specs.Prelude.{IsTrue}
 use Rattle.ml_pat.specs.Patterns.{Pattern, not, equal, all}
 use Rattle.term_core.specs.Patterns.{Pattern as RulePattern}
@@ -29,7 +29,8 @@ pub record HasUnequalShape (sig : Signature) (names : List (List ℕ)) (p : Patt
   pub is_left : IsSideAt sig names left 0 one
   pub is_right : IsSideAt sig names right (length (side_sorts one.1)) other
   pub are_apart : AreApartSides sig one other
-  pub closed : IsClosed sig names 0 (side_sorts one.1 ++ side_sorts other.1) p (not (equal left right))
+  pub closed : IsClosed sig names 0 (side_sorts one.1 ++ side_sorts other.1) p
+      (not (equal left right))
 
 -- ---- quantified sentences
 
@@ -149,7 +150,8 @@ pub record HasSides (sig : Signature) (names : List (List ℕ)) (p left right : 
   pub is_left : IsSideAt sig names left 0 one
   pub is_right : IsSideAt sig names right (length (side_sorts one.1)) other
   pub are_apart : AreApartSides sig one other
-  pub closed : IsClosed sig names 0 (side_sorts one.1 ++ side_sorts other.1) p (not (equal left right))
+  pub closed : IsClosed sig names 0 (side_sorts one.1 ++ side_sorts other.1) p
+      (not (equal left right))
 
 pub left_there : (sig : Signature) (names : List (List ℕ)) (p denied left right : Pattern)
     → unquantified p ≡ not denied → denied ≡ equal left right → IsUnequalFact sig names p

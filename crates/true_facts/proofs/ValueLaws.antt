@@ -1,6 +1,6 @@
 -- Values, by the kind of their sort.
-use Rattle.std.proofs.Common.{◌≡◌, ◌≢◌, ◌<◌, ◌≤◌, ◌+◌, ◌/◌, ℕ, zero, suc, List, [], ◌∷◌, ◌++◌, Option}
-use Rattle.std.proofs.Common.{Some, None, option_map, Bool, true, false, cond, ◌⊎◌, inl, inr}
+use Rattle.std.proofs.Common.{◌≡◌, ◌≢◌, ◌<◌, ◌≤◌, ◌+◌, ◌/◌, ℕ, zero, suc, List, [], ◌∷◌, ◌++◌}
+use Rattle.std.proofs.Common.{Option, Some, None, option_map, Bool, true, false, cond, ◌⊎◌, inl, inr}
 use Rattle.std.proofs.Common.{refl, sym, ◌∙◌, ap, subst, arith}
 use Rattle.std.specs.Prelude.{ℤ, IsTrue, codes}
 use Rattle.std.specs.Fmt.{signed_decimal}
@@ -160,8 +160,10 @@ character_bytes c is = one (ltb c 128) refl
         byte-cons (224 + c / 4096) (next (c / 64) ∷ next c ∷ []) (omega (arith, near))
         (more_bytes (c / 64) (next c ∷ []) (more_bytes c [] no_bytes))
     three false e =
-        byte-cons (240 + c / 262144) (next (c / 4096) ∷ next (c / 64) ∷ next c ∷ []) (omega (arith, low))
-        (more_bytes (c / 4096) (next (c / 64) ∷ next c ∷ []) (more_bytes (c / 64) (next c ∷ []) (more_bytes c [] no_bytes)))
+        byte-cons (240 + c / 262144) (next (c / 4096) ∷ next (c / 64) ∷ next c ∷ [])
+        (omega (arith, low))
+        (more_bytes (c / 4096) (next (c / 64) ∷ next c ∷ [])
+        (more_bytes (c / 64) (next c ∷ []) (more_bytes c [] no_bytes)))
 
     two : (b : Bool) → ltb c 2048 ≡ b
         → AreBytes (cond b ((192 + c / 64) ∷ next c ∷ []) (cond (ltb c 65536)
@@ -208,7 +210,8 @@ pub not_text : (k : SortKind) (digits bytes : List ℕ) → AreBytes bytes
     → digits ≡ hexadecimal bytes → (IsUtf8 bytes → ⊥) → IsOnly (HasDigits k digits) None
 not_text k digits bytes are is none =
     only_none (HasDigits k digits) (λ v h. none (subst IsUtf8
-    (same_bytes (value_text v) bytes (value_bytes k v h.0) are (sym h.1 ∙ is)) (value_utf8 k v h.0)))
+    (same_bytes (value_text v) bytes (value_bytes k v h.0) are (sym h.1 ∙ is))
+    (value_utf8 k v h.0)))
 
 pub digits_only : (k : SortKind) (digits bytes : List ℕ) (o : Option DomainValue) → AreBytes bytes
     → digits ≡ hexadecimal bytes → IsOnly (HasValueText k bytes) o

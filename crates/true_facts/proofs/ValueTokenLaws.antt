@@ -16,7 +16,8 @@ use Rattle.rule_core.specs.Sorting.{HasValue, IsValueOf}
 use Rattle.rule_core.specs.declared.signature.Signature.{Signature}
 use Rattle.rule_core.specs.declared.signature.SortInfo.{SortInfo}
 use Rattle.rule_core.specs.declared.signature.SortKind.{SortKind}
-use Rattle.ml_image.specs.Tokens.{hexadecimal, value_token, name_at, number_in_names, token_of_value}
+use Rattle.ml_image.specs.Tokens.{hexadecimal, value_token, name_at, number_in_names}
+use Rattle.ml_image.specs.Tokens.{token_of_value}
 use Rattle.ml_image.proofs.ImageLaws.{none_some, some_same}
 use Rattle.true_facts.specs.Digits.{AreBytes, HasNoColon}
 use Rattle.true_facts.specs.Only.{IsOnly}
@@ -159,7 +160,8 @@ sort_read sig names p name digits place k x d h named (key, info, there, is) v =
     let same : place ≡ x.0 =
     some_same place x.0 (sym named ∙ named_there sig.sorts name x.0 d read.0) in
     let entry : ◌≡◌ {A = List ℕ × SortInfo} (v.0.0, v.0.1) (key, info) =
-    some_same (v.0.0, v.0.1) (key, info) (sym v.0.2 ∙ ap (slice_get sig.sorts) (sym same) ∙ there) in
+    some_same (v.0.0, v.0.1) (key, info)
+    (sym v.0.2 ∙ ap (slice_get sig.sorts) (sym same) ∙ there) in
     let kinds : v.0.1.kind ≡ k = ap (λ (e : List ℕ × SortInfo). e.1.kind) entry ∙ is in
     (same, (subst (λ (j : SortKind). IsValueOf j x.1) kinds v.0.3, read.1))
 

@@ -32,7 +32,8 @@ pub(crate) fn closed_over<'p>(
     requires sorts { length sig.now.sorts ≤ 2 ^ 32 }
     requires first { first < 2 ^ 63 }
     ensures { MatchOption result
-        ((q : Pattern) → IsClosed sig.now names.now first (sort_numbers sorts.now) pattern.now q → ⊥)
+        ((q : Pattern) → IsClosed sig.now names.now first (sort_numbers sorts.now) pattern.now q
+        → ⊥)
         (λ q. IsClosed sig.now names.now first (sort_numbers sorts.now) pattern.now q.now) }
 {
     let mut body = pattern;

@@ -17,8 +17,9 @@ use std::alloc::{AllocError, Global};
 /// Whether the pattern is the image of a true fact: that a value is one element of its sort, that a
 /// function with a hook has the value that the hook computes, that two patterns without a common
 /// instance are not equal, or that an injection is injective. The names say what the numbers in the
-/// pattern stand for. An error: out of memory. It costs at most a few times the size of the pattern
-/// and of the tokens in it, with a look-up for each token.
+/// pattern stand for. The signature has at most 2^32 sorts, as many as a `SortId` can number. An
+/// error: out of memory. It costs at most a few times the size of the pattern and of the tokens in
+/// it, with a look-up for each token.
 pub fn is_true_fact(
     alloc: Global,
     sig: &Signature,

@@ -1,5 +1,6 @@
 // The fact that a function with a hook has the value that the hook computes.
-ghost use Rattle.std.specs.Prelude.{◌≡◌, ◌↔◌, ◌≤◌, ◌^◌, [], ◌∷◌, ℕ, List, length, map, IfOk, IsTrue};
+ghost use Rattle.std.specs.Prelude.{◌≡◌, ◌↔◌, ◌≤◌, ◌^◌, [], ◌∷◌, ℕ, List, length, map, IfOk};
+ghost use Rattle.std.specs.Prelude.{IsTrue};
 ghost use Rattle.std.specs.Prelude.{Some, Ok, ◌≢◌, MatchOption};
 ghost use Rattle.term_core.specs.declared.values.Scalar.{Scalar};
 ghost use Rattle.term_core.specs.Terms.{DomainValue};

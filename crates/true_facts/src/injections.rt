@@ -71,7 +71,8 @@ pub(crate) fn is_injective_fact(
 ) -> Result<bool, AllocError>
     requires { length sig.now.sorts ≤ 2 ^ 32 }
     ensures { IfOk result (λ yes. IsTrue yes
-        ↔ ((a : ℕ) × (b : ℕ) × IsImageOf sig.now names.now (SaysInjective sig.now a b) pattern.now)) }
+        ↔ ((a : ℕ) × (b : ℕ)
+        × IsImageOf sig.now names.now (SaysInjective sig.now a b) pattern.now)) }
 {
     let Some((_, sort, rest)) = as_all(pattern) else {
         return Ok(false);

@@ -32,5 +32,6 @@ returns-in_default c = λ q h.
 pub returns : goal.returns
 returns c =
     (c.loop-i.invariant c.loop-i.body.now).1
-    (closed-all c.args.sig.now c.args.names.now (c.args.first + c.loop-i.i) c.loop-i.i c.args.sorts.now
+    (closed-all c.args.sig.now c.args.names.now (c.args.first + c.loop-i.i) c.loop-i.i
+    c.args.sorts.now
     c.loop-i.body.now c.loop-i.body.now (omega arith) refl)

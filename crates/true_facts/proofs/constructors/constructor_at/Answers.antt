@@ -6,7 +6,8 @@ use Rattle.ml_image.specs.Counted.{at_variables}
 use Rattle.ml_pat.specs.Patterns.{constant}
 use Rattle.term_core.specs.RulePatterns.{sort_numbers}
 use Rattle.true_facts.specs.Constructors.{IsMade, IsDeclared, declaration_of, declared_found}
-use Rattle.true_facts.proofs.ConstructorLaws.{HasParts, no_head, parts, no_declaration, constructor_is}
+use Rattle.true_facts.proofs.ConstructorLaws.{HasParts, no_head, parts, no_declaration}
+use Rattle.true_facts.proofs.ConstructorLaws.{constructor_is}
 use Rattle.true_facts.proofs.OnlyLaws.{only_none, only_at}
 use Rattle.true_facts.proofs.constructors.constructor_at.Goals as goal
 

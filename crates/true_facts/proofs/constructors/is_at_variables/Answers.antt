@@ -40,7 +40,8 @@ returns c =
       λ t. (
         (test.0 t).0,
         (c.loop-i.invariant (test.0 t).0).1
-            (subst (λ (i : ℕ). c.loop-i.head.now ≡ at_variables (constant (test.0 t).0) c.args.first i)
+            (subst (λ (i : ℕ). c.loop-i.head.now
+            ≡ at_variables (constant (test.0 t).0) c.args.first i)
             (sym none) (test.0 t).1),
       ),
       λ h. test.1 (

@@ -2,7 +2,8 @@ use Rattle.std.proofs.Common.{refl, sym, ◌∙◌}
 use Rattle.std.proofs.lemmas.Bool.{false≢true}
 use Rattle.ml_image.proofs.ImageLaws.{none_some}
 use Rattle.true_facts.proofs.OnlyLaws.{is_false}
-use Rattle.true_facts.proofs.InjectionLaws.{IsInjectiveFact, about_there, about_this, injective_fact}
+use Rattle.true_facts.proofs.InjectionLaws.{IsInjectiveFact, about_there, about_this}
+use Rattle.true_facts.proofs.InjectionLaws.{injective_fact}
 use Rattle.true_facts.proofs.injections.is_injective_fact.Goals as goal
 
 pub returns-in_default-injection_at : goal.returns-in_default-injection_at

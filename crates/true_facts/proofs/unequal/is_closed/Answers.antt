@@ -65,6 +65,7 @@ returns c =
                 (sort_numbers c.args.others.now) c.in-Some.inner.now c.in-Some-closed_over.body.now
                 (not h.0) c.in-Some-closed_over.ensures
                 (subst (λ (q : Pattern). IsClosed c.args.sig.now c.args.names.now
-                (length c.args.first.now) (sort_numbers c.args.others.now) q (not h.0)) same parts.2),
+                (length c.args.first.now) (sort_numbers c.args.others.now) q (not h.0)) same
+                parts.2),
           ),
     )

@@ -112,7 +112,8 @@ returns c =
     ≡ side_sorts (plain_side c.in-Some-3.other.side) =
     ap sort_numbers c.deref-2.ensures.value ∙ c.in_ok-others.ensures in
     let sorts : sort_numbers c.deref.result.now ++ sort_numbers c.deref-2.result.now
-    ≡ side_sorts (plain_side c.in-Some-2.one.side) ++ side_sorts (plain_side c.in-Some-3.other.side) =
+    ≡ side_sorts (plain_side c.in-Some-2.one.side)
+    ++ side_sorts (plain_side c.in-Some-3.other.side) =
     ap (λ (ns : List ℕ). ns ++ sort_numbers c.deref-2.result.now) ones
     ∙ ap (λ (ns : List ℕ). side_sorts (plain_side c.in-Some-2.one.side) ++ ns) others in
     unequal_test c.args.sig.now c.args.names.now c.args.pattern.now c.in-Some.denied.now
