@@ -61,6 +61,9 @@ moved sig names p ss ts q r sorts body closed =
     subst (λ (us : List ℕ). IsClosed sig names 0 us p r) sorts
     (subst (λ (b : Pattern). IsClosed sig names 0 ss p b) body closed)
 
+negated : (q r s : Pattern) → q ≡ not r → r ≡ s → q ≡ not s
+negated q r s is same = is ∙ ap (λ (x : Pattern). not x) same
+
 pub unequal_shape : (sig : Signature) (names : List (List ℕ)) (p : Pattern)
     → IsUnequalFact sig names p → HasUnequalShape sig names p
 unequal_shape sig names p (l, r, (s, h, image)) =
@@ -70,7 +73,7 @@ unequal_shape sig names p (l, r, (s, h, image)) =
     let denied = map_parts not (both equal (image_of sig names l) (image_of sig names r)) c.0 c.1 in
     let sides = both_parts equal (image_of sig names l) (image_of sig names r) denied.0 denied.1 in
     let body : c.0 ≡ not (equal sides.0 sides.1) =
-    denied.2 ∙ ap (λ (x : Pattern). not x) sides.4 in
+    negated c.0 denied.0 (equal sides.0 sides.1) denied.2 sides.4 in
     record {
       left = sides.0;
       right = sides.1;
