@@ -1,0 +1,10 @@
+-- Private: what clauses of private functions cite, and how private fields are seen.
+pub mod Only
+pub mod Tokens
+pub mod Digits
+pub mod Values
+pub mod Injections
+pub mod Hooks
+pub mod Constructors
+pub mod Sides
+pub mod Closing
