@@ -12,8 +12,6 @@ mod derived;
 #[cfg(test)]
 mod entries;
 #[cfg(test)]
-mod facts;
-#[cfg(test)]
 mod frames;
 #[cfg(test)]
 mod header;
