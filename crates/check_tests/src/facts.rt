@@ -88,7 +88,9 @@ fn reads_no_pattern(rt: HostRuntime) {
 fn answer(alloc: Global, text: &str) -> Option<bool> {
     let program = program_of(alloc)?;
     let mut names = Names::new(alloc);
-    let tokens = tokens_of(alloc, text).ok()?;
+    let Ok(tokens) = tokens_of(alloc, text) else {
+        return None;
+    };
     let pattern = read_pattern(alloc, &mut names, &tokens).ok()??;
     is_true_fact(alloc, &program.sig, &names, &pattern).ok()
 }
