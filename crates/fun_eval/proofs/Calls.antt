@@ -42,7 +42,7 @@ use Rattle.fun_eval.proofs.Trials.{TriedUpTo, stopped_at}
 
 -- ---- if an argument stops, the node stops
 
-pub arguments_stop : {R : Type 0} (tells : R → Record → Type 0)
+pub arguments_stop : {R H : Type 0} (tells : H → Record → Type 0)
     (all_tell : List R → RecordList → Type 0) (theory : RewriteTheory) (n m f c : ℕ)
     (theta : List (Option Tree)) (p : Pattern) (ps : Patterns) (e : EvalEnd)
     → HasHead theory p f ps → m ≡ suc n → AllGive all_tell theory n theta ps c (Err e)
@@ -61,7 +61,7 @@ injected_stops tells theory n m f a b c theta p (Blocked why) i more h =
     (argument_blocked (of_injection i) (first_blocked h))
 injected_stops tells theory n m f a b c theta p Memory i more h = tt
 
-pub pattern_stops : {R : Type 0} (tells : R → Record → Type 0)
+pub pattern_stops : {R H : Type 0} (tells : H → Record → Type 0)
     (all_tell : List R → RecordList → Type 0) (theory : RewriteTheory) (n : ℕ)
     (theta : List (Option Tree)) (pats : List RulePat) (c i : ℕ) (ts : List Tree) (left : ℕ)
     (p : RulePat) (e : EvalEnd) → GoesOn theory n theta pats c i ts left → p ≡ get_or pats i p
@@ -176,7 +176,7 @@ trial_stops tells misses_tell theory n f ts c i left e Memory tried there h = tt
 
 -- ---- the value of the chosen equation
 
-pub choice_stops : {R M : Type 0} (tells : R → Record → Type 0)
+pub choice_stops : {R H M : Type 0} (tells : H → Record → Type 0)
     (all_tell : List R → RecordList → Type 0) (misses_tell : M → MissList → Type 0)
     (theory : RewriteTheory) (n f : ℕ) (args : Answers R) (c : ℕ) (end : EvalEnd)
     → Chooses tells misses_tell theory n f (forest args.terms.items) c (Err end)
@@ -184,7 +184,7 @@ pub choice_stops : {R M : Type 0} (tells : R → Record → Type 0)
 choice_stops tells all_tell misses_tell theory n f args c (Blocked why) h = h
 choice_stops tells all_tell misses_tell theory n f args c Memory h = tt
 
-pub right_stops : {R : Type 0} (tells : R → Record → Type 0)
+pub right_stops : {R H : Type 0} (tells : H → Record → Type 0)
     (all_tell : List R → RecordList → Type 0) (theory : RewriteTheory) (n f : ℕ)
     (args : Answers R) (c number left : ℕ) (theta : List (Option Tree)) (e : plain.Equation)
     (end : EvalEnd) → IsChosen theory n f (forest args.terms.items) c number theta left
@@ -199,11 +199,11 @@ right_stops tells all_tell theory n f args c number left theta e (Blocked why) c
     same h)
 right_stops tells all_tell theory n f args c number left theta e Memory chosen there h = tt
 
-pub right_gives : {R : Type 0} (tells : R → Record → Type 0)
+pub right_gives : {R H : Type 0} (tells : H → Record → Type 0)
     (all_tell : List R → RecordList → Type 0) (missed_tell : MissList → Type 0)
     (theory : RewriteTheory) (n f : ℕ) (args : Answers R) (c number left rest : ℕ)
-    (theta : List (Option Tree)) (cond : Option R) (e : plain.Equation) (body : Answer R)
-    (recorded : R)
+    (theta : List (Option Tree)) (cond : Option H) (e : plain.Equation) (body : Answer H)
+    (recorded : H)
     → (is : IsDefined theory f (forest args.terms.items))
     → (chosen : IsChosen theory n f (forest args.terms.items) c number theta left)
     → IsRecordedCondition tells theory theta chosen.equation.condition cond
@@ -219,7 +219,7 @@ pub right_gives : {R : Type 0} (tells : R → Record → Type 0)
     → results_of rs ≡ forest args.terms.items
     → (r : Record) × tells recorded r × IsCallRecord theory f rs r
     × (result_of r ≡ body.term))
-right_gives {R} tells all_tell missed_tell theory n f args c number left rest theta cond e body
+right_gives {R} {H} tells all_tell missed_tell theory n f args c number left rest theta cond e body
     recorded is chosen met missed there evaluated told makes =
     let both : Some e ≡ Some chosen.equation = sym there ∙ chosen.there in
     let same : e ≡ chosen.equation = cc in

@@ -57,10 +57,10 @@ RecordAll-at_end theory theta (q ∷ pats) p (more_records s rs) r all one =
           (subst (λ xs. RecordAll theory theta xs rs) rest all.4) one,
     )
 
-pub recorded-more : {R : Type 0} (tells : R → Record → Type 0)
+pub recorded-more : {R H : Type 0} (tells : H → Record → Type 0)
     (all_tell : List R → RecordList → Type 0) (theory : RewriteTheory)
     (theta : List (Option Tree)) (taken next : List RulePat) (ts us : List Tree)
-    (kept more : List R) (p : RulePat) (t : Tree) (one : R)
+    (kept more : List R) (p : RulePat) (t : Tree) (one : H)
     → AreRecorded (all_tell kept) theory theta (plain_patterns taken) (forest ts)
     → IsRecorded (tells one) theory theta (plain_pattern p) t
     → ((rs : RecordList) (r : Record) → all_tell kept rs → tells one r

@@ -228,21 +228,21 @@ hooked_result theory f ts good may info i row k =
 
 -- ---- calls
 
-hook_called : {R : Type 0} (tells : R → Record → Type 0) (all_tell : List R → RecordList → Type 0)
+hook_called : {R H : Type 0} (tells : H → Record → Type 0) (all_tell : List R → RecordList → Type 0)
     (theory : RewriteTheory) (n f row sort k : ℕ) (info : SymInfo) (args : Answers R)
     → IsSymbol theory.sig f info → info.kind ≡ Hooked (record { 0 = row })
-    → sort_at [] info.result ≡ Some sort → (r : Result (Answer R × ℕ) EvalEnd)
+    → sort_at [] info.result ≡ Some sort → (r : Result (Answer H × ℕ) EvalEnd)
     → HookGives tells all_tell f row sort args k r → Calls tells all_tell theory n f args (suc k) r
-hook_called {R} tells all_tell theory n f row sort k info args i hook at r h =
+hook_called {R} {H} tells all_tell theory n f row sort k info args i hook at r h =
     comes-weaker
-    (λ (a : Answer R) (left : ℕ). ((vs : List DomainValue) × (v : DomainValue)
+    (λ (a : Answer H) (left : ℕ). ((vs : List DomainValue) × (v : DomainValue)
     × AreValues (forest args.terms.items) vs × (hook_value row vs ≡ Some (Ok v))
     × (a.term ≡ leaf sort v)) × (left ≡ k)
     × ((rs : RecordList) → all_tell args.records.items rs
     → tells a.recorded (kept.by_hook f rs a.term)))
     (λ cause. (vs : List DomainValue) × (why : NoValue) × AreValues (forest args.terms.items) vs
     × (hook_value row vs ≡ Some (Err why)) × (cause ≡ no_value row why))
-    (λ (a : Answer R) (left : ℕ). HasOutcome theory n f (forest args.terms.items) (suc k)
+    (λ (a : Answer H) (left : ℕ). HasOutcome theory n f (forest args.terms.items) (suc k)
     (value a.term left) × IsRecordedCall tells all_tell theory f args a)
     (λ cause. HasOutcome theory n f (forest args.terms.items) (suc k) (blocked cause))
     r
@@ -252,7 +252,7 @@ hook_called {R} tells all_tell theory n f row sort k info args i hook at r h =
     hook_fails i (record { hooked = hook; arguments = w.0; are = w.2; fails = w.3 }) in
     subst (λ c. HasOutcome theory n f (forest args.terms.items) (suc k) (blocked c)) (sym w.4) here)
     h where
-      answered : (a : Answer R) (left : ℕ)
+      answered : (a : Answer H) (left : ℕ)
           → ((vs : List DomainValue) × (v : DomainValue) × AreValues (forest args.terms.items) vs
           × (hook_value row vs ≡ Some (Ok v)) × (a.term ≡ leaf sort v)) → left ≡ k
           → HasOutcome theory n f (forest args.terms.items) (suc k) (value a.term left)
@@ -267,7 +267,7 @@ hook_called {R} tells all_tell theory n f row sort k info args i hook at r h =
           (sym e)
           with_term
 
-      told : (a : Answer R)
+      told : (a : Answer H)
           → ((vs : List DomainValue) × (v : DomainValue) × AreValues (forest args.terms.items) vs
           × (hook_value row vs ≡ Some (Ok v)) × (a.term ≡ leaf sort v))
           → ((rs : RecordList) → all_tell args.records.items rs
@@ -299,49 +299,49 @@ hook_called {R} tells all_tell theory n f row sort k info args i hook at r h =
         refl,
       )
 
-pub hook_calls : {R : Type 0} (tells : R → Record → Type 0)
+pub hook_calls : {R H : Type 0} (tells : H → Record → Type 0)
     (all_tell : List R → RecordList → Type 0) (theory : RewriteTheory) (n f sort c k : ℕ)
     (row : HookNo) (info : SymInfo) (args : Answers R) → IsSymbol theory.sig f info
     → info.kind ≡ Hooked row → sort_at [] info.result ≡ Some sort → c ≡ suc k
-    → (r : Result (Answer R × ℕ) EvalEnd) → HookGives tells all_tell f row.0 sort args k r
+    → (r : Result (Answer H × ℕ) EvalEnd) → HookGives tells all_tell f row.0 sort args k r
     → Calls tells all_tell theory n f args c r
 hook_calls tells all_tell theory n f sort c k row info args i hook at e r h =
     subst (λ j. Calls tells all_tell theory n f args j r) (sym e)
     (hook_called tells all_tell theory n f row.0 sort k info args i hook at r h)
 
-pub equations_call : {R : Type 0} (tells : R → Record → Type 0)
+pub equations_call : {R H : Type 0} (tells : H → Record → Type 0)
     (all_tell : List R → RecordList → Type 0) (theory : RewriteTheory) (n f c k : ℕ)
     (info : SymInfo) (args : Answers R) → IsSymbol theory.sig f info → info.kind ≡ Equations
-    → c ≡ suc k → (r : Result (Answer R × ℕ) EvalEnd)
+    → c ≡ suc k → (r : Result (Answer H × ℕ) EvalEnd)
     → CallsByEquations tells all_tell theory n f args k r → Calls tells all_tell theory n f args c r
-equations_call {R} tells all_tell theory n f c k info args i is e r h =
+equations_call {R} {H} tells all_tell theory n f c k info args i is e r h =
     subst (λ j. Calls tells all_tell theory n f args j r) (sym e) (comes-weaker
-    (λ (a : Answer R) (left : ℕ). Equates theory n f (equations_of theory f)
+    (λ (a : Answer H) (left : ℕ). Equates theory n f (equations_of theory f)
     (forest args.terms.items) k (value a.term left)
     × IsRecordedCall tells all_tell theory f args a)
     (λ cause.
     Equates theory n f (equations_of theory f) (forest args.terms.items) k (blocked cause))
-    (λ (a : Answer R) (left : ℕ). HasOutcome theory n f (forest args.terms.items) (suc k)
+    (λ (a : Answer H) (left : ℕ). HasOutcome theory n f (forest args.terms.items) (suc k)
     (value a.term left) × IsRecordedCall tells all_tell theory f args a)
     (λ cause. HasOutcome theory n f (forest args.terms.items) (suc k) (blocked cause))
     r (λ a left w. (by_equations i is w.0, w.1)) (λ cause w. by_equations i is w) h)
 
 -- ---- nodes
 
-pub called_gives : {R : Type 0} (tells : R → Record → Type 0)
+pub called_gives : {R H : Type 0} (tells : H → Record → Type 0)
     (all_tell : List R → RecordList → Type 0) (theory : RewriteTheory) (n m f c d : ℕ)
     (theta : List (Option Tree)) (ps : Patterns) (args : Answers R) → m ≡ suc n
     → EvaluateAll theory n theta ps c (values (forest args.terms.items) d)
     → AreRecorded (all_tell args.records.items) theory theta ps (forest args.terms.items)
-    → (r : Result (Answer R × ℕ) EvalEnd) → Calls tells all_tell theory n f args d r
+    → (r : Result (Answer H × ℕ) EvalEnd) → Calls tells all_tell theory n f args d r
     → (sorts : List ℕ) → Gives tells theory m theta (call f sorts ps) c r
-called_gives {R} tells all_tell theory n m f c d theta ps args e all recorded r h sorts =
+called_gives {R} {H} tells all_tell theory n m f c d theta ps args e all recorded r h sorts =
     subst (λ j. Gives tells theory j theta (call f sorts ps) c r) (sym e) (comes-weaker
-    (λ (a : Answer R) (left : ℕ). HasOutcome theory n f (forest args.terms.items) d
+    (λ (a : Answer H) (left : ℕ). HasOutcome theory n f (forest args.terms.items) d
     (value a.term left)
     × IsRecordedCall tells all_tell theory f args a)
     (λ cause. HasOutcome theory n f (forest args.terms.items) d (blocked cause))
-    (λ (a : Answer R) (left : ℕ). Evaluates theory (suc n) theta (call f sorts ps) c
+    (λ (a : Answer H) (left : ℕ). Evaluates theory (suc n) theta (call f sorts ps) c
     (value a.term left)
     × IsRecorded (tells a.recorded) theory theta (call f sorts ps) a.term)
     (λ cause. Evaluates theory (suc n) theta (call f sorts ps) c (blocked cause))
@@ -350,21 +350,21 @@ called_gives {R} tells all_tell theory n m f c d theta ps args e all recorded r 
     (function_called all w.0, (told.0, told.1, told.2 theta sorts ps recorded.2, told.3)))
     (λ cause w. function_called all w) h)
 
-pub constructed_gives : {R : Type 0} (tells : R → Record → Type 0)
+pub constructed_gives : {R H : Type 0} (tells : H → Record → Type 0)
     (all_tell : List R → RecordList → Type 0) (theory : RewriteTheory) (n m f c d : ℕ)
     (theta : List (Option Tree)) (ps : Patterns) (args : Answers R) → m ≡ suc n
     → EvaluateAll theory n theta ps c (values (forest args.terms.items) d)
     → AreRecorded (all_tell args.records.items) theory theta ps (forest args.terms.items)
-    → (r : Result (Answer R × ℕ) EvalEnd) → Constructs tells all_tell f args d r
+    → (r : Result (Answer H × ℕ) EvalEnd) → Constructs tells all_tell f args d r
     → Gives tells theory m theta (application f ps) c r
-constructed_gives {R} tells all_tell theory n m f c d theta ps args e all recorded r h =
+constructed_gives {R} {H} tells all_tell theory n m f c d theta ps args e all recorded r h =
     subst (λ j. Gives tells theory j theta (application f ps) c r) (sym e) (comes-weaker
-    (λ (a : Answer R) (left : ℕ). (a.term ≡ node f (forest args.terms.items))
+    (λ (a : Answer H) (left : ℕ). (a.term ≡ node f (forest args.terms.items))
     × (height a.term ≤ most_height) × (left ≡ d)
     × ((rs : RecordList) → all_tell args.records.items rs
     → tells a.recorded (kept.made f rs a.term)))
     (λ cause. (cause ≡ too_high f) × (most_height < height (node f (forest args.terms.items))))
-    (λ (a : Answer R) (left : ℕ). Evaluates theory (suc n) theta (application f ps) c
+    (λ (a : Answer H) (left : ℕ). Evaluates theory (suc n) theta (application f ps) c
     (value a.term left)
     × IsRecorded (tells a.recorded) theory theta (application f ps) a.term)
     (λ cause. Evaluates theory (suc n) theta (application f ps) c (blocked cause))

@@ -40,11 +40,11 @@ MatchesNumber theory f number ts theta =
     × MatchesBy theory e ts theta
 
 -- the call of a function by its equations
-abbrev pub CallsByEquations : {R : Type 0} → (R → Record → Type 0) → (List R → RecordList → Type 0)
-    → RewriteTheory → ℕ → ℕ → Answers R → ℕ → Result (Answer R × ℕ) EvalEnd → Type 0
-CallsByEquations {R} tells all_tell theory n f args c answer =
+abbrev pub CallsByEquations : {R H : Type 0} → (H → Record → Type 0) → (List R → RecordList → Type 0)
+    → RewriteTheory → ℕ → ℕ → Answers R → ℕ → Result (Answer H × ℕ) EvalEnd → Type 0
+CallsByEquations {R} {H} tells all_tell theory n f args c answer =
     Comes
-    (λ (a : Answer R) (left : ℕ).
+    (λ (a : Answer H) (left : ℕ).
     Equates theory n f (equations_of theory f) (forest args.terms.items) c
     (value a.term left)
     × IsRecordedCall tells all_tell theory f args a)

@@ -132,29 +132,29 @@ IsCallRecord theory f rs r =
     Records theory theta (call f sorts ps) r
 
 -- what is recorded of a call
-abbrev pub IsRecordedCall : {R : Type 0} → (R → Record → Type 0) → (List R → RecordList → Type 0)
-    → RewriteTheory → ℕ → Answers R → Answer R → Type 0
+abbrev pub IsRecordedCall : {R H : Type 0} → (H → Record → Type 0) → (List R → RecordList → Type 0)
+    → RewriteTheory → ℕ → Answers R → Answer H → Type 0
 IsRecordedCall tells all_tell theory f args a =
     (rs : RecordList) → all_tell args.records.items rs → results_of rs ≡ forest args.terms.items →
     (r : Record) × tells a.recorded r × IsCallRecord theory f rs r × (result_of r ≡ a.term)
 
 -- the call of a function
-abbrev pub Calls : {R : Type 0} → (R → Record → Type 0) → (List R → RecordList → Type 0)
-    → RewriteTheory → ℕ → ℕ → Answers R → ℕ → Result (Answer R × ℕ) EvalEnd → Type 0
-Calls {R} tells all_tell theory n f args c answer =
+abbrev pub Calls : {R H : Type 0} → (H → Record → Type 0) → (List R → RecordList → Type 0)
+    → RewriteTheory → ℕ → ℕ → Answers R → ℕ → Result (Answer H × ℕ) EvalEnd → Type 0
+Calls {R} {H} tells all_tell theory n f args c answer =
     Comes
-    (λ (a : Answer R) (left : ℕ). HasOutcome theory n f (forest args.terms.items) c
+    (λ (a : Answer H) (left : ℕ). HasOutcome theory n f (forest args.terms.items) c
     (value a.term left)
     × IsRecordedCall tells all_tell theory f args a)
     (λ cause. HasOutcome theory n f (forest args.terms.items) c (blocked cause))
     answer
 
 -- a constructor applied to the values of its arguments
-abbrev pub Constructs : {R : Type 0} → (R → Record → Type 0) → (List R → RecordList → Type 0) → ℕ
-    → Answers R → ℕ → Result (Answer R × ℕ) EvalEnd → Type 0
-Constructs {R} tells all_tell f args c answer =
+abbrev pub Constructs : {R H : Type 0} → (H → Record → Type 0) → (List R → RecordList → Type 0) → ℕ
+    → Answers R → ℕ → Result (Answer H × ℕ) EvalEnd → Type 0
+Constructs {R} {H} tells all_tell f args c answer =
     Comes
-    (λ (a : Answer R) (left : ℕ).
+    (λ (a : Answer H) (left : ℕ).
     (a.term ≡ node f (forest args.terms.items)) × (height a.term ≤ most_height)
     × (left ≡ c)
     × ((rs : RecordList) → all_tell args.records.items rs → tells a.recorded (made f rs a.term)))
@@ -175,11 +175,11 @@ InjectsTo {R} tells f from to below c answer =
     answer
 
 -- the value of the hook of a function at terms
-abbrev pub HookGives : {R : Type 0} → (R → Record → Type 0) → (List R → RecordList → Type 0) → ℕ → ℕ
-    → ℕ → Answers R → ℕ → Result (Answer R × ℕ) EvalEnd → Type 0
-HookGives {R} tells all_tell f row sort args c answer =
+abbrev pub HookGives : {R H : Type 0} → (H → Record → Type 0) → (List R → RecordList → Type 0) → ℕ → ℕ
+    → ℕ → Answers R → ℕ → Result (Answer H × ℕ) EvalEnd → Type 0
+HookGives {R} {H} tells all_tell f row sort args c answer =
     Comes
-    (λ (a : Answer R) (left : ℕ).
+    (λ (a : Answer H) (left : ℕ).
     ((vs : List DomainValue) × (v : DomainValue) × AreValues (forest args.terms.items) vs
     × (hook_value row vs ≡ Some (Ok v)) × (a.term ≡ leaf sort v)) × (left ≡ c)
     × ((rs : RecordList) → all_tell args.records.items rs

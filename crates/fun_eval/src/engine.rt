@@ -20,11 +20,13 @@ ghost use Rattle.fun_eval.specs.LastResorts.{has_last_resort, is_last_resort};
 use crate::answer::{Answer, EvalEnd};
 use crate::evaluation::evaluate;
 use crate::functions::symbol;
+use crate::holding::{Holding, InBox, InPlace};
 use crate::recording::Recording;
 use match_tree::{Tree, equation_tree, rule_tree};
 use rule_core::{Equation, EvalRecord, Program, SymKind};
 use std::alloc::{AllocError, Global};
 use std::marker::Model;
+use std::mem::size_of_val;
 use term_core::{RulePat, Subst, SymId};
 
 /// The greatest nesting of an evaluation. A condition or a right side of a rewrite rule has this
@@ -195,9 +197,46 @@ impl<'p> Engine<'p> {
             budget.old.calls)) }
         ensures budget { OnErr result (budget.new ≡ budget.old) }
     {
-        let (answer, left) = evaluate(alloc, self, pat, subst, budget.calls, nest)?;
+        // Where nothing is recorded of the equations that are not used, what is recorded is small.
+        let misses = R::none_missed(alloc);
+        if size_of_val(&misses) == 0 {
+            self.eval_held::<R, InPlace<R>>(alloc, pat, subst, budget, nest)
+        } else {
+            self.eval_held::<R, InBox<R>>(alloc, pat, subst, budget, nest)
+        }
+    }
+
+    // The same, with answers that hold what is recorded in this way.
+    fn eval_held<R: Recording, H: Holding<R>>(
+        &self,
+        alloc: Global,
+        pat: &RulePat,
+        subst: &Subst,
+        budget: &mut Budget,
+        nest: u32,
+    ) -> Result<Answer<R>, EvalEnd>
+        requires fits { IsEvaluable (theory_of self.now) subst.now (plain_pattern pat.now) }
+        requires nest { nest ≤ most_nesting }
+        ensures value { IfOk result
+            (λ a. Evaluates (theory_of self.now) nest subst.now (plain_pattern pat.now)
+            budget.old.calls
+            (value a.term budget.new.calls)) }
+        ensures recorded { IfOk result
+            (λ a. IsRecorded (R.tells a.recorded) (theory_of self.now) subst.now
+            (plain_pattern pat.now) a.term) }
+        ensures blocked { IfErr result
+            (EndsBy (Evaluates (theory_of self.now) nest subst.now (plain_pattern pat.now)
+            budget.old.calls)) }
+        ensures budget { OnErr result (budget.new ≡ budget.old) }
+    {
+        let (answer, left) = evaluate::<R, H>(alloc, self, pat, subst, budget.calls, nest)?;
         budget.calls = left;
-        Ok(answer)
+        let Answer {
+            term,
+            recorded: held,
+        } = answer;
+        let recorded = held.release();
+        Ok(Answer { term, recorded })
     }
 }
 

@@ -3,6 +3,8 @@ ghost use Rattle.std.specs.Prelude.{◌≡◌, ◌<◌, ◌≤◌, ◌+◌, ℕ,
 ghost use Rattle.std.specs.Prelude.{OnOk};
 ghost use Rattle.term_core.specs.Forests.{forest};
 ghost use Rattle.rule_core.specs.Theories.{equations_of};
+ghost use Rattle.rule_core.specs.Records.{MissList, OptionalRecord, Record, RecordList};
+ghost use Rattle.rule_core.specs.Records.{by_equation as equation_record};
 ghost use Rattle.rule_core.specs.ProgramView.{theory_of, function_equation};
 ghost use Rattle.match_tree.specs.Finding.{BeginsAt, GivesOn};
 ghost use Rattle.match_tree.specs.ProgramLaws.{IsFirstEquation, NoEquationMatches};
@@ -11,8 +13,10 @@ ghost use Rattle.match_tree.specs.Programs.{IsEquationTree};
 ghost use Rattle.match_tree.specs.SlotView.{RowMatches};
 ghost use Rattle.fun_eval.specs.Equations.{FailsAt, IsDefined, MatchesNumber, RecordsMissed};
 ghost use Rattle.fun_eval.specs.Equations.{RecordsPassed};
+ghost use Rattle.fun_eval.specs.RecordLists.{at_end, TellsOption};
 
 use crate::engine::Engine;
+use crate::holding::{Holding, released};
 use crate::recording::Recording;
 use crate::terms::{bind_row, find_row};
 use match_tree::{Hit, NodeNo, Tree, program_laws};
@@ -89,6 +93,7 @@ pub(crate) fn next_equation(
 
 // The substitution that makes the arguments of an equation the terms, and binds the names of their
 // parts, if a walk found its row.
+#[inline(never)]
 pub(crate) fn match_equation(
     alloc: Global,
     engine: &Engine<'_>,
@@ -111,26 +116,27 @@ pub(crate) fn match_equation(
 }
 
 // Passes the equations up to this one, whose condition is not true. Those between do not match.
-pub(crate) fn pass<R: Recording>(
+#[inline(never)]
+pub(crate) fn pass<R: Recording, H: Holding<R>>(
     engine: &Engine<'_>,
     sym: SymId,
     passed: &mut Passed<R::Misses>,
     row: u32,
     subst: Subst,
-    cond: R,
+    cond: H,
 ) -> Result<(), AllocError>
     requires number { row < length (equations_of (theory_of engine.now) sym.0) }
     requires later { passed.old.count ≤ row }
     ensures recorded { OnOk result ((ts : _)
         → RecordsPassed R.misses_tell (theory_of engine.now) sym.0 ts passed.old
         → NoEquationMatches (theory_of engine.now) sym.0 passed.old.count row ts
-        → FailsAt (R.tells cond) (theory_of engine.now) sym.0 row ts subst
+        → FailsAt (H.tells cond) (theory_of engine.now) sym.0 row ts subst
         → RecordsPassed R.misses_tell (theory_of engine.now) sym.0 ts passed.new) }
     ensures count { OnOk result (passed.new.count ≡ row + 1) }
 {
     if engine.has_last_resort(sym) {
         R::unmatched(&mut passed.missed, row as usize - passed.count)?;
-        R::failed(&mut passed.missed, subst, cond)?;
+        R::failed(&mut passed.missed, subst, cond.release())?;
     }
     passed.count = row as usize + 1;
     Ok(())
@@ -158,4 +164,45 @@ pub(crate) fn missed_before<R: Recording>(
     let Passed { count, mut missed } = passed;
     R::unmatched(&mut missed, row as usize - count)?;
     Ok(missed)
+}
+
+// What is recorded of one argument more, after the others.
+#[inline(never)]
+pub(crate) fn keep<R: Recording, H: Holding<R>>(
+    others: &mut Vec<R>,
+    one: H,
+) -> Result<(), AllocError>
+    ensures { OnOk result
+        ((rs : RecordList) (r : Record) → R.all_tell others.old.items rs → H.tells one r
+        → R.all_tell others.new.items (at_end rs r)) }
+{
+    R::push(others, one.release())
+}
+
+// What is recorded of a call, from what is recorded of its arguments, the equation that is used,
+// and what is recorded of its right side.
+#[inline(never)]
+pub(crate) fn record_call<R: Recording, H: Holding<R>>(
+    alloc: Global,
+    sym: SymId,
+    args: Vec<R>,
+    chosen: Choice<H, R::Misses>,
+    body: H,
+) -> Result<H, AllocError>
+    ensures { IfOk result (λ made_now.
+        (rs : RecordList) (o : OptionalRecord) (r : Record) (ms : MissList)
+        → R.all_tell args.items rs → TellsOption H.tells chosen.cond o → H.tells body r
+        → R.misses_tell chosen.missed ms
+        → H.tells made_now
+        (equation_record sym.0 rs chosen.number chosen.subst o r ms)) }
+{
+    let Choice {
+        number,
+        subst,
+        cond,
+        missed,
+    } = chosen;
+    let (cond, body) = (released::<R, H>(cond), body.release());
+    let recorded = R::by_equation(alloc, sym, args, number, subst, cond, body, missed)?;
+    H::hold(alloc, recorded)
 }

@@ -1,4 +1,5 @@
-// The values of constructors, injections and hooks, from the values of their arguments.
+// The values of constructors, injections and hooks, from the values of their arguments. These are
+// calls of their own, so that they take no stack while the arguments are evaluated.
 ghost use Rattle.std.specs.Prelude.{◌≡◌, [], IsSome, Some};
 ghost use Rattle.term_core.specs.Forests.{forest};
 ghost use Rattle.term_core.specs.Values.{scalar_value, value_of};
@@ -7,6 +8,7 @@ ghost use Rattle.fun_eval.specs.Giving.{Constructs, HookGives, InjectsTo, IsDecl
 ghost use Rattle.fun_eval.specs.Roots.{AreHookArguments, HookAnswersSo};
 
 use crate::answer::{Answer, Answers, EvalEnd};
+use crate::holding::Holding;
 use crate::recording::Recording;
 use crate::terms::scalar_of;
 use hook_table::apply;
@@ -37,33 +39,35 @@ pub(crate) fn result_sort(result_ref: SortRef) -> SortId
 }
 
 // A constructor applied to its arguments' values.
-pub(crate) fn construct<R: Recording>(
+#[inline(never)]
+pub(crate) fn construct<R: Recording, H: Holding<R>>(
     alloc: Global,
     sym: SymId,
     args: Answers<R>,
     left: u32,
-) -> Result<(Answer<R>, u32), EvalEnd>
-    ensures { Constructs R.tells R.all_tell sym.0 args left result }
+) -> Result<(Answer<H>, u32), EvalEnd>
+    ensures { Constructs H.tells R.all_tell sym.0 args left result }
 {
     let Answers { terms, records } = args;
     if Term::highest(&terms) >= MAX_HEIGHT {
         return Err(EvalEnd::Blocked(Blocked::Height(sym)));
     }
     let term = Term::ctor(alloc, sym, terms)?;
-    let recorded = R::ctor(sym, records, &term)?;
+    let recorded = H::hold(alloc, R::ctor(sym, records, &term)?)?;
     Ok((Answer { term, recorded }, left))
 }
 
 // The injection of a value, whose symbol is `sym`.
-pub(crate) fn inject<R: Recording>(
+#[inline(never)]
+pub(crate) fn inject<R: Recording, H: Holding<R>>(
     alloc: Global,
     sym: SymId,
     from: SortId,
     to: SortId,
-    below: Answer<R>,
+    below: Answer<H>,
     left: u32,
-) -> Result<(Answer<R>, u32), EvalEnd>
-    ensures { InjectsTo R.tells sym.0 from.0 to.0 below left result }
+) -> Result<(Answer<H>, u32), EvalEnd>
+    ensures { InjectsTo H.tells sym.0 from.0 to.0 below left result }
 {
     let Answer {
         term: child,
@@ -73,28 +77,30 @@ pub(crate) fn inject<R: Recording>(
         return Err(EvalEnd::Blocked(Blocked::Height(sym)));
     }
     let term = Term::inj(alloc, from, to, &child)?;
-    let recorded = R::inj(alloc, from, to, recorded, &term)?;
+    let recorded = R::inj(alloc, from, to, recorded.release(), &term)?;
+    let recorded = H::hold(alloc, recorded)?;
     Ok((Answer { term, recorded }, left))
 }
 
 // The value of a function's hook at the values of its arguments. `sort` is the sort of the
 // function.
-pub(crate) fn call_hook<R: Recording>(
+#[inline(never)]
+pub(crate) fn call_hook<R: Recording, H: Holding<R>>(
     alloc: Global,
     sym: SymId,
     hook: HookNo,
     sort: SortId,
     args: Answers<R>,
     left: u32,
-) -> Result<(Answer<R>, u32), EvalEnd>
+) -> Result<(Answer<H>, u32), EvalEnd>
     requires { AreHookArguments hook.0 (forest args.terms.items) }
-    ensures { HookGives R.tells R.all_tell sym.0 hook.0 sort.0 args left result }
+    ensures { HookGives H.tells R.all_tell sym.0 hook.0 sort.0 args left result }
 {
     let Answers { terms, records } = args;
     match hook_answer(hook, &terms) {
         Ok(scalar) => {
             let term = Term::value(alloc, sort, value(scalar))?;
-            let recorded = R::by_hook(sym, records, &term)?;
+            let recorded = H::hold(alloc, R::by_hook(sym, records, &term)?)?;
             Ok((Answer { term, recorded }, left))
         }
         Err(reason) => Err(EvalEnd::Blocked(Blocked::NoValue(hook, reason))),

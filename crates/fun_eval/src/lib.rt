@@ -13,6 +13,7 @@ mod engine;
 mod equations;
 mod evaluation;
 mod functions;
+mod holding;
 mod recording;
 mod terms;
 

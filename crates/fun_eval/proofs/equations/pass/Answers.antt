@@ -13,13 +13,13 @@ returns-clause-recorded g c =
           records_of_first g.R.Recording.misses_tell (theory_of c.args.engine.now) c.args.sym.0
           (c.args.row + 1) ts c.if-has_last_resort.passed c.args.passed.now.count
           w.failed.new.others w.passed-is
-          (failure_recorded g.R.Recording.misses_tell (g.R.Recording.tells c.args.cond)
+          (failure_recorded g.R.Recording.misses_tell (g.H.Holding.tells c.args.cond)
           (theory_of c.args.engine.now) c.args.sym.0 c.args.row ts c.args.subst
           w.unmatched.new.others w.failed.new.others fails
           (unmatched_recorded g.R.Recording.misses_tell (theory_of c.args.engine.now) c.args.sym.0
           c.args.passed.now.count c.args.row ts c.args.passed.now.missed w.unmatched.new.others
           c.requires.later c.requires.number none (was last) w.in_ok-unmatched.ensures)
-          w.in_ok-failed.ensures)
+          (λ missed r told kept. w.in_ok-failed.ensures missed r told (w.release.ensures r kept)))
       | else-has_last_resort w ↦ λ ts was none fails last.
           absurd (false≢true (sym w.if-has_last_resort.false ∙ (c.has_last_resort.ensures ∙ last)))
     ]

@@ -56,11 +56,14 @@ evaluate-evaluate_ctor-requires g t c κs within =
       (
         within.0,
         (
-          within.1,
+          within.1.0,
           (
-            arguments_of-application (theory_of c.args.engine.now) c.args.subst.now
-                c.in-Ctor.sym.0 (plain_patterns c.deref.result.now) fits,
-            c.requires.nest,
+            within.1.1,
+            (
+              arguments_of-application (theory_of c.args.engine.now) c.args.subst.now
+                  c.in-Ctor.sym.0 (plain_patterns c.deref.result.now) fits,
+              c.requires.nest,
+            ),
           ),
         ),
       ),
@@ -79,13 +82,13 @@ evaluate-evaluate_call-requires g t c κs within =
     (call c.in-Call.sym.0 (sort_numbers c.in-Call.field-1.items)
     (plain_patterns c.deref-in-Call.result.now)) =
     subst (IsEvaluable (theory_of c.args.engine.now) c.args.subst.now) is c.requires.fits in
-    (omega arith, (within.0, (within.1, ((sort_numbers c.in-Call.field-1.items, fits), c.requires.nest))))
+    (omega arith, (within.0, (within.1.0, (within.1.1, ((sort_numbers c.in-Call.field-1.items, fits), c.requires.nest)))))
 
 pub evaluate-returns-in-Var : goal.evaluate-returns-in-Var
 evaluate-returns-in-Var g t c =
     let is : variable c.in-Var.var ≡ plain_pattern c.args.pat.now =
     sym (ap plain_pattern c.in-Var.is ∙ plain-Var _) in
-    subst (λ p. Gives g.R.Recording.tells (theory_of c.args.engine.now) c.args.nest c.args.subst.now
+    subst (λ p. Gives g.H.Holding.tells (theory_of c.args.engine.now) c.args.nest c.args.subst.now
     p c.args.calls c.bound.result) is
     (c.bound.ensures (theory_of c.args.engine.now) c.args.nest)
 
@@ -94,7 +97,7 @@ evaluate-returns-in-Value g t c =
     let is : domain_value c.in-Value.sort.0 (value_of c.in-Value.value) ≡ plain_pattern
     c.args.pat.now =
     sym (ap plain_pattern c.in-Value.is ∙ plain-Value _ _) in
-    subst (λ p. Gives g.R.Recording.tells (theory_of c.args.engine.now) c.args.nest c.args.subst.now
+    subst (λ p. Gives g.H.Holding.tells (theory_of c.args.engine.now) c.args.nest c.args.subst.now
     p c.args.calls c.itself.result) is
     (c.itself.ensures (theory_of c.args.engine.now) c.args.nest c.args.subst.now)
 
@@ -106,7 +109,7 @@ evaluate-returns-in-Call g t c =
     ∙ ap (λ (ps : List RulePat).
     call c.in-Call.sym.0 (sort_numbers c.in-Call.field-1.items) (plain_patterns ps))
     (sym c.deref-in-Call.ensures.value))) in
-    subst (λ p. Gives g.R.Recording.tells (theory_of c.args.engine.now) c.args.nest c.args.subst.now
+    subst (λ p. Gives g.H.Holding.tells (theory_of c.args.engine.now) c.args.nest c.args.subst.now
     p c.args.calls c.evaluate_call.result) is
     (c.evaluate_call.ensures (sort_numbers c.in-Call.field-1.items))
 
@@ -122,7 +125,7 @@ evaluate_ctor-returns-then-nest-eq0 g t c =
 pub evaluate_ctor-returns : goal.evaluate_ctor-returns
 evaluate_ctor-returns g t c =
     let more : c.args.nest ≡ suc (c.args.nest - 1) = omega arith in
-    constructed_gives g.R.Recording.tells g.R.Recording.all_tell (theory_of c.args.engine.now)
+    constructed_gives g.H.Holding.tells g.R.Recording.all_tell (theory_of c.args.engine.now)
     (c.args.nest - 1) c.args.nest c.args.sym.0 c.args.calls c.in_ok-args.left c.args.subst.now
     (plain_patterns c.args.args.now) c.in_ok-args.args more c.in_ok-args.ensures.0
     c.in_ok-args.ensures.1 c.construct.result c.construct.ensures
@@ -131,7 +134,7 @@ pub evaluate_ctor-returns-in_err-args : goal.evaluate_ctor-returns-in_err-args
 evaluate_ctor-returns-in_err-args g t c =
     let p = err_from_is_err_and c.from_residual.result c.from_residual.ensures.1 in
     rw (p.1, p.2) (let more : c.args.nest ≡ suc (c.args.nest - 1) = omega arith in
-    arguments_stop g.R.Recording.tells g.R.Recording.all_tell (theory_of c.args.engine.now)
+    arguments_stop g.H.Holding.tells g.R.Recording.all_tell (theory_of c.args.engine.now)
     (c.args.nest - 1) c.args.nest c.args.sym.0 c.args.calls c.args.subst.now
     (application c.args.sym.0 (plain_patterns c.args.args.now)) (plain_patterns c.args.args.now)
     c.in_err-args.field-0.0 of_constructor more c.in_err-args.ensures)
@@ -148,7 +151,7 @@ evaluate_inj-returns-then-nest-eq0 g t c =
 pub evaluate_inj-returns : goal.evaluate_inj-returns
 evaluate_inj-returns g t c =
     let more : c.args.nest ≡ suc (c.args.nest - 1) = omega arith in
-    injected_gives g.R.Recording.tells (theory_of c.args.engine.now) (c.args.nest - 1) c.args.nest
+    injected_gives g.H.Holding.tells (theory_of c.args.engine.now) (c.args.nest - 1) c.args.nest
     c.in-Some.sym.0 c.args.from.0 c.args.to.0 c.args.calls c.in_ok-below.left c.args.subst.now
     (plain_pattern c.args.below.now) c.in_ok-below.below c.in-Some.ensures more
     c.in_ok-below.ensures.0 c.in_ok-below.ensures.1 c.inject.result c.inject.ensures
@@ -157,7 +160,7 @@ pub evaluate_inj-returns-in_err-below : goal.evaluate_inj-returns-in_err-below
 evaluate_inj-returns-in_err-below g t c =
     let p = err_from_is_err_and c.from_residual.result c.from_residual.ensures.1 in
     rw (p.1, p.2) (let more : c.args.nest ≡ suc (c.args.nest - 1) = omega arith in
-    injected_stops g.R.Recording.tells (theory_of c.args.engine.now) (c.args.nest - 1) c.args.nest
+    injected_stops g.H.Holding.tells (theory_of c.args.engine.now) (c.args.nest - 1) c.args.nest
     c.in-Some.sym.0 c.args.from.0 c.args.to.0 c.args.calls c.args.subst.now
     (plain_pattern c.args.below.now) c.in_err-below.field-0.0 c.in-Some.ensures more
     c.in_err-below.ensures)
@@ -176,11 +179,14 @@ evaluate_call-evaluate_all-requires g t c κs within = (
   (
     within.0,
     (
-      within.1,
+      within.1.0,
       (
-        arguments_of-call (theory_of c.args.engine.now) c.args.subst.now
-            c.args.sym.0 c.requires.fits.0 (plain_patterns c.args.args.now) c.requires.fits.1,
-        omega arith,
+        within.1.1,
+        (
+          arguments_of-call (theory_of c.args.engine.now) c.args.subst.now
+              c.args.sym.0 c.requires.fits.0 (plain_patterns c.args.args.now) c.requires.fits.1,
+          omega arith,
+        ),
       ),
     ),
   ),
@@ -200,12 +206,12 @@ evaluate_call-apply-requires g t c κs within =
       fits = c.requires.fits.1;
       evaluated = c.in_ok-args.ensures.0;
     } in
-    (omega arith, (within.0, (within.1, (are, omega arith))))
+    (omega arith, (within.0, (within.1.0, (within.1.1, (are, omega arith)))))
 
 pub evaluate_call-returns : goal.evaluate_call-returns
 evaluate_call-returns g t c =
     let more : c.args.nest ≡ suc (c.args.nest - 1) = omega arith in
-    called_gives g.R.Recording.tells g.R.Recording.all_tell (theory_of c.args.engine.now)
+    called_gives g.H.Holding.tells g.R.Recording.all_tell (theory_of c.args.engine.now)
     (c.args.nest - 1) c.args.nest c.args.sym.0 c.args.calls c.in_ok-args.left c.args.subst.now
     (plain_patterns c.args.args.now) c.in_ok-args.args more c.in_ok-args.ensures.0
     c.in_ok-args.ensures.1 c.apply.result c.apply.ensures
@@ -214,7 +220,7 @@ pub evaluate_call-returns-in_err-args : goal.evaluate_call-returns-in_err-args
 evaluate_call-returns-in_err-args g t c = λ sorts.
     let p = err_from_is_err_and c.from_residual.result c.from_residual.ensures.1 in
     rw (p.1, p.2) (let more : c.args.nest ≡ suc (c.args.nest - 1) = omega arith in
-    arguments_stop g.R.Recording.tells g.R.Recording.all_tell (theory_of c.args.engine.now)
+    arguments_stop g.H.Holding.tells g.R.Recording.all_tell (theory_of c.args.engine.now)
     (c.args.nest - 1) c.args.nest c.args.sym.0 c.args.calls c.args.subst.now
     (call c.args.sym.0 sorts (plain_patterns c.args.args.now)) (plain_patterns c.args.args.now)
     c.in_err-args.field-0.0 of_call more c.in_err-args.ensures)
@@ -227,12 +233,15 @@ evaluate_all-evaluate-requires g t c κs within = (
   (
     within.0,
     (
-      within.1,
+      within.1.0,
       (
-        item_evaluable (theory_of c.args.engine.now) c.args.subst.now
-            c.args.pats.now c.loop-pat.pat-index c.pat-item.result c.pat-item.is
-            c.loop-pat-test.true c.requires.fits,
-        c.requires.nest,
+        within.1.1,
+        (
+          item_evaluable (theory_of c.args.engine.now) c.args.subst.now
+              c.args.pats.now c.loop-pat.pat-index c.pat-item.result c.pat-item.is
+              c.loop-pat-test.true c.requires.fits,
+          c.requires.nest,
+        ),
       ),
     ),
   ),
@@ -242,7 +251,7 @@ pub evaluate_all-returns-in_err-answer : goal.evaluate_all-returns-in_err-answer
 evaluate_all-returns-in_err-answer g t c =
     let p = err_from_is_err_and c.from_residual-in_err-answer.result
     c.from_residual-in_err-answer.ensures.1 in
-    rw (p.1, p.2) (pattern_stops g.R.Recording.tells g.R.Recording.all_tell (theory_of
+    rw (p.1, p.2) (pattern_stops g.H.Holding.tells g.R.Recording.all_tell (theory_of
     c.args.engine.now) c.args.nest c.args.subst.now c.args.pats.now c.args.calls
     c.loop-pat.pat-index c.loop-pat.terms.items c.loop-pat.left c.pat-item.result
     c.in_err-answer.field-0.0 c.loop-pat.invariant.goes c.pat-item.is c.loop-pat-test.true
@@ -263,12 +272,12 @@ evaluate_all-loop-pat-preserved g t c =
           c.loop-pat.invariant.goes c.pat-item.is c.loop-pat-test.true c.in_ok-answer.ensures.0
           c.in_ok-push.ensures.items;
       recorded =
-          recorded-more g.R.Recording.tells g.R.Recording.all_tell (theory_of c.args.engine.now)
+          recorded-more g.H.Holding.tells g.R.Recording.all_tell (theory_of c.args.engine.now)
           c.args.subst.now (take c.loop-pat.pat-index c.args.pats.now)
           (take (c.loop-pat.pat-index + 1) c.args.pats.now) c.loop-pat.terms.items
-          c.push.new.self.items c.loop-pat.records.items c.push-in-loop-pat.new.others.items
+          c.push.new.self.items c.loop-pat.records.items c.keep.new.others.items
           c.pat-item.result c.in_ok-answer.answer.term c.in_ok-answer.answer.recorded
-          c.loop-pat.invariant.recorded c.in_ok-answer.ensures.1 c.in_ok-push-2.ensures
+          c.loop-pat.invariant.recorded c.in_ok-answer.ensures.1 c.in_ok-keep.ensures
           c.in_ok-push.ensures.items next;
     }
 
@@ -295,7 +304,7 @@ evaluate_in-returns-then-nest-eq0 g t c =
 pub evaluate_in-returns : goal.evaluate_in-returns
 evaluate_in-returns g t c =
     let more : c.args.nest ≡ suc (c.args.nest - 1) = omega arith in
-    within_gives g.R.Recording.tells (theory_of c.args.engine.now) (c.args.nest - 1) c.args.nest
+    within_gives g.H.Holding.tells (theory_of c.args.engine.now) (c.args.nest - 1) c.args.nest
     c.args.sym.0 c.args.calls c.args.subst.now (plain_pattern c.args.pat.now) more
     c.evaluate.result c.evaluate.ensures
 
@@ -359,12 +368,15 @@ apply-apply_equations-requires g t c κs within =
       (
         within.0,
         (
-          within.1,
+          within.1.0,
           (
-            defined (theory_of c.args.engine.now) c.args.sym.0
-                (forest c.args.args.terms.items) c.program.ensures.sorted may c.symbol-info.result.now
-                there c.in-Equations.is,
-            c.requires.nest,
+            within.1.1,
+            (
+              defined (theory_of c.args.engine.now) c.args.sym.0
+                  (forest c.args.args.terms.items) c.program.ensures.sorted may c.symbol-info.result.now
+                  there c.in-Equations.is,
+              c.requires.nest,
+            ),
           ),
         ),
       ),
@@ -376,7 +388,7 @@ apply-returns-in-Hooked g t c =
     subst (λ (p : Program). IsSymbol p.sig c.args.sym.0 c.symbol-info.result.now)
     c.program.ensures.program c.symbol-info.ensures in
     let more : c.args.calls ≡ suc (c.args.calls - 1) = omega arith in
-    hook_calls g.R.Recording.tells g.R.Recording.all_tell (theory_of c.args.engine.now) c.args.nest
+    hook_calls g.H.Holding.tells g.R.Recording.all_tell (theory_of c.args.engine.now) c.args.nest
     c.args.sym.0 c.result_sort-sort.result.0 c.args.calls (c.args.calls - 1) c.in-Hooked.hook
     c.symbol-info.result.now c.args.args there c.in-Hooked.is c.result_sort-sort.ensures more
     c.call_hook.result c.call_hook.ensures
@@ -387,7 +399,7 @@ apply-returns-in-Equations g t c =
     subst (λ (p : Program). IsSymbol p.sig c.args.sym.0 c.symbol-info.result.now)
     c.program.ensures.program c.symbol-info.ensures in
     let more : c.args.calls ≡ suc (c.args.calls - 1) = omega arith in
-    equations_call g.R.Recording.tells g.R.Recording.all_tell (theory_of c.args.engine.now)
+    equations_call g.H.Holding.tells g.R.Recording.all_tell (theory_of c.args.engine.now)
     c.args.nest c.args.sym.0 c.args.calls (c.args.calls - 1) c.symbol-info.result.now
     c.args.args there c.in-Equations.is more c.apply_equations.result c.apply_equations.ensures
 
@@ -397,17 +409,17 @@ pub apply_equations-equation_of-requires : goal.apply_equations-equation_of-requ
 apply_equations-equation_of-requires g t c =
     let values_same : forest c.deref.result.now ≡ forest c.args.args.terms.items =
     ap forest c.deref.ensures.value in
-    let here : ChoiceSays g.R.Recording.tells g.R.Recording.misses_tell
+    let here : ChoiceSays g.H.Holding.tells g.R.Recording.misses_tell
     (theory_of c.args.engine.now) c.args.nest c.args.sym.0
     (forest c.deref.result.now) c.args.calls (Some c.in-Some.chosen) c.in_ok-chosen.left =
-    subst (λ o. ChoiceSays g.R.Recording.tells g.R.Recording.misses_tell
+    subst (λ o. ChoiceSays g.H.Holding.tells g.R.Recording.misses_tell
     (theory_of c.args.engine.now) c.args.nest
     c.args.sym.0 (forest c.deref.result.now) c.args.calls o c.in_ok-chosen.left)
     c.in-Some.is c.in_ok-chosen.ensures in
-    let says : ChoiceSays g.R.Recording.tells g.R.Recording.misses_tell
+    let says : ChoiceSays g.H.Holding.tells g.R.Recording.misses_tell
     (theory_of c.args.engine.now) c.args.nest c.args.sym.0
     (forest c.args.args.terms.items) c.args.calls (Some c.in-Some.chosen) c.in_ok-chosen.left =
-    subst (λ ts. ChoiceSays g.R.Recording.tells g.R.Recording.misses_tell
+    subst (λ ts. ChoiceSays g.H.Holding.tells g.R.Recording.misses_tell
     (theory_of c.args.engine.now) c.args.nest
     c.args.sym.0 ts c.args.calls (Some c.in-Some.chosen) c.in_ok-chosen.left) values_same
     here in
@@ -419,17 +431,17 @@ pub apply_equations-evaluate_in-requires : goal.apply_equations-evaluate_in-requ
 apply_equations-evaluate_in-requires g t c κs within =
     let values_same : forest c.deref.result.now ≡ forest c.args.args.terms.items =
     ap forest c.deref.ensures.value in
-    let here : ChoiceSays g.R.Recording.tells g.R.Recording.misses_tell
+    let here : ChoiceSays g.H.Holding.tells g.R.Recording.misses_tell
     (theory_of c.args.engine.now) c.args.nest c.args.sym.0
     (forest c.deref.result.now) c.args.calls (Some c.in-Some.chosen) c.in_ok-chosen.left =
-    subst (λ o. ChoiceSays g.R.Recording.tells g.R.Recording.misses_tell
+    subst (λ o. ChoiceSays g.H.Holding.tells g.R.Recording.misses_tell
     (theory_of c.args.engine.now) c.args.nest
     c.args.sym.0 (forest c.deref.result.now) c.args.calls o c.in_ok-chosen.left)
     c.in-Some.is c.in_ok-chosen.ensures in
-    let says : ChoiceSays g.R.Recording.tells g.R.Recording.misses_tell
+    let says : ChoiceSays g.H.Holding.tells g.R.Recording.misses_tell
     (theory_of c.args.engine.now) c.args.nest c.args.sym.0
     (forest c.args.args.terms.items) c.args.calls (Some c.in-Some.chosen) c.in_ok-chosen.left =
-    subst (λ ts. ChoiceSays g.R.Recording.tells g.R.Recording.misses_tell
+    subst (λ ts. ChoiceSays g.H.Holding.tells g.R.Recording.misses_tell
     (theory_of c.args.engine.now) c.args.nest
     c.args.sym.0 ts c.args.calls (Some c.in-Some.chosen) c.in_ok-chosen.left) values_same
     here in (
@@ -437,14 +449,17 @@ apply_equations-evaluate_in-requires g t c κs within =
       (
         within.0,
         (
-          within.1,
+          within.1.0,
           (
-            right_evaluable (theory_of c.args.engine.now) c.args.nest c.args.sym.0
-                (forest c.args.args.terms.items) c.args.calls c.in-Some.chosen.number
-                c.in_ok-chosen.left c.in-Some.chosen.subst
-                (function_equation c.equation_of.result.now) c.program-program.ensures.sorted
-                c.requires.fits says.0 c.equation_of.ensures,
-            c.requires.nest,
+            within.1.1,
+            (
+              right_evaluable (theory_of c.args.engine.now) c.args.nest c.args.sym.0
+                  (forest c.args.args.terms.items) c.args.calls c.in-Some.chosen.number
+                  c.in_ok-chosen.left c.in-Some.chosen.subst
+                  (function_equation c.equation_of.result.now) c.program-program.ensures.sorted
+                  c.requires.fits says.0 c.equation_of.ensures,
+              c.requires.nest,
+            ),
           ),
         ),
       ),
@@ -454,21 +469,21 @@ pub apply_equations-returns : goal.apply_equations-returns
 apply_equations-returns g t c =
     let values_same : forest c.deref.result.now ≡ forest c.args.args.terms.items =
     ap forest c.deref.ensures.value in
-    let here : ChoiceSays g.R.Recording.tells g.R.Recording.misses_tell
+    let here : ChoiceSays g.H.Holding.tells g.R.Recording.misses_tell
     (theory_of c.args.engine.now) c.args.nest c.args.sym.0
     (forest c.deref.result.now) c.args.calls (Some c.in-Some.chosen) c.in_ok-chosen.left =
-    subst (λ o. ChoiceSays g.R.Recording.tells g.R.Recording.misses_tell
+    subst (λ o. ChoiceSays g.H.Holding.tells g.R.Recording.misses_tell
     (theory_of c.args.engine.now) c.args.nest
     c.args.sym.0 (forest c.deref.result.now) c.args.calls o c.in_ok-chosen.left)
     c.in-Some.is c.in_ok-chosen.ensures in
-    let says : ChoiceSays g.R.Recording.tells g.R.Recording.misses_tell
+    let says : ChoiceSays g.H.Holding.tells g.R.Recording.misses_tell
     (theory_of c.args.engine.now) c.args.nest c.args.sym.0
     (forest c.args.args.terms.items) c.args.calls (Some c.in-Some.chosen) c.in_ok-chosen.left =
-    subst (λ ts. ChoiceSays g.R.Recording.tells g.R.Recording.misses_tell
+    subst (λ ts. ChoiceSays g.H.Holding.tells g.R.Recording.misses_tell
     (theory_of c.args.engine.now) c.args.nest
     c.args.sym.0 ts c.args.calls (Some c.in-Some.chosen) c.in_ok-chosen.left) values_same
     here in
-    right_gives g.R.Recording.tells g.R.Recording.all_tell
+    right_gives g.H.Holding.tells g.R.Recording.all_tell
     (g.R.Recording.misses_tell c.in-Some.chosen.missed) (theory_of c.args.engine.now) c.args.nest
     c.args.sym.0 c.args.args c.args.calls c.in-Some.chosen.number c.in_ok-chosen.left
     c.in_ok-body.rest c.in-Some.chosen.subst c.in-Some.chosen.cond
@@ -480,23 +495,23 @@ pub apply_equations-returns-in_err-body : goal.apply_equations-returns-in_err-bo
 apply_equations-returns-in_err-body g t c =
     let values_same : forest c.deref.result.now ≡ forest c.args.args.terms.items =
     ap forest c.deref.ensures.value in
-    let here : ChoiceSays g.R.Recording.tells g.R.Recording.misses_tell
+    let here : ChoiceSays g.H.Holding.tells g.R.Recording.misses_tell
     (theory_of c.args.engine.now) c.args.nest c.args.sym.0
     (forest c.deref.result.now) c.args.calls (Some c.in-Some.chosen) c.in_ok-chosen.left =
-    subst (λ o. ChoiceSays g.R.Recording.tells g.R.Recording.misses_tell
+    subst (λ o. ChoiceSays g.H.Holding.tells g.R.Recording.misses_tell
     (theory_of c.args.engine.now) c.args.nest
     c.args.sym.0 (forest c.deref.result.now) c.args.calls o c.in_ok-chosen.left)
     c.in-Some.is c.in_ok-chosen.ensures in
-    let says : ChoiceSays g.R.Recording.tells g.R.Recording.misses_tell
+    let says : ChoiceSays g.H.Holding.tells g.R.Recording.misses_tell
     (theory_of c.args.engine.now) c.args.nest c.args.sym.0
     (forest c.args.args.terms.items) c.args.calls (Some c.in-Some.chosen) c.in_ok-chosen.left =
-    subst (λ ts. ChoiceSays g.R.Recording.tells g.R.Recording.misses_tell
+    subst (λ ts. ChoiceSays g.H.Holding.tells g.R.Recording.misses_tell
     (theory_of c.args.engine.now) c.args.nest
     c.args.sym.0 ts c.args.calls (Some c.in-Some.chosen) c.in_ok-chosen.left) values_same
     here in
     let p = err_from_is_err_and c.from_residual-in_err-body.result
     c.from_residual-in_err-body.ensures.1 in
-    rw (p.1, p.2) (right_stops g.R.Recording.tells g.R.Recording.all_tell (theory_of
+    rw (p.1, p.2) (right_stops g.H.Holding.tells g.R.Recording.all_tell (theory_of
     c.args.engine.now) c.args.nest c.args.sym.0 c.args.args c.args.calls c.in-Some.chosen.number
     c.in_ok-chosen.left c.in-Some.chosen.subst (function_equation c.equation_of.result.now)
     c.in_err-body.field-0.0 says.0 c.equation_of.ensures c.in_err-body.ensures)
@@ -542,10 +557,13 @@ choose_equation-try_equation-requires g t c κs within =
       (
         within.0,
         (
-          within.1,
+          within.1.0,
           (
-            c.requires.fits,
-            ((c.loop-hit.passed.count, at.trying.tells), (at.trying.on.0, c.requires.nest)),
+            within.1.1,
+            (
+              c.requires.fits,
+              ((c.loop-hit.passed.count, at.trying.tells), (at.trying.on.0, c.requires.nest)),
+            ),
           ),
         ),
       ),
@@ -593,7 +611,7 @@ choose_equation-returns-in-Used g t c =
     c.equation_tree-tree.result.now c.args.terms.now c.loop-hit.passed.count c.args.calls
     c.loop-hit.left c.in-Row.row c.in-Row.resume c.loop-hit.hit
     c.loop-hit.invariant.trying c.in-Row.is in
-    row_chosen g.R.Recording.tells g.R.Recording.misses_tell (theory_of c.args.engine.now)
+    row_chosen g.H.Holding.tells g.R.Recording.misses_tell (theory_of c.args.engine.now)
     c.args.nest c.args.sym.0 c.equation_tree-tree.result.now c.args.terms.now
     c.loop-hit.passed.count c.args.calls c.loop-hit.left c.in_ok-trial.rest c.in-Row.row
     c.in-Row.resume c.in-Used.subst c.in-Used.cond c.in_ok-missed-in-Used.missed c.in_ok-trial.trial at
@@ -608,7 +626,7 @@ choose_equation-returns-in_err-trial g t c =
     c.loop-hit.left c.in-Row.row c.in-Row.resume c.loop-hit.hit
     c.loop-hit.invariant.trying c.in-Row.is in
     let p = err_from_is_err_and c.from_residual.result c.from_residual.ensures.1 in
-    rw (p.1, p.2) (row_stops g.R.Recording.tells g.R.Recording.misses_tell (theory_of
+    rw (p.1, p.2) (row_stops g.H.Holding.tells g.R.Recording.misses_tell (theory_of
     c.args.engine.now) c.args.nest c.args.sym.0
     c.equation_tree-tree.result.now c.args.terms.now c.loop-hit.passed.count c.args.calls
     c.loop-hit.left
@@ -632,7 +650,7 @@ choose_equation-loop-hit-preserved g t c =
     let next : IsTrying (theory_of c.args.engine.now) c.args.nest c.args.sym.0
     c.equation_tree-tree.result.now c.args.terms.now (c.in-Row.row + 1) c.args.calls
     c.in_ok-trial.rest c.next_equation-hit-in-Row.result =
-    row_passed g.R.Recording.tells (theory_of c.args.engine.now) c.args.nest c.args.sym.0
+    row_passed g.H.Holding.tells (theory_of c.args.engine.now) c.args.nest c.args.sym.0
     c.equation_tree-tree.result.now c.args.terms.now c.loop-hit.passed.count c.args.calls
     c.loop-hit.left c.in_ok-trial.rest c.in-Row.row c.in-Row.resume c.in-Failed.subst
     c.in-Failed.cond c.in_ok-trial.trial c.next_equation-hit-in-Row.result at c.in_ok-trial.ensures
@@ -644,7 +662,7 @@ choose_equation-loop-hit-preserved g t c =
           (sym c.in_ok-pass-in-Failed.ensures.count) next;
       passed = c.in_ok-pass-in-Failed.ensures.recorded (forest c.args.terms.now)
           c.loop-hit.invariant.passed at.trying.tells.earlier
-          (row_fails g.R.Recording.tells (theory_of c.args.engine.now) c.args.nest c.args.sym.0
+          (row_fails g.H.Holding.tells (theory_of c.args.engine.now) c.args.nest c.args.sym.0
           (forest c.args.terms.now) c.loop-hit.left c.in_ok-trial.rest c.in-Row.row
           c.in-Failed.subst c.in-Failed.cond c.in_ok-trial.trial c.in_ok-trial.ensures
           c.in-Failed.is);
@@ -705,15 +723,18 @@ try_equation-evaluate_in-requires g t c κs within =
       (
         within.0,
         (
-          within.1,
+          within.1.0,
           (
-            condition_evaluable (theory_of c.args.engine.now) (function_equation
-                c.equation_of.result.now) (forest c.args.terms.now) c.in_ok-subst.subst
-                (plain_pattern c.in-Some.cond)
-                (triable (theory_of c.args.engine.now) c.args.sym.0 (forest c.args.terms.now)
-                c.args.row (function_equation c.equation_of.result.now)
-                c.program-program.ensures.sorted c.requires.fits c.equation_of.ensures) match some,
-            c.requires.nest,
+            within.1.1,
+            (
+              condition_evaluable (theory_of c.args.engine.now) (function_equation
+                  c.equation_of.result.now) (forest c.args.terms.now) c.in_ok-subst.subst
+                  (plain_pattern c.in-Some.cond)
+                  (triable (theory_of c.args.engine.now) c.args.sym.0 (forest c.args.terms.now)
+                  c.args.row (function_equation c.equation_of.result.now)
+                  c.program-program.ensures.sorted c.requires.fits c.equation_of.ensures) match some,
+              c.requires.nest,
+            ),
           ),
         ),
       ),
@@ -729,7 +750,7 @@ try_equation-returns-then-is_true g t c =
     (plain_pattern c.in-Some.cond) =
     ap (option_map plain_pattern) c.in-Some.is in
     let told =
-    test_holds g.R.Recording.tells (theory_of c.args.engine.now) c.args.nest c.args.sym.0
+    test_holds g.H.Holding.tells (theory_of c.args.engine.now) c.args.nest c.args.sym.0
     c.args.calls c.in_ok-answer.left c.in_ok-subst.subst
     (option_map plain_pattern c.equation_of.result.now.cond) (plain_pattern c.in-Some.cond)
     c.in_ok-answer.answer some c.in_ok-answer.ensures.0 c.in_ok-answer.ensures.1
@@ -746,7 +767,7 @@ try_equation-returns g t c =
     (plain_pattern c.in-Some.cond) =
     ap (option_map plain_pattern) c.in-Some.is in
     let told =
-    test_fails g.R.Recording.tells (theory_of c.args.engine.now) c.args.nest c.args.sym.0
+    test_fails g.H.Holding.tells (theory_of c.args.engine.now) c.args.nest c.args.sym.0
     c.args.calls c.in_ok-answer.left c.in_ok-subst.subst
     (option_map plain_pattern c.equation_of.result.now.cond) (plain_pattern c.in-Some.cond)
     c.in_ok-answer.answer some c.in_ok-answer.ensures.0 c.in_ok-answer.ensures.1
@@ -767,7 +788,7 @@ try_equation-returns-in_err-answer g t c =
     rw (p.1, p.2) (
       (function_equation c.equation_of.result.now),
       c.equation_of.ensures,
-      test_stops g.R.Recording.tells (theory_of c.args.engine.now) c.args.nest c.args.sym.0
+      test_stops g.H.Holding.tells (theory_of c.args.engine.now) c.args.nest c.args.sym.0
           (function_equation c.equation_of.result.now)
           (forest c.args.terms.now) c.args.calls c.in_ok-subst.subst
           (plain_pattern c.in-Some.cond) c.in_err-answer.field-0.0 match some

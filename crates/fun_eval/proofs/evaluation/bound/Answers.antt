@@ -10,5 +10,6 @@ returns g c =
     ap Some (sym c.in_ok-term.ensures.same) in
     let is : binding c.args.subst.now c.args.var ≡ Some c.in_ok-term.term =
     sym c.get.ensures ∙ ap option_copied c.in-Some.is ∙ shared in
-    bound_gives (g.R.Recording.tells c.in_ok-recorded.recorded) c.args.subst.now c.args.var
-    c.args.calls c.in_ok-term.term is c.in_ok-recorded.ensures
+    bound_gives (g.H.Holding.tells c.in_ok-recorded.recorded) c.args.subst.now c.args.var
+    c.args.calls c.in_ok-term.term is
+    (c.in_ok-recorded.ensures _ c.in_ok-bound.ensures)
