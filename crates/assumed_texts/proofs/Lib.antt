@@ -1,0 +1,10 @@
+pub mod Renaming
+pub mod Reading
+pub mod Inversions
+pub mod Deciding
+pub mod SubsortLaws
+pub mod LeadingLaws
+pub mod ConstructorLaws
+pub mod ListingLaws
+pub mod EquationLaws
+pub mod AssumedLaws

@@ -1,0 +1,2 @@
+pub mod OnlyLaws
+pub mod TokenLaws

@@ -1,0 +1,3 @@
+-- Public.
+pub mod Only
+pub mod Tokens
