@@ -1,0 +1,17 @@
+pub mod ApartLaws
+pub mod AssertingLaws
+pub mod AssumptionLaws
+pub mod AxiomLaws
+pub mod Found
+pub mod FrameTokens
+pub mod HeaderTexts
+pub mod Lists
+pub mod NameLaws
+pub mod ObjectTokens
+pub mod Offending
+pub mod RowFrames
+pub mod RowLaws
+pub mod Scans
+pub mod StatedParts
+pub mod StepLaws
+pub mod Words

@@ -1,0 +1,5 @@
+pub mod MachineLaws
+pub mod WordLaws
+pub mod TokenLaws
+pub mod Keeping
+pub mod Renumbering
