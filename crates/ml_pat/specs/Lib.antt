@@ -17,3 +17,4 @@ pub mod Comparing
 pub mod Judging
 pub mod Spines
 pub mod Replacing
+pub mod Dropping

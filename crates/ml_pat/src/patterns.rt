@@ -1,5 +1,7 @@
 // Patterns of matching logic, shared and not copied.
-ghost use Rattle.std.specs.Prelude.{◌≡◌, ◌<◌, IfOk, IfSome};
+ghost use Rattle.std.specs.Prelude.{◌≡◌, ◌<◌, ◌≤◌, ◌+◌, ◌*◌, IfOk, IfSome};
+ghost use Rattle.ml_pat.specs.Dropping.{weight_of, later_weight, weight_left};
+ghost use Rattle.ml_pat.specs.Dropping.{later_forms, forms_left, StaysSmall};
 ghost use Rattle.ml_pat.specs.FormsIn.{forms_in};
 ghost use Rattle.ml_pat.specs.Patterns.{bot, top, imp, not, and, or, equal, member, fun, ex, all};
 ghost use Rattle.ml_pat.specs.Patterns.{app, at_sort, next, ev, var, meta, constant};
@@ -9,6 +11,7 @@ use crate::fingerprints::fingerprint_of;
 use crate::numbers::{ConstNo, MSort, VarNo};
 use std::alloc::{AllocError, Global};
 use std::marker::Model;
+use std::mem::replace;
 use std::rc::Rc;
 
 /// A pattern. Contracts see it as a plain `Pattern`.
@@ -88,49 +91,118 @@ impl Model for MPat {
     ghost size_decreases = { λ a h. Prim.omega (arith, deep-forms_in a.node.value.form) };
 }
 
-// It loops along first parts, because patterns are deep there: the image of an application has one
-// more level for each argument. It recurses into other parts.
+// It does not recurse, because a text that is read may nest patterns to any depth. A node that is
+// dropped and has a second part is kept as a link of the list of parts that are dropped later.
 impl Drop for MPat {
     #[cycle(pattern_drop)]
     fn drop(mut self) {
+        let mut later = None;
         loop {
-            let MPat { node } = self;
-            match Rc::into_inner(node) {
-                None => return,
-                Some(root) => match root.form.into_first() {
+            let MPat { mut node } = self;
+            let taken = match Rc::get_mut(&mut node) {
+                None => Taken::Nothing(later),
+                Some(root) => root.take_apart(later),
+            };
+            match taken {
+                Taken::Two(first) => {
+                    later = Some(MPat { node });
+                    self = first;
+                }
+                Taken::One(part, rest) => {
+                    later = rest;
+                    self = part;
+                }
+                Taken::Nothing(None) => return,
+                Taken::Nothing(Some(link)) => match link.next_later() {
                     None => return,
-                    Some(first) => self = first,
+                    Some((part, rest)) => {
+                        later = rest;
+                        self = part;
+                    }
                 },
             }
         }
     }
 }
 
-impl MForm {
-    // The first part, if there is one.
+// What was taken out of a node that is dropped, with the parts that are dropped later.
+enum Taken {
+    // The first part. The node has become a link in front of the later parts.
+    Two(MPat),
+    // The only part.
+    One(MPat, Option<MPat>),
+    // There is no part, or the node is still shared.
+    Nothing(Option<MPat>),
+}
+
+impl Node {
+    // Takes the parts out.
     #[cycle(pattern_drop)]
-    fn into_first(self) -> Option<MPat>
-        ensures { IfSome result (λ p. forms_in p < forms_in (pattern_of self)) }
+    fn take_apart(&mut self, later: Option<MPat>) -> Taken
+        ensures weight { weight_left (pattern_of self.new.form) result
+            < 2 * forms_in (pattern_of self.old.form) + later_weight later }
+        ensures forms { forms_left (pattern_of self.new.form) result
+            ≤ forms_in (pattern_of self.old.form) + later_forms later }
+        ensures node { StaysSmall (pattern_of self.old.form) (pattern_of self.new.form) result }
     {
-        match self {
-            MForm::Imp(p, _q) => Some(p),
-            MForm::And(p, _q) => Some(p),
-            MForm::Or(p, _q) => Some(p),
-            MForm::Equal(p, _q) => Some(p),
-            MForm::Member(p, _q) => Some(p),
-            MForm::App(p, _q) => Some(p),
-            MForm::Not(p) => Some(p),
-            MForm::Fun(p, _s) => Some(p),
-            MForm::Ex(_x, _s, p) => Some(p),
-            MForm::All(_x, _s, p) => Some(p),
-            MForm::At(p, _s) => Some(p),
-            MForm::Next(p) => Some(p),
-            MForm::Ev(p) => Some(p),
-            MForm::Bot => None,
-            MForm::Top => None,
-            MForm::Var(_x) => None,
-            MForm::Meta(_i) => None,
-            MForm::Const(_c) => None,
+        let form = replace(&mut self.form, MForm::Bot);
+        let (left, taken) = taken_apart(form, later);
+        self.form = left;
+        taken
+    }
+}
+
+// Takes the first part out of a node with this form. A second part goes in front of the later ones:
+// a link is an application of a part to the later ones, and the last link is a negation.
+fn taken_apart(form: MForm, later: Option<MPat>) -> (MForm, Taken)
+    ensures weight { weight_left (pattern_of result.0) result.1
+        < 2 * forms_in (pattern_of form) + later_weight later }
+    ensures forms { forms_left (pattern_of result.0) result.1
+        ≤ forms_in (pattern_of form) + later_forms later }
+    ensures node { StaysSmall (pattern_of form) (pattern_of result.0) result.1 }
+{
+    match form {
+        MForm::Imp(p, q) => (link(q, later), Taken::Two(p)),
+        MForm::And(p, q) => (link(q, later), Taken::Two(p)),
+        MForm::Or(p, q) => (link(q, later), Taken::Two(p)),
+        MForm::Equal(p, q) => (link(q, later), Taken::Two(p)),
+        MForm::Member(p, q) => (link(q, later), Taken::Two(p)),
+        MForm::App(p, q) => (link(q, later), Taken::Two(p)),
+        MForm::Not(p) => (MForm::Bot, Taken::One(p, later)),
+        MForm::Fun(p, _) => (MForm::Bot, Taken::One(p, later)),
+        MForm::Ex(_, _, p) => (MForm::Bot, Taken::One(p, later)),
+        MForm::All(_, _, p) => (MForm::Bot, Taken::One(p, later)),
+        MForm::At(p, _) => (MForm::Bot, Taken::One(p, later)),
+        MForm::Next(p) => (MForm::Bot, Taken::One(p, later)),
+        MForm::Ev(p) => (MForm::Bot, Taken::One(p, later)),
+        leaf => (leaf, Taken::Nothing(later)),
+    }
+}
+
+// The form of a link.
+fn link(part: MPat, later: Option<MPat>) -> MForm
+    ensures weight { weight_of (pattern_of result) ≡ 2 * forms_in part + later_weight later + 1 }
+    ensures forms { forms_in (pattern_of result) ≡ forms_in part + later_forms later + 1 }
+{
+    match later {
+        None => MForm::Not(part),
+        Some(later) => MForm::App(part, later),
+    }
+}
+
+impl MPat {
+    // The part of a link, and the parts behind it.
+    #[cycle(pattern_drop)]
+    fn next_later(self) -> Option<(MPat, Option<MPat>)>
+        ensures weight { IfSome result
+            (λ r. 2 * forms_in r.0 + later_weight r.1 < weight_of self) }
+        ensures forms { IfSome result (λ r. forms_in r.0 + later_forms r.1 ≤ forms_in self) }
+    {
+        let MPat { node } = self;
+        match Rc::into_inner(node)?.form {
+            MForm::App(part, later) => Some((part, Some(later))),
+            MForm::Not(part) => Some((part, None)),
+            _ => None,
         }
     }
 }

@@ -53,6 +53,23 @@ fn makes_each_form(rt: HostRuntime) -> Result<(), AllocError> {
     Ok(())
 }
 
+// A pattern that is 100,000 levels deep in its second parts is dropped without recursion: some levels
+// have a later part that is deep too, some have one part.
+#[test]
+fn drops_patterns_that_are_deep_elsewhere(rt: HostRuntime) {
+    let alloc = rt.alloc();
+    let mut deep = MPat::constant(alloc, ConstNo(1)).expect(&rt, "memory");
+    for _ in 0..50_000 {
+        deep = MPat::imp(alloc, &deep, &deep).expect(&rt, "memory");
+        deep = MPat::not(alloc, &deep).expect(&rt, "memory");
+    }
+    let other = MPat::top(alloc).expect(&rt, "memory");
+    for _ in 0..50_000 {
+        deep = MPat::and(alloc, &other, &deep).expect(&rt, "memory");
+    }
+    assert!(rt; matches!(deep.form(), MForm::And(..)));
+}
+
 // A pattern that is 100,000 applications deep is compared and dropped in a loop.
 #[test]
 fn compares_and_drops_deep_patterns(rt: HostRuntime) {
