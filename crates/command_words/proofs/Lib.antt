@@ -1,4 +1,4 @@
 pub mod Taken
 pub mod NumberLaws
 pub mod RunTests
-pub mod DrillTests
+pub mod WordTests

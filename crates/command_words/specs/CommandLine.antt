@@ -36,6 +36,12 @@ run_app =
 abbrev pub verify_app : App
 verify_app = with_rule (bare_app (codes "verify")) (positional_rule (codes "file"))
 
+-- `check DEF FILE`
+abbrev pub check_app : App
+check_app =
+    with_rule (with_rule (bare_app (codes "check")) (positional_rule (codes "def")))
+    (positional_rule (codes "file"))
+
 -- `drill N FILE`
 abbrev pub drill_app : App
 drill_app =
@@ -89,6 +95,11 @@ is_run words = takes run_app words
 abbrev pub is_verify : List Text → Bool
 is_verify words = takes verify_app words && is_some (value_of verify_app words (codes "file"))
 
+abbrev pub is_check : List Text → Bool
+is_check words = takes check_app words
+    && (is_some (value_of check_app words (codes "def"))
+    && is_some (value_of check_app words (codes "file")))
+
 abbrev pub is_drill : List Text → Bool
 is_drill words = takes drill_app words
     && (option_map_or is_drill_number (value_of drill_app words (codes "n")) false
@@ -99,5 +110,6 @@ abbrev pub are_bad : List Text → Bool
 are_bad words =
     if is_named (codes "run") words then not (is_run words)
     else if is_named (codes "verify") words then not (is_verify words)
+    else if is_named (codes "check") words then not (is_check words)
     else if is_named (codes "drill") words then not (is_drill words)
     else true

@@ -4,12 +4,12 @@ use Rattle.std.specs.Option.{option_map_or}
 use Rattle.std.specs.Str.Parse.{digits_value}
 use Rattle.clap.specs.Walk.{Text}
 use Rattle.command_words.specs.declared.commands.RunWords.{RunWords}
+use Rattle.command_words.specs.declared.commands.CheckWords.{CheckWords}
 use Rattle.command_words.specs.declared.commands.DrillWords.{DrillWords}
 use Rattle.command_words.specs.declared.commands.Command.{Command}
 use Rattle.command_words.specs.declared.commands.Command.TheVariants as command
-use Rattle.command_words.specs.CommandLine.{run_app, verify_app, drill_app, value_of, usual_calls}
-use Rattle.command_words.specs.CommandLine.{most_drilled}
-use Rattle.command_words.specs.CommandLine.{is_named}
+use Rattle.command_words.specs.CommandLine.{run_app, verify_app, check_app, drill_app, value_of}
+use Rattle.command_words.specs.CommandLine.{usual_calls, most_drilled, is_named}
 
 -- to run a term: the values of the arguments, and the usual number of calls if the words state none
 pub record GivesRun (words : List Text) (r : RunWords) : Type 0 where
@@ -26,6 +26,12 @@ pub record GivesFile (words : List Text) (file : Text) : Type 0 where
   pub named : is_named (codes "verify") words ≡ true
   pub file_is : value_of verify_app words (codes "file") ≡ Some file
 
+-- to check what the database in a file justifies, over the program of a definition
+pub record GivesCheck (words : List Text) (c : CheckWords) : Type 0 where
+  pub named : is_named (codes "check") words ≡ true
+  pub definition : value_of check_app words (codes "def") ≡ Some c.definition.now
+  pub file : value_of check_app words (codes "file") ≡ Some c.file.now
+
 -- to drill the program: the number of steps, and the file for the proof
 pub record GivesDrill (words : List Text) (d : DrillWords) : Type 0 where
   pub named : is_named (codes "drill") words ≡ true
@@ -37,4 +43,5 @@ pub record GivesDrill (words : List Text) (d : DrillWords) : Type 0 where
 abbrev pub Gives : List Text → Command → Type 0
 Gives words (command.Run r) = GivesRun words r
 Gives words (command.Verify file) = GivesFile words file.now
+Gives words (command.Check c) = GivesCheck words c
 Gives words (command.Drill d) = GivesDrill words d

@@ -3,14 +3,15 @@ ghost use Rattle.std.specs.Prelude.{◌≡◌, ◌≤◌, map, IfOk, IfSome, IfN
 ghost use Rattle.std.specs.Prelude.{string_bytes, option_copied, option_map, Some, ◌↔◌};
 ghost use Rattle.std.specs.Option.{option_map_or};
 ghost use Rattle.std.specs.Str.Parse.{digits_value};
-ghost use Rattle.command_words.specs.CommandLine.{is_named, is_run, is_verify, is_drill, are_bad};
-ghost use Rattle.command_words.specs.CommandLine.{is_number_to, is_drill_number, most_drilled};
-ghost use Rattle.command_words.specs.Commands.{Gives, GivesRun, GivesFile, GivesDrill};
+ghost use Rattle.command_words.specs.CommandLine.{is_named, is_run, is_verify, is_check, is_drill};
+ghost use Rattle.command_words.specs.CommandLine.{are_bad, is_number_to, is_drill_number};
+ghost use Rattle.command_words.specs.CommandLine.{most_drilled};
+ghost use Rattle.command_words.specs.Commands.{Gives, GivesRun, GivesFile, GivesCheck, GivesDrill};
 ghost use Rattle.command_words.specs.Plain.{is_plain, IsReadBy};
 ghost use Rattle.clap.specs.Simple.{app_of};
 ghost use Rattle.clap.specs.Takes.{takes};
 
-use crate::definitions::{drill_definition, run_definition, verify_definition};
+use crate::definitions::{check_definition, drill_definition, run_definition, verify_definition};
 use crate::numbers::number_to;
 use clap::ArgMatches;
 use clap::error::ErrorKind;
@@ -24,6 +25,8 @@ pub enum Command<'a> {
     Run(RunWords<'a>),
     /// To verify the database in the file of this name.
     Verify(&'a str),
+    /// To check what the database in a file justifies.
+    Check(CheckWords<'a>),
     /// To drill the program.
     Drill(DrillWords<'a>),
 }
@@ -41,6 +44,15 @@ pub struct RunWords<'a> {
     pub calls: u32,
     /// The name of the file for the proof, if one is wanted.
     pub proof: Option<&'a str>,
+}
+
+/// What a call is to check.
+#[derive(Clone, Copy)]
+pub struct CheckWords<'a> {
+    /// The name of the file with the definition.
+    pub definition: &'a str,
+    /// The name of the file with the database.
+    pub file: &'a str,
 }
 
 /// What a call is to drill.
@@ -97,6 +109,8 @@ pub fn read_words<'a>(alloc: Global, words: &'a [String]) -> Result<Command<'a>,
         run_words(alloc, words).map(Command::Run)
     } else if is_named("verify", words) {
         verify_words(alloc, words).map(Command::Verify)
+    } else if is_named("check", words) {
+        check_words(alloc, words).map(Command::Check)
     } else if is_named("drill", words) {
         drill_words(alloc, words).map(Command::Drill)
     } else {
@@ -147,6 +161,20 @@ fn verify_words<'a>(alloc: Global, words: &'a [String]) -> Result<&'a str, Words
     let command = verify_definition(alloc)?;
     let matches = matches_for(command, words)?;
     matches.get_str("file").ok_or(WordsEnd::Bad)
+}
+
+// What a check command asks for.
+fn check_words<'a>(alloc: Global, words: &'a [String]) -> Result<CheckWords<'a>, WordsEnd>
+    requires { is_named (codes "check") (map string_bytes words.now) ≡ true }
+    ensures good { IfOk result (λ c. (is_check (map string_bytes words.entry.now) ≡ true)
+        × GivesCheck (map string_bytes words.entry.now) c) }
+    ensures bad { result ≡ Err WordsEnd.Bad → is_check (map string_bytes words.entry.now) ≡ false }
+{
+    let command = check_definition(alloc)?;
+    let matches = matches_for(command, words)?;
+    let definition = matches.get_str("def").ok_or(WordsEnd::Bad)?;
+    let file = matches.get_str("file").ok_or(WordsEnd::Bad)?;
+    Ok(CheckWords { definition, file })
 }
 
 // What a drill command asks for.

@@ -3,8 +3,7 @@ ghost use Rattle.std.specs.Prelude.{◌≡◌, IfOk, codes, false};
 ghost use Rattle.clap.specs.Walk.{rule_of};
 ghost use Rattle.clap.specs.Simple.{app_of, with_rule};
 ghost use Rattle.command_words.specs.CommandLine.{positional_rule, option_rule, bare_app, run_app};
-ghost use Rattle.command_words.specs.CommandLine.{verify_app};
-ghost use Rattle.command_words.specs.CommandLine.{drill_app};
+ghost use Rattle.command_words.specs.CommandLine.{verify_app, check_app, drill_app};
 
 use clap::{Arg, ArgAction, Command};
 use std::alloc::{AllocError, Global};
@@ -29,6 +28,16 @@ pub(crate) fn verify_definition<'a>(alloc: Global) -> Result<Command<'a>, AllocE
     ensures { IfOk result (λ c. app_of c ≡ verify_app) }
 {
     with(bare(alloc, "verify"), positional(alloc, "file"))
+}
+
+// `check DEF FILE`
+pub(crate) fn check_definition<'a>(alloc: Global) -> Result<Command<'a>, AllocError>
+    ensures { IfOk result (λ c. app_of c ≡ check_app) }
+{
+    with(
+        with(bare(alloc, "check"), positional(alloc, "def"))?,
+        positional(alloc, "file"),
+    )
 }
 
 // `drill N FILE`

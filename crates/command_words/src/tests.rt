@@ -46,7 +46,7 @@ fn takes_a_million_calls_where_none_are_stated(rt: HostRuntime) -> Result<(), Fa
     Ok(())
 }
 
-static BAD_LINES: [&str; 22] = [
+static BAD_LINES: [&str; 26] = [
     "",
     "Run d t --limit 5",
     "run d t",
@@ -64,6 +64,10 @@ static BAD_LINES: [&str; 22] = [
     "verify",
     "verify a b",
     "verify -h",
+    "check",
+    "check d",
+    "check d p.mm q.mm",
+    "check d p.mm --limit 5",
     "drill 5",
     "drill 0 p.mm",
     "drill 1001 p.mm",
@@ -86,6 +90,20 @@ fn reads_the_file_to_be_verified(rt: HostRuntime) -> Result<(), Fail> {
     let words = words_of(rt.alloc(), "verify -- --help")?;
     match read_words(rt.alloc(), words.as_slice()) {
         Ok(Command::Verify(file)) => assert_eq!(rt; file, "--help"),
+        Ok(_other) => assert!(rt; false),
+        Err(_end) => assert!(rt; false),
+    }
+    Ok(())
+}
+
+#[test]
+fn reads_what_is_to_be_checked(rt: HostRuntime) -> Result<(), Fail> {
+    let words = words_of(rt.alloc(), "check d.kore p.mm")?;
+    match read_words(rt.alloc(), words.as_slice()) {
+        Ok(Command::Check(check)) => {
+            assert_eq!(rt; check.definition, "d.kore");
+            assert_eq!(rt; check.file, "p.mm");
+        }
         Ok(_other) => assert!(rt; false),
         Err(_end) => assert!(rt; false),
     }

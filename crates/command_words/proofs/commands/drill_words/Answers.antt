@@ -6,7 +6,7 @@ use Rattle.clap.specs.Simple.{App}
 use Rattle.clap.specs.Takes.{takes}
 use Rattle.command_words.specs.CommandLine.{drill_app, value_of, is_drill_number}
 use Rattle.command_words.specs.Plain.{IsReadBy}
-use Rattle.command_words.proofs.DrillTests.{no-number, no-file, all-three}
+use Rattle.command_words.proofs.WordTests.{no-number, no-file, all-three}
 use Rattle.command_words.proofs.commands.drill_words.Goals as goal
 
 pub returns-in_err-steps-clause-bad : goal.returns-in_err-steps-clause-bad

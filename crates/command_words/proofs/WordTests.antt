@@ -1,4 +1,4 @@
--- If one part of a drill command is bad, the command is bad.
+-- If one part of a command is bad, the command is bad.
 use Rattle.std.proofs.Common.{◌≡◌, ◌&&◌, Bool, true, false, refl}
 
 pub no-number : (a b c : Bool) → b ≡ false → a && (b && c) ≡ false
