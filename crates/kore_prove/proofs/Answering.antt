@@ -7,18 +7,24 @@ use Rattle.rule_core.specs.Runs.{Run, stuck, limited, stopped, unstarted}
 use Rattle.kore_prove.specs.DrillWords.{DrillRequest, IsDrill, IsNoDrill}
 use Rattle.kore_prove.specs.RunWords.{RunRequest, IsRun}
 use Rattle.kore_prove.specs.VerifyWords.{IsVerify, IsNoVerify}
+use Rattle.kore_prove.specs.CheckWords.{CheckRequest, IsCheck, IsNoCheck}
 use Rattle.kore_prove.specs.BadWords.{AreBad}
 use Rattle.kore_prove.specs.Words.{IsProofFile}
 use Rattle.kore_prove.specs.PrintedRun.{code_of, IsCodeOfRun, IsPrinted}
 use Rattle.kore_prove.specs.ProvedRun.{HoldsProof, HasWantedProof}
 use Rattle.kore_prove.specs.RunFronts.{LeavesFront}
 use Rattle.kore_prove.specs.Verdicts.{PrintsVerdict}
+use Rattle.kore_prove.specs.Checks.{PrintsCheck}
+use Rattle.kore_prove.specs.CompleteChecks.{CompletesCheck}
+use Rattle.kore_prove.specs.Decisions.{PrintsDecision, decision_code}
+use Rattle.kore_prove.specs.declared.checking.Decision.{Decision}
 use Rattle.kore_prove.specs.DrilledRun.{IsDrilled, Drills, LeavesDrill, LeavesFrontOfDrill}
 use Rattle.kore_prove.specs.DatabaseVerdicts.{PrintsVerdictOn, verdict_code}
 use Rattle.kore_prove.specs.declared.verification.Verdict.{Verdict}
 use Rattle.kore_prove.specs.Reports.{Ending, out_of_memory, bad_words, Reports}
-use Rattle.kore_prove.specs.Causes.{VerifyCause, without_memory, with_bad_words}
-use Rattle.kore_prove.specs.Causes.{of_run, of_verify, of_drill, run_done, verify_done, drill_done}
+use Rattle.kore_prove.specs.Causes.{VerifyCause, CheckCause, without_memory, with_bad_words}
+use Rattle.kore_prove.specs.Causes.{of_run, of_verify, of_check, of_drill, run_done, verify_done}
+use Rattle.kore_prove.specs.Causes.{check_done, drill_done}
 use Rattle.kore_prove.specs.Courses.{Course, Call}
 use Rattle.kore_prove.specs.Unwritten.{IsUnwritten}
 use Rattle.kore_prove.specs.CompleteDrills.{CompletesDrill}
@@ -27,13 +33,16 @@ use Rattle.kore_prove.specs.RunsDone.{IsRunDone, IsRunEnded, IsDrillDone, IsDril
 use Rattle.kore_prove.specs.Calls.{IsAnswered}
 use Rattle.kore_prove.proofs.CommandWords.{one_request, one_drill, run_good, verify_good}
 use Rattle.kore_prove.proofs.CommandWords.{drill_good, not_both, run_no_drill, verify_no_drill}
-use Rattle.kore_prove.proofs.CommandWords.{bad_no_drill}
+use Rattle.kore_prove.proofs.CommandWords.{bad_no_drill, check_good, run_no_check, verify_no_check}
+use Rattle.kore_prove.proofs.CommandWords.{drill_no_check, bad_no_check}
 use Rattle.kore_prove.proofs.Completing.{run_ends_without_memory, verify_ends_without_memory}
-use Rattle.kore_prove.proofs.Completing.{code_of_drill, ready_run, ready_verify}
+use Rattle.kore_prove.proofs.Completing.{check_ends_without_memory, code_of_drill, ready_run}
+use Rattle.kore_prove.proofs.Completing.{ready_verify, ready_check}
 use Rattle.kore_prove.proofs.Ending.{code_of_no_end, code_of_run, code_of_one}
 use Rattle.kore_prove.proofs.Ending.{run_files, drill_files}
 use Rattle.kore_prove.proofs.Ending.{same_files, code_reported}
 use Rattle.kore_prove.proofs.Verifying.{code_of_verdict, prints_verdict}
+use Rattle.kore_prove.proofs.Checking.{code_of_decision, prints_check}
 use Rattle.kore_prove.proofs.Printing.{stopped_never, failed_never, stopped_with, failed_with}
 use Rattle.kore_prove.proofs.FileProofs.{some_same, kept_others, fewer_others, kept_file}
 use Rattle.kore_prove.proofs.Drills.{drilled_front}
@@ -85,6 +94,15 @@ front_of_run asked c run done =
 no_verdict : (c : Call) (code : ℕ) → IsNoVerify c.words → PrintsVerdict c code
 no_verdict c code unasked = λ file verify. absurd (unasked file verify)
 
+-- words that do not ask for a check get none
+no_checked : (c : Call) (code : ℕ) → IsNoCheck c.words → PrintsCheck c code
+no_checked c code unasked = λ asked command. absurd (unasked asked command)
+
+no_check_completed : (c : Call) (code : ℕ) → IsNoCheck c.words → CompletesCheck c code
+no_check_completed c code unasked =
+    λ ready _ _.
+    (let k = ready_check c.words c.course.desk.told ready in absurd (unasked k.0 k.1))
+
 -- words that do not ask for a drill get no drill
 no_drilled : (c : Call) (code : ℕ) → IsNoDrill c.words
     → Drills c code
@@ -130,6 +148,7 @@ run_answered c code asked run command done is silent =
       verdict =
           no_verdict c code
           (λ file verify. not_both c.words asked file command verify);
+      checked = no_checked c code (run_no_check c.words asked command);
       drilled = no_drilled c code (run_no_drill c.words asked command);
       drill_front = no_drill_front c (run_no_drill c.words asked command);
       ends = inl (record { done = run_done command codes; silent = silent });
@@ -139,6 +158,7 @@ run_answered c code asked run command done is silent =
       complete_verdict =
           λ ready _ _. (let v = ready_verify c.words c.course.desk.told ready in
           absurd (not_both c.words asked v.0 command v.1));
+      complete_check = no_check_completed c code (run_no_check c.words asked command);
       complete_drill = no_drill_completed c code (run_no_drill c.words asked command);
       bad_words = λ bad. absurd (run_good c.words asked command bad);
       others =
@@ -160,6 +180,7 @@ run_ended c code asked e command ended said = record {
   verdict =
       no_verdict c code
       (λ file verify. not_both c.words asked file command verify);
+  checked = no_checked c code (run_no_check c.words asked command);
   drilled = no_drilled c code (run_no_drill c.words asked command);
   drill_front = no_drill_front c (run_no_drill c.words asked command);
   ends = inr (record { end = e; cause = of_run command ended.cause; said = said });
@@ -172,6 +193,7 @@ run_ended c code asked e command ended said = record {
   complete_verdict =
       λ ready _ _. (let v = ready_verify c.words c.course.desk.told ready in
       absurd (not_both c.words asked v.0 command v.1));
+  complete_check = no_check_completed c code (run_no_check c.words asked command);
   complete_drill = no_drill_completed c code (run_no_drill c.words asked command);
   bad_words = λ bad. absurd (run_good c.words asked command bad);
   others =
@@ -205,6 +227,7 @@ verify_answered c code file v command printed kept is silent = record {
   proved_run = λ h _ _. verdict_no_run c.words file v code _ command is h;
   proof_front = λ _ _ name _. inl (kept_file c.course.desk.told c.course.desk'.told name kept);
   verdict = prints_verdict c file v code command printed is;
+  checked = no_checked c code (verify_no_check c.words file command);
   drilled = no_drilled c code (verify_no_drill c.words file command);
   drill_front = no_drill_front c (verify_no_drill c.words file command);
   ends = inl (record { done = verify_done command (code_of_verdict v code is); silent = silent });
@@ -214,6 +237,7 @@ verify_answered c code file v command printed kept is silent = record {
       λ ready _. (let r = ready_run c.words c.course.desk.told ready in
       absurd (not_both c.words r.0 file r.1 command));
   complete_verdict = λ _ _ _. verdict_codes code (code_of_verdict v code is);
+  complete_check = no_check_completed c code (verify_no_check c.words file command);
   complete_drill = no_drill_completed c code (verify_no_drill c.words file command);
   bad_words = λ bad. absurd (verify_good c.words file command bad);
   others = kept_others (IsProofFile c.words) c.course.desk.told c.course.desk'.told kept;
@@ -225,7 +249,7 @@ ended_no_verdict : (c : Call) (code : ℕ) (e : Ending)
     → Reports e c.err.bytes c.err'.bytes c.err.faults c.err'.faults code → PrintsVerdict c code
 ended_no_verdict c code e said = λ file verify. (
   λ zero. absurd (code_of_no_end e _ _ _ _ code said (inl zero)),
-  λ twelve. absurd (code_of_no_end e _ _ _ _ code said (inr (inr (inr twelve)))),
+  λ twelve. absurd (code_of_no_end e _ _ _ _ code said (inr (inr (inr (inl twelve))))),
 )
 
 pub verify_ended : (c : Call) (code : ℕ) (file : List ℕ) (e : Ending) → IsVerify c.words file
@@ -236,6 +260,7 @@ verify_ended c code file e command cause kept said = record {
   proved_run = λ h _ _. absurd (code_of_no_end e _ _ _ _ code said (code_of_run c.words code h));
   proof_front = λ _ _ name _. inl (kept_file c.course.desk.told c.course.desk'.told name kept);
   verdict = ended_no_verdict c code e said;
+  checked = no_checked c code (verify_no_check c.words file command);
   drilled = no_drilled c code (verify_no_drill c.words file command);
   drill_front = no_drill_front c (verify_no_drill c.words file command);
   ends = inr (record { end = e; cause = of_verify command cause; said = said });
@@ -249,8 +274,102 @@ verify_ended c code file e command cause kept said = record {
       (verify_ends_without_memory c.words c.course.desk.told file c.course e refl ready command
       reads
       writes cause)));
+  complete_check = no_check_completed c code (verify_no_check c.words file command);
   complete_drill = no_drill_completed c code (verify_no_drill c.words file command);
   bad_words = λ bad. absurd (verify_good c.words file command bad);
+  others = kept_others (IsProofFile c.words) c.course.desk.told c.course.desk'.told kept;
+  files = λ _. kept;
+}
+
+-- the code of a check is not the code of a run
+check_no_run : (words : List (List ℕ)) (asked : CheckRequest) (d : Decision) (code : ℕ) (P : Type 0)
+    → IsCheck words asked → code ≡ decision_code d → IsCodeOfRun words code → P
+check_no_run words asked d code P command is h = absurd (elim h [
+  | inl ten ↦ elim (code_of_decision d code is) [
+      | inl zero ↦ omega (arith, ten, zero)
+      | inr (inl twelve) ↦ omega (arith, ten, twelve)
+      | inr (inr thirteen) ↦ omega (arith, ten, thirteen)
+    ]
+  | inr (inl eleven) ↦ elim (code_of_decision d code is) [
+      | inl zero ↦ omega (arith, eleven, zero)
+      | inr (inl twelve) ↦ omega (arith, eleven, twelve)
+      | inr (inr thirteen) ↦ omega (arith, eleven, thirteen)
+    ]
+  | inr (inr zero) ↦ zero.2 asked command
+])
+
+check_codes : (code : ℕ) → (code ≡ 0) ⊎ (code ≡ 12) ⊎ (code ≡ 13)
+    → (code ≡ 0) ⊎ (code ≡ 12) ⊎ (code ≡ 13) ⊎ (code ≡ 1)
+check_codes code (inl h) = inl h
+check_codes code (inr (inl h)) = inr (inl h)
+check_codes code (inr (inr h)) = inr (inr (inl h))
+
+pub check_answered : (c : Call) (code : ℕ) (asked : CheckRequest) (d : Decision)
+    → IsCheck c.words asked
+    → PrintsDecision c.course.desk.told asked c.course.out.bytes c.course.out'.bytes d
+    → KeepsFiles c.course.desk.told c.course.desk'.told → code ≡ decision_code d
+    → SameBytes c.err.bytes c.err'.bytes → IsAnswered c code
+check_answered c code asked d command printed kept is silent = record {
+  printed_run = λ h. check_no_run c.words asked d code _ command is h;
+  proved_run = λ h _ _. check_no_run c.words asked d code _ command is h;
+  proof_front = λ _ _ name _. inl (kept_file c.course.desk.told c.course.desk'.told name kept);
+  verdict = no_verdict c code (λ file verify. verify_no_check c.words file verify asked command);
+  checked = prints_check c asked d code command printed is;
+  drilled = no_drilled c code (λ drill k. drill_no_check c.words drill k asked command);
+  drill_front = no_drill_front c (λ drill k. drill_no_check c.words drill k asked command);
+  ends = inl (record { done = check_done command (code_of_decision d code is); silent = silent });
+  stops_printing = stopped_never c code (check_done command (code_of_decision d code is));
+  fails_in_printing = failed_never c code (check_done command (code_of_decision d code is));
+  complete =
+      λ ready _. (let r = ready_run c.words c.course.desk.told ready in
+      absurd (run_no_check c.words r.0 r.1 asked command));
+  complete_verdict =
+      λ ready _ _. (let v = ready_verify c.words c.course.desk.told ready in
+      absurd (verify_no_check c.words v.0 v.1 asked command));
+  complete_check = λ _ _ _. check_codes code (code_of_decision d code is);
+  complete_drill =
+      no_drill_completed c code (λ drill k. drill_no_check c.words drill k asked command);
+  bad_words = λ bad. absurd (check_good c.words asked command bad);
+  others = kept_others (IsProofFile c.words) c.course.desk.told c.course.desk'.told kept;
+  files = λ _. kept;
+}
+
+-- the code of an end is not the code of a check
+ended_no_check : (c : Call) (code : ℕ) (e : Ending)
+    → Reports e c.err.bytes c.err'.bytes c.err.faults c.err'.faults code → PrintsCheck c code
+ended_no_check c code e said = λ asked command. (
+  λ zero. absurd (code_of_no_end e _ _ _ _ code said (inl zero)),
+  λ twelve. absurd (code_of_no_end e _ _ _ _ code said (inr (inr (inr (inl twelve))))),
+  λ thirteen. absurd (code_of_no_end e _ _ _ _ code said (inr (inr (inr (inr thirteen))))),
+)
+
+pub check_ended : (c : Call) (code : ℕ) (asked : CheckRequest) (e : Ending) → IsCheck c.words asked
+    → CheckCause asked c.course e → KeepsFiles c.course.desk.told c.course.desk'.told
+    → Reports e c.err.bytes c.err'.bytes c.err.faults c.err'.faults code → IsAnswered c code
+check_ended c code asked e command cause kept said = record {
+  printed_run = λ h. absurd (code_of_no_end e _ _ _ _ code said (code_of_run c.words code h));
+  proved_run = λ h _ _. absurd (code_of_no_end e _ _ _ _ code said (code_of_run c.words code h));
+  proof_front = λ _ _ name _. inl (kept_file c.course.desk.told c.course.desk'.told name kept);
+  verdict = ended_no_verdict c code e said;
+  checked = ended_no_check c code e said;
+  drilled = no_drilled c code (λ drill k. drill_no_check c.words drill k asked command);
+  drill_front = no_drill_front c (λ drill k. drill_no_check c.words drill k asked command);
+  ends = inr (record { end = e; cause = of_check command cause; said = said });
+  stops_printing = stopped_with c code e (of_check command cause);
+  fails_in_printing = failed_with c code e (of_check command cause) said;
+  complete =
+      λ ready _. (let r = ready_run c.words c.course.desk.told ready in
+      absurd (run_no_check c.words r.0 r.1 asked command));
+  complete_verdict =
+      λ ready _ _. (let v = ready_verify c.words c.course.desk.told ready in
+      absurd (verify_no_check c.words v.0 v.1 asked command));
+  complete_check =
+      λ ready reads writes. inr (inr (inr (code_of_one e _ _ _ _ code said
+      (check_ends_without_memory c.words c.course.desk.told asked c.course e refl ready command reads
+      writes cause))));
+  complete_drill =
+      no_drill_completed c code (λ drill k. drill_no_check c.words drill k asked command);
+  bad_words = λ bad. absurd (check_good c.words asked command bad);
   others = kept_others (IsProofFile c.words) c.course.desk.told c.course.desk'.told kept;
   files = λ _. kept;
 }
@@ -260,7 +379,7 @@ drill_no_run : (words : List (List ℕ)) (asked : DrillRequest) (code : ℕ) (P 
     → IsDrill words asked → code ≡ 0 → IsCodeOfRun words code → P
 drill_no_run words asked code P command is (inl ten) = absurd (omega (arith, ten, is))
 drill_no_run words asked code P command is (inr (inl eleven)) = absurd (omega (arith, eleven, is))
-drill_no_run words asked code P command is (inr (inr zero)) = absurd (zero.2 asked command)
+drill_no_run words asked code P command is (inr (inr zero)) = absurd (zero.3 asked command)
 
 same_drill : (asked asked' : DrillRequest) (c : Course) → asked ≡ asked'
     → LeavesDrill asked c.desk.told c.desk'.told → LeavesDrill asked' c.desk.told c.desk'.told
@@ -280,6 +399,7 @@ drill_answered c code asked command done is silent =
       verdict =
           no_verdict c code
           (λ file verify. verify_no_drill c.words file verify asked command);
+      checked = no_checked c code (drill_no_check c.words asked command);
       drilled =
           λ _ asked' command'. subst (λ (d : DrillRequest).
           IsDrilled d c.course.desk.told c.course.desk'.told c.course.out.bytes c.course.out'.bytes)
@@ -297,6 +417,7 @@ drill_answered c code asked command done is silent =
       complete_verdict =
           λ ready _ _. (let v = ready_verify c.words c.course.desk.told ready in
           absurd (verify_no_drill c.words v.0 v.1 asked command));
+      complete_check = no_check_completed c code (drill_no_check c.words asked command);
       complete_drill = λ _ _. inl is;
       bad_words = λ bad. absurd (drill_good c.words asked command bad);
       others =
@@ -317,6 +438,7 @@ drill_ended c code asked e command ended said = record {
   verdict =
       no_verdict c code
       (λ file verify. verify_no_drill c.words file verify asked command);
+  checked = no_checked c code (drill_no_check c.words asked command);
   drilled = λ zero _ _. absurd (code_of_no_end e _ _ _ _ code said (inl zero));
   drill_front =
       λ asked' command'. same_drill asked asked' c.course
@@ -330,6 +452,7 @@ drill_ended c code asked e command ended said = record {
   complete_verdict =
       λ ready _ _. (let v = ready_verify c.words c.course.desk.told ready in
       absurd (verify_no_drill c.words v.0 v.1 asked command));
+  complete_check = no_check_completed c code (drill_no_check c.words asked command);
   complete_drill = λ _ _. inr (code_of_drill asked c.course e _ _ _ _ code said ended.cause);
   bad_words = λ bad. absurd (drill_good c.words asked command bad);
   others =
@@ -349,6 +472,7 @@ bad_answered c code bad output kept said = record {
       λ h _ _. absurd (code_of_no_end bad_words _ _ _ _ code said (code_of_run c.words code h));
   proof_front = λ _ _ name _. inl (kept_file c.course.desk.told c.course.desk'.told name kept);
   verdict = ended_no_verdict c code bad_words said;
+  checked = no_checked c code (bad_no_check c.words bad);
   drilled = no_drilled c code (bad_no_drill c.words bad);
   drill_front = no_drill_front c (bad_no_drill c.words bad);
   ends = inr (record { end = bad_words; cause = with_bad_words bad (output, kept); said = said });
@@ -360,6 +484,7 @@ bad_answered c code bad output kept said = record {
   complete_verdict =
       λ ready _ _. (let v = ready_verify c.words c.course.desk.told ready in
       absurd (verify_good c.words v.0 v.1 bad));
+  complete_check = no_check_completed c code (bad_no_check c.words bad);
   complete_drill = no_drill_completed c code (bad_no_drill c.words bad);
   bad_words = λ _. code_reported bad_words _ _ _ _ code said;
   others = kept_others (IsProofFile c.words) c.course.desk.told c.course.desk'.told kept;
@@ -380,6 +505,7 @@ memory_answered c code output kept said =
           absurd (code_of_no_end out_of_memory _ _ _ _ code said (code_of_run c.words code h));
       proof_front = λ _ _ name _. inl (kept_file c.course.desk.told c.course.desk'.told name kept);
       verdict = ended_no_verdict c code out_of_memory said;
+      checked = ended_no_check c code out_of_memory said;
       drilled = λ zero _ _. absurd (code_of_no_end out_of_memory _ _ _ _ code said (inl zero));
       drill_front = λ asked _. inl (kept_file c.course.desk.told c.course.desk'.told asked.file
           kept);
@@ -393,6 +519,7 @@ memory_answered c code output kept said =
       fails_in_printing = failed_with c code out_of_memory (without_memory (output, kept)) said;
       complete = λ _ _. inr (inr (inr one));
       complete_verdict = λ _ _ _. inr (inr one);
+      complete_check = λ _ _ _. inr (inr (inr one));
       complete_drill = λ _ _. inr (inl one);
       bad_words = λ _. inr one;
       others = kept_others (IsProofFile c.words) c.course.desk.told c.course.desk'.told kept;

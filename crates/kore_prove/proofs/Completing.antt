@@ -1,4 +1,4 @@
--- A call that can run or verify, and that nothing hinders, ends as out of memory, if it does not
+-- A call that can run, verify or check, and that nothing hinders, ends as out of memory, if it does not
 -- come to that. A call that is to drill always can.
 use Rattle.std.proofs.Common.{◌≡◌, ℕ, ◌⊎◌, inl, inr, List, Option, None, Some, refl, sym, ap, subst}
 use Rattle.desk_io.specs.Told.{Told, Holds}
@@ -10,6 +10,7 @@ use Rattle.kore_rules.specs.Refused.{IsRefused, IsRefusedTerm}
 use Rattle.kore_prove.specs.DrillWords.{DrillRequest}
 use Rattle.kore_prove.specs.RunWords.{RunRequest, IsRun}
 use Rattle.kore_prove.specs.VerifyWords.{IsVerify}
+use Rattle.kore_prove.specs.CheckWords.{CheckRequest, IsCheck}
 use Rattle.kore_prove.specs.Limits.{HoldsWithin, definition_limit, term_limit}
 use Rattle.kore_prove.specs.Verdicts.{database_limit}
 use Rattle.kore_prove.specs.Files.{HoldsProgram}
@@ -18,13 +19,16 @@ use Rattle.kore_prove.specs.Reports.{no_such_file, definition_refused, term_refu
 use Rattle.kore_prove.specs.Reports.{end_code, Reports}
 use Rattle.kore_prove.specs.Causes.{ReadCause, RunCause, run_unread, run_unproved, run_unprinted}
 use Rattle.kore_prove.specs.Causes.{DatabaseCause, VerifyCause, file_unverified, verdict_unprinted}
+use Rattle.kore_prove.specs.Causes.{CheckReadCause, CheckCause, check_undecided}
+use Rattle.kore_prove.specs.Causes.{check_unprinted}
 use Rattle.kore_prove.specs.Causes.{DrillCause, drill_unmade, drill_unproved, drill_unprinted}
 use Rattle.kore_prove.specs.Courses.{Course}
 use Rattle.kore_prove.specs.CountedFaults.{CountsReadFault, CountsWriteFault, CountsOutputFault}
 use Rattle.kore_prove.specs.CompleteRuns.{CanRun, IsReadyToRun, IsFaultless, IsFaultlessTerm}
 use Rattle.kore_prove.specs.CompleteRuns.{IsUnhindered}
 use Rattle.kore_prove.specs.CompleteVerdicts.{CanVerify, IsReadyToVerify}
-use Rattle.kore_prove.proofs.CommandWords.{one_request, one_file}
+use Rattle.kore_prove.specs.CompleteChecks.{CanCheck, IsReadyToCheck}
+use Rattle.kore_prove.proofs.CommandWords.{one_request, one_file, one_check}
 use Rattle.kore_prove.proofs.Ending.{one_content, not_lacking, not_more, code_reported}
 use Rattle.kore_prove.proofs.Ending.{stopped_unfaulted}
 
@@ -143,6 +147,68 @@ verify_ends_without_memory words None file c e is ready command reads writes cau
 verify_ends_without_memory words (Some told) file c e is ready command reads writes cause =
     no_verify_cause words told ready file c e is command reads writes cause
 
+-- the files of the request can be checked
+record CanDecide (told : Told) (asked : CheckRequest) : Type 0 where
+  definition : List ℕ
+  definition_held : HoldsWithin (Some told) asked.definition definition_limit definition
+  faultless : IsFaultless definition
+  bytes : List ℕ
+  held : HoldsWithin (Some told) asked.file database_limit bytes
+
+decidable : (words : List (List ℕ)) (told : Told) (r : CanCheck words told) (asked : CheckRequest)
+    → IsCheck words asked → CanDecide told asked
+decidable words told r asked command =
+    let own : CanDecide told r.asked = record {
+      definition = r.definition;
+      definition_held = r.definition_held;
+      faultless = r.faultless;
+      bytes = r.bytes;
+      held = r.held;
+    } in
+    subst (CanDecide told) (one_check words r.asked asked r.command command) own
+
+no_check_read_cause : (told : Told) (asked : CheckRequest) (s : CanDecide told asked)
+    (reads reads' : ℕ) (e : Ending) → (CountRose reads reads' → ⊥)
+    → CheckReadCause asked (Some told) reads reads' e → end_code e ≡ 1
+no_check_read_cause told asked s reads reads' out_of_memory free h = refl
+no_check_read_cause told asked s reads reads' bad_words free h = absurd h
+no_check_read_cause told asked s reads reads' read_fault free h = absurd (free h)
+no_check_read_cause told asked s reads reads' write_fault free h = absurd h
+no_check_read_cause told asked s reads reads' (no_such_file name) free (inl h) =
+    absurd (not_lacking told asked.definition name s.definition h.0 s.definition_held.0 h.1)
+no_check_read_cause told asked s reads reads' (no_such_file name) free (inr h) =
+    absurd (not_lacking told asked.file name s.bytes h.0 s.held.0 h.2)
+no_check_read_cause told asked s reads reads' (definition_refused number byte) free h =
+    absurd (s.faultless _ (subst (λ (bytes : List ℕ). IsRefused bytes _)
+    (one_content told asked.definition h.bytes s.definition h.held.0 s.definition_held.0)
+    h.refused))
+no_check_read_cause told asked s reads reads' (term_refused number byte) free h = absurd h
+no_check_read_cause told asked s reads reads' (too_large name) free (inl h) =
+    absurd (not_more told asked.definition name s.definition definition_limit h.0
+    s.definition_held.0 s.definition_held.1 h.1)
+no_check_read_cause told asked s reads reads' (too_large name) free (inr h) =
+    absurd (not_more told asked.file name s.bytes database_limit h.0 s.held.0 s.held.1 h.2)
+
+no_check_cause : (words : List (List ℕ)) (told : Told) (r : CanCheck words told)
+    (asked : CheckRequest) (c : Course) (e : Ending) → c.desk.told ≡ Some told
+    → IsCheck words asked → (CountsReadFault c → ⊥) → (CountsOutputFault c → ⊥)
+    → CheckCause asked c e → end_code e ≡ 1
+no_check_cause words told r asked c e is command reads writes (check_undecided h kept) =
+    no_check_read_cause told asked (decidable words told r asked command) c.desk.read_faults
+    c.desk'.read_faults e reads
+    (subst (λ (o : Option Told). CheckReadCause asked o c.desk.read_faults c.desk'.read_faults e)
+    is h)
+no_check_cause words told r asked c e is command reads writes (check_unprinted begun stopped) =
+    stopped_unfaulted (CountsOutputFault c) e writes stopped
+
+pub check_ends_without_memory : (words : List (List ℕ)) (told : Option Told) (asked : CheckRequest)
+    (c : Course) (e : Ending) → c.desk.told ≡ told → IsReadyToCheck words told
+    → IsCheck words asked → (CountsReadFault c → ⊥) → (CountsOutputFault c → ⊥)
+    → CheckCause asked c e → end_code e ≡ 1
+check_ends_without_memory words None asked c e is ready command reads writes cause = absurd ready
+check_ends_without_memory words (Some told) asked c e is ready command reads writes cause =
+    no_check_cause words told ready asked c e is command reads writes cause
+
 -- a drill that does not come to its lines: memory ran out, or a fault was counted
 abbrev pub StopsDrill : Course → ℕ → Type 0
 StopsDrill c code =
@@ -177,3 +243,8 @@ pub ready_verify : (words : List (List ℕ)) (told : Option Told) → IsReadyToV
     → (file : List ℕ) × IsVerify words file
 ready_verify words None ready = absurd ready
 ready_verify words (Some told) ready = (ready.file, ready.command)
+
+pub ready_check : (words : List (List ℕ)) (told : Option Told) → IsReadyToCheck words told
+    → (asked : CheckRequest) × IsCheck words asked
+ready_check words None ready = absurd ready
+ready_check words (Some told) ready = (ready.asked, ready.command)

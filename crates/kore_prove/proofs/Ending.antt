@@ -43,7 +43,7 @@ same_files (Some told) = (told.unread, refl)
 
 -- the exit codes of calls that print their lines
 abbrev pub IsDoneCode : ℕ → Type 0
-IsDoneCode code = (code ≡ 0) ⊎ (code ≡ 10) ⊎ (code ≡ 11) ⊎ (code ≡ 12)
+IsDoneCode code = (code ≡ 0) ⊎ (code ≡ 10) ⊎ (code ≡ 11) ⊎ (code ≡ 12) ⊎ (code ≡ 13)
 
 after_answer : (e : Ending) (answer : Result (Unit {0}) DeskFault) (code : ℕ)
     → code ≡ code_after e answer → (code ≡ end_code e) ⊎ (code ≡ 1)

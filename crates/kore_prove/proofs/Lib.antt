@@ -3,6 +3,7 @@ pub mod Pieces
 pub mod Ending
 pub mod FileProofs
 pub mod Verifying
+pub mod Checking
 pub mod Completing
 pub mod Printing
 pub mod Answering

@@ -8,11 +8,13 @@ use Rattle.rule_core.specs.Runs.{Run}
 use Rattle.kore_prove.specs.DrillWords.{DrillRequest, IsDrill}
 use Rattle.kore_prove.specs.RunWords.{RunRequest, IsRun}
 use Rattle.kore_prove.specs.VerifyWords.{IsVerify}
+use Rattle.kore_prove.specs.CheckWords.{CheckRequest, IsCheck}
 use Rattle.kore_prove.specs.Courses.{Course, Call}
 use Rattle.kore_prove.specs.CountedFaults.{CountsWriteFault, CountsOutputFault}
 use Rattle.kore_prove.specs.PrintedRun.{SendsLines}
 use Rattle.kore_prove.specs.ProvedRun.{HasWantedProof}
 use Rattle.kore_prove.specs.Verdicts.{SendsValid, SendsInvalid}
+use Rattle.kore_prove.specs.Checks.{SendsJustified, SendsUnjustified, SendsFault}
 use Rattle.kore_prove.specs.DrilledRun.{SendsDrill}
 
 -- the run was made, and proved if that is wanted; the output got a part of its lines from the front
@@ -30,6 +32,14 @@ BeginsVerdict file c =
     SendsValid AppendsFront c.desk.told file c.out.bytes c.out'.bytes
     ⊎ SendsInvalid AppendsFront c.desk.told file c.out.bytes c.out'.bytes
 
+-- it was decided what the database justifies, and the output got a part of the lines that say so from
+-- the front
+abbrev pub BeginsCheck : CheckRequest → Course → Type 0
+BeginsCheck asked c =
+    SendsJustified AppendsFront c.desk.told asked c.out.bytes c.out'.bytes
+    ⊎ SendsFault AppendsFront c.desk.told asked c.out.bytes c.out'.bytes
+    ⊎ SendsUnjustified AppendsFront c.desk.told asked c.out.bytes c.out'.bytes
+
 -- the drill was made and proved, and the output got a part of its lines from the front
 abbrev pub BeginsDrill : DrillRequest → Course → Type 0
 BeginsDrill asked c =
@@ -39,6 +49,8 @@ BeginsDrill asked c =
 pub data Begins (c : Call) : Type 0 where
   begins_run : {asked : RunRequest} → IsRun c.words asked → BeginsRun asked c.course → Begins c
   begins_verdict : {file : List ℕ} → IsVerify c.words file → BeginsVerdict file c.course → Begins c
+  begins_check : {asked : CheckRequest} → IsCheck c.words asked → BeginsCheck asked c.course
+      → Begins c
   begins_drill : {asked : DrillRequest} → IsDrill c.words asked → BeginsDrill asked c.course
       → Begins c
 

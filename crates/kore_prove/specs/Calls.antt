@@ -8,11 +8,13 @@ use Rattle.kore_prove.specs.PrintedRun.{PrintsRun}
 use Rattle.kore_prove.specs.ProvedRun.{ProvesRun}
 use Rattle.kore_prove.specs.RunFronts.{LeavesFrontOfRun}
 use Rattle.kore_prove.specs.Verdicts.{PrintsVerdict}
+use Rattle.kore_prove.specs.Checks.{PrintsCheck}
 use Rattle.kore_prove.specs.DrilledRun.{Drills, LeavesFrontOfDrill}
 use Rattle.kore_prove.specs.BegunLines.{StopsPrinting, FailsInPrinting}
 use Rattle.kore_prove.specs.Causes.{Ends}
 use Rattle.kore_prove.specs.CompleteRuns.{Completes}
 use Rattle.kore_prove.specs.CompleteVerdicts.{CompletesVerdict}
+use Rattle.kore_prove.specs.CompleteChecks.{CompletesCheck}
 use Rattle.kore_prove.specs.CompleteDrills.{CompletesDrill}
 use Rattle.kore_prove.specs.Unwritten.{IsUnwritten}
 
@@ -22,6 +24,7 @@ pub record IsAnswered (c : Call) (code : ℕ) : Type 0 where
   pub proved_run : ProvesRun c code
   pub proof_front : LeavesFrontOfRun c
   pub verdict : PrintsVerdict c code
+  pub checked : PrintsCheck c code
   pub drilled : Drills c code
   pub drill_front : LeavesFrontOfDrill c
   pub ends : Ends c code
@@ -29,6 +32,7 @@ pub record IsAnswered (c : Call) (code : ℕ) : Type 0 where
   pub fails_in_printing : FailsInPrinting c code
   pub complete : Completes c code
   pub complete_verdict : CompletesVerdict c code
+  pub complete_check : CompletesCheck c code
   pub complete_drill : CompletesDrill c code
   pub bad_words : AreBad c.words → (code ≡ 2) ⊎ (code ≡ 1)
   pub others : KeepsOthers (IsProofFile c.words) c.course.desk.told c.course.desk'.told

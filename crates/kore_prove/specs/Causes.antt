@@ -13,6 +13,7 @@ use Rattle.kore_rules.specs.Refused.{IsRefused, IsRefusedTerm}
 use Rattle.kore_prove.specs.DrillWords.{DrillRequest, IsDrill}
 use Rattle.kore_prove.specs.RunWords.{RunRequest, IsRun}
 use Rattle.kore_prove.specs.VerifyWords.{IsVerify}
+use Rattle.kore_prove.specs.CheckWords.{CheckRequest, IsCheck}
 use Rattle.kore_prove.specs.BadWords.{AreBad}
 use Rattle.kore_prove.specs.Courses.{Course, Call}
 use Rattle.kore_prove.specs.CountedFaults.{CountsReadFault, CountsWriteFault, CountsOutputFault}
@@ -20,24 +21,24 @@ use Rattle.kore_prove.specs.Limits.{HoldsWithin, definition_limit, term_limit}
 use Rattle.kore_prove.specs.Verdicts.{database_limit}
 use Rattle.kore_prove.specs.Files.{HoldsProgram, HoldsRun}
 use Rattle.kore_prove.specs.DrillProgram.{IsDrillProgram}
-use Rattle.kore_prove.specs.BegunLines.{BeginsRun, BeginsVerdict, BeginsDrill}
+use Rattle.kore_prove.specs.BegunLines.{BeginsRun, BeginsVerdict, BeginsCheck, BeginsDrill}
 use Rattle.kore_prove.specs.Reports.{Ending, out_of_memory, bad_words, read_fault, write_fault}
 use Rattle.kore_prove.specs.Reports.{no_such_file, definition_refused, term_refused, too_large}
 use Rattle.kore_prove.specs.Reports.{Reports}
 
--- the definition was read and accepted
-abbrev pub HasProgram : RunRequest → Option Told → Type 0
-HasProgram asked told =
-    (theory : RewriteTheory) × (top : Option ℕ) × HoldsProgram told asked.definition theory top
+-- the definition in the file of that name was read and accepted
+abbrev pub HasProgram : List ℕ → Option Told → Type 0
+HasProgram definition told =
+    (theory : RewriteTheory) × (top : Option ℕ) × HoldsProgram told definition theory top
 
 -- both files were read and accepted
 abbrev pub HasRun : RunRequest → Option Told → Type 0
 HasRun asked told = (theory : RewriteTheory) × (start : Pattern) × HoldsRun asked told theory start
 
--- the file of the definition holds bytes that are refused with this fault
-pub record HoldsRefused (asked : RunRequest) (told : Option Told) (f : Fault) : Type 0 where
+-- the file of that name holds bytes that are refused with this fault, as a definition
+pub record HoldsRefused (definition : List ℕ) (told : Option Told) (f : Fault) : Type 0 where
   pub bytes : List ℕ
-  pub held : HoldsWithin told asked.definition definition_limit bytes
+  pub held : HoldsWithin told definition definition_limit bytes
   pub refused : IsRefused bytes f
 
 -- the file of the term holds bytes that are refused with this fault, as a term of the definition
@@ -58,14 +59,14 @@ ReadCause asked told reads reads' read_fault = CountRose reads reads'
 ReadCause asked told reads reads' write_fault = ⊥
 ReadCause asked told reads reads' (no_such_file name) =
     ((name ≡ asked.definition) × Lacks told name)
-    ⊎ ((name ≡ asked.term) × HasProgram asked told × Lacks told name)
+    ⊎ ((name ≡ asked.term) × HasProgram asked.definition told × Lacks told name)
 ReadCause asked told reads reads' (definition_refused number byte) =
-    HoldsRefused asked told (record { number = number; byte = byte })
+    HoldsRefused asked.definition told (record { number = number; byte = byte })
 ReadCause asked told reads reads' (term_refused number byte) =
     HoldsRefusedTerm asked told (record { number = number; byte = byte })
 ReadCause asked told reads reads' (too_large name) =
     ((name ≡ asked.definition) × HoldsMore told name definition_limit)
-    ⊎ ((name ≡ asked.term) × HasProgram asked told × HoldsMore told name term_limit)
+    ⊎ ((name ≡ asked.term) × HasProgram asked.definition told × HoldsMore told name term_limit)
 
 -- writing stopped: memory ran out, or a fault was counted
 abbrev pub StopsWriting : Type 0 → Ending → Type 0
@@ -104,6 +105,32 @@ pub data VerifyCause (file : List ℕ) (c : Course) (e : Ending) : Type 0 where
   verdict_unprinted : BeginsVerdict file c → StopsWriting (CountsOutputFault c) e
       → VerifyCause file c e
 
+-- Each end of a check has its cause in the files that are read. The database is read only if the
+-- definition was accepted.
+abbrev pub CheckReadCause : CheckRequest → Option Told → ℕ → ℕ → Ending → Type 0
+CheckReadCause asked told reads reads' out_of_memory = Unit {0}
+CheckReadCause asked told reads reads' bad_words = ⊥
+CheckReadCause asked told reads reads' read_fault = CountRose reads reads'
+CheckReadCause asked told reads reads' write_fault = ⊥
+CheckReadCause asked told reads reads' (no_such_file name) =
+    ((name ≡ asked.definition) × Lacks told name)
+    ⊎ ((name ≡ asked.file) × HasProgram asked.definition told × Lacks told name)
+CheckReadCause asked told reads reads' (definition_refused number byte) =
+    HoldsRefused asked.definition told (record { number = number; byte = byte })
+CheckReadCause asked told reads reads' (term_refused number byte) = ⊥
+CheckReadCause asked told reads reads' (too_large name) =
+    ((name ≡ asked.definition) × HoldsMore told name definition_limit)
+    ⊎ ((name ≡ asked.file) × HasProgram asked.definition told
+    × HoldsMore told name database_limit)
+
+-- Why the lines of a check were not printed. Nothing was decided, and all is as before. Or its lines
+-- were not sent as a whole.
+pub data CheckCause (asked : CheckRequest) (c : Course) (e : Ending) : Type 0 where
+  check_undecided : CheckReadCause asked c.desk.told c.desk.read_faults c.desk'.read_faults e
+      → KeepsAll c → CheckCause asked c e
+  check_unprinted : BeginsCheck asked c → StopsWriting (CountsOutputFault c) e
+      → CheckCause asked c e
+
 -- the texts of a drill were accepted
 abbrev pub HasDrill : ℕ → Type 0
 HasDrill steps = (theory : RewriteTheory) × (start : Pattern) × IsDrillProgram steps theory start
@@ -126,6 +153,8 @@ pub data HasCause (c : Call) : Ending → Type 0 where
       → HasCause c e
   of_verify : {file : List ℕ} {e : Ending} → IsVerify c.words file → VerifyCause file c.course e
       → HasCause c e
+  of_check : {asked : CheckRequest} {e : Ending} → IsCheck c.words asked
+      → CheckCause asked c.course e → HasCause c e
   of_drill : {asked : DrillRequest} {e : Ending} → IsDrill c.words asked
       → DrillCause asked c.course e → HasCause c e
 
@@ -134,6 +163,8 @@ pub data IsDone (words : List (List ℕ)) (code : ℕ) : Type 0 where
   run_done : {asked : RunRequest} → IsRun words asked → (code ≡ 0) ⊎ (code ≡ 10) ⊎ (code ≡ 11)
       → IsDone words code
   verify_done : {file : List ℕ} → IsVerify words file → (code ≡ 0) ⊎ (code ≡ 12) → IsDone words code
+  check_done : {asked : CheckRequest} → IsCheck words asked
+      → (code ≡ 0) ⊎ (code ≡ 12) ⊎ (code ≡ 13) → IsDone words code
   drill_done : {asked : DrillRequest} → IsDrill words asked → code ≡ 0 → IsDone words code
 
 -- the call printed its lines, and wrote nothing to the error stream

@@ -3,6 +3,7 @@ pub mod Limits
 pub mod BadWords
 pub mod VerifyWords
 pub mod RunWords
+pub mod CheckWords
 pub mod DrillWords
 pub mod Words
 pub mod Courses
@@ -14,14 +15,16 @@ pub mod ProvedRun
 pub mod RunFronts
 pub mod DrillProgram
 pub mod DrilledRun
+pub mod Verdicts
+pub mod Checks
 pub mod BegunLines
 pub mod Reports
 pub mod Causes
 pub mod CompleteRuns
 pub mod CompleteVerdicts
+pub mod CompleteChecks
 pub mod CompleteDrills
 pub mod Unwritten
-pub mod Verdicts
 pub mod Calls
 -- Private: what clauses of private functions cite, and how private fields are seen.
 pub mod Requests
@@ -30,4 +33,5 @@ pub mod RunsDone
 pub mod PlainEnds
 pub mod FileCauses
 pub mod DatabaseVerdicts
+pub mod Decisions
 pub mod ProofFiles

@@ -9,6 +9,7 @@ use Rattle.run_lines.specs.Lines.{lines_of}
 use Rattle.kore_prove.specs.DrillWords.{IsNoDrill}
 use Rattle.kore_prove.specs.RunWords.{RunRequest, IsRun}
 use Rattle.kore_prove.specs.VerifyWords.{IsNoVerify}
+use Rattle.kore_prove.specs.CheckWords.{IsNoCheck}
 use Rattle.kore_prove.specs.Courses.{Call}
 use Rattle.kore_prove.specs.AcceptedRuns.{IsRunOfFiles}
 
@@ -49,7 +50,8 @@ pub record IsPrinted (words : List (List ℕ)) (told : Option Told) (before afte
 -- the exit code is one of a run; 0 is also the code of a valid database and of a drill
 abbrev pub IsCodeOfRun : List (List ℕ) → ℕ → Type 0
 IsCodeOfRun words code =
-    (code ≡ 10) ⊎ (code ≡ 11) ⊎ ((code ≡ 0) × IsNoVerify words × IsNoDrill words)
+    (code ≡ 10) ⊎ (code ≡ 11)
+    ⊎ ((code ≡ 0) × IsNoVerify words × IsNoCheck words × IsNoDrill words)
 
 -- With the exit code of a run, a run was printed. If the output tells nothing, nothing is said of
 -- the lines. If the desk tells nothing, nothing is said of the contents of its files.

@@ -2,9 +2,11 @@
 use Rattle.std.specs.Prelude.{◌≡◌, ℕ, ◌≤◌, List, Some, option_copied}
 use Rattle.command_words.specs.CommandLine.{most_drilled}
 use Rattle.command_words.specs.declared.commands.RunWords.{RunWords}
+use Rattle.command_words.specs.declared.commands.CheckWords.{CheckWords}
 use Rattle.command_words.specs.declared.commands.DrillWords.{DrillWords}
 use Rattle.command_words.specs.declared.commands.Command.{Command}
 use Rattle.command_words.specs.declared.commands.Command.TheVariants as command
+use Rattle.kore_prove.specs.CheckWords.{CheckRequest, IsCheck}
 use Rattle.kore_prove.specs.DrillWords.{DrillRequest, IsDrill}
 use Rattle.kore_prove.specs.RunWords.{RunRequest, IsRun}
 use Rattle.kore_prove.specs.VerifyWords.{IsVerify}
@@ -24,6 +26,10 @@ request r = record {
 abbrev pub bounds_of : RunRequest → Bounds
 bounds_of asked = record { limit = asked.limit; calls = asked.calls }
 
+-- the check of the request
+abbrev pub check_request : CheckWords → CheckRequest
+check_request c = record { definition = c.definition.now; file = c.file.now }
+
 -- the drill of the request
 abbrev pub drill_request : DrillWords → DrillRequest
 drill_request d = record { steps = d.steps; file = d.file.now }
@@ -32,6 +38,7 @@ drill_request d = record { steps = d.steps; file = d.file.now }
 abbrev pub AsksFor : List (List ℕ) → Command → Type 0
 AsksFor words (command.Run r) = IsRun words (request r)
 AsksFor words (command.Verify file) = IsVerify words file.now
+AsksFor words (command.Check c) = IsCheck words (check_request c)
 AsksFor words (command.Drill d) = IsDrill words (drill_request d) × (d.steps ≤ most_drilled)
 
 -- the file is the one for the proof, which is wanted

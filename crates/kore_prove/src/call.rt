@@ -5,6 +5,8 @@ ghost use Rattle.run_loop.specs.RunEnds.{plain_run};
 ghost use Rattle.kore_prove.specs.BegunLines.{StopsPrinting, FailsInPrinting};
 ghost use Rattle.kore_prove.specs.Calls.{IsAnswered};
 ghost use Rattle.kore_prove.specs.Causes.{Ends};
+ghost use Rattle.kore_prove.specs.Checks.{PrintsCheck};
+ghost use Rattle.kore_prove.specs.CompleteChecks.{CompletesCheck};
 ghost use Rattle.kore_prove.specs.CompleteDrills.{CompletesDrill};
 ghost use Rattle.kore_prove.specs.CompleteRuns.{Completes};
 ghost use Rattle.kore_prove.specs.CompleteVerdicts.{CompletesVerdict};
@@ -22,6 +24,7 @@ ghost use Rattle.kore_prove.specs.Verdicts.{PrintsVerdict};
 ghost use Rattle.kore_prove.specs.Words.{IsProofFile};
 ghost use Rattle.kore_prove.specs.BadWords.{AreBad};
 
+use crate::checking::check_command;
 use crate::drilling::drill_command;
 use crate::proof_file::made_lines;
 use crate::reading::read_run;
@@ -40,15 +43,17 @@ pub struct Status {
 
 /// Does what the words ask for. A run reads its files from the desk, runs the term, writes the
 /// proof of the run to its file if one is named, and prints the two lines of the run to `out`. A
-/// verification prints the line of the verdict on the database. A drill runs a definition of its
-/// own, writes the proof to its file, and prints the two lines of the run and one line with the
-/// counts of the file. If the call does not print these lines, `err` gets one line that states the
+/// verification prints the line of the verdict on the database. A check reads a definition and a
+/// database, and prints what the database justifies over the definition's program, or what is wrong
+/// first. A drill runs a definition of its own, writes the proof to its file, and prints the two
+/// lines of the run and one line with the counts of the file. If the call does not print these lines, `err` gets one line that states the
 /// reason, and the file of the proof is as before or holds the front of a proof. The output then
 /// got nothing, or a part of the lines from the front; the proof is whole before the first of them.
 ///
 /// The status has the exit code. A run: 0 if it is stuck, 10 if it reached its limit, 11 if it is
-/// blocked. A verification: 0 if the database is valid, 12 if it is not. A drill: 0. Any other end:
-/// its code (`Reports`).
+/// blocked. A verification: 0 if the database is valid, 12 if it is not. A check: 0 if the database
+/// justifies that one pattern reaches another, 12 if it is not valid, 13 if it is valid and
+/// justifies nothing. A drill: 0. Any other end: its code (`Reports`).
 pub fn kore_main<D: Desk, O: Sink, E: Sink>(
     alloc: Global,
     words: &[String],
@@ -67,6 +72,9 @@ pub fn kore_main<D: Desk, O: Sink, E: Sink>(
         (map string_bytes words.now) (D.state desk.old) (D.state desk.new) (O.state out.old)
         (O.state out.new) (E.state err.old) (E.state err.new)) }
     ensures verdict { PrintsVerdict (call_of
+        (map string_bytes words.now) (D.state desk.old) (D.state desk.new) (O.state out.old)
+        (O.state out.new) (E.state err.old) (E.state err.new)) result.code }
+    ensures checked { PrintsCheck (call_of
         (map string_bytes words.now) (D.state desk.old) (D.state desk.new) (O.state out.old)
         (O.state out.new) (E.state err.old) (E.state err.new)) result.code }
     ensures drilled { Drills (call_of
@@ -88,6 +96,9 @@ pub fn kore_main<D: Desk, O: Sink, E: Sink>(
         (map string_bytes words.now) (D.state desk.old) (D.state desk.new) (O.state out.old)
         (O.state out.new) (E.state err.old) (E.state err.new)) result.code }
     ensures complete_verdict { CompletesVerdict (call_of
+        (map string_bytes words.now) (D.state desk.old) (D.state desk.new) (O.state out.old)
+        (O.state out.new) (E.state err.old) (E.state err.new)) result.code }
+    ensures complete_check { CompletesCheck (call_of
         (map string_bytes words.now) (D.state desk.old) (D.state desk.new) (O.state out.old)
         (O.state out.new) (E.state err.old) (E.state err.new)) result.code }
     ensures complete_drill { CompletesDrill (call_of
@@ -129,6 +140,12 @@ fn answered<D: Desk, O: Sink, E: Sink>(
             Command::Verify(file) => match verify_command(alloc, file, desk, out) {
                 Ok(verdict) => Status {
                     code: verdict.code(),
+                },
+                Err(end) => report(err, &end),
+            },
+            Command::Check(asked) => match check_command(alloc, &asked, desk, out) {
+                Ok(decision) => Status {
+                    code: decision.code(),
                 },
                 Err(end) => report(err, &end),
             },

@@ -7,7 +7,8 @@ ghost use Rattle.rule_core.specs.Theories.{RewriteTheory};
 ghost use Rattle.rule_core.specs.ProgramView.{theory_of};
 ghost use Rattle.kore_rules.specs.Refused.{IsRefused, IsRefusedTerm};
 ghost use Rattle.kore_prove.specs.Causes.{ReadCause};
-ghost use Rattle.kore_prove.specs.FileCauses.{FileCause};
+ghost use Rattle.kore_prove.specs.FileCauses.{FileCause, UnreadCause};
+ghost use Rattle.kore_prove.specs.FileCauses.{UnreadEnding, DefinitionEnding};
 ghost use Rattle.kore_prove.specs.Files.{HoldsProgram, HoldsRun};
 ghost use Rattle.kore_prove.specs.Limits.{definition_limit, term_limit};
 ghost use Rattle.kore_prove.specs.PlainEnds.{plain_end};
@@ -49,20 +50,28 @@ pub fn read_run<'a, D: Desk>(
     Ok(Accepted { program, start })
 }
 
-// The end of a call whose definition was not read or not accepted.
-fn definition_end(end: FileEnd, name: &str) -> End<'_>
-    ensures { (asked : RunRequest) (told : Option Told) (reads reads' : ℕ)
-        → asked.definition ≡ name.now
-        → FileCause IsRefused told asked.definition definition_limit reads reads' end
-        → ReadCause asked told reads reads' (plain_end result) }
+/// The end of a call whose file was not read as a whole.
+pub fn unread_end(end: ReadEnd, name: &str) -> End<'_>
+    ensures { (told : Option Told) (limit reads reads' : ℕ)
+        → UnreadCause told name.now limit reads reads' end
+        → UnreadEnding told name.now limit reads reads' (plain_end result) }
 {
     match end {
-        FileEnd::Unread(end) => match end {
-            ReadEnd::NoFile => End::NoSuchFile(name),
-            ReadEnd::Failed => End::ReadFault,
-            ReadEnd::TooLarge => End::TooLarge(name),
-            ReadEnd::Memory => End::OutOfMemory,
-        },
+        ReadEnd::NoFile => End::NoSuchFile(name),
+        ReadEnd::Failed => End::ReadFault,
+        ReadEnd::TooLarge => End::TooLarge(name),
+        ReadEnd::Memory => End::OutOfMemory,
+    }
+}
+
+/// The end of a call whose definition was not read or not accepted.
+pub fn definition_end(end: FileEnd, name: &str) -> End<'_>
+    ensures { (told : Option Told) (reads reads' : ℕ)
+        → FileCause IsRefused told name.now definition_limit reads reads' end
+        → DefinitionEnding told name.now reads reads' (plain_end result) }
+{
+    match end {
+        FileEnd::Unread(end) => unread_end(end, name),
         FileEnd::Refused(refusal) => match refusal {
             Refusal::Refused(number, byte) => End::DefinitionRefused(number, byte),
             Refusal::Memory => End::OutOfMemory,

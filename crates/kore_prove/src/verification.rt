@@ -5,13 +5,14 @@ ghost use Rattle.desk_io.specs.Sent.{Appends};
 ghost use Rattle.desk_io.specs.SinkChanges.{AppendsFront};
 ghost use Rattle.desk_io.specs.Counts.{CountRose};
 ghost use Rattle.kore_prove.specs.FileCauses.{UnreadCause};
-ghost use Rattle.kore_prove.specs.Causes.{DatabaseCause, VerifyCause};
-ghost use Rattle.kore_prove.specs.Courses.{Course, course_of};
-ghost use Rattle.kore_prove.specs.Verdicts.{database_limit, valid_line, invalid_line};
+ghost use Rattle.kore_prove.specs.Causes.{VerifyCause};
+ghost use Rattle.kore_prove.specs.Courses.{course_of};
+ghost use Rattle.kore_prove.specs.Verdicts.{valid_line, invalid_line};
 ghost use Rattle.kore_prove.specs.PlainEnds.{plain_end};
 ghost use Rattle.kore_prove.specs.DatabaseVerdicts.{IsVerdictOn, HoldsDatabase, PrintsVerdictOn};
 ghost use Rattle.kore_prove.specs.DatabaseVerdicts.{verdict_code, verdict_line};
 
+use crate::reading::unread_end;
 use crate::report::{End, send_pieces, write_end};
 use desk_io::{Desk, DeskFault, ReadEnd, Sink, read_file};
 use itoa::Buffer;
@@ -20,7 +21,7 @@ use mm_verify::{Report, VerifyEnd, verify};
 use std::alloc::{AllocError, Global};
 
 /// The greatest number of bytes of a database.
-const DATABASE_LIMIT: usize = 268_435_456;
+pub const DATABASE_LIMIT: usize = 268_435_456;
 
 /// The verdict on a database.
 #[derive(Clone, Copy)]
@@ -99,20 +100,6 @@ fn verdict_on(alloc: Global, bytes: &[u8]) -> Result<Verdict, AllocError>
     }
 }
 
-/// The end of a call whose file was not read as a whole.
-fn unread_end(end: ReadEnd, name: &str) -> End<'_>
-    ensures { (c : Course) → UnreadCause c.desk.told name.now database_limit
-        c.desk.read_faults c.desk'.read_faults end
-        → DatabaseCause name.now c (plain_end result) }
-{
-    match end {
-        ReadEnd::NoFile => End::NoSuchFile(name),
-        ReadEnd::Failed => End::ReadFault,
-        ReadEnd::TooLarge => End::TooLarge(name),
-        ReadEnd::Memory => End::OutOfMemory,
-    }
-}
-
 /// Sends the line of a verdict. After an error some bytes from its front, perhaps none, are sent.
 /// It fails with `Failed` only if the sink counted a fault.
 fn send_verdict<O: Sink>(out: &mut O, verdict: &Verdict) -> Result<(), DeskFault>
@@ -151,7 +138,7 @@ fn send_valid<O: Sink>(out: &mut O, axioms: u64, theorems: u64) -> Result<(), De
 }
 
 /// Sends the line of a database with this first fault.
-fn send_invalid<O: Sink>(out: &mut O, kind: u8, byte: usize) -> Result<(), DeskFault>
+pub fn send_invalid<O: Sink>(out: &mut O, kind: u8, byte: usize) -> Result<(), DeskFault>
     ensures sent { OnOk result
         (Appends (O.state out.old).bytes (O.state out.new).bytes (invalid_line kind byte)) }
     ensures prefix { OnErr result
