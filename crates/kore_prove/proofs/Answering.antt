@@ -42,7 +42,7 @@ use Rattle.kore_prove.proofs.Ending.{code_of_no_end, code_of_run, code_of_one}
 use Rattle.kore_prove.proofs.Ending.{run_files, drill_files}
 use Rattle.kore_prove.proofs.Ending.{same_files, code_reported}
 use Rattle.kore_prove.proofs.Verifying.{code_of_verdict, prints_verdict}
-use Rattle.kore_prove.proofs.Checking.{code_of_decision, prints_check}
+use Rattle.kore_prove.proofs.Deciding.{code_of_decision, prints_check}
 use Rattle.kore_prove.proofs.Printing.{stopped_never, failed_never, stopped_with, failed_with}
 use Rattle.kore_prove.proofs.FileProofs.{some_same, kept_others, fewer_others, kept_file}
 use Rattle.kore_prove.proofs.Drills.{drilled_front}

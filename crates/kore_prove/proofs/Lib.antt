@@ -3,7 +3,7 @@ pub mod Pieces
 pub mod Ending
 pub mod FileProofs
 pub mod Verifying
-pub mod Checking
+pub mod Deciding
 pub mod Completing
 pub mod Printing
 pub mod Answering

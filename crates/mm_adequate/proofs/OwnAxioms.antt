@@ -368,7 +368,7 @@ below_fact theory p (of_injective a b says) =
       ((λ x i. omega (arith, i)), (λ x i. omega (arith, i))),
     ))
 
-below_assumed : (theory : RewriteTheory) (p : Sentence) → IsWellSorted theory
+pub below_assumed : (theory : RewriteTheory) (p : Sentence) → IsWellSorted theory
     → HasFewVariables theory → IsAssumed theory p → IsBelow 0 p
 below_assumed theory p ok few (inl own) = below_own theory p ok few own
 below_assumed theory p ok few (inr fact) = below_fact theory p fact

@@ -1,5 +1,5 @@
 -- The pattern that a text says. The text of a pattern is in `mm_proof`.
-use Rattle.std.specs.Prelude.{◌≡◌, ◌<◌, ◌^◌, ◌⊎◌, List, ◌++◌, map, codes, All}
+use Rattle.std.specs.Prelude.{◌≡◌, ◌<◌, ◌^◌, ◌⊎◌, List, ◌++◌, map, codes, All, Contains}
 use Rattle.std.specs.Str.{IsUtf8}
 use Rattle.std.specs.Borrow.{Bor}
 use Rattle.mm_text.specs.Bytes.{Token}
@@ -50,3 +50,12 @@ SayNoPattern tokens = (names : List Token) (p : Pattern) → IsReading names tok
 pub record AreKept (old new : List Token) : Type 0 where
   pub added : List Token
   pub all : new ≡ old ++ added
+
+-- the token of a sort, of a symbol or of a value
+abbrev pub IsNameToken : Token → Type 0
+IsNameToken token = IsSortToken token ⊎ IsConstantToken token
+
+-- each name was there before, or is one of the tokens, and that of a sort, a symbol or a value
+pub record GainsOnly (tokens old new : List Token) : Type 0 where
+  pub each : (name : Token) → Contains new name
+      → Contains old name ⊎ (Contains tokens name × IsNameToken name)

@@ -1,6 +1,7 @@
 // Reading: from tokens to words, and from words to the pattern that they spell.
 ghost use Rattle.std.specs.Prelude.{◌≡◌, IfOk, MatchOption, option_map};
-ghost use Rattle.pattern_reader.specs.Readings.{texts, AreUtf8, IsReading, AreKept, SayNoPattern};
+ghost use Rattle.pattern_reader.specs.Readings.{texts, AreUtf8, IsReading, AreKept, GainsOnly};
+ghost use Rattle.pattern_reader.specs.Readings.{SayNoPattern};
 ghost use Rattle.pattern_reader.specs.Machine.{step, popped, Spell, SpellNothing};
 ghost use Rattle.pattern_reader.specs.Views.{frames_of, word_of, words_of, stack_of};
 
@@ -11,7 +12,8 @@ use std::alloc::{AllocError, Global};
 
 /// The pattern that the tokens say, or None if they say none. The tokens of its sorts, symbols and
 /// values get numbers among the names, which keep their own. It takes time linear in the text, and
-/// no recursion. An error: out of memory. The names may have gained tokens even then.
+/// no recursion. An error: out of memory. The names may have gained tokens even then, but never
+/// others than those of its sorts, symbols and values.
 pub fn read_pattern(
     alloc: Global,
     names: &mut Names,
@@ -21,6 +23,7 @@ pub fn read_pattern(
     ensures pattern { IfOk result (λ r. MatchOption r (SayNoPattern (texts tokens.now))
         (IsReading names.new (texts tokens.now))) }
     ensures names { AreKept names.old names.new }
+    ensures gained { GainsOnly (texts tokens.now) names.old names.new }
 {
     match all_said(alloc, names, tokens)? {
         Some(words) => {

@@ -1,9 +1,9 @@
 // The words that tokens say: brackets, connectives, and leaves by their numbers.
-ghost use Rattle.std.specs.Prelude.{◌≡◌, IfOk, MatchOption, option_map};
+ghost use Rattle.std.specs.Prelude.{◌≡◌, [], ◌∷◌, IfOk, MatchOption, option_map};
 ghost use Rattle.std.specs.Str.{IsUtf8};
 ghost use Rattle.mm_proof.specs.Tokens.{name_of};
-ghost use Rattle.pattern_reader.specs.Readings.{texts, AreUtf8, AreKept, IsSortToken};
-ghost use Rattle.pattern_reader.specs.Readings.{IsConstantToken};
+ghost use Rattle.pattern_reader.specs.Readings.{texts, AreUtf8, AreKept, GainsOnly};
+ghost use Rattle.pattern_reader.specs.Readings.{IsSortToken, IsConstantToken, IsNameToken};
 ghost use Rattle.pattern_reader.specs.Words.{Says, SaysNothing, OneSaysNothing, AllSay, connective};
 ghost use Rattle.pattern_reader.specs.Words.{fixed_word};
 ghost use Rattle.pattern_reader.specs.Words.{behind, IsObject, other_connective, short_connective};
@@ -89,6 +89,7 @@ pub(crate) fn all_said(
     ensures words { IfOk result (λ r. MatchOption r (OneSaysNothing (texts tokens.now))
         (λ ws. AllSay names.new (texts tokens.now) (words_of ws.items))) }
     ensures names { AreKept names.old names.new }
+    ensures gained { GainsOnly (texts tokens.now) names.old names.new }
 {
     let mut words = Vec::with_capacity(alloc, tokens.len())?;
     for token in tokens {
@@ -101,11 +102,13 @@ pub(crate) fn all_said(
 }
 
 /// The word that a token says, or None if it says nothing.
+#[tactic(auto, using(crate::proofs::Keeping::gains_none))]
 fn said(names: &mut Names, token: &[u8]) -> Result<Option<Word>, AllocError>
     requires { IsUtf8 token.now }
     ensures word { IfOk result (λ r. MatchOption r (SaysNothing token.now)
         (λ w. Says names.new token.now (word_of w))) }
     ensures names { AreKept names.old names.new }
+    ensures gained { GainsOnly (token.now ∷ []) names.old names.new }
 {
     if let Some(word) = fixed_word(token) {
         return Ok(Some(word));
@@ -229,6 +232,7 @@ fn sort_name(names: &mut Names, token: &[u8]) -> Result<Word, AllocError>
     requires front { IsSortToken token.now }
     ensures word { IfOk result (λ w. Says names.new token.now (word_of w)) }
     ensures names { AreKept names.old names.new }
+    ensures gained { GainsOnly (token.now ∷ []) names.old names.new }
 {
     Ok(Word::SortName(MSort(name(names, token)?)))
 }
@@ -239,15 +243,18 @@ fn constant_name(names: &mut Names, token: &[u8]) -> Result<Word, AllocError>
     requires front { IsConstantToken token.now }
     ensures word { IfOk result (λ w. Says names.new token.now (word_of w)) }
     ensures names { AreKept names.old names.new }
+    ensures gained { GainsOnly (token.now ∷ []) names.old names.new }
 {
     Ok(Word::ConstantName(ConstNo(name(names, token)?)))
 }
 
 // The number of a token among the names.
 fn name(names: &mut Names, token: &[u8]) -> Result<u64, AllocError>
-    requires { IsUtf8 token.now }
+    requires text { IsUtf8 token.now }
+    requires front { IsNameToken token.now }
     ensures number { IfOk result (λ n. name_of names.new n ≡ token.now) }
     ensures names { AreKept names.old names.new }
+    ensures gained { GainsOnly (token.now ∷ []) names.old names.new }
 {
     let Ok(text) = str::from_utf8(token) else {
         unreachable!()

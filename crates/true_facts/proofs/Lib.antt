@@ -16,3 +16,4 @@ pub mod InjectionLaws
 pub mod SideLaws
 pub mod UnequalLaws
 pub mod FactLaws
+pub mod OwnValues

@@ -79,7 +79,7 @@ not_constant sig names p none =
     let t : HasToken sig names p x = token_at sig names p x h in none t.number t.is_constant)
 
 -- the token is at the place of the constant's number
-there_at : (sig : Signature) (names : List (List ℕ)) (p : Pattern) (x : ℕ × DomainValue) (n : ℕ)
+pub there_at : (sig : Signature) (names : List (List ℕ)) (p : Pattern) (x : ℕ × DomainValue) (n : ℕ)
     → p ≡ constant n → (t : HasToken sig names p x)
     → slice_get names n ≡ Some (value_token t.name x.1)
 there_at sig names p x n is t =

@@ -1,6 +1,7 @@
--- Private: what clauses of private functions cite, and how private fields are seen.
+-- Public: what public clauses say, and public definitions of other crates.
 pub mod Only
 pub mod Tokens
+-- Private: what clauses of private functions cite, and how private fields are seen.
 pub mod Digits
 pub mod Values
 pub mod Injections

@@ -1,5 +1,5 @@
 // Whether a pattern states a true fact about built-in values, hooks, patterns that have no common
-// instance, or injections.
+// instance, or injections; and whether a token is that of a value.
 //
 // The contract: `is_true_fact` answers true exactly when the pattern is the image of a true fact
 // (specs/TrueFacts.antt of `ml_image`) under the given names. What a fact is about (a sort and a
@@ -22,3 +22,5 @@ mod unequal;
 mod values;
 
 pub use facts::is_true_fact;
+pub use tokens::{sort_of, symbol_of};
+pub use values::is_value_token;

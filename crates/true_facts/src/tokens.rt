@@ -23,7 +23,7 @@ pub(crate) fn named<'n>(names: &'n Names, number: u64, prefix: &str) -> Option<&
 }
 
 // The sort whose token has this number.
-pub(crate) fn sort_of(sig: &Signature, names: &Names, number: MSort) -> Option<SortId>
+pub fn sort_of(sig: &Signature, names: &Names, number: MSort) -> Option<SortId>
     requires { length sig.now.sorts ≤ 2 ^ 32 }
     ensures { IsOnly (λ s. sort_image sig.now names.now s ≡ Some number.0) (sort_found result) }
 {
@@ -50,7 +50,7 @@ pub(crate) fn is_sort(sig: &Signature, names: &Names, number: MSort, sort: SortI
 }
 
 // The symbol whose token has this number.
-pub(crate) fn symbol_of(sig: &Signature, names: &Names, number: ConstNo) -> Option<usize>
+pub fn symbol_of(sig: &Signature, names: &Names, number: ConstNo) -> Option<usize>
     ensures { IsOnly (λ f. symbol_image sig.now names.now f ≡ Some (constant number.0)) result }
 {
     names.tokens_differ();

@@ -1,6 +1,6 @@
 // The values that tokens stand for.
 ghost use Rattle.std.specs.Prelude.{◌≡◌, ◌≢◌, ◌≤◌, ◌<◌, ◌^◌, ◌∷◌, ◌++◌, ℕ, ℤ, List, length, IfOk};
-ghost use Rattle.std.specs.Prelude.{IsTrue, option_map, MatchOption, slice_get, Some};
+ghost use Rattle.std.specs.Prelude.{IsTrue, ◌↔◌, option_map, MatchOption, slice_get, Some};
 ghost use Rattle.std.specs.Fmt.{signed_decimal};
 ghost use Rattle.std.specs.Str.{is_utf8};
 ghost use Rattle.term_core.specs.Terms.{DomainValue, truth, text as words_value};
@@ -10,6 +10,7 @@ ghost use Rattle.term_core.specs.HookValues.{is_in_range};
 ghost use Rattle.rule_core.specs.Sorting.{IsValueOf};
 ghost use Rattle.ml_image.specs.Tokens.{hexadecimal};
 ghost use Rattle.true_facts.specs.Only.{IsOnly};
+ghost use Rattle.true_facts.specs.Tokens.{IsValueToken};
 ghost use Rattle.true_facts.specs.Values.{typed_found, value_found, IsValueAt, IsKindAt};
 ghost use Rattle.true_facts.specs.Values.{HasValueText};
 ghost use Rattle.rule_core.specs.declared.signature.SortKind.TheVariants as kind;
@@ -19,7 +20,7 @@ use crate::hexadecimal::bytes_of;
 use crate::shapes::as_constant;
 use crate::tokens::named;
 use itoa::Buffer;
-use ml_pat::{MPat, Names};
+use ml_pat::{ConstNo, MPat, Names};
 use rule_core::{Signature, SortKind};
 use std::alloc::{AllocError, Global};
 use std::rc::RcStr;
@@ -30,6 +31,17 @@ use term_core::{SortId, Value};
 pub(crate) struct Typed {
     pub(crate) sort: SortId,
     pub(crate) value: Value,
+}
+
+// Whether the token is that of a value of a sort.
+pub fn is_value_token(alloc: Global, sig: &Signature, token: &str) -> Result<bool, AllocError>
+    requires { length sig.now.sorts ≤ 2 ^ 32 }
+    ensures { IfOk result (λ b. IsTrue b ↔ IsValueToken sig.now token.now) }
+{
+    let mut names = Names::new(alloc);
+    let number = ConstNo(names.number(token)?);
+    let pattern = MPat::constant(alloc, number)?;
+    Ok(value_at(alloc, sig, &names, &pattern)?.is_some())
 }
 
 // The value whose image is the pattern, and its sort.

@@ -3,10 +3,11 @@ use Rattle.std.specs.Prelude.{Err}
 use Rattle.command_words.specs.declared.commands.WordsEnd.{WordsEnd}
 use Rattle.run_loop.specs.RunEnds.{plain_run}
 use Rattle.kore_prove.specs.PlainEnds.{plain_end}
-use Rattle.kore_prove.specs.Requests.{request, drill_request}
+use Rattle.kore_prove.specs.Requests.{request, check_request, drill_request}
 use Rattle.kore_prove.proofs.Ending.{same_bytes, same_files}
 use Rattle.kore_prove.proofs.Answering.{run_answered, run_ended, verify_answered, verify_ended}
-use Rattle.kore_prove.proofs.Answering.{drill_answered, drill_ended, bad_answered, memory_answered}
+use Rattle.kore_prove.proofs.Answering.{check_answered, check_ended, drill_answered, drill_ended}
+use Rattle.kore_prove.proofs.Answering.{bad_answered, memory_answered}
 use Rattle.kore_prove.proofs.call.answered.Goals as goal
 
 pub returns-in-Ok-run_command-clause-answered : goal.returns-in-Ok-run_command-clause-answered
@@ -34,6 +35,19 @@ returns-in-Err-verify_command-clause-answered g c =
     (rw c.in-Verify.is at c.in-Ok.ensures.asked) c.in-Err-verify_command.ensures.cause
     c.verify_command.ensures.files
     c.report-in-Err-verify_command.ensures
+
+pub returns-in-Ok-check_command-clause-answered : goal.returns-in-Ok-check_command-clause-answered
+returns-in-Ok-check_command-clause-answered g c =
+    check_answered _ _ (check_request c.in-Check.asked) c.in-Ok-check_command.decision
+    (rw c.in-Check.is at c.in-Ok.ensures.asked) c.in-Ok-check_command.ensures.printed
+    c.check_command.ensures.files c.code-in-Ok-check_command.ensures (same_bytes _)
+
+pub returns-in-Err-check_command-clause-answered :
+    goal.returns-in-Err-check_command-clause-answered
+returns-in-Err-check_command-clause-answered g c =
+    check_ended _ _ (check_request c.in-Check.asked) (plain_end c.in-Err-check_command.end)
+    (rw c.in-Check.is at c.in-Ok.ensures.asked) c.in-Err-check_command.ensures.cause
+    c.check_command.ensures.files c.report-in-Err-check_command.ensures
 
 pub returns-in-Ok-drill_command-clause-answered : goal.returns-in-Ok-drill_command-clause-answered
 returns-in-Ok-drill_command-clause-answered g c =

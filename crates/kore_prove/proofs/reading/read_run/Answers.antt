@@ -3,15 +3,18 @@ use Rattle.rule_core.specs.ProgramView.{theory_of}
 use Rattle.kore_rules.specs.Refused.{IsRefusedTerm}
 use Rattle.kore_rules.specs.RefusedTexts.{top_of}
 use Rattle.kore_prove.specs.Requests.{request}
+use Rattle.kore_prove.proofs.Deciding.{definition_of_run}
 use Rattle.kore_prove.proofs.Ending.{FileCause-kept}
 use Rattle.kore_prove.proofs.reading.read_run.Goals as goal
 
 pub returns-in-Err-clause-cause : goal.returns-in-Err-clause-cause
 returns-in-Err-clause-cause g c =
-    c.definition_end.ensures (request c.args.asked.now) (g.D.Desk.state c.args.desk.now).told
+    definition_of_run (request c.args.asked.now) (g.D.Desk.state c.args.desk.now).told
     (g.D.Desk.state c.args.desk.now).read_faults
-    (g.D.Desk.state c.read_program.new.desk).read_faults refl
-    c.in-Err.ensures.cause
+    (g.D.Desk.state c.read_program.new.desk).read_faults _
+    (c.definition_end.ensures (g.D.Desk.state c.args.desk.now).told
+    (g.D.Desk.state c.args.desk.now).read_faults
+    (g.D.Desk.state c.read_program.new.desk).read_faults c.in-Err.ensures.cause)
 
 pub returns-in-Err-read_start-clause-cause : goal.returns-in-Err-read_start-clause-cause
 returns-in-Err-read_start-clause-cause g c =

@@ -3,6 +3,8 @@ use Rattle.std.specs.Prelude.{Err}
 use Rattle.desk_io.specs.declared.desk.DeskFault.{DeskFault}
 use Rattle.kore_prove.specs.Causes.{file_unverified}
 use Rattle.kore_prove.specs.Courses.{Course, course_of}
+use Rattle.kore_prove.specs.Verdicts.{database_limit}
+use Rattle.kore_prove.proofs.Deciding.{database_of_verify}
 use Rattle.kore_prove.proofs.Ending.{same_bytes}
 use Rattle.kore_prove.proofs.Verifying.{verdict_ended}
 use Rattle.kore_prove.proofs.verification.verify_command.Goals as goal
@@ -12,7 +14,10 @@ returns-in-Err-clause-cause g c =
     let course : Course =
     course_of (g.D.Desk.state c.args.desk.now) (g.D.Desk.state c.read_verdict.new.desk)
     (g.O.Sink.state c.args.out.now) (g.O.Sink.state c.args.out.now) in
-    file_unverified (c.unread_end.ensures course c.in-Err.ensures.cause)
+    file_unverified
+    (database_of_verify c.args.file.now course _
+    (c.unread_end.ensures course.desk.told database_limit course.desk.read_faults
+    course.desk'.read_faults c.in-Err.ensures.cause))
     (same_bytes (g.O.Sink.state c.args.out.now).bytes, c.read_verdict.ensures.files)
 
 pub returns-in-Err-send_verdict-clause-cause : goal.returns-in-Err-send_verdict-clause-cause

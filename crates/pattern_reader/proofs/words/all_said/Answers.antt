@@ -9,6 +9,7 @@ use Rattle.pattern_reader.specs.Readings.{texts}
 use Rattle.pattern_reader.specs.Views.{words_of, word_of}
 use Rattle.pattern_reader.specs.declared.words.Word.{Word}
 use Rattle.pattern_reader.proofs.Keeping.{among, said-next, kept_twice}
+use Rattle.pattern_reader.proofs.Keeping.{gains-next}
 use Rattle.pattern_reader.proofs.words.all_said.Goals as goal
 
 -- what is read past the end of the tokens
@@ -45,4 +46,25 @@ loop-token-preserved c =
           ∙ map-append word_of c.loop-token.words.items (c.in-Some.word ∷ []))) more,
       kept_twice c.args.names.now c.loop-token.names c.said.new.names c.loop-token.invariant.1
           c.in_ok-word.ensures.names,
+      gains-next c.args.tokens.now i nowhere c.args.names.now c.loop-token.names
+          c.said.new.names c.loop-token-test.true c.loop-token.invariant.2
+          c.in_ok-word.ensures.gained,
     )
+
+pub returns-in_err-word-clause-gained : goal.returns-in_err-word-clause-gained
+returns-in_err-word-clause-gained c =
+    gains-next c.args.tokens.now c.loop-token.token-index nowhere c.args.names.now
+    c.loop-token.names c.said.new.names c.loop-token-test.true c.loop-token.invariant.2
+    c.in_err-word.ensures.gained
+
+pub returns-in_err-push-in-Some-clause-gained : goal.returns-in_err-push-in-Some-clause-gained
+returns-in_err-push-in-Some-clause-gained c =
+    gains-next c.args.tokens.now c.loop-token.token-index nowhere c.args.names.now
+    c.loop-token.names c.said.new.names c.loop-token-test.true c.loop-token.invariant.2
+    c.in_ok-word.ensures.gained
+
+pub returns-in-None-clause-gained : goal.returns-in-None-clause-gained
+returns-in-None-clause-gained c =
+    gains-next c.args.tokens.now c.loop-token.token-index nowhere c.args.names.now
+    c.loop-token.names c.said.new.names c.loop-token-test.true c.loop-token.invariant.2
+    c.in_ok-word.ensures.gained

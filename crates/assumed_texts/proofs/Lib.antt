@@ -1,0 +1,13 @@
+pub mod Renaming
+pub mod Inversions
+pub mod Binders
+pub mod SmallVariables
+pub mod Reading
+pub mod Deciding
+pub mod SubsortLaws
+pub mod LeadingLaws
+pub mod ConstructorLaws
+pub mod ListingLaws
+pub mod EquationLaws
+pub mod AssumedLaws
+pub mod FilingLaws
