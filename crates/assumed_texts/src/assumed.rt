@@ -46,7 +46,8 @@ impl<'p> Model for Assumed<'p> {
 }
 
 impl<'p> Assumed<'p> {
-    /// Makes the images of the program's rules and equations. An error: out of memory.
+    /// Makes the images of the program's rules and equations. It takes time linear in these. An
+    /// error: out of memory.
     pub fn new(alloc: Global, program: &'p Program) -> Result<Self, AllocError>
         requires { CanBeAssumed program.now }
         ensures { IfOk result (λ a. a ≡ program.now) }

@@ -96,7 +96,7 @@ verify_no_check words file h = λ check k.
     named_both (codes "verify") (codes "check") words
     (λ same. (let lengths : 6 ≡ 5 = ap length same in omega (arith, lengths))) h.named k.named
 
-first_byte : List ℕ → ℕ
+abbrev first_byte : List ℕ → ℕ
 first_byte [] = 0
 first_byte (b ∷ bytes) = b
 

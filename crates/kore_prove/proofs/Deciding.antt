@@ -21,10 +21,24 @@ use Rattle.kore_prove.specs.PlainEnds.{fault_end}
 use Rattle.kore_prove.specs.Reports.{Ending, out_of_memory, bad_words, read_fault, write_fault}
 use Rattle.kore_prove.specs.Reports.{no_such_file, definition_refused, term_refused, too_large}
 use Rattle.kore_prove.specs.RunWords.{RunRequest}
+use Rattle.kore_prove.specs.Limits.{definition_limit}
 use Rattle.kore_prove.specs.Verdicts.{database_limit}
 use Rattle.kore_prove.proofs.CommandWords.{one_check}
 use Rattle.kore_prove.proofs.Ending.{stops}
 use Rattle.desk_io.specs.Sent.{Appends}
+
+-- a definition that was not read as a whole was not accepted
+pub unread_definition : (told : Option Told) (name : List ℕ) (reads reads' : ℕ) (e : Ending)
+    → UnreadEnding told name definition_limit reads reads' e
+    → DefinitionEnding told name reads reads' e
+unread_definition told name reads reads' out_of_memory h = h
+unread_definition told name reads reads' bad_words h = h
+unread_definition told name reads reads' read_fault h = h
+unread_definition told name reads reads' write_fault h = h
+unread_definition told name reads reads' (no_such_file other) h = h
+unread_definition told name reads reads' (definition_refused number byte) h = absurd h
+unread_definition told name reads reads' (term_refused number byte) h = h
+unread_definition told name reads reads' (too_large other) h = h
 
 -- the cause of an end at the definition is a cause of the end of a run, and of a check
 pub definition_of_run : (asked : RunRequest) (told : Option Told) (reads reads' : ℕ) (e : Ending)

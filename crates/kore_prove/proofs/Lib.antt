@@ -4,6 +4,7 @@ pub mod Ending
 pub mod FileProofs
 pub mod Verifying
 pub mod Deciding
+pub mod FewArguments
 pub mod Completing
 pub mod Printing
 pub mod Answering

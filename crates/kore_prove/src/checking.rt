@@ -5,6 +5,7 @@ ghost use Rattle.desk_io.specs.Sent.{Appends};
 ghost use Rattle.desk_io.specs.SinkChanges.{AppendsFront};
 ghost use Rattle.desk_io.specs.Counts.{CountRose};
 ghost use Rattle.rule_core.specs.ProgramView.{theory_of};
+ghost use Rattle.assumed_texts.specs.AssumedTexts.{CanBeAssumed};
 ghost use Rattle.mm_check.specs.OffenceNumbers.{offence_number};
 ghost use Rattle.kore_prove.specs.Causes.{CheckCause, CheckReadCause};
 ghost use Rattle.kore_prove.specs.Checks.{unjustified_line};
@@ -13,14 +14,13 @@ ghost use Rattle.kore_prove.specs.Decisions.{IsDecisionOn, HoldsDecision, Prints
 ghost use Rattle.kore_prove.specs.Decisions.{decision_code, decision_lines};
 ghost use Rattle.kore_prove.specs.PlainEnds.{plain_end};
 ghost use Rattle.kore_prove.specs.Requests.{check_request};
-ghost use Rattle.kore_prove.specs.Runnable.{IsProgram};
 
 use crate::files::read_program;
 use crate::reading::{definition_end, unread_end};
 use crate::report::{End, send_pieces, write_end};
-use crate::verification::{DATABASE_LIMIT, send_invalid};
+use crate::verification::{read_database, send_invalid};
 use command_words::CheckWords;
-use desk_io::{Desk, DeskFault, Sink, read_file, send_whole};
+use desk_io::{Desk, DeskFault, Sink, send_whole};
 use itoa::Buffer;
 use mm_check::{CheckEnd, Offence, check};
 use mm_text::MmFault;
@@ -95,7 +95,7 @@ fn read_decision<'a, D: Desk>(
         Ok(program) => program,
         Err(end) => return Err(definition_end(end, asked.definition)),
     };
-    let bytes = match read_file(alloc, desk, asked.file, DATABASE_LIMIT) {
+    let bytes = match read_database(alloc, desk, asked.file) {
         Ok(bytes) => bytes,
         Err(end) => return Err(unread_end(end, asked.file)),
     };
@@ -107,7 +107,7 @@ fn read_decision<'a, D: Desk>(
 
 /// The decision on these bytes, over a program.
 fn decision_on(alloc: Global, program: &Program, bytes: &[u8]) -> Result<Decision, AllocError>
-    requires { IsProgram program.now }
+    requires { CanBeAssumed program.now }
     ensures { IfOk result (IsDecisionOn (theory_of program.now) bytes.now) }
 {
     match check(alloc, program, bytes) {

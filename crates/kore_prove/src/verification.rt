@@ -7,7 +7,8 @@ ghost use Rattle.desk_io.specs.Counts.{CountRose};
 ghost use Rattle.kore_prove.specs.FileCauses.{UnreadCause};
 ghost use Rattle.kore_prove.specs.Causes.{VerifyCause};
 ghost use Rattle.kore_prove.specs.Courses.{course_of};
-ghost use Rattle.kore_prove.specs.Verdicts.{valid_line, invalid_line};
+ghost use Rattle.kore_prove.specs.Limits.{HoldsWithin};
+ghost use Rattle.kore_prove.specs.Verdicts.{database_limit, valid_line, invalid_line};
 ghost use Rattle.kore_prove.specs.PlainEnds.{plain_end};
 ghost use Rattle.kore_prove.specs.DatabaseVerdicts.{IsVerdictOn, HoldsDatabase, PrintsVerdictOn};
 ghost use Rattle.kore_prove.specs.DatabaseVerdicts.{verdict_code, verdict_line};
@@ -21,7 +22,7 @@ use mm_verify::{Report, VerifyEnd, verify};
 use std::alloc::{AllocError, Global};
 
 /// The greatest number of bytes of a database.
-pub const DATABASE_LIMIT: usize = 268_435_456;
+const DATABASE_LIMIT: usize = 268_435_456;
 
 /// The verdict on a database.
 #[derive(Clone, Copy)]
@@ -73,18 +74,32 @@ pub fn verify_command<'a, D: Desk, O: Sink>(
 fn read_verdict<D: Desk>(alloc: Global, desk: &mut D, name: &str) -> Result<Verdict, ReadEnd>
     ensures found { IfOk result (HoldsDatabase (D.state desk.old).told name.now) }
     ensures cause { IfErr result (UnreadCause
-        (D.state desk.old).told name.now DATABASE_LIMIT (D.state desk.old).read_faults
+        (D.state desk.old).told name.now database_limit (D.state desk.old).read_faults
         (D.state desk.new).read_faults) }
     ensures files { KeepsFiles (D.state desk.old).told (D.state desk.new).told }
     ensures created { D.created desk.new ≡ D.created desk.old }
 {
-    match read_file(alloc, desk, name, DATABASE_LIMIT) {
+    match read_database(alloc, desk, name) {
         Ok(bytes) => match verdict_on(alloc, &bytes) {
             Ok(verdict) => Ok(verdict),
             Err(_) => Err(ReadEnd::Memory),
         },
         Err(end) => Err(end),
     }
+}
+
+/// The bytes of the file of that name, if they are within the limit of a database.
+pub fn read_database<D: Desk>(alloc: Global, desk: &mut D, name: &str) -> Result<Vec<u8>, ReadEnd>
+    ensures held { IfOk result (λ bytes. HoldsWithin
+        (D.state desk.old).told name.now database_limit bytes.items) }
+    ensures cause { IfErr result (UnreadCause
+        (D.state desk.old).told name.now database_limit (D.state desk.old).read_faults
+        (D.state desk.new).read_faults) }
+    ensures counts { (D.state desk.old).read_faults ≤ (D.state desk.new).read_faults }
+    ensures files { KeepsFiles (D.state desk.old).told (D.state desk.new).told }
+    ensures created { D.created desk.new ≡ D.created desk.old }
+{
+    read_file(alloc, desk, name, DATABASE_LIMIT)
 }
 
 /// The verdict on these bytes.

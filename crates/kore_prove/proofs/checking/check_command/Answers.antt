@@ -17,8 +17,8 @@ returns-in-Err-clause-cause g c =
     check_undecided c.in-Err.ensures.cause
     (same_bytes (g.O.Sink.state c.args.out.now).bytes, c.read_decision.ensures.files)
 
-pub returns-in-Err-send_decision-clause-cause : goal.returns-in-Err-send_decision-clause-cause
-returns-in-Err-send_decision-clause-cause g c =
+pub returns-clause-cause : goal.returns-clause-cause
+returns-clause-cause g c =
     decision_ended _ (check_request c.args.asked.now) c.in-Ok.decision _
     c.in-Err-send_decision.fault c.write_end.ensures c.in-Ok.ensures.found
     (λ is. c.in-Err-send_decision.ensures.failed (ap (λ (f : DeskFault). Err f) is))
