@@ -286,15 +286,15 @@ check_no_run : (words : List (List ℕ)) (asked : CheckRequest) (d : Decision) (
     → IsCheck words asked → code ≡ decision_code d → IsCodeOfRun words code → P
 check_no_run words asked d code P command is h = absurd (elim h [
   | inl ten ↦ elim (code_of_decision d code is) [
-      | inl zero ↦ omega (arith, ten, zero)
-      | inr (inl twelve) ↦ omega (arith, ten, twelve)
-      | inr (inr thirteen) ↦ omega (arith, ten, thirteen)
-    ]
+    | inl zero ↦ omega (arith, ten, zero)
+    | inr (inl twelve) ↦ omega (arith, ten, twelve)
+    | inr (inr thirteen) ↦ omega (arith, ten, thirteen)
+  ]
   | inr (inl eleven) ↦ elim (code_of_decision d code is) [
-      | inl zero ↦ omega (arith, eleven, zero)
-      | inr (inl twelve) ↦ omega (arith, eleven, twelve)
-      | inr (inr thirteen) ↦ omega (arith, eleven, thirteen)
-    ]
+    | inl zero ↦ omega (arith, eleven, zero)
+    | inr (inl twelve) ↦ omega (arith, eleven, twelve)
+    | inr (inr thirteen) ↦ omega (arith, eleven, thirteen)
+  ]
   | inr (inr zero) ↦ zero.2 asked command
 ])
 

@@ -1,5 +1,5 @@
 // What databases justify over a definition.
-use crate::test_calls::{BASE, Case, PROVES, call, first_failing};
+use crate::test_calls::{BASE, Case, Faults, PROVES, call, call_with, first_failing};
 use crate::test_definitions::SAME_PAIR;
 use std::alloc::{AllocError, Global};
 use std::test::Fail;
@@ -95,6 +95,30 @@ fn a_proof_is_one_over_its_definition_only(rt: HostRuntime) -> Result<(), Fail> 
     let checked = first_wrong(rt.alloc(), proof.as_deref().unwrap_or(""))?;
     assert_eq!(rt; checked, None);
     Ok(())
+}
+
+/// Whether the check of a proof over a definition says that it is justified.
+pub(crate) fn is_justified(
+    alloc: Global,
+    definition: &str,
+    proof: &[u8],
+) -> Result<bool, AllocError> {
+    let Ok(text) = str::from_utf8(proof) else {
+        return Ok(false);
+    };
+    let over = Case {
+        definition,
+        term: text,
+        ..CHECKS
+    };
+    let faults = Faults {
+        most: 100_000,
+        desk: &[],
+        out: &[],
+        err: &[],
+    };
+    let left = call_with(alloc, &over, faults)?;
+    Ok(left.code == 0)
 }
 
 /// The text of the proof of the run of two steps.

@@ -1,4 +1,5 @@
 // Runs that write their proofs.
+use crate::check_tests::is_justified;
 use crate::height_tests::nested;
 use crate::test_calls::{BASE, Case, PROVES, call};
 use crate::test_definitions::*;
@@ -223,7 +224,8 @@ fn a_run_that_computes_leaves_its_proof(rt: HostRuntime) -> Result<(), Fail> {
     Ok(())
 }
 
-/// The number of the first case with another result, or without a valid proof of what it states.
+/// The number of the first case with another result, or without a valid proof of what it states that
+/// is justified over its definition.
 pub(crate) fn first_unproved(
     alloc: Global,
     cases: &[(Case<'_>, &str)],
@@ -232,6 +234,9 @@ pub(crate) fn first_unproved(
         let (desk, holds) = call(alloc, case)?;
         let database = desk.file("p.mm").unwrap_or_default();
         if !holds || last_stated(database) != Some(*stated) || verify(alloc, database).is_err() {
+            return Ok(Some(number));
+        }
+        if !is_justified(alloc, case.definition, database)? {
             return Ok(Some(number));
         }
     }
