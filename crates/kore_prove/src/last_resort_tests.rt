@@ -77,7 +77,9 @@ static PROOFS: [(Case<'static>, &str); 8] = [
     ),
     (
         Case {
-            term: r#"n{}(isResult{}(inj{Exp{},Item{}}(plus{}(inj{SortInt{},Exp{}}(\dv{SortInt{}}("1")),inj{SortInt{},Exp{}}(\dv{SortInt{}}("2"))))))"#,
+            term: r#"n{}(isResult{}(inj{Exp{},Item{}}(plus{}(
+                inj{SortInt{},Exp{}}(\dv{SortInt{}}("1")),
+                inj{SortInt{},Exp{}}(\dv{SortInt{}}("2"))))))"#,
             out: "stuck 0\nn{}(\\dv{SortBool{}}(\"false\"))\n",
             ..IS_RESULT_PROVED
         },
@@ -99,7 +101,10 @@ static PROOFS: [(Case<'static>, &str); 8] = [
     // two guards are denied, since the variable of both arguments would be two numbers
     (
         Case {
-            term: r#"t{}(at{}(\dv{SortInt{}}("3"),pair{}(\dv{SortInt{}}("1"),\dv{SortInt{}}("5"),pair{}(\dv{SortInt{}}("2"),\dv{SortInt{}}("6"),pair{}(\dv{SortInt{}}("3"),\dv{SortInt{}}("7"),nil{}())))))"#,
+            term: r#"t{}(at{}(\dv{SortInt{}}("3"),
+                pair{}(\dv{SortInt{}}("1"),\dv{SortInt{}}("5"),
+                pair{}(\dv{SortInt{}}("2"),\dv{SortInt{}}("6"),
+                pair{}(\dv{SortInt{}}("3"),\dv{SortInt{}}("7"),nil{}())))))"#,
             out: "stuck 0\nt{}(\\dv{SortInt{}}(\"7\"))\n",
             ..LOOK_UP_PROVED
         },
