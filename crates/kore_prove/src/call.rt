@@ -46,9 +46,10 @@ pub struct Status {
 /// verification prints the line of the verdict on the database. A check reads a definition and a
 /// database, and prints what the database justifies over the definition's program, or what is wrong
 /// first. A drill runs a definition of its own, writes the proof to its file, and prints the two
-/// lines of the run and one line with the counts of the file. If the call does not print these lines, `err` gets one line that states the
-/// reason, and the file of the proof is as before or holds the front of a proof. The output then
-/// got nothing, or a part of the lines from the front; the proof is whole before the first of them.
+/// lines of the run and one line with the counts of the file. If the call does not print these
+/// lines, `err` gets one line that states the reason, and the file of the proof is as before or
+/// holds the front of a proof. The output then got nothing, or a part of the lines from the front;
+/// the proof is whole before the first of them.
 ///
 /// The status has the exit code. A run: 0 if it is stuck, 10 if it reached its limit, 11 if it is
 /// blocked. A verification: 0 if the database is valid, 12 if it is not. A check: 0 if the database
