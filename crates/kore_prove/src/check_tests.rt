@@ -34,7 +34,7 @@ static REFUSED: [Case<'static>; 9] = [
     Case {
         term: "$c t $. p $p t $= $.",
         code: 12,
-        out: "invalid 14 at 8\n",
+        out: "invalid 12 at 8\n",
         ..CHECKS
     },
     Case {
@@ -83,7 +83,7 @@ static OVER: [Case<'static>; 2] = [
     },
     Case {
         definition: SAME_PAIR,
-        out: "unjustified 3 at 5964\n",
+        out: "unjustified 3 at 5978\n",
         ..CHECKS
     },
 ];
