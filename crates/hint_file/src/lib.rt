@@ -1,0 +1,13 @@
+// Hint files: the steps of a path as a text.
+//
+// A hint text lists the steps of a run, or of another path, in which each step is by some rule that
+// applies (specs/Paths.antt). specs/HintTexts.antt defines the text. `start_hints` writes its first
+// two lines, and `push_hint` the line of a step. `hint_laws` says that the text of a longer path is
+// the text of the path and one more line.
+#![tactic(auto)]
+
+mod laws;
+mod writing;
+
+pub use laws::hint_laws;
+pub use writing::{push_hint, start_hints};
