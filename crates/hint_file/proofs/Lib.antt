@@ -1,1 +1,5 @@
 mod Growing
+mod Cutting
+mod DigitNumbers
+mod RuleSteps
+mod RuleNumbers

@@ -6,8 +6,15 @@
 // the text of the path and one more line.
 #![tactic(auto)]
 
+mod ends;
 mod laws;
+mod lines;
+mod places;
+mod reading;
+mod steps;
 mod writing;
 
+pub use ends::HintEnd;
 pub use laws::hint_laws;
+pub use reading::HintPath;
 pub use writing::{push_hint, start_hints};

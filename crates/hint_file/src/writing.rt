@@ -9,10 +9,11 @@ ghost use Rattle.rule_core.specs.RecordView.{plain_record, plain_step};
 ghost use Rattle.kore_show.specs.KorePatterns.{kore_pattern};
 ghost use Rattle.hint_file.specs.HintTexts.{first_lines, joined, shown_text, stated_line};
 
+use crate::places::rule_of;
 use itoa::Buffer;
 use kore_print::print_pattern;
 use kore_show::shown;
-use rule_core::{Program, Rule, Signature, StepRecord};
+use rule_core::{Program, Signature, StepRecord};
 use std::alloc::{AllocError, Global};
 use term_core::{RulePat, pattern_of};
 
@@ -72,18 +73,14 @@ pub fn push_hint(
 }
 
 // The canonical text of a pattern.
-fn text_of(alloc: Global, sig: &Signature, pattern: &RulePat) -> Result<String, AllocError>
+pub(crate) fn text_of(
+    alloc: Global,
+    sig: &Signature,
+    pattern: &RulePat,
+) -> Result<String, AllocError>
     requires { IsSome (kore_pattern sig.now (plain_pattern pattern.now)) }
     ensures { IfOk result
         (λ text. shown_text sig.now (plain_pattern pattern.now) ≡ Some (string_bytes text)) }
 {
     print_pattern(alloc, &shown(alloc, sig, pattern)?)
-}
-
-// The rule with this number.
-fn rule_of(program: &Program, number: u32) -> &Rule
-    requires { number < length (theory_of program.now).rules }
-    ensures { slice_get (theory_of program.now).rules number ≡ Some (rewrite_rule result.now) }
-{
-    &program.rules[number as usize]
 }
