@@ -41,10 +41,10 @@ cut_found b xs k lt before at =
     ∙ ap (λ (n : ℕ). Some (take k xs, drop n xs)) (sym (add-one k))
     ∙ ap (λ (u : List ℕ). Some (take k xs, u)) (sym whole)
 
--- the option has a second part that is shorter
+-- the option has parts that are shorter together
 abbrev LeavesLess : ℕ → Option (List ℕ × List ℕ) → Type 0
 LeavesLess n None = Unit {0}
-LeavesLess n (Some p) = length p.1 < n
+LeavesLess n (Some p) = length p.0 + length p.1 < n
 
 put_before : (n x : ℕ) (o : Option (List ℕ × List ℕ)) → LeavesLess n o
     → LeavesLess (suc n) (option_map (λ (p : List ℕ × List ℕ). (x ∷ p.0, p.1)) o)
@@ -60,7 +60,7 @@ leaves_less : (b : ℕ) (xs : List ℕ) → LeavesLess (length xs) (cut_at b xs)
 leaves_less b [] = tt
 leaves_less b (x ∷ xs) = cut_here b x xs (x == b) refl (leaves_less b xs)
 
--- what follows the first such byte is shorter
+-- what stands before the first such byte, and what follows it, are shorter together
 pub cut_shorter : (b : ℕ) (xs line more : List ℕ) → cut_at b xs ≡ Some (line, more)
-    → length more < length xs
+    → length line + length more < length xs
 cut_shorter b xs line more h = subst (LeavesLess (length xs)) h (leaves_less b xs)

@@ -3,3 +3,6 @@ mod Cutting
 mod DigitNumbers
 mod RuleSteps
 mod RuleNumbers
+mod LineAnswers
+mod StepsRead
+mod FileRead

@@ -23,8 +23,8 @@ pub data FileOutcome : Type 0 where
 -- many calls left
 pub data ReadsSteps (theory : RewriteTheory) : ℕ → Tree → ℕ → List ℕ → FileOutcome → Type 0 where
   all_read : {n c : ℕ} {t : Tree} → ReadsSteps theory n t c [] no_bad_line
-  not_ended : {n c b : ℕ} {t : Tree} {bytes : List ℕ} → cut_at 10 (b ∷ bytes) ≡ None
-      → ReadsSteps theory n t c (b ∷ bytes) (bad_line n 1)
+  not_ended : {n c : ℕ} {t : Tree} {bytes : List ℕ} → (bytes ≡ [] → ⊥) → cut_at 10 bytes ≡ None
+      → ReadsSteps theory n t c bytes (bad_line n 1)
   bad_step : {n c k : ℕ} {t : Tree} {bytes line more : List ℕ}
       → cut_at 10 bytes ≡ Some (line, more) → ReadsLine theory t c line (bad k)
       → ReadsSteps theory n t c bytes (bad_line n k)

@@ -8,7 +8,7 @@ ghost use Rattle.kore_sig.specs.Numbered.{IsNumbered};
 ghost use Rattle.kore_rules.specs.RefusedTexts.{top_of, IsSortOfRules};
 ghost use Rattle.kore_show.specs.KorePatterns.{kore_pattern};
 ghost use Rattle.rewriter.specs.Configurations.{IsConfiguration};
-ghost use Rattle.hint_file.specs.HintTexts.{shown_text};
+ghost use Rattle.hint_file.specs.HintTexts.{first_line, shown_text};
 ghost use Rattle.hint_file.specs.HintFiles.{ReadsHints, ReadsSteps, RecordsLines, no_bad_line};
 ghost use Rattle.hint_file.specs.ReadPaths.{IsFirstBad, IsPathOf};
 ghost use Rattle.hint_file.specs.ReadAnswers.{AnswersLine, NumbersRules};
@@ -20,7 +20,6 @@ use crate::steps::step_by;
 use crate::writing::text_of;
 use fun_eval::{Engine, EvalEnd};
 use kore_rules::{Refusal, accept_term};
-use kore_show::shown_laws;
 use rewriter::Run;
 use rule_core::{EvalRecord, Program, Signature, StepRecord};
 use std::alloc::{AllocError, Global};
@@ -66,7 +65,7 @@ impl HintPath {
         let Some((line, rest)) = cut_at(b'\n', bytes) else {
             return Err(HintEnd::Bad(1, 1));
         };
-        if line != "kore-hints 1".as_bytes() {
+        if !is_first_line(line) {
             return Err(HintEnd::Bad(1, 1));
         }
         let Some((line, more)) = cut_at(b'\n', rest) else {
@@ -91,6 +90,13 @@ impl HintPath {
     }
 }
 
+// Whether the line is line 1 of a hint file.
+fn is_first_line(line: &[u8]) -> bool
+    ensures { IsTrue result ↔ (line.now ≡ first_line) }
+{
+    line == "kore-hints 1".as_bytes()
+}
+
 // The steps of the lines after line 2.
 fn read_steps(
     alloc: Global,
@@ -111,19 +117,19 @@ fn read_steps(
 {
     let numbers = rule_numbers(alloc, engine.program())?;
     let mut steps = Vec::new(alloc);
-    let mut config = config.share()?;
-    let mut calls = calls;
+    let mut last = config.share()?;
+    let mut left = calls;
     let mut rest = bytes;
     let mut number: u64 = 3;
     while !rest.is_empty() {
         let Some((line, more)) = cut_at(b'\n', rest) else {
             return Err(HintEnd::Bad(number, 1));
         };
-        match read_line(alloc, engine, &numbers, &config, calls, line) {
-            Ok((step, left)) => {
-                config = step.right.result().share()?;
+        match read_line(alloc, engine, &numbers, &last, left, line) {
+            Ok((step, calls)) => {
+                last = step.right.result().share()?;
                 steps.push(step)?;
-                calls = left;
+                left = calls;
             }
             Err(LineEnd::Bad(k)) => return Err(HintEnd::Bad(number, k)),
             Err(LineEnd::Memory) => return Err(HintEnd::Memory),
