@@ -9,7 +9,9 @@ use Rattle.rule_core.specs.Records.{Record, StepRecord, Records, result_of}
 use Rattle.rule_core.specs.Runs.{Reaches, at_start, after_step}
 use Rattle.fun_eval.specs.EvalEnds.{EndsBy}
 use Rattle.fun_eval.specs.declared.answer.EvalEnd.TheVariants as eval_end
+use Rattle.rule_core.specs.ProgramView.{theory_of}
 use Rattle.rule_core.specs.declared.rules.Blocked.{Blocked}
+use Rattle.rule_core.specs.declared.rules.Program.{Program}
 use Rattle.kore_rules.specs.Acceptance.{IsAcceptedTerm}
 use Rattle.hint_file.specs.HintTexts.{first_line}
 use Rattle.hint_file.specs.HintLines.{cut_at}
@@ -26,9 +28,14 @@ begun_at : {theory : RewriteTheory} {start : Pattern} {calls n c : ℕ} {t : Tre
 begun_at (at_start e) is = e
 begun_at (after_step before step) is = absurd (let no : ⊥ = cc in no)
 
-pub begun : (theory : RewriteTheory) (start : Pattern) (calls c : ℕ) (t : Tree)
-    → Reaches theory start calls 0 t c → Evaluates theory most_nesting [] start calls (value t c)
-begun theory start calls c t reached = begun_at reached refl
+pub begun : (p q : Program) (start : Pattern) (calls c d : ℕ) (t u : Tree)
+    → Reaches (theory_of q) start calls 0 t c → q ≡ p → u ≡ t → d ≡ c
+    → Evaluates (theory_of p) most_nesting [] start calls (value u d)
+begun p q start calls c d t u reached same term left =
+    subst (λ (r : Program). Evaluates (theory_of r) most_nesting [] start calls (value u d)) same
+    (subst (λ (v : Tree). Evaluates (theory_of q) most_nesting [] start calls (value v d))
+    (sym term) (subst (λ (n : ℕ). Evaluates (theory_of q) most_nesting [] start calls (value t n))
+    (sym left) (begun_at reached refl)))
 
 pub has_term_line : (bytes first rest line more : List ℕ) → first ≡ first_line
     → cut_at 10 bytes ≡ Some (first, rest) → cut_at 10 rest ≡ Some (line, more)
@@ -65,11 +72,11 @@ pub file_read : (theory : RewriteTheory) (top : Option ℕ) (calls c : ℕ) (byt
     → IsReadPath theory top calls bytes start first steps
 file_read theory top calls c bytes line more start t first steps lines accepted evaluated recorded is
     stepped read = record {
-  line = line;
-  more = more;
-  lines = lines;
-  accepted = accepted;
-  recorded = recorded;
-  stepped = subst (λ (u : Tree). RecordsLines theory u more steps) (sym is) stepped;
-  found = steps_read lines accepted evaluated read;
-}
+      line = line;
+      more = more;
+      lines = lines;
+      accepted = accepted;
+      recorded = recorded;
+      stepped = subst (λ (u : Tree). RecordsLines theory u more steps) (sym is) stepped;
+      found = steps_read lines accepted evaluated read;
+    }

@@ -24,17 +24,17 @@ pub number_there : (rules : List RewriteRule) (i byte number : ℕ)
 number_there [] i byte number h = absurd (let no : ⊥ = cc in no)
 number_there (rule ∷ rules) i byte number h = by (rule.place == byte) refl
     (number_there rules (i + 1) byte number) where
-  by : (t : Bool) → (rule.place == byte) ≡ t
-      → (number_from (i + 1) rules byte ≡ Some number
-      → (k : ℕ) × (number ≡ i + 1 + k) × (other : RewriteRule)
-      × (slice_get rules k ≡ Some other))
-      → (k : ℕ) × (number ≡ i + k) × (other : RewriteRule)
-      × (slice_get (rule ∷ rules) k ≡ Some other)
-  by true is later =
-      let same : Some i ≡ Some number = rw is at h in
-      let e : i ≡ number = cc in (0, omega arith, rule, refl)
-  by false is later =
-      let l = later (rw is at h) in (suc l.0, omega (arith, l.1), l.2, l.3)
+      by : (t : Bool) → (rule.place == byte) ≡ t
+          → (number_from (i + 1) rules byte ≡ Some number
+          → (k : ℕ) × (number ≡ i + 1 + k) × (other : RewriteRule)
+          × (slice_get rules k ≡ Some other))
+          → (k : ℕ) × (number ≡ i + k) × (other : RewriteRule)
+          × (slice_get (rule ∷ rules) k ≡ Some other)
+      by true is later =
+          let same : Some i ≡ Some number = rw is at h in
+          let e : i ≡ number = cc in (0, omega arith, rule, refl)
+      by false is later =
+          let l = later (rw is at h) in (suc l.0, omega (arith, l.1), l.2, l.3)
 
 same_key : (a b : ℕ) → is_at (nat_cmp a) b ≡ (a == b)
 same_key a b = grind (arith, common_steps)

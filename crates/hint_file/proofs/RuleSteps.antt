@@ -51,19 +51,19 @@ pub only_own : (theory : RewriteTheory) (t : Tree) (i : ℕ) (r : Rule) (rules :
     → rules ≡ r ∷ [] → All MatchesByOwnVariables rules
 only_own theory t i r rules is there one =
     subst (λ (rs : List Rule). All MatchesByOwnVariables rs) (sym one) all where
-  use_own : MatchesByOwnVariables r
-  use_own x stands =
-      let rule : RewriteRule = rewrite_rule r in
-      let fits = triable theory t i rule is there in
-      let many : vec_len r.vars ≡ length rule.variables = count_of r (vec_len r.vars) refl in
-      let lt : x < length rule.variables =
-      sorted_use_first theory.sig rule.variables [] (more_patterns rule.left no_pattern)
-      (Sort (record { 0 = fits.0 }) ∷ []) (fits.0, refl, fits.1.left, tt) x stands in
-      omega arith
+      use_own : MatchesByOwnVariables r
+      use_own x stands =
+          let rule : RewriteRule = rewrite_rule r in
+          let fits = triable theory t i rule is there in
+          let many : vec_len r.vars ≡ length rule.variables = count_of r (vec_len r.vars) refl in
+          let lt : x < length rule.variables =
+          sorted_use_first theory.sig rule.variables [] (more_patterns rule.left no_pattern)
+          (Sort (record { 0 = fits.0 }) ∷ []) (fits.0, refl, fits.1.left, tt) x stands in
+          omega arith
 
-  all : All MatchesByOwnVariables (r ∷ [])
-  all zero d lt = use_own
-  all (suc k) d lt = absurd (omega arith)
+      all : All MatchesByOwnVariables (r ∷ [])
+      all zero d lt = use_own
+      all (suc k) d lt = absurd (omega arith)
 
 one_there : (rule other : RewriteRule) (i : ℕ) → slice_get (rule ∷ []) i ≡ Some other
     → other ≡ rule

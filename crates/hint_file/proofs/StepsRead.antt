@@ -36,8 +36,13 @@ pub records_on : (theory : RewriteTheory) (first t u : Tree) (all bytes line mor
     → RecordsLines theory first all (map plain_step (done ++ (s ∷ [])) ++ ss)
 records_on theory first t u all bytes line more done s before cut record_of is ss later =
     subst (RecordsLines theory first all) (sym (listed_on done s ss))
-    (before (plain_step s ∷ ss) (line, more, cut, record_of,
-    subst (λ (v : Tree). RecordsLines theory v more ss) is later))
+    (before (plain_step s ∷ ss) (
+      line,
+      more,
+      cut,
+      record_of,
+      subst (λ (v : Tree). RecordsLines theory v more ss) is later,
+    ))
 
 pub records_end : (theory : RewriteTheory) (first t : Tree) (all : List ℕ)
     (done : List StepRecord)

@@ -14,11 +14,22 @@ loop-digit-init c =
 
 pub overflow_mul-number : goal.overflow_mul-number
 overflow_mul-number c =
-    omega (arith, at_least c.loop-digit.number (drop c.loop-digit.digit-index c.args.digits.now),
-    c.loop-digit.invariant.value, c.loop-digit.invariant.small)
+    omega (
+      arith,
+      at_least c.loop-digit.number (drop c.loop-digit.digit-index c.args.digits.now),
+      c.loop-digit.invariant.value,
+      c.loop-digit.invariant.small,
+    )
 
 pub overflow_add-number : goal.overflow_add-number
 overflow_add-number c =
-    omega (arith, at_least c.loop-digit.number (drop c.loop-digit.digit-index c.args.digits.now),
-    c.loop-digit.invariant.value, c.loop-digit.invariant.small, c.from.ensures, c.from.auto,
-    c.saturating_sub.auto, c.saturating_sub.ensures)
+    omega (
+      arith,
+      at_least c.loop-digit.number (drop c.loop-digit.digit-index c.args.digits.now),
+      c.loop-digit.invariant.value,
+      c.loop-digit.invariant.small,
+      c.from.ensures,
+      c.from.auto,
+      c.saturating_sub.auto,
+      c.saturating_sub.ensures,
+    )

@@ -33,8 +33,11 @@ returns-in-Err-Bad-clause-bad c =
 
 pub loop-rest-smaller : goal.loop-rest-smaller
 loop-rest-smaller c =
-    omega (arith, cut_shorter 10 c.loop-rest.rest.now c.in-Some.line.now c.in-Some.more.now
-    c.in-Some.ensures.found)
+    omega (
+      arith,
+      cut_shorter 10 c.loop-rest.rest.now c.in-Some.line.now c.in-Some.more.now
+          c.in-Some.ensures.found,
+    )
 
 pub loop-rest-preserved : goal.loop-rest-preserved
 loop-rest-preserved c =
