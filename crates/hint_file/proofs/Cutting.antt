@@ -1,8 +1,7 @@
 -- A list of bytes is cut at the first such byte.
-use Rattle.std.proofs.Common.{◌≡◌, ℕ, zero, suc, ◌+◌, ◌-◌, ◌<◌, ◌≤◌, ◌==◌, true, false, Bool, List, []}
+use Rattle.std.proofs.Common.{◌≡◌, ℕ, zero, suc, ◌+◌, ◌-◌, ◌<◌, ◌==◌, true, false, Bool, List, []}
 use Rattle.std.proofs.Common.{◌∷◌, length, take, drop, Some, None, refl, sym, ◌∙◌, ap, arith, subst}
 use Rattle.std.proofs.Common.{add-one}
-use Rattle.std.proofs.Common.{rules}
 use Rattle.std.specs.Prelude.{option_map, Option}
 use Rattle.std.proofs.lemmas.List.{take_all, length-drop}
 use Rattle.memchr.specs.Find.{Passes, Nowhere, is_byte}

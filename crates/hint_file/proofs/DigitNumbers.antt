@@ -1,12 +1,12 @@
 -- The number of at most ten digits, digit by digit.
 use Rattle.std.proofs.Common.{◌≡◌, ℕ, ◌+◌, ◌-◌, ◌*◌, ◌<◌, ◌≤◌, ◌^◌, true, List, [], ◌∷◌, length}
-use Rattle.std.proofs.Common.{Some, None, refl, sym, ◌∙◌, ap, arith, rules}
+use Rattle.std.proofs.Common.{Some, refl, arith, rules}
 use Rattle.std.specs.Str.{all_ascii_digits}
 use Rattle.std.proofs.lemmas.Bool.{lt-ltb, le-leb}
 use Rattle.std.proofs.lemmas.Int.Digits.{digits_value-lt}
 use Rattle.std.proofs.lemmas.Str.Parse.{IsNumeralModel, numerals_by_fold}
 use native.Mathlib.Nat.{pow-le-pow_right}
-use Rattle.kore_check.specs.ValueTexts.{append_digits, number_of_digits}
+use Rattle.kore_check.specs.ValueTexts.{append_digits}
 use Rattle.hint_file.specs.HintLines.{short_number}
 
 own : IsNumeralModel (λ ds. all_ascii_digits ds ≡ true) (append_digits 0)

@@ -3,13 +3,12 @@ use Rattle.std.proofs.Common.{◌≡◌, ℕ, List, [], ◌∷◌, ◌++◌, Opt
 use Rattle.std.specs.Prelude.{slice_get}
 use Rattle.std.proofs.lemmas.List.{append-nil, append_assoc}
 use Rattle.term_core.specs.Terms.{Tree}
-use Rattle.term_core.specs.Patterns.{Pattern}
 use Rattle.rule_core.specs.Rules.{RewriteRule}
 use Rattle.rule_core.specs.Theories.{RewriteTheory}
 use Rattle.rule_core.specs.Runs.{steps_on}
 use Rattle.rule_core.specs.declared.signature.Signature.{Signature}
 use Rattle.hint_file.specs.Paths.{StepsBy, PathStep, Leads, no_step, step_by}
-use Rattle.hint_file.specs.HintTexts.{joined, first_lines, step_line, step_lines, hint_text}
+use Rattle.hint_file.specs.HintTexts.{joined, first_lines, step_line, step_lines}
 use Rattle.hint_file.specs.HintLaws.{PathsGrow, TextsGrow}
 
 leads_on : {theory : RewriteTheory} {t u : Tree} {c d : ℕ} {steps : List PathStep} (i e : ℕ)

@@ -1,7 +1,7 @@
 -- What a line is found to be.
-use Rattle.std.proofs.Common.{◌≡◌, ℕ, ◌+◌, ◌<◌, List, length, Option, Some, None, sym, ◌∙◌, ap, subst}
+use Rattle.std.proofs.Common.{◌≡◌, ℕ, ◌<◌, List, length, Some, sym, ◌∙◌, ap, subst}
 use Rattle.std.proofs.Common.{arith}
-use Rattle.std.specs.Prelude.{slice_get, IsSome, Ok, Err}
+use Rattle.std.specs.Prelude.{IsSome, Ok}
 use Rattle.std.proofs.lemmas.Option.{slice_get_within}
 use Rattle.term_core.specs.Terms.{Tree}
 use Rattle.term_core.specs.Patterns.{ground_pattern}
@@ -10,14 +10,14 @@ use Rattle.rule_core.specs.Theories.{RewriteTheory}
 use Rattle.rule_core.specs.WellSorted.{IsWellSorted}
 use Rattle.rule_core.specs.ProgramView.{theory_of}
 use Rattle.rule_core.specs.Records.{result_of}
-use Rattle.rule_core.specs.RecordView.{plain_record, plain_step}
+use Rattle.rule_core.specs.RecordView.{plain_record}
 use Rattle.rule_core.specs.declared.records.StepRecord.{StepRecord}
 use Rattle.rule_core.specs.declared.rules.Program.{Program}
 use Rattle.kore_show.specs.KorePatterns.{kore_pattern}
 use Rattle.kore_show.proofs.SortedShown.{sorted-shown}
 use Rattle.rewriter.specs.Configurations.{IsConfiguration}
 use Rattle.hint_file.specs.HintTexts.{shown_text}
-use Rattle.hint_file.specs.HintLines.{NamesRule, line_parts, rule_number, bad, step_read, other_text}
+use Rattle.hint_file.specs.HintLines.{NamesRule, rule_number, bad, step_read, other_text}
 use Rattle.hint_file.specs.HintLines.{ReadsLine}
 use Rattle.hint_file.specs.ReadAnswers.{TakesStepBy, AnswersLine}
 use Rattle.hint_file.proofs.RuleNumbers.{number_there}

@@ -1,7 +1,7 @@
 -- A step by one rule.
-use Rattle.std.proofs.Common.{◌≡◌, ℕ, zero, suc, ◌<◌, ◌≤◌, List, [], ◌∷◌, length, inl, Option, Some}
-use Rattle.std.proofs.Common.{None, All, refl, sym, ◌∙◌, ap, subst, arith}
-use Rattle.std.specs.Prelude.{slice_get, option_map, IfSome, Ok, Err, vec_len, MatchOption}
+use Rattle.std.proofs.Common.{◌≡◌, ℕ, zero, suc, ◌<◌, ◌≤◌, List, [], ◌∷◌, length, Option, Some}
+use Rattle.std.proofs.Common.{None, All, refl, sym, subst, arith}
+use Rattle.std.specs.Prelude.{slice_get, Ok, Err, vec_len}
 use Rattle.term_core.specs.Terms.{Tree, no_tree, more_trees, height}
 use Rattle.term_core.specs.Patterns.{Pattern, no_pattern, more_patterns}
 use Rattle.term_core.specs.PatternLists.{AllFitWithin, plain_patterns}
@@ -16,11 +16,10 @@ use Rattle.rule_core.specs.Trial.{FindsFirstMatch}
 use Rattle.rule_core.specs.Evaluation.{value, holds, fails, says_true, says_other, says_nothing}
 use Rattle.rule_core.specs.Evaluation.{Evaluates, IsTrueValue}
 use Rattle.rule_core.specs.FirstRule.{most_nesting, Matches, IsUnmatched, Meets, rule_condition}
-use Rattle.rule_core.specs.Records.{Records, RecordsCondition, result_of}
-use Rattle.rule_core.specs.RecordView.{optional, plain_record, plain_step}
+use Rattle.rule_core.specs.Records.{Records, result_of}
+use Rattle.rule_core.specs.RecordView.{plain_record}
 use Rattle.rule_core.specs.ProgramView.{names_of, rewrite_rule, rewrite_rules}
 use Rattle.rule_core.specs.RuleVariables.{MatchesByOwnVariables}
-use Rattle.rule_core.specs.Runs.{steps_on}
 use Rattle.rule_core.specs.declared.records.EvalRecord.{EvalRecord}
 use Rattle.rule_core.specs.declared.records.StepRecord.{StepRecord}
 use Rattle.rule_core.specs.declared.rules.Named.{Named}
@@ -39,7 +38,7 @@ use Rattle.fun_eval.proofs.Names.{all_fit, are_names_of}
 use Rattle.rewriter.specs.Configurations.{IsConfiguration}
 use Rattle.rewriter.proofs.Trying.{triable}
 use Rattle.rewriter.proofs.Walks.{count_of}
-use Rattle.hint_file.specs.Paths.{applied, does_not_match, condition_fails, condition_blocked}
+use Rattle.hint_file.specs.Paths.{applied, condition_fails, condition_blocked}
 use Rattle.hint_file.specs.Paths.{right_side_blocked}
 use Rattle.hint_file.specs.ReadAnswers.{TestsCondition, TakesStepBy}
 

@@ -6,7 +6,7 @@ use Rattle.term_core.specs.Terms.{Tree}
 use Rattle.term_core.specs.Patterns.{Pattern}
 use Rattle.rule_core.specs.Rules.{RewriteRule}
 use Rattle.rule_core.specs.Theories.{RewriteTheory}
-use Rattle.rule_core.specs.Evaluation.{Cause, holds, fails, untested}
+use Rattle.rule_core.specs.Evaluation.{holds, fails, untested}
 use Rattle.rule_core.specs.FirstRule.{Meets}
 use Rattle.rule_core.specs.Records.{RecordsCondition, result_of}
 use Rattle.rule_core.specs.RecordView.{optional, plain_record, plain_step}

@@ -1,5 +1,5 @@
-use Rattle.std.proofs.Common.{◌≡◌, subst, arith}
-use Rattle.std.specs.Prelude.{Some, None}
+use Rattle.std.proofs.Common.{subst}
+use Rattle.std.specs.Prelude.{Some}
 use Rattle.memchr.specs.Find.{IsFirstByte, is_byte}
 use Rattle.hint_file.proofs.Cutting.{cut_nowhere, cut_found}
 use Rattle.hint_file.proofs.lines.cut_at.Goals as goal

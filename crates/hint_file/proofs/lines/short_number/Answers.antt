@@ -1,7 +1,6 @@
-use Rattle.std.proofs.Common.{rules, ◌≡◌, ◌≤◌, ◌<◌, ℕ, true, length, drop, refl, arith}
+use Rattle.std.proofs.Common.{◌≡◌, true, drop, refl, arith}
 use Rattle.std.specs.Str.{all_ascii_digits}
-use Rattle.kore_check.specs.ValueTexts.{append_digits}
-use Rattle.hint_file.proofs.DigitNumbers.{ten_digits, at_least, number_is}
+use Rattle.hint_file.proofs.DigitNumbers.{ten_digits, at_least}
 use Rattle.hint_file.proofs.lines.short_number.Goals as goal
 
 pub loop-digit-init : goal.loop-digit-init

@@ -1,4 +1,4 @@
-use Rattle.std.proofs.Common.{◌≡◌, ◌-◌, ◌<◌, ◌≤◌, Some, length, subst, ap, sym, arith}
+use Rattle.std.proofs.Common.{◌-◌, ◌<◌, Some, length, sym, arith}
 use Rattle.std.specs.Ordering.{nat_cmp}
 use Rattle.std.specs.BTreeMap.{Updates}
 use Rattle.rule_core.specs.ProgramView.{rewrite_rule, rewrite_rules}

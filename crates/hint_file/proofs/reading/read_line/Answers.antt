@@ -1,5 +1,5 @@
-use Rattle.std.proofs.Common.{◌≡◌, ◌<◌, ℕ, List, Option, Some, None, length, sym, ◌∙◌, ap, subst}
-use Rattle.std.specs.Prelude.{slice_get, Ok, Err, Result, option_copied}
+use Rattle.std.proofs.Common.{◌≡◌, ◌<◌, ℕ, Option, Some, length, sym, ◌∙◌, subst}
+use Rattle.std.specs.Prelude.{slice_get, Ok, Err}
 use Rattle.std.proofs.lemmas.Bool.{false≢true}
 use Rattle.term_core.specs.Patterns.{ground_pattern}
 use Rattle.rule_core.specs.ProgramView.{theory_of, rewrite_rule, rewrite_rules}

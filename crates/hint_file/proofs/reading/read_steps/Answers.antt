@@ -2,7 +2,6 @@ use Rattle.std.proofs.Common.{◌≡◌, [], ◌∷◌, ◌++◌, List, ℕ, map
 use Rattle.std.specs.Prelude.{Ok, Err}
 use Rattle.rule_core.specs.ProgramView.{theory_of}
 use Rattle.rule_core.specs.Records.{result_of}
-use Rattle.rule_core.specs.Records as plain
 use Rattle.rule_core.specs.RecordView.{plain_record, plain_step}
 use Rattle.rule_core.specs.declared.records.StepRecord.{StepRecord}
 use Rattle.rewriter.specs.Configurations.{IsConfiguration}

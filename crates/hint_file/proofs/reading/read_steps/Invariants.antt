@@ -4,7 +4,6 @@ use Rattle.rule_core.specs.Records.{StepRecord}
 use Rattle.rule_core.specs.RecordView.{plain_step}
 use Rattle.rewriter.specs.Configurations.{IsConfiguration}
 use Rattle.hint_file.specs.HintFiles.{FileOutcome, ReadsSteps, RecordsLines}
-use Rattle.hint_file.specs.ReadAnswers.{NumbersRules}
 use Rattle.hint_file.proofs.reading.read_steps.Given as goal
 
 abbrev pub invariant-loop-rest : goal.invariant-loop-rest

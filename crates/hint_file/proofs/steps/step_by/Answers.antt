@@ -1,4 +1,4 @@
-use Rattle.std.proofs.Common.{◌≡◌, ◌≤◌, ℕ, List, Option, Some, None, refl, subst, arith}
+use Rattle.std.proofs.Common.{◌≤◌, ℕ, List, Option, refl, subst, arith}
 use Rattle.std.specs.Prelude.{Ok, MatchOption}
 use Rattle.std.proofs.lemmas.Result.{err_from_is_err_and}
 use Rattle.term_core.specs.Terms.{Tree, height}

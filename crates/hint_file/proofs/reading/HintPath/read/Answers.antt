@@ -1,4 +1,4 @@
-use Rattle.std.proofs.Common.{◌≡◌, List, ℕ, [], map, length, refl, subst, sym, ◌∙◌, arith}
+use Rattle.std.proofs.Common.{◌≡◌, [], map, subst, sym, ◌∙◌, arith}
 use Rattle.std.proofs.lemmas.Bool.{false≢true}
 use Rattle.std.proofs.lemmas.Result.{err_from_is_err_and}
 use Rattle.term_core.specs.RulePatterns.{plain_pattern}
@@ -14,7 +14,6 @@ use Rattle.kore_axioms.specs.declared.refusals.Refusal.{Refusal}
 use Rattle.kore_rules.specs.Refused.{IsRefusedTerm}
 use Rattle.kore_rules.specs.RefusedTexts.{RefusesFor, top_of}
 use Rattle.hint_file.specs.HintTexts.{first_line}
-use Rattle.hint_file.specs.HintLines.{cut_at}
 use Rattle.hint_file.specs.HintFiles.{no_first_line, other_first_line, no_term_line, term_refused}
 use Rattle.hint_file.specs.HintFiles.{HasTermLine, ReadsSteps, RecordsLines, no_bad_line}
 use Rattle.hint_file.specs.ReadPaths.{IsFirstBad}
