@@ -126,10 +126,10 @@ fn read_steps(
             return Err(HintEnd::Bad(number, 1));
         };
         match read_line(alloc, engine, &numbers, &last, left, line) {
-            Ok((step, calls)) => {
+            Ok((step, fewer)) => {
                 last = step.right.result().share()?;
                 steps.push(step)?;
-                left = calls;
+                left = fewer;
             }
             Err(LineEnd::Bad(k)) => return Err(HintEnd::Bad(number, k)),
             Err(LineEnd::Memory) => return Err(HintEnd::Memory),
