@@ -43,11 +43,11 @@ loop-rest-preserved c =
     let is : c.in_ok-last-in-Ok.last ≡ result_of (plain_record c.in-Ok.step.right) =
     c.in_ok-last-in-Ok.ensures.same ∙ c.result.ensures in
     let read : AnswersLine (theory_of c.args.engine.now) c.loop-rest.last c.loop-rest.left
-    c.in-Some.line.now (Ok (c.in-Ok.step, c.in-Ok.calls)) = c.in-Ok.ensures in
+    c.in-Some.line.now (Ok (c.in-Ok.step, c.in-Ok.fewer)) = c.in-Ok.ensures in
     let good_line : ReadsLine (theory_of c.args.engine.now) c.loop-rest.last c.loop-rest.left
-    c.in-Some.line.now (good c.in_ok-last-in-Ok.last c.in-Ok.calls) =
+    c.in-Some.line.now (good c.in_ok-last-in-Ok.last c.in-Ok.fewer) =
     subst (λ (u : Tree). ReadsLine (theory_of c.args.engine.now) c.loop-rest.last c.loop-rest.left
-    c.in-Some.line.now (good u c.in-Ok.calls)) (sym is) read.0 in
+    c.in-Some.line.now (good u c.in-Ok.fewer)) (sym is) read.0 in
     let pushed : c.push.new.self.items ≡ c.loop-rest.steps.items ++ (c.in-Ok.step ∷ []) =
     search rules in
     record {
@@ -60,7 +60,7 @@ loop-rest-preserved c =
                 c.in-Some.ensures.found,
           );
       reads = λ r later. c.loop-rest.invariant.reads r
-          (reads_on (theory_of c.args.engine.now) c.loop-rest.number c.loop-rest.left c.in-Ok.calls
+          (reads_on (theory_of c.args.engine.now) c.loop-rest.number c.loop-rest.left c.in-Ok.fewer
           c.loop-rest.last c.in_ok-last-in-Ok.last c.loop-rest.rest.now c.in-Some.line.now
           c.in-Some.more.now c.in-Some.ensures.found good_line r later);
       recorded = λ ss later. subst
