@@ -6,3 +6,5 @@ mod RuleNumbers
 mod LineAnswers
 mod StepsRead
 mod FileRead
+mod OneStep
+mod OneReading

@@ -6,5 +6,6 @@ pub mod HintFiles
 pub mod ReadPaths
 -- Laws: what follows from that. Each is a clause of a function that does nothing.
 pub mod HintLaws
+pub mod ReadingLaws
 -- Private: what clauses of private functions cite, and how private fields are seen.
 pub mod ReadAnswers

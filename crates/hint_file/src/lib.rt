@@ -20,6 +20,6 @@ mod steps;
 mod writing;
 
 pub use ends::HintEnd;
-pub use laws::hint_laws;
+pub use laws::{hint_laws, reading_laws};
 pub use reading::HintPath;
 pub use writing::{push_hint, start_hints};
