@@ -67,7 +67,7 @@ pub file_read : (theory : RewriteTheory) (top : Option ℕ) (calls c : ℕ) (byt
     (start : Pattern) (t : Tree) (first : Record) (steps : List StepRecord)
     → HasTermLine bytes line more → IsAcceptedTerm theory.sig top line start
     → Evaluates theory most_nesting [] start calls (value t c) → Records theory [] start first
-    → result_of first ≡ t → RecordsLines theory t more steps
+    → result_of first ≡ t → RecordsLines theory t c more steps
     → ReadsSteps theory 3 t c more no_bad_line
     → IsReadPath theory top calls bytes start first steps
 file_read theory top calls c bytes line more start t first steps lines accepted evaluated recorded is
@@ -76,7 +76,11 @@ file_read theory top calls c bytes line more start t first steps lines accepted 
       more = more;
       lines = lines;
       accepted = accepted;
+      left = c;
+      evaluated =
+          subst (λ (u : Tree). Evaluates theory most_nesting [] start calls (value u c)) (sym is)
+          evaluated;
       recorded = recorded;
-      stepped = subst (λ (u : Tree). RecordsLines theory u more steps) (sym is) stepped;
+      stepped = subst (λ (u : Tree). RecordsLines theory u c more steps) (sym is) stepped;
       found = steps_read lines accepted evaluated read;
     }

@@ -8,3 +8,4 @@ mod StepsRead
 mod FileRead
 mod OneStep
 mod OneReading
+mod ReadPath

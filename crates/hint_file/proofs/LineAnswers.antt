@@ -50,6 +50,7 @@ line_read theory t c line number left rule text s names made shown = (
     rule = rule;
     text = text;
     names = subst (λ (n : ℕ). NamesRule theory line n rule text) (sym made.2) names;
+    by = made.0;
     follows = made.1;
     shown = shown;
   },

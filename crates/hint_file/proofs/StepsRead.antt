@@ -26,31 +26,32 @@ listed_on done s ss =
     ∙ append_assoc (map plain_step done) (plain_step s ∷ []) ss
 
 -- the records go on with that of the line
-pub records_on : (theory : RewriteTheory) (first t u : Tree) (all bytes line more : List ℕ)
-    (done : List StepRecord) (s : StepRecord)
-    → ((ss : List plain.StepRecord) → RecordsLines theory t bytes ss
-    → RecordsLines theory first all (map plain_step done ++ ss))
-    → cut_at 10 bytes ≡ Some (line, more) → RecordsLine theory t line (plain_step s)
+pub records_on : (theory : RewriteTheory) (first t u : Tree) (calls c d : ℕ)
+    (all bytes line more : List ℕ) (done : List StepRecord) (s : StepRecord)
+    → ((ss : List plain.StepRecord) → RecordsLines theory t c bytes ss
+    → RecordsLines theory first calls all (map plain_step done ++ ss))
+    → cut_at 10 bytes ≡ Some (line, more) → RecordsLine theory t c d line (plain_step s)
     → u ≡ result_of (plain_record s.right) → (ss : List plain.StepRecord)
-    → RecordsLines theory u more ss
-    → RecordsLines theory first all (map plain_step (done ++ (s ∷ [])) ++ ss)
-records_on theory first t u all bytes line more done s before cut record_of is ss later =
-    subst (RecordsLines theory first all) (sym (listed_on done s ss))
+    → RecordsLines theory u d more ss
+    → RecordsLines theory first calls all (map plain_step (done ++ (s ∷ [])) ++ ss)
+records_on theory first t u calls c d all bytes line more done s before cut record_of is ss later =
+    subst (RecordsLines theory first calls all) (sym (listed_on done s ss))
     (before (plain_step s ∷ ss) (
       line,
       more,
+      d,
       cut,
       record_of,
-      subst (λ (v : Tree). RecordsLines theory v more ss) is later,
+      subst (λ (v : Tree). RecordsLines theory v d more ss) is later,
     ))
 
-pub records_end : (theory : RewriteTheory) (first t : Tree) (all : List ℕ)
+pub records_end : (theory : RewriteTheory) (first t : Tree) (calls c : ℕ) (all : List ℕ)
     (done : List StepRecord)
-    → ((ss : List plain.StepRecord) → RecordsLines theory t [] ss
-    → RecordsLines theory first all (map plain_step done ++ ss))
-    → RecordsLines theory first all (map plain_step done)
-records_end theory first t all done before =
-    subst (RecordsLines theory first all) (append-nil (map plain_step done)) (before [] refl)
+    → ((ss : List plain.StepRecord) → RecordsLines theory t c [] ss
+    → RecordsLines theory first calls all (map plain_step done ++ ss))
+    → RecordsLines theory first calls all (map plain_step done)
+records_end theory first t calls c all done before =
+    subst (RecordsLines theory first calls all) (append-nil (map plain_step done)) (before [] refl)
 
 pub empty_list : (xs : List ℕ) → length xs ≡ 0 → xs ≡ []
 empty_list [] h = refl

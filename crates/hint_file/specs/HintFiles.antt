@@ -8,9 +8,11 @@ use Rattle.rule_core.specs.Theories.{RewriteTheory}
 use Rattle.rule_core.specs.Evaluation.{Cause, value, blocked, Evaluates}
 use Rattle.rule_core.specs.FirstRule.{most_nesting, Matches}
 use Rattle.rule_core.specs.Records.{Record, Records, RecordsCondition, StepRecord, result_of}
+use Rattle.rule_core.specs.Runs.{steps_on}
 use Rattle.kore_sig.specs.FirstFault.{Fault}
 use Rattle.kore_rules.specs.Acceptance.{IsAcceptedTerm}
 use Rattle.kore_rules.specs.Refused.{IsRefusedTerm}
+use Rattle.hint_file.specs.Paths.{StepsBy}
 use Rattle.hint_file.specs.HintTexts.{first_line, shown_text}
 use Rattle.hint_file.specs.HintLines.{cut_at, NamesRule, good, bad, ReadsLine}
 
@@ -67,21 +69,23 @@ pub record RecordsStepBy (theory : RewriteTheory) (rule : RewriteRule) (t : Tree
   pub condition : RecordsCondition theory step.theta rule.condition step.condition
   pub right : Records theory step.theta rule.right step.right
 
--- the record describes the step of this line, which ends in the configuration of the line
-pub record RecordsLine (theory : RewriteTheory) (t : Tree) (line : List ℕ) (step : StepRecord)
-    : Type 0 where
+-- the record describes the step of this line, which ends in the configuration of the line; with c
+-- calls left, the step leaves d
+pub record RecordsLine (theory : RewriteTheory) (t : Tree) (c d : ℕ) (line : List ℕ)
+    (step : StepRecord) : Type 0 where
   pub rule : RewriteRule
   pub text : List ℕ
   pub names : NamesRule theory line step.rule rule text
+  pub by : StepsBy theory rule t c (steps_on (result_of step.right) d)
   pub follows : RecordsStepBy theory rule t step
   pub shown : shown_text theory.sig (ground_pattern (result_of step.right)) ≡ Some text
 
 -- the records describe the steps of these lines, one a line, in order
-abbrev pub RecordsLines : RewriteTheory → Tree → List ℕ → List StepRecord → Type 0
-RecordsLines theory t bytes [] = bytes ≡ []
-RecordsLines theory t bytes (step ∷ steps) =
-    (line : List ℕ) × (more : List ℕ) × (cut_at 10 bytes ≡ Some (line, more))
-    × RecordsLine theory t line step × RecordsLines theory (result_of step.right) more steps
+abbrev pub RecordsLines : RewriteTheory → Tree → ℕ → List ℕ → List StepRecord → Type 0
+RecordsLines theory t c bytes [] = bytes ≡ []
+RecordsLines theory t c bytes (step ∷ steps) =
+    (line : List ℕ) × (more : List ℕ) × (d : ℕ) × (cut_at 10 bytes ≡ Some (line, more))
+    × RecordsLine theory t c d line step × RecordsLines theory (result_of step.right) d more steps
 
 -- No line is bad. The initial term is that of line 2, with this record of its evaluation, and these
 -- are the records of the steps.
@@ -89,8 +93,10 @@ pub record IsReadPath (theory : RewriteTheory) (top : Option ℕ) (calls : ℕ) 
     (start : Pattern) (first : Record) (steps : List StepRecord) : Type 0 where
   pub line : List ℕ
   pub more : List ℕ
+  pub left : ℕ
   pub lines : HasTermLine bytes line more
   pub accepted : IsAcceptedTerm theory.sig top line start
+  pub evaluated : Evaluates theory most_nesting [] start calls (value (result_of first) left)
   pub recorded : Records theory [] start first
-  pub stepped : RecordsLines theory (result_of first) more steps
+  pub stepped : RecordsLines theory (result_of first) left more steps
   pub found : ReadsHints theory top calls bytes no_bad_line

@@ -1,6 +1,7 @@
 -- Paths: steps of a program, each by some rule that applies. In a run each step is by the first
 -- rule that applies. In a path it need not be. Calls of functions are counted over the whole path.
-use Rattle.std.specs.Prelude.{◌≡◌, ℕ, List, [], ◌∷◌, Option, Some, option_map, slice_get}
+use Rattle.std.specs.Prelude.{◌≡◌, ℕ, List, [], ◌∷◌, Option, Some, None, option_map}
+use Rattle.std.specs.Prelude.{slice_get}
 use Rattle.term_core.specs.Terms.{Tree}
 use Rattle.term_core.specs.Patterns.{Pattern}
 use Rattle.rule_core.specs.Rules.{RewriteRule}
@@ -55,3 +56,13 @@ stated_step theory s =
     option_map
     (λ (rule : RewriteRule). record { byte = rule.place; after = result_of s.right })
     (slice_get theory.rules s.rule)
+
+-- the steps that records state, if the program has their rules
+abbrev pub with_step : Option PathStep → Option (List PathStep) → Option (List PathStep)
+with_step None steps = None
+with_step (Some step) None = None
+with_step (Some step) (Some steps) = Some (step ∷ steps)
+
+abbrev pub stated_steps : RewriteTheory → List StepRecord → Option (List PathStep)
+stated_steps theory [] = Some []
+stated_steps theory (s ∷ ss) = with_step (stated_step theory s) (stated_steps theory ss)

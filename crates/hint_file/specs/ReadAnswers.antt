@@ -55,7 +55,7 @@ abbrev pub AnswersLine : RewriteTheory → Tree → ℕ → List ℕ → Result 
     → Type 0
 AnswersLine theory t c line (Ok read) =
     ReadsLine theory t c line (good (result_of (plain_step read.0).right) read.1)
-    × RecordsLine theory t line (plain_step read.0)
+    × RecordsLine theory t c read.1 line (plain_step read.0)
     × IsConfiguration theory (result_of (plain_step read.0).right)
 AnswersLine theory t c line (Err (line_end.Bad k)) = ReadsLine theory t c line (bad k)
 AnswersLine theory t c line (Err line_end.Memory) = Unit {0}

@@ -2,13 +2,15 @@
 -- line has none, and one with a bad line has one first bad line, which is bad by one number.
 use Rattle.std.specs.Prelude.{◌≡◌, ℕ, List, Option, Some, slice_get}
 use Rattle.term_core.specs.Terms.{Tree}
+use Rattle.term_core.specs.Patterns.{Pattern}
+use Rattle.rule_core.specs.Records.{Record, StepRecord}
 use Rattle.rule_core.specs.Rules.{RewriteRule}
 use Rattle.rule_core.specs.Theories.{RewriteTheory}
 use Rattle.rule_core.specs.Runs.{Stepped}
 use Rattle.rule_core.specs.WellSorted.{IsWellSorted}
-use Rattle.hint_file.specs.Paths.{StepsBy}
+use Rattle.hint_file.specs.Paths.{StepsBy, PathStep, IsPath, stated_steps}
 use Rattle.hint_file.specs.HintLines.{LineOutcome, ReadsLine}
-use Rattle.hint_file.specs.HintFiles.{FileOutcome, ReadsHints}
+use Rattle.hint_file.specs.HintFiles.{FileOutcome, ReadsHints, IsReadPath}
 
 abbrev pub StepByIsOne : Type 0
 StepByIsOne =
@@ -26,3 +28,12 @@ FileIsOne =
     (theory : RewriteTheory) (top : Option ℕ) (calls : ℕ) (bytes : List ℕ) (r s : FileOutcome)
     → IsWellSorted theory → ReadsHints theory top calls bytes r
     → ReadsHints theory top calls bytes s → r ≡ s
+
+-- The records that were read are those of a path from the value of the term of line 2.
+abbrev pub ReadIsPath : Type 0
+ReadIsPath =
+    (theory : RewriteTheory) (top : Option ℕ) (calls : ℕ) (bytes : List ℕ) (start : Pattern)
+    (first : Record) (steps : List StepRecord)
+    → IsReadPath theory top calls bytes start first steps
+    → (path : List PathStep) × (u : Tree) × (d : ℕ) × (stated_steps theory steps ≡ Some path)
+    × IsPath theory start calls path u d

@@ -110,7 +110,7 @@ fn read_steps(
     ensures read { IfOk result
         (λ steps. ReadsSteps (theory_of engine.now) 3 config.now calls bytes.now no_bad_line) }
     ensures recorded { IfOk result
-        (λ steps. RecordsLines (theory_of engine.now) config.now bytes.now
+        (λ steps. RecordsLines (theory_of engine.now) config.now calls bytes.now
         (map plain_step steps.items)) }
     ensures bad { IfErr result
         (IsFirstBad (ReadsSteps (theory_of engine.now) 3 config.now calls bytes.now)) }

@@ -28,7 +28,5 @@ overflow_add-number c =
       c.loop-digit.invariant.value,
       c.loop-digit.invariant.small,
       c.from.ensures,
-      c.from.auto,
-      c.saturating_sub.auto,
       c.saturating_sub.ensures,
     )

@@ -65,9 +65,9 @@ loop-rest-preserved c =
           c.in-Some.more.now c.in-Some.ensures.found good_line r later);
       recorded = λ ss later. subst
           (λ (xs : List StepRecord). RecordsLines (theory_of c.args.engine.now) c.args.config.now
-          c.args.bytes.now (map plain_step xs ++ ss)) (sym pushed)
+          c.args.calls c.args.bytes.now (map plain_step xs ++ ss)) (sym pushed)
           (records_on (theory_of c.args.engine.now) c.args.config.now c.loop-rest.last
-          c.in_ok-last-in-Ok.last c.args.bytes.now c.loop-rest.rest.now c.in-Some.line.now
+          c.in_ok-last-in-Ok.last c.args.calls c.loop-rest.left c.in-Ok.fewer c.args.bytes.now c.loop-rest.rest.now c.in-Some.line.now
           c.in-Some.more.now c.loop-rest.steps.items c.in-Ok.step c.loop-rest.invariant.recorded
           c.in-Some.ensures.found read.1 is ss later);
     }
@@ -86,7 +86,8 @@ returns-clause-recorded c =
     let none : length c.loop-rest.rest.now ≡ 0 =
     grind (arith, c.is_empty.ensures, c.loop-rest-test.false) in
     let empty : c.loop-rest.rest.now ≡ [] = empty_list c.loop-rest.rest.now none in
-    records_end (theory_of c.args.engine.now) c.args.config.now c.loop-rest.last c.args.bytes.now
-    c.loop-rest.steps.items (λ ss later. c.loop-rest.invariant.recorded ss
-    (subst (λ (bs : List ℕ). RecordsLines (theory_of c.args.engine.now) c.loop-rest.last bs ss)
+    records_end (theory_of c.args.engine.now) c.args.config.now c.loop-rest.last c.args.calls
+    c.loop-rest.left c.args.bytes.now c.loop-rest.steps.items (λ ss later. c.loop-rest.invariant.recorded ss
+    (subst (λ (bs : List ℕ). RecordsLines (theory_of c.args.engine.now) c.loop-rest.last
+    c.loop-rest.left bs ss)
     (sym empty) later))

@@ -12,8 +12,9 @@ invariant-loop-rest l = record {
   few : l.number + length l.rest ≤ 2 ^ 32 + 3;
   reads : (r : FileOutcome) → ReadsSteps (theory_of l.engine) l.number l.last l.left l.rest r
       → ReadsSteps (theory_of l.engine) 3 l.fn.config l.fn.calls l.bytes r;
-  recorded : (ss : List StepRecord) → RecordsLines (theory_of l.engine) l.last l.rest ss
-      → RecordsLines (theory_of l.engine) l.fn.config l.bytes (map plain_step l.steps.items ++ ss);
+  recorded : (ss : List StepRecord) → RecordsLines (theory_of l.engine) l.last l.left l.rest ss
+      → RecordsLines (theory_of l.engine) l.fn.config l.fn.calls l.bytes
+      (map plain_step l.steps.items ++ ss);
 }
 
 abbrev pub decreases-loop-rest : goal.decreases-loop-rest

@@ -123,7 +123,7 @@ returns-clause-read c =
     subst (λ (p : Program). Records (theory_of p) [] (plain_pattern c.in-Ok.start)
     (plain_record c.in-Ok-new.begun.1)) c.requires.engine c.in-Ok-new.ensures.recorded in
     let stepped =
-    subst (λ (p : Program). RecordsLines (theory_of p) c.config.result.now
+    subst (λ (p : Program). RecordsLines (theory_of p) c.config.result.now c.calls_left.result
     c.in-Some-cut_at.more.now (map plain_step c.in_ok-steps.steps.items)) c.requires.engine
     c.in_ok-steps.ensures.recorded in
     let read =
