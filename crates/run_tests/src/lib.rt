@@ -9,6 +9,8 @@ mod desks;
 #[cfg(test)]
 mod evaluation;
 #[cfg(test)]
+mod hints;
+#[cfg(test)]
 mod hooks;
 #[cfg(test)]
 mod matching;

@@ -1,0 +1,11 @@
+mod Growing
+mod Cutting
+mod DigitNumbers
+mod RuleSteps
+mod RuleNumbers
+mod LineAnswers
+mod StepsRead
+mod FileRead
+mod OneStep
+mod OneReading
+mod ReadPath
