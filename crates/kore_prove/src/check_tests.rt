@@ -98,10 +98,10 @@ fn a_proof_is_one_over_its_definition_only(rt: HostRuntime) -> Result<(), Fail> 
 }
 
 /// Whether the check of a proof over a definition says that it is justified.
-pub(crate) fn is_justified(
+pub(crate) fn is_justified<'t>(
     alloc: Global,
-    definition: &str,
-    proof: &[u8],
+    definition: &'t str,
+    proof: &'t [u8],
 ) -> Result<bool, AllocError> {
     let Ok(text) = str::from_utf8(proof) else {
         return Ok(false);
