@@ -32,9 +32,9 @@ def counting():
 
 
 def nearly_rows(n):
-    """n copies of a row of the header with another `$e`: the first is told."""
-    row = "${ q0 $e |- x $. q1 $e |- ( \\imp x x ) $. q $a |- x $. $}\n"
-    lines = "$v x $. fx $f #Pattern x $.\n" + "".join(row.replace("q", f"q{i}x") for i in range(n))
+    """n copies of a rule of the header with an `$e` that the rule does not have."""
+    rule_of = "${{ e{0} $e |- own $. f{0} $e |- ( \\imp own own ) $. g{0} $e |- own $. a{0} $a |- own $. $}}\n"
+    lines = "$v own $. ow $f #Pattern own $.\n" + "".join(rule_of.format(f"x{i}") for i in range(n))
     return symbols(1), HEADER + lines, "unjustified 3 at"
 
 
@@ -61,7 +61,7 @@ def values(n):
 
 
 def axioms_of_rules(n):
-    """The axioms of n rules, n times each first axiom and last."""
+    """Declarations of n symbols, and the axioms of n rules."""
     names = [f"c{i}" for i in range(n)]
     declared = "".join(f"$c f:{name} $. n{i} $a #Pattern f:{name} $.\n" for i, name in enumerate(names))
     ends = [(names[i], names[(i + 1) % n]) for i in range(n)]

@@ -1,5 +1,5 @@
--- A valid database justifies something exactly if nothing is wrong in it. What is wrong first is
--- one thing.
+-- In a database that justifies something nothing is wrong. A valid one in which nothing is wrong
+-- does not justify nothing. What is wrong first is one thing.
 use Rattle.std.specs.Prelude.{◌≡◌, ℕ, List}
 use Rattle.mm_text.specs.Bytes.{Token}
 use Rattle.mm_database.specs.Validity.{IsValid}

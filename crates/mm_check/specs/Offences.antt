@@ -1,6 +1,6 @@
 -- Why a valid database justifies nothing over a program: its first statement that gives a variable
--- another type, or that assumes something else than an axiom of the program; or else what its last
--- assertion says.
+-- another type, or that assumes something else than an axiom of the program; or else that its last
+-- assertion is no such theorem.
 use Rattle.std.specs.Prelude.{◌≡◌, ◌⊎◌, ℕ, List, [], ◌∷◌, length, Option, Some, None, IfSome}
 use Rattle.mm_text.specs.Bytes.{Token}
 use Rattle.mm_text.specs.Statements.{Statement, Statements, no_statement, unended, bad_statement}

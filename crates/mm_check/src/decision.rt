@@ -29,8 +29,10 @@ use std::alloc::Global;
 /// Whether a Metamath database justifies, over a program, that one pattern reaches another: then
 /// which, and that has a derivation in matching logic from what the program may assume. Otherwise
 /// its first fault if it is not valid, or what is wrong first in it, and where.
-/// Returns `CheckEnd::Memory` when out of memory. It does not recurse, and looks at each token of
-/// the text a few times.
+/// Returns `CheckEnd::Memory` when out of memory. Patterns of any depth are read and dropped without
+/// recursion. Images are made and compared by recursions as deep as these. It looks at each token of
+/// the text a few times, but for this: each two variables of an axiom are looked up if no one `$d`
+/// has them all, and an axiom on sorts looks at the symbols up to the injection symbol.
 pub fn check(alloc: Global, program: &Program, bytes: &[u8]) -> Result<Checked, CheckEnd>
     requires { CanBeAssumed program.now }
     ensures justifies { IfOk result

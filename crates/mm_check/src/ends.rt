@@ -18,7 +18,8 @@ pub struct Checked {
 /// What is wrong first in a valid database that justifies nothing.
 #[derive(Clone, Copy, PartialEq, Eq, Debug)]
 pub enum Offence {
-    /// The last assertion does not say that one pattern reaches another, or there is no assertion.
+    /// The last assertion is no `$p` without hypotheses that says that one pattern without variables
+    /// reaches another, or there is no assertion.
     Conclusion,
     /// A `$f` gives its variable a type other than `#Pattern`, `#Sort` and `#Var`.
     Typing,

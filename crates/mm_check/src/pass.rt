@@ -16,7 +16,7 @@ use std::alloc::Global;
 
 /// The last assertion of a valid database that has only the axioms of the program, or None if it
 /// has no assertion. Otherwise the first statement that offends, with its byte. It looks at each
-/// token of the text a few times.
+/// token of the text a few times, but for the exceptions of `check`.
 pub(crate) fn pass<'a>(
     alloc: Global,
     program: &Program,

@@ -22,7 +22,7 @@ pub(crate) fn named<'n>(names: &'n Names, number: u64, prefix: &str) -> Option<&
     token.strip_prefix(prefix)
 }
 
-// The sort whose token has this number.
+/// The sort whose token has this number, or None exactly if there is none.
 pub fn sort_of(sig: &Signature, names: &Names, number: MSort) -> Option<SortId>
     requires { length sig.now.sorts ≤ 2 ^ 32 }
     ensures { IsOnly (λ s. sort_image sig.now names.now s ≡ Some number.0) (sort_found result) }
@@ -49,7 +49,7 @@ pub(crate) fn is_sort(sig: &Signature, names: &Names, number: MSort, sort: SortI
     }
 }
 
-// The symbol whose token has this number.
+/// The symbol whose token has this number, or None exactly if there is none.
 pub fn symbol_of(sig: &Signature, names: &Names, number: ConstNo) -> Option<usize>
     ensures { IsOnly (λ f. symbol_image sig.now names.now f ≡ Some (constant number.0)) result }
 {

@@ -33,7 +33,8 @@ pub(crate) struct Typed {
     pub(crate) value: Value,
 }
 
-// Whether the token is that of a value of a sort.
+/// Whether the token is that of a value of a sort. It takes time in its length. An error: out of
+/// memory.
 pub fn is_value_token(alloc: Global, sig: &Signature, token: &str) -> Result<bool, AllocError>
     requires { length sig.now.sorts ≤ 2 ^ 32 }
     ensures { IfOk result (λ b. IsTrue b ↔ IsValueToken sig.now token.now) }
