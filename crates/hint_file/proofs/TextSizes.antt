@@ -1,6 +1,6 @@
 -- The canonical text of a term has at least one byte for each of the term's nodes.
-use Rattle.std.proofs.Common.{◌≡◌, ℕ, ◌+◌, ◌≤◌, List, [], ◌∷◌, ◌++◌, length, Option, Some, None, refl}
-use Rattle.std.proofs.Common.{sym, ap, subst, arith}
+use Rattle.std.proofs.Common.{◌≡◌, ℕ, ◌+◌, ◌<◌, ◌≤◌, List, [], ◌∷◌, length, Option, Some, None, refl}
+use Rattle.std.proofs.Common.{ap, subst, arith}
 use Rattle.std.specs.Prelude.{option_map, false}
 use Rattle.std.proofs.lemmas.List.{length-append}
 use Rattle.term_core.specs.Terms.{Tree, leaf, node, inj, Forest, no_tree, more_trees, DomainValue}
@@ -14,13 +14,17 @@ use Rattle.kore_text.specs.Trees.{sort_then, sort_trees, PatternTree, PatternTre
 use Rattle.kore_text.specs.Trees.{value_written, no_patterns, pattern_then}
 use Rattle.kore_text.specs.Grammar.{Requirement, Spelling, any, placed, listed, more_listed}
 use Rattle.kore_text.specs.Grammar.{spell_sort, spell_sorts, spell_pattern, spell_patterns}
-use Rattle.kore_text.specs.Grammar.{spell_applied}
 use Rattle.kore_print.specs.CanonicalText.{text_of, canonical_text}
 use Rattle.kore_print.specs.TokenText.{token_text}
 use Rattle.kore_show.specs.KorePatterns.{kore_pattern, kore_patterns, kore_sort, kore_sorts}
 use Rattle.kore_show.specs.KorePatterns.{kore_value, applied_tree, in_front, declared_name}
 use Rattle.kore_show.specs.KorePatterns.{injection_name}
 use Rattle.hint_file.specs.HintTexts.{shown_text}
+
+pub some_node : (t : Tree) → 0 < size t
+some_node (leaf s v) = omega arith
+some_node (node f ts) = omega arith
+some_node (inj a b t) = omega arith
 
 -- what is spelled has at least so many bytes more than what follows it
 abbrev Adds : ℕ → Spelling → Type 0

@@ -42,10 +42,10 @@ impl HintPath {
     /// The path that a hint file lists, by the engine of the program, with at most this many calls
     /// of functions. The error is the first bad line, or that memory ran out.
     ///
-    /// It goes through the bytes once, line by line. For each line it takes the step, and writes
-    /// the configuration after it to compare it with the line. The time is linear in the bytes and
-    /// in these steps and texts, plus one pass over the symbols for each line. What is kept are the
-    /// records of the steps.
+    /// It goes through the bytes once, line by line. For each line it takes the step, and compares
+    /// the configuration after it with the line's text, at a cost that is linear in that text, plus
+    /// one pass over the symbols. What is kept are the records of the steps: what the values of
+    /// variables, conditions and right sides are made of, which share their terms.
     pub fn read(
         alloc: Global,
         program: &Program,
