@@ -70,8 +70,8 @@ pub file_read : (theory : RewriteTheory) (top : Option ℕ) (calls c : ℕ) (byt
     → result_of first ≡ t → RecordsLines theory t c more steps
     → ReadsSteps theory 3 t c more no_bad_line
     → IsReadPath theory top calls bytes start first steps
-file_read theory top calls c bytes line more start t first steps lines accepted evaluated recorded is
-    stepped read = record {
+file_read theory top calls c bytes line more start t first steps lines accepted evaluated recorded
+    is stepped read = record {
       line = line;
       more = more;
       lines = lines;

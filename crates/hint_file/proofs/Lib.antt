@@ -9,3 +9,4 @@ mod FileRead
 mod OneStep
 mod OneReading
 mod ReadPath
+mod TextSizes

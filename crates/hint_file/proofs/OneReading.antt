@@ -1,5 +1,6 @@
 -- A line and a file have one outcome.
-use Rattle.std.proofs.Common.{◌≡◌, ℕ, suc, ◌⊎◌, inl, inr, List, [], Option, Some, None, refl, sym, ◌∙◌}
+use Rattle.std.proofs.Common.{◌≡◌, ℕ, suc, ◌⊎◌, inl, inr, List, [], Option, Some, None, refl, sym}
+use Rattle.std.proofs.Common.{◌∙◌}
 use Rattle.std.proofs.Common.{subst}
 use Rattle.std.specs.Prelude.{slice_get}
 use Rattle.term_core.specs.Terms.{Tree}
@@ -62,7 +63,8 @@ line_split {theory} {t} {c} {r = r} (no_number h) =
 line_split {theory} {t} {c} (no_rule {text = text} h k) =
     subst (λ (o : Option (ℕ × List ℕ)). AtParts theory t c o (bad 2)) (sym h)
     (subst (λ (o : Option ℕ). AtNumber theory t c text o (bad 2)) (sym k) refl)
-line_split {theory} {t} {c} {line} (no_step {number = number} {rule = rule} {text = text} names by) =
+line_split {theory} {t} {c} {line}
+    (no_step {number = number} {rule = rule} {text = text} names by) =
     named theory t c number line text rule stays (bad 3) names by refl
 line_split {theory} {t} {c} {line}
     (blocked_step {number = number} {rule = rule} {text = text} {cause = cause} names by) =
@@ -156,8 +158,8 @@ steps_one theory well {n} all_read s k = one_end n [] s refl (steps_split k)
 steps_one theory well {n} {c} {t} {bytes} (not_ended some cut) s k =
     one_unended n bytes s some
     (subst (λ (o : Option (List ℕ × List ℕ)). AtCut theory n t c bytes o s) cut (steps_split k))
-steps_one theory well {n} {c} {t} {bytes} (bad_step {k = number} {line = line} {more = more} cut read)
-    s k =
+steps_one theory well {n} {c} {t} {bytes}
+    (bad_step {k = number} {line = line} {more = more} cut read) s k =
     let other : AtCut theory n t c bytes (Some (line, more)) s =
     subst (λ (o : Option (List ℕ × List ℕ)). AtCut theory n t c bytes o s) cut (steps_split k) in
     let same : other.0 ≡ bad number =

@@ -53,8 +53,8 @@ pub data LineOutcome : Type 0 where
   bad : ℕ → LineOutcome
 
 -- What the line of a step from this configuration, with this many calls left, is found to be. It is
--- bad by 1 without a number, by 2 without a rule, by 3 if the rule makes no step, by 4 if the step is
--- blocked, and by 5 if its text is not that of the configuration after the step.
+-- bad by 1 without a number, by 2 without a rule, by 3 if the rule makes no step, by 4 if the step
+-- is blocked, and by 5 if its text is not that of the configuration after the step.
 pub data ReadsLine (theory : RewriteTheory) (t : Tree) (c : ℕ) (line : List ℕ) : LineOutcome
     → Type 0 where
   no_number : line_parts line ≡ None → ReadsLine theory t c line (bad 1)

@@ -1,6 +1,6 @@
--- The hint text of a path. Line 1 is `kore-hints 1`. Line 2 is the initial term as it was read. Each
--- further line is a step: the byte of its rule's axiom in decimal, a space, and the configuration
--- after it. Patterns are in canonical text, and each line ends in LF.
+-- The hint text of a path. Line 1 is `kore-hints 1`. Line 2 is the initial term as it was read.
+-- Each further line is a step: the byte of its rule's axiom in decimal, a space, and the
+-- configuration after it. Patterns are in canonical text, and each line ends in LF.
 use Rattle.std.specs.Prelude.{ℕ, List, [], ◌∷◌, ◌++◌, Option, Some, None, option_map, codes}
 use Rattle.std.specs.Prelude.{decimal}
 use Rattle.std.specs.Option.{option_and_then}

@@ -23,7 +23,8 @@ pub data StepsBy (theory : RewriteTheory) (rule : RewriteRule) (t : Tree) (c : �
     condition_fails : {d : ℕ} {theta : List (Option Tree)} → Matches theory rule t theta
         → Meets theory theta rule.condition c (fails d) → StepsBy theory rule t c stays
     condition_blocked : {theta : List (Option Tree)} {cause : Cause} → Matches theory rule t theta
-        → Meets theory theta rule.condition c (untested cause) → StepsBy theory rule t c (stops cause)
+        → Meets theory theta rule.condition c (untested cause)
+        → StepsBy theory rule t c (stops cause)
     right_side_blocked : {d : ℕ} {theta : List (Option Tree)} {cause : Cause}
         → Matches theory rule t theta → Meets theory theta rule.condition c (holds d)
         → Evaluates theory most_nesting theta rule.right d (blocked cause)
@@ -43,8 +44,8 @@ pub data Leads (theory : RewriteTheory) : Tree → ℕ → List PathStep → Tre
       → Leads theory u d steps v e
       → Leads theory t c (record { byte = rule.place; after = u } ∷ steps) v e
 
--- The steps are a path from the value of the initial term to this configuration, and leave this many
--- calls.
+-- The steps are a path from the value of the initial term to this configuration, and leave this
+-- many calls.
 abbrev pub IsPath : RewriteTheory → Pattern → ℕ → List PathStep → Tree → ℕ → Type 0
 IsPath theory start calls steps u d =
     (t : Tree) × (c : ℕ) × Evaluates theory most_nesting [] start calls (value t c)

@@ -1,5 +1,5 @@
--- Laws on reading: a step by a rule, a line and a file have one outcome each. So a file without a bad
--- line has none, and one with a bad line has one first bad line, which is bad by one number.
+-- Laws on reading: a step by a rule, a line and a file have one outcome each. So a file that is
+-- read as a path has no bad line, and any other has one first bad line, which is bad by one number.
 use Rattle.std.specs.Prelude.{◌≡◌, ℕ, List, Option, Some, slice_get}
 use Rattle.term_core.specs.Terms.{Tree}
 use Rattle.term_core.specs.Patterns.{Pattern}

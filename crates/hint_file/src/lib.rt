@@ -16,6 +16,7 @@ mod laws;
 mod lines;
 mod places;
 mod reading;
+mod sizes;
 mod steps;
 mod writing;
 

@@ -16,6 +16,7 @@ ghost use Rattle.hint_file.specs.ReadAnswers.{AnswersLine, NumbersRules};
 use crate::ends::{HintEnd, LineEnd};
 use crate::lines::{cut_at, line_parts};
 use crate::places::{rule_numbers, rule_of};
+use crate::sizes::has_at_most;
 use crate::steps::step_by;
 use crate::writing::text_of;
 use fun_eval::{Engine, EvalEnd};
@@ -41,10 +42,10 @@ impl HintPath {
     /// The path that a hint file lists, by the engine of the program, with at most this many calls
     /// of functions. The error is the first bad line, or that memory ran out.
     ///
-    /// It goes through the bytes once, line by line. For each line it takes the step, and writes
-    /// the configuration after it to compare it with the line. The time is linear in the bytes and
-    /// in these steps and texts, plus one pass over the symbols for each line. What is kept are the
-    /// records of the steps.
+    /// It goes through the bytes once, line by line. For each line it takes the step, and compares
+    /// the configuration after it with the line's text, at a cost that is linear in that text, plus
+    /// one pass over the symbols. What is kept are the records of the steps: what the values of
+    /// variables, conditions and right sides are made of, which share their terms.
     pub fn read(
         alloc: Global,
         program: &Program,
@@ -175,12 +176,16 @@ fn read_line(
     }
 }
 
-// Whether this is the canonical text of a term.
+// Whether this is the canonical text of a term. A term with more nodes than the text has bytes is
+// not written, so that the time is linear in the text, even if parts of the term are shared.
 fn has_text(alloc: Global, sig: &Signature, term: &Term, text: &[u8]) -> Result<bool, AllocError>
     requires { IsSome (kore_pattern sig.now (ground_pattern term.now)) }
     ensures { IfOk result
         (λ yes. IsTrue yes ↔ (shown_text sig.now (ground_pattern term.now) ≡ Some text.now)) }
 {
+    if !has_at_most(term, text.len()) {
+        return Ok(false);
+    }
     let own = text_of(alloc, sig, &pattern_of(alloc, term)?)?;
     Ok(own.as_bytes() == text)
 }

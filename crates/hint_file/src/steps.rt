@@ -86,8 +86,8 @@ fn test_condition(
     requires config { IsConfiguration (theory_of engine.now) config.now }
     requires rule { slice_get (theory_of engine.now).rules number ≡ Some (rewrite_rule rule.now) }
     requires matches { Matches (theory_of engine.now) (rewrite_rule rule.now) config.now subst.now }
-    ensures { TestsCondition (theory_of engine.now) subst.now (option_map plain_pattern rule.now.cond)
-        calls result }
+    ensures { TestsCondition (theory_of engine.now) subst.now
+        (option_map plain_pattern rule.now.cond) calls result }
 {
     let Some(cond) = &rule.cond else {
         return Ok(Some((None, calls)));

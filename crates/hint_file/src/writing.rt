@@ -43,8 +43,8 @@ pub fn start_hints(
 }
 
 /// Adds the line of the step that a record states. The program must have its rule, and the
-/// configuration after the step must have a Kore pattern. `AllocError`: out of memory. The bytes are
-/// then as before.
+/// configuration after the step must have a Kore pattern. `AllocError`: out of memory. The bytes
+/// are then as before.
 ///
 /// The time is linear in what is written, plus one pass over the symbols.
 pub fn push_hint(

@@ -1,4 +1,5 @@
-use Rattle.std.proofs.Common.{◌≡◌, [], ◌∷◌, ◌++◌, List, ℕ, map, length, subst, sym, ◌∙◌, ap, arith, rules}
+use Rattle.std.proofs.Common.{◌≡◌, [], ◌∷◌, ◌++◌, List, ℕ, map, length, subst, sym, ◌∙◌, ap}
+use Rattle.std.proofs.Common.{arith, rules}
 use Rattle.std.specs.Prelude.{Ok, Err}
 use Rattle.rule_core.specs.ProgramView.{theory_of}
 use Rattle.rule_core.specs.Records.{result_of}
@@ -25,7 +26,8 @@ returns-in_default-clause-bad c =
 
 pub returns-in-Err-Bad-clause-bad : goal.returns-in-Err-Bad-clause-bad
 returns-in-Err-Bad-clause-bad c =
-    rw c.in-Err-Bad.field-0-is (c.loop-rest.invariant.reads (bad_line c.loop-rest.number c.in-Err-Bad.k)
+    rw c.in-Err-Bad.field-0-is (c.loop-rest.invariant.reads
+    (bad_line c.loop-rest.number c.in-Err-Bad.k)
     (bad_step c.in-Some.ensures.found (subst (λ (e : LineEnd). AnswersLine
     (theory_of c.args.engine.now) c.loop-rest.last c.loop-rest.left c.in-Some.line.now (Err e))
     c.in-Err-Bad.field-0-is c.in-Err-Bad.ensures)))
@@ -67,7 +69,8 @@ loop-rest-preserved c =
           (λ (xs : List StepRecord). RecordsLines (theory_of c.args.engine.now) c.args.config.now
           c.args.calls c.args.bytes.now (map plain_step xs ++ ss)) (sym pushed)
           (records_on (theory_of c.args.engine.now) c.args.config.now c.loop-rest.last
-          c.in_ok-last-in-Ok.last c.args.calls c.loop-rest.left c.in-Ok.fewer c.args.bytes.now c.loop-rest.rest.now c.in-Some.line.now
+          c.in_ok-last-in-Ok.last c.args.calls c.loop-rest.left c.in-Ok.fewer c.args.bytes.now
+          c.loop-rest.rest.now c.in-Some.line.now
           c.in-Some.more.now c.loop-rest.steps.items c.in-Ok.step c.loop-rest.invariant.recorded
           c.in-Some.ensures.found read.1 is ss later);
     }
@@ -87,7 +90,8 @@ returns-clause-recorded c =
     grind (arith, c.is_empty.ensures, c.loop-rest-test.false) in
     let empty : c.loop-rest.rest.now ≡ [] = empty_list c.loop-rest.rest.now none in
     records_end (theory_of c.args.engine.now) c.args.config.now c.loop-rest.last c.args.calls
-    c.loop-rest.left c.args.bytes.now c.loop-rest.steps.items (λ ss later. c.loop-rest.invariant.recorded ss
+    c.loop-rest.left c.args.bytes.now c.loop-rest.steps.items (λ ss later.
+    c.loop-rest.invariant.recorded ss
     (subst (λ (bs : List ℕ). RecordsLines (theory_of c.args.engine.now) c.loop-rest.last
     c.loop-rest.left bs ss)
     (sym empty) later))
