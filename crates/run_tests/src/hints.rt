@@ -1,4 +1,4 @@
-// Hint files: what a step is written as, and the first bad lines of files.
+// Hint files and their first bad lines.
 ghost use Rattle.std.specs.Prelude.{◌≡◌, IfSome};
 ghost use Rattle.rule_core.specs.ProgramView.{theory_of};
 ghost use Rattle.rule_core.specs.WellSorted.{IsWellSorted};
@@ -7,14 +7,10 @@ ghost use Rattle.kore_sig.specs.Numbered.{IsNumbered};
 ghost use Rattle.kore_rules.specs.RefusedTexts.{top_of, IsSortOfRules};
 
 use fun_eval::Engine;
-use hint_file::{HintEnd, HintPath, push_hint, start_hints};
-use kore_rules::{accept, accept_term};
-use kore_show::shown_laws;
-use match_tree::Slots;
-use rewriter::{Next, Run};
+use hint_file::{HintEnd, HintPath};
+use kore_rules::accept;
 use rule_core::Program;
 use std::alloc::Global;
-use std::test::Fail;
 
 /// The greatest number of bytes of a text.
 const LIMIT: usize = 10_000;
@@ -79,61 +75,11 @@ fn is_read(
 
 /// A hint file is read up to its first bad line.
 #[test]
-fn first_bad_lines(rt: HostRuntime) -> Result<(), Fail> {
+fn first_bad_lines(rt: HostRuntime) {
     let alloc = rt.alloc();
-    let Some(program) = program_of(alloc, ONE_RULE) else {
-        return Err(Fail::from("refused"));
-    };
+    let program = program_of(alloc, ONE_RULE).expect(&rt, "a program");
     let engine = Engine::new(alloc, &program).expect(&rt, "memory");
     for file in &FILES {
         assert!(rt; is_read(alloc, &program, &engine, file));
     }
-    Ok(())
-}
-
-/// The hint text of one step of the run of a term.
-fn written(
-    alloc: Global,
-    program: &Program,
-    engine: &Engine<'_>,
-    term: &str,
-) -> Result<Vec<u8>, Fail>
-    requires engine { engine.now ≡ program.now }
-    requires well_sorted { IsWellSorted (theory_of program.now) }
-    requires numbered { IsNumbered program.now.sig }
-    requires top { IsSortOfRules (theory_of program.now) (top_of program.now) }
-{
-    shown_laws();
-    let bytes = term.as_bytes();
-    if LIMIT < bytes.len() {
-        return Err(Fail::from("too long"));
-    }
-    let Ok(start) = accept_term(alloc, program, bytes) else {
-        return Err(Fail::from("refused"));
-    };
-    let mut text = Vec::new(alloc);
-    start_hints(alloc, program, &start, &mut text)?;
-    let Ok((mut run, _)) = Run::new(alloc, engine, &start, 10) else {
-        return Err(Fail::from("blocked"));
-    };
-    let tree = engine.rule_tree(alloc)?;
-    let mut slots = Slots::for_tree(alloc, &tree)?;
-    match run.step(alloc, engine, &tree, &mut slots)? {
-        Next::Made(step) => push_hint(alloc, program, &step, &mut text)?,
-        _ => return Err(Fail::from("no step")),
-    }
-    Ok(text)
-}
-
-/// A step is written by the byte of its rule and the configuration after it.
-#[test]
-fn one_step_is_written(rt: HostRuntime) -> Result<(), Fail> {
-    let alloc = rt.alloc();
-    let Some(program) = program_of(alloc, ONE_RULE) else {
-        return Err(Fail::from("refused"));
-    };
-    let engine = Engine::new(alloc, &program).expect(&rt, "memory");
-    let text = written(alloc, &program, &engine, "a{}()")?;
-    assert!(rt; text.as_slice() == "kore-hints 1\na{}()\n98 b{}()\n".as_bytes());
-    Ok(())
 }
