@@ -2,9 +2,9 @@
 use Rattle.std.proofs.Common.{◌≡◌, ◌==◌, ◌||◌, ◌&&◌, ℕ, Bool, true, false, cond, Option, Some, None}
 use Rattle.std.proofs.Common.{option_map, refl, sym, ◌∙◌, ap, subst}
 use Rattle.std.proofs.Common as std
-use Rattle.ml_pat.specs.Patterns.{Pattern, unary, binary, sorted, quantified, var}
+use Rattle.ml_pat.specs.Patterns.{Pattern, unary, binary, sorted, quantified, or, var}
 use Rattle.ml_pat.specs.Judgements.{fresh, substituted, both_parts, under_quantifier}
-use Rattle.ml_pat.specs.FirstPart.{first_part}
+use Rattle.ml_pat.specs.SpinePart.{spine_part}
 use Rattle.ml_pat.specs.Spines.{with_parts}
 use Rattle.ml_pat.specs.Replacing.{both_replaced, one_replaced, under_replaced, replaced, around}
 use Rattle.ml_pat.specs.declared.substitution.SubstitutionResult.{SubstitutionResult}
@@ -103,9 +103,11 @@ replaced-law x u (quantified c y s p) =
 replaced-law x u (var y) = variable (x == y) u y
 replaced-law x u p = refl
 
--- the outcome of the whole is built around the outcome of the first part
-pub around-replaced : (x : ℕ) (u r p : Pattern) → first_part r ≡ Some p
+-- the outcome of the whole is built around the outcome of the part along the spine
+pub around-replaced : (x : ℕ) (u r p : Pattern) → spine_part r ≡ Some p
     → around x u (replaced x u p) r ≡ replaced x u r
+around-replaced x u (or q t) p h =
+    ap (λ (r : Pattern). around x u (replaced x u r) (or q t)) (sym (some_same t p h))
 around-replaced x u (binary c t q) p h =
     ap (λ (r : Pattern). around x u (replaced x u r) (binary c t q)) (sym (some_same t p h))
 around-replaced x u (unary c t) p h =
@@ -116,9 +118,10 @@ around-replaced x u (quantified c y s t) p h =
     ap (λ (r : Pattern). around x u (replaced x u r) (quantified c y s t)) (sym (some_same t p h))
 around-replaced x u r p h = absurd (none_some p h)
 
--- if there is no first part, its outcome is not used
-pub around-lowest : (x : ℕ) (u p : Pattern) (v : SubstitutionResult) → first_part p ≡ None
+-- if there is no such part, its outcome is not used
+pub around-lowest : (x : ℕ) (u p : Pattern) (v : SubstitutionResult) → spine_part p ≡ None
     → around x u v p ≡ replaced x u p
+around-lowest x u (or q t) v h = absurd (none_some t (sym h))
 around-lowest x u (binary c t q) v h = absurd (none_some t (sym h))
 around-lowest x u (unary c t) v h = absurd (none_some t (sym h))
 around-lowest x u (sorted c t s) v h = absurd (none_some t (sym h))

@@ -1,4 +1,4 @@
--- What is known about a pattern, where the judgement of its first part may be left open.
+-- What is known about a pattern, where the judgement of one of its parts may be left open.
 use Rattle.std.specs.Prelude.{◌≡◌, ◌<◌, ℕ, Bool, true, false}
 use Rattle.ml_pat.specs.Patterns.{Pattern}
 use Rattle.ml_pat.specs.FormsIn.{forms_in}

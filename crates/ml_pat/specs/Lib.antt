@@ -4,7 +4,7 @@ pub mod Leaves
 pub mod PatternView
 pub mod Judgements
 pub mod Named
-pub mod FirstPart
+pub mod SpinePart
 -- Laws: what follows from that. Each is a clause of a function that does nothing.
 pub mod KnownLeaves
 -- Private: what clauses of private functions cite, and how private fields are seen.

@@ -1,6 +1,6 @@
 -- The outcome of substituting u for each free x in a pattern, given the outcomes for its parts.
 use Rattle.std.specs.Prelude.{ℕ, Bool, true, false, ◌==◌, if◌then◌else◌}
-use Rattle.ml_pat.specs.Patterns.{Pattern, unary, binary, sorted, quantified, var}
+use Rattle.ml_pat.specs.Patterns.{Pattern, unary, binary, sorted, quantified, or, var}
 use Rattle.ml_pat.specs.Judgements.{fresh}
 use Rattle.ml_pat.specs.Spines.{with_parts}
 use Rattle.ml_pat.specs.declared.substitution.SubstitutionResult.{SubstitutionResult}
@@ -46,12 +46,13 @@ replaced x u (quantified c y s p) =
 replaced x u (var y) = if x == y then New u else Kept
 replaced x u p = Kept
 
--- the outcome for a pattern, given the outcome for its first part, if it has one
+-- the outcome for a pattern, given the outcome for its part along the spine, if it has one
 abbrev pub around : ℕ → Pattern → SubstitutionResult → Pattern → SubstitutionResult
-around x u first (binary c p q) =
-    both_replaced (with_parts (binary c p q)) p q first (replaced x u q)
-around x u first (unary c p) = one_replaced (with_parts (unary c p)) first
-around x u first (sorted c p s) = one_replaced (with_parts (sorted c p s)) first
-around x u first (quantified c y s p) =
-    if x == y then Kept else under_replaced (with_parts (quantified c y s p)) (fresh y u) first
-around x u first p = replaced x u p
+around x u spine (or p q) = both_replaced (with_parts (or p q)) p q (replaced x u p) spine
+around x u spine (binary c p q) =
+    both_replaced (with_parts (binary c p q)) p q spine (replaced x u q)
+around x u spine (unary c p) = one_replaced (with_parts (unary c p)) spine
+around x u spine (sorted c p s) = one_replaced (with_parts (sorted c p s)) spine
+around x u spine (quantified c y s p) =
+    if x == y then Kept else under_replaced (with_parts (quantified c y s p)) (fresh y u) spine
+around x u spine p = replaced x u p

@@ -1,13 +1,13 @@
--- A pattern along its first parts, in which patterns are deep, and a pattern with other parts.
+-- A pattern along its spine, where patterns are deep, and a pattern with other parts.
 use Rattle.std.specs.Prelude.{◌≡◌, List, [], ◌∷◌, Some}
 use Rattle.std.specs.Borrow.{Bor}
 use Rattle.ml_pat.specs.Patterns.{Pattern, unary, binary, sorted, quantified}
-use Rattle.ml_pat.specs.FirstPart.{first_part}
+use Rattle.ml_pat.specs.SpinePart.{spine_part}
 
--- the path from a pattern down its first parts, from the top on, and where it ends
+-- the path from a pattern down its spine, from the top on, and where it ends
 abbrev pub LeadsTo : Pattern → List (Bor Pattern) → Pattern → Type 0
 LeadsTo p [] q = p ≡ q
-LeadsTo p (r ∷ rs) q = (p ≡ r.now) × ((s : Pattern) × ((first_part p ≡ Some s) × LeadsTo s rs q))
+LeadsTo p (r ∷ rs) q = (p ≡ r.now) × ((s : Pattern) × ((spine_part p ≡ Some s) × LeadsTo s rs q))
 
 -- the pattern with its first part, if it has one, replaced by r, and its second part, if it has
 -- one, replaced by t

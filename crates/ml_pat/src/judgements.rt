@@ -16,8 +16,9 @@ pub(crate) enum Judgement<'a> {
     AsPart(&'a MPat),
 }
 
-/// Whether x is not free in the pattern. It allocates no memory. It loops along first parts,
-/// because patterns are deep there, and recurses into other parts.
+/// Whether x is not free in the pattern. It allocates no memory. It loops along first parts, and
+/// along the second part of a disjunction, because patterns are deep there, and recurses into other
+/// parts.
 #[cycle(fresh)]
 pub fn fresh(x: VarNo, pat: &MPat) -> bool
     ensures { result ≡ fresh x.0 pat.now }
@@ -26,12 +27,12 @@ pub fn fresh(x: VarNo, pat: &MPat) -> bool
     loop {
         match fresh_by_form(x, part.form()) {
             Judgement::Known(answer) => return answer,
-            Judgement::AsPart(first) => part = first,
+            Judgement::AsPart(next) => part = next,
         }
     }
 }
 
-// Decides by every part except the first.
+// Decides by every part except the one that is deep.
 #[cycle(fresh)]
 fn fresh_by_form<'a>(x: VarNo, form: &'a MForm) -> Judgement<'a>
     ensures { JudgesFresh x.0 (pattern_of form.now) result }
@@ -41,10 +42,10 @@ fn fresh_by_form<'a>(x: VarNo, form: &'a MForm) -> Judgement<'a>
         MForm::Var(y) => Judgement::Known(x != *y),
         MForm::Imp(p, q)
         | MForm::And(p, q)
-        | MForm::Or(p, q)
         | MForm::Equal(p, q)
         | MForm::Member(p, q)
         | MForm::App(p, q) => as_part_where(fresh(x, q), p),
+        MForm::Or(p, q) => as_part_where(fresh(x, p), q),
         MForm::Not(p) | MForm::Fun(p, _) | MForm::At(p, _) | MForm::Next(p) | MForm::Ev(p) =>
             Judgement::AsPart(p),
         MForm::Ex(y, _, p) | MForm::All(y, _, p) => as_part_unless(x == *y, p),
@@ -52,7 +53,7 @@ fn fresh_by_form<'a>(x: VarNo, form: &'a MForm) -> Judgement<'a>
 }
 
 /// Whether the form of the pattern makes it everything or nothing. It allocates no memory. It loops
-/// along first parts, and recurses into other parts.
+/// along first parts, and along the second part of a disjunction, and recurses into other parts.
 #[cycle(is_pred)]
 pub fn is_pred(pat: &MPat) -> bool
     ensures { result ≡ predicate pat.now }
@@ -61,12 +62,12 @@ pub fn is_pred(pat: &MPat) -> bool
     loop {
         match predicate_by_form(part.form()) {
             Judgement::Known(answer) => return answer,
-            Judgement::AsPart(first) => part = first,
+            Judgement::AsPart(next) => part = next,
         }
     }
 }
 
-// Decides by every part except the first.
+// Decides by every part except the one that is deep.
 #[cycle(is_pred)]
 fn predicate_by_form<'a>(form: &'a MForm) -> Judgement<'a>
     ensures { JudgesPredicate (pattern_of form.now) result }
@@ -81,7 +82,8 @@ fn predicate_by_form<'a>(form: &'a MForm) -> Judgement<'a>
         | MForm::Var(_)
         | MForm::Meta(_)
         | MForm::Const(_) => Judgement::Known(false),
-        MForm::Imp(p, q) | MForm::And(p, q) | MForm::Or(p, q) => as_part_where(is_pred(q), p),
+        MForm::Imp(p, q) | MForm::And(p, q) => as_part_where(is_pred(q), p),
+        MForm::Or(p, q) => as_part_where(is_pred(p), q),
         MForm::Not(p) | MForm::Ex(_, _, p) | MForm::All(_, _, p) => Judgement::AsPart(p),
     }
 }

@@ -17,4 +17,4 @@ pub use judgements::{fresh, is_pred};
 pub use names::Names;
 pub use numbers::{ConstNo, MSort, VarNo};
 pub use patterns::{MForm, MPat};
-pub use substitution::{first_part, subst};
+pub use substitution::{spine_part, subst};

@@ -2,7 +2,7 @@
 ghost use Rattle.std.specs.Prelude.{◌≡◌, ◌==◌, option_copied, IfOk};
 ghost use Rattle.ml_pat.specs.Judgements.{fresh, substituted};
 ghost use Rattle.ml_pat.specs.PatternView.{pattern_of};
-ghost use Rattle.ml_pat.specs.FirstPart.{first_part};
+ghost use Rattle.ml_pat.specs.SpinePart.{spine_part};
 ghost use Rattle.ml_pat.specs.Spines.{with_parts};
 ghost use Rattle.ml_pat.specs.Replacing.{replaced, around, both_replaced, one_replaced};
 ghost use Rattle.ml_pat.specs.Replacing.{under_replaced};
@@ -25,8 +25,9 @@ pub(crate) enum SubstitutionResult {
 }
 
 /// The pattern with `by` substituted for each free x, or None if a free variable of `by` would be
-/// captured. Each part in which x is not free is shared. It loops along first parts, because
-/// patterns are deep there, and recurses into other parts. An error: out of memory.
+/// captured. Each part in which x is not free is shared. It loops along first parts, and along the
+/// second part of a disjunction, because patterns are deep there, and recurses into other parts. An
+/// error: out of memory.
 pub fn subst(alloc: Global, pat: &MPat, x: VarNo, by: &MPat) -> Result<Option<MPat>, AllocError>
     ensures { IfOk result (λ r. r ≡ substituted pat.now x.0 by.now) }
 {
@@ -37,7 +38,7 @@ pub fn subst(alloc: Global, pat: &MPat, x: VarNo, by: &MPat) -> Result<Option<MP
     }
 }
 
-// Goes down the first parts and back up.
+// Goes down the spine and back up.
 #[cycle(replaced)]
 fn replaced(
     alloc: Global,
@@ -49,9 +50,9 @@ fn replaced(
 {
     let mut above = Vec::new(alloc);
     let mut lowest = pat;
-    while let Some(first) = first_part(lowest.form()) {
+    while let Some(part) = spine_part(lowest.form()) {
         above.push(lowest)?;
-        lowest = first;
+        lowest = part;
     }
     let mut made = replaced_around(alloc, x, by, lowest, SubstitutionResult::Kept)?;
     while let Some(whole) = above.pop() {
@@ -60,16 +61,16 @@ fn replaced(
     Ok(made)
 }
 
-// The outcome for a pattern, given the outcome for its first part, if it has one.
+// The outcome for a pattern, given the outcome for its part along the spine, if it has one.
 #[cycle(replaced)]
 fn replaced_around(
     alloc: Global,
     x: VarNo,
     by: &MPat,
     pat: &MPat,
-    first: SubstitutionResult,
+    spine: SubstitutionResult,
 ) -> Result<SubstitutionResult, AllocError>
-    ensures { IfOk result (λ made. made ≡ around x.0 by.now first pat.now) }
+    ensures { IfOk result (λ made. made ≡ around x.0 by.now spine pat.now) }
 {
     match pat.form() {
         MForm::Bot | MForm::Top | MForm::Meta(_) | MForm::Const(_) => Ok(SubstitutionResult::Kept),
@@ -80,19 +81,22 @@ fn replaced_around(
         },
         MForm::Imp(p, q)
         | MForm::And(p, q)
-        | MForm::Or(p, q)
         | MForm::Equal(p, q)
         | MForm::Member(p, q)
         | MForm::App(p, q) => {
             let second = replaced(alloc, x, by, q)?;
-            both_replaced(alloc, pat, p, q, first, second)
+            both_replaced(alloc, pat, p, q, spine, second)
+        }
+        MForm::Or(p, q) => {
+            let first = replaced(alloc, x, by, p)?;
+            both_replaced(alloc, pat, p, q, first, spine)
         }
         MForm::Not(_) | MForm::Fun(_, _) | MForm::At(_, _) | MForm::Next(_) | MForm::Ev(_) =>
-            one_replaced(alloc, pat, first),
+            one_replaced(alloc, pat, spine),
         MForm::Ex(y, _, _) | MForm::All(y, _, _) => if x == *y {
             Ok(SubstitutionResult::Kept)
         } else {
-            under_replaced(alloc, pat, *y, by, first)
+            under_replaced(alloc, pat, *y, by, spine)
         },
     }
 }
@@ -186,15 +190,16 @@ fn with_parts(alloc: Global, pat: &MPat, p: &MPat, q: &MPat) -> Result<MPat, All
     }
 }
 
-/// The first part of a pattern of this form, if it has one. A loop along first parts visits a deep
-/// pattern without recursion.
-pub fn first_part(form: &MForm) -> Option<&MPat>
-    ensures { option_copied result ≡ first_part (pattern_of form.now) }
+/// The part along which patterns of this form are deep, if they have parts: the second part of a
+/// disjunction, and the first part of the others. A loop along these parts visits a deep pattern
+/// without recursion.
+pub fn spine_part(form: &MForm) -> Option<&MPat>
+    ensures { option_copied result ≡ spine_part (pattern_of form.now) }
 {
     match form {
         MForm::Imp(p, _)
         | MForm::And(p, _)
-        | MForm::Or(p, _)
+        | MForm::Or(_, p)
         | MForm::Equal(p, _)
         | MForm::Member(p, _)
         | MForm::App(p, _)

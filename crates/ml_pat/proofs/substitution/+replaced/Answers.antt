@@ -1,7 +1,7 @@
 use Rattle.std.proofs.Common.{◌≡◌, ◌++◌, ◌∷◌, [], List, Bor, Some, ◌∙◌, ap, sym, subst, arith}
 use Rattle.std.proofs.Common.{rules}
 use Rattle.ml_pat.specs.Patterns.{Pattern}
-use Rattle.ml_pat.specs.FirstPart.{first_part}
+use Rattle.ml_pat.specs.SpinePart.{spine_part}
 use Rattle.ml_pat.specs.Spines.{LeadsTo}
 use Rattle.ml_pat.specs.Replacing.{around}
 use Rattle.ml_pat.specs.declared.substitution.SubstitutionResult.{SubstitutionResult}
@@ -9,16 +9,16 @@ use Rattle.ml_pat.proofs.SpineLaws.{LeadsTo-push, LeadsTo-pop, LeadsTo-smaller}
 use Rattle.ml_pat.proofs.ReplacingLaws.{around-replaced}
 use Rattle.ml_pat.proofs.substitution.+replaced.Goals as goal
 
-pub replaced-loop-first-preserved : goal.replaced-loop-first-preserved
-replaced-loop-first-preserved t c =
-    subst (λ (rs : List (Bor Pattern)). LeadsTo c.args.pat.now rs c.in-Some.first.now)
+pub replaced-loop-part-preserved : goal.replaced-loop-part-preserved
+replaced-loop-part-preserved t c =
+    subst (λ (rs : List (Bor Pattern)). LeadsTo c.args.pat.now rs c.in-Some.part.now)
     (sym c.in_ok-push.ensures.items)
-    (LeadsTo-push c.args.pat.now c.loop-first.above.items c.loop-first.lowest c.in-Some.first.now
-    c.loop-first.invariant (search rules))
+    (LeadsTo-push c.args.pat.now c.loop-part.above.items c.loop-part.lowest c.in-Some.part.now
+    c.loop-part.invariant (search rules))
 
 pub replaced-replaced_around-requires : goal.replaced-replaced_around-requires
 replaced-replaced_around-requires t c =
-    (omega (arith, LeadsTo-smaller _ _ _ c.loop-first.invariant, c.decreases), tt)
+    (omega (arith, LeadsTo-smaller _ _ _ c.loop-part.invariant, c.decreases), tt)
 
 pub replaced-replaced_around-requires-in-Some-pop :
     goal.replaced-replaced_around-requires-in-Some-pop
@@ -36,7 +36,7 @@ replaced-loop-whole-preserved t c =
     subst (λ (rs : List (Bor Pattern)). LeadsTo c.args.pat.now rs c.loop-whole.invariant.0)
     c.in-Some-pop.ensures.items c.loop-whole.invariant.1.0 in
     let above : LeadsTo c.args.pat.now c.pop.new.self.items c.in-Some-pop.whole.now ×
-    (first_part c.in-Some-pop.whole.now ≡ Some c.loop-whole.invariant.0) =
+    (spine_part c.in-Some-pop.whole.now ≡ Some c.loop-whole.invariant.0) =
     LeadsTo-pop _ _ _ _ way in (
       c.in-Some-pop.whole.now,
       (

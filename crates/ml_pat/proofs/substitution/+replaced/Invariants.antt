@@ -11,11 +11,11 @@ decreases-replaced l = 2 * forms_in l.pat.now + 1
 abbrev pub decreases-replaced_around : goal.decreases-replaced_around
 decreases-replaced_around l = 2 * forms_in l.pat.now
 
-abbrev pub invariant-replaced-loop-first : goal.invariant-replaced-loop-first
-invariant-replaced-loop-first l = LeadsTo l.fn.pat l.above.items l.lowest
+abbrev pub invariant-replaced-loop-part : goal.invariant-replaced-loop-part
+invariant-replaced-loop-part l = LeadsTo l.fn.pat l.above.items l.lowest
 
-abbrev pub decreases-replaced-loop-first : goal.decreases-replaced-loop-first
-decreases-replaced-loop-first l = forms_in l.lowest
+abbrev pub decreases-replaced-loop-part : goal.decreases-replaced-loop-part
+decreases-replaced-loop-part l = forms_in l.lowest
 
 abbrev pub invariant-replaced-loop-whole : goal.invariant-replaced-loop-whole
 invariant-replaced-loop-whole l =
