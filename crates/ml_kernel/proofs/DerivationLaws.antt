@@ -9,7 +9,7 @@ use Rattle.ml_pat.specs.Patterns.{Pattern}
 use Rattle.ml_kernel.specs.Rules as rules
 use Rattle.ml_kernel.specs.Rules.{Instance, pattern, variable, sort, Infers}
 use Rattle.ml_kernel.specs.declared.rules.Rule.{Rule}
-use Rattle.ml_kernel.specs.Renamings.{Renames, IsRenaming, by_place}
+use Rattle.ml_kernel.specs.Renamings.{IsRenaming, by_place}
 use Rattle.ml_kernel.specs.Derivability.{Derives, AllDerive, by_hypothesis, by_axiom, by_renaming}
 use Rattle.ml_kernel.specs.Derivability.{by_rule as ruled, none_left, one_more}
 use Rattle.ml_kernel.specs.Lemmas.{instance, instances, HasNoMeta, HaveNoVariables}

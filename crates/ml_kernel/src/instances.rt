@@ -4,7 +4,7 @@ ghost use Rattle.ml_pat.specs.PatternView.{pattern_of};
 ghost use Rattle.ml_kernel.specs.Lemmas.{instance, IsMetaBelow};
 ghost use Rattle.ml_kernel.specs.Spines.{around};
 
-use ml_pat::{MForm, MPat, first_part};
+use ml_pat::{MForm, MPat, spine_part};
 use std::alloc::{AllocError, Global};
 
 // The pattern with its pattern variables replaced by patterns. If there are no such patterns, the
@@ -19,17 +19,17 @@ pub(crate) fn instance(alloc: Global, metas: &[MPat], pat: &MPat) -> Result<MPat
     filled(alloc, metas, pat)
 }
 
-// It loops down the first parts, because patterns are deep there, and back up. It recurses into
-// other parts.
+// It loops down the spine, because patterns are deep there, and back up. It recurses into other
+// parts.
 #[cycle(filled)]
 fn filled(alloc: Global, metas: &[MPat], pat: &MPat) -> Result<MPat, AllocError>
     ensures { IfOk result (λ made. made ≡ instance metas.now pat.now) }
 {
     let mut above = Vec::new(alloc);
     let mut lowest = pat;
-    while let Some(first) = first_part(lowest.form()) {
+    while let Some(part) = spine_part(lowest.form()) {
         above.push(lowest)?;
-        lowest = first;
+        lowest = part;
     }
     let mut made = filled_around(alloc, metas, lowest, lowest)?;
     while let Some(whole) = above.pop() {
@@ -38,31 +38,31 @@ fn filled(alloc: Global, metas: &[MPat], pat: &MPat) -> Result<MPat, AllocError>
     Ok(made)
 }
 
-// The instance of a pattern, built around the instance of its first part, if it has one.
+// The instance of a pattern, built around the instance of its part along the spine, if it has one.
 #[cycle(filled)]
 fn filled_around(
     alloc: Global,
     metas: &[MPat],
     pat: &MPat,
-    first: &MPat,
+    spine: &MPat,
 ) -> Result<MPat, AllocError>
-    ensures { IfOk result (λ made. made ≡ around metas.now first.now pat.now) }
+    ensures { IfOk result (λ made. made ≡ around metas.now spine.now pat.now) }
 {
     match pat.form() {
         MForm::Bot | MForm::Top | MForm::Var(_) | MForm::Const(_) => pat.share(),
-        MForm::Imp(_, q) => MPat::imp(alloc, first, &filled(alloc, metas, q)?),
-        MForm::Not(_) => MPat::not(alloc, first),
-        MForm::And(_, q) => MPat::and(alloc, first, &filled(alloc, metas, q)?),
-        MForm::Or(_, q) => MPat::or(alloc, first, &filled(alloc, metas, q)?),
-        MForm::Equal(_, q) => MPat::equal(alloc, first, &filled(alloc, metas, q)?),
-        MForm::Member(_, q) => MPat::member(alloc, first, &filled(alloc, metas, q)?),
-        MForm::Fun(_, s) => MPat::fun(alloc, first, *s),
-        MForm::Ex(x, s, _) => MPat::ex(alloc, *x, *s, first),
-        MForm::All(x, s, _) => MPat::all(alloc, *x, *s, first),
-        MForm::App(_, q) => MPat::app(alloc, first, &filled(alloc, metas, q)?),
-        MForm::At(_, s) => MPat::at(alloc, first, *s),
-        MForm::Next(_) => MPat::next(alloc, first),
-        MForm::Ev(_) => MPat::ev(alloc, first),
+        MForm::Imp(_, q) => MPat::imp(alloc, spine, &filled(alloc, metas, q)?),
+        MForm::Not(_) => MPat::not(alloc, spine),
+        MForm::And(_, q) => MPat::and(alloc, spine, &filled(alloc, metas, q)?),
+        MForm::Or(p, _) => MPat::or(alloc, &filled(alloc, metas, p)?, spine),
+        MForm::Equal(_, q) => MPat::equal(alloc, spine, &filled(alloc, metas, q)?),
+        MForm::Member(_, q) => MPat::member(alloc, spine, &filled(alloc, metas, q)?),
+        MForm::Fun(_, s) => MPat::fun(alloc, spine, *s),
+        MForm::Ex(x, s, _) => MPat::ex(alloc, *x, *s, spine),
+        MForm::All(x, s, _) => MPat::all(alloc, *x, *s, spine),
+        MForm::App(_, q) => MPat::app(alloc, spine, &filled(alloc, metas, q)?),
+        MForm::At(_, s) => MPat::at(alloc, spine, *s),
+        MForm::Next(_) => MPat::next(alloc, spine),
+        MForm::Ev(_) => MPat::ev(alloc, spine),
         MForm::Meta(i) => filled_meta(metas, *i, pat),
     }
 }

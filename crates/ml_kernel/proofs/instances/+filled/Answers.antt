@@ -1,23 +1,23 @@
 use Rattle.std.proofs.Common.{◌≡◌, ◌++◌, ◌∷◌, [], List, Bor, Some, ◌∙◌, ap, sym, subst, arith}
 use Rattle.std.proofs.Common.{rules}
 use Rattle.ml_pat.specs.Patterns.{Pattern}
-use Rattle.ml_pat.specs.FirstPart.{first_part}
+use Rattle.ml_pat.specs.SpinePart.{spine_part}
 use Rattle.ml_pat.specs.Spines.{LeadsTo}
 use Rattle.ml_pat.proofs.SpineLaws.{LeadsTo-push, LeadsTo-pop, LeadsTo-smaller}
 use Rattle.ml_kernel.specs.Spines.{around}
 use Rattle.ml_kernel.proofs.SpineLaws.{around-instance}
 use Rattle.ml_kernel.proofs.instances.+filled.Goals as goal
 
-pub filled-loop-first-preserved : goal.filled-loop-first-preserved
-filled-loop-first-preserved t c =
-    subst (λ (rs : List (Bor Pattern)). LeadsTo c.args.pat.now rs c.in-Some.first.now)
+pub filled-loop-part-preserved : goal.filled-loop-part-preserved
+filled-loop-part-preserved t c =
+    subst (λ (rs : List (Bor Pattern)). LeadsTo c.args.pat.now rs c.in-Some.part.now)
     (sym c.in_ok-push.ensures.items)
-    (LeadsTo-push c.args.pat.now c.loop-first.above.items c.loop-first.lowest c.in-Some.first.now
-    c.loop-first.invariant (search rules))
+    (LeadsTo-push c.args.pat.now c.loop-part.above.items c.loop-part.lowest c.in-Some.part.now
+    c.loop-part.invariant (search rules))
 
 pub filled-filled_around-requires : goal.filled-filled_around-requires
 filled-filled_around-requires t c =
-    (omega (arith, LeadsTo-smaller _ _ _ c.loop-first.invariant, c.decreases), tt)
+    (omega (arith, LeadsTo-smaller _ _ _ c.loop-part.invariant, c.decreases), tt)
 
 pub filled-filled_around-requires-in-Some-pop : goal.filled-filled_around-requires-in-Some-pop
 filled-filled_around-requires-in-Some-pop t c =
@@ -34,7 +34,7 @@ filled-loop-whole-preserved t c =
     subst (λ (rs : List (Bor Pattern)). LeadsTo c.args.pat.now rs c.loop-whole.invariant.0)
     c.in-Some-pop.ensures.items c.loop-whole.invariant.1.0 in
     let above : LeadsTo c.args.pat.now c.pop.new.self.items c.in-Some-pop.whole.now ×
-    (first_part c.in-Some-pop.whole.now ≡ Some c.loop-whole.invariant.0) =
+    (spine_part c.in-Some-pop.whole.now ≡ Some c.loop-whole.invariant.0) =
     LeadsTo-pop _ _ _ _ way in (
       c.in-Some-pop.whole.now,
       (

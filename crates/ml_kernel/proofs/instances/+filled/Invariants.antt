@@ -11,11 +11,11 @@ decreases-filled l = 2 * forms_in l.pat.now + 1
 abbrev pub decreases-filled_around : goal.decreases-filled_around
 decreases-filled_around l = 2 * forms_in l.pat.now
 
-abbrev pub invariant-filled-loop-first : goal.invariant-filled-loop-first
-invariant-filled-loop-first l = LeadsTo l.fn.pat l.above.items l.lowest
+abbrev pub invariant-filled-loop-part : goal.invariant-filled-loop-part
+invariant-filled-loop-part l = LeadsTo l.fn.pat l.above.items l.lowest
 
-abbrev pub decreases-filled-loop-first : goal.decreases-filled-loop-first
-decreases-filled-loop-first l = forms_in l.lowest
+abbrev pub decreases-filled-loop-part : goal.decreases-filled-loop-part
+decreases-filled-loop-part l = forms_in l.lowest
 
 abbrev pub invariant-filled-loop-whole : goal.invariant-filled-loop-whole
 invariant-filled-loop-whole l =
