@@ -58,15 +58,20 @@ ProvesPath c code =
     c.course.out'.bytes
 
 -- the file is empty, or holds the front of a proof of the path, cut after one of its configurations
+pub record HoldsPathFront (told told' : Option Told) (file : List ℕ) (theory : RewriteTheory)
+    (start : Pattern) (first : Tree) (steps : List StepRecord) : Type 0 where
+  pub bytes : List ℕ
+  pub held : TellsNow told told' file bytes
+  pub front : (bytes ≡ []) ⊎ IsFrontOfPath theory start first steps bytes
+
+-- the same, for the path that the hints list
 pub record HoldsFrontOfPath (asked : ProveRequest) (told told' : Option Told) : Type 0 where
   pub theory : RewriteTheory
   pub start : Pattern
   pub first : Record
   pub steps : List StepRecord
   pub path : HoldsPath told asked theory start first steps
-  pub bytes : List ℕ
-  pub held : TellsNow told told' asked.proof bytes
-  pub front : (bytes ≡ []) ⊎ IsFrontOfPath theory start (result_of first) steps bytes
+  pub holds : HoldsPathFront told told' asked.proof theory start (result_of first) steps
 
 -- the file is as before, or it was created and holds the front of a proof
 abbrev pub LeavesPath : ProveRequest → Option Told → Option Told → Type 0

@@ -110,7 +110,7 @@ fn proof_of_run<'p>(
     let Ok(()) = desk.create_file("p.mm") else {
         return None;
     };
-    match run_with_proof(alloc, desk, engine, &accepted.start, 5, 1_000) {
+    match run_with_proof(alloc, desk, engine, &accepted.start, 5, 1_000, &mut hints) {
         Ok((_, proof)) => Some(proof),
         Err(_) => None,
     }
