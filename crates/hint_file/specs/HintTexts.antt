@@ -4,13 +4,14 @@
 use Rattle.std.specs.Prelude.{ℕ, List, [], ◌∷◌, ◌++◌, Option, Some, None, option_map, codes}
 use Rattle.std.specs.Prelude.{decimal}
 use Rattle.std.specs.Option.{option_and_then}
+use Rattle.term_core.specs.Terms.{Tree}
 use Rattle.term_core.specs.Patterns.{Pattern, ground_pattern}
-use Rattle.rule_core.specs.Records.{StepRecord}
+use Rattle.rule_core.specs.Records.{StepRecord, result_of}
 use Rattle.rule_core.specs.Theories.{RewriteTheory}
 use Rattle.rule_core.specs.declared.signature.Signature.{Signature}
 use Rattle.kore_print.specs.CanonicalText.{canonical_text}
 use Rattle.kore_show.specs.KorePatterns.{kore_pattern}
-use Rattle.hint_file.specs.Paths.{PathStep, stated_step}
+use Rattle.hint_file.specs.Paths.{PathStep, numbered_step}
 
 -- the canonical text of a pattern, if it has a Kore pattern
 abbrev pub shown_text : Signature → Pattern → Option (List ℕ)
@@ -34,9 +35,14 @@ step_line sig step =
     option_map (λ (text : List ℕ). decimal step.byte ++ (32 ∷ ended text))
     (shown_text sig (ground_pattern step.after))
 
+-- the line of the step by the rule with this number to a configuration
+abbrev pub numbered_line : RewriteTheory → ℕ → Tree → Option (List ℕ)
+numbered_line theory number after =
+    option_and_then (step_line theory.sig) (numbered_step theory number after)
+
 -- the line of the step that a record states
 abbrev pub stated_line : RewriteTheory → StepRecord → Option (List ℕ)
-stated_line theory s = option_and_then (step_line theory.sig) (stated_step theory s)
+stated_line theory s = numbered_line theory s.rule (result_of s.right)
 
 -- one text after another
 abbrev pub joined : Option (List ℕ) → Option (List ℕ) → Option (List ℕ)

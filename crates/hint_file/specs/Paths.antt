@@ -51,12 +51,15 @@ IsPath theory start calls steps u d =
     (t : Tree) × (c : ℕ) × Evaluates theory most_nesting [] start calls (value t c)
     × Leads theory t c steps u d
 
+-- the step by the rule with this number to a configuration, if the program has the rule
+abbrev pub numbered_step : RewriteTheory → ℕ → Tree → Option PathStep
+numbered_step theory number after =
+    option_map (λ (rule : RewriteRule). record { byte = rule.place; after = after })
+    (slice_get theory.rules number)
+
 -- the step that a record states, if the program has its rule
 abbrev pub stated_step : RewriteTheory → StepRecord → Option PathStep
-stated_step theory s =
-    option_map
-    (λ (rule : RewriteRule). record { byte = rule.place; after = result_of s.right })
-    (slice_get theory.rules s.rule)
+stated_step theory s = numbered_step theory s.rule (result_of s.right)
 
 -- the steps that records state, if the program has their rules
 abbrev pub with_step : Option PathStep → Option (List PathStep) → Option (List PathStep)

@@ -1,6 +1,7 @@
 // The laws on paths, their texts, and the reading of hint files.
 ghost use Rattle.hint_file.specs.HintLaws.{PathsGrow, TextsGrow};
 ghost use Rattle.hint_file.specs.ReadingLaws.{StepByIsOne, LineIsOne, FileIsOne, ReadIsPath};
+ghost use Rattle.hint_file.specs.RunTextLaws.{HintTextIsOne};
 
 use kore_rules::acceptance_laws;
 use std::alloc::Global;
@@ -20,3 +21,8 @@ pub fn reading_laws(alloc: Global)
 {
     acceptance_laws(alloc);
 }
+
+/// A run has one hint text.
+pub fn run_text_laws()
+    ensures { HintTextIsOne }
+{}

@@ -7,7 +7,8 @@ ghost use Rattle.rule_core.specs.ProgramView.{theory_of, rewrite_rule};
 ghost use Rattle.rule_core.specs.Records.{result_of};
 ghost use Rattle.rule_core.specs.RecordView.{plain_record, plain_step};
 ghost use Rattle.kore_show.specs.KorePatterns.{kore_pattern};
-ghost use Rattle.hint_file.specs.HintTexts.{first_lines, joined, shown_text, stated_line};
+ghost use Rattle.hint_file.specs.HintTexts.{first_lines, joined, numbered_line, shown_text};
+ghost use Rattle.hint_file.specs.HintTexts.{stated_line};
 
 use crate::places::rule_of;
 use itoa::Buffer;
@@ -15,7 +16,7 @@ use kore_print::print_pattern;
 use kore_show::shown;
 use rule_core::{Program, Signature, StepRecord};
 use std::alloc::{AllocError, Global};
-use term_core::{RulePat, pattern_of};
+use term_core::{RulePat, Term, pattern_of};
 
 /// Adds lines 1 and 2 of the hint text of steps from this initial term. The term must have a Kore
 /// pattern. Every well-sorted pattern without variables has one (`shown_laws` of `kore_show`).
@@ -62,8 +63,27 @@ pub fn push_hint(
         ≡ Some to.new.items) }
     ensures err { OnErr result (to.new.items ≡ to.old.items) }
 {
-    let rule = rule_of(program, made.rule);
-    let after = pattern_of(alloc, made.right.result())?;
+    push_step(alloc, program, made.rule, made.right.result(), to)
+}
+
+// Adds the line of the step by the rule with this number to a configuration. The bytes are as
+// before if memory runs out.
+pub(crate) fn push_step(
+    alloc: Global,
+    program: &Program,
+    number: u32,
+    after: &Term,
+    to: &mut Vec<u8>,
+) -> Result<(), AllocError>
+    requires rule { number < length (theory_of program.now).rules }
+    requires shown { IsSome (kore_pattern program.now.sig (ground_pattern after.now)) }
+    ensures written { OnOk result
+        (joined (Some to.old.items) (numbered_line (theory_of program.now) number after.now)
+        ≡ Some to.new.items) }
+    ensures err { OnErr result (to.new.items ≡ to.old.items) }
+{
+    let rule = rule_of(program, number);
+    let after = pattern_of(alloc, after)?;
     let text = text_of(alloc, &program.sig, &after)?;
     let mut line = Vec::from_slice(alloc, Buffer::new().format(rule.at).as_bytes())?;
     line.push(b' ')?;

@@ -14,6 +14,9 @@ use Rattle.kore_prove.specs.DrillWords.{DrillRequest, IsDrill}
 use Rattle.kore_prove.specs.RunWords.{RunRequest, IsRun}
 use Rattle.kore_prove.specs.VerifyWords.{IsVerify}
 use Rattle.kore_prove.specs.CheckWords.{CheckRequest, IsCheck}
+use Rattle.kore_prove.specs.ProveWords.{ProveRequest, IsProve}
+use Rattle.rule_core.specs.Records.{Record, StepRecord}
+use Rattle.kore_prove.specs.PathFiles.{hints_limit, HoldsPath, HoldsBadLine}
 use Rattle.kore_prove.specs.BadWords.{AreBad}
 use Rattle.kore_prove.specs.Courses.{Course, Call}
 use Rattle.kore_prove.specs.CountedFaults.{CountsReadFault, CountsWriteFault, CountsOutputFault}
@@ -21,10 +24,11 @@ use Rattle.kore_prove.specs.Limits.{HoldsWithin, definition_limit, term_limit}
 use Rattle.kore_prove.specs.Verdicts.{database_limit}
 use Rattle.kore_prove.specs.Files.{HoldsProgram, HoldsRun}
 use Rattle.kore_prove.specs.DrillProgram.{IsDrillProgram}
-use Rattle.kore_prove.specs.BegunLines.{BeginsRun, BeginsVerdict, BeginsCheck, BeginsDrill}
+use Rattle.kore_prove.specs.BegunLines.{BeginsRun, BeginsVerdict, BeginsCheck, BeginsPath}
+use Rattle.kore_prove.specs.BegunLines.{BeginsDrill}
 use Rattle.kore_prove.specs.Reports.{Ending, out_of_memory, bad_words, read_fault, write_fault}
 use Rattle.kore_prove.specs.Reports.{no_such_file, definition_refused, term_refused, too_large}
-use Rattle.kore_prove.specs.Reports.{Reports}
+use Rattle.kore_prove.specs.Reports.{hints_refused, Reports}
 
 -- the definition in the file of that name was read and accepted
 abbrev pub HasProgram : List ℕ → Option Told → Type 0
@@ -67,6 +71,7 @@ ReadCause asked told reads reads' (term_refused number byte) =
 ReadCause asked told reads reads' (too_large name) =
     ((name ≡ asked.definition) × HoldsMore told name definition_limit)
     ⊎ ((name ≡ asked.term) × HasProgram asked.definition told × HoldsMore told name term_limit)
+ReadCause asked told reads reads' (hints_refused number line) = ⊥
 
 -- writing stopped: memory ran out, or a fault was counted
 abbrev pub StopsWriting : Type 0 → Ending → Type 0
@@ -77,8 +82,8 @@ abbrev pub KeepsAll : Course → Type 0
 KeepsAll c = SameBytes c.out.bytes c.out'.bytes × KeepsFiles c.desk.told c.desk'.told
 
 -- Why the lines of a run were not printed. Its files were not accepted, and all is as before. Or
--- they were accepted, it was not proved, and the output is as before. Or its lines were not sent as
--- a whole.
+-- they were accepted, the proof or the hints that are wanted were not written as a whole, and the
+-- output is as before. Or its lines were not sent as a whole.
 pub data RunCause (asked : RunRequest) (c : Course) (e : Ending) : Type 0 where
   run_unread : ReadCause asked c.desk.told c.desk.read_faults c.desk'.read_faults e → KeepsAll c
       → RunCause asked c e
@@ -97,6 +102,7 @@ DatabaseCause file c (definition_refused number byte) = ⊥
 DatabaseCause file c (term_refused number byte) = ⊥
 DatabaseCause file c (too_large name) =
     (name ≡ file) × HoldsMore c.desk.told name database_limit
+DatabaseCause file c (hints_refused number line) = ⊥
 
 -- Why the line of a verdict was not printed. There is no verdict, and all is as before. Or its line
 -- was not sent as a whole.
@@ -122,6 +128,7 @@ CheckReadCause asked told reads reads' (too_large name) =
     ((name ≡ asked.definition) × HoldsMore told name definition_limit)
     ⊎ ((name ≡ asked.file) × HasProgram asked.definition told
     × HoldsMore told name database_limit)
+CheckReadCause asked told reads reads' (hints_refused number line) = ⊥
 
 -- Why the lines of a check were not printed. Nothing was decided, and all is as before. Or its lines
 -- were not sent as a whole.
@@ -130,6 +137,41 @@ pub data CheckCause (asked : CheckRequest) (c : Course) (e : Ending) : Type 0 wh
       → KeepsAll c → CheckCause asked c e
   check_unprinted : BeginsCheck asked c → StopsWriting (CountsOutputFault c) e
       → CheckCause asked c e
+
+-- Each end of a call for a proof of a path has its cause in the files that are read. The hints are
+-- read only if the definition was accepted.
+abbrev pub PathReadCause : ProveRequest → Option Told → ℕ → ℕ → Ending → Type 0
+PathReadCause asked told reads reads' out_of_memory = Unit {0}
+PathReadCause asked told reads reads' bad_words = ⊥
+PathReadCause asked told reads reads' read_fault = CountRose reads reads'
+PathReadCause asked told reads reads' write_fault = ⊥
+PathReadCause asked told reads reads' (no_such_file name) =
+    ((name ≡ asked.definition) × Lacks told name)
+    ⊎ ((name ≡ asked.hints) × HasProgram asked.definition told × Lacks told name)
+PathReadCause asked told reads reads' (definition_refused number byte) =
+    HoldsRefused asked.definition told (record { number = number; byte = byte })
+PathReadCause asked told reads reads' (term_refused number byte) = ⊥
+PathReadCause asked told reads reads' (too_large name) =
+    ((name ≡ asked.definition) × HoldsMore told name definition_limit)
+    ⊎ ((name ≡ asked.hints) × HasProgram asked.definition told × HoldsMore told name hints_limit)
+PathReadCause asked told reads reads' (hints_refused number line) =
+    HoldsBadLine told asked line number
+
+-- the definition was accepted, and no line of the hints is bad
+abbrev pub HasPath : ProveRequest → Option Told → Type 0
+HasPath asked told =
+    (theory : RewriteTheory) × (start : Pattern) × (first : Record) × (steps : List StepRecord)
+    × HoldsPath told asked theory start first steps
+
+-- Why the lines of a path were not printed. Its files list no path, and all is as before. Or they
+-- list one, it was not proved, and the output is as before. Or its lines were not sent as a whole.
+pub data PathCause (asked : ProveRequest) (c : Course) (e : Ending) : Type 0 where
+  path_unread : PathReadCause asked c.desk.told c.desk.read_faults c.desk'.read_faults e
+      → KeepsAll c → PathCause asked c e
+  path_unproved : HasPath asked c.desk.told → StopsWriting (CountsWriteFault c) e
+      → SameBytes c.out.bytes c.out'.bytes → PathCause asked c e
+  path_unprinted : BeginsPath asked c → StopsWriting (CountsOutputFault c) e
+      → PathCause asked c e
 
 -- the texts of a drill were accepted
 abbrev pub HasDrill : ℕ → Type 0
@@ -155,6 +197,8 @@ pub data HasCause (c : Call) : Ending → Type 0 where
       → HasCause c e
   of_check : {asked : CheckRequest} {e : Ending} → IsCheck c.words asked
       → CheckCause asked c.course e → HasCause c e
+  of_prove : {asked : ProveRequest} {e : Ending} → IsProve c.words asked
+      → PathCause asked c.course e → HasCause c e
   of_drill : {asked : DrillRequest} {e : Ending} → IsDrill c.words asked
       → DrillCause asked c.course e → HasCause c e
 
@@ -165,6 +209,7 @@ pub data IsDone (words : List (List ℕ)) (code : ℕ) : Type 0 where
   verify_done : {file : List ℕ} → IsVerify words file → (code ≡ 0) ⊎ (code ≡ 12) → IsDone words code
   check_done : {asked : CheckRequest} → IsCheck words asked
       → (code ≡ 0) ⊎ (code ≡ 12) ⊎ (code ≡ 13) → IsDone words code
+  prove_done : {asked : ProveRequest} → IsProve words asked → code ≡ 0 → IsDone words code
   drill_done : {asked : DrillRequest} → IsDrill words asked → code ≡ 0 → IsDone words code
 
 -- the call printed its lines, and wrote nothing to the error stream

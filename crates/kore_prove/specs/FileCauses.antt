@@ -13,6 +13,7 @@ use Rattle.kore_prove.specs.Limits.{HoldsWithin, definition_limit}
 use Rattle.kore_prove.specs.Causes.{HoldsRefused}
 use Rattle.kore_prove.specs.Reports.{Ending, out_of_memory, bad_words, read_fault, write_fault}
 use Rattle.kore_prove.specs.Reports.{no_such_file, definition_refused, term_refused, too_large}
+use Rattle.kore_prove.specs.Reports.{hints_refused}
 
 -- the file of that name holds bytes within the limit that are refused with this fault
 abbrev pub HoldsWhat : (List ℕ → Fault → Type 0) → Option Told → List ℕ → ℕ → Fault → Type 0
@@ -47,6 +48,7 @@ UnreadEnding told name limit reads reads' (definition_refused number byte) = ⊥
 UnreadEnding told name limit reads reads' (term_refused number byte) = ⊥
 UnreadEnding told name limit reads reads' (too_large other) =
     (other ≡ name) × HoldsMore told other limit
+UnreadEnding told name limit reads reads' (hints_refused number line) = ⊥
 
 -- so has each end of a call whose definition was not read or not accepted
 abbrev pub DefinitionEnding : Option Told → List ℕ → ℕ → ℕ → Ending → Type 0

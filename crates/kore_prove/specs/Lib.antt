@@ -4,6 +4,7 @@ pub mod BadWords
 pub mod VerifyWords
 pub mod RunWords
 pub mod CheckWords
+pub mod ProveWords
 pub mod DrillWords
 pub mod Words
 pub mod Courses
@@ -13,6 +14,10 @@ pub mod AcceptedRuns
 pub mod PrintedRun
 pub mod ProvedRun
 pub mod RunFronts
+pub mod HintedRun
+pub mod HintFronts
+pub mod PathFiles
+pub mod ProvedPath
 pub mod DrillProgram
 pub mod DrilledRun
 pub mod Verdicts
@@ -23,6 +28,7 @@ pub mod Causes
 pub mod CompleteRuns
 pub mod CompleteVerdicts
 pub mod CompleteChecks
+pub mod CompletePaths
 pub mod CompleteDrills
 pub mod Unwritten
 pub mod Calls
@@ -35,3 +41,5 @@ pub mod FileCauses
 pub mod DatabaseVerdicts
 pub mod Decisions
 pub mod ProofFiles
+pub mod HintFiles
+pub mod PathsRead

@@ -5,6 +5,7 @@ use Rattle.kore_prove.specs.declared.report.End.{End}
 use Rattle.kore_prove.specs.declared.report.End.TheVariants as end
 use Rattle.kore_prove.specs.Reports.{Ending, out_of_memory, bad_words, read_fault, write_fault}
 use Rattle.kore_prove.specs.Reports.{no_such_file, definition_refused, term_refused, too_large}
+use Rattle.kore_prove.specs.Reports.{hints_refused}
 
 -- the end in the terms of the definitions
 abbrev pub plain_end : End → Ending
@@ -16,6 +17,7 @@ plain_end (end.NoSuchFile name) = no_such_file name.now
 plain_end (end.DefinitionRefused number byte) = definition_refused number byte
 plain_end (end.TermRefused number byte) = term_refused number byte
 plain_end (end.TooLarge name) = too_large name.now
+plain_end (end.HintsRefused number line) = hints_refused number line
 
 -- the end of a call after a fault in writing
 abbrev pub fault_end : DeskFault → Ending

@@ -10,6 +10,7 @@ use Rattle.kore_prove.specs.DrillWords.{IsNoDrill}
 use Rattle.kore_prove.specs.RunWords.{RunRequest, IsRun}
 use Rattle.kore_prove.specs.VerifyWords.{IsNoVerify}
 use Rattle.kore_prove.specs.CheckWords.{IsNoCheck}
+use Rattle.kore_prove.specs.ProveWords.{IsNoProve}
 use Rattle.kore_prove.specs.Courses.{Call}
 use Rattle.kore_prove.specs.AcceptedRuns.{IsRunOfFiles}
 
@@ -47,11 +48,11 @@ pub record IsPrinted (words : List (List ℕ)) (told : Option Told) (before afte
     pub printed : PrintsLines told asked before after theory start run
     pub code_is : code ≡ code_of run
 
--- the exit code is one of a run; 0 is also the code of a valid database and of a drill
+-- the exit code is one of a run; 0 is also the code of other commands
 abbrev pub IsCodeOfRun : List (List ℕ) → ℕ → Type 0
 IsCodeOfRun words code =
     (code ≡ 10) ⊎ (code ≡ 11)
-    ⊎ ((code ≡ 0) × IsNoVerify words × IsNoCheck words × IsNoDrill words)
+    ⊎ ((code ≡ 0) × IsNoVerify words × IsNoCheck words × IsNoProve words × IsNoDrill words)
 
 -- With the exit code of a run, a run was printed. If the output tells nothing, nothing is said of
 -- the lines. If the desk tells nothing, nothing is said of the contents of its files.

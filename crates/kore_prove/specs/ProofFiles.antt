@@ -1,4 +1,4 @@
--- The file of a proof, after it was written and closed.
+-- The files of a proof and of hints, after they were written and closed.
 use Rattle.std.specs.Prelude.{ℕ, ◌⊎◌, List, Option, Some, None}
 use Rattle.desk_io.specs.Told.{Told}
 use Rattle.desk_io.specs.KeptFiles.{KeepsFile}
@@ -9,6 +9,7 @@ use Rattle.prove_run.specs.Summaries.{IsSummaryOf}
 use Rattle.prove_run.specs.declared.summaries.Summary.{Summary}
 use Rattle.kore_prove.specs.ProvedRun.{HoldsProof}
 use Rattle.kore_prove.specs.RunFronts.{HoldsFront}
+use Rattle.kore_prove.specs.HintFronts.{HoldsHintFront}
 
 -- the file holds a proof of the run that has these counts
 pub record HoldsCounted (told told' : Option Told) (file : List ℕ) (theory : RewriteTheory)
@@ -29,3 +30,11 @@ abbrev pub HasWantedFront : Option (List ℕ) → Option Told → Option Told �
 HasWantedFront None told told' theory limit calls start = Unit {0}
 HasWantedFront (Some file) told told' theory limit calls start =
     MayHoldFront told told' file theory limit calls start
+
+-- the file of the hints, if they are wanted, is as before, or it was created and holds the front of
+-- them
+abbrev pub HasWantedHintFront : Option (List ℕ) → Option Told → Option Told → RewriteTheory → ℕ → ℕ
+    → Pattern → Type 0
+HasWantedHintFront None told told' theory limit calls start = Unit {0}
+HasWantedHintFront (Some file) told told' theory limit calls start =
+    KeepsFile told told' file ⊎ HoldsHintFront told told' file theory limit calls start

@@ -8,7 +8,7 @@ use Rattle.desk_io.specs.SinkChanges.{AppendsFront}
 use Rattle.desk_io.specs.Counts.{CountRose}
 
 -- why a call ended; the names are names of files; the numbers are the number of a refusal and the
--- byte at which it is
+-- byte or the line at which it is
 pub data Ending : Type 0 where
   out_of_memory : Ending
   bad_words : Ending
@@ -18,6 +18,7 @@ pub data Ending : Type 0 where
   definition_refused : ℕ → ℕ → Ending
   term_refused : ℕ → ℕ → Ending
   too_large : List ℕ → Ending
+  hints_refused : ℕ → ℕ → Ending
 
 -- the exit code
 abbrev pub end_code : Ending → ℕ
@@ -29,10 +30,16 @@ end_code (no_such_file name) = 5
 end_code (definition_refused number byte) = 6
 end_code (term_refused number byte) = 7
 end_code (too_large name) = 8
+end_code (hints_refused number line) = 14
 
 -- the number of a refusal, and the byte at which it is
 abbrev pub refusal : ℕ → ℕ → List ℕ
 refusal number byte = codes " refused " ++ (decimal number ++ (codes " at " ++ decimal byte))
+
+-- the number of a refusal, and the line at which it is
+abbrev pub line_refusal : ℕ → ℕ → List ℕ
+line_refusal number line =
+    codes " refused " ++ (decimal number ++ (codes " at line " ++ decimal line))
 
 -- the reason in words
 abbrev pub reason : Ending → List ℕ
@@ -44,6 +51,7 @@ reason (no_such_file name) = codes "no such file " ++ name
 reason (definition_refused number byte) = codes "definition" ++ refusal number byte
 reason (term_refused number byte) = codes "term" ++ refusal number byte
 reason (too_large name) = codes "too large " ++ name
+reason (hints_refused number line) = codes "hints" ++ line_refusal number line
 
 -- the line, followed by a newline
 abbrev pub report_line : Ending → List ℕ

@@ -5,14 +5,15 @@ use Rattle.std.specs.Str.Parse.{digits_value}
 use Rattle.command_words.specs.CommandLine.{run_app, value_of, usual_calls, is_named, are_bad}
 
 -- a request for a run: the names of the files with the definition and the term, the greatest
--- numbers of steps and of calls of functions, and the name of the file for the proof, if one is
--- wanted
+-- numbers of steps and of calls of functions, and the names of the files for the proof and for the
+-- hints of the steps, if these are wanted
 pub record RunRequest : Type 0 where
   pub definition : List ℕ
   pub term : List ℕ
   pub limit : ℕ
   pub calls : ℕ
   pub proof : Option (List ℕ)
+  pub hints : Option (List ℕ)
 
 -- the words are good, and ask for this run; if they state no number of calls, it is the usual one
 pub record IsRun (words : List (List ℕ)) (asked : RunRequest) : Type 0 where
@@ -25,3 +26,4 @@ pub record IsRun (words : List (List ℕ)) (asked : RunRequest) : Type 0 where
   pub calls : asked.calls
       ≡ option_map_or (digits_value 10) (value_of run_app words (codes "calls")) usual_calls
   pub proof : asked.proof ≡ value_of run_app words (codes "proof")
+  pub hints : asked.hints ≡ value_of run_app words (codes "hints")

@@ -8,25 +8,30 @@ ghost use Rattle.kore_prove.specs.Causes.{Ends};
 ghost use Rattle.kore_prove.specs.Checks.{PrintsCheck};
 ghost use Rattle.kore_prove.specs.CompleteChecks.{CompletesCheck};
 ghost use Rattle.kore_prove.specs.CompleteDrills.{CompletesDrill};
+ghost use Rattle.kore_prove.specs.CompletePaths.{CompletesPath};
 ghost use Rattle.kore_prove.specs.CompleteRuns.{Completes};
 ghost use Rattle.kore_prove.specs.CompleteVerdicts.{CompletesVerdict};
 ghost use Rattle.kore_prove.specs.Courses.{call_of, course_of};
 ghost use Rattle.kore_prove.specs.DrilledRun.{Drills, LeavesFrontOfDrill};
+ghost use Rattle.kore_prove.specs.HintedRun.{HintsRun};
+ghost use Rattle.kore_prove.specs.HintFronts.{LeavesHintFront};
 ghost use Rattle.kore_prove.specs.PlainEnds.{plain_end};
 ghost use Rattle.kore_prove.specs.PrintedRun.{PrintsRun, code_of};
+ghost use Rattle.kore_prove.specs.ProvedPath.{ProvesPath, LeavesFrontOfPath};
 ghost use Rattle.kore_prove.specs.ProvedRun.{ProvesRun};
 ghost use Rattle.kore_prove.specs.RunFronts.{LeavesFrontOfRun};
 ghost use Rattle.kore_prove.specs.Reports.{Reports};
-ghost use Rattle.kore_prove.specs.Requests.{AsksFor, request};
+ghost use Rattle.kore_prove.specs.Requests.{AreTwoFiles, AsksFor, request};
 ghost use Rattle.kore_prove.specs.RunsDone.{IsRunDone, IsRunEnded};
 ghost use Rattle.kore_prove.specs.Unwritten.{IsUnwritten};
 ghost use Rattle.kore_prove.specs.Verdicts.{PrintsVerdict};
-ghost use Rattle.kore_prove.specs.Words.{IsProofFile};
+ghost use Rattle.kore_prove.specs.Words.{IsWrittenFile};
 ghost use Rattle.kore_prove.specs.BadWords.{AreBad};
 
 use crate::checking::check_command;
 use crate::drilling::drill_command;
 use crate::proof_file::made_lines;
+use crate::proving::prove_command;
 use crate::reading::read_run;
 use crate::report::{End, send_report, write_end};
 use crate::verification::verify_command;
@@ -42,19 +47,23 @@ pub struct Status {
 }
 
 /// Does what the words ask for. A run reads its files from the desk, runs the term, writes the
-/// proof of the run to its file if one is named, and prints the two lines of the run to `out`. A
-/// verification prints the line of the verdict on the database. A check reads a definition and a
-/// database, and prints what the database justifies over the definition's program, or what is wrong
-/// first. A drill runs a definition of its own, writes the proof to its file, and prints the two
-/// lines of the run and one line with the counts of the file. If the call does not print these
-/// lines, `err` gets one line that states the reason, and the file of the proof is as before or
-/// holds the front of a proof. The output then got nothing, or a part of the lines from the front;
-/// the proof is whole before the first of them.
+/// proof of the run and then its hints to their files, if they are named, and prints the two lines
+/// of the run to `out`. A proof of a path reads a definition and hints, checks all lines of the
+/// hints, writes the proof of the path to its file, and prints two lines: the number of steps, and
+/// the last configuration. A verification prints the line of the verdict on the database. A check
+/// reads a definition and a database, and prints what the database justifies over the definition's
+/// program, or what is wrong first. A drill runs a definition of its own, writes the proof to its
+/// file, and prints the two lines of the run and one line with the counts of the file. If the call
+/// does not print these lines, `err` gets one line that states the reason, and the file of the proof
+/// is as before or holds the front of a proof, and that of the hints the front of the hints. The
+/// output then got nothing, or a part of the lines from the front; the files are whole before the
+/// first of them.
 ///
 /// The status has the exit code. A run: 0 if it is stuck, 10 if it reached its limit, 11 if it is
-/// blocked. A verification: 0 if the database is valid, 12 if it is not. A check: 0 if the database
-/// justifies that one pattern reaches another, 12 if it is not valid, 13 if it is valid and
-/// justifies nothing. A drill: 0. Any other end: its code (`Reports`).
+/// blocked. A proof of a path: 0 if it was written, 14 if a line of the hints is bad. A
+/// verification: 0 if the database is valid, 12 if it is not. A check: 0 if the database justifies
+/// that one pattern reaches another, 12 if it is not valid, 13 if it is valid and justifies nothing.
+/// A drill: 0. Any other end: its code (`Reports`).
 pub fn kore_main<D: Desk, O: Sink, E: Sink>(
     alloc: Global,
     words: &[String],
@@ -72,12 +81,24 @@ pub fn kore_main<D: Desk, O: Sink, E: Sink>(
     ensures proof_front { LeavesFrontOfRun (call_of
         (map string_bytes words.now) (D.state desk.old) (D.state desk.new) (O.state out.old)
         (O.state out.new) (E.state err.old) (E.state err.new)) }
+    ensures hinted_run { HintsRun (call_of
+        (map string_bytes words.now) (D.state desk.old) (D.state desk.new) (O.state out.old)
+        (O.state out.new) (E.state err.old) (E.state err.new)) result.code }
+    ensures hint_front { LeavesHintFront (call_of
+        (map string_bytes words.now) (D.state desk.old) (D.state desk.new) (O.state out.old)
+        (O.state out.new) (E.state err.old) (E.state err.new)) }
     ensures verdict { PrintsVerdict (call_of
         (map string_bytes words.now) (D.state desk.old) (D.state desk.new) (O.state out.old)
         (O.state out.new) (E.state err.old) (E.state err.new)) result.code }
     ensures checked { PrintsCheck (call_of
         (map string_bytes words.now) (D.state desk.old) (D.state desk.new) (O.state out.old)
         (O.state out.new) (E.state err.old) (E.state err.new)) result.code }
+    ensures proved_path { ProvesPath (call_of
+        (map string_bytes words.now) (D.state desk.old) (D.state desk.new) (O.state out.old)
+        (O.state out.new) (E.state err.old) (E.state err.new)) result.code }
+    ensures path_front { LeavesFrontOfPath (call_of
+        (map string_bytes words.now) (D.state desk.old) (D.state desk.new) (O.state out.old)
+        (O.state out.new) (E.state err.old) (E.state err.new)) }
     ensures drilled { Drills (call_of
         (map string_bytes words.now) (D.state desk.old) (D.state desk.new) (O.state out.old)
         (O.state out.new) (E.state err.old) (E.state err.new)) result.code }
@@ -102,13 +123,16 @@ pub fn kore_main<D: Desk, O: Sink, E: Sink>(
     ensures complete_check { CompletesCheck (call_of
         (map string_bytes words.now) (D.state desk.old) (D.state desk.new) (O.state out.old)
         (O.state out.new) (E.state err.old) (E.state err.new)) result.code }
+    ensures complete_path { CompletesPath (call_of
+        (map string_bytes words.now) (D.state desk.old) (D.state desk.new) (O.state out.old)
+        (O.state out.new) (E.state err.old) (E.state err.new)) result.code }
     ensures complete_drill { CompletesDrill (call_of
         (map string_bytes words.now) (D.state desk.old) (D.state desk.new) (O.state out.old)
         (O.state out.new) (E.state err.old) (E.state err.new)) result.code }
     ensures bad_words { AreBad (map string_bytes words.now)
         → (result.code ≡ 2) ⊎ (result.code ≡ 1) }
-    ensures others { KeepsOthers (IsProofFile (map string_bytes words.now)) (D.state desk.old).told
-        (D.state desk.new).told }
+    ensures others { KeepsOthers (IsWrittenFile (map string_bytes words.now))
+        (D.state desk.old).told (D.state desk.new).told }
     ensures files { IsUnwritten result.code
         → KeepsFiles (D.state desk.old).told (D.state desk.new).told }
     ensures created { D.created desk.new ≡ D.created desk.old }
@@ -148,6 +172,10 @@ fn answered<D: Desk, O: Sink, E: Sink>(
                 Ok(decision) => Status {
                     code: decision.code(),
                 },
+                Err(end) => report(err, &end),
+            },
+            Command::Prove(asked) => match prove_command(alloc, &asked, desk, out) {
+                Ok(()) => Status { code: 0 },
                 Err(end) => report(err, &end),
             },
             Command::Drill(asked) => match drill_command(alloc, &asked, desk, out) {
@@ -194,8 +222,8 @@ pub fn report<E: Sink>(err: &mut E, end: &End) -> Status
     }
 }
 
-// Runs the term of one file by the definition of the other file, writes the proof of the run if one
-// is wanted, and prints the lines of the run.
+// Runs the term of one file by the definition of the other file, writes the proof of the run and
+// its hints if they are wanted, and prints the lines of the run.
 fn run_command<'a, D: Desk, O: Sink>(
     alloc: Global,
     asked: &RunWords<'a>,
@@ -203,6 +231,7 @@ fn run_command<'a, D: Desk, O: Sink>(
     out: &mut O,
 ) -> Result<RunEnd, End<'a>>
     requires none_created { IsFalse (D.created desk.old) }
+    requires two_files { AreTwoFiles (request asked.now) }
     ensures done { IfOk result (λ end. IsRunDone (request asked.now) (course_of
         (D.state desk.old) (D.state desk.new) (O.state out.old) (O.state out.new))
         (plain_run end)) }

@@ -24,6 +24,7 @@ use command_words::DrillWords;
 use desk_io::{Desk, DeskFault, Sink, send_whole};
 use drill_accepted::drill_acceptance_laws;
 use drill_gen::{drill, drill_laws};
+use hint_file::Hints;
 use itoa::Buffer;
 use kore_rules::{Refusal, accept, accept_term};
 use prove_run::Summary;
@@ -58,7 +59,8 @@ pub fn drill_command<'a, D: Desk, O: Sink>(
         limit: asked.steps + 1,
         calls: DRILL_CALLS,
     };
-    let proved = match proved_lines(alloc, desk, &accepted, bounds, asked.file) {
+    let mut hints = Hints::unwanted();
+    let proved = match proved_lines(alloc, desk, &accepted, bounds, asked.file, &mut hints) {
         Ok(proved) => proved,
         Err(fault) => return Err(write_end(fault)),
     };

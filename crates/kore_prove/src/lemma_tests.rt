@@ -9,6 +9,7 @@ use crate::proof_tests::last_stated;
 use crate::test_calls::{Faults, PROVES, two_files};
 use desk_io::{Desk, MemDesk};
 use fun_eval::Engine;
+use hint_file::Hints;
 use mm_verify::verify;
 use prove_run::{Proof, ProveEnd, start_reaches};
 use run_proof::run_with_proof;
@@ -110,7 +111,8 @@ fn proof_of_run<'p>(
     let Ok(()) = desk.create_file("p.mm") else {
         return None;
     };
-    match run_with_proof(alloc, desk, engine, &accepted.start, 5, 1_000) {
+    let mut hints = Hints::unwanted();
+    match run_with_proof(alloc, desk, engine, &accepted.start, 5, 1_000, &mut hints) {
         Ok((_, proof)) => Some(proof),
         Err(_) => None,
     }

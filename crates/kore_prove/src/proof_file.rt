@@ -1,29 +1,37 @@
-// The lines of a run and, if one is wanted, the file of its proof.
-ghost use Rattle.std.specs.Prelude.{◌≡◌, Some, IsFalse, IfOk, OnErr, IsErrOf};
+// The lines of a run and, if they are wanted, the files of its proof and of its hints.
+ghost use Rattle.std.specs.Prelude.{◌≡◌, ◌≤◌, Some, IsFalse, IfOk, OnErr, IsErrOf};
 ghost use Rattle.term_core.specs.RulePatterns.{plain_pattern};
 ghost use Rattle.rule_core.specs.ProgramView.{theory_of};
 ghost use Rattle.desk_io.specs.Counts.{CountRose};
 ghost use Rattle.run_loop.specs.RunEnds.{plain_run};
-ghost use Rattle.kore_prove.specs.ProofFiles.{HasWantedFront, HoldsCounted, MayHoldFront};
+ghost use Rattle.hint_file.specs.RunTexts.{AddsHintTextOf};
+ghost use Rattle.kore_prove.specs.HintedRun.{HasWantedHints};
+ghost use Rattle.kore_prove.specs.ProofFiles.{HasWantedFront, HasWantedHintFront, HoldsCounted};
+ghost use Rattle.kore_prove.specs.ProofFiles.{MayHoldFront};
 ghost use Rattle.kore_prove.specs.ProvedRun.{HasWantedProof};
 ghost use Rattle.desk_io.specs.KeptFiles.{KeepsOthers};
-ghost use Rattle.kore_prove.specs.Requests.{request, bounds_of, IsWanted};
+ghost use Rattle.kore_prove.specs.Requests.{request, bounds_of, AreTwoFiles, IsWanted};
+ghost use Rattle.kore_prove.specs.Requests.{IsWrittenBy};
 ghost use Rattle.kore_prove.specs.Runnable.{IsRunnable};
 ghost use Rattle.kore_prove.specs.RunsDone.{HasLines};
 
 use crate::files::Accepted;
+use crate::hint_writing::write_hints;
 use crate::running::{Bounds, Proved, lines_of_run, proved_lines_of_run};
 use command_words::RunWords;
 use desk_io::{Desk, DeskFault};
 use fun_eval::Engine;
+use hint_file::Hints;
 use run_loop::RunEnd;
 use std::alloc::Global;
 
 /// How the requested run ends, and its two lines. If a file for the proof is named, it is created
-/// before the run, written during the run, and closed after it.
+/// before the run, written during the run, and closed after it. If a file for the hints is named, it
+/// is created, written and closed after that.
 ///
-/// Errors: out of memory, or a fault that the desk counted. After an error the file is as before, is
-/// empty, or holds the front of a proof of this run up to one of its configurations.
+/// Errors: out of memory, or a fault that the desk counted. After an error the file of the proof is
+/// as before, is empty, or holds the front of a proof of this run up to one of its configurations.
+/// The file of the hints is as before, or holds the front of the hint text of this run.
 pub fn made_lines<D: Desk>(
     alloc: Global,
     desk: &mut D,
@@ -32,9 +40,59 @@ pub fn made_lines<D: Desk>(
 ) -> Result<(RunEnd, Vec<u8>), DeskFault>
     requires none_created { IsFalse (D.created desk.old) }
     requires runnable { IsRunnable accepted.now }
+    requires two_files { AreTwoFiles (request asked.now) }
     ensures run { IfOk result (λ r. HasLines (bounds_of (request asked.now))
         (theory_of accepted.now.program) (plain_pattern accepted.now.start) (plain_run r.0)
         r.1.items) }
+    ensures proof { IfOk result (λ r. HasWantedProof (request asked.now).proof
+        (D.state desk.old).told (D.state desk.new).told
+        (theory_of accepted.now.program) (plain_pattern accepted.now.start) (plain_run r.0)) }
+    ensures hints { IfOk result (λ r. HasWantedHints (request asked.now).hints
+        (D.state desk.old).told (D.state desk.new).told
+        (theory_of accepted.now.program) asked.now.calls (plain_pattern accepted.now.start)
+        (plain_run r.0)) }
+    ensures front { OnErr result
+        (HasWantedFront (request asked.now).proof (D.state desk.old).told (D.state desk.new).told
+        (theory_of accepted.now.program) asked.now.limit asked.now.calls
+        (plain_pattern accepted.now.start)) }
+    ensures hint_front { OnErr result (HasWantedHintFront
+        (request asked.now).hints (D.state desk.old).told (D.state desk.new).told
+        (theory_of accepted.now.program) asked.now.limit asked.now.calls
+        (plain_pattern accepted.now.start)) }
+    ensures failed { IsErrOf result DeskFault.Failed
+        → CountRose (D.state desk.old).write_faults (D.state desk.new).write_faults }
+    ensures files { KeepsOthers (IsWrittenBy (request asked.now)) (D.state desk.old).told
+        (D.state desk.new).told }
+    ensures created { D.created desk.new ≡ D.created desk.old }
+    ensures reads { (D.state desk.new).read_faults ≡ (D.state desk.old).read_faults }
+{
+    let mut hints = match asked.hints {
+        Some(_) => Hints::wanted(alloc),
+        None => Hints::unwanted(),
+    };
+    let made = made_run(alloc, desk, accepted, asked, &mut hints)?;
+    match write_hints(desk, asked.hints, &hints) {
+        Ok(()) => Ok(made),
+        Err(fault) => Err(fault),
+    }
+}
+
+// The same, but for the file of the hints: they are held in memory.
+fn made_run<D: Desk>(
+    alloc: Global,
+    desk: &mut D,
+    accepted: &Accepted,
+    asked: &RunWords<'_>,
+    hints: &mut Hints,
+) -> Result<(RunEnd, Vec<u8>), DeskFault>
+    requires none_created { IsFalse (D.created desk.old) }
+    requires runnable { IsRunnable accepted.now }
+    ensures run { IfOk result (λ r. HasLines (bounds_of (request asked.now))
+        (theory_of accepted.now.program) (plain_pattern accepted.now.start) (plain_run r.0)
+        r.1.items) }
+    ensures hints { IfOk result (λ r. AddsHintTextOf
+        (theory_of accepted.now.program) asked.now.calls (plain_pattern accepted.now.start)
+        (plain_run r.0) hints.old hints.new) }
     ensures proof { IfOk result (λ r. HasWantedProof (request asked.now).proof
         (D.state desk.old).told (D.state desk.new).told
         (theory_of accepted.now.program) (plain_pattern accepted.now.start) (plain_run r.0)) }
@@ -44,6 +102,7 @@ pub fn made_lines<D: Desk>(
         (plain_pattern accepted.now.start)) }
     ensures failed { IsErrOf result DeskFault.Failed
         → CountRose (D.state desk.old).write_faults (D.state desk.new).write_faults }
+    ensures counts { (D.state desk.old).write_faults ≤ (D.state desk.new).write_faults }
     ensures files { KeepsOthers (IsWanted (request asked.now)) (D.state desk.old).told
         (D.state desk.new).told }
     ensures created { D.created desk.new ≡ D.created desk.old }
@@ -55,27 +114,32 @@ pub fn made_lines<D: Desk>(
     };
     match asked.proof {
         Some(file) => {
-            let proved = proved_lines(alloc, desk, accepted, bounds, file)?;
+            let proved = proved_lines(alloc, desk, accepted, bounds, file, hints)?;
             Ok((proved.end, proved.lines))
         }
-        None => Ok(lines_of_run(alloc, accepted, bounds)?),
+        None => Ok(lines_of_run(alloc, accepted, bounds, hints)?),
     }
 }
 
 /// The run within these bounds, with its proof in the file of this name. The file is created before
-/// the run, written during the run, and closed after it. The errors are the ones of `made_lines`.
+/// the run, written during the run, and closed after it. If hints are wanted, they get the hint text
+/// of the run. The errors are the ones of `made_lines`.
 pub fn proved_lines<D: Desk>(
     alloc: Global,
     desk: &mut D,
     accepted: &Accepted,
     bounds: Bounds,
     file: &str,
+    hints: &mut Hints,
 ) -> Result<Proved, DeskFault>
     requires none_created { IsFalse (D.created desk.old) }
     requires runnable { IsRunnable accepted.now }
     ensures run { IfOk result (λ r. HasLines bounds
         (theory_of accepted.now.program) (plain_pattern accepted.now.start) (plain_run r.end)
         r.lines.items) }
+    ensures hints { IfOk result (λ r. AddsHintTextOf
+        (theory_of accepted.now.program) bounds.calls (plain_pattern accepted.now.start)
+        (plain_run r.end) hints.old hints.new) }
     ensures proof { IfOk result (λ r. HoldsCounted
         (D.state desk.old).told (D.state desk.new).told file.now
         (theory_of accepted.now.program) (plain_pattern accepted.now.start) (plain_run r.end)
@@ -86,6 +150,7 @@ pub fn proved_lines<D: Desk>(
         (plain_pattern accepted.now.start)) }
     ensures failed { IsErrOf result DeskFault.Failed
         → CountRose (D.state desk.old).write_faults (D.state desk.new).write_faults }
+    ensures counts { (D.state desk.old).write_faults ≤ (D.state desk.new).write_faults }
     ensures files { KeepsOthers (λ other. Some file.now ≡ Some other) (D.state desk.old).told
         (D.state desk.new).told }
     ensures created { D.created desk.new ≡ D.created desk.old }
@@ -93,5 +158,5 @@ pub fn proved_lines<D: Desk>(
 {
     let engine = Engine::new(alloc, &accepted.program)?;
     desk.create_file(file)?;
-    proved_lines_of_run(alloc, desk, &engine, accepted, bounds)
+    proved_lines_of_run(alloc, desk, &engine, accepted, bounds, hints)
 }

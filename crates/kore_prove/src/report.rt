@@ -6,6 +6,7 @@ ghost use Rattle.desk_io.specs.Sent.{Appends};
 ghost use Rattle.desk_io.specs.SinkChanges.{AppendsFront};
 ghost use Rattle.desk_io.specs.Counts.{CountRose};
 ghost use Rattle.kore_prove.specs.Reports.{end_code, code_after, refusal, report_line};
+ghost use Rattle.kore_prove.specs.Reports.{hints_refused};
 ghost use Rattle.kore_prove.specs.PlainEnds.{fault_end, plain_end};
 
 use desk_io::{DeskFault, Sink, send_whole};
@@ -30,6 +31,8 @@ pub enum End<'a> {
     TermRefused(u8, u32),
     /// The file of this name has more bytes than its limit.
     TooLarge(&'a str),
+    /// The hints were refused: the number by which the first bad line is bad, and that line.
+    HintsRefused(u8, u64),
 }
 
 impl End<'_> {
@@ -46,6 +49,7 @@ impl End<'_> {
             End::DefinitionRefused(..) => 6,
             End::TermRefused(..) => 7,
             End::TooLarge(_) => 8,
+            End::HintsRefused(..) => 14,
         }
     }
 
@@ -92,6 +96,7 @@ pub fn send_report<E: Sink>(err: &mut E, end: &End<'_>) -> Result<(), DeskFault>
         }
         End::TermRefused(number, byte) => send_refusal(err, "kore_prove: term", *number, *byte),
         End::TooLarge(name) => send_pieces(err, &["kore_prove: too large ", name, "\n"]),
+        End::HintsRefused(number, line) => send_hint_refusal(err, *number, *line),
     }
 }
 
@@ -115,6 +120,28 @@ fn send_refusal<E: Sink>(err: &mut E, what: &str, number: u8, byte: u32) -> Resu
         numbers.format(number),
         " at ",
         bytes.format(byte),
+        "\n",
+    ];
+    send_pieces(err, &pieces)
+}
+
+/// Sends that hints were refused, the number of the refusal and the line at which it is.
+fn send_hint_refusal<E: Sink>(err: &mut E, number: u8, line: u64) -> Result<(), DeskFault>
+    ensures sent { OnOk result (Appends (E.state err.old).bytes (E.state err.new).bytes
+        (report_line (hints_refused number line))) }
+    ensures prefix { OnErr result (AppendsFront (E.state err.old).bytes (E.state err.new).bytes
+        (report_line (hints_refused number line))) }
+    ensures failed { IsErrOf result DeskFault.Failed
+        → CountRose (E.state err.old).faults (E.state err.new).faults }
+    ensures counts { (E.state err.old).faults ≤ (E.state err.new).faults }
+{
+    let mut numbers = Buffer::new();
+    let mut lines = Buffer::new();
+    let pieces = [
+        "kore_prove: hints refused ",
+        numbers.format(number),
+        " at line ",
+        lines.format(line),
         "\n",
     ];
     send_pieces(err, &pieces)

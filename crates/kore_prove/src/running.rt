@@ -3,6 +3,7 @@ ghost use Rattle.std.specs.Prelude.{◌≡◌, ◌≤◌, IsTrue, IsFalse, IfOk,
 ghost use Rattle.term_core.specs.RulePatterns.{plain_pattern};
 ghost use Rattle.rule_core.specs.ProgramView.{theory_of};
 ghost use Rattle.desk_io.specs.Counts.{CountRose};
+ghost use Rattle.hint_file.specs.RunTexts.{AddsHintTextOf};
 ghost use Rattle.run_loop.specs.RunEnds.{plain_run};
 ghost use Rattle.run_proof.specs.ClosedProofs.{KeepsOthersNow, PutsFront, PutsProof};
 ghost use Rattle.kore_prove.specs.Runnable.{IsRunnable};
@@ -11,6 +12,7 @@ ghost use Rattle.kore_prove.specs.RunsDone.{HasLines};
 use crate::files::Accepted;
 use desk_io::{Desk, DeskFault};
 use fun_eval::Engine;
+use hint_file::Hints;
 use kore_show::shown_laws;
 use prove_run::Summary;
 use run_lines::run_lines;
@@ -38,27 +40,32 @@ pub struct Proved {
     pub summary: Summary,
 }
 
-/// How the run within these bounds ends, and its two lines. `AllocError`: out of memory.
+/// How the run within these bounds ends, and its two lines. If hints are wanted, they get the hint
+/// text of the run. `AllocError`: out of memory.
 pub fn lines_of_run(
     alloc: Global,
     accepted: &Accepted,
     bounds: Bounds,
+    hints: &mut Hints,
 ) -> Result<(RunEnd, Vec<u8>), AllocError>
     requires { IsRunnable accepted.now }
-    ensures { IfOk result (λ r. HasLines bounds
+    ensures lines { IfOk result (λ r. HasLines bounds
         (theory_of accepted.now.program) (plain_pattern accepted.now.start) (plain_run r.0)
         r.1.items) }
+    ensures hints { IfOk result (λ r. AddsHintTextOf (theory_of accepted.now.program) bounds.calls
+        (plain_pattern accepted.now.start) (plain_run r.0) hints.old hints.new) }
 {
     shown_laws();
     let engine = Engine::new(alloc, &accepted.program)?;
-    let end = run(alloc, &engine, &accepted.start, bounds.limit, bounds.calls)?;
-    let lines = run_lines(alloc, &accepted.program.sig, &accepted.start, &end)?;
+    let start = &accepted.start;
+    let end = run(alloc, &engine, start, bounds.limit, bounds.calls, hints)?;
+    let lines = run_lines(alloc, &accepted.program.sig, start, &end)?;
     Ok((end, lines))
 }
 
 /// How the run within these bounds ends, its two lines, and the counts of its proof. The engine is
 /// one of the accepted program. The proof is appended to the created file during the run, and the
-/// file is closed, even after an error.
+/// file is closed, even after an error. If hints are wanted, they get the hint text of the run.
 ///
 /// Errors: out of memory, or a fault that the desk counted. After an error nothing was appended, or
 /// the front of a proof of this run up to one of its configurations.
@@ -68,6 +75,7 @@ pub fn proved_lines_of_run<'p, D: Desk>(
     engine: &Engine<'p>,
     accepted: &'p Accepted,
     bounds: Bounds,
+    hints: &mut Hints,
 ) -> Result<Proved, DeskFault>
     requires file { IsTrue (D.created desk.old) }
     requires runnable { IsRunnable accepted.now }
@@ -75,6 +83,8 @@ pub fn proved_lines_of_run<'p, D: Desk>(
     ensures run { IfOk result (λ r. HasLines bounds
         (theory_of accepted.now.program) (plain_pattern accepted.now.start) (plain_run r.end)
         r.lines.items) }
+    ensures hints { IfOk result (λ r. AddsHintTextOf (theory_of accepted.now.program) bounds.calls
+        (plain_pattern accepted.now.start) (plain_run r.end) hints.old hints.new) }
     ensures proof { IfOk result (λ r. PutsProof
         (D.state desk.old).told (D.state desk.new).told
         (theory_of accepted.now.program) (plain_pattern accepted.now.start) (plain_run r.end)
@@ -91,7 +101,8 @@ pub fn proved_lines_of_run<'p, D: Desk>(
 {
     shown_laws();
     let start = &accepted.start;
-    let (end, summary) = proved_run(alloc, desk, engine, start, bounds.limit, bounds.calls)?;
+    let Bounds { limit, calls } = bounds;
+    let (end, summary) = proved_run(alloc, desk, engine, start, limit, calls, hints)?;
     let lines = run_lines(alloc, &accepted.program.sig, start, &end)?;
     Ok(Proved {
         end,

@@ -11,6 +11,7 @@ ghost use Rattle.rule_core.specs.WellSorted.{IsStart};
 ghost use Rattle.rewriter.specs.Configurations.{IsConfiguration};
 ghost use Rattle.desk_io.specs.Counts.{CountRose};
 ghost use Rattle.proof_writer.specs.PlainNames.{HasPlainNames};
+ghost use Rattle.hint_file.specs.RunTexts.{AddsHintTextOf};
 ghost use Rattle.run_loop.specs.RunEnds.{plain_run, IsSortedEnd};
 ghost use Rattle.prove_run.specs.WrittenProofs.{WritesFrontOfProof};
 ghost use Rattle.run_proof.specs.OpenProofs.{CanProveRun, WritesFrontOfRun, WritesProof};
@@ -19,6 +20,7 @@ ghost use Rattle.run_proof.specs.ClosedProofs.{KeepsOthersNow, PutsFront, PutsPr
 use crate::steps::proved_steps;
 use desk_io::{Desk, DeskFault};
 use fun_eval::{Engine, EvalEnd};
+use hint_file::Hints;
 use prove_run::{Proof, ProveEnd, Summary};
 use rewriter::Run;
 use rule_core::{Blocked, EvalRecord};
@@ -29,7 +31,8 @@ use term_core::RulePat;
 /// The run of an initial term, with at most `limit` steps and `calls` calls of functions, and the
 /// counts of its proof. The proof is a Metamath database that justifies the run, from the initial
 /// term to what it keeps, by compressed proofs. It is appended to the desk's created file during
-/// the run, step by step. The file is closed at the end, even after an error.
+/// the run, step by step. The file is closed at the end, even after an error. If hints are wanted,
+/// they get the hint text of the run.
 ///
 /// Errors: out of memory, or a fault that the desk counted. After an error nothing was appended, or
 /// the front of a proof of this run up to one of its configurations.
@@ -44,6 +47,7 @@ pub fn proved_run<'p, D: Desk>(
     start: &'p RulePat,
     limit: u32,
     calls: u32,
+    hints: &mut Hints,
 ) -> Result<(RunEnd, Summary), DeskFault>
     requires file { IsTrue (D.created desk.old) }
     requires start { IsStart (theory_of engine.now) (plain_pattern start.now) }
@@ -53,6 +57,8 @@ pub fn proved_run<'p, D: Desk>(
         (λ r.
         IsRunOf (theory_of engine.now) limit calls (plain_pattern start.now) (plain_run r.0)) }
     ensures sorted { IfOk result (λ r. IsSortedEnd (theory_of engine.now) (plain_run r.0)) }
+    ensures hints { IfOk result (λ r. AddsHintTextOf (theory_of engine.now) calls
+        (plain_pattern start.now) (plain_run r.0) hints.old hints.new) }
     ensures justified { IfOk result (λ r. PutsProof
         (D.state desk.old).told (D.state desk.new).told
         (theory_of engine.now) (plain_pattern start.now) (plain_run r.0) r.1) }
@@ -67,7 +73,7 @@ pub fn proved_run<'p, D: Desk>(
         ((D.state desk.new).write_faults ≡ (D.state desk.old).write_faults) }
     ensures reads { (D.state desk.new).read_faults ≡ (D.state desk.old).read_faults }
 {
-    match run_with_proof(alloc, desk, engine, start, limit, calls) {
+    match run_with_proof(alloc, desk, engine, start, limit, calls, hints) {
         Ok((end, proof)) => match proof.close(desk) {
             Ok(summary) => Ok((end, summary)),
             Err(why) => Err(DeskFault::from(why)),
@@ -91,6 +97,7 @@ pub fn run_with_proof<'p, D: Desk>(
     start: &'p RulePat,
     limit: u32,
     calls: u32,
+    hints: &mut Hints,
 ) -> Result<(RunEnd, Proof<'p>), ProveEnd>
     requires file { IsTrue (D.created desk.old) }
     requires ready { CanProveRun engine.now (plain_pattern start.now) }
@@ -98,6 +105,8 @@ pub fn run_with_proof<'p, D: Desk>(
         (λ r.
         IsRunOf (theory_of engine.now) limit calls (plain_pattern start.now) (plain_run r.0)) }
     ensures sorted { IfOk result (λ r. IsSortedEnd (theory_of engine.now) (plain_run r.0)) }
+    ensures hints { IfOk result (λ r. AddsHintTextOf (theory_of engine.now) calls
+        (plain_pattern start.now) (plain_run r.0) hints.old hints.new) }
     ensures proved { IfOk result (λ r. WritesProof
         (D.state desk.old).told (D.state desk.new).told
         (theory_of engine.now) (plain_pattern start.now) (plain_run r.0) r.1) }
