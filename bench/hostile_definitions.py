@@ -258,6 +258,18 @@ def equations_with_conditions(n):
     return Case(definition(*lines, rule("t{}(N:SortInt{})", "f{}(N:SortInt{})")), applied("t", value(5)))
 
 
+def guards(n):
+    """An equation of the last resort with n guards, each of which repeats the function's only other equation."""
+    given = "\\and{{R}}(\\in{{T{{}},R}}(X0:T{{}},{}),\\top{{R}}())"
+    guard = f"\\and{{R}}(\\top{{R}}(),{given.format(A)})"
+    denied = f"\\or{{R}}({guard}," * n + "\\bottom{R}()" + ")" * n
+    left = f"\\and{{R}}(\\not{{R}}({denied}),\\and{{R}}(\\top{{R}}(),{given.format('V:T{}')}))"
+    right = "\\equals{T{},R}(f{}(X0:T{}),\\and{T{}}(c{}(),\\top{T{}}()))"
+    last = f"axiom{{R}} \\implies{{R}}({left},{right}) [owise{{}}()]"
+    lines = [*CONSTANTS, symbol("f", ["T"], "T", "function{}()"), equation("f", [(A, "T")], "T", B), last]
+    return Case(definition(*lines, rule(A, applied("f", B))), A)
+
+
 def many_functions(n):
     """n functions, each of which calls the one before it, up to 300 deep."""
     names = [f"f{i}" for i in range(n)]
@@ -372,6 +384,7 @@ CASES = {
     "escapes": (escapes, 25000, 25000),
     "equations": (equations, 2500, 2500),
     "equations_with_conditions": (equations_with_conditions, 2500, 2500),
+    "guards": (guards, 15000, 500),
     "many_functions": (many_functions, 5000, 5000),
     "calls": (calls, 5000, 500),
     "long_term": (long_term, 250000, 50000),
