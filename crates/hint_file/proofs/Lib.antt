@@ -10,3 +10,4 @@ mod OneStep
 mod OneReading
 mod ReadPath
 mod TextSizes
+mod OneText
