@@ -1,2 +1,3 @@
 pub mod ClosedLaws
+pub mod LineLaws
 pub mod StepLaws

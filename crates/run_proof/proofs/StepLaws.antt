@@ -168,6 +168,24 @@ ends_next program run now proof step at steps is end (inl here) = inl (here ∙ 
 ends_next program run now proof step at steps is end (inr there) =
     inr (now.config, now.calls, steps, there ∙ ap ground_pattern is)
 
+-- the same for a step that was written whole
+pub front_stepped : (program : Program) (run now : RunState) (before after : RunProof)
+    (step : StepRecord) (old new : Option Told)
+    → WritesStep old new before after (result_of step.right)
+    → Steps (theory_of program) run.config run.calls (steps_on now.config now.calls)
+    → result_of step.right ≡ now.config → TellsCreated true new
+    → WritesFrontAfter old new before (EndsNext program run)
+front_stepped program run now before after step old new wrote steps is told =
+    front_so_far old new before after (EndsNext program run)
+    (inr (
+      now.config,
+      now.calls,
+      steps,
+      ap (configuration (plain_pattern after.start)) wrote.2.made ∙ ap ground_pattern is,
+    ))
+    (goes_step old new before after (result_of step.right) wrote)
+    told
+
 -- it is where the run may be cut
 pub may_end : (program : Program) (limit calls n : ℕ) (start : Pattern) (run : RunState)
     → Reaches (theory_of program) start calls n run.config run.calls → n < limit → (end : Pattern)

@@ -3,3 +3,4 @@ pub mod ClosedProofs
 pub mod OpenProofs
 -- Private: what clauses of private functions cite, and how private fields are seen.
 pub mod ProvedSteps
+pub mod RunHints

@@ -16,11 +16,13 @@ ghost use Rattle.run_loop.specs.RunEnds.{plain_run, IsSortedEnd};
 ghost use Rattle.prove_run.specs.WrittenProofs.{WritesFrontOfProof};
 ghost use Rattle.run_proof.specs.OpenProofs.{CanProveRun, WritesFrontOfRun, WritesProof};
 ghost use Rattle.run_proof.specs.ClosedProofs.{KeepsOthersNow, PutsFront, PutsProof};
+ghost use Rattle.run_proof.specs.RunHints.{AddsStepsOf};
 
 use crate::steps::proved_steps;
 use desk_io::{Desk, DeskFault};
 use fun_eval::{Engine, EvalEnd};
 use hint_file::Hints;
+use kore_show::shown_laws;
 use prove_run::{Proof, ProveEnd, Summary};
 use rewriter::Run;
 use rule_core::{Blocked, EvalRecord};
@@ -121,8 +123,12 @@ pub fn run_with_proof<'p, D: Desk>(
         ((D.state desk.new).write_faults ≡ (D.state desk.old).write_faults) }
     ensures reads { (D.state desk.new).read_faults ≡ (D.state desk.old).read_faults }
 {
+    shown_laws();
+    hints.start(alloc, engine.program(), start)?;
     match Run::new(alloc, engine, start, calls) {
-        Ok((run, evaluation)) => started(alloc, desk, engine, start, limit, run, &evaluation),
+        Ok((run, evaluation)) => {
+            started(alloc, desk, engine, start, limit, run, &evaluation, hints)
+        }
         Err(EvalEnd::Blocked(why)) => unstarted(alloc, desk, engine, start, why),
         Err(EvalEnd::Memory) => Err(ProveEnd::Memory),
     }
@@ -137,6 +143,7 @@ fn started<'p, D: Desk>(
     limit: u32,
     run: Run,
     evaluation: &EvalRecord,
+    hints: &mut Hints,
 ) -> Result<(RunEnd, Proof<'p>), ProveEnd>
     requires file { IsTrue (D.created desk.old) }
     requires ready { CanProveRun engine.now (plain_pattern start.now) }
@@ -148,6 +155,10 @@ fn started<'p, D: Desk>(
         Reaches (theory_of engine.now) (plain_pattern start.now) calls 0 run.config run.calls →
         IsRunOf (theory_of engine.now) limit calls (plain_pattern start.now) (plain_run r.0)) }
     ensures sorted { IfOk result (λ r. IsSortedEnd (theory_of engine.now) (plain_run r.0)) }
+    ensures hints { IfOk result (λ r. (calls : ℕ) →
+        Reaches (theory_of engine.now) (plain_pattern start.now) calls 0 run.config run.calls →
+        AddsStepsOf (theory_of engine.now) calls (plain_pattern start.now) (plain_run r.0)
+        hints.old hints.new) }
     ensures proved { IfOk result (λ r. WritesProof
         (D.state desk.old).told (D.state desk.new).told
         (theory_of engine.now) (plain_pattern start.now) (plain_run r.0) r.1) }
@@ -166,7 +177,7 @@ fn started<'p, D: Desk>(
 {
     let mut run = run;
     let mut proof = Proof::begin(alloc, engine.program(), start, Some(evaluation), desk)?;
-    match proved_steps(alloc, desk, engine, limit, &mut run, &mut proof) {
+    match proved_steps(alloc, desk, engine, limit, &mut run, &mut proof, hints) {
         Ok(end) => Ok((end, proof)),
         Err(why) => Err(why),
     }

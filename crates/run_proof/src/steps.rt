@@ -13,9 +13,12 @@ ghost use Rattle.run_loop.specs.RunEnds.{plain_run, IsSortedEnd};
 ghost use Rattle.prove_run.specs.RunProof.{reached};
 ghost use Rattle.prove_run.specs.WrittenProofs.{WritesFrontAfter};
 ghost use Rattle.run_proof.specs.ProvedSteps.{EndsNext, GoesOn, IsProvedAt, Progresses};
+ghost use Rattle.run_proof.specs.RunHints.{AddsLineOf, AddsStepsOf};
 
 use desk_io::Desk;
 use fun_eval::Engine;
+use hint_file::{Hints, hint_laws};
+use kore_show::shown_laws;
 use match_tree::{Slots, Tree};
 use prove_run::{Proof, ProveEnd};
 use rewriter::{Next, Run};
@@ -35,8 +38,8 @@ pub(crate) enum Progress {
     Blocked(Blocked, Term),
 }
 
-/// The steps of a run, at most `limit` of them, and their proof. Returns how the run ends. The
-/// rules' tree is made once.
+/// The steps of a run, at most `limit` of them, and their proof. If hints are wanted, they get the
+/// lines of the steps. Returns how the run ends. The rules' tree is made once.
 ///
 /// Errors: out of memory, or a fault that the desk counted.
 pub(crate) fn proved_steps<'p, D: Desk>(
@@ -46,6 +49,7 @@ pub(crate) fn proved_steps<'p, D: Desk>(
     limit: u32,
     run: &mut Run,
     proof: &mut Proof<'p>,
+    hints: &mut Hints,
 ) -> Result<RunEnd, ProveEnd>
     requires file { IsTrue (D.created desk.old) }
     requires at { IsProvedAt engine.now run.old proof.old }
@@ -60,6 +64,9 @@ pub(crate) fn proved_steps<'p, D: Desk>(
         Reaches (theory_of engine.now) start calls 0 run.old.config run.old.calls →
         IsRunOf (theory_of engine.now) limit calls start (plain_run end)) }
     ensures sorted { IfOk result (λ end. IsSortedEnd (theory_of engine.now) (plain_run end)) }
+    ensures hints { IfOk result (λ end. (start : Pattern) (calls : ℕ) →
+        Reaches (theory_of engine.now) start calls 0 run.old.config run.old.calls →
+        AddsStepsOf (theory_of engine.now) calls start (plain_run end) hints.old hints.new) }
     ensures front { OnErr result ((start : Pattern) (calls : ℕ) →
         Reaches (theory_of engine.now) start calls 0 run.old.config run.old.calls →
         WritesFrontAfter (D.state desk.old).told (D.state desk.new).told proof.old
@@ -72,10 +79,11 @@ pub(crate) fn proved_steps<'p, D: Desk>(
         ((D.state desk.new).write_faults ≡ (D.state desk.old).write_faults) }
     ensures reads { (D.state desk.new).read_faults ≡ (D.state desk.old).read_faults }
 {
+    hint_laws();
     let tree = engine.rule_tree(alloc)?;
     let mut slots = Slots::for_tree(alloc, &tree)?;
     for made in 0..limit {
-        match proved_step(alloc, desk, engine, &tree, &mut slots, run, proof)? {
+        match proved_step(alloc, desk, engine, &tree, &mut slots, run, proof, hints)? {
             Progress::Made => {}
             Progress::Stuck(last) => return Ok(RunEnd::Stuck(made, last)),
             Progress::Blocked(why, last) => return Ok(RunEnd::Blocked(made, why, last)),
@@ -84,7 +92,7 @@ pub(crate) fn proved_steps<'p, D: Desk>(
     Ok(RunEnd::Limit(limit, run.config().share()?))
 }
 
-// The next step of a run, and its proof. The errors are the ones of `proved_steps`.
+// The next step of a run, its proof and its line of the hints, if they are wanted. The errors are the ones of `proved_steps`.
 fn proved_step<'p, D: Desk>(
     alloc: Global,
     desk: &mut D,
@@ -93,6 +101,7 @@ fn proved_step<'p, D: Desk>(
     slots: &mut Slots,
     run: &mut Run,
     proof: &mut Proof<'p>,
+    hints: &mut Hints,
 ) -> Result<Progress, ProveEnd>
     requires file { IsTrue (D.created desk.old) }
     requires at { IsProvedAt engine.now run.old proof.old }
@@ -104,6 +113,8 @@ fn proved_step<'p, D: Desk>(
     ensures at { OnOk result (IsProvedAt engine.now run.new proof.new) }
     ensures progress { IfOk result
         (Progresses engine.now run.old run.new proof.old proof.new) }
+    ensures hints { IfOk result
+        (AddsLineOf (theory_of engine.now) run.old run.new hints.old hints.new) }
     ensures front { OnErr result
         (WritesFrontAfter (D.state desk.old).told (D.state desk.new).told proof.old
         (EndsNext engine.now run.old)) }
@@ -115,10 +126,14 @@ fn proved_step<'p, D: Desk>(
         ((D.state desk.new).write_faults ≡ (D.state desk.old).write_faults) }
     ensures reads { (D.state desk.new).read_faults ≡ (D.state desk.old).read_faults }
 {
+    shown_laws();
     let _high = run.config().height();
     match run.step(alloc, engine, tree, slots)? {
         Next::Made(step) => match proof.step(alloc, desk, &step) {
-            Ok(()) => Ok(Progress::Made),
+            Ok(()) => {
+                hints.push(alloc, engine.program(), step.rule, run.config())?;
+                Ok(Progress::Made)
+            }
             Err(why) => Err(why),
         },
         Next::Stuck => Ok(Progress::Stuck(run.config().share()?)),

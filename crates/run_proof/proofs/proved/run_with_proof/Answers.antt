@@ -1,13 +1,19 @@
-use Rattle.std.proofs.Common.{ℕ, Result, Ok, Err, IfOk, rules}
+use Rattle.std.proofs.Common.{ℕ, Result, Ok, Err, IfOk, rules, subst}
 use Rattle.term_core.specs.RulePatterns.{plain_pattern}
 use Rattle.rule_core.specs.ProgramView.{theory_of}
 use Rattle.rule_core.specs.RunView.{cause_of}
 use Rattle.rule_core.specs.Runs.{IsRunOf, Reaches}
 use Rattle.rule_core.specs.RunCuts.{at_blocked_start}
+use Rattle.rule_core.specs.declared.rules.Program.{Program}
 use Rattle.fun_eval.specs.EvalEnds.{EndsBy}
+use Rattle.hint_file.specs.HintTexts.{first_lines}
+use Rattle.hint_file.specs.RunTexts.{AddsHintTextOf, AddsText}
+use Rattle.prove_run.proofs.FileLaws.{on_err}
 use Rattle.prove_run.specs.WrittenProofs.{WritesFrontOfProof}
 use Rattle.run_loop.specs.RunEnds.{plain_run}
 use Rattle.run_proof.specs.OpenProofs.{WritesFrontOfRun}
+use Rattle.run_proof.specs.RunHints.{AddsStepsOf}
+use Rattle.run_proof.proofs.LineLaws.{hints_whole}
 use Rattle.run_proof.proofs.StepLaws.{front_of_run, none_of_run, on_err_more}
 use Rattle.run_proof.proofs.proved.run_with_proof.Goals as goal
 
@@ -24,6 +30,31 @@ returns-in-Ok-clause-run g c =
     IsRunOf theory c.args.limit calls start (plain_run r.0))
     (λ r. IsRunOf theory c.args.limit c.args.calls start (plain_run r.0)) c.started.result
     (λ r h. h c.args.calls c.in-Ok.ensures.starts) c.started.ensures.run
+
+pub returns-in_err-start-clause-front : goal.returns-in_err-start-clause-front
+returns-in_err-start-clause-front g c =
+    let theory = theory_of c.args.engine.now in
+    let start = plain_pattern c.args.start.now in
+    let told = (g.D.Desk.state c.args.desk.now).told in
+    on_err c.from_residual.result
+    (WritesFrontOfRun told told theory c.args.limit c.args.calls start)
+    (none_of_run told theory c.args.limit c.args.calls start
+    (rw c.requires.file at (g.met.D.Desk.tells_created c.args.desk.now)))
+
+-- lines 1 and 2, and then those of the steps
+pub returns-in-Ok-clause-hints : goal.returns-in-Ok-clause-hints
+returns-in-Ok-clause-hints g c =
+    let theory = theory_of c.args.engine.now in
+    let start = plain_pattern c.args.start.now in
+    let first : AddsText (first_lines theory.sig start) c.args.hints.now c.start.new.self =
+    subst (λ (p : Program). AddsText (first_lines p.sig start) c.args.hints.now c.start.new.self)
+    c.program.ensures.program c.in_ok-start.ensures in
+    if_ok (λ r. (calls : ℕ) → Reaches theory start calls 0 c.in-Ok.run'.config c.in-Ok.run'.calls →
+    AddsStepsOf theory calls start (plain_run r.0) c.start.new.self c.started.new.hints)
+    (λ r. AddsHintTextOf theory c.args.calls start (plain_run r.0) c.args.hints.now
+    c.started.new.hints) c.started.result
+    (λ r h. hints_whole theory start c.args.calls (plain_run r.0) c.args.hints.now c.start.new.self
+    c.started.new.hints first (h c.args.calls c.in-Ok.ensures.starts)) c.started.ensures.hints
 
 pub returns-in-Ok-clause-front : goal.returns-in-Ok-clause-front
 returns-in-Ok-clause-front g c =

@@ -6,7 +6,7 @@ use Rattle.rule_core.specs.RecordView.{plain_step}
 use Rattle.prove_run.specs.WrittenProofs.{EndsStep, WritesFrontAfter}
 use Rattle.prove_run.proofs.FileLaws.{on_err, none_added}
 use Rattle.run_proof.specs.ProvedSteps.{EndsNext}
-use Rattle.run_proof.proofs.StepLaws.{ends_next, front_more}
+use Rattle.run_proof.proofs.StepLaws.{ends_next, front_more, front_stepped}
 use Rattle.run_proof.proofs.StepLaws.{can_step, proved_at, goes_step, stays_on, same_place}
 use Rattle.run_proof.proofs.steps.proved_step.Goals as goal
 
@@ -68,3 +68,16 @@ returns-in-Made-clause-front g c =
     (plain_step c.in-Made.step) c.requires.at (rw c.in-Made.is at c.in_ok-step.ensures.next)
     (rw c.in-Made.is at c.in_ok-step.ensures.recorded).1)
     c.in-Err.ensures.front
+
+-- the step was made, and its line was not
+pub returns-in_err-push-in-Ok-clause-front : goal.returns-in_err-push-in-Ok-clause-front
+returns-in_err-push-in-Ok-clause-front g c =
+    let old = (g.D.Desk.state c.args.desk.now).told in
+    let new = (g.D.Desk.state c.step-in-Made.new.desk).told in
+    on_err c.from_residual-in_err-push-in-Ok.result
+    (WritesFrontAfter old new c.args.proof.now (EndsNext c.args.engine.now c.args.run.now))
+    (front_stepped c.args.engine.now c.args.run.now c.step.new.self c.args.proof.now
+    c.step-in-Made.new.self (plain_step c.in-Made.step) old new c.in-Ok.ensures.steps
+    (rw c.in-Made.is at c.in_ok-step.ensures.next)
+    (rw c.in-Made.is at c.in_ok-step.ensures.recorded).1
+    (rw c.step-in-Made.ensures.created at (g.met.D.Desk.tells_created c.step-in-Made.new.desk)))

@@ -8,6 +8,7 @@ use Rattle.prove_run.specs.RunProof.{RunProof}
 use Rattle.prove_run.proofs.FileLaws.{on_err}
 use Rattle.prove_run.specs.WrittenProofs.{WritesFrontAfter}
 use Rattle.run_proof.specs.ProvedSteps.{EndsNext}
+use Rattle.run_proof.proofs.LineLaws.{no_lines_yet, one_line_more}
 use Rattle.run_proof.proofs.StepLaws.{front_more, may_end, may_end_here}
 use Rattle.run_proof.proofs.StepLaws.{one_more, counted, stays_on, goes_then, front_later}
 use Rattle.run_proof.proofs.StepLaws.{front_so_far, stuck_run, stopped_run, limited_run, kept_config}
@@ -26,11 +27,14 @@ loop-made-init g c = record {
       (rw c.requires.file at (g.met.D.Desk.tells_created c.args.desk.now));
   steps = c.requires.none_made;
   reached = λ start calls h. h;
+  hinted = λ start calls h. no_lines_yet (theory_of c.args.engine.now) start calls c.args.hints.now
+      c.args.run.now.config c.args.run.now.calls h;
 }
 
 pub loop-made-preserved : goal.loop-made-preserved
 loop-made-preserved g c =
-    let progress = rw c.in-Made.is at c.in_ok-proved_step.ensures.progress in record {
+    let progress = rw c.in-Made.is at c.in_ok-proved_step.ensures.progress in
+    let line = rw c.in-Made.is at c.in_ok-proved_step.ensures.hints in record {
       created = c.proved_step.ensures.created;
       counts = omega (arith, c.loop-made.invariant.counts, c.proved_step.ensures.counts);
       no_fault = c.in_ok-proved_step.ensures.no_fault ∙ c.loop-made.invariant.no_fault;
@@ -46,6 +50,11 @@ loop-made-preserved g c =
           c.loop-made.invariant.steps (omega arith) (omega arith);
       reached = λ start calls h. one_more _ start calls _ _ _ _ _
           (c.loop-made.invariant.reached start calls h) progress.0;
+      hinted = λ start calls h. one_line_more (theory_of c.args.engine.now) start calls
+          c.loop-made.made c.loop-made.run.calls c.proved_step.new.run.calls c.loop-made.run.config
+          c.proved_step.new.run.config c.args.hints.now c.loop-made.hints c.proved_step.new.hints
+          line.0 c.hint_laws.ensures.texts (c.loop-made.invariant.hinted start calls h) progress.0
+          line.1 line.2 line.3;
     }
 
 pub returns-in-Stuck-clause-goes : goal.returns-in-Stuck-clause-goes

@@ -5,6 +5,7 @@ use Rattle.rule_core.specs.ProgramView.{theory_of}
 use Rattle.rule_core.specs.Runs.{Reaches}
 use Rattle.match_tree.specs.SlotView.{HasRoom}
 use Rattle.run_proof.specs.ProvedSteps.{GoesOn, IsProvedAt}
+use Rattle.run_proof.proofs.LineLaws.{HasLines}
 use Rattle.run_proof.proofs.steps.proved_steps.Given as goal
 
 abbrev pub invariant-loop-made : goal.invariant-loop-made
@@ -21,4 +22,8 @@ invariant-loop-made g l = record {
   reached : (start : Pattern) (calls : ℕ)
       → Reaches (theory_of l.engine) start calls 0 l.initial.run.config l.initial.run.calls
       → Reaches (theory_of l.engine) start calls l.made l.run.config l.run.calls;
+  hinted : (start : Pattern) (calls : ℕ)
+      → Reaches (theory_of l.engine) start calls 0 l.initial.run.config l.initial.run.calls
+      → HasLines (theory_of l.engine) start calls l.made l.initial.hints l.hints l.run.config
+      l.run.calls;
 }
