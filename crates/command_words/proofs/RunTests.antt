@@ -1,5 +1,5 @@
--- If one part of a run command is bad, the command is bad.
-use Rattle.std.proofs.Common.{◌≡◌, ◌&&◌, Bool, true, false, refl}
+-- If one part of a run or prove command is bad, the command is bad.
+use Rattle.std.proofs.Common.{◌≡◌, ◌&&◌, Bool, true, false, not, refl}
 
 pub no-first : (a b c d e : Bool) → b ≡ false → a && ((b && c) && (d && e)) ≡ false
 no-first true true c d e h = absurd (let wrong : ⊥ = cc in wrong)
@@ -35,3 +35,18 @@ all-five true false c d e g h i j k = h
 all-five true true false d e g h i j k = i
 all-five true true true false e g h i j k = j
 all-five true true true true false g h i j k = k
+
+-- the last part of a run command: a good number of calls, and files of two names
+pub no-calls : (a b : Bool) → a ≡ false → a && not b ≡ false
+no-calls true b h = absurd (let wrong : ⊥ = cc in wrong)
+no-calls false b h = refl
+
+pub one-file : (a b : Bool) → b ≡ true → a && not b ≡ false
+one-file true true h = refl
+one-file true false h = absurd (let wrong : ⊥ = cc in wrong)
+one-file false b h = refl
+
+pub two-files : (a b : Bool) → a ≡ true → b ≡ false → a && not b ≡ true
+two-files true true g h = absurd (let wrong : ⊥ = cc in wrong)
+two-files true false g h = refl
+two-files false b g h = g

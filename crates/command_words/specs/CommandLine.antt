@@ -1,7 +1,7 @@
 -- The words of the command line: the name of a command, then what clap's definition of that command
 -- takes. The first word is where clap expects the name of a program.
 use Rattle.std.specs.Prelude.{ℕ, Bool, true, false, not, ◌&&◌, List, [], ◌∷◌, length, Option, Some}
-use Rattle.std.specs.Prelude.{is_some}
+use Rattle.std.specs.Prelude.{None, is_some}
 use Rattle.std.specs.Prelude.{if◌then◌else◌, codes, nat_le}
 use Rattle.std.specs.Option.{option_map_or}
 use Rattle.std.specs.Str.{bytes_eq, all_ascii_digits}
@@ -24,13 +24,14 @@ option_rule id is_required =
 abbrev pub bare_app : Text → App
 bare_app name = on_top (λ s. record s { disable_help_flag = true }) (new_app name)
 
--- `run DEF TERM --limit N`, with optional `--calls N` and `--proof FILE`
+-- `run DEF TERM --limit N`, with optional `--calls N`, `--proof FILE` and `--hints HINTS`
 abbrev pub run_app : App
 run_app =
-    with_rule (with_rule (with_rule (with_rule (with_rule (bare_app (codes "run"))
+    with_rule (with_rule (with_rule (with_rule (with_rule (with_rule (bare_app (codes "run"))
     (positional_rule (codes "def"))) (positional_rule (codes "term"))) (option_rule (codes
     "limit") true))
-    (option_rule (codes "calls") false)) (option_rule (codes "proof") false)
+    (option_rule (codes "calls") false)) (option_rule (codes "proof") false)) (option_rule (codes
+    "hints") false)
 
 -- `verify FILE`
 abbrev pub verify_app : App
@@ -41,6 +42,14 @@ abbrev pub check_app : App
 check_app =
     with_rule (with_rule (bare_app (codes "check")) (positional_rule (codes "def")))
     (positional_rule (codes "file"))
+
+-- `prove DEF HINTS --proof FILE`, with optional `--calls N`
+abbrev pub prove_app : App
+prove_app =
+    with_rule (with_rule (with_rule (with_rule (bare_app (codes "prove"))
+    (positional_rule (codes "def"))) (positional_rule (codes "hints"))) (option_rule (codes
+    "proof") true))
+    (option_rule (codes "calls") false)
 
 -- `drill N FILE`
 abbrev pub drill_app : App
@@ -84,13 +93,22 @@ abbrev pub is_named : Text → List Text → Bool
 is_named name [] = false
 is_named name (word ∷ words) = bytes_eq word name
 
--- the words name the two files, and the numbers are good
+-- both names are there, and they are the same text
+abbrev pub names_one_file : Option Text → Option Text → Bool
+names_one_file (Some name) (Some other) = bytes_eq name other
+names_one_file (Some name) None = false
+names_one_file None other = false
+
+-- the words name the two files, the numbers are good, and the proof and the hints do not go to one
+-- file
 abbrev pub is_run : List Text → Bool
 is_run words = takes run_app words
     && ((is_some (value_of run_app words (codes "def"))
     && is_some (value_of run_app words (codes "term")))
     && (option_map_or (is_number_to most_steps) (value_of run_app words (codes "limit")) false
-    && option_map_or (is_number_to most_calls) (value_of run_app words (codes "calls")) true))
+    && (option_map_or (is_number_to most_calls) (value_of run_app words (codes "calls")) true
+    && not (names_one_file (value_of run_app words (codes "proof"))
+    (value_of run_app words (codes "hints"))))))
 
 abbrev pub is_verify : List Text → Bool
 is_verify words = takes verify_app words && is_some (value_of verify_app words (codes "file"))
@@ -99,6 +117,14 @@ abbrev pub is_check : List Text → Bool
 is_check words = takes check_app words
     && (is_some (value_of check_app words (codes "def"))
     && is_some (value_of check_app words (codes "file")))
+
+-- the words name the three files, and the number of calls is good
+abbrev pub is_prove : List Text → Bool
+is_prove words = takes prove_app words
+    && ((is_some (value_of prove_app words (codes "def"))
+    && is_some (value_of prove_app words (codes "hints")))
+    && (is_some (value_of prove_app words (codes "proof"))
+    && option_map_or (is_number_to most_calls) (value_of prove_app words (codes "calls")) true))
 
 abbrev pub is_drill : List Text → Bool
 is_drill words = takes drill_app words
@@ -111,5 +137,6 @@ are_bad words =
     if is_named (codes "run") words then not (is_run words)
     else if is_named (codes "verify") words then not (is_verify words)
     else if is_named (codes "check") words then not (is_check words)
+    else if is_named (codes "prove") words then not (is_prove words)
     else if is_named (codes "drill") words then not (is_drill words)
     else true

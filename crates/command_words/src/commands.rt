@@ -4,14 +4,17 @@ ghost use Rattle.std.specs.Prelude.{string_bytes, option_copied, option_map, Som
 ghost use Rattle.std.specs.Option.{option_map_or};
 ghost use Rattle.std.specs.Str.Parse.{digits_value};
 ghost use Rattle.command_words.specs.CommandLine.{is_named, is_run, is_verify, is_check, is_drill};
-ghost use Rattle.command_words.specs.CommandLine.{are_bad, is_number_to, is_drill_number};
-ghost use Rattle.command_words.specs.CommandLine.{most_drilled};
-ghost use Rattle.command_words.specs.Commands.{Gives, GivesRun, GivesFile, GivesCheck, GivesDrill};
+ghost use Rattle.command_words.specs.CommandLine.{is_prove, are_bad, names_one_file, is_number_to};
+ghost use Rattle.command_words.specs.CommandLine.{is_drill_number, most_drilled};
+ghost use Rattle.command_words.specs.Commands.{Gives, GivesRun, GivesFile, GivesCheck, GivesProve};
+ghost use Rattle.command_words.specs.Commands.{GivesDrill};
 ghost use Rattle.command_words.specs.Plain.{is_plain, IsReadBy};
 ghost use Rattle.clap.specs.Simple.{app_of};
 ghost use Rattle.clap.specs.Takes.{takes};
 
-use crate::definitions::{check_definition, drill_definition, run_definition, verify_definition};
+use crate::definitions::{
+    check_definition, drill_definition, prove_definition, run_definition, verify_definition,
+};
 use crate::numbers::number_to;
 use clap::ArgMatches;
 use clap::error::ErrorKind;
@@ -27,6 +30,8 @@ pub enum Command<'a> {
     Verify(&'a str),
     /// To check what the database in a file justifies.
     Check(CheckWords<'a>),
+    /// To prove the steps of a hint file.
+    Prove(ProveWords<'a>),
     /// To drill the program.
     Drill(DrillWords<'a>),
 }
@@ -44,6 +49,9 @@ pub struct RunWords<'a> {
     pub calls: u32,
     /// The name of the file for the proof, if one is wanted.
     pub proof: Option<&'a str>,
+    /// The name of the file for the hints of the steps, if they are wanted. It is another name than
+    /// that of the file for the proof.
+    pub hints: Option<&'a str>,
 }
 
 /// What a call is to check.
@@ -53,6 +61,19 @@ pub struct CheckWords<'a> {
     pub definition: &'a str,
     /// The name of the file with the database.
     pub file: &'a str,
+}
+
+/// What a call is to prove.
+#[derive(Clone, Copy)]
+pub struct ProveWords<'a> {
+    /// The name of the file with the definition.
+    pub definition: &'a str,
+    /// The name of the file with the initial term and the steps.
+    pub hints: &'a str,
+    /// The name of the file for the proof.
+    pub proof: &'a str,
+    /// The greatest number of calls of functions, at most 10,000,000.
+    pub calls: u32,
 }
 
 /// What a call is to drill.
@@ -111,6 +132,8 @@ pub fn read_words<'a>(alloc: Global, words: &'a [String]) -> Result<Command<'a>,
         verify_words(alloc, words).map(Command::Verify)
     } else if is_named("check", words) {
         check_words(alloc, words).map(Command::Check)
+    } else if is_named("prove", words) {
+        prove_words(alloc, words).map(Command::Prove)
     } else if is_named("drill", words) {
         drill_words(alloc, words).map(Command::Drill)
     } else {
@@ -142,13 +165,28 @@ fn run_words<'a>(alloc: Global, words: &'a [String]) -> Result<RunWords<'a>, Wor
     let limit = number_in(MAX_STEPS, matches.get_str("limit")).ok_or(WordsEnd::Bad)?;
     let calls = number_or(MAX_CALLS, matches.get_str("calls"), USUAL_CALLS).ok_or(WordsEnd::Bad)?;
     let proof = matches.get_str("proof");
+    let hints = matches.get_str("hints");
+    if name_one_file(proof, hints) {
+        return Err(WordsEnd::Bad);
+    }
     Ok(RunWords {
         definition,
         term,
         limit,
         calls,
         proof,
+        hints,
     })
+}
+
+// Whether both names are there and are the same.
+fn name_one_file(name: Option<&str>, other: Option<&str>) -> bool
+    ensures { result ≡ names_one_file (option_copied name.entry) (option_copied other.entry) }
+{
+    match (name, other) {
+        (Some(name), Some(other)) => name == other,
+        _ => false,
+    }
 }
 
 // The file that a verify command names.
@@ -175,6 +213,27 @@ fn check_words<'a>(alloc: Global, words: &'a [String]) -> Result<CheckWords<'a>,
     let definition = matches.get_str("def").ok_or(WordsEnd::Bad)?;
     let file = matches.get_str("file").ok_or(WordsEnd::Bad)?;
     Ok(CheckWords { definition, file })
+}
+
+// What a prove command asks for.
+fn prove_words<'a>(alloc: Global, words: &'a [String]) -> Result<ProveWords<'a>, WordsEnd>
+    requires { is_named (codes "prove") (map string_bytes words.now) ≡ true }
+    ensures good { IfOk result (λ p. (is_prove (map string_bytes words.entry.now) ≡ true)
+        × GivesProve (map string_bytes words.entry.now) p) }
+    ensures bad { result ≡ Err WordsEnd.Bad → is_prove (map string_bytes words.entry.now) ≡ false }
+{
+    let command = prove_definition(alloc)?;
+    let matches = matches_for(command, words)?;
+    let definition = matches.get_str("def").ok_or(WordsEnd::Bad)?;
+    let hints = matches.get_str("hints").ok_or(WordsEnd::Bad)?;
+    let proof = matches.get_str("proof").ok_or(WordsEnd::Bad)?;
+    let calls = number_or(MAX_CALLS, matches.get_str("calls"), USUAL_CALLS).ok_or(WordsEnd::Bad)?;
+    Ok(ProveWords {
+        definition,
+        hints,
+        proof,
+        calls,
+    })
 }
 
 // What a drill command asks for.

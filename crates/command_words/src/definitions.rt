@@ -3,12 +3,12 @@ ghost use Rattle.std.specs.Prelude.{◌≡◌, IfOk, codes, false};
 ghost use Rattle.clap.specs.Walk.{rule_of};
 ghost use Rattle.clap.specs.Simple.{app_of, with_rule};
 ghost use Rattle.command_words.specs.CommandLine.{positional_rule, option_rule, bare_app, run_app};
-ghost use Rattle.command_words.specs.CommandLine.{verify_app, check_app, drill_app};
+ghost use Rattle.command_words.specs.CommandLine.{verify_app, check_app, prove_app, drill_app};
 
 use clap::{Arg, ArgAction, Command};
 use std::alloc::{AllocError, Global};
 
-// `run DEF TERM --limit N [--calls N] [--proof FILE]`
+// `run DEF TERM --limit N [--calls N] [--proof FILE] [--hints HINTS]`
 pub(crate) fn run_definition<'a>(alloc: Global) -> Result<Command<'a>, AllocError>
     ensures { IfOk result (λ c. app_of c ≡ run_app) }
 {
@@ -17,10 +17,11 @@ pub(crate) fn run_definition<'a>(alloc: Global) -> Result<Command<'a>, AllocErro
         positional(alloc, "term"),
     )?;
     let limited = with(named, option(alloc, "limit", true))?;
-    with(
+    let proved = with(
         with(limited, option(alloc, "calls", false))?,
         option(alloc, "proof", false),
-    )
+    )?;
+    with(proved, option(alloc, "hints", false))
 }
 
 // `verify FILE`
@@ -37,6 +38,20 @@ pub(crate) fn check_definition<'a>(alloc: Global) -> Result<Command<'a>, AllocEr
     with(
         with(bare(alloc, "check"), positional(alloc, "def"))?,
         positional(alloc, "file"),
+    )
+}
+
+// `prove DEF HINTS --proof FILE [--calls N]`
+pub(crate) fn prove_definition<'a>(alloc: Global) -> Result<Command<'a>, AllocError>
+    ensures { IfOk result (λ c. app_of c ≡ prove_app) }
+{
+    let named = with(
+        with(bare(alloc, "prove"), positional(alloc, "def"))?,
+        positional(alloc, "hints"),
+    )?;
+    with(
+        with(named, option(alloc, "proof", true))?,
+        option(alloc, "calls", false),
     )
 }
 

@@ -12,4 +12,4 @@ mod numbers;
 #[cfg(test)]
 mod tests;
 
-pub use commands::{CheckWords, Command, DrillWords, RunWords, WordsEnd, read_words};
+pub use commands::{CheckWords, Command, DrillWords, ProveWords, RunWords, WordsEnd, read_words};

@@ -39,6 +39,7 @@ fn takes_a_million_calls_where_none_are_stated(rt: HostRuntime) -> Result<(), Fa
         Ok(Command::Run(run)) => {
             assert_eq!(rt; run.calls, 1_000_000);
             assert!(rt; run.proof.is_none());
+            assert!(rt; run.hints.is_none());
         }
         Ok(_other) => assert!(rt; false),
         Err(_end) => assert!(rt; false),
@@ -46,7 +47,21 @@ fn takes_a_million_calls_where_none_are_stated(rt: HostRuntime) -> Result<(), Fa
     Ok(())
 }
 
-static BAD_LINES: [&str; 26] = [
+#[test]
+fn reads_a_run_with_hints(rt: HostRuntime) -> Result<(), Fail> {
+    let words = words_of(rt.alloc(), "run d t --hints=h --limit 5 --proof p")?;
+    match read_words(rt.alloc(), words.as_slice()) {
+        Ok(Command::Run(run)) => {
+            assert_eq!(rt; run.proof, Some("p"));
+            assert_eq!(rt; run.hints, Some("h"));
+        }
+        Ok(_other) => assert!(rt; false),
+        Err(_end) => assert!(rt; false),
+    }
+    Ok(())
+}
+
+static BAD_LINES: [&str; 36] = [
     "",
     "Run d t --limit 5",
     "run d t",
@@ -60,6 +75,10 @@ static BAD_LINES: [&str; 26] = [
     "run d t --limit 5 --calls 10000001",
     "run d t --limit 5 --proof",
     "run d t --limit 5 --proof -x",
+    "run d t --limit 5 --hints",
+    "run d t --limit 5 --hints h --hints i",
+    "run d t --limit 5 --hints p --proof p",
+    "run --proof=p d t --limit 5 --hints=p",
     "run d t --limit 5 --help",
     "verify",
     "verify a b",
@@ -68,6 +87,12 @@ static BAD_LINES: [&str; 26] = [
     "check d",
     "check d p.mm q.mm",
     "check d p.mm --limit 5",
+    "prove d h",
+    "prove d h --proof",
+    "prove d --proof p",
+    "prove d h x --proof p",
+    "prove d h --proof p --limit 5",
+    "prove d h --proof p --calls 10000001",
     "drill 5",
     "drill 0 p.mm",
     "drill 1001 p.mm",
@@ -104,6 +129,33 @@ fn reads_what_is_to_be_checked(rt: HostRuntime) -> Result<(), Fail> {
             assert_eq!(rt; check.definition, "d.kore");
             assert_eq!(rt; check.file, "p.mm");
         }
+        Ok(_other) => assert!(rt; false),
+        Err(_end) => assert!(rt; false),
+    }
+    Ok(())
+}
+
+#[test]
+fn reads_what_is_to_be_proved(rt: HostRuntime) -> Result<(), Fail> {
+    let words = words_of(rt.alloc(), "prove d.kore h.hints --proof p.mm --calls 7")?;
+    match read_words(rt.alloc(), words.as_slice()) {
+        Ok(Command::Prove(prove)) => {
+            assert_eq!(rt; prove.definition, "d.kore");
+            assert_eq!(rt; prove.hints, "h.hints");
+            assert_eq!(rt; prove.proof, "p.mm");
+            assert_eq!(rt; prove.calls, 7);
+        }
+        Ok(_other) => assert!(rt; false),
+        Err(_end) => assert!(rt; false),
+    }
+    Ok(())
+}
+
+#[test]
+fn takes_a_million_calls_where_a_proof_states_none(rt: HostRuntime) -> Result<(), Fail> {
+    let words = words_of(rt.alloc(), "prove --proof=p d h")?;
+    match read_words(rt.alloc(), words.as_slice()) {
+        Ok(Command::Prove(prove)) => assert_eq!(rt; prove.calls, 1_000_000),
         Ok(_other) => assert!(rt; false),
         Err(_end) => assert!(rt; false),
     }

@@ -1,14 +1,24 @@
 use Rattle.std.proofs.Common.{◌≡◌, ◌∙◌, sym, ap, subst, List, ℕ, map, string_bytes, Option, is_some}
-use Rattle.std.proofs.Common.{option_map, option_copied, codes, true, false}
+use Rattle.std.proofs.Common.{option_map, option_copied, codes, true, false, not, ◌&&◌, Bool}
 use Rattle.std.specs.Option.{option_map_or}
 use Rattle.std.specs.Str.Parse.{digits_value}
 use Rattle.clap.specs.Simple.{App}
 use Rattle.clap.specs.Takes.{takes}
 use Rattle.command_words.specs.CommandLine.{run_app, value_of, is_number_to, most_steps, most_calls}
-use Rattle.command_words.specs.CommandLine.{usual_calls}
+use Rattle.command_words.specs.CommandLine.{usual_calls, names_one_file}
 use Rattle.command_words.specs.Plain.{IsReadBy}
 use Rattle.command_words.proofs.RunTests.{no-first, no-second, no-third, no-fourth, all-five}
+use Rattle.command_words.proofs.RunTests.{no-calls, one-file, two-files}
 use Rattle.command_words.proofs.commands.run_words.Goals as goal
+
+abbrev good_calls : List (List ℕ) → Bool
+good_calls words =
+    option_map_or (is_number_to most_calls) (value_of run_app words (codes "calls")) true
+
+-- the file for the proof is the file for the hints
+abbrev is_one_file : List (List ℕ) → Bool
+is_one_file words =
+    names_one_file (value_of run_app words (codes "proof")) (value_of run_app words (codes "hints"))
 
 pub returns-in_err-definition-clause-bad : goal.returns-in_err-definition-clause-bad
 returns-in_err-definition-clause-bad c _ =
@@ -21,7 +31,7 @@ returns-in_err-definition-clause-bad c _ =
     no-first (takes run_app words) (is_some (value_of run_app words (codes "def")))
     (is_some (value_of run_app words (codes "term")))
     (option_map_or (is_number_to most_steps) (value_of run_app words (codes "limit")) false)
-    (option_map_or (is_number_to most_calls) (value_of run_app words (codes "calls")) true)
+    (good_calls words && not (is_one_file words))
     (ap is_some definition ∙ ap (λ r. is_some (option_copied r))
     c.in_err-definition.ensures.ok_part)
 
@@ -36,7 +46,7 @@ returns-in_err-term-clause-bad c _ =
     no-second (takes run_app words) (is_some (value_of run_app words (codes "def")))
     (is_some (value_of run_app words (codes "term")))
     (option_map_or (is_number_to most_steps) (value_of run_app words (codes "limit")) false)
-    (option_map_or (is_number_to most_calls) (value_of run_app words (codes "calls")) true)
+    (good_calls words && not (is_one_file words))
     (ap is_some term ∙ ap (λ r. is_some (option_copied r)) c.in_err-term.ensures.ok_part)
 
 pub returns-in_err-limit-clause-bad : goal.returns-in_err-limit-clause-bad
@@ -50,7 +60,7 @@ returns-in_err-limit-clause-bad c _ =
     no-third (takes run_app words) (is_some (value_of run_app words (codes "def")))
     (is_some (value_of run_app words (codes "term")))
     (option_map_or (is_number_to most_steps) (value_of run_app words (codes "limit")) false)
-    (option_map_or (is_number_to most_calls) (value_of run_app words (codes "calls")) true)
+    (good_calls words && not (is_one_file words))
     (ap (λ (o : Option (List ℕ)). option_map_or (is_number_to most_steps) o false) limit
     ∙ rw c.in_err-limit.ensures.ok_part at c.number_in.ensures.bad)
 
@@ -65,9 +75,29 @@ returns-in_err-calls-clause-bad c _ =
     no-fourth (takes run_app words) (is_some (value_of run_app words (codes "def")))
     (is_some (value_of run_app words (codes "term")))
     (option_map_or (is_number_to most_steps) (value_of run_app words (codes "limit")) false)
-    (option_map_or (is_number_to most_calls) (value_of run_app words (codes "calls")) true)
+    (good_calls words && not (is_one_file words))
+    (no-calls (good_calls words) (is_one_file words)
     (ap (λ (o : Option (List ℕ)). option_map_or (is_number_to most_calls) o true) calls
-    ∙ rw c.in_err-calls.ensures.ok_part at c.number_or.ensures.bad)
+    ∙ rw c.in_err-calls.ensures.ok_part at c.number_or.ensures.bad))
+
+pub returns-then-name_one_file-clause-bad : goal.returns-then-name_one_file-clause-bad
+returns-then-name_one_file-clause-bad c _ =
+    let words = map string_bytes c.args.words.now in
+    let read =
+    subst (λ (a : App). IsReadBy a words c.in_ok-matches.matches) c.in_ok-command.ensures
+    c.in_ok-matches.ensures.read in
+    let proof : value_of run_app words (codes "proof") ≡ option_copied c.get_str-proof.result =
+    sym (read.values (codes "proof")) ∙ sym c.get_str-proof.ensures in
+    let hints : value_of run_app words (codes "hints") ≡ option_copied c.get_str-hints.result =
+    sym (read.values (codes "hints")) ∙ sym c.get_str-hints.ensures in
+    let one_file : is_one_file words ≡ true =
+    (λ k. names_one_file (proof k) (hints k)) ∙ sym c.name_one_file.ensures
+    ∙ c.if-name_one_file.true in
+    no-fourth (takes run_app words) (is_some (value_of run_app words (codes "def")))
+    (is_some (value_of run_app words (codes "term")))
+    (option_map_or (is_number_to most_steps) (value_of run_app words (codes "limit")) false)
+    (good_calls words && not (is_one_file words))
+    (one-file (good_calls words) (is_one_file words) one_file)
 
 pub returns-clause-good : goal.returns-clause-good
 returns-clause-good c =
@@ -84,19 +114,25 @@ returns-clause-good c =
     let calls : value_of run_app words (codes "calls") ≡ option_copied c.get_str-4.result =
     sym (read.values (codes "calls")) ∙ sym c.get_str-4.ensures in
     let proof : value_of run_app words (codes "proof") ≡ option_copied c.get_str-proof.result =
-    sym (read.values (codes "proof")) ∙ sym c.get_str-proof.ensures in (
+    sym (read.values (codes "proof")) ∙ sym c.get_str-proof.ensures in
+    let hints : value_of run_app words (codes "hints") ≡ option_copied c.get_str-hints.result =
+    sym (read.values (codes "hints")) ∙ sym c.get_str-hints.ensures in
+    let one_file : is_one_file words ≡ false =
+    (λ k. names_one_file (proof k) (hints k)) ∙ sym c.name_one_file.ensures
+    ∙ c.if-name_one_file.false in (
       all-five (takes run_app words) (is_some (value_of run_app words (codes "def")))
           (is_some (value_of run_app words (codes "term")))
           (option_map_or (is_number_to most_steps) (value_of run_app words (codes "limit")) false)
-          (option_map_or (is_number_to most_calls) (value_of run_app words (codes "calls")) true)
+          (good_calls words && not (is_one_file words))
           read.taken
           (ap is_some definition ∙ ap (λ r. is_some (option_copied r))
           c.in_ok-definition.ensures.ok_part) (ap is_some term ∙ ap (λ r. is_some (option_copied r))
           c.in_ok-term.ensures.ok_part) (ap (λ (o : Option (List ℕ)). option_map_or (is_number_to
           most_steps) o false) limit
           ∙ (rw c.in_ok-limit.ensures.ok_part at c.number_in.ensures.good))
+          (two-files (good_calls words) (is_one_file words)
           (ap (λ (o : Option (List ℕ)). option_map_or (is_number_to most_calls) o true) calls
-          ∙ (rw c.in_ok-calls.ensures.ok_part at c.number_or.ensures.good)),
+          ∙ (rw c.in_ok-calls.ensures.ok_part at c.number_or.ensures.good)) one_file),
       record {
         named = c.requires;
         definition = definition ∙ ap (λ r. option_copied r) c.in_ok-definition.ensures.ok_part;
@@ -107,5 +143,6 @@ returns-clause-good c =
             ∙ ap (λ (o : Option (List ℕ)). option_map_or (digits_value 10) o usual_calls)
             (sym calls);
         proof = sym proof;
+        hints = sym hints;
       },
     )

@@ -26,5 +26,10 @@ returns c =
     (positional_rule (codes "term"))) (option_rule (codes "limit") true))
     (option_rule (codes "calls") false) =
     c.in_ok-with-2.ensures ∙ (λ k. with_rule (third k) (c.option-2.ensures.rule k)) in
-    if_ok c.with-5.result _ _ (λ t e. e ∙ (λ k. with_rule (fourth k) (c.option-3.ensures.rule k)))
-    c.with-5.ensures
+    let fifth : app_of c.in_ok-proved.proved ≡ with_rule (with_rule (with_rule
+    (with_rule (with_rule (bare_app (codes "run")) (positional_rule (codes "def")))
+    (positional_rule (codes "term"))) (option_rule (codes "limit") true))
+    (option_rule (codes "calls") false)) (option_rule (codes "proof") false) =
+    c.in_ok-proved.ensures ∙ (λ k. with_rule (fourth k) (c.option-3.ensures.rule k)) in
+    if_ok c.with-6.result _ _ (λ t e. e ∙ (λ k. with_rule (fifth k) (c.option-4.ensures.rule k)))
+    c.with-6.ensures
