@@ -9,7 +9,7 @@ ghost use Rattle.run_loop.specs.RunEnds.{plain_run, IsSortedEnd};
 
 use crate::ends::RunEnd;
 use fun_eval::{Engine, EvalEnd, Unrecorded};
-use hint_file::Hints;
+use hint_file::{Hints, hint_laws};
 use kore_show::shown_laws;
 use match_tree::Slots;
 use rewriter::{Next, Run};
@@ -40,6 +40,7 @@ pub fn run(
         (plain_pattern start.now) (plain_run end) hints.old hints.new) }
 {
     shown_laws();
+    hint_laws();
     hints.start(alloc, engine.program(), start)?;
     let mut run = match Run::new_as::<Unrecorded>(alloc, engine, start, calls) {
         Ok((run, _)) => run,
