@@ -9,7 +9,7 @@ use Rattle.rule_core.specs.Records.{Records, StepRecord, result_of}
 use Rattle.rule_core.specs.RecordView.{plain_record, plain_step}
 use Rattle.rule_core.specs.Rules.{RewriteRule}
 use Rattle.rule_core.specs.Theories.{RewriteTheory}
-use Rattle.rule_core.specs.WellSorted.{IsStart}
+use Rattle.rule_core.specs.WellSorted.{IsStart, IsWellSorted}
 use Rattle.rule_core.specs.declared.rules.Program.{Program}
 use Rattle.hint_file.specs.HintFiles.{RecordsStepBy}
 use Rattle.hint_file.specs.declared.reading.HintPath.{HintPath}
@@ -43,6 +43,7 @@ first_of path = result_of (plain_record path.first)
 
 -- the path can be proved over this program
 pub record CanProvePath (program : Program) (path : HintPath) : Type 0 where
+  pub well_sorted : IsWellSorted (theory_of program)
   pub bound : HasBoundVariables program
   pub plain : HasPlainNames program.sig
   pub is_start : IsStart (theory_of program) (plain_pattern path.start)

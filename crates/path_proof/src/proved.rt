@@ -1,9 +1,10 @@
 // A path that is proved step by step.
-ghost use Rattle.std.specs.Prelude.{◌≡◌, ◌≤◌, IsTrue, IsFalse, OnOk, OnErr, IsErrOf};
+ghost use Rattle.std.specs.Prelude.{◌≡◌, ◌≤◌, IsTrue, IsFalse, IfOk, OnOk, OnErr, IsErrOf};
 ghost use Rattle.term_core.specs.RulePatterns.{plain_pattern};
 ghost use Rattle.rule_core.specs.ProgramView.{theory_of};
 ghost use Rattle.desk_io.specs.Counts.{CountRose};
 ghost use Rattle.run_proof.specs.ClosedProofs.{KeepsOthersNow};
+ghost use Rattle.path_proof.specs.OpenPaths.{WritesFrontOfPath, WritesPath};
 ghost use Rattle.path_proof.specs.PathProofs.{PutsPathFront, PutsPathProof};
 ghost use Rattle.path_proof.specs.RecordedPaths.{CanProvePath, first_of, steps_of};
 
@@ -56,4 +57,41 @@ pub fn proved_path<'p, D: Desk>(
             Err(DeskFault::from(why))
         }
     }
+}
+
+// Begins the proof of a path, and takes its steps. The file stays open.
+//
+// Errors: out of memory, or a fault that the desk counted. Then nothing was appended, or the front
+// of a proof of this path up to one of its configurations.
+fn open_proof<'p, D: Desk>(
+    alloc: Global,
+    desk: &mut D,
+    program: &'p Program,
+    path: &'p HintPath,
+) -> Result<Proof<'p>, ProveEnd>
+    requires file { IsTrue (D.created desk.old) }
+    requires provable { CanProvePath program.now path.now }
+    ensures proved { OnOk result (WritesPath
+        (D.state desk.old).told (D.state desk.new).told (theory_of program.now)
+        (plain_pattern path.now.start) (first_of path.now) (steps_of path.now)) }
+    ensures sound { IfOk result (λ proof. IsFalse proof.failed) }
+    ensures front { OnErr result (WritesFrontOfPath
+        (D.state desk.old).told (D.state desk.new).told (theory_of program.now)
+        (plain_pattern path.now.start) (first_of path.now) (steps_of path.now)) }
+    ensures created { IsTrue (D.created desk.new) }
+    ensures failed { IsErrOf result ProveEnd.Failed
+        → CountRose (D.state desk.old).write_faults (D.state desk.new).write_faults }
+    ensures counts { (D.state desk.old).write_faults ≤ (D.state desk.new).write_faults }
+    ensures no_fault { OnOk result
+        ((D.state desk.new).write_faults ≡ (D.state desk.old).write_faults) }
+    ensures reads { (D.state desk.new).read_faults ≡ (D.state desk.old).read_faults }
+{
+    let mut proof = Proof::begin(alloc, program, &path.start, Some(&path.first), desk)?;
+    let mut here = path.first.result();
+    for step in &path.steps {
+        let _high = here.height();
+        proof.step(alloc, desk, step)?;
+        here = step.right.result();
+    }
+    Ok(proof)
 }

@@ -9,13 +9,12 @@ use Rattle.term_core.specs.Terms.{Tree}
 use Rattle.term_core.specs.Patterns.{Pattern, ground_pattern}
 use Rattle.rule_core.specs.Evaluation.{Cause}
 use Rattle.rule_core.specs.Records.{StepRecord, RecordsStep, result_of}
-use Rattle.rule_core.specs.Rules.{RewriteRule}
 use Rattle.rule_core.specs.Runs.{Run, unstarted, Steps, steps_on, Reaches, at_start, after_step}
 use Rattle.rule_core.specs.Theories.{RewriteTheory}
 use Rattle.rule_core.specs.WellSorted.{IsStart, IsWellSorted}
 use Rattle.kore_show.specs.KorePatterns.{kore_pattern}
 use Rattle.kore_show.specs.ShownLaws.{SortedIsShown}
-use Rattle.rewriter.specs.Configurations.{RunState, IsConfiguration}
+use Rattle.rewriter.specs.Configurations.{IsConfiguration}
 use Rattle.hint_file.specs.HintLaws.{TextsGrow}
 use Rattle.hint_file.specs.HintTexts.{first_lines, hint_text, joined, stated_line, step_line}
 use Rattle.hint_file.specs.Paths.{PathStep, stated_step}

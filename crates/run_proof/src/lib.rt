@@ -4,7 +4,8 @@
 // Metamath database by `prove_run`, from the records of the step's evaluations. It returns the run
 // of the definition and the counts of its proof: a database that justifies the run, in which each
 // `$p` has a compressed proof. The database is in the created file of a desk. It is written step by
-// step, so that after each step the file is a proof of the run so far, and is closed at the end.
+// step, so that after each step the file is a proof of the run so far, and is closed at the end. If
+// hints are wanted, they get the hint text of the run, the line of a step once its proof is written.
 #![tactic(auto)]
 
 mod proved;

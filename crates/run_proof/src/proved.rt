@@ -41,7 +41,7 @@ use term_core::RulePat;
 ///
 /// The text of a step grows with the configurations that it names, at most with the square of their
 /// sizes, and with the calls of functions that it makes. Memory holds the text of one step, and the
-/// records of what the step evaluated.
+/// records of what the step evaluated. If hints are wanted, it holds their text too.
 pub fn proved_run<'p, D: Desk>(
     alloc: Global,
     desk: &mut D,
