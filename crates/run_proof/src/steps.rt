@@ -92,7 +92,8 @@ pub(crate) fn proved_steps<'p, D: Desk>(
     Ok(RunEnd::Limit(limit, run.config().share()?))
 }
 
-// The next step of a run, its proof and its line of the hints, if they are wanted. The errors are the ones of `proved_steps`.
+// The next step of a run, its proof and its line of the hints, if they are wanted. The errors are
+// the ones of `proved_steps`.
 fn proved_step<'p, D: Desk>(
     alloc: Global,
     desk: &mut D,
