@@ -46,13 +46,6 @@ IsMissedHere cx sorts arguments c (ConditionFalse subst t) =
 
 -- ---- what follows from the guard
 
--- under the hypothesis g the body b implies the sentence
-pub record SaysUnderTwo (cx : Context) (g b : LogicPattern) (s : Sentence) (p : LogicPattern)
-    : Type 0 where
-  pub image : LogicPattern
-  pub is_image : sentence_image cx.program.sig cx.names s ≡ Some image
-  pub says : p ≡ imp g (imp b image)
-
 -- the theorem says this of the guard's body
 pub record IsOfBody (cx : Context) (x : Guarded) (s : Sentence) (t : Theorem) : Type 0 where
   pub says : SaysUnderTwo cx x.given.hypothesis x.body s t.conclusion
