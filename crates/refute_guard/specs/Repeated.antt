@@ -1,15 +1,15 @@
 -- An equation with the variables of a guard that repeats it, and terms at which it is not used.
 use Rattle.std.specs.Prelude.{◌≡◌, ℕ, List, Option}
 use Rattle.std.specs.Prelude.{Some, slice_get}
-use Rattle.ml_pat.specs.Patterns.{Pattern as LogicPattern, imp}
 use Rattle.ml_kernel.specs.Theorems.{Theorem}
 use Rattle.term_core.specs.Terms.{Tree}
 use Rattle.term_core.specs.Patterns.{Pattern, binding}
 use Rattle.rule_core.specs.Matching.{OccursIn}
 use Rattle.ml_image.specs.Premises.{is_true}
-use Rattle.ml_image.specs.Sentences.{Sentence, not, and, sentence_image}
+use Rattle.ml_image.specs.Sentences.{Sentence, not, sentence_image}
 use Rattle.prove_term.specs.Contexts.{Context, StaysIn}
 use Rattle.prove_term.specs.Filling.{filled}
+use Rattle.refute_body.specs.Conditions.{SaysUnderTwo}
 use Rattle.refute_guard.specs.declared.guards.Missed.{Missed}
 use Rattle.refute_guard.specs.declared.guards.Missed.TheVariants.{NoMatch, ConditionFalse}
 use Rattle.guard_body.specs.Arguments.{IsVariableOf, MatchTogether}
