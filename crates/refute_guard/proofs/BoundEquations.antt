@@ -12,7 +12,7 @@ use Rattle.ml_image.specs.Sentences.{sentence_image, term}
 use Rattle.prove_term.specs.Contexts.{Context}
 use Rattle.prove_term.proofs.ImageShapes.{both_some}
 use Rattle.refute.specs.Refutations.{all_bound, is_bound_to}
-use Rattle.refute_guard.specs.Implications.{HasEquation, first_equation, is_equation_on}
+use Rattle.refute_body.specs.Implications.{HasEquation, first_equation, is_equation_on}
 
 some_same : {A : Type 0} (x y : A) → Some x ≡ Some y → x ≡ y
 some_same x y e = cc

@@ -30,13 +30,15 @@ use Rattle.prove_term.proofs.ImageShapes.{both_some, map_some}
 use Rattle.refute.specs.Refutations.{all_bound}
 use Rattle.guard_body.specs.Arguments.{IsArgument, IsVariableOf, MatchTogether, MatchesArgument}
 use Rattle.guard_body.specs.Arguments.{all_in, part_names_of, pattern_of}
-use Rattle.refute_guard.specs.Bodies.{CanFill, IsFilled, variables_of}
-use Rattle.refute_guard.specs.Implications.{IsUnderTwo}
-use Rattle.refute_guard.specs.Repeated.{FailsTogether, IsOfBody, SaysUnderTwo}
+use Rattle.refute_guard.specs.Bodies.{variables_of}
+use Rattle.refute_body.specs.Conditions.{CanFill, IsFilled}
+use Rattle.refute_body.specs.Implications.{IsUnderTwo}
+use Rattle.refute_guard.specs.Repeated.{FailsTogether, IsOfBody}
+use Rattle.refute_body.specs.Conditions.{SaysUnderTwo}
 use Rattle.guard_body.specs.Guarded.{IsGuarded}
 use Rattle.guard_body.specs.declared.arguments.Argument.{Argument}
 use Rattle.guard_body.specs.declared.guarded.Guarded.{Guarded}
-use Rattle.refute_guard.proofs.BodyImages.{condition_free, filled_closed}
+use Rattle.refute_body.proofs.BodyImages.{condition_free, filled_closed}
 use Rattle.refute_guard.proofs.Growths.{program_grown}
 use Rattle.refute_guard.proofs.NamedWritten.{variable_written}
 use Rattle.refute_guard.proofs.WrittenVariables.{child_named, written_variables}

@@ -34,12 +34,12 @@ use Rattle.guard_body.specs.Guarded.{IsRepeated}
 use Rattle.refute_guard.specs.Guards.{DeniesGuard}
 use Rattle.guard_body.specs.Guarded.{IsOrderOf}
 use Rattle.guard_body.specs.Hypotheses.{down_from}
-use Rattle.refute_guard.specs.Implications.{IsOpen, elements, for_some_of, variable_of}
+use Rattle.refute_body.specs.Implications.{IsOpen, elements, for_some_of, variable_of}
 use Rattle.guard_body.specs.Renaming.{AreRenamed, sorts_from}
 use Rattle.refute_guard.specs.Repeated.{IsOfBody}
 use Rattle.guard_body.specs.declared.arguments.Argument.{Argument}
 use Rattle.guard_body.specs.declared.guarded.Guarded.{Guarded}
-use Rattle.refute_guard.proofs.GivenVariables.{IsSorted, nothing_sorted, sorted_parts}
+use Rattle.refute_body.proofs.GivenVariables.{IsSorted, nothing_sorted, sorted_parts}
 use Rattle.guard_body.proofs.CountedDown.{down_low}
 use Rattle.guard_body.proofs.RenamedNames.{names_of_child}
 use Rattle.guard_body.proofs.RepeatedLaws.{order_within}

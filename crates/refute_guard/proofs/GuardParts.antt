@@ -32,7 +32,7 @@ use Rattle.guard_body.specs.Arguments.{IsArgument, IsVariableOf, all_in, in_argu
 use Rattle.guard_body.specs.Arguments.{pattern_of}
 use Rattle.refute_guard.specs.Bodies.{variables_of}
 use Rattle.refute_guard.specs.Implications.{AreDisjointAt, AreInvertedAt, IsInvertedAt, all_of}
-use Rattle.refute_guard.specs.Repeated.{SaysUnderTwo}
+use Rattle.refute_body.specs.Conditions.{SaysUnderTwo}
 use Rattle.guard_body.specs.Guarded.{IsGuarded}
 use Rattle.guard_body.specs.declared.arguments.Argument.{Argument}
 use Rattle.guard_body.specs.declared.guarded.Guarded.{Guarded}

@@ -1,12 +1,6 @@
-pub mod BodyImages
 pub mod BoundEquations
-pub mod Closings
-pub mod ConditionFillings
-pub mod ConditionFresh
-pub mod EquationLaws
 pub mod FalseConditions
 pub mod FoundEnds
-pub mod GivenVariables
 pub mod Growths
 pub mod GuardConditions
 pub mod GuardEnds
@@ -16,6 +10,5 @@ pub mod MemberLaws
 pub mod MissedLaws
 pub mod NamedWritten
 pub mod NoGuards
-pub mod Shapes
 pub mod TwoBindings
 pub mod WrittenVariables

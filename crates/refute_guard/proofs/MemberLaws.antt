@@ -7,7 +7,7 @@ use Rattle.ml_pat.specs.Patterns.{Pattern, imp, and, not}
 use Rattle.ml_kernel.specs.Theorems.{Theorem}
 use Rattle.ml_derived.specs.Scopes.{IsOver, StaysWithin}
 use Rattle.refute_guard.specs.Implications.{all_of}
-use Rattle.refute_guard.proofs.Shapes.{imp_left, imp_right, and_left, and_right, not_same}
+use Rattle.refute_body.proofs.Shapes.{imp_left, imp_right, and_left, and_right, not_same}
 
 -- the theorem says that the members from this place on hold
 abbrev pub IsFrom : Pattern → ℕ → Theorem → Type 0

@@ -13,8 +13,8 @@ use Rattle.refute.specs.Refutations.{SaysSentence, is_bound_to}
 use Rattle.refute.proofs.FreshImages.{image_keeps}
 use Rattle.refute.proofs.Pairs.{ground_no_call}
 use Rattle.refute_guard.specs.Bodies.{AreTwoEquations}
-use Rattle.refute_guard.specs.Implications.{IsUnderTwo}
-use Rattle.refute_guard.specs.Repeated.{SaysUnderTwo}
+use Rattle.refute_body.specs.Implications.{IsUnderTwo}
+use Rattle.refute_body.specs.Conditions.{SaysUnderTwo}
 
 some_same : {A : Type 0} (x y : A) → Some x ≡ Some y → x ≡ y
 some_same x y e = cc

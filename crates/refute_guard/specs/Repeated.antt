@@ -1,15 +1,15 @@
 -- An equation with the variables of a guard that repeats it, and terms at which it is not used.
 use Rattle.std.specs.Prelude.{◌≡◌, ℕ, List, Option}
 use Rattle.std.specs.Prelude.{Some, slice_get}
-use Rattle.ml_pat.specs.Patterns.{Pattern as LogicPattern, imp}
 use Rattle.ml_kernel.specs.Theorems.{Theorem}
 use Rattle.term_core.specs.Terms.{Tree}
 use Rattle.term_core.specs.Patterns.{Pattern, binding}
 use Rattle.rule_core.specs.Matching.{OccursIn}
 use Rattle.ml_image.specs.Premises.{is_true}
-use Rattle.ml_image.specs.Sentences.{Sentence, not, and, sentence_image}
+use Rattle.ml_image.specs.Sentences.{Sentence, not, sentence_image}
 use Rattle.prove_term.specs.Contexts.{Context, StaysIn}
 use Rattle.prove_term.specs.Filling.{filled}
+use Rattle.refute_body.specs.Conditions.{SaysUnderTwo}
 use Rattle.refute_guard.specs.declared.guards.Missed.{Missed}
 use Rattle.refute_guard.specs.declared.guards.Missed.TheVariants.{NoMatch, ConditionFalse}
 use Rattle.guard_body.specs.Arguments.{IsVariableOf, MatchTogether}
@@ -45,13 +45,6 @@ IsMissedHere cx sorts arguments c (ConditionFalse subst t) =
     FailsTogether cx sorts arguments c t.now
 
 -- ---- what follows from the guard
-
--- under the hypothesis g the body b implies the sentence
-pub record SaysUnderTwo (cx : Context) (g b : LogicPattern) (s : Sentence) (p : LogicPattern)
-    : Type 0 where
-  pub image : LogicPattern
-  pub is_image : sentence_image cx.program.sig cx.names s ≡ Some image
-  pub says : p ≡ imp g (imp b image)
 
 -- the theorem says this of the guard's body
 pub record IsOfBody (cx : Context) (x : Guarded) (s : Sentence) (t : Theorem) : Type 0 where

@@ -11,21 +11,19 @@ ghost use Rattle.prove_term.specs.Contexts.{HasGrown};
 ghost use Rattle.refute.specs.Refutations.{all_bound, is_bound_to};
 ghost use Rattle.guard_body.specs.Arguments.{AreTwoFor, MatchesArgument};
 ghost use Rattle.refute_guard.specs.Bodies.{AreTwoEquations, variables_of};
-ghost use Rattle.refute_guard.specs.Implications.{IsUnderTwo};
+ghost use Rattle.refute_body.specs.Implications.{IsUnderTwo};
 ghost use Rattle.refute_guard.specs.Repeated.{IsOfBody};
 ghost use Rattle.guard_body.specs.Guarded.{IsGuarded};
 ghost use Rattle.guard_body.specs.declared.arguments.Argument.{Argument};
 
-use crate::equations::{conclusion, equation_of};
-use crate::hypotheses::weaker;
 use crate::members::{inverted_at, member_at};
-use crate::parts::{conjuncts, equals, sides};
 use guard_body::{Guarded, Twice};
 use ml_derived::{denied_by_two, not_both, not_to_bot};
 use ml_kernel::Thm;
 use ml_pat::VarNo;
 use prove_term::Cx;
 use refute::{differ, inversion_named};
+use refute_body::{conclusion, conjuncts, equals, equation_of, sides, weaker};
 use std::alloc::{AllocError, Global};
 use term_core::Subst;
 

@@ -14,12 +14,12 @@ ghost use Rattle.refute_guard.specs.Repeated.{IsMissedHere, IsOfBody};
 ghost use Rattle.guard_body.specs.Guarded.{IsGuarded};
 
 use crate::bindings::by_bindings;
-use crate::closing::closed;
 use crate::conditions::by_condition;
 use crate::mismatched::by_mismatch;
 use guard_body::{Guarded, all_found, bound_twice, repeated};
 use ml_kernel::Thm;
 use prove_term::Cx;
+use refute_body::closed;
 use rule_core::Equation;
 use std::alloc::{AllocError, Global};
 use term_core::{Subst, Term};

@@ -8,15 +8,11 @@
 #![tactic(auto, using(refute::proofs::Growing::growing))]
 
 mod bindings;
-mod closing;
 mod conditions;
-mod equations;
 mod guards;
-mod hypotheses;
 mod members;
 mod mismatched;
 mod none;
-mod parts;
 
 pub use guards::{Missed, guard_denied};
 pub use none::no_guard;

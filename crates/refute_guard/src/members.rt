@@ -6,12 +6,12 @@ ghost use Rattle.ml_derived.specs.Scopes.{StaysWithin};
 ghost use Rattle.refute_guard.specs.Implications.{all_of, AreDisjointAt, IsNoneAt, AreInvertedAt};
 ghost use Rattle.refute_guard.specs.Implications.{IsInvertedAt};
 
-use crate::parts::{conjuncts, denied, members, sides};
 use ml_derived::{
     and_1, and_2, back, bot_to_not, chain, chain_under, lift, mem_no, not_to_bot, turn, unpack,
 };
 use ml_kernel::Thm;
 use ml_pat::MPat;
+use refute_body::{conjuncts, denied, sides};
 use std::alloc::{AllocError, Global};
 
 // `b -> m`, where b is a conjunction of a condition and of members, and m is the member at a place.

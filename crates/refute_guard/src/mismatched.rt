@@ -8,13 +8,12 @@ ghost use Rattle.refute_guard.specs.Repeated.{IsOfBody};
 ghost use Rattle.guard_body.specs.Guarded.{IsGuarded};
 ghost use Rattle.guard_body.specs.declared.arguments.Argument.{Argument};
 
-use crate::hypotheses::weaker;
 use crate::members::{member_at, none_at};
-use crate::parts::sides;
 use guard_body::Guarded;
 use ml_kernel::Thm;
 use prove_term::Cx;
 use refute::mismatch_named;
+use refute_body::{sides, weaker};
 use std::alloc::{AllocError, Global};
 
 // Proves that the body of the guard does not hold, as its argument at this place does not match its

@@ -8,10 +8,10 @@ ghost use Rattle.prove_term.specs.Contexts.{Context};
 ghost use Rattle.refute_guard.specs.Guards.{DenyGuards, SaysNoGuard};
 ghost use Rattle.refute_guard.specs.Implications.{IsDenial};
 
-use crate::parts::sides;
 use ml_derived::{itself, mp, or_3, to_not};
 use ml_kernel::Thm;
 use ml_pat::MPat;
+use refute_body::sides;
 use std::alloc::{AllocError, Global};
 
 /// Proves that none of some guards holds, from theorems that each of them does not hold, in order.

@@ -11,7 +11,7 @@ use Rattle.prove_term.proofs.ContextLaws.{grown_twice, stays_grown}
 use Rattle.prove_term.proofs.ResultLaws.{if_ok_two}
 use Rattle.refute.specs.Refutations.{is_bound_to}
 use Rattle.guard_body.specs.Arguments.{MatchesArgument}
-use Rattle.refute_guard.specs.Repeated.{SaysUnderTwo}
+use Rattle.refute_body.specs.Conditions.{SaysUnderTwo}
 use Rattle.refute_guard.proofs.GuardParts.{guarded_grown}
 use Rattle.refute_guard.proofs.Growths.{program_grown}
 use Rattle.refute_guard.proofs.TwoBindings.{two_equations}

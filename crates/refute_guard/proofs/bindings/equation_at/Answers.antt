@@ -2,7 +2,7 @@ use Rattle.prove_term.proofs.ResultLaws.{if_ok_two}
 use Rattle.term_core.specs.RulePatterns.{sort_numbers}
 use Rattle.term_core.specs.Patterns.{binding}
 use Rattle.refute.specs.Refutations.{all_bound}
-use Rattle.refute_guard.specs.Implications.{first_equation}
+use Rattle.refute_body.specs.Implications.{first_equation}
 use Rattle.guard_body.specs.Arguments.{IsArgument}
 use Rattle.refute_guard.specs.Bodies.{variables_of}
 use Rattle.refute_guard.specs.Repeated.{IsOfBody}

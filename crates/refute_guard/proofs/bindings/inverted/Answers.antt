@@ -16,7 +16,7 @@ use Rattle.refute_guard.specs.Repeated.{IsOfBody}
 use Rattle.guard_body.specs.Guarded.{IsGuarded}
 use Rattle.guard_body.specs.declared.arguments.Argument.{Argument}
 use Rattle.guard_body.proofs.FoundLists.{item_there}
-use Rattle.refute_guard.proofs.Shapes.{and_left, imp_left}
+use Rattle.refute_body.proofs.Shapes.{and_left, imp_left}
 use Rattle.refute.specs.NamedRefutations.{inverted_named}
 use Rattle.refute_guard.proofs.GuardParts.{IsInversion, IsPlace, body_over, guarded_grown}
 use Rattle.refute_guard.proofs.GuardParts.{inversion_is, inverted_at, inverted_said, place_of}

@@ -11,7 +11,7 @@ use Rattle.refute_guard.proofs.GuardConditions.{can_fill, few_bound, matches_at}
 use Rattle.refute_guard.proofs.GuardConditions.{sofar_begins, sofar_denied, sofar_fills}
 use Rattle.refute_guard.proofs.GuardConditions.{sofar_skips}
 use Rattle.refute_guard.proofs.GuardParts.{guarded_grown}
-use Rattle.refute_guard.proofs.Shapes.{if_ok_two}
+use Rattle.refute_body.proofs.Shapes.{if_ok_two}
 use Rattle.refute_guard.proofs.conditions.by_condition.Goals as goal
 
 pub loop-place-init : goal.loop-place-init

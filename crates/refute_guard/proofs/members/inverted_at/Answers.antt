@@ -2,7 +2,7 @@ use Rattle.std.proofs.Common.{◌≡◌, sym, ◌∙◌, ap}
 use Rattle.ml_pat.specs.Patterns.{Pattern, imp, and, member}
 use Rattle.ml_derived.proofs.StayingLaws.{if_ok}
 use Rattle.refute_guard.proofs.MemberLaws.{inverted_is}
-use Rattle.refute_guard.proofs.Shapes.{imp_right}
+use Rattle.refute_body.proofs.Shapes.{imp_right}
 use Rattle.refute_guard.proofs.members.inverted_at.Goals as goal
 
 pub returns-clause-conclusion : goal.returns-clause-conclusion

@@ -5,7 +5,7 @@ use Rattle.ml_derived.specs.Scopes.{IsOver, IsWithin}
 use Rattle.ml_derived.proofs.StayingLaws.{if_ok}
 use Rattle.refute_guard.specs.Implications.{all_of}
 use Rattle.refute_guard.proofs.MemberLaws.{front, from_first, from_next, member_is}
-use Rattle.refute_guard.proofs.Shapes.{imp_right}
+use Rattle.refute_body.proofs.Shapes.{imp_right}
 use Rattle.refute_guard.proofs.members.member_at.Goals.{After-conclusion}
 use Rattle.refute_guard.proofs.members.member_at.Goals as goal
 

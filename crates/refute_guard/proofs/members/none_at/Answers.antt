@@ -2,7 +2,7 @@ use Rattle.std.proofs.Common.{◌≡◌, sym, ◌∙◌, ap}
 use Rattle.ml_pat.specs.Patterns.{Pattern, bot, imp, and, not, member}
 use Rattle.ml_derived.proofs.StayingLaws.{if_ok}
 use Rattle.refute_guard.proofs.MemberLaws.{denied_is}
-use Rattle.refute_guard.proofs.Shapes.{imp_right}
+use Rattle.refute_body.proofs.Shapes.{imp_right}
 use Rattle.refute_guard.proofs.members.none_at.Goals.{After-denied-both}
 use Rattle.refute_guard.proofs.members.none_at.Goals as goal
 

@@ -14,7 +14,7 @@ use Rattle.guard_body.specs.Arguments.{pattern_of}
 use Rattle.refute_guard.specs.Bodies.{variables_of}
 use Rattle.guard_body.specs.Guarded.{IsGuarded}
 use Rattle.guard_body.proofs.FoundLists.{item_there}
-use Rattle.refute_guard.proofs.Shapes.{imp_left}
+use Rattle.refute_body.proofs.Shapes.{imp_left}
 use Rattle.refute.specs.NamedRefutations.{mismatched_named}
 use Rattle.refute_guard.proofs.GuardParts.{IsMismatch, IsPlace, body_over, disjoint_at}
 use Rattle.refute_guard.proofs.GuardParts.{guarded_grown, mismatch_is, none_said, place_of, three_stay}

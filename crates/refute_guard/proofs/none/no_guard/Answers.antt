@@ -6,7 +6,7 @@ use Rattle.refute_guard.specs.Guards.{DenyGuards}
 use Rattle.refute_guard.specs.Implications.{IsDenial}
 use Rattle.refute_guard.proofs.NoGuards.{dropped_denied, item_denial, more_denied}
 use Rattle.refute_guard.proofs.NoGuards.{none_denied, present_denial, said, DeniesAll}
-use Rattle.refute_guard.proofs.Shapes.{if_ok_two, imp_right}
+use Rattle.refute_body.proofs.Shapes.{if_ok_two, imp_right}
 use Rattle.refute_guard.proofs.none.no_guard.Goals.{After-conclusion}
 use Rattle.refute_guard.proofs.none.no_guard.Goals as goal
 

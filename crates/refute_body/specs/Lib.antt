@@ -1,0 +1,3 @@
+-- Public: what public clauses say.
+pub mod Implications
+pub mod Conditions

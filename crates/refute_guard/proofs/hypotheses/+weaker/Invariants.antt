@@ -1,5 +1,0 @@
-use Rattle.refute_guard.specs.Implications.{count_of}
-use Rattle.refute_guard.proofs.hypotheses.+weaker.Given as goal
-
-abbrev pub decreases-weaker : goal.decreases-weaker
-decreases-weaker l = count_of l.h.now
