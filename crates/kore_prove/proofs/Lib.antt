@@ -10,4 +10,5 @@ pub mod Printing
 pub mod Answering
 pub mod Performing
 pub mod PlainNames
+pub mod PathFiles
 pub mod Drills

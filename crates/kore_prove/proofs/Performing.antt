@@ -57,7 +57,7 @@ start_kept (Some told) read name theory top start kept s =
     record { bytes = s.bytes; held = (subst P kept.1 s.held.0, s.held.1); accepted = s.accepted }
 
 -- a proof that is told after the files were read
-told_now : (told read told' : Option Told) (file bytes : List ℕ) → KeepsFiles told read
+pub told_now : (told read told' : Option Told) (file bytes : List ℕ) → KeepsFiles told read
     → TellsNow read told' file bytes → TellsNow told told' file bytes
 told_now None read told' file bytes kept h = tt
 told_now (Some told) read told' file bytes kept h =

@@ -4,13 +4,10 @@ ghost use Rattle.std.specs.Prelude.{IsErrOf, length};
 ghost use Rattle.desk_io.specs.Counts.{CountRose};
 ghost use Rattle.desk_io.specs.KeptFiles.{KeepsFiles, KeepsOthers};
 ghost use Rattle.term_core.specs.Patterns.{ground_pattern};
-ghost use Rattle.rule_core.specs.ProgramView.{theory_of};
-ghost use Rattle.kore_rules.specs.RefusedTexts.{top_of};
 ghost use Rattle.kore_show.specs.KorePatterns.{kore_pattern};
 ghost use Rattle.path_proof.specs.RecordedPaths.{CanProvePath, first_of, last_of, steps_of};
-ghost use Rattle.kore_prove.specs.Causes.{PathReadCause};
-ghost use Rattle.kore_prove.specs.Files.{HoldsProgram};
-ghost use Rattle.kore_prove.specs.PathsRead.{HoldsProofOf, HoldsReadPath, MayHoldFrontOf};
+ghost use Rattle.kore_prove.specs.PathsRead.{HintsEnding, HoldsHints, HoldsProofOf};
+ghost use Rattle.kore_prove.specs.PathsRead.{MayHoldFrontOf};
 ghost use Rattle.kore_prove.specs.PlainEnds.{plain_end};
 ghost use Rattle.kore_prove.specs.ProvedPath.{path_lines};
 ghost use Rattle.kore_prove.specs.Requests.{prove_request};
@@ -41,14 +38,15 @@ pub fn read_path<'a, D: Desk>(
     asked: &ProveWords<'a>,
     program: &Program,
 ) -> Result<HintPath, End<'a>>
-    requires program { IsProgram program.now }
-    requires held { HoldsProgram (D.state desk.old).told (prove_request asked.now).definition
-        (theory_of program.now) (top_of program.now) }
-    ensures found { IfOk result (HoldsReadPath
+    requires { IsProgram program.now }
+    ensures found { IfOk result (HoldsHints
         (D.state desk.old).told (prove_request asked.now) program.now) }
-    ensures cause { IfErr result (λ end. PathReadCause (prove_request asked.now)
-        (D.state desk.old).told (D.state desk.old).read_faults (D.state desk.new).read_faults
-        (plain_end end)) }
+    ensures provable { IfOk result (CanProvePath program.now) }
+    ensures shown { IfOk result (λ path. IsSome (kore_pattern program.now.sig
+        (ground_pattern (last_of (first_of path) (steps_of path))))) }
+    ensures cause { IfErr result (λ end. HintsEnding
+        (D.state desk.old).told (prove_request asked.now) program.now
+        (D.state desk.old).read_faults (D.state desk.new).read_faults (plain_end end)) }
     ensures counts { (D.state desk.old).read_faults ≤ (D.state desk.new).read_faults }
     ensures writes { (D.state desk.new).write_faults ≡ (D.state desk.old).write_faults }
     ensures files { KeepsFiles (D.state desk.old).told (D.state desk.new).told }
