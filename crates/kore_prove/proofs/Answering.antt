@@ -8,8 +8,14 @@ use Rattle.kore_prove.specs.DrillWords.{DrillRequest, IsDrill, IsNoDrill}
 use Rattle.kore_prove.specs.RunWords.{RunRequest, IsRun}
 use Rattle.kore_prove.specs.VerifyWords.{IsVerify, IsNoVerify}
 use Rattle.kore_prove.specs.CheckWords.{CheckRequest, IsCheck, IsNoCheck}
+use Rattle.kore_prove.specs.ProveWords.{ProveRequest, IsProve, IsNoProve}
 use Rattle.kore_prove.specs.BadWords.{AreBad}
-use Rattle.kore_prove.specs.Words.{IsProofFile}
+use Rattle.desk_io.specs.Sent.{Appends}
+use Rattle.kore_prove.specs.HintedRun.{HoldsHints, HasWantedHints}
+use Rattle.kore_prove.specs.HintFronts.{LeavesHints}
+use Rattle.kore_prove.specs.ProvedPath.{LeavesFrontOfPath, LeavesPath, ProvesPath, SendsPath}
+use Rattle.kore_prove.specs.CompletePaths.{CompletesPath}
+use Rattle.kore_prove.specs.Words.{IsWrittenFile}
 use Rattle.kore_prove.specs.PrintedRun.{code_of, IsCodeOfRun, IsPrinted}
 use Rattle.kore_prove.specs.ProvedRun.{HoldsProof, HasWantedProof}
 use Rattle.kore_prove.specs.RunFronts.{LeavesFront}
@@ -24,29 +30,34 @@ use Rattle.kore_prove.specs.declared.verification.Verdict.{Verdict}
 use Rattle.kore_prove.specs.Reports.{Ending, out_of_memory, bad_words, Reports}
 use Rattle.kore_prove.specs.Causes.{VerifyCause, CheckCause, without_memory, with_bad_words}
 use Rattle.kore_prove.specs.Causes.{of_run, of_verify, of_check, of_drill, run_done, verify_done}
-use Rattle.kore_prove.specs.Causes.{check_done, drill_done}
+use Rattle.kore_prove.specs.Causes.{check_done, drill_done, of_prove, prove_done}
 use Rattle.kore_prove.specs.Courses.{Course, Call}
 use Rattle.kore_prove.specs.Unwritten.{IsUnwritten}
 use Rattle.kore_prove.specs.CompleteDrills.{CompletesDrill}
-use Rattle.kore_prove.specs.Requests.{IsWanted, IsDrillFile}
+use Rattle.kore_prove.specs.Requests.{IsWrittenBy, IsPathFile, IsDrillFile}
 use Rattle.kore_prove.specs.RunsDone.{IsRunDone, IsRunEnded, IsDrillDone, IsDrillEnded}
+use Rattle.kore_prove.specs.RunsDone.{IsPathDone, IsPathEnded}
 use Rattle.kore_prove.specs.Calls.{IsAnswered}
 use Rattle.kore_prove.proofs.CommandWords.{one_request, one_drill, run_good, verify_good}
 use Rattle.kore_prove.proofs.CommandWords.{drill_good, not_both, run_no_drill, verify_no_drill}
 use Rattle.kore_prove.proofs.CommandWords.{bad_no_drill, check_good, run_no_check, verify_no_check}
-use Rattle.kore_prove.proofs.CommandWords.{drill_no_check, bad_no_check}
+use Rattle.kore_prove.proofs.CommandWords.{drill_no_check, bad_no_check, one_prove, prove_good}
+use Rattle.kore_prove.proofs.CommandWords.{run_no_prove, verify_no_prove, check_no_prove}
+use Rattle.kore_prove.proofs.CommandWords.{drill_no_prove, bad_no_prove}
 use Rattle.kore_prove.proofs.Completing.{run_ends_without_memory, verify_ends_without_memory}
 use Rattle.kore_prove.proofs.Completing.{check_ends_without_memory, code_of_drill, ready_run}
-use Rattle.kore_prove.proofs.Completing.{ready_verify, ready_check}
+use Rattle.kore_prove.proofs.Completing.{ready_verify, ready_check, ready_prove, path_stops}
+use Rattle.kore_prove.proofs.Completing.{code_of_path}
 use Rattle.kore_prove.proofs.Ending.{code_of_no_end, code_of_run, code_of_one}
-use Rattle.kore_prove.proofs.Ending.{run_files, drill_files}
+use Rattle.kore_prove.proofs.Ending.{run_files, drill_files, path_files}
 use Rattle.kore_prove.proofs.Ending.{same_files, code_reported}
 use Rattle.kore_prove.proofs.Verifying.{code_of_verdict, prints_verdict}
 use Rattle.kore_prove.proofs.Deciding.{code_of_decision, prints_check}
 use Rattle.kore_prove.proofs.Printing.{stopped_never, failed_never, stopped_with, failed_with}
 use Rattle.kore_prove.proofs.FileProofs.{some_same, kept_others, fewer_others, kept_file}
 use Rattle.kore_prove.proofs.Drills.{drilled_front}
-use Rattle.kore_prove.proofs.Performing.{left_front, proof_is_front}
+use Rattle.kore_prove.proofs.PathFiles.{sent_front}
+use Rattle.kore_prove.proofs.Performing.{left_front, proof_is_front, left_hints, hints_are_front}
 
 -- the code of a run is one of three codes
 run_code : (run : Run) (code : ℕ) → code ≡ code_of run → (code ≡ 0) ⊎ (code ≡ 10) ⊎ (code ≡ 11)
@@ -90,6 +101,36 @@ front_of_run asked c run done =
     (proof_is_front asked.proof c.desk.told c.desk'.told done.theory asked.limit asked.calls done.start
     run done.printed.of_files.is_run done.proof)
 
+wanted_hints : (file : List ℕ) (c : Course) (asked : RunRequest) (run : Run)
+    (done : IsRunDone asked c run) → asked.hints ≡ Some file
+    → HoldsHints c.desk.told c.desk'.told file done.theory asked.calls done.start run
+wanted_hints file c asked run done is =
+    subst
+    (λ (p : Option (List ℕ)).
+    HasWantedHints p c.desk.told c.desk'.told done.theory asked.calls done.start run)
+    is
+    done.hints
+
+same_hints : (asked asked' : RunRequest) (c : Course) → asked ≡ asked'
+    → LeavesHints asked c.desk.told c.desk'.told → LeavesHints asked' c.desk.told c.desk'.told
+same_hints asked asked' c same h =
+    subst (λ (r : RunRequest). LeavesHints r c.desk.told c.desk'.told) same h
+
+hint_front_of_run : (asked : RunRequest) (c : Course) (run : Run) → IsRunDone asked c run
+    → LeavesHints asked c.desk.told c.desk'.told
+hint_front_of_run asked c run done =
+    let files = done.printed.of_files.files in
+    left_hints asked c.desk.told c.desk.told c.desk'.told done.theory done.start files
+    (same_files c.desk.told)
+    (hints_are_front asked.hints c.desk.told c.desk'.told done.theory asked.limit asked.calls
+    done.start run done.printed.of_files.is_run done.hints)
+
+-- a file that the run writes is one that the words name
+written_by_run : (words : List (List ℕ)) (asked : RunRequest) (file : List ℕ) → IsRun words asked
+    → IsWrittenBy asked file → IsWrittenFile words file
+written_by_run words asked file command (inl proof) = inl (asked, command, proof)
+written_by_run words asked file command (inr hints) = inr (inl (asked, command, hints))
+
 -- words that do not ask for a verdict get no verdict
 no_verdict : (c : Call) (code : ℕ) → IsNoVerify c.words → PrintsVerdict c code
 no_verdict c code unasked = λ file verify. absurd (unasked file verify)
@@ -102,6 +143,18 @@ no_check_completed : (c : Call) (code : ℕ) → IsNoCheck c.words → Completes
 no_check_completed c code unasked =
     λ ready _ _.
     (let k = ready_check c.words c.course.desk.told ready in absurd (unasked k.0 k.1))
+
+-- words that do not ask for a proof of a path get none
+no_proved_path : (c : Call) (code : ℕ) → IsNoProve c.words → ProvesPath c code
+no_proved_path c code unasked = λ _ asked command. absurd (unasked asked command)
+
+no_path_front : (c : Call) → IsNoProve c.words → LeavesFrontOfPath c
+no_path_front c unasked = λ asked command. absurd (unasked asked command)
+
+no_path_completed : (c : Call) (code : ℕ) → IsNoProve c.words → CompletesPath c code
+no_path_completed c code unasked =
+    λ ready _.
+    (let k = ready_prove c.words c.course.desk.told ready in absurd (unasked k.0 k.1))
 
 -- words that do not ask for a drill get no drill
 no_drilled : (c : Call) (code : ℕ) → IsNoDrill c.words
@@ -145,10 +198,25 @@ run_answered c code asked run command done is silent =
           λ asked' command'. same_front asked asked' c.course
           (one_request c.words asked asked' command command')
           (front_of_run asked c.course run done);
+      hinted_run = λ _ file wanted. (
+          let same : asked.hints ≡ Some file =
+          ap (λ (r : RunRequest). r.hints) (one_request c.words asked wanted.0 command wanted.1)
+          ∙ wanted.2 in
+          record {
+            printed = printed;
+            wanted = same;
+            hints = wanted_hints file c.course asked run done same;
+          });
+      hint_front =
+          λ asked' command'. same_hints asked asked' c.course
+          (one_request c.words asked asked' command command')
+          (hint_front_of_run asked c.course run done);
       verdict =
           no_verdict c code
           (λ file verify. not_both c.words asked file command verify);
       checked = no_checked c code (run_no_check c.words asked command);
+      proved_path = no_proved_path c code (run_no_prove c.words asked command);
+      path_front = no_path_front c (run_no_prove c.words asked command);
       drilled = no_drilled c code (run_no_drill c.words asked command);
       drill_front = no_drill_front c (run_no_drill c.words asked command);
       ends = inl (record { done = run_done command codes; silent = silent });
@@ -159,11 +227,12 @@ run_answered c code asked run command done is silent =
           λ ready _ _. (let v = ready_verify c.words c.course.desk.told ready in
           absurd (not_both c.words asked v.0 command v.1));
       complete_check = no_check_completed c code (run_no_check c.words asked command);
+      complete_path = no_path_completed c code (run_no_prove c.words asked command);
       complete_drill = no_drill_completed c code (run_no_drill c.words asked command);
       bad_words = λ bad. absurd (run_good c.words asked command bad);
       others =
-          fewer_others (IsWanted asked) (IsProofFile c.words) c.course.desk.told c.course.desk'.told
-          (λ file wanted. inl (asked, command, wanted)) done.others;
+          fewer_others (IsWrittenBy asked) (IsWrittenFile c.words) c.course.desk.told
+          c.course.desk'.told (λ file. written_by_run c.words asked file command) done.others;
       files = run_writes code _ codes;
     }
 
@@ -177,10 +246,16 @@ run_ended c code asked e command ended said = record {
   proof_front =
       λ asked' command'. same_front asked asked' c.course
       (one_request c.words asked asked' command command') ended.front;
+  hinted_run = λ h _ _. absurd (code_of_no_end e _ _ _ _ code said (code_of_run c.words code h));
+  hint_front =
+      λ asked' command'. same_hints asked asked' c.course
+      (one_request c.words asked asked' command command') ended.hint_front;
   verdict =
       no_verdict c code
       (λ file verify. not_both c.words asked file command verify);
   checked = no_checked c code (run_no_check c.words asked command);
+  proved_path = no_proved_path c code (run_no_prove c.words asked command);
+  path_front = no_path_front c (run_no_prove c.words asked command);
   drilled = no_drilled c code (run_no_drill c.words asked command);
   drill_front = no_drill_front c (run_no_drill c.words asked command);
   ends = inr (record { end = e; cause = of_run command ended.cause; said = said });
@@ -194,11 +269,12 @@ run_ended c code asked e command ended said = record {
       λ ready _ _. (let v = ready_verify c.words c.course.desk.told ready in
       absurd (not_both c.words asked v.0 command v.1));
   complete_check = no_check_completed c code (run_no_check c.words asked command);
+  complete_path = no_path_completed c code (run_no_prove c.words asked command);
   complete_drill = no_drill_completed c code (run_no_drill c.words asked command);
   bad_words = λ bad. absurd (run_good c.words asked command bad);
   others =
-      fewer_others (IsWanted asked) (IsProofFile c.words) c.course.desk.told c.course.desk'.told
-      (λ file wanted. inl (asked, command, wanted)) ended.others;
+      fewer_others (IsWrittenBy asked) (IsWrittenFile c.words) c.course.desk.told
+      c.course.desk'.told (λ file. written_by_run c.words asked file command) ended.others;
   files = run_files asked c.course e _ _ _ _ code said ended.cause;
 }
 
@@ -226,8 +302,12 @@ verify_answered c code file v command printed kept is silent = record {
   printed_run = λ h. verdict_no_run c.words file v code _ command is h;
   proved_run = λ h _ _. verdict_no_run c.words file v code _ command is h;
   proof_front = λ _ _ name _. inl (kept_file c.course.desk.told c.course.desk'.told name kept);
+  hinted_run = λ h _ _. verdict_no_run c.words file v code _ command is h;
+  hint_front = λ _ _ name _. inl (kept_file c.course.desk.told c.course.desk'.told name kept);
   verdict = prints_verdict c file v code command printed is;
   checked = no_checked c code (verify_no_check c.words file command);
+  proved_path = no_proved_path c code (verify_no_prove c.words file command);
+  path_front = no_path_front c (verify_no_prove c.words file command);
   drilled = no_drilled c code (verify_no_drill c.words file command);
   drill_front = no_drill_front c (verify_no_drill c.words file command);
   ends = inl (record { done = verify_done command (code_of_verdict v code is); silent = silent });
@@ -238,9 +318,10 @@ verify_answered c code file v command printed kept is silent = record {
       absurd (not_both c.words r.0 file r.1 command));
   complete_verdict = λ _ _ _. verdict_codes code (code_of_verdict v code is);
   complete_check = no_check_completed c code (verify_no_check c.words file command);
+  complete_path = no_path_completed c code (verify_no_prove c.words file command);
   complete_drill = no_drill_completed c code (verify_no_drill c.words file command);
   bad_words = λ bad. absurd (verify_good c.words file command bad);
-  others = kept_others (IsProofFile c.words) c.course.desk.told c.course.desk'.told kept;
+  others = kept_others (IsWrittenFile c.words) c.course.desk.told c.course.desk'.told kept;
   files = λ _. kept;
 }
 
@@ -259,8 +340,12 @@ verify_ended c code file e command cause kept said = record {
   printed_run = λ h. absurd (code_of_no_end e _ _ _ _ code said (code_of_run c.words code h));
   proved_run = λ h _ _. absurd (code_of_no_end e _ _ _ _ code said (code_of_run c.words code h));
   proof_front = λ _ _ name _. inl (kept_file c.course.desk.told c.course.desk'.told name kept);
+  hinted_run = λ h _ _. absurd (code_of_no_end e _ _ _ _ code said (code_of_run c.words code h));
+  hint_front = λ _ _ name _. inl (kept_file c.course.desk.told c.course.desk'.told name kept);
   verdict = ended_no_verdict c code e said;
   checked = no_checked c code (verify_no_check c.words file command);
+  proved_path = no_proved_path c code (verify_no_prove c.words file command);
+  path_front = no_path_front c (verify_no_prove c.words file command);
   drilled = no_drilled c code (verify_no_drill c.words file command);
   drill_front = no_drill_front c (verify_no_drill c.words file command);
   ends = inr (record { end = e; cause = of_verify command cause; said = said });
@@ -275,9 +360,10 @@ verify_ended c code file e command cause kept said = record {
       reads
       writes cause)));
   complete_check = no_check_completed c code (verify_no_check c.words file command);
+  complete_path = no_path_completed c code (verify_no_prove c.words file command);
   complete_drill = no_drill_completed c code (verify_no_drill c.words file command);
   bad_words = λ bad. absurd (verify_good c.words file command bad);
-  others = kept_others (IsProofFile c.words) c.course.desk.told c.course.desk'.told kept;
+  others = kept_others (IsWrittenFile c.words) c.course.desk.told c.course.desk'.told kept;
   files = λ _. kept;
 }
 
@@ -313,8 +399,12 @@ check_answered c code asked d command printed kept is silent = record {
   printed_run = λ h. check_no_run c.words asked d code _ command is h;
   proved_run = λ h _ _. check_no_run c.words asked d code _ command is h;
   proof_front = λ _ _ name _. inl (kept_file c.course.desk.told c.course.desk'.told name kept);
+  hinted_run = λ h _ _. check_no_run c.words asked d code _ command is h;
+  hint_front = λ _ _ name _. inl (kept_file c.course.desk.told c.course.desk'.told name kept);
   verdict = no_verdict c code (λ file verify. verify_no_check c.words file verify asked command);
   checked = prints_check c asked d code command printed is;
+  proved_path = no_proved_path c code (check_no_prove c.words asked command);
+  path_front = no_path_front c (check_no_prove c.words asked command);
   drilled = no_drilled c code (λ drill k. drill_no_check c.words drill k asked command);
   drill_front = no_drill_front c (λ drill k. drill_no_check c.words drill k asked command);
   ends = inl (record { done = check_done command (code_of_decision d code is); silent = silent });
@@ -327,10 +417,11 @@ check_answered c code asked d command printed kept is silent = record {
       λ ready _ _. (let v = ready_verify c.words c.course.desk.told ready in
       absurd (verify_no_check c.words v.0 v.1 asked command));
   complete_check = λ _ _ _. check_codes code (code_of_decision d code is);
+  complete_path = no_path_completed c code (check_no_prove c.words asked command);
   complete_drill =
       no_drill_completed c code (λ drill k. drill_no_check c.words drill k asked command);
   bad_words = λ bad. absurd (check_good c.words asked command bad);
-  others = kept_others (IsProofFile c.words) c.course.desk.told c.course.desk'.told kept;
+  others = kept_others (IsWrittenFile c.words) c.course.desk.told c.course.desk'.told kept;
   files = λ _. kept;
 }
 
@@ -350,8 +441,12 @@ check_ended c code asked e command cause kept said = record {
   printed_run = λ h. absurd (code_of_no_end e _ _ _ _ code said (code_of_run c.words code h));
   proved_run = λ h _ _. absurd (code_of_no_end e _ _ _ _ code said (code_of_run c.words code h));
   proof_front = λ _ _ name _. inl (kept_file c.course.desk.told c.course.desk'.told name kept);
+  hinted_run = λ h _ _. absurd (code_of_no_end e _ _ _ _ code said (code_of_run c.words code h));
+  hint_front = λ _ _ name _. inl (kept_file c.course.desk.told c.course.desk'.told name kept);
   verdict = ended_no_verdict c code e said;
   checked = ended_no_check c code e said;
+  proved_path = no_proved_path c code (check_no_prove c.words asked command);
+  path_front = no_path_front c (check_no_prove c.words asked command);
   drilled = no_drilled c code (λ drill k. drill_no_check c.words drill k asked command);
   drill_front = no_drill_front c (λ drill k. drill_no_check c.words drill k asked command);
   ends = inr (record { end = e; cause = of_check command cause; said = said });
@@ -367,10 +462,11 @@ check_ended c code asked e command cause kept said = record {
       λ ready reads writes. inr (inr (inr (code_of_one e _ _ _ _ code said
       (check_ends_without_memory c.words c.course.desk.told asked c.course e refl ready command reads
       writes cause))));
+  complete_path = no_path_completed c code (check_no_prove c.words asked command);
   complete_drill =
       no_drill_completed c code (λ drill k. drill_no_check c.words drill k asked command);
   bad_words = λ bad. absurd (check_good c.words asked command bad);
-  others = kept_others (IsProofFile c.words) c.course.desk.told c.course.desk'.told kept;
+  others = kept_others (IsWrittenFile c.words) c.course.desk.told c.course.desk'.told kept;
   files = λ _. kept;
 }
 
@@ -379,7 +475,7 @@ drill_no_run : (words : List (List ℕ)) (asked : DrillRequest) (code : ℕ) (P 
     → IsDrill words asked → code ≡ 0 → IsCodeOfRun words code → P
 drill_no_run words asked code P command is (inl ten) = absurd (omega (arith, ten, is))
 drill_no_run words asked code P command is (inr (inl eleven)) = absurd (omega (arith, eleven, is))
-drill_no_run words asked code P command is (inr (inr zero)) = absurd (zero.3 asked command)
+drill_no_run words asked code P command is (inr (inr zero)) = absurd (zero.4 asked command)
 
 same_drill : (asked asked' : DrillRequest) (c : Course) → asked ≡ asked'
     → LeavesDrill asked c.desk.told c.desk'.told → LeavesDrill asked' c.desk.told c.desk'.told
@@ -396,10 +492,14 @@ drill_answered c code asked command done is silent =
       printed_run = λ h. drill_no_run c.words asked code _ command is h;
       proved_run = λ h _ _. drill_no_run c.words asked code _ command is h;
       proof_front = λ run ran. absurd (run_no_drill c.words run ran asked command);
+      hinted_run = λ h _ _. drill_no_run c.words asked code _ command is h;
+      hint_front = λ run ran. absurd (run_no_drill c.words run ran asked command);
       verdict =
           no_verdict c code
           (λ file verify. verify_no_drill c.words file verify asked command);
       checked = no_checked c code (drill_no_check c.words asked command);
+      proved_path = no_proved_path c code (drill_no_prove c.words asked command);
+      path_front = no_path_front c (drill_no_prove c.words asked command);
       drilled =
           λ _ asked' command'. subst (λ (d : DrillRequest).
           IsDrilled d c.course.desk.told c.course.desk'.told c.course.out.bytes c.course.out'.bytes)
@@ -418,12 +518,13 @@ drill_answered c code asked command done is silent =
           λ ready _ _. (let v = ready_verify c.words c.course.desk.told ready in
           absurd (verify_no_drill c.words v.0 v.1 asked command));
       complete_check = no_check_completed c code (drill_no_check c.words asked command);
+      complete_path = no_path_completed c code (drill_no_prove c.words asked command);
       complete_drill = λ _ _. inl is;
       bad_words = λ bad. absurd (drill_good c.words asked command bad);
       others =
-          fewer_others (IsDrillFile asked) (IsProofFile c.words) c.course.desk.told
+          fewer_others (IsDrillFile asked) (IsWrittenFile c.words) c.course.desk.told
           c.course.desk'.told
-          (λ file wanted. inr (asked, command, some_same asked.file file wanted)) done.others;
+          (λ file wanted. inr (inr (inr (asked, command, some_same asked.file file wanted)))) done.others;
       files = λ un. absurd (un.0 is);
     }
 
@@ -435,10 +536,14 @@ drill_ended c code asked e command ended said = record {
   printed_run = λ h. absurd (code_of_no_end e _ _ _ _ code said (code_of_run c.words code h));
   proved_run = λ h _ _. absurd (code_of_no_end e _ _ _ _ code said (code_of_run c.words code h));
   proof_front = λ run ran. absurd (run_no_drill c.words run ran asked command);
+  hinted_run = λ h _ _. absurd (code_of_no_end e _ _ _ _ code said (code_of_run c.words code h));
+  hint_front = λ run ran. absurd (run_no_drill c.words run ran asked command);
   verdict =
       no_verdict c code
       (λ file verify. verify_no_drill c.words file verify asked command);
   checked = no_checked c code (drill_no_check c.words asked command);
+  proved_path = no_proved_path c code (drill_no_prove c.words asked command);
+  path_front = no_path_front c (drill_no_prove c.words asked command);
   drilled = λ zero _ _. absurd (code_of_no_end e _ _ _ _ code said (inl zero));
   drill_front =
       λ asked' command'. same_drill asked asked' c.course
@@ -453,13 +558,121 @@ drill_ended c code asked e command ended said = record {
       λ ready _ _. (let v = ready_verify c.words c.course.desk.told ready in
       absurd (verify_no_drill c.words v.0 v.1 asked command));
   complete_check = no_check_completed c code (drill_no_check c.words asked command);
+  complete_path = no_path_completed c code (drill_no_prove c.words asked command);
   complete_drill = λ _ _. inr (code_of_drill asked c.course e _ _ _ _ code said ended.cause);
   bad_words = λ bad. absurd (drill_good c.words asked command bad);
   others =
-      fewer_others (IsDrillFile asked) (IsProofFile c.words) c.course.desk.told c.course.desk'.told
-      (λ file wanted. inr (asked, command, some_same asked.file file wanted)) ended.others;
+      fewer_others (IsDrillFile asked) (IsWrittenFile c.words) c.course.desk.told c.course.desk'.told
+      (λ file wanted. inr (inr (inr (asked, command, some_same asked.file file wanted)))) ended.others;
   files = drill_files asked c.course e _ _ _ _ code said ended.cause;
 }
+
+-- the code of a proof of a path is not the code of a run
+path_no_run : (words : List (List ℕ)) (asked : ProveRequest) (code : ℕ) (P : Type 0)
+    → IsProve words asked → code ≡ 0 → IsCodeOfRun words code → P
+path_no_run words asked code P command is (inl ten) = absurd (omega (arith, ten, is))
+path_no_run words asked code P command is (inr (inl eleven)) = absurd (omega (arith, eleven, is))
+path_no_run words asked code P command is (inr (inr zero)) = absurd (zero.3 asked command)
+
+same_path : (asked asked' : ProveRequest) (c : Course) → asked ≡ asked'
+    → LeavesPath asked c.desk.told c.desk'.told → LeavesPath asked' c.desk.told c.desk'.told
+same_path asked asked' c same h =
+    subst (λ (p : ProveRequest). LeavesPath p c.desk.told c.desk'.told) same h
+
+pub prove_answered : (c : Call) (code : ℕ) (asked : ProveRequest) → IsProve c.words asked
+    → IsPathDone asked c.course → code ≡ 0 → SameBytes c.err.bytes c.err'.bytes → IsAnswered c code
+prove_answered c code asked command done is silent =
+    let unchecked : IsNoCheck c.words = λ check k. check_no_prove c.words check k asked command in
+    let undrilled : IsNoDrill c.words = λ drill k. drill_no_prove c.words drill k asked command in
+    record {
+      printed_run = λ h. path_no_run c.words asked code _ command is h;
+      proved_run = λ h _ _. path_no_run c.words asked code _ command is h;
+      proof_front = λ run ran. absurd (run_no_prove c.words run ran asked command);
+      hinted_run = λ h _ _. path_no_run c.words asked code _ command is h;
+      hint_front = λ run ran. absurd (run_no_prove c.words run ran asked command);
+      verdict =
+          no_verdict c code
+          (λ file verify. verify_no_prove c.words file verify asked command);
+      checked = no_checked c code unchecked;
+      proved_path =
+          λ _ asked' command'. subst (λ (p : ProveRequest).
+          SendsPath Appends p c.course.desk.told c.course.desk'.told c.course.out.bytes
+          c.course.out'.bytes) (one_prove c.words asked asked' command command') done.sent;
+      path_front =
+          λ asked' command'. same_path asked asked' c.course
+          (one_prove c.words asked asked' command command') (sent_front asked c.course.desk.told
+          c.course.desk'.told c.course.out.bytes c.course.out'.bytes done.sent);
+      drilled = no_drilled c code undrilled;
+      drill_front = no_drill_front c undrilled;
+      ends = inl (record { done = prove_done command is; silent = silent });
+      stops_printing = stopped_never c code (prove_done command is);
+      fails_in_printing = failed_never c code (prove_done command is);
+      complete =
+          λ ready _. (let r = ready_run c.words c.course.desk.told ready in
+          absurd (run_no_prove c.words r.0 r.1 asked command));
+      complete_verdict =
+          λ ready _ _. (let v = ready_verify c.words c.course.desk.told ready in
+          absurd (verify_no_prove c.words v.0 v.1 asked command));
+      complete_check = no_check_completed c code unchecked;
+      complete_path = λ _ _. inl is;
+      complete_drill = no_drill_completed c code undrilled;
+      bad_words = λ bad. absurd (prove_good c.words asked command bad);
+      others =
+          fewer_others (IsPathFile asked) (IsWrittenFile c.words) c.course.desk.told
+          c.course.desk'.told
+          (λ file wanted.
+          inr (inr (inl (asked, command, some_same asked.proof file wanted)))) done.others;
+      files = λ un. absurd (un.0 is);
+    }
+
+pub prove_ended : (c : Call) (code : ℕ) (asked : ProveRequest) (e : Ending)
+    → IsProve c.words asked → IsPathEnded asked c.course e
+    → Reports e c.err.bytes c.err'.bytes c.err.faults c.err'.faults code → IsAnswered c code
+prove_ended c code asked e command ended said =
+    let unchecked : IsNoCheck c.words = λ check k. check_no_prove c.words check k asked command in
+    let undrilled : IsNoDrill c.words = λ drill k. drill_no_prove c.words drill k asked command in
+    record {
+      printed_run =
+          λ h. absurd (code_of_no_end e _ _ _ _ code said (code_of_run c.words code h));
+      proved_run =
+          λ h _ _. absurd (code_of_no_end e _ _ _ _ code said (code_of_run c.words code h));
+      proof_front = λ run ran. absurd (run_no_prove c.words run ran asked command);
+      hinted_run =
+          λ h _ _. absurd (code_of_no_end e _ _ _ _ code said (code_of_run c.words code h));
+      hint_front = λ run ran. absurd (run_no_prove c.words run ran asked command);
+      verdict =
+          no_verdict c code
+          (λ file verify. verify_no_prove c.words file verify asked command);
+      checked = no_checked c code unchecked;
+      proved_path = λ zero _ _. absurd (code_of_no_end e _ _ _ _ code said (inl zero));
+      path_front =
+          λ asked' command'. same_path asked asked' c.course
+          (one_prove c.words asked asked' command command') ended.front;
+      drilled = no_drilled c code undrilled;
+      drill_front = no_drill_front c undrilled;
+      ends = inr (record { end = e; cause = of_prove command ended.cause; said = said });
+      stops_printing = stopped_with c code e (of_prove command ended.cause);
+      fails_in_printing = failed_with c code e (of_prove command ended.cause) said;
+      complete =
+          λ ready _. (let r = ready_run c.words c.course.desk.told ready in
+          absurd (run_no_prove c.words r.0 r.1 asked command));
+      complete_verdict =
+          λ ready _ _. (let v = ready_verify c.words c.course.desk.told ready in
+          absurd (verify_no_prove c.words v.0 v.1 asked command));
+      complete_check = no_check_completed c code unchecked;
+      complete_path =
+          λ ready free. inr (code_of_path e _ _ _ _ code said
+          (path_stops c.words c.course.desk.told asked c.course e refl ready command free
+          ended.cause));
+      complete_drill = no_drill_completed c code undrilled;
+      bad_words = λ bad. absurd (prove_good c.words asked command bad);
+      others =
+          fewer_others (IsPathFile asked) (IsWrittenFile c.words) c.course.desk.told
+          c.course.desk'.told
+          (λ file wanted.
+          inr (inr (inl (asked, command, some_same asked.proof file wanted)))) ended.others;
+      files = path_files asked c.course e _ _ _ _ code said ended.cause;
+    }
 
 pub bad_answered : (c : Call) (code : ℕ) → AreBad c.words
     → SameBytes c.course.out.bytes c.course.out'.bytes → KeepsFiles c.course.desk.told
@@ -471,8 +684,13 @@ bad_answered c code bad output kept said = record {
   proved_run =
       λ h _ _. absurd (code_of_no_end bad_words _ _ _ _ code said (code_of_run c.words code h));
   proof_front = λ _ _ name _. inl (kept_file c.course.desk.told c.course.desk'.told name kept);
+  hinted_run =
+      λ h _ _. absurd (code_of_no_end bad_words _ _ _ _ code said (code_of_run c.words code h));
+  hint_front = λ _ _ name _. inl (kept_file c.course.desk.told c.course.desk'.told name kept);
   verdict = ended_no_verdict c code bad_words said;
   checked = no_checked c code (bad_no_check c.words bad);
+  proved_path = no_proved_path c code (bad_no_prove c.words bad);
+  path_front = no_path_front c (bad_no_prove c.words bad);
   drilled = no_drilled c code (bad_no_drill c.words bad);
   drill_front = no_drill_front c (bad_no_drill c.words bad);
   ends = inr (record { end = bad_words; cause = with_bad_words bad (output, kept); said = said });
@@ -485,9 +703,10 @@ bad_answered c code bad output kept said = record {
       λ ready _ _. (let v = ready_verify c.words c.course.desk.told ready in
       absurd (verify_good c.words v.0 v.1 bad));
   complete_check = no_check_completed c code (bad_no_check c.words bad);
+  complete_path = no_path_completed c code (bad_no_prove c.words bad);
   complete_drill = no_drill_completed c code (bad_no_drill c.words bad);
   bad_words = λ _. code_reported bad_words _ _ _ _ code said;
-  others = kept_others (IsProofFile c.words) c.course.desk.told c.course.desk'.told kept;
+  others = kept_others (IsWrittenFile c.words) c.course.desk.told c.course.desk'.told kept;
   files = λ _. kept;
 }
 
@@ -504,8 +723,14 @@ memory_answered c code output kept said =
           λ h _ _.
           absurd (code_of_no_end out_of_memory _ _ _ _ code said (code_of_run c.words code h));
       proof_front = λ _ _ name _. inl (kept_file c.course.desk.told c.course.desk'.told name kept);
+      hinted_run =
+          λ h _ _.
+          absurd (code_of_no_end out_of_memory _ _ _ _ code said (code_of_run c.words code h));
+      hint_front = λ _ _ name _. inl (kept_file c.course.desk.told c.course.desk'.told name kept);
       verdict = ended_no_verdict c code out_of_memory said;
       checked = ended_no_check c code out_of_memory said;
+      proved_path = λ zero _ _. absurd (code_of_no_end out_of_memory _ _ _ _ code said (inl zero));
+      path_front = λ asked _. inl (kept_file c.course.desk.told c.course.desk'.told asked.proof kept);
       drilled = λ zero _ _. absurd (code_of_no_end out_of_memory _ _ _ _ code said (inl zero));
       drill_front = λ asked _. inl (kept_file c.course.desk.told c.course.desk'.told asked.file
           kept);
@@ -520,8 +745,9 @@ memory_answered c code output kept said =
       complete = λ _ _. inr (inr (inr one));
       complete_verdict = λ _ _ _. inr (inr one);
       complete_check = λ _ _ _. inr (inr (inr one));
+      complete_path = λ _ _. inr (inr one);
       complete_drill = λ _ _. inr (inl one);
       bad_words = λ _. inr one;
-      others = kept_others (IsProofFile c.words) c.course.desk.told c.course.desk'.told kept;
+      others = kept_others (IsWrittenFile c.words) c.course.desk.told c.course.desk'.told kept;
       files = λ _. kept;
     }

@@ -1,15 +1,24 @@
 -- Words ask for only one thing.
 use Rattle.std.proofs.Common.{◌≡◌, ℕ, List, [], ◌∷◌, length, Bool, true, false, Option, Some, refl}
 use Rattle.std.proofs.Common.{sym, ◌∙◌, ap, arith}
+use Rattle.std.proofs.lemmas.Bool.{and_parts}
 use Rattle.std.proofs.lemmas.Slice.Eq.{bytes_eq-Decides}
-use Rattle.std.specs.Prelude.{codes}
+use Rattle.std.specs.Prelude.{codes, not, ◌&&◌, if◌then◌else◌, is_some}
+use Rattle.std.specs.Option.{option_map_or}
 use Rattle.std.specs.Str.{bytes_eq}
-use Rattle.command_words.specs.CommandLine.{is_named}
+use Rattle.clap.specs.Takes.{takes}
+use Rattle.command_words.specs.CommandLine.{are_bad, is_named, is_number_to, is_run, most_calls}
+use Rattle.command_words.specs.CommandLine.{most_steps, names_one_file, run_app, value_of}
+use Rattle.command_words.specs.Commands.{Gives}
+use Rattle.command_words.specs.declared.commands.Command.{Command}
+use Rattle.command_words.specs.declared.commands.Command.TheVariants as command
 use Rattle.kore_prove.specs.CheckWords.{CheckRequest, IsCheck, IsNoCheck}
+use Rattle.kore_prove.specs.ProveWords.{ProveRequest, IsProve, IsNoProve}
 use Rattle.kore_prove.specs.DrillWords.{DrillRequest, IsDrill, IsNoDrill}
 use Rattle.kore_prove.specs.RunWords.{RunRequest, IsRun}
 use Rattle.kore_prove.specs.VerifyWords.{IsVerify}
 use Rattle.kore_prove.specs.BadWords.{AreBad}
+use Rattle.kore_prove.specs.Requests.{AreTwoFiles, AsksFor, request}
 
 some_same : {A : Type 0} (o : Option A) (a b : A) → o ≡ Some a → o ≡ Some b → a ≡ b
 some_same o a b h k = cc
@@ -24,12 +33,13 @@ one_request words a b h k =
     let limit : a.limit ≡ b.limit = some_same _ _ _ h.limit k.limit in
     let calls : a.calls ≡ b.calls = h.calls ∙ sym k.calls in
     let proof : a.proof ≡ b.proof = h.proof ∙ sym k.proof in
+    let hints : a.hints ≡ b.hints = h.hints ∙ sym k.hints in
     ap (λ (d : List ℕ). record a { definition = d }) definition
-    ∙ ap (λ (t : List ℕ). record b { term = t; limit = a.limit; calls = a.calls; proof = a.proof })
-    term
-    ∙ ap (λ (n : ℕ). record b { limit = n; calls = a.calls; proof = a.proof }) limit
-    ∙ ap (λ (n : ℕ). record b { calls = n; proof = a.proof }) calls
-    ∙ ap (λ (p : Option (List ℕ)). record b { proof = p }) proof
+    ∙ ap (λ (t : List ℕ). record a { definition = b.definition; term = t }) term
+    ∙ ap (λ (n : ℕ). record b { limit = n; calls = a.calls; proof = a.proof; hints = a.hints }) limit
+    ∙ ap (λ (n : ℕ). record b { calls = n; proof = a.proof; hints = a.hints }) calls
+    ∙ ap (λ (p : Option (List ℕ)). record b { proof = p; hints = a.hints }) proof
+    ∙ ap (λ (o : Option (List ℕ)). record b { hints = o }) hints
 
 pub one_file : (words : List (List ℕ)) (a b : List ℕ) → IsVerify words a → IsVerify words b → a ≡ b
 one_file words a b h k = some_same _ _ _ h.file_is k.file_is
@@ -42,6 +52,19 @@ one_check words a b h k =
     let file : a.file ≡ b.file = some_same _ _ _ h.file_is k.file_is in
     ap (λ (d : List ℕ). record a { definition = d }) definition
     ∙ ap (λ (f : List ℕ). record b { file = f }) file
+
+pub one_prove : (words : List (List ℕ)) (a b : ProveRequest) → IsProve words a → IsProve words b
+    → a ≡ b
+one_prove words a b h k =
+    let definition : a.definition ≡ b.definition =
+    some_same _ _ _ h.definition_is k.definition_is in
+    let hints : a.hints ≡ b.hints = some_same _ _ _ h.hints_are k.hints_are in
+    let proof : a.proof ≡ b.proof = some_same _ _ _ h.proof_is k.proof_is in
+    let calls : a.calls ≡ b.calls = h.calls_are ∙ sym k.calls_are in
+    ap (λ (d : List ℕ). record a { definition = d }) definition
+    ∙ ap (λ (o : List ℕ). record b { hints = o; proof = a.proof; calls = a.calls }) hints
+    ∙ ap (λ (p : List ℕ). record b { proof = p; calls = a.calls }) proof
+    ∙ ap (λ (n : ℕ). record b { calls = n }) calls
 
 pub one_drill : (words : List (List ℕ)) (a b : DrillRequest) → IsDrill words a → IsDrill words b
     → a ≡ b
@@ -59,6 +82,10 @@ verify_good words file h bad = never _ h.good bad.bad
 pub check_good : (words : List (List ℕ)) (asked : CheckRequest) → IsCheck words asked → AreBad words
     → ⊥
 check_good words asked h bad = never _ h.good bad.bad
+
+pub prove_good : (words : List (List ℕ)) (asked : ProveRequest) → IsProve words asked → AreBad words
+    → ⊥
+prove_good words asked h bad = never _ h.good bad.bad
 
 pub drill_good : (words : List (List ℕ)) (asked : DrillRequest) → IsDrill words asked → AreBad words
     → ⊥
@@ -109,6 +136,34 @@ drill_no_check words asked h = λ check k.
 pub bad_no_check : (words : List (List ℕ)) → AreBad words → IsNoCheck words
 bad_no_check words bad = λ check k. check_good words check k bad
 
+-- words that ask for something else, or that are bad, do not ask for a proof of a path
+pub run_no_prove : (words : List (List ℕ)) (asked : RunRequest) → IsRun words asked
+    → IsNoProve words
+run_no_prove words asked h = λ prove k.
+    named_both (codes "run") (codes "prove") words
+    (λ same. (let lengths : 3 ≡ 5 = ap length same in omega (arith, lengths))) h.named k.named
+
+pub verify_no_prove : (words : List (List ℕ)) (file : List ℕ) → IsVerify words file
+    → IsNoProve words
+verify_no_prove words file h = λ prove k.
+    named_both (codes "verify") (codes "prove") words
+    (λ same. (let lengths : 6 ≡ 5 = ap length same in omega (arith, lengths))) h.named k.named
+
+pub check_no_prove : (words : List (List ℕ)) (asked : CheckRequest) → IsCheck words asked
+    → IsNoProve words
+check_no_prove words asked h = λ prove k.
+    named_both (codes "check") (codes "prove") words
+    (λ same. (let bytes : 99 ≡ 112 = ap first_byte same in omega (arith, bytes))) h.named k.named
+
+pub drill_no_prove : (words : List (List ℕ)) (asked : DrillRequest) → IsDrill words asked
+    → IsNoProve words
+drill_no_prove words asked h = λ prove k.
+    named_both (codes "drill") (codes "prove") words
+    (λ same. (let bytes : 100 ≡ 112 = ap first_byte same in omega (arith, bytes))) h.named k.named
+
+pub bad_no_prove : (words : List (List ℕ)) → AreBad words → IsNoProve words
+bad_no_prove words bad = λ prove k. prove_good words prove k bad
+
 -- words that ask for something else, or that are bad, do not ask for a drill
 pub run_no_drill : (words : List (List ℕ)) (asked : RunRequest) → IsRun words asked
     → IsNoDrill words
@@ -124,3 +179,77 @@ verify_no_drill words file h = λ drill k.
 
 pub bad_no_drill : (words : List (List ℕ)) → AreBad words → IsNoDrill words
 bad_no_drill words bad = λ drill k. drill_good words drill k bad
+
+-- ---- what words of a run write goes to two files
+
+first_choice : (b x y : Bool) → b ≡ true → (if b then not x else y) ≡ false → x ≡ true
+first_choice true true y is h = refl
+first_choice true false y is h = absurd (never true h refl)
+first_choice false x y is h = absurd (never false refl is)
+
+not_true : (b : Bool) → not b ≡ true → b ≡ false
+not_true true h = absurd (never false refl h)
+not_true false h = refl
+
+two_names : (proof hints : Option (List ℕ)) (file : List ℕ) → proof ≡ Some file → hints ≡ Some file
+    → not (names_one_file proof hints) ≡ true → ⊥
+two_names proof hints file is is' h =
+    let one : names_one_file proof hints ≡ true =
+    rw (is, is') ((bytes_eq-Decides file file).1 refl) in
+    never _ (not_true _ h) one
+
+pub two_files : (words : List (List ℕ)) (asked : RunRequest) → IsRun words asked → AreTwoFiles asked
+two_files words asked h = λ file proof hints. (
+    let good : is_run words ≡ true =
+    first_choice (is_named (codes "run") words) (is_run words) _ h.named h.good in
+    let taken = takes run_app words in
+    let named = is_some (value_of run_app words (codes "def"))
+    && is_some (value_of run_app words (codes "term")) in
+    let limited =
+    option_map_or (is_number_to most_steps) (value_of run_app words (codes "limit")) false in
+    let counted =
+    option_map_or (is_number_to most_calls) (value_of run_app words (codes "calls")) true in
+    let two =
+    not (names_one_file (value_of run_app words (codes "proof"))
+    (value_of run_app words (codes "hints"))) in
+    let after_taken = (and_parts taken (named && (limited && (counted && two))) good).1 in
+    let after_named = (and_parts named (limited && (counted && two)) after_taken).1 in
+    let after_limited = (and_parts limited (counted && two) after_named).1 in
+    two_names _ _ file (sym h.proof ∙ proof) (sym h.hints ∙ hints)
+    (and_parts counted two after_limited).1)
+
+-- what good words ask for, in the terms of the requests
+pub asked_of : (words : List (List ℕ)) (c : Command) → (are_bad words ≡ false) × Gives words c
+    → AsksFor words c
+asked_of words (command.Run r) h =
+    let run : IsRun words (request r) = record {
+      good = h.0;
+      named = h.1.named;
+      definition = h.1.definition;
+      term = h.1.term;
+      limit = h.1.limit;
+      calls = h.1.calls;
+      proof = h.1.proof;
+      hints = h.1.hints;
+    } in
+    (run, two_files words (request r) run)
+asked_of words (command.Verify file) h =
+    record { good = h.0; named = h.1.named; file_is = h.1.file_is }
+asked_of words (command.Check c) h = record {
+  good = h.0;
+  named = h.1.named;
+  definition_is = h.1.definition;
+  file_is = h.1.file;
+}
+asked_of words (command.Prove p) h = record {
+  good = h.0;
+  named = h.1.named;
+  definition_is = h.1.definition;
+  hints_are = h.1.hints;
+  proof_is = h.1.proof;
+  calls_are = h.1.calls;
+}
+asked_of words (command.Drill d) h = (
+  record { good = h.0; named = h.1.named; steps_are = h.1.steps; file_is = h.1.file },
+  h.1.few_steps,
+)

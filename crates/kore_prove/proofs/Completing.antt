@@ -1,5 +1,6 @@
 -- A call that can run, verify or check, and that nothing hinders, ends as out of memory, if it does not
--- come to that. A call that is to drill always can.
+-- come to that. A call that can read a path may also find a bad line. A call that is to drill always
+-- can.
 use Rattle.std.proofs.Common.{◌≡◌, ℕ, ◌⊎◌, inl, inr, List, Option, None, Some, refl, sym, ap, subst}
 use Rattle.desk_io.specs.Told.{Told, Holds}
 use Rattle.desk_io.specs.MissingFiles.{Lacks, HoldsMore}
@@ -11,16 +12,20 @@ use Rattle.kore_prove.specs.DrillWords.{DrillRequest}
 use Rattle.kore_prove.specs.RunWords.{RunRequest, IsRun}
 use Rattle.kore_prove.specs.VerifyWords.{IsVerify}
 use Rattle.kore_prove.specs.CheckWords.{CheckRequest, IsCheck}
+use Rattle.kore_prove.specs.ProveWords.{ProveRequest, IsProve}
 use Rattle.kore_prove.specs.Limits.{HoldsWithin, definition_limit, term_limit}
 use Rattle.kore_prove.specs.Verdicts.{database_limit}
+use Rattle.kore_prove.specs.PathFiles.{hints_limit}
 use Rattle.kore_prove.specs.Files.{HoldsProgram}
 use Rattle.kore_prove.specs.Reports.{Ending, out_of_memory, bad_words, read_fault, write_fault}
 use Rattle.kore_prove.specs.Reports.{no_such_file, definition_refused, term_refused, too_large}
-use Rattle.kore_prove.specs.Reports.{end_code, Reports}
+use Rattle.kore_prove.specs.Reports.{hints_refused, end_code, Reports}
 use Rattle.kore_prove.specs.Causes.{ReadCause, RunCause, run_unread, run_unproved, run_unprinted}
 use Rattle.kore_prove.specs.Causes.{DatabaseCause, VerifyCause, file_unverified, verdict_unprinted}
 use Rattle.kore_prove.specs.Causes.{CheckReadCause, CheckCause, check_undecided}
 use Rattle.kore_prove.specs.Causes.{check_unprinted}
+use Rattle.kore_prove.specs.Causes.{PathReadCause, PathCause, path_unread, path_unproved}
+use Rattle.kore_prove.specs.Causes.{path_unprinted}
 use Rattle.kore_prove.specs.Causes.{DrillCause, drill_unmade, drill_unproved, drill_unprinted}
 use Rattle.kore_prove.specs.Courses.{Course}
 use Rattle.kore_prove.specs.CountedFaults.{CountsReadFault, CountsWriteFault, CountsOutputFault}
@@ -28,7 +33,8 @@ use Rattle.kore_prove.specs.CompleteRuns.{CanRun, IsReadyToRun, IsFaultless, IsF
 use Rattle.kore_prove.specs.CompleteRuns.{IsUnhindered}
 use Rattle.kore_prove.specs.CompleteVerdicts.{CanVerify, IsReadyToVerify}
 use Rattle.kore_prove.specs.CompleteChecks.{CanCheck, IsReadyToCheck}
-use Rattle.kore_prove.proofs.CommandWords.{one_request, one_file, one_check}
+use Rattle.kore_prove.specs.CompletePaths.{CanReadPath, IsReadyToProve}
+use Rattle.kore_prove.proofs.CommandWords.{one_request, one_file, one_check, one_prove}
 use Rattle.kore_prove.proofs.Ending.{one_content, not_lacking, not_more, code_reported}
 use Rattle.kore_prove.proofs.Ending.{stopped_unfaulted}
 
@@ -88,6 +94,7 @@ no_read_cause told asked s reads reads' (too_large name) free (inl h) =
     s.definition_held.0 s.definition_held.1 h.1)
 no_read_cause told asked s reads reads' (too_large name) free (inr h) =
     absurd (not_more told asked.term name s.term term_limit h.0 s.term_held.0 s.term_held.1 h.2)
+no_read_cause told asked s reads reads' (hints_refused number line) free h = absurd h
 
 -- such a call can end only because memory ran out
 no_cause : (words : List (List ℕ)) (told : Told) (r : CanRun words told) (asked : RunRequest)
@@ -129,6 +136,7 @@ no_database_cause words told r file c (too_large name) is command reads h =
     (λ (n : List ℕ). Holds (Some told) n r.bytes)
     (one_file words r.file file r.command command) r.held.0) r.held.1
     (subst (λ (o : Option Told). HoldsMore o name database_limit) is h.1))
+no_database_cause words told r file c (hints_refused number line) is command reads h = absurd h
 
 no_verify_cause : (words : List (List ℕ)) (told : Told) (r : CanVerify words told) (file : List ℕ)
     (c : Course) (e : Ending) → c.desk.told ≡ Some told → IsVerify words file
@@ -188,6 +196,7 @@ no_check_read_cause told asked s reads reads' (too_large name) free (inl h) =
     s.definition_held.0 s.definition_held.1 h.1)
 no_check_read_cause told asked s reads reads' (too_large name) free (inr h) =
     absurd (not_more told asked.file name s.bytes database_limit h.0 s.held.0 s.held.1 h.2)
+no_check_read_cause told asked s reads reads' (hints_refused number line) free h = absurd h
 
 no_check_cause : (words : List (List ℕ)) (told : Told) (r : CanCheck words told)
     (asked : CheckRequest) (c : Course) (e : Ending) → c.desk.told ≡ Some told
@@ -208,6 +217,81 @@ pub check_ends_without_memory : (words : List (List ℕ)) (told : Option Told) (
 check_ends_without_memory words None asked c e is ready command reads writes cause = absurd ready
 check_ends_without_memory words (Some told) asked c e is ready command reads writes cause =
     no_check_cause words told ready asked c e is command reads writes cause
+
+-- the files of the request can be read as a path
+record CanList (told : Told) (asked : ProveRequest) : Type 0 where
+  definition : List ℕ
+  definition_held : HoldsWithin (Some told) asked.definition definition_limit definition
+  faultless : IsFaultless definition
+  bytes : List ℕ
+  held : HoldsWithin (Some told) asked.hints hints_limit bytes
+
+listed : (words : List (List ℕ)) (told : Told) (r : CanReadPath words told) (asked : ProveRequest)
+    → IsProve words asked → CanList told asked
+listed words told r asked command =
+    let own : CanList told r.asked = record {
+      definition = r.definition;
+      definition_held = r.definition_held;
+      faultless = r.faultless;
+      bytes = r.bytes;
+      held = r.held;
+    } in
+    subst (CanList told) (one_prove words r.asked asked r.command command) own
+
+-- a path that is not proved: a line of the hints is bad, or memory ran out
+abbrev pub StopsPath : ℕ → Type 0
+StopsPath code = (code ≡ 14) ⊎ (code ≡ 1)
+
+no_path_read_cause : (told : Told) (asked : ProveRequest) (s : CanList told asked)
+    (reads reads' : ℕ) (e : Ending) → (CountRose reads reads' → ⊥)
+    → PathReadCause asked (Some told) reads reads' e → StopsPath (end_code e)
+no_path_read_cause told asked s reads reads' out_of_memory free h = inr refl
+no_path_read_cause told asked s reads reads' bad_words free h = absurd h
+no_path_read_cause told asked s reads reads' read_fault free h = absurd (free h)
+no_path_read_cause told asked s reads reads' write_fault free h = absurd h
+no_path_read_cause told asked s reads reads' (no_such_file name) free (inl h) =
+    absurd (not_lacking told asked.definition name s.definition h.0 s.definition_held.0 h.1)
+no_path_read_cause told asked s reads reads' (no_such_file name) free (inr h) =
+    absurd (not_lacking told asked.hints name s.bytes h.0 s.held.0 h.2)
+no_path_read_cause told asked s reads reads' (definition_refused number byte) free h =
+    absurd (s.faultless _ (subst (λ (bytes : List ℕ). IsRefused bytes _)
+    (one_content told asked.definition h.bytes s.definition h.held.0 s.definition_held.0)
+    h.refused))
+no_path_read_cause told asked s reads reads' (term_refused number byte) free h = absurd h
+no_path_read_cause told asked s reads reads' (too_large name) free (inl h) =
+    absurd (not_more told asked.definition name s.definition definition_limit h.0
+    s.definition_held.0 s.definition_held.1 h.1)
+no_path_read_cause told asked s reads reads' (too_large name) free (inr h) =
+    absurd (not_more told asked.hints name s.bytes hints_limit h.0 s.held.0 s.held.1 h.2)
+no_path_read_cause told asked s reads reads' (hints_refused number line) free h = inl refl
+
+no_path_cause : (words : List (List ℕ)) (told : Told) (r : CanReadPath words told)
+    (asked : ProveRequest) (c : Course) (e : Ending) → c.desk.told ≡ Some told
+    → IsProve words asked → IsUnhindered c → PathCause asked c e → StopsPath (end_code e)
+no_path_cause words told r asked c e is command free (path_unread h kept) =
+    no_path_read_cause told asked (listed words told r asked command) c.desk.read_faults
+    c.desk'.read_faults e free.reads
+    (subst (λ (o : Option Told). PathReadCause asked o c.desk.read_faults c.desk'.read_faults e)
+    is h)
+no_path_cause words told r asked c e is command free (path_unproved has stopped same) =
+    inr (stopped_unfaulted (CountsWriteFault c) e free.files stopped)
+no_path_cause words told r asked c e is command free (path_unprinted begun stopped) =
+    inr (stopped_unfaulted (CountsOutputFault c) e free.writes stopped)
+
+pub path_stops : (words : List (List ℕ)) (told : Option Told) (asked : ProveRequest)
+    (c : Course) (e : Ending) → c.desk.told ≡ told → IsReadyToProve words told
+    → IsProve words asked → IsUnhindered c → PathCause asked c e → StopsPath (end_code e)
+path_stops words None asked c e is ready command free cause = absurd ready
+path_stops words (Some told) asked c e is ready command free cause =
+    no_path_cause words told ready asked c e is command free cause
+
+pub code_of_path : (e : Ending) (before after : Option (List ℕ)) (old new code : ℕ)
+    → Reports e before after old new code → StopsPath (end_code e) → StopsPath code
+code_of_path e before after old new code r stops =
+    elim (code_reported e before after old new code r) [
+      | inl own ↦ subst StopsPath (sym own) stops
+      | inr one ↦ inr one
+    ]
 
 -- a drill that does not come to its lines: memory ran out, or a fault was counted
 abbrev pub StopsDrill : Course → ℕ → Type 0
@@ -248,3 +332,8 @@ pub ready_check : (words : List (List ℕ)) (told : Option Told) → IsReadyToCh
     → (asked : CheckRequest) × IsCheck words asked
 ready_check words None ready = absurd ready
 ready_check words (Some told) ready = (ready.asked, ready.command)
+
+pub ready_prove : (words : List (List ℕ)) (told : Option Told) → IsReadyToProve words told
+    → (asked : ProveRequest) × IsProve words asked
+ready_prove words None ready = absurd ready
+ready_prove words (Some told) ready = (ready.asked, ready.command)

@@ -20,6 +20,7 @@ use Rattle.kore_prove.specs.FileCauses.{UnreadEnding, DefinitionEnding}
 use Rattle.kore_prove.specs.PlainEnds.{fault_end}
 use Rattle.kore_prove.specs.Reports.{Ending, out_of_memory, bad_words, read_fault, write_fault}
 use Rattle.kore_prove.specs.Reports.{no_such_file, definition_refused, term_refused, too_large}
+use Rattle.kore_prove.specs.Reports.{hints_refused}
 use Rattle.kore_prove.specs.RunWords.{RunRequest}
 use Rattle.kore_prove.specs.Limits.{definition_limit}
 use Rattle.kore_prove.specs.Verdicts.{database_limit}
@@ -39,6 +40,7 @@ unread_definition told name reads reads' (no_such_file other) h = h
 unread_definition told name reads reads' (definition_refused number byte) h = absurd h
 unread_definition told name reads reads' (term_refused number byte) h = h
 unread_definition told name reads reads' (too_large other) h = h
+unread_definition told name reads reads' (hints_refused number line) h = h
 
 -- the cause of an end at the definition is a cause of the end of a run, and of a check
 pub definition_of_run : (asked : RunRequest) (told : Option Told) (reads reads' : ℕ) (e : Ending)
@@ -51,6 +53,7 @@ definition_of_run asked told reads reads' (no_such_file name) h = inl h
 definition_of_run asked told reads reads' (definition_refused number byte) h = h
 definition_of_run asked told reads reads' (term_refused number byte) h = absurd h
 definition_of_run asked told reads reads' (too_large name) h = inl h
+definition_of_run asked told reads reads' (hints_refused number line) h = h
 
 pub definition_of_check : (asked : CheckRequest) (told : Option Told) (reads reads' : ℕ)
     (e : Ending) → DefinitionEnding told asked.definition reads reads' e
@@ -63,6 +66,7 @@ definition_of_check asked told reads reads' (no_such_file name) h = inl h
 definition_of_check asked told reads reads' (definition_refused number byte) h = h
 definition_of_check asked told reads reads' (term_refused number byte) h = h
 definition_of_check asked told reads reads' (too_large name) h = inl h
+definition_of_check asked told reads reads' (hints_refused number line) h = h
 
 -- the cause of an end at the database is a cause of the end of a check, and of a verification
 pub database_of_check : (asked : CheckRequest) (told : Option Told) (reads reads' : ℕ) (e : Ending)
@@ -76,6 +80,7 @@ database_of_check asked told reads reads' (no_such_file name) has h = inr (h.0, 
 database_of_check asked told reads reads' (definition_refused number byte) has h = absurd h
 database_of_check asked told reads reads' (term_refused number byte) has h = h
 database_of_check asked told reads reads' (too_large name) has h = inr (h.0, has, h.1)
+database_of_check asked told reads reads' (hints_refused number line) has h = h
 
 pub database_of_verify : (file : List ℕ) (c : Course) (e : Ending)
     → UnreadEnding c.desk.told file database_limit c.desk.read_faults c.desk'.read_faults e
@@ -88,6 +93,7 @@ database_of_verify file c (no_such_file name) h = h
 database_of_verify file c (definition_refused number byte) h = h
 database_of_verify file c (term_refused number byte) h = h
 database_of_verify file c (too_large name) h = h
+database_of_verify file c (hints_refused number line) h = h
 
 -- the lines of the decision were sent, or a part of them
 decision_sent : (Grew : Option (List ℕ) → Option (List ℕ) → List ℕ → Type 0) (told : Option Told)

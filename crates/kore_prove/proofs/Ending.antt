@@ -22,13 +22,16 @@ use Rattle.kore_prove.specs.Limits.{HoldsWithin}
 use Rattle.kore_prove.specs.PrintedRun.{IsCodeOfRun}
 use Rattle.kore_prove.specs.Reports.{Ending, out_of_memory, bad_words, read_fault, write_fault}
 use Rattle.kore_prove.specs.Reports.{no_such_file, definition_refused, term_refused, too_large}
-use Rattle.kore_prove.specs.Reports.{end_code, report_line, Gets, code_after, Reports}
+use Rattle.kore_prove.specs.Reports.{hints_refused, end_code, report_line, Gets, code_after}
+use Rattle.kore_prove.specs.Reports.{Reports}
 use Rattle.kore_prove.specs.PlainEnds.{fault_end}
 use Rattle.kore_prove.specs.DrillWords.{DrillRequest}
 use Rattle.kore_prove.specs.RunWords.{RunRequest}
+use Rattle.kore_prove.specs.ProveWords.{ProveRequest}
 use Rattle.kore_prove.specs.Courses.{Course}
 use Rattle.kore_prove.specs.CountedFaults.{CountsWriteFault, CountsOutputFault}
 use Rattle.kore_prove.specs.Causes.{StopsWriting, RunCause, run_unread, run_unproved, run_unprinted}
+use Rattle.kore_prove.specs.Causes.{PathCause, path_unread, path_unproved, path_unprinted}
 use Rattle.kore_prove.specs.Causes.{DrillCause, drill_unmade, drill_unproved, drill_unprinted}
 use Rattle.kore_prove.specs.Unwritten.{IsUnwritten}
 use Rattle.kore_prove.specs.FileCauses.{FileCause}
@@ -70,6 +73,7 @@ no_done_code (no_such_file name) code is h = grind arith
 no_done_code (definition_refused number byte) code is h = grind arith
 no_done_code (term_refused number byte) code is h = grind arith
 no_done_code (too_large name) code is h = grind arith
+no_done_code (hints_refused number line) code is h = grind arith
 
 -- the code after a report is the one of the end, or of out of memory
 pub code_reported : (e : Ending) (before after : Option (List ℕ)) (old new code : ℕ)
@@ -166,6 +170,14 @@ run_unwritten asked c e code (run_unproved has stopped same) is un =
 run_unwritten asked c e code (run_unprinted begun stopped) is un =
     stopped_written (CountsOutputFault c) _ e code stopped is un
 
+path_unwritten : (asked : ProveRequest) (c : Course) (e : Ending) (code : ℕ) → PathCause asked c e
+    → code ≡ end_code e → IsUnwritten code → KeepsFiles c.desk.told c.desk'.told
+path_unwritten asked c e code (path_unread cause kept) is un = kept.1
+path_unwritten asked c e code (path_unproved has stopped same) is un =
+    stopped_written (CountsWriteFault c) _ e code stopped is un
+path_unwritten asked c e code (path_unprinted begun stopped) is un =
+    stopped_written (CountsOutputFault c) _ e code stopped is un
+
 drill_unwritten : (asked : DrillRequest) (c : Course) (e : Ending) (code : ℕ)
     → DrillCause asked c e → code ≡ end_code e → IsUnwritten code
     → KeepsFiles c.desk.told c.desk'.told
@@ -181,6 +193,15 @@ pub run_files : (asked : RunRequest) (c : Course) (e : Ending) (before after : O
 run_files asked c e before after old new code r cause un =
     elim (code_reported e before after old new code r) [
       | inl own ↦ run_unwritten asked c e code cause own un
+      | inr one ↦ absurd (un.1 one)
+    ]
+
+pub path_files : (asked : ProveRequest) (c : Course) (e : Ending) (before after : Option (List ℕ))
+    (old new code : ℕ) → Reports e before after old new code → PathCause asked c e
+    → IsUnwritten code → KeepsFiles c.desk.told c.desk'.told
+path_files asked c e before after old new code r cause un =
+    elim (code_reported e before after old new code r) [
+      | inl own ↦ path_unwritten asked c e code cause own un
       | inr one ↦ absurd (un.1 one)
     ]
 

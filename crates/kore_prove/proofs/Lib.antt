@@ -2,6 +2,7 @@ pub mod CommandWords
 pub mod Pieces
 pub mod Ending
 pub mod FileProofs
+pub mod HintWriting
 pub mod Verifying
 pub mod Deciding
 pub mod FewArguments

@@ -406,3 +406,29 @@ path_unsent asked c e f read program path lines is held kept proof others lines_
           (proof_is_front read c.desk'.told asked.proof program path proof);
       others = then_others (IsPathFile asked) c.desk.told read c.desk'.told kept others;
     }
+
+-- after the lines of a path were sent, the file of its proof holds the front of one
+pub sent_front : (asked : ProveRequest) (told told' : Option Told) (before after : Option (List ℕ))
+    → SendsPath Appends asked told told' before after → LeavesPath asked told told'
+sent_front asked told told' before after sent =
+    let last = last_of (result_of sent.first) sent.steps in
+    inr (record {
+      theory = sent.theory;
+      start = sent.start;
+      first = sent.first;
+      steps = sent.steps;
+      path = sent.path;
+      holds = record {
+        bytes = sent.proof.bytes;
+        held = sent.proof.held;
+        front = inr (
+          last,
+          on_last (result_of sent.first) sent.steps,
+          (
+            [],
+            subst (λ (text : List ℕ). IsProofOfRun text sent.theory sent.start
+                (ground_pattern last)) (sym (append-nil sent.proof.bytes)) sent.proof.proves,
+          ),
+        );
+      };
+    })

@@ -1,6 +1,7 @@
 -- From the parts of a run command to its result.
 use Rattle.std.proofs.Common.{◌≡◌, ℕ, inl, inr, List, Option, Some, None, IsSome}
-use Rattle.std.proofs.Common.{subst}
+use Rattle.std.proofs.Common.{[], sym, subst}
+use Rattle.std.proofs.lemmas.List.{append-nil}
 use Rattle.desk_io.specs.Told.{Told, Holds}
 use Rattle.desk_io.specs.KeptFiles.{KeepsFiles, KeepsOthers}
 use Rattle.desk_io.specs.HeldFiles.{TellsNow}
@@ -20,14 +21,16 @@ use Rattle.kore_prove.specs.RunWords.{RunRequest}
 use Rattle.kore_prove.specs.Files.{HoldsStart, HoldsRun}
 use Rattle.kore_prove.specs.ProvedRun.{HasWantedProof}
 use Rattle.kore_prove.specs.RunFronts.{LeavesFront}
-use Rattle.kore_prove.specs.ProofFiles.{HasWantedFront}
+use Rattle.kore_prove.specs.ProofFiles.{HasWantedFront, HasWantedHintFront}
 use Rattle.kore_prove.specs.PrintedRun.{SendsLines}
 use Rattle.kore_prove.specs.Causes.{ReadCause, run_unread, run_unproved, run_unprinted}
 use Rattle.kore_prove.specs.Courses.{Course}
 use Rattle.kore_prove.specs.CountedFaults.{CountsWriteFault, CountsOutputFault}
 use Rattle.kore_prove.specs.PlainEnds.{fault_end}
 use Rattle.kore_prove.specs.Reports.{Ending}
-use Rattle.kore_prove.specs.Requests.{bounds_of, IsWanted}
+use Rattle.kore_prove.specs.HintedRun.{HasWantedHints}
+use Rattle.kore_prove.specs.HintFronts.{LeavesHints}
+use Rattle.kore_prove.specs.Requests.{bounds_of, IsWrittenBy}
 use Rattle.kore_prove.specs.RunsDone.{HasLines, IsRunDone, IsRunEnded}
 use Rattle.kore_prove.proofs.Ending.{stops}
 use Rattle.kore_prove.proofs.FileProofs.{kept_others, then_others, kept_file, then_file}
@@ -111,6 +114,65 @@ proof_is_front (Some file) told told' theory limit calls start run is h =
       front = inr (proof_front theory limit calls start run h.bytes is h.proves);
     })
 
+-- the hints, for the desk before the files were read
+pub hints_kept : (hints : Option (List ℕ)) (told read told' : Option Told) (theory : RewriteTheory)
+    (calls : ℕ) (start : Pattern) (run : Run) → KeepsFiles told read
+    → HasWantedHints hints read told' theory calls start run
+    → HasWantedHints hints told told' theory calls start run
+hints_kept None told read told' theory calls start run kept h = tt
+hints_kept (Some file) told read told' theory calls start run kept h = record {
+  text = h.text;
+  held = told_now told read told' file h.text kept h.held;
+  is_text = h.is_text;
+}
+
+-- the front of the hints, for the desk before the files were read
+pub left_hints : (asked : RunRequest) (told read told' : Option Told) (theory : RewriteTheory)
+    (start : Pattern) → HoldsRun asked told theory start → KeepsFiles told read
+    → HasWantedHintFront asked.hints read told' theory asked.limit asked.calls start
+    → LeavesHints asked told told'
+left_hints asked told read told' theory start held kept h = λ file wanted. (
+    let front : HasWantedHintFront (Some file) read told' theory asked.limit asked.calls start =
+    subst
+    (λ (p : Option (List ℕ)).
+    HasWantedHintFront p read told' theory asked.limit asked.calls start)
+    wanted h in
+    elim front [
+      | inl same ↦ inl (then_file told read told' file kept same)
+      | inr made ↦ inr (record {
+        theory = theory;
+        start = start;
+        of_files = held;
+        holds = record {
+          run = made.run;
+          is_run = made.is_run;
+          text = made.text;
+          is_text = made.is_text;
+          holds = (
+            made.holds.0,
+            made.holds.1,
+            made.holds.2,
+            told_now told read told' file made.holds.0 kept made.holds.3,
+          );
+        };
+      })
+    ])
+
+-- the whole hints of the run are a front of them
+pub hints_are_front : (hints : Option (List ℕ)) (told told' : Option Told) (theory : RewriteTheory)
+    (limit calls : ℕ) (start : Pattern) (run : Run) → IsRunOf theory limit calls start run
+    → HasWantedHints hints told told' theory calls start run
+    → HasWantedHintFront hints told told' theory limit calls start
+hints_are_front None told told' theory limit calls start run is h = tt
+hints_are_front (Some file) told told' theory limit calls start run is h =
+    inr (record {
+      run = run;
+      is_run = is;
+      text = h.text;
+      is_text = h.is_text;
+      holds = (h.text, [], sym (append-nil h.text), h.held);
+    })
+
 -- the lines of the run were sent, or a part of them
 lines_sent : (Grew : Option (List ℕ) → Option (List ℕ) → List ℕ → Type 0) (asked : RunRequest)
     (c : Course) (theory : RewriteTheory) (start : Pattern) (run : Run) (lines : List ℕ)
@@ -129,14 +191,17 @@ pub run_done : (asked : RunRequest) (c : Course) (read : Option Told) (theory : 
     (start : Pattern) (run : Run) (lines : List ℕ) → HoldsRun asked c.desk.told theory start
     → KeepsFiles c.desk.told read → HasLines (bounds_of asked) theory start run lines
     → HasWantedProof asked.proof read c.desk'.told theory start run
-    → KeepsOthers (IsWanted asked) read c.desk'.told → Appends c.out.bytes c.out'.bytes lines
+    → HasWantedHints asked.hints read c.desk'.told theory asked.calls start run
+    → KeepsOthers (IsWrittenBy asked) read c.desk'.told → Appends c.out.bytes c.out'.bytes lines
     → IsRunDone asked c run
-run_done asked c read theory start run lines held kept h proof others grew = record {
+run_done asked c read theory start run lines held kept h proof hints others grew = record {
   theory = theory;
   start = start;
   printed = lines_sent Appends asked c theory start run lines held h grew;
   proof = proof_kept asked.proof c.desk.told read c.desk'.told theory start run kept proof;
-  others = then_others (IsWanted asked) c.desk.told read c.desk'.told kept others;
+  hints =
+      hints_kept asked.hints c.desk.told read c.desk'.told theory asked.calls start run kept hints;
+  others = then_others (IsWrittenBy asked) c.desk.told read c.desk'.told kept others;
 }
 
 -- the files do not give a run
@@ -147,7 +212,8 @@ pub read_ended : (asked : RunRequest) (c : Course) (e : Ending)
 read_ended asked c e same cause kept = record {
   cause = run_unread cause (same, kept);
   front = λ file wanted. inl (kept_file c.desk.told c.desk'.told file kept);
-  others = kept_others (IsWanted asked) c.desk.told c.desk'.told kept;
+  hint_front = λ file wanted. inl (kept_file c.desk.told c.desk'.told file kept);
+  others = kept_others (IsWrittenBy asked) c.desk.told c.desk'.told kept;
 }
 
 -- the run was not proved
@@ -155,13 +221,15 @@ pub proof_ended : (asked : RunRequest) (c : Course) (e : Ending) (f : DeskFault)
     (read : Option Told) (theory : RewriteTheory) (start : Pattern) → e ≡ fault_end f
     → HoldsRun asked c.desk.told theory start → KeepsFiles c.desk.told read
     → HasWantedFront asked.proof read c.desk'.told theory asked.limit asked.calls start
-    → KeepsOthers (IsWanted asked) read c.desk'.told
+    → HasWantedHintFront asked.hints read c.desk'.told theory asked.limit asked.calls start
+    → KeepsOthers (IsWrittenBy asked) read c.desk'.told
     → (f ≡ fault.Failed → CountsWriteFault c)
     → SameBytes c.out.bytes c.out'.bytes → IsRunEnded asked c e
-proof_ended asked c e f read theory start is held kept front others rose same = record {
+proof_ended asked c e f read theory start is held kept front hints others rose same = record {
   cause = run_unproved (theory, start, held) (stops f e (CountsWriteFault c) is rose) same;
   front = left_front asked c.desk.told read c.desk'.told theory start held kept front;
-  others = then_others (IsWanted asked) c.desk.told read c.desk'.told kept others;
+  hint_front = left_hints asked c.desk.told read c.desk'.told theory start held kept hints;
+  others = then_others (IsWrittenBy asked) c.desk.told read c.desk'.told kept others;
 }
 
 -- the lines of the run were not sent as a whole
@@ -170,10 +238,11 @@ pub lines_ended : (asked : RunRequest) (c : Course) (e : Ending) (f : DeskFault)
     → e ≡ fault_end f → HoldsRun asked c.desk.told theory start → KeepsFiles c.desk.told read
     → HasLines (bounds_of asked) theory start run lines
     → HasWantedProof asked.proof read c.desk'.told theory start run
-    → KeepsOthers (IsWanted asked) read c.desk'.told
+    → HasWantedHints asked.hints read c.desk'.told theory asked.calls start run
+    → KeepsOthers (IsWrittenBy asked) read c.desk'.told
     → (f ≡ fault.Failed → CountsOutputFault c)
     → AppendsFront c.out.bytes c.out'.bytes lines → IsRunEnded asked c e
-lines_ended asked c e f read theory start run lines is held kept h proof others rose grew =
+lines_ended asked c e f read theory start run lines is held kept h proof hints others rose grew =
     record {
       cause =
           run_unprinted (record {
@@ -183,12 +252,19 @@ lines_ended asked c e f read theory start run lines is held kept h proof others 
             begun = lines_sent AppendsFront asked c theory start run lines held h grew;
             proof =
                 proof_kept asked.proof c.desk.told read c.desk'.told theory start run kept proof;
+            hints =
+                hints_kept asked.hints c.desk.told read c.desk'.told theory asked.calls start run
+                kept hints;
           }) (stops f e (CountsOutputFault c) is rose);
       front =
           left_front asked c.desk.told read c.desk'.told theory start held kept
           (proof_is_front asked.proof read c.desk'.told theory asked.limit asked.calls start run
           h.is_run proof);
-      others = then_others (IsWanted asked) c.desk.told read c.desk'.told kept others;
+      hint_front =
+          left_hints asked c.desk.told read c.desk'.told theory start held kept
+          (hints_are_front asked.hints read c.desk'.told theory asked.limit asked.calls start run
+          h.is_run hints);
+      others = then_others (IsWrittenBy asked) c.desk.told read c.desk'.told kept others;
     }
 
 -- a count of faults in writing, compared with the count before the files were read

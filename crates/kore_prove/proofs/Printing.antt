@@ -5,21 +5,24 @@ use Rattle.kore_prove.specs.DrillWords.{DrillRequest, IsDrill}
 use Rattle.kore_prove.specs.RunWords.{RunRequest, IsRun}
 use Rattle.kore_prove.specs.VerifyWords.{IsVerify}
 use Rattle.kore_prove.specs.CheckWords.{CheckRequest, IsCheck}
+use Rattle.kore_prove.specs.ProveWords.{ProveRequest, IsProve}
 use Rattle.kore_prove.specs.Courses.{Call}
 use Rattle.kore_prove.specs.CountedFaults.{CountsWriteFault, CountsOutputFault}
 use Rattle.kore_prove.specs.BegunLines.{Begins, begins_run, begins_verdict, begins_check}
-use Rattle.kore_prove.specs.BegunLines.{begins_drill}
+use Rattle.kore_prove.specs.BegunLines.{begins_path, begins_drill}
 use Rattle.kore_prove.specs.BegunLines.{StopsPrinting, FailsInPrinting}
 use Rattle.kore_prove.specs.Reports.{Ending, out_of_memory, bad_words, read_fault, write_fault}
 use Rattle.kore_prove.specs.Reports.{no_such_file, definition_refused, term_refused, too_large}
-use Rattle.kore_prove.specs.Reports.{end_code, Reports}
+use Rattle.kore_prove.specs.Reports.{hints_refused, end_code, Reports}
 use Rattle.kore_prove.specs.Causes.{RunCause, run_unread, run_unproved, run_unprinted}
 use Rattle.kore_prove.specs.Causes.{VerifyCause, file_unverified, verdict_unprinted}
 use Rattle.kore_prove.specs.Causes.{CheckCause, check_undecided, check_unprinted}
+use Rattle.kore_prove.specs.Causes.{PathCause, path_unread, path_unproved, path_unprinted}
 use Rattle.kore_prove.specs.Causes.{DrillCause, drill_unmade, drill_unproved, drill_unprinted}
 use Rattle.kore_prove.specs.Causes.{HasCause, without_memory, with_bad_words}
-use Rattle.kore_prove.specs.Causes.{of_run, of_verify, of_check, of_drill, StopsWriting}
-use Rattle.kore_prove.specs.Causes.{IsDone, run_done, verify_done, check_done, drill_done}
+use Rattle.kore_prove.specs.Causes.{of_run, of_verify, of_check, of_prove, of_drill, StopsWriting}
+use Rattle.kore_prove.specs.Causes.{IsDone, run_done, verify_done, check_done, prove_done}
+use Rattle.kore_prove.specs.Causes.{drill_done}
 use Rattle.kore_prove.proofs.Ending.{code_reported}
 
 -- the output at each end
@@ -43,6 +46,12 @@ check_output : (c : Call) (asked : CheckRequest) (e : Ending) → IsCheck c.word
 check_output c asked e command (check_undecided h kept) = inl kept.0
 check_output c asked e command (check_unprinted begun stopped) = inr (begins_check command begun)
 
+path_output : (c : Call) (asked : ProveRequest) (e : Ending) → IsProve c.words asked
+    → PathCause asked c.course e → SameOr c
+path_output c asked e command (path_unread h kept) = inl kept.0
+path_output c asked e command (path_unproved has stopped same) = inl same
+path_output c asked e command (path_unprinted begun stopped) = inr (begins_path command begun)
+
 drill_output : (c : Call) (asked : DrillRequest) (e : Ending) → IsDrill c.words asked
     → DrillCause asked c.course e → SameOr c
 drill_output c asked e command (drill_unmade memory kept) = inl kept.0
@@ -55,6 +64,7 @@ output_at c bad_words (with_bad_words bad kept) = inl kept.0
 output_at c e (of_run {asked = asked} command cause) = run_output c asked e command cause
 output_at c e (of_verify {file = file} command cause) = verify_output c file e command cause
 output_at c e (of_check {asked = asked} command cause) = check_output c asked e command cause
+output_at c e (of_prove {asked = asked} command cause) = path_output c asked e command cause
 output_at c e (of_drill {asked = asked} command cause) = drill_output c asked e command cause
 
 -- a call that printed its lines has another code
@@ -62,10 +72,12 @@ not_stopped : (words : List (List ℕ)) (code : ℕ) → (code ≡ 1) ⊎ (code 
 not_stopped words code (inl one) (run_done command h) = grind arith
 not_stopped words code (inl one) (verify_done command h) = grind arith
 not_stopped words code (inl one) (check_done command h) = grind arith
+not_stopped words code (inl one) (prove_done command h) = grind arith
 not_stopped words code (inl one) (drill_done command h) = grind arith
 not_stopped words code (inr four) (run_done command h) = grind arith
 not_stopped words code (inr four) (verify_done command h) = grind arith
 not_stopped words code (inr four) (check_done command h) = grind arith
+not_stopped words code (inr four) (prove_done command h) = grind arith
 not_stopped words code (inr four) (drill_done command h) = grind arith
 
 pub stopped_never : (c : Call) (code : ℕ) → IsDone c.words code → StopsPrinting c code
@@ -87,6 +99,7 @@ fault_of_four (no_such_file name) is = absurd (omega (arith, is))
 fault_of_four (definition_refused number byte) is = absurd (omega (arith, is))
 fault_of_four (term_refused number byte) is = absurd (omega (arith, is))
 fault_of_four (too_large name) is = absurd (omega (arith, is))
+fault_of_four (hints_refused number line) is = absurd (omega (arith, is))
 
 -- the output counted a fault, and got a part of the lines
 abbrev pub FailsAt : Call → Type 0
@@ -116,6 +129,14 @@ check_failed c asked command (check_undecided h kept) = absurd h
 check_failed c asked command (check_unprinted begun stopped) =
     (counted (CountsOutputFault c.course) stopped, begins_check command begun)
 
+path_failed : (c : Call) (asked : ProveRequest) → IsProve c.words asked
+    → PathCause asked c.course write_fault → (CountsWriteFault c.course → ⊥) → FailsAt c
+path_failed c asked command (path_unread h kept) free = absurd h
+path_failed c asked command (path_unproved has stopped same) free =
+    absurd (free (counted (CountsWriteFault c.course) stopped))
+path_failed c asked command (path_unprinted begun stopped) free =
+    (counted (CountsOutputFault c.course) stopped, begins_path command begun)
+
 drill_failed : (c : Call) (asked : DrillRequest) → IsDrill c.words asked
     → DrillCause asked c.course write_fault → (CountsWriteFault c.course → ⊥) → FailsAt c
 drill_failed c asked command (drill_unmade memory kept) free =
@@ -137,6 +158,9 @@ failed_at c e is (of_verify {file = file} command cause) free =
     verify_failed c file command (subst (λ (end : Ending). VerifyCause file c.course end) is cause)
 failed_at c e is (of_check {asked = asked} command cause) free =
     check_failed c asked command (subst (λ (end : Ending). CheckCause asked c.course end) is cause)
+failed_at c e is (of_prove {asked = asked} command cause) free =
+    path_failed c asked command (subst (λ (end : Ending). PathCause asked c.course end) is cause)
+    free
 failed_at c e is (of_drill {asked = asked} command cause) free =
     drill_failed c asked command (subst (λ (end : Ending). DrillCause asked c.course end) is cause)
     free

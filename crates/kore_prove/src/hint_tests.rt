@@ -6,7 +6,8 @@ use std::alloc::{AllocError, Global};
 use std::test::Fail;
 
 /// A definition with one rule, whose axiom is at byte 98.
-const ONE_RULE: &str = r#"[] module M sort S{} [] symbol a{}() : S{} [constructor{}()] symbol b{}() : S{} [constructor{}()] axiom{} \rewrites{S{}}(a{}(),b{}()) [] endmodule []"#;
+const ONE_RULE: &str =
+    r#"[] module M sort S{} [] symbol a{}() : S{} [constructor{}()] symbol b{}() : S{} [constructor{}()] axiom{} \rewrites{S{}}(a{}(),b{}()) [] endmodule []"#;
 
 /// Functions of one call each, in the right sides of the rules at bytes 283 and 322.
 const COUNTED: &str = r#"[] module M sort S{} [] symbol a{}() : S{} [constructor{}()]
@@ -54,7 +55,14 @@ static WRITTEN: [(Case<'static>, &str); 6] = [
     (HINTS, "kore-hints 1\na{}()\n98 b{}()\n"),
     (
         Case {
-            words: &["run", "d.kore", "t.kore", "--limit=5", "--hints=h", "--proof=p.mm"],
+            words: &[
+                "run",
+                "d.kore",
+                "t.kore",
+                "--limit=5",
+                "--hints=h",
+                "--proof=p.mm",
+            ],
             definition: TWO_STEPS,
             out: "stuck 2\nc{}()\n",
             ..BASE
@@ -135,7 +143,9 @@ static PATHS: [Case<'static>; 6] = [
         ..PROVES_PATH
     },
     Case {
-        words: &["prove", "d.kore", "t.kore", "--proof", "p.mm", "--calls", "2"],
+        words: &[
+            "prove", "d.kore", "t.kore", "--proof", "p.mm", "--calls", "2",
+        ],
         definition: COUNTED,
         term: "kore-hints 1\na{}()\n283 b{}()\n322 c{}()\n",
         out: "proved 2\nc{}()\n",
@@ -150,7 +160,11 @@ fn a_path_is_proved(rt: HostRuntime) -> Result<(), Fail> {
         let (desk, holds) = call(rt.alloc(), case)?;
         assert!(rt; holds, "{}", case.out);
         let proof = desk.file("p.mm").unwrap_or_default();
-        assert!(rt; is_justified(rt.alloc(), case.definition, proof)?, "{}", case.out);
+        assert!(rt;
+            is_justified(rt.alloc(), case.definition, proof)?,
+            "{}",
+            case.out
+        );
     }
     Ok(())
 }
@@ -240,14 +254,18 @@ static STEPS: [Case<'static>; 10] = [
         ..REFUSED
     },
     Case {
-        words: &["prove", "d.kore", "t.kore", "--proof", "p.mm", "--calls", "1"],
+        words: &[
+            "prove", "d.kore", "t.kore", "--proof", "p.mm", "--calls", "1",
+        ],
         definition: COUNTED,
         term: "kore-hints 1\na{}()\n283 b{}()\n322 c{}()\n",
         err: "kore_prove: hints refused 4 at line 4\n",
         ..REFUSED
     },
     Case {
-        words: &["prove", "d.kore", "t.kore", "--proof", "p.mm", "--calls", "0"],
+        words: &[
+            "prove", "d.kore", "t.kore", "--proof", "p.mm", "--calls", "0",
+        ],
         definition: COUNTED,
         term: "kore-hints 1\na{}()\n283 b{}()\n322 c{}()\n",
         err: "kore_prove: hints refused 4 at line 3\n",
@@ -285,7 +303,15 @@ fn the_first_bad_line_is_told(rt: HostRuntime) -> Result<(), Fail> {
 /// Words and files that are refused before the hints are checked, and output that fails.
 static OTHERWISE: [Case<'static>; 6] = [
     Case {
-        words: &["run", "d.kore", "t.kore", "--limit=5", "--hints=h", "--proof", "h"],
+        words: &[
+            "run",
+            "d.kore",
+            "t.kore",
+            "--limit=5",
+            "--hints=h",
+            "--proof",
+            "h",
+        ],
         code: 2,
         err: "kore_prove: bad words\n",
         ..BASE
@@ -375,6 +401,8 @@ fn failing_desk(alloc: Global, case: &Case<'_>, number: u64) -> Result<Left, All
 fn has_fronts(left: &Left, whole: &Left) -> bool {
     ["h", "p.mm"].into_iter().all(|name| {
         let all = whole.desk.file(name).unwrap_or_default();
-        left.desk.file(name).is_none_or(|bytes| all.starts_with(bytes))
+        left.desk
+            .file(name)
+            .is_none_or(|bytes| all.starts_with(bytes))
     })
 }

@@ -1,6 +1,6 @@
 // The file of the hints of a run.
 ghost use Rattle.std.specs.Prelude.{◌≡◌, ◌≤◌, ◌⊎◌, Some, IsFalse, OnOk, OnErr, IsErrOf};
-ghost use Rattle.std.specs.Prelude.{option_copied};
+ghost use Rattle.std.specs.Prelude.{[], option_copied, option_map};
 ghost use Rattle.desk_io.specs.Counts.{CountRose};
 ghost use Rattle.desk_io.specs.HeldFiles.{TellsNow};
 ghost use Rattle.desk_io.specs.KeptFiles.{KeepsFile, KeepsOthers};
@@ -10,6 +10,17 @@ ghost use Rattle.kore_prove.specs.HintFronts.{HoldsFrontOf};
 
 use desk_io::{Desk, DeskFault, write_whole};
 use hint_file::Hints;
+use std::alloc::Global;
+
+/// Hints without a text yet, which are wanted if a file for them is named.
+pub fn hints_for(alloc: Global, file: Option<&str>) -> Hints
+    ensures { text_so_far result ≡ option_map (λ _. []) (option_copied file.entry) }
+{
+    match file {
+        Some(_) => Hints::wanted(alloc),
+        None => Hints::unwanted(),
+    }
+}
 
 /// Writes the text of the hints to the file of this name, if both are there.
 ///

@@ -16,7 +16,7 @@ ghost use Rattle.kore_prove.specs.Runnable.{IsRunnable};
 ghost use Rattle.kore_prove.specs.RunsDone.{HasLines};
 
 use crate::files::Accepted;
-use crate::hint_writing::write_hints;
+use crate::hint_writing::{hints_for, write_hints};
 use crate::running::{Bounds, Proved, lines_of_run, proved_lines_of_run};
 use command_words::RunWords;
 use desk_io::{Desk, DeskFault};
@@ -66,10 +66,7 @@ pub fn made_lines<D: Desk>(
     ensures created { D.created desk.new ≡ D.created desk.old }
     ensures reads { (D.state desk.new).read_faults ≡ (D.state desk.old).read_faults }
 {
-    let mut hints = match asked.hints {
-        Some(_) => Hints::wanted(alloc),
-        None => Hints::unwanted(),
-    };
+    let mut hints = hints_for(alloc, asked.hints);
     let made = made_run(alloc, desk, accepted, asked, &mut hints)?;
     match write_hints(desk, asked.hints, &hints) {
         Ok(()) => Ok(made),

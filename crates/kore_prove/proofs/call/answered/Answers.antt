@@ -3,23 +3,24 @@ use Rattle.std.specs.Prelude.{Err}
 use Rattle.command_words.specs.declared.commands.WordsEnd.{WordsEnd}
 use Rattle.run_loop.specs.RunEnds.{plain_run}
 use Rattle.kore_prove.specs.PlainEnds.{plain_end}
-use Rattle.kore_prove.specs.Requests.{request, check_request, drill_request}
+use Rattle.kore_prove.specs.Requests.{request, check_request, drill_request, prove_request}
 use Rattle.kore_prove.proofs.Ending.{same_bytes, same_files}
 use Rattle.kore_prove.proofs.Answering.{run_answered, run_ended, verify_answered, verify_ended}
 use Rattle.kore_prove.proofs.Answering.{check_answered, check_ended, drill_answered, drill_ended}
-use Rattle.kore_prove.proofs.Answering.{bad_answered, memory_answered}
+use Rattle.kore_prove.proofs.Answering.{bad_answered, memory_answered, prove_answered}
+use Rattle.kore_prove.proofs.Answering.{prove_ended}
 use Rattle.kore_prove.proofs.call.answered.Goals as goal
 
 pub returns-in-Ok-run_command-clause-answered : goal.returns-in-Ok-run_command-clause-answered
 returns-in-Ok-run_command-clause-answered g c =
     run_answered _ _ (request c.in-Run.asked) (plain_run c.in-Ok-run_command.end)
-    (rw c.in-Run.is at c.in-Ok.ensures.asked) c.in-Ok-run_command.ensures.done
+    (rw c.in-Run.is at c.in-Ok.ensures.asked).0 c.in-Ok-run_command.ensures.done
     c.exit_code.ensures (same_bytes _)
 
 pub returns-in-Err-run_command-clause-answered : goal.returns-in-Err-run_command-clause-answered
 returns-in-Err-run_command-clause-answered g c =
     run_ended _ _ (request c.in-Run.asked) (plain_end c.in-Err-run_command.end)
-    (rw c.in-Run.is at c.in-Ok.ensures.asked) c.in-Err-run_command.ensures.ended
+    (rw c.in-Run.is at c.in-Ok.ensures.asked).0 c.in-Err-run_command.ensures.ended
     c.report.ensures
 
 pub returns-in-Ok-verify_command-clause-answered : goal.returns-in-Ok-verify_command-clause-answered
@@ -48,6 +49,18 @@ returns-in-Err-check_command-clause-answered g c =
     check_ended _ _ (check_request c.in-Check.asked) (plain_end c.in-Err-check_command.end)
     (rw c.in-Check.is at c.in-Ok.ensures.asked) c.in-Err-check_command.ensures.cause
     c.check_command.ensures.files c.report-in-Err-check_command.ensures
+
+pub returns-in-Ok-prove_command-clause-answered : goal.returns-in-Ok-prove_command-clause-answered
+returns-in-Ok-prove_command-clause-answered g c =
+    prove_answered _ _ (prove_request c.in-Prove.asked)
+    (rw c.in-Prove.is at c.in-Ok.ensures.asked) c.in-Ok-prove_command.ensures.done refl
+    (same_bytes _)
+
+pub returns-in-Err-prove_command-clause-answered : goal.returns-in-Err-prove_command-clause-answered
+returns-in-Err-prove_command-clause-answered g c =
+    prove_ended _ _ (prove_request c.in-Prove.asked) (plain_end c.in-Err-prove_command.end)
+    (rw c.in-Prove.is at c.in-Ok.ensures.asked) c.in-Err-prove_command.ensures.ended
+    c.report-in-Err-prove_command.ensures
 
 pub returns-in-Ok-drill_command-clause-answered : goal.returns-in-Ok-drill_command-clause-answered
 returns-in-Ok-drill_command-clause-answered g c =

@@ -21,7 +21,8 @@ returns-in-Err-made_lines-clause-ended g c =
     (g.D.Desk.state c.read_run.new.desk).told (theory_of c.in-Ok.accepted.program)
     (plain_pattern c.in-Ok.accepted.start)
     c.write_end.ensures c.in-Ok.ensures.found c.in-Ok.ensures.files
-    c.in-Err-made_lines.ensures.front c.in-Err-made_lines.ensures.files
+    c.in-Err-made_lines.ensures.front c.in-Err-made_lines.ensures.hint_front
+    c.in-Err-made_lines.ensures.files
     (λ is. rose_files _ _ _ c.in-Ok.ensures.writes
     (c.in-Err-made_lines.ensures.failed (ap (λ (f : DeskFault). Err f) is)))
     (same_bytes (g.O.Sink.state c.args.out.now).bytes)
@@ -32,7 +33,8 @@ returns-in-Ok-send_whole-clause-done g c =
     (theory_of c.in-Ok.accepted.program) (plain_pattern c.in-Ok.accepted.start)
     (plain_run c.in-Ok-made_lines.made.0) c.in-Ok-made_lines.made.1.items
     c.in-Ok.ensures.found c.in-Ok.ensures.files c.in-Ok-made_lines.ensures.run
-    c.in-Ok-made_lines.ensures.proof c.in-Ok-made_lines.ensures.files
+    c.in-Ok-made_lines.ensures.proof c.in-Ok-made_lines.ensures.hints
+    c.in-Ok-made_lines.ensures.files
     (rw (← c.deref.ensures.value) c.in-Ok-send_whole.ensures.sent)
 
 pub returns-clause-ended : goal.returns-clause-ended
@@ -43,6 +45,6 @@ returns-clause-ended g c =
     c.in-Ok-made_lines.made.1.items
     c.write_end-in-Err-send_whole.ensures c.in-Ok.ensures.found c.in-Ok.ensures.files
     c.in-Ok-made_lines.ensures.run c.in-Ok-made_lines.ensures.proof
-    c.in-Ok-made_lines.ensures.files
+    c.in-Ok-made_lines.ensures.hints c.in-Ok-made_lines.ensures.files
     (λ is. c.in-Err-send_whole.ensures.failed (ap (λ (f : DeskFault). Err f) is))
     (rw (← c.deref.ensures.value) c.in-Err-send_whole.ensures.prefix)

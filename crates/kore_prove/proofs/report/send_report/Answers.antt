@@ -27,3 +27,7 @@ returns-in-TermRefused-clause-sent g c =
 
 pub returns-in-TooLarge-clause-sent : goal.returns-in-TooLarge-clause-sent
 returns-in-TooLarge-clause-sent g c = rw c.in-TooLarge.is c.send_pieces-in-TooLarge.ensures.sent
+
+pub returns-in-HintsRefused-clause-sent : goal.returns-in-HintsRefused-clause-sent
+returns-in-HintsRefused-clause-sent g c =
+    rw c.in-HintsRefused.is c.send_hint_refusal.ensures.sent
