@@ -1,4 +1,4 @@
-use Rattle.std.proofs.Common.{ℕ, Result, Ok, Err, IfOk, rules, subst}
+use Rattle.std.proofs.Common.{◌≡◌, ℕ, Result, Ok, Err, IfOk, rules, sym, subst}
 use Rattle.term_core.specs.RulePatterns.{plain_pattern}
 use Rattle.rule_core.specs.ProgramView.{theory_of}
 use Rattle.rule_core.specs.RunView.{cause_of}
@@ -11,9 +11,11 @@ use Rattle.hint_file.specs.RunTexts.{AddsHintTextOf, AddsText}
 use Rattle.prove_run.proofs.FileLaws.{on_err}
 use Rattle.prove_run.specs.WrittenProofs.{WritesFrontOfProof}
 use Rattle.run_loop.specs.RunEnds.{plain_run}
+use Rattle.run_loop.specs.declared.ends.RunEnd.{RunEnd}
+use Rattle.run_loop.specs.declared.ends.RunEnd.TheVariants as end
 use Rattle.run_proof.specs.OpenProofs.{WritesFrontOfRun}
 use Rattle.run_proof.specs.RunHints.{AddsStepsOf}
-use Rattle.run_proof.proofs.LineLaws.{hints_whole}
+use Rattle.run_proof.proofs.LineLaws.{hints_unstarted, hints_whole}
 use Rattle.run_proof.proofs.StepLaws.{front_of_run, none_of_run, on_err_more}
 use Rattle.run_proof.proofs.proved.run_with_proof.Goals as goal
 
@@ -55,6 +57,22 @@ returns-in-Ok-clause-hints g c =
     c.started.new.hints) c.started.result
     (λ r h. hints_whole theory start c.args.calls (plain_run r.0) c.args.hints.now c.start.new.self
     c.started.new.hints first (h c.args.calls c.in-Ok.ensures.starts)) c.started.ensures.hints
+
+-- lines 1 and 2 alone
+pub returns-in-Err-Blocked-clause-hints : goal.returns-in-Err-Blocked-clause-hints
+returns-in-Err-Blocked-clause-hints g c =
+    let theory = theory_of c.args.engine.now in
+    let start = plain_pattern c.args.start.now in
+    let first : AddsText (first_lines theory.sig start) c.args.hints.now c.start.new.self =
+    subst (λ (p : Program). AddsText (first_lines p.sig start) c.args.hints.now c.start.new.self)
+    c.program.ensures.program c.in_ok-start.ensures in
+    if_ok (λ r. r.0 ≡ end.Unstarted c.in-Err-Blocked.why)
+    (λ r. AddsHintTextOf theory c.args.calls start (plain_run r.0) c.args.hints.now
+    c.start.new.self) c.unstarted.result
+    (λ r is. subst (λ (e : RunEnd). AddsHintTextOf theory c.args.calls start (plain_run e)
+    c.args.hints.now c.start.new.self) (sym is)
+    (hints_unstarted theory start c.args.calls (cause_of c.in-Err-Blocked.why) c.args.hints.now
+    c.start.new.self first)) c.unstarted.ensures.end
 
 pub returns-in-Ok-clause-front : goal.returns-in-Ok-clause-front
 returns-in-Ok-clause-front g c =
