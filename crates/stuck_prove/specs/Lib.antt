@@ -1,0 +1,5 @@
+-- Public: what public clauses say.
+pub mod NotMet
+-- Private: what clauses of private functions cite.
+pub mod Trials
+pub mod Settings

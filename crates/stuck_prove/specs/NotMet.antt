@@ -1,0 +1,34 @@
+-- What it says that a configuration does not meet a rewrite rule. If a configuration meets none of
+-- the rules, no rule applies to it.
+use Rattle.std.specs.Prelude.{◌≡◌, [], List, Some}
+use Rattle.std.specs.List.{AllZip}
+use Rattle.ml_kernel.specs.Theorems.{Theorem}
+use Rattle.term_core.specs.Terms.{Tree}
+use Rattle.term_core.specs.Patterns.{ground_pattern}
+use Rattle.rule_core.specs.Rules.{RewriteRule}
+use Rattle.ml_image.specs.NamedSides.{left_sentence, of_child}
+use Rattle.ml_image.specs.Premises.{condition_sentence}
+use Rattle.ml_image.specs.Sentences.{Sentence, term, not, and, for_some, sentence_image}
+use Rattle.prove_term.specs.Contexts.{Context, StaysIn}
+
+-- the configuration is an instance of the rule's left side, and the condition c of the rule holds
+abbrev pub meets_body : RewriteRule → Sentence → Tree → Sentence
+meets_body r c t =
+    and (and (term (ground_pattern t)) (left_sentence (of_child 0 r.names) r.left)) c
+
+-- this is so for no values of the rule's variables
+abbrev pub not_met : RewriteRule → Sentence → Tree → Sentence
+not_met r c t = not (for_some 0 r.variables (meets_body r c t))
+
+-- The theorem says that the configuration does not meet the rule. It has no hypotheses, and uses
+-- only what the context has.
+pub record SaysNotMet (cx : Context) (t : Tree) (r : RewriteRule) (thm : Theorem) : Type 0 where
+  pub condition : Sentence
+  pub is_condition : condition_sentence cx.program.sig r.variables r.condition ≡ Some condition
+  pub says : sentence_image cx.program.sig cx.names (not_met r condition t) ≡ Some thm.conclusion
+  pub no_hypotheses : thm.hypotheses ≡ []
+  pub stays : StaysIn cx thm
+
+-- each theorem says this of the rule at its place, and there are as many as rules
+abbrev pub SayNoneMet : Context → Tree → List RewriteRule → List Theorem → Type 0
+SayNoneMet cx t rules thms = AllZip (SaysNotMet cx t) rules thms
