@@ -6,6 +6,7 @@ use Rattle.ml_kernel.specs.Theorems.{Theorem}
 use Rattle.term_core.specs.RulePatterns.{sort_numbers}
 use Rattle.term_core.specs.Terms.{Tree}
 use Rattle.rule_core.specs.Rules.{RewriteRule}
+use Rattle.rule_core.specs.Sorting.{AreSorts}
 use Rattle.ml_image.specs.Premises.{condition_sentence}
 use Rattle.ml_image.specs.Sentences.{Sentence, bottom, sentence_image}
 use Rattle.prove_term.specs.Contexts.{Context, StaysIn}
@@ -22,6 +23,7 @@ down_from (suc n) = n ∷ down_from n
 -- the hypothesis is on the variables of the rule, the last one first, and the condition is its own
 pub record IsSettingOf (cx : Context) (rule : RewriteRule) (s : Setting) : Type 0 where
   pub sorts : sort_numbers s.sorts.items ≡ rule.variables
+  pub are_sorts : AreSorts cx.program.sig rule.variables
   pub given : IsGiven cx rule.variables s.given
   pub hypothesis : sentence_image cx.program.sig cx.names
       (all_sorted rule.variables (down_from (length rule.variables))) ≡ Some s.given.hypothesis

@@ -4,7 +4,7 @@
 // is an instance of the rule's left side and the rule's condition holds (specs/NotMet.antt). Either
 // the left side does not match the configuration, or it matches and the condition is not true. The
 // conditions are evaluated again, in the order of trial.
-#![tactic(auto, using(refute::proofs::Growing::growing))]
+#![tactic(auto, using(prove_fun::proofs::KeptLaws::growing))]
 
 mod bodies;
 mod conditions;
