@@ -262,7 +262,7 @@ def guards(n):
     """An equation of the last resort with n guards, each of which repeats the function's only other equation."""
     given = "\\and{{R}}(\\in{{T{{}},R}}(X0:T{{}},{}),\\top{{R}}())"
     guard = f"\\and{{R}}(\\top{{R}}(),{given.format(A)})"
-    denied = f"\\or{{R}}({guard}," * n + "\\bottom{R}()" + ")" * n
+    denied = "\\or{R}(" + f"{guard}," * n + "\\bottom{R}())"
     left = f"\\and{{R}}(\\not{{R}}({denied}),\\and{{R}}(\\top{{R}}(),{given.format('V:T{}')}))"
     right = "\\equals{T{},R}(f{}(X0:T{}),\\and{T{}}(c{}(),\\top{T{}}()))"
     last = f"axiom{{R}} \\implies{{R}}({left},{right}) [owise{{}}()]"
