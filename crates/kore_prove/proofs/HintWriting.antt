@@ -14,7 +14,7 @@ use Rattle.rule_core.specs.Runs.{Run, IsRunOf}
 use Rattle.rule_core.specs.Theories.{RewriteTheory}
 use Rattle.hint_file.specs.RunTexts.{AddsHintTextOf, Grows, IsHintTextOf, text_so_far}
 use Rattle.hint_file.specs.declared.hints.Hints.{Hints}
-use Rattle.kore_prove.specs.HintFiles.{MayHoldText}
+use Rattle.kore_prove.specs.WrittenHints.{MayHoldText}
 use Rattle.kore_prove.specs.HintFronts.{HoldsFrontOf}
 use Rattle.kore_prove.specs.ProofFiles.{HasWantedHintFront}
 use Rattle.kore_prove.specs.ProvedRun.{HasWantedProof}

@@ -50,7 +50,7 @@ use Rattle.kore_prove.specs.Courses.{Course}
 use Rattle.kore_prove.specs.FileCauses.{UnreadCause, UnreadEnding, DefinitionEnding}
 use Rattle.kore_prove.specs.Files.{HoldsProgram}
 use Rattle.kore_prove.specs.PathFiles.{hints_limit, HoldsPath}
-use Rattle.kore_prove.specs.PathsRead.{HintsEnding, HoldsHints, HoldsProofOf, MayHoldFrontOf}
+use Rattle.kore_prove.specs.PathsRead.{HintsEnding, ListsPath, HoldsProofOf, MayHoldFrontOf}
 use Rattle.kore_prove.specs.PlainEnds.{fault_end}
 use Rattle.kore_prove.specs.ProvedPath.{LeavesPath, path_lines, SendsPath}
 use Rattle.kore_prove.specs.ProveWords.{ProveRequest}
@@ -273,7 +273,7 @@ proof_is_front told told' file program path h =
 -- the files of the request list the path
 pub path_held : (asked : ProveRequest) (told between : Option Told) (program : Program)
     (path : HintPath) → HoldsProgram told asked.definition (theory_of program) (top_of program)
-    → KeepsFiles told between → HoldsHints between asked program path
+    → KeepsFiles told between → ListsPath between asked program path
     → HoldsPath told asked (theory_of program) (plain_pattern path.start)
     (plain_record path.first) (steps_of path)
 path_held asked told between program path held kept h = record {

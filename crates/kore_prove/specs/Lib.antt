@@ -41,5 +41,5 @@ pub mod FileCauses
 pub mod DatabaseVerdicts
 pub mod Decisions
 pub mod ProofFiles
-pub mod HintFiles
+pub mod WrittenHints
 pub mod PathsRead

@@ -18,7 +18,7 @@ use Rattle.kore_prove.specs.ProvedPath.{HoldsPathFront, HoldsPathProof}
 use Rattle.kore_prove.specs.Reports.{Ending, hints_refused}
 
 -- the file of the hints is within its limit, and lists this path over the program
-pub record HoldsHints (told : Option Told) (asked : ProveRequest) (program : Program)
+pub record ListsPath (told : Option Told) (asked : ProveRequest) (program : Program)
     (path : HintPath) : Type 0 where
   pub bytes : List ℕ
   pub held : HoldsWithin told asked.hints hints_limit bytes

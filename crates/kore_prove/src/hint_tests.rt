@@ -6,8 +6,8 @@ use std::alloc::{AllocError, Global};
 use std::test::Fail;
 
 /// A definition with one rule, whose axiom is at byte 98.
-const ONE_RULE: &str =
-    r#"[] module M sort S{} [] symbol a{}() : S{} [constructor{}()] symbol b{}() : S{} [constructor{}()] axiom{} \rewrites{S{}}(a{}(),b{}()) [] endmodule []"#;
+const ONE_RULE: &str = "[] module M sort S{} [] symbol a{}() : S{} [constructor{}()] \
+    symbol b{}() : S{} [constructor{}()] axiom{} \\rewrites{S{}}(a{}(),b{}()) [] endmodule []";
 
 /// Functions of one call each, in the right sides of the rules at bytes 283 and 322.
 const COUNTED: &str = r#"[] module M sort S{} [] symbol a{}() : S{} [constructor{}()]

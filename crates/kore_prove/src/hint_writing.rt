@@ -5,7 +5,7 @@ ghost use Rattle.desk_io.specs.Counts.{CountRose};
 ghost use Rattle.desk_io.specs.HeldFiles.{TellsNow};
 ghost use Rattle.desk_io.specs.KeptFiles.{KeepsFile, KeepsOthers};
 ghost use Rattle.hint_file.specs.RunTexts.{text_so_far};
-ghost use Rattle.kore_prove.specs.HintFiles.{HoldsText, MayHoldText};
+ghost use Rattle.kore_prove.specs.WrittenHints.{HoldsText, MayHoldText};
 ghost use Rattle.kore_prove.specs.HintFronts.{HoldsFrontOf};
 
 use desk_io::{Desk, DeskFault, write_whole};

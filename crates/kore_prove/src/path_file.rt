@@ -6,7 +6,7 @@ ghost use Rattle.desk_io.specs.KeptFiles.{KeepsFiles, KeepsOthers};
 ghost use Rattle.term_core.specs.Patterns.{ground_pattern};
 ghost use Rattle.kore_show.specs.KorePatterns.{kore_pattern};
 ghost use Rattle.path_proof.specs.RecordedPaths.{CanProvePath, first_of, last_of, steps_of};
-ghost use Rattle.kore_prove.specs.PathsRead.{HintsEnding, HoldsHints, HoldsProofOf};
+ghost use Rattle.kore_prove.specs.PathsRead.{HintsEnding, ListsPath, HoldsProofOf};
 ghost use Rattle.kore_prove.specs.PathsRead.{MayHoldFrontOf};
 ghost use Rattle.kore_prove.specs.PlainEnds.{plain_end};
 ghost use Rattle.kore_prove.specs.ProvedPath.{path_lines};
@@ -39,7 +39,7 @@ pub fn read_path<'a, D: Desk>(
     program: &Program,
 ) -> Result<HintPath, End<'a>>
     requires { IsProgram program.now }
-    ensures found { IfOk result (HoldsHints
+    ensures found { IfOk result (ListsPath
         (D.state desk.old).told (prove_request asked.now) program.now) }
     ensures provable { IfOk result (CanProvePath program.now) }
     ensures shown { IfOk result (λ path. IsSome (kore_pattern program.now.sig
