@@ -1,9 +1,9 @@
 -- Public: what public clauses say, and public definitions of other crates.
--- Believed: what public clauses say, and believed definitions of other crates.
 pub mod Stating
 pub mod Justifying
 pub mod Counting
 pub mod FactForms
+pub mod ProvedSentences
 -- Laws: what follows from that. Each is a clause of a function that does nothing.
 pub mod StatingLaws
 pub mod JustifyingLaws

@@ -1,5 +1,6 @@
 pub mod CountLaws
 pub mod PlainNameLaws
 pub mod ScopeLaws
+pub mod TheoremLaws
 pub mod ValueBytes
 pub mod WritingLaws

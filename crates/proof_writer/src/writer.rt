@@ -12,7 +12,8 @@ ghost use Rattle.mm_claims.specs.Places.{IsStated, MayProve, StatesLemma};
 ghost use Rattle.proof_writer.specs.Writing.{Adds, Begins, Concludes, HasWritten, HasWrittenAll};
 ghost use Rattle.proof_writer.specs.Writing.{Keeps, MayFollow};
 ghost use Rattle.proof_writer.specs.Writing.{context_of};
-ghost use Rattle.proof_writer.specs.WritingOn.{WritesOn};
+ghost use Rattle.proof_writer.specs.StatedTheorems.{KeepsAssertions, StatesNewLemmas};
+ghost use Rattle.proof_writer.specs.WritingOn.{StatesLemmaAt, StatesTheorem, WritesOn};
 
 use ml_kernel::{AxiomNo, Theory, Thm};
 use ml_pat::{MForm, MPat, Names};
@@ -85,6 +86,8 @@ impl Writer {
         ensures keeps { OnOk result (Keeps self.old.renderer self.new.renderer) }
         ensures text { OnOk result
             (Adds (context_of made.now) self.old self.new to.old.items to.new.items) }
+        ensures theorems { OnOk result
+            (StatesNewLemmas (context_of made.now) self.old to.old.items to.new.items) }
     {
         self.declare(made, to)?;
         self.write_axioms(made, to)?;
@@ -98,6 +101,7 @@ impl Writer {
         requires written { HasWritten self.old (context_of made.now) }
         ensures writes { OnOk result
             (WritesOn (context_of made.now) self.old self.new to.old.items to.new.items) }
+        ensures lemmas { OnOk result (self.new.lemmas ≡ self.old.lemmas) }
     {
         justifying_laws();
         counting_laws();
@@ -117,6 +121,7 @@ impl Writer {
         ensures writes { OnOk result
             (WritesOn (context_of made.now) self.old self.new to.old.items to.new.items) }
         ensures all { OnOk result (self.new.axioms ≡ length made.now.theory.now) }
+        ensures lemmas { OnOk result (self.new.lemmas ≡ self.old.lemmas) }
     {
         for no in self.axioms..made.theory.len() {
             self.axiom(made, no, to)?;
@@ -134,6 +139,7 @@ impl Writer {
         ensures writes { OnOk result
             (WritesOn (context_of made.now) self.old self.new to.old.items to.new.items) }
         ensures one { OnOk result (self.new.axioms ≡ no + 1) }
+        ensures lemmas { OnOk result (self.new.lemmas ≡ self.old.lemmas) }
     {
         image_laws();
         justifying_laws();
@@ -159,6 +165,8 @@ impl Writer {
         ensures writes { OnOk result
             (WritesOn (context_of made.now) self.old self.new to.old.items to.new.items) }
         ensures all { OnOk result (HasWrittenAll self.new (context_of made.now)) }
+        ensures theorems { OnOk result
+            (StatesNewLemmas (context_of made.now) self.old to.old.items to.new.items) }
     {
         for place in self.lemmas..made.lemmas.len() as u64 {
             self.lemma(made, place, to)?;
@@ -183,6 +191,10 @@ impl Writer {
             (WritesOn (context_of made.now) self.old self.new to.old.items to.new.items) }
         ensures axioms { OnOk result (self.new.axioms ≡ length made.now.theory.now) }
         ensures one { OnOk result (self.new.lemmas ≡ place + 1) }
+        ensures states { OnOk result
+            (StatesLemmaAt place (context_of made.now) self.old to.old.items to.new.items) }
+        ensures assertions { OnOk result
+            (KeepsAssertions (context_of made.now) self.old to.old.items to.new.items) }
     {
         image_laws();
         later_laws();
@@ -210,6 +222,8 @@ impl Writer {
             (Adds (context_of made.now) self.old self.new to.old.items to.new.items) }
         ensures concludes { OnOk result
             (Concludes (context_of made.now) self.old thm.now to.old.items to.new.items) }
+        ensures assertions { OnOk result
+            (KeepsAssertions (context_of made.now) self.old to.old.items to.new.items) }
     {
         justifying_laws();
         image_laws();
@@ -235,6 +249,10 @@ impl Writer {
         ensures keeps { OnOk result (Keeps self.old.renderer self.new.renderer) }
         ensures text { OnOk result
             (Adds (context_of made.now) self.old self.new to.old.items to.new.items) }
+        ensures states { OnOk result
+            (StatesTheorem (context_of made.now) self.old thm.now to.old.items to.new.items) }
+        ensures assertions { OnOk result
+            (KeepsAssertions (context_of made.now) self.old to.old.items to.new.items) }
     {
         justifying_laws();
         counting_laws();
@@ -262,6 +280,8 @@ impl Writer {
         }) }
         ensures text { OnOk result
             (Adds (context_of made.now) self.old self.new to.old.items to.new.items) }
+        ensures assertions { OnOk result
+            (KeepsAssertions (context_of made.now) self.old to.old.items to.new.items) }
     {
         justifying_laws();
         counting_laws();

@@ -1,10 +1,10 @@
--- A proof that gains a lemma, and the text of the lemma.
-use Rattle.std.proofs.Common.{◌≡◌, ◌+◌, ℕ, List, [], ◌∷◌, ◌++◌, Option, Some, None, length}
-use Rattle.std.proofs.Common.{refl, ap, ◌∙◌, sym, subst, arith, length-append, false}
-use Rattle.std.proofs.Math.Seq.{get_or-append_seam}
-use Rattle.std.proofs.lemmas.List.{append_assoc, append-nil}
+-- A proof that gains lemmas, and the text of the lemmas.
+use Rattle.std.proofs.Common.{◌≡◌, ◌+◌, ◌<◌, ℕ, List, [], ◌∷◌, ◌++◌, Option, Some, None, length}
+use Rattle.std.proofs.Common.{take, get_or, refl, ap, ◌∙◌, sym, subst, arith, length-append, false}
+use Rattle.std.proofs.lemmas.List.{append_assoc, append-nil, get_or-append-add, take_more}
+use Rattle.std.proofs.lemmas.List.Elements.{All-get_or}
 use Rattle.std.proofs.lemmas.Option.{slice_get-get_or}
-use Rattle.std.specs.Prelude.{slice_get}
+use Rattle.std.specs.Prelude.{All, slice_get}
 use Rattle.desk_io.specs.Told.{Told}
 use Rattle.desk_io.specs.Changes.{WritesFront}
 use Rattle.desk_io.proofs.Told.{Writes-becomes}
@@ -17,19 +17,20 @@ use Rattle.ml_kernel.specs.Lemmas.{HasNoMeta, instance}
 use Rattle.ml_kernel.specs.Theorems.{Theorem, IsByLemma}
 use Rattle.ml_derived.specs.Scopes.{IsOver}
 use Rattle.ml_derived.proofs.RuleLaws.{lemma_within}
+use Rattle.ml_image.proofs.ImageLaws.{gained-nothing}
 use Rattle.mm_claims.specs.Rendered.{all_stated}
 use Rattle.mm_claims.specs.Places.{IsStated}
 use Rattle.mm_justify.specs.Justifying.{IsProofOfRun, IsFrontOfProof}
 use Rattle.mm_justify.specs.Counting.{capped}
 use Rattle.prove_term.specs.Contexts.{Context, HasGrown, IsLemmaIn, StaysIn}
-use Rattle.prove_term.proofs.ContextLaws.{grown_lemma}
+use Rattle.prove_term.proofs.ContextLaws.{stays_grown}
 use Rattle.proof_writer.specs.PlainNames.{HasPlainNames}
-use Rattle.proof_writer.specs.Writing.{HasWritten, HasWrittenAll, IsTextOf, Adds, Concludes}
-use Rattle.proof_writer.specs.Writing.{MayFollow}
+use Rattle.proof_writer.specs.StatedTheorems.{IsTheoremOf, StatesNewLemmas}
+use Rattle.proof_writer.specs.Writing.{HasWritten, IsTextOf, Adds, Concludes, MayFollow}
 use Rattle.proof_writer.specs.declared.writer.Writer.{Writer}
 use Rattle.prove_run.specs.RunProof.{RunProof, configuration, proof_context, reached}
 use Rattle.prove_run.specs.Proving.{FitsProof}
-use Rattle.prove_run.specs.AddedLemmas.{AddsLemma, EndsHere, WritesLemma, with_lemma}
+use Rattle.prove_run.specs.AddedLemmas.{AddsLemmas, EndsHere, WritesLemmas, with_lemmas}
 use Rattle.prove_run.specs.WrittenProofs.{JustifiesFurther, WritesFrontAfter}
 use Rattle.prove_run.specs.Again.{CitesLast}
 use Rattle.prove_run.specs.Starting.{SaysReached}
@@ -40,26 +41,59 @@ use Rattle.prove_run.proofs.GoingLaws.{cited_says, last_no_meta, last_over}
 use Rattle.prove_run.proofs.PartLaws.{says_later}
 use Rattle.prove_run.proofs.ProofLaws.{is_proof, fits_now, fitted_text, counted_more}
 
--- ---- the context with the lemma
+-- ---- the context with the lemmas
 
-pub may_be_lemma : (p : Inside) (v : RunProof) (t lemma : Theorem) → run_proof p ≡ v → lemma ≡ t
-    → StaysIn (proof_context v) t → IsLemmaIn p.prover lemma
-may_be_lemma p v t lemma is same stays =
-    let here : StaysIn p.prover lemma =
-    subst (StaysIn p.prover) (sym same)
-    (subst (λ (x : RunProof). StaysIn (proof_context x) t) (sym is) stays) in
-    λ s has assumed. here s has
+pub no_lemmas : (cx : Context) → cx ≡ with_lemmas cx []
+no_lemmas cx =
+    ap (λ (ts : List Theorem). record cx { lemmas = ts }) (sym (append-nil cx.lemmas))
 
-pub grown_by : (p : Inside) (new : Context) (lemma : Theorem) → new ≡ with_lemma p.prover lemma
+grown_lemmas : (cx : Context) (ts : List Theorem) → HasGrown cx (with_lemmas cx ts)
+grown_lemmas cx ts = record {
+  program = refl;
+  names = gained-nothing cx.program.sig cx.names;
+  axioms = [];
+  more_axioms = sym (append-nil cx.axioms);
+  lemmas = ts;
+  more_lemmas = refl;
+}
+
+-- the next theorem may be kept after the first ones
+pub may_be_lemma : (old now : Context) (ts : List Theorem) (i : ℕ) (t lemma : Theorem)
+    → i < length ts → t ≡ get_or ts i t → lemma ≡ t → now ≡ with_lemmas old (take i ts)
+    → All (StaysIn old) ts → IsLemmaIn now lemma
+may_be_lemma old now ts i t lemma few at same is stay =
+    let here : StaysIn old lemma =
+    subst (StaysIn old) (sym (same ∙ at)) (All-get_or (StaysIn old) ts i t few stay) in
+    let later : StaysIn now lemma =
+    stays_grown old now lemma (subst (HasGrown old) (sym is) (grown_lemmas old (take i ts))) here in
+    λ s has assumed. later s has
+
+pub one_more_lemma : (old now new : Context) (ts : List Theorem) (i : ℕ) (t lemma : Theorem)
+    → i < length ts → t ≡ get_or ts i t → lemma ≡ t → now ≡ with_lemmas old (take i ts)
+    → new ≡ with_lemmas now (lemma ∷ []) → new ≡ with_lemmas old (take (i + 1) ts)
+one_more_lemma old now new ts i t lemma few at same is added =
+    added ∙ ap (λ (cx : Context). with_lemmas cx (lemma ∷ [])) is
+    ∙ ap (λ (us : List Theorem). record old { lemmas = us })
+    (append_assoc old.lemmas (take i ts) (lemma ∷ [])
+    ∙ ap (λ (us : List Theorem). old.lemmas ++ us) first)
+  where
+    first : take i ts ++ lemma ∷ [] ≡ take (i + 1) ts
+    first = ap (λ (u : Theorem). take i ts ++ u ∷ []) (same ∙ at) ∙ sym (take_more ts i t few)
+
+-- the context of the proof, as contracts see it, is the one of its prover
+pub stay_here : (p : Inside) (v : RunProof) (ts : List Theorem) → run_proof p ≡ v
+    → All (StaysIn (proof_context v)) ts → All (StaysIn p.prover) ts
+stay_here p v ts is stay =
+    subst (λ (x : RunProof). All (StaysIn (proof_context x)) ts) (sym is) stay
+
+pub grown_by : (p : Inside) (new : Context) (ts : List Theorem) → new ≡ with_lemmas p.prover ts
     → HasGrown p.prover new
-grown_by p new lemma is = subst (HasGrown p.prover) (sym is) (grown_lemma p.prover lemma)
+grown_by p new ts is = subst (HasGrown p.prover) (sym is) (grown_lemmas p.prover ts)
 
-pub context_now : (p : Inside) (v : RunProof) (new : Context) (t lemma : Theorem)
-    → run_proof p ≡ v → lemma ≡ t → new ≡ with_lemma p.prover lemma
-    → new ≡ with_lemma (proof_context v) t
-context_now p v new t lemma is same added =
-    added ∙ ap (with_lemma p.prover) same
-    ∙ ap (λ (x : RunProof). with_lemma (proof_context x) t) is
+context_now : (p : Inside) (v : RunProof) (new : Context) (ts : List Theorem) → run_proof p ≡ v
+    → new ≡ with_lemmas p.prover ts → new ≡ with_lemmas (proof_context v) ts
+context_now p v new ts is added =
+    added ∙ ap (λ (x : RunProof). with_lemmas (proof_context x) ts) is
 
 -- ---- the last theorem, once more
 
@@ -100,10 +134,10 @@ again_says_so p new t g proof same =
     says_later p.prover new (plain_pattern p.start.now)
     (configuration (plain_pattern p.start.now) p.reached) p.last t g proof.has_reached.says same
 
--- ---- the proof with the lemma
+-- ---- the proof with the lemmas
 
-abbrev pub after_lemma : Inside → Context → Writer → Theorem → ℕ → Inside
-after_lemma p new w last bytes =
+abbrev pub after_lemmas : Inside → Context → Writer → Theorem → ℕ → Inside
+after_lemmas p new w last bytes =
     record p {
       prover = new;
       writer = w;
@@ -112,66 +146,67 @@ after_lemma p new w last bytes =
       failed = false;
     }
 
-pub lemma_proof : (p : Inside) (new : Context) (w : Writer) (again last : Theorem) (bytes : ℕ)
+pub lemmas_proof : (p : Inside) (new : Context) (w : Writer) (again last : Theorem) (bytes : ℕ)
     → IsProof p → HasGrown p.prover new → again.conclusion ≡ p.last.conclusion → last ≡ again
     → HasWritten w new → again.hypotheses ≡ []
     → IsStated (all_stated w.renderer) again.hypotheses again.conclusion
-    → IsProof (after_lemma p new w last bytes)
-lemma_proof p new w again last bytes proof g same same_last written none stated =
-    is_proof p.prover.program p.reached again (after_lemma p new w last bytes) g.program
+    → IsProof (after_lemmas p new w last bytes)
+lemmas_proof p new w again last bytes proof g same same_last written none stated =
+    is_proof p.prover.program p.reached again (after_lemmas p new w last bytes) g.program
     proof.well_sorted proof.bound proof.names proof.has_reached.ground
     (again_says_so p new again g proof same) refl same_last proof.reach
     (lemma_grown p.prover new p.reach g proof.listed) written none stated
 
-last_there : (ts : List Theorem) (t : Theorem) → slice_get (ts ++ t ∷ []) (length ts) ≡ Some t
-last_there ts t =
-    slice_get-get_or (ts ++ t ∷ []) (length ts) t (omega (arith, length-append ts (t ∷ [])))
-    ∙ ap (λ (u : Theorem). Some u) (get_or-append_seam ts t [] t)
+-- a lemma behind others
+there_behind : (ts us : List Theorem) (i : ℕ) (d : Theorem) → i < length us
+    → slice_get (ts ++ us) (length ts + i) ≡ Some (get_or us i d)
+there_behind ts us i d few =
+    slice_get-get_or (ts ++ us) (length ts + i) d (omega (arith, few, length-append ts us))
+    ∙ ap (λ (t : Theorem). Some t) (get_or-append-add ts us i d)
 
--- all of the context is stated, and so is its last lemma
-lemma_stated : (cx : Context) (new : Context) (w : Writer) (t : Theorem) → new ≡ with_lemma cx t
-    → HasWrittenAll w new → IsStated w.renderer.stated t.hypotheses t.conclusion
-lemma_stated cx new w t is all =
-    let lemmas : new.lemmas ≡ cx.lemmas ++ t ∷ [] = ap (λ (x : Context). x.lemmas) is in
-    let count : w.lemmas ≡ length (cx.lemmas ++ t ∷ []) =
-    all.lemmas ∙ ap (λ (ts : List Theorem). length ts) lemmas in
-    all.written.lemmas (length cx.lemmas) t
-    (omega (arith, count, length-append cx.lemmas (t ∷ [])))
-    (ap (λ (ts : List Theorem). slice_get ts (length cx.lemmas)) lemmas ∙ last_there cx.lemmas t)
+-- what was not written of the lemmas are these theorems, or more
+has_theorems : (p : Inside) (new : Context) (ts : List Theorem) (before after text : List ℕ)
+    → IsProof p → new ≡ with_lemmas p.prover ts → StatesNewLemmas new p.writer before after
+    → before ≡ [] → IsTextOf new p.writer text → All (IsTheoremOf new.names (text ++ after)) ts
+has_theorems p new ts before after text proof added states none was i d few =
+    states after text (sym (ap (λ (l : List ℕ). l ++ after) none)) was (length p.prover.lemmas + i)
+    (get_or ts i d) (omega (arith, proof.written.few_lemmas))
+    (ap (λ (cx : Context). slice_get cx.lemmas (length p.prover.lemmas + i)) added
+    ∙ there_behind p.prover.lemmas ts i d few)
 
-pub adds_lemma : (p : Inside) (v : RunProof) (new : Context) (w : Writer)
-    (t lemma again last : Theorem) (before after : List ℕ) (bytes : ℕ) → run_proof p ≡ v
-    → IsProof p → lemma ≡ t → new ≡ with_lemma p.prover lemma
-    → again.conclusion ≡ p.last.conclusion → HasWrittenAll w new
-    → Concludes new p.writer again before after → Adds new p.writer w before after → before ≡ []
+pub adds_lemmas : (p : Inside) (v : RunProof) (new : Context) (w : Writer) (ts : List Theorem)
+    (again last : Theorem) (before after : List ℕ) (bytes : ℕ) → run_proof p ≡ v → IsProof p
+    → new ≡ with_lemmas p.prover ts → again.conclusion ≡ p.last.conclusion
+    → Concludes new p.writer again before after → Adds new p.writer w before after
+    → StatesNewLemmas new p.writer before after → before ≡ []
     → bytes ≡ capped (p.bytes + length after)
-    → AddsLemma v (run_proof (after_lemma p new w last bytes)) t after
-adds_lemma p v new w t lemma again last before after bytes is proof same added says all concludes
-    (more, whole, adds) none counted = record {
-      context = context_now p v new t lemma is same added;
-      stated =
-          subst (λ (u : Theorem). IsStated w.renderer.stated u.hypotheses u.conclusion) same
-          (lemma_stated p.prover new w lemma added all);
+    → AddsLemmas v (run_proof (after_lemmas p new w last bytes)) ts after
+adds_lemmas p v new w ts again last before after bytes is proof added says concludes
+    (more, whole, adds) states none counted = record {
+      context = context_now p v new ts is added;
       same_start = ap (λ (x : RunProof). x.start) is;
       same_made = ap (λ (x : RunProof). x.made) is;
       same_steps = ap (λ (x : RunProof). x.steps) is;
       sound = refl;
       fits = λ text h.
           subst (λ (l : List ℕ).
-          FitsProof (run_proof (after_lemma p new w last bytes)) (text ++ l)) (sym every)
+          FitsProof (run_proof (after_lemmas p new w last bytes)) (text ++ l)) (sym every)
           (fits text (fitted_text p v new text is proof g h) h.bytes_are);
+      proves = λ text h.
+          has_theorems p new ts before after text proof added states none
+          (fitted_text p v new text is proof g h);
     }
   where
     g : HasGrown p.prover new
-    g = grown_by p new lemma added
+    g = grown_by p new ts added
 
     every : after ≡ more
     every = whole ∙ ap (λ (l : List ℕ). l ++ more) none
 
     fits : (text : List ℕ) → IsTextOf new p.writer text → v.bytes ≡ capped (length text)
-        → FitsProof (run_proof (after_lemma p new w last bytes)) (text ++ more)
+        → FitsProof (run_proof (after_lemmas p new w last bytes)) (text ++ more)
     fits text was before_bytes =
-        fits_now (after_lemma p new w last bytes) p.writer p.reached again before after more text
+        fits_now (after_lemmas p new w last bytes) p.writer p.reached again before after more text
         proof.has_reached.ground (again_says_so p new again g proof says) refl concludes whole was
         (adds text was)
         (counted ∙ ap (λ (l : List ℕ). capped (p.bytes + length l)) every
@@ -179,17 +214,17 @@ adds_lemma p v new w t lemma again last before after bytes is proof same added s
 
 -- ---- what is written to the created file
 
-pub lemma_justified : (old new : Option Told) (before after : RunProof) (t : Theorem)
-    → WritesLemma old new before after t → JustifiesFurther old new before after
-lemma_justified old new before after t (added, writes, adds) =
+pub lemmas_justified : (old new : Option Told) (before after : RunProof) (ts : List Theorem)
+    → WritesLemmas old new before after ts → JustifiesFurther old new before after
+lemmas_justified old new before after ts (added, writes, adds) =
     Writes-becomes (FitsProof before) (FitsProof after) old new added writes adds.fits
 
--- the text with the lemma proves the same
-still_proves : (before after : RunProof) (t : Theorem) (added text : List ℕ)
-    → AddsLemma before after t added → FitsProof before text
+-- the text with the lemmas proves the same
+still_proves : (before after : RunProof) (ts : List Theorem) (added text : List ℕ)
+    → AddsLemmas before after ts added → FitsProof before text
     → IsProofOfRun (text ++ added) (theory_of before.program) (plain_pattern before.start)
     (reached before)
-still_proves before after t added text adds h =
+still_proves before after ts added text adds h =
     subst (λ (p : Program). Proves p before.start before.made)
     (ap (λ (cx : Context). cx.program) adds.context)
     (subst (λ (s : RulePat). Proves after.program s before.made) adds.same_start
@@ -201,36 +236,36 @@ still_proves before after t added text adds h =
         IsProofOfRun (text ++ added) (theory_of program) (plain_pattern start)
         (configuration (plain_pattern start) made)
 
-front_of_text : (before after : RunProof) (t : Theorem) (added front rest text : List ℕ)
-    → added ≡ front ++ rest → AddsLemma before after t added → FitsProof before text
+front_of_text : (before after : RunProof) (ts : List Theorem) (added front rest text : List ℕ)
+    → added ≡ front ++ rest → AddsLemmas before after ts added → FitsProof before text
     → IsFrontOfProof (theory_of before.program) (plain_pattern before.start) (reached before)
     (text ++ front)
-front_of_text before after t added front rest text is adds h = (
+front_of_text before after ts added front rest text is adds h = (
   rest,
   subst (λ (l : List ℕ). IsProofOfRun l (theory_of before.program) (plain_pattern before.start)
       (reached before))
       (ap (λ (l : List ℕ). text ++ l) is ∙ sym (append_assoc text front rest))
-      (still_proves before after t added text adds h),
+      (still_proves before after ts added text adds h),
 )
 
-pub front_lemma : (old new : Option Told) (before after : RunProof) (t : Theorem)
-    (added : List ℕ) → WritesFront old new added → AddsLemma before after t added
+pub front_lemmas : (old new : Option Told) (before after : RunProof) (ts : List Theorem)
+    (added : List ℕ) → WritesFront old new added → AddsLemmas before after ts added
     → WritesFrontAfter old new before (EndsHere before)
-front_lemma None new before after t added front adds = (
+front_lemmas None new before after ts added front adds = (
   added,
   tt,
   λ text h. (
     reached before,
     refl,
-    front_of_text before after t added added [] text (sym (append-nil added)) adds h,
+    front_of_text before after ts added added [] text (sym (append-nil added)) adds h,
   ),
 )
-front_lemma (Some old) new before after t added (front, rest, is, writes) adds = (
+front_lemmas (Some old) new before after ts added (front, rest, is, writes) adds = (
   front,
   writes,
   λ text h. (
     reached before,
     refl,
-    front_of_text before after t added front rest text is adds h,
+    front_of_text before after ts added front rest text is adds h,
   ),
 )

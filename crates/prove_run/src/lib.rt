@@ -11,8 +11,8 @@
 //! step that file is a proof of the run so far, and not only at the end of the run.
 //!
 //! A proof can be taken apart into its prover and the rest. The prover may make further theorems,
-//! and the rest is then joined with it. A theorem can be added as a lemma. Then the file has its
-//! proof too, and the theorem of the run stays the last one.
+//! and the rest is then joined with it. Theorems can be added as lemmas. Then the file has their
+//! proofs too, and the theorem of the run stays the last one.
 //!
 //! The text of a step has the names of the configurations in it, and each part of the terms that
 //! are bound to the rule's variables. It is linear in the sizes of the configurations if these are

@@ -1,6 +1,6 @@
 // A proof of a run, step by step.
-ghost use Rattle.std.specs.Prelude.{◌≡◌, ◌≤◌, ℕ, List, [], Contains, IfOk, IfSome, IsErrOf};
-ghost use Rattle.std.specs.Prelude.{IsFalse, IsTrue, OnErr, OnOk, option_copied};
+ghost use Rattle.std.specs.Prelude.{◌≡◌, ◌≤◌, ℕ, List, [], All, Contains, IfOk, IfSome};
+ghost use Rattle.std.specs.Prelude.{IsErrOf, IsFalse, IsTrue, OnErr, OnOk, option_copied};
 ghost use Rattle.desk_io.specs.Changes.{Closes};
 ghost use Rattle.desk_io.specs.Counts.{CountRose};
 ghost use Rattle.term_core.specs.RulePatterns.{plain_pattern};
@@ -15,7 +15,8 @@ ghost use Rattle.prove_term.specs.Contexts.{HasGrown, StaysIn};
 ghost use Rattle.proof_writer.specs.PlainNames.{HasPlainNames};
 ghost use Rattle.proof_writer.specs.Writing.{Adds, Concludes, HasWritten, HasWrittenAll, Keeps};
 ghost use Rattle.proof_writer.specs.Writing.{MayFollow};
-ghost use Rattle.prove_run.specs.AddedLemmas.{AddsLemma, EndsHere, WritesLemma};
+ghost use Rattle.proof_writer.specs.StatedTheorems.{StatesNewLemmas};
+ghost use Rattle.prove_run.specs.AddedLemmas.{AddsLemmas, EndsHere, WritesLemmas, with_lemmas};
 ghost use Rattle.prove_run.specs.Proving.{Begins, CanStep, FitsProof, StepsTo, value_told};
 ghost use Rattle.prove_run.specs.ReachLemma.{IsReachLemma};
 ghost use Rattle.prove_run.specs.RunProof.{configuration, proof_context, with_context};
@@ -286,24 +287,24 @@ impl<'p> Proof<'p> {
         Ok(summary)
     }
 
-    /// Adds a theorem as a lemma. The theorem may use only what the context of the proof has, and
-    /// it assumes nothing. To the created file are appended what the context has and the text has
-    /// not, the theorem with its proof, and the theorem of the run once more. If the file had a
-    /// text that fitted the proof, it has one again: its last theorem is that of the run.
+    /// Adds theorems as lemmas. They may use only what the context of the proof has, and assume
+    /// nothing. To the created file are appended what the context has and the text has not, the
+    /// theorems with their proofs, and the theorem of the run once more. If the file had a text that
+    /// fitted the proof, it has one again: its last theorem is that of the run.
     ///
     /// Errors: out of memory, or a fault that the desk counted. Then the front of this text, or
     /// nothing, was appended, and the proof has failed: it takes no further call.
-    pub fn add_lemma<D: Desk>(
+    pub fn add_lemmas<D: Desk>(
         &mut self,
         alloc: Global,
         desk: &mut D,
-        thm: &Thm,
+        thms: &[Thm],
     ) -> Result<(), ProveEnd>
         requires file { IsTrue (D.created desk.old) }
         requires sound { IsFalse self.old.failed }
-        requires stays { StaysIn (proof_context self.old) thm.now }
-        ensures adds { OnOk result (WritesLemma
-            (D.state desk.old).told (D.state desk.new).told self.old self.new thm.now) }
+        requires stays { All (StaysIn (proof_context self.old)) thms.now }
+        ensures adds { OnOk result (WritesLemmas
+            (D.state desk.old).told (D.state desk.new).told self.old self.new thms.now) }
         ensures justifies { OnOk result (JustifiesFurther
             (D.state desk.old).told (D.state desk.new).told self.old self.new) }
         ensures front { OnErr result (WritesFrontAfter
@@ -318,7 +319,7 @@ impl<'p> Proof<'p> {
         ensures reads { (D.state desk.new).read_faults ≡ (D.state desk.old).read_faults }
     {
         let mut text = Vec::new(alloc);
-        self.state_lemma(alloc, thm, &mut text)?;
+        self.state_lemmas(alloc, thms, &mut text)?;
         match write_text(desk, &text) {
             Ok(()) => Ok(()),
             Err(end) => {
@@ -328,18 +329,22 @@ impl<'p> Proof<'p> {
         }
     }
 
-    // Adds a theorem as a lemma, and appends its text to the empty buffer. The error: out of
+    // Adds theorems as lemmas, and appends their text to the empty buffer. The error: out of
     // memory.
-    fn state_lemma(&mut self, alloc: Global, thm: &Thm, to: &mut Vec<u8>) -> Result<(), AllocError>
+    fn state_lemmas(
+        &mut self,
+        alloc: Global,
+        thms: &[Thm],
+        to: &mut Vec<u8>,
+    ) -> Result<(), AllocError>
         requires none { to.old.items ≡ [] }
         requires sound { IsFalse self.old.failed }
-        requires stays { StaysIn (proof_context self.old) thm.now }
-        ensures adds { OnOk result (AddsLemma self.old self.new thm.now to.new.items) }
+        requires stays { All (StaysIn (proof_context self.old)) thms.now }
+        ensures adds { OnOk result (AddsLemmas self.old self.new thms.now to.new.items) }
         ensures over { OnErr result (IsTrue self.new.failed) }
     {
         self.failed = true;
-        let lemma = thm.share(alloc)?;
-        self.prover.add_lemma(alloc, lemma)?;
+        keep_lemmas(alloc, &mut self.prover, thms)?;
         let again = once_more(alloc, &self.last)?;
         let last = state(&self.prover, &mut self.writer, again, to)?;
         self.last = last;
@@ -507,6 +512,18 @@ fn keep_reach_lemma(alloc: Global, prover: &mut Prover<'_>) -> Result<Lemma, All
     prover.cx().lemmas()[place].share(alloc)
 }
 
+// Keeps theorems in the context as its last lemmas.
+fn keep_lemmas(alloc: Global, prover: &mut Prover<'_>, thms: &[Thm]) -> Result<(), AllocError>
+    requires { All (StaysIn prover.old) thms.now }
+    ensures { OnOk result (prover.new ≡ with_lemmas prover.old thms.now) }
+{
+    for thm in thms {
+        let lemma = thm.share(alloc)?;
+        prover.add_lemma(alloc, lemma)?;
+    }
+    Ok(())
+}
+
 // Writes what was made, and then a theorem that follows from it.
 fn state(
     prover: &Prover<'_>,
@@ -525,6 +542,8 @@ fn state(
     ensures concludes { OnOk result
         (Concludes prover.now writer.old thm to.old.items to.new.items) }
     ensures text { OnOk result (Adds prover.now writer.old writer.new to.old.items to.new.items) }
+    ensures theorems { OnOk result
+        (StatesNewLemmas prover.now writer.old to.old.items to.new.items) }
 {
     image_laws();
     let cx = prover.cx();

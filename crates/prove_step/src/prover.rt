@@ -9,6 +9,10 @@ ghost use Rattle.rule_core.specs.Records.{Records, result_of};
 ghost use Rattle.rule_core.specs.RecordView.{plain_record, plain_step};
 ghost use Rattle.rule_core.specs.Sorting.{HasSort};
 ghost use Rattle.rule_core.specs.WellSorted.{IsWellSorted, BindsVariablesOf};
+ghost use Rattle.rule_core.specs.AcSymbols.{IsAcFree};
+ghost use Rattle.rule_core.specs.Runs.{Steps, stays};
+ghost use Rattle.rewriter.specs.Configurations.{IsConfiguration};
+ghost use Rattle.stuck_prove.specs.RefutedRules.{SayNoneMet};
 ghost use Rattle.ml_image.specs.Images.{image_of};
 ghost use Rattle.ml_image.specs.HasImages.{HasImage};
 ghost use Rattle.prove_term.specs.Contexts.{HasGrown, IsLemmaIn, StaysIn, new_context};
@@ -22,13 +26,16 @@ use crate::conditions::condition_held;
 use crate::normalizing::normalized;
 use crate::schemas::rule_schema;
 use crate::side_lemmas::SideLemmas;
+use fun_eval::Engine;
 use ml_kernel::{Lemma, Thm};
 use ml_pat::MPat;
 use prove_fun::{LemmaPlaces, eval_eq};
 use prove_term::Cx;
+use rewriter::Run;
 use rule_core::{EvalRecord, Program, StepRecord};
 use std::alloc::{AllocError, Global};
 use std::marker::Model;
+use stuck_prove::not_met;
 use term_core::{RulePat, Subst};
 
 /// Proves the steps of a program's runs. It holds a context, in which each used rule and equation
@@ -130,6 +137,27 @@ impl<'p> Prover<'p> {
         ensures grown { HasGrown self.old self.new }
     {
         eval_eq(alloc, &mut self.cx, &mut self.kept, pat, subst, evaluation)
+    }
+
+    /// Proves of each rewrite rule, in the order of trial, that the configuration of a stuck run does
+    /// not meet it. No constructor of the program is AC. The errors are those of
+    /// `stuck_prove::not_met`. After an error the context may have grown.
+    pub fn not_met(
+        &mut self,
+        alloc: Global,
+        engine: &Engine<'_>,
+        run: &Run,
+    ) -> Result<Vec<Thm>, AllocError>
+        requires program { self.old.program ≡ engine.now }
+        requires bound { HasBoundVariables self.old.program }
+        requires no_ac { IsAcFree self.old.program.sig }
+        requires config { IsConfiguration (theory_of engine.now) run.now.config }
+        requires stuck { Steps (theory_of engine.now) run.now.config run.now.calls stays }
+        ensures shown { IfOk result (λ v. SayNoneMet self.new run.now.config
+            (theory_of self.new.program).rules v.items) }
+        ensures grown { HasGrown self.old self.new }
+    {
+        not_met(alloc, &mut self.cx, &mut self.kept, engine, run)
     }
 
     /// Keeps a theorem as a lemma. The theorem may use only what the context has, and may assume

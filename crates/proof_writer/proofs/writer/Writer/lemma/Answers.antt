@@ -5,6 +5,7 @@ use Rattle.mm_claims.specs.Rendered.{Rendered}
 use Rattle.mm_claims.specs.ClaimVariables.{claim_of}
 use Rattle.proof_writer.specs.Writing.{context_of}
 use Rattle.proof_writer.specs.declared.writer.Writer.{Writer}
+use Rattle.proof_writer.proofs.TheoremLaws.{states_lemma}
 use Rattle.proof_writer.proofs.WritingLaws.{adds_same, written_lemma, stated_still, last_stated}
 use Rattle.proof_writer.proofs.WritingLaws.{few_named, lemma_may}
 use Rattle.proof_writer.proofs.writer.Writer.lemma.Goals as goal
@@ -48,3 +49,13 @@ returns-clause-writes c =
 pub returns-clause-axioms : goal.returns-clause-axioms
 returns-clause-axioms c =
     ap (λ (v : Writer). v.axioms) c.in_ok-state.ensures.kept ∙ c.requires.axioms
+
+pub returns-clause-states : goal.returns-clause-states
+returns-clause-states c =
+    let w = c.args.self.now in
+    let cx = context_of c.args.made.now in
+    let t = get_or cx.lemmas c.args.place c.index-made-place.result in
+    let at : slice_get cx.lemmas c.args.place ≡ Some t =
+    slice_get-get_or cx.lemmas c.args.place c.index-made-place.result c.requires.there in
+    states_lemma cx w c.args.place t c.args.to.now.items c.state.new.to.items at
+    c.in_ok-state.ensures.states

@@ -1,6 +1,8 @@
 use Rattle.mm_claims.specs.ClaimVariables.{claim_of}
 use Rattle.rule_core.specs.ProgramView.{theory_of}
+use Rattle.proof_writer.specs.Writing.{context_of}
 use Rattle.proof_writer.proofs.CountLaws.{more_statements}
+use Rattle.proof_writer.proofs.TheoremLaws.{keeps_assertions, states_theorem}
 use Rattle.proof_writer.proofs.WritingLaws.{keeps_stated}
 use Rattle.proof_writer.proofs.writer.Writer.state.Goals as goal
 
@@ -33,3 +35,16 @@ pub returns-clause-keeps : goal.returns-clause-keeps
 returns-clause-keeps c =
     keeps_stated c.later_laws.ensures.stated c.args.self.now.renderer c.lemma.new.self
     (claim_of c.args.thm.now.hypotheses c.args.thm.now.conclusion) c.in_ok-lemma.ensures.kept
+
+pub returns-clause-states : goal.returns-clause-states
+returns-clause-states c =
+    let w = c.args.self.now in
+    let cx = context_of c.args.made.now in
+    states_theorem cx w c.lemma.new.self c.args.thm.now c.args.to.now.items c.lemma.new.to.items
+    (c.later_laws.ensures.all cx.names w.renderer c.requires.named) c.in_ok-lemma.ensures.states
+    c.requires.proved
+
+pub returns-clause-assertions : goal.returns-clause-assertions
+returns-clause-assertions c =
+    keeps_assertions (context_of c.args.made.now) c.args.self.now c.lemma.new.self c.args.thm.now
+    c.args.to.now.items c.lemma.new.to.items c.in_ok-lemma.ensures.states c.requires.proved

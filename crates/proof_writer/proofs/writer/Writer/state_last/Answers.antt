@@ -1,5 +1,7 @@
 use Rattle.rule_core.specs.ProgramView.{theory_of}
+use Rattle.proof_writer.specs.Writing.{context_of}
 use Rattle.proof_writer.proofs.CountLaws.{more_statements}
+use Rattle.proof_writer.proofs.TheoremLaws.{keeps_assertions}
 use Rattle.proof_writer.proofs.writer.Writer.state_last.Goals as goal
 
 pub returns-clause-text : goal.returns-clause-text
@@ -26,3 +28,8 @@ returns-clause-text c =
             c.saturating_add-self.ensures;
       },
     )
+
+pub returns-clause-assertions : goal.returns-clause-assertions
+returns-clause-assertions c =
+    keeps_assertions (context_of c.args.made.now) c.args.self.now c.theorem.new.self c.args.thm.now
+    c.args.to.now.items c.theorem.new.to.items c.in_ok-theorem.ensures.states c.requires.proved

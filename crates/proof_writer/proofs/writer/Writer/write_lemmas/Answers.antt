@@ -1,5 +1,6 @@
 use Rattle.std.proofs.Common.{refl}
 use Rattle.proof_writer.specs.Writing.{context_of}
+use Rattle.proof_writer.proofs.TheoremLaws.{all_lemmas, lemmas_none, lemmas_then}
 use Rattle.proof_writer.proofs.WritingLaws.{writes_none, writes_then}
 use Rattle.proof_writer.proofs.writer.Writer.write_lemmas.Goals as goal
 
@@ -9,6 +10,7 @@ loop-place-init c = (
       c.requires.named,
   refl,
   c.requires.axioms,
+  lemmas_none (context_of c.args.made.now) c.args.self.now c.args.to.now.items,
 )
 
 pub loop-place-preserved : goal.loop-place-preserved
@@ -18,4 +20,13 @@ loop-place-preserved c = (
       c.in_ok-lemma.ensures.writes,
   c.in_ok-lemma.ensures.one,
   c.in_ok-lemma.ensures.axioms,
+  lemmas_then (context_of c.args.made.now) c.args.self.now c.loop-place.self c.lemma.new.self
+      c.loop-place.place c.args.to.now.items c.loop-place.to.items c.lemma.new.to.items
+      c.loop-place.invariant.0.text c.in_ok-lemma.ensures.writes.text c.loop-place.invariant.3
+      c.in_ok-lemma.ensures.states c.in_ok-lemma.ensures.assertions,
 )
+
+pub returns-clause-theorems : goal.returns-clause-theorems
+returns-clause-theorems c =
+    all_lemmas (context_of c.args.made.now) c.args.self.now c.loop-place.place c.args.to.now.items
+    c.loop-place.to.items c.loop-place-test.false c.loop-place.invariant.3

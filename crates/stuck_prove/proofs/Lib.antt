@@ -1,0 +1,7 @@
+mod TrialLaws
+mod EvaluatedLaws
+mod UntrueLaws
+mod ConditionLaws
+pub mod RuleLaws
+pub mod SettingLaws
+pub mod StuckLaws

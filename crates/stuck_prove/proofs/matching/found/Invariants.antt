@@ -1,0 +1,4 @@
+use Rattle.stuck_prove.proofs.matching.found.Given as goal
+
+abbrev pub ghosts-counted : goal.ghosts-counted
+ghosts-counted a = record { name = a.blank.name; parts = a.blank.parts }
