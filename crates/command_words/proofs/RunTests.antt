@@ -36,17 +36,17 @@ all-five true true false d e g h i j k = i
 all-five true true true false e g h i j k = j
 all-five true true true true false g h i j k = k
 
--- the last part of a run command: a good number of calls, and files of two names
+-- the last part of a run command: a good number of calls, and good files
 pub no-calls : (a b : Bool) → a ≡ false → a && not b ≡ false
 no-calls true b h = absurd (let wrong : ⊥ = cc in wrong)
 no-calls false b h = refl
 
-pub one-file : (a b : Bool) → b ≡ true → a && not b ≡ false
-one-file true true h = refl
-one-file true false h = absurd (let wrong : ⊥ = cc in wrong)
-one-file false b h = refl
+pub bad-files : (a b : Bool) → b ≡ true → a && not b ≡ false
+bad-files true true h = refl
+bad-files true false h = absurd (let wrong : ⊥ = cc in wrong)
+bad-files false b h = refl
 
-pub two-files : (a b : Bool) → a ≡ true → b ≡ false → a && not b ≡ true
-two-files true true g h = absurd (let wrong : ⊥ = cc in wrong)
-two-files true false g h = refl
-two-files false b g h = g
+pub good-files : (a b : Bool) → a ≡ true → b ≡ false → a && not b ≡ true
+good-files true true g h = absurd (let wrong : ⊥ = cc in wrong)
+good-files true false g h = refl
+good-files false b g h = g

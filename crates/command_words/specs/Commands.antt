@@ -10,7 +10,7 @@ use Rattle.command_words.specs.declared.commands.DrillWords.{DrillWords}
 use Rattle.command_words.specs.declared.commands.Command.{Command}
 use Rattle.command_words.specs.declared.commands.Command.TheVariants as command
 use Rattle.command_words.specs.CommandLine.{run_app, verify_app, check_app, prove_app, drill_app}
-use Rattle.command_words.specs.CommandLine.{value_of, usual_calls, most_drilled, is_named}
+use Rattle.command_words.specs.CommandLine.{value_of, is_set, usual_calls, most_drilled, is_named}
 
 -- to run a term: the values of the arguments, and the usual number of calls if the words state none
 pub record GivesRun (words : List Text) (r : RunWords) : Type 0 where
@@ -22,6 +22,7 @@ pub record GivesRun (words : List Text) (r : RunWords) : Type 0 where
       ≡ option_map_or (digits_value 10) (value_of run_app words (codes "calls")) usual_calls
   pub proof : option_copied r.proof ≡ value_of run_app words (codes "proof")
   pub hints : option_copied r.hints ≡ value_of run_app words (codes "hints")
+  pub stuck : r.stuck ≡ is_set run_app words (codes "stuck")
 
 -- to verify the database in this file
 pub record GivesFile (words : List Text) (file : Text) : Type 0 where

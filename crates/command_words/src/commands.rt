@@ -4,11 +4,13 @@ ghost use Rattle.std.specs.Prelude.{string_bytes, option_copied, option_map, Som
 ghost use Rattle.std.specs.Option.{option_map_or};
 ghost use Rattle.std.specs.Str.Parse.{digits_value};
 ghost use Rattle.command_words.specs.CommandLine.{is_named, is_run, is_verify, is_check, is_drill};
-ghost use Rattle.command_words.specs.CommandLine.{is_prove, are_bad, names_one_file, is_number_to};
+ghost use Rattle.command_words.specs.CommandLine.{is_prove, are_bad, are_bad_files, is_number_to};
+ghost use Rattle.command_words.specs.CommandLine.{is_true, names_one_file};
 ghost use Rattle.command_words.specs.CommandLine.{is_drill_number, most_drilled};
 ghost use Rattle.command_words.specs.Commands.{Gives, GivesRun, GivesFile, GivesCheck, GivesProve};
 ghost use Rattle.command_words.specs.Commands.{GivesDrill};
 ghost use Rattle.command_words.specs.Plain.{is_plain, IsReadBy};
+ghost use Rattle.clap.specs.Matches.{first_value, found_of};
 ghost use Rattle.clap.specs.Simple.{app_of};
 ghost use Rattle.clap.specs.Takes.{takes};
 
@@ -52,6 +54,8 @@ pub struct RunWords<'a> {
     /// The name of the file for the hints of the steps, if they are wanted. It is another name than
     /// that of the file for the proof.
     pub hints: Option<&'a str>,
+    /// Whether the proof is to show that a stuck run is stuck. Then there is a file for it.
+    pub stuck: bool,
 }
 
 /// What a call is to check.
@@ -166,7 +170,8 @@ fn run_words<'a>(alloc: Global, words: &'a [String]) -> Result<RunWords<'a>, Wor
     let calls = number_or(MAX_CALLS, matches.get_str("calls"), USUAL_CALLS).ok_or(WordsEnd::Bad)?;
     let proof = matches.get_str("proof");
     let hints = matches.get_str("hints");
-    if name_one_file(proof, hints) {
+    let stuck = is_set(&matches, "stuck");
+    if are_bad_files(stuck, proof, hints) {
         return Err(WordsEnd::Bad);
     }
     Ok(RunWords {
@@ -176,7 +181,27 @@ fn run_words<'a>(alloc: Global, words: &'a [String]) -> Result<RunWords<'a>, Wor
         calls,
         proof,
         hints,
+        stuck,
     })
+}
+
+// Whether the words state this flag.
+fn is_set(matches: &ArgMatches<'_>, flag: &str) -> bool
+    ensures { result ≡ is_true (first_value (found_of matches.now) flag.now) }
+{
+    match matches.get_str(flag) {
+        Some(value) => value == "true",
+        None => false,
+    }
+}
+
+// Whether the proof and the hints would go to one file, or a proof is to show more and none is
+// wanted.
+fn are_bad_files(stuck: bool, proof: Option<&str>, hints: Option<&str>) -> bool
+    ensures { result ≡ are_bad_files stuck (option_copied proof.entry)
+        (option_copied hints.entry) }
+{
+    (stuck && proof.is_none()) || name_one_file(proof, hints)
 }
 
 // Whether both names are there and are the same.

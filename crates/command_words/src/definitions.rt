@@ -2,13 +2,14 @@
 ghost use Rattle.std.specs.Prelude.{◌≡◌, IfOk, codes, false};
 ghost use Rattle.clap.specs.Walk.{rule_of};
 ghost use Rattle.clap.specs.Simple.{app_of, with_rule};
-ghost use Rattle.command_words.specs.CommandLine.{positional_rule, option_rule, bare_app, run_app};
-ghost use Rattle.command_words.specs.CommandLine.{verify_app, check_app, prove_app, drill_app};
+ghost use Rattle.command_words.specs.CommandLine.{positional_rule, option_rule, flag_rule};
+ghost use Rattle.command_words.specs.CommandLine.{bare_app, run_app, verify_app, check_app};
+ghost use Rattle.command_words.specs.CommandLine.{prove_app, drill_app};
 
 use clap::{Arg, ArgAction, Command};
 use std::alloc::{AllocError, Global};
 
-// `run DEF TERM --limit N [--calls N] [--proof FILE] [--hints HINTS]`
+// `run DEF TERM --limit N [--calls N] [--proof FILE] [--hints HINTS] [--stuck]`
 pub(crate) fn run_definition<'a>(alloc: Global) -> Result<Command<'a>, AllocError>
     ensures { IfOk result (λ c. app_of c ≡ run_app) }
 {
@@ -21,7 +22,10 @@ pub(crate) fn run_definition<'a>(alloc: Global) -> Result<Command<'a>, AllocErro
         with(limited, option(alloc, "calls", false))?,
         option(alloc, "proof", false),
     )?;
-    with(proved, option(alloc, "hints", false))
+    with(
+        with(proved, option(alloc, "hints", false))?,
+        flag(alloc, "stuck"),
+    )
 }
 
 // `verify FILE`
@@ -97,4 +101,12 @@ fn option<'a>(alloc: Global, id: &'a str, is_required: bool) -> Arg<'a>
         .long(id)
         .action(ArgAction::Set)
         .required(is_required)
+}
+
+// `--NAME`
+fn flag<'a>(alloc: Global, id: &'a str) -> Arg<'a>
+    ensures rule { rule_of result ≡ flag_rule id.entry.now }
+    ensures local { result.global ≡ false }
+{
+    Arg::new(alloc, id).long(id).action(ArgAction::SetTrue)
 }

@@ -40,6 +40,21 @@ fn takes_a_million_calls_where_none_are_stated(rt: HostRuntime) -> Result<(), Fa
             assert_eq!(rt; run.calls, 1_000_000);
             assert!(rt; run.proof.is_none());
             assert!(rt; run.hints.is_none());
+            assert!(rt; !run.stuck);
+        }
+        Ok(_other) => assert!(rt; false),
+        Err(_end) => assert!(rt; false),
+    }
+    Ok(())
+}
+
+#[test]
+fn reads_a_run_that_shows_its_end(rt: HostRuntime) -> Result<(), Fail> {
+    let words = words_of(rt.alloc(), "run --stuck d t --limit 5 --proof p")?;
+    match read_words(rt.alloc(), words.as_slice()) {
+        Ok(Command::Run(run)) => {
+            assert_eq!(rt; run.proof, Some("p"));
+            assert!(rt; run.stuck);
         }
         Ok(_other) => assert!(rt; false),
         Err(_end) => assert!(rt; false),
@@ -61,7 +76,7 @@ fn reads_a_run_with_hints(rt: HostRuntime) -> Result<(), Fail> {
     Ok(())
 }
 
-static BAD_LINES: [&str; 36] = [
+static BAD_LINES: [&str; 41] = [
     "",
     "Run d t --limit 5",
     "run d t",
@@ -79,6 +94,11 @@ static BAD_LINES: [&str; 36] = [
     "run d t --limit 5 --hints h --hints i",
     "run d t --limit 5 --hints p --proof p",
     "run --proof=p d t --limit 5 --hints=p",
+    "run d t --limit 5 --stuck",
+    "run d t --limit 5 --hints h --stuck",
+    "run d t --limit 5 --proof p --stuck --stuck",
+    "run d t --limit 5 --proof p --stuck=true",
+    "verify --stuck p",
     "run d t --limit 5 --help",
     "verify",
     "verify a b",

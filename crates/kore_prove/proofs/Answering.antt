@@ -1,6 +1,7 @@
 -- What holds of a call, for each of its results.
 use Rattle.std.proofs.Common.{◌≡◌, ℕ, ◌⊎◌, inl, inr, List, Option, Some, refl, ◌∙◌, ap, subst}
-use Rattle.std.proofs.Common.{arith}
+use Rattle.std.proofs.Common.{arith, sym}
+use Rattle.std.specs.Prelude.{IsTrue}
 use Rattle.desk_io.specs.KeptFiles.{KeepsFiles}
 use Rattle.desk_io.specs.SinkChanges.{SameBytes}
 use Rattle.rule_core.specs.Runs.{Run, stuck, limited, stopped, unstarted}
@@ -18,6 +19,7 @@ use Rattle.kore_prove.specs.CompletePaths.{CompletesPath}
 use Rattle.kore_prove.specs.Words.{IsWrittenFile}
 use Rattle.kore_prove.specs.PrintedRun.{code_of, IsCodeOfRun, IsPrinted}
 use Rattle.kore_prove.specs.ProvedRun.{HoldsProof, HasWantedProof}
+use Rattle.kore_prove.specs.ShownRun.{HoldsShown, HasWantedShown}
 use Rattle.kore_prove.specs.RunFronts.{LeavesFront}
 use Rattle.kore_prove.specs.Verdicts.{PrintsVerdict}
 use Rattle.kore_prove.specs.Checks.{PrintsCheck}
@@ -85,6 +87,16 @@ wanted_proof proof file c asked run done is =
     (λ (p : Option (List ℕ)). HasWantedProof p c.desk.told c.desk'.told done.theory done.start run)
     is
     done.proof
+
+wanted_shown : (file : List ℕ) (c : Course) (asked : RunRequest) (run : Run)
+    (done : IsRunDone asked c run) → asked.proof ≡ Some file
+    → HoldsShown c.desk.told c.desk'.told file done.theory run done.printed.shown
+wanted_shown file c asked run done is =
+    subst
+    (λ (p : Option (List ℕ)).
+    HasWantedShown p c.desk.told c.desk'.told done.theory run done.printed.shown)
+    is
+    done.shows
 
 -- a file that holds the front of a proof holds it for every reading of the words
 same_front : (asked asked' : RunRequest) (c : Course) → asked ≡ asked'
@@ -194,6 +206,17 @@ run_answered c code asked run command done is silent =
             wanted = same;
             proof = wanted_proof asked.proof file c.course asked run done same;
           });
+      shown_stuck = λ _ file wanted. (
+          let one : asked ≡ wanted.0 =
+          one_request c.words asked wanted.0 command wanted.1 in
+          let same : asked.proof ≡ Some file =
+          ap (λ (r : RunRequest). r.proof) one ∙ wanted.2 in
+          record {
+            printed = printed;
+            wanted = same;
+            asked = subst IsTrue (ap (λ (r : RunRequest). r.stuck) (sym one)) wanted.3;
+            shown = wanted_shown file c.course asked run done same;
+          });
       proof_front =
           λ asked' command'. same_front asked asked' c.course
           (one_request c.words asked asked' command command')
@@ -243,6 +266,7 @@ pub run_ended : (c : Call) (code : ℕ) (asked : RunRequest) (e : Ending) → Is
 run_ended c code asked e command ended said = record {
   printed_run = λ h. absurd (code_of_no_end e _ _ _ _ code said (code_of_run c.words code h));
   proved_run = λ h _ _. absurd (code_of_no_end e _ _ _ _ code said (code_of_run c.words code h));
+  shown_stuck = λ h _ _. absurd (code_of_no_end e _ _ _ _ code said (code_of_run c.words code h));
   proof_front =
       λ asked' command'. same_front asked asked' c.course
       (one_request c.words asked asked' command command') ended.front;
@@ -301,6 +325,7 @@ pub verify_answered : (c : Call) (code : ℕ) (file : List ℕ) (v : Verdict) �
 verify_answered c code file v command printed kept is silent = record {
   printed_run = λ h. verdict_no_run c.words file v code _ command is h;
   proved_run = λ h _ _. verdict_no_run c.words file v code _ command is h;
+  shown_stuck = λ h _ _. verdict_no_run c.words file v code _ command is h;
   proof_front = λ _ _ name _. inl (kept_file c.course.desk.told c.course.desk'.told name kept);
   hinted_run = λ h _ _. verdict_no_run c.words file v code _ command is h;
   hint_front = λ _ _ name _. inl (kept_file c.course.desk.told c.course.desk'.told name kept);
@@ -339,6 +364,7 @@ pub verify_ended : (c : Call) (code : ℕ) (file : List ℕ) (e : Ending) → Is
 verify_ended c code file e command cause kept said = record {
   printed_run = λ h. absurd (code_of_no_end e _ _ _ _ code said (code_of_run c.words code h));
   proved_run = λ h _ _. absurd (code_of_no_end e _ _ _ _ code said (code_of_run c.words code h));
+  shown_stuck = λ h _ _. absurd (code_of_no_end e _ _ _ _ code said (code_of_run c.words code h));
   proof_front = λ _ _ name _. inl (kept_file c.course.desk.told c.course.desk'.told name kept);
   hinted_run = λ h _ _. absurd (code_of_no_end e _ _ _ _ code said (code_of_run c.words code h));
   hint_front = λ _ _ name _. inl (kept_file c.course.desk.told c.course.desk'.told name kept);
@@ -398,6 +424,7 @@ pub check_answered : (c : Call) (code : ℕ) (asked : CheckRequest) (d : Decisio
 check_answered c code asked d command printed kept is silent = record {
   printed_run = λ h. check_no_run c.words asked d code _ command is h;
   proved_run = λ h _ _. check_no_run c.words asked d code _ command is h;
+  shown_stuck = λ h _ _. check_no_run c.words asked d code _ command is h;
   proof_front = λ _ _ name _. inl (kept_file c.course.desk.told c.course.desk'.told name kept);
   hinted_run = λ h _ _. check_no_run c.words asked d code _ command is h;
   hint_front = λ _ _ name _. inl (kept_file c.course.desk.told c.course.desk'.told name kept);
@@ -440,6 +467,7 @@ pub check_ended : (c : Call) (code : ℕ) (asked : CheckRequest) (e : Ending) �
 check_ended c code asked e command cause kept said = record {
   printed_run = λ h. absurd (code_of_no_end e _ _ _ _ code said (code_of_run c.words code h));
   proved_run = λ h _ _. absurd (code_of_no_end e _ _ _ _ code said (code_of_run c.words code h));
+  shown_stuck = λ h _ _. absurd (code_of_no_end e _ _ _ _ code said (code_of_run c.words code h));
   proof_front = λ _ _ name _. inl (kept_file c.course.desk.told c.course.desk'.told name kept);
   hinted_run = λ h _ _. absurd (code_of_no_end e _ _ _ _ code said (code_of_run c.words code h));
   hint_front = λ _ _ name _. inl (kept_file c.course.desk.told c.course.desk'.told name kept);
@@ -491,6 +519,7 @@ drill_answered c code asked command done is silent =
     record {
       printed_run = λ h. drill_no_run c.words asked code _ command is h;
       proved_run = λ h _ _. drill_no_run c.words asked code _ command is h;
+      shown_stuck = λ h _ _. drill_no_run c.words asked code _ command is h;
       proof_front = λ run ran. absurd (run_no_drill c.words run ran asked command);
       hinted_run = λ h _ _. drill_no_run c.words asked code _ command is h;
       hint_front = λ run ran. absurd (run_no_drill c.words run ran asked command);
@@ -535,6 +564,7 @@ pub drill_ended : (c : Call) (code : ℕ) (asked : DrillRequest) (e : Ending) �
 drill_ended c code asked e command ended said = record {
   printed_run = λ h. absurd (code_of_no_end e _ _ _ _ code said (code_of_run c.words code h));
   proved_run = λ h _ _. absurd (code_of_no_end e _ _ _ _ code said (code_of_run c.words code h));
+  shown_stuck = λ h _ _. absurd (code_of_no_end e _ _ _ _ code said (code_of_run c.words code h));
   proof_front = λ run ran. absurd (run_no_drill c.words run ran asked command);
   hinted_run = λ h _ _. absurd (code_of_no_end e _ _ _ _ code said (code_of_run c.words code h));
   hint_front = λ run ran. absurd (run_no_drill c.words run ran asked command);
@@ -587,6 +617,7 @@ prove_answered c code asked command done is silent =
     record {
       printed_run = λ h. path_no_run c.words asked code _ command is h;
       proved_run = λ h _ _. path_no_run c.words asked code _ command is h;
+      shown_stuck = λ h _ _. path_no_run c.words asked code _ command is h;
       proof_front = λ run ran. absurd (run_no_prove c.words run ran asked command);
       hinted_run = λ h _ _. path_no_run c.words asked code _ command is h;
       hint_front = λ run ran. absurd (run_no_prove c.words run ran asked command);
@@ -636,6 +667,8 @@ prove_ended c code asked e command ended said =
           λ h. absurd (code_of_no_end e _ _ _ _ code said (code_of_run c.words code h));
       proved_run =
           λ h _ _. absurd (code_of_no_end e _ _ _ _ code said (code_of_run c.words code h));
+      shown_stuck =
+          λ h _ _. absurd (code_of_no_end e _ _ _ _ code said (code_of_run c.words code h));
       proof_front = λ run ran. absurd (run_no_prove c.words run ran asked command);
       hinted_run =
           λ h _ _. absurd (code_of_no_end e _ _ _ _ code said (code_of_run c.words code h));
@@ -683,6 +716,8 @@ bad_answered c code bad output kept said = record {
       λ h. absurd (code_of_no_end bad_words _ _ _ _ code said (code_of_run c.words code h));
   proved_run =
       λ h _ _. absurd (code_of_no_end bad_words _ _ _ _ code said (code_of_run c.words code h));
+  shown_stuck =
+      λ h _ _. absurd (code_of_no_end bad_words _ _ _ _ code said (code_of_run c.words code h));
   proof_front = λ _ _ name _. inl (kept_file c.course.desk.told c.course.desk'.told name kept);
   hinted_run =
       λ h _ _. absurd (code_of_no_end bad_words _ _ _ _ code said (code_of_run c.words code h));
@@ -720,6 +755,9 @@ memory_answered c code output kept said =
       printed_run =
           λ h. absurd (code_of_no_end out_of_memory _ _ _ _ code said (code_of_run c.words code h));
       proved_run =
+          λ h _ _.
+          absurd (code_of_no_end out_of_memory _ _ _ _ code said (code_of_run c.words code h));
+      shown_stuck =
           λ h _ _.
           absurd (code_of_no_end out_of_memory _ _ _ _ code said (code_of_run c.words code h));
       proof_front = λ _ _ name _. inl (kept_file c.course.desk.told c.course.desk'.told name kept);

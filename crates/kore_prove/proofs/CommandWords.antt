@@ -1,14 +1,15 @@
 -- Words ask for only one thing.
 use Rattle.std.proofs.Common.{◌≡◌, ℕ, List, [], ◌∷◌, length, Bool, true, false, Option, Some, refl}
-use Rattle.std.proofs.Common.{sym, ◌∙◌, ap, arith}
+use Rattle.std.proofs.Common.{sym, ◌∙◌, ap, subst, arith, None}
 use Rattle.std.proofs.lemmas.Bool.{and_parts}
 use Rattle.std.proofs.lemmas.Slice.Eq.{bytes_eq-Decides}
-use Rattle.std.specs.Prelude.{codes, not, ◌&&◌, if◌then◌else◌, is_some}
+use Rattle.std.specs.Prelude.{codes, not, ◌&&◌, ◌||◌, if◌then◌else◌, is_some, IsFalse}
 use Rattle.std.specs.Option.{option_map_or}
 use Rattle.std.specs.Str.{bytes_eq}
 use Rattle.clap.specs.Takes.{takes}
 use Rattle.command_words.specs.CommandLine.{are_bad, is_named, is_number_to, is_run, most_calls}
-use Rattle.command_words.specs.CommandLine.{most_steps, names_one_file, run_app, value_of}
+use Rattle.command_words.specs.CommandLine.{most_steps, names_one_file, run_app, value_of, is_set}
+use Rattle.command_words.specs.CommandLine.{are_bad_files, shows_nowhere}
 use Rattle.command_words.specs.Commands.{Gives}
 use Rattle.command_words.specs.declared.commands.Command.{Command}
 use Rattle.command_words.specs.declared.commands.Command.TheVariants as command
@@ -18,7 +19,7 @@ use Rattle.kore_prove.specs.DrillWords.{DrillRequest, IsDrill, IsNoDrill}
 use Rattle.kore_prove.specs.RunWords.{RunRequest, IsRun}
 use Rattle.kore_prove.specs.VerifyWords.{IsVerify}
 use Rattle.kore_prove.specs.BadWords.{AreBad}
-use Rattle.kore_prove.specs.Requests.{AreTwoFiles, AsksFor, request}
+use Rattle.kore_prove.specs.Requests.{HasGoodFiles, AsksFor, request}
 
 some_same : {A : Type 0} (o : Option A) (a b : A) → o ≡ Some a → o ≡ Some b → a ≡ b
 some_same o a b h k = cc
@@ -34,12 +35,16 @@ one_request words a b h k =
     let calls : a.calls ≡ b.calls = h.calls ∙ sym k.calls in
     let proof : a.proof ≡ b.proof = h.proof ∙ sym k.proof in
     let hints : a.hints ≡ b.hints = h.hints ∙ sym k.hints in
-    ap (λ (d : List ℕ). record a { definition = d }) definition
-    ∙ ap (λ (t : List ℕ). record a { definition = b.definition; term = t }) term
-    ∙ ap (λ (n : ℕ). record b { limit = n; calls = a.calls; proof = a.proof; hints = a.hints }) limit
-    ∙ ap (λ (n : ℕ). record b { calls = n; proof = a.proof; hints = a.hints }) calls
-    ∙ ap (λ (p : Option (List ℕ)). record b { proof = p; hints = a.hints }) proof
-    ∙ ap (λ (o : Option (List ℕ)). record b { hints = o }) hints
+    let stuck : a.stuck ≡ b.stuck = h.stuck ∙ sym k.stuck in
+    λ j. record {
+      definition = definition j;
+      term = term j;
+      limit = limit j;
+      calls = calls j;
+      proof = proof j;
+      hints = hints j;
+      stuck = stuck j;
+    }
 
 pub one_file : (words : List (List ℕ)) (a b : List ℕ) → IsVerify words a → IsVerify words b → a ≡ b
 one_file words a b h k = some_same _ _ _ h.file_is k.file_is
@@ -191,15 +196,31 @@ not_true : (b : Bool) → not b ≡ true → b ≡ false
 not_true true h = absurd (never false refl h)
 not_true false h = refl
 
+neither : (a b : Bool) → not (a || b) ≡ true → (a ≡ false) × (b ≡ false)
+neither true b h = absurd (never false refl h)
+neither false b h = (refl, not_true b h)
+
 two_names : (proof hints : Option (List ℕ)) (file : List ℕ) → proof ≡ Some file → hints ≡ Some file
-    → not (names_one_file proof hints) ≡ true → ⊥
+    → names_one_file proof hints ≡ false → ⊥
 two_names proof hints file is is' h =
     let one : names_one_file proof hints ≡ true =
     rw (is, is') ((bytes_eq-Decides file file).1 refl) in
-    never _ (not_true _ h) one
+    never _ h one
 
-pub two_files : (words : List (List ℕ)) (asked : RunRequest) → IsRun words asked → AreTwoFiles asked
-two_files words asked h = λ file proof hints. (
+shown_there : (stuck : Bool) (proof : Option (List ℕ)) → proof ≡ None
+    → shows_nowhere stuck proof ≡ false → IsFalse stuck
+shown_there stuck proof is h =
+    let nowhere : shows_nowhere stuck None ≡ false =
+    subst (λ (p : Option (List ℕ)). shows_nowhere stuck p ≡ false) is h in
+    go stuck nowhere
+  where
+    go : (b : Bool) → shows_nowhere b None ≡ false → IsFalse b
+    go true h = absurd (never false refl (sym h))
+    go false h = refl
+
+pub good_files : (words : List (List ℕ)) (asked : RunRequest) → IsRun words asked
+    → HasGoodFiles asked
+good_files words asked h = (
     let good : is_run words ≡ true =
     first_choice (is_named (codes "run") words) (is_run words) _ h.named h.good in
     let taken = takes run_app words in
@@ -209,14 +230,21 @@ two_files words asked h = λ file proof hints. (
     option_map_or (is_number_to most_steps) (value_of run_app words (codes "limit")) false in
     let counted =
     option_map_or (is_number_to most_calls) (value_of run_app words (codes "calls")) true in
-    let two =
-    not (names_one_file (value_of run_app words (codes "proof"))
-    (value_of run_app words (codes "hints"))) in
-    let after_taken = (and_parts taken (named && (limited && (counted && two))) good).1 in
-    let after_named = (and_parts named (limited && (counted && two)) after_taken).1 in
-    let after_limited = (and_parts limited (counted && two) after_named).1 in
-    two_names _ _ file (sym h.proof ∙ proof) (sym h.hints ∙ hints)
-    (and_parts counted two after_limited).1)
+    let files =
+    not (are_bad_files (is_set run_app words (codes "stuck"))
+    (value_of run_app words (codes "proof")) (value_of run_app words (codes "hints"))) in
+    let after_taken = (and_parts taken (named && (limited && (counted && files))) good).1 in
+    let after_named = (and_parts named (limited && (counted && files)) after_taken).1 in
+    let after_limited = (and_parts limited (counted && files) after_named).1 in
+    let both = neither _ _ (and_parts counted files after_limited).1 in
+    record {
+      two =
+          λ file proof hints. two_names _ _ file (sym h.proof ∙ proof) (sym h.hints ∙ hints)
+          both.1;
+      shown_there =
+          λ none. subst IsFalse (sym h.stuck)
+          (shown_there _ _ (sym h.proof ∙ none) both.0);
+    })
 
 -- what good words ask for, in the terms of the requests
 pub asked_of : (words : List (List ℕ)) (c : Command) → (are_bad words ≡ false) × Gives words c
@@ -231,8 +259,9 @@ asked_of words (command.Run r) h =
       calls = h.1.calls;
       proof = h.1.proof;
       hints = h.1.hints;
+      stuck = h.1.stuck;
     } in
-    (run, two_files words (request r) run)
+    (run, good_files words (request r) run)
 asked_of words (command.Verify file) h =
     record { good = h.0; named = h.1.named; file_is = h.1.file_is }
 asked_of words (command.Check c) h = record {

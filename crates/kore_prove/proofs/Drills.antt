@@ -71,12 +71,12 @@ counts_are database s h =
 -- the lines of the drill were sent, or a part of them
 drill_sent : (Grew : Option (List ℕ) → Option (List ℕ) → List ℕ → Type 0) (asked : DrillRequest)
     (c : Course) (theory : RewriteTheory) (start : Pattern) (run : Run) (lines : List ℕ)
-    (s : Summary) → IsDrillProgram asked.steps theory start
+    (shown : Option ℕ) (s : Summary) → IsDrillProgram asked.steps theory start
     → HasLines (record { limit = asked.steps + 1; calls = drill_calls }) theory start run lines
-    → HoldsCounted c.desk.told c.desk'.told asked.file theory start run s
+    → HoldsCounted c.desk.told c.desk'.told asked.file theory start run shown s
     → Grew c.out.bytes c.out'.bytes (lines ++ counts_line s.facts s.statements s.bytes)
     → SendsDrill Grew asked c.desk.told c.desk'.told c.out.bytes c.out'.bytes
-drill_sent Grew asked c theory start run lines s program h held grew = record {
+drill_sent Grew asked c theory start run lines shown s program h held grew = record {
   theory = theory;
   start = start;
   program = program;
@@ -92,14 +92,15 @@ drill_sent Grew asked c theory start run lines s program h held grew = record {
 
 -- the drill was made and printed
 pub drill_made : (asked : DrillRequest) (c : Course) (theory : RewriteTheory) (start : Pattern)
-    (run : Run) (lines : List ℕ) (s : Summary) → IsDrillProgram asked.steps theory start
+    (run : Run) (lines : List ℕ) (shown : Option ℕ) (s : Summary)
+    → IsDrillProgram asked.steps theory start
     → HasLines (record { limit = asked.steps + 1; calls = drill_calls }) theory start run lines
-    → HoldsCounted c.desk.told c.desk'.told asked.file theory start run s
+    → HoldsCounted c.desk.told c.desk'.told asked.file theory start run shown s
     → KeepsOthers (IsDrillFile asked) c.desk.told c.desk'.told
     → Appends c.out.bytes c.out'.bytes (lines ++ counts_line s.facts s.statements s.bytes)
     → IsDrillDone asked c
-drill_made asked c theory start run lines s program h held others grew = record {
-  drilled = drill_sent Appends asked c theory start run lines s program h held grew;
+drill_made asked c theory start run lines shown s program h held others grew = record {
+  drilled = drill_sent Appends asked c theory start run lines shown s program h held grew;
   others = others;
 }
 
@@ -136,24 +137,24 @@ drill_ended_unproved asked c e f theory start is program front others rose same 
 
 -- the lines of the drill were not sent as a whole
 pub drill_ended_unprinted : (asked : DrillRequest) (c : Course) (e : Ending) (f : DeskFault)
-    (theory : RewriteTheory) (start : Pattern) (run : Run) (lines : List ℕ) (s : Summary)
-    → e ≡ fault_end f → IsDrillProgram asked.steps theory start
+    (theory : RewriteTheory) (start : Pattern) (run : Run) (lines : List ℕ) (shown : Option ℕ)
+    (s : Summary) → e ≡ fault_end f → IsDrillProgram asked.steps theory start
     → HasLines (record { limit = asked.steps + 1; calls = drill_calls }) theory start run lines
-    → HoldsCounted c.desk.told c.desk'.told asked.file theory start run s
+    → HoldsCounted c.desk.told c.desk'.told asked.file theory start run shown s
     → KeepsOthers (IsDrillFile asked) c.desk.told c.desk'.told
     → (f ≡ fault.Failed → CountsOutputFault c)
     → AppendsFront c.out.bytes c.out'.bytes (lines ++ counts_line s.facts s.statements s.bytes)
     → IsDrillEnded asked c e
-drill_ended_unprinted asked c e f theory start run lines s is program h held others rose grew =
+drill_ended_unprinted asked c e f theory start run lines shown s is program h held others rose grew =
     record {
       cause =
           drill_unprinted
-          (drill_sent AppendsFront asked c theory start run lines s program h held grew)
+          (drill_sent AppendsFront asked c theory start run lines shown s program h held grew)
           (stops f e (CountsOutputFault c) is rose);
       front =
           left_drill asked c.desk.told c.desk'.told theory start program
           (counted_front c.desk.told c.desk'.told asked.file theory (asked.steps + 1) drill_calls
-          start run s h.is_run held);
+          start run shown s h.is_run held);
       others = others;
     }
 

@@ -101,19 +101,21 @@ same_others W (Some old) new h = (old, h, λ name other. refl)
 
 -- the created file holds the proof
 pub created_proof : (old made new : Option Told) (file : List ℕ) (theory : RewriteTheory)
-    (start : Pattern) (run : Run) (s : Summary) → Creates old made file
-    → PutsProof made new theory start run s → HoldsCounted old new file theory start run s
-created_proof old made new file theory start run s h k = record {
+    (start : Pattern) (run : Run) (shown : Option ℕ) (s : Summary) → Creates old made file
+    → PutsProof made new theory start run s shown
+    → HoldsCounted old new file theory start run shown s
+created_proof old made new file theory start run shown s h k = record {
   proof = record { bytes = k.0; held = created_tells old made new file k.0 h k.1; proves = k.2 };
   counted = k.3;
+  shows = k.5;
 }
 
 -- a file that holds a proof of the run holds the front of one
 pub counted_front : (told told' : Option Told) (file : List ℕ) (theory : RewriteTheory)
-    (limit calls : ℕ) (start : Pattern) (run : Run) (s : Summary)
-    → IsRunOf theory limit calls start run → HoldsCounted told told' file theory start run s
+    (limit calls : ℕ) (start : Pattern) (run : Run) (shown : Option ℕ) (s : Summary)
+    → IsRunOf theory limit calls start run → HoldsCounted told told' file theory start run shown s
     → MayHoldFront told told' file theory limit calls start
-counted_front told told' file theory limit calls start run s is h =
+counted_front told told' file theory limit calls start run shown s is h =
     inr (record {
       bytes = h.proof.bytes;
       held = h.proof.held;

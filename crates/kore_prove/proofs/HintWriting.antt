@@ -18,6 +18,7 @@ use Rattle.kore_prove.specs.WrittenHints.{MayHoldText}
 use Rattle.kore_prove.specs.HintFronts.{HoldsFrontOf}
 use Rattle.kore_prove.specs.ProofFiles.{HasWantedHintFront}
 use Rattle.kore_prove.specs.ProvedRun.{HasWantedProof}
+use Rattle.kore_prove.specs.ShownRun.{HasWantedShown}
 use Rattle.kore_prove.proofs.FileProofs.{created_tells, created_others}
 
 -- what holds whatever the result is
@@ -100,6 +101,19 @@ proof_untouched W (Some file) told mid new theory start run apart kept h = recor
   bytes = h.bytes;
   held = tells_kept W told mid new file h.bytes h.held (apart file refl) kept;
   proves = h.proves;
+}
+
+-- and it shows what it showed
+pub shown_untouched : (W : List ℕ → Type 0) (proof : Option (List ℕ)) (told mid new : Option Told)
+    (theory : RewriteTheory) (run : Run) (shown : Option ℕ)
+    → ((file : List ℕ) → proof ≡ Some file → W file → ⊥) → KeepsOthers W mid new
+    → HasWantedShown proof told mid theory run shown
+    → HasWantedShown proof told new theory run shown
+shown_untouched W None told mid new theory run shown apart kept h = tt
+shown_untouched W (Some file) told mid new theory run shown apart kept h = record {
+  bytes = h.bytes;
+  held = tells_kept W told mid new file h.bytes h.held (apart file refl) kept;
+  shows = h.shows;
 }
 
 -- a file that was not written before is the same since then

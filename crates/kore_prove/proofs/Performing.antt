@@ -1,6 +1,6 @@
 -- From the parts of a run command to its result.
 use Rattle.std.proofs.Common.{◌≡◌, ℕ, inl, inr, List, Option, Some, None, IsSome}
-use Rattle.std.proofs.Common.{[], sym, subst}
+use Rattle.std.proofs.Common.{[], ◌++◌, sym, subst}
 use Rattle.std.proofs.lemmas.List.{append-nil}
 use Rattle.desk_io.specs.Told.{Told, Holds}
 use Rattle.desk_io.specs.KeptFiles.{KeepsFiles, KeepsOthers}
@@ -17,12 +17,14 @@ use Rattle.rule_core.specs.WellSorted.{IsSignature, IsStart}
 use Rattle.run_loop.specs.RunEnds.{IsSortedEnd}
 use Rattle.kore_show.specs.ShownLaws.{SortedIsShown}
 use Rattle.run_lines.specs.Lines.{kept_pattern}
+use Rattle.run_proof.specs.StuckRuns.{IsShown}
 use Rattle.kore_prove.specs.RunWords.{RunRequest}
 use Rattle.kore_prove.specs.Files.{HoldsStart, HoldsRun}
 use Rattle.kore_prove.specs.ProvedRun.{HasWantedProof}
 use Rattle.kore_prove.specs.RunFronts.{LeavesFront}
 use Rattle.kore_prove.specs.ProofFiles.{HasWantedFront, HasWantedHintFront}
-use Rattle.kore_prove.specs.PrintedRun.{SendsLines}
+use Rattle.kore_prove.specs.PrintedRun.{SendsLines, shown_line}
+use Rattle.kore_prove.specs.ShownRun.{HasWantedShown}
 use Rattle.kore_prove.specs.Causes.{ReadCause, run_unread, run_unproved, run_unprinted}
 use Rattle.kore_prove.specs.Courses.{Course}
 use Rattle.kore_prove.specs.CountedFaults.{CountsWriteFault, CountsOutputFault}
@@ -76,6 +78,18 @@ proof_kept (Some file) told read told' theory start run kept h =
       bytes = h.bytes;
       held = told_now told read told' file h.bytes kept h.held;
       proves = h.proves;
+    }
+
+shown_kept : (proof : Option (List ℕ)) (told read told' : Option Told) (theory : RewriteTheory)
+    (run : Run) (shown : Option ℕ) → KeepsFiles told read
+    → HasWantedShown proof read told' theory run shown
+    → HasWantedShown proof told told' theory run shown
+shown_kept None told read told' theory run shown kept h = tt
+shown_kept (Some file) told read told' theory run shown kept h =
+    record {
+      bytes = h.bytes;
+      held = told_now told read told' file h.bytes kept h.held;
+      shows = h.shows;
     }
 
 -- the front of a proof, for the desk before the files were read
@@ -176,33 +190,42 @@ hints_are_front (Some file) told told' theory limit calls start run is h =
 -- the lines of the run were sent, or a part of them
 lines_sent : (Grew : Option (List ℕ) → Option (List ℕ) → List ℕ → Type 0) (asked : RunRequest)
     (c : Course) (theory : RewriteTheory) (start : Pattern) (run : Run) (lines : List ℕ)
-    → HoldsRun asked c.desk.told theory start → HasLines (bounds_of asked) theory start run lines
-    → Grew c.out.bytes c.out'.bytes lines
+    (shown : Option ℕ) → HoldsRun asked c.desk.told theory start
+    → HasLines (bounds_of asked) theory start run lines → IsShown asked.stuck theory run shown
+    → Grew c.out.bytes c.out'.bytes (lines ++ shown_line asked.stuck shown)
     → SendsLines Grew c.desk.told asked c.out.bytes c.out'.bytes theory start run
-lines_sent Grew asked c theory start run lines held h grew = record {
+lines_sent Grew asked c theory start run lines shown held h is_shown grew = record {
   of_files = record { files = held; is_run = h.is_run };
   lines = lines;
   lines_are = h.lines_are;
+  shown = shown;
+  is_shown = is_shown;
   grew = grew;
 }
 
 -- the run was printed
 pub run_done : (asked : RunRequest) (c : Course) (read : Option Told) (theory : RewriteTheory)
-    (start : Pattern) (run : Run) (lines : List ℕ) → HoldsRun asked c.desk.told theory start
-    → KeepsFiles c.desk.told read → HasLines (bounds_of asked) theory start run lines
+    (start : Pattern) (run : Run) (lines : List ℕ) (shown : Option ℕ)
+    → HoldsRun asked c.desk.told theory start → KeepsFiles c.desk.told read
+    → HasLines (bounds_of asked) theory start run lines → IsShown asked.stuck theory run shown
     → HasWantedProof asked.proof read c.desk'.told theory start run
+    → HasWantedShown asked.proof read c.desk'.told theory run shown
     → HasWantedHints asked.hints read c.desk'.told theory asked.calls start run
-    → KeepsOthers (IsWrittenBy asked) read c.desk'.told → Appends c.out.bytes c.out'.bytes lines
+    → KeepsOthers (IsWrittenBy asked) read c.desk'.told
+    → Appends c.out.bytes c.out'.bytes (lines ++ shown_line asked.stuck shown)
     → IsRunDone asked c run
-run_done asked c read theory start run lines held kept h proof hints others grew = record {
-  theory = theory;
-  start = start;
-  printed = lines_sent Appends asked c theory start run lines held h grew;
-  proof = proof_kept asked.proof c.desk.told read c.desk'.told theory start run kept proof;
-  hints =
-      hints_kept asked.hints c.desk.told read c.desk'.told theory asked.calls start run kept hints;
-  others = then_others (IsWrittenBy asked) c.desk.told read c.desk'.told kept others;
-}
+unfolding lines_sent
+run_done asked c read theory start run lines shown held kept h is_shown proof shows hints others
+    grew = record {
+      theory = theory;
+      start = start;
+      printed = lines_sent Appends asked c theory start run lines shown held h is_shown grew;
+      proof = proof_kept asked.proof c.desk.told read c.desk'.told theory start run kept proof;
+      shows = shown_kept asked.proof c.desk.told read c.desk'.told theory run shown kept shows;
+      hints =
+          hints_kept asked.hints c.desk.told read c.desk'.told theory asked.calls start run kept hints;
+      others = then_others (IsWrittenBy asked) c.desk.told read c.desk'.told kept others;
+    }
 
 -- the files do not give a run
 pub read_ended : (asked : RunRequest) (c : Course) (e : Ending)
@@ -235,23 +258,31 @@ proof_ended asked c e f read theory start is held kept front hints others rose s
 -- the lines of the run were not sent as a whole
 pub lines_ended : (asked : RunRequest) (c : Course) (e : Ending) (f : DeskFault)
     (read : Option Told) (theory : RewriteTheory) (start : Pattern) (run : Run) (lines : List ℕ)
-    → e ≡ fault_end f → HoldsRun asked c.desk.told theory start → KeepsFiles c.desk.told read
-    → HasLines (bounds_of asked) theory start run lines
+    (shown : Option ℕ) → e ≡ fault_end f → HoldsRun asked c.desk.told theory start
+    → KeepsFiles c.desk.told read → HasLines (bounds_of asked) theory start run lines
+    → IsShown asked.stuck theory run shown
     → HasWantedProof asked.proof read c.desk'.told theory start run
+    → HasWantedShown asked.proof read c.desk'.told theory run shown
     → HasWantedHints asked.hints read c.desk'.told theory asked.calls start run
     → KeepsOthers (IsWrittenBy asked) read c.desk'.told
     → (f ≡ fault.Failed → CountsOutputFault c)
-    → AppendsFront c.out.bytes c.out'.bytes lines → IsRunEnded asked c e
-lines_ended asked c e f read theory start run lines is held kept h proof hints others rose grew =
+    → AppendsFront c.out.bytes c.out'.bytes (lines ++ shown_line asked.stuck shown)
+    → IsRunEnded asked c e
+unfolding lines_sent
+lines_ended asked c e f read theory start run lines shown is held kept h is_shown proof shows hints
+    others rose grew =
     record {
       cause =
           run_unprinted (record {
             theory = theory;
             start = start;
             run = run;
-            begun = lines_sent AppendsFront asked c theory start run lines held h grew;
+            begun =
+                lines_sent AppendsFront asked c theory start run lines shown held h is_shown grew;
             proof =
                 proof_kept asked.proof c.desk.told read c.desk'.told theory start run kept proof;
+            shows =
+                shown_kept asked.proof c.desk.told read c.desk'.told theory run shown kept shows;
             hints =
                 hints_kept asked.hints c.desk.told read c.desk'.told theory asked.calls start run
                 kept hints;

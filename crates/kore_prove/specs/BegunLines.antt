@@ -13,6 +13,7 @@ use Rattle.kore_prove.specs.Courses.{Course, Call}
 use Rattle.kore_prove.specs.CountedFaults.{CountsWriteFault, CountsOutputFault}
 use Rattle.kore_prove.specs.PrintedRun.{SendsLines}
 use Rattle.kore_prove.specs.ProvedRun.{HasWantedProof}
+use Rattle.kore_prove.specs.ShownRun.{HasWantedShown}
 use Rattle.kore_prove.specs.HintedRun.{HasWantedHints}
 use Rattle.kore_prove.specs.ProveWords.{ProveRequest, IsProve}
 use Rattle.kore_prove.specs.ProvedPath.{SendsPath}
@@ -20,8 +21,8 @@ use Rattle.kore_prove.specs.Verdicts.{SendsValid, SendsInvalid}
 use Rattle.kore_prove.specs.Checks.{SendsJustified, SendsUnjustified, SendsFault}
 use Rattle.kore_prove.specs.DrilledRun.{SendsDrill}
 
--- the run was made, and its proof and its hints were written if they are wanted; the output got a
--- part of its lines from the front
+-- the run was made, and its proof, with what it shows, and its hints were written if they are
+-- wanted; the output got a part of its lines from the front
 pub record BeginsRun (asked : RunRequest) (c : Course) : Type 0 where
   pub theory : RewriteTheory
   pub start : Pattern
@@ -29,6 +30,7 @@ pub record BeginsRun (asked : RunRequest) (c : Course) : Type 0 where
   pub begun :
       SendsLines AppendsFront c.desk.told asked c.out.bytes c.out'.bytes theory start run
   pub proof : HasWantedProof asked.proof c.desk.told c.desk'.told theory start run
+  pub shows : HasWantedShown asked.proof c.desk.told c.desk'.told theory run begun.shown
   pub hints : HasWantedHints asked.hints c.desk.told c.desk'.told theory asked.calls start run
 
 -- the file was verified, and the output got a part of the line of the verdict from the front

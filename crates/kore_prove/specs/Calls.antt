@@ -6,6 +6,7 @@ use Rattle.kore_prove.specs.BadWords.{AreBad}
 use Rattle.kore_prove.specs.Courses.{Call}
 use Rattle.kore_prove.specs.PrintedRun.{PrintsRun}
 use Rattle.kore_prove.specs.ProvedRun.{ProvesRun}
+use Rattle.kore_prove.specs.ShownRun.{ShowsStuckRun}
 use Rattle.kore_prove.specs.RunFronts.{LeavesFrontOfRun}
 use Rattle.kore_prove.specs.HintedRun.{HintsRun}
 use Rattle.kore_prove.specs.HintFronts.{LeavesHintFront}
@@ -26,6 +27,7 @@ use Rattle.kore_prove.specs.Unwritten.{IsUnwritten}
 pub record IsAnswered (c : Call) (code : ℕ) : Type 0 where
   pub printed_run : PrintsRun c code
   pub proved_run : ProvesRun c code
+  pub shown_stuck : ShowsStuckRun c code
   pub proof_front : LeavesFrontOfRun c
   pub hinted_run : HintsRun c code
   pub hint_front : LeavesHintFront c

@@ -13,6 +13,7 @@ pub mod Files
 pub mod AcceptedRuns
 pub mod PrintedRun
 pub mod ProvedRun
+pub mod ShownRun
 pub mod RunFronts
 pub mod HintedRun
 pub mod HintFronts

@@ -1,11 +1,13 @@
 -- What a call printed: the lines of the run for the files and the words.
-use Rattle.std.specs.Prelude.{◌≡◌, ℕ, List, Option, Some, ◌⊎◌}
+use Rattle.std.specs.Prelude.{◌≡◌, ℕ, Bool, true, false, List, [], ◌∷◌, ◌++◌, Option, Some, None}
+use Rattle.std.specs.Prelude.{◌⊎◌, codes, decimal}
 use Rattle.desk_io.specs.Told.{Told}
 use Rattle.desk_io.specs.Sent.{Appends}
 use Rattle.term_core.specs.Patterns.{Pattern}
 use Rattle.rule_core.specs.Theories.{RewriteTheory}
 use Rattle.rule_core.specs.Runs.{Run, stuck, limited, stopped, unstarted}
 use Rattle.run_lines.specs.Lines.{lines_of}
+use Rattle.run_proof.specs.StuckRuns.{IsShown}
 use Rattle.kore_prove.specs.DrillWords.{IsNoDrill}
 use Rattle.kore_prove.specs.RunWords.{RunRequest, IsRun}
 use Rattle.kore_prove.specs.VerifyWords.{IsNoVerify}
@@ -21,17 +23,26 @@ code_of (limited n t) = 10
 code_of (stopped n cause t) = 11
 code_of (unstarted cause) = 11
 
--- the output grew by the two lines of the run for the files, or by a part from their front: `Grew`
--- is `Appends` or `AppendsFront`
+-- a third line, if it is wanted: `shown R`, where the proof shows R rules unmet at the end of the
+-- run, or `shown none`
+abbrev pub shown_line : Bool → Option ℕ → List ℕ
+shown_line true (Some rules) = codes "shown " ++ (decimal rules ++ (10 ∷ []))
+shown_line true None = codes "shown none" ++ (10 ∷ [])
+shown_line false shown = []
+
+-- the output grew by the lines of the run for the files, or by a part from their front: `Grew` is
+-- `Appends` or `AppendsFront`
 pub record SendsLines (Grew : Option (List ℕ) → Option (List ℕ) → List ℕ → Type 0)
     (told : Option Told) (asked : RunRequest) (before after : Option (List ℕ))
     (theory : RewriteTheory) (start : Pattern) (run : Run) : Type 0 where
   pub of_files : IsRunOfFiles told asked theory start run
   pub lines : List ℕ
   pub lines_are : lines_of theory.sig start run ≡ Some lines
-  pub grew : Grew before after lines
+  pub shown : Option ℕ
+  pub is_shown : IsShown asked.stuck theory run shown
+  pub grew : Grew before after (lines ++ shown_line asked.stuck shown)
 
--- the output grew by the two lines of the run for the files
+-- the output grew by the lines of the run for the files
 abbrev pub PrintsLines : Option Told → RunRequest → Option (List ℕ) → Option (List ℕ)
     → RewriteTheory → Pattern → Run → Type 0
 PrintsLines = SendsLines Appends

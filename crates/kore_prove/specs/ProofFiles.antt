@@ -7,16 +7,17 @@ use Rattle.rule_core.specs.Theories.{RewriteTheory}
 use Rattle.rule_core.specs.Runs.{Run}
 use Rattle.prove_run.specs.Summaries.{IsSummaryOf}
 use Rattle.prove_run.specs.declared.summaries.Summary.{Summary}
+use Rattle.run_proof.specs.ShownRules.{Shows}
 use Rattle.kore_prove.specs.ProvedRun.{HoldsProof}
 use Rattle.kore_prove.specs.RunFronts.{HoldsFront}
 use Rattle.kore_prove.specs.HintFronts.{HoldsHintFront}
 
--- the file holds a proof of the run that has these counts
+-- the file holds a proof of the run that has these counts, and shows so many rules unmet
 pub record HoldsCounted (told told' : Option Told) (file : List ℕ) (theory : RewriteTheory)
-    (start : Pattern)
-    (run : Run) (summary : Summary) : Type 0 where
+    (start : Pattern) (run : Run) (shown : Option ℕ) (summary : Summary) : Type 0 where
   pub proof : HoldsProof told told' file theory start run
   pub counted : IsSummaryOf proof.bytes summary
+  pub shows : Shows proof.bytes theory run shown
 
 -- the file is as before, or it was created and holds the front of a proof
 abbrev pub MayHoldFront : Option Told → Option Told → List ℕ → RewriteTheory → ℕ → ℕ → Pattern

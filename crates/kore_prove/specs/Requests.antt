@@ -1,5 +1,5 @@
 -- What the commands of the code ask for.
-use Rattle.std.specs.Prelude.{◌≡◌, ℕ, ◌⊎◌, ◌≤◌, List, Some, option_copied}
+use Rattle.std.specs.Prelude.{◌≡◌, ℕ, ◌⊎◌, ◌≤◌, IsFalse, List, Some, None, option_copied}
 use Rattle.command_words.specs.CommandLine.{most_drilled}
 use Rattle.command_words.specs.declared.commands.RunWords.{RunWords}
 use Rattle.command_words.specs.declared.commands.CheckWords.{CheckWords}
@@ -23,6 +23,7 @@ request r = record {
   calls = r.calls;
   proof = option_copied r.proof;
   hints = option_copied r.hints;
+  stuck = r.stuck;
 }
 
 -- how far the run may go
@@ -46,13 +47,15 @@ prove_request p = record {
 abbrev pub drill_request : DrillWords → DrillRequest
 drill_request d = record { steps = d.steps; file = d.file.now }
 
--- the proof and the hints of a run go to two files
-abbrev pub AreTwoFiles : RunRequest → Type 0
-AreTwoFiles asked = (file : List ℕ) → asked.proof ≡ Some file → asked.hints ≡ Some file → ⊥
+-- the proof and the hints of a run go to two files; what a proof shows at its end is wanted only
+-- where a proof is wanted
+pub record HasGoodFiles (asked : RunRequest) : Type 0 where
+  pub two : (file : List ℕ) → asked.proof ≡ Some file → asked.hints ≡ Some file → ⊥
+  pub shown_there : asked.proof ≡ None → IsFalse asked.stuck
 
 -- the words ask for this; the steps of a drill are within its limit
 abbrev pub AsksFor : List (List ℕ) → Command → Type 0
-AsksFor words (command.Run r) = IsRun words (request r) × AreTwoFiles (request r)
+AsksFor words (command.Run r) = IsRun words (request r) × HasGoodFiles (request r)
 AsksFor words (command.Verify file) = IsVerify words file.now
 AsksFor words (command.Check c) = IsCheck words (check_request c)
 AsksFor words (command.Prove p) = IsProve words (prove_request p)

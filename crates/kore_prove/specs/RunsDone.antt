@@ -12,6 +12,7 @@ use Rattle.kore_prove.specs.Causes.{RunCause, PathCause, DrillCause}
 use Rattle.kore_prove.specs.Courses.{Course}
 use Rattle.kore_prove.specs.PrintedRun.{PrintsLines}
 use Rattle.kore_prove.specs.ProvedRun.{HasWantedProof}
+use Rattle.kore_prove.specs.ShownRun.{HasWantedShown}
 use Rattle.kore_prove.specs.RunFronts.{LeavesFront}
 use Rattle.kore_prove.specs.HintedRun.{HasWantedHints}
 use Rattle.kore_prove.specs.HintFronts.{LeavesHints}
@@ -23,19 +24,21 @@ use Rattle.kore_prove.specs.Reports.{Ending}
 use Rattle.kore_prove.specs.declared.running.Bounds.{Bounds}
 use Rattle.kore_prove.specs.Requests.{IsWrittenBy, IsPathFile, IsDrillFile}
 
--- the lines are the lines of the run within these bounds
+-- the lines are the two lines of the run within these bounds
 pub record HasLines (bounds : Bounds) (theory : RewriteTheory) (start : Pattern) (run : Run)
     (lines : List ℕ) :
     Type 0 where
   pub is_run : IsRunOf theory bounds.limit bounds.calls start run
   pub lines_are : lines_of theory.sig start run ≡ Some lines
 
--- the run was printed, and its proof and its hints were written if they are wanted
+-- the run was printed, and its proof, with what it shows, and its hints were written if they are
+-- wanted
 pub record IsRunDone (asked : RunRequest) (c : Course) (run : Run) : Type 0 where
   pub theory : RewriteTheory
   pub start : Pattern
   pub printed : PrintsLines c.desk.told asked c.out.bytes c.out'.bytes theory start run
   pub proof : HasWantedProof asked.proof c.desk.told c.desk'.told theory start run
+  pub shows : HasWantedShown asked.proof c.desk.told c.desk'.told theory run printed.shown
   pub hints : HasWantedHints asked.hints c.desk.told c.desk'.told theory asked.calls start run
   pub others : KeepsOthers (IsWrittenBy asked) c.desk.told c.desk'.told
 

@@ -1,5 +1,9 @@
 // The top call: words, files, the run and its lines, the verdict, the drill.
-ghost use Rattle.std.specs.Prelude.{◌≡◌, ◌⊎◌, IsFalse, IfOk, IfErr, Err, map, string_bytes};
+ghost use Rattle.std.specs.Prelude.{◌≡◌, ◌⊎◌, ◌++◌, IsFalse, IfOk, IfErr, OnOk, OnErr, IsErrOf, Err};
+ghost use Rattle.std.specs.Prelude.{map, string_bytes};
+ghost use Rattle.desk_io.specs.Sent.{Appends};
+ghost use Rattle.desk_io.specs.SinkChanges.{AppendsFront};
+ghost use Rattle.desk_io.specs.Counts.{CountRose};
 ghost use Rattle.desk_io.specs.KeptFiles.{KeepsFiles, KeepsOthers};
 ghost use Rattle.run_loop.specs.RunEnds.{plain_run};
 ghost use Rattle.kore_prove.specs.BegunLines.{StopsPrinting, FailsInPrinting};
@@ -16,13 +20,14 @@ ghost use Rattle.kore_prove.specs.DrilledRun.{Drills, LeavesFrontOfDrill};
 ghost use Rattle.kore_prove.specs.HintedRun.{HintsRun};
 ghost use Rattle.kore_prove.specs.HintFronts.{LeavesHintFront};
 ghost use Rattle.kore_prove.specs.PlainEnds.{plain_end};
-ghost use Rattle.kore_prove.specs.PrintedRun.{PrintsRun, code_of};
+ghost use Rattle.kore_prove.specs.PrintedRun.{PrintsRun, code_of, shown_line};
 ghost use Rattle.kore_prove.specs.ProvedPath.{ProvesPath, LeavesFrontOfPath};
 ghost use Rattle.kore_prove.specs.ProvedRun.{ProvesRun};
 ghost use Rattle.kore_prove.specs.RunFronts.{LeavesFrontOfRun};
 ghost use Rattle.kore_prove.specs.Reports.{Reports};
-ghost use Rattle.kore_prove.specs.Requests.{AreTwoFiles, AsksFor, request};
+ghost use Rattle.kore_prove.specs.Requests.{HasGoodFiles, AsksFor, request};
 ghost use Rattle.kore_prove.specs.RunsDone.{IsRunDone, IsRunEnded};
+ghost use Rattle.kore_prove.specs.ShownRun.{ShowsStuckRun};
 ghost use Rattle.kore_prove.specs.Unwritten.{IsUnwritten};
 ghost use Rattle.kore_prove.specs.Verdicts.{PrintsVerdict};
 ghost use Rattle.kore_prove.specs.Words.{IsWrittenFile};
@@ -30,13 +35,14 @@ ghost use Rattle.kore_prove.specs.BadWords.{AreBad};
 
 use crate::checking::check_command;
 use crate::drilling::drill_command;
-use crate::proof_file::made_lines;
+use crate::proof_file::{Made, made_lines};
 use crate::proving::prove_command;
 use crate::reading::read_run;
-use crate::report::{End, send_report, write_end};
+use crate::report::{End, send_pieces, send_report, write_end};
 use crate::verification::verify_command;
 use command_words::{Command, RunWords, WordsEnd, read_words};
-use desk_io::{Desk, Sink, send_whole};
+use desk_io::{Desk, DeskFault, Sink, send_whole};
+use itoa::Buffer;
 use run_loop::RunEnd;
 use std::alloc::Global;
 
@@ -48,7 +54,8 @@ pub struct Status {
 
 /// Does what the words ask for. A run reads its files from the desk, runs the term, writes the
 /// proof of the run and then its hints to their files, if they are named, and prints the two lines
-/// of the run to `out`. A proof of a path reads a definition and hints, checks all lines of the
+/// of the run to `out`, and a third one that says how many rules the proof shows unmet at its end,
+/// if that is wanted. A proof of a path reads a definition and hints, checks all lines of the
 /// hints, writes the proof of the path to its file, and prints two lines: the number of steps, and
 /// the last configuration. A verification prints the line of the verdict on the database. A check
 /// reads a definition and a database, and prints what the database justifies over the definition's
@@ -76,6 +83,9 @@ pub fn kore_main<D: Desk, O: Sink, E: Sink>(
         (map string_bytes words.now) (D.state desk.old) (D.state desk.new) (O.state out.old)
         (O.state out.new) (E.state err.old) (E.state err.new)) result.code }
     ensures proved_run { ProvesRun (call_of
+        (map string_bytes words.now) (D.state desk.old) (D.state desk.new) (O.state out.old)
+        (O.state out.new) (E.state err.old) (E.state err.new)) result.code }
+    ensures shown_stuck { ShowsStuckRun (call_of
         (map string_bytes words.now) (D.state desk.old) (D.state desk.new) (O.state out.old)
         (O.state out.new) (E.state err.old) (E.state err.new)) result.code }
     ensures proof_front { LeavesFrontOfRun (call_of
@@ -231,7 +241,7 @@ fn run_command<'a, D: Desk, O: Sink>(
     out: &mut O,
 ) -> Result<RunEnd, End<'a>>
     requires none_created { IsFalse (D.created desk.old) }
-    requires two_files { AreTwoFiles (request asked.now) }
+    requires good_files { HasGoodFiles (request asked.now) }
     ensures done { IfOk result (λ end. IsRunDone (request asked.now) (course_of
         (D.state desk.old) (D.state desk.new) (O.state out.old) (O.state out.new))
         (plain_run end)) }
@@ -244,12 +254,52 @@ fn run_command<'a, D: Desk, O: Sink>(
         Ok(accepted) => accepted,
         Err(end) => return Err(end),
     };
-    let (end, lines) = match made_lines(alloc, desk, &accepted, asked) {
+    let Made { end, lines, shown } = match made_lines(alloc, desk, &accepted, asked) {
         Ok(made) => made,
         Err(fault) => return Err(write_end(fault)),
     };
-    match send_whole(out, &lines) {
+    match send_lines(out, &lines, asked.stuck, shown) {
         Ok(()) => Ok(end),
         Err(fault) => Err(write_end(fault)),
+    }
+}
+
+// Sends the two lines of a run, and the third one if it is wanted. After an error some bytes from
+// their front, perhaps none, are sent. It fails with `Failed` only if the sink counted a fault.
+fn send_lines<O: Sink>(
+    out: &mut O,
+    lines: &[u8],
+    stuck: bool,
+    shown: Option<usize>,
+) -> Result<(), DeskFault>
+    ensures sent { OnOk result (Appends (O.state out.old).bytes (O.state out.new).bytes
+        (lines.now ++ shown_line stuck shown)) }
+    ensures prefix { OnErr result (AppendsFront (O.state out.old).bytes (O.state out.new).bytes
+        (lines.now ++ shown_line stuck shown)) }
+    ensures failed { IsErrOf result DeskFault.Failed
+        → CountRose (O.state out.old).faults (O.state out.new).faults }
+{
+    match send_whole(out, lines) {
+        Ok(()) => send_shown(out, stuck, shown),
+        Err(fault) => Err(fault),
+    }
+}
+
+// Sends the third line if it is wanted, with the same errors.
+fn send_shown<O: Sink>(out: &mut O, stuck: bool, shown: Option<usize>) -> Result<(), DeskFault>
+    ensures sent { OnOk result (Appends (O.state out.old).bytes (O.state out.new).bytes
+        (shown_line stuck shown)) }
+    ensures prefix { OnErr result (AppendsFront (O.state out.old).bytes (O.state out.new).bytes
+        (shown_line stuck shown)) }
+    ensures failed { IsErrOf result DeskFault.Failed
+        → CountRose (O.state out.old).faults (O.state out.new).faults }
+{
+    if !stuck {
+        return Ok(());
+    }
+    let mut numbers = Buffer::new();
+    match shown {
+        Some(rules) => send_pieces(out, &["shown ", numbers.format(rules), "\n"]),
+        None => send_pieces(out, &["shown none\n"]),
     }
 }

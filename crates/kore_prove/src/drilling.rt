@@ -60,7 +60,8 @@ pub fn drill_command<'a, D: Desk, O: Sink>(
         calls: DRILL_CALLS,
     };
     let mut hints = Hints::unwanted();
-    let proved = match proved_lines(alloc, desk, &accepted, bounds, asked.file, &mut hints) {
+    let file = asked.file;
+    let proved = match proved_lines(alloc, desk, &accepted, bounds, false, file, &mut hints) {
         Ok(proved) => proved,
         Err(fault) => return Err(write_end(fault)),
     };

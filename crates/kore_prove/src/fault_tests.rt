@@ -1,6 +1,6 @@
 // Calls in which each call of the desk, of the output or of the error stream fails in turn.
 use crate::test_calls::{BASE, Case, Faults, Left, call_with};
-use crate::test_definitions::{ADDITION, TWO_STEPS};
+use crate::test_definitions::{ADDITION, SAME_PAIR, TWO_STEPS};
 use std::alloc::{AllocError, Global};
 use std::test::Fail;
 
@@ -14,6 +14,22 @@ const ADDS: Case<'static> = Case {
         dotk{}()))",
     out: "stuck 1\nLbl'-LT-'k'-GT-'{}(kseq{}(inj{SortInt{},\
         SortKItem{}}(\\dv{SortInt{}}(\"5\")),dotk{}()))\n",
+    ..BASE
+};
+
+/// A run without a step, which is shown to be stuck.
+const SHOWS: Case<'static> = Case {
+    words: &[
+        "run",
+        "d.kore",
+        "t.kore",
+        "--limit=5",
+        "--proof=p.mm",
+        "--stuck",
+    ],
+    definition: SAME_PAIR,
+    term: "pair{}(p{}(),q{}())",
+    out: "stuck 0\npair{}(p{}(),q{}())\nshown 1\n",
     ..BASE
 };
 
@@ -45,8 +61,8 @@ const NO_FAULTS: Faults<'static> = Faults {
     err: &[],
 };
 
-/// The calls of the desk in the run: it opens, reads and ends two files, creates the file of the
-/// proof, writes its beginning and the text of the step, and closes it.
+/// The calls of the desk in such a run: it opens, reads and ends two files, creates the file of the
+/// proof, writes its beginning and the text of the step or of what is shown, and closes it.
 const READS: u64 = 6;
 
 const CALLS: u64 = READS + 4;
@@ -55,29 +71,42 @@ const CALLS: u64 = READS + 4;
 /// file. From that call on it ends as a write fault, and leaves the front of the proof.
 #[test]
 fn each_call_of_the_desk_fails_in_turn(rt: HostRuntime) -> Result<(), Fail> {
-    let alloc = rt.alloc();
-    let whole = call_with(alloc, &ADDS, NO_FAULTS)?;
-    let proof = whole.desk.file("p.mm").unwrap_or_default();
-    assert!(rt; whole.code == 0 && !proof.is_empty());
-    for number in 0..CALLS {
-        let left = failing_desk(alloc, number)?;
-        let code = if number < READS { 3 } else { 4 };
-        assert!(rt; left.code == code && left.out.bytes().is_empty());
-        assert!(rt; holds_front(&left, proof, number > READS));
+    for case in [&ADDS, &SHOWS] {
+        assert!(rt; fails_at_each_call(rt.alloc(), case)?);
     }
-    let undisturbed = failing_desk(alloc, CALLS)?;
-    assert!(rt; undisturbed.code == 0);
-    assert!(rt; undisturbed.desk.file("p.mm") == Some(proof));
     Ok(())
 }
 
+/// Whether each call of the desk in this case fails as it should, until no call is left to fail.
+fn fails_at_each_call(alloc: Global, case: &Case<'_>) -> Result<bool, AllocError> {
+    let whole = call_with(alloc, case, NO_FAULTS)?;
+    let proof = whole.desk.file("p.mm").unwrap_or_default();
+    for number in 0..CALLS {
+        let left = failing_desk(alloc, case, number)?;
+        let code = if number < READS { 3 } else { 4 };
+        if left.code != code || !left.out.bytes().is_empty() {
+            return Ok(false);
+        }
+        if !holds_front(&left, proof, number > READS) {
+            return Ok(false);
+        }
+    }
+    let undisturbed = failing_desk(alloc, case, CALLS)?;
+    Ok(
+        whole.code == 0
+            && !proof.is_empty()
+            && undisturbed.code == 0
+            && undisturbed.desk.file("p.mm") == Some(proof),
+    )
+}
+
 /// The run in which the call of the desk with this number fails.
-fn failing_desk(alloc: Global, number: u64) -> Result<Left, AllocError> {
+fn failing_desk(alloc: Global, case: &Case<'_>, number: u64) -> Result<Left, AllocError> {
     let faults = Faults {
         desk: &[number],
         ..NO_FAULTS
     };
-    call_with(alloc, &ADDS, faults)
+    call_with(alloc, case, faults)
 }
 
 /// Whether the file was created if it was to be, and holds the front of the proof.
@@ -92,7 +121,7 @@ fn holds_front(left: &Left, proof: &[u8], created: bool) -> bool {
 /// and the file of the proof is whole.
 #[test]
 fn each_write_of_the_output_fails_in_turn(rt: HostRuntime) -> Result<(), Fail> {
-    for case in [&ADDS, &VERIFIES, &DRILLS] {
+    for case in [&ADDS, &SHOWS, &VERIFIES, &DRILLS] {
         assert!(rt; fails_at_each_write(rt.alloc(), case)?);
     }
     Ok(())

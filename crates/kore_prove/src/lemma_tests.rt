@@ -14,6 +14,7 @@ use mm_verify::verify;
 use prove_run::{Proof, ProveEnd, start_reaches};
 use run_proof::run_with_proof;
 use std::alloc::Global;
+use std::slice::from_ref;
 use std::test::Fail;
 use term_core::RulePat;
 
@@ -112,7 +113,16 @@ fn proof_of_run<'p>(
         return None;
     };
     let mut hints = Hints::unwanted();
-    match run_with_proof(alloc, desk, engine, &accepted.start, 5, 1_000, &mut hints) {
+    match run_with_proof(
+        alloc,
+        desk,
+        engine,
+        &accepted.start,
+        5,
+        1_000,
+        false,
+        &mut hints,
+    ) {
         Ok((_, proof)) => Some(proof),
         Err(_) => None,
     }
@@ -132,5 +142,5 @@ fn add_itself(
     let (mut prover, rest) = proof.part();
     let itself = start_reaches(alloc, &mut prover, start, None)?;
     let mut proof = rest.join(prover);
-    proof.add_lemma(alloc, desk, &itself)
+    proof.add_lemmas(alloc, desk, from_ref(&itself))
 }

@@ -9,8 +9,10 @@ ghost use Rattle.kore_prove.specs.HintedRun.{HasWantedHints};
 ghost use Rattle.kore_prove.specs.ProofFiles.{HasWantedFront, HasWantedHintFront, HoldsCounted};
 ghost use Rattle.kore_prove.specs.ProofFiles.{MayHoldFront};
 ghost use Rattle.kore_prove.specs.ProvedRun.{HasWantedProof};
+ghost use Rattle.kore_prove.specs.ShownRun.{HasWantedShown};
+ghost use Rattle.run_proof.specs.StuckRuns.{IsShown};
 ghost use Rattle.desk_io.specs.KeptFiles.{KeepsOthers};
-ghost use Rattle.kore_prove.specs.Requests.{request, bounds_of, AreTwoFiles, IsWanted};
+ghost use Rattle.kore_prove.specs.Requests.{request, bounds_of, HasGoodFiles, IsWanted};
 ghost use Rattle.kore_prove.specs.Requests.{IsWrittenBy};
 ghost use Rattle.kore_prove.specs.Runnable.{IsRunnable};
 ghost use Rattle.kore_prove.specs.RunsDone.{HasLines};
@@ -25,9 +27,20 @@ use hint_file::Hints;
 use run_loop::RunEnd;
 use std::alloc::Global;
 
-/// How the requested run ends, and its two lines. If a file for the proof is named, it is created
-/// before the run, written during the run, and closed after it. If a file for the hints is named, it
-/// is created, written and closed after that.
+/// A run that was made.
+#[derive(Drop)]
+pub struct Made {
+    /// How it ends.
+    pub end: RunEnd,
+    /// Its two lines.
+    pub lines: Vec<u8>,
+    /// How many rules its proof shows unmet at its end, if that is wanted and can be shown.
+    pub shown: Option<usize>,
+}
+
+/// How the requested run ends, its two lines, and how many rules its proof shows unmet. If a file
+/// for the proof is named, it is created before the run, written during the run, and closed after
+/// it. If a file for the hints is named, it is created, written and closed after that.
 ///
 /// Errors: out of memory, or a fault that the desk counted. After an error the file of the proof is
 /// as before, is empty, or holds the front of a proof of this run up to one of its configurations.
@@ -37,20 +50,25 @@ pub fn made_lines<D: Desk>(
     desk: &mut D,
     accepted: &Accepted,
     asked: &RunWords<'_>,
-) -> Result<(RunEnd, Vec<u8>), DeskFault>
+) -> Result<Made, DeskFault>
     requires none_created { IsFalse (D.created desk.old) }
     requires runnable { IsRunnable accepted.now }
-    requires two_files { AreTwoFiles (request asked.now) }
+    requires good_files { HasGoodFiles (request asked.now) }
     ensures run { IfOk result (λ r. HasLines (bounds_of (request asked.now))
-        (theory_of accepted.now.program) (plain_pattern accepted.now.start) (plain_run r.0)
-        r.1.items) }
+        (theory_of accepted.now.program) (plain_pattern accepted.now.start) (plain_run r.end)
+        r.lines.items) }
+    ensures shown { IfOk result (λ r. IsShown asked.now.stuck
+        (theory_of accepted.now.program) (plain_run r.end) r.shown) }
     ensures proof { IfOk result (λ r. HasWantedProof (request asked.now).proof
         (D.state desk.old).told (D.state desk.new).told
-        (theory_of accepted.now.program) (plain_pattern accepted.now.start) (plain_run r.0)) }
+        (theory_of accepted.now.program) (plain_pattern accepted.now.start) (plain_run r.end)) }
+    ensures shows { IfOk result (λ r. HasWantedShown (request asked.now).proof
+        (D.state desk.old).told (D.state desk.new).told
+        (theory_of accepted.now.program) (plain_run r.end) r.shown) }
     ensures hints { IfOk result (λ r. HasWantedHints (request asked.now).hints
         (D.state desk.old).told (D.state desk.new).told
         (theory_of accepted.now.program) asked.now.calls (plain_pattern accepted.now.start)
-        (plain_run r.0)) }
+        (plain_run r.end)) }
     ensures front { OnErr result
         (HasWantedFront (request asked.now).proof (D.state desk.old).told (D.state desk.new).told
         (theory_of accepted.now.program) asked.now.limit asked.now.calls
@@ -81,18 +99,24 @@ fn made_run<D: Desk>(
     accepted: &Accepted,
     asked: &RunWords<'_>,
     hints: &mut Hints,
-) -> Result<(RunEnd, Vec<u8>), DeskFault>
+) -> Result<Made, DeskFault>
     requires none_created { IsFalse (D.created desk.old) }
     requires runnable { IsRunnable accepted.now }
+    requires good_files { HasGoodFiles (request asked.now) }
     ensures run { IfOk result (λ r. HasLines (bounds_of (request asked.now))
-        (theory_of accepted.now.program) (plain_pattern accepted.now.start) (plain_run r.0)
-        r.1.items) }
+        (theory_of accepted.now.program) (plain_pattern accepted.now.start) (plain_run r.end)
+        r.lines.items) }
+    ensures shown { IfOk result (λ r. IsShown asked.now.stuck
+        (theory_of accepted.now.program) (plain_run r.end) r.shown) }
     ensures hints { IfOk result (λ r. AddsHintTextOf
         (theory_of accepted.now.program) asked.now.calls (plain_pattern accepted.now.start)
-        (plain_run r.0) hints.old hints.new) }
+        (plain_run r.end) hints.old hints.new) }
     ensures proof { IfOk result (λ r. HasWantedProof (request asked.now).proof
         (D.state desk.old).told (D.state desk.new).told
-        (theory_of accepted.now.program) (plain_pattern accepted.now.start) (plain_run r.0)) }
+        (theory_of accepted.now.program) (plain_pattern accepted.now.start) (plain_run r.end)) }
+    ensures shows { IfOk result (λ r. HasWantedShown (request asked.now).proof
+        (D.state desk.old).told (D.state desk.new).told
+        (theory_of accepted.now.program) (plain_run r.end) r.shown) }
     ensures front { OnErr result
         (HasWantedFront (request asked.now).proof (D.state desk.old).told (D.state desk.new).told
         (theory_of accepted.now.program) asked.now.limit asked.now.calls
@@ -111,21 +135,32 @@ fn made_run<D: Desk>(
     };
     match asked.proof {
         Some(file) => {
-            let proved = proved_lines(alloc, desk, accepted, bounds, file, hints)?;
-            Ok((proved.end, proved.lines))
+            let stuck = asked.stuck;
+            let proved = proved_lines(alloc, desk, accepted, bounds, stuck, file, hints)?;
+            Ok(Made {
+                end: proved.end,
+                lines: proved.lines,
+                shown: proved.shown,
+            })
         }
-        None => Ok(lines_of_run(alloc, accepted, bounds, hints)?),
+        None => {
+            let (end, lines) = lines_of_run(alloc, accepted, bounds, hints)?;
+            let shown = None;
+            Ok(Made { end, lines, shown })
+        }
     }
 }
 
 /// The run within these bounds, with its proof in the file of this name. The file is created before
-/// the run, written during the run, and closed after it. If hints are wanted, they get the hint text
-/// of the run. The errors are the ones of `made_lines`.
+/// the run, written during the run, and closed after it. If `stuck` is set and the run is stuck, the
+/// proof shows that no rule applies. If hints are wanted, they get the hint text of the run. The
+/// errors are the ones of `made_lines`.
 pub fn proved_lines<D: Desk>(
     alloc: Global,
     desk: &mut D,
     accepted: &Accepted,
     bounds: Bounds,
+    stuck: bool,
     file: &str,
     hints: &mut Hints,
 ) -> Result<Proved, DeskFault>
@@ -140,7 +175,9 @@ pub fn proved_lines<D: Desk>(
     ensures proof { IfOk result (λ r. HoldsCounted
         (D.state desk.old).told (D.state desk.new).told file.now
         (theory_of accepted.now.program) (plain_pattern accepted.now.start) (plain_run r.end)
-        r.summary) }
+        r.shown r.summary) }
+    ensures shown { IfOk result (λ r. IsShown stuck
+        (theory_of accepted.now.program) (plain_run r.end) r.shown) }
     ensures front { OnErr result (MayHoldFront
         (D.state desk.old).told (D.state desk.new).told file.now
         (theory_of accepted.now.program) bounds.limit bounds.calls
@@ -155,5 +192,5 @@ pub fn proved_lines<D: Desk>(
 {
     let engine = Engine::new(alloc, &accepted.program)?;
     desk.create_file(file)?;
-    proved_lines_of_run(alloc, desk, &engine, accepted, bounds, hints)
+    proved_lines_of_run(alloc, desk, &engine, accepted, bounds, stuck, hints)
 }

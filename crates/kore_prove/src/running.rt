@@ -6,6 +6,7 @@ ghost use Rattle.desk_io.specs.Counts.{CountRose};
 ghost use Rattle.hint_file.specs.RunTexts.{AddsHintTextOf};
 ghost use Rattle.run_loop.specs.RunEnds.{plain_run};
 ghost use Rattle.run_proof.specs.ClosedProofs.{KeepsOthersNow, PutsFront, PutsProof};
+ghost use Rattle.run_proof.specs.StuckRuns.{IsShown};
 ghost use Rattle.kore_prove.specs.Runnable.{IsRunnable};
 ghost use Rattle.kore_prove.specs.RunsDone.{HasLines};
 
@@ -17,7 +18,7 @@ use kore_show::shown_laws;
 use prove_run::Summary;
 use run_lines::run_lines;
 use run_loop::{RunEnd, run};
-use run_proof::proved_run;
+use run_proof::{ProvedEnd, proved_run};
 use std::alloc::{AllocError, Global};
 
 /// How far a run may go.
@@ -36,6 +37,8 @@ pub struct Proved {
     pub end: RunEnd,
     /// Its two lines.
     pub lines: Vec<u8>,
+    /// How many rules its proof shows unmet at its end, if that is wanted and can be shown.
+    pub shown: Option<usize>,
     /// The counts of the database that proves it.
     pub summary: Summary,
 }
@@ -65,7 +68,8 @@ pub fn lines_of_run(
 
 /// How the run within these bounds ends, its two lines, and the counts of its proof. The engine is
 /// one of the accepted program. The proof is appended to the created file during the run, and the
-/// file is closed, even after an error. If hints are wanted, they get the hint text of the run.
+/// file is closed, even after an error. If `stuck` is set and the run is stuck, the proof shows that
+/// no rule applies. If hints are wanted, they get the hint text of the run.
 ///
 /// Errors: out of memory, or a fault that the desk counted. After an error nothing was appended, or
 /// the front of a proof of this run up to one of its configurations.
@@ -75,6 +79,7 @@ pub fn proved_lines_of_run<'p, D: Desk>(
     engine: &Engine<'p>,
     accepted: &'p Accepted,
     bounds: Bounds,
+    stuck: bool,
     hints: &mut Hints,
 ) -> Result<Proved, DeskFault>
     requires file { IsTrue (D.created desk.old) }
@@ -88,7 +93,9 @@ pub fn proved_lines_of_run<'p, D: Desk>(
     ensures proof { IfOk result (λ r. PutsProof
         (D.state desk.old).told (D.state desk.new).told
         (theory_of accepted.now.program) (plain_pattern accepted.now.start) (plain_run r.end)
-        r.summary) }
+        r.summary r.shown) }
+    ensures shown { IfOk result (λ r. IsShown stuck
+        (theory_of accepted.now.program) (plain_run r.end) r.shown) }
     ensures front { OnErr result (PutsFront (D.state desk.old).told (D.state desk.new).told
         (theory_of accepted.now.program) bounds.limit bounds.calls
         (plain_pattern accepted.now.start)) }
@@ -102,11 +109,13 @@ pub fn proved_lines_of_run<'p, D: Desk>(
     shown_laws();
     let start = &accepted.start;
     let Bounds { limit, calls } = bounds;
-    let (end, summary) = proved_run(alloc, desk, engine, start, limit, calls, hints)?;
+    let (proved, summary) = proved_run(alloc, desk, engine, start, limit, calls, stuck, hints)?;
+    let ProvedEnd { end, shown } = proved;
     let lines = run_lines(alloc, &accepted.program.sig, start, &end)?;
     Ok(Proved {
         end,
         lines,
+        shown,
         summary,
     })
 }

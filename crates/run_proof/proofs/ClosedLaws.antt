@@ -84,28 +84,31 @@ proof_front theory limit calls start run bytes is h = (
 
 -- the front of a proof that was written whole
 pub proof_written : (old new : Option Told) (theory : RewriteTheory) (limit calls : ℕ)
-    (start : Pattern) (run : Run) (proof : RunProof) → IsRunOf theory limit calls start run
-    → WritesProof old new theory start run proof
+    (start : Pattern) (run : Run) (shown : Option ℕ) (proof : RunProof)
+    → IsRunOf theory limit calls start run → WritesProof old new theory start run shown proof
     → WritesFrontOfRun old new theory limit calls start
-proof_written old new theory limit calls start run proof is h =
+proof_written old new theory limit calls start run shown proof is h =
     (h.0, h.1, inr (proof_front theory limit calls start run h.0 is h.2.proves))
 
 -- a proof was written, and the file was closed
 pub proof_closed : (made mid new : Option Told) (theory : RewriteTheory) (start : Pattern)
-    (run : Run) (proof : RunProof) (s : Summary) → WritesProof made mid theory start run proof
-    → Closes mid new → s ≡ summary_of proof → PutsProof made new theory start run s
-proof_closed made mid new theory start run proof s h k is = (
+    (run : Run) (shown : Option ℕ) (proof : RunProof) (s : Summary)
+    → WritesProof made mid theory start run shown proof → Closes mid new → s ≡ summary_of proof
+    → PutsProof made new theory start run s shown
+proof_closed made mid new theory start run shown proof s h k is = (
   h.0,
   written_closed made mid new h.0 h.1 k,
   h.2.proves,
   subst (IsSummaryOf h.0) (sym is)
       (record { counts = h.2.counts; bytes_are = h.2.bytes_are }),
   ap (λ (x : Summary). x.steps) is ∙ h.2.steps_are,
+  h.2.shows,
 )
 
 -- a proof of the run that was put is a front of one
 pub put_front : (made new : Option Told) (theory : RewriteTheory) (limit calls : ℕ)
-    (start : Pattern) (run : Run) (s : Summary) → IsRunOf theory limit calls start run
-    → PutsProof made new theory start run s → PutsFront made new theory limit calls start
-put_front made new theory limit calls start run s is h =
+    (start : Pattern) (run : Run) (s : Summary) (shown : Option ℕ)
+    → IsRunOf theory limit calls start run → PutsProof made new theory start run s shown
+    → PutsFront made new theory limit calls start
+put_front made new theory limit calls start run s shown is h =
     (h.0, h.1, inr (proof_front theory limit calls start run h.0 is h.2))

@@ -1,3 +1,4 @@
 pub mod ClosedLaws
 pub mod LineLaws
 pub mod StepLaws
+pub mod ShownLaws

@@ -31,6 +31,7 @@ use Rattle.prove_run.proofs.FileLaws.{none_added}
 use Rattle.run_proof.specs.ProvedSteps.{IsProvedAt, GoesOn}
 use Rattle.run_proof.specs.OpenProofs.{WritesProof, WritesFrontOfRun}
 use Rattle.run_proof.specs.ProvedSteps.{EndsNext}
+use Rattle.run_proof.specs.ShownRules.{Shows}
 
 -- ---- a step
 
@@ -250,11 +251,14 @@ front_started old mid new program start limit calls value proof (text, writes, b
 -- ---- the whole proof
 
 pub whole_proof : (old mid new : Option Told) (program : Program) (start : RulePat)
-    (value : Option Tree) (p q : RunProof) (run : Run)
-    → WritesBeginning old mid program start value p → GoesOn mid new p q
+    (value : Option Tree) (p q : RunProof) (run : Run) (shown : Option ℕ)
+    → WritesBeginning old mid program start value p → (goes : GoesOn mid new p q)
     → reached q ≡ kept_by (plain_pattern q.start) run → q.steps ≡ steps_of run → q.failed ≡ false
-    → WritesProof old new (theory_of program) (plain_pattern start) run q
-whole_proof old mid new program start value p q run (text, writes, begins) goes at steps sound =
+    → ((text : List ℕ) → FitsProof p text
+    → Shows (text ++ goes.text.0) (theory_of program) run shown)
+    → WritesProof old new (theory_of program) (plain_pattern start) run shown q
+whole_proof old mid new program start value p q run shown (text, writes, begins) goes at steps sound
+    shows =
     let fits : FitsProof q (text ++ goes.text.0) = goes.text.2 text begins.fits in
     let kept : IsProofOfRun (text ++ goes.text.0) (theory_of q.program) (plain_pattern q.start)
     (kept_by (plain_pattern q.start) run) =
@@ -273,6 +277,7 @@ whole_proof old mid new program start value p q run (text, writes, begins) goes 
         counts = fits.counts;
         bytes_are = fits.bytes_are;
         steps_are = steps;
+        shows = shows text begins.fits;
         sound = sound;
       },
     )
@@ -280,10 +285,11 @@ whole_proof old mid new program start value p q run (text, writes, begins) goes 
 -- the same for a term without a value
 pub unstarted_proof : (old new : Option Told) (program : Program) (start : RulePat) (cause : Cause)
     (p : RunProof) → WritesBeginning old new program start None p → TellsCreated true new
-    → WritesProof old new (theory_of program) (plain_pattern start) (unstarted cause) p
+    → WritesProof old new (theory_of program) (plain_pattern start) (unstarted cause) None p
 unstarted_proof old new program start cause p begun told =
-    whole_proof old new new program start None p p (unstarted cause) begun (stays_on new p told)
-    (ap (configuration (plain_pattern p.start)) begun.2.made) begun.2.none_made begun.2.sound
+    whole_proof old new new program start None p p (unstarted cause) None begun
+    (stays_on new p told) (ap (configuration (plain_pattern p.start)) begun.2.made)
+    begun.2.none_made begun.2.sound (λ text fits. tt)
 
 -- ---- how a run ends
 

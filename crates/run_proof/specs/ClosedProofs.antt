@@ -8,6 +8,7 @@ use Rattle.rule_core.specs.Runs.{Run, stuck, limited, stopped, unstarted, kept_b
 use Rattle.mm_justify.specs.Justifying.{IsProofOfRun, IsFrontOfRun}
 use Rattle.prove_run.specs.Summaries.{IsSummaryOf}
 use Rattle.prove_run.specs.declared.summaries.Summary.{Summary}
+use Rattle.run_proof.specs.ShownRules.{Shows}
 
 -- how many steps a run has
 abbrev pub steps_of : Run → ℕ
@@ -33,12 +34,14 @@ KeepsOthersNow (Some old) new =
     file_of now.files other ≡ file_of old.files other)
 
 -- the created file grew by a proof of the run, from the initial term to what the run keeps, and is
--- no longer created; the proof has these counts
-abbrev pub PutsProof : Option Told → Option Told → RewriteTheory → Pattern → Run → Summary → Type 0
-PutsProof old new theory start run summary =
+-- no longer created; the proof has these counts, and shows so many rules unmet
+abbrev pub PutsProof : Option Told → Option Told → RewriteTheory → Pattern → Run → Summary
+    → Option ℕ → Type 0
+PutsProof old new theory start run summary shown =
     (text : List ℕ) × PutsCreated old new text × IsProofOfRun text theory start (kept_by start run)
     × IsSummaryOf text summary
     × (summary.steps ≡ steps_of run)
+    × Shows text theory run shown
 
 -- the created file grew by the front of a proof of the run, or by nothing, and is no longer created
 abbrev pub PutsFront : Option Told → Option Told → RewriteTheory → ℕ → ℕ → Pattern → Type 0

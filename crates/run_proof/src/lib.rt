@@ -6,9 +6,14 @@
 // `$p` has a compressed proof. The database is in the created file of a desk. It is written step by
 // step, so that after each step the file is a proof of the run so far, and is closed at the end. If
 // hints are wanted, they get the hint text of the run, the line of a step once its proof is written.
+// If it is wanted, the database of a stuck run also has a theorem for each rule, that the last
+// configuration does not meet it.
 #![tactic(auto)]
 
+mod ends;
 mod proved;
+mod shown;
 mod steps;
 
+pub use ends::ProvedEnd;
 pub use proved::{proved_run, run_with_proof};

@@ -1,5 +1,5 @@
 // The steps of a run, each with its proof.
-ghost use Rattle.std.specs.Prelude.{◌≡◌, ◌≤◌, ℕ, IsTrue, IsFalse, IfOk, OnOk, OnErr, IsErrOf};
+ghost use Rattle.std.specs.Prelude.{◌≡◌, ◌≤◌, ℕ, IsTrue, IfOk, OnOk, OnErr, IsErrOf};
 ghost use Rattle.term_core.specs.Patterns.{Pattern};
 ghost use Rattle.term_core.specs.RulePatterns.{plain_pattern};
 ghost use Rattle.rule_core.specs.ProgramView.{theory_of};
@@ -14,6 +14,7 @@ ghost use Rattle.prove_run.specs.RunProof.{reached};
 ghost use Rattle.prove_run.specs.WrittenProofs.{WritesFrontAfter};
 ghost use Rattle.run_proof.specs.ProvedSteps.{EndsNext, GoesOn, IsProvedAt, Progresses};
 ghost use Rattle.run_proof.specs.RunHints.{AddsLineOf, AddsStepsOf};
+ghost use Rattle.run_proof.specs.StuckEnds.{IsStuckAt};
 
 use desk_io::Desk;
 use fun_eval::Engine;
@@ -59,7 +60,8 @@ pub(crate) fn proved_steps<'p, D: Desk>(
     ensures reached { IfOk result (λ end.
         reached proof.new ≡ kept_by (plain_pattern proof.new.start) (plain_run end)) }
     ensures made { IfOk result (λ end. proof.new.steps ≡ steps_of (plain_run end)) }
-    ensures sound { OnOk result (IsFalse proof.new.failed) }
+    ensures at { OnOk result (IsProvedAt engine.now run.new proof.new) }
+    ensures stuck { IfOk result (λ end. IsStuckAt engine.now run.new (plain_run end)) }
     ensures run { IfOk result (λ end. (start : Pattern) (calls : ℕ) →
         Reaches (theory_of engine.now) start calls 0 run.old.config run.old.calls →
         IsRunOf (theory_of engine.now) limit calls start (plain_run end)) }

@@ -5,20 +5,21 @@ use Rattle.std.specs.Str.Parse.{digits_value}
 use Rattle.clap.specs.Simple.{App}
 use Rattle.clap.specs.Takes.{takes}
 use Rattle.command_words.specs.CommandLine.{run_app, value_of, is_number_to, most_steps, most_calls}
-use Rattle.command_words.specs.CommandLine.{usual_calls, names_one_file}
+use Rattle.command_words.specs.CommandLine.{usual_calls, is_set, is_true, are_bad_files}
 use Rattle.command_words.specs.Plain.{IsReadBy}
 use Rattle.command_words.proofs.RunTests.{no-first, no-second, no-third, no-fourth, all-five}
-use Rattle.command_words.proofs.RunTests.{no-calls, one-file, two-files}
+use Rattle.command_words.proofs.RunTests.{no-calls, bad-files, good-files}
 use Rattle.command_words.proofs.commands.run_words.Goals as goal
 
 abbrev good_calls : List (List ℕ) → Bool
 good_calls words =
     option_map_or (is_number_to most_calls) (value_of run_app words (codes "calls")) true
 
--- the file for the proof is the file for the hints
-abbrev is_one_file : List (List ℕ) → Bool
-is_one_file words =
-    names_one_file (value_of run_app words (codes "proof")) (value_of run_app words (codes "hints"))
+-- the files to be written are bad
+abbrev bad_files : List (List ℕ) → Bool
+bad_files words =
+    are_bad_files (is_set run_app words (codes "stuck")) (value_of run_app words (codes "proof"))
+    (value_of run_app words (codes "hints"))
 
 pub returns-in_err-definition-clause-bad : goal.returns-in_err-definition-clause-bad
 returns-in_err-definition-clause-bad c _ =
@@ -31,7 +32,7 @@ returns-in_err-definition-clause-bad c _ =
     no-first (takes run_app words) (is_some (value_of run_app words (codes "def")))
     (is_some (value_of run_app words (codes "term")))
     (option_map_or (is_number_to most_steps) (value_of run_app words (codes "limit")) false)
-    (good_calls words && not (is_one_file words))
+    (good_calls words && not (bad_files words))
     (ap is_some definition ∙ ap (λ r. is_some (option_copied r))
     c.in_err-definition.ensures.ok_part)
 
@@ -46,7 +47,7 @@ returns-in_err-term-clause-bad c _ =
     no-second (takes run_app words) (is_some (value_of run_app words (codes "def")))
     (is_some (value_of run_app words (codes "term")))
     (option_map_or (is_number_to most_steps) (value_of run_app words (codes "limit")) false)
-    (good_calls words && not (is_one_file words))
+    (good_calls words && not (bad_files words))
     (ap is_some term ∙ ap (λ r. is_some (option_copied r)) c.in_err-term.ensures.ok_part)
 
 pub returns-in_err-limit-clause-bad : goal.returns-in_err-limit-clause-bad
@@ -60,7 +61,7 @@ returns-in_err-limit-clause-bad c _ =
     no-third (takes run_app words) (is_some (value_of run_app words (codes "def")))
     (is_some (value_of run_app words (codes "term")))
     (option_map_or (is_number_to most_steps) (value_of run_app words (codes "limit")) false)
-    (good_calls words && not (is_one_file words))
+    (good_calls words && not (bad_files words))
     (ap (λ (o : Option (List ℕ)). option_map_or (is_number_to most_steps) o false) limit
     ∙ rw c.in_err-limit.ensures.ok_part at c.number_in.ensures.bad)
 
@@ -75,13 +76,13 @@ returns-in_err-calls-clause-bad c _ =
     no-fourth (takes run_app words) (is_some (value_of run_app words (codes "def")))
     (is_some (value_of run_app words (codes "term")))
     (option_map_or (is_number_to most_steps) (value_of run_app words (codes "limit")) false)
-    (good_calls words && not (is_one_file words))
-    (no-calls (good_calls words) (is_one_file words)
+    (good_calls words && not (bad_files words))
+    (no-calls (good_calls words) (bad_files words)
     (ap (λ (o : Option (List ℕ)). option_map_or (is_number_to most_calls) o true) calls
     ∙ rw c.in_err-calls.ensures.ok_part at c.number_or.ensures.bad))
 
-pub returns-then-name_one_file-clause-bad : goal.returns-then-name_one_file-clause-bad
-returns-then-name_one_file-clause-bad c _ =
+pub returns-then-are_bad_files-clause-bad : goal.returns-then-are_bad_files-clause-bad
+returns-then-are_bad_files-clause-bad c _ =
     let words = map string_bytes c.args.words.now in
     let read =
     subst (λ (a : App). IsReadBy a words c.in_ok-matches.matches) c.in_ok-command.ensures
@@ -90,14 +91,16 @@ returns-then-name_one_file-clause-bad c _ =
     sym (read.values (codes "proof")) ∙ sym c.get_str-proof.ensures in
     let hints : value_of run_app words (codes "hints") ≡ option_copied c.get_str-hints.result =
     sym (read.values (codes "hints")) ∙ sym c.get_str-hints.ensures in
-    let one_file : is_one_file words ≡ true =
-    (λ k. names_one_file (proof k) (hints k)) ∙ sym c.name_one_file.ensures
-    ∙ c.if-name_one_file.true in
+    let stuck : is_set run_app words (codes "stuck") ≡ c.is_set-stuck.result =
+    ap is_true (sym (read.values (codes "stuck"))) ∙ sym c.is_set-stuck.ensures in
+    let bad : bad_files words ≡ true =
+    (λ k. are_bad_files (stuck k) (proof k) (hints k)) ∙ sym c.are_bad_files.ensures
+    ∙ c.if-are_bad_files.true in
     no-fourth (takes run_app words) (is_some (value_of run_app words (codes "def")))
     (is_some (value_of run_app words (codes "term")))
     (option_map_or (is_number_to most_steps) (value_of run_app words (codes "limit")) false)
-    (good_calls words && not (is_one_file words))
-    (one-file (good_calls words) (is_one_file words) one_file)
+    (good_calls words && not (bad_files words))
+    (bad-files (good_calls words) (bad_files words) bad)
 
 pub returns-clause-good : goal.returns-clause-good
 returns-clause-good c =
@@ -117,22 +120,24 @@ returns-clause-good c =
     sym (read.values (codes "proof")) ∙ sym c.get_str-proof.ensures in
     let hints : value_of run_app words (codes "hints") ≡ option_copied c.get_str-hints.result =
     sym (read.values (codes "hints")) ∙ sym c.get_str-hints.ensures in
-    let one_file : is_one_file words ≡ false =
-    (λ k. names_one_file (proof k) (hints k)) ∙ sym c.name_one_file.ensures
-    ∙ c.if-name_one_file.false in (
+    let stuck : is_set run_app words (codes "stuck") ≡ c.is_set-stuck.result =
+    ap is_true (sym (read.values (codes "stuck"))) ∙ sym c.is_set-stuck.ensures in
+    let bad : bad_files words ≡ false =
+    (λ k. are_bad_files (stuck k) (proof k) (hints k)) ∙ sym c.are_bad_files.ensures
+    ∙ c.if-are_bad_files.false in (
       all-five (takes run_app words) (is_some (value_of run_app words (codes "def")))
           (is_some (value_of run_app words (codes "term")))
           (option_map_or (is_number_to most_steps) (value_of run_app words (codes "limit")) false)
-          (good_calls words && not (is_one_file words))
+          (good_calls words && not (bad_files words))
           read.taken
           (ap is_some definition ∙ ap (λ r. is_some (option_copied r))
           c.in_ok-definition.ensures.ok_part) (ap is_some term ∙ ap (λ r. is_some (option_copied r))
           c.in_ok-term.ensures.ok_part) (ap (λ (o : Option (List ℕ)). option_map_or (is_number_to
           most_steps) o false) limit
           ∙ (rw c.in_ok-limit.ensures.ok_part at c.number_in.ensures.good))
-          (two-files (good_calls words) (is_one_file words)
+          (good-files (good_calls words) (bad_files words)
           (ap (λ (o : Option (List ℕ)). option_map_or (is_number_to most_calls) o true) calls
-          ∙ (rw c.in_ok-calls.ensures.ok_part at c.number_or.ensures.good)) one_file),
+          ∙ (rw c.in_ok-calls.ensures.ok_part at c.number_or.ensures.good)) bad),
       record {
         named = c.requires;
         definition = definition ∙ ap (λ r. option_copied r) c.in_ok-definition.ensures.ok_part;
@@ -144,5 +149,6 @@ returns-clause-good c =
             (sym calls);
         proof = sym proof;
         hints = sym hints;
+        stuck = sym stuck;
       },
     )

@@ -31,5 +31,11 @@ returns c =
     (positional_rule (codes "term"))) (option_rule (codes "limit") true))
     (option_rule (codes "calls") false)) (option_rule (codes "proof") false) =
     c.in_ok-proved.ensures ∙ (λ k. with_rule (fourth k) (c.option-3.ensures.rule k)) in
-    if_ok c.with-6.result _ _ (λ t e. e ∙ (λ k. with_rule (fifth k) (c.option-4.ensures.rule k)))
-    c.with-6.ensures
+    let sixth : app_of c.in_ok-with-3.field-0 ≡ with_rule (with_rule (with_rule (with_rule
+    (with_rule (with_rule (bare_app (codes "run")) (positional_rule (codes "def")))
+    (positional_rule (codes "term"))) (option_rule (codes "limit") true))
+    (option_rule (codes "calls") false)) (option_rule (codes "proof") false))
+    (option_rule (codes "hints") false) =
+    c.in_ok-with-3.ensures ∙ (λ k. with_rule (fifth k) (c.option-4.ensures.rule k)) in
+    if_ok c.with-7.result _ _ (λ t e. e ∙ (λ k. with_rule (sixth k) (c.flag.ensures.rule k)))
+    c.with-7.ensures

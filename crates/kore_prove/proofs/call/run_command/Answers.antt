@@ -27,24 +27,28 @@ returns-in-Err-made_lines-clause-ended g c =
     (c.in-Err-made_lines.ensures.failed (ap (λ (f : DeskFault). Err f) is)))
     (same_bytes (g.O.Sink.state c.args.out.now).bytes)
 
-pub returns-in-Ok-send_whole-clause-done : goal.returns-in-Ok-send_whole-clause-done
-returns-in-Ok-send_whole-clause-done g c =
+pub returns-in-Ok-send_lines-clause-done : goal.returns-in-Ok-send_lines-clause-done
+returns-in-Ok-send_lines-clause-done g c =
     run_done (request c.args.asked.now) _ (g.D.Desk.state c.read_run.new.desk).told
     (theory_of c.in-Ok.accepted.program) (plain_pattern c.in-Ok.accepted.start)
-    (plain_run c.in-Ok-made_lines.made.0) c.in-Ok-made_lines.made.1.items
+    (plain_run c.in-Ok-made_lines.made.end) c.in-Ok-made_lines.made.lines.items
+    c.in-Ok-made_lines.made.shown
     c.in-Ok.ensures.found c.in-Ok.ensures.files c.in-Ok-made_lines.ensures.run
-    c.in-Ok-made_lines.ensures.proof c.in-Ok-made_lines.ensures.hints
+    c.in-Ok-made_lines.ensures.shown
+    c.in-Ok-made_lines.ensures.proof c.in-Ok-made_lines.ensures.shows
+    c.in-Ok-made_lines.ensures.hints
     c.in-Ok-made_lines.ensures.files
-    (rw (← c.deref.ensures.value) c.in-Ok-send_whole.ensures.sent)
+    (rw (← c.deref.ensures.value) c.in-Ok-send_lines.ensures.sent)
 
 pub returns-clause-ended : goal.returns-clause-ended
 returns-clause-ended g c =
-    lines_ended (request c.args.asked.now) _ _ c.in-Err-send_whole.fault
+    lines_ended (request c.args.asked.now) _ _ c.in-Err-send_lines.fault
     (g.D.Desk.state c.read_run.new.desk).told (theory_of c.in-Ok.accepted.program)
-    (plain_pattern c.in-Ok.accepted.start) (plain_run c.in-Ok-made_lines.made.0)
-    c.in-Ok-made_lines.made.1.items
-    c.write_end-in-Err-send_whole.ensures c.in-Ok.ensures.found c.in-Ok.ensures.files
-    c.in-Ok-made_lines.ensures.run c.in-Ok-made_lines.ensures.proof
+    (plain_pattern c.in-Ok.accepted.start) (plain_run c.in-Ok-made_lines.made.end)
+    c.in-Ok-made_lines.made.lines.items c.in-Ok-made_lines.made.shown
+    c.write_end-in-Err-send_lines.ensures c.in-Ok.ensures.found c.in-Ok.ensures.files
+    c.in-Ok-made_lines.ensures.run c.in-Ok-made_lines.ensures.shown
+    c.in-Ok-made_lines.ensures.proof c.in-Ok-made_lines.ensures.shows
     c.in-Ok-made_lines.ensures.hints c.in-Ok-made_lines.ensures.files
-    (λ is. c.in-Err-send_whole.ensures.failed (ap (λ (f : DeskFault). Err f) is))
-    (rw (← c.deref.ensures.value) c.in-Err-send_whole.ensures.prefix)
+    (λ is. c.in-Err-send_lines.ensures.failed (ap (λ (f : DeskFault). Err f) is))
+    (rw (← c.deref.ensures.value) c.in-Err-send_lines.ensures.prefix)

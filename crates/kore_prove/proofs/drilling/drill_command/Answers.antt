@@ -31,8 +31,8 @@ pub returns-in-Ok-send_lines-clause-done : goal.returns-in-Ok-send_lines-clause-
 returns-in-Ok-send_lines-clause-done g c =
     drill_made (drill_request c.args.asked.now) _ (theory_of c.in-Ok.accepted.program)
     (plain_pattern c.in-Ok.accepted.start) (plain_run c.in-Ok-proved_lines.proved.end)
-    c.in-Ok-proved_lines.proved.lines.items c.in-Ok-proved_lines.proved.summary
-    c.in-Ok.ensures.program c.in-Ok-proved_lines.ensures.run c.in-Ok-proved_lines.ensures.proof
+    c.in-Ok-proved_lines.proved.lines.items c.in-Ok-proved_lines.proved.shown
+    c.in-Ok-proved_lines.proved.summary c.in-Ok.ensures.program c.in-Ok-proved_lines.ensures.run c.in-Ok-proved_lines.ensures.proof
     c.in-Ok-proved_lines.ensures.files
     (rw (← c.deref.ensures.value) c.in-Ok-send_lines.ensures.sent)
 
@@ -41,7 +41,7 @@ returns-clause-ended g c =
     drill_ended_unprinted (drill_request c.args.asked.now) _ _ c.in-Err-send_lines.fault
     (theory_of c.in-Ok.accepted.program) (plain_pattern c.in-Ok.accepted.start)
     (plain_run c.in-Ok-proved_lines.proved.end) c.in-Ok-proved_lines.proved.lines.items
-    c.in-Ok-proved_lines.proved.summary c.write_end-in-Err-send_lines.ensures
+    c.in-Ok-proved_lines.proved.shown c.in-Ok-proved_lines.proved.summary c.write_end-in-Err-send_lines.ensures
     c.in-Ok.ensures.program c.in-Ok-proved_lines.ensures.run c.in-Ok-proved_lines.ensures.proof
     c.in-Ok-proved_lines.ensures.files
     (λ is. c.in-Err-send_lines.ensures.failed (ap (λ (f : DeskFault). Err f) is))

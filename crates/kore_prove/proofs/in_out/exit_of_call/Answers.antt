@@ -8,6 +8,7 @@ returns-in-Ok-clause-answered g c =
     rw (c.in-Ok.is, c.exit.ensures, ← c.deref.ensures.value) (record {
       printed_run = main.printed_run;
       proved_run = main.proved_run;
+      shown_stuck = main.shown_stuck;
       proof_front = main.proof_front;
       hinted_run = main.hinted_run;
       hint_front = main.hint_front;

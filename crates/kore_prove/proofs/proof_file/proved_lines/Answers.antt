@@ -22,9 +22,10 @@ returns-clause-proof g c =
     let theory = theory_of c.args.accepted.now.program in
     let start = plain_pattern c.args.accepted.now.start in
     if_ok c.proved_lines_of_run.result
-    (λ r. PutsProof made new theory start (plain_run r.end) r.summary)
-    (λ r. HoldsCounted old new c.args.file.now theory start (plain_run r.end) r.summary)
-    (λ r h. created_proof old made new c.args.file.now theory start (plain_run r.end) r.summary
+    (λ r. PutsProof made new theory start (plain_run r.end) r.summary r.shown)
+    (λ r. HoldsCounted old new c.args.file.now theory start (plain_run r.end) r.shown r.summary)
+    (λ r h. created_proof old made new c.args.file.now theory start (plain_run r.end) r.shown
+    r.summary
     c.in_ok-create_file.ensures.creates h) c.proved_lines_of_run.ensures.proof
 
 pub returns-clause-front : goal.returns-clause-front

@@ -15,14 +15,14 @@ proved_run-requires-clause-names g c =
     subst (λ (p : Program). HasPlainNames p.sig) (sym c.requires.program)
     (plain_names c.args.accepted.now.program.sig c.requires.runnable.program.names)
 
-pub returns-in_err-end-clause-front : goal.returns-in_err-end-clause-front
-returns-in_err-end-clause-front g c =
+pub returns-in_err-proved-clause-front : goal.returns-in_err-proved-clause-front
+returns-in_err-proved-clause-front g c =
     let old = (g.D.Desk.state c.args.desk.now).told in
     let new = (g.D.Desk.state c.proved_run.new.desk).told in
     let start = plain_pattern c.args.accepted.now.start in
     let p = err_from_is_err_and c.from_residual.result c.from_residual.ensures.1 in
     rw p.1 (subst (λ (p : Program). PutsFront old new (theory_of p) c.args.bounds.limit
-    c.args.bounds.calls start) c.requires.program c.in_err-end.ensures.front)
+    c.args.bounds.calls start) c.requires.program c.in_err-proved.ensures.front)
 
 pub returns-in_err-lines-clause-front : goal.returns-in_err-lines-clause-front
 returns-in_err-lines-clause-front g c =
@@ -34,5 +34,5 @@ returns-in_err-lines-clause-front g c =
     rw p.1 (subst (λ (p : Program). PutsFront old new (theory_of p) c.args.bounds.limit
     c.args.bounds.calls start) c.requires.program
     (put_front old new (theory_of c.args.engine.now) c.args.bounds.limit c.args.bounds.calls start
-    (plain_run c.in_ok-end.end) c.in_ok-end.summary c.in_ok-end.ensures.run
-    c.in_ok-end.ensures.justified))
+    (plain_run c.in_ok-proved.proved.end) c.in_ok-proved.summary c.in_ok-proved.proved.shown
+    c.in_ok-proved.ensures.run c.in_ok-proved.ensures.justified))

@@ -29,8 +29,8 @@ returns-in-Ok-clause-run g c =
     let theory = theory_of c.args.engine.now in
     let start = plain_pattern c.args.start.now in
     if_ok (λ r. (calls : ℕ) → Reaches theory start calls 0 c.in-Ok.run'.config c.in-Ok.run'.calls →
-    IsRunOf theory c.args.limit calls start (plain_run r.0))
-    (λ r. IsRunOf theory c.args.limit c.args.calls start (plain_run r.0)) c.started.result
+    IsRunOf theory c.args.limit calls start (plain_run r.0.end))
+    (λ r. IsRunOf theory c.args.limit c.args.calls start (plain_run r.0.end)) c.started.result
     (λ r h. h c.args.calls c.in-Ok.ensures.starts) c.started.ensures.run
 
 pub returns-in_err-start-clause-front : goal.returns-in_err-start-clause-front
@@ -52,10 +52,10 @@ returns-in-Ok-clause-hints g c =
     subst (λ (p : Program). AddsText (first_lines p.sig start) c.args.hints.now c.start.new.self)
     c.program.ensures.program c.in_ok-start.ensures in
     if_ok (λ r. (calls : ℕ) → Reaches theory start calls 0 c.in-Ok.run'.config c.in-Ok.run'.calls →
-    AddsStepsOf theory calls start (plain_run r.0) c.start.new.self c.started.new.hints)
-    (λ r. AddsHintTextOf theory c.args.calls start (plain_run r.0) c.args.hints.now
+    AddsStepsOf theory calls start (plain_run r.0.end) c.start.new.self c.started.new.hints)
+    (λ r. AddsHintTextOf theory c.args.calls start (plain_run r.0.end) c.args.hints.now
     c.started.new.hints) c.started.result
-    (λ r h. hints_whole theory start c.args.calls (plain_run r.0) c.args.hints.now c.start.new.self
+    (λ r h. hints_whole theory start c.args.calls (plain_run r.0.end) c.args.hints.now c.start.new.self
     c.started.new.hints first (h c.args.calls c.in-Ok.ensures.starts)) c.started.ensures.hints
 
 -- lines 1 and 2 alone
@@ -66,8 +66,8 @@ returns-in-Err-Blocked-clause-hints g c =
     let first : AddsText (first_lines theory.sig start) c.args.hints.now c.start.new.self =
     subst (λ (p : Program). AddsText (first_lines p.sig start) c.args.hints.now c.start.new.self)
     c.program.ensures.program c.in_ok-start.ensures in
-    if_ok (λ r. r.0 ≡ end.Unstarted c.in-Err-Blocked.why)
-    (λ r. AddsHintTextOf theory c.args.calls start (plain_run r.0) c.args.hints.now
+    if_ok (λ r. r.0.end ≡ end.Unstarted c.in-Err-Blocked.why)
+    (λ r. AddsHintTextOf theory c.args.calls start (plain_run r.0.end) c.args.hints.now
     c.start.new.self) c.unstarted.result
     (λ r is. subst (λ (e : RunEnd). AddsHintTextOf theory c.args.calls start (plain_run e)
     c.args.hints.now c.start.new.self) (sym is)

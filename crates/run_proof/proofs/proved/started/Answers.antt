@@ -16,7 +16,11 @@ use Rattle.prove_run.proofs.FileLaws.{on_err}
 use Rattle.prove_run.specs.WrittenProofs.{WritesFrontAfter, WritesFrontOfProof}
 use Rattle.run_proof.specs.ProvedSteps.{IsProvedAt}
 use Rattle.run_proof.specs.OpenProofs.{WritesFrontOfRun, WritesProof}
-use Rattle.run_proof.proofs.StepLaws.{front_of_run, front_started, started_at, whole_proof}
+use Rattle.prove_run.specs.AddedLemmas.{EndsHere}
+use Rattle.prove_term.proofs.ResultLaws.{if_ok, if_ok_two}
+use Rattle.run_loop.specs.declared.ends.RunEnd.{RunEnd}
+use Rattle.run_proof.proofs.ShownLaws.{begun_by, front_shown, whole_shown}
+use Rattle.run_proof.proofs.StepLaws.{front_of_run, front_started, on_err_more, started_at}
 use Rattle.run_proof.proofs.proved.started.Goals as goal
 
 pub proved_steps-requires-clause-at : goal.proved_steps-requires-clause-at
@@ -51,14 +55,40 @@ returns-in_err-proof-clause-front g c =
 pub returns-in-Ok-clause-proved : goal.returns-in-Ok-clause-proved
 returns-in-Ok-clause-proved g c =
     let old = (g.D.Desk.state c.args.desk.now).told in
-    let mid = (g.D.Desk.state c.begin.new.desk).told in
-    let new = (g.D.Desk.state c.proved_steps.new.desk).told in
-    subst (λ (p : Program). WritesProof old new (theory_of p) (plain_pattern c.args.start.now)
-    (plain_run c.in-Ok.end) c.proved_steps.new.proof) c.program.ensures.program
-    (whole_proof old mid new c.program.result.now c.args.start.now
+    let new = (g.D.Desk.state c.shown_end.new.desk).told in
+    let start = plain_pattern c.args.start.now in
+    if_ok_two c.shown_end.result (λ r same adds. subst (λ (e : RunEnd).
+    WritesProof old new (theory_of c.args.engine.now) start (plain_run e) r.0.shown r.1) (sym same)
+    (whole_shown old (g.D.Desk.state c.begin.new.desk).told
+    (g.D.Desk.state c.proved_steps.new.desk).told new c.args.engine.now c.args.start.now
     (Some (result_of (plain_record c.args.evaluation.now))) c.in_ok-proof.proof
-    c.proved_steps.new.proof (plain_run c.in-Ok.end) c.in_ok-proof.ensures.begins
-    c.in-Ok.ensures.goes c.in-Ok.ensures.reached c.in-Ok.ensures.made c.in-Ok.ensures.sound)
+    c.proved_steps.new.proof r.1 (plain_run c.in-Ok.end) r.0.shown
+    (begun_by old (g.D.Desk.state c.begin.new.desk).told c.program.result.now c.args.engine.now
+    c.args.start.now (Some (result_of (plain_record c.args.evaluation.now))) c.in_ok-proof.proof
+    c.program.ensures.program c.in_ok-proof.ensures.begins)
+    c.in-Ok.ensures.goes c.in-Ok.ensures.reached c.in-Ok.ensures.made adds))
+    c.shown_end.ensures.same c.shown_end.ensures.adds
+
+pub returns-in-Ok-clause-front : goal.returns-in-Ok-clause-front
+returns-in-Ok-clause-front g c =
+    let old = (g.D.Desk.state c.args.desk.now).told in
+    let now = (g.D.Desk.state c.proved_steps.new.desk).told in
+    let new = (g.D.Desk.state c.shown_end.new.desk).told in
+    let theory = theory_of c.args.engine.now in
+    let start = plain_pattern c.args.start.now in
+    on_err_more c.shown_end.result
+    (WritesFrontAfter now new c.proved_steps.new.proof (EndsHere c.proved_steps.new.proof))
+    ((calls : ℕ) → Reaches theory start calls 0 c.args.run.config c.args.run.calls
+    → WritesFrontOfRun old new theory c.args.limit calls start)
+    (λ front calls h. front_shown old (g.D.Desk.state c.begin.new.desk).told now new
+    c.args.engine.now c.args.start.now c.args.limit calls
+    (Some (result_of (plain_record c.args.evaluation.now))) c.in_ok-proof.proof
+    c.proved_steps.new.proof (plain_run c.in-Ok.end)
+    (begun_by old (g.D.Desk.state c.begin.new.desk).told c.program.result.now c.args.engine.now
+    c.args.start.now (Some (result_of (plain_record c.args.evaluation.now))) c.in_ok-proof.proof
+    c.program.ensures.program c.in_ok-proof.ensures.begins)
+    c.in-Ok.ensures.goes c.in-Ok.ensures.reached (c.in-Ok.ensures.run start calls h) front)
+    c.shown_end.ensures.front
 
 pub returns-clause-front : goal.returns-clause-front
 returns-clause-front g c =
@@ -84,5 +114,6 @@ returns-clause-failed g c = λ h.
 
 pub returns-in-Ok-clause-program : goal.returns-in-Ok-clause-program
 returns-in-Ok-clause-program g c =
-    c.in-Ok.ensures.goes.same_program ∙ (c.in_ok-proof.ensures.begins.2.same_program
-    ∙ c.program.ensures.program)
+    if_ok c.shown_end.result (λ r adds. adds.same_program ∙ (c.in-Ok.ensures.goes.same_program
+    ∙ (c.in_ok-proof.ensures.begins.2.same_program ∙ c.program.ensures.program)))
+    c.shown_end.ensures.adds

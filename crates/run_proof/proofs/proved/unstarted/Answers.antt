@@ -1,4 +1,4 @@
-use Rattle.std.proofs.Common.{◌∙◌, subst}
+use Rattle.std.proofs.Common.{◌∙◌, None, subst}
 use Rattle.term_core.specs.RulePatterns.{plain_pattern}
 use Rattle.rule_core.specs.ProgramView.{theory_of}
 use Rattle.rule_core.specs.RunView.{cause_of}
@@ -14,7 +14,7 @@ returns-in-Ok-clause-proved g c =
     let old = (g.D.Desk.state c.args.desk.now).told in
     let new = (g.D.Desk.state c.begin.new.desk).told in
     subst (λ (p : Program). WritesProof old new (theory_of p) (plain_pattern c.args.start.now)
-    (unstarted (cause_of c.args.why)) c.in-Ok.proof) c.program.ensures.program
+    (unstarted (cause_of c.args.why)) None c.in-Ok.proof) c.program.ensures.program
     (unstarted_proof old new c.program.result.now c.args.start.now (cause_of c.args.why)
     c.in-Ok.proof c.in-Ok.ensures.begins
     (rw c.begin.ensures.created at (g.met.D.Desk.tells_created c.begin.new.desk)))
